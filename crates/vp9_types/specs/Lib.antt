@@ -1,0 +1,9 @@
+pub mod Rules
+pub mod Parts
+pub mod Shapes
+pub mod Maps
+pub mod Bits
+pub mod Syntax
+pub mod Reading
+pub mod Entries
+pub mod Each

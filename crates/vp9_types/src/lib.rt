@@ -1,0 +1,22 @@
+//! What the crates of the decoder share: the rules, shapes, places and modes of VP9, and in `specs/` the definitions
+//! that all others stand on.
+#![tactic(auto)]
+
+mod block;
+mod job;
+mod laws;
+mod outcome;
+mod rule;
+mod samples;
+mod shape;
+
+pub use block::{
+    BlockSize, InterMode, InterpFilter, IntraMode, Modes, Partition, ReferenceFrame, ReferenceMode,
+    TxMode, TxSize, TxType,
+};
+pub use job::{BandSpan, JobName};
+pub use laws::rules_are_numbered;
+pub use outcome::{Fault, Outcome, Part, Stop};
+pub use rule::Rule;
+pub use samples::Samples;
+pub use shape::{Depth, Plane, Shape};

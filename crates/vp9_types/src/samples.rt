@@ -1,0 +1,23 @@
+ghost use Rattle.std.specs.Prelude.{◌≡◌, ℕ};
+ghost use Rattle.vp9_types.specs.Maps.{FrameMap, row_of};
+
+use crate::shape::Plane;
+
+/// The rows of a frame, whoever holds them.
+pub trait Samples {
+    ghost use Rattle.vp9_types.specs.declared.shape.Plane.{Plane};
+
+    /// Which rows may be asked for.
+    ghost holds: { Self → Plane → ℕ → Type 0 };
+
+    /// How many samples a row of a plane has.
+    ghost width: { Self → Plane → ℕ };
+
+    /// The sample at each plane, row and column.
+    ghost map: { Self → FrameMap };
+
+    /// A row of a plane.
+    fn row(&self, plane: Plane, y: u32) -> &[u16]
+        requires { holds self.now plane y }
+        ensures { result.now ≡ row_of (map self.now plane) y 0 (width self.now plane) };
+}
