@@ -1,6 +1,6 @@
 -- The bits of bytes, most significant first (4.10 of the standard: f(n)).
-use Rattle.std.specs.Prelude.{ℕ, ◌+◌, ◌*◌, ◌/◌, ◌%◌, ◌<◌, ◌^◌, ◌-◌, List, [], ◌∷◌, ◌++◌, zero, suc}
-use Rattle.std.specs.List.{flat_map, fold, AllByRecursion}
+use Rattle.std.specs.Prelude.{ℕ, zero, suc, ◌+◌, ◌*◌, ◌/◌, ◌%◌, ◌^◌, ◌<◌, List, [], ◌∷◌, ◌++◌}
+use Rattle.std.specs.List.{fold, AllByRecursion}
 
 -- the eight bits of a byte
 abbrev pub bits_of_byte : ℕ → List ℕ
@@ -14,10 +14,10 @@ bits_of (b ∷ bytes) = bits_of_byte b ++ bits_of bytes
 abbrev pub number_of : List ℕ → ℕ
 number_of bits = fold (λ n b. 2 * n + b) 0 bits
 
--- the n bits that spell a number below 2 ^ n
+-- the n bits that spell a number below 2 ^ n: the first of n + 1 is worth 2 ^ n
 unfoldable pub spelled : ℕ → ℕ → List ℕ
 spelled zero x = []
-spelled (suc n) x = spelled n (x / 2) ++ x % 2 ∷ []
+spelled (suc n) x = x / 2 ^ n ∷ spelled n (x % 2 ^ n)
 
 abbrev pub AreBits : List ℕ → Type 0
 AreBits bits = AllByRecursion (λ b. b < 2) bits

@@ -1,0 +1,4 @@
+pub mod Runs
+pub mod Eaches
+pub mod Spells
+pub mod EntryLaws
