@@ -1,5 +1,8 @@
 -- A loop that reads a list in place: what it does at its begin, at each element and at its end.
-use Rattle.std.proofs.Common.{◌≡◌, ℕ, List, [], ◌∷◌, ◌++◌, refl, ap, sym, ◌∙◌, append_assoc}
+use Rattle.std.proofs.Common.{◌≡◌, ℕ, zero, suc, ◌+◌, ◌<◌, ◌≤◌, List, [], ◌∷◌, ◌++◌, length, get_or, take, drop, refl, ap, sym, ◌∙◌, append_assoc, arith}
+use Rattle.std.proofs.Math.ListN.{set}
+use Rattle.std.proofs.Math.Seq.{drop-cons}
+use Rattle.std.proofs.lemmas.List.{take_more_set, drop-set-lt}
 use Rattle.std.specs.Prelude.{Result, Ok, Err}
 use Rattle.std.proofs.lemmas.List.{append-nil}
 use Rattle.vp9_types.specs.Syntax.{Syntax, done, broken, ask, ◌>>=◌}
@@ -48,3 +51,24 @@ each_fails answer s front x more m e h =
     ap (λ read. after read (λ ys last. Ok (front ++ ys, last)))
     (run_bind answer (s x) (λ z. each s more >>= λ ys. done (z ∷ ys)) m
     ∙ ap (λ read. after read (λ z last. run answer (each s more >>= λ ys. done (z ∷ ys)) last)) h)
+
+one_on : (i : ℕ) → i + 1 ≡ suc i
+one_on i = omega arith
+
+-- what was read is put into its place
+pub each_put : {Q E A M : Type 0} (answer : Q → M → Result (ℕ × M) E) (s : A → Syntax Q E A) (xs : List A) (i : ℕ) (d y : A) (m rest : M)
+    → i < length xs → run answer (s (get_or xs i d)) m ≡ Ok (y, rest)
+    → run_each_from answer s (take i xs) (drop i xs) m ≡ run_each_from answer s (take (i + 1) (set xs i y)) (drop (i + 1) (set xs i y)) rest
+each_put answer s xs i d y m rest low h =
+    ap (λ back. run_each_from answer s (take i xs) back m) (drop-cons xs i d low)
+    ∙ each_step answer s (take i xs) (get_or xs i d) (drop (suc i) xs) m y rest h
+    ∙ ap (λ front. run_each_from answer s front (drop (suc i) xs) rest) (sym (take_more_set xs i y low))
+    ∙ ap (λ back. run_each_from answer s (take (i + 1) (set xs i y)) back rest)
+        (ap (λ n. drop n xs) (sym (one_on i)) ∙ sym (drop-set-lt (i + 1) xs i y (omega arith)))
+
+pub each_stops : {Q E A B M : Type 0} (answer : Q → M → Result (ℕ × M) E) (s : A → Syntax Q E B) (front : List B) (xs : List A) (i : ℕ) (d : A) (m : M) (e : E)
+    → i < length xs → run answer (s (get_or xs i d)) m ≡ Err e
+    → run_each_from answer s front (drop i xs) m ≡ Err e
+each_stops answer s front xs i d m e low h =
+    ap (λ back. run_each_from answer s front back m) (drop-cons xs i d low)
+    ∙ each_fails answer s front (get_or xs i d) (drop (suc i) xs) m e h

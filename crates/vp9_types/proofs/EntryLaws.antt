@@ -2,7 +2,7 @@
 use Rattle.std.proofs.Common.{◌≡◌, ℕ, zero, suc, ◌+◌, ◌^◌, ◌<◌, ◌≤◌, List, [], ◌∷◌, ◌++◌, length, refl, ap, sym, subst, ◌∙◌, arith, take, drop, append_assoc, Bool, true, false}
 use Rattle.std.specs.Prelude.{Result, Ok, Err, nat_lt, if◌then◌else◌}
 use Rattle.std.proofs.lemmas.Bool.{ltb-true, ltb-false}
-use Rattle.std.proofs.lemmas.List.{take-append-drop, length-append, length-take-le, append_cancel_left}
+use Rattle.std.proofs.lemmas.List.{take-append-drop, length-append, length-take-le, length-drop}
 use Rattle.std.proofs.Math.Seq.{take-append_seam, drop-append_seam}
 use Rattle.vp9_types.specs.Bits.{number_of, spelled, AreBits}
 use Rattle.vp9_types.specs.Syntax.{Syntax, done, broken, ask}
@@ -150,3 +150,23 @@ one_reading {N} {E} {A} past (ask q k) (e ∷ es) (f ∷ fs) x y rest last h g b
     let v : e.value ≡ f.value = ap (λ z. z.0) p in
     let others = one_reading past (k e.value) es fs x y rest last h.1 (subst (λ n. IsReadAs (k n) fs y) (sym v) g.1) (ap (λ z. z.1) p) in
     ap (λ z. z ∷ es) (same_entry q e f h.0.0 g.0.0 v) ∙ ap (λ zs. f ∷ zs) others
+
+-- What is read leaves no more than there was.
+pub rest_within : {N E A : Type 0} (past : E) (s : Syntax (Field N) E A) (bits : List ℕ) (x : A) (rest : List ℕ)
+    → read_bits past s bits ≡ Ok (x, rest) → length rest ≤ length bits
+rest_within {N} {E} {A} past (done y) bits x rest h =
+    let p : ◌≡◌ {A = A × List ℕ} (y, bits) (x, rest) = cc in
+    let same = ap length (ap (λ z. z.1) p) in
+    omega (arith, same)
+rest_within past (broken e) bits x rest h = absurd cc
+rest_within {N} {E} {A} past (ask q k) bits x rest h =
+    elim (answered past q.width bits) [
+      there long is ↦
+        let v = number_of (take q.width bits) in
+        let read : read_bits past (k v) (drop q.width bits) ≡ Ok (x, rest) = ap (λ r. after r (λ w more. run (field_at past) (k w) more)) (sym is) ∙ h in
+        let less = rest_within past (k v) (drop q.width bits) x rest read in
+        let dropped = length-drop q.width bits in
+        omega (arith, less, dropped)
+      | short few is ↦
+        let no : ◌≡◌ {A = Result (A × List ℕ) E} (Err past) (Ok (x, rest)) = ap (λ r. after r (λ w more. run (field_at past) (k w) more)) (sym is) ∙ h in
+        absurd cc ]

@@ -4,7 +4,7 @@ use Rattle.std.specs.List.{fold, AllByRecursion}
 
 -- the eight bits of a byte
 abbrev pub bits_of_byte : ℕ → List ℕ
-bits_of_byte b = b / 128 % 2 ∷ b / 64 % 2 ∷ b / 32 % 2 ∷ b / 16 % 2 ∷ b / 8 % 2 ∷ b / 4 % 2 ∷ b / 2 % 2 ∷ b % 2 ∷ []
+bits_of_byte b = b / 128 % 2 ∷ b / 64 % 2 ∷ b / 32 % 2 ∷ b / 16 % 2 ∷ b / 8 % 2 ∷ b / 4 % 2 ∷ b / 2 % 2 ∷ b / 1 % 2 ∷ []
 
 unfoldable pub bits_of : List ℕ → List ℕ
 bits_of [] = []

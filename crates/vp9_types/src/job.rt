@@ -24,3 +24,10 @@ pub struct BandSpan {
     pub first: u32,
     pub last: u32,
 }
+
+/// The bytes from `from` up to `to`, which isn't one of them.
+#[derive(Clone, Copy, Debug, PartialEq, Eq)]
+pub struct Span {
+    pub from: usize,
+    pub to: usize,
+}

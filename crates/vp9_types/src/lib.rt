@@ -14,7 +14,7 @@ pub use block::{
     BlockSize, InterMode, InterpFilter, IntraMode, Modes, Partition, ReferenceFrame, ReferenceMode,
     TxMode, TxSize, TxType,
 };
-pub use job::{BandSpan, JobName};
+pub use job::{BandSpan, JobName, Span};
 pub use laws::{reading_is_its_entries, rules_are_numbered};
 pub use outcome::{Fault, Outcome, Part, Stop};
 pub use rule::Rule;

@@ -1,0 +1,5 @@
+pub mod BitLemmas
+pub mod FieldLemmas
+pub mod TileLemmas
+pub mod SlotLemmas
+pub mod HeadLemmas

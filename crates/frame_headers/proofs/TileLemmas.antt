@@ -1,0 +1,48 @@
+-- The search for the least number, and the columns that are doubled one by one.
+use Rattle.std.proofs.lemmas.Bool.{agree_below_at, eqb-true}
+use Rattle.std.proofs.Common.{◌≡◌, ℕ, suc, ◌+◌, ◌-◌, ◌*◌, ◌%◌, ◌^◌, ◌<◌, ◌≤◌, List, refl, arith, Bool, true, false}
+use Rattle.std.specs.Prelude.{Ok, Err, nat_eq}
+use Rattle.vp9_types.specs.Reading.{field_at, read_bits}
+use Rattle.vp9_types.specs.declared.outcome.Fault.{Fault}
+use Rattle.vp9_types.proofs.Runs.{run_bind}
+use Rattle.frame_headers.specs.declared.field.FieldName.TheVariants as name
+use Rattle.frame_headers.specs.Fields.{flag, past}
+use Rattle.frame_headers.specs.Tiles.{least, more_columns}
+
+one_more_left : (m n : ℕ) → n < m → m - n ≡ suc (m - (n + 1))
+one_more_left m n h = omega arith
+
+pub least_here : (test : ℕ → Bool) (m n : ℕ) → n < m → test n ≡ true → least test (m - n) n ≡ n
+least_here test m n h passes = rw (one_more_left m n h, passes) refl
+
+pub least_later : (test : ℕ → Bool) (m n : ℕ) → n < m → test n ≡ false → least test (m - n) n ≡ least test (m - (n + 1)) (n + 1)
+least_later test m n h fails = rw (one_more_left m n h, fails) refl
+
+pub least_none : (test : ℕ → Bool) (m n : ℕ) → m ≤ n → least test (m - n) n ≡ n
+least_none test m n h = let e : m - n ≡ 0 = omega arith in rw e refl
+
+pub columns_more : (greatest log2 : ℕ) (bits rest : List ℕ) → log2 < greatest → read_bits past (flag name.IncrementTileColsLog2) bits ≡ Ok (true, rest)
+    → read_bits past (more_columns (greatest - log2) log2) bits ≡ read_bits past (more_columns (greatest - (log2 + 1)) (log2 + 1)) rest
+unfolding more_columns
+columns_more greatest log2 bits rest low h =
+    rw (one_more_left greatest log2 low, run_bind (field_at past) (flag name.IncrementTileColsLog2), h) refl
+
+pub columns_stop : (greatest log2 : ℕ) (bits rest : List ℕ) → log2 < greatest → read_bits past (flag name.IncrementTileColsLog2) bits ≡ Ok (false, rest)
+    → read_bits past (more_columns (greatest - log2) log2) bits ≡ Ok (log2, rest)
+unfolding more_columns
+columns_stop greatest log2 bits rest low h =
+    rw (one_more_left greatest log2 low, run_bind (field_at past) (flag name.IncrementTileColsLog2), h) refl
+
+pub columns_fail : (greatest log2 : ℕ) (bits : List ℕ) (e : Fault) → log2 < greatest → read_bits past (flag name.IncrementTileColsLog2) bits ≡ Err e
+    → read_bits past (more_columns (greatest - log2) log2) bits ≡ Err e
+unfolding more_columns
+columns_fail greatest log2 bits e low h =
+    rw (one_more_left greatest log2 low, run_bind (field_at past) (flag name.IncrementTileColsLog2), h) refl
+
+pub columns_end : (greatest log2 : ℕ) (bits : List ℕ) → greatest ≤ log2 → read_bits past (more_columns (greatest - log2) log2) bits ≡ Ok (log2, bits)
+unfolding more_columns
+columns_end greatest log2 bits h = let e : greatest - log2 ≡ 0 = omega arith in rw e refl
+
+-- the shift loses no bit
+pub shift_whole : (n : ℕ) → n < 10 → 64 * 2 ^ n % 4294967296 ≡ 64 * 2 ^ n
+shift_whole n h = eqb-true _ _ (agree_below_at (λ k. nat_eq (64 * 2 ^ k % 4294967296) (64 * 2 ^ k)) (λ _. true) 10 n refl h)

@@ -1,0 +1,43 @@
+-- What persists from frame to frame (7.2 and 8.10 of the standard).
+use Rattle.std.specs.Prelude.{ℕ, ◌%◌, ◌/◌, ◌==◌, true, false, List, [], ◌∷◌, Option, Some, None, pos, negsuc, replicate, if◌then◌else◌}
+use Rattle.vp9_types.specs.declared.shape.Shape.{Shape}
+use Rattle.vp9_types.specs.declared.shape.Depth.TheVariants.{Eight}
+use Rattle.frame_headers.specs.declared.color.ColorSpace.TheVariants.{Bt601}
+use Rattle.frame_headers.specs.declared.filter.LoopDeltas.{LoopDeltas}
+use Rattle.frame_headers.specs.declared.header.Header.{Header}
+use Rattle.frame_headers.specs.declared.persist.Persist.{Persist}
+use Rattle.frame_headers.specs.Segments.{no_features}
+
+abbrev pub shape_of : Header → Shape
+shape_of header = record { w = header.size.width; h = header.size.height; depth = header.color.depth; ss_x = header.color.ss_x; ss_y = header.color.ss_y }
+
+-- what a slot holds after a frame, by the lowest flag
+abbrev pub held : ℕ → Shape → Option Shape → Option Shape
+held flags shape old = if flags % 2 == 1 then Some shape else old
+
+-- bit i of the flags says that slot i holds the frame from now on
+abbrev pub refreshed : ℕ → Shape → List (Option Shape) → List (Option Shape)
+refreshed flags shape [] = []
+refreshed flags shape (slot ∷ slots) = held flags shape slot ∷ refreshed (flags / 2) shape slots
+
+abbrev pub next_persist : Header → Persist → Persist
+next_persist header before = record {
+  slots = refreshed header.refresh (shape_of header) before.slots;
+  color = header.color;
+  deltas = header.params.loop_filter.deltas;
+  features = header.params.segmentation.features;
+  size = Some header.size;
+}
+
+abbrev pub default_deltas : LoopDeltas
+default_deltas = record { reference = pos 1 ∷ pos 0 ∷ negsuc 0 ∷ negsuc 0 ∷ []; mode = pos 0 ∷ pos 0 ∷ [] }
+
+-- before the first frame
+abbrev pub start_persist : Persist
+start_persist = record {
+  slots = replicate 8 None;
+  color = record { depth = Eight; space = Bt601; full_range = false; ss_x = true; ss_y = true };
+  deltas = default_deltas;
+  features = no_features;
+  size = None;
+}

@@ -1,0 +1,26 @@
+//! The uncompressed headers of VP9 frames (6.2 and 7.2 of the standard).
+#![tactic(auto)]
+
+mod bits;
+mod color;
+mod field;
+mod filter;
+mod header;
+mod persist;
+mod quantizer;
+mod reading;
+mod segments;
+mod tiles;
+
+pub use color::{ColorConfig, ColorSpace};
+pub use field::FieldName;
+pub use filter::{LoopDeltas, LoopFilter};
+pub use header::{
+    FrameContexts, FrameFilter, FrameHead, FrameKind, FrameParams, FrameSize, Header, InterFields,
+    Reference, Uncompressed,
+};
+pub use persist::Persist;
+pub use quantizer::Quantizer;
+pub use reading::read;
+pub use segments::{FeatureReference, Features, MapUpdate, SegmentFeatures, Segmentation};
+pub use tiles::TileInfo;

@@ -1,0 +1,65 @@
+ghost use Rattle.std.specs.Prelude.{◌≡◌};
+ghost use Rattle.frame_headers.specs.State.{held, refreshed};
+
+use crate::color::ColorConfig;
+use crate::filter::LoopDeltas;
+use crate::header::{FrameSize, Header};
+use crate::segments::Features;
+use vp9_types::Shape;
+
+/// What a header needs of the frames before it: the shapes of what the eight slots hold, the colour configuration of
+/// the last intra frame, the filter deltas and segment features in force, and the size of the last decoded frame.
+#[derive(Clone, Copy, Debug, PartialEq, Eq)]
+pub struct Persist {
+    pub slots: [Option<Shape>; 8],
+    pub color: ColorConfig,
+    pub deltas: LoopDeltas,
+    pub features: Features,
+    pub size: Option<FrameSize>,
+}
+
+impl Persist {
+    /// Before the first frame.
+    pub const START: Persist = Persist {
+        slots: [None; 8],
+        color: ColorConfig::DEFAULT,
+        deltas: LoopDeltas::DEFAULT,
+        features: Features::NONE,
+        size: None,
+    };
+}
+
+fn slot_held(flags: u8, shape: Shape, old: Option<Shape>) -> Option<Shape>
+    ensures { result ≡ held flags shape old }
+{
+    if flags % 2 == 1 { Some(shape) } else { old }
+}
+
+fn refresh_slots(slots: &mut [Option<Shape>], refresh: u8, shape: Shape)
+    ensures { slots.new ≡ refreshed refresh shape slots.old }
+{
+    let mut flags = refresh;
+    for i in 0..slots.len() {
+        slots[i] = slot_held(flags, shape, slots[i]);
+        flags /= 2;
+    }
+}
+
+impl Header {
+    ghost use Rattle.frame_headers.specs.State.{next_persist};
+
+    /// What persists after this frame.
+    pub fn next(&self, before: &Persist) -> Persist
+        ensures { result ≡ next_persist self.now before.now }
+    {
+        let mut slots = before.slots;
+        refresh_slots(&mut slots, self.refresh, self.shape());
+        Persist {
+            slots,
+            color: self.color,
+            deltas: self.params.loop_filter.deltas,
+            features: self.params.segmentation.features,
+            size: Some(self.size),
+        }
+    }
+}

@@ -1,0 +1,87 @@
+ghost use Rattle.std.specs.Prelude.{◌≡◌, ◌≤◌, ◌-◌};
+ghost use Rattle.frame_headers.specs.Fields.{Reads};
+ghost use Rattle.frame_headers.specs.Tiles.{superblocks, min_log2, max_log2, more_columns, tile_columns_log2, tile_rows_log2, tile_info};
+
+use crate::bits::BitReader;
+use crate::field::FieldName;
+use vp9_types::Fault;
+
+/// `tile_info` (6.2.13 of the standard): a frame has `1 << columns_log2` tile columns and `1 << rows_log2` tile rows.
+#[derive(Clone, Copy, Debug, PartialEq, Eq)]
+pub struct TileInfo {
+    pub columns_log2: u8,
+    pub rows_log2: u8,
+}
+
+/// How many superblocks of 64 samples cover a width or height.
+fn superblocks_of(size: u32) -> u32
+    ensures { result ≡ superblocks size }
+{
+    size.div_ceil(8).div_ceil(8)
+}
+
+fn least_log2(columns: u32) -> u8
+    ensures value { result ≡ min_log2 columns }
+    ensures small { result ≤ 10 }
+{
+    for n in 0..10u8 {
+        if columns <= 64 << n {
+            return n;
+        }
+    }
+    10
+}
+
+fn greatest_log2(columns: u32) -> u8
+    ensures value { result ≡ max_log2 columns }
+    ensures small { result ≤ 10 }
+{
+    for n in 0..10u8 {
+        if columns >> (n + 1) < 4 {
+            return n;
+        }
+    }
+    10
+}
+
+fn read_more_columns(bits: &mut BitReader<'_>, least: u8, greatest: u8) -> Result<u8, Fault>
+    requires { greatest ≤ 10 }
+    ensures { Reads (more_columns (greatest - least) least) bits.old result bits.new }
+{
+    let mut log2 = least;
+    while log2 < greatest {
+        if !bits.flag(FieldName::IncrementTileColsLog2)? {
+            return Ok(log2);
+        }
+        log2 += 1;
+    }
+    Ok(log2)
+}
+
+#[tactic(auto, unfolding(crate::specs::Tiles::tile_rows_log2), using(vp9_types::proofs::Runs::run_bind))]
+fn read_rows_log2(bits: &mut BitReader<'_>) -> Result<u8, Fault>
+    ensures { Reads tile_rows_log2 bits.old result bits.new }
+{
+    if !bits.flag(FieldName::TileRowsLog2)? {
+        return Ok(0);
+    }
+    if bits.flag(FieldName::IncrementTileRowsLog2)? {
+        Ok(2)
+    } else {
+        Ok(1)
+    }
+}
+
+/// Reads `tile_info` of a frame of this width.
+#[tactic(auto, unfolding(crate::specs::Tiles::tile_info, crate::specs::Tiles::tile_columns_log2), using(vp9_types::proofs::Runs::run_bind))]
+pub fn read_tile_info(bits: &mut BitReader<'_>, width: u32) -> Result<TileInfo, Fault>
+    ensures { Reads (tile_info width) bits.old result bits.new }
+{
+    let columns = superblocks_of(width);
+    let columns_log2 = read_more_columns(bits, least_log2(columns), greatest_log2(columns))?;
+    let rows_log2 = read_rows_log2(bits)?;
+    Ok(TileInfo {
+        columns_log2,
+        rows_log2,
+    })
+}

@@ -1,0 +1,4 @@
+pub mod Walks
+pub mod Headers
+pub mod Bodies
+pub mod Files

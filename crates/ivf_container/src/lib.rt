@@ -1,0 +1,12 @@
+//! IVF files, reading side: the file header, and one packet after another.
+#![tactic(auto)]
+
+mod laws;
+mod packet;
+#[cfg(test)]
+mod tests;
+mod walk;
+
+pub use laws::file_has_these_packets;
+pub use packet::{Packet, next_packet, read_header};
+pub use walk::{Walk, packets};
