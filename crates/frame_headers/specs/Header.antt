@@ -26,7 +26,7 @@ use Rattle.frame_headers.specs.Filter.{loop_filter_params}
 use Rattle.frame_headers.specs.Quantizer.{quantization_params}
 use Rattle.frame_headers.specs.Segments.{segmentation_params, no_features}
 use Rattle.frame_headers.specs.State.{default_deltas}
-use Rattle.frame_headers.specs.Tiles.{tile_info}
+use Rattle.frame_headers.specs.Tiles.{tile_info, AreFewTiles}
 
 -- up to the frame type (6.2). Other frames than key frames of profile 0 aren't read yet
 unfoldable pub frame_start : Table (Unit {0})
@@ -130,3 +130,12 @@ placed_if_read bytes (Err fault) = Err fault
 -- The header of a frame, or the first test that fails.
 unfoldable pub head_of : Persist → List ℕ → Result FrameHead Fault
 head_of before frame = placed_if_read (length frame) (read_bits past (uncompressed_header before) (bits_of frame))
+
+-- at most 256 tile columns and 4 tile rows
+abbrev pub HasFewTiles : Uncompressed → Type 0
+HasFewTiles (uncompressed.ShowExisting slot) = Unit {0}
+HasFewTiles (uncompressed.Coded header) = AreFewTiles header.params.tiles
+
+abbrev pub HeadHasFewTiles : FrameHead → Type 0
+HeadHasFewTiles (head.ShowExisting slot) = Unit {0}
+HeadHasFewTiles (head.Coded header compressed) = AreFewTiles header.params.tiles

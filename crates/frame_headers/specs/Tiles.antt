@@ -1,5 +1,5 @@
 -- Tiles (6.2.13, 6.2.14 and 7.2.11 of the standard).
-use Rattle.std.specs.Prelude.{ℕ, zero, suc, ◌+◌, ◌-◌, ◌*◌, ◌/◌, ◌^◌, Bool, nat_lt, nat_le, if◌then◌else◌}
+use Rattle.std.specs.Prelude.{ℕ, zero, suc, ◌+◌, ◌-◌, ◌*◌, ◌/◌, ◌^◌, ◌≤◌, Bool, nat_lt, nat_le, if◌then◌else◌}
 use Rattle.vp9_types.specs.Syntax.{done, ◌>>=◌}
 use Rattle.frame_headers.specs.declared.field.FieldName.TheVariants as name
 use Rattle.frame_headers.specs.declared.tiles.TileInfo.{TileInfo}
@@ -14,13 +14,13 @@ abbrev pub least : (ℕ → Bool) → ℕ → ℕ → ℕ
 least test zero n = n
 least test (suc k) n = if test n then n else least test k (n + 1)
 
--- no tile is wider than 64 superblocks; a frame has at most 1024 columns of them
+-- No tile is wider than 64 superblocks. A frame has at most 1024 columns of them, so 8 is the greatest answer here and below.
 unfoldable pub min_log2 : ℕ → ℕ
-min_log2 columns = least (λ n. nat_le columns (64 * 2 ^ n)) 10 0
+min_log2 columns = least (λ n. nat_le columns (64 * 2 ^ n)) 8 0
 
 -- none is narrower than 4, unless the frame is
 unfoldable pub max_log2 : ℕ → ℕ
-max_log2 columns = least (λ n. nat_lt (columns / 2 ^ (n + 1)) 4) 10 0
+max_log2 columns = least (λ n. nat_lt (columns / 2 ^ (n + 1)) 4) 8 0
 
 -- twice as many columns, up to k times
 unfoldable pub more_columns : ℕ → ℕ → Table ℕ
@@ -42,3 +42,7 @@ tile_info width = do
   columns ← tile_columns_log2 (superblocks width)
   rows ← tile_rows_log2
   done (record { columns_log2 = columns; rows_log2 = rows })
+
+-- at most 256 columns and 4 rows
+abbrev pub AreFewTiles : TileInfo → Type 0
+AreFewTiles tiles = (tiles.columns_log2 ≤ 8) × (tiles.rows_log2 ≤ 2)

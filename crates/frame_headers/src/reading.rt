@@ -1,6 +1,7 @@
-ghost use Rattle.std.specs.Prelude.{◌≡◌};
+ghost use Rattle.std.specs.Prelude.{◌≡◌, IfOk};
 ghost use Rattle.frame_headers.specs.Fields.{Reads};
-ghost use Rattle.frame_headers.specs.Header.{frame_start, frame_sync_code, frame_size, render_size, frame_contexts, frame_params, key_frame, uncompressed_header, head_of};
+ghost use Rattle.frame_headers.specs.Header.{frame_start, frame_sync_code, frame_size, render_size, frame_contexts, frame_params, key_frame, uncompressed_header, head_of, HasFewTiles, HeadHasFewTiles};
+ghost use Rattle.frame_headers.specs.Tiles.{AreFewTiles};
 
 use crate::bits::BitReader;
 use crate::color::read_color_config;
@@ -101,7 +102,8 @@ fn read_frame_params(
     features: Features,
     width: u32,
 ) -> Result<FrameParams, Fault>
-    ensures { Reads (frame_params deltas features width) bits.old result bits.new }
+    ensures reads { Reads (frame_params deltas features width) bits.old result bits.new }
+    ensures few { IfOk result (λ params. AreFewTiles params.tiles) }
 {
     let loop_filter = read_loop_filter(bits, deltas)?;
     let quantizer = read_quantizer(bits)?;
@@ -123,7 +125,8 @@ fn read_frame_params(
 /// A key frame loses the past: the filter deltas are the first ones, and no segment has a feature.
 #[tactic(auto, unfolding(crate::specs::Header::key_frame), using(vp9_types::proofs::Runs::run_bind))]
 fn read_key_frame(bits: &mut BitReader<'_>) -> Result<Header, Fault>
-    ensures { Reads key_frame bits.old result bits.new }
+    ensures reads { Reads key_frame bits.old result bits.new }
+    ensures few { IfOk result (λ header. AreFewTiles header.params.tiles) }
 {
     let show_frame = bits.flag(FieldName::ShowFrame)?;
     let error_resilient = bits.flag(FieldName::ErrorResilientMode)?;
@@ -150,7 +153,8 @@ fn read_key_frame(bits: &mut BitReader<'_>) -> Result<Header, Fault>
 /// Only headers of key frames of profile 0 are read as yet: `_before` serves the others.
 #[tactic(auto, unfolding(crate::specs::Header::uncompressed_header), using(vp9_types::proofs::Runs::run_bind))]
 fn read_uncompressed(bits: &mut BitReader<'_>, before: &Persist) -> Result<Uncompressed, Fault>
-    ensures { Reads (uncompressed_header before.now) bits.old result bits.new }
+    ensures reads { Reads (uncompressed_header before.now) bits.old result bits.new }
+    ensures few { IfOk result HasFewTiles }
 {
     read_frame_start(bits)?;
     Ok(Uncompressed::Coded(read_key_frame(bits)?))
@@ -158,7 +162,8 @@ fn read_uncompressed(bits: &mut BitReader<'_>, before: &Persist) -> Result<Uncom
 
 /// Reads the uncompressed header of a frame, after the frames that `before` stands for.
 pub fn read(frame: &[u8], before: &Persist) -> Result<FrameHead, Fault>
-    ensures { result ≡ head_of before.now frame.now }
+    ensures exact { result ≡ head_of before.now frame.now }
+    ensures few { IfOk result HeadHasFewTiles }
 {
     let mut bits = BitReader::new(frame);
     let uncompressed = read_uncompressed(&mut bits, before)?;

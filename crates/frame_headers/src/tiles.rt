@@ -1,6 +1,6 @@
-ghost use Rattle.std.specs.Prelude.{◌≡◌, ◌≤◌, ◌-◌};
+ghost use Rattle.std.specs.Prelude.{◌≡◌, ◌≤◌, ◌-◌, IfOk};
 ghost use Rattle.frame_headers.specs.Fields.{Reads};
-ghost use Rattle.frame_headers.specs.Tiles.{superblocks, min_log2, max_log2, more_columns, tile_columns_log2, tile_rows_log2, tile_info};
+ghost use Rattle.frame_headers.specs.Tiles.{superblocks, min_log2, max_log2, more_columns, tile_columns_log2, tile_rows_log2, tile_info, AreFewTiles};
 
 use crate::bits::BitReader;
 use crate::field::FieldName;
@@ -22,31 +22,33 @@ fn superblocks_of(size: u32) -> u32
 
 fn least_log2(columns: u32) -> u8
     ensures value { result ≡ min_log2 columns }
-    ensures small { result ≤ 10 }
+    ensures small { result ≤ 8 }
 {
-    for n in 0..10u8 {
+    for n in 0..8u8 {
         if columns <= 64 << n {
             return n;
         }
     }
-    10
+    8
 }
 
 fn greatest_log2(columns: u32) -> u8
     ensures value { result ≡ max_log2 columns }
-    ensures small { result ≤ 10 }
+    ensures small { result ≤ 8 }
 {
-    for n in 0..10u8 {
+    for n in 0..8u8 {
         if columns >> (n + 1) < 4 {
             return n;
         }
     }
-    10
+    8
 }
 
 fn read_more_columns(bits: &mut BitReader<'_>, least: u8, greatest: u8) -> Result<u8, Fault>
-    requires { greatest ≤ 10 }
-    ensures { Reads (more_columns (greatest - least) least) bits.old result bits.new }
+    requires least { least ≤ 8 }
+    requires greatest { greatest ≤ 8 }
+    ensures reads { Reads (more_columns (greatest - least) least) bits.old result bits.new }
+    ensures few { IfOk result (λ log2. log2 ≤ 8) }
 {
     let mut log2 = least;
     while log2 < greatest {
@@ -60,7 +62,8 @@ fn read_more_columns(bits: &mut BitReader<'_>, least: u8, greatest: u8) -> Resul
 
 #[tactic(auto, unfolding(crate::specs::Tiles::tile_rows_log2), using(vp9_types::proofs::Runs::run_bind))]
 fn read_rows_log2(bits: &mut BitReader<'_>) -> Result<u8, Fault>
-    ensures { Reads tile_rows_log2 bits.old result bits.new }
+    ensures reads { Reads tile_rows_log2 bits.old result bits.new }
+    ensures few { IfOk result (λ log2. log2 ≤ 2) }
 {
     if !bits.flag(FieldName::TileRowsLog2)? {
         return Ok(0);
@@ -75,7 +78,8 @@ fn read_rows_log2(bits: &mut BitReader<'_>) -> Result<u8, Fault>
 /// Reads `tile_info` of a frame of this width.
 #[tactic(auto, unfolding(crate::specs::Tiles::tile_info, crate::specs::Tiles::tile_columns_log2), using(vp9_types::proofs::Runs::run_bind))]
 pub fn read_tile_info(bits: &mut BitReader<'_>, width: u32) -> Result<TileInfo, Fault>
-    ensures { Reads (tile_info width) bits.old result bits.new }
+    ensures reads { Reads (tile_info width) bits.old result bits.new }
+    ensures few { IfOk result AreFewTiles }
 {
     let columns = superblocks_of(width);
     let columns_log2 = read_more_columns(bits, least_log2(columns), greatest_log2(columns))?;

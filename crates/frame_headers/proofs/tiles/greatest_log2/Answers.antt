@@ -12,4 +12,4 @@ loop-n-init c = refl
 pub loop-n-preserved : goal.loop-n-preserved
 loop-n-preserved c =
     let test : ℕ → _ = λ k. nat_lt (c.args.columns / 2 ^ (k + 1)) 4 in
-    sym (least_later test 10 c.loop-n.n c.loop-n-test.true (le-ltb (c.args.columns / 2 ^ (c.loop-n.n + 1)) 4 c.if-columns-n-lt4.false)) ∙ c.loop-n.invariant
+    sym (least_later test 8 c.loop-n.n c.loop-n-test.true (le-ltb (c.args.columns / 2 ^ (c.loop-n.n + 1)) 4 c.if-columns-n-lt4.false)) ∙ c.loop-n.invariant

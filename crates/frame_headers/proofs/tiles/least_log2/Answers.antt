@@ -12,7 +12,7 @@ loop-n-init c = refl
 pub loop-n-preserved : goal.loop-n-preserved
 loop-n-preserved c =
     let test : ℕ → _ = λ k. nat_le c.args.columns (64 * 2 ^ k) in
-    let low : c.loop-n.n < 10 = c.loop-n-test.true in
+    let low : c.loop-n.n < 8 = c.loop-n-test.true in
     let whole = shift_whole c.loop-n.n low in
     let wider : 64 * 2 ^ c.loop-n.n < c.args.columns = omega (arith, whole, c.if-columns-n.false) in
-    sym (least_later test 10 c.loop-n.n low (lt-leb c.args.columns (64 * 2 ^ c.loop-n.n) wider)) ∙ c.loop-n.invariant
+    sym (least_later test 8 c.loop-n.n low (lt-leb c.args.columns (64 * 2 ^ c.loop-n.n) wider)) ∙ c.loop-n.invariant
