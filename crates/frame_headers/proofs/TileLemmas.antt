@@ -46,3 +46,6 @@ columns_end greatest log2 bits h = let e : greatest - log2 ≡ 0 = omega arith i
 -- the shift loses no bit
 pub shift_whole : (n : ℕ) → n < 8 → 64 * 2 ^ n % 4294967296 ≡ 64 * 2 ^ n
 shift_whole n h = eqb-true _ _ (agree_below_at (λ k. nat_eq (64 * 2 ^ k % 4294967296) (64 * 2 ^ k)) (λ _. true) 8 n refl h)
+
+pub power_whole : (n : ℕ) → n ≤ 8 → 2 ^ n % 4294967296 ≡ 2 ^ n
+power_whole n h = eqb-true _ _ (agree_below_at (λ k. nat_eq (2 ^ k % 4294967296) (2 ^ k)) (λ _. true) 9 n refl (omega arith))

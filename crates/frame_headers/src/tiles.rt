@@ -1,4 +1,4 @@
-ghost use Rattle.std.specs.Prelude.{◌≡◌, ◌≤◌, ◌-◌, IfOk};
+ghost use Rattle.std.specs.Prelude.{◌≡◌, ◌≤◌, ◌-◌, ◌^◌, IfOk};
 ghost use Rattle.frame_headers.specs.Fields.{Reads};
 ghost use Rattle.frame_headers.specs.Tiles.{superblocks, min_log2, max_log2, more_columns, tile_columns_log2, tile_rows_log2, tile_info, AreFewTiles};
 
@@ -11,6 +11,32 @@ use vp9_types::Fault;
 pub struct TileInfo {
     pub columns_log2: u8,
     pub rows_log2: u8,
+}
+
+impl TileInfo {
+    /// How many tile columns there are.
+    pub fn columns(&self) -> u32
+        requires { self.now.columns_log2 ≤ 8 }
+        ensures { result ≡ 2 ^ self.now.columns_log2 }
+    {
+        power_of_two(self.columns_log2)
+    }
+
+    /// How many tile rows there are.
+    pub fn rows(&self) -> u32
+        requires { self.now.rows_log2 ≤ 8 }
+        ensures { result ≡ 2 ^ self.now.rows_log2 }
+    {
+        power_of_two(self.rows_log2)
+    }
+}
+
+#[tactic(auto, using(crate::proofs::TileLemmas::power_whole))]
+fn power_of_two(log2: u8) -> u32
+    requires { log2 ≤ 8 }
+    ensures { result ≡ 2 ^ log2 }
+{
+    1 << log2
 }
 
 /// How many superblocks of 64 samples cover a width or height.

@@ -1,0 +1,4 @@
+pub mod Texts
+pub mod Entries
+pub mod Listings
+pub mod Causes

@@ -1,0 +1,122 @@
+-- What a run of the program does, and the causes of its answers.
+use Rattle.std.specs.Prelude.{◌≡◌, ◌⊎◌, ℕ, ◌<◌, Bool, true, false, IsTrue, List, [], length, take, Option, Some, None}
+use Rattle.edge_io.specs.Filling.{WhereTold}
+use Rattle.edge_io.specs.Putting.{Takes}
+use Rattle.vp9_app.specs.declared.command.Command.{Command}
+use Rattle.vp9_app.specs.declared.command.Command.TheVariants as command
+use Rattle.vp9_app.specs.declared.status.Status.{Status}
+use Rattle.vp9_app.specs.declared.status.Status.TheVariants as status
+use Rattle.vp9_app.specs.Listing.{listing}
+use Rattle.vp9_app.specs.Notes.{note_line}
+use Rattle.vp9_app.specs.Statuses.{ended}
+
+-- what is seen of a source: the bytes that it has left, where it tells them, and its count of faults, before and after
+pub record OfSource : Type 0 where
+  pub rest : Option (List ℕ)
+  pub left : Option (List ℕ)
+  pub faults : ℕ
+  pub faults_now : ℕ
+
+-- what is seen of a sink: what it took, where it tells that, and its count of faults, before and after
+pub record OfSink : Type 0 where
+  pub before : Option (List ℕ)
+  pub after : Option (List ℕ)
+  pub faults : ℕ
+  pub faults_now : ℕ
+
+abbrev pub source_seen : Option (List ℕ) → Option (List ℕ) → ℕ → ℕ → OfSource
+source_seen rest left faults faults_now = record { rest = rest; left = left; faults = faults; faults_now = faults_now }
+
+abbrev pub sink_seen : Option (List ℕ) → Option (List ℕ) → ℕ → ℕ → OfSink
+sink_seen before after faults faults_now = record { before = before; after = after; faults = faults; faults_now = faults_now }
+
+-- a count that didn't rise, and one that did
+abbrev pub SourceQuiet : OfSource → Type 0
+SourceQuiet s = s.faults_now ≡ s.faults
+
+abbrev pub SourceFailed : OfSource → Type 0
+SourceFailed s = s.faults < s.faults_now
+
+abbrev pub SinkQuiet : OfSink → Type 0
+SinkQuiet o = o.faults_now ≡ o.faults
+
+abbrev pub SinkFailed : OfSink → Type 0
+SinkFailed o = o.faults < o.faults_now
+
+-- the source was read to its end, the listing of its bytes is written, and it ends so
+pub record Lists (s : OfSource) (o : OfSink) (status : Status) : Type 0 where
+  pub source : SourceQuiet s
+  pub out : SinkQuiet o
+  pub told : WhereTold s.rest (λ bytes. (ended (listing bytes).ending ≡ status) × Takes o.before o.after (listing bytes).text × (s.left ≡ Some []))
+
+-- a front of the listing is written
+abbrev pub WritesFront : OfSource → OfSink → Type 0
+WritesFront s o = WhereTold s.rest (λ bytes. (n : ℕ) × Takes o.before o.after (take n (listing bytes).text))
+
+-- how the work of a command may end, before the note is written
+abbrev pub Works : Option Command → OfSource → OfSink → Status → Type 0
+Works None s o status.Usage = SourceQuiet s × SinkQuiet o × (s.left ≡ s.rest) × (o.after ≡ o.before)
+Works None s o status = ⊥
+Works (Some command.List) s o status.Done = Lists s o status.Done
+Works (Some command.List) s o (status.Broken stop) = Lists s o (status.Broken stop)
+Works (Some command.List) s o (status.Unbuilt frame part) = Lists s o (status.Unbuilt frame part)
+Works (Some command.List) s o status.ReadFault = SourceFailed s × SinkQuiet o × (o.after ≡ o.before)
+Works (Some command.List) s o status.WriteFault = SourceQuiet s × SinkFailed o × WritesFront s o
+Works (Some command.List) s o status.OutOfMemory = SourceQuiet s × SinkQuiet o × WritesFront s o
+Works (Some command.List) s o status.Usage = ⊥
+
+-- the status where the note wants memory: a write fault goes first
+abbrev pub without_memory : Status → Status
+without_memory status.WriteFault = status.WriteFault
+without_memory first = status.OutOfMemory
+
+-- the note took the line of the status, or it refused: then it took a front of that line
+abbrev pub Reports : OfSink → Status → Status → Type 0
+Reports n first last =
+    (SinkQuiet n × (last ≡ first) × Takes n.before n.after (note_line first))
+    ⊎ (SinkFailed n × (last ≡ status.WriteFault) × ((k : ℕ) × Takes n.before n.after (take k (note_line first))))
+    ⊎ (SinkQuiet n × (last ≡ without_memory first) × ((k : ℕ) × Takes n.before n.after (take k (note_line first))))
+
+-- where there is no memory for the line of a rule or a part, want of memory is told instead
+abbrev pub MayLackMemory : Status → Status → Type 0
+MayLackMemory (status.Broken stop) told = (told ≡ status.Broken stop) ⊎ (told ≡ status.OutOfMemory)
+MayLackMemory (status.Unbuilt frame part) told = (told ≡ status.Unbuilt frame part) ⊎ (told ≡ status.OutOfMemory)
+MayLackMemory first told = told ≡ first
+
+abbrev pub Tells : OfSink → Status → Status → Type 0
+Tells n first last = (told : Status) × MayLackMemory first told × Reports n told last
+
+-- the whole run: the work ends somehow, and then the note is written
+pub record Runs (c : Option Command) (s : OfSource) (o n : OfSink) (last : Status) : Type 0 where
+  pub first : Status
+  pub work : Works c s o first
+  pub note : Reports n first last
+
+-- no count rose
+pub record AllQuiet (s : OfSource) (o n : OfSink) : Type 0 where
+  pub source : SourceQuiet s
+  pub out : SinkQuiet o
+  pub note : SinkQuiet n
+
+-- the cause of each answer
+abbrev pub HasCause : Option Command → OfSource → OfSink → OfSink → Status → Type 0
+HasCause c s o n status.Done = (c ≡ Some command.List) × AllQuiet s o n × Lists s o status.Done × Takes n.before n.after []
+HasCause c s o n (status.Broken stop) = (c ≡ Some command.List) × AllQuiet s o n × Lists s o (status.Broken stop) × Takes n.before n.after (note_line (status.Broken stop))
+HasCause c s o n (status.Unbuilt frame part) =
+    (c ≡ Some command.List) × AllQuiet s o n × Lists s o (status.Unbuilt frame part) × Takes n.before n.after (note_line (status.Unbuilt frame part))
+HasCause c s o n status.Usage = (c ≡ None) × AllQuiet s o n × Takes n.before n.after (note_line status.Usage)
+HasCause c s o n status.ReadFault =
+    (c ≡ Some command.List) × SourceFailed s × SinkQuiet o × SinkQuiet n × (o.after ≡ o.before) × Takes n.before n.after (note_line status.ReadFault)
+HasCause c s o n status.WriteFault = SinkFailed o ⊎ SinkFailed n
+HasCause c s o n status.OutOfMemory = SinkQuiet o × SinkQuiet n
+
+-- where no count rises and the source tells its bytes, the answer is that of the words and the listing, or want of memory
+abbrev pub IsComplete : Option Command → OfSource → OfSink → OfSink → Status → Type 0
+IsComplete None s o n last = AllQuiet s o n → (last ≡ status.Usage) ⊎ (last ≡ status.OutOfMemory)
+IsComplete (Some command.List) s o n last =
+    AllQuiet s o n → WhereTold s.rest (λ bytes. (last ≡ ended (listing bytes).ending) ⊎ (last ≡ status.OutOfMemory))
+
+pub record Answers (c : Option Command) (s : OfSource) (o n : OfSink) (last : Status) : Type 0 where
+  pub run : Runs c s o n last
+  pub cause : HasCause c s o n last
+  pub complete : IsComplete c s o n last

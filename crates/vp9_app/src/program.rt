@@ -1,0 +1,107 @@
+ghost use Rattle.std.specs.Prelude.{◌≡◌, Some, None};
+ghost use Rattle.vp9_app.specs.Answers.{source_seen, sink_seen, Works, Answers};
+ghost use Rattle.vp9_app.specs.Commands.{command_of};
+
+use crate::command::{Command, read_words};
+use crate::listing::list_file;
+use crate::note::report;
+use crate::status::Status;
+use edge_io::{Gate, PutFault, ReadError, Sink, Source, put_all, read_all};
+use std::alloc::Global;
+use std::sync::Wait;
+use std::thread::Threads;
+
+/// What is left of a run: how it ended, and the objects that it was given.
+#[derive(Drop)]
+pub struct Ran<S, K, N> {
+    pub status: Status,
+    pub source: S,
+    pub out: K,
+    pub note: N,
+}
+
+fn list<S: Source, K: Sink>(alloc: Global, source: &mut S, out: &mut K) -> Status
+    requires source { S.can_fill source.old }
+    requires out { K.can_put out.old }
+    ensures { Works (Some Command.List)
+        (source_seen (S.rest source.old) (S.rest source.new) (S.faults source.old) (S.faults source.new))
+        (sink_seen (K.taken out.old) (K.taken out.new) (K.faults out.old) (K.faults out.new)) result }
+{
+    let bytes = match read_all(alloc, source) {
+        Ok(bytes) => bytes,
+        Err(ReadError::Failed) => return Status::ReadFault,
+        Err(ReadError::OutOfMemory) => return Status::OutOfMemory,
+    };
+    let listed = match list_file(alloc, bytes.as_slice()) {
+        Ok(listed) => listed,
+        Err(_) => return Status::OutOfMemory,
+    };
+    match put_all(out, listed.text.as_bytes()) {
+        Ok(()) => Status::from(listed.ending),
+        Err(PutFault::Failed) => Status::WriteFault,
+        Err(PutFault::OutOfMemory) => Status::OutOfMemory,
+    }
+}
+
+/// Does what a command asks for.
+fn work<S: Source, K: Sink>(
+    alloc: Global,
+    command: Option<Command>,
+    source: &mut S,
+    out: &mut K,
+) -> Status
+    requires source { S.can_fill source.old }
+    requires out { K.can_put out.old }
+    ensures work { Works command
+        (source_seen (S.rest source.old) (S.rest source.new) (S.faults source.old) (S.faults source.new))
+        (sink_seen (K.taken out.old) (K.taken out.new) (K.faults out.old) (K.faults out.new)) result }
+    ensures untouched { command ≡ None → (source.new ≡ source.old) × (out.new ≡ out.old) }
+{
+    match command {
+        Some(Command::List) => list(alloc, source, out),
+        None => Status::Usage,
+    }
+}
+
+/// Runs the command that the words ask for, the program's name first. What a command reads comes from `source`, what
+/// it writes goes to `out`, and how it ended is told to `note` in a line. All three are handed back.
+///
+/// `rt` and `gate` serve commands that start threads; `list` starts none.
+pub fn run<
+    R: Threads + Wait + Sync,
+    S: Source + Send + Drop,
+    K: Sink + Send + Drop,
+    N: Sink + Drop,
+    G: Gate + Sync,
+>(
+    _rt: &R,
+    alloc: Global,
+    words: &[String],
+    mut source: S,
+    mut out: K,
+    mut note: N,
+    _gate: &G,
+) -> Ran<S, K, N>
+    requires source { S.can_fill source }
+    requires out { K.can_put out }
+    requires note { N.can_put note }
+
+    // What is read, written and told, at each status with its cause.
+    ensures answer { Answers (command_of words.now)
+        (source_seen (S.rest source) (S.rest result.source) (S.faults source) (S.faults result.source))
+        (sink_seen (K.taken out) (K.taken result.out) (K.faults out) (K.faults result.out))
+        (sink_seen (N.taken note) (N.taken result.note) (N.faults note) (N.faults result.note)) result.status }
+
+    // Words that are no command touch neither source nor out.
+    ensures untouched { command_of words.now ≡ None → (result.source ≡ source) × (result.out ≡ out) }
+{
+    let command = read_words(words);
+    let first = work(alloc, command, &mut source, &mut out);
+    let status = report(alloc, first, &mut note);
+    Ran {
+        status,
+        source,
+        out,
+        note,
+    }
+}

@@ -1,0 +1,55 @@
+ghost use Rattle.std.specs.Prelude.{◌≡◌};
+ghost use Rattle.vp9_app.specs.Statuses.{code_of};
+
+use crate::listing::Ending;
+use vp9_types::{Fault, Part, Stop};
+
+/// How a run of the program ends.
+#[derive(Clone, Copy, Debug, PartialEq, Eq)]
+pub enum Status {
+    /// All is written.
+    Done,
+    /// The words are no command.
+    Usage,
+    /// A frame breaks a rule; what comes before it is written.
+    Broken(Stop),
+    /// The source failed.
+    ReadFault,
+    /// A sink failed.
+    WriteFault,
+    OutOfMemory,
+    /// A frame uses what isn't built yet; what comes before it is written.
+    Unbuilt { frame: u64, part: Part },
+}
+
+impl Status {
+    /// The exit status of the program.
+    pub fn code(self) -> u8
+        ensures { result ≡ code_of self }
+    {
+        match self {
+            Status::Done => 0,
+            Status::Usage => 2,
+            Status::Broken(_) => 3,
+            Status::ReadFault => 4,
+            Status::WriteFault => 5,
+            Status::OutOfMemory => 6,
+            Status::Unbuilt { .. } => 9,
+        }
+    }
+}
+
+impl From<Ending> for Status {
+    ghost use Rattle.std.specs.Prelude.{◌≡◌};
+    ghost use Rattle.vp9_app.specs.Statuses.{ended};
+
+    ghost from_gives = { λ ending status. status ≡ ended ending };
+
+    fn from(ending: Ending) -> Status {
+        match ending {
+            Ending::End => Status::Done,
+            Ending::Fault { frame, fault: Fault::Broken(rule) } => Status::Broken(Stop { frame, rule }),
+            Ending::Fault { frame, fault: Fault::Unbuilt(part) } => Status::Unbuilt { frame, part },
+        }
+    }
+}
