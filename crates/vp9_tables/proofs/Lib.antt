@@ -1,0 +1,7 @@
+pub mod Orders
+pub mod ScanLaws
+pub mod Ranges
+pub mod Candidates
+pub mod Circle
+pub mod Walks
+pub mod Sizes

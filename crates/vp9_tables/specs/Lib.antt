@@ -1,0 +1,10 @@
+pub mod Numbers
+pub mod Orders
+pub mod Scans
+pub mod Coefficients
+pub mod Trees
+pub mod Transforms
+pub mod Motion
+pub mod Blocks
+pub mod Filters
+pub mod Quantisers
