@@ -2,8 +2,7 @@
 use Rattle.std.proofs.Common.{◌≡◌, ℕ, ◌+◌, ◌-◌, ◌/◌, ◌<◌, ◌≤◌, List, length, ap, arith, refl}
 use Rattle.std.specs.Prelude.{Ok, Err}
 use Rattle.std.proofs.lemmas.Bool.{lt-ltb, le-ltb}
-use Rattle.vp9_types.specs.declared.outcome.Fault.{Fault}
-use Rattle.vp9_types.specs.declared.outcome.Fault.TheVariants.{Broken}
+use Rattle.vp9_types.specs.declared.rule.Rule.{Rule}
 use Rattle.vp9_types.specs.declared.rule.Rule.TheVariants.{HeaderSizeLong}
 use Rattle.vp9_types.specs.Bits.{bits_of}
 use Rattle.vp9_types.specs.Reading.{read_bits}
@@ -22,7 +21,7 @@ pub head_read : (before : Persist) (frame : List ℕ) (x : Uncompressed) (rest :
 unfolding head_of
 head_read before frame x rest h = ap (placed_if_read (length frame)) h
 
-pub head_failed : (before : Persist) (frame : List ℕ) (fault : Fault)
+pub head_failed : (before : Persist) (frame : List ℕ) (fault : Rule)
     → read_bits past (uncompressed_header before) (bits_of frame) ≡ Err fault → head_of before frame ≡ Err fault
 unfolding head_of
 head_failed before frame fault h = ap (placed_if_read (length frame)) h
@@ -39,7 +38,7 @@ unfolding placed
 placed_shown bytes slot rest = refl
 
 pub placed_long : (bytes : ℕ) (header : Header) (rest : List ℕ) → length rest / 8 < header.params.compressed_size
-    → placed bytes (uncompressed.Coded header) rest ≡ Err (Broken HeaderSizeLong)
+    → placed bytes (uncompressed.Coded header) rest ≡ Err (HeaderSizeLong)
 unfolding placed
 placed_long bytes header rest h = rw (lt-ltb (length rest / 8) header.params.compressed_size h) refl
 

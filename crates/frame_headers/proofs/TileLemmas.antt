@@ -3,7 +3,7 @@ use Rattle.std.proofs.lemmas.Bool.{agree_below_at, eqb-true}
 use Rattle.std.proofs.Common.{◌≡◌, ℕ, suc, ◌+◌, ◌-◌, ◌*◌, ◌%◌, ◌^◌, ◌<◌, ◌≤◌, List, refl, arith, Bool, true, false}
 use Rattle.std.specs.Prelude.{Ok, Err, nat_eq}
 use Rattle.vp9_types.specs.Reading.{field_at, read_bits}
-use Rattle.vp9_types.specs.declared.outcome.Fault.{Fault}
+use Rattle.vp9_types.specs.declared.rule.Rule.{Rule}
 use Rattle.vp9_types.proofs.Runs.{run_bind}
 use Rattle.frame_headers.specs.declared.field.FieldName.TheVariants as name
 use Rattle.frame_headers.specs.Fields.{flag, past}
@@ -33,7 +33,7 @@ unfolding more_columns
 columns_stop greatest log2 bits rest low h =
     rw (one_more_left greatest log2 low, run_bind (field_at past) (flag name.IncrementTileColsLog2), h) refl
 
-pub columns_fail : (greatest log2 : ℕ) (bits : List ℕ) (e : Fault) → log2 < greatest → read_bits past (flag name.IncrementTileColsLog2) bits ≡ Err e
+pub columns_fail : (greatest log2 : ℕ) (bits : List ℕ) (e : Rule) → log2 < greatest → read_bits past (flag name.IncrementTileColsLog2) bits ≡ Err e
     → read_bits past (more_columns (greatest - log2) log2) bits ≡ Err e
 unfolding more_columns
 columns_fail greatest log2 bits e low h =

@@ -1,7 +1,6 @@
 -- Fields of a header: f(n) is n bits, su(n) is n bits and a sign (4.10 of the standard).
 use Rattle.std.specs.Prelude.{◌≡◌, ℕ, ℤ, pos, ◌-ℤ◌, List, Bool, ◌==◌, Result, Ok, Err, if◌then◌else◌}
-use Rattle.vp9_types.specs.declared.outcome.Fault.{Fault}
-use Rattle.vp9_types.specs.declared.outcome.Fault.TheVariants.{Broken}
+use Rattle.vp9_types.specs.declared.rule.Rule.{Rule}
 use Rattle.vp9_types.specs.declared.rule.Rule.TheVariants.{HeaderTruncated}
 use Rattle.vp9_types.specs.Syntax.{Syntax, done, ask, ◌>>=◌}
 use Rattle.vp9_types.specs.Reading.{Field, Gives, read_bits}
@@ -10,11 +9,11 @@ use Rattle.frame_headers.specs.declared.field.FieldName.TheVariants.{Sign}
 
 -- a syntax table of the header
 abbrev pub Table : Type 0 → Type 0
-Table A = Syntax (Field FieldName) Fault A
+Table A = Syntax (Field FieldName) Rule A
 
 -- a field that reaches past the frame
-abbrev pub past : Fault
-past = Broken HeaderTruncated
+abbrev pub past : Rule
+past = HeaderTruncated
 
 unfoldable pub f : FieldName → ℕ → Table ℕ
 f name width = ask (record { name = name; width = width }) done
@@ -26,11 +25,11 @@ flag name = do
   done (bit == 1)
 
 -- what the code returned, and the bits that it left, are what the syntax reads
-abbrev pub Reads : {A : Type 0} → Table A → List ℕ → Result A Fault → List ℕ → Type 0
+abbrev pub Reads : {A : Type 0} → Table A → List ℕ → Result A Rule → List ℕ → Type 0
 Reads s old result new = Gives (read_bits past s old) result new
 
 -- the same, where the code puts what it reads into a place
-abbrev pub ReadsInto : {A : Type 0} → Table A → List ℕ → Result (Unit {0}) Fault → A → List ℕ → Type 0
+abbrev pub ReadsInto : {A : Type 0} → Table A → List ℕ → Result (Unit {0}) Rule → A → List ℕ → Type 0
 ReadsInto s old (Ok u) x new = read_bits past s old ≡ Ok (x, new)
 ReadsInto s old (Err e) x new = read_bits past s old ≡ Err e
 

@@ -5,4 +5,6 @@ pub mod Quantizer
 pub mod Segments
 pub mod Tiles
 pub mod State
+pub mod Sizes
+pub mod References
 pub mod Header

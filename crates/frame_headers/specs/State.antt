@@ -1,11 +1,11 @@
 -- What persists from frame to frame (7.2 and 8.10 of the standard).
 use Rattle.std.specs.Prelude.{ℕ, ◌%◌, ◌/◌, ◌==◌, true, false, List, [], ◌∷◌, Option, Some, None, pos, negsuc, replicate, if◌then◌else◌}
 use Rattle.vp9_types.specs.declared.shape.Shape.{Shape}
-use Rattle.vp9_types.specs.declared.shape.Depth.TheVariants.{Eight}
 use Rattle.frame_headers.specs.declared.color.ColorSpace.TheVariants.{Bt601}
 use Rattle.frame_headers.specs.declared.filter.LoopDeltas.{LoopDeltas}
 use Rattle.frame_headers.specs.declared.header.Header.{Header}
 use Rattle.frame_headers.specs.declared.persist.Persist.{Persist}
+use Rattle.frame_headers.specs.Color.{default_color}
 use Rattle.frame_headers.specs.Segments.{no_features}
 
 abbrev pub shape_of : Header → Shape
@@ -36,7 +36,7 @@ default_deltas = record { reference = pos 1 ∷ pos 0 ∷ negsuc 0 ∷ negsuc 0 
 abbrev pub start_persist : Persist
 start_persist = record {
   slots = replicate 8 None;
-  color = record { depth = Eight; space = Bt601; full_range = false; ss_x = true; ss_y = true };
+  color = default_color;
   deltas = default_deltas;
   features = no_features;
   size = None;

@@ -3,7 +3,7 @@ ghost use Rattle.frame_headers.specs.Fields.{f, flag, su, Reads};
 
 use crate::field::FieldName;
 use std::marker::Model;
-use vp9_types::{Fault, Rule};
+use vp9_types::Rule;
 
 /// Bytes that are read bit by bit, the most significant bit of each byte first.
 #[derive(Drop)]
@@ -54,7 +54,7 @@ impl<'a> BitReader<'a> {
     }
 
     /// A field of at most 16 bits.
-    pub fn field(&mut self, name: FieldName, width: u8) -> Result<u16, Fault>
+    pub fn field(&mut self, name: FieldName, width: u8) -> Result<u16, Rule>
         requires { width ≤ 16 }
         ensures reads { Reads (f name width) self.old result self.new }
         ensures small { IfOk result (λ value. value < 2 ^ width) }
@@ -62,7 +62,7 @@ impl<'a> BitReader<'a> {
         let mut value: u32 = 0;
         for _ in 0..width {
             let Some(bit) = self.bit() else {
-                return Err(Fault::Broken(Rule::HeaderTruncated));
+                return Err(Rule::HeaderTruncated);
             };
             value = 2 * value + u32::from(bit);
         }
@@ -70,7 +70,7 @@ impl<'a> BitReader<'a> {
     }
 
     /// A field of at most 8 bits.
-    pub fn byte(&mut self, name: FieldName, width: u8) -> Result<u8, Fault>
+    pub fn byte(&mut self, name: FieldName, width: u8) -> Result<u8, Rule>
         requires { width ≤ 8 }
         ensures reads { Reads (f name width) self.old result self.new }
         ensures small { IfOk result (λ value. value < 2 ^ width) }
@@ -81,7 +81,7 @@ impl<'a> BitReader<'a> {
 
     /// A field of one bit.
     #[tactic(auto, unfolding(crate::specs::Fields::flag), using(vp9_types::proofs::Runs::run_bind))]
-    pub fn flag(&mut self, name: FieldName) -> Result<bool, Fault>
+    pub fn flag(&mut self, name: FieldName) -> Result<bool, Rule>
         ensures { Reads (flag name) self.old result self.new }
     {
         Ok(self.field(name, 1)? == 1)
@@ -89,7 +89,7 @@ impl<'a> BitReader<'a> {
 
     /// A number of at most 8 bits, and its sign.
     #[tactic(auto, unfolding(crate::specs::Fields::su), using(vp9_types::proofs::Runs::run_bind))]
-    pub fn signed(&mut self, name: FieldName, width: u8) -> Result<i16, Fault>
+    pub fn signed(&mut self, name: FieldName, width: u8) -> Result<i16, Rule>
         requires { width ≤ 8 }
         ensures { Reads (su name width) self.old result self.new }
     {

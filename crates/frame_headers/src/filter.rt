@@ -5,7 +5,7 @@ ghost use Rattle.vp9_types.specs.Each.{each};
 
 use crate::bits::BitReader;
 use crate::field::FieldName;
-use vp9_types::Fault;
+use vp9_types::Rule;
 
 /// What is added to a block's filter level: by its reference (intra, last, golden, altref), and by its mode (zero
 /// vector, other). -63 to 63 each.
@@ -38,7 +38,7 @@ fn read_delta(
     update: FieldName,
     delta: FieldName,
     old: i16,
-) -> Result<i16, Fault>
+) -> Result<i16, Rule>
     ensures { Reads (coded_delta update delta old) bits.old result bits.new }
 {
     if bits.flag(update)? {
@@ -53,7 +53,7 @@ fn read_deltas(
     update: FieldName,
     delta: FieldName,
     deltas: &mut [i16],
-) -> Result<(), Fault>
+) -> Result<(), Rule>
     ensures { ReadsInto (each (coded_delta update delta) deltas.old) bits.old result deltas.new bits.new }
 {
     for i in 0..deltas.len() {
@@ -64,7 +64,7 @@ fn read_deltas(
 }
 
 #[tactic(auto, unfolding(crate::specs::Filter::coded_deltas), using(vp9_types::proofs::Runs::run_bind))]
-fn read_coded_deltas(bits: &mut BitReader<'_>, old: LoopDeltas) -> Result<LoopDeltas, Fault>
+fn read_coded_deltas(bits: &mut BitReader<'_>, old: LoopDeltas) -> Result<LoopDeltas, Rule>
     ensures { Reads (coded_deltas old) bits.old result bits.new }
 {
     let mut reference = old.reference;
@@ -85,7 +85,7 @@ fn read_coded_deltas(bits: &mut BitReader<'_>, old: LoopDeltas) -> Result<LoopDe
 }
 
 #[tactic(auto, unfolding(crate::specs::Filter::delta_changes), using(vp9_types::proofs::Runs::run_bind))]
-fn read_delta_changes(bits: &mut BitReader<'_>, old: LoopDeltas) -> Result<LoopDeltas, Fault>
+fn read_delta_changes(bits: &mut BitReader<'_>, old: LoopDeltas) -> Result<LoopDeltas, Rule>
     ensures { Reads (delta_changes old) bits.old result bits.new }
 {
     if bits.flag(FieldName::LoopFilterDeltaUpdate)? {
@@ -97,7 +97,7 @@ fn read_delta_changes(bits: &mut BitReader<'_>, old: LoopDeltas) -> Result<LoopD
 
 /// Reads `loop_filter_params` over the deltas so far.
 #[tactic(auto, unfolding(crate::specs::Filter::loop_filter_params), using(vp9_types::proofs::Runs::run_bind))]
-pub fn read_loop_filter(bits: &mut BitReader<'_>, old: LoopDeltas) -> Result<LoopFilter, Fault>
+pub fn read_loop_filter(bits: &mut BitReader<'_>, old: LoopDeltas) -> Result<LoopFilter, Rule>
     ensures { Reads (loop_filter_params old) bits.old result bits.new }
 {
     let level = bits.byte(FieldName::LoopFilterLevel, 6)?;

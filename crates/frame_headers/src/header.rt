@@ -22,6 +22,14 @@ pub struct Reference {
     pub shape: Shape,
 }
 
+/// The three references of an inter frame.
+#[derive(Clone, Copy, Debug, PartialEq, Eq)]
+pub struct References {
+    pub last: Reference,
+    pub golden: Reference,
+    pub altref: Reference,
+}
+
 /// The interpolation filter of a frame, or that each block names its own.
 #[derive(Clone, Copy, Debug, PartialEq, Eq)]
 pub enum FrameFilter {
@@ -29,10 +37,10 @@ pub enum FrameFilter {
     Switchable,
 }
 
-/// What an inter frame has besides: the references last, golden and altref, the precision of its vectors, its filter.
+/// What an inter frame has besides: its references, the precision of its vectors, its filter.
 #[derive(Clone, Copy, Debug, PartialEq, Eq)]
 pub struct InterFields {
-    pub references: [Reference; 3],
+    pub references: References,
     pub high_precision: bool,
     pub filter: FrameFilter,
 }
@@ -43,6 +51,25 @@ pub enum FrameKind {
     Key,
     IntraOnly,
     Inter(InterFields),
+}
+
+/// How the header of a coded frame begins.
+#[derive(Clone, Copy, Debug, PartialEq, Eq)]
+pub struct FrameStart {
+    pub is_key: bool,
+    pub show_frame: bool,
+    pub error_resilient: bool,
+}
+
+/// The fields of a frame up to its size. Bit i of `refresh` says that slot i holds the frame from then on;
+/// `reset_context` is 0 to 3.
+#[derive(Clone, Copy, Debug, PartialEq, Eq)]
+pub struct FrameFields {
+    pub kind: FrameKind,
+    pub reset_context: u8,
+    pub refresh: u8,
+    pub color: ColorConfig,
+    pub size: FrameSize,
 }
 
 /// How a frame uses the four saved contexts: whether it saves its own, adapted or not, and in which place it does

@@ -9,15 +9,17 @@ mod header;
 mod persist;
 mod quantizer;
 mod reading;
+mod references;
 mod segments;
+mod size;
 mod tiles;
 
 pub use color::{ColorConfig, ColorSpace};
 pub use field::FieldName;
 pub use filter::{LoopDeltas, LoopFilter};
 pub use header::{
-    FrameContexts, FrameFilter, FrameHead, FrameKind, FrameParams, FrameSize, Header, InterFields,
-    Reference, Uncompressed,
+    FrameContexts, FrameFields, FrameFilter, FrameHead, FrameKind, FrameParams, FrameSize,
+    FrameStart, Header, InterFields, Reference, References, Uncompressed,
 };
 pub use persist::Persist;
 pub use quantizer::Quantizer;

@@ -4,7 +4,7 @@ ghost use Rattle.frame_headers.specs.Quantizer.{delta_q, quantization_params, is
 
 use crate::bits::BitReader;
 use crate::field::FieldName;
-use vp9_types::Fault;
+use vp9_types::Rule;
 
 /// `quantization_params` (6.2.9 of the standard): the base index, and what is added to it for the other quantisers,
 /// -15 to 15 each.
@@ -28,7 +28,7 @@ impl Quantizer {
 }
 
 #[tactic(auto, unfolding(crate::specs::Quantizer::delta_q), using(vp9_types::proofs::Runs::run_bind))]
-fn read_delta_q(bits: &mut BitReader<'_>) -> Result<i16, Fault>
+fn read_delta_q(bits: &mut BitReader<'_>) -> Result<i16, Rule>
     ensures { Reads delta_q bits.old result bits.new }
 {
     if bits.flag(FieldName::DeltaCoded)? {
@@ -40,7 +40,7 @@ fn read_delta_q(bits: &mut BitReader<'_>) -> Result<i16, Fault>
 
 /// Reads `quantization_params`.
 #[tactic(auto, unfolding(crate::specs::Quantizer::quantization_params), using(vp9_types::proofs::Runs::run_bind))]
-pub fn read_quantizer(bits: &mut BitReader<'_>) -> Result<Quantizer, Fault>
+pub fn read_quantizer(bits: &mut BitReader<'_>) -> Result<Quantizer, Rule>
     ensures { Reads quantization_params bits.old result bits.new }
 {
     let base = bits.byte(FieldName::BaseQIdx, 8)?;

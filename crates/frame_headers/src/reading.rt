@@ -1,75 +1,58 @@
 ghost use Rattle.std.specs.Prelude.{◌≡◌, IfOk};
 ghost use Rattle.frame_headers.specs.Fields.{Reads};
-ghost use Rattle.frame_headers.specs.Header.{frame_start, frame_sync_code, frame_size, render_size, frame_contexts, frame_params, key_frame, uncompressed_header, head_of, HasFewTiles, HeadHasFewTiles};
+ghost use Rattle.frame_headers.specs.Header.{coded_profile, frame_profile, frame_sync_code, key_fields, intra_only_fields, intra_and_reset, other_fields, forgets, kept_deltas, kept_features, frame_fields, frame_start, frame_contexts, frame_params, coded_frame, uncompressed_header, head_of, HasFewTiles, HeadHasFewTiles};
 ghost use Rattle.frame_headers.specs.Tiles.{AreFewTiles};
 
 use crate::bits::BitReader;
-use crate::color::read_color_config;
+use crate::color::{read_color_config, read_intra_only_color, read_reserved_zero};
 use crate::field::FieldName;
 use crate::filter::{LoopDeltas, read_loop_filter};
 use crate::header::{
-    FrameContexts, FrameHead, FrameKind, FrameParams, FrameSize, Header, Uncompressed,
+    FrameContexts, FrameFields, FrameHead, FrameKind, FrameParams, FrameStart, Header, Uncompressed,
 };
 use crate::persist::Persist;
 use crate::quantizer::read_quantizer;
+use crate::references::{read_inter_fields, read_slot};
 use crate::segments::{Features, read_segmentation};
+use crate::size::{read_frame_size, read_render_size};
 use crate::tiles::read_tile_info;
-use vp9_types::{Fault, Part, Rule, Span};
+use vp9_types::{Rule, Span};
 
-#[tactic(auto, unfolding(crate::specs::Header::frame_start), using(vp9_types::proofs::Runs::run_bind))]
-fn read_frame_start(bits: &mut BitReader<'_>) -> Result<(), Fault>
-    ensures { Reads frame_start bits.old result bits.new }
+#[tactic(auto, unfolding(crate::specs::Header::coded_profile), using(vp9_types::proofs::Runs::run_bind))]
+fn read_coded_profile(bits: &mut BitReader<'_>) -> Result<u8, Rule>
+    ensures reads { Reads coded_profile bits.old result bits.new }
+{
+    let low = bits.byte(FieldName::ProfileLowBit, 1)?;
+    let high = bits.byte(FieldName::ProfileHighBit, 1)?;
+    Ok(2 * high + low)
+}
+
+#[tactic(auto, unfolding(crate::specs::Header::frame_profile), using(vp9_types::proofs::Runs::run_bind))]
+fn read_frame_profile(bits: &mut BitReader<'_>) -> Result<u8, Rule>
+    ensures { Reads frame_profile bits.old result bits.new }
 {
     if bits.byte(FieldName::FrameMarker, 2)? != 2 {
-        return Err(Fault::Broken(Rule::FrameMarker));
+        return Err(Rule::FrameMarker);
     }
-    if bits.flag(FieldName::ProfileLowBit)? {
-        return Err(Fault::Unbuilt(Part::Header));
+    let profile = read_coded_profile(bits)?;
+    if profile == 3 {
+        read_reserved_zero(bits)?;
     }
-    if bits.flag(FieldName::ProfileHighBit)? {
-        return Err(Fault::Unbuilt(Part::Header));
-    }
-    if bits.flag(FieldName::ShowExistingFrame)? {
-        return Err(Fault::Unbuilt(Part::Header));
-    }
-    if bits.flag(FieldName::FrameType)? {
-        return Err(Fault::Unbuilt(Part::Header));
-    }
-    Ok(())
+    Ok(profile)
 }
 
 #[tactic(auto, unfolding(crate::specs::Header::frame_sync_code), using(vp9_types::proofs::Runs::run_bind))]
-fn read_frame_sync_code(bits: &mut BitReader<'_>) -> Result<(), Fault>
+fn read_frame_sync_code(bits: &mut BitReader<'_>) -> Result<(), Rule>
     ensures { Reads frame_sync_code bits.old result bits.new }
 {
     if bits.byte(FieldName::FrameSyncByte0, 8)? != 0x49 {
-        return Err(Fault::Broken(Rule::SyncCode));
+        return Err(Rule::SyncCode);
     }
     if bits.byte(FieldName::FrameSyncByte1, 8)? != 0x83 {
-        return Err(Fault::Broken(Rule::SyncCode));
+        return Err(Rule::SyncCode);
     }
     if bits.byte(FieldName::FrameSyncByte2, 8)? != 0x42 {
-        return Err(Fault::Broken(Rule::SyncCode));
-    }
-    Ok(())
-}
-
-#[tactic(auto, unfolding(crate::specs::Header::frame_size), using(vp9_types::proofs::Runs::run_bind))]
-fn read_frame_size(bits: &mut BitReader<'_>) -> Result<FrameSize, Fault>
-    ensures { Reads frame_size bits.old result bits.new }
-{
-    let width = u32::from(bits.field(FieldName::FrameWidthMinus1, 16)?) + 1;
-    let height = u32::from(bits.field(FieldName::FrameHeightMinus1, 16)?) + 1;
-    Ok(FrameSize { width, height })
-}
-
-#[tactic(auto, unfolding(crate::specs::Header::render_size), using(vp9_types::proofs::Runs::run_bind))]
-fn read_render_size(bits: &mut BitReader<'_>) -> Result<(), Fault>
-    ensures { Reads render_size bits.old result bits.new }
-{
-    if bits.flag(FieldName::RenderAndFrameSizeDifferent)? {
-        let _ = bits.field(FieldName::RenderWidthMinus1, 16)?;
-        let _ = bits.field(FieldName::RenderHeightMinus1, 16)?;
+        return Err(Rule::SyncCode);
     }
     Ok(())
 }
@@ -78,7 +61,7 @@ fn read_render_size(bits: &mut BitReader<'_>) -> Result<(), Fault>
 fn read_frame_contexts(
     bits: &mut BitReader<'_>,
     error_resilient: bool,
-) -> Result<FrameContexts, Fault>
+) -> Result<FrameContexts, Rule>
     ensures { Reads (frame_contexts error_resilient) bits.old result bits.new }
 {
     let mut refresh = false;
@@ -101,7 +84,7 @@ fn read_frame_params(
     deltas: LoopDeltas,
     features: Features,
     width: u32,
-) -> Result<FrameParams, Fault>
+) -> Result<FrameParams, Rule>
     ensures reads { Reads (frame_params deltas features width) bits.old result bits.new }
     ensures few { IfOk result (λ params. AreFewTiles params.tiles) }
 {
@@ -111,7 +94,7 @@ fn read_frame_params(
     let tiles = read_tile_info(bits, width)?;
     let compressed_size = bits.field(FieldName::HeaderSizeInBytes, 16)?;
     if compressed_size == 0 {
-        return Err(Fault::Broken(Rule::HeaderSizeZero));
+        return Err(Rule::HeaderSizeZero);
     }
     Ok(FrameParams {
         loop_filter,
@@ -122,46 +105,189 @@ fn read_frame_params(
     })
 }
 
-/// A key frame loses the past: the filter deltas are the first ones, and no segment has a feature.
-#[tactic(auto, unfolding(crate::specs::Header::key_frame), using(vp9_types::proofs::Runs::run_bind))]
-fn read_key_frame(bits: &mut BitReader<'_>) -> Result<Header, Fault>
-    ensures reads { Reads key_frame bits.old result bits.new }
-    ensures few { IfOk result (λ header. AreFewTiles header.params.tiles) }
+/// A key frame is coded from its sync code on, and refreshes all slots.
+#[tactic(auto, unfolding(crate::specs::Header::key_fields), using(vp9_types::proofs::Runs::run_bind))]
+fn read_key_fields(bits: &mut BitReader<'_>, profile: u8) -> Result<FrameFields, Rule>
+    ensures { Reads (key_fields profile) bits.old result bits.new }
 {
-    let show_frame = bits.flag(FieldName::ShowFrame)?;
-    let error_resilient = bits.flag(FieldName::ErrorResilientMode)?;
     read_frame_sync_code(bits)?;
-    let color = read_color_config(bits)?;
+    let color = read_color_config(bits, profile)?;
     let size = read_frame_size(bits)?;
     read_render_size(bits)?;
-    let contexts = read_frame_contexts(bits, error_resilient)?;
-    let params = read_frame_params(bits, LoopDeltas::DEFAULT, Features::NONE, size.width)?;
-    Ok(Header {
-        profile: 0,
+    Ok(FrameFields {
         kind: FrameKind::Key,
-        show_frame,
-        error_resilient,
         reset_context: 0,
+        refresh: 0xff,
         color,
         size,
-        refresh: 0xff,
+    })
+}
+
+#[tactic(auto, unfolding(crate::specs::Header::intra_only_fields), using(vp9_types::proofs::Runs::run_bind))]
+fn read_intra_only_fields(
+    bits: &mut BitReader<'_>,
+    profile: u8,
+    reset_context: u8,
+) -> Result<FrameFields, Rule>
+    ensures { Reads (intra_only_fields profile reset_context) bits.old result bits.new }
+{
+    read_frame_sync_code(bits)?;
+    let color = read_intra_only_color(bits, profile)?;
+    let refresh = bits.byte(FieldName::RefreshFrameFlags, 8)?;
+    let size = read_frame_size(bits)?;
+    read_render_size(bits)?;
+    Ok(FrameFields {
+        kind: FrameKind::IntraOnly,
+        reset_context,
+        refresh,
+        color,
+        size,
+    })
+}
+
+/// Whether a frame that is no key frame is intra only, which a shown one isn't, and which contexts it resets.
+#[tactic(auto, unfolding(crate::specs::Header::intra_and_reset), using(vp9_types::proofs::Runs::run_bind))]
+fn read_intra_and_reset(
+    bits: &mut BitReader<'_>,
+    show_frame: bool,
+    error_resilient: bool,
+) -> Result<(bool, u8), Rule>
+    ensures { Reads (intra_and_reset show_frame error_resilient) bits.old result bits.new }
+{
+    let intra_only = if show_frame {
+        false
+    } else {
+        bits.flag(FieldName::IntraOnly)?
+    };
+    let reset_context = if error_resilient {
+        0
+    } else {
+        bits.byte(FieldName::ResetFrameContext, 2)?
+    };
+    Ok((intra_only, reset_context))
+}
+
+#[tactic(auto, unfolding(crate::specs::Header::other_fields), using(vp9_types::proofs::Runs::run_bind))]
+fn read_other_fields(
+    bits: &mut BitReader<'_>,
+    before: &Persist,
+    profile: u8,
+    show_frame: bool,
+    error_resilient: bool,
+) -> Result<FrameFields, Rule>
+    ensures { Reads (other_fields before.now profile show_frame error_resilient) bits.old result bits.new }
+{
+    let (intra_only, reset) = read_intra_and_reset(bits, show_frame, error_resilient)?;
+    if intra_only {
+        read_intra_only_fields(bits, profile, reset)
+    } else {
+        read_inter_fields(bits, before, error_resilient, reset)
+    }
+}
+
+/// Whether a frame loses the past: an intra frame and an error-resilient one do.
+fn loses_past(kind: &FrameKind, error_resilient: bool) -> bool
+    ensures { result ≡ forgets kind.now error_resilient }
+{
+    match kind {
+        FrameKind::Inter(_) => error_resilient,
+        FrameKind::Key | FrameKind::IntraOnly => true,
+    }
+}
+
+/// The filter deltas and segment features that a frame starts from.
+fn kept_by(before: &Persist, kind: &FrameKind, error_resilient: bool) -> (LoopDeltas, Features)
+    ensures deltas { result.0 ≡ kept_deltas before.now (forgets kind.now error_resilient) }
+    ensures features { result.1 ≡ kept_features before.now (forgets kind.now error_resilient) }
+{
+    if loses_past(kind, error_resilient) {
+        (LoopDeltas::DEFAULT, Features::NONE)
+    } else {
+        (before.deltas, before.features)
+    }
+}
+
+#[tactic(auto, unfolding(crate::specs::Header::frame_fields), using(vp9_types::proofs::Runs::run_bind))]
+fn read_frame_fields(
+    bits: &mut BitReader<'_>,
+    before: &Persist,
+    profile: u8,
+    start: FrameStart,
+) -> Result<FrameFields, Rule>
+    ensures { Reads (frame_fields before.now profile start) bits.old result bits.new }
+{
+    if start.is_key {
+        read_key_fields(bits, profile)
+    } else {
+        read_other_fields(
+            bits,
+            before,
+            profile,
+            start.show_frame,
+            start.error_resilient,
+        )
+    }
+}
+
+#[tactic(auto, unfolding(crate::specs::Header::frame_start), using(vp9_types::proofs::Runs::run_bind))]
+fn read_frame_start(bits: &mut BitReader<'_>) -> Result<FrameStart, Rule>
+    ensures { Reads frame_start bits.old result bits.new }
+{
+    let is_key = !bits.flag(FieldName::FrameType)?;
+    let show_frame = bits.flag(FieldName::ShowFrame)?;
+    let error_resilient = bits.flag(FieldName::ErrorResilientMode)?;
+    Ok(FrameStart {
+        is_key,
+        show_frame,
+        error_resilient,
+    })
+}
+
+/// Reads the header of a coded frame from its frame type on.
+#[tactic(auto, unfolding(crate::specs::Header::coded_frame), using(vp9_types::proofs::Runs::run_bind))]
+fn read_coded_frame(bits: &mut BitReader<'_>, before: &Persist, profile: u8) -> Result<Header, Rule>
+    ensures reads { Reads (coded_frame before.now profile) bits.old result bits.new }
+    ensures few { IfOk result (λ header. AreFewTiles header.params.tiles) }
+{
+    let start = read_frame_start(bits)?;
+    let fields = read_frame_fields(bits, before, profile, start)?;
+    let contexts = read_frame_contexts(bits, start.error_resilient)?;
+    let (deltas, features) = kept_by(before, &fields.kind, start.error_resilient);
+    let params = read_frame_params(bits, deltas, features, fields.size.width)?;
+    Ok(Header {
+        profile,
+        kind: fields.kind,
+        show_frame: start.show_frame,
+        error_resilient: start.error_resilient,
+        reset_context: fields.reset_context,
+        color: fields.color,
+        size: fields.size,
+        refresh: fields.refresh,
         contexts,
         params,
     })
 }
 
-/// Only headers of key frames of profile 0 are read as yet: `_before` serves the others.
 #[tactic(auto, unfolding(crate::specs::Header::uncompressed_header), using(vp9_types::proofs::Runs::run_bind))]
-fn read_uncompressed(bits: &mut BitReader<'_>, before: &Persist) -> Result<Uncompressed, Fault>
+fn read_uncompressed(bits: &mut BitReader<'_>, before: &Persist) -> Result<Uncompressed, Rule>
     ensures reads { Reads (uncompressed_header before.now) bits.old result bits.new }
     ensures few { IfOk result HasFewTiles }
 {
-    read_frame_start(bits)?;
-    Ok(Uncompressed::Coded(read_key_frame(bits)?))
+    let profile = read_frame_profile(bits)?;
+    if bits.flag(FieldName::ShowExistingFrame)? {
+        let (slot, _) = read_slot(
+            bits,
+            FieldName::FrameToShowMapIdx,
+            before,
+            Rule::ShowMissing,
+        )?;
+        return Ok(Uncompressed::ShowExisting { slot });
+    }
+    Ok(Uncompressed::Coded(read_coded_frame(bits, before, profile)?))
 }
 
 /// Reads the uncompressed header of a frame, after the frames that `before` stands for.
-pub fn read(frame: &[u8], before: &Persist) -> Result<FrameHead, Fault>
+pub fn read(frame: &[u8], before: &Persist) -> Result<FrameHead, Rule>
     ensures exact { result ≡ head_of before.now frame.now }
     ensures few { IfOk result HeadHasFewTiles }
 {
@@ -173,7 +299,7 @@ pub fn read(frame: &[u8], before: &Persist) -> Result<FrameHead, Fault>
             let left = bits.bytes_left();
             let size = usize::from(header.params.compressed_size);
             if left < size {
-                return Err(Fault::Broken(Rule::HeaderSizeLong));
+                return Err(Rule::HeaderSizeLong);
             }
             let from = frame.len() - left;
             let to = from + size;

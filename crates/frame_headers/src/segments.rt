@@ -5,7 +5,7 @@ ghost use Rattle.vp9_types.specs.Each.{each};
 
 use crate::bits::BitReader;
 use crate::field::FieldName;
-use vp9_types::Fault;
+use vp9_types::Rule;
 
 /// The reference that a segment's blocks take.
 #[derive(Clone, Copy, Debug, PartialEq, Eq)]
@@ -69,7 +69,7 @@ pub struct Segmentation {
 }
 
 #[tactic(auto, unfolding(crate::specs::Segments::probability), using(vp9_types::proofs::Runs::run_bind))]
-fn read_probability(bits: &mut BitReader<'_>) -> Result<u8, Fault>
+fn read_probability(bits: &mut BitReader<'_>) -> Result<u8, Rule>
     ensures { Reads probability bits.old result bits.new }
 {
     if bits.flag(FieldName::ProbCoded)? {
@@ -79,7 +79,7 @@ fn read_probability(bits: &mut BitReader<'_>) -> Result<u8, Fault>
     }
 }
 
-fn read_probabilities(bits: &mut BitReader<'_>, values: &mut [u8]) -> Result<(), Fault>
+fn read_probabilities(bits: &mut BitReader<'_>, values: &mut [u8]) -> Result<(), Rule>
     ensures { ReadsInto (each probability_for values.old) bits.old result values.new bits.new }
 {
     for i in 0..values.len() {
@@ -89,7 +89,7 @@ fn read_probabilities(bits: &mut BitReader<'_>, values: &mut [u8]) -> Result<(),
 }
 
 #[tactic(auto, unfolding(crate::specs::Segments::prediction_probabilities), using(vp9_types::proofs::Runs::run_bind))]
-fn read_prediction(bits: &mut BitReader<'_>, temporal: bool) -> Result<[u8; 3], Fault>
+fn read_prediction(bits: &mut BitReader<'_>, temporal: bool) -> Result<[u8; 3], Rule>
     ensures { Reads (prediction_probabilities temporal) bits.old result bits.new }
 {
     let mut prediction = [255; 3];
@@ -100,7 +100,7 @@ fn read_prediction(bits: &mut BitReader<'_>, temporal: bool) -> Result<[u8; 3], 
 }
 
 #[tactic(auto, unfolding(crate::specs::Segments::update_map), using(vp9_types::proofs::Runs::run_bind))]
-fn read_map_update(bits: &mut BitReader<'_>) -> Result<MapUpdate, Fault>
+fn read_map_update(bits: &mut BitReader<'_>) -> Result<MapUpdate, Rule>
     ensures { Reads update_map bits.old result bits.new }
 {
     let mut tree = [255; 7];
@@ -115,7 +115,7 @@ fn read_map_update(bits: &mut BitReader<'_>) -> Result<MapUpdate, Fault>
 }
 
 #[tactic(auto, unfolding(crate::specs::Segments::signed_feature), using(vp9_types::proofs::Runs::run_bind))]
-fn read_signed_feature(bits: &mut BitReader<'_>, width: u8) -> Result<Option<i16>, Fault>
+fn read_signed_feature(bits: &mut BitReader<'_>, width: u8) -> Result<Option<i16>, Rule>
     requires { width ≤ 8 }
     ensures { Reads (signed_feature width) bits.old result bits.new }
 {
@@ -138,7 +138,7 @@ fn feature_reference(code: u8) -> FeatureReference
 }
 
 #[tactic(auto, unfolding(crate::specs::Segments::reference_feature), using(vp9_types::proofs::Runs::run_bind))]
-fn read_reference_feature(bits: &mut BitReader<'_>) -> Result<Option<FeatureReference>, Fault>
+fn read_reference_feature(bits: &mut BitReader<'_>) -> Result<Option<FeatureReference>, Rule>
     ensures { Reads reference_feature bits.old result bits.new }
 {
     if bits.flag(FieldName::FeatureEnabled)? {
@@ -150,7 +150,7 @@ fn read_reference_feature(bits: &mut BitReader<'_>) -> Result<Option<FeatureRefe
 }
 
 #[tactic(auto, unfolding(crate::specs::Segments::segment_features), using(vp9_types::proofs::Runs::run_bind))]
-fn read_segment_features(bits: &mut BitReader<'_>) -> Result<SegmentFeatures, Fault>
+fn read_segment_features(bits: &mut BitReader<'_>) -> Result<SegmentFeatures, Rule>
     ensures { Reads segment_features bits.old result bits.new }
 {
     let quantizer = read_signed_feature(bits, 8)?;
@@ -165,10 +165,7 @@ fn read_segment_features(bits: &mut BitReader<'_>) -> Result<SegmentFeatures, Fa
     })
 }
 
-fn read_all_features(
-    bits: &mut BitReader<'_>,
-    segments: &mut [SegmentFeatures],
-) -> Result<(), Fault>
+fn read_all_features(bits: &mut BitReader<'_>, segments: &mut [SegmentFeatures]) -> Result<(), Rule>
     ensures { ReadsInto (each features_for segments.old) bits.old result segments.new bits.new }
 {
     for i in 0..segments.len() {
@@ -178,7 +175,7 @@ fn read_all_features(
 }
 
 #[tactic(auto, unfolding(crate::specs::Segments::update_features), using(vp9_types::proofs::Runs::run_bind))]
-fn read_features(bits: &mut BitReader<'_>) -> Result<Features, Fault>
+fn read_features(bits: &mut BitReader<'_>) -> Result<Features, Rule>
     ensures { Reads update_features bits.old result bits.new }
 {
     let absolute = bits.flag(FieldName::SegmentationAbsOrDeltaUpdate)?;
@@ -188,7 +185,7 @@ fn read_features(bits: &mut BitReader<'_>) -> Result<Features, Fault>
 }
 
 #[tactic(auto, unfolding(crate::specs::Segments::map_or_none), using(vp9_types::proofs::Runs::run_bind))]
-fn read_map(bits: &mut BitReader<'_>, update: bool) -> Result<Option<MapUpdate>, Fault>
+fn read_map(bits: &mut BitReader<'_>, update: bool) -> Result<Option<MapUpdate>, Rule>
     ensures { Reads (map_or_none update) bits.old result bits.new }
 {
     if update {
@@ -199,7 +196,7 @@ fn read_map(bits: &mut BitReader<'_>, update: bool) -> Result<Option<MapUpdate>,
 }
 
 #[tactic(auto, unfolding(crate::specs::Segments::enabled_params, crate::specs::Segments::features_or_old), using(vp9_types::proofs::Runs::run_bind))]
-fn read_enabled(bits: &mut BitReader<'_>, old: Features) -> Result<Segmentation, Fault>
+fn read_enabled(bits: &mut BitReader<'_>, old: Features) -> Result<Segmentation, Rule>
     ensures { Reads (enabled_params old) bits.old result bits.new }
 {
     let update = bits.flag(FieldName::SegmentationUpdateMap)?;
@@ -215,7 +212,7 @@ fn read_enabled(bits: &mut BitReader<'_>, old: Features) -> Result<Segmentation,
 
 /// Reads `segmentation_params` over the features so far.
 #[tactic(auto, unfolding(crate::specs::Segments::segmentation_params), using(vp9_types::proofs::Runs::run_bind))]
-pub fn read_segmentation(bits: &mut BitReader<'_>, old: Features) -> Result<Segmentation, Fault>
+pub fn read_segmentation(bits: &mut BitReader<'_>, old: Features) -> Result<Segmentation, Rule>
     ensures { Reads (segmentation_params old) bits.old result bits.new }
 {
     if bits.flag(FieldName::SegmentationEnabled)? {

@@ -4,7 +4,7 @@ ghost use Rattle.frame_headers.specs.Tiles.{superblocks, min_log2, max_log2, mor
 
 use crate::bits::BitReader;
 use crate::field::FieldName;
-use vp9_types::Fault;
+use vp9_types::Rule;
 
 /// `tile_info` (6.2.13 of the standard): a frame has `1 << columns_log2` tile columns and `1 << rows_log2` tile rows.
 #[derive(Clone, Copy, Debug, PartialEq, Eq)]
@@ -70,7 +70,7 @@ fn greatest_log2(columns: u32) -> u8
     8
 }
 
-fn read_more_columns(bits: &mut BitReader<'_>, least: u8, greatest: u8) -> Result<u8, Fault>
+fn read_more_columns(bits: &mut BitReader<'_>, least: u8, greatest: u8) -> Result<u8, Rule>
     requires least { least ≤ 8 }
     requires greatest { greatest ≤ 8 }
     ensures reads { Reads (more_columns (greatest - least) least) bits.old result bits.new }
@@ -87,7 +87,7 @@ fn read_more_columns(bits: &mut BitReader<'_>, least: u8, greatest: u8) -> Resul
 }
 
 #[tactic(auto, unfolding(crate::specs::Tiles::tile_rows_log2), using(vp9_types::proofs::Runs::run_bind))]
-fn read_rows_log2(bits: &mut BitReader<'_>) -> Result<u8, Fault>
+fn read_rows_log2(bits: &mut BitReader<'_>) -> Result<u8, Rule>
     ensures reads { Reads tile_rows_log2 bits.old result bits.new }
     ensures few { IfOk result (λ log2. log2 ≤ 2) }
 {
@@ -103,7 +103,7 @@ fn read_rows_log2(bits: &mut BitReader<'_>) -> Result<u8, Fault>
 
 /// Reads `tile_info` of a frame of this width.
 #[tactic(auto, unfolding(crate::specs::Tiles::tile_info, crate::specs::Tiles::tile_columns_log2), using(vp9_types::proofs::Runs::run_bind))]
-pub fn read_tile_info(bits: &mut BitReader<'_>, width: u32) -> Result<TileInfo, Fault>
+pub fn read_tile_info(bits: &mut BitReader<'_>, width: u32) -> Result<TileInfo, Rule>
     ensures reads { Reads (tile_info width) bits.old result bits.new }
     ensures few { IfOk result AreFewTiles }
 {

@@ -1,0 +1,18 @@
+-- The sizes of a frame (6.2.3 and 6.2.4 of the standard).
+use Rattle.std.specs.Prelude.{ℕ, ◌+◌, Bool, true, false, if◌then◌else◌}
+use Rattle.vp9_types.specs.Syntax.{Syntax, done, broken, ask, ◌>>=◌, ◌>>◌}
+use Rattle.frame_headers.specs.declared.field.FieldName.TheVariants as name
+use Rattle.frame_headers.specs.declared.header.FrameSize.{FrameSize}
+use Rattle.frame_headers.specs.Fields.{Table, f, flag}
+
+unfoldable pub frame_size : Table FrameSize
+frame_size = do
+  width ← f name.FrameWidthMinus1 16
+  height ← f name.FrameHeightMinus1 16
+  done (record { width = width + 1; height = height + 1 })
+
+-- the size to show the frame at isn't used
+unfoldable pub render_size : Table (Unit {0})
+render_size = do
+  differs ← flag name.RenderAndFrameSizeDifferent
+  if differs then (f name.RenderWidthMinus1 16 >> f name.RenderHeightMinus1 16 >> done tt) else done tt
