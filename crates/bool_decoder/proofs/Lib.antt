@@ -1,0 +1,12 @@
+pub mod Fronts
+pub mod Stand
+pub mod Doublings
+pub mod Supply
+pub mod Moves
+pub mod Holds
+pub mod Steps
+pub mod OneBool
+pub mod Walks
+pub mod Literals
+pub mod Starts
+pub mod Stored

@@ -1,0 +1,13 @@
+//! The arithmetic decoder of VP9 (9.2 of the standard): bools, literals, tree-coded symbols and differences.
+#![tactic(auto)]
+
+mod decoder;
+mod laws;
+mod refill;
+mod split;
+#[cfg(test)]
+mod tests;
+mod tree;
+
+pub use decoder::BoolDecoder;
+pub use laws::{bools_stand_for_the_coder, doublings_are_least, trees_are_stored};
