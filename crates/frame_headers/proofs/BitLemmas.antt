@@ -2,7 +2,7 @@
 use Rattle.std.proofs.Common.{◌≡◌, ℕ, zero, suc, ◌+◌, ◌-◌, ◌*◌, ◌/◌, ◌%◌, ◌^◌, ◌<◌, ◌≤◌, List, [], ◌∷◌, length, get_or, take, drop, refl, ap, sym, ◌∙◌, arith}
 use Rattle.std.proofs.Math.Seq.{take-length}
 use Rattle.std.proofs.lemmas.List.{length-drop}
-use Rattle.vp9_types.specs.Bits.{bits_of}
+use Rattle.vp9_types.specs.Bits.{bits_of, AreBits}
 
 pub bit_there : (b : ℕ) (bytes : List ℕ) (used : ℕ) → used < 8 → drop used (bits_of (b ∷ bytes)) ≡ b / 2 ^ (7 - used) % 2 ∷ drop (used + 1) (bits_of (b ∷ bytes))
 unfolding bits_of
@@ -64,3 +64,12 @@ one_begun rest bits used h some low there =
     let left = length-drop used (bits_of rest) in
     let same = ap length h in
     omega (arith, all, left, same, some, low, there)
+
+low_bit : (n : ℕ) → n % 2 < 2
+low_bit n = omega arith
+
+pub are_bits : (bytes : List ℕ) → AreBits (bits_of bytes)
+unfolding bits_of
+are_bits [] = tt
+are_bits (b ∷ bytes) =
+    (low_bit (b / 128), (low_bit (b / 64), (low_bit (b / 32), (low_bit (b / 16), (low_bit (b / 8), (low_bit (b / 4), (low_bit (b / 2), (low_bit (b / 1), are_bits bytes))))))))

@@ -3,3 +3,4 @@ pub mod FieldLemmas
 pub mod TileLemmas
 pub mod SlotLemmas
 pub mod HeadLemmas
+pub mod SpanLemmas

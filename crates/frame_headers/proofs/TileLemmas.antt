@@ -1,6 +1,7 @@
 -- The search for the least number, and the columns that are doubled one by one.
-use Rattle.std.proofs.lemmas.Bool.{agree_below_at, eqb-true}
-use Rattle.std.proofs.Common.{◌≡◌, ℕ, suc, ◌+◌, ◌-◌, ◌*◌, ◌%◌, ◌^◌, ◌<◌, ◌≤◌, List, refl, arith, Bool, true, false}
+use Rattle.std.proofs.lemmas.Bool.{agree_below, agree_below_at, eqb-true, and_parts, leb-true}
+use Rattle.std.specs.Prelude.{nat_le, ◌&&◌}
+use Rattle.std.proofs.Common.{◌≡◌, ℕ, suc, ◌+◌, ◌-◌, ◌*◌, ◌%◌, ◌^◌, ◌<◌, ◌≤◌, List, refl, arith, Bool, true, false, zero}
 use Rattle.std.specs.Prelude.{Ok, Err, nat_eq}
 use Rattle.vp9_types.specs.Reading.{field_at, read_bits}
 use Rattle.vp9_types.specs.declared.rule.Rule.{Rule}
@@ -49,3 +50,16 @@ shift_whole n h = eqb-true _ _ (agree_below_at (λ k. nat_eq (64 * 2 ^ k % 42949
 
 pub power_whole : (n : ℕ) → n ≤ 8 → 2 ^ n % 4294967296 ≡ 2 ^ n
 power_whole n h = eqb-true _ _ (agree_below_at (λ k. nat_eq (2 ^ k % 4294967296) (2 ^ k)) (λ _. true) 9 n refl (omega arith))
+
+-- at most 1024 tiles, at least one
+in_bounds : (n : ℕ) → nat_le 1 n && nat_le n 1024 ≡ true → (1 ≤ n) × (n ≤ 1024)
+in_bounds n h = let parts = and_parts (nat_le 1 n) (nat_le n 1024) h in (leb-true 1 n parts.0, leb-true n 1024 parts.1)
+
+columns_times : (k c : ℕ) → agree_below (λ m. nat_le 1 (2 ^ m * k) && nat_le (2 ^ m * k) 1024) (λ _. true) 9 ≡ true → c ≤ 8 → (1 ≤ 2 ^ c * k) × (2 ^ c * k ≤ 1024)
+columns_times k c all h = in_bounds (2 ^ c * k) (agree_below_at (λ m. nat_le 1 (2 ^ m * k) && nat_le (2 ^ m * k) 1024) (λ _. true) 9 c all (omega arith))
+
+pub few_tiles : (c r : ℕ) → c ≤ 8 → r ≤ 2 → (1 ≤ 2 ^ c * 2 ^ r) × (2 ^ c * 2 ^ r ≤ 1024)
+few_tiles c zero hc hr = columns_times 1 c refl hc
+few_tiles c (suc zero) hc hr = columns_times 2 c refl hc
+few_tiles c (suc (suc zero)) hc hr = columns_times 4 c refl hc
+few_tiles c (suc (suc (suc r))) hc hr = absurd (omega arith)

@@ -1,10 +1,12 @@
 -- The uncompressed header (6.2 and 7.2 of the standard), test by test where each is made.
-use Rattle.std.specs.Prelude.{ℕ, ◌+◌, ◌-◌, ◌/◌, Bool, true, false, not, ◌==◌, nat_lt, List, length, Result, Ok, Err, if◌then◌else◌, ◌*◌}
+use Rattle.std.specs.Prelude.{ℕ, ◌+◌, ◌-◌, ◌/◌, Bool, true, false, not, ◌==◌, nat_lt, List, length, Result, Ok, Err, if◌then◌else◌, ◌*◌, ◌≡◌, ◌++◌, ◌≤◌}
 use Rattle.vp9_types.specs.declared.rule.Rule.{Rule}
 use Rattle.vp9_types.specs.declared.rule.Rule.TheVariants as rule
 use Rattle.vp9_types.specs.Bits.{bits_of}
 use Rattle.vp9_types.specs.Syntax.{done, ◌>>=◌, ◌>>◌, check}
+use Rattle.vp9_types.specs.Entries.{Entry, IsReadAs, joined}
 use Rattle.vp9_types.specs.Reading.{read_bits}
+use Rattle.frame_headers.specs.declared.field.FieldName.{FieldName}
 use Rattle.frame_headers.specs.declared.field.FieldName.TheVariants as name
 use Rattle.frame_headers.specs.declared.filter.LoopDeltas.{LoopDeltas}
 use Rattle.frame_headers.specs.declared.header.FrameContexts.{FrameContexts}
@@ -191,3 +193,14 @@ HasFewTiles (uncompressed.Coded header) = AreFewTiles header.params.tiles
 abbrev pub HeadHasFewTiles : FrameHead → Type 0
 HeadHasFewTiles (head.ShowExisting slot) = Unit {0}
 HeadHasFewTiles (head.Coded header compressed) = AreFewTiles header.params.tiles
+
+-- the compressed header lies in a frame of so many bytes
+abbrev pub LiesIn : ℕ → FrameHead → Type 0
+LiesIn bytes (head.ShowExisting slot) = Unit {0}
+LiesIn bytes (head.Coded header compressed) = (compressed.from ≤ compressed.to) × (compressed.to ≤ bytes)
+
+-- the entries are the frame's header, which settles on the value
+pub record IsHeaderOf (before : Persist) (frame : List ℕ) (es : List (Entry FieldName)) (x : Uncompressed) : Type 0 where
+  pub read : IsReadAs (uncompressed_header before) es x
+  pub rest : List ℕ
+  pub front : bits_of frame ≡ joined es ++ rest

@@ -8,3 +8,4 @@ pub mod State
 pub mod Sizes
 pub mod References
 pub mod Header
+pub mod Spans

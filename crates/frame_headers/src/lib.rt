@@ -6,12 +6,14 @@ mod color;
 mod field;
 mod filter;
 mod header;
+mod laws;
 mod persist;
 mod quantizer;
 mod reading;
 mod references;
 mod segments;
 mod size;
+mod spans;
 mod tiles;
 
 pub use color::{ColorConfig, ColorSpace};
@@ -21,8 +23,10 @@ pub use header::{
     FrameContexts, FrameFields, FrameFilter, FrameHead, FrameKind, FrameParams, FrameSize,
     FrameStart, Header, InterFields, Reference, References, Uncompressed,
 };
+pub use laws::header_is_its_entries;
 pub use persist::Persist;
 pub use quantizer::Quantizer;
 pub use reading::read;
 pub use segments::{FeatureReference, Features, MapUpdate, SegmentFeatures, Segmentation};
+pub use spans::{check_tiles, tile_span};
 pub use tiles::TileInfo;

@@ -1,6 +1,6 @@
-ghost use Rattle.std.specs.Prelude.{◌≡◌, IfOk};
+ghost use Rattle.std.specs.Prelude.{◌≡◌, IfOk, length};
 ghost use Rattle.frame_headers.specs.Fields.{Reads};
-ghost use Rattle.frame_headers.specs.Header.{coded_profile, frame_profile, frame_sync_code, key_fields, intra_only_fields, intra_and_reset, other_fields, forgets, kept_deltas, kept_features, frame_fields, frame_start, frame_contexts, frame_params, coded_frame, uncompressed_header, head_of, HasFewTiles, HeadHasFewTiles};
+ghost use Rattle.frame_headers.specs.Header.{coded_profile, frame_profile, frame_sync_code, key_fields, intra_only_fields, intra_and_reset, other_fields, forgets, kept_deltas, kept_features, frame_fields, frame_start, frame_contexts, frame_params, coded_frame, uncompressed_header, head_of, HasFewTiles, HeadHasFewTiles, LiesIn};
 ghost use Rattle.frame_headers.specs.Tiles.{AreFewTiles};
 
 use crate::bits::BitReader;
@@ -290,6 +290,7 @@ fn read_uncompressed(bits: &mut BitReader<'_>, before: &Persist) -> Result<Uncom
 pub fn read(frame: &[u8], before: &Persist) -> Result<FrameHead, Rule>
     ensures exact { result ≡ head_of before.now frame.now }
     ensures few { IfOk result HeadHasFewTiles }
+    ensures placed { IfOk result (LiesIn (length frame.now)) }
 {
     let mut bits = BitReader::new(frame);
     let uncompressed = read_uncompressed(&mut bits, before)?;

@@ -1,4 +1,4 @@
-ghost use Rattle.std.specs.Prelude.{◌≡◌, ◌≤◌, ◌-◌, ◌^◌, IfOk};
+ghost use Rattle.std.specs.Prelude.{◌≡◌, ◌≤◌, ◌-◌, ◌*◌, ◌^◌, IfOk};
 ghost use Rattle.frame_headers.specs.Fields.{Reads};
 ghost use Rattle.frame_headers.specs.Tiles.{superblocks, min_log2, max_log2, more_columns, tile_columns_log2, tile_rows_log2, tile_info, AreFewTiles};
 
@@ -14,6 +14,8 @@ pub struct TileInfo {
 }
 
 impl TileInfo {
+    ghost use Rattle.frame_headers.specs.Tiles.{AreFewTiles};
+
     /// How many tile columns there are.
     pub fn columns(&self) -> u32
         requires { self.now.columns_log2 ≤ 8 }
@@ -28,6 +30,16 @@ impl TileInfo {
         ensures { result ≡ 2 ^ self.now.rows_log2 }
     {
         power_of_two(self.rows_log2)
+    }
+
+    /// How many tiles there are.
+    #[tactic(auto, using(crate::proofs::TileLemmas::few_tiles))]
+    pub fn count(&self) -> u32
+        requires { AreFewTiles self.now }
+        ensures value { result ≡ 2 ^ self.now.columns_log2 * 2 ^ self.now.rows_log2 }
+        ensures some { 1 ≤ result }
+    {
+        self.columns() * self.rows()
     }
 }
 

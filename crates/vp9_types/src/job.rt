@@ -26,7 +26,7 @@ pub struct BandSpan {
 }
 
 /// The bytes from `from` up to `to`, which isn't one of them.
-#[derive(Clone, Copy, Debug, PartialEq, Eq)]
+#[derive(Clone, Copy, Debug, Default, PartialEq, Eq)]
 pub struct Span {
     pub from: usize,
     pub to: usize,

@@ -40,3 +40,9 @@ returns-else-left-size-clause-exact c =
     ∙ ap (λ u. placed (length c.args.frame.now) u c.read_uncompressed.new.bits) c.in-Coded.is
     ∙ placed_coded (length c.args.frame.now) c.in-Coded.header c.read_uncompressed.new.bits fits in
     rw (c.bytes_left-left.ensures, c.from-size.ensures) (sym is)
+
+pub returns-else-left-size-clause-placed : goal.returns-else-left-size-clause-placed
+returns-else-left-size-clause-placed c =
+    let read = ap (read_bits past (uncompressed_header c.args.before.now)) (sym c.new-bits.ensures) ∙ c.in_ok-uncompressed.ensures.reads in
+    let within = left_within c.args.before.now c.args.frame.now c.in_ok-uncompressed.uncompressed c.read_uncompressed.new.bits read in
+    (omega arith, omega (arith, within, c.bytes_left-left.ensures, c.if-left-size.false))

@@ -1,0 +1,13 @@
+//! What the words of vp9dec's command line ask for, as the parser `clap` reads them.
+#![tactic(auto)]
+
+mod command;
+mod laws;
+mod reading;
+
+pub use command::Command;
+pub use laws::worked_rows;
+pub use reading::read_words;
+
+#[cfg(test)]
+mod tests;

@@ -1,0 +1,57 @@
+use super::*;
+use std::alloc::{AllocError, Global};
+use std::test::Fail;
+
+// The words of a line, between single spaces; of an empty line there are none.
+fn words_of(alloc: Global, line: &str) -> Result<Vec<String>, AllocError> {
+    let mut words = Vec::new(alloc);
+    if !line.is_empty() {
+        for word in line.split(' ') {
+            words.push(String::from_str(alloc, word)?)?;
+        }
+    }
+    Ok(words)
+}
+
+#[test]
+fn lists(rt: HostRuntime) -> Result<(), Fail> {
+    for line in ["vp9dec list", "/usr/bin/vp9dec list", "list list", " list"] {
+        let words = words_of(rt.alloc(), line)?;
+        let command = read_words(rt.alloc(), words.as_slice())?;
+        assert_eq!(rt; command, Some(Command::List), "at {line}");
+    }
+    Ok(())
+}
+
+#[test]
+fn other_words_are_no_command(rt: HostRuntime) -> Result<(), Fail> {
+    let lines = [
+        "",
+        "vp9dec",
+        "list",
+        "vp9dec list x",
+        "vp9dec lst",
+        "vp9dec LIST",
+        "vp9dec  list",
+        "vp9dec list list",
+        "vp9dec --help",
+        "vp9dec -h",
+        "vp9dec help",
+        "vp9dec help list",
+        "vp9dec list --help",
+        "vp9dec --version",
+        "vp9dec list --plain",
+        "vp9dec decode --workers 0",
+        "vp9dec decode --workers 65",
+        "vp9dec decode --window 1",
+        "vp9dec decode --window 17",
+        "vp9dec decode --workers",
+        "vp9dec decode x",
+    ];
+    for line in lines {
+        let words = words_of(rt.alloc(), line)?;
+        let command = read_words(rt.alloc(), words.as_slice())?;
+        assert_eq!(rt; command, None, "at {line}");
+    }
+    Ok(())
+}

@@ -1,0 +1,11 @@
+//! The frames of a payload, by its superframe index.
+#![tactic(auto)]
+
+mod index;
+mod laws;
+mod splitting;
+#[cfg(test)]
+mod tests;
+
+pub use laws::payload_has_these_frames;
+pub use splitting::{Parts, split};
