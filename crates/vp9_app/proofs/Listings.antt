@@ -1,7 +1,6 @@
 -- The listing so far, and what the next packet adds.
 use Rattle.std.proofs.Common.{◌≡◌, ℕ, List, [], ap}
 use Rattle.std.specs.Prelude.{Some}
-use Rattle.vp9_types.specs.declared.outcome.Fault.TheVariants.{Broken}
 use Rattle.vp9_types.specs.declared.rule.Rule.{Rule}
 use Rattle.ivf_container.specs.Packets.{Packets, no_packets, packets_of}
 use Rattle.vp9_app.specs.Listing.{with_text, list_packets, first_place, listing, stops_at}
@@ -11,6 +10,6 @@ pub listed_first : (bytes : List ℕ) (packets : Packets) → packets_of bytes �
 unfolding listing
 listed_first bytes packets h = ap (list_packets first_place) h
 
-pub listed_broken : (bytes : List ℕ) (rule : Rule) → packets_of bytes ≡ no_packets (Some rule) → listing bytes ≡ stops_at [] first_place (Broken rule)
+pub listed_broken : (bytes : List ℕ) (rule : Rule) → packets_of bytes ≡ no_packets (Some rule) → listing bytes ≡ stops_at [] first_place rule
 unfolding listing
 listed_broken bytes rule h = ap (list_packets first_place) h

@@ -1,9 +1,9 @@
 -- What a run of the program does, and the causes of its answers.
-use Rattle.std.specs.Prelude.{◌≡◌, ◌⊎◌, ℕ, ◌<◌, Bool, true, false, IsTrue, List, [], length, take, Option, Some, None}
+use Rattle.std.specs.Prelude.{◌≡◌, ◌⊎◌, ℕ, ◌<◌, Bool, IsTrue, List, [], take, Option, Some, None}
 use Rattle.edge_io.specs.Filling.{WhereTold}
 use Rattle.edge_io.specs.Putting.{Takes}
-use Rattle.vp9_app.specs.declared.command.Command.{Command}
-use Rattle.vp9_app.specs.declared.command.Command.TheVariants as command
+use Rattle.command_words.specs.declared.command.Command.{Command}
+use Rattle.command_words.specs.declared.command.Command.TheVariants as command
 use Rattle.vp9_app.specs.declared.status.Status.{Status}
 use Rattle.vp9_app.specs.declared.status.Status.TheVariants as status
 use Rattle.vp9_app.specs.Listing.{listing}
@@ -17,8 +17,10 @@ pub record OfSource : Type 0 where
   pub faults : ℕ
   pub faults_now : ℕ
 
--- what is seen of a sink: what it took, where it tells that, and its count of faults, before and after
+-- what is seen of a sink: whether it takes memory for what it takes, what it took, where it tells that, and its count of
+-- faults, before and after
 pub record OfSink : Type 0 where
+  pub grows : Bool
   pub before : Option (List ℕ)
   pub after : Option (List ℕ)
   pub faults : ℕ
@@ -27,8 +29,8 @@ pub record OfSink : Type 0 where
 abbrev pub source_seen : Option (List ℕ) → Option (List ℕ) → ℕ → ℕ → OfSource
 source_seen rest left faults faults_now = record { rest = rest; left = left; faults = faults; faults_now = faults_now }
 
-abbrev pub sink_seen : Option (List ℕ) → Option (List ℕ) → ℕ → ℕ → OfSink
-sink_seen before after faults faults_now = record { before = before; after = after; faults = faults; faults_now = faults_now }
+abbrev pub sink_seen : Bool → Option (List ℕ) → Option (List ℕ) → ℕ → ℕ → OfSink
+sink_seen grows before after faults faults_now = record { grows = grows; before = before; after = after; faults = faults; faults_now = faults_now }
 
 -- a count that didn't rise, and one that did
 abbrev pub SourceQuiet : OfSource → Type 0
@@ -53,13 +55,18 @@ pub record Lists (s : OfSource) (o : OfSink) (status : Status) : Type 0 where
 abbrev pub WritesFront : OfSource → OfSink → Type 0
 WritesFront s o = WhereTold s.rest (λ bytes. (n : ℕ) × Takes o.before o.after (take n (listing bytes).text))
 
+-- nothing was read or written
+abbrev pub Untouched : OfSource → OfSink → Type 0
+Untouched s o = SourceQuiet s × SinkQuiet o × (s.left ≡ s.rest) × (o.after ≡ o.before)
+
 -- how the work of a command may end, before the note is written
 abbrev pub Works : Option Command → OfSource → OfSink → Status → Type 0
-Works None s o status.Usage = SourceQuiet s × SinkQuiet o × (s.left ≡ s.rest) × (o.after ≡ o.before)
+Works None s o status.Usage = Untouched s o
+Works None s o status.OutOfMemory = Untouched s o
 Works None s o status = ⊥
 Works (Some command.List) s o status.Done = Lists s o status.Done
 Works (Some command.List) s o (status.Broken stop) = Lists s o (status.Broken stop)
-Works (Some command.List) s o (status.Unbuilt frame part) = Lists s o (status.Unbuilt frame part)
+Works (Some command.List) s o (status.Unbuilt frame part) = ⊥
 Works (Some command.List) s o status.ReadFault = SourceFailed s × SinkQuiet o × (o.after ≡ o.before)
 Works (Some command.List) s o status.WriteFault = SourceQuiet s × SinkFailed o × WritesFront s o
 Works (Some command.List) s o status.OutOfMemory = SourceQuiet s × SinkQuiet o × WritesFront s o
@@ -70,12 +77,13 @@ abbrev pub without_memory : Status → Status
 without_memory status.WriteFault = status.WriteFault
 without_memory first = status.OutOfMemory
 
--- the note took the line of the status, or it refused: then it took a front of that line
+-- The note took the line of the status, or it refused, by a fault or, if it grows, for want of memory: then it took a
+-- front of that line.
 abbrev pub Reports : OfSink → Status → Status → Type 0
 Reports n first last =
     (SinkQuiet n × (last ≡ first) × Takes n.before n.after (note_line first))
     ⊎ (SinkFailed n × (last ≡ status.WriteFault) × ((k : ℕ) × Takes n.before n.after (take k (note_line first))))
-    ⊎ (SinkQuiet n × (last ≡ without_memory first) × ((k : ℕ) × Takes n.before n.after (take k (note_line first))))
+    ⊎ (SinkQuiet n × IsTrue n.grows × (last ≡ without_memory first) × ((k : ℕ) × Takes n.before n.after (take k (note_line first))))
 
 -- where there is no memory for the line of a rule or a part, want of memory is told instead
 abbrev pub MayLackMemory : Status → Status → Type 0
@@ -102,8 +110,7 @@ pub record AllQuiet (s : OfSource) (o n : OfSink) : Type 0 where
 abbrev pub HasCause : Option Command → OfSource → OfSink → OfSink → Status → Type 0
 HasCause c s o n status.Done = (c ≡ Some command.List) × AllQuiet s o n × Lists s o status.Done × Takes n.before n.after []
 HasCause c s o n (status.Broken stop) = (c ≡ Some command.List) × AllQuiet s o n × Lists s o (status.Broken stop) × Takes n.before n.after (note_line (status.Broken stop))
-HasCause c s o n (status.Unbuilt frame part) =
-    (c ≡ Some command.List) × AllQuiet s o n × Lists s o (status.Unbuilt frame part) × Takes n.before n.after (note_line (status.Unbuilt frame part))
+HasCause c s o n (status.Unbuilt frame part) = ⊥
 HasCause c s o n status.Usage = (c ≡ None) × AllQuiet s o n × Takes n.before n.after (note_line status.Usage)
 HasCause c s o n status.ReadFault =
     (c ≡ Some command.List) × SourceFailed s × SinkQuiet o × SinkQuiet n × (o.after ≡ o.before) × Takes n.before n.after (note_line status.ReadFault)

@@ -1,10 +1,10 @@
 -- The listing of a file: a line for each frame, by its header alone.
-use Rattle.std.specs.Prelude.{◌≡◌, ℕ, ◌+◌, ◌-◌, ◌/◌, ◌==◌, Bool, List, [], ◌∷◌, ◌++◌, length, slice_index, string_bytes, Option, Some, None, Result, Ok, Err, if◌then◌else◌}
-use Rattle.vp9_types.specs.declared.outcome.Fault.{Fault}
-use Rattle.vp9_types.specs.declared.outcome.Fault.TheVariants.{Broken, Unbuilt}
-use Rattle.vp9_types.specs.declared.outcome.Part.TheVariants as part
+use Rattle.std.specs.Prelude.{◌≡◌, ℕ, ◌+◌, List, [], ◌∷◌, ◌++◌, length, slice_range, string_bytes, Option, Some, None, Result, Ok, Err}
+use Rattle.vp9_types.specs.declared.job.Span.{Span}
+use Rattle.vp9_types.specs.declared.outcome.Stop.{Stop}
 use Rattle.vp9_types.specs.declared.rule.Rule.{Rule}
 use Rattle.ivf_container.specs.Packets.{Packets, packets_of}
+use Rattle.superframe_index.specs.Frames.{frames_of}
 use Rattle.frame_headers.specs.declared.header.FrameHead.{FrameHead}
 use Rattle.frame_headers.specs.declared.header.FrameHead.TheVariants.{ShowExisting, Coded}
 use Rattle.frame_headers.specs.Header.{head_of}
@@ -27,9 +27,14 @@ ends e = record { text = []; ending = e }
 abbrev pub with_text : List ℕ → Listing → Listing
 with_text text more = record { text = text ++ more.text; ending = more.ending }
 
--- what a frame or payload adds: lines and the place after it, or the fault that ends the listing
-abbrev pub Entry : Type 0
-Entry = Result (List ℕ × Place) Fault
+-- the listing stops at the next frame
+abbrev pub stop_at : Place → Rule → Stop
+stop_at place rule = record { frame = place.frame; rule = rule }
+
+-- what a frame or a payload adds: lines, and the place after it or where the listing stops
+pub record Entry : Type 0 where
+  pub lines : List ℕ
+  pub next : Result Place Stop
 
 abbrev pub head_lines : Place → ℕ → FrameHead → List ℕ
 head_lines place bytes (Coded header compressed) = coded_line place.frame header bytes
@@ -40,34 +45,46 @@ abbrev pub head_place : Place → FrameHead → Place
 head_place place (Coded header compressed) = record { frame = place.frame + 1; before = next_persist header place.before }
 head_place place (ShowExisting slot) = record { frame = place.frame + 1; before = place.before }
 
-abbrev pub head_entry : Place → ℕ → Result FrameHead Fault → Entry
-head_entry place bytes (Ok head) = Ok (head_lines place bytes head, head_place place head)
-head_entry place bytes (Err fault) = Err fault
+abbrev pub head_entry : Place → ℕ → Result FrameHead Rule → Entry
+head_entry place bytes (Ok head) = record { lines = head_lines place bytes head; next = Ok (head_place place head) }
+head_entry place bytes (Err rule) = record { lines = []; next = Err (stop_at place rule) }
 
 -- what a frame adds, by its header
 unfoldable pub frame_entry : Place → List ℕ → Entry
 frame_entry place frame = head_entry place (length frame) (head_of place.before frame)
 
--- the last byte has the mark of a superframe index: its top bits are 110
-abbrev pub has_marker : List ℕ → Bool
-has_marker payload = slice_index payload (length payload - 1) / 32 == 6
+-- lines, and more from the place after them unless the listing stops there
+abbrev pub followed : List ℕ → Result Place Stop → (Place → Entry) → Entry
+followed lines (Ok place) more = record { lines = lines ++ (more place).lines; next = (more place).next }
+followed lines (Err stop) more = record { lines = lines; next = Err stop }
 
--- what a payload adds: an empty one holds no frame
+-- what the frames of a payload add, one after another
+abbrev pub frames_entry : Place → List ℕ → List Span → Entry
+frames_entry place payload [] = record { lines = []; next = Ok place }
+frames_entry place payload (span ∷ spans) =
+    let first = frame_entry place (slice_range payload span.from span.to) in
+    followed first.lines first.next (λ next. frames_entry next payload spans)
+
+abbrev pub parts_entry : Place → List ℕ → Result (List Span) Rule → Entry
+parts_entry place payload (Ok spans) = frames_entry place payload spans
+parts_entry place payload (Err rule) = record { lines = []; next = Err (stop_at place rule) }
+
+-- what a payload adds, by its superframe index
 unfoldable pub payload_entry : Place → List ℕ → Entry
-payload_entry place payload =
-    if length payload == 0 then Ok ([], place)
-    else (if has_marker payload then Err (Unbuilt part.Superframe) else frame_entry place payload)
+payload_entry place payload = parts_entry place payload (frames_of payload)
 
 -- what an entry adds, and then more from the place after it
-abbrev pub listed : Place → Entry → (Place → Listing) → Listing
-listed place (Ok p) more = with_text p.0 (more p.1)
-listed place (Err fault) more = ends (ending.Fault place.frame fault)
+abbrev pub listed : List ℕ → Result Place Stop → (Place → Listing) → Listing
+listed lines (Ok place) more = with_text lines (more place)
+listed lines (Err stop) more = record { text = lines; ending = ending.Broken stop }
 
--- the listing of payloads from a place on, up to the end of the file or a fault of its container
+-- the listing of payloads from a place on, up to the end of the file or a rule of its container
 abbrev pub list_payloads : Place → List (List ℕ) → Option Rule → Listing
 list_payloads place [] None = ends ending.End
-list_payloads place [] (Some rule) = ends (ending.Fault place.frame (Broken rule))
-list_payloads place (payload ∷ payloads) rule = listed place (payload_entry place payload) (λ next. list_payloads next payloads rule)
+list_payloads place [] (Some rule) = ends (ending.Broken (stop_at place rule))
+list_payloads place (payload ∷ payloads) rule =
+    let entry = payload_entry place payload in
+    listed entry.lines entry.next (λ next. list_payloads next payloads rule)
 
 abbrev pub list_packets : Place → Packets → Listing
 list_packets place packets = list_payloads place packets.payloads packets.ending
@@ -80,14 +97,13 @@ first_place = record { frame = 0; before = start_persist }
 unfoldable pub listing : List ℕ → Listing
 listing bytes = list_packets first_place (packets_of bytes)
 
--- what a call added to the text, and where it went on
-abbrev pub AddsEntry : List ℕ → Entry → Result Place Fault → List ℕ → Type 0
-AddsEntry old entry (Ok place) new = (lines : List ℕ) × (entry ≡ Ok (lines, place)) × (new ≡ old ++ lines)
-AddsEntry old entry (Err fault) new = (entry ≡ Err fault) × (new ≡ old)
+-- a call added these lines to the text, and went on so
+abbrev pub AddsEntry : List ℕ → Entry → Result Place Stop → List ℕ → Type 0
+AddsEntry old entry result new = (new ≡ old ++ entry.lines) × (entry.next ≡ result)
 
 abbrev pub listing_of : Listed → Listing
 listing_of l = record { text = string_bytes l.text; ending = l.ending }
 
--- a fault at the next frame
-abbrev pub stops_at : List ℕ → Place → Fault → Listing
-stops_at text place fault = record { text = text; ending = ending.Fault place.frame fault }
+-- a rule of the container, at the next frame
+abbrev pub stops_at : List ℕ → Place → Rule → Listing
+stops_at text place rule = record { text = text; ending = ending.Broken (stop_at place rule) }

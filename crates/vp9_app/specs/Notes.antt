@@ -1,11 +1,10 @@
 -- The line that tells how a run ended.
-use Rattle.std.specs.Prelude.{◌≡◌, ℕ, ◌<◌, ◌≤◌, Bool, IsTrue, List, [], ◌∷◌, ◌++◌, codes, length, take, Option}
+use Rattle.std.specs.Prelude.{ℕ, List, [], ◌++◌, codes}
 use Rattle.std.specs.Fmt.{decimal}
 use Rattle.vp9_types.specs.declared.outcome.Part.{Part}
 use Rattle.vp9_types.specs.declared.outcome.Stop.{Stop}
 use Rattle.vp9_types.specs.Rules.{rule_number, rule_name}
 use Rattle.vp9_types.specs.Parts.{part_name}
-use Rattle.edge_io.specs.Putting.{Takes}
 use Rattle.vp9_app.specs.declared.status.Status.{Status}
 use Rattle.vp9_app.specs.declared.status.Status.TheVariants as status
 use Rattle.vp9_app.specs.Lines.{line_feed}

@@ -1,6 +1,5 @@
 -- How a run ends.
 use Rattle.std.specs.Prelude.{ℕ}
-use Rattle.vp9_types.specs.declared.outcome.Fault.TheVariants as fault
 use Rattle.vp9_app.specs.declared.listing.Ending.{Ending}
 use Rattle.vp9_app.specs.declared.listing.Ending.TheVariants as ending
 use Rattle.vp9_app.specs.declared.status.Status.{Status}
@@ -18,5 +17,4 @@ code_of (status.Unbuilt frame part) = 9
 -- the status of a listing that ends so
 abbrev pub ended : Ending → Status
 ended ending.End = status.Done
-ended (ending.Fault frame (fault.Broken rule)) = status.Broken (record { frame = frame; rule = rule })
-ended (ending.Fault frame (fault.Unbuilt part)) = status.Unbuilt frame part
+ended (ending.Broken stop) = status.Broken stop

@@ -49,10 +49,7 @@ fn push_use(text: &mut String, header: &Header) -> Result<(), AllocError>
     let show = bit(header.show_frame);
     let high = header.refresh / 16;
     let low = header.refresh % 16;
-    write!(
-        text,
-        " ss {ss_x}{ss_y} show {show} refresh {high:x}{low:x}"
-    )
+    write!(text, " ss {ss_x}{ss_y} show {show} refresh {high:x}{low:x}")
 }
 
 #[tactic(auto, unfolding(crate::specs::Lines::params_text))]
@@ -94,12 +91,7 @@ pub fn push_coded(
 
 /// Adds the line of a frame that shows a slot.
 #[tactic(auto, unfolding(crate::specs::Lines::shown_line))]
-pub fn push_shown(
-    text: &mut String,
-    frame: u64,
-    slot: u8,
-    bytes: usize,
-) -> Result<(), AllocError>
+pub fn push_shown(text: &mut String, frame: u64, slot: u8, bytes: usize) -> Result<(), AllocError>
     ensures { OnOk result (string_bytes text.new ≡ string_bytes text.old ++ shown_line frame slot bytes) }
 {
     writeln!(text, "frame {frame}: show {slot} size {bytes}")

@@ -1,18 +1,19 @@
-ghost use Rattle.std.specs.Prelude.{◌≡◌, ◌<◌, ◌≤◌, ◌+◌, ◌^◌, ◌++◌, length, IfOk, OnOk, string_bytes};
-ghost use Rattle.vp9_app.specs.Listing.{has_marker, head_lines, head_place, frame_entry, payload_entry, listing, AddsEntry, listing_of};
+ghost use Rattle.std.specs.Prelude.{◌≡◌, ◌<◌, ◌≤◌, ◌+◌, ◌^◌, ◌++◌, IfOk, OnOk, string_bytes};
 ghost use Rattle.frame_headers.specs.Header.{HeadHasFewTiles};
+ghost use Rattle.vp9_app.specs.Listing.{head_lines, head_place, frame_entry, payload_entry, listing, AddsEntry, listing_of};
 
 use crate::line::{push_coded, push_shown};
 use frame_headers::{FrameHead, Persist, read};
 use ivf_container::{next_packet, read_header};
 use std::alloc::{AllocError, Global};
-use vp9_types::{Fault, Part};
+use superframe_index::split;
+use vp9_types::{Rule, Stop};
 
-/// How a listing ends: with the file, or at a frame, with the first rule that it breaks or the part that isn't built.
+/// How a listing ends: with the file, or at the first frame that breaks a rule.
 #[derive(Clone, Copy, Debug, PartialEq, Eq)]
 pub enum Ending {
     End,
-    Fault { frame: u64, fault: Fault },
+    Broken(Stop),
 }
 
 /// The lines of a file, and how they end.
@@ -30,32 +31,32 @@ pub struct Place {
 }
 
 impl Place {
+    ghost use Rattle.vp9_app.specs.Listing.{stop_at};
+
     /// Before the first frame.
     const FIRST: Place = Place {
         frame: 0,
         before: Persist::START,
     };
+
+    fn stop(&self, rule: Rule) -> Stop
+        ensures { result ≡ stop_at self.now rule }
+    {
+        Stop {
+            frame: self.frame,
+            rule,
+        }
+    }
 }
 
 impl Listed {
     ghost use Rattle.vp9_app.specs.Listing.{listing_of, stops_at};
 
-    fn new(text: String, place: Place, fault: Fault) -> Listed
-        ensures { listing_of result ≡ stops_at (string_bytes text) place fault }
+    fn new(text: String, place: Place, rule: Rule) -> Listed
+        ensures { listing_of result ≡ stops_at (string_bytes text) place rule }
     {
-        let frame = place.frame;
-        let ending = Ending::Fault { frame, fault };
+        let ending = Ending::Broken(place.stop(rule));
         Listed { text, ending }
-    }
-}
-
-/// Whether a payload ends as a superframe does.
-fn ends_as_superframe(payload: &[u8]) -> bool
-    ensures { result ≡ has_marker payload.now }
-{
-    match payload {
-        [.., last] => last / 32 == 6,
-        [] => false,
     }
 }
 
@@ -66,7 +67,7 @@ fn list_head(
     head: FrameHead,
     bytes: usize,
 ) -> Result<Place, AllocError>
-    requires low { place.frame < 2 ^ 63 }
+    requires low { place.frame < 2 ^ 63 + 8 }
     requires few { HeadHasFewTiles head }
     ensures lines { OnOk result (string_bytes text.new ≡ string_bytes text.old ++ head_lines place bytes head) }
     ensures place { IfOk result (λ next. next ≡ head_place place head) }
@@ -95,14 +96,14 @@ fn list_frame(
     text: &mut String,
     place: Place,
     frame: &[u8],
-) -> Result<Result<Place, Fault>, AllocError>
-    requires { place.frame < 2 ^ 63 }
+) -> Result<Result<Place, Stop>, AllocError>
+    requires { place.frame < 2 ^ 63 + 8 }
     ensures adds { IfOk result (λ r. AddsEntry (string_bytes text.old) (frame_entry place frame.now) r (string_bytes text.new)) }
     ensures near { IfOk result (λ r. IfOk r (λ next. next.frame ≤ place.frame + 1)) }
 {
     let head = match read(frame, &place.before) {
         Ok(head) => head,
-        Err(fault) => return Ok(Err(fault)),
+        Err(rule) => return Ok(Err(place.stop(rule))),
     };
     Ok(Ok(list_head(text, place, head, frame.len())?))
 }
@@ -110,23 +111,29 @@ fn list_frame(
 /// Adds the lines of a payload's frames.
 fn list_payload(
     text: &mut String,
-    place: Place,
+    first: Place,
     payload: &[u8],
-) -> Result<Result<Place, Fault>, AllocError>
-    requires { place.frame < 2 ^ 63 }
-    ensures adds { IfOk result (λ r. AddsEntry (string_bytes text.old) (payload_entry place payload.now) r (string_bytes text.new)) }
-    ensures near { IfOk result (λ r. IfOk r (λ next. next.frame ≤ place.frame + 1)) }
+) -> Result<Result<Place, Stop>, AllocError>
+    requires { first.frame < 2 ^ 63 }
+    ensures adds { IfOk result (λ r. AddsEntry (string_bytes text.old) (payload_entry first payload.now) r (string_bytes text.new)) }
+    ensures near { IfOk result (λ r. IfOk r (λ next. next.frame ≤ first.frame + 8)) }
 {
-    if payload.is_empty() {
-        return Ok(Ok(place));
+    let parts = match split(payload) {
+        Ok(parts) => parts,
+        Err(rule) => return Ok(Err(first.stop(rule))),
+    };
+    let mut place = first;
+    for i in 0..parts.len() {
+        let span = parts[i];
+        match list_frame(text, place, &payload[span.from..span.to])? {
+            Ok(next) => place = next,
+            Err(stop) => return Ok(Err(stop)),
+        }
     }
-    if ends_as_superframe(payload) {
-        return Ok(Err(Fault::Unbuilt(Part::Superframe)));
-    }
-    Ok(list_frame(text, place, payload)?)
+    Ok(Ok(place))
 }
 
-/// The listing of an IVF file, up to the first fault.
+/// The listing of an IVF file, up to the first rule that is broken.
 pub fn list_file(alloc: Global, bytes: &[u8]) -> Result<Listed, AllocError>
     ensures { IfOk result (λ l. listing bytes.now ≡ listing_of l) }
 {
@@ -134,7 +141,7 @@ pub fn list_file(alloc: Global, bytes: &[u8]) -> Result<Listed, AllocError>
     let mut place = Place::FIRST;
     let mut at = match read_header(bytes) {
         Ok(at) => at,
-        Err(rule) => return Ok(Listed::new(text, place, Fault::Broken(rule))),
+        Err(rule) => return Ok(Listed::new(text, place, rule)),
     };
     'packets: loop {
         let packet = match next_packet(bytes, at) {
@@ -143,12 +150,15 @@ pub fn list_file(alloc: Global, bytes: &[u8]) -> Result<Listed, AllocError>
                 let ending = Ending::End;
                 return Ok(Listed { text, ending });
             }
-            Err(rule) => return Ok(Listed::new(text, place, Fault::Broken(rule))),
+            Err(rule) => return Ok(Listed::new(text, place, rule)),
         };
         let payload = &bytes[packet.from..packet.to];
         match list_payload(&mut text, place, payload)? {
             Ok(next) => place = next,
-            Err(fault) => return Ok(Listed::new(text, place, fault)),
+            Err(stop) => {
+                let ending = Ending::Broken(stop);
+                return Ok(Listed { text, ending });
+            }
         }
         at = packet.to;
     }

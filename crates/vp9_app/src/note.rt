@@ -34,7 +34,7 @@ fn part_text(alloc: Global, frame: u64, part: Part) -> Result<String, AllocError
 fn put_line<N: Sink>(note: &mut N, line: &str, first: Status) -> Status
     requires can { N.can_put note.old }
     requires line { line.now ≡ note_line first }
-    ensures { Reports (sink_seen (N.taken note.old) (N.taken note.new) (N.faults note.old) (N.faults note.new)) first result }
+    ensures { Reports (sink_seen (N.grows note.old) (N.taken note.old) (N.taken note.new) (N.faults note.old) (N.faults note.new)) first result }
 {
     match put_all(note, line.as_bytes()) {
         Ok(()) => first,
@@ -52,7 +52,7 @@ fn put_text<N: Sink>(note: &mut N, line: Result<String, AllocError>, first: Stat
     requires line { ForOk line (λ text. string_bytes text ≡ note_line first) }
     requires may_lack { MayLackMemory first Status.OutOfMemory }
     requires may_stay { MayLackMemory first first }
-    ensures { Tells (sink_seen (N.taken note.old) (N.taken note.new) (N.faults note.old) (N.faults note.new)) first result }
+    ensures { Tells (sink_seen (N.grows note.old) (N.taken note.old) (N.taken note.new) (N.faults note.old) (N.faults note.new)) first result }
 {
     match line {
         Ok(text) => put_line(note, text.as_str(), first),
@@ -63,15 +63,11 @@ fn put_text<N: Sink>(note: &mut N, line: Result<String, AllocError>, first: Stat
 /// Puts the line that tells how the work ended, and says how the run ends with that.
 pub fn report<N: Sink>(alloc: Global, first: Status, note: &mut N) -> Status
     requires { N.can_put note.old }
-    ensures { Tells (sink_seen (N.taken note.old) (N.taken note.new) (N.faults note.old) (N.faults note.new)) first result }
+    ensures { Tells (sink_seen (N.grows note.old) (N.taken note.old) (N.taken note.new) (N.faults note.old) (N.faults note.new)) first result }
 {
     match first {
         Status::Done => put_line(note, "", first),
-        Status::Usage => put_line(
-            note,
-            "usage: vp9dec list / decode / make / trial\n",
-            first,
-        ),
+        Status::Usage => put_line(note, "usage: vp9dec list / decode / make / trial\n", first),
         Status::ReadFault => put_line(note, "read fault\n", first),
         Status::WriteFault => put_line(note, "write fault\n", first),
         Status::OutOfMemory => put_line(note, "out of memory\n", first),

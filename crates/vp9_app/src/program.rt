@@ -1,11 +1,11 @@
-ghost use Rattle.std.specs.Prelude.{◌≡◌, Some, None};
+ghost use Rattle.std.specs.Prelude.{◌≡◌, Some, None, map, string_bytes};
 ghost use Rattle.vp9_app.specs.Answers.{source_seen, sink_seen, Works, Answers};
-ghost use Rattle.vp9_app.specs.Commands.{command_of};
+ghost use Rattle.command_words.specs.Words.{command_of};
 
-use crate::command::{Command, read_words};
 use crate::listing::list_file;
 use crate::note::report;
 use crate::status::Status;
+use command_words::{Command, read_words};
 use edge_io::{Gate, PutFault, ReadError, Sink, Source, put_all, read_all};
 use std::alloc::Global;
 use std::sync::Wait;
@@ -25,7 +25,7 @@ fn list<S: Source, K: Sink>(alloc: Global, source: &mut S, out: &mut K) -> Statu
     requires out { K.can_put out.old }
     ensures { Works (Some Command.List)
         (source_seen (S.rest source.old) (S.rest source.new) (S.faults source.old) (S.faults source.new))
-        (sink_seen (K.taken out.old) (K.taken out.new) (K.faults out.old) (K.faults out.new)) result }
+        (sink_seen (K.grows out.old) (K.taken out.old) (K.taken out.new) (K.faults out.old) (K.faults out.new)) result }
 {
     let bytes = match read_all(alloc, source) {
         Ok(bytes) => bytes,
@@ -43,23 +43,19 @@ fn list<S: Source, K: Sink>(alloc: Global, source: &mut S, out: &mut K) -> Statu
     }
 }
 
-/// Does what a command asks for.
-fn work<S: Source, K: Sink>(
-    alloc: Global,
-    command: Option<Command>,
-    source: &mut S,
-    out: &mut K,
-) -> Status
+/// Does what the words ask for.
+fn work<S: Source, K: Sink>(alloc: Global, words: &[String], source: &mut S, out: &mut K) -> Status
     requires source { S.can_fill source.old }
     requires out { K.can_put out.old }
-    ensures work { Works command
+    ensures work { Works (command_of (map string_bytes words.now))
         (source_seen (S.rest source.old) (S.rest source.new) (S.faults source.old) (S.faults source.new))
-        (sink_seen (K.taken out.old) (K.taken out.new) (K.faults out.old) (K.faults out.new)) result }
-    ensures untouched { command ≡ None → (source.new ≡ source.old) × (out.new ≡ out.old) }
+        (sink_seen (K.grows out.old) (K.taken out.old) (K.taken out.new) (K.faults out.old) (K.faults out.new)) result }
+    ensures untouched { command_of (map string_bytes words.now) ≡ None → (source.new ≡ source.old) × (out.new ≡ out.old) }
 {
-    match command {
-        Some(Command::List) => list(alloc, source, out),
-        None => Status::Usage,
+    match read_words(alloc, words) {
+        Ok(Some(Command::List)) => list(alloc, source, out),
+        Ok(None) => Status::Usage,
+        Err(_) => Status::OutOfMemory,
     }
 }
 
@@ -87,16 +83,15 @@ pub fn run<
     requires note { N.can_put note }
 
     // What is read, written and told, at each status with its cause.
-    ensures answer { Answers (command_of words.now)
+    ensures answer { Answers (command_of (map string_bytes words.now))
         (source_seen (S.rest source) (S.rest result.source) (S.faults source) (S.faults result.source))
-        (sink_seen (K.taken out) (K.taken result.out) (K.faults out) (K.faults result.out))
-        (sink_seen (N.taken note) (N.taken result.note) (N.faults note) (N.faults result.note)) result.status }
+        (sink_seen (K.grows out) (K.taken out) (K.taken result.out) (K.faults out) (K.faults result.out))
+        (sink_seen (N.grows note) (N.taken note) (N.taken result.note) (N.faults note) (N.faults result.note)) result.status }
 
     // Words that are no command touch neither source nor out.
-    ensures untouched { command_of words.now ≡ None → (result.source ≡ source) × (result.out ≡ out) }
+    ensures untouched { command_of (map string_bytes words.now) ≡ None → (result.source ≡ source) × (result.out ≡ out) }
 {
-    let command = read_words(words);
-    let first = work(alloc, command, &mut source, &mut out);
+    let first = work(alloc, words, &mut source, &mut out);
     let status = report(alloc, first, &mut note);
     Ran {
         status,

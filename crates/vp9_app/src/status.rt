@@ -2,7 +2,7 @@ ghost use Rattle.std.specs.Prelude.{◌≡◌};
 ghost use Rattle.vp9_app.specs.Statuses.{code_of};
 
 use crate::listing::Ending;
-use vp9_types::{Fault, Part, Stop};
+use vp9_types::{Part, Stop};
 
 /// How a run of the program ends.
 #[derive(Clone, Copy, Debug, PartialEq, Eq)]
@@ -48,8 +48,7 @@ impl From<Ending> for Status {
     fn from(ending: Ending) -> Status {
         match ending {
             Ending::End => Status::Done,
-            Ending::Fault { frame, fault: Fault::Broken(rule) } => Status::Broken(Stop { frame, rule }),
-            Ending::Fault { frame, fault: Fault::Unbuilt(part) } => Status::Unbuilt { frame, part },
+            Ending::Broken(stop) => Status::Broken(stop),
         }
     }
 }
