@@ -9,4 +9,3 @@ pub mod OneBool
 pub mod Walks
 pub mod Literals
 pub mod Starts
-pub mod Stored

@@ -1,63 +1,15 @@
 -- A walk through a tree's array.
-use Rattle.std.proofs.Common.{◌≡◌, ℕ, zero, suc, ◌+◌, ◌-◌, ◌/◌, ◌%◌, ◌<◌, ◌≤◌, true, List, [], ◌∷◌, length, get_or, refl, sym, ◌∙◌, arith, ◌⊎◌, inl, inr, ℤ, pos, negsuc}
-use Rattle.std.specs.Prelude.{nat_le, nat_lt, nat_eq, ◌&&◌, if◌then◌else◌, Ok}
-use Rattle.std.proofs.lemmas.Bool.{and_parts, ltb-true, leb-true, eqb-true}
+use Rattle.std.proofs.Common.{◌≡◌, ℕ, zero, suc, ◌+◌, ◌-◌, ◌/◌, ◌<◌, ◌≤◌, true, List, length, get_or, refl, sym, ◌∙◌, arith, ◌⊎◌, inl, inr, ℤ, pos, negsuc}
+use Rattle.std.specs.Prelude.{nat_eq, if◌then◌else◌, Ok}
 use Rattle.vp9_types.specs.declared.rule.Rule.{Rule}
 use Rattle.bool_decoder.specs.Bools.{run_bools, Reads}
 use Rattle.bool_decoder.specs.Branches.{branch_of}
-use Rattle.bool_decoder.specs.Trees.{tree_symbol, subtree, tree_of, entry_at, is_entry, are_entries, is_tree, leaf_of, greatest_leaf}
+use Rattle.vp9_types.specs.Trees.{tree_symbol, subtree, tree_of, entry_at, is_entry, leaf_of, greatest_leaf}
+use Rattle.vp9_types.proofs.TreeTests.{leaves_at, HoldsTree, IsNode, node_at}
 use Rattle.bool_decoder.specs.Window.{Window, bit_of, after_bit, is_one}
 use Rattle.bool_decoder.proofs.OneBool.{bit_cases}
 use Rattle.bool_decoder.specs.declared.tree.Branch.{Branch}
 use Rattle.bool_decoder.specs.declared.tree.Branch.TheVariants.{Leaf, Node}
-
--- ---- what a tree's test says
-
-entries_at : (size place k : ℕ) (entries : List ℤ) → are_entries size place entries ≡ true → k < length entries
-    → is_entry size (place + k) (entry_at entries k) ≡ true
-entries_at size place k [] h within = absurd (omega arith)
-entries_at size place zero (e ∷ entries) h within =
-    let here : place + 0 ≡ place = omega arith in
-    rw here ((and_parts (is_entry size place e) (are_entries size (place + 1) entries) h).0)
-entries_at size place (suc k) (e ∷ entries) h within =
-    let there : place + suc k ≡ place + 1 + k = omega arith in
-    rw there (entries_at size (place + 1) k entries ((and_parts (is_entry size place e) (are_entries size (place + 1) entries) h).1) (omega arith))
-
-leaves_at : (k : ℕ) (entries : List ℤ) → k < length entries → leaf_of (entry_at entries k) ≤ greatest_leaf entries
-leaves_at k [] within = absurd (omega arith)
-leaves_at zero (e ∷ entries) within = omega arith
-leaves_at (suc k) (e ∷ entries) within = let there = leaves_at k entries (omega arith) in omega arith
-
--- the parts of the test
-pub record HoldsTree (array : List ℤ) : Type 0 where
-  pub two : 2 ≤ length array
-  pub each : (k : ℕ) → k < length array → is_entry (length array) k (entry_at array k) ≡ true
-
-pub tree_holds : (array : List ℤ) → is_tree array ≡ true → HoldsTree array
-tree_holds array h =
-    let parts = and_parts (nat_le 2 (length array)) (are_entries (length array) 0 array) h in
-    record {
-      two = leb-true 2 (length array) parts.0;
-      each = λ k within.
-          let here : 0 + k ≡ k = omega arith in
-          rw here at (entries_at (length array) 0 k array parts.1 within);
-    }
-
--- a node's place is even, further on, and has two entries
-pub record IsNode (size place x : ℕ) : Type 0 where
-  pub even : x % 2 ≡ 0
-  pub later : place < x
-  pub within : x + 1 < size
-
-pub node_at : (size place x : ℕ) → is_entry size place (pos (suc x)) ≡ true → IsNode size place (suc x)
-node_at size place x h =
-    let parts = and_parts (nat_eq (suc x % 2) 0 && nat_lt place (suc x)) (nat_lt (suc x + 1) size) h in
-    let first = and_parts (nat_eq (suc x % 2) 0) (nat_lt place (suc x)) parts.0 in
-    record {
-      even = eqb-true (suc x % 2) 0 first.0;
-      later = ltb-true place (suc x) first.1;
-      within = ltb-true (suc x + 1) size parts.1;
-    }
 
 node_by : (size place : ℕ) (e : ℤ) (x : ℕ) → is_entry size place e ≡ true → Node x ≡ branch_of e → IsNode size place x
 node_by size place (negsuc y) x h is = cc

@@ -1,7 +1,6 @@
 pub mod Coder
 pub mod Window
 pub mod Bools
-pub mod Trees
 pub mod Ahead
 pub mod Branches
 pub mod Held

@@ -31,11 +31,11 @@ pub struct BoolDecoder<'a> {
 impl<'a> BoolDecoder<'a> {
     ghost use Rattle.std.specs.Prelude.{IsTrue, nat_eq, drop};
     ghost use Rattle.vp9_types.specs.Bits.{bits_of};
+    ghost use Rattle.vp9_types.specs.Trees.{tree_symbol, tree_of, is_tree, greatest_leaf};
     ghost use Rattle.bool_decoder.specs.Ahead.{bits_ahead, HoldsBits};
     ghost use Rattle.bool_decoder.specs.Bools.{Reads, literal, difference};
     ghost use Rattle.bool_decoder.specs.Coder.{Coder, doublings};
     ghost use Rattle.bool_decoder.specs.Held.{window_of, Starts};
-    ghost use Rattle.bool_decoder.specs.Trees.{tree_symbol, tree_of, is_tree, greatest_leaf};
     ghost use Rattle.bool_decoder.specs.Window.{Stands, started, bit_of, after_bit, doubled_window, trimmed};
 
     /// The decoder after the marker. There are no bytes: `BoolEmpty`. The marker isn't 0: `BoolMarker`.

@@ -1,12 +1,11 @@
 //! Laws of the definitions, as contracts of functions that do nothing.
 
-ghost use Rattle.std.specs.Prelude.{◌≡◌, ℕ, ◌≤◌, ◌*◌, ◌^◌, List, ℤ, Ok, Err, IsTrue};
+ghost use Rattle.std.specs.Prelude.{◌≡◌, ℕ, ◌≤◌, ◌*◌, ◌^◌, List, Ok, Err};
 ghost use Rattle.vp9_types.specs.Syntax.{Syntax};
 ghost use Rattle.vp9_types.specs.Reading.{run};
 ghost use Rattle.bool_decoder.specs.Coder.{Coder, doublings, first_coder, bool_of, after_bool};
 ghost use Rattle.bool_decoder.specs.Window.{Window, first_window, bit_of, after_bit, Stands};
 ghost use Rattle.bool_decoder.specs.Bools.{run_bools, run_coder};
-ghost use Rattle.bool_decoder.specs.Trees.{Tree, IsTreeOf, tree_of, is_tree};
 
 /// A range doubles the least number of times that makes it 128 or more.
 pub fn doublings_are_least()
@@ -24,10 +23,4 @@ pub fn bools_stand_for_the_coder<E, A>()
         run_coder s c ≡ Ok (x, end) → (last : Window) × Stands end last × (run_bools s w ≡ Ok (x, last)) }
     ensures fault { (s : Syntax ℕ E A) (c : Coder) (w : Window) (fault : E) → Stands c w →
         run_coder s c ≡ Err fault → run_bools s w ≡ Err fault }
-{}
-
-/// The tree of an array that passes the test is the one that it stands for, and no other tree is.
-pub fn trees_are_stored()
-    ensures stored { (array : List ℤ) → IsTrue (is_tree array) → IsTreeOf array (tree_of array) }
-    ensures once { (array : List ℤ) (s t : Tree) → IsTreeOf array s → IsTreeOf array t → s ≡ t }
 {}

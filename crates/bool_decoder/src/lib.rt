@@ -10,4 +10,4 @@ mod tests;
 mod tree;
 
 pub use decoder::BoolDecoder;
-pub use laws::{bools_stand_for_the_coder, doublings_are_least, trees_are_stored};
+pub use laws::{bools_stand_for_the_coder, doublings_are_least};

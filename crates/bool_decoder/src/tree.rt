@@ -10,7 +10,7 @@ pub(crate) enum Branch {
     Node(usize),
 }
 
-ghost use Rattle.bool_decoder.specs.Trees.{entry_at};
+ghost use Rattle.vp9_types.specs.Trees.{entry_at};
 ghost use Rattle.bool_decoder.specs.Branches.{branch_of, FitsEntry};
 
 /// The branch that is stored at a place.

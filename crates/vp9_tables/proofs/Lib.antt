@@ -3,5 +3,4 @@ pub mod ScanLaws
 pub mod Ranges
 pub mod Candidates
 pub mod Circle
-pub mod Walks
 pub mod Sizes

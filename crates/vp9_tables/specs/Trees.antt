@@ -1,90 +1,25 @@
--- Trees of symbols (9.3 of the standard).
-use Rattle.std.specs.Prelude.{◌≡◌, ℕ, zero, suc, ◌+◌, ◌/◌, ◌%◌, ◌<◌, ℤ, pos, negsuc, Bool, true, false, ◌&&◌, not, List, [], ◌∷◌, length, slice_index, slice_index_or, nat_eq, nat_lt, if◌then◌else◌}
+-- The trees of symbols (9.3 of the standard), spelled out.
+use Rattle.std.specs.Prelude.{ℕ, zero, suc, ◌+◌, ℤ, pos, negsuc, Bool, true, ◌&&◌, not, List, [], ◌∷◌, nat_eq}
 use Rattle.std.specs.List.{list_any}
-use Rattle.vp9_types.specs.Syntax.{Syntax, done, ask}
+use Rattle.vp9_types.specs.Trees.{Tree, leaf, node}
 use Rattle.vp9_types.specs.declared.block.IntraMode.TheVariants.{Dc, V, H, D45, D135, D117, D153, D207, D63, Tm}
 use Rattle.vp9_types.specs.declared.block.InterMode.TheVariants.{Nearest, Near, Zero, New}
 use Rattle.vp9_types.specs.declared.block.InterpFilter.TheVariants.{Regular, Smooth, Sharp}
 use Rattle.vp9_types.specs.declared.block.Partition.TheVariants.{Whole, Horizontal, Vertical, Split}
 use Rattle.vp9_types.specs.declared.block.TxSize.TheVariants.{T4x4, T8x8, T16x16, T32x32}
-use Rattle.vp9_tables.specs.declared.kinds.Branch.{Branch}
-use Rattle.vp9_tables.specs.declared.kinds.Branch.TheVariants.{Symbol, Node}
 use Rattle.vp9_tables.specs.Numbers.{intra_number, inter_number, filter_number, partition_number, tx_number}
 
--- a symbol, or the number of a probability and the trees behind its 0 and its 1
-pub data Tree : Type 0 where
-  leaf : ℕ → Tree
-  node : ℕ → Tree → Tree → Tree
-
--- a symbol is read by bools from the root to a leaf, each at the probability of the node that it leaves
-abbrev pub symbol : {E : Type 0} → List ℕ → Tree → Syntax ℕ E ℕ
-symbol probabilities (leaf x) = done x
-symbol probabilities (node k left right) =
-    ask (slice_index probabilities k) (λ bool. if nat_eq bool 0 then symbol probabilities left else symbol probabilities right)
-
--- The tree of an array: places 2k and 2k + 1 are the branches of node k. A positive entry is the place of another
--- node, any other entry is minus a symbol.
-abbrev pub entry_at : List ℤ → ℕ → ℤ
-entry_at array place = slice_index_or array place (pos 0)
-
-abbrev pub node_at : (ℤ → Tree) → List ℤ → ℕ → Tree
-node_at below array place = node (place / 2) (below (entry_at array place)) (below (entry_at array (place + 1)))
-
--- n is at least the number of nodes on the way to a leaf
-abbrev pub tree_below : ℕ → List ℤ → ℤ → Tree
-tree_below n array (negsuc x) = leaf (suc x)
-tree_below n array (pos zero) = leaf 0
-tree_below zero array (pos (suc place)) = leaf 0
-tree_below (suc n) array (pos (suc place)) = node_at (tree_below n array) array (suc place)
-
-abbrev pub subtree : List ℤ → ℕ → Tree
-subtree array place = node_at (tree_below (length array) array) array place
-
-abbrev pub tree_of : List ℤ → Tree
-tree_of array = subtree array 0
-
+-- the symbols of an array's entries, in order
 abbrev pub symbols : List ℤ → List ℕ
 symbols [] = []
 symbols (negsuc x ∷ es) = suc x ∷ symbols es
 symbols (pos zero ∷ es) = 0 ∷ symbols es
 symbols (pos (suc place) ∷ es) = symbols es
 
-abbrev pub nodes : List ℤ → List ℕ
-nodes [] = []
-nodes (negsuc x ∷ es) = nodes es
-nodes (pos zero ∷ es) = nodes es
-nodes (pos (suc place) ∷ es) = suc place ∷ nodes es
-
--- the entry at a place leads to a later node
-abbrev pub leads_on : ℕ → ℕ → ℤ → Bool
-leads_on n from (negsuc x) = true
-leads_on n from (pos zero) = true
-leads_on n from (pos (suc place)) = nat_lt from (suc place) && (nat_lt (suc place + 1) n && nat_eq (suc place % 2) 0)
-
-abbrev pub lead_on : ℕ → ℕ → List ℤ → Bool
-lead_on n from [] = true
-lead_on n from (e ∷ es) = leads_on n from e && lead_on n (from + 1) es
-
+-- each stands once
 abbrev pub differ : List ℕ → Bool
 differ [] = true
 differ (x ∷ xs) = not (list_any (nat_eq x) xs) && differ xs
-
--- each node but the root and each symbol is met once
-abbrev pub is_tree : List ℤ → Bool
-is_tree array = nat_lt 1 (length array) && (lead_on (length array) 0 array && (differ (symbols array) && differ (nodes array)))
-
--- the tree behind a bool
-abbrev pub taken : Bool → Tree → Tree
-taken bool (leaf x) = leaf x
-taken false (node k left right) = left
-taken true (node k left right) = right
-
--- where a bool leads to from the node at a place: to one of the symbols or to a later node
-abbrev pub Leads : List ℤ → ℕ → Bool → Branch → Type 0
-Leads array place bool (Symbol x) =
-    (taken bool (subtree array place) ≡ leaf x) × (list_any (nat_eq x) (symbols array) ≡ true)
-Leads array place bool (Node later) =
-    (taken bool (subtree array place) ≡ subtree array later) × (place < later) × (later + 1 < length array)
 
 abbrev pub partition_tree : Tree
 partition_tree =

@@ -29,11 +29,3 @@ pub enum ReferenceBool {
     /// Whether it then is altref.
     SingleSecond,
 }
-
-/// Where a bool leads to in a tree.
-#[derive(Clone, Copy, Debug, PartialEq, Eq)]
-pub enum Branch {
-    Symbol(u8),
-    /// The place of a later node.
-    Node(u8),
-}

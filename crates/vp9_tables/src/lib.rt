@@ -32,7 +32,7 @@ pub use defaults::{
 pub use filters::{tap, taps, taps_are_filters};
 pub use flow_row::FlowRow;
 pub use intra::{kf_partition, kf_uv_mode, kf_y_mode};
-pub use kinds::{Branch, Component, NeighbourKind, ReferenceBool};
+pub use kinds::{Component, NeighbourKind, ReferenceBool};
 pub use motion::{
     candidates_are_beside, counter_to_context, counters_of_modes, mode_counter, mv_ref_offset,
     ref_context, subblock_of_neighbour,
@@ -43,9 +43,9 @@ pub use transforms::{
     adst_8_flow, adst_16_flow, constants_of_transforms, cos64, cosine, dct_flow, sinpi,
 };
 pub use trees::{
-    branch_at, coef_tail_tree, coef_tree, filter_tree, inter_mode_tree, intra_mode_tree,
-    mv_class_tree, mv_class0_tree, mv_fr_tree, mv_joint_tree, partition_tree, segment_tree,
-    tx8_tree, tx16_tree, tx32_tree,
+    coef_tail_tree, coef_tree, filter_tree, inter_mode_tree, intra_mode_tree, mv_class_tree,
+    mv_class0_tree, mv_fr_tree, mv_joint_tree, partition_tree, segment_tree, tx8_tree, tx16_tree,
+    tx32_tree,
 };
 
 #[cfg(test)]

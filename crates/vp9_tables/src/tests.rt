@@ -20,11 +20,3 @@ fn rows_stand_by_their_indices(rt: HostRuntime) {
     assert_eq!(rt; cosine(16), 11585);
     assert_eq!(rt; cosine(48), -11585);
 }
-
-#[test]
-fn trees_lead_to_their_symbols(rt: HostRuntime) {
-    let tree = inter_mode_tree();
-    assert_eq!(rt; branch_at(tree, 0, false), Branch::Symbol(2));
-    assert_eq!(rt; branch_at(tree, 0, true), Branch::Node(2));
-    assert_eq!(rt; branch_at(tree, 2, false), Branch::Symbol(0));
-}

@@ -1,11 +1,11 @@
 -- A loop that reads a list in place: what it does at its begin, at each element and at its end.
-use Rattle.std.proofs.Common.{◌≡◌, ℕ, zero, suc, ◌+◌, ◌<◌, ◌≤◌, List, [], ◌∷◌, ◌++◌, length, get_or, take, drop, refl, ap, sym, ◌∙◌, append_assoc, arith}
+use Rattle.std.proofs.Common.{◌≡◌, ℕ, suc, ◌+◌, ◌<◌, List, [], ◌∷◌, ◌++◌, length, get_or, take, drop, refl, ap, sym, ◌∙◌, append_assoc, arith}
 use Rattle.std.proofs.Math.ListN.{set}
 use Rattle.std.proofs.Math.Seq.{drop-cons}
 use Rattle.std.proofs.lemmas.List.{take_more_set, drop-set-lt}
 use Rattle.std.specs.Prelude.{Result, Ok, Err}
 use Rattle.std.proofs.lemmas.List.{append-nil}
-use Rattle.vp9_types.specs.Syntax.{Syntax, done, broken, ask, ◌>>=◌}
+use Rattle.vp9_types.specs.Syntax.{Syntax, done, ◌>>=◌}
 use Rattle.vp9_types.specs.Reading.{after, run}
 use Rattle.vp9_types.specs.Each.{each, run_each_from}
 use Rattle.vp9_types.proofs.Runs.{run_bind}
@@ -64,7 +64,7 @@ each_put answer s xs i d y m rest low h =
     ∙ each_step answer s (take i xs) (get_or xs i d) (drop (suc i) xs) m y rest h
     ∙ ap (λ front. run_each_from answer s front (drop (suc i) xs) rest) (sym (take_more_set xs i y low))
     ∙ ap (λ back. run_each_from answer s (take (i + 1) (set xs i y)) back rest)
-        (ap (λ n. drop n xs) (sym (one_on i)) ∙ sym (drop-set-lt (i + 1) xs i y (omega arith)))
+    (ap (λ n. drop n xs) (sym (one_on i)) ∙ sym (drop-set-lt (i + 1) xs i y (omega arith)))
 
 pub each_stops : {Q E A B M : Type 0} (answer : Q → M → Result (ℕ × M) E) (s : A → Syntax Q E B) (front : List B) (xs : List A) (i : ℕ) (d : A) (m : M) (e : E)
     → i < length xs → run answer (s (get_or xs i d)) m ≡ Err e

@@ -1,6 +1,6 @@
 -- What is read of bits is one list of entries.
-use Rattle.std.proofs.Common.{◌≡◌, ℕ, zero, suc, ◌+◌, ◌^◌, ◌<◌, ◌≤◌, List, [], ◌∷◌, ◌++◌, length, refl, ap, sym, subst, ◌∙◌, arith, take, drop, append_assoc, Bool, true, false}
-use Rattle.std.specs.Prelude.{Result, Ok, Err, nat_lt, if◌then◌else◌}
+use Rattle.std.proofs.Common.{◌≡◌, ℕ, ◌^◌, ◌<◌, ◌≤◌, List, [], ◌∷◌, ◌++◌, length, refl, ap, sym, subst, ◌∙◌, arith, take, drop, append_assoc, Bool, true, false}
+use Rattle.std.specs.Prelude.{Result, Ok, Err, nat_lt}
 use Rattle.std.proofs.lemmas.Bool.{ltb-true, ltb-false}
 use Rattle.std.proofs.lemmas.List.{take-append-drop, length-append, length-take-le, length-drop}
 use Rattle.std.proofs.Math.Seq.{take-append_seam, drop-append_seam}
@@ -161,12 +161,13 @@ rest_within {N} {E} {A} past (done y) bits x rest h =
 rest_within past (broken e) bits x rest h = absurd cc
 rest_within {N} {E} {A} past (ask q k) bits x rest h =
     elim (answered past q.width bits) [
-      there long is ↦
-        let v = number_of (take q.width bits) in
-        let read : read_bits past (k v) (drop q.width bits) ≡ Ok (x, rest) = ap (λ r. after r (λ w more. run (field_at past) (k w) more)) (sym is) ∙ h in
-        let less = rest_within past (k v) (drop q.width bits) x rest read in
-        let dropped = length-drop q.width bits in
-        omega (arith, less, dropped)
+      | there long is ↦
+          let v = number_of (take q.width bits) in
+          let read : read_bits past (k v) (drop q.width bits) ≡ Ok (x, rest) = ap (λ r. after r (λ w more. run (field_at past) (k w) more)) (sym is) ∙ h in
+          let less = rest_within past (k v) (drop q.width bits) x rest read in
+          let dropped = length-drop q.width bits in
+          omega (arith, less, dropped)
       | short few is ↦
-        let no : ◌≡◌ {A = Result (A × List ℕ) E} (Err past) (Ok (x, rest)) = ap (λ r. after r (λ w more. run (field_at past) (k w) more)) (sym is) ∙ h in
-        absurd cc ]
+          let no : ◌≡◌ {A = Result (A × List ℕ) E} (Err past) (Ok (x, rest)) = ap (λ r. after r (λ w more. run (field_at past) (k w) more)) (sym is) ∙ h in
+          absurd cc
+    ]

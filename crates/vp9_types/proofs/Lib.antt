@@ -2,3 +2,5 @@ pub mod Runs
 pub mod Eaches
 pub mod Spells
 pub mod EntryLaws
+pub mod TreeTests
+pub mod StoredTrees

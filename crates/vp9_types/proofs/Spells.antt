@@ -1,6 +1,6 @@
 -- Numbers and the bits that spell them.
-use Rattle.std.proofs.Common.{◌≡◌, ℕ, zero, suc, ◌+◌, ◌*◌, ◌/◌, ◌%◌, ◌^◌, ◌<◌, ◌≤◌, List, [], ◌∷◌, ◌++◌, length, refl, ap, sym, subst, ◌∙◌, arith, take, drop, lit<}
-use Rattle.std.specs.List.{fold, AllByRecursion}
+use Rattle.std.proofs.Common.{◌≡◌, ℕ, zero, suc, ◌+◌, ◌*◌, ◌/◌, ◌%◌, ◌^◌, ◌<◌, ◌≤◌, List, [], ◌∷◌, ◌++◌, length, refl, ap, ◌∙◌, arith, take, drop, lit<}
+use Rattle.std.specs.List.{fold}
 use Rattle.std.proofs.lemmas.Nat.{pow_pos, div-mul-add, mod-mul-add}
 use Rattle.std.proofs.Math.Nat.{two-pow-succ, mod-lt, div-add-mod, mul-le-mul_left}
 use Rattle.vp9_types.specs.Bits.{number_of, spelled, AreBits}

@@ -1,6 +1,6 @@
 -- A syntax for each element of a list, in order. It knows what stood there before.
 use Rattle.std.specs.Prelude.{ℕ, List, [], ◌∷◌, ◌++◌, Result, Ok}
-use Rattle.vp9_types.specs.Syntax.{Syntax, done, broken, ask, ◌>>=◌}
+use Rattle.vp9_types.specs.Syntax.{Syntax, done, ◌>>=◌}
 use Rattle.vp9_types.specs.Reading.{after, run}
 
 abbrev pub each : {Q E A B : Type 0} → (A → Syntax Q E B) → List A → Syntax Q E (List B)

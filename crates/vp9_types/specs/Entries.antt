@@ -1,6 +1,6 @@
 -- A header is a list of entries: each is the field that the syntax asks for after the values before it, with a value
 -- of its width. The entries' bits, joined, are a front of the frame's bits.
-use Rattle.std.specs.Prelude.{◌≡◌, ℕ, ◌<◌, ◌^◌, List, [], ◌∷◌, ◌++◌, length}
+use Rattle.std.specs.Prelude.{◌≡◌, ℕ, ◌<◌, ◌^◌, List, [], ◌∷◌, length}
 use Rattle.std.specs.List.{flat_map}
 use Rattle.vp9_types.specs.Bits.{spelled}
 use Rattle.vp9_types.specs.Syntax.{Syntax, done, broken, ask}

@@ -7,3 +7,4 @@ pub mod Syntax
 pub mod Reading
 pub mod Entries
 pub mod Each
+pub mod Trees

@@ -1,5 +1,5 @@
 -- How a syntax is read: by a machine that answers its questions, one after another.
-use Rattle.std.specs.Prelude.{◌≡◌, ℕ, ◌<◌, List, length, take, drop, Result, Ok, Err, nat_lt, if◌then◌else◌}
+use Rattle.std.specs.Prelude.{◌≡◌, ℕ, List, length, take, drop, Result, Ok, Err, nat_lt, if◌then◌else◌}
 use Rattle.vp9_types.specs.Bits.{number_of}
 use Rattle.vp9_types.specs.Syntax.{Syntax, done, broken, ask}
 

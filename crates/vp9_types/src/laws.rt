@@ -1,11 +1,12 @@
 //! Laws of the definitions, as contracts of functions that do nothing.
 
-ghost use Rattle.std.specs.Prelude.{◌≡◌, ℕ, ◌≤◌, List, ◌++◌, Ok, Err};
+ghost use Rattle.std.specs.Prelude.{◌≡◌, ℕ, ℤ, ◌≤◌, List, ◌++◌, Ok, Err, IsTrue};
 ghost use Rattle.vp9_types.specs.Bits.{AreBits};
 ghost use Rattle.vp9_types.specs.Entries.{Entry, IsReadAs, FailsAfter, joined};
 ghost use Rattle.vp9_types.specs.Reading.{Field, read_bits};
 ghost use Rattle.vp9_types.specs.Rules.{rule_number};
 ghost use Rattle.vp9_types.specs.Syntax.{Syntax};
+ghost use Rattle.vp9_types.specs.Trees.{Tree, IsTreeOf, tree_of, is_tree};
 ghost use Rattle.vp9_types.specs.declared.rule.Rule.{Rule};
 
 /// Each rule has a number from 1 to 23, and each such number has one rule.
@@ -35,4 +36,10 @@ pub fn reading_is_its_entries<N, E, A>()
     // A fault after these entries is met.
     ensures met { (past : E) (s : Syntax (Field N) E A) (es : List (Entry N)) (rest : List ℕ) (fault : E) →
         FailsAfter past s es rest fault → read_bits past s (joined es ++ rest) ≡ Err fault }
+{}
+
+/// The tree of an array that passes the test is the one that it stands for, and no other tree is.
+pub fn trees_are_stored()
+    ensures stored { (array : List ℤ) → IsTrue (is_tree array) → IsTreeOf array (tree_of array) }
+    ensures once { (array : List ℤ) (s t : Tree) → IsTreeOf array s → IsTreeOf array t → s ≡ t }
 {}

@@ -15,7 +15,7 @@ pub use block::{
     TxMode, TxSize, TxType,
 };
 pub use job::{BandSpan, JobName, Span};
-pub use laws::{reading_is_its_entries, rules_are_numbered};
+pub use laws::{reading_is_its_entries, rules_are_numbered, trees_are_stored};
 pub use outcome::{Fault, Outcome, Part, Stop};
 pub use rule::Rule;
 pub use samples::Samples;

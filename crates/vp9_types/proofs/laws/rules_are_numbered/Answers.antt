@@ -1,5 +1,5 @@
-use Rattle.std.proofs.Common.{◌≡◌, ℕ, ◌≤◌, ◌<◌, ◌-◌, ◌+◌, ◌∙◌, ap, sym, Bool, true, false, List, [], ◌∷◌, get_or, refl, arith}
-use Rattle.std.specs.Prelude.{nat_eq, nat_lt, ◌||◌}
+use Rattle.std.proofs.Common.{◌≡◌, ℕ, ◌<◌, ◌-◌, ◌+◌, ◌∙◌, true, List, [], ◌∷◌, get_or, refl, arith}
+use Rattle.std.specs.Prelude.{nat_eq}
 use Rattle.std.proofs.lemmas.Bool.{agree_below_at, eqb-true}
 use Rattle.vp9_types.specs.Rules.{rule_number}
 use Rattle.vp9_types.specs.declared.rule.Rule.{Rule}

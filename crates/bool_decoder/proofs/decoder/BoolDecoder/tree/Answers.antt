@@ -2,7 +2,8 @@ use Rattle.std.proofs.Common.{◌≡◌, ℕ, ◌<◌, arith, ◌∙◌, ap, Boo
 use Rattle.std.specs.Prelude.{nat_eq}
 use mir.Val.{bool_byte}
 use Rattle.bool_decoder.specs.Window.{Window, bit_of}
-use Rattle.bool_decoder.proofs.Walks.{tree_holds, walk_begins, walk_goes, walk_ends, walk_leaf, walk_node, walk_nearer}
+use Rattle.vp9_types.proofs.TreeTests.{tree_holds}
+use Rattle.bool_decoder.proofs.Walks.{walk_begins, walk_goes, walk_ends, walk_leaf, walk_node, walk_nearer}
 use Rattle.bool_decoder.proofs.OneBool.{bit_number, bit_low}
 use Rattle.bool_decoder.proofs.decoder.BoolDecoder.tree.Goals as goal
 

@@ -1,8 +1,8 @@
 -- The tree of an array is the one that it stands for.
 use Rattle.std.proofs.Common.{◌≡◌, ℕ, zero, suc, ◌+◌, ◌*◌, ◌/◌, ◌<◌, ◌≤◌, true, List, length, refl, ap, sym, ◌∙◌, arith, ℤ, pos, negsuc}
 use Rattle.std.specs.Prelude.{neg_ℤ}
-use Rattle.bool_decoder.specs.Trees.{Tree, leaf, node, IsStored, IsTreeOf, subtree, tree_of, entry_at, is_entry, is_tree}
-use Rattle.bool_decoder.proofs.Walks.{HoldsTree, tree_holds, node_at}
+use Rattle.vp9_types.specs.Trees.{Tree, leaf, node, IsStored, IsTreeOf, subtree, tree_of, entry_at, is_entry, is_tree}
+use Rattle.vp9_types.proofs.TreeTests.{HoldsTree, tree_holds, node_at}
 
 -- deep enough for the tree of an entry
 abbrev IsFar : ℕ → ℕ → ℤ → Type 0

@@ -1,5 +1,5 @@
-use Rattle.bool_decoder.proofs.Stored.{tree_stored, tree_once}
-use Rattle.bool_decoder.proofs.laws.trees_are_stored.Goals as goal
+use Rattle.vp9_types.proofs.StoredTrees.{tree_stored, tree_once}
+use Rattle.vp9_types.proofs.laws.trees_are_stored.Goals as goal
 
 pub returns-clause-stored : goal.returns-clause-stored
 returns-clause-stored c = tree_stored
