@@ -1,12 +1,12 @@
 -- The references of inter frames (6.2, 6.2.5, 6.2.7 and 7.2 of the standard).
-use Rattle.std.specs.Prelude.{◌≡◌, ℕ, ◌+◌, ◌*◌, Bool, true, false, not, ◌&&◌, ◌||◌, ◌==◌, nat_le, slice_index_or, Option, Some, None, if◌then◌else◌}
+use Rattle.std.specs.Prelude.{ℕ, ◌*◌, Bool, true, false, not, ◌&&◌, ◌||◌, ◌==◌, nat_le, slice_index_or, Option, Some, None, if◌then◌else◌}
 use Rattle.vp9_types.specs.declared.block.InterpFilter.{InterpFilter}
 use Rattle.vp9_types.specs.declared.block.InterpFilter.TheVariants.{Regular, Smooth, Sharp, Bilinear}
 use Rattle.vp9_types.specs.declared.rule.Rule.{Rule}
 use Rattle.vp9_types.specs.declared.rule.Rule.TheVariants as rule
 use Rattle.vp9_types.specs.declared.shape.Shape.{Shape}
 use Rattle.vp9_types.specs.Shapes.{depth_bits}
-use Rattle.vp9_types.specs.Syntax.{Syntax, done, broken, ask, ◌>>=◌, ◌>>◌, check}
+use Rattle.vp9_types.specs.Syntax.{done, broken, ◌>>=◌, ◌>>◌, check}
 use Rattle.frame_headers.specs.declared.color.ColorConfig.{ColorConfig}
 use Rattle.frame_headers.specs.declared.field.FieldName.{FieldName}
 use Rattle.frame_headers.specs.declared.field.FieldName.TheVariants as name
@@ -15,7 +15,6 @@ use Rattle.frame_headers.specs.declared.header.FrameFilter.{FrameFilter}
 use Rattle.frame_headers.specs.declared.header.FrameFilter.TheVariants.{Fixed, Switchable}
 use Rattle.frame_headers.specs.declared.header.FrameKind.TheVariants.{Inter}
 use Rattle.frame_headers.specs.declared.header.FrameSize.{FrameSize}
-use Rattle.frame_headers.specs.declared.header.InterFields.{InterFields}
 use Rattle.frame_headers.specs.declared.header.Reference.{Reference}
 use Rattle.frame_headers.specs.declared.header.References.{References}
 use Rattle.frame_headers.specs.declared.persist.Persist.{Persist}

@@ -1,6 +1,6 @@
 -- The sizes of a frame (6.2.3 and 6.2.4 of the standard).
-use Rattle.std.specs.Prelude.{ℕ, ◌+◌, Bool, true, false, if◌then◌else◌}
-use Rattle.vp9_types.specs.Syntax.{Syntax, done, broken, ask, ◌>>=◌, ◌>>◌}
+use Rattle.std.specs.Prelude.{◌+◌, if◌then◌else◌}
+use Rattle.vp9_types.specs.Syntax.{done, ◌>>=◌, ◌>>◌}
 use Rattle.frame_headers.specs.declared.field.FieldName.TheVariants as name
 use Rattle.frame_headers.specs.declared.header.FrameSize.{FrameSize}
 use Rattle.frame_headers.specs.Fields.{Table, f, flag}

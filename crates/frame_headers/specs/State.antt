@@ -1,7 +1,6 @@
 -- What persists from frame to frame (7.2 and 8.10 of the standard).
-use Rattle.std.specs.Prelude.{ℕ, ◌%◌, ◌/◌, ◌==◌, true, false, List, [], ◌∷◌, Option, Some, None, pos, negsuc, replicate, if◌then◌else◌}
+use Rattle.std.specs.Prelude.{ℕ, ◌%◌, ◌/◌, ◌==◌, List, [], ◌∷◌, Option, Some, None, pos, negsuc, replicate, if◌then◌else◌}
 use Rattle.vp9_types.specs.declared.shape.Shape.{Shape}
-use Rattle.frame_headers.specs.declared.color.ColorSpace.TheVariants.{Bt601}
 use Rattle.frame_headers.specs.declared.filter.LoopDeltas.{LoopDeltas}
 use Rattle.frame_headers.specs.declared.header.Header.{Header}
 use Rattle.frame_headers.specs.declared.persist.Persist.{Persist}

@@ -1,6 +1,5 @@
-use Rattle.std.proofs.Common.{◌≡◌, ap, sym, ◌∙◌, ◌++◌}
+use Rattle.std.proofs.Common.{ap, sym, ◌∙◌}
 use Rattle.vp9_types.specs.Bits.{bits_of}
-use Rattle.vp9_types.specs.Entries.{joined}
 use Rattle.vp9_types.specs.Reading.{read_bits}
 use Rattle.vp9_types.proofs.EntryLaws.{reads_entries, entries_read, one_reading, fails_after}
 use Rattle.frame_headers.specs.Fields.{past}

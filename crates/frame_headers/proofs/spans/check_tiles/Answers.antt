@@ -1,7 +1,6 @@
-use Rattle.std.proofs.Common.{◌≡◌, ℕ, suc, ◌+◌, ◌-◌, ◌<◌, ◌≤◌, ◌∙◌, ap, sym, subst, arith, length}
+use Rattle.std.proofs.Common.{◌≡◌, ◌+◌, ◌-◌, ◌∙◌, sym, subst, arith}
 use Rattle.std.proofs.lemmas.Result.{err_from_is_err_and}
-use Rattle.frame_headers.specs.Spans.{tiles_from, tile_spans, tile_count}
-use Rattle.frame_headers.proofs.SpanLemmas.{HasFound, none_found, one_found, found_bad, found_all, one_fewer, spans_are, are_there}
+use Rattle.frame_headers.proofs.SpanLemmas.{HasFound, none_found, one_found, found_bad, one_fewer, spans_are, are_there}
 use Rattle.frame_headers.proofs.spans.check_tiles.Goals as goal
 
 pub loop-i-init : goal.loop-i-init

@@ -1,6 +1,5 @@
-use Rattle.std.proofs.Common.{◌≡◌, ℕ, suc, ◌+◌, ◌-◌, ◌<◌, ◌≤◌, ◌∙◌, ap, sym, subst, arith, length}
-use Rattle.frame_headers.specs.Spans.{tiles_from, tile_spans, tile_count}
-use Rattle.frame_headers.proofs.SpanLemmas.{HasFound, none_found, one_found, found_bad, found_next, one_fewer, spans_are, not_bad, next_is}
+use Rattle.std.proofs.Common.{◌≡◌, suc, ◌+◌, ◌-◌, ◌<◌, sym, subst, arith}
+use Rattle.frame_headers.proofs.SpanLemmas.{HasFound, none_found, one_found, one_fewer, not_bad, next_is}
 use Rattle.frame_headers.proofs.spans.tile_span.Goals as goal
 
 pub loop-i-init : goal.loop-i-init
