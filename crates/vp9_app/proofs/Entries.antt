@@ -1,6 +1,6 @@
 -- What a frame and a payload add.
 use Rattle.std.proofs.Common.{◌≡◌, ℕ, ◌+◌, ◌<◌, List, [], ◌++◌, length, get_or, drop, ap, sym, refl, ◌∙◌, ◌≤◌, append_assoc}
-use Rattle.std.specs.Prelude.{Result, Ok, Err, slice_range}
+use Rattle.std.specs.Prelude.{Result, Ok, Err}
 use Rattle.std.proofs.lemmas.List.{append-nil, drop_more, drop_all}
 use Rattle.vp9_types.specs.declared.job.Span.{Span}
 use Rattle.vp9_types.specs.declared.outcome.Stop.{Stop}
@@ -9,7 +9,9 @@ use Rattle.superframe_index.specs.Frames.{frames_of}
 use Rattle.frame_headers.specs.declared.header.FrameHead.{FrameHead}
 use Rattle.frame_headers.specs.Header.{head_of}
 use Rattle.vp9_app.specs.declared.listing.Place.{Place}
-use Rattle.vp9_app.specs.Listing.{stop_at, head_lines, head_place, head_entry, frame_entry, followed, frames_entry, parts_entry, payload_entry, AddsEntry}
+use Rattle.vp9_app.specs.Listing.{stop_at, head_lines, head_place, head_entry, frame_entry, AddsEntry}
+use Rattle.vp9_app.specs.FileFrames.{frame_bytes}
+use Rattle.vp9_app.specs.Payloads.{followed, frames_entry, parts_entry, payload_entry}
 
 pub frame_read : (place : Place) (frame : List ℕ) (head : FrameHead) → Ok head ≡ head_of place.before frame
     → frame_entry place frame ≡ record { lines = head_lines place (length frame) head; next = Ok (head_place place head) }
@@ -39,7 +41,7 @@ none_added payload spans before first = record { lines = refl; goes_on = refl }
 
 -- the frame of span i
 abbrev pub frame_at : List ℕ → List Span → ℕ → Span → List ℕ
-frame_at payload spans i d = slice_range payload (get_or spans i d).from (get_or spans i d).to
+frame_at payload spans i d = frame_bytes payload (get_or spans i d)
 
 -- the next frame, and those behind it
 one_frame : (place : Place) (payload : List ℕ) (spans got : List Span) (i : ℕ) (d : Span) (next : Result Place Stop) → i < length spans → got ≡ spans

@@ -1,4 +1,5 @@
 pub mod Texts
 pub mod Entries
+pub mod Joining
 pub mod Listings
 pub mod Causes

@@ -1,5 +1,7 @@
 pub mod Lines
+pub mod FileFrames
 pub mod Listing
+pub mod Payloads
 pub mod Statuses
 pub mod Notes
 pub mod Answers

@@ -1,10 +1,7 @@
 -- The listing of a file: a line for each frame, by its header alone.
-use Rattle.std.specs.Prelude.{◌≡◌, ℕ, ◌+◌, List, [], ◌∷◌, ◌++◌, length, slice_range, string_bytes, Option, Some, None, Result, Ok, Err}
-use Rattle.vp9_types.specs.declared.job.Span.{Span}
+use Rattle.std.specs.Prelude.{◌≡◌, ℕ, ◌+◌, List, [], ◌∷◌, ◌++◌, length, string_bytes, Option, Some, None, Result, Ok, Err}
 use Rattle.vp9_types.specs.declared.outcome.Stop.{Stop}
 use Rattle.vp9_types.specs.declared.rule.Rule.{Rule}
-use Rattle.ivf_container.specs.Packets.{Packets, packets_of}
-use Rattle.superframe_index.specs.Frames.{frames_of}
 use Rattle.frame_headers.specs.declared.header.FrameHead.{FrameHead}
 use Rattle.frame_headers.specs.declared.header.FrameHead.TheVariants.{ShowExisting, Coded}
 use Rattle.frame_headers.specs.Header.{head_of}
@@ -13,6 +10,7 @@ use Rattle.vp9_app.specs.declared.listing.Ending.{Ending}
 use Rattle.vp9_app.specs.declared.listing.Ending.TheVariants as ending
 use Rattle.vp9_app.specs.declared.listing.Listed.{Listed}
 use Rattle.vp9_app.specs.declared.listing.Place.{Place}
+use Rattle.vp9_app.specs.FileFrames.{FileFrames, frames_of_file}
 use Rattle.vp9_app.specs.Lines.{coded_line, shown_line}
 
 -- the lines, and how they end
@@ -31,7 +29,7 @@ with_text text more = record { text = text ++ more.text; ending = more.ending }
 abbrev pub stop_at : Place → Rule → Stop
 stop_at place rule = record { frame = place.frame; rule = rule }
 
--- what a frame or a payload adds: lines, and the place after it or where the listing stops
+-- what a frame adds: lines, and the place after it or where the listing stops
 pub record Entry : Type 0 where
   pub lines : List ℕ
   pub next : Result Place Stop
@@ -53,41 +51,21 @@ head_entry place bytes (Err rule) = record { lines = []; next = Err (stop_at pla
 unfoldable pub frame_entry : Place → List ℕ → Entry
 frame_entry place frame = head_entry place (length frame) (head_of place.before frame)
 
--- lines, and more from the place after them unless the listing stops there
-abbrev pub followed : List ℕ → Result Place Stop → (Place → Entry) → Entry
-followed lines (Ok place) more = record { lines = lines ++ (more place).lines; next = (more place).next }
-followed lines (Err stop) more = record { lines = lines; next = Err stop }
-
--- what the frames of a payload add, one after another
-abbrev pub frames_entry : Place → List ℕ → List Span → Entry
-frames_entry place payload [] = record { lines = []; next = Ok place }
-frames_entry place payload (span ∷ spans) =
-    let first = frame_entry place (slice_range payload span.from span.to) in
-    followed first.lines first.next (λ next. frames_entry next payload spans)
-
-abbrev pub parts_entry : Place → List ℕ → Result (List Span) Rule → Entry
-parts_entry place payload (Ok spans) = frames_entry place payload spans
-parts_entry place payload (Err rule) = record { lines = []; next = Err (stop_at place rule) }
-
--- what a payload adds, by its superframe index
-unfoldable pub payload_entry : Place → List ℕ → Entry
-payload_entry place payload = parts_entry place payload (frames_of payload)
-
 -- what an entry adds, and then more from the place after it
 abbrev pub listed : List ℕ → Result Place Stop → (Place → Listing) → Listing
 listed lines (Ok place) more = with_text lines (more place)
 listed lines (Err stop) more = record { text = lines; ending = ending.Broken stop }
 
--- the listing of payloads from a place on, up to the end of the file or a rule of its container
-abbrev pub list_payloads : Place → List (List ℕ) → Option Rule → Listing
-list_payloads place [] None = ends ending.End
-list_payloads place [] (Some rule) = ends (ending.Broken (stop_at place rule))
-list_payloads place (payload ∷ payloads) rule =
-    let entry = payload_entry place payload in
-    listed entry.lines entry.next (λ next. list_payloads next payloads rule)
+-- the listing of frames from a place on, up to their end or the rule that is broken there
+abbrev pub list_frames : Place → List (List ℕ) → Option Rule → Listing
+list_frames place [] None = ends ending.End
+list_frames place [] (Some rule) = ends (ending.Broken (stop_at place rule))
+list_frames place (frame ∷ frames) rule =
+    let entry = frame_entry place frame in
+    listed entry.lines entry.next (λ next. list_frames next frames rule)
 
-abbrev pub list_packets : Place → Packets → Listing
-list_packets place packets = list_payloads place packets.payloads packets.ending
+abbrev pub list_all : Place → FileFrames → Listing
+list_all place all = list_frames place all.frames all.ending
 
 -- before the first frame
 abbrev pub first_place : Place
@@ -95,7 +73,7 @@ first_place = record { frame = 0; before = start_persist }
 
 -- the listing of a file
 unfoldable pub listing : List ℕ → Listing
-listing bytes = list_packets first_place (packets_of bytes)
+listing bytes = list_all first_place (frames_of_file bytes)
 
 -- a call added these lines to the text, and went on so
 abbrev pub AddsEntry : List ℕ → Entry → Result Place Stop → List ℕ → Type 0

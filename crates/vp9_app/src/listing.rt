@@ -1,6 +1,7 @@
 ghost use Rattle.std.specs.Prelude.{◌≡◌, ◌<◌, ◌≤◌, ◌+◌, ◌^◌, ◌++◌, IfOk, OnOk, string_bytes};
 ghost use Rattle.frame_headers.specs.Header.{HeadHasFewTiles};
-ghost use Rattle.vp9_app.specs.Listing.{head_lines, head_place, frame_entry, payload_entry, listing, AddsEntry, listing_of};
+ghost use Rattle.vp9_app.specs.Listing.{head_lines, head_place, frame_entry, listing, AddsEntry, listing_of};
+ghost use Rattle.vp9_app.specs.Payloads.{payload_entry};
 
 use crate::line::{push_coded, push_shown};
 use frame_headers::{FrameHead, Persist, read};

@@ -1,6 +1,7 @@
 use Rattle.std.proofs.Common.{◌∙◌, ap, sym, arith}
 use Rattle.ivf_container.specs.Packets.{packets_from}
-use Rattle.vp9_app.specs.Listing.{first_place, with_text, list_packets, stops_at}
+use Rattle.vp9_app.specs.Listing.{first_place, with_text, stops_at}
+use Rattle.vp9_app.proofs.Joining.{list_packets}
 use Rattle.vp9_app.proofs.Listings.{listed_first, listed_broken}
 use Rattle.vp9_app.proofs.listing.list_file.Goals as goal
 

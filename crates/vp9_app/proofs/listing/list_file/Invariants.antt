@@ -1,6 +1,7 @@
 use Rattle.std.proofs.Common.{◌≡◌, ◌-◌, ◌≤◌, length, string_bytes}
 use Rattle.ivf_container.specs.Packets.{packets_from}
-use Rattle.vp9_app.specs.Listing.{listing, with_text, list_packets}
+use Rattle.vp9_app.specs.Listing.{listing, with_text}
+use Rattle.vp9_app.proofs.Joining.{list_packets}
 use Rattle.vp9_app.proofs.listing.list_file.Given as goal
 
 abbrev pub invariant-packets : goal.invariant-packets
