@@ -2,9 +2,8 @@
 #![tactic(auto)]
 
 use edge_io::{OpenGate, StdSink, StdSource};
-use std::env;
-use std::io;
 use std::process::ExitCode;
+use std::{env, io};
 use vp9_app::{Status, run};
 
 /// The words of the command line, the program's name first.
@@ -29,6 +28,14 @@ fn main(rt: HostRuntime) -> ExitCode {
     let source = StdSource::new(rt.stdin());
     let out = StdSink::new(rt.stdout());
     let note = StdSink::new(rt.stderr());
-    let ran = run(&rt, rt.alloc(), words.as_slice(), source, out, note, &OpenGate);
+    let ran = run(
+        &rt,
+        rt.alloc(),
+        words.as_slice(),
+        source,
+        out,
+        note,
+        &OpenGate,
+    );
     ExitCode::from(ran.status.code())
 }
