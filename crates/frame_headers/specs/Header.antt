@@ -28,7 +28,7 @@ use Rattle.frame_headers.specs.Filter.{loop_filter_params}
 use Rattle.frame_headers.specs.Quantizer.{quantization_params}
 use Rattle.frame_headers.specs.References.{inter_fields, slot_shape}
 use Rattle.frame_headers.specs.Segments.{segmentation_params, no_features}
-use Rattle.frame_headers.specs.Sizes.{frame_size, render_size}
+use Rattle.frame_headers.specs.Sizes.{frame_size, render_size, IsFrameSize}
 use Rattle.frame_headers.specs.State.{default_deltas}
 use Rattle.frame_headers.specs.Tiles.{tile_info, AreFewTiles}
 
@@ -193,6 +193,15 @@ HasFewTiles (uncompressed.Coded header) = AreFewTiles header.params.tiles
 abbrev pub HeadHasFewTiles : FrameHead → Type 0
 HeadHasFewTiles (head.ShowExisting slot) = Unit {0}
 HeadHasFewTiles (head.Coded header compressed) = AreFewTiles header.params.tiles
+
+-- the coded header's size is one that a frame can have
+abbrev pub HasSize : Uncompressed → Type 0
+HasSize (uncompressed.ShowExisting slot) = Unit {0}
+HasSize (uncompressed.Coded header) = IsFrameSize header.size
+
+abbrev pub HeadHasSize : FrameHead → Type 0
+HeadHasSize (head.ShowExisting slot) = Unit {0}
+HeadHasSize (head.Coded header compressed) = IsFrameSize header.size
 
 -- the compressed header lies in a frame of so many bytes
 abbrev pub LiesIn : ℕ → FrameHead → Type 0

@@ -19,7 +19,7 @@ use Rattle.frame_headers.specs.declared.header.Reference.{Reference}
 use Rattle.frame_headers.specs.declared.header.References.{References}
 use Rattle.frame_headers.specs.declared.persist.Persist.{Persist}
 use Rattle.frame_headers.specs.Fields.{Table, f, flag}
-use Rattle.frame_headers.specs.Sizes.{frame_size, render_size}
+use Rattle.frame_headers.specs.Sizes.{frame_size, render_size, HasFrameSize}
 
 -- what a slot holds, which is broken where it is empty
 abbrev pub held_by : ℕ → Rule → Option Shape → Table (ℕ × Shape)
@@ -60,6 +60,10 @@ is_in_range size r =
 
 abbrev pub size_of : Reference → FrameSize
 size_of r = record { width = r.shape.w; height = r.shape.h }
+
+-- the references have sizes that a frame can have
+abbrev pub HaveFrameSizes : References → Type 0
+HaveFrameSizes refs = HasFrameSize refs.last.shape × HasFrameSize refs.golden.shape × HasFrameSize refs.altref.shape
 
 -- frame_size_with_refs (6.2.5): the size of the first reference that is found to have it, or else a size of its own
 unfoldable pub found_size : References → Table FrameSize

@@ -1,11 +1,12 @@
 -- What persists from frame to frame (7.2 and 8.10 of the standard).
-use Rattle.std.specs.Prelude.{ℕ, ◌%◌, ◌/◌, ◌==◌, List, [], ◌∷◌, Option, Some, None, pos, negsuc, replicate, if◌then◌else◌}
+use Rattle.std.specs.Prelude.{ℕ, ◌%◌, ◌/◌, ◌==◌, List, [], ◌∷◌, Option, Some, None, pos, negsuc, replicate, All, IfSome, if◌then◌else◌}
 use Rattle.vp9_types.specs.declared.shape.Shape.{Shape}
 use Rattle.frame_headers.specs.declared.filter.LoopDeltas.{LoopDeltas}
 use Rattle.frame_headers.specs.declared.header.Header.{Header}
 use Rattle.frame_headers.specs.declared.persist.Persist.{Persist}
 use Rattle.frame_headers.specs.Color.{default_color}
 use Rattle.frame_headers.specs.Segments.{no_features}
+use Rattle.frame_headers.specs.Sizes.{HasFrameSize}
 
 abbrev pub shape_of : Header → Shape
 shape_of header = record { w = header.size.width; h = header.size.height; depth = header.color.depth; ss_x = header.color.ss_x; ss_y = header.color.ss_y }
@@ -40,3 +41,7 @@ start_persist = record {
   features = no_features;
   size = None;
 }
+
+-- each slot that holds a frame holds one of a size that a frame can have
+unfoldable pub SlotsHaveSizes : Persist → Type 0
+SlotsHaveSizes persist = All (λ slot. IfSome slot HasFrameSize) persist.slots

@@ -10,6 +10,7 @@ ghost use Rattle.frame_headers.specs.Header.{uncompressed_header, IsHeaderOf};
 ghost use Rattle.frame_headers.specs.declared.field.FieldName.{FieldName};
 ghost use Rattle.frame_headers.specs.declared.header.Uncompressed.{Uncompressed};
 ghost use Rattle.frame_headers.specs.declared.persist.Persist.{Persist};
+ghost use Rattle.frame_headers.specs.State.{start_persist, SlotsHaveSizes};
 
 /// A frame's uncompressed header is a list of entries: each is the field that the standard's tables ask for after the
 /// values before it, and their bits, joined, are a front of the frame's bits. There is at most one such list. Where
@@ -29,4 +30,9 @@ pub fn header_is_its_entries()
     ensures fault { (before : Persist) (frame : List ℕ) (rule : Rule) →
         read_bits past (uncompressed_header before) (bits_of frame) ≡ Err rule →
         (es : List (Entry FieldName)) × (rest : List ℕ) × FailsAfter past (uncompressed_header before) es rest rule × (bits_of frame ≡ joined es ++ rest) }
+{}
+
+/// Before the first frame no slot holds anything, so each that does holds a frame of a size that frames have.
+pub fn start_has_no_slots()
+    ensures { SlotsHaveSizes start_persist }
 {}

@@ -23,7 +23,7 @@ pub use header::{
     FrameContexts, FrameFields, FrameFilter, FrameHead, FrameKind, FrameParams, FrameSize,
     FrameStart, Header, InterFields, Reference, References, Uncompressed,
 };
-pub use laws::header_is_its_entries;
+pub use laws::{header_is_its_entries, start_has_no_slots};
 pub use persist::Persist;
 pub use quantizer::Quantizer;
 pub use reading::read;

@@ -46,11 +46,13 @@ fn refresh_slots(slots: &mut [Option<Shape>], refresh: u8, shape: Shape)
 }
 
 impl Header {
-    ghost use Rattle.frame_headers.specs.State.{next_persist};
+    ghost use Rattle.frame_headers.specs.Sizes.{IsFrameSize};
+    ghost use Rattle.frame_headers.specs.State.{next_persist, SlotsHaveSizes};
 
     /// What persists after this frame.
     pub fn next(&self, before: &Persist) -> Persist
-        ensures { result ≡ next_persist self.now before.now }
+        ensures persists { result ≡ next_persist self.now before.now }
+        ensures sizes { IsFrameSize self.now.size → SlotsHaveSizes before.now → SlotsHaveSizes result }
     {
         let mut slots = before.slots;
         refresh_slots(&mut slots, self.refresh, self.shape());

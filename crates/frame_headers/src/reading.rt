@@ -1,6 +1,8 @@
 ghost use Rattle.std.specs.Prelude.{◌≡◌, IfOk, length};
 ghost use Rattle.frame_headers.specs.Fields.{Reads};
-ghost use Rattle.frame_headers.specs.Header.{coded_profile, frame_profile, frame_sync_code, key_fields, intra_only_fields, intra_and_reset, other_fields, forgets, kept_deltas, kept_features, frame_fields, frame_start, frame_contexts, frame_params, coded_frame, uncompressed_header, head_of, HasFewTiles, HeadHasFewTiles, LiesIn};
+ghost use Rattle.frame_headers.specs.Header.{coded_profile, frame_profile, frame_sync_code, key_fields, intra_only_fields, intra_and_reset, other_fields, forgets, kept_deltas, kept_features, frame_fields, frame_start, frame_contexts, frame_params, coded_frame, uncompressed_header, head_of, HasFewTiles, HeadHasFewTiles, HasSize, HeadHasSize, LiesIn};
+ghost use Rattle.frame_headers.specs.Sizes.{IsFrameSize};
+ghost use Rattle.frame_headers.specs.State.{SlotsHaveSizes};
 ghost use Rattle.frame_headers.specs.Tiles.{AreFewTiles};
 
 use crate::bits::BitReader;
@@ -108,7 +110,8 @@ fn read_frame_params(
 /// A key frame is coded from its sync code on, and refreshes all slots.
 #[tactic(auto, unfolding(crate::specs::Header::key_fields), using(vp9_types::proofs::Runs::run_bind))]
 fn read_key_fields(bits: &mut BitReader<'_>, profile: u8) -> Result<FrameFields, Rule>
-    ensures { Reads (key_fields profile) bits.old result bits.new }
+    ensures reads { Reads (key_fields profile) bits.old result bits.new }
+    ensures size { IfOk result (λ fields. IsFrameSize fields.size) }
 {
     read_frame_sync_code(bits)?;
     let color = read_color_config(bits, profile)?;
@@ -129,7 +132,8 @@ fn read_intra_only_fields(
     profile: u8,
     reset_context: u8,
 ) -> Result<FrameFields, Rule>
-    ensures { Reads (intra_only_fields profile reset_context) bits.old result bits.new }
+    ensures reads { Reads (intra_only_fields profile reset_context) bits.old result bits.new }
+    ensures size { IfOk result (λ fields. IsFrameSize fields.size) }
 {
     read_frame_sync_code(bits)?;
     let color = read_intra_only_color(bits, profile)?;
@@ -175,7 +179,8 @@ fn read_other_fields(
     show_frame: bool,
     error_resilient: bool,
 ) -> Result<FrameFields, Rule>
-    ensures { Reads (other_fields before.now profile show_frame error_resilient) bits.old result bits.new }
+    ensures reads { Reads (other_fields before.now profile show_frame error_resilient) bits.old result bits.new }
+    ensures size { SlotsHaveSizes before.now → IfOk result (λ fields. IsFrameSize fields.size) }
 {
     let (intra_only, reset) = read_intra_and_reset(bits, show_frame, error_resilient)?;
     if intra_only {
@@ -214,7 +219,8 @@ fn read_frame_fields(
     profile: u8,
     start: FrameStart,
 ) -> Result<FrameFields, Rule>
-    ensures { Reads (frame_fields before.now profile start) bits.old result bits.new }
+    ensures reads { Reads (frame_fields before.now profile start) bits.old result bits.new }
+    ensures size { SlotsHaveSizes before.now → IfOk result (λ fields. IsFrameSize fields.size) }
 {
     if start.is_key {
         read_key_fields(bits, profile)
@@ -248,6 +254,7 @@ fn read_frame_start(bits: &mut BitReader<'_>) -> Result<FrameStart, Rule>
 fn read_coded_frame(bits: &mut BitReader<'_>, before: &Persist, profile: u8) -> Result<Header, Rule>
     ensures reads { Reads (coded_frame before.now profile) bits.old result bits.new }
     ensures few { IfOk result (λ header. AreFewTiles header.params.tiles) }
+    ensures size { SlotsHaveSizes before.now → IfOk result (λ header. IsFrameSize header.size) }
 {
     let start = read_frame_start(bits)?;
     let fields = read_frame_fields(bits, before, profile, start)?;
@@ -272,6 +279,7 @@ fn read_coded_frame(bits: &mut BitReader<'_>, before: &Persist, profile: u8) -> 
 fn read_uncompressed(bits: &mut BitReader<'_>, before: &Persist) -> Result<Uncompressed, Rule>
     ensures reads { Reads (uncompressed_header before.now) bits.old result bits.new }
     ensures few { IfOk result HasFewTiles }
+    ensures size { SlotsHaveSizes before.now → IfOk result HasSize }
 {
     let profile = read_frame_profile(bits)?;
     if bits.flag(FieldName::ShowExistingFrame)? {
@@ -290,6 +298,8 @@ fn read_uncompressed(bits: &mut BitReader<'_>, before: &Persist) -> Result<Uncom
 pub fn read(frame: &[u8], before: &Persist) -> Result<FrameHead, Rule>
     ensures exact { result ≡ head_of before.now frame.now }
     ensures few { IfOk result HeadHasFewTiles }
+    // A frame may have the size of a slot, so its size is one that a frame can have where the slots' are.
+    ensures sizes { SlotsHaveSizes before.now → IfOk result HeadHasSize }
     ensures placed { IfOk result (LiesIn (length frame.now)) }
 {
     let mut bits = BitReader::new(frame);

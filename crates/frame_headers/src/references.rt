@@ -1,6 +1,8 @@
-ghost use Rattle.std.specs.Prelude.{◌≡◌};
+ghost use Rattle.std.specs.Prelude.{◌≡◌, IfOk};
 ghost use Rattle.frame_headers.specs.Fields.{Reads};
-ghost use Rattle.frame_headers.specs.References.{same_bit, slot_shape, filter_of, reference, references, found_size, interpolation_filter, inter_fields};
+ghost use Rattle.frame_headers.specs.References.{same_bit, slot_shape, filter_of, reference, references, found_size, interpolation_filter, inter_fields, HaveFrameSizes};
+ghost use Rattle.frame_headers.specs.Sizes.{IsFrameSize, HasFrameSize};
+ghost use Rattle.frame_headers.specs.State.{SlotsHaveSizes};
 
 use crate::bits::BitReader;
 use crate::color::ColorConfig;
@@ -20,7 +22,8 @@ pub fn read_slot(
     before: &Persist,
     missing: Rule,
 ) -> Result<(u8, Shape), Rule>
-    ensures { Reads (slot_shape name before.now missing) bits.old result bits.new }
+    ensures reads { Reads (slot_shape name before.now missing) bits.old result bits.new }
+    ensures size { SlotsHaveSizes before.now → IfOk result (λ held. HasFrameSize held.1) }
 {
     let slot = bits.byte(name, 3)?;
     match before.slots[usize::from(slot)] {
@@ -35,7 +38,8 @@ fn read_reference(
     before: &Persist,
     error_resilient: bool,
 ) -> Result<Reference, Rule>
-    ensures { Reads (reference before.now error_resilient) bits.old result bits.new }
+    ensures reads { Reads (reference before.now error_resilient) bits.old result bits.new }
+    ensures size { SlotsHaveSizes before.now → IfOk result (λ reference. HasFrameSize reference.shape) }
 {
     let (slot, shape) = read_slot(bits, FieldName::RefFrameIdx, before, Rule::RefMissing)?;
     let bias = bits.flag(FieldName::RefFrameSignBias)?;
@@ -52,7 +56,8 @@ fn read_references(
     before: &Persist,
     error_resilient: bool,
 ) -> Result<References, Rule>
-    ensures { Reads (references before.now error_resilient) bits.old result bits.new }
+    ensures reads { Reads (references before.now error_resilient) bits.old result bits.new }
+    ensures sizes { SlotsHaveSizes before.now → IfOk result HaveFrameSizes }
 {
     let last = read_reference(bits, before, error_resilient)?;
     let golden = read_reference(bits, before, error_resilient)?;
@@ -105,7 +110,8 @@ impl Reference {
 /// The size of the first reference that is found to have the frame's, or a size of its own (6.2.5 of the standard).
 #[tactic(auto, unfolding(crate::specs::References::found_size), using(vp9_types::proofs::Runs::run_bind))]
 fn read_found_size(bits: &mut BitReader<'_>, references: &References) -> Result<FrameSize, Rule>
-    ensures { Reads (found_size references.now) bits.old result bits.new }
+    ensures reads { Reads (found_size references.now) bits.old result bits.new }
+    ensures size { HaveFrameSizes references.now → IfOk result IsFrameSize }
 {
     if bits.flag(FieldName::FoundRef)? {
         return Ok(references.last.size());
@@ -171,7 +177,8 @@ pub fn read_inter_fields(
     error_resilient: bool,
     reset_context: u8,
 ) -> Result<FrameFields, Rule>
-    ensures { Reads (inter_fields before.now error_resilient reset_context) bits.old result bits.new }
+    ensures reads { Reads (inter_fields before.now error_resilient reset_context) bits.old result bits.new }
+    ensures size { SlotsHaveSizes before.now → IfOk result (λ fields. IsFrameSize fields.size) }
 {
     let refresh = bits.byte(FieldName::RefreshFrameFlags, 8)?;
     let references = read_references(bits, before, error_resilient)?;

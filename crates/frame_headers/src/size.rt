@@ -1,6 +1,6 @@
-ghost use Rattle.std.specs.Prelude.{◌≡◌};
+ghost use Rattle.std.specs.Prelude.{◌≡◌, IfOk};
 ghost use Rattle.frame_headers.specs.Fields.{Reads};
-ghost use Rattle.frame_headers.specs.Sizes.{frame_size, render_size};
+ghost use Rattle.frame_headers.specs.Sizes.{frame_size, render_size, IsFrameSize};
 
 use crate::bits::BitReader;
 use crate::field::FieldName;
@@ -10,7 +10,8 @@ use vp9_types::Rule;
 /// Reads `frame_size` (6.2.3 of the standard).
 #[tactic(auto, unfolding(crate::specs::Sizes::frame_size), using(vp9_types::proofs::Runs::run_bind))]
 pub fn read_frame_size(bits: &mut BitReader<'_>) -> Result<FrameSize, Rule>
-    ensures { Reads frame_size bits.old result bits.new }
+    ensures reads { Reads frame_size bits.old result bits.new }
+    ensures size { IfOk result IsFrameSize }
 {
     let width = u32::from(bits.field(FieldName::FrameWidthMinus1, 16)?) + 1;
     let height = u32::from(bits.field(FieldName::FrameHeightMinus1, 16)?) + 1;
