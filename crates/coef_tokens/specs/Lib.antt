@@ -1,0 +1,5 @@
+pub mod Symbols
+pub mod Steps
+pub mod Places
+pub mod Blocks
+pub mod Flags

@@ -1,0 +1,65 @@
+//! The rows of flags above and on the left that say where coefficients are, one flag for each four samples of a plane.
+//! A row ends where the frame does.
+
+ghost use Rattle.std.specs.Prelude.{◌≡◌, ◌+◌, ◌≤◌, take, drop, length};
+ghost use Rattle.std.specs.List.{list_any};
+ghost use Rattle.coef_tokens.specs.Flags.{flags_of, any_set, sides_set, marked};
+
+use vp9_types::TxSize;
+
+#[inline(always)]
+fn span_of(size: TxSize) -> usize
+    ensures value { result ≡ flags_of size }
+    ensures most { result ≤ 8 }
+{
+    match size {
+        TxSize::T4x4 => 1,
+        TxSize::T8x8 => 2,
+        TxSize::T16x16 => 4,
+        TxSize::T32x32 => 8,
+    }
+}
+
+#[inline(always)]
+fn is_any(flags: &[bool]) -> bool
+    ensures { result ≡ list_any (λ b. b) flags.now }
+{
+    flags.contains(&true)
+}
+
+#[inline(always)]
+#[tactic(auto, using(crate::proofs::Spans::span))]
+fn is_any_set(flags: &[bool], from: usize, n: usize) -> bool
+    requires from { from ≤ length flags.now }
+    requires few { n ≤ 64 }
+    ensures { result ≡ any_set flags.now from n }
+{
+    let end = flags.len().min(from + n);
+    is_any(&flags[from..end])
+}
+
+/// The context of a block's first place: how many of the sides above and on the left have a coefficient. `x` and `y` are
+/// the block's places in the rows.
+#[inline(always)]
+pub fn first_context(above: &[bool], x: usize, left: &[bool], y: usize, size: TxSize) -> u8
+    requires column { x ≤ length above.now }
+    requires row { y ≤ length left.now }
+    ensures value { result ≡ sides_set above.now x left.now y size }
+    ensures most { result ≤ 2 }
+{
+    let n = span_of(size);
+    u8::from(is_any_set(above, x, n)) + u8::from(is_any_set(left, y, n))
+}
+
+/// Says of `n` flags from a place on whether there are coefficients: those of a transform block after its tokens were
+/// read, or of a skipped block, which has none.
+#[inline(always)]
+#[tactic(auto, unfolding(crate::specs::Flags::marked))]
+pub fn mark(flags: &mut [bool], from: usize, n: usize, value: bool)
+    requires from { from ≤ length flags.old }
+    requires few { n ≤ 64 }
+    ensures { flags.new ≡ marked flags.old from n value }
+{
+    let end = flags.len().min(from + n);
+    flags[from..end].fill(value);
+}

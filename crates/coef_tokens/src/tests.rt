@@ -1,0 +1,74 @@
+mod rows;
+
+ghost use Rattle.std.specs.Prelude.{◌≡◌, ◌≤◌, ◌<◌, ◌^◌, [], length};
+ghost use Rattle.prob_contexts.specs.Counted.{number_counted};
+ghost use Rattle.vp9_tables.specs.Scans.{area};
+ghost use Rattle.coef_tokens.specs.Places.{HoldsLevels};
+
+use crate::{TokenAt, first_context, mark, tokens};
+use bool_decoder::BoolDecoder;
+use prob_contexts::{Contexts, Counts, ProbKind, default_contexts};
+use rows::ROWS;
+use vp9_types::{Rule, TxSize};
+
+/// A block, its bytes, how many places of its scan are coded, and its levels that aren't 0, by position.
+pub struct Row {
+    pub at: TokenAt,
+    pub bytes: &'static [u8],
+    pub count: u32,
+    pub levels: &'static [(u16, i32)],
+}
+
+fn are_those(levels: &[i32], expected: &[(u16, i32)]) -> bool {
+    let mut left = expected;
+    for position in 0..levels.len() {
+        let mut level = 0;
+        if let Some((first, rest)) = left.split_first() {
+            if first.0 as usize == position {
+                level = first.1;
+                left = rest;
+            }
+        }
+        if levels[position] != level {
+            return false;
+        }
+    }
+    left.is_empty()
+}
+
+fn reads(contexts: &Contexts, row: &Row, levels: &mut [i32]) -> Result<bool, Rule>
+    requires size { length levels.old ≡ area row.now.at.tx }
+    requires clear { HoldsLevels levels.old [] }
+{
+    let mut decoder = BoolDecoder::start(row.bytes)?;
+    let mut counts = Counts::new();
+    if row.at.first > 2 {
+        return Ok(false);
+    }
+    let count = tokens(&mut decoder, contexts, &mut counts, row.at, levels);
+    Ok(count == row.count && are_those(levels, row.levels))
+}
+
+#[test]
+fn blocks_of_all_kinds(rt: HostRuntime) -> Result<(), Rule> {
+    let contexts = default_contexts();
+    for row in &ROWS {
+        let agrees = match row.at.tx {
+            TxSize::T4x4 => reads(&contexts, row, &mut [0; 16])?,
+            TxSize::T8x8 => reads(&contexts, row, &mut [0; 64])?,
+            TxSize::T16x16 => reads(&contexts, row, &mut [0; 256])?,
+            TxSize::T32x32 => reads(&contexts, row, &mut [0; 1024])?,
+        };
+        assert!(rt; agrees);
+    }
+    Ok(())
+}
+
+#[test]
+fn sides(rt: HostRuntime) {
+    let mut above = [false; 5];
+    mark(&mut above, 3, 8, true);
+    assert_eq!(rt; first_context(&above, 2, &[false], 0, TxSize::T8x8), 1);
+    assert_eq!(rt; first_context(&above, 1, &[true], 0, TxSize::T8x8), 1);
+    assert_eq!(rt; first_context(&above, 4, &[true], 0, TxSize::T32x32), 2);
+}
