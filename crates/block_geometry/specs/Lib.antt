@@ -1,3 +1,4 @@
 pub mod Sizes
 pub mod Partitions
+pub mod Parts
 pub mod TransformBlocks
