@@ -1,0 +1,139 @@
+-- Counts stand for lists of bools.
+use Rattle.std.proofs.Common.{◌≡◌, ◌<◌, ◌≤◌, ◌+◌, ◌*◌, ◌/◌, ◌%◌, ◌&&◌, ◌||◌, not, inl, inr, ℕ, true, false, refl, sym, ◌∙◌, ap, arith, List, [], ◌∷◌, ◌++◌, length, get_or, take, set, cond, Bool}
+use Rattle.std.specs.Prelude.{nat_lt, nat_le, nat_eq, sum, count_by, slice_index}
+use Rattle.std.specs.List.{sum_by, AllByRecursion}
+use Rattle.std.proofs.lemmas.Bool.{cases_Bool, cases_order, and_parts, agree_below_at, eqb-true, eq-eqb, leb-true, lt-ltb}
+use Rattle.std.proofs.lemmas.List.{length_push, get_or-set_same, get_or-set_other, length-set, length-replicate, get_or-replicate, append_assoc, append-nil}
+use Rattle.std.proofs.lemmas.List.Sums.{sum_by-set, sum_by_push, sum_by_from}
+use Rattle.prob_contexts.specs.declared.kind.CountedBool.{CountedBool}
+use Rattle.prob_contexts.specs.declared.kind.ProbKind.{ProbKind}
+use Rattle.prob_contexts.specs.declared.kind.ProbKind.TheVariants as kind
+use Rattle.prob_contexts.specs.Kinds.{kind_number, kind_sizes, kind_start}
+use Rattle.prob_contexts.specs.Counted.{StandFor, IsCounted, no_counts, with_bool, counts_after, counter_place, counter_of, bool_number, is_same}
+
+number_low : (k : ProbKind) → kind_number k < 23
+number_low kind.Tx8x8 = omega arith
+number_low kind.Tx16x16 = omega arith
+number_low kind.Tx32x32 = omega arith
+number_low kind.Coef = omega arith
+number_low kind.Skip = omega arith
+number_low kind.InterMode = omega arith
+number_low kind.Filter = omega arith
+number_low kind.IsInter = omega arith
+number_low kind.CompoundFlag = omega arith
+number_low kind.SingleReference = omega arith
+number_low kind.CompoundReference = omega arith
+number_low kind.YMode = omega arith
+number_low kind.UvMode = omega arith
+number_low kind.Partition = omega arith
+number_low kind.VectorJoint = omega arith
+number_low kind.VectorSign = omega arith
+number_low kind.VectorClass = omega arith
+number_low kind.VectorClass0 = omega arith
+number_low kind.VectorBit = omega arith
+number_low kind.VectorClass0Fraction = omega arith
+number_low kind.VectorFraction = omega arith
+number_low kind.VectorClass0High = omega arith
+number_low kind.VectorHigh = omega arith
+
+abbrev start_of : ℕ → ℕ
+start_of n = sum (take n kind_sizes)
+
+-- a list ends where the next one starts, or before
+apart : ℕ → ℕ → Bool
+apart a b = not (nat_lt a b) || nat_le (sum (take a kind_sizes) + slice_index kind_sizes a) (sum (take b kind_sizes))
+
+all_apart : (a b : ℕ) → a < 23 → b < 23 → apart a b ≡ true
+unfolding apart
+all_apart a b la lb =
+    let row : 23 * a + b < 529 = omega arith in
+    let up : (23 * a + b) / 23 ≡ a = omega arith in
+    let low : (23 * a + b) % 23 ≡ b = omega arith in
+    rw (up, low) at (agree_below_at (λ n. apart (n / 23) (n % 23)) (λ _. true) 529 (23 * a + b) refl row)
+
+apart_le : (a b : ℕ) → a < b → b < 23 → start_of a + slice_index kind_sizes a ≤ start_of b
+unfolding apart
+apart_le a b lt low =
+    leb-true (start_of a + slice_index kind_sizes a) (start_of b) (rw (lt-ltb a b lt) at (all_apart a b (omega arith) low))
+
+-- the lists of two kinds don't meet
+same_kind : (a b p q : ℕ) → a < 23 → b < 23 → p < slice_index kind_sizes a → q < slice_index kind_sizes b
+    → start_of a + p ≡ start_of b + q → a ≡ b
+same_kind a b p q la lb lp lq e = elim (cases_order a b) [
+  | inl same ↦ same
+  | inr other ↦ elim other [
+    | inl less ↦ let gap = apart_le a b less lb in omega arith
+    | inr more ↦ let gap = apart_le b a more la in omega arith
+  ]
+]
+
+-- a counter's place says which bool it counts
+same_bool : (a b : CountedBool) → IsCounted a → IsCounted b → counter_place a ≡ counter_place b → is_same a b ≡ true
+same_bool a b la lb e =
+    let low = bool_low a.one in
+    let low' = bool_low b.one in
+    let bools : bool_number a.one ≡ bool_number b.one = omega arith in
+    let nodes : kind_start a.kind + a.place ≡ kind_start b.kind + b.place = omega arith in
+    let kinds = same_kind (kind_number a.kind) (kind_number b.kind) a.place b.place (number_low a.kind) (number_low b.kind) la lb nodes in
+    let starts : kind_start a.kind ≡ kind_start b.kind = ap start_of kinds in
+    let places : a.place ≡ b.place = omega arith in
+    rw (eq-eqb (kind_number a.kind) (kind_number b.kind) kinds, eq-eqb a.place b.place places, eq-eqb (bool_number a.one) (bool_number b.one) bools) refl
+  where
+    bool_low : (b : Bool) → bool_number b < 2
+    bool_low true = omega arith
+    bool_low false = omega arith
+
+same_place : (a b : CountedBool) → is_same a b ≡ true → counter_place a ≡ counter_place b
+same_place a b t =
+    let one = and_parts (nat_eq (kind_number a.kind) (kind_number b.kind)) (nat_eq a.place b.place && nat_eq (bool_number a.one) (bool_number b.one)) t in
+    let two = and_parts (nat_eq a.place b.place) (nat_eq (bool_number a.one) (bool_number b.one)) one.1 in
+    let kinds : kind_number a.kind ≡ kind_number b.kind = eqb-true _ _ one.0 in
+    let starts : kind_start a.kind ≡ kind_start b.kind = ap start_of kinds in
+    let places : a.place ≡ b.place = eqb-true _ _ two.0 in
+    let bools : bool_number a.one ≡ bool_number b.one = eqb-true _ _ two.1 in
+    rw (starts, places, bools) refl
+
+place_low : (b : CountedBool) → IsCounted b → counter_place b < 3790
+place_low b lb = let last = last_low (kind_number b.kind) (number_low b.kind) in let one = bool_low b.one in omega arith
+  where
+    bool_low : (b : Bool) → bool_number b < 2
+    bool_low true = omega arith
+    bool_low false = omega arith
+
+    last_low : (n : ℕ) → n < 23 → start_of n + slice_index kind_sizes n ≤ 1895
+    last_low n low = leb-true (start_of n + slice_index kind_sizes n) 1895 (agree_below_at (λ n. nat_le (start_of n + slice_index kind_sizes n) 1895) (λ _. true) 23 n refl low)
+
+count_push : (p : CountedBool → Bool) (xs : List CountedBool) (x : CountedBool) → count_by p (xs ++ x ∷ []) ≡ count_by p xs + cond (p x) 1 0
+count_push p xs x = sum_by_push (λ x. cond (p x) 1 0) xs x
+
+pub none_stand : StandFor no_counts []
+none_stand = record { size = length-replicate {A = ℕ} 3790 0; each = λ b lb. let low = place_low b lb in rw get_or-replicate refl; all = refl }
+
+total_more : (xs : List ℕ) (i : ℕ) → i < length xs → sum (set xs i (get_or xs i 0 + 1)) ≡ sum xs + 1
+total_more xs i low =
+    let as_before : sum xs ≡ sum_by (λ x. x) xs = sum_by_from (λ x. x) 0 xs ∙ omega arith in
+    let as_after : sum (set xs i (get_or xs i 0 + 1)) ≡ sum_by (λ x. x) (set xs i (get_or xs i 0 + 1)) = sum_by_from (λ x. x) 0 (set xs i (get_or xs i 0 + 1)) ∙ omega arith in
+    let step = sum_by-set (λ x. x) xs i (get_or xs i 0 + 1) 0 low in
+    omega arith
+
+pub one_more : (counts : List ℕ) (bools : List CountedBool) (b : CountedBool) → StandFor counts bools → IsCounted b → StandFor (with_bool counts b) (bools ++ b ∷ [])
+unfolding with_bool
+one_more counts bools b s lb =
+    let low : counter_place b < length counts = rw s.size (place_low b lb) in
+    record {
+      size = length-set _ _ _ ∙ s.size;
+      each = λ a la. rw (count_push (is_same a) bools b, sym (s.each a la)) (elim (cases_Bool (is_same a b)) [
+        | inl same ↦ rw (same, same_place a b same) (get_or-set_same counts (counter_place b) (counter_of counts b + 1) 0 low)
+        | inr other ↦ rw other (get_or-set_other counts (counter_place b) (counter_place a) (counter_of counts b + 1) 0 (λ e. absurd (cc' a b la lb e other)) ∙ omega arith)
+      ]);
+      all = total_more counts (counter_place b) low ∙ (rw s.all (sym (length_push bools b)));
+    }
+  where
+    cc' : (a b : CountedBool) → IsCounted a → IsCounted b → counter_place a ≡ counter_place b → is_same a b ≡ false → ⊥
+    cc' a b la lb e other = let yes = same_bool a b la lb e in cc
+
+pub all_more : (counts : List ℕ) (bools more : List CountedBool) → StandFor counts bools → AllByRecursion IsCounted more → StandFor (counts_after counts more) (bools ++ more)
+unfolding counts_after
+all_more counts bools [] s all = rw append-nil s
+all_more counts bools (b ∷ more) s all =
+    rw append_assoc at (all_more (with_bool counts b) (bools ++ b ∷ []) more (one_more counts bools b s all.0) all.1)

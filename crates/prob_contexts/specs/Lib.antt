@@ -1,0 +1,4 @@
+pub mod Lists
+pub mod Kinds
+pub mod Counted
+pub mod Defaults

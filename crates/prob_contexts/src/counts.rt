@@ -1,0 +1,64 @@
+ghost use Rattle.std.specs.Prelude.{◌≡◌, ◌+◌, ◌*◌, ◌<◌, ◌≤◌, ◌^◌, ℕ, List, length};
+
+use crate::kind::ProbKind;
+use std::marker::Model;
+
+/// How often each node of the probabilities was left by a 0 and by a 1.
+#[derive(Drop)]
+pub struct Counts {
+    counters: [u64; 3790],
+}
+
+impl Model for Counts {
+    ghost use Rattle.std.specs.Prelude.{List, ℕ};
+
+    ghost Value = { List ℕ };
+
+    ghost view = { λ c. c.counters };
+}
+
+impl Counts {
+    ghost use Rattle.prob_contexts.specs.Counted.{no_counts, with_bool, counter_of, number_counted};
+    ghost use Rattle.prob_contexts.specs.Kinds.{kind_size};
+
+    /// Nothing is counted.
+    pub fn new() -> Self
+        ensures { result ≡ no_counts }
+    {
+        Counts {
+            counters: [0; 3790],
+        }
+    }
+
+    /// Counts a bool that left the node at a place of its kind.
+    #[inline(always)]
+    pub fn count(&mut self, kind: ProbKind, place: u16, one: bool)
+        requires place { place < kind_size kind }
+        requires few { number_counted self.old < 2 ^ 63 }
+        ensures counted { self.new ≡ with_bool self.old (record { kind = kind; place = place; one = one }) }
+        ensures total { number_counted self.new ≡ number_counted self.old + 1 }
+    {
+        let at = counter_at(kind, place, one);
+        self.counters[at] += 1;
+    }
+
+    /// How often the node at a place of its kind was left by a 0 or by a 1.
+    pub fn counter(&self, kind: ProbKind, place: u16, one: bool) -> u64
+        requires { place < kind_size kind }
+        ensures { result ≡ counter_of self.now (record { kind = kind; place = place; one = one }) }
+    {
+        self.counters[counter_at(kind, place, one)]
+    }
+}
+
+ghost use Rattle.prob_contexts.specs.Counted.{counter_place};
+ghost use Rattle.prob_contexts.specs.Kinds.{kind_size};
+
+#[inline(always)]
+fn counter_at(kind: ProbKind, place: u16, one: bool) -> usize
+    requires { place < kind_size kind }
+    ensures value { result ≡ counter_place (record { kind = kind; place = place; one = one }) }
+    ensures within { result < 3790 }
+{
+    2 * (kind.start() + place as usize) + usize::from(one)
+}

@@ -1,0 +1,21 @@
+use crate::{Counts, ProbKind, default_contexts};
+use vp9_types::TxSize;
+
+#[test]
+fn starts_with_the_tables(rt: HostRuntime) {
+    let contexts = default_contexts();
+    let skip = contexts.skip[0];
+    let coef = contexts.coef.of(TxSize::T4x4)[0];
+    let uv_mode = contexts.uv_modes[89];
+    assert_eq!(rt; skip, 192);
+    assert_eq!(rt; coef, 195);
+    assert_eq!(rt; uv_mode, 125);
+}
+
+#[test]
+fn counts_a_bool(rt: HostRuntime) {
+    let mut counts = Counts::new();
+    counts.count(ProbKind::Skip, 2, true);
+    assert_eq!(rt; counts.counter(ProbKind::Skip, 2, true), 1);
+    assert_eq!(rt; counts.counter(ProbKind::Skip, 2, false), 0);
+}
