@@ -1,5 +1,5 @@
 -- The last listed block that covers a place, when a block is added.
-use Rattle.std.proofs.Common.{◌≡◌, ℕ, zero, suc, ◌+◌, ◌-◌, ◌*◌, ◌<◌, ◌≤◌, ◌&&◌, ◌++◌, ◌∷◌, [], ◌∙◌, Bool, true, false, List, length, refl, sym, ap, arith, Option, Some, None, nat_lt, slice_get, if◌then◌else◌}
+use Rattle.std.proofs.Common.{◌≡◌, ℕ, zero, suc, ◌+◌, ◌<◌, ◌≤◌, ◌++◌, ◌∷◌, [], ◌∙◌, List, length, refl, sym, ap, arith, Option, Some, None, slice_get, if◌then◌else◌}
 use Rattle.block_plan.specs.Blocks.{covers, covering, or_else}
 use Rattle.block_plan.specs.Grid.{numbered}
 use Rattle.block_plan.specs.declared.block.BlockInfo.{BlockInfo}

@@ -1,6 +1,5 @@
 -- The numbers of blocks by place, when the places of a block are numbered.
-use Rattle.std.proofs.Common.{◌≡◌, ℕ, ◌+◌, ◌-◌, ◌*◌, ◌<◌, ◌≤◌, ◌&&◌, ◌++◌, ◌∷◌, [], ◌∙◌, Bool, true, false, List, length, get_or, min, inl, inr, refl, sym, ap, arith, Option, Some, None, nat_le, nat_lt, mul-le-mul_right, if◌then◌else◌, replicate, take, drop, subst, length-append}
-use Rattle.std.proofs.lemmas.Bool.{cases_Bool, cases_lt}
+use Rattle.std.proofs.Common.{◌≡◌, ℕ, ◌+◌, ◌-◌, ◌*◌, ◌<◌, ◌≤◌, ◌&&◌, ◌++◌, ◌∷◌, [], ◌∙◌, Bool, true, false, List, length, get_or, min, refl, sym, ap, arith, mul-le-mul_right, if◌then◌else◌, replicate, take, drop, subst, length-append}
 use Rattle.std.proofs.lemmas.Bool.Decides.{nat_tests}
 use Rattle.std.proofs.lemmas.List.{get_or_default, length-replicate, get_or-replicate}
 use Rattle.std.proofs.Math.Seq.{take-append_seam}

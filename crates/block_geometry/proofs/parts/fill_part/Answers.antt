@@ -1,4 +1,4 @@
-use Rattle.std.proofs.Common.{◌≡◌, ◌+◌, ◌*◌, ◌∙◌, ◌&&◌, ap, if◌then◌else◌, get_or, Bool}
+use Rattle.std.proofs.Common.{◌+◌, ◌*◌, ◌∙◌, get_or}
 use Rattle.vp9_types.specs.Maps.{is_within}
 use Rattle.block_geometry.proofs.Rows.{run_of_row, row_more}
 use Rattle.block_geometry.proofs.parts.fill_part.Goals as goal

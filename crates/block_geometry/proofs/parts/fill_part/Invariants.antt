@@ -1,4 +1,4 @@
-use Rattle.std.proofs.Common.{◌≡◌, ℕ, ◌+◌, ◌*◌, ◌<◌, ◌-◌, ◌&&◌, slice_index_or, if◌then◌else◌}
+use Rattle.std.proofs.Common.{◌≡◌, ℕ, ◌+◌, ◌*◌, ◌<◌, ◌&&◌, slice_index_or, if◌then◌else◌}
 use Rattle.vp9_types.specs.Maps.{is_within}
 use Rattle.block_geometry.proofs.parts.fill_part.Given as goal
 

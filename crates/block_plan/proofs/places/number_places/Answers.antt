@@ -1,4 +1,4 @@
-use Rattle.std.proofs.Common.{◌≡◌, subst}
+use Rattle.std.proofs.Common.{subst}
 use Rattle.block_geometry.specs.declared.parts.Part.{Part}
 use Rattle.block_plan.proofs.Numbers.{IsFilled, agrees_after, below_after}
 use Rattle.block_plan.proofs.places.number_places.Goals as goal

@@ -1,4 +1,4 @@
-use Rattle.std.proofs.Common.{◌≡◌, ◌∙◌, ◌+◌, ◌*◌, ◌<◌, ◌≤◌, ap, length, arith}
+use Rattle.std.proofs.Common.{◌∙◌, ◌+◌, ◌*◌, ◌<◌, ◌≤◌, ap, length, arith}
 use Rattle.std.specs.Prelude.{min}
 use Rattle.std.specs.List.{fold}
 use Rattle.vp9_types.specs.Maps.{rows_of}
