@@ -1,0 +1,4 @@
+pub mod Sizes
+pub mod Partitions
+pub mod Parts
+pub mod TransformBlocks

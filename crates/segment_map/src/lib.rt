@@ -1,0 +1,10 @@
+//! The map of segment ids, which persists from frame to frame.
+#![tactic(auto)]
+
+mod ids;
+mod map;
+
+pub use map::SegmentMap;
+
+#[cfg(test)]
+mod tests;
