@@ -1,0 +1,26 @@
+//! Intra prediction (8.5.1 of the standard): the samples of a block by its mode, from those above it and left of it.
+#![tactic(auto)]
+
+mod block;
+mod diagonal;
+mod edges;
+mod flat;
+mod laws;
+mod lines;
+mod place;
+mod prediction;
+mod put;
+mod reading;
+mod rows;
+mod sizes;
+mod steps;
+
+pub use block::IntraBlock;
+pub use edges::Edges;
+pub use laws::{edges_lie_around, samples_stay_in_range};
+pub use place::Place;
+pub use prediction::predict;
+pub use put::{add_residue, put_block};
+pub use reading::edges_at;
+pub use sizes::side_of;
+pub use steps::{put_predicted, put_rebuilt};

@@ -1,0 +1,158 @@
+//! Edges as a plane has them.
+
+ghost use Rattle.std.specs.Prelude.{◌≡◌, ℕ, ◌+◌, ◌*◌, ◌<◌, ◌≤◌, length, slice_index, if◌then◌else◌};
+ghost use Rattle.vp9_types.specs.Maps.{rows_of, IsAtMost};
+ghost use Rattle.intra_predict.specs.Sizes.{side, greatest};
+ghost use Rattle.intra_predict.specs.Edges.{samples_of, edges_in, above_sample, left_sample, corner_sample, reads_right, IsUpTo};
+
+use crate::edges::Edges;
+use crate::lines::{extend, fill_from};
+use crate::place::Place;
+use crate::sizes::middle_of;
+use vp9_types::{Depth, TxSize};
+
+/// The edges of a block in a plane of so many rows of `width` samples, the plane's size being a multiple of 8 luma
+/// samples (4 in subsampled chroma).
+pub fn edges_at(
+    samples: &[u16],
+    width: usize,
+    height: usize,
+    place: &Place,
+    size: TxSize,
+    depth: Depth,
+) -> Edges
+    requires whole { height * width ≤ length samples.now }
+    requires near { height ≤ 65536 }
+    requires narrow { width ≤ 65536 }
+    requires high { place.now.row < height }
+    requires wide { place.now.column < width }
+    ensures value { samples_of (side size) result ≡ edges_in width height depth (side size) place.now (rows_of width samples.now) }
+    ensures small { IsAtMost (greatest depth) (rows_of width samples.now) → IsUpTo (greatest depth) (samples_of (side size) result) }
+{
+    match size {
+        TxSize::T4x4 => edges_sized(samples, width, height, place, 4, depth),
+        TxSize::T8x8 => edges_sized(samples, width, height, place, 8, depth),
+        TxSize::T16x16 => edges_sized(samples, width, height, place, 16, depth),
+        TxSize::T32x32 => edges_sized(samples, width, height, place, 32, depth),
+    }
+}
+
+#[inline(always)]
+fn edges_sized(
+    samples: &[u16],
+    width: usize,
+    height: usize,
+    place: &Place,
+    size: usize,
+    depth: Depth,
+) -> Edges
+    requires some { 4 ≤ size }
+    requires few { size ≤ 32 }
+    requires whole { height * width ≤ length samples.now }
+    requires near { height ≤ 65536 }
+    requires narrow { width ≤ 65536 }
+    requires high { place.now.row < height }
+    requires wide { place.now.column < width }
+    ensures { samples_of size result ≡ edges_in width height depth size place.now (rows_of width samples.now) }
+{
+    let mut above = [0; 64];
+    let mut left = [0; 32];
+    read_above(&mut above, samples, width, height, place, size, depth);
+    read_left(&mut left, samples, width, height, place, size, depth);
+    Edges {
+        above,
+        left,
+        corner: read_corner(samples, width, height, place, depth),
+        has_above: place.row > 0,
+        has_left: place.column > place.tile_from,
+    }
+}
+
+#[inline(always)]
+fn read_above(
+    above: &mut [u16],
+    samples: &[u16],
+    width: usize,
+    height: usize,
+    place: &Place,
+    size: usize,
+    depth: Depth,
+)
+    requires some { 4 ≤ size }
+    requires few { size ≤ 32 }
+    requires room { 2 * size ≤ length above.old }
+    requires whole { height * width ≤ length samples.now }
+    requires near { height ≤ 65536 }
+    requires narrow { width ≤ 65536 }
+    requires high { place.now.row < height }
+    requires wide { place.now.column < width }
+    ensures { (j : ℕ) → j < 2 * size → slice_index above.new j ≡ above_sample width depth size place.now (rows_of width samples.now) j }
+{
+    if place.row == 0 {
+        fill_from(above, 0, 2 * size, middle_of(depth) - 1);
+        return;
+    }
+    let at = (place.row - 1) * width + place.column;
+    let count = wanted(place, size).min(width - place.column);
+    extend(above, 2 * size, &samples[at..at + count]);
+}
+
+/// How many samples of the row above a block are read, where the plane has them.
+#[inline(always)]
+fn wanted(place: &Place, size: usize) -> usize
+    requires { place.now.column ≤ 65536 }
+    ensures { result ≡ (if reads_right size place.now then 8 else size) }
+{
+    if size == 4 && place.column + 4 < place.block_end {
+        8
+    } else {
+        size
+    }
+}
+
+#[inline(always)]
+fn read_left(
+    left: &mut [u16],
+    samples: &[u16],
+    width: usize,
+    height: usize,
+    place: &Place,
+    size: usize,
+    depth: Depth,
+)
+    requires few { size ≤ 32 }
+    requires room { size ≤ length left.old }
+    requires whole { height * width ≤ length samples.now }
+    requires near { height ≤ 65536 }
+    requires narrow { width ≤ 65536 }
+    requires high { place.now.row < height }
+    requires wide { place.now.column < width }
+    ensures { (i : ℕ) → i < size → slice_index left.new i ≡ left_sample height depth place.now (rows_of width samples.now) i }
+{
+    if place.column <= place.tile_from {
+        fill_from(left, 0, size, middle_of(depth) + 1);
+        return;
+    }
+    for i in 0..size {
+        let row = (height - 1).min(place.row + i);
+        left[i] = samples[row * width + place.column - 1];
+    }
+}
+
+#[inline(always)]
+fn read_corner(samples: &[u16], width: usize, height: usize, place: &Place, depth: Depth) -> u16
+    requires whole { height * width ≤ length samples.now }
+    requires near { height ≤ 65536 }
+    requires narrow { width ≤ 65536 }
+    requires high { place.now.row < height }
+    requires wide { place.now.column < width }
+    ensures { result ≡ corner_sample depth place.now (rows_of width samples.now) }
+{
+    if place.row == 0 {
+        return middle_of(depth) - 1;
+    }
+    if place.column <= place.tile_from {
+        return middle_of(depth) + 1;
+    }
+    samples[(place.row - 1) * width + place.column - 1]
+}

@@ -1,0 +1,83 @@
+//! A block predicted from its plane and put into it.
+
+ghost use Rattle.std.specs.Prelude.{◌≡◌, ℕ, pos, ◌*◌, ◌^◌, ◌<◌, ◌≤◌, length, slice_index_or, unsigned_abs};
+ghost use Rattle.vp9_types.specs.Maps.{rows_of, IsAtMost};
+ghost use Rattle.intra_predict.specs.Sizes.{side, greatest};
+ghost use Rattle.intra_predict.specs.Steps.{with_predicted, with_rebuilt};
+
+use crate::block::IntraBlock;
+use crate::prediction::predict;
+use crate::put::{add_residue, put_block};
+use crate::reading::edges_at;
+use vp9_types::Depth;
+
+/// How many samples the greatest block has.
+const GREATEST_BLOCK: usize = 1024;
+
+/// Puts the prediction of a block without residue into its plane, which has so many rows of `width` samples.
+pub fn put_predicted(
+    samples: &mut [u16],
+    width: usize,
+    height: usize,
+    block: &IntraBlock,
+    depth: Depth,
+)
+    requires whole { height * width ≤ length samples.old }
+    requires near { height ≤ 65536 }
+    requires narrow { width ≤ 65536 }
+    requires high { block.now.place.row < height }
+    requires wide { block.now.place.column < width }
+    requires small { IsAtMost (greatest depth) (rows_of width samples.old) }
+    ensures map { rows_of width samples.new ≡ with_predicted width height depth block.now (rows_of width samples.old) }
+    ensures small { IsAtMost (greatest depth) (rows_of width samples.new) }
+{
+    let place = &block.place;
+    let mut predicted = [0; GREATEST_BLOCK];
+    let edges = edges_at(samples, width, height, place, block.size, depth);
+    predict(block.mode, &edges, block.size, depth, &mut predicted);
+    put_block(
+        samples,
+        width,
+        height,
+        place.row,
+        place.column,
+        block.size,
+        &predicted,
+    );
+}
+
+/// Puts a block with its residue, row after row, into its plane, which has so many rows of `width` samples.
+pub fn put_rebuilt(
+    samples: &mut [u16],
+    width: usize,
+    height: usize,
+    block: &IntraBlock,
+    depth: Depth,
+    residue: &[i32],
+)
+    requires whole { height * width ≤ length samples.old }
+    requires near { height ≤ 65536 }
+    requires narrow { width ≤ 65536 }
+    requires high { block.now.place.row < height }
+    requires wide { block.now.place.column < width }
+    requires small { IsAtMost (greatest depth) (rows_of width samples.old) }
+    requires residue { side block.now.size * side block.now.size ≤ length residue.now }
+    requires low { (k : ℕ) → k < side block.now.size * side block.now.size → unsigned_abs (slice_index_or residue.now k (pos 0)) < 2 ^ 24 }
+    ensures map { rows_of width samples.new ≡ with_rebuilt width height depth block.now residue.now (rows_of width samples.old) }
+    ensures small { IsAtMost (greatest depth) (rows_of width samples.new) }
+{
+    let place = &block.place;
+    let mut rebuilt = [0; GREATEST_BLOCK];
+    let edges = edges_at(samples, width, height, place, block.size, depth);
+    predict(block.mode, &edges, block.size, depth, &mut rebuilt);
+    add_residue(&mut rebuilt, residue, block.size, depth);
+    put_block(
+        samples,
+        width,
+        height,
+        place.row,
+        place.column,
+        block.size,
+        &rebuilt,
+    );
+}
