@@ -71,12 +71,27 @@ above_read width height size p depth xs count at some high below wide whole is h
     ∙ sample_is width xs (p.row - 1) (p.column + k) (at + k) (omega arith) (omega arith)
     ∙ ap (λ (n : ℕ). rows_of width xs (p.row - 1) n) column)
 
-pub left_read : (width height : ℕ) (p : Place) (depth : Depth) (xs : List ℕ) (i at : ℕ) → p.tile_from < p.column → p.column < width
-    → at ≡ min (height - 1) (p.row + i) * width + p.column - 1
-    → get_or xs at 0 ≡ left_sample height depth p (rows_of width xs) i
-left_read width height p depth xs i at past wide here =
-    rw (lt-ltb p.tile_from p.column past)
-    (sample_is width xs (min (height - 1) (p.row + i)) (p.column - 1) at (omega arith) (omega arith))
+pub column_fits : (width height row column k long : ℕ) → row + k < height → 0 < column → column < width → height * width ≤ long
+    → row * width + column - 1 + k * width < long
+column_fits width height row column k long high some wide whole = omega (arith, next width (row + k) height high)
+
+-- the sample k rows below the block's first
+left_at : (width height : ℕ) (p : Place) (depth : Depth) (xs : List ℕ) (i k : ℕ) → p.tile_from < p.column → p.column < width
+    → min (height - 1) (p.row + i) ≡ p.row + k
+    → get_or xs (p.row * width + p.column - 1 + k * width) 0 ≡ left_sample height depth p (rows_of width xs) i
+left_at width height p depth xs i k past wide here =
+    rw (lt-ltb p.tile_from p.column past, here)
+    (sample_is width xs (p.row + k) (p.column - 1) (p.row * width + p.column - 1 + k * width) (omega arith) (omega arith))
+
+pub left_inside : (width height : ℕ) (p : Place) (depth : Depth) (xs : List ℕ) (i : ℕ) → p.tile_from < p.column → p.column < width
+    → p.row + i < height
+    → get_or xs (p.row * width + p.column - 1 + i * width) 0 ≡ left_sample height depth p (rows_of width xs) i
+left_inside width height p depth xs i past wide high = left_at width height p depth xs i i past wide (omega arith)
+
+pub left_below : (width height : ℕ) (p : Place) (depth : Depth) (xs : List ℕ) (i : ℕ) → p.tile_from < p.column → p.column < width
+    → p.row < height → height ≤ p.row + i
+    → get_or xs (p.row * width + p.column - 1 + (height - p.row - 1) * width) 0 ≡ left_sample height depth p (rows_of width xs) i
+left_below width height p depth xs i past wide high below = left_at width height p depth xs i (height - p.row - 1) past wide (omega arith)
 
 pub corner_read : (width : ℕ) (p : Place) (depth : Depth) (xs : List ℕ) (at : ℕ) → 0 < p.row → p.tile_from < p.column → p.column < width
     → at ≡ (p.row - 1) * width + p.column - 1

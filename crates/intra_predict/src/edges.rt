@@ -11,3 +11,16 @@ pub struct Edges {
     pub has_above: bool,
     pub has_left: bool,
 }
+
+impl Edges {
+    /// Edges to be read into.
+    pub fn new() -> Self {
+        Edges {
+            above: [0; 64],
+            left: [0; 32],
+            corner: 0,
+            has_above: false,
+            has_left: false,
+        }
+    }
+}

@@ -21,6 +21,6 @@ pub use laws::{edges_lie_around, samples_stay_in_range};
 pub use place::Place;
 pub use prediction::predict;
 pub use put::{add_residue, put_block};
-pub use reading::edges_at;
+pub use reading::read_edges;
 pub use sizes::side_of;
 pub use steps::{put_predicted, put_rebuilt};

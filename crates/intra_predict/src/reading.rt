@@ -11,41 +11,27 @@ use crate::place::Place;
 use crate::sizes::middle_of;
 use vp9_types::{Depth, TxSize};
 
-/// The edges of a block in a plane of so many rows of `width` samples, the plane's size being a multiple of 8 luma
-/// samples (4 in subsampled chroma).
-pub fn edges_at(
-    samples: &[u16],
-    width: usize,
-    height: usize,
-    place: &Place,
-    size: TxSize,
-    depth: Depth,
-) -> Edges
+/// Reads the edges of a block in a plane of so many rows of `width` samples, the plane's size being a multiple of 8
+/// luma samples (4 in subsampled chroma).
+pub fn read_edges(edges: &mut Edges, samples: &[u16], width: usize, height: usize, place: &Place, size: TxSize, depth: Depth)
     requires whole { height * width ≤ length samples.now }
     requires near { height ≤ 65536 }
     requires narrow { width ≤ 65536 }
     requires high { place.now.row < height }
     requires wide { place.now.column < width }
-    ensures value { samples_of (side size) result ≡ edges_in width height depth (side size) place.now (rows_of width samples.now) }
-    ensures small { IsAtMost (greatest depth) (rows_of width samples.now) → IsUpTo (greatest depth) (samples_of (side size) result) }
+    ensures value { samples_of (side size) edges.new ≡ edges_in width height depth (side size) place.now (rows_of width samples.now) }
+    ensures small { IsAtMost (greatest depth) (rows_of width samples.now) → IsUpTo (greatest depth) (samples_of (side size) edges.new) }
 {
     match size {
-        TxSize::T4x4 => edges_sized(samples, width, height, place, 4, depth),
-        TxSize::T8x8 => edges_sized(samples, width, height, place, 8, depth),
-        TxSize::T16x16 => edges_sized(samples, width, height, place, 16, depth),
-        TxSize::T32x32 => edges_sized(samples, width, height, place, 32, depth),
+        TxSize::T4x4 => read_sized(edges, samples, width, height, place, 4, depth),
+        TxSize::T8x8 => read_sized(edges, samples, width, height, place, 8, depth),
+        TxSize::T16x16 => read_sized(edges, samples, width, height, place, 16, depth),
+        TxSize::T32x32 => read_sized(edges, samples, width, height, place, 32, depth),
     }
 }
 
 #[inline(always)]
-fn edges_sized(
-    samples: &[u16],
-    width: usize,
-    height: usize,
-    place: &Place,
-    size: usize,
-    depth: Depth,
-) -> Edges
+fn read_sized(edges: &mut Edges, samples: &[u16], width: usize, height: usize, place: &Place, size: usize, depth: Depth)
     requires some { 4 ≤ size }
     requires few { size ≤ 32 }
     requires whole { height * width ≤ length samples.now }
@@ -53,31 +39,17 @@ fn edges_sized(
     requires narrow { width ≤ 65536 }
     requires high { place.now.row < height }
     requires wide { place.now.column < width }
-    ensures { samples_of size result ≡ edges_in width height depth size place.now (rows_of width samples.now) }
+    ensures { samples_of size edges.new ≡ edges_in width height depth size place.now (rows_of width samples.now) }
 {
-    let mut above = [0; 64];
-    let mut left = [0; 32];
-    read_above(&mut above, samples, width, height, place, size, depth);
-    read_left(&mut left, samples, width, height, place, size, depth);
-    Edges {
-        above,
-        left,
-        corner: read_corner(samples, width, height, place, depth),
-        has_above: place.row > 0,
-        has_left: place.column > place.tile_from,
-    }
+    read_above(&mut edges.above, samples, width, height, place, size, depth);
+    read_left(&mut edges.left, samples, width, height, place, size, depth);
+    edges.corner = read_corner(samples, width, height, place, depth);
+    edges.has_above = place.row > 0;
+    edges.has_left = place.column > place.tile_from;
 }
 
 #[inline(always)]
-fn read_above(
-    above: &mut [u16],
-    samples: &[u16],
-    width: usize,
-    height: usize,
-    place: &Place,
-    size: usize,
-    depth: Depth,
-)
+fn read_above(above: &mut [u16], samples: &[u16], width: usize, height: usize, place: &Place, size: usize, depth: Depth)
     requires some { 4 ≤ size }
     requires few { size ≤ 32 }
     requires room { 2 * size ≤ length above.old }
@@ -94,7 +66,12 @@ fn read_above(
     }
     let at = (place.row - 1) * width + place.column;
     let count = wanted(place, size).min(width - place.column);
-    extend(above, 2 * size, &samples[at..at + count]);
+    if count == size {
+        // The number of samples is then known where this is compiled.
+        extend(above, 2 * size, &samples[at..at + size]);
+    } else {
+        extend(above, 2 * size, &samples[at..at + count]);
+    }
 }
 
 /// How many samples of the row above a block are read, where the plane has them.
@@ -103,23 +80,11 @@ fn wanted(place: &Place, size: usize) -> usize
     requires { place.now.column ≤ 65536 }
     ensures { result ≡ (if reads_right size place.now then 8 else size) }
 {
-    if size == 4 && place.column + 4 < place.block_end {
-        8
-    } else {
-        size
-    }
+    if size == 4 && place.column + 4 < place.block_end { 8 } else { size }
 }
 
 #[inline(always)]
-fn read_left(
-    left: &mut [u16],
-    samples: &[u16],
-    width: usize,
-    height: usize,
-    place: &Place,
-    size: usize,
-    depth: Depth,
-)
+fn read_left(left: &mut [u16], samples: &[u16], width: usize, height: usize, place: &Place, size: usize, depth: Depth)
     requires few { size ≤ 32 }
     requires room { size ≤ length left.old }
     requires whole { height * width ≤ length samples.now }
@@ -133,9 +98,28 @@ fn read_left(
         fill_from(left, 0, size, middle_of(depth) + 1);
         return;
     }
-    for i in 0..size {
-        let row = (height - 1).min(place.row + i);
-        left[i] = samples[row * width + place.column - 1];
+    let at = place.row * width + place.column - 1;
+    let rows = height - place.row;
+    if size <= rows {
+        read_column(left, samples, at, width, size);
+    } else {
+        read_column(left, samples, at, width, rows);
+        let last = left[rows - 1];
+        fill_from(left, rows, size, last);
+    }
+}
+
+/// n samples, one below the other.
+#[inline(always)]
+fn read_column(left: &mut [u16], samples: &[u16], at: usize, width: usize, n: usize)
+    requires few { n ≤ 32 }
+    requires narrow { width ≤ 65536 }
+    requires room { n ≤ length left.old }
+    requires inside { (k : ℕ) → k < n → at + k * width < length samples.now }
+    ensures { (k : ℕ) → k < n → slice_index left.new k ≡ slice_index samples.now (at + k * width) }
+{
+    for k in 0..n {
+        left[k] = samples[at + k * width];
     }
 }
 

@@ -3,7 +3,7 @@ use Rattle.vp9_types.specs.Maps.{rows_of}
 use Rattle.intra_predict.specs.Sizes.{side}
 use Rattle.intra_predict.specs.Steps.{prediction, plus_residue}
 use Rattle.intra_predict.proofs.StepLemmas.{residue_held, residue_small, square_put, square_small}
-use Rattle.intra_predict.proofs.steps.put_rebuilt.Goals as goal
+use Rattle.intra_predict.proofs.steps.put_rebuilt_by.Goals as goal
 
 pub returns-clause-map : goal.returns-clause-map
 unfolding prediction
@@ -14,7 +14,7 @@ returns-clause-map c = let a = c.args in let b = a.block.now in
     ∙ square_put a.width a.height m b.place.row b.place.column (side b.size) c.add_residue.new.block
     (plus_residue a.depth (side b.size) f a.residue.now)
     (residue_held a.depth (side b.size) f c.predict.new.block c.add_residue.new.block a.residue.now
-    (rw c.edges_at-edges.ensures.value at c.predict.ensures.values) c.add_residue.ensures)
+    (rw c.read_edges.ensures.value at c.predict.ensures.values) c.add_residue.ensures)
 
 pub returns-clause-small : goal.returns-clause-small
 returns-clause-small c = λ y x. let a = c.args in let b = a.block.now in
