@@ -1,7 +1,7 @@
 #!/usr/bin/env bash
 # Times intra prediction of blocks and putting them into a plane of 1920x1080 samples: crates/bench_intra, proved and
-# built by LLVM, beside the same in C (gcc -O3). Both must print one checksum. The least of several runs counts, less
-# what no blocks take.
+# built by LLVM, beside the same in C (gcc -O3). Both must print one checksum. The least processor time of
+# several runs counts, less what no blocks take.
 set -eu
 cd "$(dirname "$0")/../.."
 samples=${1:-100000000}
@@ -14,15 +14,15 @@ gcc -O3 -o "$work/c" bench/intra/blocks.c
 cp crates/bench_intra/out/bench_intra "$work/rattle"
 
 python3 - "$work" "$samples" "$runs" <<'PY'
-import subprocess, sys, time
+import resource, subprocess, sys
 
 work, samples, runs = sys.argv[1], int(sys.argv[2]), int(sys.argv[3])
 
 
 def taken(program, line):
-    begin = time.perf_counter()
+    begin = resource.getrusage(resource.RUSAGE_CHILDREN).ru_utime
     answer = subprocess.run([f"{work}/{program}"], input=line, capture_output=True, text=True, check=True).stdout
-    return time.perf_counter() - begin, answer
+    return resource.getrusage(resource.RUSAGE_CHILDREN).ru_utime - begin, answer
 
 
 worst = 0

@@ -3,7 +3,7 @@
 ghost use Rattle.std.specs.Prelude.{◌≡◌, length};
 ghost use Rattle.vp9_types.specs.Maps.{rows_of, IsAtMost};
 
-use intra_predict::{IntraBlock, Place, put_predicted, side_of};
+use intra_predict::{IntraBlock, Place, Scratch, put_predicted, side_of};
 use std::alloc::{AllocError, Global};
 use vp9_types::{Depth, IntraMode, TxSize};
 
@@ -59,6 +59,7 @@ fn predict_blocks(samples: &mut [u16], mode: IntraMode, size: TxSize, count: u64
     requires small { IsAtMost 255 (rows_of WIDTH samples.old) }
 {
     let side = side_of(size);
+    let mut scratch = Scratch::new();
     let mut row = side;
     let mut column = 0;
     'predicting: for _ in 0..count {
@@ -69,7 +70,7 @@ fn predict_blocks(samples: &mut [u16], mode: IntraMode, size: TxSize, count: u64
             block_end: column + side,
         };
         let block = IntraBlock { place, size, mode };
-        put_predicted(samples, WIDTH, HEIGHT, &block, Depth::Eight);
+        put_predicted(samples, WIDTH, HEIGHT, &block, Depth::Eight, &mut scratch);
         column += side;
         if column >= WIDTH {
             column = 0;

@@ -12,6 +12,7 @@ mod prediction;
 mod put;
 mod reading;
 mod rows;
+mod scratch;
 mod sizes;
 mod steps;
 
@@ -22,5 +23,6 @@ pub use place::Place;
 pub use prediction::predict;
 pub use put::{add_residue, put_block};
 pub use reading::read_edges;
+pub use scratch::Scratch;
 pub use sizes::side_of;
 pub use steps::{put_predicted, put_rebuilt};

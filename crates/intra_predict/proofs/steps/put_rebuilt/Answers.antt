@@ -3,7 +3,7 @@ use Rattle.vp9_types.specs.Maps.{rows_of}
 use Rattle.intra_predict.specs.Sizes.{side}
 use Rattle.intra_predict.specs.Steps.{prediction, plus_residue}
 use Rattle.intra_predict.proofs.StepLemmas.{residue_held, residue_small, square_put, square_small}
-use Rattle.intra_predict.proofs.steps.put_rebuilt_by.Goals as goal
+use Rattle.intra_predict.proofs.steps.put_rebuilt.Goals as goal
 
 pub returns-clause-map : goal.returns-clause-map
 unfolding prediction

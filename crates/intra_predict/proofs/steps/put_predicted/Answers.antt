@@ -3,7 +3,7 @@ use Rattle.vp9_types.specs.Maps.{rows_of}
 use Rattle.intra_predict.specs.Sizes.{side}
 use Rattle.intra_predict.specs.Steps.{prediction}
 use Rattle.intra_predict.proofs.StepLemmas.{prediction_small, square_put, square_small}
-use Rattle.intra_predict.proofs.steps.put_predicted_by.Goals as goal
+use Rattle.intra_predict.proofs.steps.put_predicted.Goals as goal
 
 pub returns-clause-map : goal.returns-clause-map
 unfolding prediction
