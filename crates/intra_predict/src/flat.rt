@@ -4,7 +4,7 @@ ghost use Rattle.std.specs.Prelude.{◌≡◌, ℕ, ◌+◌, ◌-◌, ◌*◌, �
 ghost use Rattle.vp9_types.specs.Maps.{Holds};
 ghost use Rattle.intra_predict.specs.Modes.{vertical, horizontal, true_motion, rounded_mean};
 
-use crate::lines::fill_from;
+use crate::lines::{extend, fill_from};
 use crate::rows::rows_forward;
 
 /// One value at each place.
@@ -41,14 +41,8 @@ pub(crate) fn predict_h(block: &mut [u16], size: usize, left: &[u16])
 }
 
 #[inline(always)]
-pub(crate) fn predict_tm(
-    block: &mut [u16],
-    size: usize,
-    most: u16,
-    above: &[u16],
-    left: &[u16],
-    corner: u16,
-)
+pub(crate) fn predict_tm(block: &mut [u16], size: usize, most: u16, above: &[u16], left: &[u16], corner: u16)
+    requires some { 1 ≤ size }
     requires few { size ≤ 32 }
     requires room { size * size ≤ length block.old }
     requires above { size ≤ length above.now }
@@ -57,25 +51,20 @@ pub(crate) fn predict_tm(
     requires small_left { (k : ℕ) → slice_index left.now k ≤ 4095 }
     ensures { Holds block.new size (true_motion most above.now left.now corner) }
 {
+    // A copy, since what is read by reference might be what is written.
+    let mut line = [0; 32];
+    extend(&mut line, size, &above[..size]);
     for i in 0..size {
-        true_motion_row(block, i * size, size, most, above, left[i], corner);
+        true_motion_row(block, i * size, size, most, &line, left[i], corner);
     }
 }
 
 /// One row, which begins at place `at` of the block.
 #[inline(always)]
-fn true_motion_row(
-    block: &mut [u16],
-    at: usize,
-    size: usize,
-    most: u16,
-    above: &[u16],
-    left: u16,
-    corner: u16,
-)
+fn true_motion_row(block: &mut [u16], at: usize, size: usize, most: u16, above: &[u16], left: u16, corner: u16)
     requires room { at + size ≤ length block.old }
     requires above { size ≤ length above.now }
-    requires small_above { (k : ℕ) → slice_index above.now k ≤ 4095 }
+    requires small_above { (k : ℕ) → k < size → slice_index above.now k ≤ 4095 }
     requires small_left { left ≤ 4095 }
     ensures row { (j : ℕ) → j < size → slice_index block.new (at + j) ≡ min most (left + slice_index above.now j - corner) }
     ensures before { (k : ℕ) → k < at → slice_index block.new k ≡ slice_index block.old k }

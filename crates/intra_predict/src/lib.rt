@@ -2,12 +2,14 @@
 #![tactic(auto)]
 
 mod block;
+mod coded;
 mod diagonal;
 mod edges;
 mod flat;
 mod laws;
 mod lines;
 mod place;
+mod places;
 mod prediction;
 mod put;
 mod reading;
@@ -17,9 +19,11 @@ mod sizes;
 mod steps;
 
 pub use block::IntraBlock;
+pub use coded::CodedBlock;
 pub use edges::Edges;
 pub use laws::{edges_lie_around, samples_stay_in_range};
 pub use place::Place;
+pub use places::place_of;
 pub use prediction::predict;
 pub use put::{add_residue, put_block};
 pub use reading::read_edges;
