@@ -10,10 +10,11 @@ halved ss n = if ss then n / 2 else n
 -- y and x count the block's plane in 4s
 abbrev pub place_in : CodedBlock → ℕ → ℕ → Place
 place_in b y x = record {
-    row = halved b.ss_y (8 * b.row) + 4 * y;
-    column = halved b.ss_x (8 * b.column) + 4 * x;
-    tile_from = halved b.ss_x (8 * b.tile_column);
-    block_end = halved b.ss_x (8 * (b.column + b.columns)) }
+  row = halved b.ss_y (8 * b.row) + 4 * y;
+  column = halved b.ss_x (8 * b.column) + 4 * x;
+  tile_from = halved b.ss_x (8 * b.tile_column);
+  block_end = halved b.ss_x (8 * (b.column + b.columns));
+}
 
 -- above is there below the frame's first row, and inside of the block
 abbrev pub is_above_there : CodedBlock → ℕ → Bool

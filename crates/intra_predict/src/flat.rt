@@ -41,7 +41,14 @@ pub(crate) fn predict_h(block: &mut [u16], size: usize, left: &[u16])
 }
 
 #[inline(always)]
-pub(crate) fn predict_tm(block: &mut [u16], size: usize, most: u16, above: &[u16], left: &[u16], corner: u16)
+pub(crate) fn predict_tm(
+    block: &mut [u16],
+    size: usize,
+    most: u16,
+    above: &[u16],
+    left: &[u16],
+    corner: u16,
+)
     requires some { 1 ≤ size }
     requires few { size ≤ 32 }
     requires room { size * size ≤ length block.old }
@@ -61,7 +68,15 @@ pub(crate) fn predict_tm(block: &mut [u16], size: usize, most: u16, above: &[u16
 
 /// One row, which begins at place `at` of the block.
 #[inline(always)]
-fn true_motion_row(block: &mut [u16], at: usize, size: usize, most: u16, above: &[u16], left: u16, corner: u16)
+fn true_motion_row(
+    block: &mut [u16],
+    at: usize,
+    size: usize,
+    most: u16,
+    above: &[u16],
+    left: u16,
+    corner: u16,
+)
     requires room { at + size ≤ length block.old }
     requires above { size ≤ length above.now }
     requires small_above { (k : ℕ) → k < size → slice_index above.now k ≤ 4095 }

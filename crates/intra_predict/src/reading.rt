@@ -13,7 +13,15 @@ use vp9_types::{Depth, TxSize};
 
 /// Reads the edges of a block in a plane of so many rows of `width` samples, the plane's size being a multiple of 8
 /// luma samples (4 in subsampled chroma).
-pub fn read_edges(edges: &mut Edges, samples: &[u16], width: usize, height: usize, place: &Place, size: TxSize, depth: Depth)
+pub fn read_edges(
+    edges: &mut Edges,
+    samples: &[u16],
+    width: usize,
+    height: usize,
+    place: &Place,
+    size: TxSize,
+    depth: Depth,
+)
     requires whole { height * width ≤ length samples.now }
     requires near { height ≤ 65536 }
     requires narrow { width ≤ 65536 }
@@ -31,7 +39,15 @@ pub fn read_edges(edges: &mut Edges, samples: &[u16], width: usize, height: usiz
 }
 
 #[inline(always)]
-fn read_sized(edges: &mut Edges, samples: &[u16], width: usize, height: usize, place: &Place, size: usize, depth: Depth)
+fn read_sized(
+    edges: &mut Edges,
+    samples: &[u16],
+    width: usize,
+    height: usize,
+    place: &Place,
+    size: usize,
+    depth: Depth,
+)
     requires some { 4 ≤ size }
     requires few { size ≤ 32 }
     requires whole { height * width ≤ length samples.now }
@@ -49,7 +65,15 @@ fn read_sized(edges: &mut Edges, samples: &[u16], width: usize, height: usize, p
 }
 
 #[inline(always)]
-fn read_above(above: &mut [u16], samples: &[u16], width: usize, height: usize, place: &Place, size: usize, depth: Depth)
+fn read_above(
+    above: &mut [u16],
+    samples: &[u16],
+    width: usize,
+    height: usize,
+    place: &Place,
+    size: usize,
+    depth: Depth,
+)
     requires some { 4 ≤ size }
     requires few { size ≤ 32 }
     requires room { 2 * size ≤ length above.old }
@@ -80,11 +104,23 @@ fn wanted(place: &Place, size: usize) -> usize
     requires { place.now.column ≤ 65536 }
     ensures { result ≡ (if reads_right size place.now then 8 else size) }
 {
-    if size == 4 && place.column + 4 < place.block_end { 8 } else { size }
+    if size == 4 && place.column + 4 < place.block_end {
+        8
+    } else {
+        size
+    }
 }
 
 #[inline(always)]
-fn read_left(left: &mut [u16], samples: &[u16], width: usize, height: usize, place: &Place, size: usize, depth: Depth)
+fn read_left(
+    left: &mut [u16],
+    samples: &[u16],
+    width: usize,
+    height: usize,
+    place: &Place,
+    size: usize,
+    depth: Depth,
+)
     requires few { size ≤ 32 }
     requires room { size ≤ length left.old }
     requires whole { height * width ≤ length samples.now }

@@ -13,7 +13,14 @@ use crate::scratch::Scratch;
 use vp9_types::Depth;
 
 /// Puts the prediction of a block without residue into its plane, which has so many rows of `width` samples.
-pub fn put_predicted(samples: &mut [u16], width: usize, height: usize, block: &IntraBlock, depth: Depth, scratch: &mut Scratch)
+pub fn put_predicted(
+    samples: &mut [u16],
+    width: usize,
+    height: usize,
+    block: &IntraBlock,
+    depth: Depth,
+    scratch: &mut Scratch,
+)
     requires whole { height * width ≤ length samples.old }
     requires near { height ≤ 65536 }
     requires narrow { width ≤ 65536 }
@@ -24,13 +31,43 @@ pub fn put_predicted(samples: &mut [u16], width: usize, height: usize, block: &I
     ensures small { IsAtMost (greatest depth) (rows_of width samples.new) }
 {
     let place = &block.place;
-    read_edges(&mut scratch.edges, samples, width, height, place, block.size, depth);
-    predict(block.mode, &scratch.edges, block.size, depth, &mut scratch.block);
-    put_block(samples, width, height, place.row, place.column, block.size, &scratch.block);
+    read_edges(
+        &mut scratch.edges,
+        samples,
+        width,
+        height,
+        place,
+        block.size,
+        depth,
+    );
+    predict(
+        block.mode,
+        &scratch.edges,
+        block.size,
+        depth,
+        &mut scratch.block,
+    );
+    put_block(
+        samples,
+        width,
+        height,
+        place.row,
+        place.column,
+        block.size,
+        &scratch.block,
+    );
 }
 
 /// Puts a block with its residue, row after row, into its plane, which has so many rows of `width` samples.
-pub fn put_rebuilt(samples: &mut [u16], width: usize, height: usize, block: &IntraBlock, depth: Depth, residue: &[i32], scratch: &mut Scratch)
+pub fn put_rebuilt(
+    samples: &mut [u16],
+    width: usize,
+    height: usize,
+    block: &IntraBlock,
+    depth: Depth,
+    residue: &[i32],
+    scratch: &mut Scratch,
+)
     requires whole { height * width ≤ length samples.old }
     requires near { height ≤ 65536 }
     requires narrow { width ≤ 65536 }
@@ -43,8 +80,30 @@ pub fn put_rebuilt(samples: &mut [u16], width: usize, height: usize, block: &Int
     ensures small { IsAtMost (greatest depth) (rows_of width samples.new) }
 {
     let place = &block.place;
-    read_edges(&mut scratch.edges, samples, width, height, place, block.size, depth);
-    predict(block.mode, &scratch.edges, block.size, depth, &mut scratch.block);
+    read_edges(
+        &mut scratch.edges,
+        samples,
+        width,
+        height,
+        place,
+        block.size,
+        depth,
+    );
+    predict(
+        block.mode,
+        &scratch.edges,
+        block.size,
+        depth,
+        &mut scratch.block,
+    );
     add_residue(&mut scratch.block, residue, block.size, depth);
-    put_block(samples, width, height, place.row, place.column, block.size, &scratch.block);
+    put_block(
+        samples,
+        width,
+        height,
+        place.row,
+        place.column,
+        block.size,
+        &scratch.block,
+    );
 }
