@@ -8,7 +8,7 @@ use Rattle.std.proofs.lemmas.List.FromFn.{fill_by_all, length-map-range_with_len
 use Rattle.vp9_types.specs.Maps.{Map}
 use Rattle.vp9_types.specs.declared.shape.Depth.{Depth}
 use Rattle.intra_predict.specs.declared.place.Place.{Place}
-use Rattle.intra_predict.specs.Edges.{EdgeSamples, AgreeAround, reads_right, has_above, has_left, above_column, above_sample, left_sample, corner_sample, edges_in}
+use Rattle.intra_predict.specs.Edges.{EdgeSamples, AgreeAround, IsInside, reads_right, has_above, has_left, above_column, above_sample, left_sample, corner_sample, edges_in}
 use Rattle.intra_predict.proofs.EdgeLemmas.{same_edges}
 
 same_values : (f g : ℕ → ℕ) (n : ℕ) → ((k : ℕ) → k < n → f k ≡ g k) → map f (range_with_len 0 n) ≡ map g (range_with_len 0 n)
@@ -68,11 +68,11 @@ corner_agree width height size depth p m n some wide agree = elim (cases_lt 0 p.
     before true = omega arith
     before false = omega arith
 
-pub edges_agree : (width height size : ℕ) (depth : Depth) (p : Place) (m n : Map) → 0 < size → p.row < height → p.column < width
+pub edges_agree : (width height size : ℕ) (depth : Depth) (p : Place) (m n : Map) → 0 < size → IsInside width height p
     → p.tile_from ≤ p.column → AgreeAround width height size p m n
     → edges_in width height depth size p m ≡ edges_in width height depth size p n
 unfolding edges_in
-edges_agree width height size depth p m n some high wide from agree = same_edges _ _ _ _ _ _ _ _
-    (same_values _ _ (2 * size) (above_agree width height size depth p m n some wide from agree))
-    (same_values _ _ size (left_agree width height size depth p m n high agree))
-    (corner_agree width height size depth p m n some wide agree)
+edges_agree width height size depth p m n some inside from agree = same_edges _ _ _ _ _ _ _ _
+    (same_values _ _ (2 * size) (above_agree width height size depth p m n some inside.wide from agree))
+    (same_values _ _ size (left_agree width height size depth p m n inside.high agree))
+    (corner_agree width height size depth p m n some inside.wide agree)

@@ -15,7 +15,7 @@ use Rattle.intra_predict.proofs.Planes.{add-sub_left, next, place}
 
 -- how many samples of the row above are read
 abbrev pub read_count : ℕ → ℕ → Place → ℕ
-read_count width size p = min (if reads_right size p then 8 else size) (width - p.column)
+read_count width size p = min (if reads_right size p then 2 * size else size) (width - p.column)
 
 column_is : (width size : ℕ) (p : Place) (j : ℕ) → 4 ≤ size → p.column < width → j < 2 * size
     → p.column + min j (read_count width size p - 1) ≡ above_column width size p j

@@ -1,5 +1,5 @@
 -- The samples that a block is predicted from (8.5.1.1 of the standard): aboveRow with the sample in the corner, and leftCol.
-use Rattle.std.specs.Prelude.{ℕ, ◌+◌, ◌-◌, ◌*◌, ◌≡◌, ◌≤◌, ◌<◌, ◌&&◌, ◌||◌, Bool, List, map, take, min, slice_index, nat_lt, nat_eq, if◌then◌else◌}
+use Rattle.std.specs.Prelude.{ℕ, ◌+◌, ◌-◌, ◌*◌, ◌≡◌, ◌≤◌, ◌<◌, ◌&&◌, ◌||◌, Bool, List, length, map, take, min, slice_index, nat_lt, nat_eq, if◌then◌else◌}
 use Rattle.std.specs.List.{range_with_len}
 use Rattle.vp9_types.specs.Maps.{Map}
 use Rattle.vp9_types.specs.declared.shape.Depth.{Depth}
@@ -13,6 +13,17 @@ pub record EdgeSamples : Type 0 where
   pub corner : ℕ  -- A[-1]
   pub has_above : Bool
   pub has_left : Bool
+
+-- a plane of so many rows of `width` samples
+pub record IsPlane (width height : ℕ) (samples : List ℕ) : Type 0 where
+  pub whole : height * width ≤ length samples
+  pub high : height ≤ 65536
+  pub wide : width ≤ 65536
+
+-- a place whose first sample is in it
+pub record IsInside (width height : ℕ) (p : Place) : Type 0 where
+  pub high : p.row < height
+  pub wide : p.column < width
 
 -- those that the code's edges hold for a block of this size
 abbrev pub samples_of : ℕ → Edges → EdgeSamples

@@ -3,7 +3,8 @@
 ghost use Rattle.std.specs.Prelude.{◌≡◌, ℕ, pos, ◌+◌, ◌*◌, ◌^◌, ◌<◌, ◌≤◌, length, slice_index, slice_index_or, unsigned_abs};
 ghost use Rattle.vp9_types.specs.Maps.{rows_of, with_block};
 ghost use Rattle.intra_predict.specs.Sizes.{side, greatest};
-ghost use Rattle.intra_predict.specs.Residue.{clip, with_residue};
+ghost use Rattle.intra_predict.specs.Edges.{IsPlane};
+ghost use Rattle.intra_predict.specs.Residue.{IsResidue, clip, with_residue};
 ghost use Rattle.intra_predict.specs.Steps.{with_square};
 
 use crate::sizes::{greatest_of, side_of};
@@ -12,8 +13,7 @@ use vp9_types::{Depth, TxSize};
 /// Adds the residue of a block to its samples, and clips them to the depth.
 pub fn add_residue(block: &mut [u16], residue: &[i32], size: TxSize, depth: Depth)
     requires room { side size * side size ≤ length block.old }
-    requires whole { side size * side size ≤ length residue.now }
-    requires small { (k : ℕ) → k < side size * side size → unsigned_abs (slice_index_or residue.now k (pos 0)) < 2 ^ 24 }
+    requires residue { IsResidue (side size * side size) residue.now }
     ensures { (k : ℕ) → k < side size * side size →
         slice_index block.new k ≡ with_residue (greatest depth) (slice_index block.old k) (slice_index_or residue.now k (pos 0)) }
 {
@@ -24,8 +24,7 @@ pub fn add_residue(block: &mut [u16], residue: &[i32], size: TxSize, depth: Dept
 #[inline(always)]
 fn add_clipped(block: &mut [u16], residue: &[i32], n: usize, most: u16)
     requires room { n ≤ length block.old }
-    requires whole { n ≤ length residue.now }
-    requires small { (k : ℕ) → k < n → unsigned_abs (slice_index_or residue.now k (pos 0)) < 2 ^ 24 }
+    requires residue { IsResidue n residue.now }
     ensures { (k : ℕ) → k < n →
         slice_index block.new k ≡ with_residue most (slice_index block.old k) (slice_index_or residue.now k (pos 0)) }
 {
@@ -59,9 +58,7 @@ pub fn put_block(
     size: TxSize,
     block: &[u16],
 )
-    requires whole { height * width ≤ length samples.old }
-    requires near { height ≤ 65536 }
-    requires narrow { width ≤ 65536 }
+    requires plane { IsPlane width height samples.old }
     requires high { row ≤ height }
     requires wide { column ≤ width }
     requires block { side size * side size ≤ length block.now }
@@ -86,9 +83,7 @@ fn put_sized(
     size: usize,
     block: &[u16],
 )
-    requires whole { height * width ≤ length samples.old }
-    requires near { height ≤ 65536 }
-    requires narrow { width ≤ 65536 }
+    requires plane { IsPlane width height samples.old }
     requires high { row ≤ height }
     requires wide { column ≤ width }
     requires few { size ≤ 32 }

@@ -3,7 +3,7 @@
 ghost use Rattle.std.specs.Prelude.{◌≡◌, ℕ, ◌+◌, ◌*◌, ◌<◌, ◌≤◌, length, slice_index, if◌then◌else◌};
 ghost use Rattle.vp9_types.specs.Maps.{rows_of, IsAtMost};
 ghost use Rattle.intra_predict.specs.Sizes.{side, greatest};
-ghost use Rattle.intra_predict.specs.Edges.{samples_of, edges_in, above_sample, left_sample, corner_sample, reads_right, IsUpTo};
+ghost use Rattle.intra_predict.specs.Edges.{IsInside, IsPlane, samples_of, edges_in, above_sample, left_sample, corner_sample, reads_right, IsUpTo};
 
 use crate::edges::Edges;
 use crate::lines::{extend, fill_from};
@@ -22,11 +22,8 @@ pub fn read_edges(
     size: TxSize,
     depth: Depth,
 )
-    requires whole { height * width ≤ length samples.now }
-    requires near { height ≤ 65536 }
-    requires narrow { width ≤ 65536 }
-    requires high { place.now.row < height }
-    requires wide { place.now.column < width }
+    requires plane { IsPlane width height samples.now }
+    requires inside { IsInside width height place.now }
     ensures value { samples_of (side size) edges.new ≡ edges_in width height depth (side size) place.now (rows_of width samples.now) }
     ensures small { IsAtMost (greatest depth) (rows_of width samples.now) → IsUpTo (greatest depth) (samples_of (side size) edges.new) }
 {
@@ -50,11 +47,8 @@ fn read_sized(
 )
     requires some { 4 ≤ size }
     requires few { size ≤ 32 }
-    requires whole { height * width ≤ length samples.now }
-    requires near { height ≤ 65536 }
-    requires narrow { width ≤ 65536 }
-    requires high { place.now.row < height }
-    requires wide { place.now.column < width }
+    requires plane { IsPlane width height samples.now }
+    requires inside { IsInside width height place.now }
     ensures { samples_of size edges.new ≡ edges_in width height depth size place.now (rows_of width samples.now) }
 {
     read_above(&mut edges.above, samples, width, height, place, size, depth);
@@ -77,11 +71,8 @@ fn read_above(
     requires some { 4 ≤ size }
     requires few { size ≤ 32 }
     requires room { 2 * size ≤ length above.old }
-    requires whole { height * width ≤ length samples.now }
-    requires near { height ≤ 65536 }
-    requires narrow { width ≤ 65536 }
-    requires high { place.now.row < height }
-    requires wide { place.now.column < width }
+    requires plane { IsPlane width height samples.now }
+    requires inside { IsInside width height place.now }
     ensures { (j : ℕ) → j < 2 * size → slice_index above.new j ≡ above_sample width depth size place.now (rows_of width samples.now) j }
 {
     if place.row == 0 {
@@ -101,11 +92,12 @@ fn read_above(
 /// How many samples of the row above a block are read, where the plane has them.
 #[inline(always)]
 fn wanted(place: &Place, size: usize) -> usize
-    requires { place.now.column ≤ 65536 }
-    ensures { result ≡ (if reads_right size place.now then 8 else size) }
+    requires wide { place.now.column ≤ 65536 }
+    requires few { size ≤ 32 }
+    ensures { result ≡ (if reads_right size place.now then 2 * size else size) }
 {
     if size == 4 && place.column + 4 < place.block_end {
-        8
+        2 * size
     } else {
         size
     }
@@ -123,11 +115,8 @@ fn read_left(
 )
     requires few { size ≤ 32 }
     requires room { size ≤ length left.old }
-    requires whole { height * width ≤ length samples.now }
-    requires near { height ≤ 65536 }
-    requires narrow { width ≤ 65536 }
-    requires high { place.now.row < height }
-    requires wide { place.now.column < width }
+    requires plane { IsPlane width height samples.now }
+    requires inside { IsInside width height place.now }
     ensures { (i : ℕ) → i < size → slice_index left.new i ≡ left_sample height depth place.now (rows_of width samples.now) i }
 {
     if place.column <= place.tile_from {
@@ -161,11 +150,8 @@ fn read_column(left: &mut [u16], samples: &[u16], at: usize, width: usize, n: us
 
 #[inline(always)]
 fn read_corner(samples: &[u16], width: usize, height: usize, place: &Place, depth: Depth) -> u16
-    requires whole { height * width ≤ length samples.now }
-    requires near { height ≤ 65536 }
-    requires narrow { width ≤ 65536 }
-    requires high { place.now.row < height }
-    requires wide { place.now.column < width }
+    requires plane { IsPlane width height samples.now }
+    requires inside { IsInside width height place.now }
     ensures { result ≡ corner_sample depth place.now (rows_of width samples.now) }
 {
     if place.row == 0 {

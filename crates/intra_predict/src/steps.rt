@@ -3,6 +3,8 @@
 ghost use Rattle.std.specs.Prelude.{◌≡◌, ℕ, pos, ◌*◌, ◌^◌, ◌<◌, ◌≤◌, length, slice_index_or, unsigned_abs};
 ghost use Rattle.vp9_types.specs.Maps.{rows_of, IsAtMost};
 ghost use Rattle.intra_predict.specs.Sizes.{side, greatest};
+ghost use Rattle.intra_predict.specs.Edges.{IsInside, IsPlane};
+ghost use Rattle.intra_predict.specs.Residue.{IsResidue};
 ghost use Rattle.intra_predict.specs.Steps.{with_predicted, with_rebuilt};
 
 use crate::block::IntraBlock;
@@ -21,11 +23,8 @@ pub fn put_predicted(
     depth: Depth,
     scratch: &mut Scratch,
 )
-    requires whole { height * width ≤ length samples.old }
-    requires near { height ≤ 65536 }
-    requires narrow { width ≤ 65536 }
-    requires high { block.now.place.row < height }
-    requires wide { block.now.place.column < width }
+    requires plane { IsPlane width height samples.old }
+    requires inside { IsInside width height block.now.place }
     requires small { IsAtMost (greatest depth) (rows_of width samples.old) }
     ensures map { rows_of width samples.new ≡ with_predicted width height depth block.now (rows_of width samples.old) }
     ensures small { IsAtMost (greatest depth) (rows_of width samples.new) }
@@ -68,14 +67,10 @@ pub fn put_rebuilt(
     residue: &[i32],
     scratch: &mut Scratch,
 )
-    requires whole { height * width ≤ length samples.old }
-    requires near { height ≤ 65536 }
-    requires narrow { width ≤ 65536 }
-    requires high { block.now.place.row < height }
-    requires wide { block.now.place.column < width }
+    requires plane { IsPlane width height samples.old }
+    requires inside { IsInside width height block.now.place }
     requires small { IsAtMost (greatest depth) (rows_of width samples.old) }
-    requires residue { side block.now.size * side block.now.size ≤ length residue.now }
-    requires low { (k : ℕ) → k < side block.now.size * side block.now.size → unsigned_abs (slice_index_or residue.now k (pos 0)) < 2 ^ 24 }
+    requires residue { IsResidue (side block.now.size * side block.now.size) residue.now }
     ensures map { rows_of width samples.new ≡ with_rebuilt width height depth block.now residue.now (rows_of width samples.old) }
     ensures small { IsAtMost (greatest depth) (rows_of width samples.new) }
 {
