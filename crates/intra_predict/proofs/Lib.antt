@@ -1,0 +1,8 @@
+pub mod Planes
+pub mod RowLemmas
+pub mod Joins
+pub mod Slants
+pub mod EdgeLemmas
+pub mod Bounds
+pub mod StepLemmas
+pub mod Around

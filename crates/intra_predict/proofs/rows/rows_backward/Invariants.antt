@@ -1,0 +1,6 @@
+use Rattle.std.proofs.Common.{◌+◌, ◌*◌, ◌-◌, get_or}
+use Rattle.vp9_types.specs.Maps.{HoldsRows}
+use Rattle.intra_predict.proofs.rows.rows_backward.Given as goal
+
+abbrev pub invariant-loop-i : goal.invariant-loop-i
+invariant-loop-i l = HoldsRows l.block l.size l.i (λ i j. get_or l.line (l.step * (l.size - 1 - i) + j) 0)

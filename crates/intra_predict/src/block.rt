@@ -1,0 +1,10 @@
+use crate::place::Place;
+use vp9_types::{IntraMode, TxSize};
+
+/// An intra transform block of a plane.
+#[derive(Clone, Copy, Debug, PartialEq, Eq)]
+pub struct IntraBlock {
+    pub place: Place,
+    pub size: TxSize,
+    pub mode: IntraMode,
+}

@@ -1,0 +1,34 @@
+//! Intra prediction (8.5.1 of the standard): the samples of a block by its mode, from those above it and left of it.
+#![tactic(auto)]
+
+mod block;
+mod coded;
+mod diagonal;
+mod edges;
+mod flat;
+mod laws;
+mod lines;
+mod place;
+mod places;
+mod prediction;
+mod put;
+mod reading;
+mod rows;
+mod scratch;
+mod sizes;
+mod steps;
+#[cfg(test)]
+mod tests;
+
+pub use block::IntraBlock;
+pub use coded::CodedBlock;
+pub use edges::Edges;
+pub use laws::{edges_lie_around, samples_stay_in_range};
+pub use place::Place;
+pub use places::place_of;
+pub use prediction::predict;
+pub use put::{add_residue, put_block};
+pub use reading::read_edges;
+pub use scratch::Scratch;
+pub use sizes::side_of;
+pub use steps::{put_predicted, put_rebuilt};

@@ -1,0 +1,76 @@
+ghost use Rattle.std.specs.Prelude.{◌≡◌, ℕ, ◌+◌, ◌*◌, ◌/◌, ◌<◌, ◌≤◌, length, slice_index};
+ghost use Rattle.vp9_types.specs.Maps.{Holds};
+ghost use Rattle.intra_predict.specs.Sizes.{side, greatest};
+ghost use Rattle.intra_predict.specs.Edges.{samples_of, IsUpTo};
+ghost use Rattle.intra_predict.specs.Modes.{mean, predicted};
+
+use crate::diagonal::{
+    predict_d45, predict_d63, predict_d117, predict_d135, predict_d153, predict_d207,
+};
+use crate::edges::Edges;
+use crate::flat::{mean_of, predict_h, predict_tm, predict_v, predict_value, total};
+use crate::sizes::{greatest_of, middle_of};
+use vp9_types::{Depth, IntraMode, TxSize};
+
+/// The samples of a block, row after row.
+pub fn predict(mode: IntraMode, edges: &Edges, size: TxSize, depth: Depth, block: &mut [u16])
+    requires small { IsUpTo (greatest depth) (samples_of (side size) edges.now) }
+    requires room { side size * side size ≤ length block.old }
+    ensures values { Holds block.new (side size) (predicted mode (side size) depth (samples_of (side size) edges.now)) }
+    ensures small { (i j : ℕ) → i < side size → j < side size → slice_index block.new (i * side size + j) ≤ greatest depth }
+{
+    // A call for each size, so that the loops have numbers of steps that are known.
+    match size {
+        TxSize::T4x4 => predict_sized(mode, edges, 4, depth, block),
+        TxSize::T8x8 => predict_sized(mode, edges, 8, depth, block),
+        TxSize::T16x16 => predict_sized(mode, edges, 16, depth, block),
+        TxSize::T32x32 => predict_sized(mode, edges, 32, depth, block),
+    }
+}
+
+#[inline(always)]
+#[tactic(auto, unfolding(crate::specs::Modes::predicted))]
+fn predict_sized(mode: IntraMode, edges: &Edges, size: usize, depth: Depth, block: &mut [u16])
+    requires some { 4 ≤ size }
+    requires few { size ≤ 32 }
+    requires twos { size ≡ 2 * (size / 2) }
+    requires small { IsUpTo (greatest depth) (samples_of size edges.now) }
+    requires room { size * size ≤ length block.old }
+    ensures { Holds block.new size (predicted mode size depth (samples_of size edges.now)) }
+{
+    let above = &edges.above[..2 * size];
+    let left = &edges.left[..size];
+    let corner = edges.corner;
+    match mode {
+        IntraMode::Dc => predict_value(block, size, mean_of_edges(edges, size, depth)),
+        IntraMode::V => predict_v(block, size, above),
+        IntraMode::H => predict_h(block, size, left),
+        IntraMode::D45 => predict_d45(block, size, above),
+        IntraMode::D135 => predict_d135(block, size, above, left, corner),
+        IntraMode::D117 => predict_d117(block, size, above, left, corner),
+        IntraMode::D153 => predict_d153(block, size, above, left, corner),
+        IntraMode::D207 => predict_d207(block, size, left),
+        IntraMode::D63 => predict_d63(block, size, above),
+        IntraMode::Tm => predict_tm(block, size, greatest_of(depth), above, left, corner),
+    }
+}
+
+#[inline(always)]
+fn mean_of_edges(edges: &Edges, size: usize, depth: Depth) -> u16
+    requires some { 4 ≤ size }
+    requires few { size ≤ 32 }
+    requires small { IsUpTo (greatest depth) (samples_of size edges.now) }
+    ensures { result ≡ mean size depth (samples_of size edges.now) }
+{
+    if edges.has_above {
+        let above = total(&edges.above[..size]);
+        if edges.has_left {
+            return mean_of(2 * size, above + total(&edges.left[..size]));
+        }
+        return mean_of(size, above);
+    }
+    if edges.has_left {
+        return mean_of(size, total(&edges.left[..size]));
+    }
+    middle_of(depth)
+}
