@@ -1,0 +1,4 @@
+pub mod Small
+pub mod Runs
+pub mod LaneLemmas
+pub mod ColumnLemmas

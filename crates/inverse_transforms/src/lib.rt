@@ -1,0 +1,15 @@
+//! The inverse transforms of VP9 (8.7.1 of the standard): of one list, and of eight columns at a time.
+#![tactic(auto)]
+
+mod kernels;
+mod lane_steps;
+mod lanes;
+mod numbers;
+mod quads;
+mod steps;
+mod transforms;
+mod turn;
+pub mod values;
+
+pub use lanes::Lanes;
+pub use transforms::{adst, adst_columns, dct, dct_columns, wht};
