@@ -1,5 +1,5 @@
 -- What is done to rows of lanes is done to each column.
-use Rattle.std.proofs.Common.{◌≡◌, ℕ, ◌+◌, ◌<◌, ◌≤◌, ◌^◌, ℤ, pos, Bool, true, false, ◌&&◌, ◌⊎◌, inl, inr, List, [], ◌∷◌, map, take, length, set, get_or, refl, sym, ◌∙◌, ap, subst, arith, All, cond, Result, Ok, Err}
+use Rattle.std.proofs.Common.{◌≡◌, ℕ, ◌<◌, ◌≤◌, ◌^◌, ℤ, pos, Bool, true, false, inl, inr, List, [], ◌∷◌, map, take, length, set, get_or, refl, sym, ◌∙◌, ap, subst, arith, All, Result, Ok, Err}
 use Rattle.std.proofs.lemmas.List.{map-set, get_or-map, get_or_default, get_or_past, length-map}
 use Rattle.std.proofs.lemmas.List.Elements.{All-set, All-map}
 use Rattle.std.proofs.lemmas.Bool.{cases_lt}

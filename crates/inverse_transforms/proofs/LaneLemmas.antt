@@ -1,5 +1,5 @@
 -- Lanes, one place more at a time.
-use Rattle.std.proofs.Common.{◌≡◌, ℕ, ◌+◌, ◌<◌, ◌≤◌, ℤ, pos, negsuc, Bool, true, false, ◌&&◌, ◌⊎◌, inl, inr, List, length, set, get_or, refl, sym, ◌∙◌, ap, arith, below_more, length-set, to_z, of_z, unsigned_abs, ◌^◌, subst}
+use Rattle.std.proofs.Common.{◌≡◌, ℕ, ◌+◌, ◌<◌, ◌≤◌, ℤ, pos, negsuc, Bool, true, false, ◌&&◌, List, length, set, refl, sym, ◌∙◌, ap, arith, below_more, length-set, to_z, of_z, subst}
 use Rattle.std.proofs.lemmas.Int.{to_z-of_z}
 use mir.Syntax.{w32}
 use mir.Val.{SFits}

@@ -2,3 +2,5 @@ pub mod Small
 pub mod Runs
 pub mod LaneLemmas
 pub mod ColumnLemmas
+pub mod Zeros
+pub mod Faults

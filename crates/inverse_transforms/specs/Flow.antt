@@ -1,12 +1,12 @@
 -- A transform of a list is a flow: steps applied one after another, each of which stores its values if they fit
 -- (8.7.1 of the standard).
-use Rattle.std.specs.Prelude.{◌≡◌, ℕ, ◌+◌, ◌*◌, ◌%◌, ℤ, pos, neg_ℤ, ◌+ℤ◌, ◌-ℤ◌, ◌*ℤ◌, Bool, true, false, ◌&&◌, List, [], ◌∷◌, map, take, length, slice_index_or, slice_set, Result, Ok, Err, if◌then◌else◌, nat_lt}
+use Rattle.std.specs.Prelude.{◌≡◌, ℕ, ◌*◌, ℤ, pos, neg_ℤ, ◌+ℤ◌, ◌-ℤ◌, ◌*ℤ◌, Bool, true, ◌&&◌, List, [], ◌∷◌, map, take, length, replicate, slice_index_or, slice_set, Result, Ok, Err, if◌then◌else◌, nat_lt, nat_le}
 use Rattle.std.specs.List.{list_all}
 use Rattle.vp9_types.specs.declared.rule.Rule.{Rule}
 use Rattle.vp9_types.specs.declared.rule.Rule.TheVariants.{TransformRange}
 use Rattle.vp9_tables.specs.declared.flow_row.FlowRow.{FlowRow}
 use Rattle.vp9_tables.specs.declared.flow_row.FlowRow.TheVariants.{Perm, Rot, Sum, Neg, Wide}
-use Rattle.vp9_tables.specs.Transforms.{cosine_of, is_step, is_order}
+use Rattle.vp9_tables.specs.Transforms.{cosine_of, is_step}
 use Rattle.inverse_transforms.specs.declared.values.Two.{Two}
 use Rattle.inverse_transforms.specs.declared.values.Four.{Four}
 use Rattle.inverse_transforms.specs.Angles.{sine_of}
@@ -85,9 +85,9 @@ abbrev pub Gives : Result (List ℤ) Rule → Result (Unit {0}) Rule → List �
 Gives computed (Ok _) new = computed ≡ Ok new
 Gives computed (Err rule) new = computed ≡ Err rule
 
--- the first n entries are places below n
+-- there are n entries at least, and the first n are places below n
 abbrev pub is_reorder : ℕ → FlowRow → Bool
-is_reorder n (Perm order) = list_all (λ place. nat_lt place n) (take n order)
+is_reorder n (Perm order) = nat_le n (length order) && list_all (λ place. nat_lt place n) (take n order)
 is_reorder n (Rot a b k) = true
 is_reorder n (Sum a b) = true
 is_reorder n (Neg a) = true
@@ -96,3 +96,7 @@ is_reorder n (Wide a b k c d m) = true
 -- a step on n values
 abbrev pub is_within : ℕ → FlowRow → Bool
 is_within n row = is_step n row && is_reorder n row
+
+-- n zeros
+abbrev pub zeros : ℕ → List ℤ
+zeros n = replicate n (pos 0)

@@ -1,5 +1,5 @@
 -- The transforms: the DCT (8.7.1.2 and 8.7.1.3 of the standard), the ADST (8.7.1.4 to 8.7.1.9), the WHT (8.7.1.10).
-use Rattle.std.specs.Prelude.{ℕ, ◌+◌, ◌-◌, ◌*◌, ◌^◌, ℤ, pos, ◌+ℤ◌, ◌-ℤ◌, ◌*ℤ◌, Bool, true, ◌&&◌, List, Result, if◌then◌else◌, nat_eq, slice_index_or}
+use Rattle.std.specs.Prelude.{ℕ, ◌-◌, ℤ, pos, ◌+ℤ◌, ◌-ℤ◌, ◌*ℤ◌, true, ◌&&◌, List, Result, if◌then◌else◌, nat_eq, slice_index_or}
 use Rattle.std.specs.Int.{int_shr}
 use Rattle.vp9_types.specs.declared.rule.Rule.{Rule}
 use Rattle.vp9_types.specs.declared.block.TxSize.{TxSize}

@@ -4,6 +4,7 @@
 mod kernels;
 mod lane_steps;
 mod lanes;
+mod laws;
 mod numbers;
 mod quads;
 mod steps;
@@ -12,4 +13,5 @@ mod turn;
 pub mod values;
 
 pub use lanes::Lanes;
+pub use laws::{transforms_break_one_rule, transforms_leave_zeros};
 pub use transforms::{adst, adst_columns, dct, dct_columns, wht};

@@ -1,4 +1,4 @@
-use Rattle.std.proofs.Common.{rules, refl, arith}
+use Rattle.std.proofs.Common.{rules, arith}
 use Rattle.inverse_transforms.specs.Transforms.{adst_quad, adst_of_4}
 use Rattle.inverse_transforms.proofs.ColumnLemmas.{FourMade, four_ok, four_err, four_small_after}
 use Rattle.inverse_transforms.proofs.lane_steps.adst_of_4.Goals as goal

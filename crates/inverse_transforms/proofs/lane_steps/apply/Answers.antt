@@ -1,4 +1,4 @@
-use Rattle.std.proofs.Common.{rules, refl, ap, ◌∙◌, sym, Ok}
+use Rattle.std.proofs.Common.{ap, Ok}
 use Rattle.inverse_transforms.specs.Flow.{step}
 use Rattle.inverse_transforms.proofs.ColumnLemmas.{gathered_column, gathered_small}
 use Rattle.inverse_transforms.proofs.lane_steps.apply.Goals as goal

@@ -1,4 +1,4 @@
-use Rattle.std.proofs.Common.{◌≡◌, ℕ, ◌<◌, drop, All, length}
+use Rattle.std.proofs.Common.{◌≡◌, ℕ, ◌<◌, drop, All}
 use Rattle.inverse_transforms.specs.Flow.{run}
 use Rattle.inverse_transforms.specs.Columns.{column}
 use Rattle.inverse_transforms.specs.Ranges.{IsSmall}

@@ -1,4 +1,4 @@
-use Rattle.std.proofs.Common.{rules, refl, neg_ℤ}
+use Rattle.std.proofs.Common.{rules, neg_ℤ}
 use Rattle.inverse_transforms.proofs.ColumnLemmas.{one_ok, one_small_after}
 use Rattle.inverse_transforms.proofs.lane_steps.negate.Goals as goal
 

@@ -1,6 +1,6 @@
-use Rattle.std.proofs.Common.{rules, refl, ap}
+use Rattle.std.proofs.Common.{rules, ap}
 use Rattle.inverse_transforms.specs.Flow.{rotated}
-use Rattle.inverse_transforms.proofs.ColumnLemmas.{two_ok, two_err, two_small_after}
+use Rattle.inverse_transforms.proofs.ColumnLemmas.{two_ok, two_small_after}
 use Rattle.inverse_transforms.proofs.lane_steps.rotate.Goals as goal
 
 pub returns-clause-gives : goal.returns-clause-gives

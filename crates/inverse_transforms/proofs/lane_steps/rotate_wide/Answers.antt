@@ -1,4 +1,4 @@
-use Rattle.std.proofs.Common.{rules, refl}
+use Rattle.std.proofs.Common.{rules}
 use Rattle.inverse_transforms.specs.Flow.{rotated_wide}
 use Rattle.inverse_transforms.proofs.ColumnLemmas.{wide_made, four_ok, four_err, four_small_after}
 use Rattle.inverse_transforms.proofs.lane_steps.rotate_wide.Goals as goal

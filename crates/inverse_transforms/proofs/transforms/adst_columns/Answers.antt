@@ -1,4 +1,4 @@
-use Rattle.std.proofs.Common.{◌≡◌, ℕ, ℤ, List, Bool, false, nat_eq, refl, rules}
+use Rattle.std.proofs.Common.{◌≡◌, ℕ, ℤ, List, false, nat_eq, refl, rules}
 use Rattle.inverse_transforms.specs.Flow.{run}
 use Rattle.inverse_transforms.specs.Transforms.{adst, adst_rows}
 use Rattle.inverse_transforms.specs.Ranges.{limit_of}
