@@ -62,9 +62,12 @@ two_given limit f t a b x y u v s fit j low =
 pub two_refused : (limit : ℕ) (f : ℤ → ℤ → Two) (t : List (List ℤ)) (a b : ℕ) (x y u v : List ℤ) → TwoStored limit f t a b x y u v →
     (j : ℕ) × (j < 8) × (two_fit limit (f (at x j) (at y j)) ≡ false) →
     (j : ℕ) × (j < 8) × (store_two limit (column j t) a b (f (at (column j t) a) (at (column j t) b)) ≡ Err TransformRange)
-two_refused limit f t a b x y u v s (j, low, fails) =
-    (j, low, ap (store_two limit (column j t) a b) (two_of_column limit f t a b x y u v s j)
-        ∙ store_two_refused limit (column j t) a b (f (at x j) (at y j)) fails)
+two_refused limit f t a b x y u v s (j, low, fails) = (
+  j,
+  low,
+  ap (store_two limit (column j t) a b) (two_of_column limit f t a b x y u v s j)
+      ∙ store_two_refused limit (column j t) a b (f (at x j) (at y j)) fails,
+)
 
 pub two_rows_small : (limit : ℕ) (f : ℤ → ℤ → Two) (t : List (List ℤ)) (a b : ℕ) (x y u v : List ℤ) → limit ≤ 2 ^ 24 →
     length u ≡ 8 → length v ≡ 8 → TwoLanes f x y u v 8 → ((j : ℕ) → j < 8 → two_fit limit (f (at x j) (at y j)) ≡ true) →
@@ -82,10 +85,10 @@ pub two_ok : (limit : ℕ) (f g : ℤ → ℤ → Two) (t : List (List ℤ)) (a 
     (j : ℕ) → j < 8 → store_two limit (column j t) a b (g (at (column j t) a) (at (column j t) b)) ≡ Ok (column j (set (set t a u) b v))
 two_ok limit f g t a b u v all same a_low b_low made is fit j low =
     let stored : TwoStored limit f t a b (get_or t a []) (get_or t b []) u v =
-        record { a_low = a_low; b_low = b_low; x_is = refl; y_is = refl; made = made } in
+    record { a_low = a_low; b_low = b_low; x_is = refl; y_is = refl; made = made } in
     ap (λ (h : ℤ → ℤ → Two). store_two limit (column j t) a b (h (at (column j t) a) (at (column j t) b))) (sym same)
     ∙ two_given limit f t a b (get_or t a []) (get_or t b []) u v stored
-        (all_hold (λ j. two_fit limit (f (at (get_or t a []) j) (at (get_or t b []) j))) 8 all is fit) j low
+    (all_hold (λ j. two_fit limit (f (at (get_or t a []) j) (at (get_or t b []) j))) 8 all is fit) j low
 
 pub two_err : (limit : ℕ) (f g : ℤ → ℤ → Two) (t : List (List ℤ)) (a b : ℕ) (u v : List ℤ) (all : Bool) → f ≡ g → a < length t → b < length t →
     TwoLanes f (get_or t a []) (get_or t b []) u v 8 → all ≡ false →
@@ -93,9 +96,9 @@ pub two_err : (limit : ℕ) (f g : ℤ → ℤ → Two) (t : List (List ℤ)) (a
     (j : ℕ) × (j < 8) × (store_two limit (column j t) a b (g (at (column j t) a) (at (column j t) b)) ≡ Err TransformRange)
 two_err limit f g t a b u v all same a_low b_low made is fit =
     let stored : TwoStored limit f t a b (get_or t a []) (get_or t b []) u v =
-        record { a_low = a_low; b_low = b_low; x_is = refl; y_is = refl; made = made } in
+    record { a_low = a_low; b_low = b_low; x_is = refl; y_is = refl; made = made } in
     let r = two_refused limit f t a b (get_or t a []) (get_or t b []) u v stored
-        (one_fails (λ j. two_fit limit (f (at (get_or t a []) j) (at (get_or t b []) j))) 8 all is fit) in
+    (one_fails (λ j. two_fit limit (f (at (get_or t a []) j) (at (get_or t b []) j))) 8 all is fit) in
     (r.0, r.1, ap (λ (h : ℤ → ℤ → Two). store_two limit (column r.0 t) a b (h (at (column r.0 t) a) (at (column r.0 t) b))) (sym same) ∙ r.2)
 
 pub two_small_after : (limit : ℕ) (f : ℤ → ℤ → Two) (t : List (List ℤ)) (a b : ℕ) (u v : List ℤ) (all : Bool) → limit ≤ 2 ^ 24 →
@@ -104,7 +107,7 @@ pub two_small_after : (limit : ℕ) (f : ℤ → ℤ → Two) (t : List (List �
     All (All IsSmall) t → All (All IsSmall) (set (set t a u) b v)
 two_small_after limit f t a b u v all most u_size v_size made is fit small =
     two_rows_small limit f t a b (get_or t a []) (get_or t b []) u v most u_size v_size made
-        (all_hold (λ j. two_fit limit (f (at (get_or t a []) j) (at (get_or t b []) j))) 8 all is fit) small
+    (all_hold (λ j. two_fit limit (f (at (get_or t a []) j) (at (get_or t b []) j))) 8 all is fit) small
 
 -- the same of four rows
 four_of_column : (f : ℤ → ℤ → ℤ → ℤ → Four) (t : List (List ℤ)) (a b c d : ℕ) →
@@ -153,8 +156,8 @@ pub four_ok : (limit : ℕ) (f : ℤ → ℤ → ℤ → ℤ → Four) (t : List
 four_ok limit f t a b c d p q r s all m is j low =
     ap (store_four limit (column j t) a b c d) (four_of_column f t a b c d m.a_low m.b_low m.c_low m.d_low j)
     ∙ (store_four_given limit (column j t) a b c d (f (at (get_or t a []) j) (at (get_or t b []) j) (at (get_or t c []) j) (at (get_or t d []) j))
-        (at p j) (at q j) (at r j) (at s j) (four_all limit f t a b c d p q r s all m is j low)
-        (m.made.first j low) (m.made.second j low) (m.made.third j low) (m.made.fourth j low)
+    (at p j) (at q j) (at r j) (at s j) (four_all limit f t a b c d p q r s all m is j low)
+    (m.made.first j low) (m.made.second j low) (m.made.third j low) (m.made.fourth j low)
     ∙ ap Ok (sym (column_set_four j t a b c d p q r s)))
 
 store_four_refused : (limit : ℕ) (xs : List ℤ) (a b c d : ℕ) (w : Four) → four_fit limit w ≡ false → store_four limit xs a b c d w ≡ Err TransformRange
@@ -164,16 +167,19 @@ pub four_err : (limit : ℕ) (f : ℤ → ℤ → ℤ → ℤ → Four) (t : Lis
     FourMade limit f t a b c d p q r s all → all ≡ false →
     (j : ℕ) × (j < 8) × (store_four limit (column j t) a b c d (f (at (column j t) a) (at (column j t) b) (at (column j t) c) (at (column j t) d)) ≡ Err TransformRange)
 four_err limit f t a b c d p q r s all m is =
-    let one = one_fails (λ j. four_fit limit (f (at (get_or t a []) j) (at (get_or t b []) j) (at (get_or t c []) j) (at (get_or t d []) j))) 8 all is m.fit in
-    (one.0, one.1, ap (store_four limit (column one.0 t) a b c d) (four_of_column f t a b c d m.a_low m.b_low m.c_low m.d_low one.0)
-        ∙ store_four_refused limit (column one.0 t) a b c d _ one.2)
+    let one = one_fails (λ j. four_fit limit (f (at (get_or t a []) j) (at (get_or t b []) j) (at (get_or t c []) j) (at (get_or t d []) j))) 8 all is m.fit in (
+      one.0,
+      one.1,
+      ap (store_four limit (column one.0 t) a b c d) (four_of_column f t a b c d m.a_low m.b_low m.c_low m.d_low one.0)
+          ∙ store_four_refused limit (column one.0 t) a b c d _ one.2,
+    )
 
 pub four_small_after : (limit : ℕ) (f : ℤ → ℤ → ℤ → ℤ → Four) (t : List (List ℤ)) (a b c d : ℕ) (p q r s : List ℤ) (all : Bool) →
     limit ≤ 2 ^ 24 → length p ≡ 8 → length q ≡ 8 → length r ≡ 8 → length s ≡ 8 → FourMade limit f t a b c d p q r s all → all ≡ true →
     All (All IsSmall) t → All (All IsSmall) (set (set (set (set t a p) b q) c r) d s)
 four_small_after limit f t a b c d p q r s all most p_size q_size r_size s_size m is small =
     let each = λ (j : ℕ) (low : j < 8). four_small limit (f (at (get_or t a []) j) (at (get_or t b []) j) (at (get_or t c []) j) (at (get_or t d []) j)) most
-        (four_all limit f t a b c d p q r s all m is j low) in
+    (four_all limit f t a b c d p q r s all m is j low) in
     let p_small : All IsSmall p = lanes_small p p_size (λ j low. rw (m.made.first j low) (each j low).0) in
     let q_small : All IsSmall q = lanes_small q q_size (λ j low. rw (m.made.second j low) (each j low).1) in
     let r_small : All IsSmall r = lanes_small r r_size (λ j low. rw (m.made.third j low) (each j low).2) in
@@ -188,9 +194,9 @@ pub wide_made : (limit first second k m : ℕ) (t : List (List ℤ)) (a b c d : 
     FourMade limit (rotated_wide limit first second) t a b c d p q r s all
 wide_made limit first second k m t a b c d p q r s all is_first is_second a_low b_low c_low d_low made fit =
     let same : rotated_wide limit k m ≡ rotated_wide limit first second =
-        ap (λ z. rotated_wide limit z m) is_first ∙ ap (rotated_wide limit first) is_second in
+    ap (λ z. rotated_wide limit z m) is_first ∙ ap (rotated_wide limit first) is_second in
     let all_made : FourMade limit (rotated_wide limit k m) t a b c d p q r s all =
-        record { a_low = a_low; b_low = b_low; c_low = c_low; d_low = d_low; made = made; fit = fit } in
+    record { a_low = a_low; b_low = b_low; c_low = c_low; d_low = d_low; made = made; fit = fit } in
     subst (λ f. FourMade limit f t a b c d p q r s all) same all_made
 
 -- of one
@@ -200,7 +206,7 @@ pub one_ok : (limit : ℕ) (f : ℤ → ℤ) (t : List (List ℤ)) (a : ℕ) (u 
 one_ok limit f t a u all a_low made is fit j low =
     let value : f (at (column j t) a) ≡ at u j = ap f (column_at j t a a_low) ∙ sym (made j low) in
     let test : fits limit (at u j) ≡ true =
-        ap (fits limit) (made j low) ∙ all_hold (λ j. fits limit (f (at (get_or t a []) j))) 8 all is fit j low in
+    ap (fits limit) (made j low) ∙ all_hold (λ j. fits limit (f (at (get_or t a []) j))) 8 all is fit j low in
     ap (store_one limit (column j t) a) value ∙ (rw test refl ∙ ap Ok (sym (column_set j t a u)))
 
 pub one_small_after : (limit : ℕ) (f : ℤ → ℤ) (t : List (List ℤ)) (a : ℕ) (u : List ℤ) (all : Bool) → limit ≤ 2 ^ 24 → length u ≡ 8 →
@@ -208,19 +214,21 @@ pub one_small_after : (limit : ℕ) (f : ℤ → ℤ) (t : List (List ℤ)) (a :
     All (All IsSmall) t → All (All IsSmall) (set t a u)
 one_small_after limit f t a u all most size made is fit small =
     let u_small : All IsSmall u = lanes_small u size (λ j low. rw (made j low) (fits_small limit (f (at (get_or t a []) j)) most
-        (all_hold (λ j. fits limit (f (at (get_or t a []) j))) 8 all is fit j low))) in
+    (all_hold (λ j. fits limit (f (at (get_or t a []) j))) 8 all is fit j low))) in
     All-set (All IsSmall) t a u u_small small
 
 -- a permutation of rows
 row_small : (t : List (List ℤ)) (place : ℕ) → All (All IsSmall) t → All IsSmall (get_or t place [])
 row_small t place small = elim (cases_lt place (length t)) [
-    | inl low ↦ small place [] low
-    | inr past ↦ rw (get_or_past t place [] past) (λ k d low. absurd (omega arith)) ]
+  | inl low ↦ small place [] low
+  | inr past ↦ rw (get_or_past t place [] past) (λ k d low. absurd (omega arith))
+]
 
 column_anywhere : (j : ℕ) (t : List (List ℤ)) (place : ℕ) → at (get_or t place []) j ≡ at (column j t) place
 column_anywhere j t place = elim (cases_lt place (length t)) [
-    | inl low ↦ sym (column_at j t place low)
-    | inr past ↦ rw (get_or_past t place [] past, get_or_past (column j t) place (pos 0) (rw (length-map t (λ row. at row j)) past)) refl ]
+  | inl low ↦ sym (column_at j t place low)
+  | inr past ↦ rw (get_or_past t place [] past, get_or_past (column j t) place (pos 0) (rw (length-map t (λ row. at row j)) past)) refl
+]
 
 same_places : (j : ℕ) (t : List (List ℤ)) (places : List ℕ) →
     map (λ row. at row j) (map (λ place. get_or t place []) places) ≡ map (λ place. at (column j t) place) places

@@ -14,10 +14,10 @@ use Rattle.inverse_transforms.specs.Columns.{TwoLanes, FourLanes, AllHold}
 -- a list that has g in each of the first n places, with g n put in at n
 pub place_more : (g : ℕ → ℤ) (u : List ℤ) (n : ℕ) (p : ℤ) → n < length u → p ≡ g n →
     ((j : ℕ) → j < n → at u j ≡ g j) → (j : ℕ) → j < n + 1 → at (set u n p) j ≡ g j
-place_more g u n p low is below = 
+place_more g u n p low is below =
     below_more (λ j. at (set u n p) j ≡ g j) n
-        (λ j h. get_or-set_other u n j p (pos 0) (λ same. omega arith) ∙ below j h)
-        (get_or-set_at u n n p (pos 0) refl low ∙ is)
+    (λ j h. get_or-set_other u n j p (pos 0) (λ same. omega arith) ∙ below j h)
+    (get_or-set_at u n n p (pos 0) refl low ∙ is)
 
 pub two_more : (f : ℤ → ℤ → Two) (x y u v : List ℤ) (n : ℕ) (r : Two) → n < length u → n < length v → r ≡ f (at x n) (at y n) →
     TwoLanes f x y u v n → TwoLanes f x y (set u n r.first) (set v n r.second) (n + 1)
@@ -120,14 +120,14 @@ pub four_step : (limit : ℕ) (f : ℤ → ℤ → ℤ → ℤ → Four) (a b c 
     here ≡ four_fit limit v →
     FourSoFar limit f a b c d p q r s n all →
     FourSoFar limit f a b c d (set p n (to_z w32 (of_z w32 v.first))) (set q n (to_z w32 (of_z w32 v.second)))
-        (set r n (to_z w32 (of_z w32 v.third))) (set s n (to_z w32 (of_z w32 v.fourth))) (n + 1) (all && here)
+    (set r n (to_z w32 (of_z w32 v.third))) (set s n (to_z w32 (of_z w32 v.fourth))) (n + 1) (all && here)
 four_step limit f a b c d p q r s n all here v in_i32 low small is tested so_far =
     let low_p : n < length p = omega (arith, so_far.p_size) in
     let low_q : n < length q = omega (arith, so_far.q_size) in
     let low_r : n < length r = omega (arith, so_far.r_size) in
     let low_s : n < length s = omega (arith, so_far.s_size) in
     let value : v ≡ f (at a n) (at b n) (at c n) (at d n) =
-        rw (kept (at a n) small.first, kept (at b n) small.second, kept (at c n) small.third, kept (at d n) small.fourth) at is in
+    rw (kept (at a n) small.first, kept (at b n) small.second, kept (at c n) small.third, kept (at d n) small.fourth) at is in
     let test = λ (j : ℕ). four_fit limit (f (at a j) (at b j) (at c j) (at d j)) in
     rw (to_z-of_z w32 v.first in_i32.first, to_z-of_z w32 v.second in_i32.second, to_z-of_z w32 v.third in_i32.third, to_z-of_z w32 v.fourth in_i32.fourth) record {
       p_size = simp length-set so_far.p_size;

@@ -35,8 +35,9 @@ four_small limit v most h =
 pub at_small : (xs : List ℤ) (i : ℕ) → All IsSmall xs → IsSmall (at xs i)
 at_small xs i h =
     elim (cases_lt i (length xs)) [
-    | inl low ↦ h i (pos 0) low
-    | inr past ↦ rw (get_or_past xs i (pos 0) past) (omega arith) ]
+      | inl low ↦ h i (pos 0) low
+      | inr past ↦ rw (get_or_past xs i (pos 0) past) (omega arith)
+    ]
 
 pub permuted_small : (order : List ℕ) (xs : List ℤ) → All IsSmall xs → All IsSmall (permuted order xs)
 permuted_small order xs h = All-map IsSmall (λ i. at xs i) (take (length xs) order) (λ k d low. at_small xs (get_or (take (length xs) order) k d) h)
@@ -62,7 +63,7 @@ stored_four_small limit xs ys a b c d v most small h =
     let k = kept (four_fit limit v) (set (set (set (set xs a v.first) b v.second) c v.third) d v.fourth) ys TransformRange h in
     let s = four_small limit v most k.0 in
     subst (All IsSmall) k.1 (All-set IsSmall _ d v.fourth s.3 (All-set IsSmall _ c v.third s.2
-        (All-set IsSmall _ b v.second s.1 (All-set IsSmall xs a v.first s.0 small))))
+    (All-set IsSmall _ b v.second s.1 (All-set IsSmall xs a v.first s.0 small))))
 
 pub step_small : (limit : ℕ) (row : FlowRow) (xs ys : List ℤ) → limit ≤ 2 ^ 24 → All IsSmall xs → step limit row xs ≡ Ok ys → All IsSmall ys
 unfolding step

@@ -18,8 +18,9 @@ use Rattle.inverse_transforms.specs.Transforms.{dct, adst, adst_rows, adst_quad,
 
 at_zeros : (n i : ℕ) → at (zeros n) i ≡ pos 0
 at_zeros n i = elim (cases_lt i n) [
-    | inl low ↦ get_or-replicate n i (pos 0) (pos 0) low
-    | inr past ↦ get_or_past (zeros n) i (pos 0) (rw (length-replicate n (pos 0)) past) ]
+  | inl low ↦ get_or-replicate n i (pos 0) (pos 0) low
+  | inr past ↦ get_or_past (zeros n) i (pos 0) (rw (length-replicate n (pos 0)) past)
+]
 
 set_zeros : (n i : ℕ) → set (zeros n) i (pos 0) ≡ zeros n
 set_zeros n i = ap (set (zeros n) i) (sym (at_zeros n i)) ∙ set-get_or (zeros n) i (pos 0)

@@ -69,7 +69,16 @@ fn negate(t: &mut [Lanes], a: u8, limit: u32) -> Result<(), Rule>
     Ok(())
 }
 
-fn rotate_wide(t: &mut [Lanes], a: u8, b: u8, first: u8, c: u8, d: u8, second: u8, limit: u32) -> Result<(), Rule>
+fn rotate_wide(
+    t: &mut [Lanes],
+    a: u8,
+    b: u8,
+    first: u8,
+    c: u8,
+    d: u8,
+    second: u8,
+    limit: u32,
+) -> Result<(), Rule>
     requires a { a < length t.old }
     requires b { b < length t.old }
     requires c { c < length t.old }
@@ -85,7 +94,15 @@ fn rotate_wide(t: &mut [Lanes], a: u8, b: u8, first: u8, c: u8, d: u8, second: u
     let x = t[b as usize];
     let y = t[c as usize];
     let z = t[d as usize];
-    let (p, q, r, s, fit) = rotated_wide_lanes(&w, &x, &y, &z, Turn::by(first), Turn::by(second), limit);
+    let (p, q, r, s, fit) = rotated_wide_lanes(
+        &w,
+        &x,
+        &y,
+        &z,
+        Turn::by(first),
+        Turn::by(second),
+        limit,
+    );
     if !fit {
         return Err(Rule::TransformRange);
     }

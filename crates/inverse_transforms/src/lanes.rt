@@ -78,7 +78,15 @@ pub fn negated_lanes(x: &Lanes, limit: u32) -> (Lanes, bool)
 }
 
 #[inline(always)]
-pub fn rotated_wide_lanes(a: &Lanes, b: &Lanes, c: &Lanes, d: &Lanes, first: Turn, second: Turn, limit: u32) -> FourRows
+pub fn rotated_wide_lanes(
+    a: &Lanes,
+    b: &Lanes,
+    c: &Lanes,
+    d: &Lanes,
+    first: Turn,
+    second: Turn,
+    limit: u32,
+) -> FourRows
     requires a { All IsSmall a.now }
     requires b { All IsSmall b.now }
     requires c { All IsSmall c.now }

@@ -8,6 +8,8 @@ mod laws;
 mod numbers;
 mod quads;
 mod steps;
+#[cfg(test)]
+mod tests;
 mod transforms;
 mod turn;
 pub mod values;

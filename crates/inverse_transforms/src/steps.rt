@@ -104,7 +104,13 @@ fn add(t: &mut [i32], a: u8, b: u8, limit: u32) -> Result<(), Rule>
     store_two(t, a, b, v, limit)
 }
 
-fn rotate_wide(t: &mut [i32], places: [u8; 4], first: u8, second: u8, limit: u32) -> Result<(), Rule>
+fn rotate_wide(
+    t: &mut [i32],
+    places: [u8; 4],
+    first: u8,
+    second: u8,
+    limit: u32,
+) -> Result<(), Rule>
     requires a { slice_index places 0 < length t.old }
     requires b { slice_index places 1 < length t.old }
     requires c { slice_index places 2 < length t.old }
@@ -115,7 +121,7 @@ fn rotate_wide(t: &mut [i32], places: [u8; 4], first: u8, second: u8, limit: u32
     requires small { All IsSmall t.old }
     ensures { Gives (store_four limit t.old (slice_index places 0) (slice_index places 1) (slice_index places 2) (slice_index places 3)
         (rotated_wide limit first second (at t.old (slice_index places 0)) (at t.old (slice_index places 1))
-            (at t.old (slice_index places 2)) (at t.old (slice_index places 3)))) result t.new }
+        (at t.old (slice_index places 2)) (at t.old (slice_index places 3)))) result t.new }
 {
     let [a, b, c, d] = places;
     let v = rotated_wide(

@@ -8,10 +8,9 @@ ghost use Rattle.inverse_transforms.specs.Transforms.{size_of, dct, adst, adst_r
 ghost use Rattle.inverse_transforms.specs.Columns.{GivesColumns};
 ghost use Rattle.inverse_transforms.specs.Ranges.{IsSmall, limit_of};
 
-use crate::lane_steps;
 use crate::lanes::Lanes;
 use crate::quads::{adst_of_4, wht_of_4};
-use crate::steps;
+use crate::{lane_steps, steps};
 use vp9_tables::{FlowRow, adst_8_flow, adst_16_flow, dct_flow};
 use vp9_types::{Depth, Rule, TxSize};
 

@@ -11,4 +11,4 @@ pub returns-clause-small : goal.returns-clause-small
 returns-clause-small c =
     let made = c.negated_lanes-fit in
     one_small_after c.args.limit neg_ℤ c.args.t.now c.args.a made.result.0 made.result.1
-        c.requires.limit (search rules) made.ensures.made c.if-not-fit.false made.ensures.fit c.requires.small
+    c.requires.limit (search rules) made.ensures.made c.if-not-fit.false made.ensures.fit c.requires.small

@@ -11,7 +11,7 @@ loop-j-preserved c =
     let in_i32 : FourFits c.adst_quad-v.result = record { first = search rules; second = search rules; third = search rules; fourth = search rules } in
     let small : FourSmall c.args.a.now c.args.b.now c.args.c.now c.args.d.now c.loop-j.j = record { first = search rules; second = search rules; third = search rules; fourth = search rules } in
     four_step c.args.limit (adst_quad c.args.limit) c.args.a.now c.args.b.now c.args.c.now c.args.d.now
-        _ _ _ _ _ _ _ c.adst_quad-v.result in_i32 c.loop-j-test.true small c.adst_quad-v.ensures c.four_fit-fit.ensures c.loop-j.invariant
+    _ _ _ _ _ _ _ c.adst_quad-v.result in_i32 c.loop-j-test.true small c.adst_quad-v.ensures c.four_fit-fit.ensures c.loop-j.invariant
 
 pub returns-clause-made : goal.returns-clause-made
 returns-clause-made c = (four_end _ _ _ _ _ _ _ _ _ _ _ _ c.loop-j.auto.j-end c.loop-j-test.false c.loop-j.invariant).made

@@ -9,4 +9,4 @@ loop-j-init c = two_begin _ _ _ _ _ _ refl refl
 pub loop-j-preserved : goal.loop-j-preserved
 loop-j-preserved c =
     two_step c.args.limit (rotated c.args.turn.angle) c.args.x.now c.args.y.now _ _ _ _ _ c.rotated-r.result (search rules) (search rules)
-        c.loop-j-test.true (search rules) (search rules) c.rotated-r.ensures c.two_fit-fit.ensures c.loop-j.invariant
+    c.loop-j-test.true (search rules) (search rules) c.rotated-r.ensures c.two_fit-fit.ensures c.loop-j.invariant

@@ -13,5 +13,5 @@ pub returns-clause-gives : goal.returns-clause-gives
 returns-clause-gives c =
     let not_two : nat_eq c.args.log2 2 ≡ false = search rules in
     gives_same (run (limit_of c.args.depth) (adst_rows c.args.log2)) (adst (limit_of c.args.depth) c.args.log2) c.flow.result c.args.t.now c.flow.new.t
-        (λ xs. by_rows (limit_of c.args.depth) c.args.log2 xs not_two)
-        (rw (c.adst_rows.ensures.table, c.limit_of-2.ensures.value) at c.flow.ensures.gives)
+    (λ xs. by_rows (limit_of c.args.depth) c.args.log2 xs not_two)
+    (rw (c.adst_rows.ensures.table, c.limit_of-2.ensures.value) at c.flow.ensures.gives)
