@@ -1,0 +1,7 @@
+-- Angles.
+use Rattle.std.specs.Prelude.{ℕ, ◌+◌, ◌%◌, ℤ}
+use Rattle.vp9_tables.specs.Transforms.{cosine_of}
+
+-- sin64
+abbrev pub sine_of : ℕ → ℤ
+sine_of k = cosine_of ((k + 96) % 128)

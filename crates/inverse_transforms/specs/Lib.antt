@@ -1,0 +1,5 @@
+pub mod Angles
+pub mod Ranges
+pub mod Flow
+pub mod Transforms
+pub mod Columns

@@ -1,0 +1,206 @@
+//! The steps of a flow on eight columns.
+
+ghost use Rattle.std.specs.Prelude.{◌≡◌, ℕ, ◌^◌, ◌≤◌, ◌<◌, length, take, slice_index, nat_lt, IsTrue, All, neg_ℤ};
+ghost use Rattle.std.specs.List.{list_all};
+ghost use Rattle.inverse_transforms.specs.Flow.{at, step, run, store_one, store_two, store_four, permuted, rotated, added, rotated_wide, is_within};
+ghost use Rattle.inverse_transforms.specs.Transforms.{adst_of_4};
+ghost use Rattle.inverse_transforms.specs.Columns.{GivesColumns, gathered};
+ghost use Rattle.inverse_transforms.specs.Ranges.{IsSmall};
+
+use crate::lanes::{
+    Lanes, added_lanes, adst_lanes, negated_lanes, rotated_lanes, rotated_wide_lanes,
+};
+use crate::turn::Turn;
+use vp9_tables::FlowRow;
+use vp9_types::Rule;
+
+fn rotate(t: &mut [Lanes], a: u8, b: u8, angle: u8, limit: u32) -> Result<(), Rule>
+    requires a { a < length t.old }
+    requires b { b < length t.old }
+    requires angle { angle < 128 }
+    requires limit { limit ≤ 2 ^ 24 }
+    requires small { All (All IsSmall) t.old }
+    ensures gives { GivesColumns (λ xs. store_two limit xs a b (rotated angle (at xs a) (at xs b))) result t.old t.new }
+    ensures small { All (All IsSmall) t.new }
+{
+    let x = t[a as usize];
+    let y = t[b as usize];
+    let (u, v, fit) = rotated_lanes(&x, &y, Turn::by(angle), limit);
+    if !fit {
+        return Err(Rule::TransformRange);
+    }
+    t[a as usize] = u;
+    t[b as usize] = v;
+    Ok(())
+}
+
+fn add(t: &mut [Lanes], a: u8, b: u8, limit: u32) -> Result<(), Rule>
+    requires a { a < length t.old }
+    requires b { b < length t.old }
+    requires limit { limit ≤ 2 ^ 24 }
+    requires small { All (All IsSmall) t.old }
+    ensures gives { GivesColumns (λ xs. store_two limit xs a b (added (at xs a) (at xs b))) result t.old t.new }
+    ensures small { All (All IsSmall) t.new }
+{
+    let x = t[a as usize];
+    let y = t[b as usize];
+    let (u, v, fit) = added_lanes(&x, &y, limit);
+    if !fit {
+        return Err(Rule::TransformRange);
+    }
+    t[a as usize] = u;
+    t[b as usize] = v;
+    Ok(())
+}
+
+fn negate(t: &mut [Lanes], a: u8, limit: u32) -> Result<(), Rule>
+    requires a { a < length t.old }
+    requires limit { limit ≤ 2 ^ 24 }
+    requires small { All (All IsSmall) t.old }
+    ensures gives { GivesColumns (λ xs. store_one limit xs a (neg_ℤ (at xs a))) result t.old t.new }
+    ensures small { All (All IsSmall) t.new }
+{
+    let x = t[a as usize];
+    let (u, fit) = negated_lanes(&x, limit);
+    if !fit {
+        return Err(Rule::TransformRange);
+    }
+    t[a as usize] = u;
+    Ok(())
+}
+
+fn rotate_wide(
+    t: &mut [Lanes],
+    a: u8,
+    b: u8,
+    first: u8,
+    c: u8,
+    d: u8,
+    second: u8,
+    limit: u32,
+) -> Result<(), Rule>
+    requires a { a < length t.old }
+    requires b { b < length t.old }
+    requires c { c < length t.old }
+    requires d { d < length t.old }
+    requires first { first < 128 }
+    requires second { second < 128 }
+    requires limit { limit ≤ 2 ^ 24 }
+    requires small { All (All IsSmall) t.old }
+    ensures gives { GivesColumns (λ xs. store_four limit xs a b c d (rotated_wide limit first second (at xs a) (at xs b) (at xs c) (at xs d))) result t.old t.new }
+    ensures small { All (All IsSmall) t.new }
+{
+    let w = t[a as usize];
+    let x = t[b as usize];
+    let y = t[c as usize];
+    let z = t[d as usize];
+    let (p, q, r, s, fit) = rotated_wide_lanes(
+        &w,
+        &x,
+        &y,
+        &z,
+        Turn::by(first),
+        Turn::by(second),
+        limit,
+    );
+    if !fit {
+        return Err(Rule::TransformRange);
+    }
+    t[a as usize] = p;
+    t[b as usize] = q;
+    t[c as usize] = r;
+    t[d as usize] = s;
+    Ok(())
+}
+
+/// The ADST of 4.
+#[tactic(auto, unfolding(crate::specs::Transforms::adst_of_4))]
+pub fn adst_of_4(t: &mut [Lanes], limit: u32) -> Result<(), Rule>
+    requires size { length t.old ≡ 4 }
+    requires limit { limit ≤ 2 ^ 24 }
+    requires small { All (All IsSmall) t.old }
+    ensures gives { GivesColumns (adst_of_4 limit) result t.old t.new }
+    ensures small { All (All IsSmall) t.new }
+{
+    let a = t[0];
+    let b = t[1];
+    let c = t[2];
+    let d = t[3];
+    let (p, q, r, s, fit) = adst_lanes(&a, &b, &c, &d, limit);
+    if !fit {
+        return Err(Rule::TransformRange);
+    }
+    t[0] = p;
+    t[1] = q;
+    t[2] = r;
+    t[3] = s;
+    Ok(())
+}
+
+/// Puts at each place of `t` the row that stands in `old` at the place that the order gives.
+fn gather(t: &mut [Lanes], old: &[Lanes], order: &[u8])
+    requires size { length t.old ≡ length old.now }
+    requires order { length t.old ≤ length order.now }
+    requires within { IsTrue (list_all (λ place. nat_lt place (length old.now)) (take (length old.now) order.now)) }
+    ensures { t.new ≡ gathered order.now old.now }
+{
+    for i in 0..t.len() {
+        t[i] = old[order[i] as usize];
+    }
+}
+
+fn permute(t: &mut [Lanes], spare: &mut [Lanes], order: &[u8])
+    requires size { length spare.old ≡ length t.old }
+    requires order { length t.old ≤ length order.now }
+    requires within { IsTrue (list_all (λ place. nat_lt place (length t.old)) (take (length t.old) order.now)) }
+    ensures { t.new ≡ gathered order.now t.old }
+{
+    spare.copy_from_slice(t);
+    gather(t, spare, order);
+}
+
+#[tactic(auto, unfolding(crate::specs::Flow::step))]
+fn apply(t: &mut [Lanes], spare: &mut [Lanes], row: &FlowRow, limit: u32) -> Result<(), Rule>
+    requires size { length t.old ≤ 32 }
+    requires spare { length spare.old ≡ length t.old }
+    requires within { IsTrue (is_within (length t.old) row.now) }
+    requires limit { limit ≤ 2 ^ 24 }
+    requires small { All (All IsSmall) t.old }
+    ensures gives { GivesColumns (step limit row.now) result t.old t.new }
+    ensures small { All (All IsSmall) t.new }
+{
+    match row {
+        FlowRow::Perm(order) => {
+            permute(t, spare, order);
+            Ok(())
+        }
+        FlowRow::Rot { a, b, angle } => rotate(t, *a, *b, *angle, limit),
+        FlowRow::Sum { a, b } => add(t, *a, *b, limit),
+        FlowRow::Neg { a } => negate(t, *a, limit),
+        FlowRow::Wide {
+            a,
+            b,
+            first_angle,
+            c,
+            d,
+            second_angle,
+        } => rotate_wide(t, *a, *b, *first_angle, *c, *d, *second_angle, limit),
+    }
+}
+
+/// The steps of a flow on eight columns.
+pub fn flow(t: &mut [Lanes], rows: &[FlowRow], limit: u32) -> Result<(), Rule>
+    requires size { length t.old ≤ 32 }
+    requires within { IsTrue (list_all (is_within (length t.old)) rows.now) }
+    requires limit { limit ≤ 2 ^ 24 }
+    requires small { All (All IsSmall) t.old }
+    ensures gives { GivesColumns (run limit rows.now) result t.old t.new }
+    ensures small { All (All IsSmall) t.new }
+{
+    let mut spare = [[0; 8]; 32];
+    let spare = &mut spare[..t.len()];
+    for row in rows {
+        apply(t, spare, row, limit)?;
+    }
+    Ok(())
+}

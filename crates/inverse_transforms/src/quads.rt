@@ -1,0 +1,166 @@
+//! The transforms of four values that are written as formulas.
+
+ghost use Rattle.std.specs.Prelude.{◌≡◌, ◌+◌, ◌*◌, ◌^◌, ◌≤◌, ◌<◌, ◌&&◌, unsigned_abs, length, All};
+ghost use Rattle.std.specs.Int.{int_shr};
+ghost use Rattle.inverse_transforms.specs.Flow.{wide, Gives};
+ghost use Rattle.inverse_transforms.specs.Transforms.{even_part, odd_part, middle_part, adst_quad, adst_of_4, last_lifts, middle_lifts, lifted, wht_quad, wht};
+ghost use Rattle.inverse_transforms.specs.Ranges.{IsSmall};
+
+use crate::numbers::{difference, half, is_wide, minus, plus, product, rounded, sum};
+use crate::steps::store_four;
+use crate::values::Four;
+use vp9_tables::sinpi;
+use vp9_types::Rule;
+
+#[inline(always)]
+fn even_part(x0: i32, x2: i32, x3: i32) -> i64
+    requires x0 { IsSmall x0 }
+    requires x2 { IsSmall x2 }
+    requires x3 { IsSmall x3 }
+    ensures value { result ≡ even_part x0 x2 x3 }
+    ensures size { unsigned_abs result ≤ 2 ^ 42 }
+{
+    sum(
+        sum(product(x0, sinpi(1)), product(x2, sinpi(4))),
+        product(x3, sinpi(2)),
+    )
+}
+
+#[inline(always)]
+fn odd_part(x0: i32, x2: i32, x3: i32) -> i64
+    requires x0 { IsSmall x0 }
+    requires x2 { IsSmall x2 }
+    requires x3 { IsSmall x3 }
+    ensures value { result ≡ odd_part x0 x2 x3 }
+    ensures size { unsigned_abs result ≤ 2 ^ 42 }
+{
+    difference(
+        difference(product(x0, sinpi(2)), product(x2, sinpi(1))),
+        product(x3, sinpi(4)),
+    )
+}
+
+/// Whether the three sums of the ADST of 4 are in range.
+#[inline(always)]
+fn are_wide(p: i64, q: i64, t: i64, limit: u32) -> bool
+    requires { limit ≤ 2 ^ 24 }
+    ensures { result ≡ (wide limit p && (wide limit q && wide limit t)) }
+{
+    is_wide(p, limit) & is_wide(q, limit) & is_wide(t, limit)
+}
+
+#[inline(always)]
+#[tactic(auto, unfolding(crate::specs::Transforms::adst_quad))]
+pub fn adst_quad(x0: i32, x1: i32, x2: i32, x3: i32, limit: u32) -> Four
+    requires x0 { IsSmall x0 }
+    requires x1 { IsSmall x1 }
+    requires x2 { IsSmall x2 }
+    requires x3 { IsSmall x3 }
+    requires limit { limit ≤ 2 ^ 24 }
+    ensures { result ≡ adst_quad limit x0 x1 x2 x3 }
+{
+    let p = even_part(x0, x2, x3);
+    let q = odd_part(x0, x2, x3);
+    let t = product(x1, sinpi(3));
+    Four {
+        in_range: are_wide(p, q, t, limit),
+        first: rounded(sum(p, t)),
+        second: rounded(sum(q, t)),
+        third: rounded(product(plus(minus(x0, x2), x3), sinpi(3))),
+        fourth: rounded(difference(sum(p, q), t)),
+    }
+}
+
+#[inline(always)]
+#[tactic(auto, unfolding(crate::specs::Transforms::last_lifts))]
+fn last_lifts(a: i32, b: i32, c: i32, d: i32) -> Four
+    requires a { unsigned_abs a ≤ 2 ^ 28 }
+    requires b { unsigned_abs b ≤ 2 ^ 28 }
+    requires c { unsigned_abs c ≤ 2 ^ 28 }
+    requires d { unsigned_abs d ≤ 2 ^ 28 }
+    ensures { result ≡ last_lifts a b c d }
+{
+    Four {
+        in_range: true,
+        first: minus(a, b),
+        second: b,
+        third: c,
+        fourth: plus(d, c),
+    }
+}
+
+#[inline(always)]
+#[tactic(auto, unfolding(crate::specs::Transforms::middle_lifts))]
+fn middle_lifts(a: i32, b: i32, c: i32, d: i32) -> Four
+    requires a { unsigned_abs a ≤ 2 ^ 25 }
+    requires b { unsigned_abs b ≤ 2 ^ 25 }
+    requires c { unsigned_abs c ≤ 2 ^ 25 }
+    requires d { unsigned_abs d ≤ 2 ^ 25 }
+    ensures { result ≡ middle_lifts a b c d }
+{
+    let e = half(minus(a, d));
+    last_lifts(a, minus(e, b), minus(e, c), d)
+}
+
+#[inline(always)]
+#[tactic(auto, unfolding(crate::specs::Transforms::lifted))]
+fn lifted(a: i32, c: i32, d: i32, b: i32) -> Four
+    requires a { IsSmall a }
+    requires c { IsSmall c }
+    requires d { IsSmall d }
+    requires b { IsSmall b }
+    ensures { result ≡ lifted a c d b }
+{
+    middle_lifts(plus(a, c), b, c, minus(d, b))
+}
+
+#[inline(always)]
+fn shifted(x: i32, shift: u8) -> i32
+    requires x { IsSmall x }
+    requires shift { shift ≤ 2 }
+    ensures value { result ≡ int_shr x shift }
+    ensures size { IsSmall result }
+{
+    x >> shift
+}
+
+#[inline(always)]
+#[tactic(auto, unfolding(crate::specs::Transforms::wht_quad))]
+fn wht_quad(x0: i32, x1: i32, x2: i32, x3: i32, shift: u8) -> Four
+    requires x0 { IsSmall x0 }
+    requires x1 { IsSmall x1 }
+    requires x2 { IsSmall x2 }
+    requires x3 { IsSmall x3 }
+    requires shift { shift ≤ 2 }
+    ensures { result ≡ wht_quad shift x0 x1 x2 x3 }
+{
+    lifted(
+        shifted(x0, shift),
+        shifted(x1, shift),
+        shifted(x2, shift),
+        shifted(x3, shift),
+    )
+}
+
+#[tactic(auto, unfolding(crate::specs::Transforms::adst_of_4))]
+pub fn adst_of_4(t: &mut [i32], limit: u32) -> Result<(), Rule>
+    requires size { length t.old ≡ 4 }
+    requires limit { limit ≤ 2 ^ 24 }
+    requires small { All IsSmall t.old }
+    ensures { Gives (adst_of_4 limit t.old) result t.new }
+{
+    let v = adst_quad(t[0], t[1], t[2], t[3], limit);
+    store_four(t, [0, 1, 2, 3], v, limit)
+}
+
+#[tactic(auto, unfolding(crate::specs::Transforms::wht))]
+pub fn wht_of_4(t: &mut [i32], shift: u8, limit: u32) -> Result<(), Rule>
+    requires size { length t.old ≡ 4 }
+    requires shift { shift ≤ 2 }
+    requires limit { limit ≤ 2 ^ 24 }
+    requires small { All IsSmall t.old }
+    ensures { Gives (wht limit shift t.old) result t.new }
+{
+    let v = wht_quad(t[0], t[1], t[2], t[3], shift);
+    store_four(t, [0, 1, 2, 3], v, limit)
+}
