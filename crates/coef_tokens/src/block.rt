@@ -4,7 +4,7 @@ ghost use Rattle.std.specs.Prelude.{◌≡◌, ◌+◌, ◌*◌, ◌<◌, ◌≤
 ghost use Rattle.std.specs.List.{All};
 ghost use Rattle.bool_decoder.specs.Bools.{Reads};
 ghost use Rattle.bool_decoder.specs.Held.{window_of};
-ghost use Rattle.prob_contexts.specs.Counted.{counts_after, number_counted};
+ghost use Rattle.prob_contexts.specs.Counted.{counts_after};
 ghost use Rattle.prob_contexts.specs.Lists.{lists_of};
 ghost use Rattle.vp9_tables.specs.Scans.{area};
 ghost use Rattle.coef_tokens.specs.Places.{Progress, block_tokens, HoldsLevels};
@@ -81,11 +81,9 @@ pub fn tokens(
     requires first { at.first ≤ 2 }
     requires long { length levels.old ≡ area at.tx }
     requires clear { HoldsLevels levels.old [] }
-    requires few { number_counted counts.old < 2 ^ 48 }
     ensures read { (p : Progress) × Reads (block_tokens (block_tables (lists_of contexts.now) at)) (window_of decoder.old) p (window_of decoder.new)
         × (result ≡ p.count) × HoldsLevels levels.new p.reads × (counts.new ≡ counts_after counts.old p.counted) }
     ensures most { result ≤ area at.tx }
-    ensures few { number_counted counts.new < number_counted counts.old + 4096 }
     ensures small { All (λ level. unsigned_abs level < 2 ^ 19) levels.new }
 {
     let tables = tables_for(contexts, at);

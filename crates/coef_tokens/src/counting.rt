@@ -1,7 +1,7 @@
 //! The counts of one place.
 
 ghost use Rattle.std.specs.Prelude.{◌≡◌, ◌+◌, ◌<◌, ◌≤◌, ◌^◌};
-ghost use Rattle.prob_contexts.specs.Counted.{counts_after, number_counted};
+ghost use Rattle.prob_contexts.specs.Counted.{counts_after};
 ghost use Rattle.coef_tokens.specs.Places.{counted_bools};
 
 use crate::step::Step;
@@ -11,10 +11,8 @@ use prob_contexts::{Counts, ProbKind};
 #[inline(always)]
 #[tactic(auto, unfolding(crate::specs::Places::counted_bools, prob_contexts::specs::Counted::counts_after))]
 pub(crate) fn count_step(counts: &mut Counts, place: u16, check: bool, step: Step)
-    requires place { place + 2 < 1584 }
-    requires few { number_counted counts.old < 2 ^ 62 }
-    ensures counted { counts.new ≡ counts_after counts.old (counted_bools place check step) }
-    ensures total { number_counted counts.new ≤ number_counted counts.old + 3 }
+    requires { place + 2 < 1584 }
+    ensures { counts.new ≡ counts_after counts.old (counted_bools place check step) }
 {
     let more = !matches!(step, Step::End);
     if check {

@@ -4,7 +4,7 @@ ghost use Rattle.std.specs.Prelude.{◌≡◌, ◌+◌, ◌*◌, ◌<◌, ◌≤
 ghost use Rattle.std.specs.List.{All};
 ghost use Rattle.bool_decoder.specs.Bools.{Reads};
 ghost use Rattle.bool_decoder.specs.Held.{window_of};
-ghost use Rattle.prob_contexts.specs.Counted.{counts_after, number_counted};
+ghost use Rattle.prob_contexts.specs.Counted.{counts_after};
 ghost use Rattle.coef_tokens.specs.Places.{Progress, block_tokens, nothing_read, HoldsClasses, HoldsLevels, context_at, row_at, Read};
 ghost use Rattle.coef_tokens.specs.Blocks.{tables_of, FitTables};
 
@@ -75,11 +75,9 @@ pub(crate) fn read_places(
     requires long { length levels.old ≡ length cache.old }
     requires empty { HoldsClasses cache.old [] }
     requires clear { HoldsLevels levels.old [] }
-    requires few { number_counted counts.old < 2 ^ 48 }
     ensures read { (p : Progress) × Reads (block_tokens (tables_of tables.now)) (window_of decoder.old) p (window_of decoder.new)
         × (result ≡ p.count) × HoldsLevels levels.new p.reads × (counts.new ≡ counts_after counts.old p.counted) }
     ensures most { result ≤ length tables.now.scan.now }
-    ensures few { number_counted counts.new ≤ number_counted counts.old + 3 * length tables.now.scan.now }
     ensures small { All (λ level. unsigned_abs level < 2 ^ 19) levels.new }
 {
     let mut check = true;

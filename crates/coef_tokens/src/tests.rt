@@ -1,7 +1,6 @@
 mod rows;
 
 ghost use Rattle.std.specs.Prelude.{◌≡◌, ◌≤◌, ◌<◌, ◌^◌, [], length};
-ghost use Rattle.prob_contexts.specs.Counted.{number_counted};
 ghost use Rattle.vp9_tables.specs.Scans.{area};
 ghost use Rattle.coef_tokens.specs.Places.{HoldsLevels};
 

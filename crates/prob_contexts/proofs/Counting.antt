@@ -1,15 +1,15 @@
 -- Counts stand for lists of bools.
-use Rattle.std.proofs.Common.{◌≡◌, ◌<◌, ◌≤◌, ◌+◌, ◌*◌, ◌/◌, ◌%◌, ◌&&◌, ◌||◌, not, inl, inr, ℕ, true, false, refl, sym, ◌∙◌, ap, arith, List, [], ◌∷◌, ◌++◌, length, get_or, take, set, cond, Bool}
-use Rattle.std.specs.Prelude.{nat_lt, nat_le, nat_eq, sum, count_by, slice_index}
+use Rattle.std.proofs.Common.{◌≡◌, ◌<◌, ◌≤◌, ◌+◌, ◌*◌, ◌-◌, ◌^◌, ◌/◌, ◌%◌, ◌&&◌, ◌||◌, not, inl, inr, ℕ, true, false, refl, sym, ◌∙◌, ap, arith, List, [], ◌∷◌, ◌++◌, length, get_or, take, set, cond, Bool}
+use Rattle.std.specs.Prelude.{min, nat_lt, nat_le, nat_eq, sum, count_by, slice_index}
 use Rattle.std.specs.List.{sum_by, AllByRecursion}
 use Rattle.std.proofs.lemmas.Bool.{cases_Bool, cases_order, and_parts, agree_below_at, eqb-true, eq-eqb, leb-true, lt-ltb}
 use Rattle.std.proofs.lemmas.List.{length_push, get_or-set_same, get_or-set_other, length-set, length-replicate, get_or-replicate, append_assoc, append-nil}
-use Rattle.std.proofs.lemmas.List.Sums.{sum_by-set, sum_by_push, sum_by_from}
+use Rattle.std.proofs.lemmas.List.Sums.{count_by-le-length, sum_by-set, sum_by_push, sum_by_from}
 use Rattle.prob_contexts.specs.declared.kind.CountedBool.{CountedBool}
 use Rattle.prob_contexts.specs.declared.kind.ProbKind.{ProbKind}
 use Rattle.prob_contexts.specs.declared.kind.ProbKind.TheVariants as kind
 use Rattle.prob_contexts.specs.Kinds.{kind_number, kind_sizes, kind_start}
-use Rattle.prob_contexts.specs.Counted.{StandFor, IsCounted, no_counts, with_bool, counts_after, counter_place, counter_of, bool_number, is_same}
+use Rattle.prob_contexts.specs.Counted.{StandFor, IsCounted, no_counts, with_bool, counts_after, most_counted, counter_place, counter_of, bool_number, is_same}
 
 number_low : (k : ProbKind) → kind_number k < 23
 number_low kind.Tx8x8 = omega arith
@@ -116,11 +116,13 @@ total_more xs i low =
     let step = sum_by-set (λ x. x) xs i (get_or xs i 0 + 1) 0 low in
     omega arith
 
-pub one_more : (counts : List ℕ) (bools : List CountedBool) (b : CountedBool) → StandFor counts bools → IsCounted b → StandFor (with_bool counts b) (bools ++ b ∷ [])
+pub one_more : (counts : List ℕ) (bools : List CountedBool) (b : CountedBool) → StandFor counts bools → IsCounted b → length bools < 2 ^ 64 - 1 → StandFor (with_bool counts b) (bools ++ b ∷ [])
 unfolding with_bool
-one_more counts bools b s lb =
+one_more counts bools b s lb few =
     let low : counter_place b < length counts = rw s.size (place_low b lb) in
-    record {
+    let most : counter_of counts b ≤ length bools = rw (s.each b lb) (count_by-le-length (is_same b) bools) in
+    let plain : min (counter_of counts b + 1) most_counted ≡ counter_of counts b + 1 = omega arith in
+    rw plain record {
       size = length-set _ _ _ ∙ s.size;
       each = λ a la. rw (count_push (is_same a) bools b, sym (s.each a la)) (elim (cases_Bool (is_same a b)) [
         | inl same ↦ rw (same, same_place a b same) (get_or-set_same counts (counter_place b) (counter_of counts b + 1) 0 low)
@@ -132,8 +134,10 @@ one_more counts bools b s lb =
     cc' : (a b : CountedBool) → IsCounted a → IsCounted b → counter_place a ≡ counter_place b → is_same a b ≡ false → ⊥
     cc' a b la lb e other = let yes = same_bool a b la lb e in cc
 
-pub all_more : (counts : List ℕ) (bools more : List CountedBool) → StandFor counts bools → AllByRecursion IsCounted more → StandFor (counts_after counts more) (bools ++ more)
+pub all_more : (counts : List ℕ) (bools more : List CountedBool) → StandFor counts bools → AllByRecursion IsCounted more → length bools + length more < 2 ^ 64 → StandFor (counts_after counts more) (bools ++ more)
 unfolding counts_after
-all_more counts bools [] s all = rw append-nil s
-all_more counts bools (b ∷ more) s all =
-    rw append_assoc at (all_more (with_bool counts b) (bools ++ b ∷ []) more (one_more counts bools b s all.0) all.1)
+all_more counts bools [] s all few = rw append-nil s
+all_more counts bools (b ∷ more) s all few =
+    let first : length bools < 2 ^ 64 - 1 = omega arith in
+    let rest : length (bools ++ b ∷ []) + length more < 2 ^ 64 = rw (length_push bools b) (omega arith) in
+    rw append_assoc at (all_more (with_bool counts b) (bools ++ b ∷ []) more (one_more counts bools b s all.0 first) all.1 rest)

@@ -1,5 +1,5 @@
 -- Counts of bools (8.4.2 of the standard: counters of syntax elements, here by the bools that leave each node).
-use Rattle.std.specs.Prelude.{◌≡◌, ℕ, ◌+◌, ◌*◌, ◌<◌, Bool, true, false, ◌&&◌, List, length, replicate, slice_index, slice_set, sum, nat_eq, count_by}
+use Rattle.std.specs.Prelude.{◌≡◌, ℕ, ◌+◌, ◌-◌, ◌*◌, ◌^◌, ◌<◌, Bool, true, false, ◌&&◌, List, length, replicate, slice_index, slice_set, sum, min, nat_eq, count_by}
 use Rattle.std.specs.List.{fold}
 use Rattle.prob_contexts.specs.declared.kind.CountedBool.{CountedBool}
 use Rattle.prob_contexts.specs.Kinds.{kind_number, kind_size, kind_start}
@@ -23,9 +23,13 @@ counter_of counts b = slice_index counts (counter_place b)
 abbrev pub no_counts : List ℕ
 no_counts = replicate 3790 0
 
+-- the greatest count, at which a counter stands still
+abbrev pub most_counted : ℕ
+most_counted = 2 ^ 64 - 1
+
 -- one more
 unfoldable pub with_bool : List ℕ → CountedBool → List ℕ
-with_bool counts b = slice_set counts (counter_place b) (counter_of counts b + 1)
+with_bool counts b = slice_set counts (counter_place b) (min (counter_of counts b + 1) most_counted)
 
 -- the counts after all of these
 unfoldable pub counts_after : List ℕ → List CountedBool → List ℕ
@@ -38,7 +42,7 @@ number_counted counts = sum counts
 abbrev pub is_same : CountedBool → CountedBool → Bool
 is_same a b = nat_eq (kind_number a.kind) (kind_number b.kind) && (nat_eq a.place b.place && nat_eq (bool_number a.one) (bool_number b.one))
 
--- each counter is the number of its bools, and there are no others
+-- each counter is the number of its bools, and there are no others; it is so for fewer than 2 ^ 64 of them
 pub record StandFor (counts : List ℕ) (bools : List CountedBool) : Type 0 where
   pub size : length counts ≡ 3790
   pub each : (b : CountedBool) → IsCounted b → counter_of counts b ≡ count_by (is_same b) bools

@@ -18,7 +18,7 @@ impl Model for Counts {
 }
 
 impl Counts {
-    ghost use Rattle.prob_contexts.specs.Counted.{no_counts, with_bool, counter_of, number_counted};
+    ghost use Rattle.prob_contexts.specs.Counted.{no_counts, with_bool, counter_of};
     ghost use Rattle.prob_contexts.specs.Kinds.{kind_size};
 
     /// Nothing is counted.
@@ -30,16 +30,14 @@ impl Counts {
         }
     }
 
-    /// Counts a bool that left the node at a place of its kind.
+    /// Counts a bool that left the node at a place of its kind. A counter stands still at its type's end.
     #[inline(always)]
     pub fn count(&mut self, kind: ProbKind, place: u16, one: bool)
-        requires place { place < kind_size kind }
-        requires few { number_counted self.old < 2 ^ 63 }
-        ensures counted { self.new ≡ with_bool self.old (record { kind = kind; place = place; one = one }) }
-        ensures total { number_counted self.new ≡ number_counted self.old + 1 }
+        requires { place < kind_size kind }
+        ensures { self.new ≡ with_bool self.old (record { kind = kind; place = place; one = one }) }
     {
         let at = counter_at(kind, place, one);
-        self.counters[at] += 1;
+        self.counters[at] = self.counters[at].saturating_add(1);
     }
 
     /// How often the node at a place of its kind was left by a 0 or by a 1.

@@ -10,14 +10,13 @@ pub loop-place-init : goal.loop-place-init
 loop-place-init c = record {
   low = no_classes c.args.cache.now c.requires.empty;
   small = no_levels c.args.levels.now c.requires.clear;
-  few = omega arith;
   stands = begins (tables_of c.args.tables.now) (window_of c.args.decoder.now) c.args.counts.now c.args.cache.now c.args.levels.now c.requires.empty c.requires.clear;
 }
 
 pub returns-in-End-clause-read : goal.returns-in-End-clause-read
 returns-in-End-clause-read c =
     let e = ends_here (tables_of c.args.tables.now) _ c.args.counts.now c.loop-place.place c.row_of-row.result c.loop-place.check c.loop-place.cache c.loop-place.levels
-    c.loop-place.counts _ _ _ c.loop-place.invariant.stands c.loop-place-test.true c.row_of-row.ensures.value c.in-End.ensures.read (rw c.in-End.is at c.count_step.ensures.counted) in
+    c.loop-place.counts _ _ _ c.loop-place.invariant.stands c.loop-place-test.true c.row_of-row.ensures.value c.in-End.ensures.read (rw c.in-End.is at c.count_step.ensures) in
     (e.0, e.1, e.2, e.3, e.4)
 
 pub loop-place-preserved : goal.loop-place-preserved
@@ -28,9 +27,8 @@ loop-place-preserved c =
       | in-Zero w ↦ rw (w.cache-is, w.levels-is, w.check-is) record {
         low = old.low;
         small = old.small;
-        few = omega arith;
         stands = zero_turn t _ c.args.counts.now c.loop-place.place c.row_of-row.result c.loop-place.check c.loop-place.cache c.loop-place.levels
-            c.loop-place.counts _ _ _ old.stands c.loop-place-test.true c.row_of-row.ensures.value w.in-Zero.ensures.read (rw w.in-Zero.is at c.count_step.ensures.counted);
+            c.loop-place.counts _ _ _ old.stands c.loop-place-test.true c.row_of-row.ensures.value w.in-Zero.ensures.read (rw w.in-Zero.is at c.count_step.ensures);
       }
       | in-Level w ↦
           let position : get_or t.scan c.loop-place.place 0 < length c.args.cache.now = c.requires.tables.positions c.loop-place.place 0 c.loop-place-test.true in
@@ -39,10 +37,9 @@ loop-place-preserved c =
           rw (w.cache-is, w.levels-is, w.check-is, kept w.in-Level.level w.in-Level.ensures.small.0) record {
             low = All-set (λ class. class ≤ 5) c.loop-place.cache (get_or t.scan c.loop-place.place 0) w.in-Level.class w.in-Level.ensures.small.1 old.low;
             small = All-set (λ level. unsigned_abs level < 2 ^ 19) c.loop-place.levels (get_or t.scan c.loop-place.place 0) w.in-Level.level w.in-Level.ensures.small.0 old.small;
-            few = omega arith;
             stands = level_turn t _ c.args.counts.now c.loop-place.place c.row_of-row.result c.loop-place.check c.loop-place.cache c.loop-place.levels
                 c.loop-place.counts _ _ _ w.in-Level.level w.in-Level.class old.stands c.loop-place-test.true c.row_of-row.ensures.value w.in-Level.ensures.read
-                (rw w.in-Level.is at c.count_step.ensures.counted) inside within;
+                (rw w.in-Level.is at c.count_step.ensures) inside within;
           }
     ]
 
