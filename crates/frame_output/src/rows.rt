@@ -1,0 +1,74 @@
+ghost use Rattle.std.specs.Prelude.{◌≡◌, ◌+◌, ◌*◌, ◌<◌, ◌≤◌, ◌^◌, ℕ, EachIndex, length, slice_index, take};
+ghost use Rattle.vp9_types.specs.declared.shape.Depth.TheVariants.{Eight};
+ghost use Rattle.frame_output.specs.Texts.{row_text, rows_text, sample_size, two_bytes};
+ghost use Rattle.std.specs.List.{flat_map};
+
+use vp9_types::{Depth, Plane, Samples};
+
+pub(crate) fn sample_bytes(depth: Depth) -> usize
+    ensures value { result ≡ sample_size depth }
+    ensures small { result ≤ 2 }
+{
+    match depth {
+        Depth::Eight => 1,
+        Depth::Ten | Depth::Twelve => 2,
+    }
+}
+
+// Writes `count` rows of a plane to the front of the buffer, from row `from` on.
+pub(crate) fn write_rows<S: Samples>(
+    samples: &S,
+    plane: Plane,
+    depth: Depth,
+    width: usize,
+    from: usize,
+    count: usize,
+    buffer: &mut [u8],
+)
+    requires near { from + count < 2 ^ 32 }
+    requires narrow { width < 2 ^ 32 }
+    requires wide { width ≤ S.width samples.now plane }
+    requires held { (y : ℕ) → y < from + count → S.holds samples.now plane y }
+    requires small { depth ≡ Eight → (y x : ℕ) → y < from + count → x < width → S.map samples.now plane y x < 256 }
+    requires room { count * (sample_size depth * width) ≤ length buffer.old }
+    ensures { take (count * (sample_size depth * width)) buffer.new ≡ rows_text depth width (S.map samples.now plane) from count }
+{
+    let row_bytes = sample_bytes(depth) * width;
+    for i in 0..count {
+        let at = i * row_bytes;
+        let row = samples.row(plane, (from + i) as u32);
+        write_row(depth, &row[..width], &mut buffer[at..at + row_bytes]);
+    }
+}
+
+fn write_row(depth: Depth, row: &[u16], bytes: &mut [u8])
+    requires long { length bytes.old ≡ sample_size depth * length row.now }
+    requires small { depth ≡ Eight → EachIndex row.now (λ k. slice_index row.now k < 256) }
+    ensures { bytes.new ≡ row_text depth row.now }
+{
+    match depth {
+        Depth::Eight => write_bytes(row, bytes),
+        Depth::Ten | Depth::Twelve => write_pairs(row, bytes),
+    }
+}
+
+fn write_bytes(row: &[u16], bytes: &mut [u8])
+    requires long { length bytes.old ≡ length row.now }
+    requires small { EachIndex row.now (λ k. slice_index row.now k < 256) }
+    ensures { bytes.new ≡ row.now }
+{
+    for i in 0..row.len() {
+        bytes[i] = row[i] as u8;
+    }
+}
+
+fn write_pairs(row: &[u16], bytes: &mut [u8])
+    requires long { length bytes.old ≡ 2 * length row.now }
+    ensures { bytes.new ≡ flat_map two_bytes row.now }
+{
+    for i in 0..row.len() {
+        let sample = row[i];
+        bytes[2 * i] = (sample % 256) as u8;
+        bytes[2 * i + 1] = (sample / 256) as u8;
+    }
+}
