@@ -159,3 +159,6 @@ clear_at n p = elim (cases_lt p n) [
   | inl low ↦ rw get_or-replicate refl
   | inr past ↦ let zero : ℤ = pos 0 in get_or_past (replicate n zero) p (pos 0) (omega (arith, length-replicate n zero))
 ]
+
+pub no_turn : (n : ℕ) → n + 1 ≡ 0 → ⊥
+no_turn n e = omega arith

@@ -84,6 +84,7 @@ pub fn tokens(
     ensures read { (p : Progress) × Reads (block_tokens (block_tables (lists_of contexts.now) at)) (window_of decoder.old) p (window_of decoder.new)
         × (result ≡ p.count) × HoldsLevels levels.new p.reads × (counts.new ≡ counts_after counts.old p.counted) }
     ensures most { result ≤ area at.tx }
+    ensures none { result ≡ 0 → levels.new ≡ levels.old }
     ensures small { All (λ level. unsigned_abs level < 2 ^ 19) levels.new }
 {
     let tables = tables_for(contexts, at);

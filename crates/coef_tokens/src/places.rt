@@ -78,6 +78,7 @@ pub(crate) fn read_places(
     ensures read { (p : Progress) × Reads (block_tokens (tables_of tables.now)) (window_of decoder.old) p (window_of decoder.new)
         × (result ≡ p.count) × HoldsLevels levels.new p.reads × (counts.new ≡ counts_after counts.old p.counted) }
     ensures most { result ≤ length tables.now.scan.now }
+    ensures none { result ≡ 0 → levels.new ≡ levels.old }
     ensures small { All (λ level. unsigned_abs level < 2 ^ 19) levels.new }
 {
     let mut check = true;

@@ -1,8 +1,8 @@
-use Rattle.std.proofs.Common.{◌≡◌, ◌≤◌, ◌<◌, ◌^◌, arith, length, get_or, unsigned_abs}
+use Rattle.std.proofs.Common.{◌≡◌, ◌≤◌, ◌<◌, ◌^◌, refl, arith, length, get_or, unsigned_abs}
 use Rattle.std.proofs.lemmas.List.Elements.{All-set}
 use Rattle.bool_decoder.specs.Held.{window_of}
 use Rattle.coef_tokens.specs.Blocks.{tables_of}
-use Rattle.coef_tokens.proofs.Turns.{begins, ends_here, ends_at_last, zero_turn, level_turn, no_classes, no_levels, kept}
+use Rattle.coef_tokens.proofs.Turns.{no_turn, begins, ends_here, ends_at_last, zero_turn, level_turn, no_classes, no_levels, kept}
 use Rattle.coef_tokens.proofs.places.read_places.Goals as goal
 use Rattle.coef_tokens.proofs.places.read_places.Goals.{in-Zero, in-Level}
 
@@ -10,6 +10,7 @@ pub loop-place-init : goal.loop-place-init
 loop-place-init c = record {
   low = no_classes c.args.cache.now c.requires.empty;
   small = no_levels c.args.levels.now c.requires.clear;
+  fresh = λ _. refl;
   stands = begins (tables_of c.args.tables.now) (window_of c.args.decoder.now) c.args.counts.now c.args.cache.now c.args.levels.now c.requires.empty c.requires.clear;
 }
 
@@ -27,6 +28,7 @@ loop-place-preserved c =
       | in-Zero w ↦ rw (w.cache-is, w.levels-is, w.check-is) record {
         low = old.low;
         small = old.small;
+        fresh = λ e. absurd (no_turn c.loop-place.place e);
         stands = zero_turn t _ c.args.counts.now c.loop-place.place c.row_of-row.result c.loop-place.check c.loop-place.cache c.loop-place.levels
             c.loop-place.counts _ _ _ old.stands c.loop-place-test.true c.row_of-row.ensures.value w.in-Zero.ensures.read (rw w.in-Zero.is at c.count_step.ensures);
       }
@@ -37,6 +39,7 @@ loop-place-preserved c =
           rw (w.cache-is, w.levels-is, w.check-is, kept w.in-Level.level w.in-Level.ensures.small.0) record {
             low = All-set (λ class. class ≤ 5) c.loop-place.cache (get_or t.scan c.loop-place.place 0) w.in-Level.class w.in-Level.ensures.small.1 old.low;
             small = All-set (λ level. unsigned_abs level < 2 ^ 19) c.loop-place.levels (get_or t.scan c.loop-place.place 0) w.in-Level.level w.in-Level.ensures.small.0 old.small;
+            fresh = λ e. absurd (no_turn c.loop-place.place e);
             stands = level_turn t _ c.args.counts.now c.loop-place.place c.row_of-row.result c.loop-place.check c.loop-place.cache c.loop-place.levels
                 c.loop-place.counts _ _ _ w.in-Level.level w.in-Level.class old.stands c.loop-place-test.true c.row_of-row.ensures.value w.in-Level.ensures.read
                 (rw w.in-Level.is at c.count_step.ensures) inside within;
