@@ -1,8 +1,8 @@
 #!/usr/bin/env python3
-"""Prints the data of crates/compressed_header/src/tests/cases.rt: compressed headers of real streams and what they make of
-the default probabilities.
+"""Prints the data of crates/compressed_header/src/tests: compressed headers and what they make of the default
+probabilities. With STREAMS it is streams.rt, headers of real streams, and without it made.rt, headers of drawn bytes.
 
-    tools/compressed_headers.py TABLES STREAMS
+    tools/compressed_headers.py TABLES [STREAMS]
 
 TABLES has the constant tables as plain numbers, a file each, STREAMS the streams. The script reads IVF, superframes,
 uncompressed headers, bools and updates by itself, by the numbers without bound of the standard's section 9.2.
@@ -406,7 +406,6 @@ def cases(folder):
         of_stream = heads(f"{folder}/{name}.ivf")
         for number in numbers:
             yield f"{name}, frame {number}", of_stream[number]
-    yield from MADE
 
 
 def flag(value):
@@ -440,7 +439,8 @@ def printed(name, head, start):
 
 def main():
     start = defaults(sys.argv[1])
-    printed_cases = [printed(name, head, start) for name, head in cases(sys.argv[2])]
+    chosen = cases(sys.argv[2]) if len(sys.argv) > 2 else MADE
+    printed_cases = [printed(name, head, start) for name, head in chosen]
     print("//! What tools/compressed_headers.py prints.\n")
     print("use super::{Case, Kind};")
     print("use vp9_types::{ReferenceMode, TxMode};\n")
