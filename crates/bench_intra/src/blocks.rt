@@ -8,8 +8,11 @@ use std::alloc::{AllocError, Global};
 use vp9_types::{Depth, IntraMode, TxSize};
 
 const WIDTH: usize = 1920;
+
 const HEIGHT: usize = 1080;
+
 const SAMPLES: usize = WIDTH * HEIGHT;
+
 const SEED: u32 = 4;
 
 /// The next state of a linear congruential generator, whose highest byte is what it draws.

@@ -1,14 +1,13 @@
 -- What the edges of a block depend on.
-use Rattle.std.proofs.Common.{◌≡◌, ◌<◌, ◌≤◌, ◌+◌, ◌*◌, ◌-◌, ◌||◌, inl, inr, ℕ, Bool, true, false, refl, ◌∙◌, arith, List, get_or, min, map}
+use Rattle.std.proofs.Common.{◌≡◌, ◌<◌, ◌≤◌, ◌+◌, ◌*◌, ◌-◌, ◌||◌, inl, inr, ℕ, Bool, true, false, refl, ◌∙◌, arith, min, map}
 use Rattle.std.specs.List.{range_with_len}
-use Rattle.std.specs.Prelude.{nat_lt, nat_eq, if◌then◌else◌}
-use Rattle.std.proofs.lemmas.Bool.{cases_lt, cases_eq, cases_Bool, lt-ltb, le-ltb}
-use Rattle.std.proofs.lemmas.Bool.Decides.{nat_tests}
+use Rattle.std.specs.Prelude.{nat_lt, if◌then◌else◌}
+use Rattle.std.proofs.lemmas.Bool.{cases_lt, lt-ltb, le-ltb}
 use Rattle.std.proofs.lemmas.List.FromFn.{fill_by_all, length-map-range_with_len, get_or-map-range_with_len}
 use Rattle.vp9_types.specs.Maps.{Map}
 use Rattle.vp9_types.specs.declared.shape.Depth.{Depth}
 use Rattle.intra_predict.specs.declared.place.Place.{Place}
-use Rattle.intra_predict.specs.Edges.{EdgeSamples, AgreeAround, IsInside, reads_right, has_above, has_left, above_column, above_sample, left_sample, corner_sample, edges_in}
+use Rattle.intra_predict.specs.Edges.{AgreeAround, IsInside, reads_right, above_column, above_sample, left_sample, corner_sample, edges_in}
 use Rattle.intra_predict.proofs.EdgeLemmas.{same_edges}
 
 same_values : (f g : ℕ → ℕ) (n : ℕ) → ((k : ℕ) → k < n → f k ≡ g k) → map f (range_with_len 0 n) ≡ map g (range_with_len 0 n)

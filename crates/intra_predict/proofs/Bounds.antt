@@ -1,9 +1,9 @@
 -- Samples stay in the range of their depth.
-use Rattle.std.proofs.Common.{◌≡◌, ◌<◌, ◌≤◌, ◌+◌, ◌*◌, ◌/◌, ◌-◌, inl, inr, ℕ, zero, suc, Bool, true, false, refl, sym, ◌∙◌, arith, List, [], ◌∷◌, length, get_or, take, min, map, sum, lit≤}
+use Rattle.std.proofs.Common.{◌≡◌, ◌<◌, ◌≤◌, ◌+◌, ◌*◌, ◌/◌, ◌-◌, inl, inr, ℕ, zero, suc, Bool, true, false, arith, List, [], ◌∷◌, get_or, take, map, sum, lit≤}
 use Rattle.std.specs.List.{range_with_len}
 use Rattle.std.specs.Prelude.{if◌then◌else◌}
 use Rattle.std.proofs.lemmas.Nat.{div_below}
-use Rattle.std.proofs.lemmas.Bool.{cases_lt, cases_Bool}
+use Rattle.std.proofs.lemmas.Bool.{cases_lt}
 use Rattle.std.proofs.lemmas.List.{get_or_past}
 use Rattle.std.proofs.lemmas.List.Sums.{sum_by-cons}
 use Rattle.std.proofs.lemmas.List.FromFn.{length-map-range_with_len, get_or-map-range_with_len}
@@ -14,8 +14,8 @@ use Rattle.vp9_types.specs.declared.block.IntraMode.{IntraMode}
 use Rattle.vp9_types.specs.declared.block.IntraMode.TheVariants.{Dc, V, H, D45, D135, D117, D153, D207, D63, Tm}
 use Rattle.intra_predict.specs.declared.place.Place.{Place}
 use Rattle.intra_predict.specs.Sizes.{greatest, middle}
-use Rattle.intra_predict.specs.Edges.{EdgeSamples, IsUpTo, has_above, has_left, above_sample, left_sample, corner_sample, edges_in}
-use Rattle.intra_predict.specs.Modes.{mean2, mean3, mean2_at, mean3_at, mean, rounded_mean, d45, d63, d117, d135, d153, d207, predicted}
+use Rattle.intra_predict.specs.Edges.{EdgeSamples, IsUpTo, has_above, has_left, edges_in}
+use Rattle.intra_predict.specs.Modes.{mean3, mean2_at, mean3_at, mean, rounded_mean, d117, d135, d153, d207, predicted}
 
 abbrev AllUpTo : ℕ → List ℕ → Type 0
 AllUpTo most xs = (k : ℕ) → get_or xs k 0 ≤ most

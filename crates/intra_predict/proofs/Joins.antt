@@ -1,5 +1,5 @@
 -- Means along an edge that has the left samples from below upwards, the corner, and the samples above.
-use Rattle.std.proofs.Common.{◌≡◌, ◌<◌, ◌≤◌, ◌+◌, ◌*◌, ◌/◌, ◌-◌, ℕ, refl, sym, ◌∙◌, arith, List, get_or, ap}
+use Rattle.std.proofs.Common.{◌≡◌, ◌≤◌, ◌+◌, ◌*◌, ◌/◌, ◌-◌, ℕ, refl, ◌∙◌, arith, List, get_or, ap}
 use Rattle.intra_predict.specs.Modes.{mean2, mean3, mean2_at, mean3_at, corner_mean}
 
 pub record Joined (size : ℕ) (edge up down : List ℕ) : Type 0 where

@@ -1,12 +1,12 @@
 -- Maps of planes: a row written, and a block of one row more.
-use Rattle.std.proofs.Common.{◌≡◌, ◌<◌, ◌≤◌, ◌+◌, ◌*◌, ◌-◌, inl, inr, ℕ, ◌&&◌, cond, ltb, refl, sym, ◌∙◌, arith, List, length, get_or, take, drop, ◌++◌, add_assoc}
+use Rattle.std.proofs.Common.{◌≡◌, ◌<◌, ◌≤◌, ◌+◌, ◌*◌, ◌-◌, inl, inr, ℕ, ◌&&◌, cond, refl, ◌∙◌, arith, List, length, get_or, take, drop}
 use Rattle.std.proofs.Math.Path.{fun_ext}
-use Rattle.std.proofs.lemmas.Bool.{cases_order, cases_lt, cases_Bool, lt-ltb}
+use Rattle.std.proofs.lemmas.Bool.{cases_order, cases_lt, lt-ltb}
 use Rattle.std.proofs.lemmas.Bool.Decides.{nat_tests}
-use Rattle.std.proofs.lemmas.List.{places, get_or-take, get_or-drop, take_at, same_lists, get_or_default, length-take, length-drop}
+use Rattle.std.proofs.lemmas.List.{places, get_or-take, get_or-drop, length-take, length-drop}
 use Rattle.std.proofs.Math.Nat.{mul-le-mul_right}
 use borrow.Rule.Slice.PartMut.{put_mid}
-use Rattle.vp9_types.specs.Maps.{Map, is_within, rows_of, with_block, HoldsRows}
+use Rattle.vp9_types.specs.Maps.{Map, is_within, rows_of, with_block}
 
 -- an element after a write to a part of a list
 pub get-put_mid : (a k : ℕ) (xs ys : List ℕ) (j : ℕ) → a + k ≤ length xs → length ys ≡ k

@@ -1,6 +1,6 @@
 -- Blocks put into a plane.
-use Rattle.std.proofs.Common.{◌≡◌, ◌<◌, ◌≤◌, ◌+◌, ◌*◌, ◌-◌, inl, inr, ℕ, true, false, Bool, refl, ◌∙◌, arith, List, length, get_or, min, lit<}
-use Rattle.std.specs.Prelude.{ℤ, pos, negsuc, slice_index_or, ◌+ℤ◌, if◌then◌else◌}
+use Rattle.std.proofs.Common.{◌≡◌, ◌<◌, ◌≤◌, ◌+◌, ◌*◌, ◌-◌, ℕ, true, false, Bool, refl, ◌∙◌, arith, List, get_or, min, lit<}
+use Rattle.std.specs.Prelude.{ℤ, pos, negsuc, slice_index_or, if◌then◌else◌}
 use Rattle.std.proofs.lemmas.Nat.{mul-add-lt}
 use Rattle.vp9_types.specs.Maps.{Map, rows_of, with_block, Holds, IsAtMost}
 use Rattle.vp9_types.specs.declared.shape.Depth.{Depth}

@@ -1,5 +1,5 @@
 -- Predicted samples, mode by mode (8.5.1.1 of the standard): pred[i][j] of row i and column j.
-use Rattle.std.specs.Prelude.{ℕ, zero, suc, ◌+◌, ◌-◌, ◌*◌, ◌/◌, ◌%◌, Bool, List, ◌∷◌, sum, take, min, slice_index, nat_lt, nat_eq, if◌then◌else◌}
+use Rattle.std.specs.Prelude.{ℕ, zero, suc, ◌+◌, ◌-◌, ◌*◌, ◌/◌, ◌%◌, List, ◌∷◌, sum, take, min, slice_index, nat_lt, nat_eq, if◌then◌else◌}
 use Rattle.vp9_types.specs.Maps.{Map}
 use Rattle.vp9_types.specs.declared.shape.Depth.{Depth}
 use Rattle.vp9_types.specs.declared.block.IntraMode.{IntraMode}

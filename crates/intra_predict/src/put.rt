@@ -1,6 +1,6 @@
 //! Residue added to a block, and a block put into a plane.
 
-ghost use Rattle.std.specs.Prelude.{◌≡◌, ℕ, pos, ◌+◌, ◌*◌, ◌^◌, ◌<◌, ◌≤◌, length, slice_index, slice_index_or, unsigned_abs};
+ghost use Rattle.std.specs.Prelude.{◌≡◌, ℕ, pos, ◌+◌, ◌*◌, ◌<◌, ◌≤◌, length, slice_index, slice_index_or};
 ghost use Rattle.vp9_types.specs.Maps.{rows_of, with_block};
 ghost use Rattle.intra_predict.specs.Sizes.{side, greatest};
 ghost use Rattle.intra_predict.specs.Edges.{IsPlane};

@@ -1,6 +1,6 @@
 //! A block predicted from its plane and put into it.
 
-ghost use Rattle.std.specs.Prelude.{◌≡◌, ℕ, pos, ◌*◌, ◌^◌, ◌<◌, ◌≤◌, length, slice_index_or, unsigned_abs};
+ghost use Rattle.std.specs.Prelude.{◌≡◌, ◌*◌};
 ghost use Rattle.vp9_types.specs.Maps.{rows_of, IsAtMost};
 ghost use Rattle.intra_predict.specs.Sizes.{side, greatest};
 ghost use Rattle.intra_predict.specs.Edges.{IsInside, IsPlane};

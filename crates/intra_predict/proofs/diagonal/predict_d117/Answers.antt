@@ -1,4 +1,4 @@
-use Rattle.std.proofs.Common.{◌+◌, ◌*◌, ◌/◌, ◌-◌, ◌∷◌, ◌∙◌, zero-add, arith}
+use Rattle.std.proofs.Common.{◌+◌, ◌/◌, ◌-◌, ◌∷◌, ◌∙◌, zero-add, arith}
 use Rattle.intra_predict.proofs.Joins.{Joined}
 use Rattle.intra_predict.proofs.Slants.{AreLines117, d117_line}
 use Rattle.intra_predict.proofs.diagonal.predict_d117.Goals as goal

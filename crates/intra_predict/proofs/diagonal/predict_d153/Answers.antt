@@ -1,4 +1,4 @@
-use Rattle.std.proofs.Common.{◌+◌, ◌*◌, ◌-◌, ◌∷◌, ◌∙◌, ℕ, arith}
+use Rattle.std.proofs.Common.{◌+◌, ◌*◌, ◌-◌, ◌∷◌, ◌∙◌, arith}
 use Rattle.intra_predict.proofs.Joins.{Joined}
 use Rattle.intra_predict.proofs.Slants.{IsLine153, d153_line}
 use Rattle.intra_predict.proofs.diagonal.predict_d153.Goals as goal

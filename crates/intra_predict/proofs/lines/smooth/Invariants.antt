@@ -1,4 +1,4 @@
-use Rattle.std.proofs.Common.{◌≡◌, ◌<◌, ◌+◌, ◌*◌, ℕ, get_or}
+use Rattle.std.proofs.Common.{◌≡◌, ◌<◌, ◌+◌, ℕ, get_or}
 use Rattle.intra_predict.specs.Modes.{mean3_at}
 use Rattle.intra_predict.proofs.lines.smooth.Given as goal
 

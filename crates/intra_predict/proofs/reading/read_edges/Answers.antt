@@ -1,4 +1,3 @@
-use Rattle.std.proofs.Common.{◌≡◌}
 use Rattle.vp9_types.specs.Maps.{rows_of}
 use Rattle.intra_predict.proofs.Bounds.{edges_small}
 use Rattle.intra_predict.proofs.reading.read_edges.Goals as goal

@@ -1,4 +1,4 @@
-use Rattle.std.proofs.Common.{◌<◌, ◌-◌, ◌∙◌, inl, inr, ℕ, arith}
+use Rattle.std.proofs.Common.{◌-◌, ◌∙◌, inl, inr, ℕ, arith}
 use Rattle.std.proofs.lemmas.Bool.{cases_lt}
 use Rattle.intra_predict.proofs.EdgeLemmas.{column_fits, left_inside, left_below}
 use Rattle.intra_predict.proofs.reading.read_left.Goals as goal

@@ -1,4 +1,4 @@
-use Rattle.std.proofs.Common.{arith, refl}
+use Rattle.std.proofs.Common.{arith}
 use Rattle.vp9_types.specs.Maps.{rows_of}
 use Rattle.intra_predict.proofs.EdgeLemmas.{edges_are}
 use Rattle.intra_predict.proofs.reading.read_sized.Goals as goal

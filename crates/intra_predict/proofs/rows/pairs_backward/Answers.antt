@@ -1,4 +1,4 @@
-use Rattle.std.proofs.Common.{◌≡◌, ◌<◌, ◌+◌, ◌*◌, ◌/◌, ◌-◌, get_or, length, arith}
+use Rattle.std.proofs.Common.{◌+◌, ◌*◌, ◌/◌, ◌-◌, get_or, arith}
 use Rattle.intra_predict.proofs.RowLemmas.{pair_more, row_fits}
 use Rattle.intra_predict.proofs.rows.pairs_backward.Goals as goal
 
