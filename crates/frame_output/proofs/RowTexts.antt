@@ -1,9 +1,8 @@
 -- Bytes of rows, row by row.
-use Rattle.std.proofs.Common.{◌≡◌, ℕ, zero, suc, ◌+◌, ◌*◌, ◌/◌, ◌%◌, ◌-◌, ◌<◌, ◌≤◌, List, [], ◌∷◌, ◌++◌, length, get_or, take, drop, Option, ◌⊎◌, inl, inr, refl, sym, ◌∙◌, ap, arith}
-use Rattle.std.proofs.Math.ListN.{set}
+use Rattle.std.proofs.Common.{◌≡◌, ℕ, zero, suc, ◌+◌, ◌*◌, ◌-◌, ◌<◌, ◌≤◌, List, [], ◌∷◌, ◌++◌, length, get_or, take, drop, Option, ◌⊎◌, inl, inr, refl, sym, ◌∙◌, ap, arith}
 use Rattle.std.proofs.Math.Nat.{mul-le-mul_right}
 use Rattle.std.specs.List.{flat_map, range_with_len}
-use Rattle.std.proofs.lemmas.List.{append_assoc, append-nil, length-append, length-set, length-take, length-drop, take_more, take_more_set}
+use Rattle.std.proofs.lemmas.List.{append-nil, length-append, length-take, length-drop}
 use Rattle.std.proofs.lemmas.List.FromFn.{length-map-range_with_len, get_or-map-range_with_len, take-map-range_with_len}
 use Rattle.std.proofs.lemmas.Grind.{flat_map-append}
 use Rattle.std.proofs.lemmas.Slice.{take-put_mid}
@@ -16,20 +15,6 @@ use Rattle.frame_output.specs.Texts.{two_bytes, sample_text, sample_size, row_te
 use Rattle.frame_output.proofs.Fronts.{TakesFront, takes_none, takes_both, front_of}
 
 -- ---- one row
-
-pub byte_more : (row bytes : List ℕ) (i : ℕ) → take i bytes ≡ take i row → i < length row → length bytes ≡ length row
-    → take (i + 1) (set bytes i (get_or row i 0)) ≡ take (i + 1) row
-byte_more row bytes i so lt long =
-    let low : i < length bytes = omega arith in
-    rw (take_more_set, so, take_more row i 0 lt) refl
-
-pub pair_more : (row bytes : List ℕ) (i : ℕ) → take (2 * i) bytes ≡ flat_map two_bytes (take i row) → i < length row → length bytes ≡ 2 * length row
-    → take (2 * (i + 1)) (set (set bytes (2 * i) (get_or row i 0 % 256)) (2 * i + 1) (get_or row i 0 / 256)) ≡ flat_map two_bytes (take (i + 1) row)
-pair_more row bytes i so lt long =
-    let place : 2 * (i + 1) ≡ 2 * i + 1 + 1 = omega arith in
-    let low : 2 * i < length bytes = omega arith in
-    let high : 2 * i + 1 < length (set bytes (2 * i) (get_or row i 0 % 256)) = rw length-set (omega arith) in
-    rw (place, take_more_set, take_more_set, so, take_more row i 0 lt, flat_map-append) (append_assoc (flat_map two_bytes (take i row)) (get_or row i 0 % 256 ∷ []) (get_or row i 0 / 256 ∷ []))
 
 pub bytes_are_text : (row : List ℕ) → row ≡ row_text Eight row
 unfolding row_text
@@ -46,7 +31,7 @@ length_sample Eight x = refl
 length_sample Ten x = refl
 length_sample Twelve x = refl
 
-pub length-row_text : (depth : Depth) (row : List ℕ) → length (row_text depth row) ≡ sample_size depth * length row
+length-row_text : (depth : Depth) (row : List ℕ) → length (row_text depth row) ≡ sample_size depth * length row
 unfolding row_text
 length-row_text depth [] = omega arith
 length-row_text depth (x ∷ xs) =
