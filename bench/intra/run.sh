@@ -1,7 +1,7 @@
 #!/usr/bin/env bash
 # Times intra prediction of blocks and putting them into a plane of 1920x1080 samples: crates/bench_intra, proved and
-# built by LLVM, beside the same in C (gcc -O3). Both must print one checksum. The least processor time of
-# several runs counts, less what no blocks take.
+# built by LLVM, beside the same in C (gcc -O3, for the same instructions). Both must print one checksum. The least
+# processor time of several runs counts, less what no blocks take.
 set -eu
 cd "$(dirname "$0")/../.."
 samples=${1:-100000000}
@@ -9,7 +9,7 @@ runs=${2:-7}
 work=$(mktemp -d)
 trap 'rm -rf "$work"' EXIT
 
-gcc -O3 -o "$work/c" bench/intra/blocks.c
+gcc -O3 -march=x86-64-v2 -o "$work/c" bench/intra/blocks.c
 (cd crates/bench_intra && rt run <stdin >/dev/null 2>"$work/log") || { cat "$work/log"; exit 1; }
 cp crates/bench_intra/out/bench_intra "$work/rattle"
 
