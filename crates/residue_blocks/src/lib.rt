@@ -1,0 +1,10 @@
+//! The residue of a transform block (8.6.2 and 8.7.2 of the standard): its levels are dequantised, and its rows and
+//! then its columns are transformed.
+#![tactic(auto)]
+
+mod dequantise;
+mod kind;
+mod quant;
+
+pub use kind::Kind;
+pub use quant::Quant;
