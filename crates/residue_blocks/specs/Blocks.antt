@@ -1,27 +1,18 @@
 -- Square blocks of n rows, as the list of their values row by row.
-use Rattle.std.specs.Prelude.{ℕ, ◌+◌, ◌*◌, ◌/◌, ◌%◌, ℤ, List, [], ◌∷◌, map, slice_index_or, Result, Ok, Err}
+use Rattle.std.specs.Prelude.{ℕ, ◌+◌, ◌*◌, ◌/◌, ◌%◌, ℤ, List, [], ◌∷◌, map, take, drop, slice_index_or, Result, Ok, Err}
 use Rattle.std.specs.List.{range_with_len}
 use Rattle.vp9_types.specs.declared.rule.Rule.{Rule}
 use Rattle.inverse_transforms.specs.Flow.{at}
-use Rattle.inverse_transforms.specs.Columns.{column}
 
 abbrev pub row : ℕ → ℕ → List ℤ → List ℤ
-row n i xs = map (λ k. at xs (i * n + k)) (range_with_len 0 n)
+row n i xs = take n (drop (i * n) xs)
 
 abbrev pub rows : ℕ → List ℤ → List (List ℤ)
 rows n xs = map (λ i. row n i xs) (range_with_len 0 n)
 
--- the columns of rows
-abbrev pub columns : ℕ → List (List ℤ) → List (List ℤ)
-columns n rs = map (λ j. column j rs) (range_with_len 0 n)
-
--- the list of the block that has these columns
+-- the block that has these columns
 abbrev pub of_columns : ℕ → List (List ℤ) → List ℤ
 of_columns n cs = map (λ p. at (slice_index_or cs (p % n) []) (p / n)) (range_with_len 0 (n * n))
-
-abbrev pub then_lists : Result (List (List ℤ)) Rule → (List (List ℤ) → Result (List (List ℤ)) Rule) → Result (List (List ℤ)) Rule
-then_lists (Ok xs) f = f xs
-then_lists (Err rule) f = Err rule
 
 abbrev pub before : Result (List ℤ) Rule → Result (List (List ℤ)) Rule → Result (List (List ℤ)) Rule
 before (Ok x) (Ok xs) = Ok (x ∷ xs)
@@ -36,3 +27,7 @@ each f (x ∷ xs) = before (f x) (each f xs)
 abbrev pub block_of : ℕ → Result (List (List ℤ)) Rule → Result (List ℤ) Rule
 block_of n (Ok cs) = Ok (of_columns n cs)
 block_of n (Err rule) = Err rule
+
+-- what f makes of each row becomes a column
+unfoldable pub turned : (List ℤ → Result (List ℤ) Rule) → ℕ → List ℤ → Result (List ℤ) Rule
+turned f n xs = block_of n (each f (rows n xs))
