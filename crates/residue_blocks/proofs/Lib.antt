@@ -1,1 +1,4 @@
 pub mod Coefs
+pub mod Skips
+pub mod LaneEdits
+pub mod Pieces

@@ -1,11 +1,15 @@
 -- Square blocks of n rows, as the list of their values row by row.
-use Rattle.std.specs.Prelude.{ℕ, ◌+◌, ◌*◌, ◌/◌, ◌%◌, ℤ, List, [], ◌∷◌, map, take, drop, slice_index_or, Result, Ok, Err}
+use Rattle.std.specs.Prelude.{ℕ, ◌+◌, ◌*◌, ◌/◌, ◌%◌, ℤ, List, [], ◌∷◌, map, take, drop, slice_index_or, Result, Ok, Err, ◌≡◌, ◌-◌, if◌then◌else◌}
 use Rattle.std.specs.List.{range_with_len}
 use Rattle.vp9_types.specs.declared.rule.Rule.{Rule}
+use Rattle.vp9_types.specs.Maps.{is_within}
 use Rattle.inverse_transforms.specs.Flow.{at}
 
 abbrev pub row : ℕ → ℕ → List ℤ → List ℤ
 row n i xs = take n (drop (i * n) xs)
+
+abbrev pub col : ℕ → ℕ → List ℤ → List ℤ
+col n j xs = map (λ k. at xs (k * n + j)) (range_with_len 0 n)
 
 abbrev pub rows : ℕ → List ℤ → List (List ℤ)
 rows n xs = map (λ i. row n i xs) (range_with_len 0 n)
@@ -31,3 +35,7 @@ block_of n (Err rule) = Err rule
 -- what f makes of each row becomes a column
 unfoldable pub turned : (List ℤ → Result (List ℤ) Rule) → ℕ → List ℤ → Result (List ℤ) Rule
 turned f n xs = block_of n (each f (rows n xs))
+
+-- new is old, but for what f gives to the n places from `from` on
+abbrev pub HasPiece : ℕ → ℕ → (ℕ → ℤ) → List ℤ → List ℤ → Type 0
+HasPiece from n f old new = (p : ℕ) → at new p ≡ (if is_within from n p then f (p - from) else at old p)

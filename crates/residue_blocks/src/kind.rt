@@ -1,8 +1,8 @@
 //! Which transforms a block has.
 
-ghost use Rattle.std.specs.Prelude.{◌≡◌, ℕ, ◌+◌, ◌^◌, ◌≤◌, ◌<◌, length, All, IsTrue};
+ghost use Rattle.std.specs.Prelude.{◌≡◌, ℕ, ◌+◌, ◌^◌, ◌≤◌, ◌<◌, length, pos, All, IsTrue};
 ghost use Rattle.std.specs.Bool.{OnTrue};
-ghost use Rattle.inverse_transforms.specs.Flow.{zeros};
+ghost use Rattle.inverse_transforms.specs.Flow.{at, zeros};
 ghost use Rattle.inverse_transforms.specs.Columns.{GivesColumns, column};
 ghost use Rattle.inverse_transforms.specs.Ranges.{IsSmall, limit_of};
 ghost use Rattle.vp9_tables.specs.Scans.{side};
@@ -70,6 +70,23 @@ pub fn log2_of(tx: TxSize) -> u8
     }
 }
 
+fn is_zero_row(row: &Lanes) -> bool
+    ensures { OnTrue result ((j : ℕ) → at row.now j ≡ pos 0) }
+{
+    row.iter().all(|x| *x == 0)
+}
+
+fn is_zero(t: &[Lanes]) -> bool
+    ensures { OnTrue result ((j : ℕ) → column j t.now ≡ zeros (length t.now)) }
+{
+    for row in t {
+        if !is_zero_row(row) {
+            return false;
+        }
+    }
+    true
+}
+
 /// The transforms of eight columns.
 #[tactic(auto, unfolding(crate::specs::Residue::transform))]
 fn transform_columns(kind: Kind, log2: u8, t: &mut [Lanes], depth: Depth) -> Result<(), Rule>
@@ -85,4 +102,18 @@ fn transform_columns(kind: Kind, log2: u8, t: &mut [Lanes], depth: Depth) -> Res
         Kind::LiftsOfRows => wht_columns(t, 2, depth),
         Kind::LiftsOfColumns => wht_columns(t, 0, depth),
     }
+}
+
+/// The same, without work where all is zero.
+pub fn transform_nonzero(kind: Kind, log2: u8, t: &mut [Lanes], depth: Depth) -> Result<(), Rule>
+    requires kind { IsTrue (has_size kind log2) }
+    requires size { length t.old ≡ 2 ^ log2 }
+    requires small { All (All IsSmall) t.old }
+    ensures gives { GivesColumns (transform kind (limit_of depth) log2) result t.old t.new }
+    ensures small { All (All IsSmall) t.new }
+{
+    if is_zero(t) {
+        return Ok(());
+    }
+    transform_columns(kind, log2, t, depth)
 }

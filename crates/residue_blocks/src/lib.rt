@@ -3,6 +3,7 @@
 #![tactic(auto)]
 
 mod dequantise;
+mod group;
 mod kind;
 mod quant;
 
