@@ -16,7 +16,7 @@ use Rattle.inverse_transforms.specs.Ranges.{round14}
 use Rattle.inverse_transforms.specs.Flow.{at, zeros, turned_x, turned_y, rotated, added, rotated_wide, wide, two_fit, four_fit, store_two, store_four, permuted, step, run, is_within, is_reorder}
 use Rattle.inverse_transforms.specs.Transforms.{dct, adst, adst_rows, adst_quad, adst_of_4, size_of, wht, wht_quad, lifted, middle_lifts, last_lifts}
 
-at_zeros : (n i : ℕ) → at (zeros n) i ≡ pos 0
+pub at_zeros : (n i : ℕ) → at (zeros n) i ≡ pos 0
 at_zeros n i = elim (cases_lt i n) [
   | inl low ↦ get_or-replicate n i (pos 0) (pos 0) low
   | inr past ↦ get_or_past (zeros n) i (pos 0) (rw (length-replicate n (pos 0)) past)

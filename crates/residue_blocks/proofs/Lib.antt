@@ -2,3 +2,5 @@ pub mod Coefs
 pub mod Skips
 pub mod LaneEdits
 pub mod Pieces
+pub mod Turns
+pub mod GroupTurns

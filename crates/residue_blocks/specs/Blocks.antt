@@ -1,5 +1,5 @@
 -- Square blocks of n rows, as the list of their values row by row.
-use Rattle.std.specs.Prelude.{ℕ, ◌+◌, ◌*◌, ◌/◌, ◌%◌, ℤ, List, [], ◌∷◌, map, take, drop, slice_index_or, Result, Ok, Err, ◌≡◌, ◌-◌, if◌then◌else◌}
+use Rattle.std.specs.Prelude.{ℕ, ◌+◌, ◌*◌, ◌/◌, ◌%◌, ℤ, List, [], ◌∷◌, map, take, drop, slice_index_or, Result, Ok, Err, ◌≡◌, ◌-◌, ◌<◌, Bool, true, false, if◌then◌else◌}
 use Rattle.std.specs.List.{range_with_len}
 use Rattle.vp9_types.specs.declared.rule.Rule.{Rule}
 use Rattle.vp9_types.specs.Maps.{is_within}
@@ -39,3 +39,12 @@ turned f n xs = block_of n (each f (rows n xs))
 -- new is old, but for what f gives to the n places from `from` on
 abbrev pub HasPiece : ℕ → ℕ → (ℕ → ℤ) → List ℤ → List ℤ → Type 0
 HasPiece from n f old new = (p : ℕ) → at new p ≡ (if is_within from n p then f (p - from) else at old p)
+
+-- the rows of a group, from `first` on, have become columns, and the other columns are what they were
+pub record GroupDone (f : List ℤ → Result (List ℤ) Rule) (n first width : ℕ) (xs old new : List ℤ) : Type 0 where
+  pub done : (j : ℕ) → j < n → is_within first width j ≡ true → f (row n j xs) ≡ Ok (col n j new)
+  pub others : (j : ℕ) → j < n → is_within first width j ≡ false → col n j new ≡ col n j old
+
+abbrev pub TurnsGroup : (List ℤ → Result (List ℤ) Rule) → ℕ → ℕ → ℕ → List ℤ → Result (Unit {0}) Rule → List ℤ → List ℤ → Type 0
+TurnsGroup f n first width xs (Ok _) old new = GroupDone f n first width xs old new
+TurnsGroup f n first width xs (Err rule) old new = (j : ℕ) × (j < n) × (f (row n j xs) ≡ Err rule)

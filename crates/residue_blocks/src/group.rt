@@ -35,7 +35,7 @@ fn row_at(block: &[i32], n: usize, i: usize) -> &[i32]
 }
 
 /// Rows of a block, one a lane.
-fn load(t: &mut [Lanes], from: &[i32], first: usize, width: usize)
+pub fn load(t: &mut [Lanes], from: &[i32], first: usize, width: usize)
     requires size { (first + width) * length t.old ≤ length from.now }
     requires rows { first + width ≤ 32 }
     requires width { width ≤ 8 }
@@ -94,7 +94,7 @@ fn put_row(to: &mut [i32], place: usize, lanes: &Lanes, width: usize, bits: u8)
 }
 
 /// Puts the first lanes of rows of lanes into columns of a block, rounded.
-fn store(to: &mut [i32], t: &[Lanes], first: usize, width: usize, bits: u8)
+pub fn store(to: &mut [i32], t: &[Lanes], first: usize, width: usize, bits: u8)
     requires size { length to.old ≡ length t.now * length t.now }
     requires rows { length t.now ≤ 32 }
     requires columns { first + width ≤ length t.now }

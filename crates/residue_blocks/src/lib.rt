@@ -6,6 +6,7 @@ mod dequantise;
 mod group;
 mod kind;
 mod quant;
+mod turn;
 
 pub use kind::Kind;
 pub use quant::Quant;
