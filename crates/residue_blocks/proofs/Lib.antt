@@ -4,3 +4,4 @@ pub mod LaneEdits
 pub mod Pieces
 pub mod Turns
 pub mod GroupTurns
+pub mod Twice

@@ -5,8 +5,11 @@
 mod dequantise;
 mod group;
 mod kind;
+mod levels;
 mod quant;
+
 mod turn;
 
 pub use kind::Kind;
 pub use quant::Quant;
+pub use levels::residue;
