@@ -88,7 +88,7 @@ pub run_small : (limit : ℕ) (rows : List FlowRow) (xs ys : List ℤ) → limit
 run_small limit [] xs ys most small h = let same : xs ≡ ys = cc in subst (All IsSmall) same small
 run_small limit (row ∷ rows) xs ys most small h =
     then_small (step limit row xs) (run limit rows) ys (λ zs is. step_small limit row xs zs most small is)
-        (λ zs zs_small is. run_small limit rows zs ys most zs_small is) h
+    (λ zs zs_small is. run_small limit rows zs ys most zs_small is) h
 
 pub dct_small : (limit log2 : ℕ) (xs ys : List ℤ) → limit ≤ 2 ^ 24 → All IsSmall xs → dct limit log2 xs ≡ Ok ys → All IsSmall ys
 unfolding dct
@@ -108,7 +108,7 @@ pub adst_small : (limit log2 : ℕ) (xs ys : List ℤ) → limit ≤ 2 ^ 24 → 
 unfolding adst
 adst_small limit log2 xs ys most small h =
     one_of (nat_eq log2 2) (adst_of_4 limit xs) (run limit (adst_rows log2) xs) ys (adst_of_4_small limit xs ys most small)
-        (run_small limit (adst_rows log2) xs ys most small) h
+    (run_small limit (adst_rows log2) xs ys most small) h
 
 pub wht_small : (limit shift : ℕ) (xs ys : List ℤ) → limit ≤ 2 ^ 24 → All IsSmall xs → wht limit shift xs ≡ Ok ys → All IsSmall ys
 unfolding wht

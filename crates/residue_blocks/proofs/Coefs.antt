@@ -1,12 +1,12 @@
 -- Levels become coefficients one place after another.
-use Rattle.std.proofs.Common.{◌≡◌, ℕ, ◌+◌, ◌<◌, ◌≤◌, ◌^◌, ℤ, pos, Bool, true, false, List, map, length, set, get_or, refl, sym, ◌∙◌, ap, arith, below_more, length-set, All, to_z, of_z, unsigned_abs, Result, Ok, Err}
+use Rattle.std.proofs.Common.{◌≡◌, ℕ, ◌+◌, ◌<◌, ◌≤◌, ℤ, pos, true, false, List, length, set, refl, sym, ◌∙◌, ap, arith, below_more, length-set, All, to_z, of_z, Ok, Err}
 use Rattle.std.proofs.lemmas.Int.{to_z-of_z}
 use mir.Syntax.{w32}
 use mir.Val.{SFits}
 use Rattle.vp9_types.specs.declared.rule.Rule.{Rule}
 use Rattle.vp9_types.specs.declared.rule.Rule.TheVariants.{CoefRange}
 use Rattle.inverse_transforms.proofs.LaneLemmas.{kept}
-use Rattle.std.specs.List.{list_all, range_with_len}
+use Rattle.std.specs.List.{list_all}
 use Rattle.std.proofs.lemmas.Grind.{get_or-set_at}
 use Rattle.std.proofs.lemmas.List.{get_or-set_other, get_or_default, ext_get_or}
 use Rattle.std.proofs.lemmas.List.Folds.{list_all_at}
@@ -54,7 +54,7 @@ one_misfit quant tx old now n low s fails =
     let low_old : n < length old = omega (arith, s.size) in
     let size = length-map-range_with_len (λ place. coefficient quant tx place (at old place)) 0 (length old) in
     list_all_at (fits (limit_of quant.depth)) (coefficients quant tx old) n (pos 0) (omega (arith, size))
-        (ap (fits (limit_of quant.depth)) (at_coefficients quant tx old n low_old ∙ ap (coefficient quant tx n) (sym here)) ∙ fails)
+    (ap (fits (limit_of quant.depth)) (at_coefficients quant tx old n low_old ∙ ap (coefficient quant tx n) (sym here)) ∙ fails)
 
 level_kept : (old now : List ℤ) (n : ℕ) → All IsLevel old → length now ≡ length old → n < length now → at now n ≡ at old n →
     to_z w32 (of_z w32 (at now n)) ≡ at now n
@@ -82,9 +82,10 @@ one_refused quant tx old now n rule levels low s h =
 pub all_done : (quant : Quant) (tx : TxSize) (old now : List ℤ) (n : ℕ) → length now ≤ n → SoFar quant tx old now n →
     (list_all (fits (limit_of quant.depth)) (coefficients quant tx old) ≡ true) × (now ≡ coefficients quant tx old)
 all_done quant tx old now n past s =
-    let size = length-map-range_with_len (λ place. coefficient quant tx place (at old place)) 0 (length old) in
-    (list_all-from_AllPass (fits (limit_of quant.depth)) (coefficients quant tx old) (λ k d low.
-        rw (get_or_default (coefficients quant tx old) k d (pos 0) low)
-            (ap (fits (limit_of quant.depth)) (at_coefficients quant tx old k (omega (arith, size))) ∙ s.fit k (omega (arith, size, s.size)))),
-     ext_get_or (pos 0) now (coefficients quant tx old) (s.size ∙ sym size) (λ k low.
-        s.done k (omega arith) ∙ sym (at_coefficients quant tx old k (omega (arith, s.size)))))
+    let size = length-map-range_with_len (λ place. coefficient quant tx place (at old place)) 0 (length old) in (
+      list_all-from_AllPass (fits (limit_of quant.depth)) (coefficients quant tx old) (λ k d low.
+          rw (get_or_default (coefficients quant tx old) k d (pos 0) low)
+          (ap (fits (limit_of quant.depth)) (at_coefficients quant tx old k (omega (arith, size))) ∙ s.fit k (omega (arith, size, s.size)))),
+      ext_get_or (pos 0) now (coefficients quant tx old) (s.size ∙ sym size) (λ k low.
+          s.done k (omega arith) ∙ sym (at_coefficients quant tx old k (omega (arith, s.size)))),
+    )

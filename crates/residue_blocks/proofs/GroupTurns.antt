@@ -1,5 +1,5 @@
 -- What is done to lanes is done to the rows that stand in them.
-use Rattle.std.proofs.Common.{◌≡◌, ℕ, suc, add-one, ◌+◌, ◌*◌, ◌-◌, ◌<◌, ◌≤◌, ◌^◌, ℤ, pos, Bool, true, false, ◌&&◌, ◌⊎◌, inl, inr, List, map, length, refl, sym, ◌∙◌, ap, subst, arith, nat_lt, nat_le, cond, if◌then◌else◌, Result, Ok, Err}
+use Rattle.std.proofs.Common.{◌≡◌, ℕ, add-one, ◌+◌, ◌*◌, ◌-◌, ◌<◌, ◌≤◌, ◌^◌, ℤ, true, false, inl, inr, List, map, length, refl, sym, ◌∙◌, ap, subst, arith, nat_lt, nat_le, if◌then◌else◌, Result, Ok, Err}
 use Rattle.std.proofs.lemmas.Bool.{cases_lt, and_parts, leb-true, ltb-true}
 use Rattle.std.proofs.lemmas.Bool.Decides.{nat_tests}
 use Rattle.std.proofs.Math.Nat.{suc-mul}
@@ -7,7 +7,7 @@ use Rattle.vp9_types.specs.declared.rule.Rule.{Rule}
 use Rattle.vp9_types.specs.declared.shape.Depth.{Depth}
 use Rattle.vp9_types.specs.Maps.{is_within}
 use Rattle.inverse_transforms.specs.Ranges.{limit_of}
-use Rattle.inverse_transforms.specs.Flow.{at, zeros}
+use Rattle.inverse_transforms.specs.Flow.{zeros}
 use Rattle.inverse_transforms.specs.Columns.{column}
 use Rattle.residue_blocks.specs.declared.kind.Kind.{Kind}
 use Rattle.residue_blocks.specs.Blocks.{row, col, turned, GroupDone}
@@ -30,11 +30,15 @@ pub group_err : (kind : Kind) (depth : Depth) (log2 bits n first width : ℕ) (x
     (j : ℕ) × (j < n) × (rounded_transform kind (limit_of depth) log2 bits (row n j xs) ≡ Err rule)
 group_err kind depth log2 bits n first width xs t rule size n_is s (j, low, fails) =
     elim (cases_lt j width) [
-    | inl inside ↦ (first + j, omega (arith, s.room),
-        ap (λ z. rounded_by bits (transform kind (limit_of depth) log2 z)) (sym (s.loaded j inside)) ∙ ap (rounded_by bits) fails)
-    | inr behind ↦
-        let fine = skipped kind depth log2 (column j t) n size n_is (s.rest j behind) in
-        let no : ⊥ = cc in absurd no ]
+      | inl inside ↦ (
+        first + j,
+        omega (arith, s.room),
+        ap (λ z. rounded_by bits (transform kind (limit_of depth) log2 z)) (sym (s.loaded j inside)) ∙ ap (rounded_by bits) fails,
+      )
+      | inr behind ↦
+          let fine = skipped kind depth log2 (column j t) n size n_is (s.rest j behind) in
+          let no : ⊥ = cc in absurd no
+    ]
 
 within_parts : (first width j : ℕ) → is_within first width j ≡ true → (first ≤ j) × (j < first + width)
 within_parts first width j h =
@@ -53,7 +57,7 @@ group_ok kind depth log2 bits n first width xs old new t u most s given stored =
       let place : first + (j - first) ≡ j = omega (arith, parts.0) in
       let row_is : column (j - first) t ≡ row n j xs = s.loaded (j - first) lane ∙ ap (λ z. row n z xs) place in
       let made : transform kind (limit_of depth) log2 (row n j xs) ≡ Ok (column (j - first) u) =
-          ap (transform kind (limit_of depth) log2) (sym row_is) ∙ given (j - first) (omega arith) in
+      ap (transform kind (limit_of depth) log2) (sym row_is) ∙ given (j - first) (omega arith) in
       let put : col n j new ≡ map (round bits) (column (j - first) u) = stored j low ∙ rw inside refl in
       ap (rounded_by bits) made ∙ ap Ok (sym put);
   others = λ j low outside. stored j low ∙ rw outside refl;
@@ -76,8 +80,9 @@ pub next_group : (f : List ℤ → Result (List ℤ) Rule) (n g width count : �
     GroupDone f n (g * width) width xs now next → TurnSoFar f n xs next ((g + 1) * width)
 next_group f n g width count xs now next so_far group = record {
   done = λ j low below. elim (cases_lt j (g * width)) [
-      | inl before ↦ so_far.done j low before ∙ ap Ok (sym (group.others j low (not_within (g * width) width j before)))
-      | inr behind ↦ group.done j low (within_is (g * width) width j behind (subst (λ z. j < z) (one_more_group g width) below)) ];
+    | inl before ↦ so_far.done j low before ∙ ap Ok (sym (group.others j low (not_within (g * width) width j before)))
+    | inr behind ↦ group.done j low (within_is (g * width) width j behind (subst (λ z. j < z) (one_more_group g width) below))
+  ];
 }
 
 pub turn_done : (f : List ℤ → Result (List ℤ) Rule) (n side m : ℕ) (xs now : List ℤ) → side ≡ n → side ≤ m → length now ≡ n * n →
@@ -103,5 +108,5 @@ pub turn_failed : (kind : Kind) (depth : Depth) (log2 bits n side : ℕ) (xs : L
 turn_failed kind depth log2 bits n side xs rule is fails =
     let f = rounded_transform kind (limit_of depth) log2 bits in
     turned_err f n xs rule
-        (λ ys fault h. transform_fault kind (limit_of depth) log2 ys fault (rounded_fault bits (transform kind (limit_of depth) log2 ys) fault h))
-        (subst (λ z. (j : ℕ) × (j < z) × (f (row z j xs) ≡ Err rule)) is fails)
+    (λ ys fault h. transform_fault kind (limit_of depth) log2 ys fault (rounded_fault bits (transform kind (limit_of depth) log2 ys) fault h))
+    (subst (λ z. (j : ℕ) × (j < z) × (f (row z j xs) ≡ Err rule)) is fails)

@@ -1,5 +1,5 @@
 -- One lane of rows of lanes.
-use Rattle.std.proofs.Common.{◌≡◌, ℕ, ◌+◌, ◌<◌, ◌≤◌, ℤ, pos, List, [], map, take, length, set, get_or, refl, sym, ◌∙◌, ap, subst, arith, All, length-set, ◌∷◌, ◌++◌, to_z, of_z, ◌^◌}
+use Rattle.std.proofs.Common.{◌≡◌, ℕ, ◌+◌, ◌<◌, ℤ, pos, List, [], take, length, set, get_or, refl, sym, ◌∙◌, ap, arith, All, length-set, ◌∷◌, ◌++◌, to_z, of_z}
 use mir.Syntax.{w32}
 use Rattle.inverse_transforms.proofs.LaneLemmas.{kept}
 use Rattle.std.proofs.lemmas.List.{get_or-set_other, set-get_or, take_more, take_more_set, length-map, get_or_default}

@@ -1,9 +1,8 @@
 -- Zeros need no transform.
-use Rattle.std.proofs.Common.{◌≡◌, ℕ, ◌+◌, ◌*◌, ◌<◌, ◌≤◌, ◌^◌, ℤ, pos, Bool, true, false, ◌&&◌, List, [], map, take, length, replicate, All, get_or, refl, sym, ◌∙◌, ap, subst, arith, Result, Ok, Err, nat_eq, nat_le, IsTrue}
+use Rattle.std.proofs.Common.{◌≡◌, ℕ, ◌<◌, ◌≤◌, ◌^◌, ℤ, pos, true, List, [], take, length, replicate, All, get_or, refl, sym, ◌∙◌, ap, subst, arith, Ok, nat_le}
 use Rattle.std.proofs.lemmas.Bool.{and_parts, eqb-true}
 use Rattle.std.proofs.lemmas.List.{ext_get_or, get_or-map, get_or-replicate, length-replicate, length-map, get_or-take, length-take-le}
 use borrow.Author.Tests.{leb-true}
-use Rattle.vp9_types.specs.declared.rule.Rule.{Rule}
 use Rattle.vp9_types.specs.declared.shape.Depth.{Depth}
 use Rattle.vp9_types.specs.declared.shape.Depth.TheVariants.{Eight, Ten, Twelve}
 use Rattle.inverse_transforms.specs.Ranges.{limit_of, IsSmall}
@@ -41,9 +40,9 @@ pub zero_columns : (t : List (List ℤ)) (n : ℕ) → length t ≤ n → ((k : 
     (j : ℕ) → column j t ≡ zeros (length t)
 zero_columns t n most rows_zero j =
     ext_get_or (pos 0) (column j t) (zeros (length t)) (length-map t (λ row. at row j) ∙ sym (length-replicate (length t) (pos 0)))
-        (λ k low. let low_t : k < length t = omega (arith, length-map t (λ row. at row j)) in
-            get_or-map (λ row. at row j) t k [] (pos 0) low_t
-            ∙ (rows_zero k (omega arith) j ∙ sym (get_or-replicate (length t) k (pos 0) (pos 0) low_t)))
+    (λ k low. let low_t : k < length t = omega (arith, length-map t (λ row. at row j)) in
+    get_or-map (λ row. at row j) t k [] (pos 0) low_t
+    ∙ (rows_zero k (omega arith) j ∙ sym (get_or-replicate (length t) k (pos 0) (pos 0) low_t)))
 
 pub skipped : (kind : Kind) (depth : Depth) (log2 : ℕ) (xs : List ℤ) (n : ℕ) → has_size kind log2 ≡ true → n ≡ 2 ^ log2 → xs ≡ zeros n →
     transform kind (limit_of depth) log2 xs ≡ Ok xs

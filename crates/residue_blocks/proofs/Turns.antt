@@ -1,7 +1,7 @@
 -- A block is turned when each of its rows has become a column.
-use Rattle.std.proofs.Common.{◌≡◌, ℕ, zero, suc, ◌+◌, ◌-◌, ◌*◌, ◌/◌, ◌%◌, ◌<◌, ◌≤◌, ◌^◌, ℤ, pos, Bool, true, false, ◌&&◌, ◌⊎◌, inl, inr, List, [], ◌∷◌, map, take, drop, length, get_or, refl, sym, ◌∙◌, ap, subst, arith, nat_lt, nat_le, nat_eq, All, Result, Ok, Err}
+use Rattle.std.proofs.Common.{◌≡◌, ℕ, zero, suc, ◌+◌, ◌*◌, ◌/◌, ◌%◌, ◌<◌, ℤ, pos, List, [], ◌∷◌, map, length, get_or, refl, sym, ◌∙◌, ap, arith, Result, Ok, Err}
 use Rattle.std.specs.List.{range_with_len}
-use Rattle.std.proofs.lemmas.List.{ext_get_or, length-map, get_or-map}
+use Rattle.std.proofs.lemmas.List.{ext_get_or}
 use Rattle.std.proofs.lemmas.Nat.{div_below}
 use Rattle.std.proofs.Math.Nat.{mod-lt, mul_comm, div-add-mod}
 use Rattle.std.proofs.lemmas.List.FromFn.{get_or-map-range_with_len, length-map-range_with_len}
@@ -53,9 +53,11 @@ at_cols n xs j low = get_or-map-range_with_len (λ i. col n i xs) 0 n j j [] low
 
 place_of : (n p : ℕ) → p < n * n → (p % n < n) × (p / n < n) × ((p / n) * n + p % n ≡ p)
 place_of zero p low = absurd (omega arith)
-place_of (suc m) p low =
-    (mod-lt p (omega arith), div_below p (suc m) (suc m) (omega arith) low,
-     ap (λ z. z + p % suc m) (mul_comm (p / suc m) (suc m)) ∙ div-add-mod p (suc m))
+place_of (suc m) p low = (
+  mod-lt p (omega arith),
+  div_below p (suc m) (suc m) (omega arith) low,
+  ap (λ z. z + p % suc m) (mul_comm (p / suc m) (suc m)) ∙ div-add-mod p (suc m),
+)
 
 -- a block has its own columns
 own_columns : (n : ℕ) (xs : List ℤ) → length xs ≡ n * n → of_columns n (map (λ j. col n j xs) (range_with_len 0 n)) ≡ xs
@@ -63,13 +65,13 @@ own_columns n xs size =
     let cs = map (λ j. col n j xs) (range_with_len 0 n) in
     let made_size = length-map-range_with_len (λ p. at (get_or cs (p % n) []) (p / n)) 0 (n * n) in
     ext_get_or (pos 0) (of_columns n cs) xs (made_size ∙ sym size)
-        (λ p low.
-            let here : p < n * n = omega (arith, made_size) in
-            let place = place_of n p here in
-            get_or-map-range_with_len (λ q. at (get_or cs (q % n) []) (q / n)) 0 (n * n) p p (pos 0) here (omega arith)
-            ∙ (ap (λ c. at c (p / n)) (at_cols n xs (p % n) place.0)
-            ∙ (get_or-map-range_with_len (λ k. at xs (k * n + p % n)) 0 n (p / n) (p / n) (pos 0) place.1 (omega arith)
-            ∙ ap (at xs) place.2)))
+    (λ p low.
+    let here : p < n * n = omega (arith, made_size) in
+    let place = place_of n p here in
+    get_or-map-range_with_len (λ q. at (get_or cs (q % n) []) (q / n)) 0 (n * n) p p (pos 0) here (omega arith)
+    ∙ (ap (λ c. at c (p / n)) (at_cols n xs (p % n) place.0)
+    ∙ (get_or-map-range_with_len (λ k. at xs (k * n + p % n)) 0 n (p / n) (p / n) (pos 0) place.1 (omega arith)
+    ∙ ap (at xs) place.2)))
 
 pub turned_ok : (f : Maps) (n : ℕ) (xs ys : List ℤ) → length ys ≡ n * n → ((j : ℕ) → j < n → f (row n j xs) ≡ Ok (col n j ys)) →
     turned f n xs ≡ Ok ys
@@ -79,8 +81,8 @@ turned_ok f n xs ys size all =
     let rows_size = length-map-range_with_len (λ i. row n i xs) 0 n in
     let cols_size = length-map-range_with_len (λ j. col n j ys) 0 n in
     let done : each f (rows n xs) ≡ Ok cs = each_ok f (rows n xs) cs (rows_size ∙ sym cols_size)
-        (λ k low. let here : k < n = omega (arith, rows_size) in
-            ap f (at_rows n xs k here) ∙ (all k here ∙ ap Ok (sym (at_cols n ys k here)))) in
+    (λ k low. let here : k < n = omega (arith, rows_size) in
+    ap f (at_rows n xs k here) ∙ (all k here ∙ ap Ok (sym (at_cols n ys k here)))) in
     ap (block_of n) done ∙ ap Ok (own_columns n ys size)
 
 pub turned_err : (f : Maps) (n : ℕ) (xs : List ℤ) (rule : Rule) → OneRule f → (j : ℕ) × (j < n) × (f (row n j xs) ≡ Err rule) →
@@ -89,5 +91,5 @@ unfolding turned
 turned_err f n xs rule one (j, low, is) =
     let rows_size = length-map-range_with_len (λ i. row n i xs) 0 n in
     let failed : each f (rows n xs) ≡ Err TransformRange =
-        each_err f (rows n xs) j rule one (omega (arith, rows_size)) (ap f (at_rows n xs j low) ∙ is) in
+    each_err f (rows n xs) j rule one (omega (arith, rows_size)) (ap f (at_rows n xs j low) ∙ is) in
     ap (block_of n) failed ∙ ap Err (sym (one (row n j xs) rule is))

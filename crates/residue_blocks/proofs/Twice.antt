@@ -1,12 +1,11 @@
 -- Rows, then columns.
-use Rattle.std.proofs.Common.{◌≡◌, ℕ, zero, suc, ◌+◌, ◌*◌, ◌/◌, ◌%◌, ◌<◌, ◌≤◌, ◌^◌, ℤ, pos, negsuc, ◌+ℤ◌, Bool, true, false, inl, inr, List, [], ◌∷◌, map, take, drop, length, length-drop, get_or, refl, sym, ◌∙◌, ap, subst, arith, All, Result, Ok, Err}
+use Rattle.std.proofs.Common.{◌≡◌, ℕ, zero, suc, ◌+◌, ◌*◌, ◌/◌, ◌%◌, ◌≤◌, ◌^◌, ℤ, pos, negsuc, true, List, [], ◌∷◌, map, drop, length-drop, get_or, refl, sym, ◌∙◌, ap, subst, arith, All, Result, Ok, Err}
 use Rattle.std.specs.List.{list_all, range_with_len}
-use Rattle.std.proofs.lemmas.List.{get_or-take, get_or-drop, get_or_default}
+use Rattle.std.proofs.lemmas.List.{get_or-drop}
 use Rattle.std.proofs.lemmas.List.Elements.{All-map, All-take}
 use Rattle.std.proofs.lemmas.List.Sums.{AllPass-from_list_all}
 use Rattle.std.proofs.lemmas.Int.{ints}
 use Rattle.vp9_types.specs.declared.rule.Rule.{Rule}
-use Rattle.vp9_types.specs.declared.rule.Rule.TheVariants.{CoefRange}
 use Rattle.vp9_types.specs.declared.shape.Depth.{Depth}
 use Rattle.vp9_types.specs.declared.shape.Depth.TheVariants.{Eight, Ten, Twelve}
 use Rattle.vp9_types.specs.declared.block.TxSize.{TxSize}
@@ -20,7 +19,7 @@ use Rattle.residue_blocks.specs.declared.quant.Quant.{Quant}
 use Rattle.residue_blocks.specs.declared.kind.Kind.{Kind}
 use Rattle.residue_blocks.specs.declared.kind.Kind.TheVariants.{Cosines, Sines, LiftsOfRows, LiftsOfColumns}
 use Rattle.residue_blocks.specs.Blocks.{row, rows, of_columns, before, each, block_of, turned}
-use Rattle.residue_blocks.specs.Residue.{transform, round, rounded_by, rounded_transform, kind_of_rows, kind_of_columns, rounding_bits, log2_of, reconstructed, residue, coefficients}
+use Rattle.residue_blocks.specs.Residue.{transform, round, rounded_by, rounded_transform, kind_of_rows, kind_of_columns, rounding_bits, log2_of, reconstructed}
 
 abbrev Maps : Type 0
 Maps = List ℤ → Result (List ℤ) Rule
@@ -79,12 +78,12 @@ each_small : (f : Maps) (xs cs : List (List ℤ)) → ((x y : List ℤ) → All 
 each_small f [] cs keeps small h = let same : [] ≡ cs = cc in subst (All (All IsSmall)) same (λ k d low. absurd (omega arith))
 each_small f (x ∷ xs) cs keeps small h =
     before_small (f x) (each f xs) cs (λ y is. keeps x y (small 0 [] (omega arith)) is)
-        (λ ys is. each_small f xs ys keeps (λ k d low. small (suc k) d (omega arith)) is) h
+    (λ ys is. each_small f xs ys keeps (λ k d low. small (suc k) d (omega arith)) is) h
 
 of_columns_small : (n : ℕ) (cs : List (List ℤ)) → All (All IsSmall) cs → All IsSmall (of_columns n cs)
 of_columns_small n cs small =
     All-map IsSmall (λ p. at (get_or cs (p % n) []) (p / n)) (range_with_len 0 (n * n))
-        (λ k d low. at_small _ _ (row_small cs _ small))
+    (λ k d low. at_small _ _ (row_small cs _ small))
 
 block_small : (n : ℕ) (r : Result (List (List ℤ)) Rule) (ys : List ℤ) → ((cs : List (List ℤ)) → r ≡ Ok cs → All (All IsSmall) cs) →
     block_of n r ≡ Ok ys → All IsSmall ys
@@ -96,7 +95,7 @@ turned_small : (f : Maps) (n : ℕ) (xs ys : List ℤ) → ((x y : List ℤ) →
 unfolding turned
 turned_small f n xs ys keeps small h =
     block_small n (each f (rows n xs)) ys
-        (λ cs is. each_small f (rows n xs) cs keeps (All-map (All IsSmall) (λ i. row n i xs) (range_with_len 0 n) (λ k d low. one_row_small n _ xs small)) is) h
+    (λ cs is. each_small f (rows n xs) cs keeps (All-map (All IsSmall) (λ i. row n i xs) (range_with_len 0 n) (λ k d low. one_row_small n _ xs small)) is) h
 
 -- the coefficients of a block that fit are small
 pub fitting_small : (depth : Depth) (xs : List ℤ) → list_all (fits (limit_of depth)) xs ≡ true → All IsSmall xs
@@ -125,7 +124,7 @@ as_turns : (quant : Quant) (tx : TxSize) (kind : TxType) (xs : List ℤ) →
 unfolding reconstructed
 as_turns quant tx kind xs =
     ap (λ r. and_then r (turned (of_cols quant tx kind) (side tx)))
-        (sym (first_turn (kind_of_rows quant.lossless tx kind) (limit_of quant.depth) (log2_of tx) (side tx) xs))
+    (sym (first_turn (kind_of_rows quant.lossless tx kind) (limit_of quant.depth) (log2_of tx) (side tx) xs))
 
 -- the passes of a block
 pub record Passes (quant : Quant) (tx : TxSize) (kind : TxType) (rows_kind : Kind) (log2 bits : ℕ) (depth : Depth) (want : Kind) (wanted_bits : ℕ) : Type 0 where
@@ -151,7 +150,7 @@ pub rows_failed : (quant : Quant) (tx : TxSize) (kind : TxType) (k : Kind) (log2
     turned (rounded_transform k (limit_of depth) log2 bits) (2 ^ log2) xs ≡ Err rule → reconstructed quant tx kind xs ≡ Err rule
 rows_failed quant tx kind k log2 bits depth xs rule p h =
     as_turns quant tx kind xs ∙ ap (λ r. and_then r (turned (of_cols quant tx kind) (side tx)))
-        (sym (same_turn quant tx kind k log2 bits depth (kind_of_rows quant.lossless tx kind) 0 xs p) ∙ h)
+    (sym (same_turn quant tx kind k log2 bits depth (kind_of_rows quant.lossless tx kind) 0 xs p) ∙ h)
 
 pub columns_given : (quant : Quant) (tx : TxSize) (kind : TxType) (k m : Kind) (k_log2 m_log2 k_bits m_bits : ℕ) (k_depth m_depth : Depth)
     (xs ys new : List ℤ) (r : Result (Unit {0}) Rule) →
@@ -162,8 +161,8 @@ pub columns_given : (quant : Quant) (tx : TxSize) (kind : TxType) (k m : Kind) (
     Gives (reconstructed quant tx kind xs) r new
 columns_given quant tx kind k m k_log2 m_log2 k_bits m_bits k_depth m_depth xs ys new r p q first second =
     let rows_done : turned (of_rows quant tx kind) (side tx) xs ≡ Ok ys =
-        sym (same_turn quant tx kind k k_log2 k_bits k_depth (kind_of_rows quant.lossless tx kind) 0 xs p) ∙ first in
+    sym (same_turn quant tx kind k k_log2 k_bits k_depth (kind_of_rows quant.lossless tx kind) 0 xs p) ∙ first in
     let whole : turned (rounded_transform m (limit_of m_depth) m_log2 m_bits) (2 ^ m_log2) ys ≡ reconstructed quant tx kind xs =
-        same_turn quant tx kind m m_log2 m_bits m_depth (kind_of_columns quant.lossless tx kind) (rounding_bits quant.lossless tx) ys q
-        ∙ sym (as_turns quant tx kind xs ∙ ap (λ z. and_then z (turned (of_cols quant tx kind) (side tx))) rows_done) in
+    same_turn quant tx kind m m_log2 m_bits m_depth (kind_of_columns quant.lossless tx kind) (rounding_bits quant.lossless tx) ys q
+    ∙ sym (as_turns quant tx kind xs ∙ ap (λ z. and_then z (turned (of_cols quant tx kind) (side tx))) rows_done) in
     subst (λ z. Gives z r new) whole second

@@ -1,5 +1,5 @@
 -- Square blocks of n rows, as the list of their values row by row.
-use Rattle.std.specs.Prelude.{ℕ, ◌+◌, ◌*◌, ◌/◌, ◌%◌, ℤ, List, [], ◌∷◌, map, take, drop, slice_index_or, Result, Ok, Err, ◌≡◌, ◌-◌, ◌<◌, Bool, true, false, if◌then◌else◌}
+use Rattle.std.specs.Prelude.{ℕ, ◌+◌, ◌*◌, ◌/◌, ◌%◌, ℤ, List, [], ◌∷◌, map, take, drop, slice_index_or, Result, Ok, Err, ◌≡◌, ◌-◌, ◌<◌, true, false, if◌then◌else◌}
 use Rattle.std.specs.List.{range_with_len}
 use Rattle.vp9_types.specs.declared.rule.Rule.{Rule}
 use Rattle.vp9_types.specs.Maps.{is_within}

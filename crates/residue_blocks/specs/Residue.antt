@@ -1,5 +1,5 @@
 -- From levels to residue: dequantisation (8.6.2 of the standard), then the transforms of rows and columns (8.7.2).
-use Rattle.std.specs.Prelude.{ℕ, zero, ◌+◌, ◌*◌, ◌/◌, ◌^◌, ℤ, pos, ◌+ℤ◌, ◌*ℤ◌, Bool, true, false, List, map, Result, Ok, Err, if◌then◌else◌, nat_eq, nat_le, ◌&&◌, int_div, length, unsigned_abs, ◌<◌, ◌≡◌}
+use Rattle.std.specs.Prelude.{ℕ, ◌/◌, ◌^◌, ℤ, pos, ◌+ℤ◌, ◌*ℤ◌, Bool, true, false, List, map, Result, Ok, Err, if◌then◌else◌, nat_eq, nat_le, ◌&&◌, int_div, length, unsigned_abs, ◌<◌, ◌≡◌}
 use Rattle.std.specs.Int.{int_shr}
 use Rattle.std.specs.List.{list_all, range_with_len}
 use Rattle.vp9_types.specs.declared.rule.Rule.{Rule}
@@ -8,7 +8,7 @@ use Rattle.vp9_types.specs.declared.block.TxSize.{TxSize}
 use Rattle.vp9_types.specs.declared.block.TxSize.TheVariants.{T4x4, T8x8, T16x16, T32x32}
 use Rattle.vp9_types.specs.declared.block.TxType.{TxType}
 use Rattle.vp9_types.specs.declared.block.TxType.TheVariants.{DctDct, AdstDct, DctAdst, AdstAdst}
-use Rattle.vp9_tables.specs.Scans.{side, area}
+use Rattle.vp9_tables.specs.Scans.{side}
 use Rattle.inverse_transforms.specs.Ranges.{fits, limit_of}
 use Rattle.inverse_transforms.specs.Flow.{at, and_then}
 use Rattle.inverse_transforms.specs.Transforms.{dct, adst, wht}
@@ -115,7 +115,7 @@ rounded_transform kind limit log2 bits xs = rounded_by bits (transform kind limi
 unfoldable pub reconstructed : Quant → TxSize → TxType → List ℤ → Result (List ℤ) Rule
 reconstructed quant tx kind xs =
     and_then (turned (transform (kind_of_rows quant.lossless tx kind) (limit_of quant.depth) (log2_of tx)) (side tx) xs)
-        (turned (rounded_transform (kind_of_columns quant.lossless tx kind) (limit_of quant.depth) (log2_of tx) (rounding_bits quant.lossless tx)) (side tx))
+    (turned (rounded_transform (kind_of_columns quant.lossless tx kind) (limit_of quant.depth) (log2_of tx) (rounding_bits quant.lossless tx)) (side tx))
 
 -- all values fit, or the first in scan order that doesn't gives rule 22, which is the same whichever it is
 unfoldable pub residue : Quant → TxSize → TxType → List ℤ → Result (List ℤ) Rule

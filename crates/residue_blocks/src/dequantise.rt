@@ -68,7 +68,10 @@ fn coefficient(level: i32, place: usize, tx: TxSize, quant: Quant) -> Result<i32
     requires { IsLevel level }
     ensures { Fitting (limit_of quant.depth) (coefficient quant tx place level) result }
 {
-    fitting(scaled(product(level, step_of(quant, place)), tx), quant.depth)
+    fitting(
+        scaled(product(level, step_of(quant, place)), tx),
+        quant.depth,
+    )
 }
 
 /// The coefficients of levels, in their places.

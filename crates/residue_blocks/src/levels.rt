@@ -51,7 +51,13 @@ fn pass_of_columns(tx: TxSize, kind: TxType, quant: Quant) -> Pass
 }
 
 /// Rows, then columns, by way of a block of the same size.
-fn turn_twice(block: &mut [i32], middle: &mut [i32], tx: TxSize, kind: TxType, quant: Quant) -> Result<(), Rule>
+fn turn_twice(
+    block: &mut [i32],
+    middle: &mut [i32],
+    tx: TxSize,
+    kind: TxType,
+    quant: Quant,
+) -> Result<(), Rule>
     requires size { length block.old ≡ area tx }
     requires middle { length middle.old ≡ area tx }
     requires values { All IsSmall block.old }

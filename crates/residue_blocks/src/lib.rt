@@ -7,9 +7,8 @@ mod group;
 mod kind;
 mod levels;
 mod quant;
-
 mod turn;
 
 pub use kind::Kind;
-pub use quant::Quant;
 pub use levels::residue;
+pub use quant::Quant;

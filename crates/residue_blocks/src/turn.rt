@@ -22,7 +22,14 @@ pub struct Pass {
 }
 
 /// Turns a group of rows by rows of lanes, of which those behind the group are zeros.
-fn turn_by(t: &mut [Lanes], from: &[i32], to: &mut [i32], first: usize, width: usize, pass: Pass) -> Result<(), Rule>
+fn turn_by(
+    t: &mut [Lanes],
+    from: &[i32],
+    to: &mut [i32],
+    first: usize,
+    width: usize,
+    pass: Pass,
+) -> Result<(), Rule>
     requires kind { IsTrue (has_size pass.kind pass.log2) }
     requires side { length t.old ≡ 2 ^ pass.log2 }
     requires most { length t.old ≤ 32 }
@@ -43,7 +50,14 @@ fn turn_by(t: &mut [Lanes], from: &[i32], to: &mut [i32], first: usize, width: u
 }
 
 /// Turns a group of rows.
-fn turn_group(from: &[i32], to: &mut [i32], n: usize, first: usize, width: usize, pass: Pass) -> Result<(), Rule>
+fn turn_group(
+    from: &[i32],
+    to: &mut [i32],
+    n: usize,
+    first: usize,
+    width: usize,
+    pass: Pass,
+) -> Result<(), Rule>
     requires kind { IsTrue (has_size pass.kind pass.log2) }
     requires side { n ≡ 2 ^ pass.log2 }
     requires most { n ≤ 32 }
@@ -76,10 +90,26 @@ fn groups_of(log2: u8) -> Groups
     ensures width { result.width ≤ 8 }
 {
     match log2 {
-        2 => Groups { side: 4, count: 1, width: 4 },
-        3 => Groups { side: 8, count: 1, width: 8 },
-        4 => Groups { side: 16, count: 2, width: 8 },
-        5 => Groups { side: 32, count: 4, width: 8 },
+        2 => Groups {
+            side: 4,
+            count: 1,
+            width: 4,
+        },
+        3 => Groups {
+            side: 8,
+            count: 1,
+            width: 8,
+        },
+        4 => Groups {
+            side: 16,
+            count: 2,
+            width: 8,
+        },
+        5 => Groups {
+            side: 32,
+            count: 4,
+            width: 8,
+        },
         _ => unreachable!(),
     }
 }
@@ -97,7 +127,14 @@ pub fn turn_rows(from: &[i32], to: &mut [i32], pass: Pass) -> Result<(), Rule>
 {
     let groups = groups_of(pass.log2);
     for group in 0..groups.count {
-        turn_group(from, to, groups.side, group * groups.width, groups.width, pass)?;
+        turn_group(
+            from,
+            to,
+            groups.side,
+            group * groups.width,
+            groups.width,
+            pass,
+        )?;
     }
     Ok(())
 }

@@ -1,4 +1,3 @@
-use Rattle.std.proofs.Common.{◌≡◌, length}
 use Rattle.residue_blocks.proofs.Coefs.{SoFar}
 use Rattle.residue_blocks.proofs.dequantise.dequantise.Given as goal
 

@@ -1,4 +1,4 @@
-use Rattle.std.proofs.Common.{◌≡◌, rules, arith, refl, length, ◌<◌}
+use Rattle.std.proofs.Common.{arith, refl}
 use Rattle.residue_blocks.proofs.LaneEdits.{put_step, rows_from}
 use Rattle.residue_blocks.proofs.group.put_lane.Goals as goal
 
