@@ -1,5 +1,5 @@
 #!/usr/bin/env python3
-"""Writes bench/transforms/transforms.c's part that is made of flows: the DCTs of 8 and of 32, straight, one list at a time, with the
+"""Writes bench/transforms/flows.h, the part of transforms.c that is made of flows: the DCTs of 8 and of 32, straight, one list at a time, with the
 test of each stored value. Argument: the list of flows (../shared/tables/flows.txt beside the repository)."""
 import pathlib
 import sys

@@ -7,6 +7,8 @@ mod group;
 mod kind;
 mod levels;
 mod quant;
+#[cfg(test)]
+mod tests;
 mod turn;
 
 pub use kind::Kind;
