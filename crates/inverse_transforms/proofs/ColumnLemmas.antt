@@ -218,7 +218,7 @@ one_small_after limit f t a u all most size made is fit small =
     All-set (All IsSmall) t a u u_small small
 
 -- a permutation of rows
-row_small : (t : List (List ℤ)) (place : ℕ) → All (All IsSmall) t → All IsSmall (get_or t place [])
+pub row_small : (t : List (List ℤ)) (place : ℕ) → All (All IsSmall) t → All IsSmall (get_or t place [])
 row_small t place small = elim (cases_lt place (length t)) [
   | inl low ↦ small place [] low
   | inr past ↦ rw (get_or_past t place [] past) (λ k d low. absurd (omega arith))

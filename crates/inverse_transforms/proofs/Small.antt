@@ -1,5 +1,5 @@
 -- What is stored is small.
-use Rattle.std.proofs.Common.{◌≡◌, ℕ, ◌≤◌, ◌^◌, ℤ, pos, negsuc, neg_ℤ, Bool, true, false, inl, inr, List, take, length, set, get_or, refl, subst, arith, All, Result, Ok, Err, cond}
+use Rattle.std.proofs.Common.{◌≡◌, ℕ, ◌≤◌, ◌^◌, ℤ, pos, negsuc, neg_ℤ, Bool, true, false, inl, inr, List, take, length, set, get_or, refl, subst, arith, All, Result, Ok, Err, cond, nat_eq, ◌∷◌, []}
 use Rattle.std.proofs.lemmas.List.Elements.{All-set, All-map}
 use Rattle.std.proofs.lemmas.List.{get_or_past}
 use Rattle.std.proofs.lemmas.Bool.{and_parts, cases_lt}
@@ -10,7 +10,9 @@ use Rattle.vp9_tables.specs.declared.flow_row.FlowRow.TheVariants.{Perm, Rot, Su
 use borrow.Author.Tests.{ltb-true}
 use Rattle.inverse_transforms.specs.declared.values.Two.{Two}
 use Rattle.inverse_transforms.specs.declared.values.Four.{Four}
-use Rattle.inverse_transforms.specs.Flow.{at, two_fit, four_fit, permuted, store_one, store_two, store_four, step, rotated, added, rotated_wide}
+use Rattle.inverse_transforms.specs.Flow.{at, two_fit, four_fit, permuted, store_one, store_two, store_four, step, rotated, added, rotated_wide, run, and_then}
+use Rattle.inverse_transforms.specs.Transforms.{dct, adst, adst_rows, adst_of_4, adst_quad, wht, wht_quad, size_of}
+use Rattle.vp9_tables.specs.Transforms.{dct_of}
 use Rattle.inverse_transforms.specs.Ranges.{fits, IsSmall}
 
 pub fits_small : (limit : ℕ) (x : ℤ) → limit ≤ 2 ^ 24 → fits limit x ≡ true → IsSmall x
@@ -58,7 +60,7 @@ stored_two_small limit xs ys a b v most small h =
     let s = two_small limit v most k.0 in
     subst (All IsSmall) k.1 (All-set IsSmall _ b v.second s.1 (All-set IsSmall xs a v.first s.0 small))
 
-stored_four_small : (limit : ℕ) (xs ys : List ℤ) (a b c d : ℕ) (v : Four) → limit ≤ 2 ^ 24 → All IsSmall xs → store_four limit xs a b c d v ≡ Ok ys → All IsSmall ys
+pub stored_four_small : (limit : ℕ) (xs ys : List ℤ) (a b c d : ℕ) (v : Four) → limit ≤ 2 ^ 24 → All IsSmall xs → store_four limit xs a b c d v ≡ Ok ys → All IsSmall ys
 stored_four_small limit xs ys a b c d v most small h =
     let k = kept (four_fit limit v) (set (set (set (set xs a v.first) b v.second) c v.third) d v.fourth) ys TransformRange h in
     let s = four_small limit v most k.0 in
@@ -74,3 +76,41 @@ step_small limit (Sum a b) xs ys most small h = stored_two_small limit xs ys a b
 step_small limit (Neg a) xs ys most small h = one_small limit xs ys a (neg_ℤ (at xs a)) most small h
 step_small limit (Wide a b k c d m) xs ys most small h =
     stored_four_small limit xs ys a b c d (rotated_wide limit k m (at xs a) (at xs b) (at xs c) (at xs d)) most small h
+
+-- what comes of a step, and of what follows it
+then_small : (r : Result (List ℤ) Rule) (f : List ℤ → Result (List ℤ) Rule) (ys : List ℤ) →
+    ((xs : List ℤ) → r ≡ Ok xs → All IsSmall xs) → ((xs : List ℤ) → All IsSmall xs → f xs ≡ Ok ys → All IsSmall ys) →
+    and_then r f ≡ Ok ys → All IsSmall ys
+then_small (Ok xs) f ys first rest h = rest xs (first xs refl) h
+then_small (Err rule) f ys first rest h = let no : ⊥ = cc in absurd no
+
+pub run_small : (limit : ℕ) (rows : List FlowRow) (xs ys : List ℤ) → limit ≤ 2 ^ 24 → All IsSmall xs → run limit rows xs ≡ Ok ys → All IsSmall ys
+run_small limit [] xs ys most small h = let same : xs ≡ ys = cc in subst (All IsSmall) same small
+run_small limit (row ∷ rows) xs ys most small h =
+    then_small (step limit row xs) (run limit rows) ys (λ zs is. step_small limit row xs zs most small is)
+    (λ zs zs_small is. run_small limit rows zs ys most zs_small is) h
+
+pub dct_small : (limit log2 : ℕ) (xs ys : List ℤ) → limit ≤ 2 ^ 24 → All IsSmall xs → dct limit log2 xs ≡ Ok ys → All IsSmall ys
+unfolding dct
+dct_small limit log2 xs ys most small h = run_small limit (dct_of (size_of log2)) xs ys most small h
+
+adst_of_4_small : (limit : ℕ) (xs ys : List ℤ) → limit ≤ 2 ^ 24 → All IsSmall xs → adst_of_4 limit xs ≡ Ok ys → All IsSmall ys
+unfolding adst_of_4
+adst_of_4_small limit xs ys most small h =
+    stored_four_small limit xs ys 0 1 2 3 (adst_quad limit (at xs 0) (at xs 1) (at xs 2) (at xs 3)) most small h
+
+one_of : (b : Bool) (r s : Result (List ℤ) Rule) (ys : List ℤ) → (r ≡ Ok ys → All IsSmall ys) → (s ≡ Ok ys → All IsSmall ys) →
+    cond b r s ≡ Ok ys → All IsSmall ys
+one_of true r s ys one other h = one h
+one_of false r s ys one other h = other h
+
+pub adst_small : (limit log2 : ℕ) (xs ys : List ℤ) → limit ≤ 2 ^ 24 → All IsSmall xs → adst limit log2 xs ≡ Ok ys → All IsSmall ys
+unfolding adst
+adst_small limit log2 xs ys most small h =
+    one_of (nat_eq log2 2) (adst_of_4 limit xs) (run limit (adst_rows log2) xs) ys (adst_of_4_small limit xs ys most small)
+    (run_small limit (adst_rows log2) xs ys most small) h
+
+pub wht_small : (limit shift : ℕ) (xs ys : List ℤ) → limit ≤ 2 ^ 24 → All IsSmall xs → wht limit shift xs ≡ Ok ys → All IsSmall ys
+unfolding wht
+wht_small limit shift xs ys most small h =
+    stored_four_small limit xs ys 0 1 2 3 (wht_quad shift (at xs 0) (at xs 1) (at xs 2) (at xs 3)) most small h

@@ -14,9 +14,9 @@ use Rattle.inverse_transforms.specs.declared.values.Four.{Four}
 use Rattle.inverse_transforms.specs.Angles.{sine_of}
 use Rattle.inverse_transforms.specs.Ranges.{round14}
 use Rattle.inverse_transforms.specs.Flow.{at, zeros, turned_x, turned_y, rotated, added, rotated_wide, wide, two_fit, four_fit, store_two, store_four, permuted, step, run, is_within, is_reorder}
-use Rattle.inverse_transforms.specs.Transforms.{dct, adst, adst_rows, adst_quad, adst_of_4, size_of}
+use Rattle.inverse_transforms.specs.Transforms.{dct, adst, adst_rows, adst_quad, adst_of_4, size_of, wht, wht_quad, lifted, middle_lifts, last_lifts}
 
-at_zeros : (n i : ℕ) → at (zeros n) i ≡ pos 0
+pub at_zeros : (n i : ℕ) → at (zeros n) i ≡ pos 0
 at_zeros n i = elim (cases_lt i n) [
   | inl low ↦ get_or-replicate n i (pos 0) (pos 0) low
   | inr past ↦ get_or_past (zeros n) i (pos 0) (rw (length-replicate n (pos 0)) past)
@@ -118,3 +118,18 @@ adst_zeros limit (suc (suc zero)) some least most = rw (adst_quad_zeros limit so
 adst_zeros limit (suc (suc (suc zero))) some least most = run_zeros limit 8 (adst_rows 3) some refl
 adst_zeros limit (suc (suc (suc (suc zero)))) some least most = run_zeros limit 16 (adst_rows 4) some refl
 adst_zeros limit (suc (suc (suc (suc (suc k))))) some least most = absurd (omega arith)
+
+no_lifts : lifted (pos 0) (pos 0) (pos 0) (pos 0) ≡ four_zeros
+unfolding lifted middle_lifts last_lifts
+no_lifts = refl
+
+wht_quad_zeros : (shift : ℕ) → shift ≤ 2 → wht_quad shift (pos 0) (pos 0) (pos 0) (pos 0) ≡ four_zeros
+unfolding wht_quad
+wht_quad_zeros zero most = no_lifts
+wht_quad_zeros (suc zero) most = no_lifts
+wht_quad_zeros (suc (suc zero)) most = no_lifts
+wht_quad_zeros (suc (suc (suc k))) most = absurd (omega arith)
+
+pub wht_zeros : (limit shift : ℕ) → 0 < limit → shift ≤ 2 → wht limit shift (zeros 4) ≡ Ok (zeros 4)
+unfolding wht
+wht_zeros limit shift some most = rw (wht_quad_zeros shift most) (store_four_zeros limit 4 0 1 2 3 some)

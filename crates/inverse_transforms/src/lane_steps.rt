@@ -3,12 +3,12 @@
 ghost use Rattle.std.specs.Prelude.{◌≡◌, ℕ, ◌^◌, ◌≤◌, ◌<◌, length, take, slice_index, nat_lt, IsTrue, All, neg_ℤ};
 ghost use Rattle.std.specs.List.{list_all};
 ghost use Rattle.inverse_transforms.specs.Flow.{at, step, run, store_one, store_two, store_four, permuted, rotated, added, rotated_wide, is_within};
-ghost use Rattle.inverse_transforms.specs.Transforms.{adst_of_4};
+ghost use Rattle.inverse_transforms.specs.Transforms.{adst_of_4, wht};
 ghost use Rattle.inverse_transforms.specs.Columns.{GivesColumns, gathered};
 ghost use Rattle.inverse_transforms.specs.Ranges.{IsSmall};
 
 use crate::lanes::{
-    Lanes, added_lanes, adst_lanes, negated_lanes, rotated_lanes, rotated_wide_lanes,
+    Lanes, added_lanes, adst_lanes, negated_lanes, rotated_lanes, rotated_wide_lanes, wht_lanes,
 };
 use crate::turn::Turn;
 use vp9_tables::FlowRow;
@@ -127,6 +127,31 @@ pub fn adst_of_4(t: &mut [Lanes], limit: u32) -> Result<(), Rule>
     let c = t[2];
     let d = t[3];
     let (p, q, r, s, fit) = adst_lanes(&a, &b, &c, &d, limit);
+    if !fit {
+        return Err(Rule::TransformRange);
+    }
+    t[0] = p;
+    t[1] = q;
+    t[2] = r;
+    t[3] = s;
+    Ok(())
+}
+
+/// The WHT.
+#[tactic(auto, unfolding(crate::specs::Transforms::wht))]
+pub fn wht_of_4(t: &mut [Lanes], shift: u8, limit: u32) -> Result<(), Rule>
+    requires size { length t.old ≡ 4 }
+    requires shift { shift ≤ 2 }
+    requires limit { limit ≤ 2 ^ 24 }
+    requires small { All (All IsSmall) t.old }
+    ensures gives { GivesColumns (wht limit shift) result t.old t.new }
+    ensures small { All (All IsSmall) t.new }
+{
+    let a = t[0];
+    let b = t[1];
+    let c = t[2];
+    let d = t[3];
+    let (p, q, r, s, fit) = wht_lanes(&a, &b, &c, &d, shift, limit);
     if !fit {
         return Err(Rule::TransformRange);
     }

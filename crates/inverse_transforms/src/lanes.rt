@@ -2,13 +2,13 @@
 
 ghost use Rattle.std.specs.Prelude.{◌≡◌, ℕ, ◌^◌, ◌≤◌, ◌<◌, All, neg_ℤ};
 ghost use Rattle.inverse_transforms.specs.Flow.{at, rotated, added, rotated_wide, two_fit, four_fit};
-ghost use Rattle.inverse_transforms.specs.Transforms.{adst_quad};
+ghost use Rattle.inverse_transforms.specs.Transforms.{adst_quad, wht_quad};
 ghost use Rattle.inverse_transforms.specs.Columns.{TwoLanes, FourLanes, AllHold};
 ghost use Rattle.inverse_transforms.specs.Ranges.{IsSmall, fits};
 
 use crate::kernels::{added, four_fit, negated, rotated, rotated_wide, two_fit};
 use crate::numbers::is_fit;
-use crate::quads::adst_quad;
+use crate::quads::{adst_quad, wht_quad};
 use crate::turn::Turn;
 
 /// Values of eight columns.
@@ -128,6 +128,33 @@ pub fn adst_lanes(a: &Lanes, b: &Lanes, c: &Lanes, d: &Lanes, limit: u32) -> Fou
     let mut fit = true;
     for j in 0..8usize {
         let v = adst_quad(a[j], b[j], c[j], d[j], limit);
+        p[j] = v.first;
+        q[j] = v.second;
+        r[j] = v.third;
+        s[j] = v.fourth;
+        fit = fit & four_fit(v, limit);
+    }
+    (p, q, r, s, fit)
+}
+
+#[inline(always)]
+pub fn wht_lanes(a: &Lanes, b: &Lanes, c: &Lanes, d: &Lanes, shift: u8, limit: u32) -> FourRows
+    requires a { All IsSmall a.now }
+    requires b { All IsSmall b.now }
+    requires c { All IsSmall c.now }
+    requires d { All IsSmall d.now }
+    requires shift { shift ≤ 2 }
+    requires limit { limit ≤ 2 ^ 24 }
+    ensures made { FourLanes (wht_quad shift) a.now b.now c.now d.now result.0 result.1 result.2 result.3 8 }
+    ensures fit { AllHold (λ j. four_fit limit (wht_quad shift (at a.now j) (at b.now j) (at c.now j) (at d.now j))) 8 result.4 }
+{
+    let mut p = [0; 8];
+    let mut q = [0; 8];
+    let mut r = [0; 8];
+    let mut s = [0; 8];
+    let mut fit = true;
+    for j in 0..8usize {
+        let v = wht_quad(a[j], b[j], c[j], d[j], shift);
         p[j] = v.first;
         q[j] = v.second;
         r[j] = v.third;

@@ -9,6 +9,7 @@ ghost use Rattle.inverse_transforms.specs.Transforms.{dct, adst, wht};
 pub fn transforms_leave_zeros()
     ensures dct { (limit log2 : ℕ) → 0 < limit → 2 ≤ log2 → log2 ≤ 5 → dct limit log2 (zeros (2 ^ log2)) ≡ Ok (zeros (2 ^ log2)) }
     ensures adst { (limit log2 : ℕ) → 0 < limit → 2 ≤ log2 → log2 ≤ 4 → adst limit log2 (zeros (2 ^ log2)) ≡ Ok (zeros (2 ^ log2)) }
+    ensures wht { (limit shift : ℕ) → 0 < limit → shift ≤ 2 → wht limit shift (zeros 4) ≡ Ok (zeros 4) }
 {}
 
 /// What doesn't fit breaks one rule, whichever value it is.

@@ -16,4 +16,4 @@ pub mod values;
 
 pub use lanes::Lanes;
 pub use laws::{transforms_break_one_rule, transforms_leave_zeros};
-pub use transforms::{adst, adst_columns, dct, dct_columns, wht};
+pub use transforms::{adst, adst_columns, dct, dct_columns, wht, wht_columns};

@@ -126,7 +126,7 @@ fn shifted(x: i32, shift: u8) -> i32
 
 #[inline(always)]
 #[tactic(auto, unfolding(crate::specs::Transforms::wht_quad))]
-fn wht_quad(x0: i32, x1: i32, x2: i32, x3: i32, shift: u8) -> Four
+pub fn wht_quad(x0: i32, x1: i32, x2: i32, x3: i32, shift: u8) -> Four
     requires x0 { IsSmall x0 }
     requires x1 { IsSmall x1 }
     requires x2 { IsSmall x2 }

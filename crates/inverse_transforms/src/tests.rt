@@ -7,7 +7,7 @@ ghost use Rattle.inverse_transforms.specs.Ranges.{IsSmall};
 
 mod vectors;
 
-use crate::{Lanes, adst, adst_columns, dct, dct_columns, wht};
+use crate::{Lanes, adst, adst_columns, dct, dct_columns, wht, wht_columns};
 use std::process::Abort;
 use vectors::{
     ADST_4, ADST_4_FITS, ADST_8, ADST_8_FITS, ADST_16, ADST_16_FITS, DCT_4, DCT_4_FITS, DCT_8,
@@ -116,11 +116,21 @@ fn list_gives(rt: &impl Abort, case: &Case) {
 fn eight_columns(rt: &impl Abort, case: &Case, t: &mut [Lanes]) -> Result<(), Rule> {
     assert_eq!(rt; t.len(), size_of(rt, case.log2));
     assert!(rt; rows_are_small(t));
-    if case.kind == Kind::Adst {
-        assert!(rt; case.log2 <= 4);
-        return adst_columns(case.log2, t, case.depth);
+    match case.kind {
+        Kind::Dct => dct_columns(case.log2, t, case.depth),
+        Kind::Adst => {
+            assert!(rt; case.log2 <= 4);
+            adst_columns(case.log2, t, case.depth)
+        }
+        Kind::WhtOfRows => {
+            assert_eq!(rt; t.len(), 4);
+            wht_columns(t, 2, case.depth)
+        }
+        Kind::WhtOfColumns => {
+            assert_eq!(rt; t.len(), 4);
+            wht_columns(t, 0, case.depth)
+        }
     }
-    dct_columns(case.log2, t, case.depth)
 }
 
 fn put_column(t: &mut [Lanes], lane: usize, values: &[i32])
@@ -178,9 +188,7 @@ fn try_all(rt: &impl Abort, kind: Kind, log2: u8, values: &[i32], fits: &[bool])
             fits: *fits,
         };
         list_gives(rt, &case);
-        if kind == Kind::Dct || kind == Kind::Adst {
-            columns_give(rt, &case, number % 8);
-        }
+        columns_give(rt, &case, number % 8);
     }
 }
 

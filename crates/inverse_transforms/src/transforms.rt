@@ -121,3 +121,14 @@ pub fn wht(t: &mut [i32], shift: u8, depth: Depth) -> Result<(), Rule>
 {
     wht_of_4(t, shift, limit_of(depth))
 }
+
+/// The WHTs of eight columns of four rows.
+pub fn wht_columns(t: &mut [Lanes], shift: u8, depth: Depth) -> Result<(), Rule>
+    requires size { length t.old ≡ 4 }
+    requires shift { shift ≤ 2 }
+    requires small { All (All IsSmall) t.old }
+    ensures gives { GivesColumns (wht (limit_of depth) shift) result t.old t.new }
+    ensures small { All (All IsSmall) t.new }
+{
+    lane_steps::wht_of_4(t, shift, limit_of(depth))
+}

@@ -1,0 +1,136 @@
+//! What is made, and its checksums.
+
+ghost use Rattle.std.specs.Prelude.{◌≡◌, ◌≤◌, ◌^◌, unsigned_abs, length, All};
+ghost use Rattle.std.specs.Bool.{OnTrue};
+ghost use Rattle.inverse_transforms.specs.Ranges.{IsSmall};
+ghost use Rattle.residue_blocks.specs.Residue.{IsLevel};
+
+use inverse_transforms::{Lanes, dct_columns};
+use residue_blocks::{Quant, residue};
+use std::alloc::{AllocError, Global};
+use vp9_types::{Depth, Rule, TxSize, TxType};
+
+const MOST: i32 = 1 << 19;
+
+const QUANT: Quant = Quant {
+    dc: 12,
+    ac: 15,
+    depth: Depth::Eight,
+    lossless: false,
+};
+
+/// The next state of a linear congruential generator, whose highest bits are what it draws.
+fn drawn(state: u32) -> u32 {
+    state.wrapping_mul(1664525).wrapping_add(1013904223)
+}
+
+/// 32 rows of eight values from -512 to 511.
+fn rows(seed: u32) -> [Lanes; 32] {
+    let mut state = seed;
+    let mut rows = [[0; 8]; 32];
+    for row in rows.iter_mut() {
+        for x in row.iter_mut() {
+            state = drawn(state);
+            *x = (state >> 22) as i32 - 512;
+        }
+    }
+    rows
+}
+
+/// 64 levels from -16 to 15.
+fn levels(seed: u32) -> [i32; 64] {
+    let mut state = seed;
+    let mut levels = [0; 64];
+    for x in levels.iter_mut() {
+        state = drawn(state);
+        *x = (state >> 27) as i32 - 16;
+    }
+    levels
+}
+
+fn are_small(xs: &[i32]) -> bool
+    ensures small { OnTrue result (All IsSmall xs.now) }
+    ensures levels { OnTrue result (All IsLevel xs.now) }
+{
+    for x in xs {
+        if *x < -MOST || MOST < *x {
+            return false;
+        }
+    }
+    true
+}
+
+fn rows_are_small(t: &[Lanes]) -> bool
+    ensures { OnTrue result (All (All IsSmall) t.now) }
+{
+    for row in t {
+        if !are_small(row) {
+            return false;
+        }
+    }
+    true
+}
+
+fn with_value(sum: u64, value: i32) -> u64 {
+    sum.wrapping_mul(3)
+        .wrapping_add(u64::from(value.unsigned_abs()))
+}
+
+/// The checksum of `count` times eight columns.
+fn columns(first: &[Lanes; 32], second: &[Lanes; 32], count: u64) -> Result<u64, Rule>
+    requires first { All (All IsSmall) first.now }
+    requires second { All (All IsSmall) second.now }
+{
+    let mut sum = 0u64;
+    for k in 0..count {
+        let mut t = if k % 2 == 0 { *first } else { *second };
+        dct_columns(5, &mut t, Depth::Eight)?;
+        sum = with_value(sum, t[(k % 32) as usize][(k % 8) as usize]);
+    }
+    Ok(sum)
+}
+
+/// The checksum of `count` blocks.
+fn residues(first: &[i32; 64], second: &[i32; 64], count: u64) -> Result<u64, Rule>
+    requires first { All IsLevel first.now }
+    requires second { All IsLevel second.now }
+{
+    let mut sum = 0u64;
+    for k in 0..count {
+        let mut block = if k % 2 == 0 { *first } else { *second };
+        residue(&mut block, TxSize::T8x8, TxType::DctDct, QUANT)?;
+        sum = with_value(sum, block[(k % 64) as usize]);
+    }
+    Ok(sum)
+}
+
+/// The checksum of what a line names.
+fn checksum(kind: &str, count: u64) -> Option<Result<u64, Rule>> {
+    let (rows_first, rows_second) = (rows(1), rows(2));
+    let (levels_first, levels_second) = (levels(3), levels(4));
+    if kind == "columns" {
+        if rows_are_small(&rows_first) && rows_are_small(&rows_second) {
+            return Some(columns(&rows_first, &rows_second, count));
+        }
+        return None;
+    }
+    if are_small(&levels_first) && are_small(&levels_second) {
+        return Some(residues(&levels_first, &levels_second, count));
+    }
+    None
+}
+
+/// What is printed for a line.
+pub fn describe(alloc: Global, line: &str) -> Result<String, AllocError> {
+    let Some((kind, number)) = line.split_once(' ') else {
+        return format!(in alloc; "{line}: no number");
+    };
+    let Ok(count) = number.parse::<u64>() else {
+        return format!(in alloc; "{line}: not a number");
+    };
+    match checksum(kind, count) {
+        Some(Ok(sum)) => format!(in alloc; "{line}: {sum}"),
+        Some(Err(rule)) => format!(in alloc; "{line}: {rule}"),
+        None => format!(in alloc; "{line}: too large"),
+    }
+}

@@ -1,0 +1,86 @@
+//! From levels to coefficients.
+
+ghost use Rattle.std.specs.Prelude.{◌≡◌, ℕ, ◌+◌, ◌*◌, ◌^◌, ◌<◌, ◌≤◌, ◌*ℤ◌, pos, unsigned_abs, length, All};
+ghost use Rattle.inverse_transforms.specs.Ranges.{fits, limit_of};
+ghost use Rattle.residue_blocks.specs.Residue.{IsLevel, scaled, quantiser, coefficient, Fitting, Dequantises};
+
+use crate::quant::Quant;
+use vp9_types::{Depth, Rule, TxSize};
+
+/// A value of `8 + depth` bits is at least minus this, and below it.
+fn limit_of(depth: Depth) -> i64
+    ensures value { result ≡ pos (limit_of depth) }
+    ensures size { unsigned_abs result ≤ 2 ^ 19 }
+{
+    match depth {
+        Depth::Eight => 1 << 15,
+        Depth::Ten => 1 << 17,
+        Depth::Twelve => 1 << 19,
+    }
+}
+
+#[inline(always)]
+fn product(level: i32, step: u16) -> i64
+    requires { IsLevel level }
+    ensures value { result ≡ (level *ℤ pos step) }
+    ensures size { unsigned_abs result ≤ 2 ^ 40 }
+{
+    level as i64 * step as i64
+}
+
+/// The magnitude halved at 32x32.
+#[inline(always)]
+fn scaled(x: i64, tx: TxSize) -> i64
+    requires { unsigned_abs x ≤ 2 ^ 40 }
+    ensures value { result ≡ scaled tx x }
+    ensures size { unsigned_abs result ≤ 2 ^ 40 }
+{
+    match tx {
+        TxSize::T32x32 => x / 2,
+        TxSize::T4x4 | TxSize::T8x8 | TxSize::T16x16 => x,
+    }
+}
+
+/// The same value, if it fits.
+#[inline(always)]
+fn fitting(x: i64, depth: Depth) -> Result<i32, Rule>
+    requires { unsigned_abs x ≤ 2 ^ 40 }
+    ensures { Fitting (limit_of depth) x result }
+{
+    let limit = limit_of(depth);
+    if x < -limit || limit <= x {
+        return Err(Rule::CoefRange);
+    }
+    Ok(x as i32)
+}
+
+#[inline(always)]
+fn step_of(quant: Quant, place: usize) -> u16
+    ensures { result ≡ quantiser quant place }
+{
+    if place == 0 { quant.dc } else { quant.ac }
+}
+
+/// What a level becomes.
+#[inline(always)]
+#[tactic(auto, unfolding(crate::specs::Residue::coefficient))]
+fn coefficient(level: i32, place: usize, tx: TxSize, quant: Quant) -> Result<i32, Rule>
+    requires { IsLevel level }
+    ensures { Fitting (limit_of quant.depth) (coefficient quant tx place level) result }
+{
+    fitting(
+        scaled(product(level, step_of(quant, place)), tx),
+        quant.depth,
+    )
+}
+
+/// The coefficients of levels, in their places.
+pub fn dequantise(block: &mut [i32], tx: TxSize, quant: Quant) -> Result<(), Rule>
+    requires { All IsLevel block.old }
+    ensures { Dequantises quant tx block.old result block.new }
+{
+    for place in 0..block.len() {
+        block[place] = coefficient(block[place], place, tx, quant)?;
+    }
+    Ok(())
+}

@@ -1,0 +1,98 @@
+//! From levels to residue.
+
+ghost use Rattle.std.specs.Prelude.{◌≡◌, ◌+◌, ◌*◌, ◌^◌, ◌≤◌, length, All, IsTrue};
+ghost use Rattle.inverse_transforms.specs.Flow.{Gives};
+ghost use Rattle.inverse_transforms.specs.Ranges.{IsSmall};
+ghost use Rattle.vp9_tables.specs.Scans.{side, area};
+ghost use Rattle.residue_blocks.specs.Residue.{IsLevel, has_size, log2_of, rounding_bits, kind_of_rows, kind_of_columns, reconstructed, residue};
+
+use crate::dequantise::dequantise;
+use crate::kind::{kind_of_columns, kind_of_rows, log2_of, rounding_bits};
+use crate::quant::Quant;
+use crate::turn::{Pass, turn_rows};
+use vp9_types::{Rule, TxSize, TxType};
+
+fn pass_of_rows(tx: TxSize, kind: TxType, quant: Quant) -> Pass
+    ensures kind { result.kind ≡ kind_of_rows quant.lossless tx kind }
+    ensures log2 { result.log2 ≡ log2_of tx }
+    ensures depth { result.depth ≡ quant.depth }
+    ensures bits { result.bits ≡ 0 }
+    ensures size { IsTrue (has_size result.kind result.log2) }
+    ensures side { 2 ^ result.log2 ≡ side tx }
+    ensures least { 2 ≤ result.log2 }
+    ensures most { result.log2 ≤ 5 }
+{
+    let log2 = log2_of(tx);
+    Pass {
+        kind: kind_of_rows(quant.lossless, tx, kind),
+        log2,
+        depth: quant.depth,
+        bits: 0,
+    }
+}
+
+fn pass_of_columns(tx: TxSize, kind: TxType, quant: Quant) -> Pass
+    ensures kind { result.kind ≡ kind_of_columns quant.lossless tx kind }
+    ensures log2 { result.log2 ≡ log2_of tx }
+    ensures depth { result.depth ≡ quant.depth }
+    ensures bits { result.bits ≡ rounding_bits quant.lossless tx }
+    ensures few { result.bits ≤ 6 }
+    ensures size { IsTrue (has_size result.kind result.log2) }
+    ensures side { 2 ^ result.log2 ≡ side tx }
+    ensures least { 2 ≤ result.log2 }
+    ensures most { result.log2 ≤ 5 }
+{
+    Pass {
+        kind: kind_of_columns(quant.lossless, tx, kind),
+        log2: log2_of(tx),
+        depth: quant.depth,
+        bits: rounding_bits(quant.lossless, tx),
+    }
+}
+
+/// Rows, then columns, by way of a block of the same size.
+fn turn_twice(
+    block: &mut [i32],
+    middle: &mut [i32],
+    tx: TxSize,
+    kind: TxType,
+    quant: Quant,
+) -> Result<(), Rule>
+    requires size { length block.old ≡ area tx }
+    requires middle { length middle.old ≡ area tx }
+    requires values { All IsSmall block.old }
+    ensures { Gives (reconstructed quant tx kind block.old) result block.new }
+{
+    turn_rows(block, middle, pass_of_rows(tx, kind, quant))?;
+    turn_rows(middle, block, pass_of_columns(tx, kind, quant))
+}
+
+fn reconstruct(block: &mut [i32], tx: TxSize, kind: TxType, quant: Quant) -> Result<(), Rule>
+    requires size { length block.old ≡ area tx }
+    requires values { All IsSmall block.old }
+    ensures { Gives (reconstructed quant tx kind block.old) result block.new }
+{
+    let size = block.len();
+    match tx {
+        TxSize::T4x4 | TxSize::T8x8 => {
+            let mut middle = [0; 64];
+            turn_twice(block, &mut middle[..size], tx, kind, quant)
+        }
+        TxSize::T16x16 | TxSize::T32x32 => {
+            let mut middle = [0; 1024];
+            turn_twice(block, &mut middle[..size], tx, kind, quant)
+        }
+    }
+}
+
+/// Makes the residue of a block's levels, both row by row. A value that doesn't fit before the transforms is
+/// `CoefRange`, and one in them `TransformRange`; the block is then of no use.
+#[tactic(auto, unfolding(crate::specs::Residue::residue))]
+pub fn residue(block: &mut [i32], tx: TxSize, kind: TxType, quant: Quant) -> Result<(), Rule>
+    requires size { length block.old ≡ area tx }
+    requires levels { All IsLevel block.old }
+    ensures { Gives (residue quant tx kind block.old) result block.new }
+{
+    dequantise(block, tx, quant)?;
+    reconstruct(block, tx, kind, quant)
+}

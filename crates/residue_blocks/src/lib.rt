@@ -1,0 +1,16 @@
+//! The residue of a transform block (8.6.2 and 8.7.2 of the standard): its levels are dequantised, and its rows and
+//! then its columns are transformed.
+#![tactic(auto)]
+
+mod dequantise;
+mod group;
+mod kind;
+mod levels;
+mod quant;
+#[cfg(test)]
+mod tests;
+mod turn;
+
+pub use kind::Kind;
+pub use levels::residue;
+pub use quant::Quant;
