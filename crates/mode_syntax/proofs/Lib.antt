@@ -1,0 +1,3 @@
+pub mod CountingRuns
+pub mod CountedBools
+pub mod TxSizes
