@@ -7,9 +7,11 @@ mod elements;
 mod intra_modes;
 mod laws;
 mod mode_info;
+mod partition;
 mod square_at;
 mod tx_sizes;
 
 pub use laws::counting_syntaxes_compose;
 pub use mode_info::intra_frame_mode_info;
+pub use partition::read_partition;
 pub use square_at::SquareAt;
