@@ -1,3 +1,4 @@
 pub mod CountingRuns
 pub mod CountedBools
 pub mod TxSizes
+pub mod Coverage

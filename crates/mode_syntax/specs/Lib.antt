@@ -4,3 +4,4 @@ pub mod IntraModes
 pub mod Elements
 pub mod ModeInfo
 pub mod Partitions
+pub mod Tiles
