@@ -1,5 +1,5 @@
 -- Counts after lists of bools, and the bools of symbols.
-use Rattle.std.proofs.Common.{◌≡◌, ℕ, zero, suc, ◌+◌, ◌*◌, ◌<◌, ◌≤◌, ◌++◌, ◌∷◌, [], ◌∙◌, Bool, true, false, List, map, refl, sym, ap, arith, nat_lt, if◌then◌else◌}
+use Rattle.std.proofs.Common.{◌≡◌, ℕ, ◌+◌, ◌<◌, ◌≤◌, ◌++◌, ◌∷◌, [], ◌∙◌, false, List, map, refl, sym, ap, arith}
 use Rattle.std.proofs.lemmas.Bool.{lt-ltb, le-ltb}
 use Rattle.std.proofs.lemmas.List.{append-nil}
 use Rattle.std.proofs.lemmas.List.Sums.{fold-append}
@@ -44,7 +44,7 @@ unfolding unary_bools
 unary_ends kind first nodes symbol k counts now new last low so is =
     rw (lt-ltb symbol nodes low)
     (counted_next counts now new (map (one_at kind first) (range_with_len 0 symbol)) (record { kind = kind; place = first + symbol; one = false })
-      (so ∙ ap (λ n. counts_after counts (map (one_at kind first) (range_with_len 0 n))) last) is)
+    (so ∙ ap (λ n. counts_after counts (map (one_at kind first) (range_with_len 0 n))) last) is)
 
 pub unary_full : (kind : ProbKind) (first nodes symbol k : ℕ) (counts now : List ℕ) → k ≡ symbol → nodes ≤ symbol
     → now ≡ counts_after counts (map (one_at kind first) (range_with_len 0 k)) → now ≡ counts_after counts (unary_bools kind first nodes symbol)

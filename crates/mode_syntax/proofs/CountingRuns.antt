@@ -1,11 +1,11 @@
 -- Reading one counting syntax and then another is reading the first, and then the other from there, with the counts so far.
-use Rattle.std.proofs.Common.{◌≡◌, ℕ, List, [], ◌++◌, refl, ap}
-use Rattle.std.specs.Prelude.{Result, Ok, Err}
+use Rattle.std.proofs.Common.{◌≡◌, ℕ, List, refl, ap}
+use Rattle.std.specs.Prelude.{Ok}
 use Rattle.std.proofs.lemmas.List.Sums.{fold-append}
 use Rattle.vp9_types.specs.Syntax.{Syntax, done, broken, ask}
 use Rattle.vp9_types.specs.Reading.{after}
 use Rattle.vp9_types.specs.declared.rule.Rule.{Rule}
-use Rattle.bool_decoder.specs.Window.{Window, bit_of, after_bit}
+use Rattle.bool_decoder.specs.Window.{bit_of, after_bit}
 use Rattle.bool_decoder.specs.Bools.{run_bools}
 use Rattle.prob_contexts.specs.declared.kind.CountedBool.{CountedBool}
 use Rattle.prob_contexts.specs.Counted.{counts_after, with_bool}

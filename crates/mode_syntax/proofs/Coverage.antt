@@ -1,8 +1,7 @@
 -- The blocks of a tile cover each of its places inside the frame once.
-use Rattle.std.proofs.Common.{◌≡◌, ℕ, zero, suc, ◌+◌, ◌*◌, ◌^◌, ◌<◌, ◌≤◌, ◌&&◌, ◌++◌, ◌∷◌, [], ◌∙◌, Bool, true, false, List, inl, inr, refl, sym, ap, arith, cond, nat_lt, lit≤, if◌then◌else◌}
+use Rattle.std.proofs.Common.{◌≡◌, ℕ, zero, suc, ◌+◌, ◌*◌, ◌^◌, ◌<◌, ◌≤◌, ◌&&◌, ◌++◌, ◌∙◌, Bool, true, false, List, inl, inr, refl, sym, ap, arith, cond, lit≤}
 use Rattle.std.proofs.lemmas.List.Sums.{sum_by-append}
-use Rattle.std.specs.List.{flat_map, range_with_len}
-use Rattle.std.proofs.lemmas.Bool.{cases_Bool, cases_lt, lt-ltb, le-ltb}
+use Rattle.std.proofs.lemmas.Bool.{cases_lt, lt-ltb, le-ltb}
 use Rattle.std.proofs.lemmas.Bool.Decides.{nat_tests}
 use Rattle.std.proofs.Math.Nat.{pow-suc}
 use Rattle.vp9_types.specs.Maps.{is_within}
@@ -124,16 +123,16 @@ square_covered frame (suc n) r c upper_and_lower y x few low left =
     let size = part_size Horizontal (suc n) in
     inside_times frame r (2 ^ suc n) c (2 ^ suc n) y x _ low left
     (both (one_leaf r c size) (inside frame (r + 2 ^ n) c (one_leaf (r + 2 ^ n) c size)) y x _ _
-      (one_covers r c size (2 ^ n) (2 ^ suc n) y x s.0 s.1)
-      (inside_times frame (r + 2 ^ n) (2 ^ n) c (2 ^ suc n) y x _ low left (one_covers (r + 2 ^ n) c size (2 ^ n) (2 ^ suc n) y x s.0 s.1))
+    (one_covers r c size (2 ^ n) (2 ^ suc n) y x s.0 s.1)
+    (inside_times frame (r + 2 ^ n) (2 ^ n) c (2 ^ suc n) y x _ low left (one_covers (r + 2 ^ n) c size (2 ^ n) (2 ^ suc n) y x s.0 s.1))
     ∙ below_each r (2 ^ n) (2 ^ n) c (2 ^ suc n) y x ∙ ap (λ h. box r h c (2 ^ suc n) y x) (twice n))
 square_covered frame (suc n) r c left_and_right y x few low left =
     let s = narrow_part n few in
     let size = part_size Vertical (suc n) in
     inside_times frame r (2 ^ suc n) c (2 ^ suc n) y x _ low left
     (both (one_leaf r c size) (inside frame r (c + 2 ^ n) (one_leaf r (c + 2 ^ n) size)) y x _ _
-      (one_covers r c size (2 ^ suc n) (2 ^ n) y x s.0 s.1)
-      (inside_times frame r (2 ^ suc n) (c + 2 ^ n) (2 ^ n) y x _ low left (one_covers r (c + 2 ^ n) size (2 ^ suc n) (2 ^ n) y x s.0 s.1))
+    (one_covers r c size (2 ^ suc n) (2 ^ n) y x s.0 s.1)
+    (inside_times frame r (2 ^ suc n) (c + 2 ^ n) (2 ^ n) y x _ low left (one_covers r (c + 2 ^ n) size (2 ^ suc n) (2 ^ n) y x s.0 s.1))
     ∙ beside_each r (2 ^ suc n) c (2 ^ n) (2 ^ n) y x ∙ ap (λ w. box r (2 ^ suc n) c w y x) (twice n))
 square_covered frame (suc n) r c (quarters a b d e) y x few low left =
     let h = 2 ^ n in
@@ -143,13 +142,13 @@ square_covered frame (suc n) r c (quarters a b d e) y x few low left =
     let le = leaves frame n (r + h) (c + h) e in
     inside_times frame r (2 ^ suc n) c (2 ^ suc n) y x _ low left
     (both (la ++ lb ++ ld) le y x _ _
-      (both (la ++ lb) ld y x _ _
-        (both la lb y x _ _ (square_covered frame n r c a y x (omega arith) low left) (square_covered frame n r (c + h) b y x (omega arith) low left))
-        (square_covered frame n (r + h) c d y x (omega arith) low left))
-      (square_covered frame n (r + h) (c + h) e y x (omega arith) low left)
+    (both (la ++ lb) ld y x _ _
+    (both la lb y x _ _ (square_covered frame n r c a y x (omega arith) low left) (square_covered frame n r (c + h) b y x (omega arith) low left))
+    (square_covered frame n (r + h) c d y x (omega arith) low left))
+    (square_covered frame n (r + h) (c + h) e y x (omega arith) low left)
     ∙ four (box r h c h y x) (box r h (c + h) h y x) (box (r + h) h c h y x) (box (r + h) h (c + h) h y x)
-      (box r h c (h + h) y x) (box (r + h) h c (h + h) y x) (box r (h + h) c (h + h) y x)
-      (beside_each r h c h h y x) (beside_each (r + h) h c h h y x) (below_each r h h c (h + h) y x)
+    (box r h c (h + h) y x) (box (r + h) h c (h + h) y x) (box r (h + h) c (h + h) y x)
+    (beside_each r h c h h y x) (beside_each (r + h) h c h h y x) (below_each r h h c (h + h) y x)
     ∙ ap (λ k. box r k c k y x) (twice n))
 
 nothing_covered : (r c y x : ℕ) → 0 ≡ box r 8 c 0 y x
@@ -170,8 +169,8 @@ row_covered : (frame : FramePlaces) (r c : ℕ) (cuts : ℕ → Cut) (j n y x : 
 row_covered frame r c cuts j zero y x low left = nothing_covered r (c + 8 * j) y x
 row_covered frame r c cuts j (suc n) y x low left =
     both (leaves frame 3 r (c + 8 * j) (cuts j)) (row_leaves frame r c cuts (j + 1) n) y x _ _
-      (square_covered frame 3 r (c + 8 * j) (cuts j) y x (lit≤ tt) low left)
-      (row_covered frame r c cuts (j + 1) n y x low left ∙ ap (λ k. box r 8 k (8 * n) y x) (next_column c j n))
+    (square_covered frame 3 r (c + 8 * j) (cuts j) y x (lit≤ tt) low left)
+    (row_covered frame r c cuts (j + 1) n y x low left ∙ ap (λ k. box r 8 k (8 * n) y x) (next_column c j n))
     ∙ beside_each r 8 (c + 8 * j) 8 (8 * n) y x ∙ ap (λ w. box r 8 (c + 8 * j) w y x) (one_wider n)
 
 -- those of all rows
@@ -180,8 +179,8 @@ rows_covered : (frame : FramePlaces) (r c : ℕ) (cuts : ℕ → ℕ → Cut) (c
 rows_covered frame r c cuts columns i zero y x low left = no_rows_covered (r + 8 * i) (c + 8 * 0) (8 * columns) y x
 rows_covered frame r c cuts columns i (suc n) y x low left =
     both (row_leaves frame (r + 8 * i) c (cuts i) 0 columns) (tile_leaves frame r c cuts columns (i + 1) n) y x _ _
-      (row_covered frame (r + 8 * i) c (cuts i) 0 columns y x low left)
-      (rows_covered frame r c cuts columns (i + 1) n y x low left ∙ ap (λ k. box k (8 * n) (c + 8 * 0) (8 * columns) y x) (next_column r i n))
+    (row_covered frame (r + 8 * i) c (cuts i) 0 columns y x low left)
+    (rows_covered frame r c cuts columns (i + 1) n y x low left ∙ ap (λ k. box k (8 * n) (c + 8 * 0) (8 * columns) y x) (next_column r i n))
     ∙ below_each (r + 8 * i) 8 (8 * n) (c + 8 * 0) (8 * columns) y x ∙ ap (λ h. box (r + 8 * i) h (c + 8 * 0) (8 * columns) y x) (one_wider n)
 
 from_start : (r : ℕ) → r + 8 * 0 ≡ r

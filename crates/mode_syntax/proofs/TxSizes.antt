@@ -1,5 +1,5 @@
 -- Transform sizes by number, and the bools that they count.
-use Rattle.std.proofs.Common.{◌≡◌, ◌∙◌, ap, sym, drop, ℕ, zero, suc, ◌+◌, ◌*◌, ◌<◌, ◌≤◌, ◌++◌, ◌∷◌, [], Bool, true, false, List, refl, arith}
+use Rattle.std.proofs.Common.{◌≡◌, ap, sym, drop, ℕ, zero, suc, ◌*◌, ◌≤◌, false, List, refl, arith}
 use Rattle.vp9_types.specs.declared.block.BlockSize.{BlockSize}
 use Rattle.vp9_types.specs.declared.block.BlockSize.TheVariants.{B4x4, B4x8, B8x4, B8x8, B8x16, B16x8, B16x16, B16x32, B32x16, B32x32, B32x64, B64x32, B64x64}
 use Rattle.vp9_types.specs.declared.block.TxSize.{TxSize}

@@ -1,6 +1,6 @@
 -- What a block of an intra frame says before its modes (6.4.7, 6.4.8 and 6.4.10 of the standard: intra_segment_id,
 -- read_skip, read_tx_size; their contexts in 9.3).
-use Rattle.std.specs.Prelude.{ℕ, ◌+◌, ◌*◌, Bool, true, false, ◌&&◌, not, List, [], ◌∷◌, Option, Some, None, take, drop, slice_index, slice_index_or, nat_eq, nat_lt, if◌then◌else◌}
+use Rattle.std.specs.Prelude.{ℕ, ◌+◌, ◌*◌, Bool, true, false, ◌&&◌, not, List, [], ◌∷◌, Option, Some, None, drop, slice_index, slice_index_or, nat_eq, nat_lt, if◌then◌else◌}
 use Rattle.vp9_types.specs.Syntax.{Syntax, done}
 use Rattle.vp9_types.specs.Trees.{Tree, tree_symbol}
 use Rattle.vp9_types.specs.declared.block.BlockSize.{BlockSize}

@@ -1,7 +1,7 @@
 -- How a square is partitioned (6.4.3 of the standard: partition in decode_partition; 9.3 for its probabilities).
 use Rattle.std.specs.Prelude.{ℕ, ◌+◌, ◌-◌, ◌*◌, ◌/◌, ◌^◌, Bool, ◌&&◌, List, [], Option, Some, None, map, min, take, drop, get_or, slice_index, nat_eq, nat_lt, if◌then◌else◌}
 use Rattle.std.specs.List.{range_with_len}
-use Rattle.vp9_types.specs.Syntax.{Syntax, done}
+use Rattle.vp9_types.specs.Syntax.{Syntax}
 use Rattle.vp9_types.specs.Trees.{tree_symbol}
 use Rattle.vp9_types.specs.declared.block.Partition.{Partition}
 use Rattle.vp9_types.specs.declared.block.Partition.TheVariants.{Whole, Horizontal, Vertical, Split}

@@ -16,7 +16,10 @@ use vp9_tables::segment_tree;
 
 /// The segment of a block of an intra frame.
 #[tactic(auto, unfolding(crate::specs::Elements::intra_segment_id, crate::specs::Elements::coded_segment))]
-pub(crate) fn read_intra_segment_id(decoder: &mut BoolDecoder<'_>, segmentation: &Segmentation) -> u8
+pub(crate) fn read_intra_segment_id(
+    decoder: &mut BoolDecoder<'_>,
+    segmentation: &Segmentation,
+) -> u8
     ensures read { Reads (intra_segment_id segmentation.now) (window_of decoder.old) result (window_of decoder.new) }
     ensures most { result ≤ 7 }
 {
@@ -55,7 +58,12 @@ pub(crate) fn skip_context(above: Option<&BlockInfo>, left: Option<&BlockInfo>) 
 }
 
 #[tactic(auto, unfolding(crate::specs::Elements::skip_symbol, bool_decoder::specs::Bools::flag, prob_contexts::specs::Counted::counts_after), using(crate::proofs::CountingRuns::counting_bind, crate::proofs::CountingRuns::run_settle, crate::proofs::CountingRuns::run_count, crate::proofs::CountingRuns::run_uncounted))]
-fn read_skip_symbol(decoder: &mut BoolDecoder<'_>, counts: &mut Counts, probs: &[u8; 3], context: u8) -> bool
+fn read_skip_symbol(
+    decoder: &mut BoolDecoder<'_>,
+    counts: &mut Counts,
+    probs: &[u8; 3],
+    context: u8,
+) -> bool
     requires context { context ≤ 2 }
     requires few { number_counted counts.old < 2 ^ 62 }
     ensures read { ReadsCounting (skip_symbol probs.now context) (window_of decoder.old) counts.old result (window_of decoder.new) counts.new }

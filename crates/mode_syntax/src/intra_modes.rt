@@ -46,7 +46,11 @@ fn read_mode(decoder: &mut BoolDecoder<'_>, probs: &[u8; 9]) -> IntraMode
 }
 
 #[tactic(auto, unfolding(crate::specs::IntraModes::default_intra_mode))]
-fn read_default_intra_mode(decoder: &mut BoolDecoder<'_>, above: IntraMode, left: IntraMode) -> IntraMode
+fn read_default_intra_mode(
+    decoder: &mut BoolDecoder<'_>,
+    above: IntraMode,
+    left: IntraMode,
+) -> IntraMode
     ensures { Reads (default_intra_mode above left) (window_of decoder.old) result (window_of decoder.new) }
 {
     read_mode(decoder, kf_y_mode(above, left))
@@ -123,7 +127,11 @@ fn read_four_modes(decoder: &mut BoolDecoder<'_>, edge: EdgeModes) -> [IntraMode
 
 /// The modes of the quarters of a block.
 #[tactic(auto, unfolding(crate::specs::IntraModes::luma_modes))]
-pub(crate) fn read_luma_modes(decoder: &mut BoolDecoder<'_>, size: BlockSize, edge: EdgeModes) -> [IntraMode; 4]
+pub(crate) fn read_luma_modes(
+    decoder: &mut BoolDecoder<'_>,
+    size: BlockSize,
+    edge: EdgeModes,
+) -> [IntraMode; 4]
     ensures { Reads (luma_modes size edge) (window_of decoder.old) result (window_of decoder.new) }
 {
     match size {

@@ -42,7 +42,14 @@ fn read_beside(
 {
     let segment = read_intra_segment_id(decoder, segmentation);
     let context = skip_context(above, left);
-    let skip = read_skip(decoder, counts, segmentation, &contexts.skip, context, segment);
+    let skip = read_skip(
+        decoder,
+        counts,
+        segmentation,
+        &contexts.skip,
+        context,
+        segment,
+    );
     let context = tx_context(at.size, above, left);
     let tx = read_tx_size(decoder, counts, tx_mode, &contexts.tx, context, at.size);
     let luma = read_luma_modes(decoder, at.size, edge_modes(above, left));

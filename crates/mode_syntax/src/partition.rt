@@ -6,7 +6,6 @@ ghost use Rattle.bool_decoder.specs.Held.{window_of};
 ghost use Rattle.prob_contexts.specs.Counted.{number_counted};
 ghost use Rattle.mode_syntax.specs.Counting.{ReadsCounting};
 ghost use Rattle.mode_syntax.specs.Partitions.{partition_of, split_or, whole_symbol, edge_symbol, partition_value, partition, half_of, partition_probs, width_beside, height_beside, widths_above, heights_left, context_of, partition_at};
-
 ghost use Rattle.prob_contexts.specs.Counted.{counts_after};
 ghost use Rattle.prob_contexts.specs.declared.kind.ProbKind.TheVariants as kind;
 ghost use Rattle.vp9_tables.specs.Numbers.{partition_number};
@@ -49,11 +48,20 @@ fn read_whole(decoder: &mut BoolDecoder<'_>, probs: &[u8]) -> Partition
 fn read_edge(decoder: &mut BoolDecoder<'_>, p: u8, other: Partition) -> Partition
     ensures { (counts : List ℕ) → ReadsCounting (edge_symbol p other) (window_of decoder.old) counts result (window_of decoder.new) counts }
 {
-    if decoder.bit(p) { Partition::Split } else { other }
+    if decoder.bit(p) {
+        Partition::Split
+    } else {
+        other
+    }
 }
 
 #[tactic(auto, unfolding(crate::specs::Partitions::partition_value), using(crate::proofs::CountingRuns::run_settle))]
-fn read_value(decoder: &mut BoolDecoder<'_>, has_rows: bool, has_cols: bool, probs: &[u8]) -> Partition
+fn read_value(
+    decoder: &mut BoolDecoder<'_>,
+    has_rows: bool,
+    has_cols: bool,
+    probs: &[u8],
+) -> Partition
     requires { length probs.now ≡ 3 }
     ensures { (counts : List ℕ) → ReadsCounting (partition_value has_rows has_cols probs.now) (window_of decoder.old) counts result (window_of decoder.new) counts }
 {
@@ -88,7 +96,13 @@ fn count_partition(counts: &mut Counts, context: u8, partition: Partition)
     ensures total { number_counted counts.new ≤ number_counted counts.old + 3 }
 {
     let symbol = number_of(partition);
-    count_unary(counts, ProbKind::Partition, 3 * u16::from(context), 3, symbol);
+    count_unary(
+        counts,
+        ProbKind::Partition,
+        3 * u16::from(context),
+        3,
+        symbol,
+    );
 }
 
 #[tactic(auto, unfolding(crate::specs::Partitions::partition), using(crate::proofs::CountingRuns::counting_bind, crate::proofs::CountingRuns::run_settle, crate::proofs::CountingRuns::run_count))]

@@ -84,19 +84,34 @@ fn nodes_from(probs: &[u8], first: usize) -> &[u8]
     &probs[first..]
 }
 
-fn read_up_to_8x8(decoder: &mut BoolDecoder<'_>, counts: &mut Counts, probs: &TxProbs, context: u8) -> TxSize
+fn read_up_to_8x8(
+    decoder: &mut BoolDecoder<'_>,
+    counts: &mut Counts,
+    probs: &TxProbs,
+    context: u8,
+) -> TxSize
     requires context { context ≤ 1 }
     requires few { number_counted counts.old < 2 ^ 62 }
     ensures read { ReadsCounting (tx_symbol (tx_lists probs.now) size.T8x8 context) (window_of decoder.old) counts.old result (window_of decoder.new) counts.new }
     ensures total { number_counted counts.new ≤ number_counted counts.old + 3 }
 {
     let number = decoder.tree(tx8_tree(), nodes_from(&probs.of_8x8, context as usize));
-    count_unary(counts, ProbKind::Tx8x8, u16::from(context), 1, u16::from(number));
+    count_unary(
+        counts,
+        ProbKind::Tx8x8,
+        u16::from(context),
+        1,
+        u16::from(number),
+    );
     tx_of(number)
 }
 
-
-fn read_up_to_16x16(decoder: &mut BoolDecoder<'_>, counts: &mut Counts, probs: &TxProbs, context: u8) -> TxSize
+fn read_up_to_16x16(
+    decoder: &mut BoolDecoder<'_>,
+    counts: &mut Counts,
+    probs: &TxProbs,
+    context: u8,
+) -> TxSize
     requires context { context ≤ 1 }
     requires few { number_counted counts.old < 2 ^ 62 }
     ensures read { ReadsCounting (tx_symbol (tx_lists probs.now) size.T16x16 context) (window_of decoder.old) counts.old result (window_of decoder.new) counts.new }
@@ -104,12 +119,22 @@ fn read_up_to_16x16(decoder: &mut BoolDecoder<'_>, counts: &mut Counts, probs: &
 {
     let first = 2 * context;
     let number = decoder.tree(tx16_tree(), nodes_from(&probs.of_16x16, first as usize));
-    count_unary(counts, ProbKind::Tx16x16, u16::from(first), 2, u16::from(number));
+    count_unary(
+        counts,
+        ProbKind::Tx16x16,
+        u16::from(first),
+        2,
+        u16::from(number),
+    );
     tx_of(number)
 }
 
-
-fn read_up_to_32x32(decoder: &mut BoolDecoder<'_>, counts: &mut Counts, probs: &TxProbs, context: u8) -> TxSize
+fn read_up_to_32x32(
+    decoder: &mut BoolDecoder<'_>,
+    counts: &mut Counts,
+    probs: &TxProbs,
+    context: u8,
+) -> TxSize
     requires context { context ≤ 1 }
     requires few { number_counted counts.old < 2 ^ 62 }
     ensures read { ReadsCounting (tx_symbol (tx_lists probs.now) size.T32x32 context) (window_of decoder.old) counts.old result (window_of decoder.new) counts.new }
@@ -117,12 +142,24 @@ fn read_up_to_32x32(decoder: &mut BoolDecoder<'_>, counts: &mut Counts, probs: &
 {
     let first = 3 * context;
     let number = decoder.tree(tx32_tree(), nodes_from(&probs.of_32x32, first as usize));
-    count_unary(counts, ProbKind::Tx32x32, u16::from(first), 3, u16::from(number));
+    count_unary(
+        counts,
+        ProbKind::Tx32x32,
+        u16::from(first),
+        3,
+        u16::from(number),
+    );
     tx_of(number)
 }
 
 /// A coded transform size of a block of 8x8 or more.
-fn read_tx_symbol(decoder: &mut BoolDecoder<'_>, counts: &mut Counts, probs: &TxProbs, greatest: TxSize, context: u8) -> TxSize
+fn read_tx_symbol(
+    decoder: &mut BoolDecoder<'_>,
+    counts: &mut Counts,
+    probs: &TxProbs,
+    greatest: TxSize,
+    context: u8,
+) -> TxSize
     requires some { 1 ≤ tx_number greatest }
     requires context { context ≤ 1 }
     requires few { number_counted counts.old < 2 ^ 62 }

@@ -1,4 +1,4 @@
-use Rattle.std.proofs.Common.{◌≡◌, ◌+◌, arith}
+use Rattle.std.proofs.Common.{arith}
 use Rattle.mode_syntax.proofs.CountedBools.{counts_none, ones_more, unary_ends, unary_full}
 use Rattle.mode_syntax.proofs.counting.count_unary.Goals as goal
 
@@ -6,9 +6,10 @@ pub loop-k-init : goal.loop-k-init
 loop-k-init c = (counts_none c.args.counts.now, omega arith)
 
 pub loop-k-preserved : goal.loop-k-preserved
-loop-k-preserved c =
-    ( ones_more c.args.kind c.args.first c.loop-k.k c.args.counts.now c.loop-k.counts c.count.new.self c.loop-k.invariant.0 c.count.ensures.counted
-    , omega (arith, c.loop-k.invariant.1, c.count.ensures.total) )
+loop-k-preserved c = (
+  ones_more c.args.kind c.args.first c.loop-k.k c.args.counts.now c.loop-k.counts c.count.new.self c.loop-k.invariant.0 c.count.ensures.counted,
+  omega (arith, c.loop-k.invariant.1, c.count.ensures.total),
+)
 
 pub returns-then-symbol-nodes-clause-counted : goal.returns-then-symbol-nodes-clause-counted
 returns-then-symbol-nodes-clause-counted c =

@@ -1,4 +1,4 @@
-use Rattle.std.proofs.Common.{◌≡◌, ℕ, ◌+◌, length, arith}
+use Rattle.std.proofs.Common.{ℕ, ◌+◌, length, arith}
 use Rattle.std.proofs.lemmas.List.FromFn.{fill_by_all}
 use Rattle.block_plan.specs.Blocks.{above_place}
 use Rattle.mode_syntax.specs.Partitions.{width_beside, widths_above}
