@@ -1,0 +1,40 @@
+-- Reading one counting syntax and then another is reading the first, and then the other from there, with the counts so far.
+use Rattle.std.proofs.Common.{◌≡◌, ℕ, List, refl, ap}
+use Rattle.std.specs.Prelude.{Ok}
+use Rattle.std.proofs.lemmas.List.Sums.{fold-append}
+use Rattle.vp9_types.specs.Syntax.{Syntax, done, broken, ask}
+use Rattle.vp9_types.specs.Reading.{after}
+use Rattle.vp9_types.specs.declared.rule.Rule.{Rule}
+use Rattle.bool_decoder.specs.Window.{bit_of, after_bit}
+use Rattle.bool_decoder.specs.Bools.{run_bools}
+use Rattle.prob_contexts.specs.declared.kind.CountedBool.{CountedBool}
+use Rattle.prob_contexts.specs.Counted.{counts_after, with_bool}
+use Rattle.mode_syntax.specs.Counting.{Settled, Standing, settle, count, uncounted, behind, in_order, run_counting, standing, with_same_counts}
+
+pub run_settle : {A : Type 0} (x : A) (m : Standing) → run_counting (settle x) m ≡ Ok (x, m)
+unfolding run_counting settle counts_after
+run_settle x m = refl
+
+pub run_count : (bools : List CountedBool) (m : Standing) → run_counting (count bools) m ≡ Ok (tt, standing m.window (counts_after m.counts bools))
+unfolding run_counting count
+run_count bools m = refl
+
+pub run_uncounted : {A : Type 0} (s : Syntax ℕ Rule A) (m : Standing) → run_counting (uncounted s) m ≡ with_same_counts (run_bools s m.window) m.counts
+unfolding run_counting uncounted counts_after
+run_uncounted (done x) m = refl
+run_uncounted (broken e) m = refl
+run_uncounted (ask p k) m = run_uncounted (k (bit_of p m.window)) (standing (after_bit p m.window) m.counts)
+
+run_behind : {A : Type 0} (bools : List CountedBool) (s : Syntax ℕ Rule (Settled A)) (m : Standing)
+    → run_counting (behind bools s) m ≡ run_counting s (standing m.window (counts_after m.counts bools))
+unfolding run_counting behind counts_after
+run_behind bools (done s) m = ap (λ counts. Ok (s.value, standing m.window counts)) (fold-append with_bool m.counts bools s.counted)
+run_behind bools (broken e) m = refl
+run_behind bools (ask p k) m = run_behind bools (k (bit_of p m.window)) (standing (after_bit p m.window) m.counts)
+
+pub counting_bind : {A B : Type 0} (s : Syntax ℕ Rule (Settled A)) (f : A → Syntax ℕ Rule (Settled B)) (m : Standing)
+    → run_counting (in_order s f) m ≡ after (run_counting s m) (λ x rest. run_counting (f x) rest)
+unfolding run_counting in_order
+counting_bind (done s) f m = run_behind s.counted (f s.value) m
+counting_bind (broken e) f m = refl
+counting_bind (ask p k) f m = counting_bind (k (bit_of p m.window)) f (standing (after_bit p m.window) m.counts)

@@ -1,0 +1,4 @@
+pub mod CountingRuns
+pub mod CountedBools
+pub mod TxSizes
+pub mod Coverage

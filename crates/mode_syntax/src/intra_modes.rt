@@ -1,0 +1,143 @@
+//! Modes of the blocks of intra frames.
+
+ghost use Rattle.std.specs.Prelude.{◌≡◌, ◌<◌, ◌≤◌, ℕ, ◌*◌, length};
+ghost use Rattle.std.specs.Option.{option_copied};
+ghost use Rattle.bool_decoder.specs.Bools.{Reads};
+ghost use Rattle.bool_decoder.specs.Held.{window_of};
+ghost use Rattle.mode_syntax.specs.IntraModes.{intra_of, intra_mode, default_intra_mode, default_uv_mode, mode_beside, edge_modes, one_mode, two_rows, two_columns, four_modes, luma_modes};
+
+use block_plan::{BlockInfo, Prediction};
+use bool_decoder::BoolDecoder;
+use vp9_tables::{intra_mode_tree, kf_uv_mode, kf_y_mode};
+use vp9_types::{BlockSize, IntraMode};
+
+/// The modes of the two 4x4 places above a block's corner and of the two at its left.
+#[derive(Clone, Copy, Debug, PartialEq, Eq)]
+pub(crate) struct EdgeModes {
+    pub above_first: IntraMode,
+    pub above_second: IntraMode,
+    pub left_first: IntraMode,
+    pub left_second: IntraMode,
+}
+
+/// The mode of a number, 0 to 9.
+fn intra_of(number: u8) -> IntraMode
+    ensures { result ≡ intra_of number }
+{
+    match number {
+        0 => IntraMode::Dc,
+        1 => IntraMode::V,
+        2 => IntraMode::H,
+        3 => IntraMode::D45,
+        4 => IntraMode::D135,
+        5 => IntraMode::D117,
+        6 => IntraMode::D153,
+        7 => IntraMode::D207,
+        8 => IntraMode::D63,
+        _ => IntraMode::Tm,
+    }
+}
+
+#[tactic(auto, unfolding(crate::specs::IntraModes::intra_mode), using(vp9_types::proofs::Runs::run_bind))]
+fn read_mode(decoder: &mut BoolDecoder<'_>, probs: &[u8; 9]) -> IntraMode
+    ensures { Reads (intra_mode probs.now) (window_of decoder.old) result (window_of decoder.new) }
+{
+    intra_of(decoder.tree(intra_mode_tree(), probs))
+}
+
+#[tactic(auto, unfolding(crate::specs::IntraModes::default_intra_mode))]
+fn read_default_intra_mode(
+    decoder: &mut BoolDecoder<'_>,
+    above: IntraMode,
+    left: IntraMode,
+) -> IntraMode
+    ensures { Reads (default_intra_mode above left) (window_of decoder.old) result (window_of decoder.new) }
+{
+    read_mode(decoder, kf_y_mode(above, left))
+}
+
+#[tactic(auto, unfolding(crate::specs::IntraModes::default_uv_mode))]
+pub(crate) fn read_default_uv_mode(decoder: &mut BoolDecoder<'_>, luma: IntraMode) -> IntraMode
+    ensures { Reads (default_uv_mode luma) (window_of decoder.old) result (window_of decoder.new) }
+{
+    read_mode(decoder, kf_uv_mode(luma))
+}
+
+/// The mode of a quarter of a neighbour, DC where it is none of an intra block.
+fn mode_beside(block: Option<&BlockInfo>, quarter: usize) -> IntraMode
+    requires { quarter < 4 }
+    ensures { result ≡ mode_beside (option_copied block.entry) quarter }
+{
+    match block {
+        None => IntraMode::Dc,
+        Some(block) => match block.prediction {
+            Prediction::Intra(intra) => intra.luma[quarter],
+            Prediction::Inter(_) => IntraMode::Dc,
+        },
+    }
+}
+
+pub(crate) fn edge_modes(above: Option<&BlockInfo>, left: Option<&BlockInfo>) -> EdgeModes
+    ensures { result ≡ edge_modes (option_copied above.entry) (option_copied left.entry) }
+{
+    EdgeModes {
+        above_first: mode_beside(above, 2),
+        above_second: mode_beside(above, 3),
+        left_first: mode_beside(left, 1),
+        left_second: mode_beside(left, 3),
+    }
+}
+
+#[tactic(auto, unfolding(crate::specs::IntraModes::one_mode), using(vp9_types::proofs::Runs::run_bind))]
+fn read_one_mode(decoder: &mut BoolDecoder<'_>, edge: EdgeModes) -> [IntraMode; 4]
+    ensures { Reads (one_mode edge) (window_of decoder.old) result (window_of decoder.new) }
+{
+    let mode = read_default_intra_mode(decoder, edge.above_first, edge.left_first);
+    [mode, mode, mode, mode]
+}
+
+#[tactic(auto, unfolding(crate::specs::IntraModes::two_rows), using(vp9_types::proofs::Runs::run_bind))]
+fn read_two_rows(decoder: &mut BoolDecoder<'_>, edge: EdgeModes) -> [IntraMode; 4]
+    ensures { Reads (two_rows edge) (window_of decoder.old) result (window_of decoder.new) }
+{
+    let upper = read_default_intra_mode(decoder, edge.above_first, edge.left_first);
+    let lower = read_default_intra_mode(decoder, upper, edge.left_second);
+    [upper, upper, lower, lower]
+}
+
+#[tactic(auto, unfolding(crate::specs::IntraModes::two_columns), using(vp9_types::proofs::Runs::run_bind))]
+fn read_two_columns(decoder: &mut BoolDecoder<'_>, edge: EdgeModes) -> [IntraMode; 4]
+    ensures { Reads (two_columns edge) (window_of decoder.old) result (window_of decoder.new) }
+{
+    let left = read_default_intra_mode(decoder, edge.above_first, edge.left_first);
+    let right = read_default_intra_mode(decoder, edge.above_second, left);
+    [left, right, left, right]
+}
+
+#[tactic(auto, unfolding(crate::specs::IntraModes::four_modes), using(vp9_types::proofs::Runs::run_bind))]
+fn read_four_modes(decoder: &mut BoolDecoder<'_>, edge: EdgeModes) -> [IntraMode; 4]
+    ensures { Reads (four_modes edge) (window_of decoder.old) result (window_of decoder.new) }
+{
+    let first = read_default_intra_mode(decoder, edge.above_first, edge.left_first);
+    let second = read_default_intra_mode(decoder, edge.above_second, first);
+    let third = read_default_intra_mode(decoder, first, edge.left_second);
+    let fourth = read_default_intra_mode(decoder, second, third);
+    [first, second, third, fourth]
+}
+
+/// The modes of the quarters of a block.
+#[tactic(auto, unfolding(crate::specs::IntraModes::luma_modes))]
+pub(crate) fn read_luma_modes(
+    decoder: &mut BoolDecoder<'_>,
+    size: BlockSize,
+    edge: EdgeModes,
+) -> [IntraMode; 4]
+    ensures { Reads (luma_modes size edge) (window_of decoder.old) result (window_of decoder.new) }
+{
+    match size {
+        BlockSize::B4x4 => read_four_modes(decoder, edge),
+        BlockSize::B4x8 => read_two_columns(decoder, edge),
+        BlockSize::B8x4 => read_two_rows(decoder, edge),
+        _ => read_one_mode(decoder, edge),
+    }
+}

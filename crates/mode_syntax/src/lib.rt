@@ -1,0 +1,20 @@
+//! The modes of blocks (6.4.3 to 6.4.8 of the standard): how squares are partitioned, and what each block of an intra
+//! frame says.
+#![tactic(auto)]
+
+mod counting;
+mod elements;
+mod intra_modes;
+mod laws;
+mod mode_info;
+mod partition;
+mod square_at;
+mod tx_sizes;
+
+pub use laws::{blocks_cover_a_tile_once, counting_syntaxes_compose};
+pub use mode_info::intra_frame_mode_info;
+pub use partition::read_partition;
+pub use square_at::SquareAt;
+
+#[cfg(test)]
+mod tests;

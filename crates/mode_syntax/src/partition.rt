@@ -1,0 +1,249 @@
+//! How a square is partitioned.
+
+ghost use Rattle.std.specs.Prelude.{◌≡◌, ◌+◌, ◌-◌, ◌*◌, ◌/◌, ◌^◌, ◌<◌, ◌≤◌, ℕ, List, length, slice_index};
+ghost use Rattle.std.specs.Option.{option_copied};
+ghost use Rattle.bool_decoder.specs.Held.{window_of};
+ghost use Rattle.prob_contexts.specs.Counted.{number_counted};
+ghost use Rattle.mode_syntax.specs.Counting.{ReadsCounting};
+ghost use Rattle.mode_syntax.specs.Partitions.{partition_of, split_or, whole_symbol, edge_symbol, partition_value, partition, half_of, partition_probs, width_beside, height_beside, widths_above, heights_left, context_of, partition_at};
+ghost use Rattle.prob_contexts.specs.Counted.{counts_after};
+ghost use Rattle.prob_contexts.specs.declared.kind.ProbKind.TheVariants as kind;
+ghost use Rattle.vp9_tables.specs.Numbers.{partition_number};
+ghost use Rattle.vp9_tables.specs.Trees.{partition_tree};
+ghost use Rattle.mode_syntax.specs.Symbols.{counted_symbol};
+
+use crate::counting::count_unary;
+use crate::square_at::SquareAt;
+use block_geometry::{FramePlaces, height_4, partition_context, square, width_4};
+use block_plan::{BlockInfo, Neighbours, above_place, left_place};
+use bool_decoder::BoolDecoder;
+use prob_contexts::{Contexts, Counts, ProbKind};
+use vp9_tables::{kf_partition, partition_tree};
+use vp9_types::Partition;
+
+/// Width and height in 4s where no block is.
+const NO_BLOCK: u8 = 16;
+
+/// The partition of a number, 0 to 3.
+fn partition_of(number: u8) -> Partition
+    ensures { result ≡ partition_of number }
+{
+    match number {
+        0 => Partition::Whole,
+        1 => Partition::Horizontal,
+        2 => Partition::Vertical,
+        _ => Partition::Split,
+    }
+}
+
+#[tactic(auto, unfolding(crate::specs::Partitions::whole_symbol), using(crate::proofs::CountingRuns::counting_bind, crate::proofs::CountingRuns::run_settle, crate::proofs::CountingRuns::run_uncounted))]
+fn read_whole(decoder: &mut BoolDecoder<'_>, probs: &[u8]) -> Partition
+    requires { length probs.now ≡ 3 }
+    ensures { (counts : List ℕ) → ReadsCounting (whole_symbol probs.now) (window_of decoder.old) counts result (window_of decoder.new) counts }
+{
+    partition_of(decoder.tree(partition_tree(), probs))
+}
+
+#[tactic(auto, unfolding(crate::specs::Partitions::edge_symbol, bool_decoder::specs::Bools::flag), using(crate::proofs::CountingRuns::counting_bind, crate::proofs::CountingRuns::run_settle, crate::proofs::CountingRuns::run_uncounted))]
+fn read_edge(decoder: &mut BoolDecoder<'_>, p: u8, other: Partition) -> Partition
+    ensures { (counts : List ℕ) → ReadsCounting (edge_symbol p other) (window_of decoder.old) counts result (window_of decoder.new) counts }
+{
+    if decoder.bit(p) {
+        Partition::Split
+    } else {
+        other
+    }
+}
+
+#[tactic(auto, unfolding(crate::specs::Partitions::partition_value), using(crate::proofs::CountingRuns::run_settle))]
+fn read_value(
+    decoder: &mut BoolDecoder<'_>,
+    has_rows: bool,
+    has_cols: bool,
+    probs: &[u8],
+) -> Partition
+    requires { length probs.now ≡ 3 }
+    ensures { (counts : List ℕ) → ReadsCounting (partition_value has_rows has_cols probs.now) (window_of decoder.old) counts result (window_of decoder.new) counts }
+{
+    if has_rows && has_cols {
+        return read_whole(decoder, probs);
+    }
+    if has_cols {
+        return read_edge(decoder, probs[1], Partition::Horizontal);
+    }
+    if has_rows {
+        return read_edge(decoder, probs[2], Partition::Vertical);
+    }
+    Partition::Split
+}
+
+fn number_of(partition: Partition) -> u16
+    ensures is { result ≡ partition_number partition }
+    ensures most { result ≤ 3 }
+{
+    match partition {
+        Partition::Whole => 0,
+        Partition::Horizontal => 1,
+        Partition::Vertical => 2,
+        Partition::Split => 3,
+    }
+}
+
+fn count_partition(counts: &mut Counts, context: u8, partition: Partition)
+    requires context { context < 16 }
+    requires few { number_counted counts.old < 2 ^ 62 }
+    ensures counted { counts.new ≡ counts_after counts.old (counted_symbol kind.Partition (3 * context) partition_tree (partition_number partition)) }
+    ensures total { number_counted counts.new ≤ number_counted counts.old + 3 }
+{
+    let symbol = number_of(partition);
+    count_unary(
+        counts,
+        ProbKind::Partition,
+        3 * u16::from(context),
+        3,
+        symbol,
+    );
+}
+
+#[tactic(auto, unfolding(crate::specs::Partitions::partition), using(crate::proofs::CountingRuns::counting_bind, crate::proofs::CountingRuns::run_settle, crate::proofs::CountingRuns::run_count))]
+fn read_counted(
+    decoder: &mut BoolDecoder<'_>,
+    counts: &mut Counts,
+    has_rows: bool,
+    has_cols: bool,
+    probs: &[u8],
+    context: u8,
+) -> Partition
+    requires probs { length probs.now ≡ 3 }
+    requires context { context < 16 }
+    requires few { number_counted counts.old < 2 ^ 62 }
+    ensures read { ReadsCounting (partition has_rows has_cols probs.now context) (window_of decoder.old) counts.old result (window_of decoder.new) counts.new }
+    ensures total { number_counted counts.new ≤ number_counted counts.old + 3 }
+{
+    let partition = read_value(decoder, has_rows, has_cols, probs);
+    count_partition(counts, context, partition);
+    partition
+}
+
+fn width_beside(block: Option<&BlockInfo>) -> u8
+    ensures { result ≡ width_beside (option_copied block.entry) }
+{
+    match block {
+        Some(block) => width_4(block.size),
+        None => NO_BLOCK,
+    }
+}
+
+fn height_beside(block: Option<&BlockInfo>) -> u8
+    ensures { result ≡ height_beside (option_copied block.entry) }
+{
+    match block {
+        Some(block) => height_4(block.size),
+        None => NO_BLOCK,
+    }
+}
+
+/// The widths of the blocks above a row, from a column on.
+fn put_widths<N: Neighbours>(widths: &mut [u8], earlier: &N, row: u32, col: u32)
+    requires short { length widths.old ≤ 8 }
+    requires near { col + length widths.old < 2 ^ 32 }
+    requires held { (k : ℕ) → k < length widths.old → 0 < row → N.holds earlier.now (row - 1) (col + k) }
+    ensures { widths.new ≡ widths_above (N.blocks earlier.now) row col (length widths.old) }
+{
+    for i in 0..widths.len() {
+        widths[i] = width_beside(above_place(earlier, row, col + i as u32));
+    }
+}
+
+/// The heights of the blocks at the left of a column, from a row on.
+fn put_heights<N: Neighbours>(heights: &mut [u8], earlier: &N, tile_from: u32, row: u32, col: u32)
+    requires short { length heights.old ≤ 8 }
+    requires near { row + length heights.old < 2 ^ 32 }
+    requires held { (k : ℕ) → k < length heights.old → tile_from < col → N.holds earlier.now (row + k) (col - 1) }
+    ensures { heights.new ≡ heights_left (N.blocks earlier.now) tile_from row col (length heights.old) }
+{
+    for i in 0..heights.len() {
+        heights[i] = height_beside(left_place(earlier, tile_from, row + i as u32, col));
+    }
+}
+
+/// The side of a square in places of 8x8.
+fn side_of(level: u8) -> u32
+    requires { level ≤ 3 }
+    ensures is { result ≡ 2 ^ level }
+    ensures most { result ≤ 8 }
+{
+    match level {
+        0 => 1,
+        1 => 2,
+        2 => 4,
+        _ => 8,
+    }
+}
+
+#[tactic(auto, unfolding(crate::specs::Partitions::context_of))]
+fn context_of<N: Neighbours>(earlier: &N, frame: FramePlaces, at: SquareAt) -> u8
+    requires level { at.level ≤ 3 }
+    requires row { at.row < frame.rows }
+    requires col { at.col < at.tile_to }
+    requires held { (r c : ℕ) → r < frame.rows → at.tile_from ≤ c → c < at.tile_to → N.holds earlier.now r c }
+    requires first { at.tile_from ≤ at.col }
+    ensures is { result ≡ context_of (N.blocks earlier.now) frame at }
+    ensures most { result < 16 }
+{
+    let side = side_of(at.level);
+    let columns = side.min(at.tile_to - at.col) as usize;
+    let rows = side.min(frame.rows - at.row) as usize;
+    let mut widths = [NO_BLOCK; 8];
+    let mut heights = [NO_BLOCK; 8];
+    let above = &mut widths[..columns];
+    put_widths(above, earlier, at.row, at.col);
+    let left = &mut heights[..rows];
+    put_heights(left, earlier, at.tile_from, at.row, at.col);
+    partition_context(square(at.level), above, left)
+}
+
+fn partition_probs(intra: bool, probs: &[u8; 48], context: u8) -> &[u8]
+    requires { context < 16 }
+    ensures is { result.now ≡ partition_probs intra probs.now context }
+    ensures long { length result.now ≡ 3 }
+{
+    if intra {
+        return kf_partition(context);
+    }
+    let first = 3 * context as usize;
+    &probs[first..first + 3]
+}
+
+/// The partition of a square, and its symbol counted. The square starts inside the frame and its tile; `earlier` has
+/// the frame's blocks before it. Intra frames have fixed probabilities.
+#[tactic(auto, unfolding(crate::specs::Partitions::partition_at))]
+pub fn read_partition<N: Neighbours>(
+    decoder: &mut BoolDecoder<'_>,
+    counts: &mut Counts,
+    intra: bool,
+    contexts: &Contexts,
+    earlier: &N,
+    frame: FramePlaces,
+    at: SquareAt,
+) -> Partition
+    requires level { at.level ≤ 3 }
+    requires row { at.row < frame.rows }
+    requires first { at.tile_from ≤ at.col }
+    requires col { at.col < at.tile_to }
+    requires tile { at.tile_to ≤ frame.cols }
+    requires few_rows { frame.rows ≤ 2 ^ 20 }
+    requires few_cols { frame.cols ≤ 2 ^ 20 }
+    requires held { (r c : ℕ) → r < frame.rows → at.tile_from ≤ c → c < at.tile_to → N.holds earlier.now r c }
+    requires few { number_counted counts.old < 2 ^ 48 }
+    ensures read { ReadsCounting (partition_at intra contexts.now.partitions (N.blocks earlier.now) frame at)
+        (window_of decoder.old) counts.old result (window_of decoder.new) counts.new }
+    ensures total { number_counted counts.new ≤ number_counted counts.old + 3 }
+{
+    let context = context_of(earlier, frame, at);
+    let probs = partition_probs(intra, &contexts.partitions, context);
+    let half = side_of(at.level) / 2;
+    let has_rows = at.row + half < frame.rows;
+    let has_cols = at.col + half < frame.cols;
+    read_counted(decoder, counts, has_rows, has_cols, probs, context)
+}
