@@ -1,7 +1,7 @@
 //! The counting of symbols.
 
 ghost use Rattle.std.specs.Prelude.{◌≡◌, ◌+◌, ◌*◌, ◌^◌, ◌<◌, ◌≤◌, ℕ};
-ghost use Rattle.prob_contexts.specs.Counted.{counts_after, number_counted};
+ghost use Rattle.prob_contexts.specs.Counted.{counts_after};
 ghost use Rattle.prob_contexts.specs.Kinds.{kind_size};
 ghost use Rattle.mode_syntax.specs.Symbols.{unary_bools};
 
@@ -13,9 +13,7 @@ pub(crate) fn count_unary(counts: &mut Counts, kind: ProbKind, first: u16, nodes
     requires leaf { symbol ≤ nodes }
     requires few_nodes { nodes ≤ 3 }
     requires inside { first + nodes ≤ kind_size kind }
-    requires few { number_counted counts.old < 2 ^ 62 }
-    ensures counted { counts.new ≡ counts_after counts.old (unary_bools kind first nodes symbol) }
-    ensures total { number_counted counts.new ≤ number_counted counts.old + 3 }
+    ensures { counts.new ≡ counts_after counts.old (unary_bools kind first nodes symbol) }
 {
     for k in 0..symbol {
         counts.count(kind, first + k, true);

@@ -4,7 +4,6 @@ ghost use Rattle.std.specs.Prelude.{◌≡◌, ◌+◌, ◌*◌, ◌^◌, ◌<�
 ghost use Rattle.std.specs.Option.{option_copied};
 ghost use Rattle.bool_decoder.specs.Bools.{Reads};
 ghost use Rattle.bool_decoder.specs.Held.{window_of};
-ghost use Rattle.prob_contexts.specs.Counted.{number_counted};
 ghost use Rattle.mode_syntax.specs.Counting.{ReadsCounting};
 ghost use Rattle.mode_syntax.specs.Elements.{intra_segment_id, skips_segment, skip_beside, skip_context, skip_symbol, read_skip};
 
@@ -65,9 +64,7 @@ fn read_skip_symbol(
     context: u8,
 ) -> bool
     requires context { context ≤ 2 }
-    requires few { number_counted counts.old < 2 ^ 62 }
-    ensures read { ReadsCounting (skip_symbol probs.now context) (window_of decoder.old) counts.old result (window_of decoder.new) counts.new }
-    ensures total { number_counted counts.new ≤ number_counted counts.old + 1 }
+    ensures { ReadsCounting (skip_symbol probs.now context) (window_of decoder.old) counts.old result (window_of decoder.new) counts.new }
 {
     let skip = decoder.bit(probs[context as usize]);
     counts.count(ProbKind::Skip, u16::from(context), skip);
@@ -86,9 +83,7 @@ pub(crate) fn read_skip(
 ) -> bool
     requires segment { segment ≤ 7 }
     requires context { context ≤ 2 }
-    requires few { number_counted counts.old < 2 ^ 62 }
-    ensures read { ReadsCounting (read_skip segmentation.now probs.now context segment) (window_of decoder.old) counts.old result (window_of decoder.new) counts.new }
-    ensures total { number_counted counts.new ≤ number_counted counts.old + 1 }
+    ensures { ReadsCounting (read_skip segmentation.now probs.now context segment) (window_of decoder.old) counts.old result (window_of decoder.new) counts.new }
 {
     if skips_segment(segmentation, segment) {
         return true;

@@ -3,7 +3,6 @@
 ghost use Rattle.std.specs.Prelude.{◌≡◌, ◌+◌, ◌-◌, ◌^◌, ◌<◌, ◌≤◌, ℕ};
 ghost use Rattle.std.specs.Option.{option_copied};
 ghost use Rattle.bool_decoder.specs.Held.{window_of};
-ghost use Rattle.prob_contexts.specs.Counted.{number_counted};
 ghost use Rattle.prob_contexts.specs.Lists.{lists_of};
 ghost use Rattle.mode_syntax.specs.Counting.{ReadsCounting};
 ghost use Rattle.mode_syntax.specs.ModeInfo.{mode_info_beside, intra_frame_mode_info};
@@ -31,10 +30,8 @@ fn read_beside(
     left: Option<&BlockInfo>,
     at: BlockAt,
 ) -> BlockInfo
-    requires few { number_counted counts.old < 2 ^ 48 }
     ensures read { ReadsCounting (mode_info_beside segmentation.now tx_mode (lists_of contexts.now) (option_copied above.entry) (option_copied left.entry) at)
         (window_of decoder.old) counts.old result (window_of decoder.new) counts.new }
-    ensures total { number_counted counts.new ≤ number_counted counts.old + 4 }
     ensures segment { result.segment ≤ 7 }
     ensures row { result.row ≡ at.row }
     ensures col { result.col ≡ at.col }
@@ -79,10 +76,8 @@ pub fn intra_frame_mode_info<N: Neighbours>(
 ) -> BlockInfo
     requires above { 0 < at.row → N.holds earlier.now (at.row - 1) at.col }
     requires left { at.tile_from < at.col → N.holds earlier.now at.row (at.col - 1) }
-    requires few { number_counted counts.old < 2 ^ 48 }
     ensures read { ReadsCounting (intra_frame_mode_info header.now modes.now (lists_of contexts.now) (N.blocks earlier.now) at)
         (window_of decoder.old) counts.old result (window_of decoder.new) counts.new }
-    ensures total { number_counted counts.new ≤ number_counted counts.old + 4 }
     ensures segment { result.segment ≤ 7 }
     ensures row { result.row ≡ at.row }
     ensures col { result.col ≡ at.col }

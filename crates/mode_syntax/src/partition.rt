@@ -3,7 +3,6 @@
 ghost use Rattle.std.specs.Prelude.{◌≡◌, ◌+◌, ◌-◌, ◌*◌, ◌/◌, ◌^◌, ◌<◌, ◌≤◌, ℕ, List, length, slice_index};
 ghost use Rattle.std.specs.Option.{option_copied};
 ghost use Rattle.bool_decoder.specs.Held.{window_of};
-ghost use Rattle.prob_contexts.specs.Counted.{number_counted};
 ghost use Rattle.mode_syntax.specs.Counting.{ReadsCounting};
 ghost use Rattle.mode_syntax.specs.Partitions.{partition_of, split_or, whole_symbol, edge_symbol, partition_value, partition, half_of, partition_probs, width_beside, height_beside, widths_above, heights_left, context_of, partition_at};
 ghost use Rattle.prob_contexts.specs.Counted.{counts_after};
@@ -91,9 +90,7 @@ fn number_of(partition: Partition) -> u16
 
 fn count_partition(counts: &mut Counts, context: u8, partition: Partition)
     requires context { context < 16 }
-    requires few { number_counted counts.old < 2 ^ 62 }
-    ensures counted { counts.new ≡ counts_after counts.old (counted_symbol kind.Partition (3 * context) partition_tree (partition_number partition)) }
-    ensures total { number_counted counts.new ≤ number_counted counts.old + 3 }
+    ensures { counts.new ≡ counts_after counts.old (counted_symbol kind.Partition (3 * context) partition_tree (partition_number partition)) }
 {
     let symbol = number_of(partition);
     count_unary(
@@ -116,9 +113,7 @@ fn read_counted(
 ) -> Partition
     requires probs { length probs.now ≡ 3 }
     requires context { context < 16 }
-    requires few { number_counted counts.old < 2 ^ 62 }
-    ensures read { ReadsCounting (partition has_rows has_cols probs.now context) (window_of decoder.old) counts.old result (window_of decoder.new) counts.new }
-    ensures total { number_counted counts.new ≤ number_counted counts.old + 3 }
+    ensures { ReadsCounting (partition has_rows has_cols probs.now context) (window_of decoder.old) counts.old result (window_of decoder.new) counts.new }
 {
     let partition = read_value(decoder, has_rows, has_cols, probs);
     count_partition(counts, context, partition);
@@ -235,10 +230,8 @@ pub fn read_partition<N: Neighbours>(
     requires few_rows { frame.rows ≤ 2 ^ 20 }
     requires few_cols { frame.cols ≤ 2 ^ 20 }
     requires held { (r c : ℕ) → r < frame.rows → at.tile_from ≤ c → c < at.tile_to → N.holds earlier.now r c }
-    requires few { number_counted counts.old < 2 ^ 48 }
-    ensures read { ReadsCounting (partition_at intra contexts.now.partitions (N.blocks earlier.now) frame at)
+    ensures { ReadsCounting (partition_at intra contexts.now.partitions (N.blocks earlier.now) frame at)
         (window_of decoder.old) counts.old result (window_of decoder.new) counts.new }
-    ensures total { number_counted counts.new ≤ number_counted counts.old + 3 }
 {
     let context = context_of(earlier, frame, at);
     let probs = partition_probs(intra, &contexts.partitions, context);

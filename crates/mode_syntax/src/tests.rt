@@ -1,7 +1,6 @@
 //! Tiles of intra frames without residue, as tools/mode_rows.py reads them.
 
 ghost use Rattle.std.specs.Prelude.{◌≡◌, ◌<◌, ◌≤◌, ◌^◌};
-ghost use Rattle.prob_contexts.specs.Counted.{number_counted};
 
 use super::*;
 use block_geometry::{FramePlaces, part_size};
@@ -11,7 +10,7 @@ use frame_headers::{
     ColorConfig, Features, FrameContexts, FrameKind, FrameParams, FrameSize, Header, LoopDeltas,
     LoopFilter, MapUpdate, Quantizer, SegmentFeatures, Segmentation, TileInfo,
 };
-use prob_contexts::{Contexts, Counts, ProbKind, counts_stand_for_their_bools, default_contexts};
+use prob_contexts::{Contexts, Counts, ProbKind, default_contexts};
 use std::alloc::{AllocError, Global};
 use std::test::Fail;
 use vp9_types::{BlockSize, Modes, Partition, ReferenceMode, TxMode};
@@ -162,13 +161,6 @@ fn modes(tx_mode: TxMode) -> Modes {
     }
 }
 
-fn no_counts() -> Counts
-    ensures { number_counted result < 2 ^ 48 }
-{
-    counts_stand_for_their_bools();
-    Counts::new()
-}
-
 /// A tile that is read without residue, and the digest of its blocks.
 #[derive(Drop)]
 struct Tile<'a> {
@@ -225,7 +217,7 @@ fn read_block(tile: &mut Tile<'_>, row: u32, col: u32, size: BlockSize) -> Resul
         tile_from: tile.from,
         tile_to: tile.to,
     };
-    let mut counts = no_counts();
+    let mut counts = Counts::new();
     let info = intra_frame_mode_info(
         &mut tile.decoder,
         &tile.header,
@@ -255,7 +247,7 @@ fn partition_of(tile: &mut Tile<'_>, row: u32, col: u32, level: u8) -> Partition
         tile_from: tile.from,
         tile_to: tile.to,
     };
-    let mut counts = no_counts();
+    let mut counts = Counts::new();
     read_partition(
         &mut tile.decoder,
         &mut counts,
@@ -404,7 +396,7 @@ fn varied(rt: HostRuntime) -> Result<(), Fail> {
 fn counts(rt: HostRuntime) -> Result<(), Fail> {
     let grid = BlockGrid::new(rt.alloc(), 1, 0, 1)?;
     let mut decoder = BoolDecoder::start(&[0])?;
-    let mut counts = no_counts();
+    let mut counts = Counts::new();
     let at = SquareAt {
         row: 0,
         col: 0,

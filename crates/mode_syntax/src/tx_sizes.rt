@@ -6,7 +6,6 @@ ghost use Rattle.vp9_types.specs.declared.block.TxSize.TheVariants as size;
 ghost use Rattle.vp9_tables.specs.Numbers.{tx_number};
 ghost use Rattle.vp9_tables.specs.Blocks.{greatest_of};
 ghost use Rattle.bool_decoder.specs.Held.{window_of};
-ghost use Rattle.prob_contexts.specs.Counted.{number_counted};
 ghost use Rattle.prob_contexts.specs.Lists.{tx_lists};
 ghost use Rattle.block_geometry.specs.Sizes.{greatest_allowed};
 ghost use Rattle.mode_syntax.specs.Counting.{ReadsCounting};
@@ -91,9 +90,7 @@ fn read_up_to_8x8(
     context: u8,
 ) -> TxSize
     requires context { context ≤ 1 }
-    requires few { number_counted counts.old < 2 ^ 62 }
-    ensures read { ReadsCounting (tx_symbol (tx_lists probs.now) size.T8x8 context) (window_of decoder.old) counts.old result (window_of decoder.new) counts.new }
-    ensures total { number_counted counts.new ≤ number_counted counts.old + 3 }
+    ensures { ReadsCounting (tx_symbol (tx_lists probs.now) size.T8x8 context) (window_of decoder.old) counts.old result (window_of decoder.new) counts.new }
 {
     let number = decoder.tree(tx8_tree(), nodes_from(&probs.of_8x8, context as usize));
     count_unary(
@@ -113,9 +110,7 @@ fn read_up_to_16x16(
     context: u8,
 ) -> TxSize
     requires context { context ≤ 1 }
-    requires few { number_counted counts.old < 2 ^ 62 }
-    ensures read { ReadsCounting (tx_symbol (tx_lists probs.now) size.T16x16 context) (window_of decoder.old) counts.old result (window_of decoder.new) counts.new }
-    ensures total { number_counted counts.new ≤ number_counted counts.old + 3 }
+    ensures { ReadsCounting (tx_symbol (tx_lists probs.now) size.T16x16 context) (window_of decoder.old) counts.old result (window_of decoder.new) counts.new }
 {
     let first = 2 * context;
     let number = decoder.tree(tx16_tree(), nodes_from(&probs.of_16x16, first as usize));
@@ -136,9 +131,7 @@ fn read_up_to_32x32(
     context: u8,
 ) -> TxSize
     requires context { context ≤ 1 }
-    requires few { number_counted counts.old < 2 ^ 62 }
-    ensures read { ReadsCounting (tx_symbol (tx_lists probs.now) size.T32x32 context) (window_of decoder.old) counts.old result (window_of decoder.new) counts.new }
-    ensures total { number_counted counts.new ≤ number_counted counts.old + 3 }
+    ensures { ReadsCounting (tx_symbol (tx_lists probs.now) size.T32x32 context) (window_of decoder.old) counts.old result (window_of decoder.new) counts.new }
 {
     let first = 3 * context;
     let number = decoder.tree(tx32_tree(), nodes_from(&probs.of_32x32, first as usize));
@@ -162,9 +155,7 @@ fn read_tx_symbol(
 ) -> TxSize
     requires some { 1 ≤ tx_number greatest }
     requires context { context ≤ 1 }
-    requires few { number_counted counts.old < 2 ^ 62 }
-    ensures read { ReadsCounting (tx_symbol (tx_lists probs.now) greatest context) (window_of decoder.old) counts.old result (window_of decoder.new) counts.new }
-    ensures total { number_counted counts.new ≤ number_counted counts.old + 3 }
+    ensures { ReadsCounting (tx_symbol (tx_lists probs.now) greatest context) (window_of decoder.old) counts.old result (window_of decoder.new) counts.new }
 {
     match greatest {
         TxSize::T4x4 | TxSize::T8x8 => read_up_to_8x8(decoder, counts, probs, context),
@@ -184,9 +175,7 @@ pub(crate) fn read_tx_size(
     size: BlockSize,
 ) -> TxSize
     requires context { context ≤ 1 }
-    requires few { number_counted counts.old < 2 ^ 62 }
-    ensures read { ReadsCounting (read_tx_size mode (tx_lists probs.now) context size) (window_of decoder.old) counts.old result (window_of decoder.new) counts.new }
-    ensures total { number_counted counts.new ≤ number_counted counts.old + 3 }
+    ensures { ReadsCounting (read_tx_size mode (tx_lists probs.now) context size) (window_of decoder.old) counts.old result (window_of decoder.new) counts.new }
 {
     if matches!(mode, TxMode::Selected) && !is_below_8x8(size) {
         return read_tx_symbol(decoder, counts, probs, greatest_of(size), context);

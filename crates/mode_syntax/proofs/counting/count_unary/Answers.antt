@@ -3,20 +3,18 @@ use Rattle.mode_syntax.proofs.CountedBools.{counts_none, ones_more, unary_ends, 
 use Rattle.mode_syntax.proofs.counting.count_unary.Goals as goal
 
 pub loop-k-init : goal.loop-k-init
-loop-k-init c = (counts_none c.args.counts.now, omega arith)
+loop-k-init c = counts_none c.args.counts.now
 
 pub loop-k-preserved : goal.loop-k-preserved
-loop-k-preserved c = (
-  ones_more c.args.kind c.args.first c.loop-k.k c.args.counts.now c.loop-k.counts c.count.new.self c.loop-k.invariant.0 c.count.ensures.counted,
-  omega (arith, c.loop-k.invariant.1, c.count.ensures.total),
-)
+loop-k-preserved c =
+    ones_more c.args.kind c.args.first c.loop-k.k c.args.counts.now c.loop-k.counts c.count.new.self c.loop-k.invariant c.count.ensures
 
-pub returns-then-symbol-nodes-clause-counted : goal.returns-then-symbol-nodes-clause-counted
-returns-then-symbol-nodes-clause-counted c =
+pub returns-then-symbol-nodes : goal.returns-then-symbol-nodes
+returns-then-symbol-nodes c =
     unary_ends c.args.kind c.args.first c.args.nodes c.args.symbol c.loop-k.k c.args.counts.now c.loop-k.counts c.count-then-symbol-nodes.new.self
-    (omega arith) c.if-symbol-nodes.true c.loop-k.invariant.0 c.count-then-symbol-nodes.ensures.counted
+    (omega arith) c.if-symbol-nodes.true c.loop-k.invariant c.count-then-symbol-nodes.ensures
 
-pub returns-else-symbol-nodes-clause-counted : goal.returns-else-symbol-nodes-clause-counted
-returns-else-symbol-nodes-clause-counted c =
+pub returns-else-symbol-nodes : goal.returns-else-symbol-nodes
+returns-else-symbol-nodes c =
     unary_full c.args.kind c.args.first c.args.nodes c.args.symbol c.loop-k.k c.args.counts.now c.loop-k.counts
-    (omega arith) c.if-symbol-nodes.false c.loop-k.invariant.0
+    (omega arith) c.if-symbol-nodes.false c.loop-k.invariant
