@@ -4,7 +4,7 @@ ghost use Rattle.std.specs.Prelude.{◌≡◌, ◌<◌, ◌≤◌, ◌^◌};
 
 use super::*;
 use block_geometry::{FramePlaces, part_size};
-use block_plan::{BlockAt, BlockGrid, BlockInfo, Prediction};
+use block_plan::{BlockAt, BlockGrid, BlockInfo, IntraPrediction, Prediction};
 use bool_decoder::BoolDecoder;
 use frame_headers::{
     ColorConfig, Features, FrameContexts, FrameKind, FrameParams, FrameSize, Header, LoopDeltas,
@@ -13,7 +13,7 @@ use frame_headers::{
 use prob_contexts::{Contexts, Counts, ProbKind, default_contexts};
 use std::alloc::{AllocError, Global};
 use std::test::Fail;
-use vp9_types::{BlockSize, Modes, Partition, ReferenceMode, TxMode};
+use vp9_types::{BlockSize, IntraMode, Modes, Partition, ReferenceMode, TxMode, TxSize};
 
 static VARIED: [u8; 400] = [
     86, 89, 204, 230, 90, 243, 154, 246, 41, 186, 251, 242, 124, 32, 186, 12, 26, 31, 212, 53, 107,
@@ -354,6 +354,62 @@ fn zeros(rt: HostRuntime) -> Result<(), Fail> {
         (0, 1),
     )?;
     assert_eq!(rt; read, (1, 2558673112323));
+    Ok(())
+}
+
+/// A block of bools 0.
+fn dc_block(row: u32, col: u32, size: BlockSize) -> BlockInfo {
+    BlockInfo {
+        row,
+        col,
+        size,
+        skip: false,
+        segment: 0,
+        tx: TxSize::T4x4,
+        prediction: Prediction::Intra(IntraPrediction {
+            luma: [IntraMode::Dc; 4],
+            chroma: IntraMode::Dc,
+        }),
+    }
+}
+
+fn summary_of(blocks: &[BlockInfo]) -> (usize, u64) {
+    let mut digest = 0;
+    for block in blocks {
+        digest = digest_of(digest, block);
+    }
+    (blocks.len(), digest)
+}
+
+/// Of 72x72 the last places of 8x8 stand alone at the edges; K8 has one place.
+#[test]
+fn zeros_by_hand(rt: HostRuntime) -> Result<(), Fail> {
+    let nine = FramePlaces { rows: 9, cols: 9 };
+    let read = read_tile(
+        rt.alloc(),
+        &[0; 8],
+        NO_SEGMENTS,
+        TxMode::Selected,
+        nine,
+        (0, 9),
+    )?;
+    let blocks = [
+        dc_block(0, 0, BlockSize::B64x64),
+        dc_block(0, 8, BlockSize::B32x64),
+        dc_block(8, 0, BlockSize::B64x32),
+        dc_block(8, 8, BlockSize::B8x8),
+    ];
+    assert_eq!(rt; read, summary_of(&blocks));
+    let one = FramePlaces { rows: 1, cols: 1 };
+    let read = read_tile(
+        rt.alloc(),
+        &[0; 2],
+        NO_SEGMENTS,
+        TxMode::Only4x4,
+        one,
+        (0, 1),
+    )?;
+    assert_eq!(rt; read, summary_of(&[dc_block(0, 0, BlockSize::B8x8)]));
     Ok(())
 }
 
