@@ -1,10 +1,12 @@
 #!/usr/bin/env python3
-"""Prints crates/intra_predict/src/tests/rows.rt: predicted blocks and planes.
+"""Prints predicted blocks and planes: crates/intra_predict/src/tests/rows.rt, or, by the word `extreme` or `drawn`,
+extreme_rows.rt or drawn_rows.rt there.
 
 The expected values come from the formulas of the standard's intra prediction (8.5.1), written here once more as they
 stand there, with `pred[i][j]` by other samples of `pred` where the standard has it so.
 """
 import random
+import sys
 
 MODES = ["Dc", "V", "H", "D45", "D135", "D117", "D153", "D207", "D63", "Tm"]
 SIZES = {4: "T4x4", 8: "T8x8", 16: "T16x16", 32: "T32x32"}
@@ -176,7 +178,21 @@ def bool_text(value):
     return "true" if value else "false"
 
 
-def main():
+def print_summed(name, rows):
+    print("// Written by tools/intra_blocks.py.")
+    print()
+    print("use super::rows::Summed;")
+    print("use vp9_types::{Depth, IntraMode, TxSize};")
+    print()
+    print(f"pub static {name}: [Summed; {len(rows)}] = [")
+    for mode, s, depth, seed, extreme, has_above, has_left in rows:
+        total = checksum(drawn_block(mode, s, depth, seed, extreme, has_above, has_left))
+        print(f"    Summed {{ mode: IntraMode::{mode}, size: TxSize::{SIZES[s]}, depth: Depth::{DEPTHS[depth]}, seed: {seed}, "
+              f"extreme: {bool_text(extreme)}, has_above: {bool_text(has_above)}, has_left: {bool_text(has_left)}, sum: {total} }},")
+    print("];")
+
+
+def print_rows():
     print("// Written by tools/intra_blocks.py.")
     print()
     print("use vp9_types::{Depth, IntraMode, TxSize};")
@@ -216,13 +232,6 @@ pub struct Step {
         samples = ", ".join(map(str, drawn_block(mode, 4, 8, 9, False, True, True)))
         print(f"    Whole {{ mode: IntraMode::{mode}, samples: [{samples}] }},")
     print("];\n")
-    rows = list(block_rows())
-    print(f"pub static SUMMED: [Summed; {len(rows)}] = [")
-    for mode, s, depth, seed, extreme, has_above, has_left in rows:
-        total = checksum(drawn_block(mode, s, depth, seed, extreme, has_above, has_left))
-        print(f"    Summed {{ mode: IntraMode::{mode}, size: TxSize::{SIZES[s]}, depth: Depth::{DEPTHS[depth]}, seed: {seed}, "
-              f"extreme: {bool_text(extreme)}, has_above: {bool_text(has_above)}, has_left: {bool_text(has_left)}, sum: {total} }},")
-    print("];\n")
     width, height, depth = 40, 24, 10
     draws = Draws(7)
     plane = [draws.sample((1 << depth) - 1, False) for _ in range(width * height)]
@@ -236,4 +245,10 @@ pub struct Step {
     print("];")
 
 
-main()
+
+if sys.argv[1:] == ["extreme"]:
+    print_summed("EXTREME", [row for row in block_rows() if row[4]])
+elif sys.argv[1:] == ["drawn"]:
+    print_summed("DRAWN", [row for row in block_rows() if not row[4]])
+else:
+    print_rows()

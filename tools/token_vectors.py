@@ -1,7 +1,8 @@
 #!/usr/bin/env python3
-"""Prints crates/coef_tokens/src/tests/rows.rt: transform blocks, encoded by hand, with the levels that they hold.
+"""Prints transform blocks, encoded by hand, with the levels that they hold: those of up to 8x8, which are
+crates/coef_tokens/src/tests/small_rows.rt, or the others, large_rows.rt.
 
-usage: tools/token_vectors.py FOLDER_OF_PLAIN_TABLES
+usage: tools/token_vectors.py FOLDER_OF_PLAIN_TABLES small|large
 
 The encoder is written from sections 6.4.24, 9.2 and 9.3 of the standard, over numbers without bound, and not from the
 decoder. A row's numbers are those that were encoded.
@@ -9,7 +10,7 @@ decoder. A row's numbers are those that were encoded.
 import random
 import sys
 
-FOLDER = sys.argv[1]
+FOLDER, PART = sys.argv[1:]
 
 
 def table(name):
@@ -167,14 +168,23 @@ for tx in range(4):
             rows.append((kind, tx, chroma, inter, rng.randrange(3), rng.choice([8, 10, 12]), drawn(rng, count, 900)))
 rows.append(("default", 3, 0, 0, 1, 8, [rng.choice([0, 0, 0, 1, -1]) for _ in range(1023)] + [-2]))
 
-print("//! Blocks encoded by tools/token_vectors.py, which prints this file.\n")
-print("use super::Row;\nuse crate::TokenAt;\nuse vp9_types::{Depth, Plane, TxSize, TxType};\n")
-print(f"pub static ROWS: [Row; {len(rows)}] = [")
-for kind, tx, chroma, inter, first, depth, levels in rows:
-    data, found = encode(tx, kind, chroma, inter, first, depth, levels)
-    plane = "U" if chroma else "Y"
-    size = f"T{SIDES[tx]}x{SIDES[tx]}"
-    name = {8: "Eight", 10: "Ten", 12: "Twelve"}[depth]
-    print("Row { at: TokenAt { tx: TxSize::%s, kind: TxType::%s, plane: Plane::%s, inter: %s, first: %d, depth: Depth::%s }," % (size, KINDS[kind], plane, "true" if inter else "false", first, name))
-    print("bytes: &%s, count: %d, levels: &[%s] }," % (data, len(levels), ", ".join(f"({p}, {found[p]})" for p in sorted(found))))
-print("];")
+
+
+def print_rows(name, rows):
+    print("//! Blocks encoded by tools/token_vectors.py, which prints this file.\n")
+    print("use crate::TokenAt;\nuse crate::tests::Row;\nuse vp9_types::{Depth, Plane, TxSize, TxType};\n")
+    print(f"pub static {name}: [Row; {len(rows)}] = [")
+    for kind, tx, chroma, inter, first, depth, levels in rows:
+        data, found = encode(tx, kind, chroma, inter, first, depth, levels)
+        plane = "U" if chroma else "Y"
+        size = f"T{SIDES[tx]}x{SIDES[tx]}"
+        depth_name = {8: "Eight", 10: "Ten", 12: "Twelve"}[depth]
+        print("Row { at: TokenAt { tx: TxSize::%s, kind: TxType::%s, plane: Plane::%s, inter: %s, first: %d, depth: Depth::%s }," % (size, KINDS[kind], plane, "true" if inter else "false", first, depth_name))
+        print("bytes: &%s, count: %d, levels: &[%s] }," % (data, len(levels), ", ".join(f"({p}, {found[p]})" for p in sorted(found))))
+    print("];")
+
+
+if PART == "small":
+    print_rows("SMALL_ROWS", [row for row in rows if row[1] <= 1])
+else:
+    print_rows("LARGE_ROWS", [row for row in rows if row[1] > 1])

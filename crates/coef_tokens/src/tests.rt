@@ -1,4 +1,5 @@
-mod rows;
+mod large_rows;
+mod small_rows;
 
 ghost use Rattle.std.specs.Prelude.{◌≡◌, ◌≤◌, ◌<◌, ◌^◌, [], length};
 ghost use Rattle.vp9_tables.specs.Scans.{area};
@@ -6,8 +7,9 @@ ghost use Rattle.coef_tokens.specs.Places.{HoldsLevels};
 
 use crate::{TokenAt, first_context, mark, tokens};
 use bool_decoder::BoolDecoder;
+use large_rows::LARGE_ROWS;
 use prob_contexts::{Contexts, Counts, ProbKind, default_contexts};
-use rows::ROWS;
+use small_rows::SMALL_ROWS;
 use vp9_types::{Rule, TxSize};
 
 /// A block, its bytes, how many places of its scan are coded, and its levels that aren't 0, by position.
@@ -48,17 +50,29 @@ fn reads(contexts: &Contexts, row: &Row, levels: &mut [i32]) -> Result<bool, Rul
     Ok(count == row.count && are_those(levels, row.levels))
 }
 
+fn agrees(contexts: &Contexts, row: &Row) -> Result<bool, Rule> {
+    match row.at.tx {
+        TxSize::T4x4 => reads(contexts, row, &mut [0; 16]),
+        TxSize::T8x8 => reads(contexts, row, &mut [0; 64]),
+        TxSize::T16x16 => reads(contexts, row, &mut [0; 256]),
+        TxSize::T32x32 => reads(contexts, row, &mut [0; 1024]),
+    }
+}
+
 #[test]
-fn blocks_of_all_kinds(rt: HostRuntime) -> Result<(), Rule> {
+fn small_blocks(rt: HostRuntime) -> Result<(), Rule> {
     let contexts = default_contexts();
-    for row in &ROWS {
-        let agrees = match row.at.tx {
-            TxSize::T4x4 => reads(&contexts, row, &mut [0; 16])?,
-            TxSize::T8x8 => reads(&contexts, row, &mut [0; 64])?,
-            TxSize::T16x16 => reads(&contexts, row, &mut [0; 256])?,
-            TxSize::T32x32 => reads(&contexts, row, &mut [0; 1024])?,
-        };
-        assert!(rt; agrees);
+    for row in &SMALL_ROWS {
+        assert!(rt; agrees(&contexts, row)?);
+    }
+    Ok(())
+}
+
+#[test]
+fn large_blocks(rt: HostRuntime) -> Result<(), Rule> {
+    let contexts = default_contexts();
+    for row in &LARGE_ROWS {
+        assert!(rt; agrees(&contexts, row)?);
     }
     Ok(())
 }

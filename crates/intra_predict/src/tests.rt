@@ -4,10 +4,14 @@ ghost use Rattle.std.specs.Prelude.{◌≡◌, ℕ, pos, ◌*◌, ◌^◌, ◌<�
 ghost use Rattle.vp9_types.specs.Maps.{rows_of, IsAtMost};
 ghost use Rattle.intra_predict.specs.Edges.{samples_of, IsUpTo};
 
+mod drawn_rows;
+mod extreme_rows;
 mod rows;
 
 use super::*;
-use rows::{STEPS, SUMMED, Step, Summed, WHOLE};
+use drawn_rows::DRAWN;
+use extreme_rows::EXTREME;
+use rows::{STEPS, Step, Summed, WHOLE};
 use std::test::Fail;
 use vp9_types::{Depth, IntraMode, TxSize};
 
@@ -73,17 +77,28 @@ fn sum_of(row: &Summed) -> u64 {
 }
 
 #[test]
-fn blocks(rt: HostRuntime) -> Result<(), Fail> {
+fn whole_blocks(rt: HostRuntime) -> Result<(), Fail> {
     let edges = drawn_edges(9, 255, false, true, true);
     for row in WHOLE.iter() {
         let mut block = [0; 16];
         predict(row.mode, &edges, TxSize::T4x4, Depth::Eight, &mut block);
         assert_eq!(rt; block, row.samples);
     }
-    for row in SUMMED.iter() {
+    Ok(())
+}
+
+#[test]
+fn drawn_blocks(rt: HostRuntime) {
+    for row in DRAWN.iter() {
         assert_eq!(rt; sum_of(row), row.sum);
     }
-    Ok(())
+}
+
+#[test]
+fn extreme_blocks(rt: HostRuntime) {
+    for row in EXTREME.iter() {
+        assert_eq!(rt; sum_of(row), row.sum);
+    }
 }
 
 fn draw_residue(residue: &mut [i32], seed: u32)
