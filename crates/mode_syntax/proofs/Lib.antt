@@ -2,3 +2,4 @@ pub mod CountingRuns
 pub mod CountedBools
 pub mod TxSizes
 pub mod Coverage
+pub mod Walks
