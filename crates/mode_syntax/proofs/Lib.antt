@@ -3,3 +3,4 @@ pub mod CountedBools
 pub mod TxSizes
 pub mod Coverage
 pub mod Walks
+pub mod TileWalks

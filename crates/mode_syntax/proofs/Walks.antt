@@ -32,17 +32,17 @@ yields_all (done x) = tt
 yields_all (broken e) = tt
 yields_all (ask p k) = λ v. yields_all (k v)
 
-lists_none : {S : Type 0} (walk : Walk S) (s : S) → Lists walk s [] s
+pub lists_none : {S : Type 0} (walk : Walk S) (s : S) → Lists walk s [] s
 lists_none walk s = ([], refl, sym (append-nil (walk.blocks s)))
 
-lists_both : {S : Type 0} (walk : Walk S) (s t u : S) (xs ys : List Leaf) → Lists walk s xs t → Lists walk t ys u → Lists walk s (xs ++ ys) u
+pub lists_both : {S : Type 0} (walk : Walk S) (s t u : S) (xs ys : List Leaf) → Lists walk s xs t → Lists walk t ys u → Lists walk s (xs ++ ys) u
 lists_both walk s t u xs ys a b = (
   a.0 ++ b.0,
   map-append leaf_of a.0 b.0 ∙ ap (λ l. l ++ map leaf_of b.0) a.1 ∙ ap (λ l. xs ++ l) b.1,
   b.2 ∙ ap (λ l. l ++ b.0) a.2 ∙ append_assoc (walk.blocks s) a.0 b.0,
 )
 
-yields_map : {A : Type 0} (s : Syntax ℕ Rule (Settled A)) (P Q : A → Type 0) → Yields s P → ((x : A) → P x → Q x) → Yields s Q
+pub yields_map : {A : Type 0} (s : Syntax ℕ Rule (Settled A)) (P Q : A → Type 0) → Yields s P → ((x : A) → P x → Q x) → Yields s Q
 yields_map (done x) P Q h g = g x.value h
 yields_map (broken e) P Q h g = tt
 yields_map (ask p k) P Q h g = λ v. yields_map (k v) P Q (h v) g
@@ -53,7 +53,7 @@ there walk r c ls h = rw h refl
 nowhere : {S : Type 0} (walk : Walk S) (r c : ℕ) (ls : List Leaf) → starts_inside walk r c ≡ false → inside walk.frame r c ls ≡ []
 nowhere walk r c ls h = rw h refl
 
-lists_as : {S : Type 0} (walk : Walk S) (s t : S) (xs ys : List Leaf) → ys ≡ xs → Lists walk s xs t → Lists walk s ys t
+pub lists_as : {S : Type 0} (walk : Walk S) (s t : S) (xs ys : List Leaf) → ys ≡ xs → Lists walk s xs t → Lists walk s ys t
 lists_as walk s t xs ys is a = (a.0, a.1 ∙ sym is, a.2)
 
 -- a block that starts inside is listed, and another isn't read

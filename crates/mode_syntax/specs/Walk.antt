@@ -11,9 +11,9 @@ use Rattle.block_geometry.specs.declared.transform_blocks.FramePlaces.{FramePlac
 use Rattle.block_plan.specs.declared.block.BlockAt.{BlockAt}
 use Rattle.block_plan.specs.declared.block.BlockInfo.{BlockInfo}
 use Rattle.mode_syntax.specs.declared.square_at.SquareAt.{SquareAt}
-use Rattle.mode_syntax.specs.Counting.{Settled, settle, ◌>>=◌}
+use Rattle.mode_syntax.specs.Counting.{Settled, settle, in_order, ◌>>=◌}
 use Rattle.mode_syntax.specs.Partitions.{partition_at}
-use Rattle.mode_syntax.specs.Tiles.{Leaf, Cut, one_leaf, leaves}
+use Rattle.mode_syntax.specs.Tiles.{Leaf, Cut, one_leaf, leaves, tile_leaves}
 
 -- what a walk is told: the frame, the tile's columns, which probabilities partitions have, what a block reads, and the
 -- blocks that are listed
@@ -88,3 +88,16 @@ ListsItsBlock {S} walk = (r c : ℕ) (size : BlockSize) (s : S) → Yields (walk
 -- the blocks of a partition tree of a square
 abbrev pub ListsLeaves : {S : Type 0} → Walk S → ℕ → ℕ → ℕ → S → S → Type 0
 ListsLeaves walk n r c s t = (cut : Cut) × Lists walk s (leaves walk.frame n r c cut) t
+
+-- a row of n superblocks from a column on, and n rows of them
+unfoldable pub decode_row : {S : Type 0} → Walk S → ℕ → ℕ → ℕ → S → Syntax ℕ Rule (Settled S)
+decode_row walk r c zero s = settle s
+decode_row walk r c (suc n) s = in_order (decode_partition walk 3 r c s) (decode_row walk r (c + 8) n)
+
+unfoldable pub decode_tile : {S : Type 0} → Walk S → ℕ → ℕ → ℕ → ℕ → S → Syntax ℕ Rule (Settled S)
+decode_tile walk columns r c zero s = settle s
+decode_tile walk columns r c (suc n) s = in_order (decode_row walk r c columns s) (decode_tile walk columns (r + 8) c n)
+
+-- the blocks of partition trees of a tile's superblocks
+abbrev pub ListsTile : {S : Type 0} → Walk S → ℕ → ℕ → ℕ → ℕ → S → S → Type 0
+ListsTile walk columns r c n s t = (cuts : ℕ → ℕ → Cut) × Lists walk s (tile_leaves walk.frame r c cuts columns 0 n) t

@@ -8,7 +8,7 @@ ghost use Rattle.bool_decoder.specs.Bools.{run_bools};
 ghost use Rattle.prob_contexts.specs.declared.kind.CountedBool.{CountedBool};
 ghost use Rattle.prob_contexts.specs.Counted.{counts_after};
 ghost use Rattle.block_geometry.specs.declared.transform_blocks.FramePlaces.{FramePlaces};
-ghost use Rattle.mode_syntax.specs.Walk.{Walk, Yields, ListsItsBlock, ListsLeaves, decode_partition};
+ghost use Rattle.mode_syntax.specs.Walk.{Walk, Yields, ListsItsBlock, ListsLeaves, ListsTile, decode_partition, decode_tile};
 ghost use Rattle.mode_syntax.specs.Tiles.{Cut, tile_leaves, times_covered};
 ghost use Rattle.mode_syntax.specs.Counting.{Settled, Standing, settle, count, uncounted, run_counting, standing, in_order, with_same_counts};
 
@@ -35,4 +35,10 @@ pub fn blocks_cover_a_tile_once()
 pub fn squares_list_their_leaves<S>()
     ensures { (walk : Walk S) → ListsItsBlock walk → (n r c : ℕ) (s : S) →
         Yields (decode_partition walk n r c s) (ListsLeaves walk n r c s) }
+{}
+
+/// So does reading a tile of `n` rows of superblocks: it lists the blocks of its superblocks' partition trees, in order.
+pub fn tiles_list_their_leaves<S>()
+    ensures { (walk : Walk S) → ListsItsBlock walk → (columns r c n : ℕ) (s : S) →
+        Yields (decode_tile walk columns r c n s) (ListsTile walk columns r c n s) }
 {}
