@@ -5,3 +5,4 @@ pub mod Elements
 pub mod ModeInfo
 pub mod Partitions
 pub mod Tiles
+pub mod Walk

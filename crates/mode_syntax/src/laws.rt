@@ -8,6 +8,7 @@ ghost use Rattle.bool_decoder.specs.Bools.{run_bools};
 ghost use Rattle.prob_contexts.specs.declared.kind.CountedBool.{CountedBool};
 ghost use Rattle.prob_contexts.specs.Counted.{counts_after};
 ghost use Rattle.block_geometry.specs.declared.transform_blocks.FramePlaces.{FramePlaces};
+ghost use Rattle.mode_syntax.specs.Walk.{Walk, Yields, ListsItsBlock, ListsLeaves, ListsTile, decode_partition, decode_tile};
 ghost use Rattle.mode_syntax.specs.Tiles.{Cut, tile_leaves, times_covered};
 ghost use Rattle.mode_syntax.specs.Counting.{Settled, Standing, settle, count, uncounted, run_counting, standing, in_order, with_same_counts};
 
@@ -27,4 +28,17 @@ pub fn blocks_cover_a_tile_once()
     ensures { (frame : FramePlaces) (r c rows columns : ℕ) (cuts : ℕ → ℕ → Cut) (y x : ℕ) →
         r ≤ y → y < r + 8 * rows → c ≤ x → x < c + 8 * columns → y < frame.rows → x < frame.cols →
         times_covered (tile_leaves frame r c cuts columns 0 rows) y x ≡ 1 }
+{}
+
+/// Where what a block reads lists that block alone, reading a square lists the blocks of a partition tree of it, in
+/// order. `S` is what reading keeps.
+pub fn squares_list_their_leaves<S>()
+    ensures { (walk : Walk S) → ListsItsBlock walk → (n r c : ℕ) (s : S) →
+        Yields (decode_partition walk n r c s) (ListsLeaves walk n r c s) }
+{}
+
+/// So does reading a tile of `n` rows of superblocks: it lists the blocks of its superblocks' partition trees, in order.
+pub fn tiles_list_their_leaves<S>()
+    ensures { (walk : Walk S) → ListsItsBlock walk → (columns r c n : ℕ) (s : S) →
+        Yields (decode_tile walk columns r c n s) (ListsTile walk columns r c n s) }
 {}

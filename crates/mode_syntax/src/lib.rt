@@ -11,7 +11,10 @@ mod partition;
 mod square_at;
 mod tx_sizes;
 
-pub use laws::{blocks_cover_a_tile_once, counting_syntaxes_compose};
+pub use laws::{
+    blocks_cover_a_tile_once, counting_syntaxes_compose, squares_list_their_leaves,
+    tiles_list_their_leaves,
+};
 pub use mode_info::intra_frame_mode_info;
 pub use partition::read_partition;
 pub use square_at::SquareAt;
