@@ -73,7 +73,7 @@ pub two_rows_small : (limit : ℕ) (f : ℤ → ℤ → Two) (t : List (List ℤ
     length u ≡ 8 → length v ≡ 8 → TwoLanes f x y u v 8 → ((j : ℕ) → j < 8 → two_fit limit (f (at x j) (at y j)) ≡ true) →
     All (All IsSmall) t → All (All IsSmall) (set (set t a u) b v)
 two_rows_small limit f t a b x y u v most u_size v_size made fit small =
-    let both = λ (j : ℕ) (low : j < 8). two_small limit (f (at x j) (at y j)) most (fit j low) in
+    let both = λ (j : ℕ) (low : j < 8). two_small (2 ^ 24) limit (f (at x j) (at y j)) most (fit j low) in
     let u_small : All IsSmall u = lanes_small u u_size (λ j low. rw (made.first j low) (both j low).0) in
     let v_small : All IsSmall v = lanes_small v v_size (λ j low. rw (made.second j low) (both j low).1) in
     All-set (All IsSmall) (set t a u) b v v_small (All-set (All IsSmall) t a u u_small small)
@@ -178,7 +178,7 @@ pub four_small_after : (limit : ℕ) (f : ℤ → ℤ → ℤ → ℤ → Four) 
     limit ≤ 2 ^ 24 → length p ≡ 8 → length q ≡ 8 → length r ≡ 8 → length s ≡ 8 → FourMade limit f t a b c d p q r s all → all ≡ true →
     All (All IsSmall) t → All (All IsSmall) (set (set (set (set t a p) b q) c r) d s)
 four_small_after limit f t a b c d p q r s all most p_size q_size r_size s_size m is small =
-    let each = λ (j : ℕ) (low : j < 8). four_small limit (f (at (get_or t a []) j) (at (get_or t b []) j) (at (get_or t c []) j) (at (get_or t d []) j)) most
+    let each = λ (j : ℕ) (low : j < 8). four_small (2 ^ 24) limit (f (at (get_or t a []) j) (at (get_or t b []) j) (at (get_or t c []) j) (at (get_or t d []) j)) most
     (four_all limit f t a b c d p q r s all m is j low) in
     let p_small : All IsSmall p = lanes_small p p_size (λ j low. rw (m.made.first j low) (each j low).0) in
     let q_small : All IsSmall q = lanes_small q q_size (λ j low. rw (m.made.second j low) (each j low).1) in
@@ -213,7 +213,7 @@ pub one_small_after : (limit : ℕ) (f : ℤ → ℤ) (t : List (List ℤ)) (a :
     ((j : ℕ) → j < 8 → at u j ≡ f (at (get_or t a []) j)) → all ≡ true → AllHold (λ j. fits limit (f (at (get_or t a []) j))) 8 all →
     All (All IsSmall) t → All (All IsSmall) (set t a u)
 one_small_after limit f t a u all most size made is fit small =
-    let u_small : All IsSmall u = lanes_small u size (λ j low. rw (made j low) (fits_small limit (f (at (get_or t a []) j)) most
+    let u_small : All IsSmall u = lanes_small u size (λ j low. rw (made j low) (fits_small (2 ^ 24) limit (f (at (get_or t a []) j)) most
     (all_hold (λ j. fits limit (f (at (get_or t a []) j))) 8 all is fit j low))) in
     All-set (All IsSmall) t a u u_small small
 

@@ -1,6 +1,6 @@
 //! From levels to residue.
 
-ghost use Rattle.std.specs.Prelude.{◌≡◌, ◌+◌, ◌*◌, ◌^◌, ◌≤◌, length, All, IsTrue};
+ghost use Rattle.std.specs.Prelude.{◌≡◌, ◌+◌, ◌*◌, ◌^◌, ◌≤◌, ◌<◌, length, unsigned_abs, All, IsTrue, OnOk};
 ghost use Rattle.inverse_transforms.specs.Flow.{Gives};
 ghost use Rattle.inverse_transforms.specs.Ranges.{IsSmall};
 ghost use Rattle.vp9_tables.specs.Scans.{side, area};
@@ -91,7 +91,8 @@ fn reconstruct(block: &mut [i32], tx: TxSize, kind: TxType, quant: Quant) -> Res
 pub fn residue(block: &mut [i32], tx: TxSize, kind: TxType, quant: Quant) -> Result<(), Rule>
     requires size { length block.old ≡ area tx }
     requires levels { All IsLevel block.old }
-    ensures { Gives (residue quant tx kind block.old) result block.new }
+    ensures gives { Gives (residue quant tx kind block.old) result block.new }
+    ensures small { OnOk result (All (λ x. unsigned_abs x < 2 ^ 24) block.new) }
 {
     dequantise(block, tx, quant)?;
     reconstruct(block, tx, kind, quant)

@@ -1,4 +1,4 @@
-use Rattle.std.proofs.Common.{◌^◌}
+use Rattle.std.proofs.Common.{◌^◌, arith}
 use Rattle.std.proofs.lemmas.Result.{err_from_is_err_and}
 use Rattle.residue_blocks.specs.Residue.{kind_of_rows, kind_of_columns, rounding_bits}
 use Rattle.residue_blocks.proofs.Twice.{Passes, first_turn_small, rows_failed, columns_given}
@@ -16,7 +16,7 @@ returns-in_err-turn_rows c =
 pub turn_rows-requires-2-clause-values : goal.turn_rows-requires-2-clause-values
 turn_rows-requires-2-clause-values c =
     let r = c.pass_of_rows.result in
-    first_turn_small r.kind r.depth r.log2 (2 ^ r.log2) c.args.block.now c.turn_rows.new.to c.requires.values
+    first_turn_small (2 ^ 24) r.kind r.depth r.log2 (2 ^ r.log2) c.args.block.now c.turn_rows.new.to (omega arith) c.requires.values
     (rw c.pass_of_rows.ensures.bits at c.in_ok-turn_rows.ensures)
 
 pub returns : goal.returns
