@@ -249,3 +249,9 @@ pub gives_same : (f g : List ℤ → Result (List ℤ) Rule) (r : Result (Unit {
     GivesColumns f r old new → GivesColumns g r old new
 gives_same f g (Ok _) old new same gives = λ j low. sym (same (column j old)) ∙ gives j low
 gives_same f g (Err rule) old new same gives = (gives.0, gives.1, sym (same (column gives.0 old)) ∙ gives.2)
+
+-- rows that are a transform of lists as long as the columns
+pub gives_of_size : (n : ℕ) (f g : List ℤ → Result (List ℤ) Rule) (r : Result (Unit {0}) Rule) (old new : List (List ℤ)) → length old ≡ n →
+    ((xs : List ℤ) → length xs ≡ n → f xs ≡ g xs) → GivesColumns f r old new → GivesColumns g r old new
+gives_of_size n f g (Ok _) old new size same gives = λ j low. sym (same (column j old) (length-map old (λ row. at row j) ∙ size)) ∙ gives j low
+gives_of_size n f g (Err rule) old new size same gives = (gives.0, gives.1, sym (same (column gives.0 old) (length-map old (λ row. at row gives.0) ∙ size)) ∙ gives.2)

@@ -4,3 +4,6 @@ pub mod LaneLemmas
 pub mod ColumnLemmas
 pub mod Zeros
 pub mod Faults
+pub mod SameFlows
+pub mod Narrows
+pub mod RenamedTables

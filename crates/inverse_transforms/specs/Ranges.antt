@@ -20,3 +20,7 @@ round14 x = int_shr (x +ℤ pos 8192) 14
 -- more than any stored value: what sums and products of it fit in is so known
 abbrev pub IsSmall : ℤ → Type 0
 IsSmall x = unsigned_abs x ≤ 2 ^ 24
+
+-- of signed numbers of 16 bits; sums of two products of such values and of cosines are within 32 bits
+abbrev pub IsNarrow : ℤ → Type 0
+IsNarrow x = unsigned_abs x ≤ 2 ^ 15

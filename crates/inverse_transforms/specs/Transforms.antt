@@ -1,5 +1,5 @@
 -- The transforms: the DCT (8.7.1.2 and 8.7.1.3 of the standard), the ADST (8.7.1.4 to 8.7.1.9), the WHT (8.7.1.10).
-use Rattle.std.specs.Prelude.{ℕ, ◌-◌, ℤ, pos, ◌+ℤ◌, ◌-ℤ◌, ◌*ℤ◌, true, ◌&&◌, List, Result, if◌then◌else◌, nat_eq, slice_index_or}
+use Rattle.std.specs.Prelude.{◌≡◌, ℕ, ◌-◌, ◌^◌, length, ℤ, pos, ◌+ℤ◌, ◌-ℤ◌, ◌*ℤ◌, true, ◌&&◌, List, Result, if◌then◌else◌, nat_eq, slice_index_or}
 use Rattle.std.specs.Int.{int_shr}
 use Rattle.vp9_types.specs.declared.rule.Rule.{Rule}
 use Rattle.vp9_types.specs.declared.block.TxSize.{TxSize}
@@ -68,3 +68,10 @@ wht_quad shift x0 x1 x2 x3 = lifted (int_shr x0 shift) (int_shr x1 shift) (int_s
 
 unfoldable pub wht : ℕ → ℕ → List ℤ → Result (List ℤ) Rule
 wht limit shift xs = store_four limit xs 0 1 2 3 (wht_quad shift (at xs 0) (at xs 1) (at xs 2) (at xs 3))
+
+-- rows that are the DCT of all lists of 2 ^ log2 values, and rows that are the ADST
+unfoldable pub AreDct : ℕ → List FlowRow → Type 0
+AreDct log2 rows = (limit : ℕ) (xs : List ℤ) → length xs ≡ 2 ^ log2 → run limit rows xs ≡ dct limit log2 xs
+
+unfoldable pub AreAdst : ℕ → List FlowRow → Type 0
+AreAdst log2 rows = (limit : ℕ) (xs : List ℤ) → length xs ≡ 2 ^ log2 → run limit rows xs ≡ adst limit log2 xs

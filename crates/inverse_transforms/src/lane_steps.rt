@@ -14,6 +14,7 @@ use crate::turn::Turn;
 use vp9_tables::FlowRow;
 use vp9_types::Rule;
 
+#[inline(always)]
 fn rotate(t: &mut [Lanes], a: u8, b: u8, angle: u8, limit: u32) -> Result<(), Rule>
     requires a { a < length t.old }
     requires b { b < length t.old }
@@ -34,7 +35,8 @@ fn rotate(t: &mut [Lanes], a: u8, b: u8, angle: u8, limit: u32) -> Result<(), Ru
     Ok(())
 }
 
-fn add(t: &mut [Lanes], a: u8, b: u8, limit: u32) -> Result<(), Rule>
+#[inline(always)]
+pub fn add(t: &mut [Lanes], a: u8, b: u8, limit: u32) -> Result<(), Rule>
     requires a { a < length t.old }
     requires b { b < length t.old }
     requires limit { limit ≤ 2 ^ 24 }
@@ -53,6 +55,7 @@ fn add(t: &mut [Lanes], a: u8, b: u8, limit: u32) -> Result<(), Rule>
     Ok(())
 }
 
+#[inline(always)]
 fn negate(t: &mut [Lanes], a: u8, limit: u32) -> Result<(), Rule>
     requires a { a < length t.old }
     requires limit { limit ≤ 2 ^ 24 }
@@ -69,6 +72,7 @@ fn negate(t: &mut [Lanes], a: u8, limit: u32) -> Result<(), Rule>
     Ok(())
 }
 
+#[inline(always)]
 fn rotate_wide(
     t: &mut [Lanes],
     a: u8,
@@ -174,6 +178,7 @@ fn gather(t: &mut [Lanes], old: &[Lanes], order: &[u8])
     }
 }
 
+#[inline(always)]
 fn permute(t: &mut [Lanes], spare: &mut [Lanes], order: &[u8])
     requires size { length spare.old ≡ length t.old }
     requires order { length t.old ≤ length order.now }
@@ -184,8 +189,10 @@ fn permute(t: &mut [Lanes], spare: &mut [Lanes], order: &[u8])
     gather(t, spare, order);
 }
 
+/// Any step. It is called for those that are rare.
+#[inline(never)]
 #[tactic(auto, unfolding(crate::specs::Flow::step))]
-fn apply(t: &mut [Lanes], spare: &mut [Lanes], row: &FlowRow, limit: u32) -> Result<(), Rule>
+pub fn apply(t: &mut [Lanes], spare: &mut [Lanes], row: &FlowRow, limit: u32) -> Result<(), Rule>
     requires size { length t.old ≤ 32 }
     requires spare { length spare.old ≡ length t.old }
     requires within { IsTrue (is_within (length t.old) row.now) }
@@ -213,6 +220,27 @@ fn apply(t: &mut [Lanes], spare: &mut [Lanes], row: &FlowRow, limit: u32) -> Res
     }
 }
 
+/// The same, with the steps that most flows are made of in place: a jump by the kind of each step is badly foreseen.
+#[inline(always)]
+#[tactic(auto, unfolding(crate::specs::Flow::step))]
+fn apply_often(t: &mut [Lanes], spare: &mut [Lanes], row: &FlowRow, limit: u32) -> Result<(), Rule>
+    requires size { length t.old ≤ 32 }
+    requires spare { length spare.old ≡ length t.old }
+    requires within { IsTrue (is_within (length t.old) row.now) }
+    requires limit { limit ≤ 2 ^ 24 }
+    requires small { All (All IsSmall) t.old }
+    ensures gives { GivesColumns (step limit row.now) result t.old t.new }
+    ensures small { All (All IsSmall) t.new }
+{
+    match row {
+        FlowRow::Rot { a, b, angle } => rotate(t, *a, *b, *angle, limit),
+        FlowRow::Sum { a, b } => add(t, *a, *b, limit),
+        FlowRow::Perm(_) | FlowRow::Neg { .. } | FlowRow::Wide { .. } => apply(
+            t, spare, row, limit,
+        ),
+    }
+}
+
 /// The steps of a flow on eight columns.
 pub fn flow(t: &mut [Lanes], rows: &[FlowRow], limit: u32) -> Result<(), Rule>
     requires size { length t.old ≤ 32 }
@@ -225,7 +253,7 @@ pub fn flow(t: &mut [Lanes], rows: &[FlowRow], limit: u32) -> Result<(), Rule>
     let mut spare = [[0; 8]; 32];
     let spare = &mut spare[..t.len()];
     for row in rows {
-        apply(t, spare, row, limit)?;
+        apply_often(t, spare, row, limit)?;
     }
     Ok(())
 }

@@ -5,8 +5,11 @@ mod kernels;
 mod lane_steps;
 mod lanes;
 mod laws;
+mod narrow;
 mod numbers;
 mod quads;
+mod renamed;
+mod rows;
 mod steps;
 #[cfg(test)]
 mod tests;

@@ -2,7 +2,7 @@
 
 ghost use Rattle.std.specs.Prelude.{◌≡◌, ◌+◌, ◌*◌, ◌^◌, ◌≤◌, ◌+ℤ◌, ◌-ℤ◌, ◌*ℤ◌, neg_ℤ, unsigned_abs};
 ghost use Rattle.std.specs.Int.{int_shr};
-ghost use Rattle.inverse_transforms.specs.Ranges.{fits, round14};
+ghost use Rattle.inverse_transforms.specs.Ranges.{fits, round14, IsNarrow};
 ghost use Rattle.inverse_transforms.specs.Flow.{wide};
 
 /// Round2 by 14 bits.
@@ -23,6 +23,26 @@ pub fn product(x: i32, c: i32) -> i64
     ensures size { unsigned_abs result ≤ 2 ^ 40 }
 {
     x as i64 * c as i64
+}
+
+/// Round2 by 14 bits of a sum of two products of narrow values.
+#[inline(always)]
+#[tactic(auto, unfolding(crate::specs::Ranges::round14))]
+pub fn narrow_rounded(x: i32) -> i32
+    requires { unsigned_abs x ≤ 2 ^ 30 }
+    ensures { result ≡ round14 x }
+{
+    (x + 8192) >> 14
+}
+
+#[inline(always)]
+pub fn narrow_product(x: i32, c: i32) -> i32
+    requires narrow { IsNarrow x }
+    requires constant { unsigned_abs c ≤ 16384 }
+    ensures value { result ≡ (x *ℤ c) }
+    ensures size { unsigned_abs result ≤ 2 ^ 29 }
+{
+    x * c
 }
 
 #[inline(always)]
@@ -47,8 +67,8 @@ pub fn difference(x: i64, y: i64) -> i64
 
 #[inline(always)]
 pub fn plus(x: i32, y: i32) -> i32
-    requires first { unsigned_abs x ≤ 2 ^ 28 }
-    requires second { unsigned_abs y ≤ 2 ^ 28 }
+    requires first { unsigned_abs x ≤ 2 ^ 29 }
+    requires second { unsigned_abs y ≤ 2 ^ 29 }
     ensures value { result ≡ (x +ℤ y) }
     ensures size { unsigned_abs result ≤ unsigned_abs x + unsigned_abs y }
 {
@@ -57,8 +77,8 @@ pub fn plus(x: i32, y: i32) -> i32
 
 #[inline(always)]
 pub fn minus(x: i32, y: i32) -> i32
-    requires first { unsigned_abs x ≤ 2 ^ 28 }
-    requires second { unsigned_abs y ≤ 2 ^ 28 }
+    requires first { unsigned_abs x ≤ 2 ^ 29 }
+    requires second { unsigned_abs y ≤ 2 ^ 29 }
     ensures value { result ≡ (x -ℤ y) }
     ensures size { unsigned_abs result ≤ unsigned_abs x + unsigned_abs y }
 {

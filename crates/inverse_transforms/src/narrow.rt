@@ -1,0 +1,154 @@
+//! A flow on eight columns of narrow values, whose products are within 32 bits.
+
+ghost use Rattle.std.specs.Prelude.{◌≡◌, ℕ, ◌^◌, ◌≤◌, ◌<◌, length, unsigned_abs, IsTrue, All};
+ghost use Rattle.std.specs.List.{list_all};
+ghost use Rattle.std.specs.Bool.{OnTrue};
+ghost use Rattle.inverse_transforms.specs.Flow.{at, step, run, store_two, rotated, turned_x, turned_y, is_within};
+ghost use Rattle.inverse_transforms.specs.Columns.{GivesColumns, TwoLanes, AllHold, column};
+ghost use Rattle.inverse_transforms.specs.Flow.{two_fit};
+ghost use Rattle.inverse_transforms.specs.Ranges.{IsSmall, IsNarrow};
+
+use crate::kernels::two_fit;
+use crate::lane_steps;
+use crate::lanes::{Lanes, TwoRows};
+use crate::numbers::{is_fit, minus, narrow_product, narrow_rounded, plus};
+use crate::turn::Turn;
+use crate::values::Two;
+use vp9_tables::FlowRow;
+use vp9_types::Rule;
+
+/// Values of 16 bits are at least minus this, and below it.
+const LIMIT: u32 = 32768;
+
+#[inline(always)]
+#[tactic(auto, unfolding(crate::specs::Flow::turned_x))]
+fn first_turned(x: i32, y: i32, turn: Turn) -> i32
+    requires x { IsNarrow x }
+    requires y { IsNarrow y }
+    ensures value { result ≡ turned_x turn.angle x y }
+    ensures size { unsigned_abs result ≤ 2 ^ 30 }
+{
+    minus(narrow_product(x, turn.cosine), narrow_product(y, turn.sine))
+}
+
+#[inline(always)]
+#[tactic(auto, unfolding(crate::specs::Flow::turned_y))]
+fn second_turned(x: i32, y: i32, turn: Turn) -> i32
+    requires x { IsNarrow x }
+    requires y { IsNarrow y }
+    ensures value { result ≡ turned_y turn.angle x y }
+    ensures size { unsigned_abs result ≤ 2 ^ 30 }
+{
+    plus(narrow_product(x, turn.sine), narrow_product(y, turn.cosine))
+}
+
+#[inline(always)]
+#[tactic(auto, unfolding(crate::specs::Flow::rotated))]
+fn rotated(x: i32, y: i32, turn: Turn) -> Two
+    requires x { IsNarrow x }
+    requires y { IsNarrow y }
+    ensures { result ≡ rotated turn.angle x y }
+{
+    Two {
+        first: narrow_rounded(first_turned(x, y, turn)),
+        second: narrow_rounded(second_turned(x, y, turn)),
+    }
+}
+
+#[inline(always)]
+fn rotated_lanes(x: &Lanes, y: &Lanes, turn: Turn) -> TwoRows
+    requires x { (j : ℕ) → j < 8 → IsNarrow (at x.now j) }
+    requires y { (j : ℕ) → j < 8 → IsNarrow (at y.now j) }
+    ensures made { TwoLanes (rotated turn.angle) x.now y.now result.0 result.1 8 }
+    ensures fit { AllHold (λ j. two_fit (2 ^ 15) (rotated turn.angle (at x.now j) (at y.now j))) 8 result.2 }
+{
+    let mut u = [0; 8];
+    let mut v = [0; 8];
+    let mut fit = true;
+    for j in 0..8usize {
+        let r = rotated(x[j], y[j], turn);
+        u[j] = r.first;
+        v[j] = r.second;
+        fit = fit & two_fit(r, LIMIT);
+    }
+    (u, v, fit)
+}
+
+#[inline(always)]
+fn rotate(t: &mut [Lanes], a: u8, b: u8, angle: u8) -> Result<(), Rule>
+    requires a { a < length t.old }
+    requires b { b < length t.old }
+    requires angle { angle < 128 }
+    requires narrow { (j : ℕ) → j < 8 → All IsNarrow (column j t.old) }
+    requires small { All (All IsSmall) t.old }
+    ensures gives { GivesColumns (λ xs. store_two (2 ^ 15) xs a b (rotated angle (at xs a) (at xs b))) result t.old t.new }
+    ensures small { All (All IsSmall) t.new }
+{
+    let x = t[a as usize];
+    let y = t[b as usize];
+    let (u, v, fit) = rotated_lanes(&x, &y, Turn::by(angle));
+    if !fit {
+        return Err(Rule::TransformRange);
+    }
+    t[a as usize] = u;
+    t[b as usize] = v;
+    Ok(())
+}
+
+#[inline(always)]
+#[tactic(auto, unfolding(crate::specs::Flow::step))]
+fn apply(t: &mut [Lanes], spare: &mut [Lanes], row: &FlowRow) -> Result<(), Rule>
+    requires size { length t.old ≤ 32 }
+    requires spare { length spare.old ≡ length t.old }
+    requires within { IsTrue (is_within (length t.old) row.now) }
+    requires narrow { (j : ℕ) → j < 8 → All IsNarrow (column j t.old) }
+    requires small { All (All IsSmall) t.old }
+    ensures gives { GivesColumns (step (2 ^ 15) row.now) result t.old t.new }
+    ensures small { All (All IsSmall) t.new }
+{
+    match row {
+        FlowRow::Rot { a, b, angle } => rotate(t, *a, *b, *angle),
+        FlowRow::Sum { a, b } => lane_steps::add(t, *a, *b, LIMIT),
+        FlowRow::Perm(_) | FlowRow::Neg { .. } | FlowRow::Wide { .. } => {
+            lane_steps::apply(t, spare, row, LIMIT)
+        }
+    }
+}
+
+/// The steps of a flow on eight columns, where values of 16 bits fit.
+pub fn flow(t: &mut [Lanes], rows: &[FlowRow]) -> Result<(), Rule>
+    requires size { length t.old ≤ 32 }
+    requires within { IsTrue (list_all (is_within (length t.old)) rows.now) }
+    requires narrow { All (All IsNarrow) t.old }
+    ensures gives { GivesColumns (run (2 ^ 15) rows.now) result t.old t.new }
+    ensures small { All (All IsSmall) t.new }
+{
+    let mut spare = [[0; 8]; 32];
+    let spare = &mut spare[..t.len()];
+    for row in rows {
+        apply(t, spare, row)?;
+    }
+    Ok(())
+}
+
+fn is_narrow_row(x: &Lanes) -> bool
+    ensures { OnTrue result (All IsNarrow x.now) }
+{
+    let mut all = true;
+    for j in 0..8usize {
+        all = all & is_fit(x[j], LIMIT);
+    }
+    all
+}
+
+/// Whether all values are narrow.
+pub fn is_narrow(t: &[Lanes]) -> bool
+    ensures { OnTrue result (All (All IsNarrow) t.now) }
+{
+    for row in t {
+        if !is_narrow_row(row) {
+            return false;
+        }
+    }
+    true
+}
