@@ -232,13 +232,13 @@ fn apply_often(t: &mut [Lanes], spare: &mut [Lanes], row: &FlowRow, limit: u32) 
     ensures gives { GivesColumns (step limit row.now) result t.old t.new }
     ensures small { All (All IsSmall) t.new }
 {
-    match row {
-        FlowRow::Rot { a, b, angle } => rotate(t, *a, *b, *angle, limit),
-        FlowRow::Sum { a, b } => add(t, *a, *b, limit),
-        FlowRow::Perm(_) | FlowRow::Neg { .. } | FlowRow::Wide { .. } => apply(
-            t, spare, row, limit,
-        ),
+    if let FlowRow::Sum { a, b } = row {
+        return add(t, *a, *b, limit);
     }
+    if let FlowRow::Rot { a, b, angle } = row {
+        return rotate(t, *a, *b, *angle, limit);
+    }
+    apply(t, spare, row, limit)
 }
 
 /// The steps of a flow on eight columns.

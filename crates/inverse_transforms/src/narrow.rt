@@ -106,13 +106,13 @@ fn apply(t: &mut [Lanes], spare: &mut [Lanes], row: &FlowRow) -> Result<(), Rule
     ensures gives { GivesColumns (step (2 ^ 15) row.now) result t.old t.new }
     ensures small { All (All IsSmall) t.new }
 {
-    match row {
-        FlowRow::Rot { a, b, angle } => rotate(t, *a, *b, *angle),
-        FlowRow::Sum { a, b } => lane_steps::add(t, *a, *b, LIMIT),
-        FlowRow::Perm(_) | FlowRow::Neg { .. } | FlowRow::Wide { .. } => {
-            lane_steps::apply(t, spare, row, LIMIT)
-        }
+    if let FlowRow::Sum { a, b } = row {
+        return lane_steps::add(t, *a, *b, LIMIT);
     }
+    if let FlowRow::Rot { a, b, angle } = row {
+        return rotate(t, *a, *b, *angle);
+    }
+    lane_steps::apply(t, spare, row, LIMIT)
 }
 
 /// The steps of a flow on eight columns, where values of 16 bits fit.
