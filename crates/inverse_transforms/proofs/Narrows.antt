@@ -1,6 +1,9 @@
 -- Narrow values.
-use Rattle.std.proofs.Common.{◌≡◌, ℕ, ◌*◌, ◌<◌, ◌≤◌, ◌^◌, ℤ, pos, ◌*ℤ◌, unsigned_abs, Bool, true, false, List, [], length, get_or, subst, arith, All, to_z, of_z}
+use Rattle.std.proofs.Common.{◌≡◌, ℕ, ◌+◌, take, ◌*◌, ◌<◌, ◌≤◌, ◌^◌, ℤ, pos, ◌*ℤ◌, unsigned_abs, Bool, true, false, List, [], length, get_or, refl, subst, arith, All, to_z, of_z}
 use Rattle.std.specs.Bool.{OnTrue}
+use Rattle.std.specs.List.{flat_map}
+use Rattle.std.proofs.lemmas.List.Concat.{get_or-flat_map}
+use Rattle.std.proofs.lemmas.List.Folds.{length-flat_map-take}
 use Rattle.std.proofs.Math.Nat.{mul-le-mul}
 use Rattle.std.proofs.lemmas.Int.{to_z-of_z, unsigned_abs-mul, fits_signed_mul}
 use Rattle.std.proofs.lemmas.List.{get_or_default}
@@ -31,10 +34,15 @@ pub product_sized : (x c : ℤ) → IsNarrow x → unsigned_abs c ≤ 16384 →
     unsigned_abs (to_z w32 (of_z w32 (to_z w32 (of_z w32 x) *ℤ to_z w32 (of_z w32 c)))) ≤ 2 ^ 29
 product_sized x c narrow most = rw (product_value x c narrow most) (product_size x c narrow most)
 
-pub narrow_row : (x : List ℤ) (n : ℕ) (all : Bool) → length x ≡ 8 → 8 ≤ n → AllHold (λ j. fits (2 ^ 15) (at x j)) n all → OnTrue all (All IsNarrow x)
-narrow_row x n true size past hold = λ k d low.
-    rw (get_or_default x k d (pos 0) low) (fits_small (2 ^ 15) (2 ^ 15) (at x k) (omega arith) (hold k (omega arith)))
-narrow_row x n false size past hold = tt
+pub flat_narrow : (t : List (List ℤ)) (n : ℕ) (test : Bool) → (test ≡ true → n ≤ 2 ^ 15) → All (λ x. unsigned_abs x ≤ n) (flat_map (λ x. x) t) →
+    OnTrue test (All (All IsNarrow) t)
+flat_narrow t n true few flat = λ i e i_low j d j_low.
+    let place : unsigned_abs (get_or (flat_map (λ x. x) t) (length (flat_map (λ x. x) (take i t)) + j) d) ≤ n =
+    flat (length (flat_map (λ x. x) (take i t)) + j) d (omega (arith, length-flat_map-take (λ x. x) t i e i_low)) in
+    let here : unsigned_abs (get_or (get_or t i e) j d) ≤ n =
+    subst (λ z. unsigned_abs z ≤ n) (get_or-flat_map (λ x. x) t i j e d i_low j_low) place in
+    omega (arith, few refl)
+flat_narrow t n false few flat = tt
 
 pub narrow_columns : (t : List (List ℤ)) → All (All IsNarrow) t → (j : ℕ) → All IsNarrow (column j t)
 narrow_columns t narrow j = All-map IsNarrow (λ row. at row j) t (λ k d low. at_small (2 ^ 15) (get_or t k d) j (narrow k d low))

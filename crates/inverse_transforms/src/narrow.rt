@@ -11,7 +11,7 @@ ghost use Rattle.inverse_transforms.specs.Ranges.{IsSmall, IsNarrow};
 use crate::kernels::two_fit;
 use crate::lane_steps;
 use crate::lanes::{Lanes, TwoRows};
-use crate::numbers::{is_fit, minus, narrow_product, narrow_rounded, plus};
+use crate::numbers::{minus, narrow_product, narrow_rounded, plus};
 use crate::turn::Turn;
 use crate::values::Two;
 use vp9_tables::FlowRow;
@@ -131,24 +131,20 @@ pub fn flow(t: &mut [Lanes], rows: &[FlowRow]) -> Result<(), Rule>
     Ok(())
 }
 
-fn is_narrow_row(x: &Lanes) -> bool
-    ensures { OnTrue result (All IsNarrow x.now) }
+/// A bound of all magnitudes.
+fn widest(xs: &[i32]) -> u32
+    ensures { All (λ x. unsigned_abs x ≤ result) xs.now }
 {
-    let mut all = true;
-    for j in 0..8usize {
-        all = all & is_fit(x[j], LIMIT);
+    let mut most = 0;
+    for x in xs {
+        most = most.max(x.unsigned_abs());
     }
-    all
+    most
 }
 
 /// Whether all values are narrow.
 pub fn is_narrow(t: &[Lanes]) -> bool
     ensures { OnTrue result (All (All IsNarrow) t.now) }
 {
-    for row in t {
-        if !is_narrow_row(row) {
-            return false;
-        }
-    }
-    true
+    widest(t.as_flattened()) <= LIMIT
 }
