@@ -178,8 +178,7 @@ fn gather(t: &mut [Lanes], old: &[Lanes], order: &[u8])
     }
 }
 
-#[inline(always)]
-fn permute(t: &mut [Lanes], spare: &mut [Lanes], order: &[u8])
+fn permute_by(t: &mut [Lanes], spare: &mut [Lanes], order: &[u8])
     requires size { length spare.old ≡ length t.old }
     requires order { length t.old ≤ length order.now }
     requires within { IsTrue (list_all (λ place. nat_lt place (length t.old)) (take (length t.old) order.now)) }
@@ -189,12 +188,28 @@ fn permute(t: &mut [Lanes], spare: &mut [Lanes], order: &[u8])
     gather(t, spare, order);
 }
 
+/// Few rows have a small copy, which takes less time to set up.
+fn permute(t: &mut [Lanes], order: &[u8])
+    requires size { length t.old ≤ 32 }
+    requires order { length t.old ≤ length order.now }
+    requires within { IsTrue (list_all (λ place. nat_lt place (length t.old)) (take (length t.old) order.now)) }
+    ensures { t.new ≡ gathered order.now t.old }
+{
+    let size = t.len();
+    if size <= 8 {
+        let mut spare = [[0; 8]; 8];
+        permute_by(t, &mut spare[..size], order);
+        return;
+    }
+    let mut spare = [[0; 8]; 32];
+    permute_by(t, &mut spare[..size], order);
+}
+
 /// Any step. It is called for those that are rare.
 #[inline(never)]
 #[tactic(auto, unfolding(crate::specs::Flow::step))]
-pub fn apply(t: &mut [Lanes], spare: &mut [Lanes], row: &FlowRow, limit: u32) -> Result<(), Rule>
+pub fn apply(t: &mut [Lanes], row: &FlowRow, limit: u32) -> Result<(), Rule>
     requires size { length t.old ≤ 32 }
-    requires spare { length spare.old ≡ length t.old }
     requires within { IsTrue (is_within (length t.old) row.now) }
     requires limit { limit ≤ 2 ^ 24 }
     requires small { All (All IsSmall) t.old }
@@ -203,7 +218,7 @@ pub fn apply(t: &mut [Lanes], spare: &mut [Lanes], row: &FlowRow, limit: u32) ->
 {
     match row {
         FlowRow::Perm(order) => {
-            permute(t, spare, order);
+            permute(t, order);
             Ok(())
         }
         FlowRow::Rot { a, b, angle } => rotate(t, *a, *b, *angle, limit),
@@ -223,9 +238,8 @@ pub fn apply(t: &mut [Lanes], spare: &mut [Lanes], row: &FlowRow, limit: u32) ->
 /// The same, with the steps that most flows are made of in place: a jump by the kind of each step is badly foreseen.
 #[inline(always)]
 #[tactic(auto, unfolding(crate::specs::Flow::step))]
-fn apply_often(t: &mut [Lanes], spare: &mut [Lanes], row: &FlowRow, limit: u32) -> Result<(), Rule>
+fn apply_often(t: &mut [Lanes], row: &FlowRow, limit: u32) -> Result<(), Rule>
     requires size { length t.old ≤ 32 }
-    requires spare { length spare.old ≡ length t.old }
     requires within { IsTrue (is_within (length t.old) row.now) }
     requires limit { limit ≤ 2 ^ 24 }
     requires small { All (All IsSmall) t.old }
@@ -238,7 +252,7 @@ fn apply_often(t: &mut [Lanes], spare: &mut [Lanes], row: &FlowRow, limit: u32) 
     if let FlowRow::Rot { a, b, angle } = row {
         return rotate(t, *a, *b, *angle, limit);
     }
-    apply(t, spare, row, limit)
+    apply(t, row, limit)
 }
 
 /// The steps of a flow on eight columns.
@@ -250,10 +264,8 @@ pub fn flow(t: &mut [Lanes], rows: &[FlowRow], limit: u32) -> Result<(), Rule>
     ensures gives { GivesColumns (run limit rows.now) result t.old t.new }
     ensures small { All (All IsSmall) t.new }
 {
-    let mut spare = [[0; 8]; 32];
-    let spare = &mut spare[..t.len()];
     for row in rows {
-        apply_often(t, spare, row, limit)?;
+        apply_often(t, row, limit)?;
     }
     Ok(())
 }

@@ -97,9 +97,8 @@ fn rotate(t: &mut [Lanes], a: u8, b: u8, angle: u8) -> Result<(), Rule>
 
 #[inline(always)]
 #[tactic(auto, unfolding(crate::specs::Flow::step))]
-fn apply(t: &mut [Lanes], spare: &mut [Lanes], row: &FlowRow) -> Result<(), Rule>
+fn apply(t: &mut [Lanes], row: &FlowRow) -> Result<(), Rule>
     requires size { length t.old ≤ 32 }
-    requires spare { length spare.old ≡ length t.old }
     requires within { IsTrue (is_within (length t.old) row.now) }
     requires narrow { (j : ℕ) → j < 8 → All IsNarrow (column j t.old) }
     requires small { All (All IsSmall) t.old }
@@ -112,7 +111,7 @@ fn apply(t: &mut [Lanes], spare: &mut [Lanes], row: &FlowRow) -> Result<(), Rule
     if let FlowRow::Rot { a, b, angle } = row {
         return rotate(t, *a, *b, *angle);
     }
-    lane_steps::apply(t, spare, row, LIMIT)
+    lane_steps::apply(t, row, LIMIT)
 }
 
 /// The steps of a flow on eight columns, where values of 16 bits fit.
@@ -123,10 +122,8 @@ pub fn flow(t: &mut [Lanes], rows: &[FlowRow]) -> Result<(), Rule>
     ensures gives { GivesColumns (run (2 ^ 15) rows.now) result t.old t.new }
     ensures small { All (All IsSmall) t.new }
 {
-    let mut spare = [[0; 8]; 32];
-    let spare = &mut spare[..t.len()];
     for row in rows {
-        apply(t, spare, row)?;
+        apply(t, row)?;
     }
     Ok(())
 }

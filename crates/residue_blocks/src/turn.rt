@@ -49,7 +49,7 @@ fn turn_by(
     Ok(())
 }
 
-/// Turns a group of rows.
+/// Turns a group of rows. Few rows have few rows of lanes, which take less time to set up.
 fn turn_group(
     from: &[i32],
     to: &mut [i32],
@@ -69,6 +69,10 @@ fn turn_group(
     requires values { All IsSmall from.now }
     ensures { TurnsGroup (rounded_transform pass.kind (limit_of pass.depth) pass.log2 pass.bits) n first width from.now result to.old to.new }
 {
+    if n <= 8 {
+        let mut t = [[0; 8]; 8];
+        return turn_by(&mut t[..n], from, to, first, width, pass);
+    }
     let mut t = [[0; 8]; 32];
     turn_by(&mut t[..n], from, to, first, width, pass)
 }
