@@ -16,7 +16,7 @@ pub use laws::{
     tiles_list_their_leaves,
 };
 pub use mode_info::intra_frame_mode_info;
-pub use partition::read_partition;
+pub use partition::{read_partition, side_of};
 pub use square_at::SquareAt;
 
 #[cfg(test)]

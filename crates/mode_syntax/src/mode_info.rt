@@ -2,6 +2,8 @@
 
 ghost use Rattle.std.specs.Prelude.{◌≡◌, ◌+◌, ◌-◌, ◌^◌, ◌<◌, ◌≤◌, ℕ};
 ghost use Rattle.std.specs.Option.{option_copied};
+ghost use Rattle.vp9_tables.specs.Blocks.{greatest_of};
+ghost use Rattle.vp9_tables.specs.Numbers.{tx_number};
 ghost use Rattle.bool_decoder.specs.Held.{window_of};
 ghost use Rattle.prob_contexts.specs.Lists.{lists_of};
 ghost use Rattle.mode_syntax.specs.Counting.{ReadsCounting};
@@ -36,6 +38,7 @@ fn read_beside(
     ensures row { result.row ≡ at.row }
     ensures col { result.col ≡ at.col }
     ensures size { result.size ≡ at.size }
+    ensures fits { tx_number result.tx ≤ greatest_of at.size }
 {
     let segment = read_intra_segment_id(decoder, segmentation);
     let context = skip_context(above, left);
@@ -82,6 +85,7 @@ pub fn intra_frame_mode_info<N: Neighbours>(
     ensures row { result.row ≡ at.row }
     ensures col { result.col ≡ at.col }
     ensures size { result.size ≡ at.size }
+    ensures fits { tx_number result.tx ≤ greatest_of at.size }
 {
     let above = above_place(earlier, at.row, at.col);
     let left = left_place(earlier, at.tile_from, at.row, at.col);

@@ -163,7 +163,7 @@ fn put_heights<N: Neighbours>(heights: &mut [u8], earlier: &N, tile_from: u32, r
 }
 
 /// The side of a square in places of 8x8.
-fn side_of(level: u8) -> u32
+pub fn side_of(level: u8) -> u32
     requires { level ≤ 3 }
     ensures is { result ≡ 2 ^ level }
     ensures most { result ≤ 8 }

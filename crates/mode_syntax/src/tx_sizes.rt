@@ -21,7 +21,9 @@ use vp9_types::{BlockSize, TxMode, TxSize};
 
 /// The transform of a number, 0 to 3.
 fn tx_of(number: u8) -> TxSize
-    ensures { result ≡ tx_of number }
+    requires { number ≤ 3 }
+    ensures is { result ≡ tx_of number }
+    ensures number { tx_number result ≡ number }
 {
     match number {
         0 => TxSize::T4x4,
@@ -33,14 +35,16 @@ fn tx_of(number: u8) -> TxSize
 
 #[tactic(auto, using(crate::proofs::TxSizes::tx_of_number))]
 fn greatest_of(size: BlockSize) -> TxSize
-    ensures { result ≡ tx_of (greatest_of size) }
+    ensures is { result ≡ tx_of (greatest_of size) }
+    ensures number { tx_number result ≡ greatest_of size }
 {
     max_tx_size(size)
 }
 
 #[tactic(auto, using(crate::proofs::TxSizes::tx_of_number))]
 fn greatest_allowed(mode: TxMode, size: BlockSize) -> TxSize
-    ensures { result ≡ tx_of (greatest_allowed mode size) }
+    ensures is { result ≡ tx_of (greatest_allowed mode size) }
+    ensures fits { tx_number result ≤ greatest_of size }
 {
     greatest_tx(mode, size)
 }
@@ -90,7 +94,8 @@ fn read_up_to_8x8(
     context: u8,
 ) -> TxSize
     requires context { context ≤ 1 }
-    ensures { ReadsCounting (tx_symbol (tx_lists probs.now) size.T8x8 context) (window_of decoder.old) counts.old result (window_of decoder.new) counts.new }
+    ensures read { ReadsCounting (tx_symbol (tx_lists probs.now) size.T8x8 context) (window_of decoder.old) counts.old result (window_of decoder.new) counts.new }
+    ensures fits { tx_number result ≤ 1 }
 {
     let number = decoder.tree(tx8_tree(), nodes_from(&probs.of_8x8, context as usize));
     count_unary(
@@ -110,7 +115,8 @@ fn read_up_to_16x16(
     context: u8,
 ) -> TxSize
     requires context { context ≤ 1 }
-    ensures { ReadsCounting (tx_symbol (tx_lists probs.now) size.T16x16 context) (window_of decoder.old) counts.old result (window_of decoder.new) counts.new }
+    ensures read { ReadsCounting (tx_symbol (tx_lists probs.now) size.T16x16 context) (window_of decoder.old) counts.old result (window_of decoder.new) counts.new }
+    ensures fits { tx_number result ≤ 2 }
 {
     let first = 2 * context;
     let number = decoder.tree(tx16_tree(), nodes_from(&probs.of_16x16, first as usize));
@@ -131,7 +137,8 @@ fn read_up_to_32x32(
     context: u8,
 ) -> TxSize
     requires context { context ≤ 1 }
-    ensures { ReadsCounting (tx_symbol (tx_lists probs.now) size.T32x32 context) (window_of decoder.old) counts.old result (window_of decoder.new) counts.new }
+    ensures read { ReadsCounting (tx_symbol (tx_lists probs.now) size.T32x32 context) (window_of decoder.old) counts.old result (window_of decoder.new) counts.new }
+    ensures fits { tx_number result ≤ 3 }
 {
     let first = 3 * context;
     let number = decoder.tree(tx32_tree(), nodes_from(&probs.of_32x32, first as usize));
@@ -155,7 +162,8 @@ fn read_tx_symbol(
 ) -> TxSize
     requires some { 1 ≤ tx_number greatest }
     requires context { context ≤ 1 }
-    ensures { ReadsCounting (tx_symbol (tx_lists probs.now) greatest context) (window_of decoder.old) counts.old result (window_of decoder.new) counts.new }
+    ensures read { ReadsCounting (tx_symbol (tx_lists probs.now) greatest context) (window_of decoder.old) counts.old result (window_of decoder.new) counts.new }
+    ensures fits { tx_number result ≤ tx_number greatest }
 {
     match greatest {
         TxSize::T4x4 | TxSize::T8x8 => read_up_to_8x8(decoder, counts, probs, context),
@@ -175,7 +183,8 @@ pub(crate) fn read_tx_size(
     size: BlockSize,
 ) -> TxSize
     requires context { context ≤ 1 }
-    ensures { ReadsCounting (read_tx_size mode (tx_lists probs.now) context size) (window_of decoder.old) counts.old result (window_of decoder.new) counts.new }
+    ensures read { ReadsCounting (read_tx_size mode (tx_lists probs.now) context size) (window_of decoder.old) counts.old result (window_of decoder.new) counts.new }
+    ensures fits { tx_number result ≤ greatest_of size }
 {
     if matches!(mode, TxMode::Selected) && !is_below_8x8(size) {
         return read_tx_symbol(decoder, counts, probs, greatest_of(size), context);
