@@ -1,0 +1,5 @@
+pub mod Planes
+pub mod Built
+pub mod Tiles
+pub mod Decoding
+pub mod Keeping
