@@ -1,0 +1,9 @@
+pub mod FileFrames
+pub mod State
+pub mod SavedContexts
+pub mod After
+pub mod Runs
+pub mod Outcomes
+pub mod SavedLists
+pub mod Heads
+pub mod Entries

@@ -1,0 +1,51 @@
+-- The four saved contexts around a frame (reset_frame_context and setup_past_independence in 7.2, load_probs and
+-- save_probs in 8.4.2 of the standard).
+use Rattle.std.specs.Prelude.{ℕ, ◌==◌, ◌||◌, ◌&&◌, Bool, true, false, List, replicate, slice_index_or, slice_set, if◌then◌else◌}
+use Rattle.frame_headers.specs.declared.header.FrameKind.{FrameKind}
+use Rattle.frame_headers.specs.declared.header.FrameKind.TheVariants.{Key, IntraOnly, Inter}
+use Rattle.frame_headers.specs.declared.header.Header.{Header}
+use Rattle.frame_headers.specs.Header.{forgets}
+use Rattle.prob_contexts.specs.Lists.{ContextLists}
+use Rattle.prob_contexts.specs.Defaults.{default_lists}
+
+abbrev pub is_key : FrameKind → Bool
+is_key Key = true
+is_key IntraOnly = false
+is_key (Inter fields) = false
+
+abbrev pub loses_past : Header → Bool
+loses_past header = forgets header.kind header.error_resilient
+
+-- a frame that loses the past starts from place 0 and saves there, whatever place is coded
+abbrev pub place_of : Header → ℕ
+place_of header = if loses_past header then 0 else header.contexts.index
+
+-- such a frame makes all four the defaults
+abbrev pub resets_all : Header → Bool
+resets_all header = is_key header.kind || header.error_resilient || (loses_past header && header.reset_context == 3)
+
+-- or else the one at the coded place
+abbrev pub resets_one : Header → Bool
+resets_one header = loses_past header && header.reset_context == 2
+
+-- the saved contexts that a frame finds
+unfoldable pub saved_before : Header → List ContextLists → List ContextLists
+saved_before header saved =
+    if resets_all header then replicate 4 default_lists
+    else (if resets_one header then slice_set saved header.contexts.index default_lists else saved)
+
+-- what a place, 0 to 3, holds
+abbrev pub context_at : List ContextLists → ℕ → ContextLists
+context_at saved place = slice_index_or saved place default_lists
+
+-- the context that a frame starts from
+abbrev pub context_before : Header → List ContextLists → ContextLists
+context_before header saved = context_at (saved_before header saved) (place_of header)
+
+-- a frame that refreshes a context saves its own
+abbrev pub with_own : Header → ContextLists → List ContextLists → List ContextLists
+with_own header own saved = if header.contexts.refresh then slice_set saved (place_of header) own else saved
+
+-- The saved contexts after a frame, by its own, which the compressed header made. A frame that adapts them isn't built.
+unfoldable pub saved_after : Header → ContextLists → List ContextLists → List ContextLists
+saved_after header own saved = with_own header own (saved_before header saved)

@@ -1,0 +1,78 @@
+//! One frame, from its bytes to its samples and contexts.
+
+ghost use Rattle.std.specs.Prelude.{◌≡◌, None, IfOk, length};
+ghost use Rattle.frame_headers.specs.State.{SlotsHaveSizes};
+ghost use Rattle.frame_headers.specs.Sizes.{IsFrameSize};
+ghost use Rattle.frame_headers.specs.Tiles.{AreFewTiles};
+ghost use Rattle.frame_decoder.specs.Built.{first_unbuilt};
+ghost use Rattle.seq_decoder.specs.After.{built_head, coded_frame};
+ghost use Rattle.seq_decoder.specs.Entries.{IsCoded};
+ghost use Rattle.seq_decoder.specs.Heads.{LiesWithin};
+ghost use Rattle.seq_decoder.specs.SavedContexts.{saved_before};
+ghost use Rattle.seq_decoder.specs.SavedLists.{saved_lists};
+
+use crate::saved::{SavedContexts, place_of};
+use frame_decoder::{Decoded, FrameFault, decode_frame, first_unbuilt};
+use frame_headers::{FrameHead, Header, Persist, read};
+use std::alloc::Global;
+use vp9_types::{Fault, Part, Span};
+
+/// A decoded frame with its header.
+#[derive(Drop)]
+pub struct Coded {
+    pub header: Header,
+    pub decoded: Decoded,
+}
+
+/// Why a frame isn't decoded.
+#[derive(Clone, Copy)]
+pub enum Halt {
+    Fault(Fault),
+    OutOfMemory,
+}
+
+/// The header of a frame, if all that it asks for is built, and where its compressed header lies.
+#[tactic(auto, unfolding(crate::specs::After::built_head))]
+fn read_built(bytes: &[u8], persist: &Persist) -> Result<(Header, Span), Fault>
+    requires { SlotsHaveSizes persist.now }
+    ensures exact { result ≡ built_head persist.now bytes.now }
+    ensures size { IfOk result (λ h. IsFrameSize h.0.size) }
+    ensures few { IfOk result (λ h. AreFewTiles h.0.params.tiles) }
+    ensures placed { IfOk result (λ h. LiesWithin (length bytes.now) h.1) }
+    ensures built { IfOk result (λ h. first_unbuilt h.0 ≡ None) }
+{
+    match read(bytes, persist) {
+        Ok(FrameHead::Coded { header, compressed }) => match first_unbuilt(&header) {
+            None => Ok((header, compressed)),
+            Some(part) => Err(Fault::Unbuilt(part)),
+        },
+        Ok(FrameHead::ShowExisting { .. }) => Err(Fault::Unbuilt(Part::ShowExisting)),
+        Err(rule) => Err(Fault::Broken(rule)),
+    }
+}
+
+/// Decodes a frame, for which the saved contexts are reset as it asks.
+#[tactic(auto, unfolding(crate::specs::After::coded_frame))]
+pub fn decode_coded(
+    alloc: Global,
+    bytes: &[u8],
+    persist: &Persist,
+    saved: &mut SavedContexts,
+) -> Result<Coded, Halt>
+    requires { SlotsHaveSizes persist.now }
+    ensures coded { IsCoded (coded_frame persist.now (saved_lists saved.old) bytes.now) result }
+    ensures saved { IfOk result (λ c. saved_lists saved.new ≡ saved_before c.header (saved_lists saved.old)) }
+    ensures size { IfOk result (λ c. IsFrameSize c.header.size) }
+{
+    let (header, compressed) = match read_built(bytes, persist) {
+        Ok(head) => head,
+        Err(fault) => return Err(Halt::Fault(fault)),
+    };
+    saved.reset(&header);
+    let before = saved.at(place_of(&header));
+    match decode_frame(alloc, bytes, &header, compressed, &before) {
+        Ok(decoded) => Ok(Coded { header, decoded }),
+        Err(FrameFault::Broken(rule)) => Err(Halt::Fault(Fault::Broken(rule))),
+        Err(FrameFault::OutOfMemory) => Err(Halt::OutOfMemory),
+    }
+}

@@ -1,0 +1,14 @@
+//! The whole decoder on one thread: the frames of a file in order, and what they show.
+#![tactic(auto)]
+
+mod coding;
+mod decoder;
+mod laws;
+mod plain;
+mod saved;
+mod showing;
+#[cfg(test)]
+mod tests;
+
+pub use laws::slots_have_their_shapes;
+pub use plain::decode_plain;
