@@ -113,7 +113,7 @@ class Bits:
 
 
 class Head:
-    """What the compressed header needs of an uncompressed one."""
+    """What the compressed header needs of an uncompressed one, and what decides which parts a frame uses."""
 
 
 def colour(bits, profile):
@@ -137,10 +137,12 @@ def render(bits):
 
 
 def tail(bits, head):
+    head.parallel = True
     if not head.resilient:
-        bits.f(2)
+        bits.f(1)
+        head.parallel = bool(bits.f(1))
     bits.f(2)
-    bits.f(6)
+    head.level = bits.f(6)
     bits.f(3)
     if bits.f(1) and bits.f(1):
         for _ in range(6):
@@ -148,7 +150,8 @@ def tail(bits, head):
     base = bits.f(8)
     deltas = [bits.delta(4) for _ in range(3)]
     head.lossless = base == 0 and deltas == [0, 0, 0]
-    if bits.f(1):
+    head.segmented = bool(bits.f(1))
+    if head.segmented:
         if bits.f(1):
             for _ in range(7):
                 if bits.f(1):
@@ -173,8 +176,10 @@ def tail(bits, head):
         greatest += 1
     while log2 < greatest - 1 and bits.f(1):
         log2 += 1
-    if bits.f(1):
+    rows = bits.f(1)
+    if rows:
         bits.f(1)
+    head.tiled = log2 > 0 or rows > 0
     length = bits.f(16)
     start = (bits.at + 7) >> 3
     head.compressed = bits.data[start : start + length]
@@ -192,9 +197,10 @@ def header(frame, slots):
         return None
     head = Head()
     head.kind = "Key"
+    head.profile = profile
     head.switchable = head.precise = False
     head.biases = [0, 0, 0]
-    not_key, shown, head.resilient = bits.f(1), bits.f(1), bits.f(1)
+    not_key, head.shown, head.resilient = bits.f(1), bits.f(1), bits.f(1)
     if not not_key:
         assert bits.f(24) == 0x498342
         colour(bits, profile)
@@ -202,7 +208,7 @@ def header(frame, slots):
         render(bits)
         refresh = 255
     else:
-        intra_only = 0 if shown else bits.f(1)
+        intra_only = 0 if head.shown else bits.f(1)
         if not head.resilient:
             bits.f(2)
         if intra_only:
@@ -449,4 +455,5 @@ def main():
     print("];")
 
 
-main()
+if __name__ == "__main__":
+    main()

@@ -1,13 +1,12 @@
 #!/usr/bin/env python3
 """Writes the rows of a table of runs as Rattle constants.
 
-Arguments: the table's name, as `key_frame_list` (it is read from ../shared/rows/NAME.tsv beside the repository), and
-the file to write. The columns are name, words, input in hex, status, output in hex and the note's text.
+Arguments: the table, as `list.tsv`, and the file to write, a module below the one that has the struct `Row`. The
+columns are name, words, input in hex, status, output in hex and the note's text.
 """
 import pathlib
 import sys
 
-TOP = pathlib.Path(__file__).resolve().parents[1]
 COLUMNS = ["name", "words", "input", "status", "output", "note"]
 # So many rows are one constant: a large one is slow to check.
 PIECE = 10
@@ -16,14 +15,7 @@ SHORT = {0x00: "\\0", 0x0A: "\\n"}
 HEAD = """\
 // Written by tools/make_rows.py from {name}.tsv.
 
-pub struct Row {{
-    pub name: &'static str,
-    pub words: &'static [&'static str],
-    pub input: &'static [u8],
-    pub status: u8,
-    pub output: &'static [u8],
-    pub note: &'static str,
-}}
+use super::Row;
 """
 
 
@@ -81,10 +73,10 @@ def read_rows(path):
 
 
 def main():
-    name, target = sys.argv[1], pathlib.Path(sys.argv[2])
-    rows = read_rows(TOP.parent / "shared/rows" / f"{name}.tsv")
+    table, target = pathlib.Path(sys.argv[1]), pathlib.Path(sys.argv[2])
+    rows = read_rows(table)
     pieces = [rows[at:at + PIECE] for at in range(0, len(rows), PIECE)]
-    parts = [HEAD.format(name=name)]
+    parts = [HEAD.format(name=table.stem)]
     for number, piece in enumerate(pieces):
         body = "".join(map(row_text, piece))
         parts.append(f"\nconst ROWS_{number}: [Row; {len(piece)}] = [\n{body}];\n")

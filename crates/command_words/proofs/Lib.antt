@@ -1,1 +1,2 @@
 mod Parses
+mod Options

@@ -1,31 +1,72 @@
 -- What the words of the command line ask for, by clap's own account of a parse.
-use Rattle.std.specs.Prelude.{List, [], ◌∷◌, Option, Some, None, Result, Ok, Err, Bool, true, false, codes, if◌then◌else◌}
-use Rattle.std.specs.Prelude.{option_and_then}
+use Rattle.std.specs.Prelude.{List, [], ◌∷◌, Option, Some, None, Result, Ok, Err, ℕ, pos, Bool, true, false, codes}
+use Rattle.std.specs.Prelude.{if◌then◌else◌, option_and_then}
+use Rattle.std.specs.Option.{option_map_or}
 use Rattle.std.specs.Str.{bytes_eq}
 use Rattle.std.specs.Allocator.{alloc_error}
 use Rattle.std.specs.declared.alloc.AllocError.{AllocError}
 use Rattle.clap.specs.Simple.{on_top}
-use Rattle.clap.specs.Words.{App, Kinds, Row, Text, fault_of, kind_of, new_app, subcommand_of, subcommand_rows_of}
-use Rattle.clap.specs.Words.{with_subcommand}
+use Rattle.clap.specs.Walk.{byte_or_zero, one_of}
+use Rattle.clap.specs.Words.{App, Kinds, Row, Rule, Text, fault_of, kind_of, new_app, new_rule, subcommand_of, subcommand_rows_of}
+use Rattle.clap.specs.Words.{with_rule, with_subcommand}
+use Rattle.clap.specs.declared.builder.action.ArgAction.TheVariants.{SetTrue}
+use Rattle.clap.specs.declared.builder.value_parser.ValueParser.TheVariants as value
 use Rattle.clap.specs.declared.error.Error.{Error}
 use Rattle.clap.specs.declared.error.kind.ErrorKind.{ErrorKind}
 use Rattle.clap.specs.declared.error.kind.ErrorKind.TheVariants.{OutOfMemory}
 use Rattle.clap.specs.declared.parser.matches.ArgMatches.{ArgMatches}
 use Rattle.command_words.specs.declared.command.Command.{Command}
 use Rattle.command_words.specs.declared.command.Command.TheVariants as command
+use Rattle.command_words.specs.declared.command.DecodeOptions.{DecodeOptions}
 
 -- the command `list`, with no option and no argument
 abbrev pub list_app : App
 list_app = new_app (codes "list")
 
+-- an option without a value
+abbrev pub flag_rule : Text → Rule
+flag_rule name = record (new_rule name) { long = Some name; action = Some SetTrue }
+
+-- an option whose value is a number from low to high, and this one where it isn't given
+abbrev pub number_rule : Text → ℕ → ℕ → Text → Rule
+number_rule name low high default = record (new_rule name) {
+  long = Some name;
+  parser = Some (value.Signed (pos low) (pos high));
+  defaults = default ∷ [];
+}
+
+-- the command `decode [--plain] [--workers W] [--window N]`
+abbrev pub decode_app : App
+decode_app =
+    with_rule (with_rule (with_rule (new_app (codes "decode")) (flag_rule (codes "plain")))
+    (number_rule (codes "workers") 1 64 (codes "4")))
+    (number_rule (codes "window") 2 16 (codes "4"))
+
 -- the program, which has to be given one of its commands
 abbrev pub vp9dec_app : App
 vp9dec_app =
-    with_subcommand (on_top (λ program. record program { subcommand_required = true }) (new_app (codes "vp9dec"))) list_app.top
+    with_subcommand (with_subcommand (on_top (λ program. record program { subcommand_required = true }) (new_app (codes "vp9dec"))) list_app.top)
+    decode_app.top
+
+-- what was found of an option without a value, and of a number, which each has in its range or by its default
+abbrev pub is_set : Text → List Row → Bool
+is_set id rows = option_map_or (λ text. bytes_eq text (codes "true")) (one_of id rows) false
+
+abbrev pub number_at : Text → List Row → ℕ
+number_at id rows = option_map_or byte_or_zero (one_of id rows) 0
+
+abbrev pub options_of : List Row → DecodeOptions
+options_of rows = record {
+  plain = is_set (codes "plain") rows;
+  workers = number_at (codes "workers") rows;
+  window = number_at (codes "window") rows;
+}
 
 -- the command of this name, with what was found of its arguments
 abbrev pub named : Text × List Row → Option Command
-named used = if bytes_eq used.0 (codes "list") then Some command.List else None
+named used =
+    if bytes_eq used.0 (codes "list") then Some command.List
+    else (if bytes_eq used.0 (codes "decode") then Some (command.Decode (options_of used.1)) else None)
 
 -- none where a parse has a fault, and else what it found
 abbrev pub unless_fault : Kinds → Option Command → Option Command
@@ -36,6 +77,10 @@ unless_fault (kind ∷ kinds) found = None
 -- as a call for help, and else the one whose name they give
 unfoldable pub command_of : List Text → Option Command
 command_of words = unless_fault (fault_of vp9dec_app words) (option_and_then named (subcommand_of vp9dec_app words))
+
+-- the command `decode` with these options
+abbrev pub decode_by : Bool → ℕ → ℕ → Option Command
+decode_by plain workers window = Some (command.Decode (record { plain = plain; workers = workers; window = window }))
 
 -- what the code makes of a parse
 

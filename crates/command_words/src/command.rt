@@ -3,4 +3,17 @@
 pub enum Command {
     /// A line for each frame.
     List,
+    /// The frames that are shown.
+    Decode(DecodeOptions),
+}
+
+/// How a file is decoded, which changes nothing of what is written.
+#[derive(Clone, Copy, Debug, PartialEq, Eq)]
+pub struct DecodeOptions {
+    /// On one thread.
+    pub plain: bool,
+    /// How many workers, 1 to 64.
+    pub workers: u8,
+    /// How many frames may be under way at once, 2 to 16.
+    pub window: u8,
 }

@@ -1,7 +1,7 @@
 //! Laws of the definitions, as contracts of functions that do nothing.
 
-ghost use Rattle.std.specs.Prelude.{◌≡◌, ◌∷◌, [], List, ℕ, Some, None, codes};
-ghost use Rattle.command_words.specs.Words.{command_of};
+ghost use Rattle.std.specs.Prelude.{◌≡◌, ◌∷◌, [], List, ℕ, Some, None, codes, false, true};
+ghost use Rattle.command_words.specs.Words.{command_of, decode_by};
 
 use crate::Command;
 
@@ -22,4 +22,23 @@ pub fn worked_rows()
     ensures an_option { (name : List ℕ) → command_of (name ∷ codes "list" ∷ codes "--plain" ∷ []) ≡ None }
     ensures after_dashes { (name : List ℕ) → command_of (name ∷ codes "--" ∷ codes "list" ∷ []) ≡ None }
     ensures before_dashes { (name : List ℕ) → command_of (name ∷ codes "list" ∷ codes "--" ∷ []) ≡ Some Command.List }
+    ensures decode { (name : List ℕ) → command_of (name ∷ codes "decode" ∷ []) ≡ decode_by false 4 4 }
+    ensures plain { (name : List ℕ) → command_of (name ∷ codes "decode" ∷ codes "--plain" ∷ []) ≡ decode_by true 4 4 }
+    ensures workers { (name : List ℕ) → command_of (name ∷ codes "decode" ∷ codes "--workers" ∷ codes "64" ∷ []) ≡ decode_by false 64 4 }
+    ensures one_worker { (name : List ℕ) → command_of (name ∷ codes "decode" ∷ codes "--workers=1" ∷ []) ≡ decode_by false 1 4 }
+    ensures window { (name : List ℕ) → command_of (name ∷ codes "decode" ∷ codes "--window" ∷ codes "16" ∷ []) ≡ decode_by false 4 16 }
+    ensures least_window { (name : List ℕ) → command_of (name ∷ codes "decode" ∷ codes "--window=2" ∷ []) ≡ decode_by false 4 2 }
+    ensures all_options { (name : List ℕ) → command_of (name ∷ codes "decode" ∷ codes "--window=3" ∷ codes "--plain" ∷ codes "--workers" ∷ codes "12" ∷ []) ≡ decode_by true 12 3 }
+    ensures no_workers { (name : List ℕ) → command_of (name ∷ codes "decode" ∷ codes "--workers" ∷ codes "0" ∷ []) ≡ None }
+    ensures many_workers { (name : List ℕ) → command_of (name ∷ codes "decode" ∷ codes "--workers" ∷ codes "65" ∷ []) ≡ None }
+    ensures small_window { (name : List ℕ) → command_of (name ∷ codes "decode" ∷ codes "--window" ∷ codes "1" ∷ []) ≡ None }
+    ensures large_window { (name : List ℕ) → command_of (name ∷ codes "decode" ∷ codes "--window" ∷ codes "17" ∷ []) ≡ None }
+    ensures without_value { (name : List ℕ) → command_of (name ∷ codes "decode" ∷ codes "--workers" ∷ []) ≡ None }
+    ensures no_number { (name : List ℕ) → command_of (name ∷ codes "decode" ∷ codes "--workers" ∷ codes "four" ∷ []) ≡ None }
+    ensures twice_plain { (name : List ℕ) → command_of (name ∷ codes "decode" ∷ codes "--plain" ∷ codes "--plain" ∷ []) ≡ None }
+    ensures plain_with_value { (name : List ℕ) → command_of (name ∷ codes "decode" ∷ codes "--plain=true" ∷ []) ≡ None }
+    ensures twice_workers { (name : List ℕ) → command_of (name ∷ codes "decode" ∷ codes "--workers=2" ∷ codes "--workers=2" ∷ []) ≡ None }
+    ensures a_file { (name : List ℕ) → command_of (name ∷ codes "decode" ∷ codes "x" ∷ []) ≡ None }
+    ensures option_before { (name : List ℕ) → command_of (name ∷ codes "--plain" ∷ codes "decode" ∷ []) ≡ None }
+    ensures help_of_decode { (name : List ℕ) → command_of (name ∷ codes "decode" ∷ codes "--help" ∷ []) ≡ None }
 {}

@@ -1,20 +1,84 @@
-ghost use Rattle.std.specs.Prelude.{◌≡◌, IfOk, map, option_and_then, string_bytes};
-ghost use Rattle.clap.specs.Words.{app_of, subcommand_rows_of};
-ghost use Rattle.command_words.specs.Words.{answer_of, command_of, named, vp9dec_app};
+ghost use Rattle.std.specs.Prelude.{◌≡◌, IfOk, codes, false, map, option_and_then, string_bytes};
+ghost use Rattle.clap.specs.Words.{app_of, found_of, rows_of, rule_of, subcommand_rows_of};
+ghost use Rattle.command_words.specs.Words.{answer_of, command_of, flag_rule, is_set, named};
+ghost use Rattle.command_words.specs.Words.{number_at, number_rule, options_of, vp9dec_app};
 
-use crate::Command;
+use crate::{Command, DecodeOptions};
 use clap::error::ErrorKind;
-use clap::{ArgMatches, Error};
+use clap::{Arg, ArgAction, ArgMatches, Error, value_parser};
 use std::alloc::{AllocError, Global};
+
+/// How many workers there are, and how many frames under way, where nothing is said.
+const USUAL_WORKERS: &str = "4";
+
+const USUAL_WINDOW: &str = "4";
+
+fn plain_option<'a>(alloc: Global) -> Arg<'a>
+    ensures rule { rule_of result ≡ flag_rule (codes "plain") }
+    ensures own { result.global ≡ false }
+{
+    Arg::new(alloc, "plain")
+        .long("plain")
+        .action(ArgAction::SetTrue)
+}
+
+fn workers_option<'a>(alloc: Global) -> Arg<'a>
+    ensures rule { rule_of result ≡ number_rule (codes "workers") 1 64 (codes "4") }
+    ensures own { result.global ≡ false }
+{
+    let workers = value_parser!(u8).range(1..=64);
+    Arg::new(alloc, "workers")
+        .long("workers")
+        .value_parser(workers)
+        .default_value(USUAL_WORKERS)
+}
+
+fn window_option<'a>(alloc: Global) -> Arg<'a>
+    ensures rule { rule_of result ≡ number_rule (codes "window") 2 16 (codes "4") }
+    ensures own { result.global ≡ false }
+{
+    let frames = value_parser!(u8).range(2..=16);
+    Arg::new(alloc, "window")
+        .long("window")
+        .value_parser(frames)
+        .default_value(USUAL_WINDOW)
+}
 
 /// The program and its commands, as the parser is told of them.
 fn vp9dec<'a>(alloc: Global) -> Result<clap::Command<'a>, AllocError>
     ensures { IfOk result (λ program. app_of program ≡ vp9dec_app) }
 {
     let list = clap::Command::new(alloc, "list");
+    let decode = clap::Command::new(alloc, "decode")
+        .arg(plain_option(alloc))?
+        .arg(workers_option(alloc))?
+        .arg(window_option(alloc))?;
     clap::Command::new(alloc, "vp9dec")
         .subcommand_required(true)
-        .subcommand(list)
+        .subcommand(list)?
+        .subcommand(decode)
+}
+
+fn flag(matches: &ArgMatches<'_>, id: &str) -> bool
+    ensures { result ≡ is_set id.now (rows_of (found_of matches.now)) }
+{
+    matches.get_one::<bool>(id).unwrap_or(false)
+}
+
+fn number(matches: &ArgMatches<'_>, id: &str) -> u8
+    ensures { result ≡ number_at id.now (rows_of (found_of matches.now)) }
+{
+    matches.get_one::<u8>(id).unwrap_or(0)
+}
+
+fn options_in(matches: &ArgMatches<'_>) -> DecodeOptions
+    ensures { result ≡ options_of (rows_of (found_of matches.now)) }
+{
+    DecodeOptions {
+        plain: flag(matches, "plain"),
+        workers: number(matches, "workers"),
+        window: number(matches, "window"),
+    }
 }
 
 /// The command that a parse entered.
@@ -23,6 +87,7 @@ fn command_in(matches: &ArgMatches<'_>) -> Option<Command>
 {
     match matches.subcommand() {
         Some(("list", _)) => Some(Command::List),
+        Some(("decode", options)) => Some(Command::Decode(options_in(options))),
         _ => None,
     }
 }

@@ -24,6 +24,28 @@ fn lists(rt: HostRuntime) -> Result<(), Fail> {
 }
 
 #[test]
+fn decodes(rt: HostRuntime) -> Result<(), Fail> {
+    let cases = [
+        ("vp9dec decode", false, 4, 4),
+        ("vp9dec decode --plain", true, 4, 4),
+        ("vp9dec decode --workers 1 --window 16", false, 1, 16),
+        ("vp9dec decode --window=2 --workers=64 --plain", true, 64, 2),
+        ("vp9dec decode --workers +7", false, 7, 4),
+    ];
+    for (line, plain, workers, window) in cases {
+        let words = words_of(rt.alloc(), line)?;
+        let command = read_words(rt.alloc(), words.as_slice())?;
+        let options = DecodeOptions {
+            plain,
+            workers,
+            window,
+        };
+        assert_eq!(rt; command, Some(Command::Decode(options)), "at {line}");
+    }
+    Ok(())
+}
+
+#[test]
 fn other_words_are_no_command(rt: HostRuntime) -> Result<(), Fail> {
     let lines = [
         "",
@@ -46,7 +68,15 @@ fn other_words_are_no_command(rt: HostRuntime) -> Result<(), Fail> {
         "vp9dec decode --window 1",
         "vp9dec decode --window 17",
         "vp9dec decode --workers",
+        "vp9dec decode --workers=",
+        "vp9dec decode --workers -1",
+        "vp9dec decode --workers 300",
+        "vp9dec decode --plain --plain",
+        "vp9dec decode --plain=true",
+        "vp9dec decode --threads 4",
         "vp9dec decode x",
+        "vp9dec decode list",
+        "vp9dec --plain decode",
     ];
     for line in lines {
         let words = words_of(rt.alloc(), line)?;

@@ -5,31 +5,30 @@ use Rattle.std.proofs.lemmas.List.{take_all, append-nil}
 use Rattle.edge_io.specs.Filling.{WhereTold}
 use Rattle.edge_io.specs.Putting.{Takes}
 use Rattle.command_words.specs.declared.command.Command.{Command}
-use Rattle.command_words.specs.declared.command.Command.TheVariants as command
 use Rattle.vp9_app.specs.declared.status.Status.{Status}
 use Rattle.vp9_app.specs.declared.status.Status.TheVariants as status
-use Rattle.vp9_app.specs.Listing.{listing}
 use Rattle.vp9_app.specs.Notes.{note_line}
-use Rattle.vp9_app.specs.Statuses.{ended}
-use Rattle.vp9_app.specs.Answers.{OfSource, OfSink, SinkQuiet, Lists, WritesFront, Works, Untouched, without_memory, Reports, MayLackMemory, AllQuiet, HasCause, IsComplete, Answers}
+use Rattle.vp9_app.specs.Answers.{OfSource, OfSink, SinkQuiet, Completes, output_of, WritesFront, Works, Untouched, without_memory, Reports, MayLackMemory, AllQuiet, HasCause, IsComplete, Answers}
 
--- a whole listing is a front of it
-lists_front : (s : OfSource) (o : OfSink) (st : Status) → Lists s o st → WritesFront s o
-lists_front s o st h = λ bytes told.
-    (length (listing bytes).text, subst (λ t. Takes o.before o.after t) (sym (take_all (length (listing bytes).text) (listing bytes).text (omega arith))) (h.told bytes told).1)
+-- a whole output is a front of it
+completes_front : (c : Command) (s : OfSource) (o : OfSink) (st : Status) → Completes c s o st → WritesFront c s o
+completes_front c s o st h = λ bytes told.
+    let text = (output_of c bytes).text in
+    (length text, subst (λ t. Takes o.before o.after t) (sym (take_all (length text) text (omega arith))) (h.told bytes told).1)
 
-lacks : (s : OfSource) (o : OfSink) (st : Status) → Lists s o st → Works (Some command.List) s o status.OutOfMemory
-lacks s o st h = (h.source, h.out, lists_front s o st h)
+lacks : (c : Command) (s : OfSource) (o : OfSink) (st : Status) → Completes c s o st → Works (Some c) s o status.OutOfMemory
+lacks c s o st h = (h.source, h.out, completes_front c s o st h)
 
 pub works_told : (c : Option Command) (s : OfSource) (o : OfSink) (first told : Status) → Works c s o first → MayLackMemory first told → Works c s o told
-works_told (Some command.List) s o (status.Broken stop) told h (inl e) = subst (λ st. Works (Some command.List) s o st) (sym e) h
-works_told (Some command.List) s o (status.Broken stop) told h (inr e) = subst (λ st. Works (Some command.List) s o st) (sym e) (lacks s o (status.Broken stop) h)
-works_told (Some command.List) s o (status.Unbuilt frame part) told h e = absurd h
-works_told (Some command.List) s o status.Done told h e = subst (λ st. Works (Some command.List) s o st) (sym e) h
-works_told (Some command.List) s o status.Usage told h e = absurd h
-works_told (Some command.List) s o status.ReadFault told h e = subst (λ st. Works (Some command.List) s o st) (sym e) h
-works_told (Some command.List) s o status.WriteFault told h e = subst (λ st. Works (Some command.List) s o st) (sym e) h
-works_told (Some command.List) s o status.OutOfMemory told h e = subst (λ st. Works (Some command.List) s o st) (sym e) h
+works_told (Some c) s o (status.Broken stop) told h (inl e) = subst (λ st. Works (Some c) s o st) (sym e) h
+works_told (Some c) s o (status.Broken stop) told h (inr e) = subst (λ st. Works (Some c) s o st) (sym e) (lacks c s o (status.Broken stop) h)
+works_told (Some c) s o (status.Unbuilt frame part) told h (inl e) = subst (λ st. Works (Some c) s o st) (sym e) h
+works_told (Some c) s o (status.Unbuilt frame part) told h (inr e) = subst (λ st. Works (Some c) s o st) (sym e) (lacks c s o (status.Unbuilt frame part) h.1)
+works_told (Some c) s o status.Done told h e = subst (λ st. Works (Some c) s o st) (sym e) h
+works_told (Some c) s o status.Usage told h e = absurd h
+works_told (Some c) s o status.ReadFault told h e = subst (λ st. Works (Some c) s o st) (sym e) h
+works_told (Some c) s o status.WriteFault told h e = subst (λ st. Works (Some c) s o st) (sym e) h
+works_told (Some c) s o status.OutOfMemory told h e = subst (λ st. Works (Some c) s o st) (sym e) h
 works_told None s o status.Usage told h e = subst (λ st. Works None s o st) (sym e) h
 works_told None s o status.Done told h e = absurd h
 works_told None s o (status.Broken stop) told h e = absurd h
@@ -40,13 +39,13 @@ works_told None s o status.OutOfMemory told h e = subst (λ st. Works None s o s
 
 -- the cause where the note took the line
 cause_told : (c : Option Command) (s : OfSource) (o n : OfSink) (told : Status) → Works c s o told → SinkQuiet n → Takes n.before n.after (note_line told) → HasCause c s o n told
-cause_told (Some command.List) s o n status.Done h q t = (refl, record { source = h.source; out = h.out; note = q }, h, t)
-cause_told (Some command.List) s o n (status.Broken stop) h q t = (refl, record { source = h.source; out = h.out; note = q }, h, t)
-cause_told (Some command.List) s o n (status.Unbuilt frame part) h q t = absurd h
-cause_told (Some command.List) s o n status.ReadFault h q t = (refl, h.0, h.1, q, h.2, t)
-cause_told (Some command.List) s o n status.WriteFault h q t = inl h.1
-cause_told (Some command.List) s o n status.OutOfMemory h q t = (h.1, q)
-cause_told (Some command.List) s o n status.Usage h q t = absurd h
+cause_told (Some c) s o n status.Done h q t = (c, refl, record { source = h.source; out = h.out; note = q }, h, t)
+cause_told (Some c) s o n (status.Broken stop) h q t = (c, refl, record { source = h.source; out = h.out; note = q }, h, t)
+cause_told (Some c) s o n (status.Unbuilt frame part) h q t = (c, refl, h.0, record { source = h.1.source; out = h.1.out; note = q }, h.1, t)
+cause_told (Some c) s o n status.ReadFault h q t = (c, refl, h.0, h.1, q, h.2, t)
+cause_told (Some c) s o n status.WriteFault h q t = inl h.1
+cause_told (Some c) s o n status.OutOfMemory h q t = (h.1, q)
+cause_told (Some c) s o n status.Usage h q t = absurd h
 cause_told None s o n status.Usage h q t = (refl, record { source = h.0; out = h.1; note = q }, t)
 cause_told None s o n status.Done h q t = absurd h
 cause_told None s o n (status.Broken stop) h q t = absurd h
@@ -57,13 +56,13 @@ cause_told None s o n status.OutOfMemory h q t = (h.1, q)
 
 -- the cause where the note wanted memory
 cause_lacking : (c : Option Command) (s : OfSource) (o n : OfSink) (told : Status) → Works c s o told → SinkQuiet n → HasCause c s o n (without_memory told)
-cause_lacking (Some command.List) s o n status.Done h q = (h.out, q)
-cause_lacking (Some command.List) s o n (status.Broken stop) h q = (h.out, q)
-cause_lacking (Some command.List) s o n (status.Unbuilt frame part) h q = absurd h
-cause_lacking (Some command.List) s o n status.ReadFault h q = (h.1, q)
-cause_lacking (Some command.List) s o n status.WriteFault h q = inl h.1
-cause_lacking (Some command.List) s o n status.OutOfMemory h q = (h.1, q)
-cause_lacking (Some command.List) s o n status.Usage h q = absurd h
+cause_lacking (Some c) s o n status.Done h q = (h.out, q)
+cause_lacking (Some c) s o n (status.Broken stop) h q = (h.out, q)
+cause_lacking (Some c) s o n (status.Unbuilt frame part) h q = (h.1.out, q)
+cause_lacking (Some c) s o n status.ReadFault h q = (h.1, q)
+cause_lacking (Some c) s o n status.WriteFault h q = inl h.1
+cause_lacking (Some c) s o n status.OutOfMemory h q = (h.1, q)
+cause_lacking (Some c) s o n status.Usage h q = absurd h
 cause_lacking None s o n status.Usage h q = (h.1, q)
 cause_lacking None s o n status.Done h q = absurd h
 cause_lacking None s o n (status.Broken stop) h q = absurd h
@@ -80,31 +79,31 @@ cause_of c s o n told last h (inr (inr r)) = subst (λ st. HasCause c s o n st) 
 clash : (before now : ℕ) → before < now → now ≡ before → ⊥
 clash before now rose same = omega (arith, rose, same)
 
--- where no count rose, the listing's ending or want of memory is told
-told_by_listing : (s : OfSource) (o n : OfSink) (told : Status) → Works (Some command.List) s o told → AllQuiet s o n
-    → WhereTold s.rest (λ bytes. (told ≡ ended (listing bytes).ending) ⊎ (told ≡ status.OutOfMemory))
-told_by_listing s o n status.Done h a = λ bytes t. inl (sym (h.told bytes t).0)
-told_by_listing s o n (status.Broken stop) h a = λ bytes t. inl (sym (h.told bytes t).0)
-told_by_listing s o n (status.Unbuilt frame part) h a = absurd h
-told_by_listing s o n status.ReadFault h a = λ bytes t. absurd (clash s.faults s.faults_now h.0 a.source)
-told_by_listing s o n status.WriteFault h a = λ bytes t. absurd (clash o.faults o.faults_now h.1 a.out)
-told_by_listing s o n status.OutOfMemory h a = λ bytes t. inr refl
-told_by_listing s o n status.Usage h a = absurd h
+-- where no count rose, the output's status or want of memory is told
+told_by_output : (c : Command) (s : OfSource) (o n : OfSink) (told : Status) → Works (Some c) s o told → AllQuiet s o n
+    → WhereTold s.rest (λ bytes. (told ≡ (output_of c bytes).status) ⊎ (told ≡ status.OutOfMemory))
+told_by_output c s o n status.Done h a = λ bytes t. inl (sym (h.told bytes t).0)
+told_by_output c s o n (status.Broken stop) h a = λ bytes t. inl (sym (h.told bytes t).0)
+told_by_output c s o n (status.Unbuilt frame part) h a = λ bytes t. inl (sym (h.1.told bytes t).0)
+told_by_output c s o n status.ReadFault h a = λ bytes t. absurd (clash s.faults s.faults_now h.0 a.source)
+told_by_output c s o n status.WriteFault h a = λ bytes t. absurd (clash o.faults o.faults_now h.1 a.out)
+told_by_output c s o n status.OutOfMemory h a = λ bytes t. inr refl
+told_by_output c s o n status.Usage h a = absurd h
 
 -- a write fault aside, a note that wants memory leaves that answer
-lacking : (s : OfSource) (o n : OfSink) (told : Status) → Works (Some command.List) s o told → AllQuiet s o n → without_memory told ≡ status.OutOfMemory
-lacking s o n status.Done h a = refl
-lacking s o n (status.Broken stop) h a = refl
-lacking s o n (status.Unbuilt frame part) h a = absurd h
-lacking s o n status.ReadFault h a = refl
-lacking s o n status.WriteFault h a = absurd (clash o.faults o.faults_now h.1 a.out)
-lacking s o n status.OutOfMemory h a = refl
-lacking s o n status.Usage h a = absurd h
+lacking : (c : Command) (s : OfSource) (o n : OfSink) (told : Status) → Works (Some c) s o told → AllQuiet s o n → without_memory told ≡ status.OutOfMemory
+lacking c s o n status.Done h a = refl
+lacking c s o n (status.Broken stop) h a = refl
+lacking c s o n (status.Unbuilt frame part) h a = refl
+lacking c s o n status.ReadFault h a = refl
+lacking c s o n status.WriteFault h a = absurd (clash o.faults o.faults_now h.1 a.out)
+lacking c s o n status.OutOfMemory h a = refl
+lacking c s o n status.Usage h a = absurd h
 
-complete_list : (s : OfSource) (o n : OfSink) (told last : Status) → Works (Some command.List) s o told → Reports n told last → IsComplete (Some command.List) s o n last
-complete_list s o n told last h (inl r) = λ a. subst (λ st. WhereTold s.rest (λ bytes. (st ≡ ended (listing bytes).ending) ⊎ (st ≡ status.OutOfMemory))) (sym r.1) (told_by_listing s o n told h a)
-complete_list s o n told last h (inr (inl r)) = λ a. absurd (clash n.faults n.faults_now r.0 a.note)
-complete_list s o n told last h (inr (inr r)) = λ a bytes t. inr (r.2 ∙ lacking s o n told h a)
+complete_some : (c : Command) (s : OfSource) (o n : OfSink) (told last : Status) → Works (Some c) s o told → Reports n told last → IsComplete (Some c) s o n last
+complete_some c s o n told last h (inl r) = λ a. subst (λ st. WhereTold s.rest (λ bytes. (st ≡ (output_of c bytes).status) ⊎ (st ≡ status.OutOfMemory))) (sym r.1) (told_by_output c s o n told h a)
+complete_some c s o n told last h (inr (inl r)) = λ a. absurd (clash n.faults n.faults_now r.0 a.note)
+complete_some c s o n told last h (inr (inr r)) = λ a bytes t. inr (r.2 ∙ lacking c s o n told h a)
 
 -- words that are no command leave the usage line, or want of memory
 no_command : (s : OfSource) (o : OfSink) (told : Status) → Works None s o told → (told ≡ status.Usage) ⊎ (told ≡ status.OutOfMemory)
@@ -126,7 +125,7 @@ complete_none s o n told last h (inr (inl r)) = λ a. absurd (clash n.faults n.f
 complete_none s o n told last h (inr (inr r)) = λ a. inr (r.2 ∙ lacks_memory told (no_command s o told h))
 
 complete_of : (c : Option Command) (s : OfSource) (o n : OfSink) (told last : Status) → Works c s o told → Reports n told last → IsComplete c s o n last
-complete_of (Some command.List) = complete_list
+complete_of (Some c) = complete_some c
 complete_of None = complete_none
 
 pub answers : (c : Option Command) (s : OfSource) (o n : OfSink) (first told last : Status) → Works c s o first → MayLackMemory first told → Reports n told last → Answers c s o n last
@@ -136,5 +135,5 @@ answers c s o n first told last h m r =
 
 -- where nothing was read or written, want of memory may be the answer to any words
 pub no_work : (c : Option Command) (s : OfSource) (o : OfSink) → Untouched s o → Works c s o status.OutOfMemory
-no_work (Some command.List) s o h = (h.0, h.1, λ bytes told. (0, (λ taken is. h.3 ∙ is ∙ ap Some (sym (append-nil taken)), λ none. h.3 ∙ none)))
+no_work (Some c) s o h = (h.0, h.1, λ bytes told. (0, (λ taken is. h.3 ∙ is ∙ ap Some (sym (append-nil taken)), λ none. h.3 ∙ none)))
 no_work None s o h = h

@@ -10,7 +10,7 @@ use Rattle.frame_headers.specs.declared.header.FrameHead.{FrameHead}
 use Rattle.frame_headers.specs.Header.{head_of}
 use Rattle.vp9_app.specs.declared.listing.Place.{Place}
 use Rattle.vp9_app.specs.Listing.{stop_at, head_lines, head_place, head_entry, frame_entry, AddsEntry}
-use Rattle.vp9_app.specs.FileFrames.{frame_bytes}
+use Rattle.seq_decoder.specs.FileFrames.{frame_bytes}
 use Rattle.vp9_app.specs.Payloads.{followed, frames_entry, parts_entry, payload_entry}
 
 pub frame_read : (place : Place) (frame : List ℕ) (head : FrameHead) → Ok head ≡ head_of place.before frame

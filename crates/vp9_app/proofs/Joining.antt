@@ -8,7 +8,7 @@ use Rattle.ivf_container.specs.Packets.{Packets, packets_of}
 use Rattle.superframe_index.specs.Frames.{frames_of}
 use Rattle.vp9_app.specs.declared.listing.Ending.TheVariants as ending
 use Rattle.vp9_app.specs.declared.listing.Place.{Place}
-use Rattle.vp9_app.specs.FileFrames.{FileFrames, frame_bytes, joined, join, frames_of_file}
+use Rattle.seq_decoder.specs.FileFrames.{FileFrames, frame_bytes, joined, join, frames_of_file}
 use Rattle.vp9_app.specs.Listing.{Listing, Entry, ends, with_text, stop_at, frame_entry, listed, list_frames, list_all, first_place, listing}
 use Rattle.vp9_app.specs.Payloads.{followed, frames_entry, parts_entry, payload_entry}
 

@@ -3,3 +3,4 @@ pub mod Entries
 pub mod Joining
 pub mod Listings
 pub mod Causes
+pub mod Decodes

@@ -6,9 +6,10 @@ use Rattle.command_words.specs.declared.command.Command.{Command}
 use Rattle.command_words.specs.declared.command.Command.TheVariants as command
 use Rattle.vp9_app.specs.declared.status.Status.{Status}
 use Rattle.vp9_app.specs.declared.status.Status.TheVariants as status
+use Rattle.seq_decoder.specs.Runs.{out_text, run_of}
 use Rattle.vp9_app.specs.Listing.{listing}
 use Rattle.vp9_app.specs.Notes.{note_line}
-use Rattle.vp9_app.specs.Statuses.{ended}
+use Rattle.vp9_app.specs.Statuses.{ended, run_ended}
 
 -- what is seen of a source: the bytes that it has left, where it tells them, and its count of faults, before and after
 pub record OfSource : Type 0 where
@@ -45,15 +46,31 @@ SinkQuiet o = o.faults_now ≡ o.faults
 abbrev pub SinkFailed : OfSink → Type 0
 SinkFailed o = o.faults < o.faults_now
 
--- the source was read to its end, the listing of its bytes is written, and it ends so
-pub record Lists (s : OfSource) (o : OfSink) (status : Status) : Type 0 where
+-- what a command writes for the bytes of its source, and how it ends
+pub record Output : Type 0 where
+  pub text : List ℕ
+  pub status : Status
+
+-- The listing; or the shown frames of the sequential decoding process, in order, to the end of the bytes or up to the
+-- first frame that breaks a rule or that uses a part that isn't built. How a file is decoded changes nothing of it.
+abbrev pub output_of : Command → List ℕ → Output
+output_of command.List bytes = record { text = (listing bytes).text; status = ended (listing bytes).ending }
+output_of (command.Decode options) bytes = record { text = out_text (run_of bytes); status = run_ended (run_of bytes).ending }
+
+-- the source was read to its end, the whole output of its bytes is written, and it ends so
+pub record Completes (c : Command) (s : OfSource) (o : OfSink) (status : Status) : Type 0 where
   pub source : SourceQuiet s
   pub out : SinkQuiet o
-  pub told : WhereTold s.rest (λ bytes. (ended (listing bytes).ending ≡ status) × Takes o.before o.after (listing bytes).text × (s.left ≡ Some []))
+  pub told : WhereTold s.rest (λ bytes. ((output_of c bytes).status ≡ status) × Takes o.before o.after (output_of c bytes).text × (s.left ≡ Some []))
 
--- a front of the listing is written
-abbrev pub WritesFront : OfSource → OfSink → Type 0
-WritesFront s o = WhereTold s.rest (λ bytes. (n : ℕ) × Takes o.before o.after (take n (listing bytes).text))
+-- a front of the output is written
+abbrev pub WritesFront : Command → OfSource → OfSink → Type 0
+WritesFront c s o = WhereTold s.rest (λ bytes. (n : ℕ) × Takes o.before o.after (take n (output_of c bytes).text))
+
+-- no part of the listing is unbuilt
+abbrev pub HasUnbuilt : Command → Type 0
+HasUnbuilt command.List = ⊥
+HasUnbuilt (command.Decode options) = Unit
 
 -- nothing was read or written
 abbrev pub Untouched : OfSource → OfSink → Type 0
@@ -64,13 +81,13 @@ abbrev pub Works : Option Command → OfSource → OfSink → Status → Type 0
 Works None s o status.Usage = Untouched s o
 Works None s o status.OutOfMemory = Untouched s o
 Works None s o status = ⊥
-Works (Some command.List) s o status.Done = Lists s o status.Done
-Works (Some command.List) s o (status.Broken stop) = Lists s o (status.Broken stop)
-Works (Some command.List) s o (status.Unbuilt frame part) = ⊥
-Works (Some command.List) s o status.ReadFault = SourceFailed s × SinkQuiet o × (o.after ≡ o.before)
-Works (Some command.List) s o status.WriteFault = SourceQuiet s × SinkFailed o × WritesFront s o
-Works (Some command.List) s o status.OutOfMemory = SourceQuiet s × SinkQuiet o × WritesFront s o
-Works (Some command.List) s o status.Usage = ⊥
+Works (Some c) s o status.Done = Completes c s o status.Done
+Works (Some c) s o (status.Broken stop) = Completes c s o (status.Broken stop)
+Works (Some c) s o (status.Unbuilt frame part) = HasUnbuilt c × Completes c s o (status.Unbuilt frame part)
+Works (Some c) s o status.ReadFault = SourceFailed s × SinkQuiet o × (o.after ≡ o.before)
+Works (Some c) s o status.WriteFault = SourceQuiet s × SinkFailed o × WritesFront c s o
+Works (Some c) s o status.OutOfMemory = SourceQuiet s × SinkQuiet o × WritesFront c s o
+Works (Some c) s o status.Usage = ⊥
 
 -- the status where the note wants memory: a write fault goes first
 abbrev pub without_memory : Status → Status
@@ -108,20 +125,22 @@ pub record AllQuiet (s : OfSource) (o n : OfSink) : Type 0 where
 
 -- the cause of each answer
 abbrev pub HasCause : Option Command → OfSource → OfSink → OfSink → Status → Type 0
-HasCause c s o n status.Done = (c ≡ Some command.List) × AllQuiet s o n × Lists s o status.Done × Takes n.before n.after []
-HasCause c s o n (status.Broken stop) = (c ≡ Some command.List) × AllQuiet s o n × Lists s o (status.Broken stop) × Takes n.before n.after (note_line (status.Broken stop))
-HasCause c s o n (status.Unbuilt frame part) = ⊥
+HasCause c s o n status.Done = (used : Command) × (c ≡ Some used) × AllQuiet s o n × Completes used s o status.Done × Takes n.before n.after []
+HasCause c s o n (status.Broken stop) =
+    (used : Command) × (c ≡ Some used) × AllQuiet s o n × Completes used s o (status.Broken stop) × Takes n.before n.after (note_line (status.Broken stop))
+HasCause c s o n (status.Unbuilt frame part) =
+    (used : Command) × (c ≡ Some used) × HasUnbuilt used × AllQuiet s o n × Completes used s o (status.Unbuilt frame part)
+    × Takes n.before n.after (note_line (status.Unbuilt frame part))
 HasCause c s o n status.Usage = (c ≡ None) × AllQuiet s o n × Takes n.before n.after (note_line status.Usage)
 HasCause c s o n status.ReadFault =
-    (c ≡ Some command.List) × SourceFailed s × SinkQuiet o × SinkQuiet n × (o.after ≡ o.before) × Takes n.before n.after (note_line status.ReadFault)
+    (used : Command) × (c ≡ Some used) × SourceFailed s × SinkQuiet o × SinkQuiet n × (o.after ≡ o.before) × Takes n.before n.after (note_line status.ReadFault)
 HasCause c s o n status.WriteFault = SinkFailed o ⊎ SinkFailed n
 HasCause c s o n status.OutOfMemory = SinkQuiet o × SinkQuiet n
 
--- where no count rises and the source tells its bytes, the answer is that of the words and the listing, or want of memory
+-- where no count rises and the source tells its bytes, the answer is that of the words and the output, or want of memory
 abbrev pub IsComplete : Option Command → OfSource → OfSink → OfSink → Status → Type 0
 IsComplete None s o n last = AllQuiet s o n → (last ≡ status.Usage) ⊎ (last ≡ status.OutOfMemory)
-IsComplete (Some command.List) s o n last =
-    AllQuiet s o n → WhereTold s.rest (λ bytes. (last ≡ ended (listing bytes).ending) ⊎ (last ≡ status.OutOfMemory))
+IsComplete (Some c) s o n last = AllQuiet s o n → WhereTold s.rest (λ bytes. (last ≡ (output_of c bytes).status) ⊎ (last ≡ status.OutOfMemory))
 
 pub record Answers (c : Option Command) (s : OfSource) (o n : OfSink) (last : Status) : Type 0 where
   pub run : Runs c s o n last

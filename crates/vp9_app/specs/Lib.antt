@@ -1,5 +1,4 @@
 pub mod Lines
-pub mod FileFrames
 pub mod Listing
 pub mod Payloads
 pub mod Statuses

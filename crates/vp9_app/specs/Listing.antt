@@ -10,7 +10,7 @@ use Rattle.vp9_app.specs.declared.listing.Ending.{Ending}
 use Rattle.vp9_app.specs.declared.listing.Ending.TheVariants as ending
 use Rattle.vp9_app.specs.declared.listing.Listed.{Listed}
 use Rattle.vp9_app.specs.declared.listing.Place.{Place}
-use Rattle.vp9_app.specs.FileFrames.{FileFrames, frames_of_file}
+use Rattle.seq_decoder.specs.FileFrames.{FileFrames, frames_of_file}
 use Rattle.vp9_app.specs.Lines.{coded_line, shown_line}
 
 -- the lines, and how they end

@@ -5,7 +5,7 @@ use Rattle.vp9_types.specs.declared.outcome.Stop.{Stop}
 use Rattle.vp9_types.specs.declared.rule.Rule.{Rule}
 use Rattle.superframe_index.specs.Frames.{frames_of}
 use Rattle.vp9_app.specs.declared.listing.Place.{Place}
-use Rattle.vp9_app.specs.FileFrames.{frame_bytes}
+use Rattle.seq_decoder.specs.FileFrames.{frame_bytes}
 use Rattle.vp9_app.specs.Listing.{Entry, stop_at, frame_entry}
 
 -- lines, and more from the place after them unless the listing stops there

@@ -5,8 +5,9 @@ ghost use Rattle.command_words.specs.Words.{command_of};
 use crate::listing::list_file;
 use crate::note::report;
 use crate::status::Status;
-use command_words::{Command, read_words};
+use command_words::{Command, DecodeOptions, read_words};
 use edge_io::{Gate, PutFault, ReadError, Sink, Source, put_all, read_all};
+use seq_decoder::decode_plain;
 use std::alloc::Global;
 use std::sync::Wait;
 use std::thread::Threads;
@@ -43,6 +44,26 @@ fn list<S: Source, K: Sink>(alloc: Global, source: &mut S, out: &mut K) -> Statu
     }
 }
 
+/// Until there is a decoder of several threads, all options ask for the plain one.
+fn decode<S: Source, K: Sink>(
+    alloc: Global,
+    _options: DecodeOptions,
+    source: &mut S,
+    out: &mut K,
+) -> Status
+    requires source { S.can_fill source.old }
+    requires out { K.can_put out.old }
+    ensures { Works (Some (Command.Decode _options))
+        (source_seen (S.rest source.old) (S.rest source.new) (S.faults source.old) (S.faults source.new))
+        (sink_seen (K.grows out.old) (K.taken out.old) (K.taken out.new) (K.faults out.old) (K.faults out.new)) result }
+{
+    match read_all(alloc, source) {
+        Ok(bytes) => Status::from(decode_plain(alloc, bytes.as_slice(), out)),
+        Err(ReadError::Failed) => Status::ReadFault,
+        Err(ReadError::OutOfMemory) => Status::OutOfMemory,
+    }
+}
+
 /// Does what the words ask for.
 fn work<S: Source, K: Sink>(alloc: Global, words: &[String], source: &mut S, out: &mut K) -> Status
     requires source { S.can_fill source.old }
@@ -54,6 +75,7 @@ fn work<S: Source, K: Sink>(alloc: Global, words: &[String], source: &mut S, out
 {
     match read_words(alloc, words) {
         Ok(Some(Command::List)) => list(alloc, source, out),
+        Ok(Some(Command::Decode(options))) => decode(alloc, options, source, out),
         Ok(None) => Status::Usage,
         Err(_) => Status::OutOfMemory,
     }
@@ -62,7 +84,7 @@ fn work<S: Source, K: Sink>(alloc: Global, words: &[String], source: &mut S, out
 /// Runs the command that the words ask for, the program's name first. What a command reads comes from `source`, what
 /// it writes goes to `out`, and how it ended is told to `note` in a line. All three are handed back.
 ///
-/// `rt` and `gate` serve commands that start threads; `list` starts none.
+/// `rt` and `gate` serve commands that start threads; no command starts any yet.
 pub fn run<
     R: Threads + Wait + Sync,
     S: Source + Send + Drop,

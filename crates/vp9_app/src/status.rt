@@ -2,7 +2,7 @@ ghost use Rattle.std.specs.Prelude.{◌≡◌};
 ghost use Rattle.vp9_app.specs.Statuses.{code_of};
 
 use crate::listing::Ending;
-use vp9_types::{Part, Stop};
+use vp9_types::{Outcome, Part, Stop};
 
 /// How a run of the program ends.
 #[derive(Clone, Copy, Debug, PartialEq, Eq)]
@@ -49,6 +49,24 @@ impl From<Ending> for Status {
         match ending {
             Ending::End => Status::Done,
             Ending::Broken(stop) => Status::Broken(stop),
+        }
+    }
+}
+
+impl From<Outcome> for Status {
+    ghost use Rattle.std.specs.Prelude.{◌≡◌};
+    ghost use Rattle.vp9_app.specs.Statuses.{decode_ended};
+
+    ghost from_gives = { λ outcome status. status ≡ decode_ended outcome };
+
+    fn from(outcome: Outcome) -> Status {
+        match outcome {
+            Outcome::Done => Status::Done,
+            Outcome::Broken(stop) => Status::Broken(stop),
+            Outcome::ReadFault => Status::ReadFault,
+            Outcome::WriteFault => Status::WriteFault,
+            Outcome::OutOfMemory => Status::OutOfMemory,
+            Outcome::Unbuilt { frame, part } => Status::Unbuilt { frame, part },
         }
     }
 }

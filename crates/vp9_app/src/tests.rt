@@ -2,7 +2,7 @@ mod rows;
 
 use super::*;
 use edge_io::{MemSink, MemSource, OpenGate};
-use rows::{Row, TABLES};
+use rows::{Row, list, lossless_decode};
 use std::alloc::{AllocError, Global};
 use std::sync::Wait;
 use std::test::Fail;
@@ -46,9 +46,9 @@ fn run_row<R: Threads + Wait + Sync>(
     Ok(run(rt, alloc, words.as_slice(), source, out, note, &OpenGate))
 }
 
-fn row_named(name: &str) -> Option<&'static Row> {
-    for table in TABLES {
-        for row in table {
+fn row_named(tables: &[&'static [Row]], name: &str) -> Option<&'static Row> {
+    for table in tables {
+        for row in *table {
             if row.name == name {
                 return Some(row);
             }
@@ -58,8 +58,8 @@ fn row_named(name: &str) -> Option<&'static Row> {
 }
 
 #[test]
-fn rows_end_as_they_are_to(rt: HostRuntime) -> Result<(), Fail> {
-    for table in TABLES {
+fn listings_end_as_they_are_to(rt: HostRuntime) -> Result<(), Fail> {
+    for table in list::TABLES {
         for row in table {
             let name = row.name;
             let ran = run_row(&rt, rt.alloc(), row, &NONE)?;
@@ -72,7 +72,21 @@ fn rows_end_as_they_are_to(rt: HostRuntime) -> Result<(), Fail> {
 }
 
 #[test]
-fn faults_end_a_run(rt: HostRuntime) -> Result<(), Fail> {
+fn decodes_end_as_they_are_to(rt: HostRuntime) -> Result<(), Fail> {
+    for table in lossless_decode::TABLES {
+        for row in table {
+            let name = row.name;
+            let ran = run_row(&rt, rt.alloc(), row, &NONE)?;
+            assert_eq!(rt; ran.status.code(), row.status, "{name}");
+            assert_eq!(rt; ran.out.bytes(), row.output, "{name}");
+            assert_eq!(rt; ran.note.bytes(), row.note.as_bytes(), "{name}");
+        }
+    }
+    Ok(())
+}
+
+#[test]
+fn faults_end_a_listing(rt: HostRuntime) -> Result<(), Fail> {
     let cases: [(&str, Fails, u8, &[u8]); 3] = [
         (
             "one key frame",
@@ -92,7 +106,7 @@ fn faults_end_a_run(rt: HostRuntime) -> Result<(), Fail> {
         ("wrong signature", Fails { note: &[1], ..NONE }, 5, b""),
     ];
     for (name, fails, status, note) in cases {
-        let row = row_named(name).ok_or("no such row")?;
+        let row = row_named(list::TABLES.as_slice(), name).ok_or("no such row")?;
         let ran = run_row(&rt, rt.alloc(), row, &fails)?;
         assert_eq!(rt; ran.status.code(), status, "{name}");
         assert_eq!(rt; ran.out.bytes().len(), 0, "{name}");
@@ -101,9 +115,40 @@ fn faults_end_a_run(rt: HostRuntime) -> Result<(), Fail> {
     Ok(())
 }
 
+// The second put is that of the next plane or of the next frame, as the writer cuts them.
+#[test]
+fn a_write_fault_leaves_a_front(rt: HostRuntime) -> Result<(), Fail> {
+    let row = row_named(lossless_decode::TABLES.as_slice(), "two key frames").ok_or("no such row")?;
+    let failing = Fails { out: &[2], ..NONE };
+    let ran = run_row(&rt, rt.alloc(), row, &failing)?;
+    assert_eq!(rt; ran.status.code(), 5);
+    assert_eq!(rt; ran.note.bytes(), b"write fault\n".as_slice());
+    assert!(rt; !ran.out.bytes().is_empty() && ran.out.bytes().len() < row.output.len());
+    assert!(rt; row.output.starts_with(ran.out.bytes()));
+    Ok(())
+}
+
+#[test]
+fn a_read_fault_leaves_no_frame(rt: HostRuntime) -> Result<(), Fail> {
+    let row = row_named(lossless_decode::TABLES.as_slice(), "two key frames").ok_or("no such row")?;
+    let failing = Fails {
+        source: &[1],
+        ..NONE
+    };
+    let ran = run_row(&rt, rt.alloc(), row, &failing)?;
+    assert_eq!(rt; ran.status.code(), 4);
+    assert_eq!(rt; ran.note.bytes(), b"read fault\n".as_slice());
+    assert_eq!(rt; ran.out.bytes().len(), 0);
+    Ok(())
+}
+
 #[test]
 fn memory_is_not_lacking(rt: HostRuntime) -> Result<(), Fail> {
-    let row = row_named("frames before a bad one are listed").ok_or("no such row")?;
+    let row = row_named(
+        list::TABLES.as_slice(),
+        "frames before a bad one are listed",
+    )
+    .ok_or("no such row")?;
     let ran = run_row(&rt, rt.alloc(), row, &NONE)?;
     assert!(rt; ran.status != Status::OutOfMemory);
     Ok(())

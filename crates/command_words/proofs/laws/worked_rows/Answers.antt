@@ -62,3 +62,79 @@ returns-clause-after_dashes c = λ name. refl
 pub returns-clause-before_dashes : goal.returns-clause-before_dashes
 unfolding command_of clap_on_literals
 returns-clause-before_dashes c = λ name. refl
+
+pub returns-clause-decode : goal.returns-clause-decode
+unfolding command_of clap_on_literals
+returns-clause-decode c = λ name. refl
+
+pub returns-clause-plain : goal.returns-clause-plain
+unfolding command_of clap_on_literals
+returns-clause-plain c = λ name. refl
+
+pub returns-clause-workers : goal.returns-clause-workers
+unfolding command_of clap_on_literals
+returns-clause-workers c = λ name. refl
+
+pub returns-clause-one_worker : goal.returns-clause-one_worker
+unfolding command_of clap_on_literals
+returns-clause-one_worker c = λ name. refl
+
+pub returns-clause-window : goal.returns-clause-window
+unfolding command_of clap_on_literals
+returns-clause-window c = λ name. refl
+
+pub returns-clause-least_window : goal.returns-clause-least_window
+unfolding command_of clap_on_literals
+returns-clause-least_window c = λ name. refl
+
+pub returns-clause-all_options : goal.returns-clause-all_options
+unfolding command_of clap_on_literals
+returns-clause-all_options c = λ name. refl
+
+pub returns-clause-no_workers : goal.returns-clause-no_workers
+unfolding command_of clap_on_literals
+returns-clause-no_workers c = λ name. refl
+
+pub returns-clause-many_workers : goal.returns-clause-many_workers
+unfolding command_of clap_on_literals
+returns-clause-many_workers c = λ name. refl
+
+pub returns-clause-small_window : goal.returns-clause-small_window
+unfolding command_of clap_on_literals
+returns-clause-small_window c = λ name. refl
+
+pub returns-clause-large_window : goal.returns-clause-large_window
+unfolding command_of clap_on_literals
+returns-clause-large_window c = λ name. refl
+
+pub returns-clause-without_value : goal.returns-clause-without_value
+unfolding command_of clap_on_literals
+returns-clause-without_value c = λ name. refl
+
+pub returns-clause-no_number : goal.returns-clause-no_number
+unfolding command_of clap_on_literals
+returns-clause-no_number c = λ name. refl
+
+pub returns-clause-twice_plain : goal.returns-clause-twice_plain
+unfolding command_of clap_on_literals
+returns-clause-twice_plain c = λ name. refl
+
+pub returns-clause-plain_with_value : goal.returns-clause-plain_with_value
+unfolding command_of clap_on_literals
+returns-clause-plain_with_value c = λ name. refl
+
+pub returns-clause-twice_workers : goal.returns-clause-twice_workers
+unfolding command_of clap_on_literals
+returns-clause-twice_workers c = λ name. refl
+
+pub returns-clause-a_file : goal.returns-clause-a_file
+unfolding command_of clap_on_literals
+returns-clause-a_file c = λ name. refl
+
+pub returns-clause-option_before : goal.returns-clause-option_before
+unfolding command_of clap_on_literals
+returns-clause-option_before c = λ name. refl
+
+pub returns-clause-help_of_decode : goal.returns-clause-help_of_decode
+unfolding command_of clap_on_literals
+returns-clause-help_of_decode c = λ name. refl
