@@ -1,7 +1,7 @@
 #!/usr/bin/env bash
-# Times the DCT of eight columns of 32 values, and the residue of a full block of 8x8: crates/bench_transforms, proved and
-# built by LLVM, beside the same in C (gcc -O3), one list at a time. Both must print one checksum. The least processor
-# time of several runs counts.
+# Times the DCT of eight columns of 32 values, the residue of a full block of 8x8, and that of a block of 32x32 with one
+# level: crates/bench_transforms, proved and built by LLVM, beside the same in C (gcc -O3), one list at a time. Both must
+# print one checksum. The least processor time of several runs counts.
 set -eu
 cd "$(dirname "$0")/../.."
 count=${1:-300000}
@@ -29,7 +29,7 @@ def least(program, line):
     return best, answer
 
 
-for kind in ("columns", "residue"):
+for kind in ("columns", "residue", "one-level"):
     times, answers = {}, {}
     for program in ("c", "rattle"):
         times[program], answers[program] = least(program, f"{kind} {count}\n")

@@ -65,6 +65,25 @@ static __attribute__((noinline)) int residue(int32_t b[64], int32_t limit, int d
     return bad;
 }
 
+static __attribute__((noinline)) int large_residue(int32_t b[1024], int32_t limit, int dc, int ac) {
+    int bad = 0;
+    for (int k = 0; k < 1024; k++) {
+        int64_t value = (int64_t)b[k] * (k ? ac : dc) / 2;
+        if (value < -limit || value >= limit) return 22;
+        b[k] = value;
+    }
+    for (int i = 0; i < 32; i++) {
+        if (dct_32(b + 32 * i, limit)) return 23;
+    }
+    for (int j = 0; j < 32; j++) {
+        int32_t v[32];
+        for (int k = 0; k < 32; k++) v[k] = b[32 * k + j];
+        bad |= dct_32(v, limit);
+        for (int k = 0; k < 32; k++) b[32 * k + j] = (v[k] + 32) >> 6;
+    }
+    return bad;
+}
+
 int main(void) {
     char kind[32];
     uint64_t count;
@@ -80,6 +99,16 @@ int main(void) {
                 memcpy(t, start[k % 2], sizeof t);
                 bad |= columns(t, 1 << 15);
                 sum = with_value(sum, t[k % 32][k % 8]);
+            }
+        } else if (!strcmp(kind, "one-level")) {
+            static int32_t start[2][1024];
+            start[0][0] = 100;
+            start[1][0] = -77;
+            for (uint64_t k = 0; k < count; k++) {
+                int32_t b[1024];
+                memcpy(b, start[k % 2], sizeof b);
+                bad |= large_residue(b, 1 << 15, 12, 15);
+                sum = with_value(sum, b[k % 1024]);
             }
         } else {
             static int32_t start[2][64];

@@ -48,6 +48,13 @@ fn levels(seed: u32) -> [i32; 64] {
     levels
 }
 
+/// A block of 32x32 with one level, the first.
+fn one_level(level: i32) -> [i32; 1024] {
+    let mut levels = [0; 1024];
+    levels[0] = level;
+    levels
+}
+
 fn are_small(xs: &[i32]) -> bool
     ensures small { OnTrue result (All IsSmall xs.now) }
     ensures levels { OnTrue result (All IsLevel xs.now) }
@@ -104,20 +111,53 @@ fn residues(first: &[i32; 64], second: &[i32; 64], count: u64) -> Result<u64, Ru
     Ok(sum)
 }
 
-/// The checksum of what a line names.
-fn checksum(kind: &str, count: u64) -> Option<Result<u64, Rule>> {
-    let (rows_first, rows_second) = (rows(1), rows(2));
-    let (levels_first, levels_second) = (levels(3), levels(4));
-    if kind == "columns" {
-        if rows_are_small(&rows_first) && rows_are_small(&rows_second) {
-            return Some(columns(&rows_first, &rows_second, count));
-        }
-        return None;
+/// The checksum of `count` blocks of 32x32.
+fn large_residues(first: &[i32; 1024], second: &[i32; 1024], count: u64) -> Result<u64, Rule>
+    requires first { All IsLevel first.now }
+    requires second { All IsLevel second.now }
+{
+    let mut sum = 0u64;
+    for k in 0..count {
+        let mut block = if k % 2 == 0 { *first } else { *second };
+        residue(&mut block, TxSize::T32x32, TxType::DctDct, QUANT)?;
+        sum = with_value(sum, block[(k % 1024) as usize]);
     }
-    if are_small(&levels_first) && are_small(&levels_second) {
-        return Some(residues(&levels_first, &levels_second, count));
+    Ok(sum)
+}
+
+fn of_columns(count: u64) -> Option<Result<u64, Rule>> {
+    let (first, second) = (rows(1), rows(2));
+    if rows_are_small(&first) && rows_are_small(&second) {
+        return Some(columns(&first, &second, count));
     }
     None
+}
+
+fn of_residue(count: u64) -> Option<Result<u64, Rule>> {
+    let (first, second) = (levels(3), levels(4));
+    if are_small(&first) && are_small(&second) {
+        return Some(residues(&first, &second, count));
+    }
+    None
+}
+
+fn of_one_level(count: u64) -> Option<Result<u64, Rule>> {
+    let (first, second) = (one_level(100), one_level(-77));
+    if are_small(&first) && are_small(&second) {
+        return Some(large_residues(&first, &second, count));
+    }
+    None
+}
+
+/// The checksum of what a line names.
+fn checksum(kind: &str, count: u64) -> Option<Result<u64, Rule>> {
+    if kind == "columns" {
+        return of_columns(count);
+    }
+    if kind == "one-level" {
+        return of_one_level(count);
+    }
+    of_residue(count)
 }
 
 /// What is printed for a line.

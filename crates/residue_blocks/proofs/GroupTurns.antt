@@ -40,7 +40,7 @@ group_err kind depth log2 bits n first width xs t rule size n_is s (j, low, fail
           let no : ⊥ = cc in absurd no
     ]
 
-within_parts : (first width j : ℕ) → is_within first width j ≡ true → (first ≤ j) × (j < first + width)
+pub within_parts : (first width j : ℕ) → is_within first width j ≡ true → (first ≤ j) × (j < first + width)
 within_parts first width j h =
     let parts = and_parts (nat_le first j) (nat_lt j (first + width)) h in
     (leb-true first j parts.0, ltb-true j (first + width) parts.1)

@@ -5,3 +5,4 @@ pub mod Pieces
 pub mod Turns
 pub mod GroupTurns
 pub mod Twice
+pub mod RepeatedGroups

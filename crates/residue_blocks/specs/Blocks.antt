@@ -45,6 +45,10 @@ pub record GroupDone (f : List ℤ → Result (List ℤ) Rule) (n first width : 
   pub done : (j : ℕ) → j < n → is_within first width j ≡ true → f (row n j xs) ≡ Ok (col n j new)
   pub others : (j : ℕ) → j < n → is_within first width j ≡ false → col n j new ≡ col n j old
 
+-- the rows below a number have become columns
+abbrev pub AreTurned : (List ℤ → Result (List ℤ) Rule) → ℕ → ℕ → List ℤ → List ℤ → Type 0
+AreTurned f n m xs now = (j : ℕ) → j < n → j < m → f (row n j xs) ≡ Ok (col n j now)
+
 abbrev pub TurnsGroup : (List ℤ → Result (List ℤ) Rule) → ℕ → ℕ → ℕ → List ℤ → Result (Unit {0}) Rule → List ℤ → List ℤ → Type 0
 TurnsGroup f n first width xs (Ok _) old new = GroupDone f n first width xs old new
 TurnsGroup f n first width xs (Err rule) old new = (j : ℕ) × (j < n) × (f (row n j xs) ≡ Err rule)

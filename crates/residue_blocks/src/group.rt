@@ -26,7 +26,7 @@ fn put_lane(t: &mut [Lanes], lane: usize, values: &[i32])
 }
 
 /// A row of a block of rows of n.
-fn row_at(block: &[i32], n: usize, i: usize) -> &[i32]
+pub fn row_at(block: &[i32], n: usize, i: usize) -> &[i32]
     requires { i * n + n ≤ length block.now }
     ensures { result.now ≡ row n i block.now }
 {

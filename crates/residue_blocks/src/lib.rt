@@ -7,6 +7,7 @@ mod group;
 mod kind;
 mod levels;
 mod quant;
+mod repeats;
 #[cfg(test)]
 mod tests;
 mod turn;

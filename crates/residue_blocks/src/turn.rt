@@ -4,11 +4,12 @@ ghost use Rattle.std.specs.Prelude.{◌≡◌, ℕ, ◌+◌, ◌*◌, ◌^◌, �
 ghost use Rattle.inverse_transforms.specs.Flow.{Gives, zeros};
 ghost use Rattle.inverse_transforms.specs.Columns.{column};
 ghost use Rattle.inverse_transforms.specs.Ranges.{IsSmall, limit_of};
-ghost use Rattle.residue_blocks.specs.Blocks.{turned, TurnsGroup};
+ghost use Rattle.residue_blocks.specs.Blocks.{turned, AreTurned, TurnsGroup};
 ghost use Rattle.residue_blocks.specs.Residue.{has_size, rounded_transform};
 
 use crate::group::{load, store};
 use crate::kind::{Kind, transform_nonzero};
+use crate::repeats::{is_repeated, repeat_columns};
 use inverse_transforms::Lanes;
 use vp9_types::{Depth, Rule};
 
@@ -77,6 +78,35 @@ fn turn_group(
     turn_by(&mut t[..n], from, to, first, width, pass)
 }
 
+/// Turns a group of rows behind those that are turned already. Where few levels are read, groups are often the same as
+/// the one before them, and so are their columns.
+fn turn_next(
+    from: &[i32],
+    to: &mut [i32],
+    n: usize,
+    first: usize,
+    width: usize,
+    pass: Pass,
+) -> Result<(), Rule>
+    requires kind { IsTrue (has_size pass.kind pass.log2) }
+    requires side { n ≡ 2 ^ pass.log2 }
+    requires most { n ≤ 32 }
+    requires from_size { length from.now ≡ n * n }
+    requires to_size { length to.old ≡ n * n }
+    requires columns { first + width ≤ n }
+    requires width { width ≤ 8 }
+    requires bits { pass.bits ≤ 6 }
+    requires values { All IsSmall from.now }
+    requires turned { AreTurned (rounded_transform pass.kind (limit_of pass.depth) pass.log2 pass.bits) n first from.now to.old }
+    ensures { TurnsGroup (rounded_transform pass.kind (limit_of pass.depth) pass.log2 pass.bits) n first width from.now result to.old to.new }
+{
+    if width <= first && is_repeated(from, n, first, width) {
+        repeat_columns(to, n, first, width);
+        return Ok(());
+    }
+    turn_group(from, to, n, first, width, pass)
+}
+
 /// How a block is cut into groups of rows.
 #[derive(Clone, Copy, Debug)]
 struct Groups {
@@ -131,7 +161,7 @@ pub fn turn_rows(from: &[i32], to: &mut [i32], pass: Pass) -> Result<(), Rule>
 {
     let groups = groups_of(pass.log2);
     for group in 0..groups.count {
-        turn_group(
+        turn_next(
             from,
             to,
             groups.side,

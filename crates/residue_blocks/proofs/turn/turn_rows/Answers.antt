@@ -6,11 +6,11 @@ use Rattle.residue_blocks.specs.Residue.{rounded_transform}
 use Rattle.residue_blocks.proofs.GroupTurns.{turn_done, turn_failed}
 use Rattle.residue_blocks.proofs.turn.turn_rows.Goals as goal
 
-pub returns-in_err-turn_group : goal.returns-in_err-turn_group
-returns-in_err-turn_group c =
+pub returns-in_err-turn_next : goal.returns-in_err-turn_next
+returns-in_err-turn_next c =
     let p = err_from_is_err_and c.from_residual.result c.from_residual.ensures.1 in
     rw (p.1, p.2) (turn_failed c.args.pass.kind c.args.pass.depth c.args.pass.log2 c.args.pass.bits (2 ^ c.args.pass.log2) c.groups_of-groups.result.side
-    c.args.from.now c.in_err-turn_group.field-0.0 c.groups_of-groups.ensures.side c.in_err-turn_group.ensures)
+    c.args.from.now c.in_err-turn_next.field-0.0 c.groups_of-groups.ensures.side c.in_err-turn_next.ensures)
 
 pub returns : goal.returns
 returns c =
