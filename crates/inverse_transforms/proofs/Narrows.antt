@@ -1,18 +1,17 @@
 -- Narrow values.
-use Rattle.std.proofs.Common.{◌≡◌, ℕ, ◌+◌, take, ◌*◌, ◌<◌, ◌≤◌, ◌^◌, ℤ, pos, ◌*ℤ◌, unsigned_abs, Bool, true, false, List, [], length, get_or, refl, subst, arith, All, to_z, of_z}
+use Rattle.std.proofs.Common.{◌≡◌, ℕ, ◌+◌, take, ◌*◌, ◌<◌, ◌≤◌, ◌^◌, ℤ, ◌*ℤ◌, unsigned_abs, Bool, true, false, List, [], length, get_or, refl, subst, arith, All, to_z, of_z}
 use Rattle.std.specs.Bool.{OnTrue}
 use Rattle.std.specs.List.{flat_map}
 use Rattle.std.proofs.lemmas.List.Concat.{get_or-flat_map}
 use Rattle.std.proofs.lemmas.List.Folds.{length-flat_map-take}
 use Rattle.std.proofs.Math.Nat.{mul-le-mul}
 use Rattle.std.proofs.lemmas.Int.{to_z-of_z, unsigned_abs-mul, fits_signed_mul}
-use Rattle.std.proofs.lemmas.List.{get_or_default}
 use Rattle.std.proofs.lemmas.List.Elements.{All-map}
 use mir.Syntax.{w32}
 use Rattle.inverse_transforms.specs.Flow.{at}
-use Rattle.inverse_transforms.specs.Columns.{column, AllHold}
-use Rattle.inverse_transforms.specs.Ranges.{IsSmall, IsNarrow, fits}
-use Rattle.inverse_transforms.proofs.Small.{at_small, fits_small}
+use Rattle.inverse_transforms.specs.Columns.{column}
+use Rattle.inverse_transforms.specs.Ranges.{IsSmall, IsNarrow}
+use Rattle.inverse_transforms.proofs.Small.{at_small}
 use Rattle.inverse_transforms.proofs.LaneLemmas.{kept}
 use Rattle.inverse_transforms.proofs.ColumnLemmas.{column_at}
 
