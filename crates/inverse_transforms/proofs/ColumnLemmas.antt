@@ -9,8 +9,8 @@ use Rattle.inverse_transforms.specs.declared.values.Two.{Two}
 use Rattle.inverse_transforms.specs.declared.values.Four.{Four}
 use Rattle.inverse_transforms.specs.Flow.{at, two_fit, four_fit, rotated_wide, store_one, store_two, store_four, permuted}
 use Rattle.inverse_transforms.specs.Ranges.{fits, IsSmall}
-use Rattle.inverse_transforms.specs.Columns.{column, gathered, GivesColumns, TwoLanes, FourLanes, AllHold}
-use Rattle.inverse_transforms.proofs.Small.{two_small, four_small, fits_small}
+use Rattle.inverse_transforms.specs.Columns.{column, gathered, GivesColumns, FitsAll, TwoLanes, FourLanes, AllHold}
+use Rattle.inverse_transforms.proofs.Small.{two_small, two_fits, four_small, fits_small}
 
 pub column_set : (j : ℕ) (t : List (List ℤ)) (a : ℕ) (u : List ℤ) → column j (set t a u) ≡ set (column j t) a (at u j)
 column_set j t a u = map-set (λ row. at row j) t a u
@@ -108,6 +108,17 @@ pub two_small_after : (limit : ℕ) (f : ℤ → ℤ → Two) (t : List (List �
 two_small_after limit f t a b u v all most u_size v_size made is fit small =
     two_rows_small limit f t a b (get_or t a []) (get_or t b []) u v most u_size v_size made
     (all_hold (λ j. two_fit limit (f (at (get_or t a []) j) (at (get_or t b []) j))) 8 all is fit) small
+
+-- where the step is known to give some list for each column
+pub two_hold : (limit : ℕ) (f g : ℤ → ℤ → Two) (t : List (List ℤ)) (a b : ℕ) → f ≡ g → a < length t → b < length t →
+    FitsAll (λ xs. store_two limit xs a b (g (at xs a) (at xs b))) t →
+    AllHold (λ j. two_fit limit (f (at (get_or t a []) j) (at (get_or t b []) j))) 8 true
+two_hold limit f g t a b same a_low b_low fits = λ j low.
+    let given = fits j low in
+    ap (λ (h : ℤ → ℤ → Two). two_fit limit (h (at (get_or t a []) j) (at (get_or t b []) j))) same
+    ∙ (ap (λ z. two_fit limit (g z (at (get_or t b []) j))) (sym (column_at j t a a_low))
+    ∙ (ap (λ z. two_fit limit (g (at (column j t) a) z)) (sym (column_at j t b b_low))
+    ∙ two_fits limit (column j t) given.0 a b (g (at (column j t) a) (at (column j t) b)) given.1))
 
 -- the same of four rows
 four_of_column : (f : ℤ → ℤ → ℤ → ℤ → Four) (t : List (List ℤ)) (a b c d : ℕ) →

@@ -6,4 +6,6 @@ pub mod Zeros
 pub mod Faults
 pub mod SameFlows
 pub mod Narrows
+pub mod Bounds
+pub mod CalmColumns
 pub mod RenamedTables

@@ -27,3 +27,13 @@ broke limit rows d i xs rule whole low so_far gives =
 pub ended : (limit : ℕ) (rows : List FlowRow) (i : ℕ) (xs : List ℤ) (whole : Result (List ℤ) Rule) →
     length rows ≤ i → run limit (drop i rows) xs ≡ whole → whole ≡ Ok xs
 ended limit rows i xs whole past so_far = sym so_far ∙ ap (λ rest. run limit rest xs) (drop_all i rows past)
+
+first_gives : (r : Result (List ℤ) Rule) (f : List ℤ → Result (List ℤ) Rule) (ys : List ℤ) → and_then r f ≡ Ok ys → (zs : List ℤ) × (r ≡ Ok zs)
+first_gives (Ok zs) f ys h = (zs, refl)
+first_gives (Err rule) f ys h = let no : ⊥ = cc in absurd no
+
+-- where the whole gives some list, so does each step
+pub goes_on : (limit : ℕ) (rows : List FlowRow) (d : FlowRow) (i : ℕ) (xs ys : List ℤ) (whole : Result (List ℤ) Rule) → i < length rows →
+    run limit (drop i rows) xs ≡ whole → whole ≡ Ok ys → (zs : List ℤ) × (step limit (get_or rows i d) xs ≡ Ok zs)
+goes_on limit rows d i xs ys whole low so_far is =
+    first_gives (step limit (get_or rows i d) xs) (run limit (drop (i + 1) rows)) ys (sym (next limit rows d i xs low) ∙ (so_far ∙ is))

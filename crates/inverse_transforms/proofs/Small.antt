@@ -52,6 +52,9 @@ kept : (b : Bool) (zs ys : List ℤ) (rule : Rule) → cond {A = Result (List �
 kept true zs ys rule h = (refl, cc)
 kept false zs ys rule h = let no : ⊥ = cc in absurd no
 
+pub two_fits : (limit : ℕ) (xs ys : List ℤ) (a b : ℕ) (v : Two) → store_two limit xs a b v ≡ Ok ys → two_fit limit v ≡ true
+two_fits limit xs ys a b v h = (kept (two_fit limit v) (set (set xs a v.first) b v.second) ys TransformRange h).0
+
 one_small : (m limit : ℕ) (xs ys : List ℤ) (a : ℕ) (v : ℤ) → limit ≤ m → All (AtMost m) xs → store_one limit xs a v ≡ Ok ys → All (AtMost m) ys
 one_small m limit xs ys a v most small h =
     let k = kept (fits limit v) (set xs a v) ys TransformRange h in

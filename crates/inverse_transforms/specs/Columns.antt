@@ -13,6 +13,10 @@ abbrev pub GivesColumns : (List ℤ → Result (List ℤ) Rule) → Result (Unit
 GivesColumns f (Ok _) old new = (j : ℕ) → j < 8 → f (column j old) ≡ Ok (column j new)
 GivesColumns f (Err rule) old new = (j : ℕ) × (j < 8) × (f (column j old) ≡ Err rule)
 
+-- f gives some list for each column
+abbrev pub FitsAll : (List ℤ → Result (List ℤ) Rule) → List (List ℤ) → Type 0
+FitsAll f t = (j : ℕ) → j < 8 → (ys : List ℤ) × (f (column j t) ≡ Ok ys)
+
 -- at each place the row that stood at the place that the order gives for it
 abbrev pub gathered : List ℕ → List (List ℤ) → List (List ℤ)
 gathered order t = map (λ place. slice_index_or t place []) (take (length t) order)

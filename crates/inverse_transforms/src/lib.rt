@@ -1,6 +1,7 @@
 //! The inverse transforms of VP9 (8.7.1 of the standard): of one list, and of eight columns at a time.
 #![tactic(auto)]
 
+mod calm;
 mod kernels;
 mod lane_steps;
 mod lanes;

@@ -18,7 +18,7 @@ use vp9_tables::FlowRow;
 use vp9_types::Rule;
 
 /// Values of 16 bits are at least minus this, and below it.
-const LIMIT: u32 = 32768;
+pub const LIMIT: u32 = 32768;
 
 #[inline(always)]
 #[tactic(auto, unfolding(crate::specs::Flow::turned_x))]
@@ -44,7 +44,7 @@ fn second_turned(x: i32, y: i32, turn: Turn) -> i32
 
 #[inline(always)]
 #[tactic(auto, unfolding(crate::specs::Flow::rotated))]
-fn rotated(x: i32, y: i32, turn: Turn) -> Two
+pub fn rotated(x: i32, y: i32, turn: Turn) -> Two
     requires x { IsNarrow x }
     requires y { IsNarrow y }
     ensures { result ≡ rotated turn.angle x y }
@@ -129,7 +129,7 @@ pub fn flow(t: &mut [Lanes], rows: &[FlowRow]) -> Result<(), Rule>
 }
 
 /// A bound of all magnitudes.
-fn widest(xs: &[i32]) -> u32
+fn widest_of(xs: &[i32]) -> u32
     ensures { All (λ x. unsigned_abs x ≤ result) xs.now }
 {
     let mut most = 0;
@@ -139,9 +139,9 @@ fn widest(xs: &[i32]) -> u32
     most
 }
 
-/// Whether all values are narrow.
-pub fn is_narrow(t: &[Lanes]) -> bool
-    ensures { OnTrue result (All (All IsNarrow) t.now) }
+/// A bound of the magnitudes of all columns.
+pub fn widest(t: &[Lanes]) -> u32
+    ensures { All (All (λ x. unsigned_abs x ≤ result)) t.now }
 {
-    widest(t.as_flattened()) <= LIMIT
+    widest_of(t.as_flattened())
 }

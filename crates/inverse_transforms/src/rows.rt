@@ -2,8 +2,8 @@
 
 ghost use Rattle.std.specs.Prelude.{◌^◌, ◌≤◌, IsTrue};
 ghost use Rattle.std.specs.List.{list_all};
-ghost use Rattle.inverse_transforms.specs.Flow.{is_within};
-ghost use Rattle.inverse_transforms.specs.Transforms.{AreDct, AreAdst};
+ghost use Rattle.inverse_transforms.specs.Flow.{is_within, IsCalm};
+ghost use Rattle.inverse_transforms.specs.Transforms.{AreDct, AreAdst, dct, adst};
 
 use crate::renamed::{
     RENAMED_ADST_8, RENAMED_ADST_16, RENAMED_DCT_4, RENAMED_DCT_8, RENAMED_DCT_16, RENAMED_DCT_32,
@@ -27,6 +27,22 @@ pub fn dct_rows(log2: u8) -> &'static [FlowRow]
     }
 }
 
+/// How large values may be for the DCT of `2 ^ log2` of them to store none of more than 16 bits.
+pub fn dct_calm(log2: u8) -> u32
+    requires least { 2 ≤ log2 }
+    requires most { log2 ≤ 5 }
+    ensures calm { IsCalm (2 ^ log2) result (λ limit. dct limit log2) }
+    ensures narrow { result ≤ 2 ^ 15 }
+{
+    match log2 {
+        2 => 12000,
+        3 => 5000,
+        4 => 2000,
+        5 => 800,
+        _ => unreachable!(),
+    }
+}
+
 /// The ADST of `2 ^ log2` values, likewise.
 pub fn adst_rows(log2: u8) -> &'static [FlowRow]
     requires least { 3 ≤ log2 }
@@ -38,6 +54,20 @@ pub fn adst_rows(log2: u8) -> &'static [FlowRow]
     match log2 {
         3 => &RENAMED_ADST_8,
         4 => &RENAMED_ADST_16,
+        _ => unreachable!(),
+    }
+}
+
+/// How large values may be for the ADST of `2 ^ log2` of them to store none of more than 16 bits.
+pub fn adst_calm(log2: u8) -> u32
+    requires least { 3 ≤ log2 }
+    requires most { log2 ≤ 4 }
+    ensures calm { IsCalm (2 ^ log2) result (λ limit. adst limit log2) }
+    ensures narrow { result ≤ 2 ^ 15 }
+{
+    match log2 {
+        3 => 3400,
+        4 => 1300,
         _ => unreachable!(),
     }
 }

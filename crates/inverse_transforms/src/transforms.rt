@@ -3,14 +3,14 @@
 ghost use Rattle.std.specs.Prelude.{◌≡◌, ◌+◌, ◌^◌, ◌≤◌, length, All, IsTrue};
 ghost use Rattle.std.specs.List.{list_all};
 ghost use Rattle.vp9_tables.specs.Transforms.{dct_of};
-ghost use Rattle.inverse_transforms.specs.Flow.{Gives, run, is_within};
+ghost use Rattle.inverse_transforms.specs.Flow.{Gives, IsCalm, run, is_within};
 ghost use Rattle.inverse_transforms.specs.Transforms.{size_of, dct, adst, adst_rows, wht};
 ghost use Rattle.inverse_transforms.specs.Columns.{GivesColumns};
 ghost use Rattle.inverse_transforms.specs.Ranges.{IsSmall, limit_of};
 
 use crate::lanes::Lanes;
 use crate::quads::{adst_of_4, wht_of_4};
-use crate::{lane_steps, narrow, rows, steps};
+use crate::{calm, lane_steps, narrow, rows, steps};
 use vp9_tables::{FlowRow, adst_8_flow, adst_16_flow, dct_flow};
 use vp9_types::{Depth, Rule, TxSize};
 
@@ -47,34 +47,28 @@ pub fn dct_columns(log2: u8, t: &mut [Lanes], depth: Depth) -> Result<(), Rule>
     ensures gives { GivesColumns (dct (limit_of depth) log2) result t.old t.new }
     ensures small { All (All IsSmall) t.new }
 {
-    flow_columns(t, rows::dct_rows(log2), depth)
+    flow_columns(t, rows::dct_rows(log2), rows::dct_calm(log2), depth)
 }
 
-/// The steps of a flow on eight columns, by products of 32 bits where values of the depth fit in 16.
-fn flow_columns(t: &mut [Lanes], rows: &[FlowRow], depth: Depth) -> Result<(), Rule>
+/// The steps of a flow on eight columns: without tests where no value is larger than `calm`, and by products of 32 bits
+/// where values of the depth fit in 16.
+fn flow_columns(t: &mut [Lanes], rows: &[FlowRow], calm: u32, depth: Depth) -> Result<(), Rule>
     requires size { length t.old ≤ 32 }
     requires within { IsTrue (list_all (is_within (length t.old)) rows.now) }
+    requires calm { IsCalm (length t.old) calm (λ limit. run limit rows.now) }
+    requires calm_is_narrow { calm ≤ 2 ^ 15 }
     requires small { All (All IsSmall) t.old }
     ensures gives { GivesColumns (run (limit_of depth) rows.now) result t.old t.new }
     ensures small { All (All IsSmall) t.new }
 {
-    match depth {
-        Depth::Eight => flow_of_16_bits(t, rows),
-        Depth::Ten | Depth::Twelve => lane_steps::flow(t, rows, limit_of(depth)),
+    let widest = narrow::widest(t);
+    if widest <= calm {
+        return calm::flow(t, rows);
     }
-}
-
-fn flow_of_16_bits(t: &mut [Lanes], rows: &[FlowRow]) -> Result<(), Rule>
-    requires size { length t.old ≤ 32 }
-    requires within { IsTrue (list_all (is_within (length t.old)) rows.now) }
-    requires small { All (All IsSmall) t.old }
-    ensures gives { GivesColumns (run (2 ^ 15) rows.now) result t.old t.new }
-    ensures small { All (All IsSmall) t.new }
-{
-    if narrow::is_narrow(t) {
+    if widest <= narrow::LIMIT && depth == Depth::Eight {
         return narrow::flow(t, rows);
     }
-    lane_steps::flow(t, rows, 1 << 15)
+    lane_steps::flow(t, rows, limit_of(depth))
 }
 
 fn dct_rows(log2: u8) -> &'static [FlowRow]
@@ -121,7 +115,7 @@ pub fn adst_columns(log2: u8, t: &mut [Lanes], depth: Depth) -> Result<(), Rule>
     if log2 == 2 {
         return lane_steps::adst_of_4(t, limit_of(depth));
     }
-    flow_columns(t, rows::adst_rows(log2), depth)
+    flow_columns(t, rows::adst_rows(log2), rows::adst_calm(log2), depth)
 }
 
 fn adst_rows(log2: u8) -> &'static [FlowRow]

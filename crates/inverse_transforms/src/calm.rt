@@ -1,0 +1,119 @@
+//! A flow on eight columns whose values are known to fit: none is tested.
+
+ghost use Rattle.std.specs.Prelude.{◌≡◌, ℕ, ◌^◌, ◌≤◌, ◌<◌, length, IsTrue, All, Ok};
+ghost use Rattle.std.specs.List.{list_all};
+ghost use Rattle.inverse_transforms.specs.Flow.{at, step, run, store_two, rotated, added, is_within};
+ghost use Rattle.inverse_transforms.specs.Columns.{GivesColumns, FitsAll, TwoLanes, column};
+ghost use Rattle.inverse_transforms.specs.Ranges.{IsSmall, IsNarrow};
+
+use crate::kernels::added;
+use crate::lane_steps;
+use crate::lanes::Lanes;
+use crate::narrow::{LIMIT, rotated};
+use crate::turn::Turn;
+use vp9_tables::FlowRow;
+use vp9_types::Rule;
+
+#[inline(always)]
+fn rotated_lanes(x: &Lanes, y: &Lanes, turn: Turn) -> (Lanes, Lanes)
+    requires x { (j : ℕ) → j < 8 → IsNarrow (at x.now j) }
+    requires y { (j : ℕ) → j < 8 → IsNarrow (at y.now j) }
+    ensures { TwoLanes (rotated turn.angle) x.now y.now result.0 result.1 8 }
+{
+    let mut u = [0; 8];
+    let mut v = [0; 8];
+    for j in 0..8usize {
+        let r = rotated(x[j], y[j], turn);
+        u[j] = r.first;
+        v[j] = r.second;
+    }
+    (u, v)
+}
+
+#[inline(always)]
+fn added_lanes(x: &Lanes, y: &Lanes) -> (Lanes, Lanes)
+    requires x { All IsSmall x.now }
+    requires y { All IsSmall y.now }
+    ensures { TwoLanes added x.now y.now result.0 result.1 8 }
+{
+    let mut u = [0; 8];
+    let mut v = [0; 8];
+    for j in 0..8usize {
+        let r = added(x[j], y[j]);
+        u[j] = r.first;
+        v[j] = r.second;
+    }
+    (u, v)
+}
+
+#[inline(always)]
+fn rotate(t: &mut [Lanes], a: u8, b: u8, angle: u8)
+    requires a { a < length t.old }
+    requires b { b < length t.old }
+    requires angle { angle < 128 }
+    requires narrow { (j : ℕ) → j < 8 → All IsNarrow (column j t.old) }
+    requires small { All (All IsSmall) t.old }
+    requires fit { FitsAll (λ xs. store_two (2 ^ 15) xs a b (rotated angle (at xs a) (at xs b))) t.old }
+    ensures gives { (j : ℕ) → j < 8 → store_two (2 ^ 15) (column j t.old) a b (rotated angle (at (column j t.old) a) (at (column j t.old) b)) ≡ Ok (column j t.new) }
+    ensures small { All (All IsSmall) t.new }
+{
+    let x = t[a as usize];
+    let y = t[b as usize];
+    let (u, v) = rotated_lanes(&x, &y, Turn::by(angle));
+    t[a as usize] = u;
+    t[b as usize] = v;
+}
+
+#[inline(always)]
+fn add(t: &mut [Lanes], a: u8, b: u8)
+    requires a { a < length t.old }
+    requires b { b < length t.old }
+    requires small { All (All IsSmall) t.old }
+    requires fit { FitsAll (λ xs. store_two (2 ^ 15) xs a b (added (at xs a) (at xs b))) t.old }
+    ensures gives { (j : ℕ) → j < 8 → store_two (2 ^ 15) (column j t.old) a b (added (at (column j t.old) a) (at (column j t.old) b)) ≡ Ok (column j t.new) }
+    ensures small { All (All IsSmall) t.new }
+{
+    let x = t[a as usize];
+    let y = t[b as usize];
+    let (u, v) = added_lanes(&x, &y);
+    t[a as usize] = u;
+    t[b as usize] = v;
+}
+
+/// A step. Those that are rare are tested all the same.
+#[inline(always)]
+#[tactic(auto, unfolding(crate::specs::Flow::step))]
+fn apply(t: &mut [Lanes], row: &FlowRow) -> Result<(), Rule>
+    requires size { length t.old ≤ 32 }
+    requires within { IsTrue (is_within (length t.old) row.now) }
+    requires narrow { (j : ℕ) → j < 8 → All IsNarrow (column j t.old) }
+    requires small { All (All IsSmall) t.old }
+    requires fit { FitsAll (step (2 ^ 15) row.now) t.old }
+    ensures gives { GivesColumns (step (2 ^ 15) row.now) result t.old t.new }
+    ensures small { All (All IsSmall) t.new }
+{
+    if let FlowRow::Sum { a, b } = row {
+        add(t, *a, *b);
+        return Ok(());
+    }
+    if let FlowRow::Rot { a, b, angle } = row {
+        rotate(t, *a, *b, *angle);
+        return Ok(());
+    }
+    lane_steps::apply(t, row, LIMIT)
+}
+
+/// The steps of a flow on eight columns, each of which it keeps within 16 bits.
+pub fn flow(t: &mut [Lanes], rows: &[FlowRow]) -> Result<(), Rule>
+    requires size { length t.old ≤ 32 }
+    requires within { IsTrue (list_all (is_within (length t.old)) rows.now) }
+    requires narrow { All (All IsNarrow) t.old }
+    requires fit { FitsAll (run (2 ^ 15) rows.now) t.old }
+    ensures gives { GivesColumns (run (2 ^ 15) rows.now) result t.old t.new }
+    ensures small { All (All IsSmall) t.new }
+{
+    for row in rows {
+        apply(t, row)?;
+    }
+    Ok(())
+}
