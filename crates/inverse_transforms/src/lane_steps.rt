@@ -1,7 +1,8 @@
 //! The steps of a flow on eight columns.
 
-ghost use Rattle.std.specs.Prelude.{◌≡◌, ℕ, ◌^◌, ◌≤◌, ◌<◌, length, take, slice_index, nat_lt, IsTrue, All, neg_ℤ};
+ghost use Rattle.std.specs.Prelude.{◌≡◌, ℕ, ◌^◌, ◌≤◌, ◌<◌, length, take, slice_index, nat_lt, IsTrue, All, neg_ℤ, not};
 ghost use Rattle.std.specs.List.{list_all};
+ghost use Rattle.std.specs.Bool.{OnTrue};
 ghost use Rattle.inverse_transforms.specs.Flow.{at, step, run, store_one, store_two, store_four, permuted, rotated, added, rotated_wide, is_within};
 ghost use Rattle.inverse_transforms.specs.Transforms.{adst_of_4, wht};
 ghost use Rattle.inverse_transforms.specs.Columns.{GivesColumns, gathered};
@@ -178,31 +179,40 @@ fn gather(t: &mut [Lanes], old: &[Lanes], order: &[u8])
     }
 }
 
-fn permute_by(t: &mut [Lanes], spare: &mut [Lanes], order: &[u8])
-    requires size { length spare.old ≡ length t.old }
+/// Permutes rows of lanes if there are N of them, by a copy of so many.
+#[inline(always)]
+fn permute_whole<const N: usize>(t: &mut [Lanes], order: &[u8]) -> bool
+    requires few { N ≤ 32 }
     requires order { length t.old ≤ length order.now }
     requires within { IsTrue (list_all (λ place. nat_lt place (length t.old)) (take (length t.old) order.now)) }
-    ensures { t.new ≡ gathered order.now t.old }
+    ensures done { OnTrue result (t.new ≡ gathered order.now t.old) }
+    ensures left { OnTrue (not result) (t.new ≡ t.old) }
+    ensures size { OnTrue (not result) (length t.old ≡ N → ⊥) }
 {
-    spare.copy_from_slice(t);
-    gather(t, spare, order);
+    let Some(rows) = t.as_array::<N>() else {
+        return false;
+    };
+    let old = *rows;
+    gather(t, &old, order);
+    true
 }
 
-/// Few rows have a small copy, which takes less time to set up.
 fn permute(t: &mut [Lanes], order: &[u8])
     requires size { length t.old ≤ 32 }
     requires order { length t.old ≤ length order.now }
     requires within { IsTrue (list_all (λ place. nat_lt place (length t.old)) (take (length t.old) order.now)) }
     ensures { t.new ≡ gathered order.now t.old }
 {
-    let size = t.len();
-    if size <= 8 {
-        let mut spare = [[0; 8]; 8];
-        permute_by(t, &mut spare[..size], order);
+    if permute_whole::<8>(t, order)
+        || permute_whole::<16>(t, order)
+        || permute_whole::<32>(t, order)
+    {
         return;
     }
+    let size = t.len();
     let mut spare = [[0; 8]; 32];
-    permute_by(t, &mut spare[..size], order);
+    spare[..size].copy_from_slice(t);
+    gather(t, &spare[..size], order);
 }
 
 /// Any step. It is called for those that are rare.
