@@ -1,5 +1,6 @@
 -- Narrow values.
-use Rattle.std.proofs.Common.{◌≡◌, ℕ, ◌+◌, take, ◌*◌, ◌<◌, ◌≤◌, ◌^◌, ℤ, ◌*ℤ◌, unsigned_abs, List, [], length, get_or, subst, arith, All, to_z, of_z}
+use Rattle.std.proofs.Common.{◌≡◌, ℕ, ◌+◌, take, ◌*◌, ◌<◌, ◌≤◌, ◌^◌, ℤ, ◌*ℤ◌, unsigned_abs, Bool, true, false, List, [], length, get_or, refl, subst, arith, All, to_z, of_z}
+use Rattle.std.specs.Bool.{OnTrue}
 use Rattle.std.specs.List.{flat_map}
 use Rattle.std.proofs.lemmas.List.Concat.{get_or-flat_map}
 use Rattle.std.proofs.lemmas.List.Folds.{length-flat_map-take}
@@ -32,20 +33,18 @@ pub product_sized : (x c : ℤ) → IsNarrow x → unsigned_abs c ≤ 16384 →
     unsigned_abs (to_z w32 (of_z w32 (to_z w32 (of_z w32 x) *ℤ to_z w32 (of_z w32 c)))) ≤ 2 ^ 29
 product_sized x c narrow most = rw (product_value x c narrow most) (product_size x c narrow most)
 
-pub flat_at_most : (t : List (List ℤ)) (n : ℕ) → All (λ x. unsigned_abs x ≤ n) (flat_map (λ x. x) t) → All (All (λ x. unsigned_abs x ≤ n)) t
-flat_at_most t n flat = λ i e i_low j d j_low.
+pub flat_narrow : (t : List (List ℤ)) (n : ℕ) (test : Bool) → (test ≡ true → n ≤ 2 ^ 15) → All (λ x. unsigned_abs x ≤ n) (flat_map (λ x. x) t) →
+    OnTrue test (All (All IsNarrow) t)
+flat_narrow t n true few flat = λ i e i_low j d j_low.
     let place : unsigned_abs (get_or (flat_map (λ x. x) t) (length (flat_map (λ x. x) (take i t)) + j) d) ≤ n =
     flat (length (flat_map (λ x. x) (take i t)) + j) d (omega (arith, length-flat_map-take (λ x. x) t i e i_low)) in
-    subst (λ z. unsigned_abs z ≤ n) (get_or-flat_map (λ x. x) t i j e d i_low j_low) place
-
-pub narrower : (t : List (List ℤ)) (n : ℕ) → n ≤ 2 ^ 15 → All (All (λ x. unsigned_abs x ≤ n)) t → All (All IsNarrow) t
-narrower t n less most = λ i e i_low j d j_low. omega (arith, most i e i_low j d j_low)
-
-pub columns_at_most : (t : List (List ℤ)) (n : ℕ) → All (All (λ x. unsigned_abs x ≤ n)) t → (j : ℕ) → All (λ x. unsigned_abs x ≤ n) (column j t)
-columns_at_most t n most j = All-map (λ x. unsigned_abs x ≤ n) (λ row. at row j) t (λ k d low. at_small n (get_or t k d) j (most k d low))
+    let here : unsigned_abs (get_or (get_or t i e) j d) ≤ n =
+    subst (λ z. unsigned_abs z ≤ n) (get_or-flat_map (λ x. x) t i j e d i_low j_low) place in
+    omega (arith, few refl)
+flat_narrow t n false few flat = tt
 
 pub narrow_columns : (t : List (List ℤ)) → All (All IsNarrow) t → (j : ℕ) → All IsNarrow (column j t)
-narrow_columns t narrow j = columns_at_most t (2 ^ 15) narrow j
+narrow_columns t narrow j = All-map IsNarrow (λ row. at row j) t (λ k d low. at_small (2 ^ 15) (get_or t k d) j (narrow k d low))
 
 pub narrow_all_small : (t : List (List ℤ)) → All (All IsNarrow) t → All (All IsSmall) t
 narrow_all_small t narrow k d low i e i_low = narrow_small (get_or (get_or t k d) i e) (narrow k d low i e i_low)

@@ -9,7 +9,7 @@ use Rattle.inverse_transforms.proofs.SameFlows.{same_flow}
 use Rattle.inverse_transforms.proofs.Bounds.{CalmRun, calm_flow}
 
 of_calm : {rows : List FlowRow} {xs : List ℤ} → CalmRun rows xs → (ys : List ℤ) × ((limit : ℕ) → 2 ^ 15 ≤ limit → run limit rows xs ≡ Ok ys)
-of_calm c = (c.ys, c.gives)
+of_calm c = (c.zs, c.gives)
 
 pub dct_4 : AreDct 2 RENAMED_DCT_4
 unfolding dct AreDct
@@ -35,26 +35,26 @@ pub adst_16 : AreAdst 4 RENAMED_ADST_16
 unfolding adst AreAdst
 adst_16 = same_flow 16 FLOW_ADST_16 RENAMED_ADST_16 refl refl refl
 
-pub calm_dct_4 : IsCalm 4 12000 (λ limit. dct limit 2)
+pub calm_dct_4 : IsCalm 4 32768 (λ limit. dct limit 2)
 unfolding dct IsCalm
-calm_dct_4 = λ xs size most. of_calm (calm_flow 12000 4 FLOW_DCT_4 refl xs size most)
+calm_dct_4 = λ xs size most. of_calm (calm_flow 32768 4 FLOW_DCT_4 refl xs size most)
 
-pub calm_dct_8 : IsCalm 8 5000 (λ limit. dct limit 3)
+pub calm_dct_8 : IsCalm 8 32768 (λ limit. dct limit 3)
 unfolding dct IsCalm
-calm_dct_8 = λ xs size most. of_calm (calm_flow 5000 8 FLOW_DCT_8 refl xs size most)
+calm_dct_8 = λ xs size most. of_calm (calm_flow 32768 8 FLOW_DCT_8 refl xs size most)
 
-pub calm_dct_16 : IsCalm 16 2000 (λ limit. dct limit 4)
+pub calm_dct_16 : IsCalm 16 25000 (λ limit. dct limit 4)
 unfolding dct IsCalm
-calm_dct_16 = λ xs size most. of_calm (calm_flow 2000 16 FLOW_DCT_16 refl xs size most)
+calm_dct_16 = λ xs size most. of_calm (calm_flow 25000 16 FLOW_DCT_16 refl xs size most)
 
-pub calm_dct_32 : IsCalm 32 800 (λ limit. dct limit 5)
+pub calm_dct_32 : IsCalm 32 18000 (λ limit. dct limit 5)
 unfolding dct IsCalm
-calm_dct_32 = λ xs size most. of_calm (calm_flow 800 32 FLOW_DCT_32 refl xs size most)
+calm_dct_32 = λ xs size most. of_calm (calm_flow 18000 32 FLOW_DCT_32 refl xs size most)
 
-pub calm_adst_8 : IsCalm 8 3400 (λ limit. adst limit 3)
+pub calm_adst_8 : IsCalm 8 25000 (λ limit. adst limit 3)
 unfolding adst IsCalm
-calm_adst_8 = λ xs size most. of_calm (calm_flow 3400 8 FLOW_ADST_8 refl xs size most)
+calm_adst_8 = λ xs size most. of_calm (calm_flow 25000 8 FLOW_ADST_8 refl xs size most)
 
-pub calm_adst_16 : IsCalm 16 1300 (λ limit. adst limit 4)
+pub calm_adst_16 : IsCalm 16 18000 (λ limit. adst limit 4)
 unfolding adst IsCalm
-calm_adst_16 = λ xs size most. of_calm (calm_flow 1300 16 FLOW_ADST_16 refl xs size most)
+calm_adst_16 = λ xs size most. of_calm (calm_flow 18000 16 FLOW_ADST_16 refl xs size most)

@@ -64,7 +64,7 @@ true_is_not_false h = let no : ⊥ = cc in no
 eqb_same : (a b : ℕ) → a ≡ b → nat_eq a b ≡ true
 eqb_same a b is = grind (arith, nat_tests)
 
-range_at : (n i : ℕ) → i < n → get_or (range_with_len 0 n) i 0 ≡ i
+pub range_at : (n i : ℕ) → i < n → get_or (range_with_len 0 n) i 0 ≡ i
 range_at n i low = get_or-range_with_len 0 n i 0 low ∙ omega arith
 
 all_at : (test : ℕ → Bool) (n i : ℕ) → list_all test (range_with_len 0 n) ≡ true → i < n → test i ≡ true

@@ -1,6 +1,6 @@
 -- A transform of a list is a flow: steps applied one after another, each of which stores its values if they fit
 -- (8.7.1 of the standard).
-use Rattle.std.specs.Prelude.{◌≡◌, ℕ, ◌*◌, ◌^◌, ◌≤◌, ℤ, unsigned_abs, All, pos, neg_ℤ, ◌+ℤ◌, ◌-ℤ◌, ◌*ℤ◌, Bool, true, ◌&&◌, List, [], ◌∷◌, map, take, length, replicate, slice_index_or, slice_set, Result, Ok, Err, if◌then◌else◌, nat_lt, nat_le}
+use Rattle.std.specs.Prelude.{◌≡◌, ℕ, ◌+◌, ◌*◌, ◌^◌, ◌≤◌, ℤ, unsigned_abs, pos, neg_ℤ, ◌+ℤ◌, ◌-ℤ◌, ◌*ℤ◌, Bool, true, ◌&&◌, List, [], ◌∷◌, map, take, length, replicate, slice_index_or, slice_set, Result, Ok, Err, if◌then◌else◌, nat_lt, nat_le}
 use Rattle.std.specs.List.{list_all}
 use Rattle.vp9_types.specs.declared.rule.Rule.{Rule}
 use Rattle.vp9_types.specs.declared.rule.Rule.TheVariants.{TransformRange}
@@ -85,11 +85,16 @@ abbrev pub Gives : Result (List ℤ) Rule → Result (Unit {0}) Rule → List �
 Gives computed (Ok _) new = computed ≡ Ok new
 Gives computed (Err rule) new = computed ≡ Err rule
 
--- a transform, by its limit, that keeps n values of at most this magnitude within 16 bits, and so is the same at every limit
--- of 16 bits and more
+-- the sum of the magnitudes
+abbrev pub magnitude : List ℤ → ℕ
+magnitude [] = 0
+magnitude (x ∷ xs) = unsigned_abs x + magnitude xs
+
+-- a transform, by its limit, that keeps n values whose magnitudes add up to this at most within 16 bits, and so is the same at
+-- every limit of 16 bits and more
 unfoldable pub IsCalm : ℕ → ℕ → (ℕ → List ℤ → Result (List ℤ) Rule) → Type 0
 IsCalm n most f =
-    (xs : List ℤ) → length xs ≡ n → All (λ x. unsigned_abs x ≤ most) xs → (ys : List ℤ) × ((limit : ℕ) → 2 ^ 15 ≤ limit → f limit xs ≡ Ok ys)
+    (xs : List ℤ) → length xs ≡ n → magnitude xs ≤ most → (ys : List ℤ) × ((limit : ℕ) → 2 ^ 15 ≤ limit → f limit xs ≡ Ok ys)
 
 -- there are n entries at least, and the first n are places below n
 abbrev pub is_reorder : ℕ → FlowRow → Bool

@@ -107,7 +107,8 @@ fn apply(t: &mut [Lanes], row: &FlowRow) -> Result<(), Rule>
 pub fn flow(t: &mut [Lanes], rows: &[FlowRow]) -> Result<(), Rule>
     requires size { length t.old ≤ 32 }
     requires within { IsTrue (list_all (is_within (length t.old)) rows.now) }
-    requires narrow { All (All IsNarrow) t.old }
+    requires narrow { (j : ℕ) → j < 8 → All IsNarrow (column j t.old) }
+    requires small { All (All IsSmall) t.old }
     requires fit { FitsAll (run (2 ^ 15) rows.now) t.old }
     ensures gives { GivesColumns (run (2 ^ 15) rows.now) result t.old t.new }
     ensures small { All (All IsSmall) t.new }

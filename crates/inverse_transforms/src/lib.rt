@@ -6,6 +6,7 @@ mod kernels;
 mod lane_steps;
 mod lanes;
 mod laws;
+mod magnitudes;
 mod narrow;
 mod numbers;
 mod quads;

@@ -129,7 +129,7 @@ pub fn flow(t: &mut [Lanes], rows: &[FlowRow]) -> Result<(), Rule>
 }
 
 /// A bound of all magnitudes.
-fn widest_of(xs: &[i32]) -> u32
+fn widest(xs: &[i32]) -> u32
     ensures { All (λ x. unsigned_abs x ≤ result) xs.now }
 {
     let mut most = 0;
@@ -139,9 +139,9 @@ fn widest_of(xs: &[i32]) -> u32
     most
 }
 
-/// A bound of the magnitudes of all columns.
-pub fn widest(t: &[Lanes]) -> u32
-    ensures { All (All (λ x. unsigned_abs x ≤ result)) t.now }
+/// Whether all values are narrow.
+pub fn is_narrow(t: &[Lanes]) -> bool
+    ensures { OnTrue result (All (All IsNarrow) t.now) }
 {
-    widest_of(t.as_flattened())
+    widest(t.as_flattened()) <= LIMIT
 }

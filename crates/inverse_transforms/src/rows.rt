@@ -27,7 +27,7 @@ pub fn dct_rows(log2: u8) -> &'static [FlowRow]
     }
 }
 
-/// How large values may be for the DCT of `2 ^ log2` of them to store none of more than 16 bits.
+/// What the magnitudes of `2 ^ log2` values may add up to for their DCT to store none of more than 16 bits.
 pub fn dct_calm(log2: u8) -> u32
     requires least { 2 ≤ log2 }
     requires most { log2 ≤ 5 }
@@ -35,10 +35,10 @@ pub fn dct_calm(log2: u8) -> u32
     ensures narrow { result ≤ 2 ^ 15 }
 {
     match log2 {
-        2 => 12000,
-        3 => 5000,
-        4 => 2000,
-        5 => 800,
+        2 => 32768,
+        3 => 32768,
+        4 => 25000,
+        5 => 18000,
         _ => unreachable!(),
     }
 }
@@ -58,7 +58,7 @@ pub fn adst_rows(log2: u8) -> &'static [FlowRow]
     }
 }
 
-/// How large values may be for the ADST of `2 ^ log2` of them to store none of more than 16 bits.
+/// What the magnitudes of `2 ^ log2` values may add up to for their ADST to store none of more than 16 bits.
 pub fn adst_calm(log2: u8) -> u32
     requires least { 3 ≤ log2 }
     requires most { log2 ≤ 4 }
@@ -66,8 +66,8 @@ pub fn adst_calm(log2: u8) -> u32
     ensures narrow { result ≤ 2 ^ 15 }
 {
     match log2 {
-        3 => 3400,
-        4 => 1300,
+        3 => 25000,
+        4 => 18000,
         _ => unreachable!(),
     }
 }

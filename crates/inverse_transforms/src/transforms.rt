@@ -9,6 +9,7 @@ ghost use Rattle.inverse_transforms.specs.Columns.{GivesColumns};
 ghost use Rattle.inverse_transforms.specs.Ranges.{IsSmall, limit_of};
 
 use crate::lanes::Lanes;
+use crate::magnitudes::heaviest;
 use crate::quads::{adst_of_4, wht_of_4};
 use crate::{calm, lane_steps, narrow, rows, steps};
 use vp9_tables::{FlowRow, adst_8_flow, adst_16_flow, dct_flow};
@@ -50,8 +51,8 @@ pub fn dct_columns(log2: u8, t: &mut [Lanes], depth: Depth) -> Result<(), Rule>
     flow_columns(t, rows::dct_rows(log2), rows::dct_calm(log2), depth)
 }
 
-/// The steps of a flow on eight columns: without tests where no value is larger than `calm`, and by products of 32 bits
-/// where values of the depth fit in 16.
+/// The steps of a flow on eight columns: without tests where the magnitudes of no column add up to more than `calm`, and
+/// by products of 32 bits where values of the depth fit in 16.
 fn flow_columns(t: &mut [Lanes], rows: &[FlowRow], calm: u32, depth: Depth) -> Result<(), Rule>
     requires size { length t.old ≤ 32 }
     requires within { IsTrue (list_all (is_within (length t.old)) rows.now) }
@@ -61,11 +62,10 @@ fn flow_columns(t: &mut [Lanes], rows: &[FlowRow], calm: u32, depth: Depth) -> R
     ensures gives { GivesColumns (run (limit_of depth) rows.now) result t.old t.new }
     ensures small { All (All IsSmall) t.new }
 {
-    let widest = narrow::widest(t);
-    if widest <= calm {
+    if heaviest(t) <= calm {
         return calm::flow(t, rows);
     }
-    if widest <= narrow::LIMIT && depth == Depth::Eight {
+    if depth == Depth::Eight && narrow::is_narrow(t) {
         return narrow::flow(t, rows);
     }
     lane_steps::flow(t, rows, limit_of(depth))

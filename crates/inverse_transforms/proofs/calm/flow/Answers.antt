@@ -3,13 +3,12 @@ use Rattle.vp9_tables.specs.declared.flow_row.FlowRow.TheVariants.{Perm}
 use Rattle.inverse_transforms.specs.Columns.{column}
 use Rattle.inverse_transforms.proofs.Small.{step_small}
 use Rattle.inverse_transforms.proofs.Runs.{stepped, goes_on}
-use Rattle.inverse_transforms.proofs.Narrows.{narrow_columns, narrow_all_small}
 use Rattle.inverse_transforms.proofs.calm.flow.Goals as goal
 
 pub loop-row-init : goal.loop-row-init
 loop-row-init c = record {
-  small = narrow_all_small c.args.t.now c.requires.narrow;
-  narrow = λ j low. narrow_columns c.args.t.now c.requires.narrow j;
+  small = c.requires.small;
+  narrow = c.requires.narrow;
   left = λ j low. refl;
 }
 
