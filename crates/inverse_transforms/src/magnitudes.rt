@@ -6,28 +6,38 @@ ghost use Rattle.inverse_transforms.specs.Columns.{column};
 ghost use Rattle.inverse_transforms.specs.Ranges.{IsSmall};
 
 use crate::lanes::Lanes;
+use std::simd::prelude::*;
+
+#[inline(always)]
+fn magnitudes(row: &Lanes) -> [u32; 8]
+    ensures { (j : ℕ) → j < 8 → slice_index_or result j 0 ≡ unsigned_abs (at row.now j) }
+{
+    let mut sizes = [0; 8];
+    for j in 0..8usize {
+        sizes[j] = row[j].unsigned_abs();
+    }
+    sizes
+}
 
 /// Adds the magnitude of each lane.
 #[inline(always)]
-fn add_magnitudes(sums: &mut [u32; 8], row: &Lanes)
+fn with_magnitudes(sums: u32x8, row: &Lanes) -> u32x8
     requires small { All IsSmall row.now }
-    requires room { (j : ℕ) → j < 8 → slice_index_or sums.old j 0 ≤ 2 ^ 30 }
-    ensures { (j : ℕ) → j < 8 → slice_index_or sums.new j 0 ≡ slice_index_or sums.old j 0 + unsigned_abs (at row.now j) }
+    requires room { (j : ℕ) → j < 8 → slice_index_or sums j 0 ≤ 2 ^ 30 }
+    ensures { (j : ℕ) → j < 8 → slice_index_or result j 0 ≡ slice_index_or sums j 0 + unsigned_abs (at row.now j) }
 {
-    for j in 0..8usize {
-        sums[j] += row[j].unsigned_abs();
-    }
+    sums + u32x8::from_array(magnitudes(row))
 }
 
 /// The sum of the magnitudes of each column.
-fn column_sums(t: &[Lanes]) -> [u32; 8]
+fn column_sums(t: &[Lanes]) -> u32x8
     requires size { length t.now ≤ 32 }
     requires small { All (All IsSmall) t.now }
     ensures { (j : ℕ) → j < 8 → slice_index_or result j 0 ≡ magnitude (column j t.now) }
 {
-    let mut sums = [0; 8];
+    let mut sums = u32x8::splat(0);
     for row in t {
-        add_magnitudes(&mut sums, row);
+        sums = with_magnitudes(sums, row);
     }
     sums
 }
@@ -48,5 +58,5 @@ pub fn heaviest(t: &[Lanes]) -> u32
     requires small { All (All IsSmall) t.now }
     ensures { (j : ℕ) → j < 8 → magnitude (column j t.now) ≤ result }
 {
-    greatest(&column_sums(t))
+    greatest(&column_sums(t).to_array())
 }
