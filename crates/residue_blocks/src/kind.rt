@@ -89,7 +89,7 @@ fn is_zero(t: &[Lanes]) -> bool
 
 /// The transforms of eight columns.
 #[tactic(auto, unfolding(crate::specs::Residue::transform))]
-fn transform_columns(kind: Kind, log2: u8, t: &mut [Lanes], depth: Depth) -> Result<(), Rule>
+pub fn transform_columns(kind: Kind, log2: u8, t: &mut [Lanes], depth: Depth) -> Result<(), Rule>
     requires kind { IsTrue (has_size kind log2) }
     requires size { length t.old ≡ 2 ^ log2 }
     requires small { All (All IsSmall) t.old }

@@ -2,6 +2,7 @@
 //! then its columns are transformed.
 #![tactic(auto)]
 
+mod cross;
 mod dequantise;
 mod group;
 mod kind;
