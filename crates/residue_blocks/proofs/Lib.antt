@@ -1,5 +1,6 @@
 pub mod Coefs
 pub mod Crossings
+pub mod Scales
 pub mod Skips
 pub mod Loads
 pub mod Pieces

@@ -9,6 +9,7 @@ mod kind;
 mod levels;
 mod quant;
 mod repeats;
+mod scale;
 #[cfg(test)]
 mod tests;
 mod turn;
