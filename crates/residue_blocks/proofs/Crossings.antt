@@ -1,7 +1,8 @@
 -- Four rows of four values that are interleaved twice are their columns.
-use Rattle.std.proofs.Common.{◌≡◌, ℕ, zero, suc, ◌+◌, ◌^◌, ◌<◌, ◌≤◌, ℤ, pos, List, [], ◌∷◌, ◌++◌, map, length, get_or, refl, sym, ◌∙◌, ap, arith, All, to_z, of_z}
+use Rattle.std.proofs.Common.{◌≡◌, ℕ, zero, suc, ◌+◌, ◌^◌, ◌<◌, ◌≤◌, ℤ, pos, List, [], ◌∷◌, ◌++◌, map, length, set, get_or, refl, sym, ◌∙◌, ap, subst, arith, All, to_z, of_z}
 use mir.Syntax.{w32}
-use lib.Lanes.{chunk}
+use lib.Lanes.{chunk, put_chunk}
+use borrow.Rule.Slice.PartMut.{put_mid, mid_of}
 use Rattle.std.proofs.lemmas.List.{get_or-map, length-map, get_or_append_left, get_or-append-add}
 use Rattle.std.proofs.lemmas.Simd.{get_or-chunk, length-chunk}
 use Rattle.inverse_transforms.specs.Ranges.{IsSmall}
@@ -82,19 +83,55 @@ woven a b c d k a_four b_four c_four d_four low =
     same_four (twice a c k) (twice b d k) (twice a c (4 + k)) (twice b d (4 + k)) (at a k) (at b k) (at c k) (at d k)
     (front_twice a c k a_four low) (front_twice b d k b_four low) (behind_twice a c k a_four c_four low) (behind_twice b d k b_four d_four low)
 
-abbrev once : List ℤ → List ℤ → ℕ → ℤ
-once a c k = to_z w32 (get_or (map (of_z w32) a ++ map (of_z w32) c) k 0)
+eight_values : (xs : List ℤ) → length xs ≡ 8 → xs ≡ at xs 0 ∷ at xs 1 ∷ at xs 2 ∷ at xs 3 ∷ at xs 4 ∷ at xs 5 ∷ at xs 6 ∷ at xs 7 ∷ []
+eight_values [] size = absurd (omega arith)
+eight_values (a ∷ []) size = absurd (omega arith)
+eight_values (a ∷ b ∷ []) size = absurd (omega arith)
+eight_values (a ∷ b ∷ c ∷ []) size = absurd (omega arith)
+eight_values (a ∷ b ∷ c ∷ d ∷ []) size = absurd (omega arith)
+eight_values (a ∷ b ∷ c ∷ d ∷ e ∷ []) size = absurd (omega arith)
+eight_values (a ∷ b ∷ c ∷ d ∷ e ∷ f ∷ []) size = absurd (omega arith)
+eight_values (a ∷ b ∷ c ∷ d ∷ e ∷ f ∷ g ∷ []) size = absurd (omega arith)
+eight_values (a ∷ b ∷ c ∷ d ∷ e ∷ f ∷ g ∷ h ∷ []) size = refl
+eight_values (a ∷ b ∷ c ∷ d ∷ e ∷ f ∷ g ∷ h ∷ i ∷ xs) size = absurd (omega arith)
 
-pub joined_kept : (a b : List ℤ) → IsFour a → IsFour b →
-    once a b 0 ∷ once a b 1 ∷ once a b 2 ∷ once a b 3 ∷ once a b 4 ∷ once a b 5 ∷ once a b 6 ∷ once a b 7 ∷ [] ≡ a ++ b
-joined_kept a b a_four b_four =
-    let first = same_four (once a b 0) (once a b 1) (once a b 2) (once a b 3) (at a 0) (at a 1) (at a 2) (at a 3)
-    (front_kept a b 0 a_four (omega arith)) (front_kept a b 1 a_four (omega arith)) (front_kept a b 2 a_four (omega arith)) (front_kept a b 3 a_four (omega arith)) in
-    let second = same_four (once a b 4) (once a b 5) (once a b 6) (once a b 7) (at b 0) (at b 1) (at b 2) (at b 3)
-    (behind_kept a b 0 a_four b_four (omega arith)) (behind_kept a b 1 a_four b_four (omega arith)) (behind_kept a b 2 a_four b_four (omega arith))
-    (behind_kept a b 3 a_four b_four (omega arith)) in
-    ap (λ xs. xs ++ (once a b 4 ∷ once a b 5 ∷ once a b 6 ∷ once a b 7 ∷ [])) (first ∙ sym (four_values a a_four.0))
-    ∙ ap (λ ys. a ++ ys) (second ∙ sym (four_values b b_four.0))
+-- four values are put in front, and four behind them
+abbrev put_both : List ℤ → List ℤ → List ℤ → List ℤ
+put_both xs upper lower = put_mid 4 4 (put_chunk 0 xs upper) (put_chunk 0 (mid_of 4 4 (put_chunk 0 xs upper)) lower)
+
+put_values : (a b c d e f g h p q r s w x y z : ℤ) →
+    put_both (a ∷ b ∷ c ∷ d ∷ e ∷ f ∷ g ∷ h ∷ []) (p ∷ q ∷ r ∷ s ∷ []) (w ∷ x ∷ y ∷ z ∷ []) ≡ (p ∷ q ∷ r ∷ s ∷ []) ++ (w ∷ x ∷ y ∷ z ∷ [])
+put_values a b c d e f g h p q r s w x y z = refl
+
+put_lists : (xs upper lower : List ℤ) → length xs ≡ 8 → length upper ≡ 4 → length lower ≡ 4 → put_both xs upper lower ≡ upper ++ lower
+put_lists xs upper lower size upper_size lower_size =
+    let all = put_values (at xs 0) (at xs 1) (at xs 2) (at xs 3) (at xs 4) (at xs 5) (at xs 6) (at xs 7) (at upper 0) (at upper 1) (at upper 2) (at upper 3)
+    (at lower 0) (at lower 1) (at lower 2) (at lower 3) in
+    let of_row = subst (λ z. put_both z (at upper 0 ∷ at upper 1 ∷ at upper 2 ∷ at upper 3 ∷ []) (at lower 0 ∷ at lower 1 ∷ at lower 2 ∷ at lower 3 ∷ [])
+    ≡ (at upper 0 ∷ at upper 1 ∷ at upper 2 ∷ at upper 3 ∷ []) ++ (at lower 0 ∷ at lower 1 ∷ at lower 2 ∷ at lower 3 ∷ [])) (sym (eight_values xs size)) all in
+    let of_upper = subst (λ z. put_both xs z (at lower 0 ∷ at lower 1 ∷ at lower 2 ∷ at lower 3 ∷ [])
+    ≡ z ++ (at lower 0 ∷ at lower 1 ∷ at lower 2 ∷ at lower 3 ∷ [])) (sym (four_values upper upper_size)) of_row in
+    subst (λ z. put_both xs upper z ≡ upper ++ z) (sym (four_values lower lower_size)) of_upper
+
+kept_whole : (xs : List ℤ) → IsFour xs → map (to_z w32) (map (of_z w32) xs) ≡ xs
+kept_whole xs four =
+    ap (λ z. map (to_z w32) (map (of_z w32) z)) (four_values xs four.0)
+    ∙ (kept_four (at xs 0) (at xs 1) (at xs 2) (at xs 3) (at_small (2 ^ 24) xs 0 four.1) (at_small (2 ^ 24) xs 1 four.1) (at_small (2 ^ 24) xs 2 four.1)
+    (at_small (2 ^ 24) xs 3 four.1) ∙ sym (four_values xs four.0))
+
+pub lanes_set : (xs upper lower : List ℤ) → length xs ≡ 8 → IsFour upper → IsFour lower →
+    put_both xs (map (to_z w32) (map (of_z w32) upper)) (map (to_z w32) (map (of_z w32) lower)) ≡ upper ++ lower
+lanes_set xs upper lower size upper_four lower_four =
+    ap (λ z. put_both xs z (map (to_z w32) (map (of_z w32) lower))) (kept_whole upper upper_four)
+    ∙ (ap (put_both xs upper) (kept_whole lower lower_four) ∙ put_lists xs upper lower size upper_four.0 lower_four.0)
+
+pub four_set : (t : List (List ℤ)) (a b c d : List ℤ) → length t ≡ 4 → set (set (set (set t 0 a) 1 b) 2 c) 3 d ≡ a ∷ b ∷ c ∷ d ∷ []
+four_set [] a b c d size = absurd (omega arith)
+four_set (p ∷ []) a b c d size = absurd (omega arith)
+four_set (p ∷ q ∷ []) a b c d size = absurd (omega arith)
+four_set (p ∷ q ∷ r ∷ []) a b c d size = absurd (omega arith)
+four_set (p ∷ q ∷ r ∷ s ∷ []) a b c d size = refl
+four_set (p ∷ q ∷ r ∷ s ∷ u ∷ t) a b c d size = absurd (omega arith)
 
 small_four : (a b c d : ℤ) → IsSmall a → IsSmall b → IsSmall c → IsSmall d → All IsSmall (a ∷ b ∷ c ∷ d ∷ [])
 small_four a b c d a_small b_small c_small d_small zero e low = a_small

@@ -1,9 +1,9 @@
 -- Rows of lanes are loaded four at a time.
-use Rattle.std.proofs.Common.{◌≡◌, ℕ, zero, suc, ◌+◌, ◌*◌, ◌^◌, ◌<◌, ◌≤◌, ℤ, pos, List, [], ◌∷◌, ◌++◌, map, length, set, get_or, refl, sym, ◌∙◌, ap, subst, arith, All, to_z, of_z, below_more, length-set}
+use Rattle.std.proofs.Common.{◌≡◌, ℕ, zero, suc, ◌+◌, ◌-◌, ◌*◌, ◌^◌, ◌<◌, ◌≤◌, ℤ, pos, List, [], ◌∷◌, ◌++◌, map, length, set, get_or, refl, sym, ◌∙◌, ap, subst, arith, All, to_z, of_z, below_more, length-set}
 use mir.Syntax.{w32}
 use Rattle.std.proofs.Math.Nat.{add-mul}
 use Rattle.std.proofs.lemmas.Grind.{get_or-set_at}
-use Rattle.std.proofs.lemmas.List.{get_or-set_other, get_or_default, ext_get_or, length-map}
+use Rattle.std.proofs.lemmas.List.{get_or-set_other, get_or_default, ext_get_or, length-map, get_or-append_right}
 use Rattle.std.proofs.lemmas.List.Elements.{All-append}
 use Rattle.std.proofs.lemmas.Simd.{get_or-chunk, length-chunk}
 use Rattle.inverse_transforms.specs.Ranges.{IsSmall}
@@ -11,6 +11,7 @@ use Rattle.inverse_transforms.specs.Flow.{at, zeros}
 use Rattle.inverse_transforms.specs.Columns.{column}
 use Rattle.inverse_transforms.proofs.ColumnLemmas.{column_at}
 use Rattle.inverse_transforms.proofs.Small.{at_small}
+use Rattle.inverse_transforms.proofs.Zeros.{at_zeros}
 use Rattle.residue_blocks.proofs.Skips.{zeros_small}
 use Rattle.residue_blocks.specs.Blocks.{row}
 use Rattle.residue_blocks.specs.Fours.{IsFour, AreLoaded, across, four_down, eight_down}
@@ -135,6 +136,9 @@ half_at xs i (suc (suc zero)) low = ap (at xs) (omega arith)
 half_at xs i (suc (suc (suc zero))) low = ap (at xs) (omega arith)
 half_at xs i (suc (suc (suc (suc j)))) low = absurd (omega arith)
 
+half_rest : (xs : List ℤ) (i j : ℕ) → 4 ≤ j → at (four_down 4 xs i ++ zeros 4) j ≡ pos 0
+half_rest xs i j past = get_or-append_right (four_down 4 xs i) (zeros 4) 4 j (pos 0) refl past ∙ at_zeros 4 (j - 4)
+
 abbrev halves : List ℤ → List (List ℤ)
 halves xs = (four_down 4 xs 0 ++ zeros 4) ∷ (four_down 4 xs 1 ++ zeros 4) ∷ (four_down 4 xs 2 ++ zeros 4) ∷ (four_down 4 xs 3 ++ zeros 4) ∷ []
 
@@ -151,6 +155,12 @@ halves_loaded xs t size is j low =
     (at xs (j * 4)) (at xs (j * 4 + 1)) (at xs (j * 4 + 2)) (at xs (j * 4 + 3))
     (half_at xs 0 j low ∙ ap (at xs) (omega arith)) (half_at xs 1 j low) (half_at xs 2 j low) (half_at xs 3 j low)
     ∙ sym (chunk_values (j * 4) xs (omega arith)))
+
+pub halves_rest : (xs : List ℤ) (t : List (List ℤ)) → t ≡ halves xs → (j : ℕ) → 4 ≤ j → column j t ≡ zeros 4
+halves_rest xs t is j past =
+    ap (column j) is
+    ∙ same_four (at (four_down 4 xs 0 ++ zeros 4) j) (at (four_down 4 xs 1 ++ zeros 4) j) (at (four_down 4 xs 2 ++ zeros 4) j) (at (four_down 4 xs 3 ++ zeros 4) j)
+    (pos 0) (pos 0) (pos 0) (pos 0) (half_rest xs 0 j past) (half_rest xs 1 j past) (half_rest xs 2 j past) (half_rest xs 3 j past)
 
 half_small : (xs : List ℤ) (i : ℕ) → All IsSmall xs → All IsSmall (four_down 4 xs i ++ zeros 4)
 half_small xs i small = All-append IsSmall (four_down 4 xs i) (zeros 4) (down_is_four 4 xs i small).1 (zeros_small 4)

@@ -38,15 +38,15 @@ fn crossed(a: i32x4, b: i32x4, c: i32x4, d: i32x4) -> (i32x4, i32x4, i32x4, i32x
     (first, second, third, fourth)
 }
 
-/// Eight lanes of four and four.
+/// Four lanes, and the other four.
 #[inline(always)]
-fn joined(a: i32x4, b: i32x4) -> Lanes
-    requires a { IsFour a }
-    requires b { IsFour b }
-    ensures { result ≡ a ++ b }
+fn set_lanes(row: &mut Lanes, upper: i32x4, lower: i32x4)
+    requires upper { IsFour upper }
+    requires lower { IsFour lower }
+    ensures { row.new ≡ upper ++ lower }
 {
-    let whole: i32x8 = a.shuffle(b, [0, 1, 2, 3, 4, 5, 6, 7]);
-    whole.to_array()
+    upper.copy_to_slice(row);
+    lower.copy_to_slice(&mut row[4..]);
 }
 
 /// The columns of four rows of n, from a place on.
@@ -80,10 +80,10 @@ fn load_rows(t: &mut [Lanes], from: &[i32], n: usize, place: usize, k: usize)
 {
     let upper = crossed_rows(from, n, place + k);
     let lower = crossed_rows(from, n, place + k + 4 * n);
-    t[k] = joined(upper.0, lower.0);
-    t[k + 1] = joined(upper.1, lower.1);
-    t[k + 2] = joined(upper.2, lower.2);
-    t[k + 3] = joined(upper.3, lower.3);
+    set_lanes(&mut t[k], upper.0, lower.0);
+    set_lanes(&mut t[k + 1], upper.1, lower.1);
+    set_lanes(&mut t[k + 2], upper.2, lower.2);
+    set_lanes(&mut t[k + 3], upper.3, lower.3);
 }
 
 /// Eight rows of a block, one a lane.
@@ -104,19 +104,17 @@ pub fn load(t: &mut [Lanes], from: &[i32], first: usize)
 
 /// The rows of a block of 4x4, one a lane, and zeros behind them.
 #[inline(always)]
-pub fn load_four(from: &[i32]) -> [Lanes; 4]
+pub fn load_four(t: &mut [Lanes; 4], from: &[i32])
     requires size { length from.now ≡ 16 }
     requires values { All IsSmall from.now }
-    ensures loaded { (j : ℕ) → j < 4 → column j result ≡ row 4 j from.now }
-    ensures rest { (j : ℕ) → 4 ≤ j → j < 8 → column j result ≡ zeros 4 }
-    ensures small { All (All IsSmall) result }
+    ensures loaded { (j : ℕ) → j < 4 → column j t.new ≡ row 4 j from.now }
+    ensures rest { (j : ℕ) → 4 ≤ j → j < 8 → column j t.new ≡ zeros 4 }
+    ensures small { All (All IsSmall) t.new }
 {
     let rows = crossed_rows(from, 4, 0);
     let none = i32x4::splat(0);
-    [
-        joined(rows.0, none),
-        joined(rows.1, none),
-        joined(rows.2, none),
-        joined(rows.3, none),
-    ]
+    set_lanes(&mut t[0], rows.0, none);
+    set_lanes(&mut t[1], rows.1, none);
+    set_lanes(&mut t[2], rows.2, none);
+    set_lanes(&mut t[3], rows.3, none);
 }

@@ -58,7 +58,8 @@ fn turn_four(from: &[i32], to: &mut [i32], pass: Pass) -> Result<(), Rule>
     requires values { All IsSmall from.now }
     ensures { TurnsGroup (rounded_transform pass.kind (limit_of pass.depth) pass.log2 pass.bits) 4 0 4 from.now result to.old to.new }
 {
-    let mut t = load_four(from);
+    let mut t = [[0; 8]; 4];
+    load_four(&mut t, from);
     transform_columns(pass.kind, pass.log2, &mut t, pass.depth)?;
     store_four(to, &t, pass.bits);
     Ok(())
