@@ -46,15 +46,19 @@ at_coefficients : (quant : Quant) (tx : TxSize) (old : List ℤ) (k : ℕ) → k
 at_coefficients quant tx old k low =
     get_or-map-range_with_len (λ place. coefficient quant tx place (at old place)) 0 (length old) k k (pos 0) low (omega arith)
 
-pub one_misfit : (quant : Quant) (tx : TxSize) (old now : List ℤ) (n : ℕ) → n < length now → SoFar quant tx old now n →
+pub misfit_at : (quant : Quant) (tx : TxSize) (old : List ℤ) (n : ℕ) → n < length old → fits (limit_of quant.depth) (coefficient quant tx n (at old n)) ≡ false →
+    list_all (fits (limit_of quant.depth)) (coefficients quant tx old) ≡ false
+misfit_at quant tx old n low fails =
+    let size = length-map-range_with_len (λ place. coefficient quant tx place (at old place)) 0 (length old) in
+    list_all_at (fits (limit_of quant.depth)) (coefficients quant tx old) n (pos 0) (omega (arith, size))
+    (ap (fits (limit_of quant.depth)) (at_coefficients quant tx old n low) ∙ fails)
+
+one_misfit : (quant : Quant) (tx : TxSize) (old now : List ℤ) (n : ℕ) → n < length now → SoFar quant tx old now n →
     fits (limit_of quant.depth) (coefficient quant tx n (at now n)) ≡ false →
     list_all (fits (limit_of quant.depth)) (coefficients quant tx old) ≡ false
 one_misfit quant tx old now n low s fails =
-    let here : at now n ≡ at old n = s.rest n (omega arith) in
-    let low_old : n < length old = omega (arith, s.size) in
-    let size = length-map-range_with_len (λ place. coefficient quant tx place (at old place)) 0 (length old) in
-    list_all_at (fits (limit_of quant.depth)) (coefficients quant tx old) n (pos 0) (omega (arith, size))
-    (ap (fits (limit_of quant.depth)) (at_coefficients quant tx old n low_old ∙ ap (coefficient quant tx n) (sym here)) ∙ fails)
+    misfit_at quant tx old n (omega (arith, s.size))
+    (ap (λ z. fits (limit_of quant.depth) (coefficient quant tx n z)) (sym (s.rest n (omega arith))) ∙ fails)
 
 level_kept : (old now : List ℤ) (n : ℕ) → All IsLevel old → length now ≡ length old → n < length now → at now n ≡ at old n →
     to_z w32 (of_z w32 (at now n)) ≡ at now n

@@ -7,10 +7,10 @@ use Rattle.vp9_types.specs.declared.rule.Rule.{Rule}
 use Rattle.vp9_types.specs.declared.shape.Depth.{Depth}
 use Rattle.vp9_types.specs.Maps.{is_within}
 use Rattle.inverse_transforms.specs.Ranges.{limit_of}
-use Rattle.inverse_transforms.specs.Flow.{zeros}
+use Rattle.inverse_transforms.specs.Flow.{Gives, zeros}
 use Rattle.inverse_transforms.specs.Columns.{column}
 use Rattle.residue_blocks.specs.declared.kind.Kind.{Kind}
-use Rattle.residue_blocks.specs.Blocks.{row, col, turned, GroupDone}
+use Rattle.residue_blocks.specs.Blocks.{row, col, turned, GroupDone, TurnsGroup}
 use Rattle.residue_blocks.specs.Residue.{transform, has_size, round, rounded_by, rounded_transform}
 use Rattle.residue_blocks.proofs.Skips.{skipped}
 use Rattle.residue_blocks.proofs.Turns.{turned_ok, turned_err}
@@ -22,7 +22,7 @@ use Rattle.residue_blocks.specs.declared.kind.Kind.TheVariants.{Cosines, Sines, 
 pub record Loaded (n first width : ℕ) (xs : List ℤ) (t : List (List ℤ)) : Type 0 where
   pub room : first + width ≤ n
   pub loaded : (j : ℕ) → j < width → column j t ≡ row n (first + j) xs
-  pub rest : (j : ℕ) → width ≤ j → column j t ≡ zeros n
+  pub rest : (j : ℕ) → width ≤ j → j < 8 → column j t ≡ zeros n
 
 pub group_err : (kind : Kind) (depth : Depth) (log2 bits n first width : ℕ) (xs : List ℤ) (t : List (List ℤ)) (rule : Rule) →
     has_size kind log2 ≡ true → n ≡ 2 ^ log2 → Loaded n first width xs t →
@@ -36,7 +36,7 @@ group_err kind depth log2 bits n first width xs t rule size n_is s (j, low, fail
         ap (λ z. rounded_by bits (transform kind (limit_of depth) log2 z)) (sym (s.loaded j inside)) ∙ ap (rounded_by bits) fails,
       )
       | inr behind ↦
-          let fine = skipped kind depth log2 (column j t) n size n_is (s.rest j behind) in
+          let fine = skipped kind depth log2 (column j t) n size n_is (s.rest j behind low) in
           let no : ⊥ = cc in absurd no
     ]
 
@@ -110,3 +110,12 @@ turn_failed kind depth log2 bits n side xs rule is fails =
     turned_err f n xs rule
     (λ ys fault h. transform_fault kind (limit_of depth) log2 ys fault (rounded_fault bits (transform kind (limit_of depth) log2 ys) fault h))
     (subst (λ z. (j : ℕ) × (j < z) × (f (row z j xs) ≡ Err rule)) is fails)
+
+-- one group that is the whole block
+pub group_turned : (kind : Kind) (depth : Depth) (log2 bits n m : ℕ) (xs old new : List ℤ) (r : Result (Unit {0}) Rule) → n ≡ m → length new ≡ n * n →
+    TurnsGroup (rounded_transform kind (limit_of depth) log2 bits) n 0 n xs r old new →
+    Gives (turned (rounded_transform kind (limit_of depth) log2 bits) m xs) r new
+group_turned kind depth log2 bits n m xs old new (Ok _) is size group =
+    turn_done (rounded_transform kind (limit_of depth) log2 bits) m n n xs new is (omega arith) (subst (λ z. length new ≡ z * z) is size)
+    record { done = λ j low below. group.done j low (within_is 0 n j (omega arith) (omega arith)) }
+group_turned kind depth log2 bits n m xs old new (Err rule) is size group = turn_failed kind depth log2 bits m n xs rule is group

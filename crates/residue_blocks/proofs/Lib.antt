@@ -1,6 +1,8 @@
 pub mod Coefs
+pub mod Crossings
+pub mod Scales
 pub mod Skips
-pub mod LaneEdits
+pub mod Loads
 pub mod Pieces
 pub mod Turns
 pub mod GroupTurns

@@ -1,8 +1,8 @@
 -- A piece of a list is replaced one place after another.
-use Rattle.std.proofs.Common.{◌≡◌, ℕ, suc, ◌+◌, ◌-◌, ◌*◌, ◌<◌, ◌≤◌, ℤ, pos, Bool, true, false, ◌&&◌, inl, inr, List, [], map, length, set, get_or, refl, sym, ◌∙◌, ap, subst, arith, nat_lt, nat_eq, cond, if◌then◌else◌}
+use Rattle.std.proofs.Common.{◌≡◌, ℕ, suc, ◌+◌, ◌-◌, ◌*◌, ◌<◌, ◌≤◌, ℤ, pos, Bool, true, false, ◌&&◌, inl, inr, List, [], map, length, set, get_or, refl, sym, ◌∙◌, ap, subst, arith, nat_lt, nat_le, nat_eq, cond, if◌then◌else◌}
 use Rattle.std.proofs.lemmas.Grind.{get_or-set_at}
 use Rattle.std.proofs.lemmas.List.{get_or-set_other, ext_get_or, length-map, get_or-map}
-use Rattle.std.proofs.lemmas.Bool.{cases_lt, cases_eq, cases_Bool, lt-ltb}
+use Rattle.std.proofs.lemmas.Bool.{cases_lt, cases_eq, cases_Bool, lt-ltb, and_parts, leb-true, ltb-true}
 use Rattle.std.proofs.lemmas.List.FromFn.{get_or-map-range_with_len, length-map-range_with_len}
 use Rattle.inverse_transforms.specs.Columns.{column}
 use Rattle.inverse_transforms.proofs.ColumnLemmas.{column_at}
@@ -45,6 +45,18 @@ piece_more place j f old now v low is so_far p =
     elim (cases_eq p (place + j)) [
       | inl same ↦ subst (λ q. at (set now (place + j) v) q ≡ cond (is_within place (j + 1) q) (f (q - place)) (at old q)) (sym same) here
       | inr other ↦ get_or-set_other now (place + j) p v (pos 0) other ∙ (so_far p ∙ rw (within_other place j p other) refl)
+    ]
+
+within_below : (place n p : ℕ) → is_within place n p ≡ true → p - place < n
+within_below place n p inside =
+    let parts = and_parts (nat_le place p) (nat_lt p (place + n)) inside in
+    omega (arith, leb-true place p parts.0, ltb-true p (place + n) parts.1)
+
+pub piece_same : (place n : ℕ) (f g : ℕ → ℤ) (old now : List ℤ) → HasPiece place n f old now → ((j : ℕ) → j < n → f j ≡ g j) → HasPiece place n g old now
+piece_same place n f g old now piece same p =
+    elim (cases_Bool (is_within place n p)) [
+      | inl inside ↦ piece p ∙ rw inside (same (p - place) (within_below place n p inside))
+      | inr outside ↦ piece p ∙ rw outside refl
     ]
 
 -- a place of a row and a column is within a piece of a row exactly if it is in that row, and its column in the piece

@@ -1,14 +1,14 @@
 -- Zeros need no transform.
-use Rattle.std.proofs.Common.{◌≡◌, ℕ, ◌<◌, ◌≤◌, ◌^◌, ℤ, pos, true, List, [], take, length, replicate, All, get_or, refl, sym, ◌∙◌, ap, subst, arith, Ok, nat_le}
+use Rattle.std.proofs.Common.{◌≡◌, ℕ, ◌<◌, ◌≤◌, ◌^◌, ℤ, pos, true, List, [], length, All, get_or, refl, sym, ◌∙◌, ap, arith, Ok, nat_le}
 use Rattle.std.proofs.lemmas.Bool.{and_parts, eqb-true}
-use Rattle.std.proofs.lemmas.List.{ext_get_or, get_or-map, get_or-replicate, length-replicate, length-map, get_or-take, length-take-le}
+use Rattle.std.proofs.lemmas.List.{ext_get_or, get_or-map, get_or-replicate, length-replicate, length-map}
 use borrow.Author.Tests.{leb-true}
 use Rattle.vp9_types.specs.declared.shape.Depth.{Depth}
 use Rattle.vp9_types.specs.declared.shape.Depth.TheVariants.{Eight, Ten, Twelve}
 use Rattle.inverse_transforms.specs.Ranges.{limit_of, IsSmall}
 use Rattle.inverse_transforms.specs.Flow.{at, zeros}
 use Rattle.inverse_transforms.specs.Columns.{column}
-use Rattle.inverse_transforms.proofs.Zeros.{at_zeros, dct_zeros, adst_zeros, wht_zeros}
+use Rattle.inverse_transforms.proofs.Zeros.{dct_zeros, adst_zeros, wht_zeros}
 use Rattle.residue_blocks.specs.declared.kind.Kind.{Kind}
 use Rattle.residue_blocks.specs.declared.kind.Kind.TheVariants.{Cosines, Sines, LiftsOfRows, LiftsOfColumns}
 use Rattle.residue_blocks.specs.Residue.{transform, has_size}
@@ -50,21 +50,5 @@ skipped kind depth log2 xs n size n_is is =
     let here : xs ≡ zeros (2 ^ log2) = is ∙ ap zeros n_is in
     ap (transform kind (limit_of depth) log2) here ∙ (transform_zeros kind depth log2 size ∙ ap Ok (sym here))
 
--- lanes of zeros
-zero_row : (n m w k : ℕ) (d : List ℤ) → n ≤ m → k < n → get_or (take n (replicate m (zeros w))) k d ≡ zeros w
-zero_row n m w k d most low = get_or-take n (replicate m (zeros w)) k d low ∙ get_or-replicate m k (zeros w) d (omega arith)
-
-front_size : (n m w : ℕ) → n ≤ m → length (take n (replicate m (zeros w))) ≡ n
-front_size n m w most = length-take-le n (replicate m (zeros w)) (rw (length-replicate m (zeros w)) most)
-
-pub zero_lanes : (n m w : ℕ) → n ≤ m → (j : ℕ) → column j (take n (replicate m (zeros w))) ≡ zeros (length (take n (replicate m (zeros w))))
-zero_lanes n m w most = zero_columns (take n (replicate m (zeros w))) n (omega (arith, front_size n m w most))
-    (λ k low j. ap (λ r. at r j) (zero_row n m w k [] most low) ∙ at_zeros w j)
-
-zeros_small : (w : ℕ) → All IsSmall (zeros w)
+pub zeros_small : (w : ℕ) → All IsSmall (zeros w)
 zeros_small w k d low = rw (get_or-replicate w k (pos 0) d (omega (arith, length-replicate w (pos 0)))) (omega arith)
-
-pub zero_lanes_small : (n m w : ℕ) → n ≤ m → All (All IsSmall) (take n (replicate m (zeros w)))
-zero_lanes_small n m w most k d low =
-    let row_is = zero_row n m w k d most (omega (arith, front_size n m w most)) in
-    subst (All IsSmall) (sym row_is) (zeros_small w)

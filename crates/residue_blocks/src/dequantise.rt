@@ -2,9 +2,10 @@
 
 ghost use Rattle.std.specs.Prelude.{◌≡◌, ℕ, ◌+◌, ◌*◌, ◌^◌, ◌<◌, ◌≤◌, ◌*ℤ◌, pos, unsigned_abs, length, All};
 ghost use Rattle.inverse_transforms.specs.Ranges.{fits, limit_of};
-ghost use Rattle.residue_blocks.specs.Residue.{IsLevel, scaled, quantiser, coefficient, Fitting, Dequantises};
+ghost use Rattle.residue_blocks.specs.Residue.{IsLevel, IsShort, scaled, quantiser, coefficient, Fitting, Dequantises};
 
 use crate::quant::Quant;
+use crate::scale::{are_short, scale};
 use vp9_types::{Depth, Rule, TxSize};
 
 /// A value of `8 + depth` bits is at least minus this, and below it.
@@ -74,8 +75,8 @@ fn coefficient(level: i32, place: usize, tx: TxSize, quant: Quant) -> Result<i32
     )
 }
 
-/// The coefficients of levels, in their places.
-pub fn dequantise(block: &mut [i32], tx: TxSize, quant: Quant) -> Result<(), Rule>
+/// The coefficients of any levels, in their places.
+fn dequantise_any(block: &mut [i32], tx: TxSize, quant: Quant) -> Result<(), Rule>
     requires { All IsLevel block.old }
     ensures { Dequantises quant tx block.old result block.new }
 {
@@ -83,4 +84,42 @@ pub fn dequantise(block: &mut [i32], tx: TxSize, quant: Quant) -> Result<(), Rul
         block[place] = coefficient(block[place], place, tx, quant)?;
     }
     Ok(())
+}
+
+fn short_limit_of(depth: Depth) -> u32
+    ensures value { result ≡ limit_of depth }
+    ensures size { result ≤ 2 ^ 19 }
+{
+    match depth {
+        Depth::Eight => 1 << 15,
+        Depth::Ten => 1 << 17,
+        Depth::Twelve => 1 << 19,
+    }
+}
+
+/// The coefficients of short levels: all are multiplied as those behind the first are, which is put in afterwards.
+fn dequantise_short(block: &mut [i32], tx: TxSize, quant: Quant) -> Result<(), Rule>
+    requires some { 0 < length block.old }
+    requires short { All IsShort block.old }
+    ensures { Dequantises quant tx block.old result block.new }
+{
+    let first = coefficient(block[0], 0, tx, quant)?;
+    block[0] = 0;
+    if scale(block, quant.ac, tx, short_limit_of(quant.depth)) {
+        block[0] = first;
+        return Ok(());
+    }
+    Err(Rule::CoefRange)
+}
+
+/// The coefficients of levels, in their places.
+pub fn dequantise(block: &mut [i32], tx: TxSize, quant: Quant) -> Result<(), Rule>
+    requires some { 0 < length block.old }
+    requires levels { All IsLevel block.old }
+    ensures { Dequantises quant tx block.old result block.new }
+{
+    if are_short(block) {
+        return dequantise_short(block, tx, quant);
+    }
+    dequantise_any(block, tx, quant)
 }

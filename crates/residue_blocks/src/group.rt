@@ -1,6 +1,6 @@
 //! Groups of rows, as lanes.
 
-ghost use Rattle.std.specs.Prelude.{◌≡◌, ℕ, ◌+◌, ◌-◌, ◌*◌, ◌/◌, ◌^◌, ◌<◌, ◌≤◌, length, map, take, pos, unsigned_abs, All, if◌then◌else◌};
+ghost use Rattle.std.specs.Prelude.{◌≡◌, ℕ, ◌+◌, ◌-◌, ◌*◌, ◌/◌, ◌^◌, ◌<◌, ◌≤◌, length, map, pos, unsigned_abs, All, if◌then◌else◌};
 ghost use Rattle.vp9_types.specs.Maps.{is_within};
 ghost use Rattle.inverse_transforms.specs.Flow.{at};
 ghost use Rattle.inverse_transforms.specs.Columns.{column};
@@ -9,21 +9,6 @@ ghost use Rattle.residue_blocks.specs.Blocks.{row, col, HasPiece};
 ghost use Rattle.residue_blocks.specs.Residue.{round};
 
 use inverse_transforms::Lanes;
-
-/// Puts values into one lane.
-fn put_lane(t: &mut [Lanes], lane: usize, values: &[i32])
-    requires lane { lane < 8 }
-    requires size { length t.old ≡ length values.now }
-    requires values { All IsSmall values.now }
-    requires small { All (All IsSmall) t.old }
-    ensures put { column lane t.new ≡ values.now }
-    ensures others { (j : ℕ) → (j ≡ lane → ⊥) → column j t.new ≡ column j t.old }
-    ensures small { All (All IsSmall) t.new }
-{
-    for k in 0..t.len() {
-        t[k][lane] = values[k];
-    }
-}
 
 /// A row of a block of rows of n.
 pub fn row_at(block: &[i32], n: usize, i: usize) -> &[i32]
@@ -34,36 +19,9 @@ pub fn row_at(block: &[i32], n: usize, i: usize) -> &[i32]
     rest.split_at(n).0
 }
 
-/// Rows of a block, one a lane.
-pub fn load(t: &mut [Lanes], from: &[i32], first: usize, width: usize)
-    requires size { (first + width) * length t.old ≤ length from.now }
-    requires rows { first + width ≤ 32 }
-    requires width { width ≤ 8 }
-    requires values { All IsSmall from.now }
-    requires small { All (All IsSmall) t.old }
-    ensures loaded { (j : ℕ) → j < width → column j t.new ≡ row (length t.old) (first + j) from.now }
-    ensures others { (j : ℕ) → width ≤ j → column j t.new ≡ column j t.old }
-    ensures small { All (All IsSmall) t.new }
-{
-    for lane in 0..width {
-        put_lane(t, lane, row_at(from, t.len(), first + lane));
-    }
-}
-
-/// Round2 by a number of bits.
-#[inline(always)]
-#[tactic(auto, unfolding(crate::specs::Residue::round))]
-fn rounded(x: i32, bits: u8) -> i32
-    requires x { IsSmall x }
-    requires bits { bits ≤ 6 }
-    ensures { result ≡ round bits x }
-{
-    (x + half_of(bits)) >> bits
-}
-
 /// Half of what so many bits count.
 #[inline(always)]
-fn half_of(bits: u8) -> i32
+pub fn half_of(bits: u8) -> i32
     requires { bits ≤ 6 }
     ensures value { result ≡ pos (2 ^ bits / 2) }
     ensures size { unsigned_abs result ≤ 32 }
@@ -80,32 +38,93 @@ fn half_of(bits: u8) -> i32
     }
 }
 
-/// Puts the first lanes of a row, rounded, from a place on.
-fn put_row(to: &mut [i32], place: usize, lanes: &Lanes, width: usize, bits: u8)
-    requires size { place + width ≤ length to.old }
-    requires width { width ≤ 8 }
+/// Round2 by a number of bits, of which half is added.
+#[inline(always)]
+#[tactic(auto, unfolding(crate::specs::Residue::round))]
+fn rounded(x: i32, half: i32, bits: u8) -> i32
+    requires x { IsSmall x }
+    requires half { half ≡ pos (2 ^ bits / 2) }
+    requires size { unsigned_abs half ≤ 32 }
     requires bits { bits ≤ 6 }
-    requires small { All IsSmall lanes.now }
-    ensures { HasPiece place width (λ j. round bits (at lanes.now j)) to.old to.new }
+    ensures { result ≡ round bits x }
 {
-    for j in 0..width {
-        to[place + j] = rounded(lanes[j], bits);
-    }
+    (x + half) >> bits
 }
 
-/// Puts the first lanes of rows of lanes into columns of a block, rounded.
-pub fn store(to: &mut [i32], t: &[Lanes], first: usize, width: usize, bits: u8)
+#[inline(always)]
+fn rounded_eight(lanes: &Lanes, half: i32, bits: u8) -> Lanes
+    requires small { All IsSmall lanes.now }
+    requires half { half ≡ pos (2 ^ bits / 2) }
+    requires size { unsigned_abs half ≤ 32 }
+    requires bits { bits ≤ 6 }
+    ensures { (j : ℕ) → j < 8 → at result j ≡ round bits (at lanes.now j) }
+{
+    let mut values = *lanes;
+    for j in 0..8usize {
+        values[j] = rounded(lanes[j], half, bits);
+    }
+    values
+}
+
+#[inline(always)]
+fn rounded_four(lanes: &Lanes, half: i32, bits: u8) -> [i32; 4]
+    requires small { All IsSmall lanes.now }
+    requires half { half ≡ pos (2 ^ bits / 2) }
+    requires size { unsigned_abs half ≤ 32 }
+    requires bits { bits ≤ 6 }
+    ensures { (j : ℕ) → j < 4 → at result j ≡ round bits (at lanes.now j) }
+{
+    let mut values = [0; 4];
+    for j in 0..4usize {
+        values[j] = rounded(lanes[j], half, bits);
+    }
+    values
+}
+
+/// Puts eight values from a place on.
+#[inline(always)]
+fn put_eight(to: &mut [i32], place: usize, values: &Lanes)
+    requires { place + 8 ≤ length to.old }
+    ensures { HasPiece place 8 (λ j. at values.now j) to.old to.new }
+{
+    to[place..place + 8].copy_from_slice(values);
+}
+
+#[inline(always)]
+fn put_four(to: &mut [i32], place: usize, values: &[i32; 4])
+    requires { place + 4 ≤ length to.old }
+    ensures { HasPiece place 4 (λ j. at values.now j) to.old to.new }
+{
+    to[place..place + 4].copy_from_slice(values);
+}
+
+/// Puts rows of lanes into eight columns of a block, rounded.
+pub fn store(to: &mut [i32], t: &[Lanes], first: usize, bits: u8)
     requires size { length to.old ≡ length t.now * length t.now }
     requires rows { length t.now ≤ 32 }
-    requires columns { first + width ≤ length t.now }
-    requires width { width ≤ 8 }
+    requires columns { first + 8 ≤ length t.now }
     requires bits { bits ≤ 6 }
     requires small { All (All IsSmall) t.now }
     ensures { (j : ℕ) → j < length t.now → col (length t.now) j to.new ≡
-        (if is_within first width j then map (round bits) (column (j - first) t.now) else col (length t.now) j to.old) }
+        (if is_within first 8 j then map (round bits) (column (j - first) t.now) else col (length t.now) j to.old) }
 {
     let n = t.len();
+    let half = half_of(bits);
     for k in 0..n {
-        put_row(to, k * n + first, &t[k], width, bits);
+        put_eight(to, k * n + first, &rounded_eight(&t[k], half, bits));
+    }
+}
+
+/// Puts the first four lanes of rows into a block of 4x4, rounded.
+pub fn store_four(to: &mut [i32], t: &[Lanes; 4], bits: u8)
+    requires size { length to.old ≡ 16 }
+    requires bits { bits ≤ 6 }
+    requires small { All (All IsSmall) t.now }
+    ensures { (j : ℕ) → j < 4 → col 4 j to.new ≡
+        (if is_within 0 4 j then map (round bits) (column (j - 0) t.now) else col 4 j to.old) }
+{
+    let half = half_of(bits);
+    for k in 0..4usize {
+        put_four(to, k * 4, &rounded_four(&t[k], half, bits));
     }
 }

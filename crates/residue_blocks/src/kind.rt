@@ -89,7 +89,7 @@ fn is_zero(t: &[Lanes]) -> bool
 
 /// The transforms of eight columns.
 #[tactic(auto, unfolding(crate::specs::Residue::transform))]
-fn transform_columns(kind: Kind, log2: u8, t: &mut [Lanes], depth: Depth) -> Result<(), Rule>
+pub fn transform_columns(kind: Kind, log2: u8, t: &mut [Lanes], depth: Depth) -> Result<(), Rule>
     requires kind { IsTrue (has_size kind log2) }
     requires size { length t.old ≡ 2 ^ log2 }
     requires small { All (All IsSmall) t.old }
@@ -104,7 +104,7 @@ fn transform_columns(kind: Kind, log2: u8, t: &mut [Lanes], depth: Depth) -> Res
     }
 }
 
-/// The same, without work where all is zero.
+/// The same, without work where all is zero. Small blocks of zeros aren't transformed at all.
 pub fn transform_nonzero(kind: Kind, log2: u8, t: &mut [Lanes], depth: Depth) -> Result<(), Rule>
     requires kind { IsTrue (has_size kind log2) }
     requires size { length t.old ≡ 2 ^ log2 }
@@ -112,7 +112,7 @@ pub fn transform_nonzero(kind: Kind, log2: u8, t: &mut [Lanes], depth: Depth) ->
     ensures gives { GivesColumns (transform kind (limit_of depth) log2) result t.old t.new }
     ensures small { All (All IsSmall) t.new }
 {
-    if is_zero(t) {
+    if 8 < t.len() && is_zero(t) {
         return Ok(());
     }
     transform_columns(kind, log2, t, depth)

@@ -2,12 +2,14 @@
 //! then its columns are transformed.
 #![tactic(auto)]
 
+mod cross;
 mod dequantise;
 mod group;
 mod kind;
 mod levels;
 mod quant;
 mod repeats;
+mod scale;
 #[cfg(test)]
 mod tests;
 mod turn;

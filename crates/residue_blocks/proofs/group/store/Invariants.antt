@@ -5,4 +5,4 @@ use Rattle.residue_blocks.proofs.Pieces.{Stored}
 use Rattle.residue_blocks.proofs.group.store.Given as goal
 
 abbrev pub invariant-loop-k : goal.invariant-loop-k
-invariant-loop-k l = Stored l.n l.first l.width (λ k j. round l.bits (at (get_or l.t k []) j)) l.initial.to l.to l.k
+invariant-loop-k l = Stored l.n l.first 8 (λ k j. round l.bits (at (get_or l.t k []) j)) l.initial.to l.to l.k

@@ -1,7 +1,7 @@
 use Rattle.std.proofs.Common.{rules, arith, refl}
 use Rattle.std.proofs.lemmas.Result.{err_from_is_err_and}
 use Rattle.residue_blocks.proofs.Coefs.{one_step, one_refused, all_done}
-use Rattle.residue_blocks.proofs.dequantise.dequantise.Goals as goal
+use Rattle.residue_blocks.proofs.dequantise.dequantise_any.Goals as goal
 
 pub loop-place-init : goal.loop-place-init
 loop-place-init c = record { size = refl; done = λ k low. absurd (omega arith); fit = λ k low. absurd (omega arith); rest = λ k low. refl }
