@@ -245,10 +245,14 @@ pub struct Step {
     print("];")
 
 
+def main():
+    if sys.argv[1:] == ["extreme"]:
+        print_summed("EXTREME", [row for row in block_rows() if row[4]])
+    elif sys.argv[1:] == ["drawn"]:
+        print_summed("DRAWN", [row for row in block_rows() if not row[4]])
+    else:
+        print_rows()
 
-if sys.argv[1:] == ["extreme"]:
-    print_summed("EXTREME", [row for row in block_rows() if row[4]])
-elif sys.argv[1:] == ["drawn"]:
-    print_summed("DRAWN", [row for row in block_rows() if not row[4]])
-else:
-    print_rows()
+
+if __name__ == "__main__":
+    main()

@@ -100,4 +100,5 @@ def main():
             print(f"pub static {name}_{n}: [{kind}; {len(numbers)}] = [\n    " + ", ".join(map(str, numbers)) + ",\n];\n")
 
 
-main()
+if __name__ == "__main__":
+    main()

@@ -5,12 +5,12 @@ crates/coef_tokens/src/tests/small_rows.rt, or the others, large_rows.rt.
 usage: tools/token_vectors.py FOLDER_OF_PLAIN_TABLES small|large
 
 The encoder is written from sections 6.4.24, 9.2 and 9.3 of the standard, over numbers without bound, and not from the
-decoder. A row's numbers are those that were encoded.
+decoder. A row's numbers are those that were encoded. tools/overflow_frames.py encodes with it too.
 """
 import random
 import sys
 
-FOLDER, PART = sys.argv[1:]
+FOLDER = sys.argv[1]
 
 
 def table(name):
@@ -101,11 +101,11 @@ def neighbours(kind, side, position):
     return {"default": (above, left), "row": (left, left), "column": (above, above)}[kind]
 
 
-def encode(tx, kind, chroma, inter, first, depth, levels):
-    """The bytes of a block whose first places of the scan hold these levels; the end follows where places are left."""
+def encode_block(encoder, tx, kind, chroma, inter, first, depth, levels):
+    """Encodes a block whose first places of the scan hold these levels; the end follows where places are left."""
     side = SIDES[tx]
     scan, bands = SCANS[kind, side], BANDS[min(tx, 1)]
-    encoder, classes, check = Encoder(), {}, True
+    classes, check = {}, True
     for place in range(side * side):
         position = scan[place]
         if place == 0:
@@ -135,6 +135,12 @@ def encode(tx, kind, chroma, inter, first, depth, levels):
             for i, p in enumerate(probs):
                 encoder.bool(p, (magnitude - base) >> (len(probs) - 1 - i) & 1)
         encoder.bool(128, levels[place] < 0)
+
+
+def encode(tx, kind, chroma, inter, first, depth, levels):
+    """The bytes of a block alone, and its levels by position."""
+    encoder, scan = Encoder(), SCANS[kind, SIDES[tx]]
+    encode_block(encoder, tx, kind, chroma, inter, first, depth, levels)
     return encoder.finish(), {scan[i]: level for i, level in enumerate(levels) if level}
 
 
@@ -169,7 +175,6 @@ for tx in range(4):
 rows.append(("default", 3, 0, 0, 1, 8, [rng.choice([0, 0, 0, 1, -1]) for _ in range(1023)] + [-2]))
 
 
-
 def print_rows(name, rows):
     print("//! Blocks encoded by tools/token_vectors.py, which prints this file.\n")
     print("use crate::TokenAt;\nuse crate::tests::Row;\nuse vp9_types::{Depth, Plane, TxSize, TxType};\n")
@@ -184,7 +189,12 @@ def print_rows(name, rows):
     print("];")
 
 
-if PART == "small":
-    print_rows("SMALL_ROWS", [row for row in rows if row[1] <= 1])
-else:
-    print_rows("LARGE_ROWS", [row for row in rows if row[1] > 1])
+def main():
+    if sys.argv[2] == "small":
+        print_rows("SMALL_ROWS", [row for row in rows if row[1] <= 1])
+    else:
+        print_rows("LARGE_ROWS", [row for row in rows if row[1] > 1])
+
+
+if __name__ == "__main__":
+    main()

@@ -2,7 +2,7 @@ mod rows;
 
 use super::*;
 use edge_io::{MemSink, MemSource, OpenGate};
-use rows::{Row, list, lossless_decode};
+use rows::{Row, list, lossless_decode, overflow_frames};
 use std::alloc::{AllocError, Global};
 use std::sync::Wait;
 use std::test::Fail;
@@ -74,6 +74,20 @@ fn listings_end_as_they_are_to(rt: HostRuntime) -> Result<(), Fail> {
 #[test]
 fn decodes_end_as_they_are_to(rt: HostRuntime) -> Result<(), Fail> {
     for table in lossless_decode::TABLES {
+        for row in table {
+            let name = row.name;
+            let ran = run_row(&rt, rt.alloc(), row, &NONE)?;
+            assert_eq!(rt; ran.status.code(), row.status, "{name}");
+            assert_eq!(rt; ran.out.bytes(), row.output, "{name}");
+            assert_eq!(rt; ran.note.bytes(), row.note.as_bytes(), "{name}");
+        }
+    }
+    Ok(())
+}
+
+#[test]
+fn levels_that_do_not_fit_end_a_decode(rt: HostRuntime) -> Result<(), Fail> {
+    for table in overflow_frames::TABLES {
         for row in table {
             let name = row.name;
             let ran = run_row(&rt, rt.alloc(), row, &NONE)?;

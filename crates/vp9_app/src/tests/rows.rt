@@ -2,6 +2,7 @@
 
 pub mod list;
 pub mod lossless_decode;
+pub mod overflow_frames;
 
 pub struct Row {
     pub name: &'static str,
