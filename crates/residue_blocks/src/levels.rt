@@ -72,16 +72,11 @@ fn reconstruct(block: &mut [i32], tx: TxSize, kind: TxType, quant: Quant) -> Res
     requires values { All IsSmall block.old }
     ensures { Gives (reconstructed quant tx kind block.old) result block.new }
 {
-    let size = block.len();
     match tx {
-        TxSize::T4x4 | TxSize::T8x8 => {
-            let mut middle = [0; 64];
-            turn_twice(block, &mut middle[..size], tx, kind, quant)
-        }
-        TxSize::T16x16 | TxSize::T32x32 => {
-            let mut middle = [0; 1024];
-            turn_twice(block, &mut middle[..size], tx, kind, quant)
-        }
+        TxSize::T4x4 => turn_twice(block, &mut [0; 16], tx, kind, quant),
+        TxSize::T8x8 => turn_twice(block, &mut [0; 64], tx, kind, quant),
+        TxSize::T16x16 => turn_twice(block, &mut [0; 256], tx, kind, quant),
+        TxSize::T32x32 => turn_twice(block, &mut [0; 1024], tx, kind, quant),
     }
 }
 
