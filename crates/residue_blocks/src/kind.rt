@@ -104,7 +104,7 @@ pub fn transform_columns(kind: Kind, log2: u8, t: &mut [Lanes], depth: Depth) ->
     }
 }
 
-/// The same, without work where all is zero. Small blocks of zeros aren't transformed at all.
+/// The same, without work where all is zero. Few rows are a whole block, which isn't looked at.
 pub fn transform_nonzero(kind: Kind, log2: u8, t: &mut [Lanes], depth: Depth) -> Result<(), Rule>
     requires kind { IsTrue (has_size kind log2) }
     requires size { length t.old ≡ 2 ^ log2 }
