@@ -67,33 +67,6 @@ two_step limit f x y u v n all here r first second low small_x small_y is tested
       fit = hold_more test n all here (tested ∙ ap (two_fit limit) value) so_far.fit;
     }
 
--- the same without a test
-pub record MadeSoFar (f : ℤ → ℤ → Two) (x y u v : List ℤ) (n : ℕ) : Type 0 where
-  pub u_size : length u ≡ 8
-  pub v_size : length v ≡ 8
-  pub made : TwoLanes f x y u v n
-
-pub made_begin : (f : ℤ → ℤ → Two) (x y u v : List ℤ) → length u ≡ 8 → length v ≡ 8 → MadeSoFar f x y u v 0
-made_begin f x y u v u_size v_size = record {
-  u_size = u_size;
-  v_size = v_size;
-  made = record { first = λ j low. absurd (omega arith); second = λ j low. absurd (omega arith) };
-}
-
-pub made_step : (f : ℤ → ℤ → Two) (x y u v : List ℤ) (n : ℕ) (r : Two) →
-    SFits w32 r.first → SFits w32 r.second → n < 8 → IsSmall (at x n) → IsSmall (at y n) →
-    r ≡ f (to_z w32 (of_z w32 (at x n))) (to_z w32 (of_z w32 (at y n))) → MadeSoFar f x y u v n →
-    MadeSoFar f x y (set u n (to_z w32 (of_z w32 r.first))) (set v n (to_z w32 (of_z w32 r.second))) (n + 1)
-made_step f x y u v n r first second low small_x small_y is so_far =
-    let low_u : n < length u = omega (arith, so_far.u_size) in
-    let low_v : n < length v = omega (arith, so_far.v_size) in
-    let value : r ≡ f (at x n) (at y n) = rw (kept (at x n) small_x, kept (at y n) small_y) at is in
-    rw (to_z-of_z w32 r.first first, to_z-of_z w32 r.second second) record {
-      u_size = simp length-set so_far.u_size;
-      v_size = simp length-set so_far.v_size;
-      made = two_more f x y u v n r low_u low_v value so_far.made;
-    }
-
 -- the same of four
 pub four_more : (f : ℤ → ℤ → ℤ → ℤ → Four) (a b c d p q r s : List ℤ) (n : ℕ) (v : Four) →
     n < length p → n < length q → n < length r → n < length s → v ≡ f (at a n) (at b n) (at c n) (at d n) →

@@ -9,3 +9,4 @@ pub mod Narrows
 pub mod Bounds
 pub mod CalmColumns
 pub mod RenamedTables
+pub mod CalmTables

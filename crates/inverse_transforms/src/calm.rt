@@ -1,50 +1,17 @@
-//! A flow on eight columns whose values are known to fit: none is tested.
+//! A flow on eight columns whose values are known to fit. What tells whether they do isn't looked at, and so not computed.
 
 ghost use Rattle.std.specs.Prelude.{◌≡◌, ℕ, ◌^◌, ◌≤◌, ◌<◌, length, IsTrue, All, Ok};
 ghost use Rattle.std.specs.List.{list_all};
 ghost use Rattle.inverse_transforms.specs.Flow.{at, step, run, store_two, rotated, added, is_within};
-ghost use Rattle.inverse_transforms.specs.Columns.{GivesColumns, FitsAll, TwoLanes, column};
+ghost use Rattle.inverse_transforms.specs.Columns.{GivesColumns, FitsAll, column};
 ghost use Rattle.inverse_transforms.specs.Ranges.{IsSmall, IsNarrow};
 
-use crate::kernels::added;
 use crate::lane_steps;
-use crate::lanes::Lanes;
-use crate::narrow::{LIMIT, rotated};
+use crate::lanes::{Lanes, added_lanes};
+use crate::narrow::{LIMIT, rotated_lanes};
 use crate::turn::Turn;
 use vp9_tables::FlowRow;
 use vp9_types::Rule;
-
-#[inline(always)]
-fn rotated_lanes(x: &Lanes, y: &Lanes, turn: Turn) -> (Lanes, Lanes)
-    requires x { (j : ℕ) → j < 8 → IsNarrow (at x.now j) }
-    requires y { (j : ℕ) → j < 8 → IsNarrow (at y.now j) }
-    ensures { TwoLanes (rotated turn.angle) x.now y.now result.0 result.1 8 }
-{
-    let mut u = [0; 8];
-    let mut v = [0; 8];
-    for j in 0..8usize {
-        let r = rotated(x[j], y[j], turn);
-        u[j] = r.first;
-        v[j] = r.second;
-    }
-    (u, v)
-}
-
-#[inline(always)]
-fn added_lanes(x: &Lanes, y: &Lanes) -> (Lanes, Lanes)
-    requires x { All IsSmall x.now }
-    requires y { All IsSmall y.now }
-    ensures { TwoLanes added x.now y.now result.0 result.1 8 }
-{
-    let mut u = [0; 8];
-    let mut v = [0; 8];
-    for j in 0..8usize {
-        let r = added(x[j], y[j]);
-        u[j] = r.first;
-        v[j] = r.second;
-    }
-    (u, v)
-}
 
 #[inline(always)]
 fn rotate(t: &mut [Lanes], a: u8, b: u8, angle: u8)
@@ -59,7 +26,7 @@ fn rotate(t: &mut [Lanes], a: u8, b: u8, angle: u8)
 {
     let x = t[a as usize];
     let y = t[b as usize];
-    let (u, v) = rotated_lanes(&x, &y, Turn::by(angle));
+    let (u, v, _) = rotated_lanes(&x, &y, Turn::by(angle));
     t[a as usize] = u;
     t[b as usize] = v;
 }
@@ -75,7 +42,7 @@ fn add(t: &mut [Lanes], a: u8, b: u8)
 {
     let x = t[a as usize];
     let y = t[b as usize];
-    let (u, v) = added_lanes(&x, &y);
+    let (u, v, _) = added_lanes(&x, &y, LIMIT);
     t[a as usize] = u;
     t[b as usize] = v;
 }

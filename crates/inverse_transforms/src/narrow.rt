@@ -44,7 +44,7 @@ fn second_turned(x: i32, y: i32, turn: Turn) -> i32
 
 #[inline(always)]
 #[tactic(auto, unfolding(crate::specs::Flow::rotated))]
-pub fn rotated(x: i32, y: i32, turn: Turn) -> Two
+fn rotated(x: i32, y: i32, turn: Turn) -> Two
     requires x { IsNarrow x }
     requires y { IsNarrow y }
     ensures { result ≡ rotated turn.angle x y }
@@ -56,7 +56,7 @@ pub fn rotated(x: i32, y: i32, turn: Turn) -> Two
 }
 
 #[inline(always)]
-fn rotated_lanes(x: &Lanes, y: &Lanes, turn: Turn) -> TwoRows
+pub fn rotated_lanes(x: &Lanes, y: &Lanes, turn: Turn) -> TwoRows
     requires x { (j : ℕ) → j < 8 → IsNarrow (at x.now j) }
     requires y { (j : ℕ) → j < 8 → IsNarrow (at y.now j) }
     ensures made { TwoLanes (rotated turn.angle) x.now y.now result.0 result.1 8 }

@@ -14,12 +14,12 @@ pub returns-clause-gives : goal.returns-clause-gives
 returns-clause-gives c =
     let made = c.rotated_lanes in
     two_ok (2 ^ 15) (rotated c.by.result.angle) (rotated c.args.angle) c.args.t.now c.args.a c.args.b made.result.0 made.result.1 true
-    (ap rotated c.by.ensures) c.requires.a c.requires.b made.ensures refl
+    (ap rotated c.by.ensures) c.requires.a c.requires.b made.ensures.made refl
     (two_hold (2 ^ 15) (rotated c.by.result.angle) (rotated c.args.angle) c.args.t.now c.args.a c.args.b (ap rotated c.by.ensures) c.requires.a c.requires.b c.requires.fit)
 
 pub returns-clause-small : goal.returns-clause-small
 returns-clause-small c =
     let made = c.rotated_lanes in
     two_small_after (2 ^ 15) (rotated c.by.result.angle) c.args.t.now c.args.a c.args.b made.result.0 made.result.1 true
-    (omega arith) (search rules) (search rules) made.ensures refl
+    (omega arith) (search rules) (search rules) made.ensures.made refl
     (two_hold (2 ^ 15) (rotated c.by.result.angle) (rotated c.args.angle) c.args.t.now c.args.a c.args.b (ap rotated c.by.ensures) c.requires.a c.requires.b c.requires.fit) c.requires.small

@@ -1,4 +1,4 @@
-use Rattle.inverse_transforms.proofs.RenamedTables.{calm_adst_8, calm_adst_16}
+use Rattle.inverse_transforms.proofs.CalmTables.{calm_adst_8, calm_adst_16}
 use Rattle.inverse_transforms.proofs.rows.adst_calm.Goals as goal
 
 pub returns-in-3-clause-calm : goal.returns-in-3-clause-calm

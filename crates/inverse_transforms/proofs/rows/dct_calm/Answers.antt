@@ -1,4 +1,4 @@
-use Rattle.inverse_transforms.proofs.RenamedTables.{calm_dct_4, calm_dct_8, calm_dct_16, calm_dct_32}
+use Rattle.inverse_transforms.proofs.CalmTables.{calm_dct_4, calm_dct_8, calm_dct_16, calm_dct_32}
 use Rattle.inverse_transforms.proofs.rows.dct_calm.Goals as goal
 
 pub returns-in-2-clause-calm : goal.returns-in-2-clause-calm
