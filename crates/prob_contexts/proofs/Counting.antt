@@ -93,7 +93,7 @@ same_place a b t =
     let bools : bool_number a.one ≡ bool_number b.one = eqb-true _ _ two.1 in
     rw (starts, places, bools) refl
 
-place_low : (b : CountedBool) → IsCounted b → counter_place b < 3790
+pub place_low : (b : CountedBool) → IsCounted b → counter_place b < 3790
 place_low b lb = let last = last_low (kind_number b.kind) (number_low b.kind) in let one = bool_low b.one in omega arith
   where
     bool_low : (b : Bool) → bool_number b < 2

@@ -1,5 +1,5 @@
 -- Counts of bools (8.4.2 of the standard: counters of syntax elements, here by the bools that leave each node).
-use Rattle.std.specs.Prelude.{◌≡◌, ℕ, ◌+◌, ◌-◌, ◌*◌, ◌^◌, ◌<◌, Bool, true, false, ◌&&◌, List, length, replicate, slice_index, slice_set, sum, min, nat_eq, count_by}
+use Rattle.std.specs.Prelude.{◌≡◌, ℕ, ◌+◌, ◌-◌, ◌*◌, ◌^◌, ◌<◌, Bool, true, false, ◌&&◌, List, [], ◌∷◌, length, replicate, slice_index, slice_set, sum, min, nat_eq, count_by}
 use Rattle.std.specs.List.{fold}
 use Rattle.prob_contexts.specs.declared.kind.CountedBool.{CountedBool}
 use Rattle.prob_contexts.specs.Kinds.{kind_number, kind_size, kind_start}
@@ -34,6 +34,12 @@ with_bool counts b = slice_set counts (counter_place b) (min (counter_of counts 
 -- the counts after all of these
 unfoldable pub counts_after : List ℕ → List CountedBool → List ℕ
 counts_after counts bools = fold with_bool counts bools
+
+-- the counts of two parts of a frame added up, counter by counter
+unfoldable pub joined_counts : List ℕ → List ℕ → List ℕ
+joined_counts [] others = []
+joined_counts (n ∷ rest) [] = []
+joined_counts (n ∷ rest) (more ∷ others) = min (n + more) most_counted ∷ joined_counts rest others
 
 -- how many bools are counted
 abbrev pub number_counted : List ℕ → ℕ

@@ -18,7 +18,7 @@ impl Model for Counts {
 }
 
 impl Counts {
-    ghost use Rattle.prob_contexts.specs.Counted.{no_counts, with_bool, counter_of};
+    ghost use Rattle.prob_contexts.specs.Counted.{no_counts, with_bool, joined_counts, counter_of};
     ghost use Rattle.prob_contexts.specs.Kinds.{kind_size};
 
     /// Nothing is counted.
@@ -40,6 +40,13 @@ impl Counts {
         self.counters[at] = self.counters[at].saturating_add(1);
     }
 
+    /// Adds the counts of another part of the frame. A counter stands still at its type's end.
+    pub fn add(&mut self, other: &Self)
+        ensures { self.new ≡ joined_counts self.old other.now }
+    {
+        add_each(&mut self.counters, &other.counters);
+    }
+
     /// How often the node at a place of its kind was left by a 0 or by a 1.
     pub fn counter(&self, kind: ProbKind, place: u16, one: bool) -> u64
         requires { place < kind_size kind }
@@ -49,7 +56,7 @@ impl Counts {
     }
 }
 
-ghost use Rattle.prob_contexts.specs.Counted.{counter_place};
+ghost use Rattle.prob_contexts.specs.Counted.{counter_place, joined_counts};
 ghost use Rattle.prob_contexts.specs.Kinds.{kind_size};
 
 #[inline(always)]
@@ -59,4 +66,13 @@ fn counter_at(kind: ProbKind, place: u16, one: bool) -> usize
     ensures within { result < 3790 }
 {
     2 * (kind.start() + place as usize) + usize::from(one)
+}
+
+fn add_each(counters: &mut [u64], more: &[u64])
+    requires { length more.now ≡ length counters.old }
+    ensures { counters.new ≡ joined_counts counters.old more.now }
+{
+    for i in 0..counters.len() {
+        counters[i] = counters[i].saturating_add(more[i]);
+    }
 }

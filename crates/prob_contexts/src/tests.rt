@@ -19,3 +19,16 @@ fn counts_a_bool(rt: HostRuntime) {
     assert_eq!(rt; counts.counter(ProbKind::Skip, 2, true), 1);
     assert_eq!(rt; counts.counter(ProbKind::Skip, 2, false), 0);
 }
+
+#[test]
+fn adds_counts_up(rt: HostRuntime) {
+    let mut counts = Counts::new();
+    counts.count(ProbKind::Skip, 2, true);
+    let mut others = Counts::new();
+    others.count(ProbKind::Skip, 2, true);
+    others.count(ProbKind::VectorHigh, 1, false);
+    counts.add(&others);
+    assert_eq!(rt; counts.counter(ProbKind::Skip, 2, true), 2);
+    assert_eq!(rt; counts.counter(ProbKind::VectorHigh, 1, false), 1);
+    assert_eq!(rt; counts.counter(ProbKind::Skip, 2, false), 0);
+}

@@ -1,0 +1,48 @@
+-- What laws of adaptation speak of: probabilities by kind and place.
+use Rattle.std.specs.Prelude.{◌≡◌, ℕ, List, ◌++◌, Option, Some, None, true, false, length, slice_index}
+use Rattle.prob_contexts.specs.declared.kind.ProbKind.{ProbKind}
+use Rattle.prob_contexts.specs.declared.kind.ProbKind.TheVariants as kind
+use Rattle.prob_contexts.specs.Lists.{ContextLists}
+use Rattle.backward_adapt.specs.declared.merge.Rate.{Rate}
+use Rattle.backward_adapt.specs.Merge.{merge_prob, times}
+
+-- the list of a kind; of coefficients that of each size, joined
+abbrev pub list_of : ContextLists → ProbKind → List ℕ
+list_of c kind.Tx8x8 = c.tx.of_8x8
+list_of c kind.Tx16x16 = c.tx.of_16x16
+list_of c kind.Tx32x32 = c.tx.of_32x32
+list_of c kind.Coef = c.coef.of_4x4 ++ c.coef.of_8x8 ++ c.coef.of_16x16 ++ c.coef.of_32x32
+list_of c kind.Skip = c.skip
+list_of c kind.InterMode = c.inter.modes
+list_of c kind.Filter = c.inter.filters
+list_of c kind.IsInter = c.inter.is_inter
+list_of c kind.CompoundFlag = c.inter.compound_flag
+list_of c kind.SingleReference = c.inter.single_references
+list_of c kind.CompoundReference = c.inter.compound_references
+list_of c kind.YMode = c.inter.y_modes
+list_of c kind.UvMode = c.uv_modes
+list_of c kind.Partition = c.partitions
+list_of c kind.VectorJoint = c.vectors.joints
+list_of c kind.VectorSign = c.vectors.signs
+list_of c kind.VectorClass = c.vectors.classes
+list_of c kind.VectorClass0 = c.vectors.class0
+list_of c kind.VectorBit = c.vectors.bits
+list_of c kind.VectorClass0Fraction = c.vectors.class0_fractions
+list_of c kind.VectorFraction = c.vectors.fractions
+list_of c kind.VectorClass0High = c.vectors.class0_high
+list_of c kind.VectorHigh = c.vectors.high
+
+-- each size has its places for coefficients
+pub record HasCoefSizes (c : ContextLists) : Type 0 where
+  pub of_4x4 : length c.coef.of_4x4 ≡ 396
+  pub of_8x8 : length c.coef.of_8x8 ≡ 396
+  pub of_16x16 : length c.coef.of_16x16 ≡ 396
+  pub of_32x32 : length c.coef.of_32x32 ≡ 396
+
+abbrev pub prob_at : ContextLists → ProbKind → ℕ → ℕ
+prob_at c kind place = slice_index (list_of c kind) place
+
+-- the probability at a place: the saved one, merged with its node's counts, or that of the frame
+abbrev pub adapted_prob : Option Rate → List ℕ → ProbKind → ℕ → ℕ → ℕ → ℕ
+adapted_prob (Some rate) counts kind place saved forward = merge_prob rate saved (times counts kind place false) (times counts kind place true)
+adapted_prob None counts kind place saved forward = forward

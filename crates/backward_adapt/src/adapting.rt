@@ -1,0 +1,105 @@
+//! All probabilities of a frame.
+
+ghost use Rattle.std.specs.Prelude.{◌≡◌};
+ghost use Rattle.prob_contexts.specs.Lists.{lists_of, tx_lists, coef_lists, inter_lists, vector_lists};
+ghost use Rattle.backward_adapt.specs.Adaptation.{adapted_coefs, adapted_tx, adapted_inter, adapted_vectors, adapted_contexts};
+
+use crate::kind::AdaptKind;
+use crate::lists::Counted;
+use prob_contexts::{CoefProbs, Contexts, Counts, InterProbs, ProbKind, TxProbs, VectorProbs};
+
+#[tactic(auto, unfolding(crate::specs::Adaptation::adapted_coefs))]
+fn adapt_coefs(counted: &Counted, saved: &CoefProbs, coef: &mut CoefProbs)
+    ensures { coef_lists coef.new ≡ adapted_coefs counted.now.frame counted.now.counts.now (coef_lists saved.now) (coef_lists coef.old) }
+{
+    counted.adapt_from(ProbKind::Coef, 0, &saved.of_4x4, &mut coef.of_4x4);
+    counted.adapt_from(ProbKind::Coef, 396, &saved.of_8x8, &mut coef.of_8x8);
+    counted.adapt_from(ProbKind::Coef, 2 * 396, &saved.of_16x16, &mut coef.of_16x16);
+    counted.adapt_from(ProbKind::Coef, 3 * 396, &saved.of_32x32, &mut coef.of_32x32);
+}
+
+#[tactic(auto, unfolding(crate::specs::Adaptation::adapted_tx))]
+fn adapt_tx(counted: &Counted, saved: &TxProbs, tx: &mut TxProbs)
+    ensures { tx_lists tx.new ≡ adapted_tx counted.now.frame counted.now.counts.now (tx_lists saved.now) (tx_lists tx.old) }
+{
+    counted.adapt_list(ProbKind::Tx8x8, &saved.of_8x8, &mut tx.of_8x8);
+    counted.adapt_list(ProbKind::Tx16x16, &saved.of_16x16, &mut tx.of_16x16);
+    counted.adapt_list(ProbKind::Tx32x32, &saved.of_32x32, &mut tx.of_32x32);
+}
+
+#[tactic(auto, unfolding(crate::specs::Adaptation::adapted_inter))]
+fn adapt_inter(counted: &Counted, saved: &InterProbs, inter: &mut InterProbs)
+    ensures { inter_lists inter.new ≡ adapted_inter counted.now.frame counted.now.counts.now (inter_lists saved.now) (inter_lists inter.old) }
+{
+    counted.adapt_list(ProbKind::InterMode, &saved.modes, &mut inter.modes);
+    counted.adapt_list(ProbKind::Filter, &saved.filters, &mut inter.filters);
+    counted.adapt_list(ProbKind::IsInter, &saved.is_inter, &mut inter.is_inter);
+    counted.adapt_list(
+        ProbKind::CompoundFlag,
+        &saved.compound_flag,
+        &mut inter.compound_flag,
+    );
+    counted.adapt_list(
+        ProbKind::SingleReference,
+        &saved.single_references,
+        &mut inter.single_references,
+    );
+    counted.adapt_list(
+        ProbKind::CompoundReference,
+        &saved.compound_references,
+        &mut inter.compound_references,
+    );
+    counted.adapt_list(ProbKind::YMode, &saved.y_modes, &mut inter.y_modes);
+}
+
+#[tactic(auto, unfolding(crate::specs::Adaptation::adapted_vectors))]
+fn adapt_vectors(counted: &Counted, saved: &VectorProbs, vectors: &mut VectorProbs)
+    ensures { vector_lists vectors.new ≡ adapted_vectors counted.now.frame counted.now.counts.now (vector_lists saved.now) (vector_lists vectors.old) }
+{
+    counted.adapt_list(ProbKind::VectorJoint, &saved.joints, &mut vectors.joints);
+    counted.adapt_list(ProbKind::VectorSign, &saved.signs, &mut vectors.signs);
+    counted.adapt_list(ProbKind::VectorClass, &saved.classes, &mut vectors.classes);
+    counted.adapt_list(ProbKind::VectorClass0, &saved.class0, &mut vectors.class0);
+    counted.adapt_list(ProbKind::VectorBit, &saved.bits, &mut vectors.bits);
+    counted.adapt_list(
+        ProbKind::VectorClass0Fraction,
+        &saved.class0_fractions,
+        &mut vectors.class0_fractions,
+    );
+    counted.adapt_list(
+        ProbKind::VectorFraction,
+        &saved.fractions,
+        &mut vectors.fractions,
+    );
+    counted.adapt_list(
+        ProbKind::VectorClass0High,
+        &saved.class0_high,
+        &mut vectors.class0_high,
+    );
+    counted.adapt_list(ProbKind::VectorHigh, &saved.high, &mut vectors.high);
+}
+
+/// The contexts that a frame leaves, if it is neither error resilient nor frame parallel: `pre` are those saved before it,
+/// from which it started, `now` those that it was decoded with.
+#[tactic(auto, unfolding(crate::specs::Adaptation::adapted_contexts))]
+pub fn adapt(pre: &Contexts, now: &Contexts, counts: &Counts, kind: &AdaptKind) -> Contexts
+    ensures { lists_of result ≡ adapted_contexts kind.now counts.now (lists_of pre.now) (lists_of now.now) }
+{
+    let counted = &Counted {
+        frame: *kind,
+        counts,
+    };
+    let mut contexts = *now;
+    adapt_tx(counted, &pre.tx, &mut contexts.tx);
+    adapt_coefs(counted, &pre.coef, &mut contexts.coef);
+    counted.adapt_list(ProbKind::Skip, &pre.skip, &mut contexts.skip);
+    adapt_inter(counted, &pre.inter, &mut contexts.inter);
+    counted.adapt_list(
+        ProbKind::Partition,
+        &pre.partitions,
+        &mut contexts.partitions,
+    );
+    adapt_vectors(counted, &pre.vectors, &mut contexts.vectors);
+    counted.adapt_list(ProbKind::UvMode, &pre.uv_modes, &mut contexts.uv_modes);
+    contexts
+}

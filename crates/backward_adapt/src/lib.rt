@@ -1,0 +1,17 @@
+//! Adaptation: how the probabilities of a frame follow its counts (8.4.2 to 8.4.4 of the standard).
+#![tactic(auto)]
+
+mod adapting;
+mod kind;
+mod laws;
+mod lists;
+mod merge;
+#[cfg(test)]
+mod tests;
+
+pub use adapting::adapt;
+pub use kind::{AdaptKind, InterKind};
+pub use laws::{
+    adaptation_is_by_its_bools, contexts_have_coef_sizes, each_probability_is_adapted_alone,
+};
+pub use merge::Rate;
