@@ -1,7 +1,7 @@
 //! One probability.
 
-ghost use Rattle.std.specs.Prelude.{◌≡◌, ◌+◌, ◌≤◌};
-ghost use Rattle.backward_adapt.specs.Merge.{count_sat, max_update_factor, counted_prob, update_factor, merge_prob};
+ghost use Rattle.std.specs.Prelude.{◌≡◌, ◌+◌, ◌*◌, ◌/◌, ◌<◌, ◌≤◌};
+ghost use Rattle.backward_adapt.specs.Merge.{counted_prob, update_factor, merge_prob};
 
 /// How fast probabilities follow their counts.
 #[derive(Clone, Copy, Debug, PartialEq, Eq)]
@@ -12,27 +12,17 @@ pub enum Rate {
     Others,
 }
 
-impl Rate {
-    fn count_sat(self) -> u32
-        ensures value { result ≡ count_sat self }
-        ensures least { 20 ≤ result }
-        ensures most { result ≤ 24 }
-    {
-        match self {
-            Rate::Coefs | Rate::CoefsAfterKey => 24,
-            Rate::Others => 20,
-        }
+/// The share of the zeros, of 256, rounded: by a division of 64 bits where they suffice, since one of 128 is slow.
+fn rounded_share(zeros: u64, ones: u64) -> u128
+    requires { 0 < zeros + ones }
+    ensures { result ≡ (256 * zeros + (zeros + ones) / 2) / (zeros + ones) }
+{
+    if zeros < 1 << 48 && ones < 1 << 48 {
+        let all = zeros + ones;
+        return u128::from((256 * zeros + all / 2) / all);
     }
-
-    fn max_update_factor(self) -> u32
-        ensures value { result ≡ max_update_factor self }
-        ensures most { result ≤ 128 }
-    {
-        match self {
-            Rate::Coefs => 112,
-            Rate::CoefsAfterKey | Rate::Others => 128,
-        }
-    }
+    let all = u128::from(zeros) + u128::from(ones);
+    (256 * u128::from(zeros) + all / 2) / all
 }
 
 #[tactic(auto, unfolding(crate::specs::Merge::counted_prob))]
@@ -41,11 +31,10 @@ fn counted_prob(zeros: u64, ones: u64) -> u32
     ensures least { 1 ≤ result }
     ensures most { result ≤ 255 }
 {
-    let all = u128::from(zeros) + u128::from(ones);
-    if all == 0 {
+    if zeros == 0 && ones == 0 {
         return 128;
     }
-    let share = (256 * u128::from(zeros) + all / 2) / all;
+    let share = rounded_share(zeros, ones);
     if share < 1 {
         1
     } else if share > 255 {
@@ -60,9 +49,12 @@ fn update_factor(rate: Rate, zeros: u64, ones: u64) -> u32
     ensures value { result ≡ update_factor rate (zeros + ones) }
     ensures most { result ≤ 128 }
 {
-    let counted = zeros.saturating_add(ones);
-    let counted = counted.min(u64::from(rate.count_sat())) as u32;
-    rate.max_update_factor() * counted / rate.count_sat()
+    let all = zeros.saturating_add(ones);
+    match rate {
+        Rate::Coefs => 112 * (all.min(24) as u32) / 24,
+        Rate::CoefsAfterKey => 128 * (all.min(24) as u32) / 24,
+        Rate::Others => 128 * (all.min(20) as u32) / 20,
+    }
 }
 
 /// What a probability becomes whose node was left so often by a 0 and by a 1.
