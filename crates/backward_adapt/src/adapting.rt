@@ -5,11 +5,11 @@ ghost use Rattle.prob_contexts.specs.Lists.{lists_of, tx_lists, coef_lists, inte
 ghost use Rattle.backward_adapt.specs.Adaptation.{adapted_coefs, adapted_tx, adapted_inter, adapted_vectors, adapted_contexts};
 
 use crate::kind::AdaptKind;
-use crate::lists::Counted;
+use crate::lists::FrameCounts;
 use prob_contexts::{CoefProbs, Contexts, Counts, InterProbs, ProbKind, TxProbs, VectorProbs};
 
 #[tactic(auto, unfolding(crate::specs::Adaptation::adapted_coefs))]
-fn adapt_coefs(counted: &Counted, saved: &CoefProbs, coef: &mut CoefProbs)
+fn adapt_coefs(counted: &FrameCounts, saved: &CoefProbs, coef: &mut CoefProbs)
     ensures { coef_lists coef.new ≡ adapted_coefs counted.now.frame counted.now.counts.now (coef_lists saved.now) (coef_lists coef.old) }
 {
     counted.adapt_from(ProbKind::Coef, 0, &saved.of_4x4, &mut coef.of_4x4);
@@ -19,7 +19,7 @@ fn adapt_coefs(counted: &Counted, saved: &CoefProbs, coef: &mut CoefProbs)
 }
 
 #[tactic(auto, unfolding(crate::specs::Adaptation::adapted_tx))]
-fn adapt_tx(counted: &Counted, saved: &TxProbs, tx: &mut TxProbs)
+fn adapt_tx(counted: &FrameCounts, saved: &TxProbs, tx: &mut TxProbs)
     ensures { tx_lists tx.new ≡ adapted_tx counted.now.frame counted.now.counts.now (tx_lists saved.now) (tx_lists tx.old) }
 {
     counted.adapt_list(ProbKind::Tx8x8, &saved.of_8x8, &mut tx.of_8x8);
@@ -28,7 +28,7 @@ fn adapt_tx(counted: &Counted, saved: &TxProbs, tx: &mut TxProbs)
 }
 
 #[tactic(auto, unfolding(crate::specs::Adaptation::adapted_inter))]
-fn adapt_inter(counted: &Counted, saved: &InterProbs, inter: &mut InterProbs)
+fn adapt_inter(counted: &FrameCounts, saved: &InterProbs, inter: &mut InterProbs)
     ensures { inter_lists inter.new ≡ adapted_inter counted.now.frame counted.now.counts.now (inter_lists saved.now) (inter_lists inter.old) }
 {
     counted.adapt_list(ProbKind::InterMode, &saved.modes, &mut inter.modes);
@@ -53,7 +53,7 @@ fn adapt_inter(counted: &Counted, saved: &InterProbs, inter: &mut InterProbs)
 }
 
 #[tactic(auto, unfolding(crate::specs::Adaptation::adapted_vectors))]
-fn adapt_vectors(counted: &Counted, saved: &VectorProbs, vectors: &mut VectorProbs)
+fn adapt_vectors(counted: &FrameCounts, saved: &VectorProbs, vectors: &mut VectorProbs)
     ensures { vector_lists vectors.new ≡ adapted_vectors counted.now.frame counted.now.counts.now (vector_lists saved.now) (vector_lists vectors.old) }
 {
     counted.adapt_list(ProbKind::VectorJoint, &saved.joints, &mut vectors.joints);
@@ -85,7 +85,7 @@ fn adapt_vectors(counted: &Counted, saved: &VectorProbs, vectors: &mut VectorPro
 pub fn adapt(pre: &Contexts, now: &Contexts, counts: &Counts, kind: &AdaptKind) -> Contexts
     ensures { lists_of result ≡ adapted_contexts kind.now counts.now (lists_of pre.now) (lists_of now.now) }
 {
-    let counted = &Counted {
+    let counted = &FrameCounts {
         frame: *kind,
         counts,
     };

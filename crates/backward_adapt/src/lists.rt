@@ -11,12 +11,12 @@ use prob_contexts::{Counts, ProbKind};
 
 /// What a frame is, and what it counted.
 #[derive(Drop)]
-pub(crate) struct Counted<'a> {
+pub(crate) struct FrameCounts<'a> {
     pub frame: AdaptKind,
     pub counts: &'a Counts,
 }
 
-impl<'a> Counted<'a> {
+impl<'a> FrameCounts<'a> {
     /// Adapts probabilities of a kind, from a place of it on, if the frame adapts this kind.
     #[tactic(auto, unfolding(crate::specs::Adaptation::adapted_from))]
     pub(crate) fn adapt_from(&self, kind: ProbKind, from: u16, saved: &[u8], probs: &mut [u8])

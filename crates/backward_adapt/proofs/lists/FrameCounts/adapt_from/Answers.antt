@@ -3,7 +3,7 @@ use Rattle.std.proofs.lemmas.List.{length-set, take_more_set}
 use Rattle.std.proofs.lemmas.List.Elements.{All-push}
 use Rattle.backward_adapt.specs.Merge.{merge_probs}
 use Rattle.backward_adapt.proofs.Steps.{adapt_step}
-use Rattle.backward_adapt.proofs.lists.Counted.adapt_from.Goals as goal
+use Rattle.backward_adapt.proofs.lists.FrameCounts.adapt_from.Goals as goal
 
 pub loop-i-init : goal.loop-i-init
 unfolding merge_probs

@@ -1,7 +1,7 @@
 use Rattle.std.proofs.Common.{◌≡◌, ◌≤◌, length, take}
 use Rattle.std.specs.List.{All}
 use Rattle.backward_adapt.specs.Merge.{merge_probs}
-use Rattle.backward_adapt.proofs.lists.Counted.adapt_from.Given as goal
+use Rattle.backward_adapt.proofs.lists.FrameCounts.adapt_from.Given as goal
 
 abbrev pub invariant-loop-i : goal.invariant-loop-i
 invariant-loop-i l = record {
