@@ -1,7 +1,7 @@
 -- Seats that are split off and taken back keep the rule of the board, and the board that is closed has both slots at home.
-use Rattle.std.proofs.Common.{◌≡◌, ◌≢◌, ℕ, ◌+◌, ◌-◌, ◌<◌, ◌≤◌, ◌==◌, ◌⊎◌, true, false, true≢false, List, [], ◌∷◌, ◌++◌, length, set, slice_index, All, Option, Some, unwrap_or, if◌then◌else◌, length-append, le_of_eq, ⊎_elim, inl, inr, subst, refl, sym, ap, ◌∙◌, arith}
+use Rattle.std.proofs.Common.{◌≡◌, ◌≢◌, ℕ, ◌+◌, ◌<◌, ◌≤◌, ◌==◌, ◌⊎◌, true, true≢false, List, [], ◌∷◌, ◌++◌, length, set, Option, Some, unwrap_or, if◌then◌else◌, length-append, le_of_eq, ⊎_elim, inl, inr, subst, refl, sym, ap, ◌∙◌, arith}
 use Rattle.std.proofs.lemmas.List.Elements.{All-append, All-nil}
-use mathlib.Core.Option.{some, none, some-injective}
+use mathlib.Core.Option.{some, some-injective}
 use lib.ListN.{get_elem?}
 use Rattle.atomic_table.specs.Table.{State, Splits, Joins, Final, Seen}
 use Rattle.atomic_table.proofs.Lists.{at_set, at_snoc, at_longer, set_here, set_else}
@@ -28,29 +28,29 @@ split_roles views by v at leads live h =
     let here : get_elem? (set views by left ++ newcomer v ∷ []) by ≡ some left = at_longer (set views by left) (newcomer v ∷ []) by left (set_here views by left (at_below views by v at)) in
     let lead = h.leader v (subst (λ (k : ℕ). get_elem? views k ≡ some v) first at) in
     let lives : total (λ (u : View). u.live) (set views by left ++ newcomer v ∷ []) ≡ 2 + v.out =
-      omega (arith, total_push (λ (u : View). u.live) (set views by left) (newcomer v), total_set (λ (u : View). u.live) views by v left at, lead.1) in
+    omega (arith, total_push (λ (u : View). u.live) (set views by left) (newcomer v), total_set (λ (u : View). u.live) views by v left at, lead.1) in
     record {
       leader = λ u e.
-        let is : left ≡ u = some-injective left u (sym (subst (λ (k : ℕ). get_elem? (set views by left ++ newcomer v ∷ []) k ≡ some left) first here) ∙ e) in
-        subst (λ (y : View). (y.live ≡ 1) × (total (λ (u : View). u.live) (set views by left ++ newcomer v ∷ []) ≡ 1 + y.out)) is (live, omega (arith, lives));
+          let is : left ≡ u = some-injective left u (sym (subst (λ (k : ℕ). get_elem? (set views by left ++ newcomer v ∷ []) k ≡ some left) first here) ∙ e) in
+          subst (λ (y : View). (y.live ≡ 1) × (total (λ (u : View). u.live) (set views by left ++ newcomer v ∷ []) ≡ 1 + y.out)) is (live, omega (arith, lives));
       leads = λ j u e yes'.
-        ⊎_elim
-        (λ (x : get_elem? (set views by left) j ≡ some u).
-            ⊎_elim
-            (λ (y : (j ≡ by) × (left ≡ u)). y.0 ∙ first)
-            (λ (y : (j ≢ by) × (get_elem? views j ≡ some u)). h.leads j u y.1 yes')
-            (at_set views by j left u x))
-        (λ (x : newcomer v ≡ u). absurd (true≢false (sym yes' ∙ sym (ap (λ (y : View). y.leads) x))))
-        (at_snoc (set views by left) (newcomer v) u j e);
+          ⊎_elim
+          (λ (x : get_elem? (set views by left) j ≡ some u).
+          ⊎_elim
+          (λ (y : (j ≡ by) × (left ≡ u)). y.0 ∙ first)
+          (λ (y : (j ≢ by) × (get_elem? views j ≡ some u)). h.leads j u y.1 yes')
+          (at_set views by j left u x))
+          (λ (x : newcomer v ≡ u). absurd (true≢false (sym yes' ∙ sym (ap (λ (y : View). y.leads) x))))
+          (at_snoc (set views by left) (newcomer v) u j e);
       idle = λ j u e dead.
-        ⊎_elim
-        (λ (x : get_elem? (set views by left) j ≡ some u).
-            ⊎_elim
-            (λ (y : (j ≡ by) × (left ≡ u)). let l : left.live ≡ u.live = ap (λ (y : View). y.live) y.1 in absurd (omega (arith, l, dead, live)))
-            (λ (y : (j ≢ by) × (get_elem? views j ≡ some u)). h.idle j u y.1 dead)
-            (at_set views by j left u x))
-        (λ (x : newcomer v ≡ u). let l : 1 ≡ u.live = ap (λ (y : View). y.live) x in absurd (omega (arith, l, dead)))
-        (at_snoc (set views by left) (newcomer v) u j e);
+          ⊎_elim
+          (λ (x : get_elem? (set views by left) j ≡ some u).
+          ⊎_elim
+          (λ (y : (j ≡ by) × (left ≡ u)). let l : left.live ≡ u.live = ap (λ (y : View). y.live) y.1 in absurd (omega (arith, l, dead, live)))
+          (λ (y : (j ≢ by) × (get_elem? views j ≡ some u)). h.idle j u y.1 dead)
+          (at_set views by j left u x))
+          (λ (x : newcomer v ≡ u). let l : 1 ≡ u.live = ap (λ (y : View). y.live) x in absurd (omega (arith, l, dead)))
+          (at_snoc (set views by left) (newcomer v) u j e);
     }
 
 join_roles : (views : List View) (by other : ℕ) (v w : View) → get_elem? views by ≡ some v → ¬ (other ≡ by) → get_elem? (set views by (joined v w)) other ≡ some w
@@ -62,30 +62,30 @@ join_roles views by other v w at apart there leads live live' h =
     let here : get_elem? after by ≡ some both = set_else (set views by both) other by spent (λ e. apart (sym e)) ∙ set_here views by both (at_below views by v at) in
     let lead = h.leader v (subst (λ (k : ℕ). get_elem? views k ≡ some v) first at) in
     let lives : total (λ (u : View). u.live) after + 1 ≡ 1 + v.out =
-      omega (arith, total_set (λ (u : View). u.live) (set views by both) other w spent there, total_set (λ (u : View). u.live) views by v both at, lead.1, live') in
+    omega (arith, total_set (λ (u : View). u.live) (set views by both) other w spent there, total_set (λ (u : View). u.live) views by v both at, lead.1, live') in
     let some_out : 1 ≤ total (λ (u : View). u.live) after = let p = part_le (λ (u : View). u.live) after by both here in omega (arith, p, live) in
     record {
       leader = λ u e.
-        let is : both ≡ u = some-injective both u (sym (subst (λ (k : ℕ). get_elem? after k ≡ some both) first here) ∙ e) in
-        subst (λ (y : View). (y.live ≡ 1) × (total (λ (u : View). u.live) after ≡ 1 + y.out)) is (live, omega (arith, lives, some_out));
+          let is : both ≡ u = some-injective both u (sym (subst (λ (k : ℕ). get_elem? after k ≡ some both) first here) ∙ e) in
+          subst (λ (y : View). (y.live ≡ 1) × (total (λ (u : View). u.live) after ≡ 1 + y.out)) is (live, omega (arith, lives, some_out));
       leads = λ j u e yes'.
-        ⊎_elim
-        (λ (x : (j ≡ other) × (spent ≡ u)). absurd (true≢false (sym yes' ∙ sym (ap (λ (y : View). y.leads) x.1))))
-        (λ (x : (j ≢ other) × (get_elem? (set views by both) j ≡ some u)).
-            ⊎_elim
-            (λ (y : (j ≡ by) × (both ≡ u)). y.0 ∙ first)
-            (λ (y : (j ≢ by) × (get_elem? views j ≡ some u)). h.leads j u y.1 yes')
-            (at_set views by j both u x.1))
-        (at_set (set views by both) other j spent u e);
+          ⊎_elim
+          (λ (x : (j ≡ other) × (spent ≡ u)). absurd (true≢false (sym yes' ∙ sym (ap (λ (y : View). y.leads) x.1))))
+          (λ (x : (j ≢ other) × (get_elem? (set views by both) j ≡ some u)).
+          ⊎_elim
+          (λ (y : (j ≡ by) × (both ≡ u)). y.0 ∙ first)
+          (λ (y : (j ≢ by) × (get_elem? views j ≡ some u)). h.leads j u y.1 yes')
+          (at_set views by j both u x.1))
+          (at_set (set views by both) other j spent u e);
       idle = λ j u e dead.
-        ⊎_elim
-        (λ (x : (j ≡ other) × (spent ≡ u)). (sym (ap (λ (y : View). y.drawn) x.1), sym (ap (λ (y : View). y.raised) x.1), sym (ap (λ (y : View). y.has) x.1)))
-        (λ (x : (j ≢ other) × (get_elem? (set views by both) j ≡ some u)).
-            ⊎_elim
-            (λ (y : (j ≡ by) × (both ≡ u)). let l : both.live ≡ u.live = ap (λ (y : View). y.live) y.1 in absurd (omega (arith, l, dead, live)))
-            (λ (y : (j ≢ by) × (get_elem? views j ≡ some u)). h.idle j u y.1 dead)
-            (at_set views by j both u x.1))
-        (at_set (set views by both) other j spent u e);
+          ⊎_elim
+          (λ (x : (j ≡ other) × (spent ≡ u)). (sym (ap (λ (y : View). y.drawn) x.1), sym (ap (λ (y : View). y.raised) x.1), sym (ap (λ (y : View). y.has) x.1)))
+          (λ (x : (j ≢ other) × (get_elem? (set views by both) j ≡ some u)).
+          ⊎_elim
+          (λ (y : (j ≡ by) × (both ≡ u)). let l : both.live ≡ u.live = ap (λ (y : View). y.live) y.1 in absurd (omega (arith, l, dead, live)))
+          (λ (y : (j ≢ by) × (get_elem? views j ≡ some u)). h.idle j u y.1 dead)
+          (at_set views by j both u x.1))
+          (at_set (set views by both) other j spent u e);
     }
 
 module _ {T : Type 0} (names : T → ℕ) where
@@ -109,14 +109,14 @@ module _ {T : Type 0} (names : T → ℕ) where
         ticket_word = rw count h.ticket_word;
         lane_words = λ l less. rw (same l) (h.lane_words l less);
         reached = λ j u e.
-          ⊎_elim
-          (λ (x : get_elem? (set s.views by (one_more_out v)) j ≡ some u).
-              ⊎_elim
-              (λ (y : (j ≡ by) × (one_more_out v ≡ u)). subst (λ (y : View). IsReached views y.seen) y.1 mine)
-              (λ (y : (j ≢ by) × (get_elem? s.views j ≡ some u)). still_reached s.views views u.seen up (h.reached j u y.1))
-              (at_set s.views by j (one_more_out v) u x))
-          (λ (x : newcomer v ≡ u). subst (λ (y : View). IsReached views y.seen) x mine)
-          (at_snoc (set s.views by (one_more_out v)) (newcomer v) u j e);
+            ⊎_elim
+            (λ (x : get_elem? (set s.views by (one_more_out v)) j ≡ some u).
+            ⊎_elim
+            (λ (y : (j ≡ by) × (one_more_out v ≡ u)). subst (λ (y : View). IsReached views y.seen) y.1 mine)
+            (λ (y : (j ≢ by) × (get_elem? s.views j ≡ some u)). still_reached s.views views u.seen up (h.reached j u y.1))
+            (at_set s.views by j (one_more_out v) u x))
+            (λ (x : newcomer v ≡ u). subst (λ (y : View). IsReached views y.seen) x mine)
+            (at_snoc (set s.views by (one_more_out v)) (newcomer v) u j e);
         turns = λ slot small. same_turns s views (λ k. split_total (λ (u : View). times k u.has) s.views by v at refl refl) slot (h.turns slot small);
       }
 
@@ -129,7 +129,7 @@ module _ {T : Type 0} (names : T → ℕ) where
       let same : (l : ℕ) → raises l views ≡ raises l s.views = λ l. join_total (λ (u : View). times l u.raised) s.views by other v w at there (total_append (λ (y : ℕ). if y == l then 1 else 0) v.raised w.raised) refl in
       let up : (l : ℕ) → raises l s.views ≤ raises l views = λ l. le_of_eq (sym (same l)) in
       let mine : IsReached views both.seen =
-        All-append (λ (p : ℕ × ℕ). p.1 ≤ raises p.0 views) v.seen w.seen (still_reached s.views views v.seen up (h.reached by v at)) (still_reached s.views views w.seen up (h.reached other w w_at)) in
+      All-append (λ (p : ℕ × ℕ). p.1 ≤ raises p.0 views) v.seen w.seen (still_reached s.views views v.seen up (h.reached by v at)) (still_reached s.views views w.seen up (h.reached other w w_at)) in
       record {
         size = h.size;
         slots = h.slots;
@@ -138,14 +138,14 @@ module _ {T : Type 0} (names : T → ℕ) where
         ticket_word = rw count h.ticket_word;
         lane_words = λ l less. rw (same l) (h.lane_words l less);
         reached = λ j u e.
-          ⊎_elim
-          (λ (x : (j ≡ other) × (spent ≡ u)). subst (λ (y : View). IsReached views y.seen) x.1 (All-nil (λ (p : ℕ × ℕ). p.1 ≤ raises p.0 views)))
-          (λ (x : (j ≢ other) × (get_elem? (set s.views by both) j ≡ some u)).
-              ⊎_elim
-              (λ (y : (j ≡ by) × (both ≡ u)). subst (λ (y : View). IsReached views y.seen) y.1 mine)
-              (λ (y : (j ≢ by) × (get_elem? s.views j ≡ some u)). still_reached s.views views u.seen up (h.reached j u y.1))
-              (at_set s.views by j both u x.1))
-          (at_set (set s.views by both) other j spent u e);
+            ⊎_elim
+            (λ (x : (j ≡ other) × (spent ≡ u)). subst (λ (y : View). IsReached views y.seen) x.1 (All-nil (λ (p : ℕ × ℕ). p.1 ≤ raises p.0 views)))
+            (λ (x : (j ≢ other) × (get_elem? (set s.views by both) j ≡ some u)).
+            ⊎_elim
+            (λ (y : (j ≡ by) × (both ≡ u)). subst (λ (y : View). IsReached views y.seen) y.1 mine)
+            (λ (y : (j ≢ by) × (get_elem? s.views j ≡ some u)). still_reached s.views views u.seen up (h.reached j u y.1))
+            (at_set s.views by j both u x.1))
+            (at_set (set s.views by both) other j spent u e);
         turns = λ slot small. same_turns s views (λ k. join_total (λ (u : View). times k u.has) s.views by other v w at there (total_append (λ (y : ℕ). if y == k then 1 else 0) v.has w.has) refl) slot (h.turns slot small);
       }
 
@@ -155,8 +155,8 @@ module _ {T : Type 0} (names : T → ℕ) where
       let first : get_elem? s.views 0 ≡ some v = subst (λ (k : ℕ). get_elem? s.views k ≡ some v) (h.roles.leads by v at leads) at in
       let lead = h.roles.leader v first in
       one_has_all (λ (u : View). times slot u.has) s.views 0 v first (λ j u n b.
-          let dead : u.live ≡ 0 = others_none (λ (u : View). u.live) s.views 0 j v u first b n (omega (arith, lead.0, lead.1, out)) in
-          ap (λ (l : List ℕ). times slot l) (h.roles.idle j u b dead).2) ∙ ap (λ (l : List ℕ). times slot l) has
+      let dead : u.live ≡ 0 = others_none (λ (u : View). u.live) s.views 0 j v u first b n (omega (arith, lead.0, lead.1, out)) in
+      ap (λ (l : List ℕ). times slot l) (h.roles.idle j u b dead).2) ∙ ap (λ (l : List ℕ). times slot l) has
 
   pub closes : (lanes by slot : ℕ) (v : View) (words : List ℕ) (items : List (Option T)) → v.leads ≡ true → v.out ≡ 0 → v.has ≡ [] → slot < 2
       → Final (Seen (Kept names lanes) by v) words items → (y : T) × (get_elem? items slot ≡ some (Some y)) × (names y ≡ slot)

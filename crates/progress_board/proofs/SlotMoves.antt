@@ -1,5 +1,5 @@
 -- Slots that are taken and given keep the rule of the board.
-use Rattle.std.proofs.Common.{◌≡◌, ◌≢◌, ℕ, ◌+◌, ◌-◌, ◌<◌, ◌≤◌, ◌⊎◌, true, List, [], ◌∷◌, length, set, slice_index, Option, Some, get_or-set_same, get_or-set_other, length-set, le_of_eq, ⊎_elim, inl, inr, subst, refl, sym, ap, ◌∙◌, arith}
+use Rattle.std.proofs.Common.{◌≡◌, ◌≢◌, ℕ, ◌+◌, ◌-◌, ◌<◌, ◌≤◌, ◌⊎◌, List, [], ◌∷◌, length, set, slice_index, Option, Some, get_or-set_same, get_or-set_other, length-set, le_of_eq, ⊎_elim, inl, inr, subst, refl, sym, ap, ◌∙◌, arith}
 use mathlib.Core.Option.{some, none}
 use native.Mathlib.Decide.{ℕ_discrete}
 use lib.ListN.{get_elem?}
@@ -9,7 +9,7 @@ use Rattle.progress_board.specs.declared.view.View.{View}
 use Rattle.progress_board.specs.Counts.{times, draws, raises, holders}
 use Rattle.progress_board.specs.Views.{with_slots}
 use Rattle.progress_board.specs.Rule.{IsHome, IsOut, Kept}
-use Rattle.progress_board.specs.Code.{Took, Gave, rest}
+use Rattle.progress_board.specs.Code.{Took, Gave, rest, hand}
 use Rattle.progress_board.proofs.Totals.{total_set, part_le, times_self, times_other}
 use Rattle.progress_board.proofs.Keeps.{reached_set, still_reached, roles_set}
 
@@ -20,6 +20,14 @@ after s word n homes by w = record { words = set s.words word n; homes = homes; 
 -- the slot in front, under another name
 pub front_of : {A : Type 0} (m v : List (ℕ × A)) (k j : ℕ) (y : A) → m ≡ (k, y) ∷ v → k ≡ j → m ≡ (j, y) ∷ Rattle.atomic_table.specs.Table.rest m
 front_of {A} m v k j y is e = subst (λ (l : List (ℕ × A)). l ≡ (j, y) ∷ Rattle.atomic_table.specs.Table.rest l) (sym is) (ap (λ (n : ℕ). (n, y) ∷ v) e)
+
+-- what a seat has once it put a value into its one slot
+pub filled : {T : Type 0} (me : Me (Option T) View) (v : View) (carried : List (ℕ × Option T)) (has : List ℕ) (k slot : ℕ) (y : T)
+    → me ≡ (v, (k, Some y) ∷ Rattle.atomic_table.specs.Table.rest carried) → carried ≡ hand has → has ≡ slot ∷ [] → k ≡ slot → me ≡ (v, (slot, Some y) ∷ [])
+filled {T} me v carried has k slot y is empty one same =
+    is
+    ∙ (ap (λ (j : ℕ). (v, (j, Some y) ∷ Rattle.atomic_table.specs.Table.rest carried)) same
+    ∙ ap (λ (l : List (ℕ × Option T)). (v, (slot, Some y) ∷ Rattle.atomic_table.specs.Table.rest l)) (empty ∙ ap (λ (l : List ℕ). hand l) one))
 
 module _ {T : Type 0} (names : T → ℕ) where
   swap_keeps : (lanes slot n : ℕ) (s : State (Option T) View) (homes : List (mathlib.Core.Option.Option (Option T))) (by : ℕ) (v : View) (has : List ℕ)
@@ -66,13 +74,14 @@ module _ {T : Type 0} (names : T → ℕ) where
           → IsHome names k (after s (slot + 1) 1 (set s.homes slot none) by (with_slots v (slot ∷ v.has))) ⊎ IsOut k (after s (slot + 1) 1 (set s.homes slot none) by (with_slots v (slot ∷ v.has)))
       turn k less (yes e) =
           subst (λ (j : ℕ). IsHome names j (after s (slot + 1) 1 (set s.homes slot none) by (with_slots v (slot ∷ v.has))) ⊎ IsOut j (after s (slot + 1) 1 (set s.homes slot none) by (with_slots v (slot ∷ v.has)))) (sym e)
-            (inr (
-              get_or-set_same s.words (slot + 1) 1 0 (omega (arith, h.size, small)),
-              set_here s.homes slot none (omega (arith, h.slots, small)),
-              omega (arith, total_set (λ (u : View). times slot u.has) s.views by v (with_slots v (slot ∷ v.has)) at, times_self slot v.has, home.2)))
+          (inr (
+            get_or-set_same s.words (slot + 1) 1 0 (omega (arith, h.size, small)),
+            set_here s.homes slot none (omega (arith, h.slots, small)),
+            omega (arith, total_set (λ (u : View). times slot u.has) s.views by v (with_slots v (slot ∷ v.has)) at, times_self slot v.has, home.2),
+          ))
       turn k less (no n) =
           other_stays lanes slot k 1 s (set s.homes slot none) by (with_slots v (slot ∷ v.has)) h less n (set_else s.homes slot k none n)
-            (omega (arith, total_set (λ (u : View). times k u.has) s.views by v (with_slots v (slot ∷ v.has)) at, times_other k slot v.has n))
+          (omega (arith, total_set (λ (u : View). times k u.has) s.views by v (with_slots v (slot ∷ v.has)) at, times_other k slot v.has n))
 
   -- a slot that is out stays out
   refused : (lanes by slot : ℕ) (s : State (Option T) View) (v : View) → v.live ≡ 1 → slot < 2 → Kept names lanes s → get_elem? s.views by ≡ some v → IsOut slot s
@@ -86,7 +95,7 @@ module _ {T : Type 0} (names : T → ℕ) where
           → IsHome names k (after s (slot + 1) 1 s.homes by (with_slots v v.has)) ⊎ IsOut k (after s (slot + 1) 1 s.homes by (with_slots v v.has))
       turn k less (yes e) =
           subst (λ (j : ℕ). IsHome names j (after s (slot + 1) 1 s.homes by (with_slots v v.has)) ⊎ IsOut j (after s (slot + 1) 1 s.homes by (with_slots v v.has))) (sym e)
-            (inr (get_or-set_same s.words (slot + 1) 1 0 (omega (arith, h.size, small)), out.1, same slot ∙ out.2))
+          (inr (get_or-set_same s.words (slot + 1) 1 0 (omega (arith, h.size, small)), out.1, same slot ∙ out.2))
       turn k less (no n) = other_stays lanes slot k 1 s s.homes by (with_slots v v.has) h less n refl (same k)
 
   pub take_allows : (lanes slots by slot : ℕ) (me : Me (Option T) View) → me.0.live ≡ 1 → slot < 2
@@ -95,11 +104,12 @@ module _ {T : Type 0} (names : T → ℕ) where
       let here : slot ≡ slot + 1 - 1 = omega arith in
       ⊎_elim
       (λ (x : IsHome names slot s). (
-          with_slots me.0 (slot ∷ me.0.has),
-          takes slot (Some x.1.0),
-          x.1.1,
-          taken lanes by slot s me.0 live small h at x,
-          inl (x.0, ap (λ k. with_slots me.0 (k ∷ me.0.has)) here, (x.1.0, x.1.2 ∙ here, ap (λ k. (k, Some x.1.0) ∷ me.1) here))))
+        with_slots me.0 (slot ∷ me.0.has),
+        takes slot (Some x.1.0),
+        x.1.1,
+        taken lanes by slot s me.0 live small h at x,
+        inl (x.0, ap (λ k. with_slots me.0 (k ∷ me.0.has)) here, (x.1.0, x.1.2 ∙ here, ap (λ k. (k, Some x.1.0) ∷ me.1) here)),
+      ))
       (λ (x : IsOut slot s). (with_slots me.0 me.0.has, keeps, tt, refused lanes by slot s me.0 live small h at x, inr (x.0, refl, refl)))
       (h.turns slot small)
 
@@ -116,13 +126,14 @@ module _ {T : Type 0} (names : T → ℕ) where
           → IsHome names k (after s (slot + 1) 0 (set s.homes slot (some (Some y))) by (with_slots v [])) ⊎ IsOut k (after s (slot + 1) 0 (set s.homes slot (some (Some y))) by (with_slots v []))
       turn k less (yes e) =
           subst (λ (j : ℕ). IsHome names j (after s (slot + 1) 0 (set s.homes slot (some (Some y))) by (with_slots v [])) ⊎ IsOut j (after s (slot + 1) 0 (set s.homes slot (some (Some y))) by (with_slots v []))) (sym e)
-            (inl (
-              get_or-set_same s.words (slot + 1) 0 0 (omega (arith, h.size, small)),
-              (y, set_here s.homes slot (some (Some y)) (omega (arith, h.slots, small)), name),
-              omega (arith, less_held slot, times_self slot [], out.2)))
+          (inl (
+            get_or-set_same s.words (slot + 1) 0 0 (omega (arith, h.size, small)),
+            (y, set_here s.homes slot (some (Some y)) (omega (arith, h.slots, small)), name),
+            omega (arith, less_held slot, times_self slot [], out.2),
+          ))
       turn k less (no n) =
           other_stays lanes slot k 0 s (set s.homes slot (some (Some y))) by (with_slots v []) h less n (set_else s.homes slot k (some (Some y)) n)
-            (omega (arith, less_held k, times_other k slot [] n))
+          (omega (arith, less_held k, times_other k slot [] n))
 
   -- a slot that a seat has is out
   is_out : (lanes by slot : ℕ) (s : State (Option T) View) (v : View) → slot < 2 → v.has ≡ slot ∷ [] → Kept names lanes s → get_elem? s.views by ≡ some v → IsOut slot s

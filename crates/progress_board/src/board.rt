@@ -11,6 +11,13 @@ use atomic_table::Table;
 use std::alloc::Global;
 use std::marker::Model;
 
+// The words of a board: the tickets', the turns of the slots, one for each lane.
+const TICKETS: usize = 0;
+
+const FIRST_TURN: usize = 1;
+
+const FIRST_LANE: usize = 3;
+
 /// Words and slots that any number of threads share, each by a seat of its own. Contracts see which board it is, and how
 /// many lanes it has.
 #[derive(Drop)]
@@ -50,7 +57,7 @@ impl<T: InSlot> Board<T> {
         ensures seat { IfOk result (λ r. r.1.view ≡ opener) }
         ensures refused { IfErr result (λ r. (r.source ≡ source) × (r.outlet ≡ outlet)) }
     {
-        let Ok(words) = Vec::from_elem(alloc, 0, usize::from(lanes) + 3) else {
+        let Ok(words) = Vec::from_elem(alloc, 0, usize::from(lanes) + FIRST_LANE) else {
             return Err(Refused { source, outlet });
         };
         let mut slots = Vec::new(alloc);
@@ -72,7 +79,9 @@ impl<T: InSlot> Board<T> {
         ensures board { seat.new.board ≡ seat.old.board }
         ensures drawn { Draws seat.old.view result seat.new.view }
     {
-        self.table.shared.fetch_add::<Draw>(&mut seat.token, 0, 1)
+        self.table
+            .shared
+            .fetch_add::<Draw>(&mut seat.token, TICKETS, 1)
     }
 
     /// Raises a lane by 1.
@@ -84,7 +93,7 @@ impl<T: InSlot> Board<T> {
     {
         self.table
             .shared
-            .fetch_add::<Raise>(&mut seat.token, usize::from(lane) + 3, 1);
+            .fetch_add::<Raise>(&mut seat.token, usize::from(lane) + FIRST_LANE, 1);
     }
 
     /// How often a lane was raised so far, modulo 2^64.
@@ -96,7 +105,7 @@ impl<T: InSlot> Board<T> {
     {
         self.table
             .shared
-            .load::<Look>(&mut seat.token, usize::from(lane) + 3)
+            .load::<Look>(&mut seat.token, usize::from(lane) + FIRST_LANE)
     }
 
     /// Takes what lies in a slot, or nothing where it is out. A seat has one slot at a time.
@@ -107,7 +116,7 @@ impl<T: InSlot> Board<T> {
         ensures board { seat.new.board ≡ seat.old.board }
         ensures taken { MatchOption result (seat.new.view ≡ with_slots seat.old.view []) (λ y. (T.names y ≡ slot) × (seat.new.view ≡ with_slots seat.old.view (slot ∷ []))) }
     {
-        let word = usize::from(slot) + 1;
+        let word = usize::from(slot) + FIRST_TURN;
         let found = self.table.shared.swap::<Take>(&mut seat.token, word, 1);
         if found == 0 {
             self.table
@@ -127,13 +136,14 @@ impl<T: InSlot> Board<T> {
         ensures board { seat.new.board ≡ seat.old.board }
         ensures given { seat.new.view ≡ with_slots seat.old.view [] }
     {
-        let old = self.table
+        let old = self
+            .table
             .shared
             .exchange(&mut seat.token, usize::from(slot), Some(value));
         let None = old else { unreachable!() };
         self.table
             .shared
-            .swap::<Give>(&mut seat.token, usize::from(slot) + 1, 0);
+            .swap::<Give>(&mut seat.token, usize::from(slot) + FIRST_TURN, 0);
     }
 
     /// A new seat, split off the first one.
@@ -157,9 +167,7 @@ impl<T: InSlot> Board<T> {
         ensures joined { seat.new.view ≡ joined seat.old.view other.view }
     {
         let Seat { token } = other;
-        self.table
-            .shared
-            .join_seat::<Crew>(&mut seat.token, token);
+        self.table.shared.join_seat::<Crew>(&mut seat.token, token);
     }
 
     /// Hands out what lies in the slots, the source's first. All seats are joined, and no slot is out.
@@ -176,12 +184,8 @@ impl<T: InSlot> Board<T> {
         let source = closed.take(0);
         let outlet = closed.take(1);
         closed.free();
-        let Some(source) = source else {
-            unreachable!()
-        };
-        let Some(outlet) = outlet else {
-            unreachable!()
-        };
+        let Some(source) = source else { unreachable!() };
+        let Some(outlet) = outlet else { unreachable!() };
         (source, outlet)
     }
 }

@@ -7,6 +7,7 @@ use std::thread;
 use std::thread::Threads;
 
 const LANES: u8 = 16;
+
 const TICKETS: usize = 100_000;
 // Turns after which a thread gives up that waits for the others.
 const TURNS: u32 = 100_000_000;
@@ -106,6 +107,7 @@ fn work(board: &Board<Held>, worker: &mut Worker, all: u64)
 }
 
 fn run_all<R: Threads + Sync>(rt: &R, board: &Board<Held>, crew: &mut [Worker], all: u8)
+    requires all { 0 < all }
     requires lanes { board.now.lanes ≡ 16 }
     requires crew { All (λ w. (w.seat.board ≡ board.now.board) × (w.seat.view.has ≡ [])) crew.old }
     ensures crew { All (λ w. (w.seat.board ≡ board.now.board) × (w.seat.view.has ≡ [])) crew.new }

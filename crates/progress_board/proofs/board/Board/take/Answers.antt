@@ -16,7 +16,7 @@ exchange-requires g c =
     let same : c.from-word.result + 1 - 1 ≡ c.from.result = omega (arith, c.from-word.ensures, c.from.ensures) in (
       c.swap-found.ensures.0 ∙ table,
       ⊎_elim
-        (λ took. (Some took.2.0, front_of _ _ _ _ _ took.2.2 same))
-        (λ out. absurd (omega (arith, out.0, c.if-found-eq0.true)))
-        c.swap-found.ensures.2,
+          (λ took. (Some took.2.0, front_of _ _ _ _ _ took.2.2 same))
+          (λ out. absurd (omega (arith, out.0, c.if-found-eq0.true)))
+          c.swap-found.ensures.2,
     )
