@@ -1,7 +1,8 @@
 -- Rows of a map that stand one after another in a list.
-use Rattle.std.proofs.Common.{◌≡◌, ℕ, zero, suc, ◌+◌, ◌-◌, ◌*◌, ◌<◌, ◌≤◌, List, length, take, drop, min, suc-mul, mul-le-mul_right, le_of_eq, subst, refl, sym, ◌∙◌, ap, arith}
+use Rattle.std.proofs.Common.{◌≡◌, ℕ, zero, suc, ◌+◌, ◌-◌, ◌*◌, ◌<◌, ◌≤◌, List, ◌∷◌, ◌++◌, length, map, replicate, take, drop, suc-mul, mul-le-mul_right, le_of_eq, refl, sym, ◌∙◌, ap, arith}
 use Rattle.std.proofs.Math.Seq.{drop-append-add}
-use Rattle.std.proofs.lemmas.List.{length-append, take-append-le}
+use Rattle.std.proofs.lemmas.List.{length-append, take-append-le, replicate-append-replicate}
+use Rattle.std.specs.List.{range_with_len}
 use Rattle.std.proofs.lemmas.List.FromFn.{length-map-range_with_len, take-map-range_with_len}
 use Rattle.vp9_types.specs.declared.shape.Plane.{Plane}
 use Rattle.vp9_types.specs.declared.shape.Shape.{Shape}
@@ -23,7 +24,7 @@ row_in m w first (suc n) zero h =
     let none : 0 * w ≡ 0 = omega arith in
     let here : first + 0 ≡ first = omega arith in
     rw (none, here)
-      (take-append-le w (row_of m first 0 w) (rows_from m w (first + 1) n) (le_of_eq (sym (length_row m first w))) ∙ take-map-range_with_len (m first) 0 w w (omega arith))
+    (take-append-le w (row_of m first 0 w) (rows_from m w (first + 1) n) (le_of_eq (sym (length_row m first w))) ∙ take-map-range_with_len (m first) 0 w w (omega arith))
 row_in m w first (suc n) (suc k) h =
     let row = row_of m first 0 w in
     let more : suc k * w ≡ length row + k * w = omega (arith, length_row m first w, suc-mul k w) in
@@ -74,3 +75,22 @@ pub part_is : (picture : Picture) (shape : Shape) (plane : Plane) (index y heigh
     → take width (drop ((y - index * height) * width) samples) ≡ picture_row picture plane y
 part_is picture shape plane index y height width samples same h w is here =
     rw (height_is picture shape plane height same h, width_is picture shape plane width same w) (row_of_band picture plane index y samples is here)
+
+-- ---- samples that are all the same
+
+same_row : (v a n : ℕ) → map (λ (x : ℕ). v) (range_with_len a n) ≡ replicate n v
+same_row v a zero = refl
+same_row v a (suc n) = ap (λ l. v ∷ l) (same_row v (a + 1) n)
+
+same_rows : (v w first n : ℕ) → rows_from (λ y x. v) w first n ≡ replicate (n * w) v
+same_rows v w first zero = let none : zero * w ≡ 0 = omega arith in rw none refl
+same_rows v w first (suc n) =
+    let more : w + n * w ≡ suc n * w = omega (arith, suc-mul n w) in
+    ap (λ l. l ++ rows_from (λ y x. v) w (first + 1) n) (same_row v 0 w)
+    ∙ (ap (λ l. replicate w v ++ l) (same_rows v w (first + 1) n) ∙ (replicate-append-replicate w (n * w) v ∙ ap (λ k. replicate k v) more))
+
+pub same_samples : (shape : Shape) (plane : Plane) (index v rows width : ℕ) (items : List ℕ) → items ≡ replicate (rows * width) v → rows ≡ band_rows shape plane index → width ≡ coded_width shape plane
+    → items ≡ band_samples (record { shape = shape; map = λ p y x. v }) index plane
+unfolding band_samples
+same_samples shape plane index v rows width items is high wide =
+    is ∙ (rw (high, wide) (sym (same_rows v (coded_width shape plane) (first_row shape plane index) (band_rows shape plane index))))

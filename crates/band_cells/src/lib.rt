@@ -11,6 +11,7 @@ mod store;
 
 pub use band::Band;
 pub use cell::BandCell;
+pub use layout::band_size;
 pub use meaning::Meaning;
 pub use rows::BandRows;
 pub use samples::{BandName, BandSamples};

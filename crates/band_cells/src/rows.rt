@@ -9,13 +9,13 @@ use vp9_types::{BandSpan, Plane, Samples};
 
 /// The rows of some bands of a frame, which other threads may still make. A row that isn't there yet is waited for.
 #[derive(Drop)]
-pub struct BandRows<'a, M: Meaning, R: Wait> {
+pub struct BandRows<'a, M: Meaning, R> {
     rt: &'a R,
     store: &'a Store<M>,
     span: BandSpan,
 }
 
-impl<'a, M: Meaning, R: Wait> BandRows<'a, M, R> {
+impl<'a, M: Meaning, R> BandRows<'a, M, R> {
     /// The rows of the bands of a span.
     pub fn new(rt: &'a R, store: &'a Store<M>, span: BandSpan) -> BandRows<'a, M, R>
         requires { span.frame ≡ store.now.frame }

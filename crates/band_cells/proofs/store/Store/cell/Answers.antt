@@ -1,4 +1,4 @@
-use Rattle.std.proofs.Common.{◌≡◌, ◌<◌, slice_get, ap, sym, ◌∙◌, arith}
+use Rattle.std.proofs.Common.{◌<◌, slice_get, ap, sym, ◌∙◌, arith}
 use Rattle.std.proofs.lemmas.Option.{slice_get_read}
 use Rattle.vp9_types.specs.Shapes.{bands_of}
 use Rattle.band_cells.specs.Code.{name_of}
