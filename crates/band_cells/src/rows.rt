@@ -3,11 +3,13 @@ ghost use Rattle.std.specs.Prelude.{◌≡◌};
 use crate::layout::band_height;
 use crate::meaning::Meaning;
 use crate::store::Store;
+use std::marker::Model;
 use std::sync::Wait;
 use std::thread;
 use vp9_types::{BandSpan, Plane, Samples};
 
 /// The rows of some bands of a frame, which other threads may still make. A row that isn't there yet is waited for.
+/// Contracts see which bands they are.
 #[derive(Drop)]
 pub struct BandRows<'a, M: Meaning, R> {
     rt: &'a R,
@@ -15,11 +17,22 @@ pub struct BandRows<'a, M: Meaning, R> {
     span: BandSpan,
 }
 
+impl<'a, M: Meaning, R> Model for BandRows<'a, M, R> {
+    ghost use Rattle.std.specs.Prelude.{◌≡◌};
+    ghost use Rattle.vp9_types.specs.declared.job.BandSpan.{BandSpan as Bands};
+
+    ghost Value = { Bands };
+
+    ghost view = { λ v. v.span };
+
+    ghost invariant = { λ v. v.span.frame ≡ v.store.now.frame };
+}
+
 impl<'a, M: Meaning, R> BandRows<'a, M, R> {
     /// The rows of the bands of a span.
     pub fn new(rt: &'a R, store: &'a Store<M>, span: BandSpan) -> BandRows<'a, M, R>
         requires { span.frame ≡ store.now.frame }
-        ensures { (result.span ≡ span) × (result.store.now ≡ store.now) }
+        ensures { result ≡ span }
     {
         BandRows { rt, store, span }
     }
@@ -29,11 +42,11 @@ impl<'a, M: Meaning, R: Wait> Samples for BandRows<'a, M, R> {
     ghost use Rattle.band_cells.specs.Bands.{coded_width};
     ghost use Rattle.band_cells.specs.Code.{IsRowWithin};
 
-    ghost holds = { λ v p y. IsRowWithin v.store.now.shape v.span p y };
+    ghost holds = { λ span p y. IsRowWithin (M.pictures span.frame).shape span p y };
 
-    ghost width = { λ v p. coded_width v.store.now.shape p };
+    ghost width = { λ span p. coded_width (M.pictures span.frame).shape p };
 
-    ghost map = { λ v. (M.pictures v.store.now.frame).map };
+    ghost map = { λ span. (M.pictures span.frame).map };
 
     fn row(&self, plane: Plane, y: u32) -> &[u16] {
         let index = y / band_height(self.store.shape(), plane);

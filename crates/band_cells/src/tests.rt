@@ -124,8 +124,7 @@ fn is_filled<S: Samples>(samples: &S, plane: Plane, rows: u32, width: usize, val
 
 // Reads all rows, and waits for those that aren't there yet.
 fn read_all<R: Wait>(rt: &R, store: &Store<Numbers>, frame: u16) -> bool
-    requires frame { store.now.frame ≡ frame }
-    requires shape { store.now.shape ≡ record { w = 16; h = 200; depth = Eight; ss_x = true; ss_y = true } }
+    requires { store.now.frame ≡ frame }
 {
     let span = BandSpan {
         frame: u64::from(frame),
