@@ -1,4 +1,4 @@
-use Rattle.std.proofs.Common.{◌≡◌, ◌+◌, true, [], length, All}
+use Rattle.std.proofs.Common.{◌≡◌}
 use Rattle.progress_board.proofs.tests.draw_all.Given as goal
 
 abbrev pub invariant-loop-place : goal.invariant-loop-place

@@ -1,4 +1,4 @@
-use Rattle.std.proofs.Common.{◌≡◌, ◌+◌, true, [], length, All}
+use Rattle.std.proofs.Common.{◌≡◌, true, [], length, All}
 use Rattle.progress_board.proofs.tests.make_crew.Given as goal
 
 abbrev pub invariant-loop : goal.invariant-loop
