@@ -17,7 +17,7 @@ pub struct Store<M: Meaning> {
 }
 
 impl<M: Meaning> Model for Store<M> {
-    ghost use Rattle.std.specs.Prelude.{◌≡◌, map, length};
+    ghost use Rattle.std.specs.Prelude.{◌≡◌, map};
     ghost use Rattle.std.specs.List.{range_with_len};
     ghost use Rattle.vp9_types.specs.Shapes.{bands_of};
     ghost use Rattle.band_cells.specs.Code.{StoreParts, name_of};
@@ -26,7 +26,8 @@ impl<M: Meaning> Model for Store<M> {
 
     ghost view = { λ s. record { frame = s.frame; shape = s.shape; cells = s.cells.items } };
 
-    ghost invariant = { λ s. (s.shape ≡ (M.pictures s.frame).shape) × (map (λ c. c.name) s.cells.items ≡ map (name_of s.frame) (range_with_len 0 (bands_of s.shape))) };
+    ghost invariant = { λ s. (s.shape ≡ (M.pictures s.frame).shape)
+        × (map (λ c. c.name) s.cells.items ≡ map (name_of s.frame) (range_with_len 0 (bands_of s.shape))) };
 }
 
 impl<M: Meaning> Store<M> {

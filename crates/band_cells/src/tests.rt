@@ -28,12 +28,14 @@ impl Meaning for Numbers {
     ghost use Rattle.std.specs.Prelude.{true};
     ghost use Rattle.vp9_types.specs.declared.shape.Depth.TheVariants.{Eight};
 
-    ghost pictures = { λ frame. record { shape = record { w = 16; h = 200; depth = Eight; ss_x = true; ss_y = true }; map = λ _ _ _. frame } };
+    ghost pictures = { λ frame.
+        record { shape = record { w = 16; h = 200; depth = Eight; ss_x = true; ss_y = true }; map = λ _ _ _. frame } };
 }
 
 fn plane_of(alloc: Global, frame: u64, plane: Plane, index: u32) -> Result<Vec<u16>, AllocError>
     requires { frame < 65536 }
-    ensures { IfOk result (λ samples. samples.items ≡ band_samples (record { shape = record { w = 16; h = 200; depth = Eight; ss_x = true; ss_y = true }; map = λ _ _ _. frame }) index plane) }
+    ensures { IfOk result (λ samples. samples.items ≡
+        band_samples (record { shape = record { w = 16; h = 200; depth = Eight; ss_x = true; ss_y = true }; map = λ _ _ _. frame }) index plane) }
 {
     let (width, rows) = band_size(&SHAPE, plane, index);
     let samples = Vec::from_elem(alloc, frame as u16, rows * width)?;

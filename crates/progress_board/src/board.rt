@@ -1,5 +1,4 @@
-ghost use Rattle.std.specs.Prelude.{◌≡◌, ◌+◌, ◌<◌, true, [], ◌∷◌, IfOk, IfErr, Some};
-ghost use Rattle.std.specs.Option.{MatchOption};
+ghost use Rattle.std.specs.Prelude.{◌≡◌, ◌+◌, ◌<◌, true, [], ◌∷◌, IfOk, IfErr, IfSome, IfNone, Some};
 ghost use Rattle.progress_board.specs.Code.{Draws, Looks};
 ghost use Rattle.progress_board.specs.Views.{opener, with_raise, with_slots, one_more_out, newcomer, joined};
 
@@ -114,7 +113,9 @@ impl<T: InSlot> Board<T> {
         requires slot { slot < 2 }
         requires free { seat.old.view.has ≡ [] }
         ensures board { seat.new.board ≡ seat.old.board }
-        ensures taken { MatchOption result (seat.new.view ≡ with_slots seat.old.view []) (λ y. (T.names y ≡ slot) × (seat.new.view ≡ with_slots seat.old.view (slot ∷ []))) }
+        ensures names { IfSome result (λ y. T.names y ≡ slot) }
+        ensures taken { IfSome result (λ _. seat.new.view ≡ with_slots seat.old.view (slot ∷ [])) }
+        ensures out { IfNone result (seat.new.view ≡ with_slots seat.old.view []) }
     {
         let word = usize::from(slot) + FIRST_TURN;
         let found = self.table.shared.swap::<Take>(&mut seat.token, word, 1);
