@@ -1,0 +1,54 @@
+-- Bands of a frame: 64 rows of luma and their share of chroma, within the whole number of places of 8x8 luma samples
+-- that a frame is decoded in (MiRows and MiCols in 7.2.6 of the standard).
+use Rattle.std.specs.Prelude.{ℕ, ◌+◌, ◌-◌, ◌*◌, ◌/◌, ◌≤◌, ◌<◌, Bool, if◌then◌else◌, List, min}
+use Rattle.std.specs.List.{flat_map, range_with_len}
+use Rattle.vp9_types.specs.declared.shape.Plane.{Plane}
+use Rattle.vp9_types.specs.declared.shape.Plane.TheVariants.{Y, U, V}
+use Rattle.vp9_types.specs.declared.shape.Shape.{Shape}
+use Rattle.vp9_types.specs.Maps.{Map, FrameMap, row_of}
+
+-- a frame's shape, and its samples
+pub record Picture : Type 0 where
+  pub shape : Shape
+  pub map : FrameMap
+
+-- n >> ss
+abbrev pub halved : Bool → ℕ → ℕ
+halved ss n = if ss then n / 2 else n
+
+-- the samples of a plane in the places of 8x8 luma samples that a frame covers: what is decoded of it
+abbrev pub coded_width : Shape → Plane → ℕ
+coded_width shape Y = 8 * ((shape.w + 7) / 8)
+coded_width shape U = halved shape.ss_x (8 * ((shape.w + 7) / 8))
+coded_width shape V = halved shape.ss_x (8 * ((shape.w + 7) / 8))
+
+abbrev pub coded_height : Shape → Plane → ℕ
+coded_height shape Y = 8 * ((shape.h + 7) / 8)
+coded_height shape U = halved shape.ss_y (8 * ((shape.h + 7) / 8))
+coded_height shape V = halved shape.ss_y (8 * ((shape.h + 7) / 8))
+
+-- how many rows of a plane a band has, but for the last one
+abbrev pub band_height : Shape → Plane → ℕ
+band_height shape Y = 64
+band_height shape U = halved shape.ss_y 64
+band_height shape V = halved shape.ss_y 64
+
+abbrev pub first_row : Shape → Plane → ℕ → ℕ
+first_row shape plane index = index * band_height shape plane
+
+abbrev pub band_rows : Shape → Plane → ℕ → ℕ
+band_rows shape plane index = min (band_height shape plane) (coded_height shape plane - first_row shape plane index)
+
+-- the row is one of the band
+pub record IsRowOf (shape : Shape) (plane : Plane) (index y : ℕ) : Type 0 where
+  pub from : first_row shape plane index ≤ y
+  pub to : y < first_row shape plane index + band_rows shape plane index
+
+-- n rows of a map, from row `first` on, each of `width` samples, one after another
+abbrev pub rows_from : Map → ℕ → ℕ → ℕ → List ℕ
+rows_from m width first n = flat_map (λ y. row_of m y 0 width) (range_with_len first n)
+
+-- the samples of a band in a plane
+unfoldable pub band_samples : Picture → ℕ → Plane → List ℕ
+band_samples picture index plane =
+    rows_from (picture.map plane) (coded_width picture.shape plane) (first_row picture.shape plane index) (band_rows picture.shape plane index)

@@ -1,0 +1,47 @@
+-- What the code keeps, and what the calls answer.
+use Rattle.std.specs.Prelude.{◌≡◌, ℕ, ◌/◌, ◌≤◌, ◌<◌, List, Option, Some, None}
+use Rattle.vp9_types.specs.declared.job.BandSpan.{BandSpan}
+use Rattle.vp9_types.specs.declared.shape.Plane.{Plane}
+use Rattle.vp9_types.specs.declared.shape.Plane.TheVariants.{Y, U, V}
+use Rattle.vp9_types.specs.declared.shape.Shape.{Shape}
+use Rattle.vp9_types.specs.Maps.{row_of}
+use Rattle.band_cells.specs.declared.samples.BandName.{BandName}
+use Rattle.band_cells.specs.declared.samples.BandSamples.{BandSamples}
+use Rattle.band_cells.specs.Bands.{Picture, coded_width, coded_height, band_height, band_samples, IsRowOf}
+
+-- the samples are those that the picture has in the band
+abbrev pub AreSamplesOf : Picture → ℕ → BandSamples → Type 0
+AreSamplesOf picture index samples =
+    (samples.shape ≡ picture.shape)
+    × (samples.y.items ≡ band_samples picture index Y)
+    × (samples.u.items ≡ band_samples picture index U)
+    × (samples.v.items ≡ band_samples picture index V)
+
+-- the band isn't blank, and has the row
+abbrev pub HasRow : (ℕ → Picture) → Option BandName → Plane → ℕ → Type 0
+HasRow pictures None plane y = ⊥
+HasRow pictures (Some name) plane y = IsRowOf (pictures name.frame).shape plane name.index y
+
+-- the row of a picture
+abbrev pub picture_row : Picture → Plane → ℕ → List ℕ
+picture_row picture plane y = row_of (picture.map plane) y 0 (coded_width picture.shape plane)
+
+-- a cell: the name of its band, and which cell it is
+pub record CellParts : Type 0 where
+  pub name : BandName
+  pub cell : ℕ
+
+-- the bands of a frame, each with its cell
+pub record StoreParts : Type 0 where
+  pub frame : ℕ
+  pub shape : Shape
+  pub cells : List CellParts
+
+abbrev pub name_of : ℕ → ℕ → BandName
+name_of frame index = record { frame = frame; index = index }
+
+-- the row is one of the frame, in one of these bands
+pub record IsRowWithin (shape : Shape) (span : BandSpan) (plane : Plane) (y : ℕ) : Type 0 where
+  pub inside : y < coded_height shape plane
+  pub from : span.first ≤ y / band_height shape plane
+  pub to : y / band_height shape plane ≤ span.last

@@ -1,0 +1,114 @@
+ghost use Rattle.std.specs.Prelude.{◌≡◌, ◌+◌, ◌*◌, ◌≤◌, Some, None, IfSome, length, take, drop};
+ghost use Rattle.band_cells.specs.Bands.{IsRowOf, band_samples};
+ghost use Rattle.band_cells.specs.Code.{AreSamplesOf, HasRow, picture_row, name_of};
+
+use crate::layout::{band_height, coded_width};
+use crate::meaning::Meaning;
+use crate::samples::{BandName, BandSamples};
+use std::marker::{Model, PhantomData};
+use vp9_types::Plane;
+
+// The samples are those of the band that the name names.
+#[derive(Drop)]
+struct Filled<M: Meaning> {
+    name: BandName,
+    samples: BandSamples,
+    of: PhantomData<M>,
+    ghost are_meant: { AreSamplesOf (M.pictures name.frame) name.index samples },
+}
+
+impl<M: Meaning> Filled<M> {
+    fn new(name: BandName, samples: BandSamples) -> Filled<M>
+        requires { AreSamplesOf (M.pictures name.frame) name.index samples }
+        ensures { result.name ≡ name }
+    {
+        Filled {
+            name,
+            samples,
+            of: PhantomData,
+        }
+    }
+
+    fn plane(&self, plane: Plane) -> &[u16]
+        ensures { result.now ≡ band_samples (M.pictures self.now.name.frame) self.now.name.index plane }
+    {
+        match plane {
+            Plane::Y => &self.samples.y,
+            Plane::U => &self.samples.u,
+            Plane::V => &self.samples.v,
+        }
+    }
+
+    fn row(&self, plane: Plane, y: u32) -> &[u16]
+        requires { IsRowOf (M.pictures self.now.name.frame).shape plane self.now.name.index y }
+        ensures { result.now ≡ picture_row (M.pictures self.now.name.frame) plane y }
+    {
+        let shape = &self.samples.shape;
+        let first = self.name.index * band_height(shape, plane);
+        let row = (y - first) as usize;
+        row_at(self.plane(plane), coded_width(shape, plane), row)
+    }
+}
+
+// Row `row` of rows of `width` samples.
+fn row_at(samples: &[u16], width: usize, row: usize) -> &[u16]
+    requires { row * width + width ≤ length samples.now }
+    ensures { result.now ≡ take width (drop (row * width) samples.now) }
+{
+    let at = row * width;
+    &samples[at..at + width]
+}
+
+/// A band of a frame, or a blank one. Contracts see it as its name; its samples are those that `M` has there.
+#[derive(Drop)]
+pub struct Band<M: Meaning> {
+    filled: Option<Filled<M>>,
+}
+
+impl<M: Meaning> Model for Band<M> {
+    ghost use Rattle.std.specs.Prelude.{Option};
+    ghost use Rattle.std.specs.Option.{option_map};
+    ghost use Rattle.band_cells.specs.declared.samples.BandName.{BandName};
+
+    ghost Value = { Option BandName };
+
+    ghost view = { λ b. option_map (λ f. f.name) b.filled };
+}
+
+impl<M: Meaning> Band<M> {
+    /// A band without a name, to be filled.
+    pub fn blank() -> Band<M>
+        ensures { result ≡ None }
+    {
+        Band { filled: None }
+    }
+
+    /// Makes it this band of this frame. The samples are `M`'s.
+    pub fn fill(&mut self, frame: u64, index: u32, samples: BandSamples)
+        requires { AreSamplesOf (M.pictures frame) index samples }
+        ensures { self.new ≡ Some (name_of frame index) }
+    {
+        self.filled = Some(Filled::new(BandName { frame, index }, samples));
+    }
+
+    /// Its name, or nothing where it is blank.
+    pub fn name(&self) -> Option<BandName>
+        ensures { result ≡ self.now }
+    {
+        match &self.filled {
+            Some(filled) => Some(filled.name),
+            None => None,
+        }
+    }
+
+    /// A row of a plane: `y` counts the rows of the frame. The band isn't blank, and has the row.
+    pub fn row(&self, plane: Plane, y: u32) -> &[u16]
+        requires { HasRow M.pictures self.now plane y }
+        ensures { IfSome self.now (λ name. result.now ≡ picture_row (M.pictures name.frame) plane y) }
+    {
+        match &self.filled {
+            Some(filled) => filled.row(plane, y),
+            None => unreachable!(),
+        }
+    }
+}

@@ -1,0 +1,4 @@
+pub mod Totals
+pub mod Keeps
+pub mod SlotMoves
+pub mod SeatMoves

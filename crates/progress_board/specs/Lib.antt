@@ -1,0 +1,4 @@
+pub mod Counts
+pub mod Views
+pub mod Rule
+pub mod Code
