@@ -177,14 +177,14 @@ rows.append(("default", 3, 0, 0, 1, 8, [rng.choice([0, 0, 0, 1, -1]) for _ in ra
 
 def print_rows(name, rows):
     print("//! Blocks encoded by tools/token_vectors.py, which prints this file.\n")
-    print("use crate::TokenAt;\nuse crate::tests::Row;\nuse vp9_types::{Depth, Plane, TxSize, TxType};\n")
+    print("use crate::TokenKind;\nuse crate::tests::Row;\nuse vp9_types::{Depth, Plane, TxSize, TxType};\n")
     print(f"pub static {name}: [Row; {len(rows)}] = [")
     for kind, tx, chroma, inter, first, depth, levels in rows:
         data, found = encode(tx, kind, chroma, inter, first, depth, levels)
         plane = "U" if chroma else "Y"
         size = f"T{SIDES[tx]}x{SIDES[tx]}"
         depth_name = {8: "Eight", 10: "Ten", 12: "Twelve"}[depth]
-        print("Row { at: TokenAt { tx: TxSize::%s, kind: TxType::%s, plane: Plane::%s, inter: %s, first: %d, depth: Depth::%s }," % (size, KINDS[kind], plane, "true" if inter else "false", first, depth_name))
+        print("Row { at: TokenKind { tx: TxSize::%s, kind: TxType::%s, plane: Plane::%s, inter: %s, depth: Depth::%s }, first: %d," % (size, KINDS[kind], plane, "true" if inter else "false", depth_name, first))
         print("bytes: &%s, count: %d, levels: &[%s] }," % (data, len(levels), ", ".join(f"({p}, {found[p]})" for p in sorted(found))))
     print("];")
 

@@ -79,12 +79,16 @@ class Machine:
                 sys.exit(f"no row {kind}")
         return v
 
-    def adst_4(self, x):
+    def adst_4_sums(self, x):
         s1, s2, s3, s4 = (sinpi(k) for k in (1, 2, 3, 4))
         p = self.wide(s1 * x[0] + s4 * x[2] + s2 * x[3])
         q = self.wide(s2 * x[0] - s1 * x[2] - s4 * x[3])
         t = self.wide(s3 * x[1])
         return [self.tested(round2(y, 14)) for y in (p + t, q + t, s3 * (x[0] - x[2] + x[3]), p + q - t)]
+
+    def adst_4(self, x):
+        self.tested(x[0] - x[2] + x[3])
+        return self.adst_4_sums(x)
 
     def wht(self, x, shift):
         a, c, d, b = (y >> shift for y in x)
@@ -136,14 +140,33 @@ def inputs(n, depth, draw):
     yield [limit - 1 if next(draw) % 2 else -limit for _ in range(n)]
 
 
+def differences(n, depth, draw):
+    """For the ADST of 4, x0 - x2 + x3 at the bounds of what fits and beyond, where all else fits."""
+    limit = 1 << (depth + 7)
+    half, third, fifth = limit // 2, limit // 3, limit // 5
+    for x0, x2, x3 in (
+        (half - 1, -half, 0),
+        (half, -half, 0),
+        (-half, half, 0),
+        (-half, half, -1),
+        (third, -third, limit - 2 * third),
+        (limit - 1, 0, fifth),
+        (-limit, fifth, 0),
+    ):
+        x = [x0, next(draw) % 2001 - 1000, x2, x3]
+        Machine(depth).adst_4_sums(x)
+        yield x
+
+
 def transforms(flows):
     for log2 in (2, 3, 4, 5):
-        yield f"DCT_{1 << log2}", 1 << log2, lambda m, x, rows=flows["DCT", 1 << log2]: m.run(rows, x)
-    yield "ADST_4", 4, lambda m, x: m.adst_4(x)
+        yield f"DCT_{1 << log2}", 1 << log2, lambda m, x, rows=flows["DCT", 1 << log2]: m.run(rows, x), inputs
+    yield "ADST_4", 4, lambda m, x: m.adst_4(x), inputs
     for log2 in (3, 4):
-        yield f"ADST_{1 << log2}", 1 << log2, lambda m, x, rows=flows["ADST", 1 << log2]: m.run(rows, x)
-    yield "WHT_OF_ROWS", 4, lambda m, x: m.wht(x, 2)
-    yield "WHT_OF_COLUMNS", 4, lambda m, x: m.wht(x, 0)
+        yield f"ADST_{1 << log2}", 1 << log2, lambda m, x, rows=flows["ADST", 1 << log2]: m.run(rows, x), inputs
+    yield "WHT_OF_ROWS", 4, lambda m, x: m.wht(x, 2), inputs
+    yield "WHT_OF_COLUMNS", 4, lambda m, x: m.wht(x, 0), inputs
+    yield "ADST_4_DIFFERENCES", 4, lambda m, x: m.adst_4(x), differences
 
 
 def main():
@@ -153,10 +176,10 @@ def main():
     draw = draws(5)
     print("//! Written by tools/transform_vectors.py: for each transform, seven lists at each depth with what they give, one after")
     print("//! another, and whether all fits. Where it doesn't, zeros stand for what they give.\n")
-    for name, n, transform in transforms(flows):
+    for name, n, transform, lists in transforms(flows):
         values, fits = [], []
         for depth in (8, 10, 12):
-            for x in inputs(n, depth, draw):
+            for x in lists(n, depth, draw):
                 try:
                     output, fit = transform(Machine(depth), x), True
                 except Misfit:

@@ -1,6 +1,7 @@
 #!/usr/bin/env bash
-# Times rounds of transform blocks of all sizes: crates/bench_tokens, proved and built by LLVM, beside the same in C
-# (gcc -O3). Both must print one checksum. The least of several runs counts, less what no rounds take.
+# Times rounds of transform blocks, one of each size or 16 of 4x4: crates/bench_tokens, proved and built by LLVM, counting
+# and not, beside the same in C (gcc -O3), which counts. All must print one checksum. The least of several runs counts,
+# less what no rounds take.
 set -eu
 cd "$(dirname "$0")/../.."
 rounds=${1:-200000}
@@ -30,18 +31,19 @@ def once(program, line):
     return spent() - begin, answer
 
 
-times, answers = {}, {}
-for program in ("c", "rattle"):
-    times[program] = min(once(program, "0\n")[0] for _ in range(runs))
-full = {"c": [], "rattle": []}
-for _ in range(runs):
-    for program in ("c", "rattle"):
-        taken, answers[program] = once(program, f"{rounds}\n")
-        full[program].append(taken)
-if answers["c"] != answers["rattle"]:
-    sys.exit(f"C printed {answers['c']!r}, Rattle {answers['rattle']!r}")
-each = {program: (min(full[program]) - times[program]) / rounds * 1e9 for program in full}
-ratio = each["rattle"] / each["c"]
-print(f"C {each['c']:.0f} ns a round of four blocks, Rattle {each['rattle']:.0f} ns, ratio {ratio:.2f}")
-sys.exit(0 if ratio <= 1.2 else "slower than 1.2 times C")
+def figure(program, kind):
+    base = min(once(program, f"{kind}0\n")[0] for _ in range(runs))
+    full = [once(program, f"{kind}{rounds}\n") for _ in range(runs)]
+    return (min(taken for taken, _ in full) - base) / rounds * 1e9, full[0][1].rsplit(" ", 1)[1]
+
+
+slow = False
+for kind, blocks in (("", "a round of four blocks"), ("small ", "a round of 16 blocks of 4x4")):
+    (c, sum_c), (counted, sum_counted), (silent, sum_silent) = (
+        figure("c", kind), figure("rattle", kind), figure("rattle", f"silent {kind}"))
+    if not sum_c == sum_counted == sum_silent:
+        sys.exit(f"C printed {sum_c!r}, Rattle {sum_counted!r} and {sum_silent!r}")
+    print(f"C {c:.0f} ns {blocks}, Rattle {counted:.0f} ns, ratio {counted / c:.2f}; without counts {silent:.0f} ns")
+    slow = slow or counted > 1.2 * c
+sys.exit("slower than 1.2 times C" if slow else 0)
 PY

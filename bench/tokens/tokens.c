@@ -148,19 +148,25 @@ int main(void) {
     static int32_t levels[4][1024];
     char line[64];
     while (fgets(line, sizeof line, stdin)) {
-        uint64_t rounds = strtoull(line, 0, 10), sum = 0;
+        line[strcspn(line, "\n")] = 0;
+        char *rest = line;
+        if (!strncmp(rest, "silent ", 7)) rest += 7;
+        int small = !strncmp(rest, "small ", 6);
+        if (small) rest += 6;
+        uint64_t rounds = strtoull(rest, 0, 10), sum = 0;
         decoder d;
         start(&d, bytes, SIZE);
         for (uint64_t round = 0; round < rounds; round++) {
             if (round % ROUNDS == 0) start(&d, bytes, SIZE);
-            for (int tx = 0; tx < 4; tx++) {
+            for (int k = 0; k < (small ? 16 : 4); k++) {
+                int tx = small ? 0 : k;
                 int32_t *l = levels[tx];
-                uint64_t count = tokens(&d, tx, round % 4, round % 2, round % 3 == 0, round % 3, l);
+                uint64_t count = tokens(&d, tx, round % 4, round % 2, round % 3 == 0, small ? 2 : round % 3, l);
                 sum = sum * 3 + count + labs(l[0]) + labs(l[1]);
                 memset(l, 0, (size_t)(16 << (2 * tx)) * 4);
             }
         }
-        printf("%" PRIu64 ": %" PRIu64 "\n", rounds, sum);
+        printf("%s: %" PRIu64 "\n", line, sum);
     }
     return 0;
 }

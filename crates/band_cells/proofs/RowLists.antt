@@ -7,7 +7,8 @@ use Rattle.std.proofs.lemmas.List.FromFn.{length-map-range_with_len, take-map-ra
 use Rattle.vp9_types.specs.declared.shape.Plane.{Plane}
 use Rattle.vp9_types.specs.declared.shape.Shape.{Shape}
 use Rattle.vp9_types.specs.Maps.{Map, row_of}
-use Rattle.band_cells.specs.Bands.{Picture, coded_width, band_height, first_row, band_rows, IsRowOf, rows_from, band_samples}
+use Rattle.band_cells.specs.Bands.{Picture, band_height, first_row, band_rows, IsRowOf, rows_from, band_samples}
+use Rattle.vp9_types.specs.Shapes.{coded_width}
 use Rattle.band_cells.specs.Code.{picture_row}
 
 length_row : (m : Map) (y w : ℕ) → length (row_of m y 0 w) ≡ w

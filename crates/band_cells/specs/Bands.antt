@@ -5,27 +5,13 @@ use Rattle.std.specs.List.{flat_map, range_with_len}
 use Rattle.vp9_types.specs.declared.shape.Plane.{Plane}
 use Rattle.vp9_types.specs.declared.shape.Plane.TheVariants.{Y, U, V}
 use Rattle.vp9_types.specs.declared.shape.Shape.{Shape}
+use Rattle.vp9_types.specs.Shapes.{halved, coded_width, coded_height}
 use Rattle.vp9_types.specs.Maps.{Map, FrameMap, row_of}
 
 -- a frame's shape, and its samples
 pub record Picture : Type 0 where
   pub shape : Shape
   pub map : FrameMap
-
--- n >> ss
-abbrev pub halved : Bool → ℕ → ℕ
-halved ss n = if ss then n / 2 else n
-
--- the samples of a plane in the places of 8x8 luma samples that a frame covers: what is decoded of it
-abbrev pub coded_width : Shape → Plane → ℕ
-coded_width shape Y = 8 * ((shape.w + 7) / 8)
-coded_width shape U = halved shape.ss_x (8 * ((shape.w + 7) / 8))
-coded_width shape V = halved shape.ss_x (8 * ((shape.w + 7) / 8))
-
-abbrev pub coded_height : Shape → Plane → ℕ
-coded_height shape Y = 8 * ((shape.h + 7) / 8)
-coded_height shape U = halved shape.ss_y (8 * ((shape.h + 7) / 8))
-coded_height shape V = halved shape.ss_y (8 * ((shape.h + 7) / 8))
 
 -- how many rows of a plane a band has, but for the last one
 abbrev pub band_height : Shape → Plane → ℕ

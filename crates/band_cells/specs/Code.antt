@@ -7,7 +7,8 @@ use Rattle.vp9_types.specs.declared.shape.Shape.{Shape}
 use Rattle.vp9_types.specs.Maps.{row_of}
 use Rattle.band_cells.specs.declared.samples.BandName.{BandName}
 use Rattle.band_cells.specs.declared.samples.BandSamples.{BandSamples}
-use Rattle.band_cells.specs.Bands.{Picture, coded_width, coded_height, band_height, band_samples, IsRowOf}
+use Rattle.band_cells.specs.Bands.{Picture, band_height, band_samples, IsRowOf}
+use Rattle.vp9_types.specs.Shapes.{coded_width, coded_height}
 
 -- the samples are those that the picture has in the band
 abbrev pub AreSamplesOf : Picture → ℕ → BandSamples → Type 0

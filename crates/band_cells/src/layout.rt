@@ -1,7 +1,8 @@
 //! Where bands lie in the planes of a frame.
 
 ghost use Rattle.std.specs.Prelude.{◌≡◌, ◌<◌};
-ghost use Rattle.band_cells.specs.Bands.{coded_width, coded_height, band_height, band_rows};
+ghost use Rattle.band_cells.specs.Bands.{band_height, band_rows};
+ghost use Rattle.vp9_types.specs.Shapes.{coded_width, coded_height};
 
 use vp9_types::{Plane, Shape};
 

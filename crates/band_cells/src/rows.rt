@@ -39,7 +39,7 @@ impl<'a, M: Meaning, R> BandRows<'a, M, R> {
 }
 
 impl<'a, M: Meaning, R: Wait> Samples for BandRows<'a, M, R> {
-    ghost use Rattle.band_cells.specs.Bands.{coded_width};
+    ghost use Rattle.vp9_types.specs.Shapes.{coded_width};
     ghost use Rattle.band_cells.specs.Code.{IsRowWithin};
 
     ghost holds = { λ span p y. IsRowWithin (M.pictures span.frame).shape span p y };

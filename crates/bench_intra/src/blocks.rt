@@ -1,9 +1,11 @@
 //! What is predicted, and its checksums.
 
-ghost use Rattle.std.specs.Prelude.{◌≡◌, length};
-ghost use Rattle.vp9_types.specs.Maps.{rows_of, IsAtMost};
+ghost use Rattle.std.specs.Prelude.{◌≡◌, ℕ, ◌≤◌, length, slice_index};
+ghost use Rattle.vp9_types.specs.Maps.{IsAtMost};
+ghost use Rattle.planes.specs.Planes.{plane_map, whole_area};
 
 use intra_predict::{IntraBlock, Place, Scratch, put_predicted, side_of};
+use planes::{Area, SamplePlane};
 use std::alloc::{AllocError, Global};
 use vp9_types::{Depth, IntraMode, TxSize};
 
@@ -21,15 +23,25 @@ fn drawn(state: u32) -> u32 {
 }
 
 /// Pseudo-random samples of 8 bits.
-#[tactic(auto, unfolding(vp9_types::specs::Maps::rows_of))]
 fn draw(samples: &mut [u16])
-    ensures { IsAtMost 255 (rows_of WIDTH samples.new) }
+    ensures { (k : ℕ) → slice_index samples.new k ≤ 255 }
 {
     let mut state = SEED;
     for sample in samples.iter_mut() {
         state = drawn(state);
         *sample = (state >> 24) as u16;
     }
+}
+
+fn fill(plane: &mut SamplePlane, samples: &mut [u16])
+    requires whole { plane.old.area ≡ whole_area HEIGHT WIDTH }
+    requires small { IsAtMost 255 (plane_map plane.old) }
+    requires room { SAMPLES ≤ length samples.old }
+    ensures whole { plane.new.area ≡ whole_area HEIGHT WIDTH }
+    ensures small { IsAtMost 255 (plane_map plane.new) }
+{
+    draw(samples);
+    plane.put_block(0, 0, HEIGHT, WIDTH, samples);
 }
 
 fn mode_of(name: &str) -> IntraMode {
@@ -57,9 +69,10 @@ fn size_of(name: &str) -> TxSize {
 }
 
 /// Predicts blocks one after another, from the second row of blocks on.
-fn predict_blocks(samples: &mut [u16], mode: IntraMode, size: TxSize, count: u64)
-    requires whole { length samples.old ≡ SAMPLES }
-    requires small { IsAtMost 255 (rows_of WIDTH samples.old) }
+fn predict_blocks(plane: &mut SamplePlane, mode: IntraMode, size: TxSize, count: u64)
+    requires whole { plane.old.area ≡ whole_area HEIGHT WIDTH }
+    requires small { IsAtMost 255 (plane_map plane.old) }
+    ensures { plane.new.area ≡ whole_area HEIGHT WIDTH }
 {
     let side = side_of(size);
     let mut scratch = Scratch::new();
@@ -73,7 +86,7 @@ fn predict_blocks(samples: &mut [u16], mode: IntraMode, size: TxSize, count: u64
             block_end: column + side,
         };
         let block = IntraBlock { place, size, mode };
-        put_predicted(samples, WIDTH, HEIGHT, &block, Depth::Eight, &mut scratch);
+        put_predicted(plane, &block, Depth::Eight, &mut scratch);
         column += side;
         if column >= WIDTH {
             column = 0;
@@ -85,20 +98,16 @@ fn predict_blocks(samples: &mut [u16], mode: IntraMode, size: TxSize, count: u64
     }
 }
 
-fn checksum(samples: &[u16]) -> u64 {
+fn checksum(plane: &SamplePlane) -> u64
+    requires { plane.now.area ≡ whole_area HEIGHT WIDTH }
+{
     let mut sum = 0u64;
-    for sample in samples {
-        sum = sum.wrapping_mul(31).wrapping_add(u64::from(*sample));
+    for row in 0..HEIGHT {
+        for sample in plane.row(row, 0, WIDTH) {
+            sum = sum.wrapping_mul(31).wrapping_add(u64::from(*sample));
+        }
     }
     sum
-}
-
-fn trial(samples: &mut [u16], mode: IntraMode, size: TxSize, count: u64) -> u64
-    requires { length samples.old ≡ SAMPLES }
-{
-    draw(samples);
-    predict_blocks(samples, mode, size, count);
-    checksum(samples)
 }
 
 /// What is printed for a line.
@@ -113,6 +122,9 @@ pub fn describe(alloc: Global, line: &str) -> Result<String, AllocError> {
         return format!(in alloc; "{line}: not a number");
     };
     let mut samples = vec![in alloc; 0u16; SAMPLES]?;
-    let sum = trial(&mut samples, mode_of(kind), size_of(size), count);
+    let mut plane = SamplePlane::new(alloc, Area::whole(HEIGHT, WIDTH))?;
+    fill(&mut plane, &mut samples);
+    predict_blocks(&mut plane, mode_of(kind), size_of(size), count);
+    let sum = checksum(&plane);
     format!(in alloc; "{line}: {sum}")
 }

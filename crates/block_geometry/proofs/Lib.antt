@@ -1,2 +1,4 @@
 pub mod Rows
 pub mod Starts
+pub mod Rasters
+pub mod FewBlocks

@@ -2,3 +2,5 @@ pub mod Sizes
 pub mod Partitions
 pub mod Parts
 pub mod TransformBlocks
+pub mod Frames
+pub mod Code

@@ -1,7 +1,9 @@
 //! Where the transform blocks of a block begin.
 
-ghost use Rattle.std.specs.Prelude.{◌≡◌, ◌≤◌, ◌<◌, ◌+◌, ◌*◌, ◌^◌};
-ghost use Rattle.vp9_tables.specs.Blocks.{halved};
+ghost use Rattle.std.specs.Prelude.{◌≡◌, ◌≤◌, ◌<◌, ◌+◌, ◌*◌, ◌^◌, get_or};
+ghost use Rattle.vp9_types.specs.Shapes.{halved};
+ghost use Rattle.std.specs.Int.{div_ceil};
+ghost use Rattle.block_geometry.specs.Code.{IsSmallGrid};
 ghost use Rattle.block_geometry.specs.TransformBlocks.{starts, multiples, plane_side, tx_step, transform_blocks, grid_blocks};
 
 use vp9_tables::block_size;
@@ -32,6 +34,30 @@ pub struct TransformGrid {
     pub rows: u32,
     pub columns: u32,
     pub step: u32,
+}
+
+impl TransformGrid {
+    /// How many transform blocks there are.
+    pub fn count(&self) -> u32
+        requires { IsSmallGrid self.now }
+        ensures count { result ≡ self.now.rows * self.now.columns }
+        ensures few { result ≤ 256 }
+    {
+        self.rows * self.columns
+    }
+
+    /// Row and column of the k-th, in 4s from the block's corner.
+    pub fn place(&self, k: u32) -> (usize, usize)
+        requires count { k < self.now.rows * self.now.columns }
+        requires small { IsSmallGrid self.now }
+        ensures place { get_or (grid_blocks self.now) k (0, 0) ≡ (result.0, result.1) }
+        ensures low { result.0 < 16 }
+        ensures near { result.1 < 16 }
+    {
+        let row = k / self.columns;
+        let column = k % self.columns;
+        ((self.step * row) as usize, (self.step * column) as usize)
+    }
 }
 
 fn halved(ss: bool, n: u32) -> u32
@@ -66,7 +92,8 @@ fn starts_inside(step: u32, side: u32, base: u32, end: u32) -> u32
     requires small { step ≤ 8 }
     requires short { side ≤ 2 ^ 30 }
     requires near { base ≤ end }
-    ensures { starts step side base end ≡ multiples step result }
+    ensures starts { starts step side base end ≡ multiples step result }
+    ensures few { result ≤ div_ceil side step }
 {
     let all = side.div_ceil(step);
     all.min((end - base).div_ceil(4 * step))
@@ -78,7 +105,9 @@ pub fn transform_grid(frame: FramePlaces, block: PlaneBlock) -> TransformGrid
     requires few_cols { frame.cols ≤ 2 ^ 20 }
     requires row { block.row < frame.rows }
     requires col { block.col < frame.cols }
-    ensures { transform_blocks frame block ≡ grid_blocks result }
+    ensures blocks { transform_blocks frame block ≡ grid_blocks result }
+    ensures small { IsSmallGrid result }
+    ensures step { result.step ≡ tx_step block.tx }
 {
     let size = block_size(block.size);
     let step = tx_step(block.tx);

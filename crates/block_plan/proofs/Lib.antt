@@ -1,2 +1,4 @@
 pub mod Covers
 pub mod Numbers
+pub mod Transforms
+pub mod Held

@@ -3,6 +3,12 @@ use Rattle.std.specs.Prelude.{ℕ, ◌-◌, Bool, List, [], ◌∷◌, Option, S
 use Rattle.block_geometry.specs.Sizes.{is_covered}
 use Rattle.block_plan.specs.declared.block.BlockInfo.{BlockInfo}
 use Rattle.block_plan.specs.declared.block.BlockAt.{BlockAt}
+use Rattle.block_plan.specs.declared.block.Prediction.{Prediction}
+use Rattle.block_plan.specs.declared.block.Prediction.TheVariants.{Intra, Inter}
+
+abbrev pub IsIntra : Prediction → Type 0
+IsIntra (Intra modes) = Unit {0}
+IsIntra (Inter modes) = ⊥
 
 -- a block covers a place of 8x8
 abbrev pub covers : BlockInfo → ℕ → ℕ → Bool

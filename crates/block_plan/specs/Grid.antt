@@ -3,11 +3,12 @@ use Rattle.std.specs.Prelude.{◌≡◌, ℕ, zero, suc, ◌+◌, ◌*◌, ◌<�
 use Rattle.block_plan.specs.Blocks.{covering}
 use Rattle.block_plan.specs.declared.block.BlockInfo.{BlockInfo}
 
--- the columns `from` to `to` of a frame of so many rows
+-- the columns `from` to `to` of a frame of so many rows, and room for so many blocks more
 pub record GridOf : Type 0 where
   pub rows : ℕ
   pub from : ℕ
   pub to : ℕ
+  pub room : ℕ
   pub blocks : List BlockInfo
 
 -- the number 0 is for none, and n + 1 for the block with the index n

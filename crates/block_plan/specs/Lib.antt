@@ -1,2 +1,5 @@
 pub mod Blocks
+pub mod InPlanes
+pub mod Planned
 pub mod Grid
+pub mod Code

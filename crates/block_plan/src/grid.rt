@@ -1,6 +1,6 @@
 //! The blocks of some columns of a frame.
 
-ghost use Rattle.std.specs.Prelude.{◌≡◌, ◌*◌, ◌-◌, ◌<◌, ◌≤◌, ◌++◌, ◌∷◌, [], length, IfOk, OnOk, OnErr};
+ghost use Rattle.std.specs.Prelude.{◌≡◌, ◌*◌, ◌-◌, ◌<◌, ◌≤◌, ◌++◌, ◌∷◌, [], length, vec_capacity, IfOk};
 ghost use Rattle.block_plan.specs.Grid.{GridOf, AgreesWith, NumbersBelow};
 
 use crate::block::BlockInfo;
@@ -23,7 +23,7 @@ pub struct BlockGrid {
 impl Model for BlockGrid {
     ghost Value = { GridOf };
 
-    ghost view = { λ g. record { rows = g.rows; from = g.from; to = g.to; blocks = g.blocks.items } };
+    ghost view = { λ g. record { rows = g.rows; from = g.from; to = g.to; room = vec_capacity g.blocks - length g.blocks.items; blocks = g.blocks.items } };
 
     ghost invariant = { λ g. (length g.places.items ≡ g.rows * (g.to - g.from))
         × NumbersBelow (length g.blocks.items) g.rows (g.to - g.from) g.places.items
@@ -31,14 +31,20 @@ impl Model for BlockGrid {
 }
 
 impl BlockGrid {
-    /// No blocks, of the columns `from` to `to`, the last excluded, of a frame of so many rows. There is room for as
-    /// many blocks as there are places, so that blocks of a frame, which don't overlap, are put in without want of memory.
-    pub fn new(alloc: Global, rows: u32, from: u32, to: u32) -> Result<BlockGrid, AllocError>
+    /// No blocks, of the columns `from` to `to`, the last excluded, of a frame of so many rows, all in places of 8x8 luma
+    /// samples. There is room for so many blocks.
+    pub fn new(
+        alloc: Global,
+        rows: u32,
+        from: u32,
+        to: u32,
+        room: usize,
+    ) -> Result<BlockGrid, AllocError>
         requires { from ≤ to }
-        ensures { IfOk result (λ g. g ≡ record { rows = rows; from = from; to = to; blocks = [] }) }
+        ensures { IfOk result (λ g. g ≡ record { rows = rows; from = from; to = to; room = room; blocks = [] }) }
     {
         let count = rows as usize * (to - from) as usize;
-        let blocks = Vec::with_capacity(alloc, count)?;
+        let blocks = Vec::with_capacity(alloc, room)?;
         let places = Vec::from_elem(alloc, 0, count)?;
         Ok(BlockGrid {
             rows,
@@ -50,14 +56,14 @@ impl BlockGrid {
     }
 
     /// The next block, which starts at a place of these columns.
-    pub fn put(&mut self, block: BlockInfo) -> Result<(), AllocError>
+    pub fn put(&mut self, block: BlockInfo)
+        requires room { 0 < self.old.room }
         requires row { block.row < self.old.rows }
         requires first { self.old.from ≤ block.col }
         requires last { block.col < self.old.to }
-        ensures ok { OnOk result (self.new ≡ record self.old { blocks = self.old.blocks ++ block ∷ [] }) }
-        ensures err { OnErr result (self.new ≡ self.old) }
+        ensures { self.new ≡ record self.old { room = self.old.room - 1; blocks = self.old.blocks ++ block ∷ [] } }
     {
-        self.blocks.push(block)?;
+        self.blocks.push_reserved(block);
         let number = self.blocks.len();
         number_places(
             &mut self.places,
@@ -67,7 +73,6 @@ impl BlockGrid {
             self.to - self.from,
             number,
         );
-        Ok(())
     }
 
     /// The blocks in order.

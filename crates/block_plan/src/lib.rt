@@ -3,12 +3,16 @@
 
 mod block;
 mod grid;
+mod in_planes;
 mod neighbours;
 mod places;
+mod residues;
 
 pub use block::{BlockAt, BlockInfo, InterPrediction, IntraPrediction, Mv, Prediction, References};
 pub use grid::BlockGrid;
+pub use in_planes::{mode_at, plane_block};
 pub use neighbours::{Neighbours, above_place, left_place};
+pub use residues::{BlockResidues, PlaneResidues};
 
 #[cfg(test)]
 mod tests;

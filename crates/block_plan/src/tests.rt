@@ -32,10 +32,10 @@ fn size_at(found: Option<&BlockInfo>) -> Option<BlockSize> {
 
 #[test]
 fn neighbours(rt: HostRuntime) -> Result<(), Fail> {
-    let mut grid = BlockGrid::new(rt.alloc(), 9, 32, 40)?;
-    grid.put(block(0, 32, BlockSize::B64x64))?;
-    grid.put(block(8, 32, BlockSize::B32x16))?;
-    grid.put(block(8, 36, BlockSize::B4x8))?;
+    let mut grid = BlockGrid::new(rt.alloc(), 9, 32, 40, 3)?;
+    grid.put(block(0, 32, BlockSize::B64x64));
+    grid.put(block(8, 32, BlockSize::B32x16));
+    grid.put(block(8, 36, BlockSize::B4x8));
     assert_eq!(rt; grid.blocks().len(), 3);
     assert_eq!(rt; size_at(grid.at(7, 39)), Some(BlockSize::B64x64));
     assert_eq!(rt; size_at(grid.at(8, 35)), Some(BlockSize::B32x16));

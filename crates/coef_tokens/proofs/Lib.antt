@@ -1,3 +1,5 @@
 pub mod Bits
+pub mod BandRuns
 pub mod Turns
+pub mod TailTable
 pub mod Spans

@@ -4,7 +4,7 @@ use Rattle.std.specs.Prelude.{ℕ, ◌+◌, ◌-◌, ◌/◌, Bool, List, ◌++�
 use Rattle.std.specs.List.{list_any}
 use Rattle.vp9_types.specs.declared.block.TxSize.{TxSize}
 use Rattle.vp9_tables.specs.Numbers.{flag_number}
-use Rattle.vp9_tables.specs.Scans.{side}
+use Rattle.vp9_types.specs.Sizes.{side}
 
 -- how many flags a transform block spans
 abbrev pub flags_of : TxSize → ℕ

@@ -3,3 +3,5 @@ pub mod Steps
 pub mod Places
 pub mod Blocks
 pub mod Flags
+pub mod Fit
+pub mod Code

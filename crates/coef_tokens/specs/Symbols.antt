@@ -1,5 +1,5 @@
 -- One token and its level: token, more_coefs, high bits and sign in 6.4.24 of the standard, with the probabilities of 9.3.
-use Rattle.std.specs.Prelude.{ℕ, ◌+◌, ◌-◌, ◌*◌, ◌/◌, ◌%◌, ℤ, pos, neg_ℤ, Bool, true, List, [], ◌∷◌, map, slice_index, get_or, nat_eq, nat_lt, if◌then◌else◌}
+use Rattle.std.specs.Prelude.{ℕ, ◌+◌, ◌-◌, ◌*◌, ◌/◌, ◌%◌, ℤ, pos, neg_ℤ, Bool, List, [], ◌∷◌, map, slice_index, get_or, nat_eq, nat_lt, if◌then◌else◌}
 use Rattle.std.specs.List.{range_with_len}
 use Rattle.vp9_types.specs.declared.shape.Depth.{Depth}
 use Rattle.vp9_types.specs.Syntax.{Syntax, done, ask, ◌>>=◌}
@@ -9,7 +9,7 @@ use Rattle.vp9_tables.specs.Trees.{coef_tail_from}
 use Rattle.vp9_tables.specs.declared.data.coefficients.TheConstants.{PARETO, ENERGY_CLASS}
 use Rattle.bool_decoder.specs.Bools.{flag}
 use Rattle.coef_tokens.specs.declared.step.Step.{Step}
-use Rattle.coef_tokens.specs.declared.step.Step.TheVariants.{End, Zero, Level}
+use Rattle.coef_tokens.specs.declared.step.Step.TheVariants.{Level}
 
 -- the probability of a node of the tail: the row of an odd q, and at an even one half the sum with the next row
 abbrev pub tail_prob : ℕ → ℕ → ℕ
@@ -54,25 +54,3 @@ level depth token = do
   m ← magnitude depth token
   negative ← flag 128
   done (Level (with_sign negative m) (class_of token))
-
--- one or more, by the third probability
-unfoldable pub token_from_one : {E : Type 0} → ℕ → Syntax ℕ E ℕ
-token_from_one q = do
-  larger ← flag q
-  if larger then tail_token q else done 1
-
--- behind more_coefs: zero, or a token with its level
-unfoldable pub token : {E : Type 0} → Depth → ℕ → ℕ → Syntax ℕ E Step
-token depth second third = do
-  some ← flag second
-  if some then (token_from_one third >>= level depth) else done Zero
-
--- more_coefs isn't read after a zero
-unfoldable pub more_coefs : {E : Type 0} → Bool → ℕ → Syntax ℕ E Bool
-more_coefs check first = if check then flag first else done true
-
--- what stands at a place of the scan, by its three probabilities: the end, or a token
-unfoldable pub step : {E : Type 0} → Depth → Bool → ℕ → ℕ → ℕ → Syntax ℕ E Step
-step depth check first second third = do
-  more ← more_coefs check first
-  if more then token depth second third else done End

@@ -38,6 +38,19 @@ fn is_any_set(flags: &[bool], from: usize, n: usize) -> bool
     is_any(&flags[from..end])
 }
 
+/// Whether a single flag is set; past the row's end none is.
+#[inline(always)]
+#[tactic(auto, using(crate::proofs::Spans::one_inside, crate::proofs::Spans::one_past))]
+fn is_set(flags: &[bool], from: usize) -> bool
+    ensures { result ≡ any_set flags.now from 1 }
+{
+    if from < flags.len() {
+        flags[from]
+    } else {
+        false
+    }
+}
+
 /// The context of a block's first place: how many of the sides above and on the left have a coefficient. `x` and `y` are
 /// the block's places in the rows.
 #[inline(always)]
@@ -47,19 +60,47 @@ pub fn first_context(above: &[bool], x: usize, left: &[bool], y: usize, size: Tx
     ensures value { result ≡ sides_set above.now x left.now y size }
     ensures most { result ≤ 2 }
 {
+    if size == TxSize::T4x4 {
+        return u8::from(is_set(above, x)) + u8::from(is_set(left, y));
+    }
     let n = span_of(size);
     u8::from(is_any_set(above, x, n)) + u8::from(is_any_set(left, y, n))
 }
 
-/// Says of `n` flags from a place on whether there are coefficients: those of a transform block after its tokens were
-/// read, or of a skipped block, which has none.
 #[inline(always)]
 #[tactic(auto, unfolding(crate::specs::Flags::marked))]
-pub fn mark(flags: &mut [bool], from: usize, n: usize, value: bool)
+fn mark_span(flags: &mut [bool], from: usize, n: usize, value: bool)
     requires from { from ≤ length flags.old }
     requires few { n ≤ 64 }
     ensures { flags.new ≡ marked flags.old from n value }
 {
     let end = flags.len().min(from + n);
     flags[from..end].fill(value);
+}
+
+/// Sets a single flag, if it is in the row.
+#[inline(always)]
+#[tactic(auto, using(crate::proofs::Spans::mark_inside, crate::proofs::Spans::mark_past))]
+fn mark_one(flags: &mut [bool], from: usize, value: bool)
+    ensures { flags.new ≡ marked flags.old from 1 value }
+{
+    if from < flags.len() {
+        flags[from] = value;
+    }
+}
+
+/// Says of `n` flags from a place on whether there are coefficients: those of a transform block after its tokens were
+/// read, or of a skipped block, which has none.
+#[inline(always)]
+pub fn mark(flags: &mut [bool], from: usize, n: usize, value: bool)
+    requires from { from ≤ length flags.old }
+    requires few { n ≤ 64 }
+    ensures { flags.new ≡ marked flags.old from n value }
+{
+    // Most blocks are the smallest, and for one flag a call that fills would cost more than all the rest.
+    if n == 1 {
+        mark_one(flags, from, value);
+    } else {
+        mark_span(flags, from, n, value);
+    }
 }

@@ -2,13 +2,15 @@
 #![tactic(auto)]
 
 mod block;
-mod counting;
 mod flags;
 mod places;
 mod step;
+mod tables;
 mod tail;
+mod tails;
 #[cfg(test)]
 mod tests;
 
-pub use block::{TokenAt, tokens};
+pub use block::tokens;
 pub use flags::{first_context, mark};
+pub use tables::{TokenKind, TokenTables};

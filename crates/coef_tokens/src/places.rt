@@ -2,100 +2,91 @@
 
 ghost use Rattle.std.specs.Prelude.{◌≡◌, ◌+◌, ◌*◌, ◌<◌, ◌≤◌, ◌^◌, ℕ, List, [], length, unsigned_abs};
 ghost use Rattle.std.specs.List.{All};
-ghost use Rattle.bool_decoder.specs.Bools.{Reads};
-ghost use Rattle.bool_decoder.specs.Held.{window_of};
-ghost use Rattle.prob_contexts.specs.Counted.{counts_after};
-ghost use Rattle.coef_tokens.specs.Places.{Progress, block_tokens, nothing_read, HoldsClasses, HoldsLevels, context_at, row_at, Read};
-ghost use Rattle.coef_tokens.specs.Blocks.{tables_of, FitTables};
+ghost use Rattle.counting_reader.specs.Code.{ReadsAway};
+ghost use Rattle.vp9_tables.specs.Scans.{area};
+ghost use Rattle.coef_tokens.specs.Places.{Tokens, Read, block_tokens, context_at};
+ghost use Rattle.coef_tokens.specs.Code.{tables_of, HoldsClasses, HoldsLevels, StandsAt};
 
-use crate::counting::count_step;
 use crate::step::{Step, read_step};
+use crate::tables::TokenTables;
 use bool_decoder::BoolDecoder;
-use prob_contexts::Counts;
-use vp9_types::Depth;
+use counting_reader::CountingReader;
 
-/// What a block is read by: its scan, the two neighbours of each place, the bands, the 33 rows of three probabilities,
-/// the place of the first of these among all that are counted, the context of the first place.
-#[derive(Clone, Copy)]
-pub(crate) struct Tables<'a> {
-    pub scan: &'a [u16],
-    pub neighbours: &'a [u16],
-    pub bands: &'a [u8],
-    pub probs: &'a [u8],
-    pub base: u16,
-    pub first: u8,
-    pub depth: Depth,
-}
-
-/// The context of a place, by the classes of what was read before it.
+/// The context of a place behind the first, by the classes of what was read before it.
 #[inline(always)]
-fn context_of(tables: &Tables, cache: &[u8], place: usize) -> u8
-    requires tables { FitTables (tables_of tables.now) (length cache.now) }
+fn context_of(tables: &TokenTables, cache: &[u8], place: usize) -> u8
+    requires long { length cache.now ≡ area tables.now.tx }
+    requires later { 1 ≤ place }
     requires place { place < length tables.now.scan.now }
     requires low { All (λ class. class ≤ 5) cache.now }
-    ensures value { (reads : List Read) → HoldsClasses cache.now reads → result ≡ context_at (tables_of tables.now) place reads }
+    ensures value { (first : ℕ) (reads : List Read) → HoldsClasses cache.now reads → result ≡ context_at (tables_of tables.now) first place reads }
     ensures most { result ≤ 5 }
 {
-    if place == 0 {
-        return tables.first;
-    }
     let above = cache[tables.neighbours[2 * place] as usize];
     let left = cache[tables.neighbours[2 * place + 1] as usize];
     (1 + above + left) / 2
 }
 
-/// The row of probabilities of a place.
+/// The row of probabilities of a place behind the first.
 #[inline(always)]
-fn row_of(tables: &Tables, cache: &[u8], place: usize) -> usize
-    requires tables { FitTables (tables_of tables.now) (length cache.now) }
+fn row_of(tables: &TokenTables, cache: &[u8], place: usize) -> usize
+    requires long { length cache.now ≡ area tables.now.tx }
+    requires later { 1 ≤ place }
     requires place { place < length tables.now.scan.now }
     requires low { All (λ class. class ≤ 5) cache.now }
-    ensures value { (reads : List Read) → HoldsClasses cache.now reads → result ≡ row_at (tables_of tables.now) place reads }
+    ensures value { (first : ℕ) → StandsAt (tables_of tables.now) first place cache.now result }
     ensures within { result + 2 < 99 }
 {
     let band = tables.bands[place] as usize;
     let context = context_of(tables, cache, place) as usize;
-    3 * if band == 0 {
-        context
+    3 * (6 * band + context - 3)
+}
+
+/// The row of the next place, if there is one.
+#[inline(always)]
+fn next_row(tables: &TokenTables, cache: &[u8], place: usize) -> usize
+    requires long { length cache.now ≡ area tables.now.tx }
+    requires later { 1 ≤ place }
+    requires low { All (λ class. class ≤ 5) cache.now }
+    ensures value { place < length tables.now.scan.now → (first : ℕ) → StandsAt (tables_of tables.now) first place cache.now result }
+    ensures within { result + 2 < 99 }
+{
+    if place < tables.scan.len() {
+        row_of(tables, cache, place)
     } else {
-        6 * band + context - 3
+        0
     }
 }
 
 /// Reads the tokens of a block into levels that are 0, and answers how many places it read.
 #[inline(always)]
-pub(crate) fn read_places(
+pub(crate) fn read_places<const COUNTS: bool>(
     decoder: &mut BoolDecoder,
-    tables: &Tables,
-    counts: &mut Counts,
+    reader: &mut CountingReader<COUNTS>,
+    tables: &TokenTables,
+    first: u8,
     cache: &mut [u8],
     levels: &mut [i32],
 ) -> u32
-    requires tables { FitTables (tables_of tables.now) (length cache.old) }
+    requires first { first ≤ 2 }
+    requires places { length cache.old ≡ area tables.now.tx }
     requires long { length levels.old ≡ length cache.old }
     requires empty { HoldsClasses cache.old [] }
     requires clear { HoldsLevels levels.old [] }
-    ensures read { (p : Progress) × Reads (block_tokens (tables_of tables.now)) (window_of decoder.old) p (window_of decoder.new)
-        × (result ≡ p.count) × HoldsLevels levels.new p.reads × (counts.new ≡ counts_after counts.old p.counted) }
+    ensures read { (p : Tokens) × ReadsAway (block_tokens (tables_of tables.now) first) reader.old decoder.old p reader.new decoder.new
+        × (result ≡ p.count) × HoldsLevels levels.new p.reads }
     ensures most { result ≤ length tables.now.scan.now }
     ensures none { result ≡ 0 → levels.new ≡ levels.old }
     ensures small { All (λ level. unsigned_abs level < 2 ^ 19) levels.new }
 {
     let mut check = true;
+    let mut row = 3 * first as usize;
     for place in 0..tables.scan.len() {
         let position = tables.scan[place] as usize;
-        let row = row_of(tables, cache, place);
+        let node = tables.base + row as u16;
         let third = tables.probs[row + 2];
-        let step = read_step(
-            decoder,
-            tables.depth,
-            check,
-            tables.probs[row],
-            tables.probs[row + 1],
-            third,
-        );
-        count_step(counts, tables.base + row as u16, check, step);
-        match step {
+        let probs = [tables.probs[row], tables.probs[row + 1], third];
+        match read_step(decoder, reader, tables.depth, check, node, probs) {
             Step::End => return place as u32,
             Step::Zero => check = false,
             Step::Level { level, class } => {
@@ -104,6 +95,7 @@ pub(crate) fn read_places(
                 check = true;
             }
         }
+        row = next_row(tables, cache, place + 1);
     }
     tables.scan.len() as u32
 }

@@ -1,13 +1,17 @@
 //! One place of the scan.
 
-ghost use Rattle.std.specs.Prelude.{◌≡◌, ◌≤◌, ◌<◌, ◌^◌, ◌-◌, unsigned_abs, ℕ, length};
+ghost use Rattle.std.specs.Prelude.{◌≡◌, ◌≤◌, ◌<◌, ◌^◌, ◌+◌, ◌-◌, unsigned_abs, ℕ, length, slice_index};
 ghost use Rattle.bool_decoder.specs.Bools.{Reads};
 ghost use Rattle.bool_decoder.specs.Held.{window_of};
-ghost use Rattle.coef_tokens.specs.Symbols.{bits_from, category_base, magnitude, level, token, token_from_one, more_coefs, step};
-ghost use Rattle.coef_tokens.specs.Steps.{IsSmallStep};
+ghost use Rattle.coef_tokens.specs.Symbols.{bits_from, category_base, magnitude, level};
+ghost use Rattle.coef_tokens.specs.Steps.{token, token_from_one, more_coefs, step};
+ghost use Rattle.coef_tokens.specs.Code.{IsSmallStep};
+ghost use Rattle.counting_reader.specs.Code.{ReadsAway};
 
 use crate::tail::read_tail;
 use bool_decoder::BoolDecoder;
+use counting_reader::CountingReader;
+use prob_contexts::ProbKind;
 use vp9_tables::{category_probs, energy_class};
 use vp9_types::Depth;
 
@@ -84,15 +88,21 @@ fn read_level(decoder: &mut BoolDecoder, depth: Depth, token: u8) -> Step
     Step::Level { level, class }
 }
 
-/// One or more, by the third probability.
+/// One or more, by the third node's probability.
 #[inline(always)]
-#[tactic(auto, unfolding(crate::specs::Symbols::token_from_one, bool_decoder::specs::Bools::flag), using(vp9_types::proofs::Runs::run_bind))]
-fn read_from_one(decoder: &mut BoolDecoder, third: u8) -> u8
-    requires { 1 ≤ third }
-    ensures read { Reads (token_from_one third) (window_of decoder.old) result (window_of decoder.new) }
+#[tactic(auto, unfolding(crate::specs::Steps::token_from_one), using(counting_reader::proofs::CountingRuns::counting_bind, counting_reader::proofs::CountingRuns::run_settle, counting_reader::proofs::CountingRuns::run_uncounted))]
+fn read_from_one<const COUNTS: bool>(
+    decoder: &mut BoolDecoder,
+    reader: &mut CountingReader<COUNTS>,
+    node: u16,
+    third: u8,
+) -> u8
+    requires node { node + 2 < 1584 }
+    requires some { 1 ≤ third }
+    ensures read { ReadsAway (token_from_one node third) reader.old decoder.old result reader.new decoder.new }
     ensures most { result ≤ 10 }
 {
-    if decoder.bit(third) {
+    if reader.counted_bit_of(decoder, ProbKind::Coef, node + 2, third) {
         read_tail(decoder, third)
     } else {
         1
@@ -101,45 +111,64 @@ fn read_from_one(decoder: &mut BoolDecoder, third: u8) -> u8
 
 /// What stands behind more_coefs.
 #[inline(always)]
-#[tactic(auto, unfolding(crate::specs::Symbols::token, bool_decoder::specs::Bools::flag), using(vp9_types::proofs::Runs::run_bind))]
-fn read_token(decoder: &mut BoolDecoder, depth: Depth, second: u8, third: u8) -> Step
-    requires { 1 ≤ third }
-    ensures read { Reads (token depth second third) (window_of decoder.old) result (window_of decoder.new) }
+#[tactic(auto, unfolding(crate::specs::Steps::token), using(counting_reader::proofs::CountingRuns::counting_bind, counting_reader::proofs::CountingRuns::run_settle, counting_reader::proofs::CountingRuns::run_uncounted))]
+fn read_token<const COUNTS: bool>(
+    decoder: &mut BoolDecoder,
+    reader: &mut CountingReader<COUNTS>,
+    depth: Depth,
+    node: u16,
+    probs: [u8; 3],
+) -> Step
+    requires node { node + 2 < 1584 }
+    requires some { 1 ≤ slice_index probs 2 }
+    ensures read { ReadsAway (token depth node (slice_index probs 1) (slice_index probs 2)) reader.old decoder.old result reader.new decoder.new }
     ensures small { IsSmallStep result }
 {
-    if !decoder.bit(second) {
+    if !reader.counted_bit_of(decoder, ProbKind::Coef, node + 1, probs[1]) {
         return Step::Zero;
     }
-    let token = read_from_one(decoder, third);
+    let token = read_from_one(decoder, reader, node, probs[2]);
     read_level(decoder, depth, token)
 }
 
 /// Whether there are more tokens. It isn't asked after a zero.
 #[inline(always)]
-#[tactic(auto, unfolding(crate::specs::Symbols::more_coefs, bool_decoder::specs::Bools::flag))]
-fn read_more(decoder: &mut BoolDecoder, check: bool, first: u8) -> bool
-    ensures { Reads (more_coefs check first) (window_of decoder.old) result (window_of decoder.new) }
+#[tactic(auto, unfolding(crate::specs::Steps::more_coefs), using(counting_reader::proofs::CountingRuns::run_settle))]
+fn read_more<const COUNTS: bool>(
+    decoder: &mut BoolDecoder,
+    reader: &mut CountingReader<COUNTS>,
+    check: bool,
+    node: u16,
+    first: u8,
+) -> bool
+    requires { node < 1584 }
+    ensures { ReadsAway (more_coefs check node first) reader.old decoder.old result reader.new decoder.new }
 {
-    if check { decoder.bit(first) } else { true }
+    if check {
+        reader.counted_bit_of(decoder, ProbKind::Coef, node, first)
+    } else {
+        true
+    }
 }
 
-/// What stands at a place, by its three probabilities.
+/// What stands at a place, by its first node and the probabilities of the three.
 #[inline(always)]
-#[tactic(auto, unfolding(crate::specs::Symbols::step), using(vp9_types::proofs::Runs::run_bind))]
-pub(crate) fn read_step(
+#[tactic(auto, unfolding(crate::specs::Steps::step), using(counting_reader::proofs::CountingRuns::counting_bind, counting_reader::proofs::CountingRuns::run_settle))]
+pub(crate) fn read_step<const COUNTS: bool>(
     decoder: &mut BoolDecoder,
+    reader: &mut CountingReader<COUNTS>,
     depth: Depth,
     check: bool,
-    first: u8,
-    second: u8,
-    third: u8,
+    node: u16,
+    probs: [u8; 3],
 ) -> Step
-    requires { 1 ≤ third }
-    ensures read { Reads (step depth check first second third) (window_of decoder.old) result (window_of decoder.new) }
+    requires node { node + 2 < 1584 }
+    requires some { 1 ≤ slice_index probs 2 }
+    ensures read { ReadsAway (step depth check node (slice_index probs 0) (slice_index probs 1) (slice_index probs 2)) reader.old decoder.old result reader.new decoder.new }
     ensures small { IsSmallStep result }
 {
-    if !read_more(decoder, check, first) {
+    if !read_more(decoder, reader, check, node, probs[0]) {
         return Step::End;
     }
-    read_token(decoder, depth, second, third)
+    read_token(decoder, reader, depth, node, probs)
 }

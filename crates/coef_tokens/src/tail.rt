@@ -5,8 +5,8 @@ ghost use Rattle.bool_decoder.specs.Bools.{Reads};
 ghost use Rattle.bool_decoder.specs.Held.{window_of};
 ghost use Rattle.coef_tokens.specs.Symbols.{tail_prob, tail_token};
 
+use crate::tails::TAILS;
 use bool_decoder::BoolDecoder;
-use vp9_tables::pareto;
 
 /// The probability of a node of the tail.
 #[inline(always)]
@@ -15,13 +15,7 @@ fn tail_prob(q: u8, node: u8) -> u8
     requires node { node < 8 }
     ensures { result ≡ tail_prob q node }
 {
-    let row = (q - 1) / 2;
-    let here = u16::from(pareto(row)[node as usize]);
-    if q % 2 == 1 {
-        return here as u8;
-    }
-    let next = u16::from(pareto(row + 1)[node as usize]);
-    ((here + next) / 2) as u8
+    TAILS[q as usize - 1][node as usize]
 }
 
 /// The token behind a bool of 1 at the third probability `q`.

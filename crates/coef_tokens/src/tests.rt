@@ -3,18 +3,19 @@ mod small_rows;
 
 ghost use Rattle.std.specs.Prelude.{◌≡◌, ◌≤◌, ◌<◌, ◌^◌, [], length};
 ghost use Rattle.vp9_tables.specs.Scans.{area};
-ghost use Rattle.coef_tokens.specs.Places.{HoldsLevels};
+ghost use Rattle.coef_tokens.specs.Code.{HoldsLevels};
 
-use crate::{TokenAt, first_context, mark, tokens};
-use bool_decoder::BoolDecoder;
+use crate::{TokenKind, TokenTables, first_context, mark, tokens};
+use counting_reader::CountingReader;
 use large_rows::LARGE_ROWS;
-use prob_contexts::{Contexts, Counts, ProbKind, default_contexts};
+use prob_contexts::{Contexts, Counts, default_contexts};
 use small_rows::SMALL_ROWS;
 use vp9_types::{Rule, TxSize};
 
-/// A block, its bytes, how many places of its scan are coded, and its levels that aren't 0, by position.
+/// A block, the context of its first place, its bytes, how many places of its scan are coded, and its levels that aren't 0, by position.
 pub struct Row {
-    pub at: TokenAt,
+    pub at: TokenKind,
+    pub first: u8,
     pub bytes: &'static [u8],
     pub count: u32,
     pub levels: &'static [(u16, i32)],
@@ -41,12 +42,12 @@ fn reads(contexts: &Contexts, row: &Row, levels: &mut [i32]) -> Result<bool, Rul
     requires size { length levels.old ≡ area row.now.at.tx }
     requires clear { HoldsLevels levels.old [] }
 {
-    let mut decoder = BoolDecoder::start(row.bytes)?;
-    let mut counts = Counts::new();
-    if row.at.first > 2 {
+    let mut reader = CountingReader::<true>::start(row.bytes, Counts::new())?;
+    if row.first > 2 {
         return Ok(false);
     }
-    let count = tokens(&mut decoder, contexts, &mut counts, row.at, levels);
+    let tables = TokenTables::new(contexts, row.at);
+    let count = tokens(&mut reader, &tables, row.first, levels);
     Ok(count == row.count && are_those(levels, row.levels))
 }
 

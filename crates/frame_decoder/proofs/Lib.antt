@@ -1,5 +1,6 @@
+pub mod BlockSteps
+mod DecodedFrames
 pub mod SquareReads
 pub mod RowReads
-pub mod TileReads
 pub mod OneTile
 pub mod FrameReads

@@ -13,7 +13,7 @@ use Rattle.frame_headers.specs.declared.header.Header.{Header}
 use Rattle.frame_headers.specs.declared.tiles.TileInfo.{TileInfo}
 use Rattle.block_geometry.specs.declared.transform_blocks.FramePlaces.{FramePlaces}
 use Rattle.frame_decoder.specs.Built.{first_unbuilt, is_intra_only, is_inter, has_tiles}
-use Rattle.frame_decoder.specs.Keeping.{HasOneTile}
+use Rattle.frame_decoder.specs.Code.{HasOneTile}
 use Rattle.frame_decoder.specs.Tiles.{tile_offset, tile_places}
 
 offset_first : (places : ℕ) → tile_offset places 0 0 ≡ 0
@@ -55,7 +55,7 @@ pub only_span : (frame : List ℕ) (header : Header) (compressed span : Span) �
 only_span frame header compressed span one low ok first =
     only_of frame compressed.to (tile_spans frame header compressed) span low (spans_of_one frame header compressed one) ok first
 
-passed : (b : Bool) (p : Part) (o : Option Part) → (if b then Some p else o) ≡ None → (b ≡ false) × (o ≡ None)
+pub passed : (b : Bool) (p : Part) (o : Option Part) → (if b then Some p else o) ≡ None → (b ≡ false) × (o ≡ None)
 passed true p o h = absurd cc
 passed false p o h = (refl, h)
 

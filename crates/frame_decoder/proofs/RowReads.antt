@@ -5,15 +5,11 @@ use Rattle.std.specs.Prelude.{List, Result, Ok, Err}
 use Rattle.vp9_types.specs.Syntax.{Syntax}
 use Rattle.vp9_types.specs.Reading.{after}
 use Rattle.vp9_types.specs.declared.rule.Rule.{Rule}
-use Rattle.bool_decoder.specs.Window.{Window}
-use Rattle.mode_syntax.specs.Counting.{Settled, Standing, run_counting, standing}
+use Rattle.counting_reader.specs.Code.{standing_of}
+use Rattle.counting_reader.specs.Counting.{Settled, Standing, run_counting}
+use Rattle.counting_reader.specs.declared.reader.CountingReader.{CountingReader}
 use Rattle.mode_syntax.specs.Walk.{Walk, decode_partition, decode_row, decode_tile}
-use Rattle.frame_decoder.specs.declared.fault.FrameFault.{FrameFault}
-use Rattle.frame_decoder.specs.declared.fault.FrameFault.TheVariants as fault
-use Rattle.frame_decoder.specs.declared.setting.FrameState.{FrameState}
-use Rattle.frame_decoder.specs.Keeping.{GivesState}
-use Rattle.frame_decoder.specs.Tiles.{TileState}
-use Rattle.mode_syntax.proofs.CountingRuns.{counting_bind, run_settle}
+use Rattle.counting_reader.proofs.CountingRuns.{counting_bind, run_settle}
 
 -- of so many turns from a place on
 abbrev Turns : Type 0 → Type 0
@@ -76,12 +72,11 @@ pub row_goes_on : {S : Type 0} (walk : Walk S) (r c n : ℕ) (all : Result (S ×
     → IsLeft (decode_row walk r) c n all i s m → run_counting (decode_partition walk 3 r (c + 8 * i) s) m ≡ Ok (t, k) → IsLeft (decode_row walk r) c n all (i + 1) t k
 row_goes_on walk r c n all i s t m k more left read = goes_on (decode_row walk r) (decode_partition walk 3 r) (row_turns walk r) c n all i s t m k more left read
 
-pub row_fails : (walk : Walk TileState) (r c n k i : ℕ) (start s : TileState) (old mid new : Window) (before counts : List ℕ) (e : FrameFault) (f : FrameState) → n ≡ k → i < n
-    → IsLeft (decode_row walk r) c n (run_counting (decode_row walk r c n start) (standing old before)) i s (standing mid counts)
-    → GivesState (decode_partition walk 3 r (c + 8 * i) s) mid counts (Err e) f new → GivesState (decode_row walk r c k start) old before (Err e) f new
-row_fails walk r c n k i start s old mid new before counts (fault.Broken rule) f is more left broken =
+pub row_fails : {S : Type 0} (walk : Walk S) (r c n k i : ℕ) (start s : S) (begin m : Standing) (rule : Rule) → n ≡ k → i < n
+    → IsLeft (decode_row walk r) c n (run_counting (decode_row walk r c n start) begin) i s m
+    → run_counting (decode_partition walk 3 r (c + 8 * i) s) m ≡ Err rule → run_counting (decode_row walk r c k start) begin ≡ Err rule
+row_fails walk r c n k i start s begin m rule is more left broken =
     rw (← is) (breaks (decode_row walk r) (decode_partition walk 3 r) (row_turns walk r) c n _ i s _ rule more left broken)
-row_fails walk r c n k i start s old mid new before counts fault.OutOfMemory f is more left broken = tt
 
 pub row_ends : {S : Type 0} (walk : Walk S) (r c n : ℕ) (all : Result (S × Standing) Rule) (i : ℕ) (s : S) (m : Standing) → n ≤ i
     → IsLeft (decode_row walk r) c n all i s m → all ≡ Ok (s, m)
@@ -92,13 +87,18 @@ pub tile_goes_on : {S : Type 0} (walk : Walk S) (columns c r n : ℕ) (all : Res
 tile_goes_on walk columns c r n all i s t m k more left read =
     goes_on (rows_at walk columns c) (λ r s. decode_row walk r c columns s) (tile_turns walk columns c) r n all i s t m k more left read
 
-pub tile_fails : (walk : Walk TileState) (columns c r n k i : ℕ) (start s : TileState) (old mid new : Window) (before counts : List ℕ) (e : FrameFault) (f : FrameState) → n ≡ k → i < n
-    → IsLeft (rows_at walk columns c) r n (run_counting (decode_tile walk columns r c n start) (standing old before)) i s (standing mid counts)
-    → GivesState (decode_row walk (r + 8 * i) c columns s) mid counts (Err e) f new → GivesState (decode_tile walk columns r c k start) old before (Err e) f new
-tile_fails walk columns c r n k i start s old mid new before counts (fault.Broken rule) f is more left broken =
+pub tile_fails : {S : Type 0} (walk : Walk S) (columns c r n k i : ℕ) (start s : S) (begin m : Standing) (rule : Rule) → n ≡ k → i < n
+    → IsLeft (rows_at walk columns c) r n (run_counting (decode_tile walk columns r c n start) begin) i s m
+    → run_counting (decode_row walk (r + 8 * i) c columns s) m ≡ Err rule → run_counting (decode_tile walk columns r c k start) begin ≡ Err rule
+tile_fails walk columns c r n k i start s begin m rule is more left broken =
     rw (← is) (breaks (rows_at walk columns c) (λ r s. decode_row walk r c columns s) (tile_turns walk columns c) r n _ i s _ rule more left broken)
-tile_fails walk columns c r n k i start s old mid new before counts fault.OutOfMemory f is more left broken = tt
 
 pub tile_ends : {S : Type 0} (walk : Walk S) (columns c r n : ℕ) (all : Result (S × Standing) Rule) (i : ℕ) (s : S) (m : Standing) → n ≤ i
     → IsLeft (rows_at walk columns c) r n all i s m → all ≡ Ok (s, m)
 tile_ends walk columns c r n all i s m done left = ends (rows_at walk columns c) (tile_end walk columns c) r n all i s m done left
+
+-- room for a row more
+pub rows_room : (wide i start before after_it : ℕ) → start ≤ before + 64 * (wide * i) → before ≤ after_it + 64 * wide → start ≤ after_it + 64 * (wide * (i + 1))
+rows_room wide i start before after_it first second =
+    let more : wide * (i + 1) ≡ wide * i + wide = grind arith in
+    omega (arith, first, second, more)

@@ -1,27 +1,37 @@
 -- How a square is read, by its level and by whether it starts inside the frame.
-use Rattle.std.proofs.Common.{◌≡◌, ◌∙◌, ℕ, zero, suc, ◌+◌, ◌<◌, ◌≤◌, sym, arith, true, false, rules}
+use Rattle.std.proofs.Common.{◌≡◌, ◌∙◌, ℕ, zero, suc, ◌+◌, ◌-◌, ◌*◌, ◌^◌, ◌<◌, ◌≤◌, refl, sym, arith, Bool, true, false, rules}
 use Rattle.std.specs.Prelude.{List, Result, Ok, Err}
 use Rattle.vp9_types.specs.declared.block.Partition.{Partition}
+use Rattle.vp9_types.specs.declared.block.Partition.TheVariants.{Whole, Horizontal, Vertical, Split}
+use Rattle.frame_setting.specs.declared.setting.FrameSetting.{FrameSetting}
+use Rattle.prob_contexts.specs.Lists.{lists_of}
+use Rattle.std.proofs.Math.Nat.{pow-suc}
 use Rattle.vp9_types.specs.Reading.{after}
 use Rattle.block_geometry.specs.Partitions.{part_size}
-use Rattle.bool_decoder.specs.Window.{Window}
-use Rattle.mode_syntax.specs.Counting.{Standing, ReadsCounting, run_counting}
+use Rattle.vp9_types.specs.Syntax.{Syntax}
+use Rattle.vp9_types.specs.declared.block.BlockSize.{BlockSize}
+use Rattle.vp9_types.specs.declared.rule.Rule.{Rule}
+use Rattle.block_geometry.specs.declared.transform_blocks.FramePlaces.{FramePlaces}
+use Rattle.block_plan.specs.declared.block.BlockAt.{BlockAt}
+use Rattle.block_plan.specs.declared.block.BlockInfo.{BlockInfo}
+use Rattle.mode_syntax.specs.declared.square_at.SquareAt.{SquareAt}
+use Rattle.counting_reader.specs.Code.{Reads, standing_of}
+use Rattle.counting_reader.specs.Counting.{Settled, Standing, run_counting, in_order}
+use Rattle.counting_reader.specs.declared.reader.CountingReader.{CountingReader}
 use Rattle.mode_syntax.specs.Partitions.{partition_at}
-use Rattle.mode_syntax.specs.Walk.{Walk, block_at, square_at, starts_inside, smallest_parts, parts, decode_partition}
-use Rattle.frame_decoder.specs.declared.fault.FrameFault.{FrameFault}
-use Rattle.frame_decoder.specs.declared.fault.FrameFault.TheVariants as fault
-use Rattle.frame_decoder.specs.declared.setting.FrameState.{FrameState}
-use Rattle.frame_decoder.specs.Keeping.{GivesState}
-use Rattle.frame_decoder.specs.Tiles.{TileState}
-use Rattle.mode_syntax.proofs.CountingRuns.{counting_bind, run_settle}
+use Rattle.mode_syntax.specs.Walk.{Walk, block_at, square_at, starts_inside, block_inside, smallest_parts, parts, decode_partition}
+use Rattle.planes.specs.declared.frame_planes.FramePlanes.{FramePlanes}
+use Rattle.frame_decoder.specs.Code.{PlainTile, GivesTile, SameColumns, plain_walk, walk_of, limit_of}
+use Rattle.frame_decoder.specs.declared.columns.TileColumn.{TileColumn}
+use Rattle.counting_reader.proofs.CountingRuns.{counting_bind, run_settle}
 
 inside : {S : Type 0} (walk : Walk S) (r c : ℕ) → r < walk.frame.rows → c < walk.frame.cols → starts_inside walk r c ≡ true
 inside walk r c row col = search rules
 
-below : {S : Type 0} (walk : Walk S) (r c : ℕ) → walk.frame.rows ≤ r → starts_inside walk r c ≡ false
+pub below : {S : Type 0} (walk : Walk S) (r c : ℕ) → walk.frame.rows ≤ r → starts_inside walk r c ≡ false
 below walk r c row = search rules
 
-beside : {S : Type 0} (walk : Walk S) (r c : ℕ) → walk.frame.cols ≤ c → starts_inside walk r c ≡ false
+pub beside : {S : Type 0} (walk : Walk S) (r c : ℕ) → walk.frame.cols ≤ c → starts_inside walk r c ≡ false
 beside walk r c col = search rules
 
 outside : {S : Type 0} (walk : Walk S) (n r c : ℕ) (s : S) (m : Standing) → starts_inside walk r c ≡ false → run_counting (decode_partition walk n r c s) m ≡ Ok (s, m)
@@ -51,13 +61,137 @@ larger_square walk (suc n) k r c s m row col level =
     let same : n ≡ k = omega (arith, level) in
     rw (inside walk r c row col, sym same) (counting_bind _ (parts walk (decode_partition walk n) n r c s) m)
 
+-- what a walk's block gives, a block that starts inside gives
+pub inside_gives : {n : ℕ} (walk : Walk PlainTile) (r c : ℕ) (size : BlockSize) (at : BlockAt) (s : PlainTile) (old new : CountingReader n) (result : Result (Unit {0}) Rule)
+    (column : TileColumn) (planes : FramePlanes) → r < walk.frame.rows → c < walk.frame.cols → at ≡ block_at walk r c size
+    → GivesTile (walk.block at s) old result column planes new → GivesTile (block_inside walk r c size s) old result column planes new
+unfolding block_inside
+inside_gives walk r c size at s old new result column planes row col is gives = rw (inside walk r c row col, sym is) gives
+
+pub inside_none : (walk : Walk PlainTile) (r c : ℕ) (size : BlockSize) (s : PlainTile) (m : Standing) → starts_inside walk r c ≡ false
+    → run_counting (block_inside walk r c size s) m ≡ Ok (s, m)
+unfolding block_inside
+inside_none walk r c size s m h = rw h (run_settle s m)
+
+-- one after another
+pub then_gives : {n : ℕ} (x : Syntax ℕ Rule (Settled PlainTile)) (f : PlainTile → Syntax ℕ Rule (Settled PlainTile)) (t : PlainTile) (old mid new : CountingReader n)
+    (result : Result (Unit {0}) Rule) (column : TileColumn) (planes : FramePlanes)
+    → Reads x old t mid → GivesTile (f t) mid result column planes new → GivesTile (in_order x f) old result column planes new
+then_gives x f t old mid new (Ok u) column planes first second = counting_bind x f _ ∙ rw first second
+then_gives x f t old mid new (Err rule) column planes first second = counting_bind x f _ ∙ rw first second
+
+pub then_breaks : {n : ℕ} (x : Syntax ℕ Rule (Settled PlainTile)) (f : PlainTile → Syntax ℕ Rule (Settled PlainTile)) (old : CountingReader n) (rule : Rule)
+    → run_counting x (standing_of old) ≡ Err rule → run_counting (in_order x f) (standing_of old) ≡ Err rule
+then_breaks x f old rule first = counting_bind x f _ ∙ rw first refl
+
 -- the parts of a square, from its partition on
-pub parts_give : (walk : Walk TileState) (n k r c : ℕ) (s t : TileState) (p : Partition) (old mid new : Window) (before counts : List ℕ) (result : Result (Unit {0}) FrameFault) (f : FrameState)
+pub parts_give : {m : ℕ} (walk : Walk PlainTile) (n k r c : ℕ) (s : PlainTile) (p : Partition) (old mid new : CountingReader m) (result : Result (Unit {0}) Rule) (column : TileColumn) (planes : FramePlanes)
     → r < walk.frame.rows → c < walk.frame.cols → n ≡ k + 1
-    → ReadsCounting (partition_at walk.intra walk.probs (walk.blocks s) walk.frame (square_at walk n r c)) old before p mid counts → t ≡ s
-    → GivesState (parts walk (decode_partition walk k) k r c t p) mid counts result f new → GivesState (decode_partition walk n r c s) old before result f new
-parts_give walk n k r c s t p old mid new before counts (Ok u) f row col level read same gives =
-    larger_square walk n k r c s _ row col level ∙ rw read (rw same at gives)
-parts_give walk n k r c s t p old mid new before counts (Err (fault.Broken rule)) f row col level read same gives =
-    larger_square walk n k r c s _ row col level ∙ rw read (rw same at gives)
-parts_give walk n k r c s t p old mid new before counts (Err fault.OutOfMemory) f row col level read same gives = tt
+    → Reads (partition_at walk.intra walk.probs (walk.blocks s) walk.frame (square_at walk n r c)) old p mid
+    → GivesTile (parts walk (decode_partition walk k) k r c s p) mid result column planes new → GivesTile (decode_partition walk n r c s) old result column planes new
+parts_give walk n k r c s p old mid new (Ok u) column planes row col level read gives = larger_square walk n k r c s _ row col level ∙ rw read gives
+parts_give walk n k r c s p old mid new (Err rule) column planes row col level read gives = larger_square walk n k r c s _ row col level ∙ rw read gives
+
+pub smallest_gives : {m : ℕ} (walk : Walk PlainTile) (n r c : ℕ) (s : PlainTile) (p : Partition) (at : BlockAt) (old mid new : CountingReader m) (result : Result (Unit {0}) Rule) (column : TileColumn) (planes : FramePlanes)
+    → r < walk.frame.rows → c < walk.frame.cols → n ≡ 0 → at ≡ block_at walk r c (part_size p 0)
+    → Reads (partition_at walk.intra walk.probs (walk.blocks s) walk.frame (square_at walk n r c)) old p mid
+    → GivesTile (walk.block at s) mid result column planes new → GivesTile (decode_partition walk n r c s) old result column planes new
+smallest_gives walk n r c s p at old mid new (Ok u) column planes row col level is read gives = smallest_square walk n r c s _ row col level ∙ rw (read, sym is) gives
+smallest_gives walk n r c s p at old mid new (Err rule) column planes row col level is read gives = smallest_square walk n r c s _ row col level ∙ rw (read, sym is) gives
+
+---- The same columns ----
+
+pub same_walk : (setting : FrameSetting) (c d : TileColumn) → SameColumns c d → walk_of setting d ≡ walk_of setting c
+same_walk setting c d same = λ i. plain_walk setting.header setting.modes (lists_of setting.contexts) setting.places (same.from i) (same.to i)
+
+pub same_on : (a b c : TileColumn) → SameColumns a b → SameColumns b c → SameColumns a c
+same_on a b c first second = record { from = second.from ∙ first.from; to = second.to ∙ first.to }
+
+pub same_limit : (c d : TileColumn) → SameColumns c d → limit_of d ≡ limit_of c
+same_limit c d same = rw (same.from, same.to) refl
+
+---- Halves and quarters ----
+
+pub whole_gives : {m : ℕ} (walk : Walk PlainTile) (n k r c : ℕ) (s : PlainTile) (p : Partition) (at : BlockAt) (size : BlockSize) (old new : CountingReader m) (result : Result (Unit {0}) Rule) (column : TileColumn) (planes : FramePlanes)
+    → p ≡ Whole → n ≡ suc k → size ≡ part_size p n → at ≡ block_at walk r c size
+    → GivesTile (walk.block at s) old result column planes new → GivesTile (parts walk (decode_partition walk k) k r c s p) old result column planes new
+unfolding parts
+whole_gives walk n k r c s p at size old new result column planes part level is place gives =
+    let sized : size ≡ part_size Whole (suc k) = is ∙ (λ i. part_size (part i) (level i)) in
+    rw part (rw (place, sized) at gives)
+
+pub rows_give : {m : ℕ} (walk : Walk PlainTile) (n k half r c : ℕ) (s : PlainTile) (p : Partition) (first : BlockAt) (size : BlockSize) (old new : CountingReader m) (result : Result (Unit {0}) Rule) (column : TileColumn) (planes : FramePlanes)
+    → p ≡ Horizontal → n ≡ suc k → half ≡ 2 ^ k → size ≡ part_size p n → first ≡ block_at walk r c size
+    → GivesTile (in_order (walk.block first s) (block_inside walk (r + half) c size)) old result column planes new
+    → GivesTile (parts walk (decode_partition walk k) k r c s p) old result column planes new
+unfolding parts
+rows_give walk n k half r c s p first size old new result column planes part level side is place gives =
+    let sized : size ≡ part_size Horizontal (suc k) = is ∙ (λ i. part_size (part i) (level i)) in
+    rw part (rw (place, sized, side) at gives)
+
+pub columns_give : {m : ℕ} (walk : Walk PlainTile) (n k half r c : ℕ) (s : PlainTile) (p : Partition) (first : BlockAt) (size : BlockSize) (old new : CountingReader m) (result : Result (Unit {0}) Rule) (column : TileColumn) (planes : FramePlanes)
+    → p ≡ Vertical → n ≡ suc k → half ≡ 2 ^ k → size ≡ part_size p n → first ≡ block_at walk r c size
+    → GivesTile (in_order (walk.block first s) (block_inside walk r (c + half) size)) old result column planes new
+    → GivesTile (parts walk (decode_partition walk k) k r c s p) old result column planes new
+unfolding parts
+columns_give walk n k half r c s p first size old new result column planes part level side is place gives =
+    let sized : size ≡ part_size Vertical (suc k) = is ∙ (λ i. part_size (part i) (level i)) in
+    rw part (rw (place, sized, side) at gives)
+
+pub split_gives : {m : ℕ} (walk : Walk PlainTile) (k r c : ℕ) (s : PlainTile) (p : Partition) (old new : CountingReader m) (result : Result (Unit {0}) Rule) (column : TileColumn) (planes : FramePlanes)
+    → p ≡ Split → GivesTile (parts walk (decode_partition walk k) k r c s Split) old result column planes new
+    → GivesTile (parts walk (decode_partition walk k) k r c s p) old result column planes new
+split_gives walk k r c s p old new result column planes part gives = rw part gives
+
+pub quarters_give : {m : ℕ} (walk : Walk PlainTile) (k half r c : ℕ) (s t u v : PlainTile) (a b d e f : CountingReader m) (result : Result (Unit {0}) Rule) (column : TileColumn) (planes : FramePlanes)
+    → half ≡ 2 ^ k → Reads (decode_partition walk k r c s) a t b → Reads (decode_partition walk k r (c + half) t) b u d
+    → Reads (decode_partition walk k (r + half) c u) d v e → GivesTile (decode_partition walk k (r + half) (c + half) v) e result column planes f
+    → GivesTile (parts walk (decode_partition walk k) k r c s Split) a result column planes f
+unfolding parts
+quarters_give walk k half r c s t u v a b d e f result column planes side first second third fourth =
+    then_gives _ _ t a b f result column planes first
+    (then_gives _ _ u b d f result column planes (rw side at second)
+    (then_gives _ _ v d e f result column planes (rw side at third) (rw side at fourth)))
+
+pub second_breaks : {m : ℕ} (walk : Walk PlainTile) (k half r c : ℕ) (s t : PlainTile) (a b : CountingReader m) (rule : Rule)
+    → half ≡ 2 ^ k → Reads (decode_partition walk k r c s) a t b → run_counting (decode_partition walk k r (c + half) t) (standing_of b) ≡ Err rule
+    → run_counting (parts walk (decode_partition walk k) k r c s Split) (standing_of a) ≡ Err rule
+unfolding parts
+second_breaks walk k half r c s t a b rule side first second = counting_bind _ _ _ ∙ rw first (then_breaks _ _ b rule (rw side at second))
+
+pub third_breaks : {m : ℕ} (walk : Walk PlainTile) (k half r c : ℕ) (s t u : PlainTile) (a b d : CountingReader m) (rule : Rule)
+    → half ≡ 2 ^ k → Reads (decode_partition walk k r c s) a t b → Reads (decode_partition walk k r (c + half) t) b u d
+    → run_counting (decode_partition walk k (r + half) c u) (standing_of d) ≡ Err rule
+    → run_counting (parts walk (decode_partition walk k) k r c s Split) (standing_of a) ≡ Err rule
+unfolding parts
+third_breaks walk k half r c s t u a b d rule side first second third =
+    counting_bind _ _ _ ∙ rw first (counting_bind _ _ _ ∙ rw (rw side at second) (then_breaks _ _ d rule (rw side at third)))
+
+pub first_breaks : {m : ℕ} (walk : Walk PlainTile) (k r c : ℕ) (s : PlainTile) (a : CountingReader m) (rule : Rule)
+    → run_counting (decode_partition walk k r c s) (standing_of a) ≡ Err rule
+    → run_counting (parts walk (decode_partition walk k) k r c s Split) (standing_of a) ≡ Err rule
+unfolding parts
+first_breaks walk k r c s a rule first = then_breaks _ _ a rule first
+
+---- Levels ----
+
+pub halved_side : (n : ℕ) → 1 ≤ n → 2 ^ n ≡ 2 ^ (n - 1) + 2 ^ (n - 1)
+halved_side zero some = absurd (omega arith)
+halved_side (suc n) some = let same : suc n - 1 ≡ n = omega arith in rw same (omega (arith, pow-suc 2 n))
+
+pub quarters_of : (n : ℕ) → 1 ≤ n → 4 ^ n ≡ 4 * 4 ^ (n - 1)
+quarters_of zero some = absurd (omega arith)
+quarters_of (suc n) some = let same : suc n - 1 ≡ n = omega arith in rw same (omega (arith, pow-suc 4 n))
+
+---- Places ----
+
+pub square_is : (walk : Walk PlainTile) (at : SquareAt) → at.tile_from ≡ walk.tile_from → at.tile_to ≡ walk.tile_to → at ≡ square_at walk at.level at.row at.col
+square_is walk at from to = λ i. record { row = at.row; col = at.col; level = at.level; tile_from = from i; tile_to = to i }
+
+pub block_is : (walk : Walk PlainTile) (at : SquareAt) (block : BlockAt) (r c : ℕ) (size sized : BlockSize) → at.tile_from ≡ walk.tile_from → at.tile_to ≡ walk.tile_to
+    → block ≡ record { row = r; col = c; size = size; tile_from = at.tile_from; tile_to = at.tile_to } → size ≡ sized → block ≡ block_at walk r c sized
+block_is walk at block r c size sized from to is same = is ∙ (λ i. record { row = r; col = c; size = same i; tile_from = from i; tile_to = to i })
+
+pub partition_read : {m : ℕ} (intra : Bool) (probs : List ℕ) (blocks : List BlockInfo) (frame : FramePlaces) (at there : SquareAt) (old new : CountingReader m) (p : Partition) → at ≡ there
+    → Reads (partition_at intra probs blocks frame at) old p new → Reads (partition_at intra probs blocks frame there) old p new
+partition_read intra probs blocks frame at there old new p is read = rw (sym is) read

@@ -1,5 +1,5 @@
-pub mod Planes
 pub mod Built
 pub mod Tiles
-pub mod Decoding
-pub mod Keeping
+pub mod Reading
+pub mod Frames
+pub mod Code

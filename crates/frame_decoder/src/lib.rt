@@ -2,15 +2,15 @@
 #![tactic(auto)]
 
 mod built;
+mod columns;
 mod decoding;
-mod fault;
-mod frame;
-mod setting;
+mod halt;
 mod squares;
-mod starting;
+mod tile_places;
 mod tiles;
 
 pub use built::first_unbuilt;
+pub use columns::{BlockRoom, TileColumn};
 pub use decoding::{Decoded, decode_frame};
-pub use fault::FrameFault;
-pub use frame::Frame;
+pub use halt::Halt;
+pub use tile_places::TilePlaces;

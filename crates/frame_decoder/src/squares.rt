@@ -1,237 +1,221 @@
 //! The squares of a tile, and their blocks.
 
-ghost use Rattle.std.specs.Prelude.{◌≡◌, ℕ, ◌+◌, ◌^◌, ◌<◌, ◌≤◌, OnOk};
-ghost use Rattle.bool_decoder.specs.Held.{window_of};
+ghost use Rattle.std.specs.Prelude.{◌≡◌, ℕ, ◌+◌, ◌-◌, ◌^◌, ◌<◌, ◌≤◌, OnOk};
+ghost use Rattle.frame_headers.specs.State.{shape_of};
 ghost use Rattle.prob_contexts.specs.Lists.{lists_of};
-ghost use Rattle.mode_syntax.specs.Counting.{ReadsCounting, in_order};
+ghost use Rattle.counting_reader.specs.Code.{Reads};
+ghost use Rattle.counting_reader.specs.Counting.{in_order};
 ghost use Rattle.mode_syntax.specs.Partitions.{partition_at};
 ghost use Rattle.mode_syntax.specs.Walk.{block_at, square_at, block_inside, parts, decode_partition};
 ghost use Rattle.vp9_types.specs.declared.block.Partition.TheVariants as partition;
-ghost use Rattle.block_decoder.specs.Fitting.{states_of};
-ghost use Rattle.frame_decoder.specs.Tiles.{decode_block};
-ghost use Rattle.frame_decoder.specs.Keeping.{state_of, walk_of, IsReady, GivesState};
+ghost use Rattle.frame_decoder.specs.Code.{plain_block, tile_of, walk_of, limit_of, IsReady, SameColumns, GivesTile};
 
-use crate::fault::FrameFault;
-use crate::setting::{FrameState, TileSetting};
-use block_decoder::put_block;
+use crate::columns::{BlockRoom, TileColumn};
 use block_geometry::part_size;
 use block_plan::BlockAt;
-use bool_decoder::BoolDecoder;
+use block_rebuild::put_block;
+use block_residue::read_block;
+use counting_reader::CountingReader;
+use frame_setting::FrameSetting;
 use mode_syntax::{SquareAt, intra_frame_mode_info, read_partition, side_of};
-use vp9_types::{BlockSize, Partition};
+use planes::FramePlanes;
+use vp9_types::{BlockSize, Partition, Rule};
 
 /// A block that starts inside the frame.
-#[tactic(auto, unfolding(crate::specs::Tiles::decode_block), using(mode_syntax::proofs::CountingRuns::counting_bind, mode_syntax::proofs::CountingRuns::run_settle))]
-fn decode_block(
-    decoder: &mut BoolDecoder<'_>,
-    setting: &TileSetting,
-    state: &mut FrameState,
-    row: u32,
-    col: u32,
-    size: BlockSize,
-) -> Result<(), FrameFault>
-    requires ready { IsReady setting.now state.old }
-    requires row { row < setting.now.frame.rows }
-    requires col { col < setting.now.frame.cols }
-    ensures gives { GivesState (decode_block setting.now.header setting.now.modes (lists_of setting.now.contexts) (block_at (walk_of setting.now) row col size) (state_of state.old))
-        (window_of decoder.old) state.old.counts result state.new (window_of decoder.new) }
-    ensures ready { OnOk result (IsReady setting.now state.new) }
+fn decode_block<const COUNTS: bool>(
+    setting: &FrameSetting,
+    reader: &mut CountingReader<COUNTS>,
+    column: &mut TileColumn,
+    planes: &mut FramePlanes,
+    room: &mut BlockRoom,
+    at: BlockAt,
+) -> Result<(), Rule>
+    requires ready { IsReady setting.now column.old planes.old }
+    requires row { at.row < setting.now.places.rows }
+    requires first { at.tile_from ≤ at.col }
+    requires col { at.col < at.tile_to }
+    requires from { at.tile_from ≡ column.old.grid.from }
+    requires to { at.tile_to ≡ column.old.grid.to }
+    requires room { 1 ≤ column.old.grid.room }
+    ensures gives { GivesTile (plain_block setting.now.header setting.now.modes (lists_of setting.now.contexts) at (tile_of column.old planes.old))
+        reader.old result column.new planes.new reader.new }
+    ensures ready { OnOk result (IsReady setting.now column.new planes.new) }
+    ensures same { OnOk result (SameColumns column.old column.new) }
+    ensures room { OnOk result (column.old.grid.room ≤ column.new.grid.room + 1) }
 {
-    let at = BlockAt {
-        row,
-        col,
-        size,
-        tile_from: setting.tile.col_from,
-        tile_to: setting.tile.col_to,
-    };
-    let block = intra_frame_mode_info(
-        decoder,
-        &setting.header,
-        &setting.modes,
-        &setting.contexts,
-        &mut state.counts,
-        at,
-        &state.grid,
-    );
+    let block = intra_frame_mode_info(reader, setting, &column.grid, at);
+    let listed = read_block(
+        reader,
+        setting,
+        &block,
+        &mut column.sides,
+        &mut room.residues,
+    )?;
     put_block(
-        decoder,
-        &setting.header,
-        &setting.contexts,
-        &mut state.counts,
+        planes,
+        &setting.header.shape(),
         at.tile_from,
         &block,
-        &mut state.planes,
-        &mut state.buffers,
-    )?;
-    state.grid.put(block)?;
+        &room.residues,
+        &mut room.scratch,
+    );
+    column.grid.put(listed);
     Ok(())
 }
 
 /// A block, unless it starts outside the frame.
-#[tactic(auto, unfolding(mode_syntax::specs::Walk::block_inside), using(mode_syntax::proofs::CountingRuns::run_settle))]
-fn decode_inside(
-    decoder: &mut BoolDecoder<'_>,
-    setting: &TileSetting,
-    state: &mut FrameState,
-    row: u32,
-    col: u32,
-    size: BlockSize,
-) -> Result<(), FrameFault>
-    requires { IsReady setting.now state.old }
-    ensures gives { GivesState (block_inside (walk_of setting.now) row col size (state_of state.old))
-        (window_of decoder.old) state.old.counts result state.new (window_of decoder.new) }
-    ensures ready { OnOk result (IsReady setting.now state.new) }
+fn decode_inside<const COUNTS: bool>(
+    setting: &FrameSetting,
+    reader: &mut CountingReader<COUNTS>,
+    column: &mut TileColumn,
+    planes: &mut FramePlanes,
+    room: &mut BlockRoom,
+    at: BlockAt,
+) -> Result<(), Rule>
+    requires ready { IsReady setting.now column.old planes.old }
+    requires first { at.tile_from ≤ at.col }
+    requires within { at.col < limit_of column.old }
+    requires from { at.tile_from ≡ column.old.grid.from }
+    requires to { at.tile_to ≡ column.old.grid.to }
+    requires room { 1 ≤ column.old.grid.room }
+    ensures gives { GivesTile (block_inside (walk_of setting.now column.old) at.row at.col at.size (tile_of column.old planes.old))
+        reader.old result column.new planes.new reader.new }
+    ensures ready { OnOk result (IsReady setting.now column.new planes.new) }
+    ensures same { OnOk result (SameColumns column.old column.new) }
+    ensures room { OnOk result (column.old.grid.room ≤ column.new.grid.room + 1) }
 {
-    if row < setting.frame.rows && col < setting.frame.cols {
-        return decode_block(decoder, setting, state, row, col, size);
+    if at.row >= setting.places.rows || at.col >= setting.places.cols {
+        return Ok(());
     }
-    Ok(())
+    decode_block(setting, reader, column, planes, room, at)
 }
 
-/// Two halves of a square that starts inside the frame. The second one, whose place is `second`, may start outside.
-#[tactic(auto, using(mode_syntax::proofs::CountingRuns::counting_bind))]
-fn decode_halves(
-    decoder: &mut BoolDecoder<'_>,
-    setting: &TileSetting,
-    state: &mut FrameState,
-    row: u32,
-    col: u32,
-    second: (u32, u32),
-    size: BlockSize,
-) -> Result<(), FrameFault>
-    requires ready { IsReady setting.now state.old }
-    requires row { row < setting.now.frame.rows }
-    requires col { col < setting.now.frame.cols }
-    ensures gives { GivesState (in_order ((walk_of setting.now).block (block_at (walk_of setting.now) row col size) (state_of state.old)) (block_inside (walk_of setting.now) second.0 second.1 size))
-        (window_of decoder.old) state.old.counts result state.new (window_of decoder.new) }
-    ensures ready { OnOk result (IsReady setting.now state.new) }
+/// Two halves of a square that starts inside the frame. The second one may start outside.
+fn decode_halves<const COUNTS: bool>(
+    setting: &FrameSetting,
+    reader: &mut CountingReader<COUNTS>,
+    column: &mut TileColumn,
+    planes: &mut FramePlanes,
+    room: &mut BlockRoom,
+    halves: (BlockAt, BlockAt),
+) -> Result<(), Rule>
+    requires ready { IsReady setting.now column.old planes.old }
+    requires row { halves.0.row < setting.now.places.rows }
+    requires col { halves.0.col < setting.now.places.cols }
+    requires begin { halves.0.tile_from ≤ halves.0.col }
+    requires begin_second { halves.0.tile_from ≤ halves.1.col }
+    requires within { halves.0.col < limit_of column.old }
+    requires within_second { halves.1.col < limit_of column.old }
+    requires from { halves.0.tile_from ≡ column.old.grid.from }
+    requires to { halves.0.tile_to ≡ column.old.grid.to }
+    requires from_second { halves.1.tile_from ≡ halves.0.tile_from }
+    requires to_second { halves.1.tile_to ≡ halves.0.tile_to }
+    requires room { 2 ≤ column.old.grid.room }
+    ensures gives { GivesTile (in_order (plain_block setting.now.header setting.now.modes (lists_of setting.now.contexts) halves.0 (tile_of column.old planes.old)) (block_inside (walk_of setting.now column.old) halves.1.row halves.1.col halves.1.size))
+        reader.old result column.new planes.new reader.new }
+    ensures ready { OnOk result (IsReady setting.now column.new planes.new) }
+    ensures same { OnOk result (SameColumns column.old column.new) }
+    ensures room { OnOk result (column.old.grid.room ≤ column.new.grid.room + 2) }
 {
-    decode_block(decoder, setting, state, row, col, size)?;
-    let (row, col) = second;
-    decode_inside(decoder, setting, state, row, col, size)
+    let (first, second) = halves;
+    decode_block(setting, reader, column, planes, room, first)?;
+    decode_inside(setting, reader, column, planes, room, second)
 }
 
-/// The partition of a square that starts inside the frame.
-fn read_square(
-    decoder: &mut BoolDecoder<'_>,
-    setting: &TileSetting,
-    state: &mut FrameState,
-    row: u32,
-    col: u32,
-    level: u8,
-) -> Partition
-    requires ready { IsReady setting.now state.old }
-    requires row { row < setting.now.frame.rows }
-    requires col { col < setting.now.frame.cols }
-    requires level { level ≤ 3 }
-    ensures read { ReadsCounting (partition_at (walk_of setting.now).intra (walk_of setting.now).probs (state_of state.old).blocks (walk_of setting.now).frame (square_at (walk_of setting.now) level row col))
-        (window_of decoder.old) state.old.counts result (window_of decoder.new) state.new.counts }
-    ensures ready { IsReady setting.now state.new }
-    ensures same { state_of state.new ≡ state_of state.old }
+/// A block of a square's tile.
+fn block_of(at: SquareAt, row: u32, col: u32, size: BlockSize) -> BlockAt
+    ensures { result ≡ record { row = row; col = col; size = size; tile_from = at.tile_from; tile_to = at.tile_to } }
 {
-    let at = SquareAt {
+    BlockAt {
         row,
         col,
-        level,
-        tile_from: setting.tile.col_from,
-        tile_to: setting.tile.col_to,
-    };
-    let FrameState { grid, counts, .. } = state;
-    read_partition(
-        decoder,
-        counts,
-        true,
-        &setting.contexts,
-        grid,
-        setting.frame,
-        at,
-    )
-}
-
-/// The parts of a square that starts inside the frame, whose level is one more than `below`.
-#[cycle(squares)]
-#[tactic(auto, unfolding(mode_syntax::specs::Walk::parts))]
-fn decode_parts(
-    decoder: &mut BoolDecoder<'_>,
-    setting: &TileSetting,
-    state: &mut FrameState,
-    row: u32,
-    col: u32,
-    below: u8,
-    partition: Partition,
-) -> Result<(), FrameFault>
-    requires ready { IsReady setting.now state.old }
-    requires row { row < setting.now.frame.rows }
-    requires col { col < setting.now.frame.cols }
-    requires below { below ≤ 2 }
-    ensures gives { GivesState (parts (walk_of setting.now) (decode_partition (walk_of setting.now) below) below row col (state_of state.old) partition)
-        (window_of decoder.old) state.old.counts result state.new (window_of decoder.new) }
-    ensures ready { OnOk result (IsReady setting.now state.new) }
-{
-    let size = part_size(partition, below + 1);
-    let half = side_of(below);
-    match partition {
-        Partition::Whole => decode_block(decoder, setting, state, row, col, size),
-        Partition::Horizontal => {
-            decode_halves(decoder, setting, state, row, col, (row + half, col), size)
-        }
-        Partition::Vertical => {
-            decode_halves(decoder, setting, state, row, col, (row, col + half), size)
-        }
-        Partition::Split => decode_quarters(decoder, setting, state, row, col, below),
+        size,
+        tile_from: at.tile_from,
+        tile_to: at.tile_to,
     }
 }
 
-/// The four quarters of a level of a square that starts inside the frame.
+/// The four quarters of a square that starts inside the frame.
 #[cycle(squares)]
-#[tactic(auto, unfolding(mode_syntax::specs::Walk::parts), using(mode_syntax::proofs::CountingRuns::counting_bind))]
 fn decode_quarters(
-    decoder: &mut BoolDecoder<'_>,
-    setting: &TileSetting,
-    state: &mut FrameState,
-    row: u32,
-    col: u32,
-    level: u8,
-) -> Result<(), FrameFault>
-    requires ready { IsReady setting.now state.old }
-    requires row { row < setting.now.frame.rows }
-    requires col { col < setting.now.frame.cols }
-    requires level { level ≤ 2 }
-    ensures gives { GivesState (parts (walk_of setting.now) (decode_partition (walk_of setting.now) level) level row col (state_of state.old) partition.Split)
-        (window_of decoder.old) state.old.counts result state.new (window_of decoder.new) }
-    ensures ready { OnOk result (IsReady setting.now state.new) }
+    setting: &FrameSetting,
+    reader: &mut CountingReader<false>,
+    column: &mut TileColumn,
+    planes: &mut FramePlanes,
+    room: &mut BlockRoom,
+    at: SquareAt,
+) -> Result<(), Rule>
+    requires ready { IsReady setting.now column.old planes.old }
+    requires row { at.row < setting.now.places.rows }
+    requires col { at.col < setting.now.places.cols }
+    requires first { at.tile_from ≤ at.col }
+    requires within { at.col + 2 ^ at.level ≤ limit_of column.old }
+    requires from { at.tile_from ≡ column.old.grid.from }
+    requires to { at.tile_to ≡ column.old.grid.to }
+    requires least { 1 ≤ at.level }
+    requires most { at.level ≤ 3 }
+    requires room { 4 ^ at.level ≤ column.old.grid.room }
+    ensures gives { GivesTile (parts (walk_of setting.now column.old) (decode_partition (walk_of setting.now column.old) (at.level - 1)) (at.level - 1) at.row at.col (tile_of column.old planes.old) partition.Split)
+        reader.old result column.new planes.new reader.new }
+    ensures ready { OnOk result (IsReady setting.now column.new planes.new) }
+    ensures same { OnOk result (SameColumns column.old column.new) }
+    ensures room { OnOk result (column.old.grid.room ≤ column.new.grid.room + 4 ^ at.level) }
 {
-    let half = side_of(level);
-    decode_square(decoder, setting, state, row, col, level)?;
-    decode_square(decoder, setting, state, row, col + half, level)?;
-    decode_square(decoder, setting, state, row + half, col, level)?;
-    decode_square(decoder, setting, state, row + half, col + half, level)
+    let half = side_of(at.level - 1);
+    let (right, below) = (at.col + half, at.row + half);
+    let level = at.level - 1;
+    decode_square(setting, reader, column, planes, room, SquareAt { level, ..at })?;
+    let upper_right = SquareAt { level, col: right, ..at };
+    decode_square(setting, reader, column, planes, room, upper_right)?;
+    let lower_left = SquareAt { level, row: below, ..at };
+    decode_square(setting, reader, column, planes, room, lower_left)?;
+    let lower_right = SquareAt { level, row: below, col: right, ..at };
+    decode_square(setting, reader, column, planes, room, lower_right)
 }
 
 /// A square, unless it starts outside the frame.
 #[cycle(squares)]
-#[tactic(auto, using(crate::proofs::SquareReads::square_below, crate::proofs::SquareReads::square_beside, crate::proofs::SquareReads::smallest_square, crate::proofs::SquareReads::larger_square))]
-pub fn decode_square(
-    decoder: &mut BoolDecoder<'_>,
-    setting: &TileSetting,
-    state: &mut FrameState,
-    row: u32,
-    col: u32,
-    level: u8,
-) -> Result<(), FrameFault>
-    requires ready { IsReady setting.now state.old }
-    requires level { level ≤ 3 }
-    ensures gives { GivesState (decode_partition (walk_of setting.now) level row col (state_of state.old))
-        (window_of decoder.old) state.old.counts result state.new (window_of decoder.new) }
-    ensures ready { OnOk result (IsReady setting.now state.new) }
+pub(crate) fn decode_square(
+    setting: &FrameSetting,
+    reader: &mut CountingReader<false>,
+    column: &mut TileColumn,
+    planes: &mut FramePlanes,
+    room: &mut BlockRoom,
+    at: SquareAt,
+) -> Result<(), Rule>
+    requires ready { IsReady setting.now column.old planes.old }
+    requires first { at.tile_from ≤ at.col }
+    requires within { at.col + 2 ^ at.level ≤ limit_of column.old }
+    requires from { at.tile_from ≡ column.old.grid.from }
+    requires to { at.tile_to ≡ column.old.grid.to }
+    requires most { at.level ≤ 3 }
+    requires room { 4 ^ at.level ≤ column.old.grid.room }
+    ensures gives { GivesTile (decode_partition (walk_of setting.now column.old) at.level at.row at.col (tile_of column.old planes.old))
+        reader.old result column.new planes.new reader.new }
+    ensures ready { OnOk result (IsReady setting.now column.new planes.new) }
+    ensures same { OnOk result (SameColumns column.old column.new) }
+    ensures room { OnOk result (column.old.grid.room ≤ column.new.grid.room + 4 ^ at.level) }
 {
-    if row >= setting.frame.rows || col >= setting.frame.cols {
+    if at.row >= setting.places.rows || at.col >= setting.places.cols {
         return Ok(());
     }
-    let partition = read_square(decoder, setting, state, row, col, level);
-    if level == 0 {
-        let size = part_size(partition, 0);
-        return decode_block(decoder, setting, state, row, col, size);
+    let partition = read_partition(reader, setting, true, &column.grid, at);
+    let size = part_size(partition, at.level);
+    let first = block_of(at, at.row, at.col, size);
+    if at.level == 0 {
+        return decode_block(setting, reader, column, planes, room, first);
     }
-    decode_parts(decoder, setting, state, row, col, level - 1, partition)
+    let half = side_of(at.level - 1);
+    match partition {
+        Partition::Whole => decode_block(setting, reader, column, planes, room, first),
+        Partition::Horizontal => {
+            let second = block_of(at, at.row + half, at.col, size);
+            decode_halves(setting, reader, column, planes, room, (first, second))
+        }
+        Partition::Vertical => {
+            let second = block_of(at, at.row, at.col + half, size);
+            decode_halves(setting, reader, column, planes, room, (first, second))
+        }
+        Partition::Split => decode_quarters(setting, reader, column, planes, room, at),
+    }
 }

@@ -1,17 +1,19 @@
 //! The superblocks of a tile.
 
-ghost use Rattle.std.specs.Prelude.{◌≡◌, ◌-◌, ◌<◌, ◌≤◌, ℕ, OnOk};
-ghost use Rattle.bool_decoder.specs.Held.{window_of};
+ghost use Rattle.std.specs.Prelude.{◌≡◌, ◌-◌, ◌+◌, ◌*◌, ◌<◌, ◌≤◌, OnOk};
+ghost use Rattle.vp9_types.specs.Sizes.{superblocks_along};
 ghost use Rattle.mode_syntax.specs.Walk.{decode_row, decode_tile};
-ghost use Rattle.prob_contexts.specs.Lists.{lists_of};
-ghost use Rattle.frame_decoder.specs.Decoding.{decoded_tile};
-ghost use Rattle.frame_decoder.specs.Tiles.{superblocks_in};
-ghost use Rattle.frame_decoder.specs.Keeping.{state_of, walk_of, progress_of, IsReady, IsTile, GivesState, GivesProgress};
+ghost use Rattle.frame_decoder.specs.Code.{tile_of, walk_of, limit_of, read_whole, IsReady, SameColumns, GivesTile, GivesWhole};
 
-use crate::fault::FrameFault;
-use crate::setting::{FrameState, TileSetting};
+use crate::columns::{BlockRoom, TileColumn};
 use crate::squares::decode_square;
-use bool_decoder::BoolDecoder;
+use crate::tile_places::TilePlaces;
+use counting_reader::CountingReader;
+use frame_setting::FrameSetting;
+use mode_syntax::SquareAt;
+use planes::FramePlanes;
+use prob_contexts::Counts;
+use vp9_types::Rule;
 
 /// Places of 8x8 along a superblock.
 const SIDE: u32 = 8;
@@ -22,63 +24,98 @@ const SUPERBLOCK: u8 = 3;
 fn superblocks(from: u32, to: u32) -> u32
     requires order { from ≤ to }
     requires few { to ≤ 65536 }
-    ensures { result ≡ superblocks_in (to - from) }
+    ensures is { result ≡ superblocks_along (to - from) }
+    ensures few { result ≤ 8192 }
 {
     (to - from).div_ceil(SIDE)
 }
 
-/// A row of superblocks.
+/// A row of superblocks, from the first one on.
 fn decode_row(
-    decoder: &mut BoolDecoder<'_>,
-    setting: &TileSetting,
-    state: &mut FrameState,
-    row: u32,
-) -> Result<(), FrameFault>
-    requires { IsReady setting.now state.old }
-    ensures gives { GivesState (decode_row (walk_of setting.now) row setting.now.tile.col_from (superblocks_in (setting.now.tile.col_to - setting.now.tile.col_from)) (state_of state.old))
-        (window_of decoder.old) state.old.counts result state.new (window_of decoder.new) }
-    ensures ready { OnOk result (IsReady setting.now state.new) }
+    setting: &FrameSetting,
+    reader: &mut CountingReader<false>,
+    column: &mut TileColumn,
+    planes: &mut FramePlanes,
+    room: &mut BlockRoom,
+    first: SquareAt,
+) -> Result<(), Rule>
+    requires ready { IsReady setting.now column.old planes.old }
+    requires begin { first.col ≡ first.tile_from }
+    requires level { first.level ≡ 3 }
+    requires from { first.tile_from ≡ column.old.grid.from }
+    requires to { first.tile_to ≡ column.old.grid.to }
+    requires room { 64 * superblocks_along (column.old.grid.to - column.old.grid.from) ≤ column.old.grid.room }
+    ensures gives { GivesTile (decode_row (walk_of setting.now column.old) first.row first.tile_from (superblocks_along (first.tile_to - first.tile_from)) (tile_of column.old planes.old))
+        reader.old result column.new planes.new reader.new }
+    ensures ready { OnOk result (IsReady setting.now column.new planes.new) }
+    ensures same { OnOk result (SameColumns column.old column.new) }
+    ensures room { OnOk result (column.old.grid.room ≤ column.new.grid.room + 64 * superblocks_along (column.old.grid.to - column.old.grid.from)) }
 {
-    let from = setting.tile.col_from;
-    let count = superblocks(from, setting.tile.col_to);
+    let count = superblocks(first.tile_from, first.tile_to);
     for i in 0..count {
-        decode_square(decoder, setting, state, row, from + SIDE * i, SUPERBLOCK)?;
+        let at = SquareAt {
+            col: first.col + SIDE * i,
+            ..first
+        };
+        decode_square(setting, reader, column, planes, room, at)?;
     }
     Ok(())
 }
 
-/// All rows of superblocks.
+/// All rows of superblocks of a tile.
 fn decode_rows(
-    decoder: &mut BoolDecoder<'_>,
-    setting: &TileSetting,
-    state: &mut FrameState,
-) -> Result<(), FrameFault>
-    requires { IsReady setting.now state.old }
-    ensures gives { GivesState (decode_tile (walk_of setting.now) (superblocks_in (setting.now.tile.col_to - setting.now.tile.col_from)) setting.now.tile.row_from setting.now.tile.col_from
-        (superblocks_in (setting.now.tile.row_to - setting.now.tile.row_from)) (state_of state.old))
-        (window_of decoder.old) state.old.counts result state.new (window_of decoder.new) }
-    ensures ready { OnOk result (IsReady setting.now state.new) }
+    setting: &FrameSetting,
+    reader: &mut CountingReader<false>,
+    column: &mut TileColumn,
+    planes: &mut FramePlanes,
+    room: &mut BlockRoom,
+    tile: &TilePlaces,
+) -> Result<(), Rule>
+    requires ready { IsReady setting.now column.old planes.old }
+    requires from { tile.now.col_from ≡ column.old.grid.from }
+    requires to { tile.now.col_to ≡ column.old.grid.to }
+    requires order { tile.now.row_from ≤ tile.now.row_to }
+    requires low { tile.now.row_to ≤ 8192 }
+    requires room { 64 * (superblocks_along (column.old.grid.to - column.old.grid.from) * superblocks_along (tile.now.row_to - tile.now.row_from)) ≤ column.old.grid.room }
+    ensures gives { GivesTile (decode_tile (walk_of setting.now column.old) (superblocks_along (tile.now.col_to - tile.now.col_from)) tile.now.row_from tile.now.col_from (superblocks_along (tile.now.row_to - tile.now.row_from)) (tile_of column.old planes.old))
+        reader.old result column.new planes.new reader.new }
+    ensures ready { OnOk result (IsReady setting.now column.new planes.new) }
+    ensures same { OnOk result (SameColumns column.old column.new) }
 {
-    let from = setting.tile.row_from;
-    let count = superblocks(from, setting.tile.row_to);
+    let count = superblocks(tile.row_from, tile.row_to);
     for i in 0..count {
-        decode_row(decoder, setting, state, from + SIDE * i)?;
+        let first = SquareAt {
+            row: tile.row_from + SIDE * i,
+            col: tile.col_from,
+            level: SUPERBLOCK,
+            tile_from: tile.col_from,
+            tile_to: tile.col_to,
+        };
+        decode_row(setting, reader, column, planes, room, first)?;
     }
     Ok(())
 }
 
 /// A tile, from its bytes.
-pub fn decode_tile(
+#[tactic(auto, unfolding(crate::specs::Code::read_whole))]
+pub(crate) fn decode_tile(
     bytes: &[u8],
-    setting: &TileSetting,
-    state: &mut FrameState,
-) -> Result<(), FrameFault>
-    requires { IsReady setting.now state.old }
-    ensures gives { (n : ℕ) → IsTile setting.now n →
-        GivesProgress (decoded_tile setting.now.header setting.now.modes (lists_of setting.now.contexts) n bytes.now (progress_of state.old)) result state.new }
-    ensures ready { OnOk result (IsReady setting.now state.new) }
+    setting: &FrameSetting,
+    tile: &TilePlaces,
+    column: &mut TileColumn,
+    planes: &mut FramePlanes,
+    room: &mut BlockRoom,
+) -> Result<(), Rule>
+    requires ready { IsReady setting.now column.old planes.old }
+    requires from { tile.now.col_from ≡ column.old.grid.from }
+    requires to { tile.now.col_to ≡ column.old.grid.to }
+    requires order { tile.now.row_from ≤ tile.now.row_to }
+    requires low { tile.now.row_to ≤ 8192 }
+    requires room { 64 * (superblocks_along (column.old.grid.to - column.old.grid.from) * superblocks_along (tile.now.row_to - tile.now.row_from)) ≤ column.old.grid.room }
+    ensures gives { GivesWhole (read_whole (decode_tile (walk_of setting.now column.old) (superblocks_along (tile.now.col_to - tile.now.col_from)) tile.now.row_from tile.now.col_from (superblocks_along (tile.now.row_to - tile.now.row_from)) (tile_of column.old planes.old)) bytes.now)
+        result column.new planes.new }
+    ensures ready { OnOk result (IsReady setting.now column.new planes.new) }
 {
-    let mut decoder = BoolDecoder::start(bytes)?;
-    state.planes.start_tile();
-    decode_rows(&mut decoder, setting, state)
+    let mut reader = CountingReader::<false>::start(bytes, Counts::new())?;
+    decode_rows(setting, &mut reader, column, planes, room, tile)
 }

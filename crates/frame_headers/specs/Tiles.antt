@@ -1,5 +1,6 @@
 -- Tiles (6.2.13, 6.2.14 and 7.2.11 of the standard).
 use Rattle.std.specs.Prelude.{ℕ, zero, suc, ◌+◌, ◌-◌, ◌*◌, ◌/◌, ◌^◌, ◌≤◌, Bool, nat_lt, nat_le, if◌then◌else◌}
+use Rattle.vp9_types.specs.Sizes.{superblocks_along}
 use Rattle.vp9_types.specs.Syntax.{done, ◌>>=◌}
 use Rattle.frame_headers.specs.declared.field.FieldName.TheVariants as name
 use Rattle.frame_headers.specs.declared.tiles.TileInfo.{TileInfo}
@@ -7,7 +8,7 @@ use Rattle.frame_headers.specs.Fields.{Table, flag}
 
 -- MiCols: places of 8 samples. Sb64Cols: superblocks of 8 places
 abbrev pub superblocks : ℕ → ℕ
-superblocks size = ((size + 7) / 8 + 7) / 8
+superblocks size = superblocks_along ((size + 7) / 8)
 
 -- the least of the numbers from n on that passes, the last of k more if none before it does
 abbrev pub least : (ℕ → Bool) → ℕ → ℕ → ℕ

@@ -6,11 +6,10 @@ use Rattle.std.proofs.lemmas.Bool.{cases_lt, cases_eq, cases_Bool, lt-ltb, le-lt
 use Rattle.std.proofs.lemmas.Bool.Decides.{nat_tests}
 use Rattle.std.proofs.lemmas.List.{get_or-take, get_or-drop, length-take, length-drop}
 use Rattle.std.proofs.lemmas.List.FromFn.{fill_by_all}
-use Rattle.vp9_types.specs.Maps.{Map, rows_of}
+use Rattle.vp9_types.specs.Maps.{Map}
 use Rattle.vp9_types.specs.declared.shape.Depth.{Depth}
 use Rattle.intra_predict.specs.declared.place.Place.{Place}
 use Rattle.intra_predict.specs.Edges.{EdgeSamples, reads_right, has_above, has_left, above_column, above_sample, left_sample, corner_sample, edges_in}
-use Rattle.intra_predict.proofs.Planes.{add-sub_left, next, place}
 
 -- how many samples of the row above are read
 abbrev pub read_count : ℕ → ℕ → Place → ℕ
@@ -38,66 +37,33 @@ count_some width size p some wide = elim (cases_Bool (reads_right size p)) [
   | inr none ↦ rw none (omega arith)
 ]
 
--- a sample of a part of a list
-part_at : (at n : ℕ) (xs : List ℕ) (k : ℕ) → k < n → get_or (take (at + n - at) (drop at xs)) k 0 ≡ get_or xs (at + k) 0
-part_at at n xs k low = rw (add-sub_left, get_or-take, get_or-drop) refl
-
-length_part : (at n : ℕ) (xs : List ℕ) → at + n ≤ length xs → length (take (at + n - at) (drop at xs)) ≡ n
-length_part at n xs fits = rw add-sub_left (omega (arith, length-take n (drop at xs), length-drop at xs))
-
-row_fits : (width height row column n long : ℕ) → row < height → column + n ≤ width → height * width ≤ long → row * width + column + n ≤ long
-row_fits width height row column n long high wide whole = omega (arith, next width row height high)
-
-sample_is : (width : ℕ) (xs : List ℕ) (row column at : ℕ) → column < width → at ≡ row * width + column
-    → get_or xs at 0 ≡ rows_of width xs row column
-sample_is width xs row column at low is = rw is (sym (place width xs row column low))
-
-pub above_read : (width height size : ℕ) (p : Place) (depth : Depth) (xs : List ℕ) (count at : ℕ) → 4 ≤ size
-    → p.row < height → 0 < p.row → p.column < width → height * width ≤ length xs
-    → count ≡ read_count width size p → at ≡ (p.row - 1) * width + p.column
-    → (j : ℕ) → j < 2 * size
-    → get_or (take (at + count - at) (drop at xs)) (min j (length (take (at + count - at) (drop at xs)) - 1)) 0
-    ≡ above_sample width depth size p (rows_of width xs) j
-above_read width height size p depth xs count at some high below wide whole is here j low =
+-- the samples above, from a row of the plane
+pub above_read : (width size : ℕ) (p : Place) (depth : Depth) (m : Map) (row : List ℕ) (count : ℕ) → 4 ≤ size
+    → 0 < p.row → p.column < width → count ≡ read_count width size p → length row ≡ count
+    → ((j : ℕ) → j < count → get_or row j 0 ≡ m (p.row - 1) (p.column + j))
+    → (j : ℕ) → j < 2 * size → get_or row (min j (length row - 1)) 0 ≡ above_sample width depth size p m j
+above_read width size p depth m row count some below wide is long here j low =
     let one = count_some width size p some wide in
-    let narrow : p.column + count ≤ width = omega arith in
-    let fits : at + count ≤ length xs = rw here (row_fits width height (p.row - 1) p.column count _ (omega arith) narrow whole) in
     let k : ℕ = min j (count - 1) in
     let column : p.column + k ≡ above_column width size p j = rw is (column_is width size p j some wide low) in
-    let there = lt-ltb 0 p.row below in
-    rw (length_part at count xs fits, there)
-    (part_at at count xs k (omega arith)
-    ∙ sample_is width xs (p.row - 1) (p.column + k) (at + k) (omega arith) (omega arith)
-    ∙ ap (λ (n : ℕ). rows_of width xs (p.row - 1) n) column)
+    rw (long, lt-ltb 0 p.row below) (here k (omega arith) ∙ ap (λ (n : ℕ). m (p.row - 1) n) column)
 
-pub column_fits : (width height row column k long : ℕ) → row + k < height → 0 < column → column < width → height * width ≤ long
-    → row * width + column - 1 + k * width < long
-column_fits width height row column k long high some wide whole = omega (arith, next width (row + k) height high)
+-- the samples on the left, those that are in the plane and those below it
+pub left_inside : (height : ℕ) (p : Place) (depth : Depth) (m : Map) (i : ℕ) → p.tile_from < p.column → p.row + i < height
+    → m (p.row + i) (p.column - 1) ≡ left_sample height depth p m i
+left_inside height p depth m i past high =
+    let here : min (height - 1) (p.row + i) ≡ p.row + i = omega arith in
+    rw (lt-ltb p.tile_from p.column past, here) refl
 
--- the sample k rows below the block's first
-left_at : (width height : ℕ) (p : Place) (depth : Depth) (xs : List ℕ) (i k : ℕ) → p.tile_from < p.column → p.column < width
-    → min (height - 1) (p.row + i) ≡ p.row + k
-    → get_or xs (p.row * width + p.column - 1 + k * width) 0 ≡ left_sample height depth p (rows_of width xs) i
-left_at width height p depth xs i k past wide here =
-    rw (lt-ltb p.tile_from p.column past, here)
-    (sample_is width xs (p.row + k) (p.column - 1) (p.row * width + p.column - 1 + k * width) (omega arith) (omega arith))
+pub left_below : (height : ℕ) (p : Place) (depth : Depth) (m : Map) (i : ℕ) → p.tile_from < p.column → p.row < height → height ≤ p.row + i
+    → m (p.row + (height - p.row - 1)) (p.column - 1) ≡ left_sample height depth p m i
+left_below height p depth m i past high below =
+    let here : min (height - 1) (p.row + i) ≡ p.row + (height - p.row - 1) = omega arith in
+    rw (lt-ltb p.tile_from p.column past, here) refl
 
-pub left_inside : (width height : ℕ) (p : Place) (depth : Depth) (xs : List ℕ) (i : ℕ) → p.tile_from < p.column → p.column < width
-    → p.row + i < height
-    → get_or xs (p.row * width + p.column - 1 + i * width) 0 ≡ left_sample height depth p (rows_of width xs) i
-left_inside width height p depth xs i past wide high = left_at width height p depth xs i i past wide (omega arith)
-
-pub left_below : (width height : ℕ) (p : Place) (depth : Depth) (xs : List ℕ) (i : ℕ) → p.tile_from < p.column → p.column < width
-    → p.row < height → height ≤ p.row + i
-    → get_or xs (p.row * width + p.column - 1 + (height - p.row - 1) * width) 0 ≡ left_sample height depth p (rows_of width xs) i
-left_below width height p depth xs i past wide high below = left_at width height p depth xs i (height - p.row - 1) past wide (omega arith)
-
-pub corner_read : (width : ℕ) (p : Place) (depth : Depth) (xs : List ℕ) (at : ℕ) → 0 < p.row → p.tile_from < p.column → p.column < width
-    → at ≡ (p.row - 1) * width + p.column - 1
-    → get_or xs at 0 ≡ corner_sample depth p (rows_of width xs)
-corner_read width p depth xs at below past wide here =
-    rw (lt-ltb 0 p.row below, lt-ltb p.tile_from p.column past)
-    (sample_is width xs (p.row - 1) (p.column - 1) at (omega arith) (omega arith))
+pub corner_read : (p : Place) (depth : Depth) (m : Map) → 0 < p.row → p.tile_from < p.column
+    → m (p.row - 1) (p.column - 1) ≡ corner_sample depth p m
+corner_read p depth m below past = rw (lt-ltb 0 p.row below, lt-ltb p.tile_from p.column past) refl
 
 abbrev pub edges_by : List ℕ → List ℕ → ℕ → Bool → Bool → EdgeSamples
 edges_by above left corner a l = record { above = above; left = left; corner = corner; has_above = a; has_left = l }

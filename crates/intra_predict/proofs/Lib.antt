@@ -1,4 +1,3 @@
-pub mod Planes
 pub mod RowLemmas
 pub mod Joins
 pub mod Slants

@@ -4,7 +4,7 @@ use Rattle.std.specs.Prelude.{nat_eq, if◌then◌else◌}
 use Rattle.std.proofs.lemmas.Bool.{cases_lt}
 use Rattle.std.proofs.lemmas.Bool.Decides.{nat_tests}
 use Rattle.vp9_types.specs.Maps.{Map, HoldsRows}
-use Rattle.intra_predict.proofs.Planes.{next}
+use Rattle.planes.proofs.RowLemmas.{next}
 
 -- one row more of a block is written
 pub row_more : (f : Map) (size i : ℕ) (xs ys : List ℕ) → HoldsRows xs size i f

@@ -1,16 +1,18 @@
 -- Blocks put into a plane.
 use Rattle.std.proofs.Common.{◌≡◌, ◌<◌, ◌≤◌, ◌+◌, ◌*◌, ◌-◌, ℕ, true, false, Bool, refl, ◌∙◌, arith, List, get_or, min, lit<}
-use Rattle.std.specs.Prelude.{ℤ, pos, negsuc, slice_index_or, if◌then◌else◌}
+use Rattle.std.specs.Prelude.{Option, None, Some, ℤ, pos, negsuc, slice_index_or, if◌then◌else◌}
 use Rattle.std.proofs.lemmas.Nat.{mul-add-lt}
 use Rattle.vp9_types.specs.Maps.{Map, rows_of, with_block, Holds, IsAtMost}
 use Rattle.vp9_types.specs.declared.shape.Depth.{Depth}
 use Rattle.vp9_types.specs.declared.block.TxSize.{TxSize}
 use Rattle.vp9_types.specs.declared.block.TxSize.TheVariants.{T4x4, T8x8, T16x16, T32x32}
 use Rattle.intra_predict.specs.declared.block.IntraBlock.{IntraBlock}
-use Rattle.intra_predict.specs.Sizes.{side, greatest}
-use Rattle.intra_predict.specs.Residue.{clip, with_residue}
-use Rattle.intra_predict.specs.Steps.{with_square, prediction, plus_residue}
-use Rattle.intra_predict.proofs.Planes.{with_block_same, place}
+use Rattle.vp9_types.specs.Sizes.{side, greatest}
+use Rattle.intra_predict.specs.Residue.{with_residue}
+use Rattle.vp9_types.specs.Sizes.{clip}
+use Rattle.intra_predict.specs.Steps.{with_square, prediction, plus_residue, with_any_residue}
+use Rattle.planes.proofs.RowLemmas.{with_block_same, place}
+use Rattle.planes.proofs.PlaneLemmas.{with_block_small}
 use Rattle.intra_predict.proofs.Bounds.{predicted_small, edges_small}
 
 -- a block that holds what f says may stand for f
@@ -20,14 +22,9 @@ square_put width height m row column size block f holds =
     with_block_same m row column (min size (height - row)) (min size (width - column)) _ _
     (λ i j below low. place size block i j (omega arith) ∙ holds i j (omega arith) (omega arith))
 
-either : (most : ℕ) (b : Bool) (x y : ℕ) → x ≤ most → y ≤ most → (if b then x else y) ≤ most
-either most true x y a b = a
-either most false x y a b = b
-
 pub square_small : (most width height : ℕ) (m : Map) (row column size : ℕ) (f : Map) → IsAtMost most m → IsAtMost most f
     → IsAtMost most (with_square width height m row column size f)
-unfolding with_block
-square_small most width height m row column size f small also y x = either most _ _ _ (also _ _) (small y x)
+square_small most width height m row column size f small also = with_block_small most m row column _ _ f small also
 
 side_some : (size : TxSize) → 0 < side size
 side_some T4x4 = lit< tt
@@ -49,8 +46,7 @@ pub residue_small : (depth : Depth) (size : ℕ) (f : Map) (residue : List ℤ)
     → IsAtMost (greatest depth) (plus_residue depth size f residue)
 residue_small depth size f residue i j = clip_small (greatest depth) _
 
-pub residue_held : (depth : Depth) (size : ℕ) (f : Map) (block sums : List ℕ) (residue : List ℤ) → Holds block size f
-    → ((k : ℕ) → k < size * size → get_or sums k 0 ≡ with_residue (greatest depth) (get_or block k 0) (slice_index_or residue k (pos 0)))
-    → Holds sums size (plus_residue depth size f residue)
-residue_held depth size f block sums residue holds is = λ i j below low.
-    is (i * size + j) (mul-add-lt i size j size below low) ∙ rw (holds i j below low) refl
+pub any_residue_small : (depth : Depth) (size : ℕ) (f : Map) (residue : Option (List ℤ)) → IsAtMost (greatest depth) f
+    → IsAtMost (greatest depth) (with_any_residue depth size f residue)
+any_residue_small depth size f None small = small
+any_residue_small depth size f (Some residue) small = residue_small depth size f residue

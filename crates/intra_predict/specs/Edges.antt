@@ -3,6 +3,8 @@ use Rattle.std.specs.Prelude.{ℕ, ◌+◌, ◌-◌, ◌*◌, ◌≡◌, ◌≤�
 use Rattle.std.specs.List.{range_with_len}
 use Rattle.vp9_types.specs.Maps.{Map}
 use Rattle.vp9_types.specs.declared.shape.Depth.{Depth}
+use Rattle.planes.specs.declared.area.Area.{Area}
+use Rattle.planes.specs.Planes.{lower_end, right_end}
 use Rattle.intra_predict.specs.Sizes.{middle}
 use Rattle.intra_predict.specs.declared.place.Place.{Place}
 use Rattle.intra_predict.specs.declared.edges.Edges.{Edges}
@@ -14,16 +16,19 @@ pub record EdgeSamples : Type 0 where
   pub has_above : Bool
   pub has_left : Bool
 
--- a plane of so many rows of `width` samples
-pub record IsPlane (width height : ℕ) (samples : List ℕ) : Type 0 where
-  pub whole : height * width ≤ length samples
-  pub high : height ≤ 65536
-  pub wide : width ≤ 65536
-
--- a place whose first sample is in it
+-- a place whose first sample is in a plane of a width and height
 pub record IsInside (width height : ℕ) (p : Place) : Type 0 where
   pub high : p.row < height
   pub wide : p.column < width
+
+-- a place in a part of a plane that has the samples around it too, where they are there
+pub record LiesIn (a : Area) (p : Place) : Type 0 where
+  pub top : a.first_row ≤ p.row
+  pub bottom : p.row < lower_end a
+  pub begin : a.first_column ≤ p.column
+  pub end : p.column < right_end a
+  pub above : 0 < p.row → a.first_row < p.row
+  pub left : p.tile_from < p.column → a.first_column < p.column
 
 -- those that the code's edges hold for a block of this size
 abbrev pub samples_of : ℕ → Edges → EdgeSamples

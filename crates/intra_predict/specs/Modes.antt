@@ -4,7 +4,8 @@ use Rattle.vp9_types.specs.Maps.{Map}
 use Rattle.vp9_types.specs.declared.shape.Depth.{Depth}
 use Rattle.vp9_types.specs.declared.block.IntraMode.{IntraMode}
 use Rattle.vp9_types.specs.declared.block.IntraMode.TheVariants.{Dc, V, H, D45, D135, D117, D153, D207, D63, Tm}
-use Rattle.intra_predict.specs.Sizes.{greatest, middle}
+use Rattle.intra_predict.specs.Sizes.{middle}
+use Rattle.vp9_types.specs.Sizes.{greatest}
 use Rattle.intra_predict.specs.Edges.{EdgeSamples}
 
 -- Round2(x + y, 1)

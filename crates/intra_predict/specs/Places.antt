@@ -1,11 +1,8 @@
 -- Where the transform blocks of a coded block lie in a plane, and what is there around them (8.5.1 of the standard).
 use Rattle.std.specs.Prelude.{ℕ, ◌+◌, ◌*◌, ◌/◌, Bool, ◌||◌, nat_lt, if◌then◌else◌}
+use Rattle.vp9_types.specs.Shapes.{halved}
 use Rattle.intra_predict.specs.declared.coded.CodedBlock.{CodedBlock}
 use Rattle.intra_predict.specs.declared.place.Place.{Place}
-
--- n >> ss
-abbrev pub halved : Bool → ℕ → ℕ
-halved ss n = if ss then n / 2 else n
 
 -- y and x count the block's plane in 4s
 abbrev pub place_in : CodedBlock → ℕ → ℕ → Place

@@ -1,10 +1,6 @@
 -- Residue added to a predicted sample (8.6.2 of the standard).
-use Rattle.std.specs.Prelude.{ℕ, ℤ, pos, negsuc, ◌+ℤ◌, ◌^◌, ◌<◌, ◌≤◌, List, length, min, slice_index_or, unsigned_abs}
-
--- Clip1
-abbrev pub clip : ℕ → ℤ → ℕ
-clip most (pos n) = min most n
-clip most (negsuc n) = 0
+use Rattle.std.specs.Prelude.{ℕ, ℤ, pos, ◌+ℤ◌, ◌^◌, ◌<◌, ◌≤◌, List, length, slice_index_or, unsigned_abs}
+use Rattle.vp9_types.specs.Sizes.{clip}
 
 abbrev pub with_residue : ℕ → ℕ → ℤ → ℕ
 with_residue most sample residue = clip most (pos sample +ℤ residue)

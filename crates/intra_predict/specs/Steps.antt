@@ -1,10 +1,10 @@
 -- A block put into a plane: what an intra block does to the plane, transform block by transform block (8.5.1 and 8.6.2
 -- of the standard).
-use Rattle.std.specs.Prelude.{ℕ, ℤ, pos, ◌+◌, ◌-◌, ◌*◌, List, min, slice_index_or}
+use Rattle.std.specs.Prelude.{ℕ, ℤ, pos, ◌+◌, ◌-◌, ◌*◌, List, Option, None, Some, min, slice_index_or}
 use Rattle.vp9_types.specs.Maps.{Map, with_block}
 use Rattle.vp9_types.specs.declared.shape.Depth.{Depth}
 use Rattle.intra_predict.specs.declared.block.IntraBlock.{IntraBlock}
-use Rattle.intra_predict.specs.Sizes.{side, greatest}
+use Rattle.vp9_types.specs.Sizes.{side, greatest}
 use Rattle.intra_predict.specs.Edges.{edges_in}
 use Rattle.intra_predict.specs.Modes.{predicted}
 use Rattle.intra_predict.specs.Residue.{with_residue}
@@ -21,6 +21,11 @@ prediction width height depth b m = predicted b.mode (side b.size) depth (edges_
 -- residue is a list of rows
 abbrev pub plus_residue : Depth → ℕ → Map → List ℤ → Map
 plus_residue depth size block residue = λ i j. with_residue (greatest depth) (block i j) (slice_index_or residue (i * size + j) (pos 0))
+
+-- a block that may have residue
+abbrev pub with_any_residue : Depth → ℕ → Map → Option (List ℤ) → Map
+with_any_residue depth size block None = block
+with_any_residue depth size block (Some residue) = plus_residue depth size block residue
 
 -- a block without residue, and one with it
 abbrev pub with_predicted : ℕ → ℕ → Depth → IntraBlock → Map → Map

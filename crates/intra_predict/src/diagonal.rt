@@ -14,7 +14,7 @@ const JOINED: usize = 66;
 pub(crate) fn predict_d45(block: &mut [u16], size: usize, above: &[u16])
     requires some { 4 ≤ size }
     requires few { size ≤ 32 }
-    requires room { size * size ≤ length block.old }
+    requires room { length block.old ≡ size * size }
     requires long { length above.now ≡ 2 * size }
     requires small { (k : ℕ) → slice_index above.now k ≤ 4095 }
     ensures { Holds block.new size (d45 size above.now) }
@@ -30,7 +30,7 @@ pub(crate) fn predict_d63(block: &mut [u16], size: usize, above: &[u16])
     requires some { 4 ≤ size }
     requires few { size ≤ 32 }
     requires twos { size ≡ 2 * (size / 2) }
-    requires room { size * size ≤ length block.old }
+    requires room { length block.old ≡ size * size }
     requires long { length above.now ≡ 2 * size }
     requires small { (k : ℕ) → slice_index above.now k ≤ 4095 }
     ensures { Holds block.new size (d63 above.now) }
@@ -47,7 +47,7 @@ pub(crate) fn predict_d117(block: &mut [u16], size: usize, above: &[u16], left: 
     requires some { 4 ≤ size }
     requires few { size ≤ 32 }
     requires twos { size ≡ 2 * (size / 2) }
-    requires room { size * size ≤ length block.old }
+    requires room { length block.old ≡ size * size }
     requires above { size ≤ length above.now }
     requires left { size ≤ length left.now }
     requires small_above { (k : ℕ) → slice_index above.now k ≤ 4095 }
@@ -71,7 +71,7 @@ pub(crate) fn predict_d117(block: &mut [u16], size: usize, above: &[u16], left: 
 pub(crate) fn predict_d135(block: &mut [u16], size: usize, above: &[u16], left: &[u16], corner: u16)
     requires some { 4 ≤ size }
     requires few { size ≤ 32 }
-    requires room { size * size ≤ length block.old }
+    requires room { length block.old ≡ size * size }
     requires above { size ≤ length above.now }
     requires left { size ≤ length left.now }
     requires small_above { (k : ℕ) → slice_index above.now k ≤ 4095 }
@@ -90,7 +90,7 @@ pub(crate) fn predict_d135(block: &mut [u16], size: usize, above: &[u16], left: 
 pub(crate) fn predict_d153(block: &mut [u16], size: usize, above: &[u16], left: &[u16], corner: u16)
     requires some { 4 ≤ size }
     requires few { size ≤ 32 }
-    requires room { size * size ≤ length block.old }
+    requires room { length block.old ≡ size * size }
     requires above { size ≤ length above.now }
     requires left { size ≤ length left.now }
     requires small_above { (k : ℕ) → slice_index above.now k ≤ 4095 }
@@ -111,7 +111,7 @@ pub(crate) fn predict_d207(block: &mut [u16], size: usize, left: &[u16])
     requires some { 4 ≤ size }
     requires few { size ≤ 32 }
     requires twos { size ≡ 2 * (size / 2) }
-    requires room { size * size ≤ length block.old }
+    requires room { length block.old ≡ size * size }
     requires long { length left.now ≡ size }
     requires small { (k : ℕ) → slice_index left.now k ≤ 4095 }
     ensures { Holds block.new size (d207 size left.now) }

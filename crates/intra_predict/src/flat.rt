@@ -11,7 +11,7 @@ use crate::rows::rows_forward;
 #[inline(always)]
 pub(crate) fn predict_value(block: &mut [u16], size: usize, value: u16)
     requires few { size ≤ 32 }
-    requires room { size * size ≤ length block.old }
+    requires room { length block.old ≡ size * size }
     ensures { Holds block.new size (λ i j. value) }
 {
     fill_from(block, 0, size * size, value);
@@ -20,7 +20,7 @@ pub(crate) fn predict_value(block: &mut [u16], size: usize, value: u16)
 #[inline(always)]
 pub(crate) fn predict_v(block: &mut [u16], size: usize, above: &[u16])
     requires few { size ≤ 32 }
-    requires room { size * size ≤ length block.old }
+    requires room { length block.old ≡ size * size }
     requires enough { size ≤ length above.now }
     ensures { Holds block.new size (vertical above.now) }
 {
@@ -30,7 +30,7 @@ pub(crate) fn predict_v(block: &mut [u16], size: usize, above: &[u16])
 #[inline(always)]
 pub(crate) fn predict_h(block: &mut [u16], size: usize, left: &[u16])
     requires few { size ≤ 32 }
-    requires room { size * size ≤ length block.old }
+    requires room { length block.old ≡ size * size }
     requires enough { size ≤ length left.now }
     ensures { Holds block.new size (horizontal left.now) }
 {
@@ -51,7 +51,7 @@ pub(crate) fn predict_tm(
 )
     requires some { 1 ≤ size }
     requires few { size ≤ 32 }
-    requires room { size * size ≤ length block.old }
+    requires room { length block.old ≡ size * size }
     requires above { size ≤ length above.now }
     requires left { size ≤ length left.now }
     requires small_above { (k : ℕ) → slice_index above.now k ≤ 4095 }

@@ -5,7 +5,7 @@ ghost use Rattle.vp9_types.specs.Maps.{Map, IsAtMost};
 ghost use Rattle.vp9_types.specs.declared.block.IntraMode.{IntraMode};
 ghost use Rattle.vp9_types.specs.declared.shape.Depth.{Depth};
 ghost use Rattle.intra_predict.specs.declared.place.Place.{Place};
-ghost use Rattle.intra_predict.specs.Sizes.{greatest};
+ghost use Rattle.vp9_types.specs.Sizes.{greatest};
 ghost use Rattle.intra_predict.specs.Edges.{EdgeSamples, AgreeAround, IsInside, IsUpTo, edges_in};
 ghost use Rattle.intra_predict.specs.Modes.{predicted};
 

@@ -1,6 +1,6 @@
 ghost use Rattle.std.specs.Prelude.{◌≡◌, ℕ, ◌+◌, ◌*◌, ◌/◌, ◌<◌, ◌≤◌, length, slice_index};
 ghost use Rattle.vp9_types.specs.Maps.{Holds};
-ghost use Rattle.intra_predict.specs.Sizes.{side, greatest};
+ghost use Rattle.vp9_types.specs.Sizes.{side, greatest};
 ghost use Rattle.intra_predict.specs.Edges.{samples_of, IsUpTo};
 ghost use Rattle.intra_predict.specs.Modes.{mean, predicted};
 
@@ -15,7 +15,7 @@ use vp9_types::{Depth, IntraMode, TxSize};
 /// The samples of a block, row after row.
 pub fn predict(mode: IntraMode, edges: &Edges, size: TxSize, depth: Depth, block: &mut [u16])
     requires small { IsUpTo (greatest depth) (samples_of (side size) edges.now) }
-    requires room { side size * side size ≤ length block.old }
+    requires room { length block.old ≡ side size * side size }
     ensures values { Holds block.new (side size) (predicted mode (side size) depth (samples_of (side size) edges.now)) }
     ensures small { (i j : ℕ) → i < side size → j < side size → slice_index block.new (i * side size + j) ≤ greatest depth }
 {
@@ -30,12 +30,18 @@ pub fn predict(mode: IntraMode, edges: &Edges, size: TxSize, depth: Depth, block
 
 #[inline(always)]
 #[tactic(auto, unfolding(crate::specs::Modes::predicted))]
-fn predict_sized(mode: IntraMode, edges: &Edges, size: usize, depth: Depth, block: &mut [u16])
+pub(crate) fn predict_sized(
+    mode: IntraMode,
+    edges: &Edges,
+    size: usize,
+    depth: Depth,
+    block: &mut [u16],
+)
     requires some { 4 ≤ size }
     requires few { size ≤ 32 }
     requires twos { size ≡ 2 * (size / 2) }
     requires small { IsUpTo (greatest depth) (samples_of size edges.now) }
-    requires room { size * size ≤ length block.old }
+    requires room { length block.old ≡ size * size }
     ensures { Holds block.new size (predicted mode size depth (samples_of size edges.now)) }
 {
     let above = &edges.above[..2 * size];

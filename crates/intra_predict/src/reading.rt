@@ -1,91 +1,78 @@
 //! Edges as a plane has them.
 
 ghost use Rattle.std.specs.Prelude.{◌≡◌, ℕ, ◌+◌, ◌*◌, ◌<◌, ◌≤◌, length, slice_index, if◌then◌else◌};
-ghost use Rattle.vp9_types.specs.Maps.{rows_of, IsAtMost};
-ghost use Rattle.intra_predict.specs.Sizes.{side, greatest};
-ghost use Rattle.intra_predict.specs.Edges.{IsInside, IsPlane, samples_of, edges_in, above_sample, left_sample, corner_sample, reads_right, IsUpTo};
+ghost use Rattle.vp9_types.specs.Maps.{IsAtMost};
+ghost use Rattle.vp9_types.specs.Sizes.{side, greatest};
+ghost use Rattle.planes.specs.Planes.{lower_end, right_end, plane_map};
+ghost use Rattle.intra_predict.specs.Edges.{LiesIn, samples_of, edges_in, above_sample, left_sample, corner_sample, reads_right, IsUpTo};
 
 use crate::edges::Edges;
 use crate::lines::{extend, fill_from};
 use crate::place::Place;
 use crate::sizes::middle_of;
+use planes::SamplePlane;
 use vp9_types::{Depth, TxSize};
 
-/// Reads the edges of a block in a plane of so many rows of `width` samples, the plane's size being a multiple of 8
-/// luma samples (4 in subsampled chroma).
-pub fn read_edges(
-    edges: &mut Edges,
-    samples: &[u16],
-    width: usize,
-    height: usize,
-    place: &Place,
-    size: TxSize,
-    depth: Depth,
-)
-    requires plane { IsPlane width height samples.now }
-    requires inside { IsInside width height place.now }
-    ensures value { samples_of (side size) edges.new ≡ edges_in width height depth (side size) place.now (rows_of width samples.now) }
-    ensures small { IsAtMost (greatest depth) (rows_of width samples.now) → IsUpTo (greatest depth) (samples_of (side size) edges.new) }
+/// Reads the edges of a block in a plane, whose lower and right end are multiples of 8 luma samples (4 in subsampled
+/// chroma).
+pub fn read_edges(edges: &mut Edges, plane: &SamplePlane, place: &Place, size: TxSize, depth: Depth)
+    requires inside { LiesIn plane.now.area place.now }
+    ensures value { samples_of (side size) edges.new
+        ≡ edges_in (right_end plane.now.area) (lower_end plane.now.area) depth (side size) place.now (plane_map plane.now) }
+    ensures small { IsAtMost (greatest depth) (plane_map plane.now) → IsUpTo (greatest depth) (samples_of (side size) edges.new) }
 {
     match size {
-        TxSize::T4x4 => read_sized(edges, samples, width, height, place, 4, depth),
-        TxSize::T8x8 => read_sized(edges, samples, width, height, place, 8, depth),
-        TxSize::T16x16 => read_sized(edges, samples, width, height, place, 16, depth),
-        TxSize::T32x32 => read_sized(edges, samples, width, height, place, 32, depth),
+        TxSize::T4x4 => read_sized(edges, plane, place, 4, depth),
+        TxSize::T8x8 => read_sized(edges, plane, place, 8, depth),
+        TxSize::T16x16 => read_sized(edges, plane, place, 16, depth),
+        TxSize::T32x32 => read_sized(edges, plane, place, 32, depth),
     }
 }
 
 #[inline(always)]
-fn read_sized(
+pub(crate) fn read_sized(
     edges: &mut Edges,
-    samples: &[u16],
-    width: usize,
-    height: usize,
+    plane: &SamplePlane,
     place: &Place,
     size: usize,
     depth: Depth,
 )
     requires some { 4 ≤ size }
     requires few { size ≤ 32 }
-    requires plane { IsPlane width height samples.now }
-    requires inside { IsInside width height place.now }
-    ensures { samples_of size edges.new ≡ edges_in width height depth size place.now (rows_of width samples.now) }
+    requires inside { LiesIn plane.now.area place.now }
+    ensures { samples_of size edges.new
+        ≡ edges_in (right_end plane.now.area) (lower_end plane.now.area) depth size place.now (plane_map plane.now) }
 {
-    read_above(&mut edges.above, samples, width, height, place, size, depth);
-    read_left(&mut edges.left, samples, width, height, place, size, depth);
-    edges.corner = read_corner(samples, width, height, place, depth);
+    read_above(&mut edges.above, plane, place, size, depth);
+    read_left(&mut edges.left, plane, place, size, depth);
+    edges.corner = read_corner(plane, place, depth);
     edges.has_above = place.row > 0;
     edges.has_left = place.column > place.tile_from;
 }
 
 #[inline(always)]
-fn read_above(
-    above: &mut [u16],
-    samples: &[u16],
-    width: usize,
-    height: usize,
-    place: &Place,
-    size: usize,
-    depth: Depth,
-)
+fn read_above(above: &mut [u16], plane: &SamplePlane, place: &Place, size: usize, depth: Depth)
     requires some { 4 ≤ size }
     requires few { size ≤ 32 }
     requires room { 2 * size ≤ length above.old }
-    requires plane { IsPlane width height samples.now }
-    requires inside { IsInside width height place.now }
-    ensures { (j : ℕ) → j < 2 * size → slice_index above.new j ≡ above_sample width depth size place.now (rows_of width samples.now) j }
+    requires inside { LiesIn plane.now.area place.now }
+    ensures { (j : ℕ) → j < 2 * size →
+        slice_index above.new j ≡ above_sample (right_end plane.now.area) depth size place.now (plane_map plane.now) j }
 {
     if place.row == 0 {
         fill_from(above, 0, 2 * size, middle_of(depth) - 1);
         return;
     }
-    let at = (place.row - 1) * width + place.column;
-    let count = wanted(place, size).min(width - place.column);
+    let across = plane.area().right_end() - place.column;
+    let count = wanted(place, size).min(across);
+    let row = place.row - 1;
+    // The numbers of samples that are frequent are then known where this is compiled.
     if count == size {
-        // The number of samples is then known where this is compiled.
-        extend(above, 2 * size, &samples[at..at + size]);
+        extend(above, 2 * size, plane.row(row, place.column, size));
+    } else if count == 2 * size {
+        extend(above, 2 * size, plane.row(row, place.column, 2 * size));
     } else {
-        extend(above, 2 * size, &samples[at..at + count]);
+        extend(above, 2 * size, plane.row(row, place.column, count));
     }
 }
 
@@ -104,55 +91,32 @@ fn wanted(place: &Place, size: usize) -> usize
 }
 
 #[inline(always)]
-fn read_left(
-    left: &mut [u16],
-    samples: &[u16],
-    width: usize,
-    height: usize,
-    place: &Place,
-    size: usize,
-    depth: Depth,
-)
+fn read_left(left: &mut [u16], plane: &SamplePlane, place: &Place, size: usize, depth: Depth)
     requires few { size ≤ 32 }
     requires room { size ≤ length left.old }
-    requires plane { IsPlane width height samples.now }
-    requires inside { IsInside width height place.now }
-    ensures { (i : ℕ) → i < size → slice_index left.new i ≡ left_sample height depth place.now (rows_of width samples.now) i }
+    requires inside { LiesIn plane.now.area place.now }
+    ensures { (i : ℕ) → i < size →
+        slice_index left.new i ≡ left_sample (lower_end plane.now.area) depth place.now (plane_map plane.now) i }
 {
     if place.column <= place.tile_from {
         fill_from(left, 0, size, middle_of(depth) + 1);
         return;
     }
-    let at = place.row * width + place.column - 1;
-    let rows = height - place.row;
+    let rows = plane.area().lower_end() - place.row;
+    let column = place.column - 1;
     if size <= rows {
-        read_column(left, samples, at, width, size);
+        plane.read_column(place.row, column, size, left);
     } else {
-        read_column(left, samples, at, width, rows);
+        plane.read_column(place.row, column, rows, left);
         let last = left[rows - 1];
         fill_from(left, rows, size, last);
     }
 }
 
-/// n samples, one below the other.
 #[inline(always)]
-fn read_column(left: &mut [u16], samples: &[u16], at: usize, width: usize, n: usize)
-    requires few { n ≤ 32 }
-    requires narrow { width ≤ 65536 }
-    requires room { n ≤ length left.old }
-    requires inside { (k : ℕ) → k < n → at + k * width < length samples.now }
-    ensures { (k : ℕ) → k < n → slice_index left.new k ≡ slice_index samples.now (at + k * width) }
-{
-    for k in 0..n {
-        left[k] = samples[at + k * width];
-    }
-}
-
-#[inline(always)]
-fn read_corner(samples: &[u16], width: usize, height: usize, place: &Place, depth: Depth) -> u16
-    requires plane { IsPlane width height samples.now }
-    requires inside { IsInside width height place.now }
-    ensures { result ≡ corner_sample depth place.now (rows_of width samples.now) }
+fn read_corner(plane: &SamplePlane, place: &Place, depth: Depth) -> u16
+    requires { LiesIn plane.now.area place.now }
+    ensures { result ≡ corner_sample depth place.now (plane_map plane.now) }
 {
     if place.row == 0 {
         return middle_of(depth) - 1;
@@ -160,5 +124,5 @@ fn read_corner(samples: &[u16], width: usize, height: usize, place: &Place, dept
     if place.column <= place.tile_from {
         return middle_of(depth) + 1;
     }
-    samples[(place.row - 1) * width + place.column - 1]
+    plane.sample(place.row - 1, place.column - 1)
 }

@@ -20,7 +20,7 @@ fn put_row(block: &mut [u16], size: usize, i: usize, line: &[u16], from: usize)
 pub(crate) fn rows_forward(block: &mut [u16], size: usize, line: &[u16], step: usize)
     requires small { size ≤ 32 }
     requires near { step ≤ 2 }
-    requires room { size * size ≤ length block.old }
+    requires room { length block.old ≡ size * size }
     requires enough { step * (size - 1) + size ≤ length line.now }
     ensures { Holds block.new size (λ i j. slice_index line.now (step * i + j)) }
 {
@@ -34,7 +34,7 @@ pub(crate) fn rows_forward(block: &mut [u16], size: usize, line: &[u16], step: u
 pub(crate) fn rows_backward(block: &mut [u16], size: usize, line: &[u16], step: usize)
     requires small { size ≤ 32 }
     requires near { step ≤ 2 }
-    requires room { size * size ≤ length block.old }
+    requires room { length block.old ≡ size * size }
     requires enough { step * (size - 1) + size ≤ length line.now }
     ensures { Holds block.new size (λ i j. slice_index line.now (step * (size - 1 - i) + j)) }
 {
@@ -48,7 +48,7 @@ pub(crate) fn rows_backward(block: &mut [u16], size: usize, line: &[u16], step: 
 pub(crate) fn pairs_forward(block: &mut [u16], size: usize, even: &[u16], odd: &[u16])
     requires small { size ≤ 32 }
     requires twos { size ≡ 2 * (size / 2) }
-    requires room { size * size ≤ length block.old }
+    requires room { length block.old ≡ size * size }
     requires even { size / 2 + size ≤ length even.now }
     requires odd { size / 2 + size ≤ length odd.now }
     ensures { Holds block.new size (λ i j. if nat_eq (i % 2) 0 then slice_index even.now (i / 2 + j) else slice_index odd.now (i / 2 + j)) }
@@ -64,7 +64,7 @@ pub(crate) fn pairs_forward(block: &mut [u16], size: usize, even: &[u16], odd: &
 pub(crate) fn pairs_backward(block: &mut [u16], size: usize, even: &[u16], odd: &[u16])
     requires small { size ≤ 32 }
     requires twos { size ≡ 2 * (size / 2) }
-    requires room { size * size ≤ length block.old }
+    requires room { length block.old ≡ size * size }
     requires even { size / 2 + size ≤ length even.now }
     requires odd { size / 2 + size ≤ length odd.now }
     ensures { Holds block.new size (λ i j. if nat_eq (i % 2) 0 then slice_index even.now (size / 2 - i / 2 + j) else slice_index odd.now (size / 2 - i / 2 + j)) }

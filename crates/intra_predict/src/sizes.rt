@@ -1,5 +1,6 @@
 ghost use Rattle.std.specs.Prelude.{◌≡◌, ◌≤◌};
-ghost use Rattle.intra_predict.specs.Sizes.{side, greatest, middle};
+ghost use Rattle.intra_predict.specs.Sizes.{middle};
+ghost use Rattle.vp9_types.specs.Sizes.{side, greatest};
 
 use vp9_types::{Depth, TxSize};
 

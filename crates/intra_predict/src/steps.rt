@@ -1,104 +1,127 @@
 //! A block predicted from its plane and put into it.
 
-ghost use Rattle.std.specs.Prelude.{◌≡◌, ◌*◌};
-ghost use Rattle.vp9_types.specs.Maps.{rows_of, IsAtMost};
-ghost use Rattle.intra_predict.specs.Sizes.{side, greatest};
-ghost use Rattle.intra_predict.specs.Edges.{IsInside, IsPlane};
+ghost use Rattle.std.specs.Prelude.{◌≡◌, ℕ, ◌*◌, ◌/◌, ◌≤◌, length, slice_index};
+ghost use Rattle.std.specs.Option.{ForSome, option_copied};
+ghost use Rattle.vp9_types.specs.Maps.{IsAtMost, Holds};
+ghost use Rattle.vp9_types.specs.Sizes.{side, greatest};
+ghost use Rattle.planes.specs.Planes.{lower_end, right_end, plane_map};
+ghost use Rattle.intra_predict.specs.Edges.{LiesIn, samples_of, IsUpTo};
+ghost use Rattle.intra_predict.specs.Modes.{predicted};
 ghost use Rattle.intra_predict.specs.Residue.{IsResidue};
-ghost use Rattle.intra_predict.specs.Steps.{with_predicted, with_rebuilt};
+ghost use Rattle.intra_predict.specs.Steps.{with_predicted, with_rebuilt, with_square, with_any_residue, prediction};
 
 use crate::block::IntraBlock;
-use crate::prediction::predict;
-use crate::put::{add_residue, put_block};
-use crate::reading::read_edges;
+use crate::edges::Edges;
+use crate::prediction::predict_sized;
+use crate::put::add_clipped;
+use crate::reading::read_sized;
 use crate::scratch::Scratch;
-use vp9_types::Depth;
+use crate::sizes::greatest_of;
+use planes::SamplePlane;
+use vp9_types::{Depth, IntraMode, TxSize};
 
-/// Puts the prediction of a block without residue into its plane, which has so many rows of `width` samples.
+/// Puts the prediction of a block without residue into its plane.
 pub fn put_predicted(
-    samples: &mut [u16],
-    width: usize,
-    height: usize,
+    plane: &mut SamplePlane,
     block: &IntraBlock,
     depth: Depth,
     scratch: &mut Scratch,
 )
-    requires plane { IsPlane width height samples.old }
-    requires inside { IsInside width height block.now.place }
-    requires small { IsAtMost (greatest depth) (rows_of width samples.old) }
-    ensures map { rows_of width samples.new ≡ with_predicted width height depth block.now (rows_of width samples.old) }
-    ensures small { IsAtMost (greatest depth) (rows_of width samples.new) }
+    requires inside { LiesIn plane.old.area block.now.place }
+    requires small { IsAtMost (greatest depth) (plane_map plane.old) }
+    ensures area { plane.new.area ≡ plane.old.area }
+    ensures map { plane_map plane.new
+        ≡ with_predicted (right_end plane.old.area) (lower_end plane.old.area) depth block.now (plane_map plane.old) }
+    ensures small { IsAtMost (greatest depth) (plane_map plane.new) }
 {
-    let place = &block.place;
-    read_edges(
-        &mut scratch.edges,
-        samples,
-        width,
-        height,
-        place,
-        block.size,
-        depth,
-    );
-    predict(
-        block.mode,
-        &scratch.edges,
-        block.size,
-        depth,
-        &mut scratch.block,
-    );
-    put_block(
-        samples,
-        width,
-        height,
-        place.row,
-        place.column,
-        block.size,
-        &scratch.block,
-    );
+    match block.size {
+        TxSize::T4x4 => put_sized::<4>(plane, block, depth, None, scratch),
+        TxSize::T8x8 => put_sized::<8>(plane, block, depth, None, scratch),
+        TxSize::T16x16 => put_sized::<16>(plane, block, depth, None, scratch),
+        TxSize::T32x32 => put_sized::<32>(plane, block, depth, None, scratch),
+    }
 }
 
-/// Puts a block with its residue, row after row, into its plane, which has so many rows of `width` samples.
+/// Puts a block with its residue, row after row, into its plane.
 pub fn put_rebuilt(
-    samples: &mut [u16],
-    width: usize,
-    height: usize,
+    plane: &mut SamplePlane,
     block: &IntraBlock,
     depth: Depth,
     residue: &[i32],
     scratch: &mut Scratch,
 )
-    requires plane { IsPlane width height samples.old }
-    requires inside { IsInside width height block.now.place }
-    requires small { IsAtMost (greatest depth) (rows_of width samples.old) }
+    requires inside { LiesIn plane.old.area block.now.place }
+    requires small { IsAtMost (greatest depth) (plane_map plane.old) }
     requires residue { IsResidue (side block.now.size * side block.now.size) residue.now }
-    ensures map { rows_of width samples.new ≡ with_rebuilt width height depth block.now residue.now (rows_of width samples.old) }
-    ensures small { IsAtMost (greatest depth) (rows_of width samples.new) }
+    ensures area { plane.new.area ≡ plane.old.area }
+    ensures map { plane_map plane.new
+        ≡ with_rebuilt (right_end plane.old.area) (lower_end plane.old.area) depth block.now residue.now (plane_map plane.old) }
+    ensures small { IsAtMost (greatest depth) (plane_map plane.new) }
+{
+    match block.size {
+        TxSize::T4x4 => put_sized::<4>(plane, block, depth, Some(residue), scratch),
+        TxSize::T8x8 => put_sized::<8>(plane, block, depth, Some(residue), scratch),
+        TxSize::T16x16 => put_sized::<16>(plane, block, depth, Some(residue), scratch),
+        TxSize::T32x32 => put_sized::<32>(plane, block, depth, Some(residue), scratch),
+    }
+}
+
+/// There is one for each size, with loops of as many steps as are known where it is compiled.
+#[inline(never)]
+fn put_sized<const N: usize>(
+    plane: &mut SamplePlane,
+    block: &IntraBlock,
+    depth: Depth,
+    residue: Option<&[i32]>,
+    scratch: &mut Scratch,
+)
+    requires size { side block.now.size ≡ N }
+    requires sixteens { N * N ≡ N * N / 16 * 16 }
+    requires inside { LiesIn plane.old.area block.now.place }
+    requires small { IsAtMost (greatest depth) (plane_map plane.old) }
+    requires residue { ForSome (option_copied residue) (IsResidue (N * N)) }
+    ensures area { plane.new.area ≡ plane.old.area }
+    ensures map { plane_map plane.new ≡ with_square (right_end plane.old.area) (lower_end plane.old.area) (plane_map plane.old)
+        block.now.place.row block.now.place.column N (with_any_residue depth N
+        (prediction (right_end plane.old.area) (lower_end plane.old.area) depth block.now (plane_map plane.old)) (option_copied residue.entry)) }
+    ensures small { IsAtMost (greatest depth) (plane_map plane.new) }
 {
     let place = &block.place;
-    read_edges(
-        &mut scratch.edges,
-        samples,
-        width,
-        height,
-        place,
-        block.size,
-        depth,
-    );
-    predict(
+    read_sized(&mut scratch.edges, plane, place, N, depth);
+    rebuild(
         block.mode,
         &scratch.edges,
-        block.size,
+        N,
         depth,
+        residue,
         &mut scratch.block,
     );
-    add_residue(&mut scratch.block, residue, block.size, depth);
-    put_block(
-        samples,
-        width,
-        height,
-        place.row,
-        place.column,
-        block.size,
-        &scratch.block,
-    );
+    plane.put_square::<N>(place.row, place.column, &scratch.block);
+}
+
+/// Predicts a block, and adds its residue if it has some. What is behind it in the buffer stays.
+#[inline(always)]
+fn rebuild(
+    mode: IntraMode,
+    edges: &Edges,
+    size: usize,
+    depth: Depth,
+    residue: Option<&[i32]>,
+    buffer: &mut [u16],
+)
+    requires some { 4 ≤ size }
+    requires few { size ≤ 32 }
+    requires twos { size ≡ 2 * (size / 2) }
+    requires sixteens { size * size ≡ size * size / 16 * 16 }
+    requires small { IsUpTo (greatest depth) (samples_of size edges.now) }
+    requires residue { ForSome (option_copied residue) (IsResidue (size * size)) }
+    requires room { size * size ≤ length buffer.old }
+    ensures values { Holds buffer.new size (with_any_residue depth size (predicted mode size depth (samples_of size edges.now)) (option_copied residue.entry)) }
+    ensures behind { (k : ℕ) → size * size ≤ k → slice_index buffer.new k ≡ slice_index buffer.old k }
+{
+    let samples = &mut buffer[..size * size];
+    predict_sized(mode, edges, size, depth, samples);
+    if let Some(residue) = residue {
+        add_clipped(samples, residue, size * size, greatest_of(depth));
+    }
 }

@@ -1,7 +1,8 @@
 //! Blocks and planes that tools/intra_blocks.py computes by itself, and the first block of a frame.
 
 ghost use Rattle.std.specs.Prelude.{◌≡◌, ℕ, pos, ◌*◌, ◌^◌, ◌<◌, ◌≤◌, length, slice_index, slice_index_or, unsigned_abs};
-ghost use Rattle.vp9_types.specs.Maps.{rows_of, IsAtMost};
+ghost use Rattle.vp9_types.specs.Maps.{IsAtMost};
+ghost use Rattle.planes.specs.Planes.{plane_map, whole_area};
 ghost use Rattle.intra_predict.specs.Edges.{samples_of, IsUpTo};
 
 mod drawn_rows;
@@ -11,6 +12,7 @@ mod rows;
 use super::*;
 use drawn_rows::DRAWN;
 use extreme_rows::EXTREME;
+use planes::{Area, SamplePlane};
 use rows::{STEPS, Step, Summed, WHOLE};
 use std::test::Fail;
 use vp9_types::{Depth, IntraMode, TxSize};
@@ -59,10 +61,20 @@ fn drawn_edges(seed: u32, most: u16, extreme: bool, has_above: bool, has_left: b
     edges
 }
 
-fn checksum(samples: &[u16]) -> u64 {
-    let mut sum = 0u64;
+fn add_up(sum: u64, samples: &[u16]) -> u64 {
+    let mut sum = sum;
     for sample in samples {
         sum = sum.wrapping_mul(31).wrapping_add(u64::from(*sample));
+    }
+    sum
+}
+
+fn checksum(plane: &SamplePlane) -> u64
+    requires { plane.now.area ≡ whole_area HEIGHT WIDTH }
+{
+    let mut sum = 0;
+    for row in 0..HEIGHT {
+        sum = add_up(sum, plane.row(row, 0, WIDTH));
     }
     sum
 }
@@ -70,10 +82,16 @@ fn checksum(samples: &[u16]) -> u64 {
 fn sum_of(row: &Summed) -> u64 {
     let most = sizes::greatest_of(row.depth);
     let edges = drawn_edges(row.seed, most, row.extreme, row.has_above, row.has_left);
-    let mut block = [0; 1024];
-    predict(row.mode, &edges, row.size, row.depth, &mut block);
     let side = side_of(row.size);
-    checksum(&block[..side * side])
+    let mut block = [0; 1024];
+    predict(
+        row.mode,
+        &edges,
+        row.size,
+        row.depth,
+        &mut block[..side * side],
+    );
+    add_up(0, &block[..side * side])
 }
 
 #[test]
@@ -111,12 +129,13 @@ fn draw_residue(residue: &mut [i32], seed: u32)
     }
 }
 
-fn take_step(samples: &mut [u16], step: &Step, scratch: &mut Scratch)
-    requires whole { SAMPLES ≤ length samples.old }
-    requires small { IsAtMost 1023 (rows_of WIDTH samples.old) }
+fn take_step(plane: &mut SamplePlane, step: &Step, scratch: &mut Scratch)
+    requires whole { plane.old.area ≡ whole_area HEIGHT WIDTH }
+    requires small { IsAtMost 1023 (plane_map plane.old) }
     requires high { step.now.row < HEIGHT }
     requires wide { step.now.column < WIDTH }
-    ensures { IsAtMost 1023 (rows_of WIDTH samples.new) }
+    ensures whole { plane.new.area ≡ whole_area HEIGHT WIDTH }
+    ensures small { IsAtMost 1023 (plane_map plane.new) }
 {
     let place = Place {
         row: step.row,
@@ -130,39 +149,43 @@ fn take_step(samples: &mut [u16], step: &Step, scratch: &mut Scratch)
         mode: step.mode,
     };
     if step.seed == 0 {
-        put_predicted(samples, WIDTH, HEIGHT, &block, Depth::Ten, scratch);
+        put_predicted(plane, &block, Depth::Ten, scratch);
     } else {
         let mut residue = [0; 1024];
         draw_residue(&mut residue, step.seed);
-        put_rebuilt(
-            samples,
-            WIDTH,
-            HEIGHT,
-            &block,
-            Depth::Ten,
-            &residue,
-            scratch,
-        );
+        put_rebuilt(plane, &block, Depth::Ten, &residue, scratch);
     }
 }
 
-#[test]
-#[tactic(auto, unfolding(vp9_types::specs::Maps::rows_of))]
-fn planes(rt: HostRuntime) -> Result<(), Fail> {
+fn fill(plane: &mut SamplePlane)
+    requires whole { plane.old.area ≡ whole_area HEIGHT WIDTH }
+    requires small { IsAtMost 1023 (plane_map plane.old) }
+    ensures whole { plane.new.area ≡ whole_area HEIGHT WIDTH }
+    ensures small { IsAtMost 1023 (plane_map plane.new) }
+{
     let mut samples = [0; SAMPLES];
     draw(&mut samples, 7, 1023, false);
+    plane.put_block(0, 0, HEIGHT, WIDTH, &samples);
+}
+
+#[test]
+fn planes(rt: HostRuntime) -> Result<(), Fail> {
+    let mut plane = SamplePlane::new(rt.alloc(), Area::whole(HEIGHT, WIDTH))?;
+    fill(&mut plane);
     let mut scratch = Scratch::new();
     for step in STEPS.iter() {
         assert!(rt; step.row < HEIGHT && step.column < WIDTH);
-        take_step(&mut samples, step, &mut scratch);
-        assert_eq!(rt; checksum(&samples), step.sum);
+        take_step(&mut plane, step, &mut scratch);
+        assert_eq!(rt; checksum(&plane), step.sum);
     }
     Ok(())
 }
 
 /// The sample that fills the first block of a frame of 8x8 samples.
-#[tactic(auto, unfolding(vp9_types::specs::Maps::rows_of))]
-fn first_block(mode: IntraMode) -> u16 {
+fn first_block(plane: &SamplePlane, mode: IntraMode) -> u16
+    requires whole { plane.now.area ≡ whole_area 8 8 }
+    requires small { IsAtMost 255 (plane_map plane.now) }
+{
     let place = place_of(
         &CodedBlock {
             row: 0,
@@ -177,17 +200,17 @@ fn first_block(mode: IntraMode) -> u16 {
     );
     let mut edges = Edges::new();
     let mut block = [0; 64];
-    draw(&mut block, 1, 255, false);
-    read_edges(&mut edges, &block, 8, 8, &place, TxSize::T8x8, Depth::Eight);
+    read_edges(&mut edges, plane, &place, TxSize::T8x8, Depth::Eight);
     predict(mode, &edges, TxSize::T8x8, Depth::Eight, &mut block);
     block[63]
 }
 
 #[test]
 fn corner(rt: HostRuntime) -> Result<(), Fail> {
-    assert_eq!(rt; first_block(IntraMode::V), 0x7f);
-    assert_eq!(rt; first_block(IntraMode::H), 0x81);
-    assert_eq!(rt; first_block(IntraMode::Tm), 0x81);
-    assert_eq!(rt; first_block(IntraMode::Dc), 0x80);
+    let plane = SamplePlane::new(rt.alloc(), Area::whole(8, 8))?;
+    assert_eq!(rt; first_block(&plane, IntraMode::V), 0x7f);
+    assert_eq!(rt; first_block(&plane, IntraMode::H), 0x81);
+    assert_eq!(rt; first_block(&plane, IntraMode::Tm), 0x81);
+    assert_eq!(rt; first_block(&plane, IntraMode::Dc), 0x80);
     Ok(())
 }

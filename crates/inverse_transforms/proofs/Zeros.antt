@@ -108,7 +108,7 @@ dct_zeros limit (suc (suc (suc (suc (suc (suc k)))))) some least most = absurd (
 
 adst_quad_zeros : (limit : ℕ) → 0 < limit → adst_quad limit (pos 0) (pos 0) (pos 0) (pos 0) ≡ four_zeros
 unfolding adst_quad round14
-adst_quad_zeros limit some = rw (wide_zero limit some) refl
+adst_quad_zeros limit some = rw (wide_zero limit some, lt-ltb 0 limit some) refl
 
 pub adst_zeros : (limit log2 : ℕ) → 0 < limit → 2 ≤ log2 → log2 ≤ 4 → adst limit log2 (zeros (2 ^ log2)) ≡ Ok (zeros (2 ^ log2))
 unfolding adst adst_of_4

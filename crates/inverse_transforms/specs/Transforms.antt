@@ -9,7 +9,7 @@ use Rattle.vp9_tables.specs.declared.data.cosines.TheConstants.{SINPI}
 use Rattle.vp9_tables.specs.declared.data.flows.TheConstants.{FLOW_ADST_8, FLOW_ADST_16}
 use Rattle.vp9_tables.specs.Transforms.{dct_of}
 use Rattle.inverse_transforms.specs.declared.values.Four.{Four}
-use Rattle.inverse_transforms.specs.Ranges.{round14}
+use Rattle.inverse_transforms.specs.Ranges.{fits, round14}
 use Rattle.inverse_transforms.specs.Flow.{at, wide, store_four, run}
 
 -- of 2 ^ log2 values
@@ -24,7 +24,8 @@ dct limit log2 xs = run limit (dct_of (size_of log2)) xs
 abbrev pub sin9 : ℕ → ℤ
 sin9 k = slice_index_or SINPI (k - 1) (pos 0)
 
--- the ADST of 4: three sums that aren't rounded, and the four values that are made of them
+-- the ADST of 4: three sums that aren't rounded, a difference that is tested as a stored value is, and the four values
+-- that are made of them
 abbrev pub even_part : ℤ → ℤ → ℤ → ℤ
 even_part x0 x2 x3 = ((x0 *ℤ sin9 1) +ℤ (x2 *ℤ sin9 4)) +ℤ (x3 *ℤ sin9 2)
 
@@ -34,12 +35,15 @@ odd_part x0 x2 x3 = ((x0 *ℤ sin9 2) -ℤ (x2 *ℤ sin9 1)) -ℤ (x3 *ℤ sin9 
 abbrev pub middle_part : ℤ → ℤ
 middle_part x1 = x1 *ℤ sin9 3
 
+abbrev pub difference_part : ℤ → ℤ → ℤ → ℤ
+difference_part x0 x2 x3 = (x0 -ℤ x2) +ℤ x3
+
 unfoldable pub adst_quad : ℕ → ℤ → ℤ → ℤ → ℤ → Four
 adst_quad limit x0 x1 x2 x3 = record {
-  in_range = wide limit (even_part x0 x2 x3) && (wide limit (odd_part x0 x2 x3) && wide limit (middle_part x1));
+  in_range = wide limit (even_part x0 x2 x3) && (wide limit (odd_part x0 x2 x3) && (wide limit (middle_part x1) && fits limit (difference_part x0 x2 x3)));
   first = round14 (even_part x0 x2 x3 +ℤ middle_part x1);
   second = round14 (odd_part x0 x2 x3 +ℤ middle_part x1);
-  third = round14 (((x0 -ℤ x2) +ℤ x3) *ℤ sin9 3);
+  third = round14 (difference_part x0 x2 x3 *ℤ sin9 3);
   fourth = round14 ((even_part x0 x2 x3 +ℤ odd_part x0 x2 x3) -ℤ middle_part x1);
 }
 

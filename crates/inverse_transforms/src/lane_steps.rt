@@ -203,7 +203,8 @@ fn permute(t: &mut [Lanes], order: &[u8])
     requires within { IsTrue (list_all (λ place. nat_lt place (length t.old)) (take (length t.old) order.now)) }
     ensures { t.new ≡ gathered order.now t.old }
 {
-    if permute_whole::<8>(t, order)
+    if permute_whole::<4>(t, order)
+        || permute_whole::<8>(t, order)
         || permute_whole::<16>(t, order)
         || permute_whole::<32>(t, order)
     {

@@ -21,4 +21,5 @@ pub mod values;
 
 pub use lanes::Lanes;
 pub use laws::{transforms_break_one_rule, transforms_leave_zeros};
-pub use transforms::{adst, adst_columns, dct, dct_columns, wht, wht_columns};
+pub use numbers::is_fit;
+pub use transforms::{adst, adst_columns, dct, dct_columns, limit_of, wht, wht_columns};

@@ -3,10 +3,10 @@
 ghost use Rattle.std.specs.Prelude.{◌≡◌, ◌+◌, ◌*◌, ◌^◌, ◌≤◌, ◌<◌, ◌&&◌, unsigned_abs, length, All};
 ghost use Rattle.std.specs.Int.{int_shr};
 ghost use Rattle.inverse_transforms.specs.Flow.{wide, Gives};
-ghost use Rattle.inverse_transforms.specs.Transforms.{even_part, odd_part, middle_part, adst_quad, adst_of_4, last_lifts, middle_lifts, lifted, wht_quad, wht};
-ghost use Rattle.inverse_transforms.specs.Ranges.{IsSmall};
+ghost use Rattle.inverse_transforms.specs.Transforms.{even_part, odd_part, middle_part, difference_part, adst_quad, adst_of_4, last_lifts, middle_lifts, lifted, wht_quad, wht};
+ghost use Rattle.inverse_transforms.specs.Ranges.{IsSmall, fits};
 
-use crate::numbers::{difference, half, is_wide, minus, plus, product, rounded, sum};
+use crate::numbers::{difference, half, is_fit, is_wide, minus, plus, product, rounded, sum};
 use crate::steps::store_four;
 use crate::values::Four;
 use vp9_tables::sinpi;
@@ -40,13 +40,24 @@ fn odd_part(x0: i32, x2: i32, x3: i32) -> i64
     )
 }
 
-/// Whether the three sums of the ADST of 4 are in range.
 #[inline(always)]
-fn are_wide(p: i64, q: i64, t: i64, limit: u32) -> bool
-    requires { limit ≤ 2 ^ 24 }
-    ensures { result ≡ (wide limit p && (wide limit q && wide limit t)) }
+fn difference_part(x0: i32, x2: i32, x3: i32) -> i32
+    requires x0 { IsSmall x0 }
+    requires x2 { IsSmall x2 }
+    requires x3 { IsSmall x3 }
+    ensures value { result ≡ difference_part x0 x2 x3 }
+    ensures size { unsigned_abs result ≤ 2 ^ 26 }
 {
-    is_wide(p, limit) & is_wide(q, limit) & is_wide(t, limit)
+    plus(minus(x0, x2), x3)
+}
+
+/// Whether the three sums and the difference of the ADST of 4 are in range.
+#[inline(always)]
+fn are_in_range(p: i64, q: i64, t: i64, d: i32, limit: u32) -> bool
+    requires { limit ≤ 2 ^ 24 }
+    ensures { result ≡ (wide limit p && (wide limit q && (wide limit t && fits limit d))) }
+{
+    is_wide(p, limit) & is_wide(q, limit) & is_wide(t, limit) & is_fit(d, limit)
 }
 
 #[inline(always)]
@@ -62,11 +73,12 @@ pub fn adst_quad(x0: i32, x1: i32, x2: i32, x3: i32, limit: u32) -> Four
     let p = even_part(x0, x2, x3);
     let q = odd_part(x0, x2, x3);
     let t = product(x1, sinpi(3));
+    let d = difference_part(x0, x2, x3);
     Four {
-        in_range: are_wide(p, q, t, limit),
+        in_range: are_in_range(p, q, t, d, limit),
         first: rounded(sum(p, t)),
         second: rounded(sum(q, t)),
-        third: rounded(product(plus(minus(x0, x2), x3), sinpi(3))),
+        third: rounded(product(d, sinpi(3))),
         fourth: rounded(difference(sum(p, q), t)),
     }
 }

@@ -10,9 +10,9 @@ mod vectors;
 use crate::{Lanes, adst, adst_columns, dct, dct_columns, wht, wht_columns};
 use std::process::Abort;
 use vectors::{
-    ADST_4, ADST_4_FITS, ADST_8, ADST_8_FITS, ADST_16, ADST_16_FITS, DCT_4, DCT_4_FITS, DCT_8,
-    DCT_8_FITS, DCT_16, DCT_16_FITS, DCT_32, DCT_32_FITS, WHT_OF_COLUMNS, WHT_OF_COLUMNS_FITS,
-    WHT_OF_ROWS, WHT_OF_ROWS_FITS,
+    ADST_4, ADST_4_DIFFERENCES, ADST_4_DIFFERENCES_FITS, ADST_4_FITS, ADST_8, ADST_8_FITS, ADST_16,
+    ADST_16_FITS, DCT_4, DCT_4_FITS, DCT_8, DCT_8_FITS, DCT_16, DCT_16_FITS, DCT_32, DCT_32_FITS,
+    WHT_OF_COLUMNS, WHT_OF_COLUMNS_FITS, WHT_OF_ROWS, WHT_OF_ROWS_FITS,
 };
 use vp9_types::{Depth, Rule};
 
@@ -203,6 +203,13 @@ fn cosines(rt: HostRuntime) {
 #[test]
 fn sines(rt: HostRuntime) {
     try_all(&rt, Kind::Adst, 2, &ADST_4, &ADST_4_FITS);
+    try_all(
+        &rt,
+        Kind::Adst,
+        2,
+        &ADST_4_DIFFERENCES,
+        &ADST_4_DIFFERENCES_FITS,
+    );
     try_all(&rt, Kind::Adst, 3, &ADST_8, &ADST_8_FITS);
     try_all(&rt, Kind::Adst, 4, &ADST_16, &ADST_16_FITS);
 }

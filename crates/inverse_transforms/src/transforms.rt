@@ -16,7 +16,7 @@ use vp9_tables::{FlowRow, adst_8_flow, adst_16_flow, dct_flow};
 use vp9_types::{Depth, Rule, TxSize};
 
 /// A value of `8 + depth` bits is at least minus this, and below it.
-fn limit_of(depth: Depth) -> u32
+pub fn limit_of(depth: Depth) -> u32
     ensures value { result ≡ limit_of depth }
     ensures size { result ≤ 2 ^ 24 }
 {

@@ -5,7 +5,7 @@ pub struct Two {
     pub second: i32,
 }
 
-/// What a step makes of four values, and whether the values on the way that aren't rounded are in range.
+/// What a step makes of four values, and whether the values on the way to them are in range.
 #[derive(Clone, Copy, Debug, PartialEq, Eq)]
 pub struct Four {
     pub in_range: bool,

@@ -78,25 +78,25 @@ twice : (n : ℕ) → 2 ^ n + 2 ^ n ≡ 2 ^ suc n
 twice n = omega (arith, pow-suc 2 n)
 
 -- the sides of parts, in places of 8x8
-small_part : (p : Partition) → (height_8 (part_size p 0) ≡ 2 ^ 0) × (width_8 (part_size p 0) ≡ 2 ^ 0)
+pub small_part : (p : Partition) → (height_8 (part_size p 0) ≡ 2 ^ 0) × (width_8 (part_size p 0) ≡ 2 ^ 0)
 small_part Whole = (refl, refl)
 small_part Horizontal = (refl, refl)
 small_part Vertical = (refl, refl)
 small_part Split = (refl, refl)
 
-whole_part : (n : ℕ) → suc n ≤ 3 → (height_8 (part_size Whole (suc n)) ≡ 2 ^ suc n) × (width_8 (part_size Whole (suc n)) ≡ 2 ^ suc n)
+pub whole_part : (n : ℕ) → suc n ≤ 3 → (height_8 (part_size Whole (suc n)) ≡ 2 ^ suc n) × (width_8 (part_size Whole (suc n)) ≡ 2 ^ suc n)
 whole_part zero few = (refl, refl)
 whole_part (suc zero) few = (refl, refl)
 whole_part (suc (suc zero)) few = (refl, refl)
 whole_part (suc (suc (suc n))) few = absurd (omega arith)
 
-low_part : (n : ℕ) → suc n ≤ 3 → (height_8 (part_size Horizontal (suc n)) ≡ 2 ^ n) × (width_8 (part_size Horizontal (suc n)) ≡ 2 ^ suc n)
+pub low_part : (n : ℕ) → suc n ≤ 3 → (height_8 (part_size Horizontal (suc n)) ≡ 2 ^ n) × (width_8 (part_size Horizontal (suc n)) ≡ 2 ^ suc n)
 low_part zero few = (refl, refl)
 low_part (suc zero) few = (refl, refl)
 low_part (suc (suc zero)) few = (refl, refl)
 low_part (suc (suc (suc n))) few = absurd (omega arith)
 
-narrow_part : (n : ℕ) → suc n ≤ 3 → (height_8 (part_size Vertical (suc n)) ≡ 2 ^ suc n) × (width_8 (part_size Vertical (suc n)) ≡ 2 ^ n)
+pub narrow_part : (n : ℕ) → suc n ≤ 3 → (height_8 (part_size Vertical (suc n)) ≡ 2 ^ suc n) × (width_8 (part_size Vertical (suc n)) ≡ 2 ^ n)
 narrow_part zero few = (refl, refl)
 narrow_part (suc zero) few = (refl, refl)
 narrow_part (suc (suc zero)) few = (refl, refl)

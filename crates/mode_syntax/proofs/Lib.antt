@@ -1,6 +1,12 @@
-pub mod CountingRuns
-pub mod CountedBools
 pub mod TxSizes
+pub mod PartitionCounts
+pub mod Uncounted
 pub mod Coverage
 pub mod Walks
 pub mod TileWalks
+pub mod Mapped
+pub mod Apart
+pub mod Kept
+pub mod ModeWalks
+pub mod Columns
+pub mod ModeTiles

@@ -1,10 +1,13 @@
 -- The blocks that a tile's walk lists are those of its superblocks' partition trees.
 use Rattle.std.proofs.Common.{◌≡◌, ℕ, zero, suc, ◌+◌, ◌*◌, ◌++◌, ◌∙◌, refl, ap, arith}
 use Rattle.block_geometry.specs.declared.transform_blocks.FramePlaces.{FramePlaces}
-use Rattle.mode_syntax.specs.Counting.{settle}
+use Rattle.counting_reader.specs.Counting.{settle}
 use Rattle.mode_syntax.specs.Tiles.{Cut, whole, leaves, row_leaves, tile_leaves}
-use Rattle.mode_syntax.specs.Walk.{Walk, Yields, Lists, ListsItsBlock, ListsLeaves, ListsTile, decode_partition, decode_row, decode_tile}
-use Rattle.mode_syntax.proofs.Walks.{yields_bind, yields_map, lists_none, lists_both, lists_as, leaves_listed}
+use Rattle.mode_syntax.specs.Walk.{Walk, decode_partition, decode_row, decode_tile}
+use Rattle.counting_reader.specs.Counting.{Yields}
+use Rattle.mode_syntax.proofs.Walks.{lists_none, lists_both, lists_as, leaves_listed}
+use Rattle.counting_reader.proofs.Yields.{yields_bind, yields_map}
+use Rattle.mode_syntax.specs.Laws.{Lists, ListsItsBlock, ListsLeaves, ListsTile}
 
 -- one before the others
 front : {A : Type 0} → A → (ℕ → A) → ℕ → A

@@ -2,35 +2,16 @@
 use Rattle.std.proofs.Common.{◌≡◌, ℕ, zero, suc, ◌+◌, ◌^◌, ◌++◌, [], ◌∙◌, true, false, List, map, inl, inr, refl, sym, ap, append_assoc}
 use Rattle.std.proofs.lemmas.Bool.{cases_Bool}
 use Rattle.std.proofs.lemmas.List.{append-nil, map-append}
-use Rattle.vp9_types.specs.Syntax.{Syntax, done, broken, ask}
 use Rattle.vp9_types.specs.declared.block.BlockSize.{BlockSize}
 use Rattle.vp9_types.specs.declared.block.Partition.{Partition}
 use Rattle.vp9_types.specs.declared.block.Partition.TheVariants.{Whole, Horizontal, Vertical, Split}
-use Rattle.vp9_types.specs.declared.rule.Rule.{Rule}
 use Rattle.block_geometry.specs.Partitions.{part_size}
-use Rattle.prob_contexts.specs.declared.kind.CountedBool.{CountedBool}
-use Rattle.mode_syntax.specs.Counting.{Settled, settle, behind, in_order}
+use Rattle.counting_reader.specs.Counting.{settle, in_order, Yields}
+use Rattle.counting_reader.proofs.Yields.{yields_bind, yields_all, yields_map}
 use Rattle.mode_syntax.specs.Partitions.{partition_at}
 use Rattle.mode_syntax.specs.Tiles.{Leaf, Cut, whole, upper_and_lower, left_and_right, quarters, inside, one_leaf, leaves}
-use Rattle.mode_syntax.specs.Walk.{Walk, Yields, block_at, square_at, starts_inside, block_inside, smallest_parts, parts, decode_partition, leaf_of, Lists, ListsItsBlock, ListsLeaves}
-
-yields_behind : {A : Type 0} (bools : List CountedBool) (s : Syntax ℕ Rule (Settled A)) (P : A → Type 0) → Yields s P → Yields (behind bools s) P
-unfolding behind
-yields_behind bools (done x) P h = h
-yields_behind bools (broken e) P h = tt
-yields_behind bools (ask p k) P h = λ v. yields_behind bools (k v) P (h v)
-
-pub yields_bind : {A B : Type 0} (s : Syntax ℕ Rule (Settled A)) (f : A → Syntax ℕ Rule (Settled B)) (P : A → Type 0) (Q : B → Type 0)
-    → Yields s P → ((x : A) → P x → Yields (f x) Q) → Yields (in_order s f) Q
-unfolding in_order
-yields_bind (done x) f P Q h g = yields_behind x.counted (f x.value) Q (g x.value h)
-yields_bind (broken e) f P Q h g = tt
-yields_bind (ask p k) f P Q h g = λ v. yields_bind (k v) f P Q (h v) g
-
-yields_all : {A : Type 0} (s : Syntax ℕ Rule (Settled A)) → Yields s (λ x. Unit {0})
-yields_all (done x) = tt
-yields_all (broken e) = tt
-yields_all (ask p k) = λ v. yields_all (k v)
+use Rattle.mode_syntax.specs.Walk.{Walk, block_at, square_at, starts_inside, block_inside, smallest_parts, parts, decode_partition}
+use Rattle.mode_syntax.specs.Laws.{leaf_of, Lists, ListsItsBlock, ListsLeaves}
 
 pub lists_none : {S : Type 0} (walk : Walk S) (s : S) → Lists walk s [] s
 lists_none walk s = ([], refl, sym (append-nil (walk.blocks s)))
@@ -41,11 +22,6 @@ lists_both walk s t u xs ys a b = (
   map-append leaf_of a.0 b.0 ∙ ap (λ l. l ++ map leaf_of b.0) a.1 ∙ ap (λ l. xs ++ l) b.1,
   b.2 ∙ ap (λ l. l ++ b.0) a.2 ∙ append_assoc (walk.blocks s) a.0 b.0,
 )
-
-pub yields_map : {A : Type 0} (s : Syntax ℕ Rule (Settled A)) (P Q : A → Type 0) → Yields s P → ((x : A) → P x → Q x) → Yields s Q
-yields_map (done x) P Q h g = g x.value h
-yields_map (broken e) P Q h g = tt
-yields_map (ask p k) P Q h g = λ v. yields_map (k v) P Q (h v) g
 
 there : {S : Type 0} (walk : Walk S) (r c : ℕ) (ls : List Leaf) → starts_inside walk r c ≡ true → inside walk.frame r c ls ≡ ls
 there walk r c ls h = rw h refl

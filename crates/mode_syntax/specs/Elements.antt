@@ -1,6 +1,6 @@
 -- What a block of an intra frame says before its modes (6.4.7, 6.4.8 and 6.4.10 of the standard: intra_segment_id,
 -- read_skip, read_tx_size; their contexts in 9.3).
-use Rattle.std.specs.Prelude.{ℕ, ◌+◌, ◌*◌, Bool, true, false, ◌&&◌, not, List, [], ◌∷◌, Option, Some, None, drop, slice_index, slice_index_or, nat_eq, nat_lt, if◌then◌else◌}
+use Rattle.std.specs.Prelude.{ℕ, ◌+◌, ◌*◌, Bool, true, false, ◌&&◌, not, List, Option, Some, None, drop, slice_index, slice_index_or, nat_lt, if◌then◌else◌}
 use Rattle.vp9_types.specs.Syntax.{Syntax, done}
 use Rattle.vp9_types.specs.Trees.{Tree, tree_symbol}
 use Rattle.vp9_types.specs.declared.block.BlockSize.{BlockSize}
@@ -9,10 +9,9 @@ use Rattle.vp9_types.specs.declared.block.TxMode.TheVariants.{Selected}
 use Rattle.vp9_types.specs.declared.block.TxSize.{TxSize}
 use Rattle.vp9_types.specs.declared.block.TxSize.TheVariants.{T4x4, T8x8, T16x16, T32x32}
 use Rattle.vp9_types.specs.declared.rule.Rule.{Rule}
-use Rattle.vp9_tables.specs.Numbers.{flag_number, tx_number}
+use Rattle.vp9_tables.specs.Numbers.{flag_number, tx_number, tx_of}
 use Rattle.vp9_tables.specs.Blocks.{greatest_of}
 use Rattle.vp9_tables.specs.Trees.{segment_tree, tx8_tree, tx16_tree, tx32_tree}
-use Rattle.bool_decoder.specs.Bools.{flag}
 use Rattle.frame_headers.specs.Segments.{no_segment_features}
 use Rattle.frame_headers.specs.declared.segments.MapUpdate.{MapUpdate}
 use Rattle.frame_headers.specs.declared.segments.Segmentation.{Segmentation}
@@ -21,8 +20,8 @@ use Rattle.prob_contexts.specs.declared.kind.ProbKind.TheVariants as kind
 use Rattle.prob_contexts.specs.Lists.{TxLists}
 use Rattle.block_geometry.specs.Sizes.{is_below_8x8, greatest_allowed}
 use Rattle.block_plan.specs.declared.block.BlockInfo.{BlockInfo}
-use Rattle.mode_syntax.specs.Counting.{Settled, settle, count, uncounted, ◌>>=◌, ◌>>◌}
-use Rattle.mode_syntax.specs.Symbols.{counted_symbol}
+use Rattle.counting_reader.specs.Counting.{Settled, settle, ◌>>=◌}
+use Rattle.counting_reader.specs.Symbols.{counted_flag, counted_tree}
 
 -- Segments are coded in frames that have them and update their map; else a block's is 0.
 unfoldable pub coded_segment : Bool → Option MapUpdate → Syntax ℕ Rule ℕ
@@ -45,20 +44,10 @@ skip_beside (Some block) = flag_number block.skip
 abbrev pub skip_context : Option BlockInfo → Option BlockInfo → ℕ
 skip_context above left = skip_beside above + skip_beside left
 
--- one bool, which is counted
-unfoldable pub skip_symbol : List ℕ → ℕ → Syntax ℕ Rule (Settled Bool)
-skip_symbol probs context = do
-  skip ← uncounted (flag (slice_index probs context))
-  count (record { kind = kind.Skip; place = context; one = skip } ∷ [])
-  settle skip
-
--- the blocks of a segment that skips say nothing
+-- one bool, which is counted; the blocks of a segment that skips say nothing
 unfoldable pub read_skip : Segmentation → List ℕ → ℕ → ℕ → Syntax ℕ Rule (Settled Bool)
 read_skip segmentation probs context segment =
-    if skips_segment segmentation segment then settle true else skip_symbol probs context
-
-abbrev pub tx_of : ℕ → TxSize
-tx_of n = if nat_eq n 0 then T4x4 else (if nat_eq n 1 then T8x8 else (if nat_eq n 2 then T16x16 else T32x32))
+    if skips_segment segmentation segment then settle true else counted_flag kind.Skip context (slice_index probs context)
 
 -- what a neighbour counts for: its transform, or the block's greatest where it is skipped
 abbrev pub tx_beside : ℕ → BlockInfo → ℕ
@@ -96,8 +85,7 @@ tx_kind T32x32 = kind.Tx32x32
 -- a context has as many nodes as the number of the greatest size
 unfoldable pub tx_symbol : TxLists → TxSize → ℕ → Syntax ℕ Rule (Settled TxSize)
 tx_symbol lists greatest context = do
-  number ← uncounted (tree_symbol (tx_tree greatest) (drop (tx_number greatest * context) (tx_probs lists greatest)))
-  count (counted_symbol (tx_kind greatest) (tx_number greatest * context) (tx_tree greatest) number)
+  number ← counted_tree (tx_kind greatest) (tx_number greatest * context) (tx_tree greatest) (drop (tx_number greatest * context) (tx_probs lists greatest))
   settle (tx_of number)
 
 abbrev pub is_selected : TxMode → Bool

@@ -1,8 +1,7 @@
-pub mod Counting
-pub mod Symbols
 pub mod IntraModes
 pub mod Elements
 pub mod ModeInfo
 pub mod Partitions
 pub mod Tiles
 pub mod Walk
+pub mod Laws

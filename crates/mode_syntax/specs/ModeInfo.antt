@@ -13,7 +13,7 @@ use Rattle.block_plan.specs.Blocks.{above_of, left_of}
 use Rattle.block_plan.specs.declared.block.BlockAt.{BlockAt}
 use Rattle.block_plan.specs.declared.block.BlockInfo.{BlockInfo}
 use Rattle.block_plan.specs.declared.block.Prediction.TheVariants.{Intra}
-use Rattle.mode_syntax.specs.Counting.{Settled, settle, uncounted, ◌>>=◌}
+use Rattle.counting_reader.specs.Counting.{Settled, settle, uncounted, ◌>>=◌}
 use Rattle.mode_syntax.specs.Elements.{intra_segment_id, skip_context, read_skip, tx_context, read_tx_size}
 use Rattle.mode_syntax.specs.IntraModes.{edge_modes, luma_modes, last_mode, default_uv_mode}
 

@@ -17,8 +17,8 @@ use Rattle.block_geometry.specs.declared.transform_blocks.FramePlaces.{FramePlac
 use Rattle.block_plan.specs.Blocks.{above_place, left_place}
 use Rattle.block_plan.specs.declared.block.BlockInfo.{BlockInfo}
 use Rattle.mode_syntax.specs.declared.square_at.SquareAt.{SquareAt}
-use Rattle.mode_syntax.specs.Counting.{Settled, settle, count, uncounted, ◌>>=◌, ◌>>◌}
-use Rattle.mode_syntax.specs.Symbols.{counted_symbol}
+use Rattle.counting_reader.specs.Counting.{Settled, settle, count, uncounted, ◌>>=◌, ◌>>◌}
+use Rattle.counting_reader.specs.Symbols.{counted_symbol}
 
 abbrev pub partition_of : ℕ → Partition
 partition_of n = if nat_eq n 0 then Whole else (if nat_eq n 1 then Horizontal else (if nat_eq n 2 then Vertical else Split))

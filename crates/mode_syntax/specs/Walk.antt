@@ -1,7 +1,7 @@
 -- How the blocks of a tile are read (6.4.2 and 6.4.3 of the standard: decode_tile, decode_partition), whatever a block
 -- reads. S is what reading keeps, with the blocks so far.
-use Rattle.std.specs.Prelude.{◌≡◌, ℕ, zero, suc, ◌+◌, ◌^◌, Bool, ◌&&◌, ◌++◌, List, map, nat_lt, if◌then◌else◌}
-use Rattle.vp9_types.specs.Syntax.{Syntax, done, broken, ask}
+use Rattle.std.specs.Prelude.{ℕ, zero, suc, ◌+◌, ◌^◌, Bool, ◌&&◌, List, nat_lt, if◌then◌else◌}
+use Rattle.vp9_types.specs.Syntax.{Syntax}
 use Rattle.vp9_types.specs.declared.block.BlockSize.{BlockSize}
 use Rattle.vp9_types.specs.declared.block.Partition.{Partition}
 use Rattle.vp9_types.specs.declared.block.Partition.TheVariants.{Whole, Horizontal, Vertical, Split}
@@ -11,9 +11,8 @@ use Rattle.block_geometry.specs.declared.transform_blocks.FramePlaces.{FramePlac
 use Rattle.block_plan.specs.declared.block.BlockAt.{BlockAt}
 use Rattle.block_plan.specs.declared.block.BlockInfo.{BlockInfo}
 use Rattle.mode_syntax.specs.declared.square_at.SquareAt.{SquareAt}
-use Rattle.mode_syntax.specs.Counting.{Settled, settle, in_order, ◌>>=◌}
+use Rattle.counting_reader.specs.Counting.{Settled, settle, in_order, ◌>>=◌}
 use Rattle.mode_syntax.specs.Partitions.{partition_at}
-use Rattle.mode_syntax.specs.Tiles.{Leaf, Cut, one_leaf, leaves, tile_leaves}
 
 -- what a walk is told: the frame, the tile's columns, which probabilities partitions have, what a block reads, and the
 -- blocks that are listed
@@ -68,27 +67,6 @@ decode_partition walk (suc n) r c s =
     then (partition_at walk.intra walk.probs (walk.blocks s) walk.frame (square_at walk (suc n) r c) >>= parts walk (decode_partition walk n) n r c s)
     else settle s
 
--- whatever a syntax settles on has a property
-abbrev pub Yields : {A : Type 0} → Syntax ℕ Rule (Settled A) → (A → Type 0) → Type 0
-Yields (done x) P = P x.value
-Yields (broken e) P = Unit {0}
-Yields (ask p k) P = (v : ℕ) → Yields (k v) P
-
-abbrev pub leaf_of : BlockInfo → Leaf
-leaf_of b = record { row = b.row; col = b.col; size = b.size }
-
--- blocks of these places and sizes were listed behind those so far
-abbrev pub Lists : {S : Type 0} → Walk S → S → List Leaf → S → Type 0
-Lists walk s ls t = (new : List BlockInfo) × (map leaf_of new ≡ ls) × (walk.blocks t ≡ walk.blocks s ++ new)
-
--- what a block reads lists it, and nothing else
-abbrev pub ListsItsBlock : {S : Type 0} → Walk S → Type 0
-ListsItsBlock {S} walk = (r c : ℕ) (size : BlockSize) (s : S) → Yields (walk.block (block_at walk r c size) s) (Lists walk s (one_leaf r c size))
-
--- the blocks of a partition tree of a square
-abbrev pub ListsLeaves : {S : Type 0} → Walk S → ℕ → ℕ → ℕ → S → S → Type 0
-ListsLeaves walk n r c s t = (cut : Cut) × Lists walk s (leaves walk.frame n r c cut) t
-
 -- a row of n superblocks from a column on, and n rows of them
 unfoldable pub decode_row : {S : Type 0} → Walk S → ℕ → ℕ → ℕ → S → Syntax ℕ Rule (Settled S)
 decode_row walk r c zero s = settle s
@@ -97,7 +75,3 @@ decode_row walk r c (suc n) s = in_order (decode_partition walk 3 r c s) (decode
 unfoldable pub decode_tile : {S : Type 0} → Walk S → ℕ → ℕ → ℕ → ℕ → S → Syntax ℕ Rule (Settled S)
 decode_tile walk columns r c zero s = settle s
 decode_tile walk columns r c (suc n) s = in_order (decode_row walk r c columns s) (decode_tile walk columns (r + 8) c n)
-
--- the blocks of partition trees of a tile's superblocks
-abbrev pub ListsTile : {S : Type 0} → Walk S → ℕ → ℕ → ℕ → ℕ → S → S → Type 0
-ListsTile walk columns r c n s t = (cuts : ℕ → ℕ → Cut) × Lists walk s (tile_leaves walk.frame r c cuts columns 0 n) t

@@ -2,12 +2,12 @@
 
 ghost use Rattle.std.specs.Prelude.{◌≡◌, ◌<◌, ◌≤◌, ℕ, ◌*◌, length};
 ghost use Rattle.std.specs.Option.{option_copied};
-ghost use Rattle.bool_decoder.specs.Bools.{Reads};
-ghost use Rattle.bool_decoder.specs.Held.{window_of};
+ghost use Rattle.counting_reader.specs.Counting.{uncounted};
+ghost use Rattle.counting_reader.specs.Code.{Reads};
 ghost use Rattle.mode_syntax.specs.IntraModes.{intra_of, intra_mode, default_intra_mode, default_uv_mode, mode_beside, edge_modes, one_mode, two_rows, two_columns, four_modes, luma_modes};
 
 use block_plan::{BlockInfo, Prediction};
-use bool_decoder::BoolDecoder;
+use counting_reader::CountingReader;
 use vp9_tables::{intra_mode_tree, kf_uv_mode, kf_y_mode};
 use vp9_types::{BlockSize, IntraMode};
 
@@ -38,29 +38,32 @@ fn intra_of(number: u8) -> IntraMode
     }
 }
 
-#[tactic(auto, unfolding(crate::specs::IntraModes::intra_mode), using(vp9_types::proofs::Runs::run_bind))]
-fn read_mode(decoder: &mut BoolDecoder<'_>, probs: &[u8; 9]) -> IntraMode
-    ensures { Reads (intra_mode probs.now) (window_of decoder.old) result (window_of decoder.new) }
+#[tactic(auto, unfolding(crate::specs::IntraModes::intra_mode), using(crate::proofs::Uncounted::uncounted_bind, crate::proofs::Uncounted::uncounted_done))]
+fn read_mode<const COUNTS: bool>(reader: &mut CountingReader<COUNTS>, probs: &[u8; 9]) -> IntraMode
+    ensures { Reads (uncounted (intra_mode probs.now)) reader.old result reader.new }
 {
-    intra_of(decoder.tree(intra_mode_tree(), probs))
+    intra_of(reader.tree(intra_mode_tree(), probs))
 }
 
 #[tactic(auto, unfolding(crate::specs::IntraModes::default_intra_mode))]
-fn read_default_intra_mode(
-    decoder: &mut BoolDecoder<'_>,
+fn read_default_intra_mode<const COUNTS: bool>(
+    reader: &mut CountingReader<COUNTS>,
     above: IntraMode,
     left: IntraMode,
 ) -> IntraMode
-    ensures { Reads (default_intra_mode above left) (window_of decoder.old) result (window_of decoder.new) }
+    ensures { Reads (uncounted (default_intra_mode above left)) reader.old result reader.new }
 {
-    read_mode(decoder, kf_y_mode(above, left))
+    read_mode(reader, kf_y_mode(above, left))
 }
 
 #[tactic(auto, unfolding(crate::specs::IntraModes::default_uv_mode))]
-pub(crate) fn read_default_uv_mode(decoder: &mut BoolDecoder<'_>, luma: IntraMode) -> IntraMode
-    ensures { Reads (default_uv_mode luma) (window_of decoder.old) result (window_of decoder.new) }
+pub(crate) fn read_default_uv_mode<const COUNTS: bool>(
+    reader: &mut CountingReader<COUNTS>,
+    luma: IntraMode,
+) -> IntraMode
+    ensures { Reads (uncounted (default_uv_mode luma)) reader.old result reader.new }
 {
-    read_mode(decoder, kf_uv_mode(luma))
+    read_mode(reader, kf_uv_mode(luma))
 }
 
 /// The mode of a quarter of a neighbour, DC where it is none of an intra block.
@@ -88,56 +91,68 @@ pub(crate) fn edge_modes(above: Option<&BlockInfo>, left: Option<&BlockInfo>) ->
     }
 }
 
-#[tactic(auto, unfolding(crate::specs::IntraModes::one_mode), using(vp9_types::proofs::Runs::run_bind))]
-fn read_one_mode(decoder: &mut BoolDecoder<'_>, edge: EdgeModes) -> [IntraMode; 4]
-    ensures { Reads (one_mode edge) (window_of decoder.old) result (window_of decoder.new) }
+#[tactic(auto, unfolding(crate::specs::IntraModes::one_mode), using(crate::proofs::Uncounted::uncounted_bind, crate::proofs::Uncounted::uncounted_done))]
+fn read_one_mode<const COUNTS: bool>(
+    reader: &mut CountingReader<COUNTS>,
+    edge: EdgeModes,
+) -> [IntraMode; 4]
+    ensures { Reads (uncounted (one_mode edge)) reader.old result reader.new }
 {
-    let mode = read_default_intra_mode(decoder, edge.above_first, edge.left_first);
+    let mode = read_default_intra_mode(reader, edge.above_first, edge.left_first);
     [mode, mode, mode, mode]
 }
 
-#[tactic(auto, unfolding(crate::specs::IntraModes::two_rows), using(vp9_types::proofs::Runs::run_bind))]
-fn read_two_rows(decoder: &mut BoolDecoder<'_>, edge: EdgeModes) -> [IntraMode; 4]
-    ensures { Reads (two_rows edge) (window_of decoder.old) result (window_of decoder.new) }
+#[tactic(auto, unfolding(crate::specs::IntraModes::two_rows), using(crate::proofs::Uncounted::uncounted_bind, crate::proofs::Uncounted::uncounted_done))]
+fn read_two_rows<const COUNTS: bool>(
+    reader: &mut CountingReader<COUNTS>,
+    edge: EdgeModes,
+) -> [IntraMode; 4]
+    ensures { Reads (uncounted (two_rows edge)) reader.old result reader.new }
 {
-    let upper = read_default_intra_mode(decoder, edge.above_first, edge.left_first);
-    let lower = read_default_intra_mode(decoder, upper, edge.left_second);
+    let upper = read_default_intra_mode(reader, edge.above_first, edge.left_first);
+    let lower = read_default_intra_mode(reader, upper, edge.left_second);
     [upper, upper, lower, lower]
 }
 
-#[tactic(auto, unfolding(crate::specs::IntraModes::two_columns), using(vp9_types::proofs::Runs::run_bind))]
-fn read_two_columns(decoder: &mut BoolDecoder<'_>, edge: EdgeModes) -> [IntraMode; 4]
-    ensures { Reads (two_columns edge) (window_of decoder.old) result (window_of decoder.new) }
+#[tactic(auto, unfolding(crate::specs::IntraModes::two_columns), using(crate::proofs::Uncounted::uncounted_bind, crate::proofs::Uncounted::uncounted_done))]
+fn read_two_columns<const COUNTS: bool>(
+    reader: &mut CountingReader<COUNTS>,
+    edge: EdgeModes,
+) -> [IntraMode; 4]
+    ensures { Reads (uncounted (two_columns edge)) reader.old result reader.new }
 {
-    let left = read_default_intra_mode(decoder, edge.above_first, edge.left_first);
-    let right = read_default_intra_mode(decoder, edge.above_second, left);
+    let left = read_default_intra_mode(reader, edge.above_first, edge.left_first);
+    let right = read_default_intra_mode(reader, edge.above_second, left);
     [left, right, left, right]
 }
 
-#[tactic(auto, unfolding(crate::specs::IntraModes::four_modes), using(vp9_types::proofs::Runs::run_bind))]
-fn read_four_modes(decoder: &mut BoolDecoder<'_>, edge: EdgeModes) -> [IntraMode; 4]
-    ensures { Reads (four_modes edge) (window_of decoder.old) result (window_of decoder.new) }
+#[tactic(auto, unfolding(crate::specs::IntraModes::four_modes), using(crate::proofs::Uncounted::uncounted_bind, crate::proofs::Uncounted::uncounted_done))]
+fn read_four_modes<const COUNTS: bool>(
+    reader: &mut CountingReader<COUNTS>,
+    edge: EdgeModes,
+) -> [IntraMode; 4]
+    ensures { Reads (uncounted (four_modes edge)) reader.old result reader.new }
 {
-    let first = read_default_intra_mode(decoder, edge.above_first, edge.left_first);
-    let second = read_default_intra_mode(decoder, edge.above_second, first);
-    let third = read_default_intra_mode(decoder, first, edge.left_second);
-    let fourth = read_default_intra_mode(decoder, second, third);
+    let first = read_default_intra_mode(reader, edge.above_first, edge.left_first);
+    let second = read_default_intra_mode(reader, edge.above_second, first);
+    let third = read_default_intra_mode(reader, first, edge.left_second);
+    let fourth = read_default_intra_mode(reader, second, third);
     [first, second, third, fourth]
 }
 
 /// The modes of the quarters of a block.
 #[tactic(auto, unfolding(crate::specs::IntraModes::luma_modes))]
-pub(crate) fn read_luma_modes(
-    decoder: &mut BoolDecoder<'_>,
+pub(crate) fn read_luma_modes<const COUNTS: bool>(
+    reader: &mut CountingReader<COUNTS>,
     size: BlockSize,
     edge: EdgeModes,
 ) -> [IntraMode; 4]
-    ensures { Reads (luma_modes size edge) (window_of decoder.old) result (window_of decoder.new) }
+    ensures { Reads (uncounted (luma_modes size edge)) reader.old result reader.new }
 {
     match size {
-        BlockSize::B4x4 => read_four_modes(decoder, edge),
-        BlockSize::B4x8 => read_two_columns(decoder, edge),
-        BlockSize::B8x4 => read_two_rows(decoder, edge),
-        _ => read_one_mode(decoder, edge),
+        BlockSize::B4x4 => read_four_modes(reader, edge),
+        BlockSize::B4x8 => read_two_columns(reader, edge),
+        BlockSize::B8x4 => read_two_rows(reader, edge),
+        _ => read_one_mode(reader, edge),
     }
 }

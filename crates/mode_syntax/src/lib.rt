@@ -2,7 +2,6 @@
 //! frame says.
 #![tactic(auto)]
 
-mod counting;
 mod elements;
 mod intra_modes;
 mod laws;
@@ -12,8 +11,9 @@ mod square_at;
 mod tx_sizes;
 
 pub use laws::{
-    blocks_cover_a_tile_once, counting_syntaxes_compose, squares_list_their_leaves,
-    tiles_list_their_leaves,
+    blocks_cover_a_tile_once, columns_are_apart, columns_read_apart,
+    columns_with_their_own_state_are_separate, mode_tiles_are_separate, squares_list_their_leaves,
+    tiles_list_their_leaves, tiles_read_their_columns, walks_map,
 };
 pub use mode_info::intra_frame_mode_info;
 pub use partition::{read_partition, side_of};

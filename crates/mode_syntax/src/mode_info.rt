@@ -4,9 +4,9 @@ ghost use Rattle.std.specs.Prelude.{◌≡◌, ◌+◌, ◌-◌, ◌^◌, ◌<�
 ghost use Rattle.std.specs.Option.{option_copied};
 ghost use Rattle.vp9_tables.specs.Blocks.{greatest_of};
 ghost use Rattle.vp9_tables.specs.Numbers.{tx_number};
-ghost use Rattle.bool_decoder.specs.Held.{window_of};
 ghost use Rattle.prob_contexts.specs.Lists.{lists_of};
-ghost use Rattle.mode_syntax.specs.Counting.{ReadsCounting};
+ghost use Rattle.block_plan.specs.Blocks.{IsIntra};
+ghost use Rattle.counting_reader.specs.Code.{Reads};
 ghost use Rattle.mode_syntax.specs.ModeInfo.{mode_info_beside, intra_frame_mode_info};
 
 use crate::elements::{read_intra_segment_id, read_skip, skip_context};
@@ -15,45 +15,42 @@ use crate::tx_sizes::{read_tx_size, tx_context};
 use block_plan::{
     BlockAt, BlockInfo, IntraPrediction, Neighbours, Prediction, above_place, left_place,
 };
-use bool_decoder::BoolDecoder;
-use frame_headers::{Header, Segmentation};
-use prob_contexts::{Contexts, Counts};
-use vp9_types::{Modes, TxMode};
+use counting_reader::CountingReader;
+use frame_setting::FrameSetting;
 
 /// What a block reads beside the blocks above it and at its left.
-#[tactic(auto, unfolding(crate::specs::ModeInfo::mode_info_beside), using(crate::proofs::CountingRuns::counting_bind, crate::proofs::CountingRuns::run_settle, crate::proofs::CountingRuns::run_uncounted))]
-fn read_beside(
-    decoder: &mut BoolDecoder<'_>,
-    counts: &mut Counts,
-    segmentation: &Segmentation,
-    tx_mode: TxMode,
-    contexts: &Contexts,
+#[tactic(auto, unfolding(crate::specs::ModeInfo::mode_info_beside), using(counting_reader::proofs::CountingRuns::counting_bind, counting_reader::proofs::CountingRuns::run_settle))]
+fn read_beside<const COUNTS: bool>(
+    reader: &mut CountingReader<COUNTS>,
+    setting: &FrameSetting,
     above: Option<&BlockInfo>,
     left: Option<&BlockInfo>,
     at: BlockAt,
 ) -> BlockInfo
-    ensures read { ReadsCounting (mode_info_beside segmentation.now tx_mode (lists_of contexts.now) (option_copied above.entry) (option_copied left.entry) at)
-        (window_of decoder.old) counts.old result (window_of decoder.new) counts.new }
+    ensures read { Reads (mode_info_beside setting.now.header.params.segmentation setting.now.modes.tx_mode (lists_of setting.now.contexts) (option_copied above.entry) (option_copied left.entry) at)
+        reader.old result reader.new }
     ensures segment { result.segment ≤ 7 }
     ensures row { result.row ≡ at.row }
     ensures col { result.col ≡ at.col }
     ensures size { result.size ≡ at.size }
     ensures fits { tx_number result.tx ≤ greatest_of at.size }
+    ensures intra { IsIntra result.prediction }
 {
-    let segment = read_intra_segment_id(decoder, segmentation);
+    let segmentation = &setting.header.params.segmentation;
+    let contexts = &setting.contexts;
+    let segment = read_intra_segment_id(reader, segmentation);
     let context = skip_context(above, left);
-    let skip = read_skip(
-        decoder,
-        counts,
-        segmentation,
-        &contexts.skip,
-        context,
-        segment,
-    );
+    let skip = read_skip(reader, segmentation, &contexts.skip, context, segment);
     let context = tx_context(at.size, above, left);
-    let tx = read_tx_size(decoder, counts, tx_mode, &contexts.tx, context, at.size);
-    let luma = read_luma_modes(decoder, at.size, edge_modes(above, left));
-    let chroma = read_default_uv_mode(decoder, luma[3]);
+    let tx = read_tx_size(
+        reader,
+        setting.modes.tx_mode,
+        &contexts.tx,
+        context,
+        at.size,
+    );
+    let luma = read_luma_modes(reader, at.size, edge_modes(above, left));
+    let chroma = read_default_uv_mode(reader, luma[3]);
     BlockInfo {
         row: at.row,
         col: at.col,
@@ -65,38 +62,26 @@ fn read_beside(
     }
 }
 
-/// What a block of an intra frame reads, and its symbols counted. The block starts inside the frame and its tile;
-/// `earlier` has the frame's blocks before it.
+/// What a block of an intra frame reads. The block starts inside the frame and its tile; `earlier` has the frame's blocks
+/// before it.
 #[tactic(auto, unfolding(crate::specs::ModeInfo::intra_frame_mode_info))]
-pub fn intra_frame_mode_info<N: Neighbours>(
-    decoder: &mut BoolDecoder<'_>,
-    header: &Header,
-    modes: &Modes,
-    contexts: &Contexts,
-    counts: &mut Counts,
-    at: BlockAt,
+pub fn intra_frame_mode_info<N: Neighbours, const COUNTS: bool>(
+    reader: &mut CountingReader<COUNTS>,
+    setting: &FrameSetting,
     earlier: &N,
+    at: BlockAt,
 ) -> BlockInfo
     requires above { 0 < at.row → N.holds earlier.now (at.row - 1) at.col }
     requires left { at.tile_from < at.col → N.holds earlier.now at.row (at.col - 1) }
-    ensures read { ReadsCounting (intra_frame_mode_info header.now modes.now (lists_of contexts.now) (N.blocks earlier.now) at)
-        (window_of decoder.old) counts.old result (window_of decoder.new) counts.new }
+    ensures read { Reads (intra_frame_mode_info setting.now.header setting.now.modes (lists_of setting.now.contexts) (N.blocks earlier.now) at) reader.old result reader.new }
     ensures segment { result.segment ≤ 7 }
     ensures row { result.row ≡ at.row }
     ensures col { result.col ≡ at.col }
     ensures size { result.size ≡ at.size }
     ensures fits { tx_number result.tx ≤ greatest_of at.size }
+    ensures intra { IsIntra result.prediction }
 {
     let above = above_place(earlier, at.row, at.col);
     let left = left_place(earlier, at.tile_from, at.row, at.col);
-    read_beside(
-        decoder,
-        counts,
-        &header.params.segmentation,
-        modes.tx_mode,
-        contexts,
-        above,
-        left,
-        at,
-    )
+    read_beside(reader, setting, above, left, at)
 }

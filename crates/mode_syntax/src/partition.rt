@@ -2,21 +2,21 @@
 
 ghost use Rattle.std.specs.Prelude.{◌≡◌, ◌+◌, ◌-◌, ◌*◌, ◌/◌, ◌^◌, ◌<◌, ◌≤◌, ℕ, List, length, slice_index};
 ghost use Rattle.std.specs.Option.{option_copied};
-ghost use Rattle.bool_decoder.specs.Held.{window_of};
-ghost use Rattle.mode_syntax.specs.Counting.{ReadsCounting};
+ghost use Rattle.counting_reader.specs.Counting.{count};
+ghost use Rattle.counting_reader.specs.Code.{Reads};
+ghost use Rattle.counting_reader.specs.Symbols.{counted_symbol};
+ghost use Rattle.prob_contexts.specs.Lists.{lists_of};
 ghost use Rattle.mode_syntax.specs.Partitions.{partition_of, split_or, whole_symbol, edge_symbol, partition_value, partition, half_of, partition_probs, width_beside, height_beside, widths_above, heights_left, context_of, partition_at};
-ghost use Rattle.prob_contexts.specs.Counted.{counts_after};
 ghost use Rattle.prob_contexts.specs.declared.kind.ProbKind.TheVariants as kind;
 ghost use Rattle.vp9_tables.specs.Numbers.{partition_number};
 ghost use Rattle.vp9_tables.specs.Trees.{partition_tree};
-ghost use Rattle.mode_syntax.specs.Symbols.{counted_symbol};
 
-use crate::counting::count_unary;
 use crate::square_at::SquareAt;
 use block_geometry::{FramePlaces, height_4, partition_context, square, width_4};
 use block_plan::{BlockInfo, Neighbours, above_place, left_place};
-use bool_decoder::BoolDecoder;
-use prob_contexts::{Contexts, Counts, ProbKind};
+use counting_reader::CountingReader;
+use frame_setting::FrameSetting;
+use prob_contexts::ProbKind;
 use vp9_tables::{kf_partition, partition_tree};
 use vp9_types::Partition;
 
@@ -35,43 +35,47 @@ fn partition_of(number: u8) -> Partition
     }
 }
 
-#[tactic(auto, unfolding(crate::specs::Partitions::whole_symbol), using(crate::proofs::CountingRuns::counting_bind, crate::proofs::CountingRuns::run_settle, crate::proofs::CountingRuns::run_uncounted))]
-fn read_whole(decoder: &mut BoolDecoder<'_>, probs: &[u8]) -> Partition
+#[tactic(auto, unfolding(crate::specs::Partitions::whole_symbol), using(counting_reader::proofs::CountingRuns::counting_bind, counting_reader::proofs::CountingRuns::run_settle))]
+fn read_whole<const COUNTS: bool>(reader: &mut CountingReader<COUNTS>, probs: &[u8]) -> Partition
     requires { length probs.now ≡ 3 }
-    ensures { (counts : List ℕ) → ReadsCounting (whole_symbol probs.now) (window_of decoder.old) counts result (window_of decoder.new) counts }
+    ensures { Reads (whole_symbol probs.now) reader.old result reader.new }
 {
-    partition_of(decoder.tree(partition_tree(), probs))
+    partition_of(reader.tree(partition_tree(), probs))
 }
 
-#[tactic(auto, unfolding(crate::specs::Partitions::edge_symbol, bool_decoder::specs::Bools::flag), using(crate::proofs::CountingRuns::counting_bind, crate::proofs::CountingRuns::run_settle, crate::proofs::CountingRuns::run_uncounted))]
-fn read_edge(decoder: &mut BoolDecoder<'_>, p: u8, other: Partition) -> Partition
-    ensures { (counts : List ℕ) → ReadsCounting (edge_symbol p other) (window_of decoder.old) counts result (window_of decoder.new) counts }
+#[tactic(auto, unfolding(crate::specs::Partitions::edge_symbol), using(counting_reader::proofs::CountingRuns::counting_bind, counting_reader::proofs::CountingRuns::run_settle))]
+fn read_edge<const COUNTS: bool>(
+    reader: &mut CountingReader<COUNTS>,
+    p: u8,
+    other: Partition,
+) -> Partition
+    ensures { Reads (edge_symbol p other) reader.old result reader.new }
 {
-    if decoder.bit(p) {
+    if reader.bit(p) {
         Partition::Split
     } else {
         other
     }
 }
 
-#[tactic(auto, unfolding(crate::specs::Partitions::partition_value), using(crate::proofs::CountingRuns::run_settle))]
-fn read_value(
-    decoder: &mut BoolDecoder<'_>,
+#[tactic(auto, unfolding(crate::specs::Partitions::partition_value), using(counting_reader::proofs::CountingRuns::run_settle))]
+fn read_value<const COUNTS: bool>(
+    reader: &mut CountingReader<COUNTS>,
     has_rows: bool,
     has_cols: bool,
     probs: &[u8],
 ) -> Partition
     requires { length probs.now ≡ 3 }
-    ensures { (counts : List ℕ) → ReadsCounting (partition_value has_rows has_cols probs.now) (window_of decoder.old) counts result (window_of decoder.new) counts }
+    ensures { Reads (partition_value has_rows has_cols probs.now) reader.old result reader.new }
 {
     if has_rows && has_cols {
-        return read_whole(decoder, probs);
+        return read_whole(reader, probs);
     }
     if has_cols {
-        return read_edge(decoder, probs[1], Partition::Horizontal);
+        return read_edge(reader, probs[1], Partition::Horizontal);
     }
     if has_rows {
-        return read_edge(decoder, probs[2], Partition::Vertical);
+        return read_edge(reader, probs[2], Partition::Vertical);
     }
     Partition::Split
 }
@@ -88,24 +92,21 @@ fn number_of(partition: Partition) -> u16
     }
 }
 
-fn count_partition(counts: &mut Counts, context: u8, partition: Partition)
+fn count_partition<const COUNTS: bool>(
+    reader: &mut CountingReader<COUNTS>,
+    context: u8,
+    partition: Partition,
+)
     requires context { context < 16 }
-    ensures { counts.new ≡ counts_after counts.old (counted_symbol kind.Partition (3 * context) partition_tree (partition_number partition)) }
+    ensures { Reads (count (counted_symbol kind.Partition (3 * context) partition_tree (partition_number partition))) reader.old tt reader.new }
 {
     let symbol = number_of(partition);
-    count_unary(
-        counts,
-        ProbKind::Partition,
-        3 * u16::from(context),
-        3,
-        symbol,
-    );
+    reader.count_unary(ProbKind::Partition, 3 * u16::from(context), 3, symbol);
 }
 
-#[tactic(auto, unfolding(crate::specs::Partitions::partition), using(crate::proofs::CountingRuns::counting_bind, crate::proofs::CountingRuns::run_settle, crate::proofs::CountingRuns::run_count))]
-fn read_counted(
-    decoder: &mut BoolDecoder<'_>,
-    counts: &mut Counts,
+#[tactic(auto, unfolding(crate::specs::Partitions::partition), using(counting_reader::proofs::CountingRuns::counting_bind, counting_reader::proofs::CountingRuns::run_settle))]
+fn read_counted<const COUNTS: bool>(
+    reader: &mut CountingReader<COUNTS>,
     has_rows: bool,
     has_cols: bool,
     probs: &[u8],
@@ -113,10 +114,10 @@ fn read_counted(
 ) -> Partition
     requires probs { length probs.now ≡ 3 }
     requires context { context < 16 }
-    ensures { ReadsCounting (partition has_rows has_cols probs.now context) (window_of decoder.old) counts.old result (window_of decoder.new) counts.new }
+    ensures { Reads (partition has_rows has_cols probs.now context) reader.old result reader.new }
 {
-    let partition = read_value(decoder, has_rows, has_cols, probs);
-    count_partition(counts, context, partition);
+    let partition = read_value(reader, has_rows, has_cols, probs);
+    count_partition(reader, context, partition);
     partition
 }
 
@@ -210,33 +211,29 @@ fn partition_probs(intra: bool, probs: &[u8; 48], context: u8) -> &[u8]
     &probs[first..first + 3]
 }
 
-/// The partition of a square, and its symbol counted. The square starts inside the frame and its tile; `earlier` has
-/// the frame's blocks before it. Intra frames have fixed probabilities.
+/// The partition of a square. The square starts inside the frame and its tile; `earlier` has the frame's blocks before it.
+/// Intra frames have fixed probabilities.
 #[tactic(auto, unfolding(crate::specs::Partitions::partition_at))]
-pub fn read_partition<N: Neighbours>(
-    decoder: &mut BoolDecoder<'_>,
-    counts: &mut Counts,
+pub fn read_partition<N: Neighbours, const COUNTS: bool>(
+    reader: &mut CountingReader<COUNTS>,
+    setting: &FrameSetting,
     intra: bool,
-    contexts: &Contexts,
     earlier: &N,
-    frame: FramePlaces,
     at: SquareAt,
 ) -> Partition
     requires level { at.level ≤ 3 }
-    requires row { at.row < frame.rows }
+    requires row { at.row < setting.now.places.rows }
     requires first { at.tile_from ≤ at.col }
     requires col { at.col < at.tile_to }
-    requires tile { at.tile_to ≤ frame.cols }
-    requires few_rows { frame.rows ≤ 2 ^ 20 }
-    requires few_cols { frame.cols ≤ 2 ^ 20 }
-    requires held { (r c : ℕ) → r < frame.rows → at.tile_from ≤ c → c < at.tile_to → N.holds earlier.now r c }
-    ensures { ReadsCounting (partition_at intra contexts.now.partitions (N.blocks earlier.now) frame at)
-        (window_of decoder.old) counts.old result (window_of decoder.new) counts.new }
+    requires tile { at.tile_to ≤ setting.now.places.cols }
+    requires held { (r c : ℕ) → r < setting.now.places.rows → at.tile_from ≤ c → c < at.tile_to → N.holds earlier.now r c }
+    ensures { Reads (partition_at intra (lists_of setting.now.contexts).partitions (N.blocks earlier.now) setting.now.places at) reader.old result reader.new }
 {
+    let frame = setting.places;
     let context = context_of(earlier, frame, at);
-    let probs = partition_probs(intra, &contexts.partitions, context);
+    let probs = partition_probs(intra, &setting.contexts.partitions, context);
     let half = side_of(at.level) / 2;
-    let has_rows = at.row + half < frame.rows;
-    let has_cols = at.col + half < frame.cols;
-    read_counted(decoder, counts, has_rows, has_cols, probs, context)
+    let has_rows = half < frame.rows - at.row;
+    let has_cols = half < frame.cols - at.col;
+    read_counted(reader, has_rows, has_cols, probs, context)
 }

@@ -1,16 +1,18 @@
 //! Tiles of intra frames without residue, as tools/mode_rows.py reads them.
 
 ghost use Rattle.std.specs.Prelude.{◌≡◌, ◌<◌, ◌≤◌, ◌^◌};
+ghost use Rattle.frame_headers.specs.Sizes.{IsFrameSize};
 
 use super::*;
 use block_geometry::{FramePlaces, part_size};
 use block_plan::{BlockAt, BlockGrid, BlockInfo, IntraPrediction, Prediction};
-use bool_decoder::BoolDecoder;
+use counting_reader::CountingReader;
 use frame_headers::{
     ColorConfig, Features, FrameContexts, FrameKind, FrameParams, FrameSize, Header, LoopDeltas,
     LoopFilter, MapUpdate, Quantizer, SegmentFeatures, Segmentation, TileInfo,
 };
-use prob_contexts::{Contexts, Counts, ProbKind, default_contexts};
+use frame_setting::FrameSetting;
+use prob_contexts::{Counts, ProbKind, default_contexts};
 use std::alloc::{AllocError, Global};
 use std::test::Fail;
 use vp9_types::{BlockSize, IntraMode, Modes, Partition, ReferenceMode, TxMode, TxSize};
@@ -113,7 +115,12 @@ fn segments() -> Segmentation {
     }
 }
 
-fn key_frame(segmentation: Segmentation) -> Header {
+/// A key frame of so many places of 8x8.
+fn key_frame(segmentation: Segmentation, frame: FramePlaces) -> Header
+    requires rows { (1 ≤ frame.rows) × (frame.rows ≤ 100) }
+    requires cols { (1 ≤ frame.cols) × (frame.cols ≤ 100) }
+    ensures { IsFrameSize result.size }
+{
     Header {
         profile: 0,
         kind: FrameKind::Key,
@@ -122,8 +129,8 @@ fn key_frame(segmentation: Segmentation) -> Header {
         reset_context: 0,
         color: ColorConfig::DEFAULT,
         size: FrameSize {
-            width: 8,
-            height: 8,
+            width: 8 * frame.cols,
+            height: 8 * frame.rows,
         },
         refresh: 255,
         contexts: FrameContexts {
@@ -161,22 +168,21 @@ fn modes(tx_mode: TxMode) -> Modes {
     }
 }
 
-/// A tile that is read without residue, and the digest of its blocks.
+/// A tile that is read without residue, how many blocks there is room for, and the digest of those so far.
 #[derive(Drop)]
 struct Tile<'a> {
-    decoder: BoolDecoder<'a>,
-    header: Header,
-    modes: Modes,
-    contexts: Contexts,
+    reader: CountingReader<'a, true>,
+    setting: FrameSetting,
     grid: BlockGrid,
-    frame: FramePlaces,
+    room: usize,
     from: u32,
     to: u32,
     digest: u64,
-    ghost few: { (frame.rows ≤ 100) × (frame.cols ≤ 100) × (to ≤ frame.cols) },
-    ghost grid_rows: { grid.rows ≡ frame.rows },
+    ghost few: { (setting.places.rows ≤ 100) × (setting.places.cols ≤ 100) × (to ≤ setting.places.cols) },
+    ghost grid_rows: { grid.rows ≡ setting.places.rows },
     ghost grid_from: { grid.from ≡ from },
     ghost grid_to: { grid.to ≡ to },
+    ghost grid_room: { grid.room ≡ room },
 }
 
 fn digest_of(digest: u64, block: &BlockInfo) -> u64 {
@@ -203,12 +209,15 @@ fn digest_of(digest: u64, block: &BlockInfo) -> u64 {
 
 fn read_block(tile: &mut Tile<'_>, row: u32, col: u32, size: BlockSize) -> Result<(), AllocError>
     requires first { tile.old.from ≤ col }
-    ensures frame { tile.new.frame ≡ tile.old.frame }
+    ensures setting { tile.new.setting ≡ tile.old.setting }
     ensures from { tile.new.from ≡ tile.old.from }
     ensures to { tile.new.to ≡ tile.old.to }
 {
-    if row >= tile.frame.rows || col >= tile.to {
+    if row >= tile.setting.places.rows || col >= tile.to {
         return Ok(());
+    }
+    if tile.room == 0 {
+        return Err(AllocError);
     }
     let at = BlockAt {
         row,
@@ -217,26 +226,19 @@ fn read_block(tile: &mut Tile<'_>, row: u32, col: u32, size: BlockSize) -> Resul
         tile_from: tile.from,
         tile_to: tile.to,
     };
-    let mut counts = Counts::new();
-    let info = intra_frame_mode_info(
-        &mut tile.decoder,
-        &tile.header,
-        &tile.modes,
-        &tile.contexts,
-        &mut counts,
-        at,
-        &tile.grid,
-    );
+    let info = intra_frame_mode_info(&mut tile.reader, &tile.setting, &tile.grid, at);
     tile.digest = digest_of(tile.digest, &info);
-    tile.grid.put(info)
+    tile.grid.put(info);
+    tile.room -= 1;
+    Ok(())
 }
 
 fn partition_of(tile: &mut Tile<'_>, row: u32, col: u32, level: u8) -> Partition
     requires level { level ≤ 3 }
-    requires row { row < tile.old.frame.rows }
+    requires row { row < tile.old.setting.places.rows }
     requires first { tile.old.from ≤ col }
     requires col { col < tile.old.to }
-    ensures frame { tile.new.frame ≡ tile.old.frame }
+    ensures setting { tile.new.setting ≡ tile.old.setting }
     ensures from { tile.new.from ≡ tile.old.from }
     ensures to { tile.new.to ≡ tile.old.to }
 {
@@ -247,16 +249,7 @@ fn partition_of(tile: &mut Tile<'_>, row: u32, col: u32, level: u8) -> Partition
         tile_from: tile.from,
         tile_to: tile.to,
     };
-    let mut counts = Counts::new();
-    read_partition(
-        &mut tile.decoder,
-        &mut counts,
-        true,
-        &tile.contexts,
-        &tile.grid,
-        tile.frame,
-        at,
-    )
+    read_partition(&mut tile.reader, &tile.setting, true, &tile.grid, at)
 }
 
 fn read_square(tile: &mut Tile<'_>, row: u32, col: u32, level: u8) -> Result<(), AllocError>
@@ -264,11 +257,11 @@ fn read_square(tile: &mut Tile<'_>, row: u32, col: u32, level: u8) -> Result<(),
     requires row { row ≤ 200 }
     requires col { col ≤ 200 }
     requires first { tile.old.from ≤ col }
-    ensures frame { tile.new.frame ≡ tile.old.frame }
+    ensures setting { tile.new.setting ≡ tile.old.setting }
     ensures from { tile.new.from ≡ tile.old.from }
     ensures to { tile.new.to ≡ tile.old.to }
 {
-    if row >= tile.frame.rows || col >= tile.to {
+    if row >= tile.setting.places.rows || col >= tile.to {
         return Ok(());
     }
     let partition = partition_of(tile, row, col, level);
@@ -308,18 +301,21 @@ fn read_tile(
     frame: FramePlaces,
     columns: (u32, u32),
 ) -> Result<(usize, u64), Fail>
-    requires rows { frame.rows ≤ 100 }
-    requires cols { frame.cols ≤ 100 }
+    requires rows { (1 ≤ frame.rows) × (frame.rows ≤ 100) }
+    requires cols { (1 ≤ frame.cols) × (frame.cols ≤ 100) }
     requires tile { columns.0 ≤ columns.1 }
     requires within { columns.1 ≤ frame.cols }
 {
+    let header = key_frame(segmentation, frame);
+    let setting = FrameSetting::new(&header, modes(tx_mode), default_contexts());
+    if setting.places != frame {
+        return Err(Fail::from(AllocError));
+    }
     let mut tile = Tile {
-        decoder: BoolDecoder::start(bytes)?,
-        header: key_frame(segmentation),
-        modes: modes(tx_mode),
-        contexts: default_contexts(),
-        grid: BlockGrid::new(alloc, frame.rows, columns.0, columns.1)?,
-        frame,
+        reader: CountingReader::start(bytes, Counts::new())?,
+        setting,
+        grid: BlockGrid::new(alloc, frame.rows, columns.0, columns.1, 100)?,
+        room: 100,
         from: columns.0,
         to: columns.1,
         digest: 0,
@@ -330,31 +326,6 @@ fn read_tile(
         }
     }
     Ok((tile.grid.blocks().len(), tile.digest))
-}
-
-#[test]
-fn zeros(rt: HostRuntime) -> Result<(), Fail> {
-    let nine = FramePlaces { rows: 9, cols: 9 };
-    let read = read_tile(
-        rt.alloc(),
-        &[0; 8],
-        NO_SEGMENTS,
-        TxMode::Selected,
-        nine,
-        (0, 9),
-    )?;
-    assert_eq!(rt; read, (4, 1437930241253754374));
-    let one = FramePlaces { rows: 1, cols: 1 };
-    let read = read_tile(
-        rt.alloc(),
-        &[0; 2],
-        NO_SEGMENTS,
-        TxMode::Only4x4,
-        one,
-        (0, 1),
-    )?;
-    assert_eq!(rt; read, (1, 2558673112323));
-    Ok(())
 }
 
 /// A block of bools 0.
@@ -383,7 +354,7 @@ fn summary_of(blocks: &[BlockInfo]) -> (usize, u64) {
 
 /// Of 72x72 the last places of 8x8 stand alone at the edges; K8 has one place.
 #[test]
-fn zeros_by_hand(rt: HostRuntime) -> Result<(), Fail> {
+fn zeros(rt: HostRuntime) -> Result<(), Fail> {
     let nine = FramePlaces { rows: 9, cols: 9 };
     let read = read_tile(
         rt.alloc(),
@@ -450,9 +421,12 @@ fn varied(rt: HostRuntime) -> Result<(), Fail> {
 
 #[test]
 fn counts(rt: HostRuntime) -> Result<(), Fail> {
-    let grid = BlockGrid::new(rt.alloc(), 1, 0, 1)?;
-    let mut decoder = BoolDecoder::start(&[0])?;
-    let mut counts = Counts::new();
+    let one = FramePlaces { rows: 1, cols: 1 };
+    let header = key_frame(NO_SEGMENTS, one);
+    let setting = FrameSetting::new(&header, modes(TxMode::Only4x4), default_contexts());
+    assert_eq!(rt; setting.places, one);
+    let grid = BlockGrid::new(rt.alloc(), 1, 0, 1, 0)?;
+    let mut reader: CountingReader<true> = CountingReader::start(&[0], Counts::new())?;
     let at = SquareAt {
         row: 0,
         col: 0,
@@ -460,17 +434,9 @@ fn counts(rt: HostRuntime) -> Result<(), Fail> {
         tile_from: 0,
         tile_to: 1,
     };
-    let one = FramePlaces { rows: 1, cols: 1 };
-    let partition = read_partition(
-        &mut decoder,
-        &mut counts,
-        true,
-        &default_contexts(),
-        &grid,
-        one,
-        at,
-    );
+    let partition = read_partition(&mut reader, &setting, true, &grid, at);
     assert_eq!(rt; partition, Partition::Split);
+    let counts = reader.into_counts();
     assert_eq!(rt; counts.counter(ProbKind::Partition, 36, true), 1);
     assert_eq!(rt; counts.counter(ProbKind::Partition, 38, true), 1);
     assert_eq!(rt; counts.counter(ProbKind::Partition, 38, false), 0);

@@ -15,7 +15,7 @@ use Rattle.vp9_types.specs.declared.shape.Depth.TheVariants.{Eight, Ten, Twelve}
 use Rattle.vp9_types.specs.declared.block.TxSize.{TxSize}
 use Rattle.vp9_types.specs.declared.block.TxType.{TxType}
 use Rattle.vp9_types.specs.declared.block.TxSize.TheVariants.{T4x4, T8x8, T16x16, T32x32}
-use Rattle.vp9_tables.specs.Scans.{side}
+use Rattle.vp9_types.specs.Sizes.{side}
 use Rattle.inverse_transforms.specs.Ranges.{limit_of, fits}
 use Rattle.inverse_transforms.specs.Flow.{at, and_then, Gives}
 use Rattle.inverse_transforms.proofs.Small.{AtMost, at_small, fits_small, dct_small, adst_small, wht_small}

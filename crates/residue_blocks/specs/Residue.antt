@@ -8,7 +8,7 @@ use Rattle.vp9_types.specs.declared.block.TxSize.{TxSize}
 use Rattle.vp9_types.specs.declared.block.TxSize.TheVariants.{T4x4, T8x8, T16x16, T32x32}
 use Rattle.vp9_types.specs.declared.block.TxType.{TxType}
 use Rattle.vp9_types.specs.declared.block.TxType.TheVariants.{DctDct, AdstDct, DctAdst, AdstAdst}
-use Rattle.vp9_tables.specs.Scans.{side}
+use Rattle.vp9_types.specs.Sizes.{side}
 use Rattle.inverse_transforms.specs.Ranges.{fits, limit_of}
 use Rattle.inverse_transforms.specs.Flow.{at, and_then}
 use Rattle.inverse_transforms.specs.Transforms.{dct, adst, wht}

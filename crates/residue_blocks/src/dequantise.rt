@@ -6,19 +6,8 @@ ghost use Rattle.residue_blocks.specs.Residue.{IsLevel, IsShort, scaled, quantis
 
 use crate::quant::Quant;
 use crate::scale::{are_short, scale};
+use inverse_transforms::limit_of;
 use vp9_types::{Depth, Rule, TxSize};
-
-/// A value of `8 + depth` bits is at least minus this, and below it.
-fn limit_of(depth: Depth) -> i64
-    ensures value { result ≡ pos (limit_of depth) }
-    ensures size { unsigned_abs result ≤ 2 ^ 19 }
-{
-    match depth {
-        Depth::Eight => 1 << 15,
-        Depth::Ten => 1 << 17,
-        Depth::Twelve => 1 << 19,
-    }
-}
 
 #[inline(always)]
 fn product(level: i32, step: u16) -> i64
@@ -48,7 +37,7 @@ fn fitting(x: i64, depth: Depth) -> Result<i32, Rule>
     requires { unsigned_abs x ≤ 2 ^ 40 }
     ensures { Fitting (limit_of depth) x result }
 {
-    let limit = limit_of(depth);
+    let limit = limit_of(depth) as i64;
     if x < -limit || limit <= x {
         return Err(Rule::CoefRange);
     }
@@ -86,17 +75,6 @@ fn dequantise_any(block: &mut [i32], tx: TxSize, quant: Quant) -> Result<(), Rul
     Ok(())
 }
 
-fn short_limit_of(depth: Depth) -> u32
-    ensures value { result ≡ limit_of depth }
-    ensures size { result ≤ 2 ^ 19 }
-{
-    match depth {
-        Depth::Eight => 1 << 15,
-        Depth::Ten => 1 << 17,
-        Depth::Twelve => 1 << 19,
-    }
-}
-
 /// The coefficients of short levels: all are multiplied as those behind the first are, which is put in afterwards.
 fn dequantise_short(block: &mut [i32], tx: TxSize, quant: Quant) -> Result<(), Rule>
     requires some { 0 < length block.old }
@@ -105,7 +83,7 @@ fn dequantise_short(block: &mut [i32], tx: TxSize, quant: Quant) -> Result<(), R
 {
     let first = coefficient(block[0], 0, tx, quant)?;
     block[0] = 0;
-    if scale(block, quant.ac, tx, short_limit_of(quant.depth)) {
+    if scale(block, quant.ac, tx, limit_of(quant.depth)) {
         block[0] = first;
         return Ok(());
     }

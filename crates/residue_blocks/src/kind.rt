@@ -5,7 +5,7 @@ ghost use Rattle.std.specs.Bool.{OnTrue};
 ghost use Rattle.inverse_transforms.specs.Flow.{at, zeros};
 ghost use Rattle.inverse_transforms.specs.Columns.{GivesColumns, column};
 ghost use Rattle.inverse_transforms.specs.Ranges.{IsSmall, limit_of};
-ghost use Rattle.vp9_tables.specs.Scans.{side};
+ghost use Rattle.vp9_types.specs.Sizes.{side};
 ghost use Rattle.residue_blocks.specs.Residue.{transform, has_size, kind_of_rows, kind_of_columns, rounding_bits, log2_of};
 
 use inverse_transforms::{Lanes, adst_columns, dct_columns, wht_columns};

@@ -3,7 +3,8 @@
 ghost use Rattle.std.specs.Prelude.{◌≡◌, ◌+◌, ◌*◌, ◌^◌, ◌≤◌, ◌<◌, length, unsigned_abs, All, IsTrue, OnOk};
 ghost use Rattle.inverse_transforms.specs.Flow.{Gives};
 ghost use Rattle.inverse_transforms.specs.Ranges.{IsSmall};
-ghost use Rattle.vp9_tables.specs.Scans.{side, area};
+ghost use Rattle.vp9_tables.specs.Scans.{area};
+ghost use Rattle.vp9_types.specs.Sizes.{side};
 ghost use Rattle.residue_blocks.specs.Residue.{IsLevel, has_size, log2_of, rounding_bits, kind_of_rows, kind_of_columns, reconstructed, residue};
 
 use crate::dequantise::dequantise;

@@ -7,6 +7,7 @@ ghost use Rattle.inverse_transforms.specs.Columns.{AllHold};
 ghost use Rattle.inverse_transforms.specs.Ranges.{fits};
 ghost use Rattle.residue_blocks.specs.Residue.{IsShort, scaled};
 
+use inverse_transforms::is_fit;
 use vp9_types::TxSize;
 
 #[inline(always)]
@@ -46,14 +47,6 @@ fn scaled(x: i32, tx: TxSize) -> i32
         TxSize::T32x32 => x / 2,
         TxSize::T4x4 | TxSize::T8x8 | TxSize::T16x16 => x,
     }
-}
-
-#[inline(always)]
-fn is_fit(x: i32, limit: u32) -> bool
-    requires { limit ≤ 2 ^ 24 }
-    ensures { result ≡ fits limit x }
-{
-    (-(limit as i32) <= x) & (x < limit as i32)
 }
 
 /// Multiplies short levels by one step, and tells whether all fit.

@@ -10,28 +10,32 @@ use Rattle.vp9_types.specs.declared.outcome.Outcome.{Outcome}
 use Rattle.vp9_types.specs.declared.outcome.Outcome.TheVariants as outcome
 use Rattle.vp9_types.specs.declared.rule.Rule.{Rule}
 use Rattle.superframe_index.specs.Frames.{frames_of}
-use Rattle.seq_decoder.specs.After.{CodedFrame, coded_frame, shown_picture}
+use Rattle.seq_decoder.specs.After.{CodedFrame, coded_frame, shown_picture, state_after}
 use Rattle.edge_io.specs.declared.sink.PutFault.{PutFault}
 use Rattle.edge_io.specs.declared.sink.PutFault.TheVariants as refused
-use Rattle.frame_headers.specs.declared.persist.Persist.{Persist}
 use Rattle.frame_headers.specs.State.{next_persist}
 use Rattle.prob_contexts.specs.Lists.{ContextLists, lists_of}
 use Rattle.seq_decoder.specs.declared.coding.Coded.{Coded}
-use Rattle.seq_decoder.specs.declared.coding.Halt.{Halt}
-use Rattle.seq_decoder.specs.declared.coding.Halt.TheVariants as halt
+use Rattle.frame_decoder.specs.Code.{HoldsResult}
+use Rattle.frame_decoder.specs.Frames.{FrameResult}
+use Rattle.frame_decoder.specs.declared.halt.Halt.{Halt}
+use Rattle.frame_decoder.specs.declared.halt.Halt.TheVariants as halt
 use Rattle.seq_decoder.specs.SavedContexts.{saved_before, with_own, saved_after}
-use Rattle.seq_decoder.specs.Entries.{Place, place_after, Entry, shown_text, entry_of, frame_entry, going_on, frames_entry, parts_entry, payload_entry, frame_of, IsCoded, TakesFront, Shows, EndsAt, Halts, halt_outcome, refusal_outcome}
+use Rattle.seq_decoder.specs.Code.{saved_lists, StandsFor, Place, place_after, Entry, shown_text, entry_of, frame_entry, going_on, frames_entry, parts_entry, payload_entry, frame_of, IsCoded, TakesFront, Shows, EndsAt, Halts, halt_outcome, refusal_outcome}
 use Rattle.seq_decoder.specs.FileFrames.{frame_bytes}
 use Rattle.seq_decoder.specs.Outcomes.{outcome_at}
 use Rattle.seq_decoder.specs.Runs.{RunEnding}
+use Rattle.seq_decoder.specs.State.{State, persist_of}
+use Rattle.seq_decoder.specs.declared.decoder.Decoder.{Decoder}
+use Rattle.seq_decoder.proofs.Slots.{persist_after}
 use Rattle.seq_decoder.proofs.Fronts.{takes_none, takes_more, no_front, front_behind, front_longer}
 
-pub frame_decoded : (place : Place) (frame : List ℕ) (f : CodedFrame) → coded_frame place.persist place.contexts frame ≡ Ok f
-    → frame_entry place frame ≡ record { text = shown_text (shown_picture f); next = Ok (place_after place f) }
+pub frame_decoded : (place : Place) (frame : List ℕ) (f : CodedFrame) → coded_frame (persist_of place.state) place.state.contexts frame ≡ Ok f
+    → frame_entry place frame ≡ record { text = shown_text (shown_picture place.frame f); next = Ok (place_after place f) }
 unfolding frame_entry
 frame_decoded place frame f h = ap (entry_of place) h
 
-frame_refused : (place : Place) (frame : List ℕ) (fault : Fault) → coded_frame place.persist place.contexts frame ≡ Err fault
+frame_refused : (place : Place) (frame : List ℕ) (fault : Fault) → coded_frame (persist_of place.state) place.state.contexts frame ≡ Err fault
     → frame_entry place frame ≡ entry_of place (Err fault)
 unfolding frame_entry
 frame_refused place frame fault h = ap (entry_of place) h
@@ -40,37 +44,48 @@ fault_halts : (place : Place) (fault : Fault) (old : Option (List ℕ)) (faults 
 fault_halts place (fault.Broken rule) old faults = record { ends = refl; takes = takes_none old; quiet = refl }
 fault_halts place (fault.Unbuilt part) old faults = record { ends = refl; takes = takes_none old; quiet = refl }
 
-frame_stops : (place : Place) (frame : List ℕ) (fault : Fault) (old : Option (List ℕ)) (faults : ℕ) → coded_frame place.persist place.contexts frame ≡ Err fault
+frame_stops : (place : Place) (frame : List ℕ) (fault : Fault) (old : Option (List ℕ)) (faults : ℕ) → coded_frame (persist_of place.state) place.state.contexts frame ≡ Err fault
     → Halts (frame_entry place frame) old old faults faults (outcome_at place.frame fault)
 frame_stops place frame fault old faults h =
     subst (λ e. Halts e old old faults faults (outcome_at place.frame fault)) (sym (frame_refused place frame fault h)) (fault_halts place fault old faults)
 
 -- at a frame that can't be decoded
-pub frame_halted : (place : Place) (frame : List ℕ) (h : Halt) (old : Option (List ℕ)) (faults : ℕ) → IsCoded (coded_frame place.persist place.contexts frame) (Err h)
+pub frame_halted : (place : Place) (frame : List ℕ) (h : Halt) (old : Option (List ℕ)) (faults : ℕ) → IsCoded (coded_frame (persist_of place.state) place.state.contexts frame) (Err h)
     → Halts (frame_entry place frame) old old faults faults (halt_outcome place.frame h)
 frame_halted place frame (halt.Fault fault) old faults is = frame_stops place frame fault old faults is
 frame_halted place frame halt.OutOfMemory old faults is = (no_front old (frame_entry place frame).text, refl)
 
-frame_fronts : (place : Place) (frame : List ℕ) (f : CodedFrame) (old new : Option (List ℕ)) → coded_frame place.persist place.contexts frame ≡ Ok f
-    → TakesFront old new (shown_text (shown_picture f)) → TakesFront old new (frame_entry place frame).text
+frame_fronts : (place : Place) (frame : List ℕ) (f : CodedFrame) (old new : Option (List ℕ)) → coded_frame (persist_of place.state) place.state.contexts frame ≡ Ok f
+    → TakesFront old new (shown_text (shown_picture place.frame f)) → TakesFront old new (frame_entry place frame).text
 frame_fronts place frame f old new h k = subst (λ e. TakesFront old new e.text) (sym (frame_decoded place frame f h)) k
 
 -- at a frame that the sink refuses
-pub frame_refuses : (place : Place) (frame : List ℕ) (f : CodedFrame) (old new : Option (List ℕ)) (faults now : ℕ) (refusal : PutFault) → coded_frame place.persist place.contexts frame ≡ Ok f
-    → Shows (shown_text (shown_picture f)) old new faults now (Err refusal) → Halts (frame_entry place frame) old new faults now (refusal_outcome refusal)
+pub frame_refuses : (place : Place) (frame : List ℕ) (f : CodedFrame) (old new : Option (List ℕ)) (faults now : ℕ) (refusal : PutFault) → coded_frame (persist_of place.state) place.state.contexts frame ≡ Ok f
+    → Shows (shown_text (shown_picture place.frame f)) old new faults now (Err refusal) → Halts (frame_entry place frame) old new faults now (refusal_outcome refusal)
 frame_refuses place frame f old new faults now refused.Failed h k = (frame_fronts place frame f old new h k.0, k.1)
 frame_refuses place frame f old new faults now refused.OutOfMemory h k = (frame_fronts place frame f old new h k.0, k.1)
 
--- the place behind a frame
-pub place_is : (place : Place) (c : Coded) (persist : Persist) (reset new : List ContextLists)
-    → persist ≡ next_persist c.header place.persist → reset ≡ saved_before c.header place.contexts → new ≡ with_own c.header (lists_of c.decoded.contexts) reset
-    → place_after place (frame_of c) ≡ record { frame = place.frame + 1; persist = persist; contexts = new }
+-- a frame that is decoded as the code's state says is decoded so in the state
+pub coded_in : (d : Decoder) (state : State) (bytes : List ℕ) (r : Result Coded Halt) → StandsFor d state
+    → IsCoded (coded_frame d.persist (saved_lists d.saved) bytes) r → IsCoded (coded_frame (persist_of state) state.contexts bytes) r
+coded_in d state bytes r stands h =
+    subst (λ saved. IsCoded (coded_frame (persist_of state) saved bytes) r) stands.contexts (subst (λ p. IsCoded (coded_frame p (saved_lists d.saved) bytes) r) stands.persist h)
+
+-- behind a frame
+pub stands_after : (number : ℕ) (state : State) (c : Coded) (result : FrameResult) (old d : Decoder) (reset : List ContextLists) → HoldsResult c.header c.picture c.decoded result → StandsFor old state
+    → d.persist ≡ next_persist c.header old.persist → reset ≡ saved_before c.header (saved_lists old.saved)
+    → saved_lists d.saved ≡ with_own c.header (lists_of c.decoded.contexts) reset → StandsFor d (state_after number state (frame_of c result))
 unfolding saved_after
-place_is place c persist reset new is_persist is_reset is_new = rw (is_persist, is_new, is_reset) refl
+stands_after number state c result old d reset holds stands is_persist is_reset is_new = record {
+  persist = is_persist ∙ ap (next_persist c.header) stands.persist ∙ sym (persist_after number state (frame_of c result));
+  contexts = is_new ∙ ap (with_own c.header (lists_of c.decoded.contexts)) is_reset
+      ∙ ap (λ s. with_own c.header (lists_of c.decoded.contexts) (saved_before c.header s)) stands.contexts
+      ∙ ap (λ own. with_own c.header own (saved_before c.header state.contexts)) holds.contexts;
+}
 
 -- a frame that is decoded and written
-pub frame_adds : (place next : Place) (frame : List ℕ) (f : CodedFrame) (old new : Option (List ℕ)) (faults now : ℕ) → coded_frame place.persist place.contexts frame ≡ Ok f
-    → place_after place f ≡ next → Takes old new (shown_text (shown_picture f)) → now ≡ faults
+pub frame_adds : (place next : Place) (frame : List ℕ) (f : CodedFrame) (old new : Option (List ℕ)) (faults now : ℕ) → coded_frame (persist_of place.state) place.state.contexts frame ≡ Ok f
+    → place_after place f ≡ next → Takes old new (shown_text (shown_picture place.frame f)) → now ≡ faults
     → ((frame_entry place frame).next ≡ Ok next) × Takes old new (frame_entry place frame).text × (now ≡ faults)
 frame_adds place next frame f old new faults now h is takes quiet =
     let e = frame_decoded place frame f h in (

@@ -3,7 +3,7 @@ use Rattle.std.proofs.Common.{◌≡◌, ℕ, List, [], ◌++◌, refl, sym, ap,
 use Rattle.std.specs.Prelude.{Option, Some}
 use Rattle.std.proofs.lemmas.List.{append-nil}
 use Rattle.edge_io.specs.Putting.{Takes}
-use Rattle.seq_decoder.specs.Entries.{TakesFront}
+use Rattle.seq_decoder.specs.Code.{TakesFront}
 
 pub takes_none : (old : Option (List ℕ)) → Takes old old []
 takes_none old = (λ bytes told. told ∙ ap Some (sym (append-nil bytes)), λ none. none)

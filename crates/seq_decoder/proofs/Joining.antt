@@ -7,10 +7,10 @@ use Rattle.vp9_types.specs.declared.rule.Rule.{Rule}
 use Rattle.ivf_container.specs.Packets.{Packets, packets_of}
 use Rattle.superframe_index.specs.Frames.{frames_of}
 use Rattle.seq_decoder.specs.After.{CodedFrame, coded_frame, after, step, state_after, shown_picture}
-use Rattle.seq_decoder.specs.Entries.{Place, first_place, Entry, shown_text, entry_of, frame_entry, going_on, frames_entry, parts_entry, payload_entry}
+use Rattle.seq_decoder.specs.Code.{Place, first_place, Entry, shown_text, entry_of, frame_entry, going_on, frames_entry, parts_entry, payload_entry}
 use Rattle.seq_decoder.specs.FileFrames.{FileFrames, frame_bytes, joined, join, frames_of_file}
 use Rattle.seq_decoder.specs.Runs.{Run, RunEnding, done, showing, stop_at, followed, run_from, run_of, out_text}
-use Rattle.seq_decoder.specs.State.{Picture, State, start_state}
+use Rattle.seq_decoder.specs.State.{Picture, State, persist_of, start_state}
 
 -- what a run writes, and how it ends
 pub record Writing : Type 0 where
@@ -31,7 +31,7 @@ writes_on text (Ok place) more = with_text text (more place)
 writes_on text (Err ending) more = record { text = text; ending = ending }
 
 abbrev place_in : ℕ → State → Place
-place_in frame state = record { frame = frame; persist = state.persist; contexts = state.contexts }
+place_in frame state = record { frame = frame; state = state }
 
 -- what frames write from a place on
 abbrev write_frames : Place → List (List ℕ) → Option Rule → Writing
@@ -50,9 +50,11 @@ shown_writing (Some picture) more = refl
 
 step_writing : (f : Result CodedFrame Fault) (frame : ℕ) (state : State) (more : State → Run) (again : Place → Writing)
     → ((s : State) → written (more s) ≡ again (place_in (frame + 1) s))
-    → written (followed frame (after state f) more) ≡ writes_on (entry_of (place_in frame state) f).text (entry_of (place_in frame state) f).next again
+    → written (followed frame (after frame state f) more) ≡ writes_on (entry_of (place_in frame state) f).text (entry_of (place_in frame state) f).next again
 step_writing (Ok f) frame state more again h =
-    shown_writing (shown_picture f) (more (state_after state f)) ∙ ap (with_text (shown_text (shown_picture f))) (h (state_after state f))
+    let next = state_after frame state f in
+    shown_writing (shown_picture frame f) (more next)
+    ∙ ap (with_text (shown_text (shown_picture frame f))) (h next)
 step_writing (Err fault) frame state more again h = refl
 
 run_writing : (frames : List (List ℕ)) (frame : ℕ) (state : State) (rule : Option Rule) → written (run_from frame state frames rule) ≡ write_frames (place_in frame state) frames rule
@@ -60,7 +62,7 @@ unfolding step frame_entry
 run_writing [] frame state None = refl
 run_writing [] frame state (Some rule) = refl
 run_writing (bytes ∷ frames) frame state rule =
-    step_writing (coded_frame state.persist state.contexts bytes) frame state (λ next. run_from (frame + 1) next frames rule) (λ next. write_frames next frames rule)
+    step_writing (coded_frame (persist_of state) state.contexts bytes) frame state (λ next. run_from (frame + 1) next frames rule) (λ next. write_frames next frames rule)
     (λ s. run_writing frames (frame + 1) s rule)
 
 -- what payloads write from a place on

@@ -9,7 +9,7 @@ use Rattle.vp9_types.specs.declared.outcome.Outcome.{Outcome}
 use Rattle.vp9_types.specs.declared.outcome.Outcome.TheVariants as outcome
 use Rattle.vp9_types.specs.declared.rule.Rule.{Rule}
 use Rattle.ivf_container.specs.Packets.{Packets, no_packets, with_payload, packets_of}
-use Rattle.seq_decoder.specs.Entries.{Place, first_place, Entry, payload_entry, TakesFront, EndsAt, Halts}
+use Rattle.seq_decoder.specs.Code.{Place, first_place, Entry, payload_entry, TakesFront, EndsAt, Halts}
 use Rattle.seq_decoder.specs.Outcomes.{Completes, WritesFront, Decodes, outcome_at}
 use Rattle.seq_decoder.specs.Runs.{Run, RunEnding, done, stop_at, run_of, out_text}
 use Rattle.seq_decoder.proofs.Fronts.{takes_none, takes_more, front_behind, front_longer}

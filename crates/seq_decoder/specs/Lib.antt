@@ -4,6 +4,4 @@ pub mod SavedContexts
 pub mod After
 pub mod Runs
 pub mod Outcomes
-pub mod SavedLists
-pub mod Heads
-pub mod Entries
+pub mod Code

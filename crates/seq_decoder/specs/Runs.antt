@@ -46,7 +46,7 @@ followed frame (Err fault) more = ends (fault_at frame fault)
 abbrev pub run_from : ℕ → State → List (List ℕ) → Option Rule → Run
 run_from frame state [] None = ends done
 run_from frame state [] (Some rule) = ends (stop_at frame rule)
-run_from frame state (bytes ∷ frames) rule = followed frame (step state bytes) (λ next. run_from (frame + 1) next frames rule)
+run_from frame state (bytes ∷ frames) rule = followed frame (step frame state bytes) (λ next. run_from (frame + 1) next frames rule)
 
 abbrev pub run_all : ℕ → State → FileFrames → Run
 run_all frame state file = run_from frame state file.frames file.ending

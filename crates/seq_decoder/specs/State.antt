@@ -1,28 +1,41 @@
--- What a decoder keeps from frame to frame (7.2 and 8.10 of the standard). The motion vectors of the last decoded
--- frame are not part of it yet: no frame that is built reads or leaves any.
-use Rattle.std.specs.Prelude.{◌≡◌, ℕ, ◌%◌, ◌/◌, ◌==◌, Bool, List, [], ◌∷◌, map, Option, Some, None, replicate, if◌then◌else◌}
+-- What a decoder keeps from frame to frame (7.2 and 8.10 of the standard).
+use Rattle.std.specs.Prelude.{ℕ, ◌%◌, ◌/◌, ◌==◌, Bool, List, [], ◌∷◌, map, Option, Some, None, replicate, if◌then◌else◌}
 use Rattle.vp9_types.specs.declared.shape.Shape.{Shape}
 use Rattle.vp9_types.specs.Maps.{Map, FrameMap}
+use Rattle.frame_headers.specs.Color.{default_color}
+use Rattle.frame_headers.specs.Segments.{no_features}
+use Rattle.frame_headers.specs.State.{default_deltas}
+use Rattle.frame_headers.specs.declared.color.ColorConfig.{ColorConfig}
+use Rattle.frame_headers.specs.declared.filter.LoopDeltas.{LoopDeltas}
+use Rattle.frame_headers.specs.declared.header.FrameSize.{FrameSize}
 use Rattle.frame_headers.specs.declared.persist.Persist.{Persist}
-use Rattle.frame_headers.specs.State.{start_persist}
+use Rattle.frame_headers.specs.declared.segments.Features.{Features}
 use Rattle.prob_contexts.specs.Lists.{ContextLists}
 use Rattle.prob_contexts.specs.Defaults.{default_lists}
+use Rattle.block_plan.specs.declared.block.BlockInfo.{BlockInfo}
 
--- the samples of a decoded frame
+-- a decoded frame: its number, and its samples
 pub record Picture : Type 0 where
+  pub frame : ℕ
   pub shape : Shape
   pub map : FrameMap
 
--- of the last decoded frame, besides its size: whether it was shown, and whether it was a key frame
+-- of the last decoded frame: its size, whether it was shown and whether it was a key frame, and its blocks, tile column by
+-- tile column. (The motion vectors that are saved of it are those of its blocks.)
 pub record LastFrame : Type 0 where
+  pub size : FrameSize
   pub shown : Bool
   pub key : Bool
+  pub blocks : List BlockInfo
 
--- What headers read, the samples in the eight slots, the probabilities in the four places, the segment of each place of
--- 8x8 luma samples (row, column), and the last decoded frame.
+-- What the eight slots hold; the colour configuration of the last intra frame, the filter deltas and the features of
+-- segments in force; the probabilities in the four places; the segment of each place of 8x8 luma samples (row, column);
+-- and the last decoded frame.
 pub record State : Type 0 where
-  pub persist : Persist
   pub slots : List (Option Picture)
+  pub color : ColorConfig
+  pub deltas : LoopDeltas
+  pub features : Features
   pub contexts : List ContextLists
   pub segments : Map
   pub last : Option LastFrame
@@ -33,11 +46,31 @@ no_segments = λ _ _. 0
 -- before the first frame
 abbrev pub start_state : State
 start_state = record {
-  persist = start_persist;
   slots = replicate 8 None;
+  color = default_color;
+  deltas = default_deltas;
+  features = no_features;
   contexts = replicate 4 default_lists;
   segments = no_segments;
   last = None;
+}
+
+abbrev pub slot_shape : Option Picture → Option Shape
+slot_shape None = None
+slot_shape (Some picture) = Some picture.shape
+
+abbrev pub last_size : Option LastFrame → Option FrameSize
+last_size None = None
+last_size (Some last) = Some last.size
+
+-- what headers read of it
+abbrev pub persist_of : State → Persist
+persist_of state = record {
+  slots = map slot_shape state.slots;
+  color = state.color;
+  deltas = state.deltas;
+  features = state.features;
+  size = last_size state.last;
 }
 
 abbrev pub held_picture : ℕ → Picture → Option Picture → Option Picture
@@ -47,11 +80,3 @@ held_picture flags picture old = if flags % 2 == 1 then Some picture else old
 abbrev pub refreshed_slots : ℕ → Picture → List (Option Picture) → List (Option Picture)
 refreshed_slots flags picture [] = []
 refreshed_slots flags picture (slot ∷ slots) = held_picture flags picture slot ∷ refreshed_slots (flags / 2) picture slots
-
-abbrev pub slot_shape : Option Picture → Option Shape
-slot_shape None = None
-slot_shape (Some picture) = Some picture.shape
-
--- the slots hold pictures of the shapes that headers read
-abbrev pub HasShapes : State → Type 0
-HasShapes state = map slot_shape state.slots ≡ state.persist.slots

@@ -6,29 +6,24 @@ ghost use Rattle.frame_headers.specs.Sizes.{IsFrameSize};
 ghost use Rattle.frame_headers.specs.Tiles.{AreFewTiles};
 ghost use Rattle.frame_decoder.specs.Built.{first_unbuilt};
 ghost use Rattle.seq_decoder.specs.After.{built_head, coded_frame};
-ghost use Rattle.seq_decoder.specs.Entries.{IsCoded};
-ghost use Rattle.seq_decoder.specs.Heads.{LiesWithin};
+ghost use Rattle.seq_decoder.specs.Code.{IsCoded};
+ghost use Rattle.seq_decoder.specs.Code.{LiesWithin};
 ghost use Rattle.seq_decoder.specs.SavedContexts.{saved_before};
-ghost use Rattle.seq_decoder.specs.SavedLists.{saved_lists};
+ghost use Rattle.seq_decoder.specs.Code.{saved_lists};
 
 use crate::saved::{SavedContexts, place_of};
-use frame_decoder::{Decoded, FrameFault, decode_frame, first_unbuilt};
+use frame_decoder::{Decoded, Halt, decode_frame, first_unbuilt};
 use frame_headers::{FrameHead, Header, Persist, read};
+use planes::Picture;
 use std::alloc::Global;
 use vp9_types::{Fault, Part, Span};
 
-/// A decoded frame with its header.
+/// A decoded frame: its header, what it leaves, and its samples.
 #[derive(Drop)]
 pub struct Coded {
     pub header: Header,
     pub decoded: Decoded,
-}
-
-/// Why a frame isn't decoded.
-#[derive(Clone, Copy)]
-pub enum Halt {
-    Fault(Fault),
-    OutOfMemory,
+    pub picture: Picture,
 }
 
 /// The header of a frame, if all that it asks for is built, and where its compressed header lies.
@@ -70,9 +65,11 @@ pub fn decode_coded(
     };
     saved.reset(&header);
     let before = saved.at(place_of(&header));
-    match decode_frame(alloc, bytes, &header, compressed, &before) {
-        Ok(decoded) => Ok(Coded { header, decoded }),
-        Err(FrameFault::Broken(rule)) => Err(Halt::Fault(Fault::Broken(rule))),
-        Err(FrameFault::OutOfMemory) => Err(Halt::OutOfMemory),
-    }
+    let mut picture = Picture::new(alloc, header.shape())?;
+    let decoded = decode_frame(alloc, bytes, &header, compressed, &before, &mut picture)?;
+    Ok(Coded {
+        header,
+        decoded,
+        picture,
+    })
 }

@@ -2,13 +2,15 @@
 
 ghost use Rattle.std.specs.Prelude.{◌≡◌, ◌≤◌, ◌<◌, ◌+◌, ◌^◌, OnOk};
 ghost use Rattle.frame_headers.specs.State.{SlotsHaveSizes};
-ghost use Rattle.seq_decoder.specs.Entries.{first_place, place_of, frame_entry, payload_entry, halt_outcome, refusal_outcome, Adds};
+ghost use Rattle.seq_decoder.specs.Code.{StandsFor, place_at, frame_entry, payload_entry, halt_outcome, refusal_outcome, Adds};
 ghost use Rattle.seq_decoder.specs.Outcomes.{outcome_at};
+ghost use Rattle.seq_decoder.specs.State.{State, start_state};
 
-use crate::coding::{Halt, decode_coded};
+use crate::coding::decode_coded;
 use crate::saved::SavedContexts;
 use crate::showing::show;
 use edge_io::{PutFault, Sink};
+use frame_decoder::Halt;
 use frame_headers::Persist;
 use std::alloc::Global;
 use superframe_index::split;
@@ -53,7 +55,8 @@ fn refusal_outcome(refusal: PutFault) -> Outcome
 impl Decoder {
     /// Before the first frame.
     pub fn new() -> Decoder
-        ensures place { place_of result ≡ first_place }
+        ensures first { result.frame ≡ 0 }
+        ensures stands { StandsFor result start_state }
         ensures sized { SlotsHaveSizes result.persist }
     {
         Decoder {
@@ -73,7 +76,7 @@ impl Decoder {
         requires low { self.old.frame < 2 ^ 63 + 8 }
         requires sized { SlotsHaveSizes self.old.persist }
         requires sink { K.can_put sink.old }
-        ensures adds { Adds (frame_entry (place_of self.old) bytes.now) (place_of self.new)
+        ensures adds { (state : State) → StandsFor self.old state → Adds (frame_entry (place_at self.old state) bytes.now) self.new
             (K.taken sink.old) (K.taken sink.new) (K.faults sink.old) (K.faults sink.new) result }
         ensures near { OnOk result (self.new.frame ≤ self.old.frame + 1) }
         ensures sized { OnOk result (SlotsHaveSizes self.new.persist) }
@@ -102,7 +105,7 @@ impl Decoder {
         requires low { self.old.frame < 2 ^ 63 }
         requires sized { SlotsHaveSizes self.old.persist }
         requires sink { K.can_put sink.old }
-        ensures adds { Adds (payload_entry (place_of self.old) payload.now) (place_of self.new)
+        ensures adds { (state : State) → StandsFor self.old state → Adds (payload_entry (place_at self.old state) payload.now) self.new
             (K.taken sink.old) (K.taken sink.new) (K.faults sink.old) (K.faults sink.new) result }
         ensures near { OnOk result (self.new.frame ≤ self.old.frame + 8) }
         ensures sized { OnOk result (SlotsHaveSizes self.new.persist) }

@@ -10,5 +10,5 @@ mod showing;
 #[cfg(test)]
 mod tests;
 
-pub use laws::slots_have_their_shapes;
+pub use laws::headers_read_what_persists;
 pub use plain::decode_plain;

@@ -2,8 +2,7 @@
 
 ghost use Rattle.std.specs.Prelude.{OnOk};
 ghost use Rattle.frame_headers.specs.Sizes.{IsFrameSize};
-ghost use Rattle.seq_decoder.specs.After.{shown_picture};
-ghost use Rattle.seq_decoder.specs.Entries.{FitsHeader, Shows, shown_text, frame_of};
+ghost use Rattle.seq_decoder.specs.Code.{FitsHeader, Shows, text_of};
 
 use crate::coding::Coded;
 use edge_io::{PutFault, Sink};
@@ -16,9 +15,9 @@ const LEAST_BUFFER: usize = 1 << 16;
 /// Puts the text of a frame into a sink, if the frame is shown.
 pub fn show<K: Sink>(alloc: Global, coded: &Coded, sink: &mut K) -> Result<(), PutFault>
     requires size { IsFrameSize coded.now.header.size }
-    requires fits { FitsHeader coded.now.decoded.frame coded.now.header }
+    requires fits { FitsHeader coded.now.picture coded.now.header }
     requires sink { K.can_put sink.old }
-    ensures shows { Shows (shown_text (shown_picture (frame_of coded.now))) (K.taken sink.old) (K.taken sink.new) (K.faults sink.old) (K.faults sink.new) result }
+    ensures shows { Shows (text_of coded.now) (K.taken sink.old) (K.taken sink.new) (K.faults sink.old) (K.faults sink.new) result }
     ensures again { OnOk result (K.can_put sink.new) }
 {
     if !coded.header.show_frame {
@@ -30,5 +29,5 @@ pub fn show<K: Sink>(alloc: Global, coded: &Coded, sink: &mut K) -> Result<(), P
         Ok(buffer) => buffer,
         Err(_) => return Err(PutFault::OutOfMemory),
     };
-    render(&shape, &coded.decoded.frame, &mut buffer, sink)
+    render(&shape, &coded.picture, &mut buffer, sink)
 }

@@ -1,6 +1,7 @@
 -- Sizes of blocks and of their transforms (section 10 of the standard).
 use Rattle.std.specs.Prelude.{ℕ, ◌+◌, ◌*◌, ◌/◌, Bool, ◌&&◌, ◌||◌, not, Option, None, Some, [], min, slice_index, get_or, nat_eq, nat_le, if◌then◌else◌}
 use Rattle.std.specs.List.{list_any}
+use Rattle.vp9_types.specs.Shapes.{halved}
 use Rattle.vp9_types.specs.declared.block.BlockSize.{BlockSize}
 use Rattle.vp9_types.specs.declared.block.IntraMode.{IntraMode}
 use Rattle.vp9_types.specs.declared.block.IntraMode.TheVariants.{V, H, D135, D117, D153, D207, D63, Tm}
@@ -39,9 +40,6 @@ abbrev pub is_part : Partition → BlockSize → Option BlockSize → Bool
 is_part partition size (Some part) =
     has_size part (part_width partition (width_of size)) (part_height partition (height_of size))
 is_part partition size None = not (nat_eq (width_of size) (height_of size) && nat_le 8 (width_of size))
-
-abbrev pub halved : Bool → ℕ → ℕ
-halved ss n = if ss then n / 2 else n
 
 -- the block of that size, if there is one
 abbrev pub is_in_chroma : BlockSize → Bool → Bool → Option BlockSize → Bool

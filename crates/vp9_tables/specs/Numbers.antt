@@ -1,5 +1,5 @@
 -- The numbers of what tables are indexed by, in the order of the standard (section 3).
-use Rattle.std.specs.Prelude.{ℕ, Bool, true, false}
+use Rattle.std.specs.Prelude.{ℕ, Bool, true, false, nat_eq, if◌then◌else◌}
 use Rattle.vp9_types.specs.declared.shape.Depth.{Depth}
 use Rattle.vp9_types.specs.declared.shape.Depth.TheVariants.{Eight, Ten, Twelve}
 use Rattle.vp9_types.specs.declared.block.TxSize.{TxSize}
@@ -35,6 +35,10 @@ tx_number T4x4 = 0
 tx_number T8x8 = 1
 tx_number T16x16 = 2
 tx_number T32x32 = 3
+
+-- the transform size of a number
+abbrev pub tx_of : ℕ → TxSize
+tx_of n = if nat_eq n 0 then T4x4 else (if nat_eq n 1 then T8x8 else (if nat_eq n 2 then T16x16 else T32x32))
 
 abbrev pub tx_mode_number : TxMode → ℕ
 tx_mode_number Only4x4 = 0

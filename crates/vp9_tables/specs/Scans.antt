@@ -1,17 +1,12 @@
 -- The scans (section 10 of the standard) and the neighbours of a place (9.3).
 use Rattle.std.specs.Prelude.{ℕ, ◌-◌, ◌*◌, ◌/◌, ◌%◌, List, [], ◌∷◌, take, drop, nat_eq, if◌then◌else◌, Contains}
+use Rattle.vp9_types.specs.Sizes.{side}
 use Rattle.vp9_types.specs.declared.block.TxSize.{TxSize}
 use Rattle.vp9_types.specs.declared.block.TxSize.TheVariants.{T4x4, T8x8, T16x16, T32x32}
 use Rattle.vp9_types.specs.declared.block.TxType.{TxType}
 use Rattle.vp9_types.specs.declared.block.TxType.TheVariants.{AdstDct, DctAdst}
 use Rattle.vp9_tables.specs.declared.data.scans.TheConstants.{SCAN_DEFAULT_4, SCAN_DEFAULT_8, SCAN_DEFAULT_16, SCAN_DEFAULT_32, SCAN_ROW_4, SCAN_ROW_8, SCAN_ROW_16, SCAN_COLUMN_4, SCAN_COLUMN_8, SCAN_COLUMN_16}
 use Rattle.vp9_tables.specs.declared.data.neighbours.TheConstants.{NEIGHBOURS_DEFAULT_4, NEIGHBOURS_DEFAULT_8, NEIGHBOURS_DEFAULT_16, NEIGHBOURS_DEFAULT_32, NEIGHBOURS_ROW_4, NEIGHBOURS_ROW_8, NEIGHBOURS_ROW_16, NEIGHBOURS_COLUMN_4, NEIGHBOURS_COLUMN_8, NEIGHBOURS_COLUMN_16}
-
-abbrev pub side : TxSize → ℕ
-side T4x4 = 4
-side T8x8 = 8
-side T16x16 = 16
-side T32x32 = 32
 
 abbrev pub area : TxSize → ℕ
 area size = side size * side size

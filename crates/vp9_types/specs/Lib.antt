@@ -1,6 +1,8 @@
 pub mod Rules
 pub mod Parts
 pub mod Shapes
+pub mod Sizes
+pub mod Results
 pub mod Maps
 pub mod Bits
 pub mod Syntax

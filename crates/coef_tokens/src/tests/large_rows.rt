@@ -1,19 +1,19 @@
 //! Blocks encoded by tools/token_vectors.py, which prints this file.
 
-use crate::TokenAt;
+use crate::TokenKind;
 use crate::tests::Row;
 use vp9_types::{Depth, Plane, TxSize, TxType};
 
 pub static LARGE_ROWS: [Row; 9] = [
     Row {
-        at: TokenAt {
+        at: TokenKind {
             tx: TxSize::T16x16,
             kind: TxType::DctDct,
             plane: Plane::Y,
             inter: false,
-            first: 1,
             depth: Depth::Eight,
         },
+        first: 1,
         bytes: &[
             16, 244, 158, 218, 255, 255, 238, 2, 50, 150, 143, 255, 195, 48, 203, 223, 241, 101,
             82, 158, 175, 255, 255, 173, 32, 168, 254, 216, 0, 0,
@@ -42,14 +42,14 @@ pub static LARGE_ROWS: [Row; 9] = [
         ],
     },
     Row {
-        at: TokenAt {
+        at: TokenKind {
             tx: TxSize::T16x16,
             kind: TxType::DctDct,
             plane: Plane::U,
             inter: true,
-            first: 2,
             depth: Depth::Twelve,
         },
+        first: 2,
         bytes: &[
             98, 242, 99, 255, 255, 239, 231, 5, 191, 3, 63, 255, 135, 8, 127, 255, 254, 250, 138,
             76, 215, 254, 172, 186, 223, 27, 255, 255, 9, 87, 175, 255, 26, 154, 0,
@@ -77,14 +77,14 @@ pub static LARGE_ROWS: [Row; 9] = [
         ],
     },
     Row {
-        at: TokenAt {
+        at: TokenKind {
             tx: TxSize::T16x16,
             kind: TxType::AdstDct,
             plane: Plane::Y,
             inter: false,
-            first: 1,
             depth: Depth::Twelve,
         },
+        first: 1,
         bytes: &[
             97, 48, 79, 255, 229, 170, 106, 188, 53, 203, 188, 190, 86, 198, 204, 162, 11, 210,
             107, 55, 255, 255, 253, 185, 67, 12, 13, 0, 0,
@@ -117,14 +117,14 @@ pub static LARGE_ROWS: [Row; 9] = [
         ],
     },
     Row {
-        at: TokenAt {
+        at: TokenKind {
             tx: TxSize::T16x16,
             kind: TxType::AdstDct,
             plane: Plane::U,
             inter: true,
-            first: 2,
             depth: Depth::Eight,
         },
+        first: 2,
         bytes: &[
             122, 169, 202, 65, 255, 255, 234, 206, 151, 198, 111, 124, 142, 255, 255, 172, 236,
             242, 127, 141, 60, 173, 177, 46, 255, 253, 106, 2, 167, 255, 241, 120, 0,
@@ -153,14 +153,14 @@ pub static LARGE_ROWS: [Row; 9] = [
         ],
     },
     Row {
-        at: TokenAt {
+        at: TokenKind {
             tx: TxSize::T16x16,
             kind: TxType::DctAdst,
             plane: Plane::Y,
             inter: false,
-            first: 1,
             depth: Depth::Twelve,
         },
+        first: 1,
         bytes: &[
             58, 255, 99, 239, 255, 228, 25, 87, 255, 244, 42, 149, 224, 119, 55, 191, 225, 94, 124,
             147, 96, 0,
@@ -189,14 +189,14 @@ pub static LARGE_ROWS: [Row; 9] = [
         ],
     },
     Row {
-        at: TokenAt {
+        at: TokenKind {
             tx: TxSize::T16x16,
             kind: TxType::DctAdst,
             plane: Plane::U,
             inter: true,
-            first: 1,
             depth: Depth::Eight,
         },
+        first: 1,
         bytes: &[
             122, 243, 101, 232, 68, 159, 234, 143, 234, 1, 18, 251, 158, 161, 251, 199, 218, 236, 0,
         ],
@@ -225,14 +225,14 @@ pub static LARGE_ROWS: [Row; 9] = [
         ],
     },
     Row {
-        at: TokenAt {
+        at: TokenKind {
             tx: TxSize::T32x32,
             kind: TxType::DctDct,
             plane: Plane::Y,
             inter: false,
-            first: 0,
             depth: Depth::Eight,
         },
+        first: 0,
         bytes: &[
             15, 175, 225, 253, 87, 255, 56, 98, 95, 255, 255, 18, 218, 67, 171, 7, 39, 126, 174,
             207, 180, 14, 95, 255, 34, 127, 249, 68, 208, 23, 96, 151, 38, 0,
@@ -275,14 +275,14 @@ pub static LARGE_ROWS: [Row; 9] = [
         ],
     },
     Row {
-        at: TokenAt {
+        at: TokenKind {
             tx: TxSize::T32x32,
             kind: TxType::DctDct,
             plane: Plane::U,
             inter: true,
-            first: 1,
             depth: Depth::Twelve,
         },
+        first: 1,
         bytes: &[
             127, 165, 236, 107, 195, 255, 255, 125, 100, 21, 95, 255, 232, 59, 223, 195, 126, 28,
             255, 255, 238, 202, 207, 255, 246, 92, 220, 29, 2, 80, 78, 100, 59, 255, 255, 254, 243,
@@ -327,14 +327,14 @@ pub static LARGE_ROWS: [Row; 9] = [
         ],
     },
     Row {
-        at: TokenAt {
+        at: TokenKind {
             tx: TxSize::T32x32,
             kind: TxType::DctDct,
             plane: Plane::Y,
             inter: false,
-            first: 1,
             depth: Depth::Eight,
         },
+        first: 1,
         bytes: &[
             45, 90, 1, 140, 174, 192, 17, 200, 129, 56, 64, 57, 246, 70, 88, 246, 254, 112, 162,
             225, 81, 141, 95, 226, 196, 203, 203, 23, 233, 56, 154, 169, 236, 230, 209, 169, 132,

@@ -1,19 +1,19 @@
 //! Blocks encoded by tools/token_vectors.py, which prints this file.
 
-use crate::TokenAt;
+use crate::TokenKind;
 use crate::tests::Row;
 use vp9_types::{Depth, Plane, TxSize, TxType};
 
 pub static SMALL_ROWS: [Row; 18] = [
     Row {
-        at: TokenAt {
+        at: TokenKind {
             tx: TxSize::T4x4,
             kind: TxType::DctDct,
             plane: Plane::Y,
             inter: false,
-            first: 0,
             depth: Depth::Eight,
         },
+        first: 0,
         bytes: &[
             127, 167, 121, 45, 153, 121, 165, 255, 216, 14, 35, 255, 240, 126, 255, 255, 255, 28,
             185, 71, 255, 255, 255, 255, 255, 255, 184, 0,
@@ -35,14 +35,14 @@ pub static SMALL_ROWS: [Row; 18] = [
         ],
     },
     Row {
-        at: TokenAt {
+        at: TokenKind {
             tx: TxSize::T4x4,
             kind: TxType::DctDct,
             plane: Plane::Y,
             inter: false,
-            first: 1,
             depth: Depth::Ten,
         },
+        first: 1,
         bytes: &[
             123, 227, 175, 41, 17, 84, 141, 254, 160, 120, 191, 255, 131, 247, 255, 255, 248, 229,
             201, 255, 255, 255, 255, 255, 255, 255, 255, 255, 255, 254, 0, 0,
@@ -65,14 +65,14 @@ pub static SMALL_ROWS: [Row; 18] = [
         ],
     },
     Row {
-        at: TokenAt {
+        at: TokenKind {
             tx: TxSize::T4x4,
             kind: TxType::DctDct,
             plane: Plane::Y,
             inter: false,
-            first: 2,
             depth: Depth::Twelve,
         },
+        first: 2,
         bytes: &[
             101, 1, 196, 37, 5, 82, 55, 250, 129, 226, 255, 254, 15, 223, 255, 255, 227, 151, 39,
             127, 255, 255, 255, 255, 255, 255, 255, 255, 255, 219, 255, 224, 74, 0,
@@ -95,40 +95,40 @@ pub static SMALL_ROWS: [Row; 18] = [
         ],
     },
     Row {
-        at: TokenAt {
+        at: TokenKind {
             tx: TxSize::T4x4,
             kind: TxType::DctDct,
             plane: Plane::Y,
             inter: false,
-            first: 0,
             depth: Depth::Eight,
         },
+        first: 0,
         bytes: &[0, 0],
         count: 0,
         levels: &[],
     },
     Row {
-        at: TokenAt {
+        at: TokenKind {
             tx: TxSize::T4x4,
             kind: TxType::DctDct,
             plane: Plane::Y,
             inter: false,
-            first: 2,
             depth: Depth::Eight,
         },
+        first: 2,
         bytes: &[4, 0, 0, 0],
         count: 16,
         levels: &[],
     },
     Row {
-        at: TokenAt {
+        at: TokenKind {
             tx: TxSize::T4x4,
             kind: TxType::DctDct,
             plane: Plane::U,
             inter: false,
-            first: 1,
             depth: Depth::Eight,
         },
+        first: 1,
         bytes: &[97, 90, 187, 171, 103, 14, 32],
         count: 16,
         levels: &[
@@ -151,14 +151,14 @@ pub static SMALL_ROWS: [Row; 18] = [
         ],
     },
     Row {
-        at: TokenAt {
+        at: TokenKind {
             tx: TxSize::T4x4,
             kind: TxType::DctDct,
             plane: Plane::Y,
             inter: true,
-            first: 1,
             depth: Depth::Twelve,
         },
+        first: 1,
         bytes: &[
             106, 63, 255, 255, 233, 170, 102, 251, 220, 178, 15, 89, 255, 255, 248, 76, 246, 0,
         ],
@@ -176,14 +176,14 @@ pub static SMALL_ROWS: [Row; 18] = [
         ],
     },
     Row {
-        at: TokenAt {
+        at: TokenKind {
             tx: TxSize::T4x4,
             kind: TxType::DctDct,
             plane: Plane::U,
             inter: false,
-            first: 0,
             depth: Depth::Ten,
         },
+        first: 0,
         bytes: &[
             127, 255, 104, 233, 230, 191, 154, 254, 231, 216, 242, 255, 184, 175, 79, 255, 255,
             255, 235, 196, 254, 0, 0,
@@ -203,14 +203,14 @@ pub static SMALL_ROWS: [Row; 18] = [
         ],
     },
     Row {
-        at: TokenAt {
+        at: TokenKind {
             tx: TxSize::T4x4,
             kind: TxType::AdstDct,
             plane: Plane::Y,
             inter: true,
-            first: 1,
             depth: Depth::Ten,
         },
+        first: 1,
         bytes: &[123, 60, 25, 223, 74, 182, 215, 194, 0],
         count: 12,
         levels: &[
@@ -227,14 +227,14 @@ pub static SMALL_ROWS: [Row; 18] = [
         ],
     },
     Row {
-        at: TokenAt {
+        at: TokenKind {
             tx: TxSize::T4x4,
             kind: TxType::AdstDct,
             plane: Plane::U,
             inter: false,
-            first: 1,
             depth: Depth::Eight,
         },
+        first: 1,
         bytes: &[
             107, 126, 255, 255, 62, 190, 203, 193, 127, 255, 254, 198, 123, 66, 0,
         ],
@@ -252,14 +252,14 @@ pub static SMALL_ROWS: [Row; 18] = [
         ],
     },
     Row {
-        at: TokenAt {
+        at: TokenKind {
             tx: TxSize::T4x4,
             kind: TxType::DctAdst,
             plane: Plane::Y,
             inter: true,
-            first: 2,
             depth: Depth::Twelve,
         },
+        first: 2,
         bytes: &[
             127, 255, 255, 18, 165, 127, 255, 9, 160, 33, 228, 78, 245, 204, 0,
         ],
@@ -276,14 +276,14 @@ pub static SMALL_ROWS: [Row; 18] = [
         ],
     },
     Row {
-        at: TokenAt {
+        at: TokenKind {
             tx: TxSize::T4x4,
             kind: TxType::DctAdst,
             plane: Plane::U,
             inter: false,
-            first: 0,
             depth: Depth::Ten,
         },
+        first: 0,
         bytes: &[
             126, 141, 207, 255, 255, 229, 226, 119, 255, 255, 255, 255, 88, 72, 247, 20, 204, 140,
             0,
@@ -304,14 +304,14 @@ pub static SMALL_ROWS: [Row; 18] = [
         ],
     },
     Row {
-        at: TokenAt {
+        at: TokenKind {
             tx: TxSize::T8x8,
             kind: TxType::DctDct,
             plane: Plane::Y,
             inter: false,
-            first: 0,
             depth: Depth::Eight,
         },
+        first: 0,
         bytes: &[
             71, 169, 242, 124, 151, 51, 31, 159, 107, 73, 175, 253, 29, 247, 255, 158, 75, 128, 0,
         ],
@@ -337,14 +337,14 @@ pub static SMALL_ROWS: [Row; 18] = [
         ],
     },
     Row {
-        at: TokenAt {
+        at: TokenKind {
             tx: TxSize::T8x8,
             kind: TxType::DctDct,
             plane: Plane::U,
             inter: true,
-            first: 1,
             depth: Depth::Ten,
         },
+        first: 1,
         bytes: &[
             109, 255, 178, 230, 191, 240, 103, 117, 235, 23, 127, 255, 239, 82, 199, 216, 164, 62,
             192, 0,
@@ -369,14 +369,14 @@ pub static SMALL_ROWS: [Row; 18] = [
         ],
     },
     Row {
-        at: TokenAt {
+        at: TokenKind {
             tx: TxSize::T8x8,
             kind: TxType::AdstDct,
             plane: Plane::Y,
             inter: false,
-            first: 1,
             depth: Depth::Twelve,
         },
+        first: 1,
         bytes: &[
             121, 127, 255, 241, 160, 202, 229, 15, 193, 216, 223, 255, 255, 245, 58, 99, 255, 251,
             54, 175, 188, 95, 192, 0,
@@ -403,14 +403,14 @@ pub static SMALL_ROWS: [Row; 18] = [
         ],
     },
     Row {
-        at: TokenAt {
+        at: TokenKind {
             tx: TxSize::T8x8,
             kind: TxType::AdstDct,
             plane: Plane::U,
             inter: true,
-            first: 2,
             depth: Depth::Ten,
         },
+        first: 2,
         bytes: &[
             85, 127, 255, 243, 151, 125, 57, 244, 214, 222, 162, 166, 99, 167, 96, 0,
         ],
@@ -435,14 +435,14 @@ pub static SMALL_ROWS: [Row; 18] = [
         ],
     },
     Row {
-        at: TokenAt {
+        at: TokenKind {
             tx: TxSize::T8x8,
             kind: TxType::DctAdst,
             plane: Plane::Y,
             inter: false,
-            first: 2,
             depth: Depth::Twelve,
         },
+        first: 2,
         bytes: &[
             96, 188, 89, 255, 255, 157, 197, 242, 127, 39, 131, 78, 132, 12, 254, 250, 103, 255,
             255, 252, 246, 5, 220, 124, 0, 0,
@@ -471,14 +471,14 @@ pub static SMALL_ROWS: [Row; 18] = [
         ],
     },
     Row {
-        at: TokenAt {
+        at: TokenKind {
             tx: TxSize::T8x8,
             kind: TxType::DctAdst,
             plane: Plane::U,
             inter: true,
-            first: 1,
             depth: Depth::Twelve,
         },
+        first: 1,
         bytes: &[
             127, 238, 42, 134, 22, 23, 63, 255, 255, 254, 16, 206, 127, 255, 248, 65, 75, 254, 31,
             221, 164, 231, 179, 151, 242, 63, 255, 241, 38, 0,

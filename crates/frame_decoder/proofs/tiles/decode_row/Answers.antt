@@ -1,21 +1,29 @@
-use Rattle.std.proofs.Common.{sym}
+use Rattle.std.proofs.Common.{◌≡◌, ◌≤◌, ◌+◌, ◌*◌, ◌-◌, ◌<◌, ◌∙◌, sym, refl, arith}
 use Rattle.std.proofs.lemmas.Result.{err_from_is_err_and}
-use Rattle.frame_decoder.specs.Keeping.{walk_of}
+use Rattle.vp9_types.specs.Sizes.{superblocks_along}
+use Rattle.frame_decoder.specs.Code.{walk_of}
+use Rattle.frame_decoder.proofs.SquareReads.{same_walk, same_on}
 use Rattle.frame_decoder.proofs.RowReads.{row_goes_on, row_fails, row_ends}
 use Rattle.frame_decoder.proofs.tiles.decode_row.Goals as goal
 
 pub returns-in_err-decode_square-clause-gives : goal.returns-in_err-decode_square-clause-gives
 returns-in_err-decode_square-clause-gives c =
     let p = err_from_is_err_and c.from_residual.result c.from_residual.ensures.1 in
-    rw (p.1, p.2) (row_fails (walk_of c.args.setting.now) c.args.row _ c.superblocks-count.result _ c.loop-i.i _ _ _ _ _ _ _ _ _
-    c.superblocks-count.ensures c.loop-i-test.true c.loop-i.invariant.left c.in_err-decode_square.ensures.gives)
+    let walk = same_walk c.args.setting.now _ _ c.loop-i.invariant.same in
+    rw (p.1, p.2) (row_fails (walk_of c.args.setting.now c.args.column.now) c.args.first.row c.args.first.tile_from c.superblocks-count.result _ c.loop-i.i _ _ _ _ _
+    c.superblocks-count.ensures.is c.loop-i-test.true c.loop-i.invariant.left (rw (walk, c.requires.level, c.requires.begin) at c.in_err-decode_square.ensures.gives))
 
 pub loop-i-preserved : goal.loop-i-preserved
-loop-i-preserved c = record {
-  ready = c.in_ok-decode_square.ensures.ready;
-  left = row_goes_on (walk_of c.args.setting.now) c.args.row _ c.superblocks-count.result _ c.loop-i.i _ _ _ _ c.loop-i-test.true c.loop-i.invariant.left c.in_ok-decode_square.ensures.gives;
-}
+loop-i-preserved c =
+    let walk = same_walk c.args.setting.now _ _ c.loop-i.invariant.same in record {
+      ready = c.in_ok-decode_square.ensures.ready;
+      same = same_on _ _ _ c.loop-i.invariant.same c.in_ok-decode_square.ensures.same;
+      room = omega (arith, c.loop-i.invariant.room, rw c.requires.level at c.in_ok-decode_square.ensures.room);
+      left = row_goes_on (walk_of c.args.setting.now c.args.column.now) c.args.first.row c.args.first.tile_from c.superblocks-count.result _ c.loop-i.i _ _ _ _ c.loop-i-test.true c.loop-i.invariant.left
+          (rw (walk, c.requires.level, c.requires.begin) at c.in_ok-decode_square.ensures.gives);
+    }
 
 pub returns-clause-gives : goal.returns-clause-gives
 returns-clause-gives c =
-    rw (sym c.superblocks-count.ensures) (row_ends (walk_of c.args.setting.now) c.args.row _ c.superblocks-count.result _ c.loop-i.i _ _ c.loop-i-test.false c.loop-i.invariant.left)
+    rw (sym c.superblocks-count.ensures.is) (row_ends (walk_of c.args.setting.now c.args.column.now) c.args.first.row c.args.first.tile_from c.superblocks-count.result _ c.loop-i.i _ _
+    c.loop-i-test.false c.loop-i.invariant.left)

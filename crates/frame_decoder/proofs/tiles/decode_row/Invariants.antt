@@ -1,14 +1,17 @@
-use Rattle.bool_decoder.specs.Held.{window_of}
-use Rattle.mode_syntax.specs.Counting.{run_counting, standing}
+use Rattle.std.proofs.Common.{◌≤◌, ◌+◌, ◌*◌}
+use Rattle.counting_reader.specs.Code.{standing_of}
+use Rattle.counting_reader.specs.Counting.{run_counting}
 use Rattle.mode_syntax.specs.Walk.{decode_row}
-use Rattle.frame_decoder.specs.Keeping.{state_of, walk_of, IsReady}
+use Rattle.frame_decoder.specs.Code.{tile_of, walk_of, IsReady, SameColumns}
 use Rattle.frame_decoder.proofs.RowReads.{IsLeft}
 use Rattle.frame_decoder.proofs.tiles.decode_row.Given as goal
 
 abbrev pub invariant-loop-i : goal.invariant-loop-i
 invariant-loop-i l = record {
-  ready : IsReady l.setting l.state;
-  left : IsLeft (decode_row (walk_of l.setting) l.row) l.from l.count
-      (run_counting (decode_row (walk_of l.setting) l.row l.from l.count (state_of l.initial.state)) (standing (window_of l.initial.decoder) l.initial.state.counts))
-      l.i (state_of l.state) (standing (window_of l.decoder) l.state.counts);
+  ready : IsReady l.setting l.column l.planes;
+  same : SameColumns l.initial.column l.column;
+  room : l.initial.column.grid.room ≤ l.column.grid.room + 64 * l.i;
+  left : IsLeft (decode_row (walk_of l.setting l.initial.column) l.first.row) l.first.tile_from l.count
+      (run_counting (decode_row (walk_of l.setting l.initial.column) l.first.row l.first.tile_from l.count (tile_of l.initial.column l.initial.planes)) (standing_of l.initial.reader))
+      l.i (tile_of l.column l.planes) (standing_of l.reader);
 }

@@ -1,7 +1,8 @@
-use Rattle.std.proofs.Common.{arith, refl}
+use Rattle.std.proofs.Common.{◌∙◌, arith}
+use Rattle.planes.specs.Planes.{plane_map}
 use Rattle.intra_predict.proofs.EdgeLemmas.{corner_read}
 use Rattle.intra_predict.proofs.reading.read_corner.Goals as goal
 
 pub returns : goal.returns
 returns c = let a = c.args in
-    corner_read a.width a.place.now a.depth a.samples.now _ (omega arith) (omega arith) c.requires.inside.wide refl
+    c.sample.ensures ∙ corner_read a.place.now a.depth (plane_map a.plane.now) (omega arith) (omega arith)

@@ -1,4 +1,4 @@
-use Rattle.intra_predict.specs.Sizes.{side}
+use Rattle.vp9_types.specs.Sizes.{side}
 use Rattle.intra_predict.proofs.tests.sum_of.Goals as goal
 
 pub predict-requires-clause-small : goal.predict-requires-clause-small

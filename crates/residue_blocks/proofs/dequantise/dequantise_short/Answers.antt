@@ -4,12 +4,12 @@ use Rattle.residue_blocks.proofs.dequantise.dequantise_short.Goals as goal
 
 pub returns : goal.returns
 returns c = (
-  short_refused c.args.quant c.args.tx c.args.block.now c.short_limit_of.result (length (set c.args.block.now 0 (pos 0))) false c.short_limit_of.ensures.value
+  short_refused c.args.quant c.args.tx c.args.block.now c.limit_of.result (length (set c.args.block.now 0 (pos 0))) false c.limit_of.ensures.value
       c.requires.some (length-set c.args.block.now 0 (pos 0)) refl c.if-scale.ensures.fit,
   refl,
 )
 
 pub returns-then-scale : goal.returns-then-scale
 returns-then-scale c =
-    short_dequantised c.args.quant c.args.tx c.args.block.now c.scale.new.block c.short_limit_of.result c.in_ok-first.first c.requires.short c.short_limit_of.ensures.value
+    short_dequantised c.args.quant c.args.tx c.args.block.now c.scale.new.block c.limit_of.result c.in_ok-first.first c.requires.short c.limit_of.ensures.value
     c.requires.some (search rules) (search rules) c.if-scale.ensures.fit c.if-scale.ensures.made c.in_ok-first.ensures

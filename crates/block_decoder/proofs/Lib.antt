@@ -1,9 +1,0 @@
-pub mod SampleLemmas
-pub mod TransformLemmas
-pub mod Rasters
-pub mod Throughs
-pub mod FewBlocks
-pub mod Grids
-pub mod Sides
-pub mod Clear
-pub mod Depths

@@ -1,0 +1,8 @@
+//! A block that is read, put into the planes of its frame: prediction and residue (8.5.1 and 8.6.2 of the standard).
+#![tactic(auto)]
+
+mod blocks;
+mod in_plane;
+
+pub use blocks::put_block;
+pub use in_plane::IntraInPlane;

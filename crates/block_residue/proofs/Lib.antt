@@ -1,0 +1,3 @@
+pub mod ResidueReads
+pub mod PlaneReads
+pub mod BlockReads

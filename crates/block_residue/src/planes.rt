@@ -1,0 +1,87 @@
+//! A block in a plane: all of its transform blocks.
+
+ghost use Rattle.std.specs.Prelude.{◌≡◌, ◌<◌, ◌≤◌, ◌*◌, ℕ, OnOk, [], false, get_or};
+ghost use Rattle.std.specs.List.{All, list_any};
+ghost use Rattle.block_geometry.specs.Code.{IsSmallGrid};
+ghost use Rattle.block_geometry.specs.TransformBlocks.{grid_blocks, tx_step};
+ghost use Rattle.block_plan.specs.Code.{held, residues_held, AreSmall};
+ghost use Rattle.counting_reader.specs.Counting.{through};
+ghost use Rattle.prob_contexts.specs.Lists.{lists_of};
+ghost use Rattle.vp9_tables.specs.Scans.{area};
+ghost use Rattle.block_residue.specs.Residues.{read_next, read_skipped, is_coded};
+ghost use Rattle.block_residue.specs.Code.{IsBeside, KeepsLengths, GivesPlane};
+
+use crate::in_plane::BlockInPlane;
+use crate::sides::Sides;
+use crate::transform_blocks::read_residue;
+use block_geometry::TransformGrid;
+use block_plan::PlaneResidues;
+use counting_reader::CountingReader;
+use prob_contexts::Contexts;
+use vp9_types::{Rule, TxSize};
+
+/// How many values a transform block has.
+fn area_of(tx: TxSize) -> usize
+    ensures value { result ≡ area tx }
+    ensures most { result ≤ 1024 }
+{
+    match tx {
+        TxSize::T4x4 => 16,
+        TxSize::T8x8 => 64,
+        TxSize::T16x16 => 256,
+        TxSize::T32x32 => 1024,
+    }
+}
+
+/// Reads the residues of a block that isn't skipped, and answers whether it has any.
+pub(crate) fn read_residues<const COUNTS: bool>(
+    reader: &mut CountingReader<COUNTS>,
+    contexts: &Contexts,
+    sides: &mut Sides,
+    b: &BlockInPlane,
+    grid: &TransformGrid,
+    residues: &mut PlaneResidues,
+) -> Result<bool, Rule>
+    requires small { IsSmallGrid grid.now }
+    requires step { grid.now.step ≡ tx_step b.now.block.tx }
+    requires beside { All (λ at. IsBeside b.now.block at.0 at.1 sides.old) (grid_blocks grid.now) }
+    ensures gives { GivesPlane (through (read_next (lists_of contexts.now) b.now) (grid_blocks grid.now) (record { residues = []; sides = sides.old }))
+        reader.old result (held (grid_blocks grid.now) (area b.now.block.tx) residues.new) sides.new reader.new }
+    ensures lengths { KeepsLengths sides.old sides.new }
+    ensures small { OnOk result (AreSmall (held (grid_blocks grid.now) (area b.now.block.tx) residues.new)) }
+{
+    let area = area_of(b.block.tx);
+    let mut any = false;
+    for k in 0..grid.count() {
+        let from = k as usize * area;
+        let values = &mut residues.values[from..from + area];
+        let some = read_residue(reader, contexts, sides, b, grid.place(k), values)?;
+        residues.some[k as usize] = some;
+        any |= some;
+    }
+    Ok(any)
+}
+
+fn clear_flags(flags: &mut [bool])
+    ensures { (k : ℕ) → get_or flags.new k false ≡ false }
+{
+    flags.fill(false);
+}
+
+/// Says of a skipped block that it has none.
+pub(crate) fn skip_residues(
+    sides: &mut Sides,
+    b: &BlockInPlane,
+    grid: &TransformGrid,
+    residues: &mut PlaneResidues,
+)
+    requires small { IsSmallGrid grid.now }
+    requires beside { IsBeside b.now.block 0 0 sides.old }
+    ensures read { read_skipped b.now (grid_blocks grid.now) sides.old ≡ record { residues = held (grid_blocks grid.now) (area b.now.block.tx) residues.new; sides = sides.new } }
+    ensures none { list_any is_coded (held (grid_blocks grid.now) (area b.now.block.tx) residues.new) ≡ false }
+    ensures lengths { KeepsLengths sides.old sides.new }
+    ensures small { AreSmall (held (grid_blocks grid.now) (area b.now.block.tx) residues.new) }
+{
+    clear_flags(&mut residues.some);
+    sides.mark_skipped(&b.block);
+}

@@ -1,0 +1,3 @@
+pub mod Counting
+pub mod Symbols
+pub mod Code

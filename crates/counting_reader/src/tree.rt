@@ -1,0 +1,27 @@
+//! Entries of a tree's array.
+
+ghost use Rattle.std.specs.Prelude.{◌≡◌, ◌<◌, length};
+ghost use Rattle.vp9_types.specs.Trees.{entry_at};
+ghost use Rattle.counting_reader.specs.Code.{branch_of};
+
+/// What an entry stands for.
+#[derive(Clone, Copy)]
+pub(crate) enum Branch {
+    Leaf(u8),
+    /// The place of the node's two branches.
+    Node(u8),
+}
+
+/// The branch that is stored at a place.
+#[inline(always)]
+pub(crate) fn branch_at(tree: &[i8], place: usize) -> Branch
+    requires { place < length tree.now }
+    ensures { result ≡ branch_of (entry_at tree.now place) }
+{
+    let entry = tree[place];
+    if entry > 0 {
+        Branch::Node(entry.unsigned_abs())
+    } else {
+        Branch::Leaf(entry.unsigned_abs())
+    }
+}

@@ -1,0 +1,61 @@
+-- A block of a tile whose blocks are put in as they are read.
+use Rattle.std.proofs.Common.{◌≡◌, ◌∙◌, ◌++◌, ◌∷◌, [], ℕ, refl, sym, ap, Bool, List}
+use Rattle.std.specs.Prelude.{Some, Ok, Err, Option}
+use Rattle.vp9_types.specs.Maps.{FrameMap}
+use Rattle.vp9_types.specs.declared.block.Modes.{Modes}
+use Rattle.vp9_types.specs.declared.rule.Rule.{Rule}
+use Rattle.vp9_types.specs.declared.shape.Shape.{Shape}
+use Rattle.frame_headers.specs.State.{shape_of}
+use Rattle.frame_headers.specs.declared.header.Header.{Header}
+use Rattle.prob_contexts.specs.Lists.{ContextLists}
+use Rattle.counting_reader.specs.Counting.{Standing, run_counting}
+use Rattle.counting_reader.proofs.CountingRuns.{counting_bind, run_settle}
+use Rattle.block_plan.specs.Code.{planned_with}
+use Rattle.block_plan.specs.Planned.{PlannedBlock}
+use Rattle.block_plan.specs.declared.block.BlockAt.{BlockAt}
+use Rattle.block_plan.specs.declared.block.BlockInfo.{BlockInfo}
+use Rattle.block_plan.specs.declared.block.Prediction.{Prediction}
+use Rattle.block_plan.specs.declared.block.Prediction.TheVariants.{Intra, Inter}
+use Rattle.block_plan.specs.declared.residues.BlockResidues.{BlockResidues}
+use Rattle.block_residue.specs.Residues.{listed}
+use Rattle.block_residue.specs.Residues as residues
+use Rattle.block_residue.specs.declared.sides.TileSides.{TileSides}
+use Rattle.block_rebuild.specs.Blocks.{put_planned, put_by, put_intra}
+use Rattle.mode_syntax.specs.ModeInfo.{intra_frame_mode_info}
+use Rattle.frame_decoder.specs.Code.{PlainTile, plain_block}
+use Rattle.frame_decoder.specs.Frames.{put_more}
+
+-- whether a block counts as skipped doesn't matter where it is put in
+by_prediction : (shape : Shape) (tile_from : ℕ) (b : BlockInfo) (any : Bool) (r : BlockResidues) (p : Prediction) (m : FrameMap)
+    → put_by shape (planned_with shape tile_from b (listed b any) r) p m ≡ put_by shape (planned_with shape tile_from b b r) p m
+unfolding put_by put_intra
+by_prediction shape tile_from b any r (Intra modes) m = refl
+by_prediction shape tile_from b any r (Inter modes) m = refl
+
+pub put_listed : (shape : Shape) (tile_from : ℕ) (b info : BlockInfo) (any : Bool) (r : BlockResidues) (m : FrameMap) (new : Option FrameMap) → info ≡ listed b any
+    → put_planned shape (planned_with shape tile_from b b r) m ≡ new → put_planned shape (planned_with shape tile_from b info r) m ≡ new
+put_listed shape tile_from b info any r m new is put =
+    ap (λ (i : BlockInfo). put_planned shape (planned_with shape tile_from b i r) m) is ∙ (by_prediction shape tile_from b any r b.prediction m ∙ put)
+
+abbrev plain : List BlockInfo → TileSides → Option FrameMap → PlainTile
+plain blocks sides map = record { blocks = blocks; sides = sides; map = map }
+
+pub block_read : (header : Header) (modes : Modes) (contexts : ContextLists) (at : BlockAt) (blocks : List BlockInfo) (sides after_it : TileSides) (old new : FrameMap)
+    (a b d : Standing) (info : BlockInfo) (planned : PlannedBlock)
+    → run_counting (intra_frame_mode_info header modes contexts blocks at) a ≡ Ok (info, b)
+    → run_counting (residues.read_block header contexts at.tile_from info sides) b ≡ Ok ((planned, after_it), d)
+    → put_planned (shape_of header) planned old ≡ Some new
+    → run_counting (plain_block header modes contexts at (plain blocks sides (Some old))) a ≡ Ok (plain (blocks ++ planned.info ∷ []) after_it (Some new), d)
+unfolding plain_block
+block_read header modes contexts at blocks sides after_it old new a b d info planned modes_read residue put =
+    counting_bind _ _ _ ∙ rw modes_read (counting_bind _ _ _ ∙ rw residue (run_settle _ d
+    ∙ ap (λ (m : Option FrameMap). Ok (plain (blocks ++ planned.info ∷ []) after_it m, d)) put))
+
+pub block_broken : (header : Header) (modes : Modes) (contexts : ContextLists) (at : BlockAt) (blocks : List BlockInfo) (sides : TileSides) (map : Option FrameMap)
+    (a b : Standing) (info : BlockInfo) (rule : Rule)
+    → run_counting (intra_frame_mode_info header modes contexts blocks at) a ≡ Ok (info, b)
+    → run_counting (residues.read_block header contexts at.tile_from info sides) b ≡ Err rule
+    → run_counting (plain_block header modes contexts at (plain blocks sides map)) a ≡ Err rule
+unfolding plain_block
+block_broken header modes contexts at blocks sides map a b info rule modes_read residue =
+    counting_bind _ _ _ ∙ rw modes_read (counting_bind _ _ _ ∙ rw residue refl)

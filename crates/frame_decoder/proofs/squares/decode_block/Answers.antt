@@ -1,0 +1,40 @@
+use Rattle.std.proofs.Common.{◌≡◌, ◌∙◌, sym, refl, ap}
+use Rattle.std.proofs.lemmas.Result.{err_from_is_err_and}
+use Rattle.frame_headers.specs.State.{shape_of}
+use Rattle.prob_contexts.specs.Lists.{lists_of}
+use Rattle.block_plan.specs.Code.{planned_with}
+use Rattle.planes.specs.Pictures.{samples_of}
+use Rattle.frame_decoder.proofs.BlockSteps.{block_read, block_broken, put_listed}
+use Rattle.frame_decoder.proofs.squares.decode_block.Goals as goal
+
+pub returns-in_err-listed-clause-gives : goal.returns-in_err-listed-clause-gives
+returns-in_err-listed-clause-gives g c =
+    let p = err_from_is_err_and c.from_residual.result c.from_residual.ensures.1 in
+    rw (p.1, p.2) (block_broken c.args.setting.now.header c.args.setting.now.modes (lists_of c.args.setting.now.contexts) c.args.at _ _ _ _ _ _ _
+    c.intra_frame_mode_info-block.ensures.read (c.in_err-listed.ensures.gives c.args.at.tile_from))
+
+pub put_block-requires-clause-small : goal.put_block-requires-clause-small
+put_block-requires-clause-small g c =
+    let small = c.in_ok-listed.ensures.small in
+    rw c.shape.ensures (record { y = small.y; u = small.u; v = small.v })
+
+pub returns-clause-gives : goal.returns-clause-gives
+returns-clause-gives g c =
+    let shape = shape_of c.args.setting.now.header in
+    let block = c.intra_frame_mode_info-block.result in
+    let put = rw c.shape.ensures at c.put_block.ensures.map in
+    rw c.put.ensures (block_read c.args.setting.now.header c.args.setting.now.modes (lists_of c.args.setting.now.contexts) c.args.at _ _ _ _ _ _ _ _ _
+    (planned_with shape c.args.at.tile_from block c.in_ok-listed.listed c.read_block.new.residues)
+    c.intra_frame_mode_info-block.ensures.read (c.in_ok-listed.ensures.gives c.args.at.tile_from)
+    (put_listed shape c.args.at.tile_from block c.in_ok-listed.listed c.in_ok-listed.ensures.listed.0 c.read_block.new.residues _ _ c.in_ok-listed.ensures.listed.1 put))
+
+pub returns-clause-ready : goal.returns-clause-ready
+returns-clause-ready g c = record {
+  rows = rw c.put.ensures c.requires.ready.rows;
+  order = rw c.put.ensures c.requires.ready.order;
+  within = rw c.put.ensures c.requires.ready.within;
+  ends = rw c.put.ensures c.requires.ready.ends;
+  fit = c.in_ok-listed.ensures.fit;
+  sizes = rw c.shape.ensures at c.put_block.ensures.sizes;
+  range = rw c.shape.ensures at c.put_block.ensures.range;
+}

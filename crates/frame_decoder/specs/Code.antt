@@ -1,0 +1,145 @@
+-- What the code keeps, and what its calls answer.
+use Rattle.std.specs.Prelude.{◌≡◌, ◌<◌, ◌≤◌, ◌+◌, ◌-◌, ◌*◌, ℕ, true, false, Bool, List, [], ◌∷◌, ◌++◌, map, length, min, Option, Some, None, Result, Ok, Err, if◌then◌else◌}
+use Rattle.vp9_types.specs.Maps.{FrameMap}
+use Rattle.vp9_types.specs.Results.{map_ok, ◌>>=◌}
+use Rattle.vp9_types.specs.declared.job.Span.{Span}
+use Rattle.bool_decoder.specs.Bools.{run_bools}
+use Rattle.bool_decoder.specs.Window.{Window, started}
+use Rattle.frame_headers.specs.declared.tiles.TileInfo.{TileInfo}
+use Rattle.vp9_types.specs.Sizes.{superblocks_along}
+use Rattle.vp9_types.specs.Syntax.{Syntax}
+use Rattle.vp9_types.specs.declared.block.Modes.{Modes}
+use Rattle.vp9_types.specs.declared.outcome.Fault.{Fault}
+use Rattle.vp9_types.specs.declared.outcome.Fault.TheVariants as fault
+use Rattle.vp9_types.specs.declared.rule.Rule.{Rule}
+use Rattle.vp9_types.specs.declared.shape.Shape.{Shape}
+use Rattle.frame_headers.specs.State.{shape_of}
+use Rattle.frame_headers.specs.declared.header.Header.{Header}
+use Rattle.frame_setting.specs.declared.setting.FrameSetting.{FrameSetting}
+use Rattle.prob_contexts.specs.Counted.{counts_after, no_counts}
+use Rattle.prob_contexts.specs.Lists.{ContextLists, lists_of}
+use Rattle.counting_reader.specs.Code.{Reads, standing_of}
+use Rattle.counting_reader.specs.Counting.{Settled, settle, run_counting}
+use Rattle.counting_reader.specs.Counting as counting
+use Rattle.counting_reader.specs.declared.reader.CountingReader.{CountingReader}
+use Rattle.block_geometry.specs.declared.transform_blocks.FramePlaces.{FramePlaces}
+use Rattle.block_plan.specs.declared.block.BlockAt.{BlockAt}
+use Rattle.block_plan.specs.declared.block.BlockInfo.{BlockInfo}
+use Rattle.block_residue.specs.Code.{FitPlanes}
+use Rattle.block_residue.specs.Residues as residues
+use Rattle.block_residue.specs.declared.sides.TileSides.{TileSides}
+use Rattle.mode_syntax.specs.ModeInfo.{intra_frame_mode_info}
+use Rattle.mode_syntax.specs.Walk.{Walk}
+use Rattle.planes.specs.Pictures.{HasSizes, IsInRange, map_of, samples_of}
+use Rattle.planes.specs.declared.frame_planes.FramePlanes.{FramePlanes}
+use Rattle.planes.specs.declared.picture.Picture.{Picture}
+use Rattle.prob_contexts.specs.declared.kind.CountedBool.{CountedBool}
+use Rattle.frame_decoder.specs.Built.{adapts}
+use Rattle.frame_decoder.specs.Frames.{FrameInput, FrameResult, decoded, put_more}
+use Rattle.frame_decoder.specs.declared.decoding.Decoded.{Decoded}
+use Rattle.frame_decoder.specs.declared.halt.Halt.{Halt}
+use Rattle.frame_decoder.specs.declared.halt.Halt.TheVariants as halt
+use Rattle.frame_decoder.specs.declared.columns.TileColumn.{TileColumn}
+
+---- A tile whose blocks are put in as they are read ----
+
+-- its column's blocks as they are listed, the sides, and the frame's samples so far
+pub record PlainTile : Type 0 where
+  pub blocks : List BlockInfo
+  pub sides : TileSides
+  pub map : Option FrameMap
+
+unfoldable pub plain_block : Header → Modes → ContextLists → BlockAt → PlainTile → Syntax ℕ Rule (Settled PlainTile)
+plain_block header modes contexts at s =
+    counting.◌>>=◌ (intra_frame_mode_info header modes contexts s.blocks at) (λ info.
+    counting.◌>>=◌ (residues.read_block header contexts at.tile_from info s.sides) (λ read.
+    settle (record { blocks = s.blocks ++ read.0.info ∷ []; sides = read.1; map = put_more (shape_of header) s.map read.0 })))
+
+abbrev pub plain_walk : Header → Modes → ContextLists → FramePlaces → ℕ → ℕ → Walk PlainTile
+plain_walk header modes contexts frame from to = record {
+  frame = frame;
+  tile_from = from;
+  tile_to = to;
+  intra = true;
+  probs = contexts.partitions;
+  block = plain_block header modes contexts;
+  blocks = λ s. s.blocks;
+}
+
+-- the code's tile
+abbrev pub tile_of : TileColumn → FramePlanes → PlainTile
+tile_of c planes = record { blocks = c.grid.blocks; sides = c.sides; map = Some (samples_of planes) }
+
+abbrev pub walk_of : FrameSetting → TileColumn → Walk PlainTile
+walk_of setting c = plain_walk setting.header setting.modes (lists_of setting.contexts) setting.places c.grid.from c.grid.to
+
+-- the end of its columns of superblocks
+abbrev pub limit_of : TileColumn → ℕ
+limit_of c = c.grid.from + 8 * superblocks_along (c.grid.to - c.grid.from)
+
+-- between two blocks
+pub record IsReady (setting : FrameSetting) (c : TileColumn) (planes : FramePlanes) : Type 0 where
+  pub rows : c.grid.rows ≡ setting.places.rows
+  pub order : c.grid.from ≤ c.grid.to
+  pub within : c.grid.to ≤ setting.places.cols
+  pub ends : c.grid.to ≡ min (limit_of c) setting.places.cols
+  pub fit : FitPlanes (shape_of setting.header) c.sides
+  pub sizes : HasSizes (shape_of setting.header) planes
+  pub range : IsInRange (shape_of setting.header).depth planes
+
+-- the same columns of the frame
+pub record SameColumns (old new : TileColumn) : Type 0 where
+  pub from : new.grid.from ≡ old.grid.from
+  pub to : new.grid.to ≡ old.grid.to
+
+-- what a walk of the tile settles on, or the rule that is broken
+abbrev pub GivesTile : {n : ℕ} → Syntax ℕ Rule (Settled PlainTile) → CountingReader n → Result (Unit {0}) Rule → TileColumn → FramePlanes → CountingReader n → Type 0
+GivesTile s old (Ok u) c planes new = Reads s old (tile_of c planes) new
+GivesTile s old (Err rule) c planes new = run_counting s (standing_of old) ≡ Err rule
+
+---- A tile's bytes ----
+
+-- what a tile settles on, by an arithmetic decoder of its own over its bytes
+abbrev pub value_of : {A : Type 0} → Result (Settled A × Window) Rule → Result A Rule
+value_of r = map_ok (λ p. p.0.value) r
+
+unfoldable pub read_whole : {A : Type 0} → Syntax ℕ Rule (Settled A) → List ℕ → Result A Rule
+read_whole s bytes = started bytes >>= λ window. value_of (run_bools s window)
+
+abbrev pub GivesWhole : Result PlainTile Rule → Result (Unit {0}) Rule → TileColumn → FramePlanes → Type 0
+GivesWhole computed (Ok u) c planes = computed ≡ Ok (tile_of c planes)
+GivesWhole computed (Err rule) c planes = computed ≡ Err rule
+
+abbrev pub HasOneTile : TileInfo → Type 0
+HasOneTile tiles = (tiles.columns_log2 ≡ 0) × (tiles.rows_log2 ≡ 0)
+
+-- a frame's one tile, or the rule
+abbrev pub IsOnlyTile : Result (List Span) Rule → Result Span Rule → Type 0
+IsOnlyTile spans (Ok span) = spans ≡ Ok (span ∷ [])
+IsOnlyTile spans (Err rule) = spans ≡ Err rule
+
+---- A frame ----
+
+-- whether a frame's counts are wanted: its probabilities are adapted after it
+abbrev pub counts_if : Bool → List CountedBool → List ℕ
+counts_if true bools = counts_after no_counts bools
+counts_if false bools = no_counts
+
+abbrev pub blocks_of : List TileColumn → List (List BlockInfo)
+blocks_of columns = map (λ c. c.grid.blocks) columns
+
+-- the code holds what a frame leaves
+pub record HoldsResult (header : Header) (picture : Picture) (d : Decoded) (r : FrameResult) : Type 0 where
+  pub map : map_of picture ≡ r.map
+  pub shape : picture.shape ≡ shape_of header
+  pub sizes : HasSizes (shape_of header) picture.planes
+  pub range : IsInRange (shape_of header).depth picture.planes
+  pub contexts : lists_of d.contexts ≡ r.contexts
+  pub blocks : blocks_of d.columns.items ≡ r.blocks
+  pub counts : d.counts ≡ counts_if (adapts header) r.counted
+
+-- the frame is that, or the fault is that one. Want of memory has no cause
+abbrev pub IsDecoded : FrameInput → Picture → Result Decoded Halt → Type 0
+IsDecoded input picture (Ok d) = (r : FrameResult) × (decoded input ≡ Ok r) × HoldsResult input.header picture d r
+IsDecoded input picture (Err (halt.Fault fault)) = decoded input ≡ Err fault
+IsDecoded input picture (Err halt.OutOfMemory) = Unit {0}

@@ -1,0 +1,141 @@
+-- What the tiles of a frame say, block by block (6.4, 6.4.2 and 6.4.4 of the standard: decode_tiles, decode_tile,
+-- decode_block). No sample is needed to read them.
+use Rattle.std.specs.Prelude.{ℕ, ◌+◌, ◌-◌, ◌/◌, ◌^◌, Bool, false, true, List, [], ◌∷◌, ◌++◌, map, get_or, replicate, slice_range, slice_set, Result, Ok, Err}
+use Rattle.vp9_types.specs.Results.{◌>>=◌}
+use Rattle.vp9_types.specs.Shapes.{coded_width, coded_height}
+use Rattle.vp9_types.specs.Sizes.{superblocks_along}
+use Rattle.vp9_types.specs.Syntax.{Syntax}
+use Rattle.vp9_types.specs.declared.block.Modes.{Modes}
+use Rattle.vp9_types.specs.declared.job.Span.{Span}
+use Rattle.vp9_types.specs.declared.rule.Rule.{Rule}
+use Rattle.vp9_types.specs.declared.shape.Plane.{Plane}
+use Rattle.vp9_types.specs.declared.shape.Plane.TheVariants.{Y, U, V}
+use Rattle.vp9_types.specs.declared.shape.Shape.{Shape}
+use Rattle.bool_decoder.specs.Bools.{run_bools}
+use Rattle.bool_decoder.specs.Window.{started}
+use Rattle.frame_headers.specs.State.{shape_of}
+use Rattle.frame_headers.specs.declared.header.Header.{Header}
+use Rattle.prob_contexts.specs.Lists.{ContextLists}
+use Rattle.prob_contexts.specs.declared.kind.CountedBool.{CountedBool}
+use Rattle.counting_reader.specs.Counting.{Settled, settle, mapped}
+use Rattle.counting_reader.specs.Counting as counting
+use Rattle.block_geometry.specs.Frames.{places_of}
+use Rattle.block_geometry.specs.declared.transform_blocks.FramePlaces.{FramePlaces}
+use Rattle.block_plan.specs.Planned.{PlannedBlock}
+use Rattle.block_plan.specs.declared.block.BlockAt.{BlockAt}
+use Rattle.block_plan.specs.declared.block.BlockInfo.{BlockInfo}
+use Rattle.block_residue.specs.Residues as residues
+use Rattle.block_residue.specs.Sides.{Sides}
+use Rattle.block_residue.specs.declared.sides.TileSides.{TileSides}
+use Rattle.mode_syntax.specs.ModeInfo.{intra_frame_mode_info}
+use Rattle.mode_syntax.specs.Walk.{Walk, decode_tile}
+use Rattle.frame_decoder.specs.Tiles.{column_of, tile_places}
+use Rattle.frame_decoder.specs.declared.tile_places.TilePlaces.{TilePlaces}
+
+---- A tile ----
+
+-- The blocks of its column in earlier tiles, its own so far, and where those above and at the left have coefficients. No block
+-- and no transform block reaches into another tile column.
+pub record TileRead : Type 0 where
+  pub earlier : List PlannedBlock
+  pub blocks : List PlannedBlock
+  pub sides : TileSides
+
+abbrev pub infos : List PlannedBlock → List BlockInfo
+infos blocks = map (λ b. b.info) blocks
+
+-- decode_block
+unfoldable pub read_block : Header → Modes → ContextLists → BlockAt → TileRead → Syntax ℕ Rule (Settled TileRead)
+read_block header modes contexts at s =
+    counting.◌>>=◌ (intra_frame_mode_info header modes contexts (infos (s.earlier ++ s.blocks)) at) (λ info.
+    counting.◌>>=◌ (residues.read_block header contexts at.tile_from info s.sides) (λ read.
+    settle (record { earlier = s.earlier; blocks = s.blocks ++ read.0 ∷ []; sides = read.1 })))
+
+-- (all frames that are built are intra frames)
+abbrev pub read_walk : Header → Modes → ContextLists → FramePlaces → TilePlaces → Walk TileRead
+read_walk header modes contexts frame tile = record {
+  frame = frame;
+  tile_from = tile.col_from;
+  tile_to = tile.col_to;
+  intra = true;
+  probs = contexts.partitions;
+  block = read_block header modes contexts;
+  blocks = λ s. infos (s.earlier ++ s.blocks);
+}
+
+---- A tile column ----
+
+-- its blocks so far, and where those above have coefficients in each plane
+pub record Column : Type 0 where
+  pub blocks : List PlannedBlock
+  pub y : List Bool
+  pub u : List Bool
+  pub v : List Bool
+
+-- a tile begins with nothing at its left
+abbrev pub sides_below : Shape → Plane → List Bool → Sides
+sides_below shape p above = record { above = above; left = replicate (coded_height shape p / 4) false }
+
+abbrev pub begun : Shape → Column → TileRead
+begun shape c = record {
+  earlier = c.blocks;
+  blocks = [];
+  sides = record { y = sides_below shape Y c.y; u = sides_below shape U c.u; v = sides_below shape V c.v };
+}
+
+abbrev pub column_after : TileRead → Column
+column_after s = record { blocks = s.earlier ++ s.blocks; y = s.sides.y.above; u = s.sides.u.above; v = s.sides.v.above }
+
+-- nothing is read
+abbrev pub no_column : Shape → Column
+no_column shape = record {
+  blocks = [];
+  y = replicate (coded_width shape Y / 4) false;
+  u = replicate (coded_width shape U / 4) false;
+  v = replicate (coded_width shape V / 4) false;
+}
+
+-- a tile of a column, superblock by superblock
+unfoldable pub read_tile : Header → Modes → ContextLists → TilePlaces → Column → Syntax ℕ Rule (Settled TileRead)
+read_tile header modes contexts tile c =
+    decode_tile (read_walk header modes contexts (places_of (shape_of header)) tile)
+    (superblocks_along (tile.col_to - tile.col_from)) tile.row_from tile.col_from (superblocks_along (tile.row_to - tile.row_from)) (begun (shape_of header) c)
+
+---- All tiles ----
+
+-- the tile columns so far, the blocks of all tiles in the order in which they were read, and what was counted
+pub record FrameRead : Type 0 where
+  pub columns : List Column
+  pub blocks : List PlannedBlock
+  pub counted : List CountedBool
+
+abbrev pub nothing_read : Header → FrameRead
+nothing_read header = record {
+  columns = replicate (2 ^ header.params.tiles.columns_log2) (no_column (shape_of header));
+  blocks = [];
+  counted = [];
+}
+
+abbrev pub column_at : Header → FrameRead → ℕ → Column
+column_at header f k = get_or f.columns k (no_column (shape_of header))
+
+abbrev pub with_tile : ℕ → FrameRead → Settled TileRead → FrameRead
+with_tile k f s = record {
+  columns = slice_set f.columns k (column_after s.value);
+  blocks = f.blocks ++ s.value.blocks;
+  counted = f.counted ++ s.counted;
+}
+
+-- the n-th tile, by an arithmetic decoder of its own over its bytes
+unfoldable pub read_tile_of : Header → Modes → ContextLists → ℕ → List ℕ → FrameRead → Result FrameRead Rule
+read_tile_of header modes contexts n bytes f = do
+  window ← started bytes
+  read ← run_bools (read_tile header modes contexts (tile_places (places_of (shape_of header)) header.params.tiles n)
+      (column_at header f (column_of header.params.tiles n))) window
+  Ok (with_tile (column_of header.params.tiles n) f read.0)
+
+-- the tiles from the n-th on, in order
+unfoldable pub read_tiles : Header → Modes → ContextLists → List ℕ → ℕ → List Span → FrameRead → Result FrameRead Rule
+read_tiles header modes contexts frame n [] f = Ok f
+read_tiles header modes contexts frame n (span ∷ spans) f =
+    read_tile_of header modes contexts n (slice_range frame span.from span.to) f >>= read_tiles header modes contexts frame (n + 1) spans

@@ -1,0 +1,174 @@
+-- What the laws of walks speak of.
+use Rattle.std.specs.Prelude.{◌≡◌, ℕ, ◌+◌, ◌*◌, ◌^◌, ◌<◌, ◌≤◌, ◌⊎◌, Bool, true, ◌&&◌, List, [], ◌∷◌, ◌++◌, Result, Ok, Err, map, filter, min, nat_eq, nat_lt, if◌then◌else◌}
+use Rattle.vp9_types.specs.Syntax.{Syntax}
+use Rattle.vp9_types.specs.declared.block.BlockSize.{BlockSize}
+use Rattle.vp9_types.specs.declared.block.Modes.{Modes}
+use Rattle.vp9_types.specs.declared.rule.Rule.{Rule}
+use Rattle.bool_decoder.specs.Bools.{run_bools}
+use Rattle.bool_decoder.specs.Window.{Window}
+use Rattle.frame_headers.specs.declared.header.Header.{Header}
+use Rattle.prob_contexts.specs.Lists.{ContextLists}
+use Rattle.prob_contexts.specs.declared.kind.CountedBool.{CountedBool}
+use Rattle.counting_reader.specs.Counting.{Settled, settle, mapped, Yields, ◌>>=◌}
+use Rattle.block_geometry.specs.Sizes.{width_8}
+use Rattle.block_geometry.specs.declared.transform_blocks.FramePlaces.{FramePlaces}
+use Rattle.block_plan.specs.Blocks.{covering}
+use Rattle.block_plan.specs.declared.block.BlockAt.{BlockAt}
+use Rattle.block_plan.specs.declared.block.BlockInfo.{BlockInfo}
+use Rattle.mode_syntax.specs.ModeInfo.{intra_frame_mode_info}
+use Rattle.mode_syntax.specs.Partitions.{partition_at}
+use Rattle.mode_syntax.specs.Tiles.{Leaf, Cut, one_leaf, leaves, tile_leaves}
+use Rattle.mode_syntax.specs.Walk.{Walk, block_at, square_at, decode_tile}
+
+---- Listed blocks ----
+
+abbrev pub leaf_of : BlockInfo → Leaf
+leaf_of b = record { row = b.row; col = b.col; size = b.size }
+
+-- blocks of these places and sizes were listed behind those so far
+abbrev pub Lists : {S : Type 0} → Walk S → S → List Leaf → S → Type 0
+Lists walk s ls t = (new : List BlockInfo) × (map leaf_of new ≡ ls) × (walk.blocks t ≡ walk.blocks s ++ new)
+
+-- what a block reads lists it, and nothing else
+abbrev pub ListsItsBlock : {S : Type 0} → Walk S → Type 0
+ListsItsBlock {S} walk = (r c : ℕ) (size : BlockSize) (s : S) → Yields (walk.block (block_at walk r c size) s) (Lists walk s (one_leaf r c size))
+
+-- the blocks of a partition tree of a square
+abbrev pub ListsLeaves : {S : Type 0} → Walk S → ℕ → ℕ → ℕ → S → S → Type 0
+ListsLeaves walk n r c s t = (cut : Cut) × Lists walk s (leaves walk.frame n r c cut) t
+
+-- the blocks of partition trees of a tile's superblocks
+abbrev pub ListsTile : {S : Type 0} → Walk S → ℕ → ℕ → ℕ → ℕ → S → S → Type 0
+ListsTile walk columns r c n s t = (cuts : ℕ → ℕ → Cut) × Lists walk s (tile_leaves walk.frame r c cuts columns 0 n) t
+
+---- Walks that do the same ----
+
+-- a walk of the same tile over another state
+abbrev pub walk_over : {S T : Type 0} → Walk S → (BlockAt → T → Syntax ℕ Rule (Settled T)) → (T → List BlockInfo) → Walk T
+walk_over walk block blocks = record {
+  frame = walk.frame;
+  tile_from = walk.tile_from;
+  tile_to = walk.tile_to;
+  intra = walk.intra;
+  probs = walk.probs;
+  block = block;
+  blocks = blocks;
+}
+
+-- so many columns from one on lie in those from `low` on, below `high`, and begin in the frame
+pub record LiesIn {S : Type 0} (walk : Walk S) (low high c width : ℕ) : Type 0 where
+  pub from : low ≤ c
+  pub to : c + width ≤ high
+  pub starts : c < walk.frame.cols
+
+-- Another state keeps step with a walk's between two columns: what a block does to it is what the block does to the
+-- walk's state, seen through `view`, and squares are partitioned alike.
+pub record KeepsStep {S T : Type 0} (walk : Walk S) (block : BlockAt → T → Syntax ℕ Rule (Settled T)) (blocks : T → List BlockInfo) (view : S → T) (low high : ℕ) : Type 0 where
+  pub partitions : (level r c : ℕ) (s : S) → LiesIn walk low high c (2 ^ level)
+      → partition_at walk.intra walk.probs (blocks (view s)) walk.frame (square_at walk level r c) ≡ partition_at walk.intra walk.probs (walk.blocks s) walk.frame (square_at walk level r c)
+  pub block_steps : (r c : ℕ) (size : BlockSize) (s : S) → LiesIn walk low high c (width_8 size) → block (block_at walk r c size) (view s) ≡ mapped view (walk.block (block_at walk r c size) s)
+
+-- what each block of a walk between two columns keeps
+pub record EachKeeps {S : Type 0} (walk : Walk S) (P : S → Type 0) (low high : ℕ) : Type 0 where
+  pub kept : (r c : ℕ) (size : BlockSize) (s : S) → LiesIn walk low high c (width_8 size) → P s → Yields (walk.block (block_at walk r c size) s) P
+
+---- Blocks of some columns ----
+
+-- at every place of these columns the same block stands
+abbrev pub SameIn : ℕ → ℕ → List BlockInfo → List BlockInfo → Type 0
+SameIn from to xs ys = (r c : ℕ) → from ≤ c → c < to → covering xs r c ≡ covering ys r c
+
+-- part of a block lies in the columns from one on, and before another
+abbrev pub reaches_into : ℕ → ℕ → BlockInfo → Bool
+reaches_into from to b = nat_lt b.col to && nat_lt from (b.col + width_8 b.size)
+
+abbrev pub in_columns : ℕ → ℕ → List BlockInfo → List BlockInfo
+in_columns from to blocks = filter (reaches_into from to) blocks
+
+-- the modes of a tile's blocks alone: the state is the blocks so far
+unfoldable pub next_block : Header → Modes → ContextLists → BlockAt → List BlockInfo → Syntax ℕ Rule (Settled (List BlockInfo))
+next_block header modes contexts at blocks = do
+  block ← intra_frame_mode_info header modes contexts blocks at
+  settle (blocks ++ block ∷ [])
+
+abbrev pub mode_walk : Header → Modes → ContextLists → FramePlaces → ℕ → ℕ → Walk (List BlockInfo)
+mode_walk header modes contexts frame tile_from tile_to = record {
+  frame = frame;
+  tile_from = tile_from;
+  tile_to = tile_to;
+  intra = true;
+  probs = contexts.partitions;
+  block = next_block header modes contexts;
+  blocks = λ blocks. blocks;
+}
+
+---- Tiles in order, and those of a column alone ----
+
+-- these are counted before
+abbrev pub with_counted : {S E : Type 0} → List CountedBool → Result (Settled S) E → Result (Settled S) E
+with_counted bools (Ok s) = Ok (record { value = s.value; counted = bools ++ s.counted })
+with_counted bools (Err e) = Err e
+
+abbrev pub then_rest : {S E : Type 0} → ℕ → Result (Settled S) E → (S → Result (Settled S) (ℕ × E)) → Result (Settled S) (ℕ × E)
+then_rest n (Ok s) f = with_counted s.counted (f s.value)
+then_rest n (Err e) f = Err (n, e)
+
+-- Tiles by their numbers, each from where the last left the state, and all that they count; or the first that fails.
+unfoldable pub read_all : {S E : Type 0} → (ℕ → S → Result (Settled S) E) → List ℕ → S → Result (Settled S) (ℕ × E)
+read_all step [] s = Ok (record { value = s; counted = [] })
+read_all step (n ∷ ns) s = then_rest n (step n s) (read_all step ns)
+
+abbrev pub viewed : {S T E : Type 0} → (S → T) → Result (Settled S) E → Result (Settled T) E
+viewed f (Ok s) = Ok (record { value = f s.value; counted = s.counted })
+viewed f (Err e) = Err e
+
+abbrev pub counted_of : {S E : Type 0} → Result (Settled S) E → List CountedBool
+counted_of (Ok s) = s.counted
+counted_of (Err e) = []
+
+-- A tile does to the part of the state that its column sees what it does to the state, and leaves the other columns' parts.
+pub record AreSeparate {S T E : Type 0} (column_of : ℕ → ℕ) (step : ℕ → S → Result (Settled S) E) (view : ℕ → S → T) (column_step : ℕ → T → Result (Settled T) E) : Type 0 where
+  pub own : (n : ℕ) (s : S) → column_step n (view (column_of n) s) ≡ viewed (view (column_of n)) (step n s)
+  pub others : (n k : ℕ) (s : S) (t : Settled S) → (column_of n ≡ k → ⊥) → step n s ≡ Ok t → view k t.value ≡ view k s
+
+abbrev pub tiles_of : (ℕ → ℕ) → ℕ → List ℕ → List ℕ
+tiles_of column_of k ns = filter (λ n. nat_eq (column_of n) k) ns
+
+-- a column read alone, over the tiles of these numbers
+abbrev pub column_alone : {S T E : Type 0} → (ℕ → ℕ) → (ℕ → S → T) → (ℕ → T → Result (Settled T) E) → List ℕ → S → ℕ → Result (Settled T) (ℕ × E)
+column_alone column_of view column_step ns s k = read_all column_step (tiles_of column_of k ns) (view k s)
+
+-- a state of its own for each column: a tile reads from its column's and changes that alone
+abbrev pub with_column : {T : Type 0} → ℕ → T → (ℕ → T) → ℕ → T
+with_column c t s k = if nat_eq c k then t else s k
+
+abbrev pub by_column : {T E : Type 0} → (ℕ → ℕ) → (ℕ → T → Result (Settled T) E) → ℕ → (ℕ → T) → Result (Settled (ℕ → T)) E
+by_column column_of step n s = viewed (λ t. with_column (column_of n) t s) (step n (s (column_of n)))
+
+-- where the tiles of a frame lie, and their bytes: the columns from which and before which a tile column lies and how
+-- many superblocks it is wide, and by its number the row from which a tile lies, how many superblocks it is high, its window
+pub record Layout : Type 0 where
+  pub from : ℕ → ℕ
+  pub to : ℕ → ℕ
+  pub wide : ℕ → ℕ
+  pub row : ℕ → ℕ
+  pub high : ℕ → ℕ
+  pub window : ℕ → Window
+
+-- a tile column ends with its superblocks or with the frame, and the superblocks of another are before it or behind it
+pub record IsLaidOut (frame : FramePlaces) (l : Layout) : Type 0 where
+  pub ends : (k : ℕ) → min (l.from k + 8 * l.wide k) frame.cols ≤ l.to k
+  pub apart : (j k : ℕ) → (j ≡ k → ⊥) → (l.from j + 8 * l.wide j ≤ l.from k) ⊎ (l.to k ≤ l.from j)
+
+abbrev pub settled_part : {A : Type 0} → Result (Settled A × Window) Rule → Result (Settled A) Rule
+settled_part (Ok p) = Ok p.0
+settled_part (Err e) = Err e
+
+-- the modes of a tile of a number: the state is the blocks so far
+unfoldable pub mode_tile : Header → Modes → ContextLists → FramePlaces → Layout → (ℕ → ℕ) → ℕ → List BlockInfo → Result (Settled (List BlockInfo)) Rule
+mode_tile header modes contexts frame l column_of n blocks =
+    let k = column_of n in
+    settled_part (run_bools (decode_tile (mode_walk header modes contexts frame (l.from k) (l.to k)) (l.wide k) (l.row n) (l.from k) (l.high n) blocks) (l.window n))
+
+abbrev pub column_blocks : Layout → ℕ → List BlockInfo → List BlockInfo
+column_blocks l k blocks = in_columns (l.from k) (l.to k) blocks

@@ -1,0 +1,162 @@
+-- Planes as maps: rows of them, and blocks put in.
+use Rattle.std.proofs.Common.{◌≡◌, ◌<◌, ◌≤◌, ◌+◌, ◌*◌, ◌-◌, ◌&&◌, ℕ, inl, inr, refl, sym, ◌∙◌, arith, ap, List, length, get_or, take, drop, ◌++◌, subst, Bool, true, false, cond, ltb, leb, replicate, min, map}
+use Rattle.std.specs.List.{range_with_len}
+use Rattle.std.proofs.Math.Nat.{mul-le-mul_right}
+use Rattle.std.proofs.Math.Path.{fun_ext}
+use Rattle.std.proofs.lemmas.Bool.{cases_lt, cases_Bool, lt-ltb}
+use Rattle.std.proofs.lemmas.Bool.Decides.{nat_tests}
+use Rattle.std.proofs.lemmas.List.{get_or-take, get_or-drop, get_or-replicate, get_or_past, get_or_default, same_lists, take_at, length-replicate, length-take, length-drop}
+use Rattle.std.proofs.lemmas.List.FromFn.{length-map-range_with_len, get_or-map-range_with_len}
+use Rattle.vp9_types.specs.Maps.{Map, IsAtMost, rows_of, row_of, with_block}
+use Rattle.planes.specs.declared.area.Area.{Area}
+use Rattle.planes.specs.Planes.{PlaneSamples, plane_map, moved_to, with_part, HasRow, HasColumn, StartsIn, lower_end, right_end}
+use Rattle.planes.specs.Code.{place_in}
+use Rattle.planes.specs.Code.{written_over, with_row}
+use Rattle.planes.proofs.RowLemmas.{next, place, add-sub_left, row_put}
+use borrow.Rule.Slice.PartMut.{put_mid, same_len_mid}
+
+zero_rows : (width n : ℕ) → rows_of width (replicate n 0) ≡ (λ _ _. 0)
+unfolding rows_of
+zero_rows width n = fun_ext λ y. fun_ext λ x. elim (cases_Bool (ltb x width)) [
+  | inl one ↦ rw one (elim (cases_lt (y * width + x) n) [
+    | inl low ↦ rw get_or-replicate refl
+    | inr past ↦ get_or_past (replicate n 0) (y * width + x) 0 (let zero : ℕ = 0 in omega (arith, length-replicate n zero))
+  ])
+  | inr none ↦ rw none refl
+]
+
+moved_zeros : (row column : ℕ) → moved_to row column (λ _ _. 0) ≡ (λ _ _. 0)
+unfolding moved_to
+moved_zeros row column = fun_ext λ y. fun_ext λ x. grind (arith, nat_tests)
+
+pub zero_map : (row column width n : ℕ) → moved_to row column (rows_of width (replicate n 0)) ≡ (λ _ _. 0)
+zero_map row column width n = rw zero_rows (moved_zeros row column)
+
+-- what the samples of an area show
+abbrev pub area_map : Area → List ℕ → Map
+area_map a xs = moved_to a.first_row a.first_column (rows_of a.columns xs)
+
+moved_in : (first_row first_column : ℕ) (m : Map) (row column : ℕ) → first_row ≤ row → first_column ≤ column
+    → moved_to first_row first_column m row column ≡ m (row - first_row) (column - first_column)
+unfolding moved_to
+moved_in first_row first_column m row column below right = grind (arith, nat_tests)
+
+pub sample_is : (a : Area) (xs : List ℕ) (row column : ℕ) → a.first_row ≤ row → a.first_column ≤ column → column < right_end a
+    → get_or xs (place_in a row column) 0 ≡ area_map a xs row column
+sample_is a xs row column below right left = sym
+    (moved_in a.first_row a.first_column _ row column below right
+    ∙ place a.columns xs (row - a.first_row) (column - a.first_column) (omega arith))
+
+pub row_fits : (a : Area) (row column n long : ℕ) → HasRow a row column n → long ≡ a.rows * a.columns → place_in a row column + n ≤ long
+row_fits a row column n long inside whole =
+    let high = next a.columns (row - a.first_row) a.rows (omega (arith, inside.above, inside.below)) in
+    omega (arith, inside.left, inside.right)
+
+part_at : (at n : ℕ) (xs : List ℕ) (k : ℕ) → k < n → get_or (take (at + n - at) (drop at xs)) k 0 ≡ get_or xs (at + k) 0
+part_at at n xs k low = rw (add-sub_left, get_or-take, get_or-drop) refl
+
+length_part : (at n : ℕ) (xs : List ℕ) → at + n ≤ length xs → length (take (at + n - at) (drop at xs)) ≡ n
+length_part at n xs fits = rw add-sub_left (omega (arith, length-take n (drop at xs), length-drop at xs))
+
+-- a part of a row, sample by sample and as a list
+pub row_samples : (a : Area) (xs : List ℕ) (row column n : ℕ) → HasRow a row column n → (j : ℕ) → j < n
+    → get_or (take (place_in a row column + n - place_in a row column) (drop (place_in a row column) xs)) j 0
+    ≡ area_map a xs row (column + j)
+row_samples a xs row column n inside j low =
+    let at : ℕ = place_in a row column in
+    let here : at + j ≡ place_in a row (column + j) = omega (arith, inside.left) in
+    part_at at n xs j low ∙ rw here (sample_is a xs row (column + j) inside.above (omega (arith, inside.left)) (omega (arith, inside.right)))
+
+pub row_is : (a : Area) (xs : List ℕ) (row column n : ℕ) → HasRow a row column n → length xs ≡ a.rows * a.columns
+    → take (place_in a row column + n - place_in a row column) (drop (place_in a row column) xs)
+    ≡ row_of (area_map a xs) row column n
+row_is a xs row column n inside whole =
+    let at : ℕ = place_in a row column in
+    let fits = row_fits a row column n (length xs) inside whole in
+    let long = length_part at n xs fits in
+    same_lists _ _ (long ∙ sym (length-map-range_with_len (area_map a xs row) column n))
+    (λ k d low. let lt : k < n = omega arith in
+    get_or_default (take (at + n - at) (drop at xs)) k d 0 low
+    ∙ row_samples a xs row column n inside k lt
+    ∙ sym (get_or-map-range_with_len (area_map a xs row) column n k (column + k) d lt refl))
+
+pub block_moved : (m b : Map) (first_row first_column row column rows columns : ℕ) → first_row ≤ row → first_column ≤ column
+    → moved_to first_row first_column (with_block m (row - first_row) (column - first_column) rows columns b)
+    ≡ with_block (moved_to first_row first_column m) row column rows columns b
+unfolding moved_to with_block
+block_moved m b first_row first_column row column rows columns below right = fun_ext λ y. fun_ext λ x. grind (arith, nat_tests)
+
+-- a sample some rows further down
+pub column_sample : (a : Area) (xs : List ℕ) (row column i : ℕ) → a.first_row ≤ row → a.first_column ≤ column → column < right_end a
+    → get_or xs (place_in a row column + i * a.columns) 0 ≡ area_map a xs (row + i) column
+column_sample a xs row column i below right left =
+    let here : place_in a row column + i * a.columns ≡ place_in a (row + i) column =
+    moved_down row a.first_row i a.columns (column - a.first_column) below in
+    rw here (sample_is a xs (row + i) column (omega (arith, below)) right left)
+  where
+    moved_down : (row first i columns x : ℕ) → first ≤ row → (row - first) * columns + x + i * columns ≡ (row + i - first) * columns + x
+    moved_down row first i columns x below =
+        let more : row + i - first ≡ (row - first) + i = omega (arith, below) in rw more (omega arith)
+
+-- samples that come back from a loan
+pub whole_loan : (n : ℕ) (xs ys : List ℕ) → length ys ≡ length xs → n ≡ length xs → take n (ys ++ drop (length ys) xs) ≡ ys
+whole_loan n xs ys same whole = take_at ys (drop (length ys) xs) n (same ∙ sym whole)
+
+-- a block put into the rows of an area, which were lent
+pub part_put : (a : Area) (xs ys : List ℕ) (len row column rows columns down across : ℕ) (b : Map) → a.first_row ≤ row → a.first_column ≤ column
+    → len ≡ length xs → length ys ≡ length xs → down ≡ min rows (lower_end a - row) → across ≡ min columns (right_end a - column)
+    → rows_of a.columns ys ≡ with_block (rows_of a.columns xs) (row - a.first_row) (column - a.first_column) down across b
+    → area_map a (take len (ys ++ drop (length ys) xs)) ≡ with_part a (area_map a xs) row column rows columns b
+part_put a xs ys len row column rows columns down across b below right whole same d e is =
+    rw (whole_loan len xs ys same whole, ← d, ← e)
+    (ap (moved_to a.first_row a.first_column) is
+    ∙ block_moved (rows_of a.columns xs) b a.first_row a.first_column row column down across below right)
+
+within : (a : Area) (row column n : ℕ) → HasRow a row column n → (row - a.first_row) * a.columns + a.columns ≤ a.rows * a.columns
+within a row column n inside = next a.columns (row - a.first_row) a.rows (omega (arith, inside.above, inside.below))
+
+row_over : (a : Area) (xs w : List ℕ) (row column : ℕ) → HasRow a row column (length w) → length xs ≡ a.rows * a.columns
+    → area_map a (written_over xs (put_mid (place_in a row column) (length w) xs w))
+    ≡ with_block (area_map a xs) row column 1 (length w) (λ _ j. get_or w j 0)
+row_over a xs w row column inside whole =
+    let at : ℕ = place_in a row column in
+    let fits = row_fits a row column (length w) (length xs) inside whole in
+    let same : written_over xs (put_mid at (length w) xs w) ≡ put_mid at (length w) xs w = whole_loan (length xs) xs (put_mid at (length w) xs w) (same_len_mid at (length w) xs w (sym (omega (arith, length-take (length w) (drop at xs), length-drop at xs)))) refl in
+    rw same (ap (moved_to a.first_row a.first_column)
+    (row_put a.columns xs w (row - a.first_row) (column - a.first_column) (length w) (omega (arith, inside.left, inside.right))
+    (omega (arith, within a row column (length w) inside)) refl)
+    ∙ block_moved (rows_of a.columns xs) _ a.first_row a.first_column row column 1 (length w) inside.above inside.left)
+
+-- samples written to a part of a row
+pub row_written : (a : Area) (xs : List ℕ) (row column n : ℕ) → HasRow a row column n → length xs ≡ a.rows * a.columns
+    → (w : List ℕ) → length w ≡ n
+    → area_map a (written_over xs (put_mid (place_in a row column) (length w) xs w))
+    ≡ with_block (area_map a xs) row column 1 n (λ _ j. get_or w j 0)
+row_written a xs row column n inside whole w long =
+    subst (λ n. HasRow a row column n → area_map a (written_over xs (put_mid (place_in a row column) (length w) xs w))
+    ≡ with_block (area_map a xs) row column 1 n (λ _ j. get_or w j 0)) long (λ inside. row_over a xs w row column inside whole) inside
+
+abbrev plane_by : Area → List ℕ → PlaneSamples
+plane_by a xs = record { area = a; samples = xs }
+
+-- what a plane is that lent a part of its list
+pub row_lent : (a : Area) (xs : List ℕ) (p : PlaneSamples) (row column at len : ℕ) → plane_by a xs ≡ p → len ≡ length xs → at ≡ place_in a row column
+    → (w : List ℕ) → plane_by a (take len (put_mid at (length w) xs w ++ drop (length (put_mid at (length w) xs w)) xs)) ≡ with_row p row column w
+row_lent a xs p row column at len is long here w = rw (here, long, ← is) refl
+
+either : (most : ℕ) (b : Bool) (x y : ℕ) → x ≤ most → y ≤ most → cond b x y ≤ most
+either most true x y a b = a
+either most false x y a b = b
+
+-- samples that are small stay so
+pub rows_small : (most width : ℕ) (xs : List ℕ) → ((k : ℕ) → get_or xs k 0 ≤ most) → IsAtMost most (rows_of width xs)
+unfolding rows_of
+rows_small most width xs small y x = either most (ltb x width) _ _ (small _) (omega arith)
+
+pub with_block_small : (most : ℕ) (m : Map) (row column rows columns : ℕ) (b : Map) → IsAtMost most m → IsAtMost most b
+    → IsAtMost most (with_block m row column rows columns b)
+unfolding with_block
+with_block_small most m row column rows columns b small also y x = either most _ _ _ (also _ _) (small y x)
+
+pub zeros_small : (most : ℕ) (m : Map) → m ≡ (λ _ _. 0) → IsAtMost most m
+zeros_small most m zeros y x = rw (ap (λ (m : Map). m y x) zeros) (omega arith)

@@ -1,0 +1,44 @@
+-- Where the code keeps samples, and what it lends to be written.
+use Rattle.std.specs.Prelude.{ℕ, ◌+◌, ◌-◌, ◌*◌, List, ◌++◌, take, drop, length}
+use Rattle.std.specs.Borrow.{Lends, MutBor, Fml, Array, u16}
+use Rattle.vp9_types.specs.declared.shape.Plane.{Plane}
+use Rattle.vp9_types.specs.declared.shape.Plane.TheVariants.{Y, U, V}
+use Rattle.planes.specs.declared.area.Area.{Area}
+use Rattle.planes.specs.declared.frame_planes.FramePlanes.{FramePlanes}
+use Rattle.planes.specs.declared.picture.Picture.{Picture}
+use Rattle.planes.specs.contracts.plane.SamplePlane as sample_plane
+use Rattle.planes.specs.contracts.frame_planes.FramePlanes as frame_planes
+use Rattle.planes.specs.contracts.picture.Picture as picture
+use Rattle.planes.specs.Planes.{PlaneSamples}
+
+-- where the list has the sample of a row and column
+abbrev pub place_in : Area → ℕ → ℕ → ℕ
+place_in a row column = (row - a.first_row) * a.columns + (column - a.first_column)
+
+-- a list with another written over it: what has no room is left out
+abbrev pub written_over : List ℕ → List ℕ → List ℕ
+written_over xs w = take (length xs) (w ++ drop (length w) xs)
+
+-- a plane with samples written from a row and column on
+abbrev pub with_row : PlaneSamples → ℕ → ℕ → List ℕ → PlaneSamples
+with_row p row column w =
+    let at = place_in p.area row column in
+    record p { samples = written_over p.samples (take at p.samples ++ (w ++ drop (length w) (drop at p.samples))) }
+
+abbrev pub LendsRow : MutBor PlaneSamples → ℕ → ℕ → MutBor (List ℕ) → Fml
+LendsRow s row column r = Lends sample_plane.the_row (Array u16 0) s r (with_row s.now row column)
+
+-- one plane replaced
+abbrev pub with_plane_of : FramePlanes → Plane → PlaneSamples → FramePlanes
+with_plane_of f Y p = record f { y = p }
+with_plane_of f U p = record f { u = p }
+with_plane_of f V p = record f { v = p }
+
+abbrev pub LendsPlane : MutBor FramePlanes → Plane → MutBor PlaneSamples → Fml
+LendsPlane s plane r = Lends frame_planes.the_row sample_plane.the_row s r (with_plane_of s.now plane)
+
+abbrev pub with_planes : Picture → FramePlanes → Picture
+with_planes p f = record p { planes = f }
+
+abbrev pub LendsPlanes : MutBor Picture → MutBor FramePlanes → Fml
+LendsPlanes s r = Lends picture.the_row frame_planes.the_row s r (with_planes s.now)

@@ -1,0 +1,115 @@
+ghost use Rattle.std.specs.Prelude.{◌≡◌, ◌≤◌, ℕ, IfOk, OnOk, OnErr, IsOk, MatchBool};
+ghost use Rattle.std.specs.Borrow.{sem};
+ghost use Rattle.vp9_types.specs.Shapes.{halved};
+ghost use Rattle.planes.specs.Planes.{IsArea};
+ghost use Rattle.planes.specs.Pictures.{FitsPlanes, coded_area};
+
+use crate::area::Area;
+use crate::plane::SamplePlane;
+use std::alloc::{AllocError, Global};
+use vp9_types::{Plane, Shape};
+
+/// The three planes of a frame.
+#[derive(Drop)]
+pub struct FramePlanes {
+    pub y: SamplePlane,
+    pub u: SamplePlane,
+    pub v: SamplePlane,
+}
+
+impl FramePlanes {
+    ghost use Rattle.planes.specs.Pictures.{HasSizes, plane_of, samples_of, blank};
+    ghost use Rattle.planes.specs.Code.{LendsPlane};
+
+    /// Zeros, with all places of 8x8 luma samples of a frame.
+    pub fn new(alloc: Global, shape: &Shape) -> Result<FramePlanes, AllocError>
+        requires { FitsPlanes shape.now }
+        ensures sizes { IfOk result (λ f. HasSizes shape.now f) }
+        ensures zero { IfOk result (λ f. samples_of f ≡ blank) }
+    {
+        Ok(FramePlanes {
+            y: SamplePlane::new(alloc, coded_area(shape, Plane::Y))?,
+            u: SamplePlane::new(alloc, coded_area(shape, Plane::U))?,
+            v: SamplePlane::new(alloc, coded_area(shape, Plane::V))?,
+        })
+    }
+
+    pub fn plane(&self, plane: Plane) -> &SamplePlane
+        ensures { result.now ≡ plane_of self.now plane }
+    {
+        match plane {
+            Plane::Y => &self.y,
+            Plane::U => &self.u,
+            Plane::V => &self.v,
+        }
+    }
+
+    /// A plane for writing.
+    pub fn plane_mut(&mut self, plane: Plane) -> &mut SamplePlane
+        ensures* writes_back { sem 𝓛 (LendsPlane self.entry plane result) }
+        ensures value { result.now ≡ plane_of self.old plane }
+    {
+        match plane {
+            Plane::Y => &mut self.y,
+            Plane::U => &mut self.u,
+            Plane::V => &mut self.v,
+        }
+    }
+
+    /// All zeros.
+    pub fn clear(&mut self)
+        ensures sizes { (shape : Shape) → HasSizes shape self.old → HasSizes shape self.new }
+        ensures zero { samples_of self.new ≡ blank }
+    {
+        self.y.clear();
+        self.u.clear();
+        self.v.clear();
+    }
+
+    /// Makes these planes of zeros of a frame. Where the sizes are the same they need no memory, and if there is not
+    /// enough they stay as they were.
+    pub fn renew(&mut self, alloc: Global, shape: &Shape) -> Result<(), AllocError>
+        requires { FitsPlanes shape.now }
+        ensures sizes { OnOk result (HasSizes shape.now self.new) }
+        ensures zero { OnOk result (samples_of self.new ≡ blank) }
+        ensures kept { OnErr result (self.new ≡ self.old) }
+        ensures again { HasSizes shape.now self.old → IsOk result }
+    {
+        if self.has_sizes(shape) {
+            self.clear();
+            return Ok(());
+        }
+        *self = FramePlanes::new(alloc, shape)?;
+        Ok(())
+    }
+
+    /// Whether these are planes of a frame of this shape.
+    pub fn has_sizes(&self, shape: &Shape) -> bool
+        requires { FitsPlanes shape.now }
+        ensures { MatchBool result (HasSizes shape.now self.now) (¬ (HasSizes shape.now self.now)) }
+    {
+        self.y.area() == coded_area(shape, Plane::Y)
+            && self.u.area() == coded_area(shape, Plane::U)
+            && self.v.area() == coded_area(shape, Plane::V)
+    }
+}
+
+/// A plane of a frame, with all of its places of 8x8 luma samples.
+pub fn coded_area(shape: &Shape, plane: Plane) -> Area
+    requires { FitsPlanes shape.now }
+    ensures value { result ≡ coded_area shape.now plane }
+    ensures near { IsArea result }
+{
+    let rows = 8 * shape.h.div_ceil(8) as usize;
+    let columns = 8 * shape.w.div_ceil(8) as usize;
+    match plane {
+        Plane::Y => Area::whole(rows, columns),
+        Plane::U | Plane::V => Area::whole(halved(shape.ss_y, rows), halved(shape.ss_x, columns)),
+    }
+}
+
+fn halved(ss: bool, n: usize) -> usize
+    ensures { result ≡ halved ss n }
+{
+    if ss { n / 2 } else { n }
+}

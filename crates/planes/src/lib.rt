@@ -1,0 +1,15 @@
+//! The samples of a frame: planes, parts of planes, and pictures of three planes.
+#![tactic(auto)]
+
+mod area;
+mod copies;
+mod frame_planes;
+mod picture;
+mod plane;
+#[cfg(test)]
+mod tests;
+
+pub use area::Area;
+pub use frame_planes::{FramePlanes, coded_area};
+pub use picture::Picture;
+pub use plane::SamplePlane;

@@ -1,0 +1,157 @@
+ghost use Rattle.std.specs.Prelude.{◌≡◌, ◌≤◌, ◌<◌, ◌+◌, ◌-◌, ◌*◌, ℕ, List, IfOk, length, slice_index};
+ghost use Rattle.vp9_types.specs.Maps.{rows_of, row_of, with_block};
+ghost use Rattle.std.specs.Borrow.{sem};
+ghost use Rattle.planes.specs.Planes.{PlaneSamples, IsArea, StartsIn, HasRow, HasColumn, lower_end, right_end, plane_map, with_part};
+
+use crate::area::Area;
+use crate::copies::{copy_rows, copy_square, read_apart};
+use std::alloc::{AllocError, Global};
+use std::marker::Model;
+
+/// The samples of a plane of a frame, or of a part of one. Rows and columns are those of the whole plane.
+#[derive(Drop)]
+pub struct SamplePlane {
+    area: Area,
+    samples: Vec<u16>,
+}
+
+impl Model for SamplePlane {
+    ghost Value = { PlaneSamples };
+
+    ghost view = { λ p. record { area = p.area; samples = p.samples.items } };
+
+    ghost invariant = { λ p. IsArea p.area × (length p.samples.items ≡ p.area.rows * p.area.columns) };
+}
+
+impl SamplePlane {
+    ghost use Rattle.planes.specs.Code.{LendsRow, with_row};
+
+    /// Zeros. An area with a first row or column past 0 is a part of a plane.
+    #[tactic(auto, using(crate::proofs::PlaneLemmas::zero_map))]
+    pub fn new(alloc: Global, area: Area) -> Result<SamplePlane, AllocError>
+        requires { IsArea area }
+        ensures area { IfOk result (λ p. p.area ≡ area) }
+        ensures zero { IfOk result (λ p. plane_map p ≡ (λ _ _. 0)) }
+    {
+        let samples = Vec::from_elem(alloc, 0, area.rows * area.columns)?;
+        Ok(SamplePlane { area, samples })
+    }
+
+    /// Which rows and columns of the plane there are.
+    #[inline(always)]
+    pub fn area(&self) -> Area
+        ensures value { result ≡ self.now.area }
+        ensures near { IsArea result }
+    {
+        self.area
+    }
+
+    /// So many samples of a row, from a column on.
+    #[inline(always)]
+    #[tactic(auto, using(crate::proofs::PlaneLemmas::row_fits, crate::proofs::PlaneLemmas::row_is))]
+    pub fn row(&self, row: usize, column: usize, count: usize) -> &[u16]
+        requires { HasRow self.now.area row column count }
+        ensures long { length result.now ≡ count }
+        ensures value { result.now ≡ row_of (plane_map self.now) row column count }
+        ensures samples { (j : ℕ) → j < count → slice_index result.now j ≡ plane_map self.now row (column + j) }
+    {
+        let at = self.area.place_of(row, column);
+        &self.samples[at..at + count]
+    }
+
+    /// The sample at a row and column.
+    #[inline(always)]
+    #[tactic(auto, using(crate::proofs::PlaneLemmas::row_fits, crate::proofs::PlaneLemmas::sample_is))]
+    pub fn sample(&self, row: usize, column: usize) -> u16
+        requires { HasRow self.now.area row column 1 }
+        ensures { result ≡ plane_map self.now row column }
+    {
+        self.samples[self.area.place_of(row, column)]
+    }
+
+    /// Reads so many samples of a column, from a row on.
+    #[inline(always)]
+    pub fn read_column(&self, row: usize, column: usize, count: usize, to: &mut [u16])
+        requires inside { HasColumn self.now.area row column count }
+        requires room { count ≤ length to.old }
+        ensures read { (i : ℕ) → i < count → slice_index to.new i ≡ plane_map self.now (row + i) column }
+        ensures after { (i : ℕ) → count ≤ i → slice_index to.new i ≡ slice_index to.old i }
+    {
+        let width = self.area.columns;
+        let at = self.area.place_of(row, column);
+        read_apart(&self.samples, at, width, count, to);
+    }
+
+    /// Puts a block of so many rows and columns at a row and column. What lies below or right of the plane is left out.
+    #[inline(always)]
+    pub fn put_block(
+        &mut self,
+        row: usize,
+        column: usize,
+        rows: usize,
+        columns: usize,
+        block: &[u16],
+    )
+        requires inside { StartsIn self.old.area row column }
+        requires low { rows ≤ 65536 }
+        requires narrow { columns ≤ 65536 }
+        requires whole { rows * columns ≤ length block.now }
+        ensures area { self.new.area ≡ self.old.area }
+        ensures map { plane_map self.new ≡ with_part self.old.area (plane_map self.old) row column rows columns (rows_of columns block.now) }
+    {
+        let area = self.area;
+        let to = Area {
+            first_row: row - area.first_row,
+            first_column: column - area.first_column,
+            rows: rows.min(area.lower_end() - row),
+            columns: columns.min(area.right_end() - column),
+        };
+        copy_rows(&mut self.samples, area.columns, &to, block, columns);
+    }
+
+    /// Puts a square block at a row and column, as `put_block` does.
+    #[inline(always)]
+    pub fn put_square<const N: usize>(&mut self, row: usize, column: usize, block: &[u16])
+        requires inside { StartsIn self.old.area row column }
+        requires few { N ≤ 64 }
+        requires whole { N * N ≤ length block.now }
+        ensures area { self.new.area ≡ self.old.area }
+        ensures map { plane_map self.new ≡ with_part self.old.area (plane_map self.old) row column N N (rows_of N block.now) }
+    {
+        let area = self.area;
+        if N <= area.lower_end() - row && N <= area.right_end() - column {
+            copy_square::<N>(
+                &mut self.samples,
+                area.columns,
+                row - area.first_row,
+                column - area.first_column,
+                block,
+            );
+        } else {
+            self.put_block(row, column, N, N, block);
+        }
+    }
+
+    /// So many samples of a row, from a column on, for writing.
+    #[inline(always)]
+    pub fn row_mut(&mut self, row: usize, column: usize, count: usize) -> &mut [u16]
+        requires { HasRow self.old.area row column count }
+        ensures* writes_back { sem 𝓛 (LendsRow self.entry row column result) }
+        ensures long { length result.now ≡ count }
+        ensures value { result.now ≡ row_of (plane_map self.old) row column count }
+        // what the plane is once these samples are written
+        ensures written { (w : List ℕ) → length w ≡ count →
+            plane_map (with_row self.old row column w) ≡ with_block (plane_map self.old) row column 1 count (λ _ j. slice_index w j) }
+    {
+        let at = self.area.place_of(row, column);
+        self.samples.slice_mut(at..at + count)
+    }
+
+    /// All zeros.
+    pub fn clear(&mut self)
+        ensures area { self.new.area ≡ self.old.area }
+        ensures zero { plane_map self.new ≡ (λ _ _. 0) }
+    {
+        self.samples.fill(0);
+    }
+}
