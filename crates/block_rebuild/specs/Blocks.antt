@@ -56,9 +56,9 @@ put_intra shape tile_from b modes p residues m = fold (put_next shape tile_from 
 -- how an inter block is predicted isn't built
 unfoldable pub put_by : Shape → PlannedBlock → Prediction → FrameMap → Option FrameMap
 put_by shape b (Intra modes) m = Some (frame_map
-  (put_intra shape b.tile_from b.info modes Y b.y (m Y))
-  (put_intra shape b.tile_from b.info modes U b.u (m U))
-  (put_intra shape b.tile_from b.info modes V b.v (m V)))
+    (put_intra shape b.tile_from b.info modes Y b.y (m Y))
+    (put_intra shape b.tile_from b.info modes U b.u (m U))
+    (put_intra shape b.tile_from b.info modes V b.v (m V)))
 put_by shape b (Inter modes) m = None
 
 -- the samples of a frame with a block put in

@@ -148,7 +148,14 @@ fn put_residues(
         let block = block_at(b, grid.place(k));
         let from = k as usize * area;
         let values = &residues.values[from..from + area];
-        put_residue(samples, &block, b.depth, residues.some[k as usize], values, scratch);
+        put_residue(
+            samples,
+            &block,
+            b.depth,
+            residues.some[k as usize],
+            values,
+            scratch,
+        );
     }
 }
 

@@ -105,7 +105,7 @@ pub all_read : (header : Header) (contexts : ContextLists) (tile_from : ℕ) (b 
     → luma ≡ list_any is_coded p.residues → first ≡ list_any is_coded q.residues → second ≡ list_any is_coded r.residues
     → info ≡ listed b (luma || first || second)
     → run_counting (read_block header contexts tile_from b s) m
-      ≡ Ok ((record { info = info; tile_from = tile_from; y = p.residues; u = q.residues; v = r.residues }, record { y = p.sides; u = q.sides; v = r.sides }), end)
+    ≡ Ok ((record { info = info; tile_from = tile_from; y = p.residues; u = q.residues; v = r.residues }, record { y = p.sides; u = q.sides; v = r.sides }), end)
 unfolding read_block
 all_read header contexts tile_from b info s m n o end p q r luma first second y u v a d e is =
     counting_bind _ _ _ ∙ rw y (counting_bind _ _ _ ∙ rw u (counting_bind _ _ _ ∙ rw v (run_settle _ end

@@ -71,7 +71,7 @@ same_tile header modes contexts setting tile c planes one h =
     let now : tile_of c planes ≡ record { blocks = []; sides = all_sides (shape_of header); map = Some blank } = λ i. record { blocks = h.blocks i; sides = sides i; map = Some (h.map i) } in
     let state = now ∙ sym (nothing_seen header one.0) in
     λ i. decode_tile (plain_walk (h.header i) (h.modes i) (h.contexts i) (h.places i) (from i) (to i)) (superblocks_along ((t i).col_to - (t i).col_from)) (t i).row_from (t i).col_from
-        (superblocks_along ((t i).row_to - (t i).row_from)) (state i)
+    (superblocks_along ((t i).row_to - (t i).row_from)) (state i)
 
 -- what is built doesn't adapt
 pub never_adapts : (header : Header) → first_unbuilt header ≡ None → adapts header ≡ false

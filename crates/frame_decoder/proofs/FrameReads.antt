@@ -144,9 +144,9 @@ tile_breaks f updated span rule made spans breaks =
     let shape = shape_of f.header in
     let tile = the_tile f.header in
     let seen = tile_seen f.header updated.1 updated.0 (places_of shape) tile blank (superblocks_along (tile.col_to - tile.col_from)) tile.row_from tile.col_from
-        (superblocks_along (tile.row_to - tile.row_from)) (begun shape (first_column f.header)) in
+    (superblocks_along (tile.row_to - tile.row_from)) (begun shape (first_column f.header)) in
     let broken = tile_breaks_by (started (slice_range f.bytes span.from span.to)) _ f.header blank rule (column_of f.header.params.tiles 0) (nothing_read f.header)
-        (ap (λ s. started (slice_range f.bytes span.from span.to) >>= λ w. value_of (run_bools s w)) (sym seen) ∙ breaks) in
+    (ap (λ s. started (slice_range f.bytes span.from span.to) >>= λ w. value_of (run_bools s w)) (sym seen) ∙ breaks) in
     rw (made, spans, broken) refl
 
 -- what is read of a tile whose plain decoding settles so
@@ -194,9 +194,9 @@ tile_done f updated span s m one made spans reads whole =
     let tile = the_tile f.header in
     let k = column_of f.header.params.tiles 0 in
     let seen = tile_seen f.header updated.1 updated.0 (places_of shape) tile blank (superblocks_along (tile.col_to - tile.col_from)) tile.row_from tile.col_from
-        (superblocks_along (tile.row_to - tile.row_from)) (begun shape (first_column f.header)) in
+    (superblocks_along (tile.row_to - tile.row_from)) (begun shape (first_column f.header)) in
     let q = tile_read_by (started (slice_range f.bytes span.from span.to)) _ shape s
-        (ap (λ t. started (slice_range f.bytes span.from span.to) >>= λ w. value_of (run_bools t w)) (sym seen) ∙ reads) in
+    (ap (λ t. started (slice_range f.bytes span.from span.to) >>= λ w. value_of (run_bools t w)) (sym seen) ∙ reads) in
     let read = with_tile k (nothing_read f.header) q.read.0 in
     let put : raw shape q.read.0.value.blocks ≡ Some m = ap (λ (t : PlainTile). t.map) q.seen ∙ whole in
     let column = one_column f.header.params.tiles.columns_log2 (no_column shape) (column_after q.read.0.value) one in

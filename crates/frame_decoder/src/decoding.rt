@@ -106,7 +106,14 @@ pub fn decode_frame(
     let mut column = start_column(alloc, &setting)?;
     let mut room = BlockRoom::new();
     let bytes = &bytes[span.from..span.to];
-    decode_tile(bytes, &setting, &tile, &mut column, picture.planes_mut(), &mut room)?;
+    decode_tile(
+        bytes,
+        &setting,
+        &tile,
+        &mut column,
+        picture.planes_mut(),
+        &mut room,
+    )?;
     columns.push_reserved(column);
     Ok(Decoded {
         contexts: setting.contexts,

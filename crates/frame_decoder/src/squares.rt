@@ -164,12 +164,32 @@ fn decode_quarters(
     let half = side_of(at.level - 1);
     let (right, below) = (at.col + half, at.row + half);
     let level = at.level - 1;
-    decode_square(setting, reader, column, planes, room, SquareAt { level, ..at })?;
-    let upper_right = SquareAt { level, col: right, ..at };
+    decode_square(
+        setting,
+        reader,
+        column,
+        planes,
+        room,
+        SquareAt { level, ..at },
+    )?;
+    let upper_right = SquareAt {
+        level,
+        col: right,
+        ..at
+    };
     decode_square(setting, reader, column, planes, room, upper_right)?;
-    let lower_left = SquareAt { level, row: below, ..at };
+    let lower_left = SquareAt {
+        level,
+        row: below,
+        ..at
+    };
     decode_square(setting, reader, column, planes, room, lower_left)?;
-    let lower_right = SquareAt { level, row: below, col: right, ..at };
+    let lower_right = SquareAt {
+        level,
+        row: below,
+        col: right,
+        ..at
+    };
     decode_square(setting, reader, column, planes, room, lower_right)
 }
 

@@ -12,27 +12,36 @@ returns-then-block-clause-gives g c =
     let shape = shape_of c.args.setting.now.header in
     let is = c.of-b.ensures in
     let same : grid_blocks c.transform_grid-grid.result ≡ places_in shape c.args.block.now c.args.plane =
-        sym c.transform_grid-grid.ensures.blocks ∙ (λ i. transform_blocks (c.args.setting.now.whole i) (is i).block) in
+    sym c.transform_grid-grid.ensures.blocks ∙ (λ i. transform_blocks (c.args.setting.now.whole i) (is i).block) in
     let read = rw (is, same) at c.skip_residues.ensures.read in
-    let none = rw (is, same) at c.skip_residues.ensures.none in
-    (plane_skipped (lists_of c.args.setting.now.contexts) c.args.block.now.skip (block_in c.args.setting.now.header c.args.block.now c.args.plane) (places_in shape c.args.block.now c.args.plane)
-    c.args.sides.now _ _ c.if-block.true read, sym none)
+    let none = rw (is, same) at c.skip_residues.ensures.none in (
+      plane_skipped (lists_of c.args.setting.now.contexts) c.args.block.now.skip (block_in c.args.setting.now.header c.args.block.now c.args.plane) (places_in shape c.args.block.now c.args.plane)
+          c.args.sides.now _ _ c.if-block.true read,
+      sym none,
+    )
 
 pub read_residues-requires : goal.read_residues-requires
 read_residues-requires g c =
     let shape = shape_of c.args.setting.now.header in
     let is = c.of-b.ensures in
     let same : grid_blocks c.transform_grid-grid.result ≡ places_in shape c.args.block.now c.args.plane =
-        sym c.transform_grid-grid.ensures.blocks ∙ (λ i. transform_blocks (c.args.setting.now.whole i) (is i).block) in
-    (omega arith, (c.transform_grid-grid.ensures.small, (c.transform_grid-grid.ensures.step,
-    rw (is, same) (all_beside shape c.args.block.now c.args.plane c.args.sides.now c.requires.fit))))
+    sym c.transform_grid-grid.ensures.blocks ∙ (λ i. transform_blocks (c.args.setting.now.whole i) (is i).block) in (
+      omega arith,
+      (
+        c.transform_grid-grid.ensures.small,
+        (
+          c.transform_grid-grid.ensures.step,
+          rw (is, same) (all_beside shape c.args.block.now c.args.plane c.args.sides.now c.requires.fit),
+        ),
+      ),
+    )
 
 pub returns-clause-gives : goal.returns-clause-gives
 returns-clause-gives g c =
     let shape = shape_of c.args.setting.now.header in
     let is = c.of-b.ensures in
     let same : grid_blocks c.transform_grid-grid.result ≡ places_in shape c.args.block.now c.args.plane =
-        sym c.transform_grid-grid.ensures.blocks ∙ (λ i. transform_blocks (c.args.setting.now.whole i) (is i).block) in
+    sym c.transform_grid-grid.ensures.blocks ∙ (λ i. transform_blocks (c.args.setting.now.whole i) (is i).block) in
     plane_coded (lists_of c.args.setting.now.contexts) c.args.block.now.skip (block_in c.args.setting.now.header c.args.block.now c.args.plane) (places_in shape c.args.block.now c.args.plane)
     c.args.sides.now _ _ _ _ _ c.if-block.false (rw (is, same) at c.read_residues.ensures.gives)
 
@@ -41,5 +50,5 @@ returns-clause-small g c =
     let shape = shape_of c.args.setting.now.header in
     let is = c.of-b.ensures in
     let same : grid_blocks c.transform_grid-grid.result ≡ places_in shape c.args.block.now c.args.plane =
-        sym c.transform_grid-grid.ensures.blocks ∙ (λ i. transform_blocks (c.args.setting.now.whole i) (is i).block) in
+    sym c.transform_grid-grid.ensures.blocks ∙ (λ i. transform_blocks (c.args.setting.now.whole i) (is i).block) in
     rw (is, same) at c.read_residues.ensures.small

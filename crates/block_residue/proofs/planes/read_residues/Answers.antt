@@ -28,10 +28,17 @@ read_residue-requires g c =
     let fits = all_fit c.args.b.now.block.tx c.args.grid.now.step c.args.grid.now.rows c.args.grid.now.columns c.requires.step c.requires.small.rows c.requires.small.columns in
     let room = room_for c.loop-k.k (c.args.grid.now.rows * c.args.grid.now.columns) n 4096 low fits in (
       omega arith,
-      (c.place.ensures.low,
-      (c.place.ensures.near,
-      (beside_at _ _ _ c.args.grid.now c.loop-k.k _ _ c.requires.beside c.loop-k.invariant.lengths low c.place.ensures.place,
-      rw c.area_of-area.ensures.value (part_long c.loop-k.residues.values (c.loop-k.k * n) n (rw whole room))))))
+      (
+        c.place.ensures.low,
+        (
+          c.place.ensures.near,
+          (
+            beside_at _ _ _ c.args.grid.now c.loop-k.k _ _ c.requires.beside c.loop-k.invariant.lengths low c.place.ensures.place,
+            rw c.area_of-area.ensures.value (part_long c.loop-k.residues.values (c.loop-k.k * n) n (rw whole room)),
+          ),
+        ),
+      ),
+    )
 
 pub returns-in_err-some-clause-gives : goal.returns-in_err-some-clause-gives
 returns-in_err-some-clause-gives g c =
@@ -52,7 +59,7 @@ loop-k-preserved g c =
     let room = room_for c.loop-k.k (c.args.grid.now.rows * c.args.grid.now.columns) n 4096 low fits in
     let before : c.loop-k.k * n ≤ length c.loop-k.residues.values = omega (arith, room, whole) in
     let size : length c.read_residue.new.values ≡ n =
-        c.in_ok-some.ensures.long ∙ rw c.area_of-area.ensures.value (part_long c.loop-k.residues.values (c.loop-k.k * n) n (rw whole room)) in record {
+    c.in_ok-some.ensures.long ∙ rw c.area_of-area.ensures.value (part_long c.loop-k.residues.values (c.loop-k.k * n) n (rw whole room)) in record {
       lengths = record { above = c.in_ok-some.ensures.lengths.above ∙ c.loop-k.invariant.lengths.above; left = c.in_ok-some.ensures.lengths.left ∙ c.loop-k.invariant.lengths.left };
       any = rw (c.area_of-area.ensures.value, one_long) (more_coded ats n c.loop-k.residues.some c.loop-k.residues.values c.read_residue.new.values c.loop-k.any c.in_ok-some.some c.loop-k.k few before size c.loop-k.invariant.any);
       small = rw (c.area_of-area.ensures.value, one_long) (more_small ats n c.loop-k.residues.some c.loop-k.residues.values c.read_residue.new.values c.in_ok-some.some c.loop-k.k few before size c.loop-k.invariant.small c.in_ok-some.ensures.small);

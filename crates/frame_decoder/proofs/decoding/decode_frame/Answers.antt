@@ -73,17 +73,20 @@ returns c =
     let same = same_tile header c.in_ok-contexts.modes (lists_of c.in_ok-contexts.contexts) setting c.whole_tile-tile.result c.in_ok-column.column c.planes_mut.result.now one whole in
     let gives = ap (λ s. read_whole s (slice_range c.args.bytes.now c.in_ok-span.span.from c.in_ok-span.span.to)) (sym same) ∙ c.in_ok-decode_tile.ensures.gives in
     let left = tile_done (record { header = header; compressed = c.args.compressed; bytes = c.args.bytes.now; before = lists_of c.args.before.now })
-        (lists_of c.in_ok-contexts.contexts, c.in_ok-contexts.modes) c.in_ok-span.span (tile_of column planes) (samples_of planes) one.0
-        c.in_ok-contexts.ensures c.in_ok-span.ensures.tile gives refl in
+    (lists_of c.in_ok-contexts.contexts, c.in_ok-contexts.modes) c.in_ok-span.span (tile_of column planes) (samples_of planes) one.0
+    c.in_ok-contexts.ensures c.in_ok-span.ensures.tile gives refl in
     let sizes : HasSizes (shape_of header) planes = rw c.new-setting.ensures.header at c.in_ok-decode_tile.ensures.ready.sizes in
     let range : IsInRange (shape_of header).depth planes = rw c.new-setting.ensures.header at c.in_ok-decode_tile.ensures.ready.range in
-    let pushed : c.push_reserved.new.self.items ≡ column ∷ [] = c.push_reserved.ensures.items ∙ ap (λ columns. columns ++ column ∷ []) c.in_ok-columns.ensures.items in
-    (left.0, left.1, record {
-      map = left.2;
-      shape = c.requires.blank.same;
-      sizes = sizes;
-      range = range;
-      contexts = ap lists_of c.new-setting.ensures.contexts ∙ left.3;
-      blocks = ap blocks_of pushed ∙ left.4;
-      counts = c.new.ensures ∙ sym (ap (λ b. counts_if b left.0.counted) (never_adapts header c.requires.built));
-    })
+    let pushed : c.push_reserved.new.self.items ≡ column ∷ [] = c.push_reserved.ensures.items ∙ ap (λ columns. columns ++ column ∷ []) c.in_ok-columns.ensures.items in (
+      left.0,
+      left.1,
+      record {
+        map = left.2;
+        shape = c.requires.blank.same;
+        sizes = sizes;
+        range = range;
+        contexts = ap lists_of c.new-setting.ensures.contexts ∙ left.3;
+        blocks = ap blocks_of pushed ∙ left.4;
+        counts = c.new.ensures ∙ sym (ap (λ b. counts_if b left.0.counted) (never_adapts header c.requires.built));
+      },
+    )

@@ -10,37 +10,99 @@ use Rattle.frame_decoder.proofs.squares.+squares.Goals as goal
 pub decode_quarters-decode_square-requires : goal.decode_quarters-decode_square-requires
 decode_quarters-decode_square-requires t c =
     let two = halved_side c.args.at.level c.requires.least in
-    let four = quarters_of c.args.at.level c.requires.least in
-    (omega (arith, c.decreases, c.requires.least), (c.requires.ready, (c.requires.first, (omega (arith, two, c.requires.within), (c.requires.from, (c.requires.to,
-    (omega (arith, c.requires.most), omega (arith, four, c.requires.room))))))))
+    let four = quarters_of c.args.at.level c.requires.least in (
+      omega (arith, c.decreases, c.requires.least),
+      (
+        c.requires.ready,
+        (
+          c.requires.first,
+          (
+            omega (arith, two, c.requires.within),
+            (
+              c.requires.from,
+              (
+                c.requires.to,
+                (omega (arith, c.requires.most), omega (arith, four, c.requires.room)),
+              ),
+            ),
+          ),
+        ),
+      ),
+    )
 
 pub decode_quarters-decode_square-requires-2 : goal.decode_quarters-decode_square-requires-2
 decode_quarters-decode_square-requires-2 t c =
     let two = halved_side c.args.at.level c.requires.least in
     let four = quarters_of c.args.at.level c.requires.least in
     let half = c.side_of-half.ensures.is in
-    let same = c.in_ok-decode_square.ensures.same in
-    (omega (arith, c.decreases, c.requires.least), (c.in_ok-decode_square.ensures.ready, (omega (arith, c.requires.first), (rw (same_limit _ _ same) (omega (arith, two, half, c.requires.within)),
-    (c.requires.from ∙ sym same.from, (c.requires.to ∙ sym same.to, (omega (arith, c.requires.most), omega (arith, four, c.requires.room, c.in_ok-decode_square.ensures.room))))))))
+    let same = c.in_ok-decode_square.ensures.same in (
+      omega (arith, c.decreases, c.requires.least),
+      (
+        c.in_ok-decode_square.ensures.ready,
+        (
+          omega (arith, c.requires.first),
+          (
+            rw (same_limit _ _ same) (omega (arith, two, half, c.requires.within)),
+            (c.requires.from ∙ sym same.from, (c.requires.to ∙ sym same.to, (omega (arith, c.requires.most), omega (arith, four, c.requires.room, c.in_ok-decode_square.ensures.room)))),
+          ),
+        ),
+      ),
+    )
 
 pub decode_quarters-decode_square-requires-3 : goal.decode_quarters-decode_square-requires-3
 decode_quarters-decode_square-requires-3 t c =
     let two = halved_side c.args.at.level c.requires.least in
     let four = quarters_of c.args.at.level c.requires.least in
-    let same = same_on _ _ _ c.in_ok-decode_square.ensures.same c.in_ok-decode_square-2.ensures.same in
-    (omega (arith, c.decreases, c.requires.least), (c.in_ok-decode_square-2.ensures.ready, (c.requires.first, (rw (same_limit _ _ same) (omega (arith, two, c.requires.within)),
-    (c.requires.from ∙ sym same.from, (c.requires.to ∙ sym same.to, (omega (arith, c.requires.most),
-    omega (arith, four, c.requires.room, c.in_ok-decode_square.ensures.room, c.in_ok-decode_square-2.ensures.room))))))))
+    let same = same_on _ _ _ c.in_ok-decode_square.ensures.same c.in_ok-decode_square-2.ensures.same in (
+      omega (arith, c.decreases, c.requires.least),
+      (
+        c.in_ok-decode_square-2.ensures.ready,
+        (
+          c.requires.first,
+          (
+            rw (same_limit _ _ same) (omega (arith, two, c.requires.within)),
+            (
+              c.requires.from ∙ sym same.from,
+              (
+                c.requires.to ∙ sym same.to,
+                (
+                  omega (arith, c.requires.most),
+                  omega (arith, four, c.requires.room, c.in_ok-decode_square.ensures.room, c.in_ok-decode_square-2.ensures.room),
+                ),
+              ),
+            ),
+          ),
+        ),
+      ),
+    )
 
 pub decode_quarters-decode_square-requires-4 : goal.decode_quarters-decode_square-requires-4
 decode_quarters-decode_square-requires-4 t c =
     let two = halved_side c.args.at.level c.requires.least in
     let four = quarters_of c.args.at.level c.requires.least in
     let half = c.side_of-half.ensures.is in
-    let same = same_on _ _ _ (same_on _ _ _ c.in_ok-decode_square.ensures.same c.in_ok-decode_square-2.ensures.same) c.in_ok-decode_square-3.ensures.same in
-    (omega (arith, c.decreases, c.requires.least), (c.in_ok-decode_square-3.ensures.ready, (omega (arith, c.requires.first), (rw (same_limit _ _ same) (omega (arith, two, half, c.requires.within)),
-    (c.requires.from ∙ sym same.from, (c.requires.to ∙ sym same.to, (omega (arith, c.requires.most),
-    omega (arith, four, c.requires.room, c.in_ok-decode_square.ensures.room, c.in_ok-decode_square-2.ensures.room, c.in_ok-decode_square-3.ensures.room))))))))
+    let same = same_on _ _ _ (same_on _ _ _ c.in_ok-decode_square.ensures.same c.in_ok-decode_square-2.ensures.same) c.in_ok-decode_square-3.ensures.same in (
+      omega (arith, c.decreases, c.requires.least),
+      (
+        c.in_ok-decode_square-3.ensures.ready,
+        (
+          omega (arith, c.requires.first),
+          (
+            rw (same_limit _ _ same) (omega (arith, two, half, c.requires.within)),
+            (
+              c.requires.from ∙ sym same.from,
+              (
+                c.requires.to ∙ sym same.to,
+                (
+                  omega (arith, c.requires.most),
+                  omega (arith, four, c.requires.room, c.in_ok-decode_square.ensures.room, c.in_ok-decode_square-2.ensures.room, c.in_ok-decode_square-3.ensures.room),
+                ),
+              ),
+            ),
+          ),
+        ),
+      ),
+    )
 
 pub decode_quarters-returns-in_err-decode_square-clause-gives : goal.decode_quarters-returns-in_err-decode_square-clause-gives
 decode_quarters-returns-in_err-decode_square-clause-gives t c =

@@ -11,5 +11,5 @@ loop-i-preserved g c = let a = c.args in let r = c.requires in let here = c.loop
     record {
       place = rw here (omega arith);
       map = rw here (row_stored _ a.width g.row.N c.loop-i.samples a.block.now a.row a.column c.loop-i.i g.row.N
-      c.loop-i.invariant.map c.loop-i-test.true r.wide (omega arith) r.whole);
+          c.loop-i.invariant.map c.loop-i-test.true r.wide (omega arith) r.whole);
     }

@@ -49,6 +49,10 @@ packets-preserved g c =
       few = omega (arith, c.packets.invariant.few, c.in-Ok-decode_payload.ensures.near, next.from, next.in_order);
       sized = c.in-Ok-decode_payload.ensures.sized;
       can = c.in-Ok-decode_payload.ensures.again;
-      written = (a.0, a.1, packet_written c.args.bytes.now (payload_of c.args.bytes.now c.in-Ok-Some.packet) (place_at c.packets.decoder c.packets.invariant.written.0) (place_at c.decode_payload.new.self a.0) _ (packets_from c.args.bytes.now c.in-Ok-Some.packet.to) _ _ _ _ _ _
-          next.packets c.packets.invariant.written.2 (a.2, a.3, a.4));
+      written = (
+        a.0,
+        a.1,
+        packet_written c.args.bytes.now (payload_of c.args.bytes.now c.in-Ok-Some.packet) (place_at c.packets.decoder c.packets.invariant.written.0) (place_at c.decode_payload.new.self a.0) _ (packets_from c.args.bytes.now c.in-Ok-Some.packet.to) _ _ _ _ _ _
+            next.packets c.packets.invariant.written.2 (a.2, a.3, a.4),
+      );
     }

@@ -39,7 +39,7 @@ loop-i-preserved g c = record {
         a.0,
         a.1,
         frame_added c.args.payload.now c.in-Ok.parts.items c.deref.result.now (place_at c.args.self.now state) c.loop-i.i (place_at c.loop-i.self h.0) _ _ _ _ _ _ _ (place_at c.decode_next.new.self a.0)
-        (omega (arith, c.loop-i-test.true, c.len-i-end.ensures.value)) c.deref.ensures.0 h.2 (a.2, a.3, a.4),
+            (omega (arith, c.loop-i-test.true, c.len-i-end.ensures.value)) c.deref.ensures.0 h.2 (a.2, a.3, a.4),
       );
 }
 
