@@ -1,6 +1,7 @@
 pub mod BlockSteps
-mod DecodedFrames
+mod Adapting
+mod TileOffsets
 pub mod SquareReads
 pub mod RowReads
-pub mod OneTile
+pub mod TileReads
 pub mod FrameReads

@@ -1,11 +1,10 @@
 -- What the code keeps, and what its calls answer.
-use Rattle.std.specs.Prelude.{◌≡◌, ◌<◌, ◌≤◌, ◌+◌, ◌-◌, ◌*◌, ℕ, true, false, Bool, List, [], ◌∷◌, ◌++◌, map, length, min, Option, Some, None, Result, Ok, Err, if◌then◌else◌}
+use Rattle.std.specs.Prelude.{◌≡◌, ◌<◌, ◌≤◌, ◌+◌, ◌-◌, ◌*◌, ◌^◌, ℕ, true, false, Bool, List, [], ◌∷◌, ◌++◌, map, length, min, slice_index_or, Option, Some, None, Result, Ok, Err, if◌then◌else◌}
 use Rattle.vp9_types.specs.Maps.{FrameMap}
 use Rattle.vp9_types.specs.Results.{map_ok, ◌>>=◌}
-use Rattle.vp9_types.specs.declared.job.Span.{Span}
 use Rattle.bool_decoder.specs.Bools.{run_bools}
 use Rattle.bool_decoder.specs.Window.{Window, started}
-use Rattle.frame_headers.specs.declared.tiles.TileInfo.{TileInfo}
+use Rattle.vp9_types.specs.Shapes.{mi_cols, mi_rows}
 use Rattle.vp9_types.specs.Sizes.{superblocks_along}
 use Rattle.vp9_types.specs.Syntax.{Syntax}
 use Rattle.vp9_types.specs.declared.block.Modes.{Modes}
@@ -35,7 +34,9 @@ use Rattle.planes.specs.declared.frame_planes.FramePlanes.{FramePlanes}
 use Rattle.planes.specs.declared.picture.Picture.{Picture}
 use Rattle.prob_contexts.specs.declared.kind.CountedBool.{CountedBool}
 use Rattle.frame_decoder.specs.Built.{adapts}
-use Rattle.frame_decoder.specs.Frames.{FrameInput, FrameResult, decoded, put_more}
+use Rattle.frame_decoder.specs.Frames.{FrameInput, FrameResult, decoded, put_more, raw}
+use Rattle.frame_decoder.specs.Reading.{Column, FrameRead, infos}
+use Rattle.frame_decoder.specs.Tiles.{superblocks_before, tile_offset}
 use Rattle.frame_decoder.specs.declared.decoding.Decoded.{Decoded}
 use Rattle.frame_decoder.specs.declared.halt.Halt.{Halt}
 use Rattle.frame_decoder.specs.declared.halt.Halt.TheVariants as halt
@@ -110,13 +111,43 @@ abbrev pub GivesWhole : Result PlainTile Rule → Result (Unit {0}) Rule → Til
 GivesWhole computed (Ok u) c planes = computed ≡ Ok (tile_of c planes)
 GivesWhole computed (Err rule) c planes = computed ≡ Err rule
 
-abbrev pub HasOneTile : TileInfo → Type 0
-HasOneTile tiles = (tiles.columns_log2 ≡ 0) × (tiles.rows_log2 ≡ 0)
+---- All tiles ----
 
--- a frame's one tile, or the rule
-abbrev pub IsOnlyTile : Result (List Span) Rule → Result Span Rule → Type 0
-IsOnlyTile spans (Ok span) = spans ≡ Ok (span ∷ [])
-IsOnlyTile spans (Err rule) = spans ≡ Err rule
+-- a tile column of a frame before its n-th tile is decoded: it has room for all blocks of its tiles from there on
+pub record IsTileColumn (header : Header) (n k : ℕ) (c : TileColumn) : Type 0 where
+  pub rows : c.grid.rows ≡ mi_rows (shape_of header)
+  pub from : c.grid.from ≡ tile_offset (mi_cols (shape_of header)) header.params.tiles.columns_log2 k
+  pub to : c.grid.to ≡ tile_offset (mi_cols (shape_of header)) header.params.tiles.columns_log2 (k + 1)
+  pub fit : FitPlanes (shape_of header) c.sides
+  pub room : (r : ℕ) → n ≤ r * 2 ^ header.params.tiles.columns_log2 + k
+      → 64 * (superblocks_along (c.grid.to - c.grid.from)
+      * (superblocks_along (mi_rows (shape_of header)) - superblocks_before (mi_rows (shape_of header)) header.params.tiles.rows_log2 r)) ≤ c.grid.room
+
+pub record AreTileColumns (header : Header) (n : ℕ) (columns : List TileColumn) : Type 0 where
+  pub many : length columns ≡ 2 ^ header.params.tiles.columns_log2
+  pub each : (k : ℕ) (d : TileColumn) → k < length columns → IsTileColumn header n k (slice_index_or columns k d)
+
+-- the planes of a frame
+pub record ArePlanes (shape : Shape) (planes : FramePlanes) : Type 0 where
+  pub sizes : HasSizes shape planes
+  pub range : IsInRange shape.depth planes
+
+-- what the code's tile columns hold, as the standard says it
+abbrev pub column_of_code : TileColumn → List BlockInfo × List Bool × List Bool × List Bool
+column_of_code c = (c.grid.blocks, c.sides.y.above, c.sides.u.above, c.sides.v.above)
+
+abbrev pub column_as_listed : Column → List BlockInfo × List Bool × List Bool × List Bool
+column_as_listed c = (infos c.blocks, c.y, c.u, c.v)
+
+-- the code holds what is read, and has put in all of its blocks
+pub record HoldsRead (header : Header) (columns : List TileColumn) (planes : FramePlanes) (read : FrameRead) : Type 0 where
+  pub columns_held : map column_of_code columns ≡ map column_as_listed read.columns
+  pub map_held : raw (shape_of header) read.blocks ≡ Some (samples_of planes)
+
+-- reading goes on to what the code holds then, or breaks the rule
+abbrev pub GivesRead : Header → Result FrameRead Rule → Result (Unit {0}) Rule → List TileColumn → FramePlanes → Type 0
+GivesRead header computed (Ok u) columns planes = (read : FrameRead) × (computed ≡ Ok read) × HoldsRead header columns planes read
+GivesRead header computed (Err rule) columns planes = computed ≡ Err rule
 
 ---- A frame ----
 

@@ -5,9 +5,13 @@ use Rattle.frame_headers.specs.declared.tiles.TileInfo.{TileInfo}
 use Rattle.block_geometry.specs.declared.transform_blocks.FramePlaces.{FramePlaces}
 use Rattle.frame_decoder.specs.declared.tile_places.TilePlaces.{TilePlaces}
 
--- where the i-th of 2 ^ log2 tiles begins, in places of 8x8
+-- how many superblocks lie before the i-th of 2 ^ log2 tiles, along so many places of 8x8
+abbrev pub superblocks_before : ℕ → ℕ → ℕ → ℕ
+superblocks_before places log2 i = i * superblocks_along places / 2 ^ log2
+
+-- where it begins, in places
 abbrev pub tile_offset : ℕ → ℕ → ℕ → ℕ
-tile_offset places log2 i = min (8 * (i * superblocks_along places / 2 ^ log2)) places
+tile_offset places log2 i = min (8 * superblocks_before places log2 i) places
 
 -- tiles are numbered row by row
 abbrev pub row_of : TileInfo → ℕ → ℕ

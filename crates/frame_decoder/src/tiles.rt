@@ -1,19 +1,26 @@
 //! The superblocks of a tile.
 
-ghost use Rattle.std.specs.Prelude.{◌≡◌, ◌-◌, ◌+◌, ◌*◌, ◌<◌, ◌≤◌, OnOk};
+ghost use Rattle.std.specs.Prelude.{◌≡◌, ◌-◌, ◌+◌, ◌*◌, ◌<◌, ◌≤◌, length, IsOk, OnOk};
+ghost use Rattle.vp9_types.specs.Results.{◌>>=◌};
+ghost use Rattle.frame_headers.specs.Spans.{tile_count, tile_spans};
+ghost use Rattle.frame_headers.specs.State.{shape_of};
+ghost use Rattle.frame_headers.specs.Tiles.{AreFewTiles};
+ghost use Rattle.prob_contexts.specs.Lists.{lists_of};
 ghost use Rattle.vp9_types.specs.Sizes.{superblocks_along};
 ghost use Rattle.mode_syntax.specs.Walk.{decode_row, decode_tile};
-ghost use Rattle.frame_decoder.specs.Code.{tile_of, walk_of, limit_of, read_whole, IsReady, SameColumns, GivesTile, GivesWhole};
+ghost use Rattle.frame_decoder.specs.Code.{tile_of, walk_of, limit_of, read_whole, ArePlanes, AreTileColumns, HoldsRead, IsReady, SameColumns, GivesRead, GivesTile, GivesWhole};
+ghost use Rattle.frame_decoder.specs.Reading.{FrameRead, nothing_read, read_tile_of, read_tiles};
 
 use crate::columns::{BlockRoom, TileColumn};
 use crate::squares::decode_square;
 use crate::tile_places::TilePlaces;
 use counting_reader::CountingReader;
+use frame_headers::tile_span;
 use frame_setting::FrameSetting;
 use mode_syntax::SquareAt;
 use planes::FramePlanes;
 use prob_contexts::Counts;
-use vp9_types::Rule;
+use vp9_types::{Rule, Span};
 
 /// Places of 8x8 along a superblock.
 const SIDE: u32 = 8;
@@ -81,6 +88,7 @@ fn decode_rows(
         reader.old result column.new planes.new reader.new }
     ensures ready { OnOk result (IsReady setting.now column.new planes.new) }
     ensures same { OnOk result (SameColumns column.old column.new) }
+    ensures room { OnOk result (column.old.grid.room ≤ column.new.grid.room + 64 * (superblocks_along (column.old.grid.to - column.old.grid.from) * superblocks_along (tile.now.row_to - tile.now.row_from))) }
 {
     let count = superblocks(tile.row_from, tile.row_to);
     for i in 0..count {
@@ -98,7 +106,7 @@ fn decode_rows(
 
 /// A tile, from its bytes.
 #[tactic(auto, unfolding(crate::specs::Code::read_whole))]
-pub(crate) fn decode_tile(
+fn decode_tile(
     bytes: &[u8],
     setting: &FrameSetting,
     tile: &TilePlaces,
@@ -115,7 +123,61 @@ pub(crate) fn decode_tile(
     ensures gives { GivesWhole (read_whole (decode_tile (walk_of setting.now column.old) (superblocks_along (tile.now.col_to - tile.now.col_from)) tile.now.row_from tile.now.col_from (superblocks_along (tile.now.row_to - tile.now.row_from)) (tile_of column.old planes.old)) bytes.now)
         result column.new planes.new }
     ensures ready { OnOk result (IsReady setting.now column.new planes.new) }
+    ensures same { OnOk result (SameColumns column.old column.new) }
+    ensures room { OnOk result (column.old.grid.room ≤ column.new.grid.room + 64 * (superblocks_along (column.old.grid.to - column.old.grid.from) * superblocks_along (tile.now.row_to - tile.now.row_from))) }
 {
     let mut reader = CountingReader::<false>::start(bytes, Counts::new())?;
     decode_rows(setting, &mut reader, column, planes, room, tile)
+}
+
+/// The `n`-th tile of a frame, from its bytes.
+fn decode_nth(
+    bytes: &[u8],
+    setting: &FrameSetting,
+    n: u32,
+    columns: &mut [TileColumn],
+    planes: &mut FramePlanes,
+    room: &mut BlockRoom,
+) -> Result<(), Rule>
+    requires few { AreFewTiles setting.now.header.params.tiles }
+    requires below { n < tile_count setting.now.header }
+    requires columns { AreTileColumns setting.now.header n columns.old }
+    requires planes { ArePlanes (shape_of setting.now.header) planes.old }
+    ensures gives { (read : FrameRead) → HoldsRead setting.now.header columns.old planes.old read
+        → GivesRead setting.now.header (read_tile_of setting.now.header setting.now.modes (lists_of setting.now.contexts) n bytes.now read) result columns.new planes.new }
+    ensures columns { OnOk result (AreTileColumns setting.now.header (n + 1) columns.new) }
+    ensures planes { OnOk result (ArePlanes (shape_of setting.now.header) planes.new) }
+{
+    let tiles = setting.header.params.tiles;
+    let tile = TilePlaces::new(setting.places, tiles, n);
+    let column = &mut columns[(n % tiles.columns()) as usize];
+    column.sides.clear_left();
+    decode_tile(bytes, setting, &tile, column, planes, room)
+}
+
+/// All tiles of a frame in order, whose compressed header lies at `compressed`. Their sizes are tested.
+pub(crate) fn decode_tiles(
+    bytes: &[u8],
+    setting: &FrameSetting,
+    compressed: Span,
+    columns: &mut [TileColumn],
+    planes: &mut FramePlanes,
+) -> Result<(), Rule>
+    requires few { AreFewTiles setting.now.header.params.tiles }
+    requires within { compressed.to ≤ length bytes.now }
+    requires tested { IsOk (tile_spans bytes.now setting.now.header compressed) }
+    requires columns { AreTileColumns setting.now.header 0 columns.old }
+    requires planes { ArePlanes (shape_of setting.now.header) planes.old }
+    requires start { HoldsRead setting.now.header columns.old planes.old (nothing_read setting.now.header) }
+    ensures gives { GivesRead setting.now.header (tile_spans bytes.now setting.now.header compressed >>= λ spans. read_tiles setting.now.header setting.now.modes (lists_of setting.now.contexts) bytes.now 0 spans (nothing_read setting.now.header))
+        result columns.new planes.new }
+    ensures planes { OnOk result (ArePlanes (shape_of setting.now.header) planes.new) }
+{
+    let mut room = BlockRoom::new();
+    for n in 0..setting.header.params.tiles.count() {
+        let span = tile_span(bytes, &setting.header, compressed, n);
+        let tile = &bytes[span.from..span.to];
+        decode_nth(tile, setting, n, columns, planes, &mut room)?;
+    }
+    Ok(())
 }

@@ -12,13 +12,13 @@ abbrev pub shape_of : Header → Shape
 shape_of header = record { w = header.size.width; h = header.size.height; depth = header.color.depth; ss_x = header.color.ss_x; ss_y = header.color.ss_y }
 
 -- what a slot holds after a frame, by the lowest flag
-abbrev pub held : ℕ → Shape → Option Shape → Option Shape
-held flags shape old = if flags % 2 == 1 then Some shape else old
+abbrev pub held : {A : Type 0} → ℕ → A → Option A → Option A
+held flags frame old = if flags % 2 == 1 then Some frame else old
 
--- bit i of the flags says that slot i holds the frame from now on
-abbrev pub refreshed : ℕ → Shape → List (Option Shape) → List (Option Shape)
-refreshed flags shape [] = []
-refreshed flags shape (slot ∷ slots) = held flags shape slot ∷ refreshed (flags / 2) shape slots
+-- bit i of the flags says that slot i holds the frame from now on (8.10)
+abbrev pub refreshed : {A : Type 0} → ℕ → A → List (Option A) → List (Option A)
+refreshed flags frame [] = []
+refreshed flags frame (slot ∷ slots) = held flags frame slot ∷ refreshed (flags / 2) frame slots
 
 abbrev pub next_persist : Header → Persist → Persist
 next_persist header before = record {

@@ -10,6 +10,7 @@ ghost use Rattle.frame_headers.specs.Header.{uncompressed_header, IsHeaderOf};
 ghost use Rattle.frame_headers.specs.declared.field.FieldName.{FieldName};
 ghost use Rattle.frame_headers.specs.declared.header.Uncompressed.{Uncompressed};
 ghost use Rattle.frame_headers.specs.declared.persist.Persist.{Persist};
+ghost use Rattle.frame_headers.specs.declared.persist.TheConstants.Persist.{START};
 ghost use Rattle.frame_headers.specs.State.{start_persist, SlotsHaveSizes};
 
 /// A frame's uncompressed header is a list of entries: each is the field that the standard's tables ask for after the
@@ -32,7 +33,9 @@ pub fn header_is_its_entries()
         (es : List (Entry FieldName)) × (rest : List ℕ) × FailsAfter past (uncompressed_header before) es rest rule × (bits_of frame ≡ joined es ++ rest) }
 {}
 
-/// Before the first frame no slot holds anything, so each that does holds a frame of a size that frames have.
+/// `Persist::START` is what persists before the first frame. No slot holds anything then, so each that does holds a frame
+/// of a size that frames have.
 pub fn start_has_no_slots()
-    ensures { SlotsHaveSizes start_persist }
+    ensures is { START ≡ start_persist }
+    ensures sizes { SlotsHaveSizes start_persist }
 {}

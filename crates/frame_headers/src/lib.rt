@@ -24,7 +24,7 @@ pub use header::{
     FrameStart, Header, InterFields, Reference, References, Uncompressed,
 };
 pub use laws::{header_is_its_entries, start_has_no_slots};
-pub use persist::Persist;
+pub use persist::{Persist, refresh_slots};
 pub use quantizer::Quantizer;
 pub use reading::read;
 pub use segments::{FeatureReference, Features, MapUpdate, SegmentFeatures, Segmentation};

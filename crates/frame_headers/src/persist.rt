@@ -29,18 +29,19 @@ impl Persist {
     };
 }
 
-fn slot_held(flags: u8, shape: Shape, old: Option<Shape>) -> Option<Shape>
-    ensures { result ≡ held flags shape old }
+fn slot_held<T: Copy>(flags: u8, frame: T, old: Option<T>) -> Option<T>
+    ensures { result ≡ held flags frame old }
 {
-    if flags % 2 == 1 { Some(shape) } else { old }
+    if flags % 2 == 1 { Some(frame) } else { old }
 }
 
-fn refresh_slots(slots: &mut [Option<Shape>], refresh: u8, shape: Shape)
-    ensures { slots.new ≡ refreshed refresh shape slots.old }
+/// From now on the slots that `refresh` says hold this frame: slot i where its bit i is 1.
+pub fn refresh_slots<T: Copy>(slots: &mut [Option<T>], refresh: u8, frame: T)
+    ensures { slots.new ≡ refreshed refresh frame slots.old }
 {
     let mut flags = refresh;
     for i in 0..slots.len() {
-        slots[i] = slot_held(flags, shape, slots[i]);
+        slots[i] = slot_held(flags, frame, slots[i]);
         flags /= 2;
     }
 }

@@ -12,6 +12,7 @@ fn read_tile(frame: &[u8], more: u32, at: usize) -> Result<Span, Rule>
     requires { at ≤ length frame.now }
     ensures exact { result ≡ tile_at frame.now more at }
     ensures within { IfOk result (λ span. (at ≤ span.to) × (span.to ≤ length frame.now)) }
+    ensures order { IfOk result (λ span. span.from ≤ span.to) }
 {
     let left = frame.len() - at;
     if more == 0 {
@@ -59,7 +60,9 @@ pub fn tile_span(frame: &[u8], header: &Header, compressed: Span, n: u32) -> Spa
     requires within { compressed.to ≤ length frame.now }
     requires tested { IsOk (tile_spans frame.now header.now compressed) }
     requires below { n < tile_count header.now }
-    ensures { IfOk (tile_spans frame.now header.now compressed) (λ spans. slice_get spans n ≡ Some result) }
+    ensures is { IfOk (tile_spans frame.now header.now compressed) (λ spans. slice_get spans n ≡ Some result) }
+    ensures order { result.from ≤ result.to }
+    ensures within { result.to ≤ length frame.now }
 {
     let count = header.params.tiles.count();
     let mut at = compressed.to;

@@ -1,27 +1,17 @@
 -- What headers read of a state.
-use Rattle.std.proofs.Common.{◌≡◌, ℕ, ◌/◌, ◌%◌, ◌==◌, List, [], ◌∷◌, map, ap, sym, subst, refl, ◌∙◌, inl, inr}
-use Rattle.std.specs.Prelude.{Option, Some, Result, Ok}
-use Rattle.std.proofs.lemmas.Bool.{cases_Bool}
+use Rattle.std.proofs.Common.{◌≡◌, ℕ, List, ap, sym, subst, refl, ◌∙◌}
+use Rattle.std.specs.Prelude.{Some, Result, Ok}
 use Rattle.vp9_types.specs.declared.outcome.Fault.{Fault}
-use Rattle.frame_headers.specs.State.{held, refreshed, next_persist, start_persist}
+use Rattle.frame_headers.specs.State.{next_persist, shape_of, start_persist}
+use Rattle.frame_headers.proofs.SlotLemmas.{refreshed_told}
 use Rattle.seq_decoder.specs.After.{CodedFrame, coded_frame, Stepped, after, state_after, picture_of, step}
-use Rattle.seq_decoder.specs.State.{Picture, State, start_state, persist_of, held_picture, refreshed_slots, slot_shape}
-
-shape_held : (flags : ℕ) (picture : Picture) (old : Option Picture) → slot_shape (held_picture flags picture old) ≡ held flags picture.shape (slot_shape old)
-shape_held flags picture old = elim (cases_Bool (flags % 2 == 1)) [ inl one ↦ rw one refl | inr none ↦ rw none refl ]
-
-shapes_refreshed : (slots : List (Option Picture)) (flags : ℕ) (picture : Picture)
-    → map slot_shape (refreshed_slots flags picture slots) ≡ refreshed flags picture.shape (map slot_shape slots)
-shapes_refreshed [] flags picture = refl
-shapes_refreshed (slot ∷ slots) flags picture =
-    ap (λ s. s ∷ map slot_shape (refreshed_slots (flags / 2) picture slots)) (shape_held flags picture slot)
-    ∙ ap (λ ss. held flags picture.shape (slot_shape slot) ∷ ss) (shapes_refreshed slots (flags / 2) picture)
+use Rattle.seq_decoder.specs.State.{Picture, State, start_state, persist_of, slot_shape}
 
 -- what headers read after a frame
 pub persist_after : (number : ℕ) (state : State) (f : CodedFrame) → persist_of (state_after number state f) ≡ next_persist f.header (persist_of state)
 persist_after number state f =
     ap (λ slots. record { slots = slots; color = f.header.color; deltas = f.header.params.loop_filter.deltas; features = f.header.params.segmentation.features; size = Some f.header.size })
-    (shapes_refreshed state.slots f.header.refresh (picture_of number f))
+    (refreshed_told slot_shape state.slots f.header.refresh (picture_of number f) (shape_of f.header) refl)
 
 the_next : (r : Result CodedFrame Fault) (number : ℕ) (state : State) (f : CodedFrame) (next : Stepped) → r ≡ Ok f → after number state r ≡ Ok next → next.state ≡ state_after number state f
 the_next r number state f next is stepped =

@@ -14,12 +14,12 @@ use Rattle.frame_headers.specs.declared.header.FrameSize.{FrameSize}
 use Rattle.frame_headers.specs.declared.header.Header.{Header}
 use Rattle.frame_headers.specs.declared.persist.Persist.{Persist}
 use Rattle.frame_headers.specs.Header.{head_of}
-use Rattle.frame_headers.specs.State.{shape_of}
+use Rattle.frame_headers.specs.State.{refreshed, shape_of}
 use Rattle.prob_contexts.specs.Lists.{ContextLists}
 use Rattle.frame_decoder.specs.Built.{first_unbuilt}
 use Rattle.frame_decoder.specs.Frames.{FrameInput, FrameResult, decoded}
 use Rattle.seq_decoder.specs.SavedContexts.{is_key, loses_past, context_before, saved_after}
-use Rattle.seq_decoder.specs.State.{LastFrame, Picture, State, last_size, no_segments, persist_of, refreshed_slots}
+use Rattle.seq_decoder.specs.State.{LastFrame, Picture, State, last_size, no_segments, persist_of}
 
 ---- What a frame holds ----
 
@@ -84,7 +84,7 @@ last_of f = record {
 
 abbrev pub state_after : ℕ → State → CodedFrame → State
 state_after number state f = record {
-  slots = refreshed_slots f.header.refresh (picture_of number f) state.slots;
+  slots = refreshed f.header.refresh (picture_of number f) state.slots;
   color = f.header.color;
   deltas = f.header.params.loop_filter.deltas;
   features = f.header.params.segmentation.features;

@@ -1,5 +1,5 @@
 -- What a decoder keeps from frame to frame (7.2 and 8.10 of the standard).
-use Rattle.std.specs.Prelude.{ℕ, ◌%◌, ◌/◌, ◌==◌, Bool, List, [], ◌∷◌, map, Option, Some, None, replicate, if◌then◌else◌}
+use Rattle.std.specs.Prelude.{ℕ, Bool, List, map, Option, Some, None, replicate}
 use Rattle.vp9_types.specs.declared.shape.Shape.{Shape}
 use Rattle.vp9_types.specs.Maps.{Map, FrameMap}
 use Rattle.frame_headers.specs.Color.{default_color}
@@ -72,11 +72,3 @@ persist_of state = record {
   features = state.features;
   size = last_size state.last;
 }
-
-abbrev pub held_picture : ℕ → Picture → Option Picture → Option Picture
-held_picture flags picture old = if flags % 2 == 1 then Some picture else old
-
--- bit i of the flags says that slot i holds the frame from now on (8.10)
-abbrev pub refreshed_slots : ℕ → Picture → List (Option Picture) → List (Option Picture)
-refreshed_slots flags picture [] = []
-refreshed_slots flags picture (slot ∷ slots) = held_picture flags picture slot ∷ refreshed_slots (flags / 2) picture slots

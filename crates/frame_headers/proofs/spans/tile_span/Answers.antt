@@ -36,8 +36,8 @@ unreachable-requires-in-Err-read_tile c =
     not_bad c.args.frame.now c.args.header.now c.args.compressed c.count-count.result (c.count-count.result - 1 - c.args.n) c.loop-i.at c.in-Err-read_tile.field-0
     c.count-count.ensures.value c.requires.tested (sym c.in-Err-read_tile.ensures.exact) h
 
-pub returns : goal.returns
-returns c =
+pub returns-clause-is : goal.returns-clause-is
+returns-clause-is c =
     let low : c.args.n < c.count-count.result = omega (arith, c.requires.below, c.count-count.ensures.value) in
     let all : c.loop-i.i ≡ c.args.n = omega arith in
     let found = subst (λ i. HasFound c.args.frame.now c.count-count.result c.args.compressed.to (c.count-count.result - i) c.loop-i.at) all c.loop-i.invariant.found in

@@ -1,0 +1,101 @@
+-- A tile that is read, and whose blocks are put in as they are read.
+use Rattle.std.proofs.Common.{◌≡◌, ◌∙◌, ◌++◌, ◌∷◌, [], ℕ, ◌-◌, ◌+◌, ◌^◌, ◌%◌, true, false, Bool, refl, sym, ap, List, map, append_assoc, replicate, slice_range, slice_set, get_or}
+use Rattle.std.specs.Prelude.{Some, None, Ok, Err, Option, Result}
+use Rattle.std.specs.List.{fold}
+use Rattle.std.proofs.lemmas.List.{map-append}
+use Rattle.std.proofs.lemmas.List.Sums.{fold-append}
+use Rattle.vp9_types.specs.Maps.{FrameMap}
+use Rattle.vp9_types.specs.Results.{map_ok, map_err, ◌>>=◌}
+use Rattle.vp9_types.specs.Sizes.{superblocks_along}
+use Rattle.vp9_types.specs.Syntax.{Syntax, done, broken, ask}
+use Rattle.vp9_types.specs.declared.block.Modes.{Modes}
+use Rattle.vp9_types.specs.declared.job.Span.{Span}
+use Rattle.vp9_types.specs.declared.outcome.Fault.{Fault}
+use Rattle.vp9_types.specs.declared.outcome.Fault.TheVariants as fault
+use Rattle.vp9_types.specs.declared.rule.Rule.{Rule}
+use Rattle.vp9_types.specs.declared.shape.Shape.{Shape}
+use Rattle.bool_decoder.specs.Bools.{run_bools}
+use Rattle.bool_decoder.specs.Window.{Window, started, bit_of, after_bit}
+use Rattle.compressed_header.specs.Header.{forward}
+use Rattle.counting_reader.specs.Counting.{Settled, Standing, settle, mapped, with_counts, counted_if, run_counting}
+use Rattle.counting_reader.specs.Code.{standing_of}
+use Rattle.counting_reader.specs.declared.reader.CountingReader.{CountingReader}
+use Rattle.planes.specs.Pictures.{blank}
+use Rattle.planes.specs.declared.frame_planes.FramePlanes.{FramePlanes}
+use Rattle.frame_decoder.specs.declared.columns.TileColumn.{TileColumn}
+use Rattle.frame_decoder.specs.Tiles.{tile_places, column_of}
+use Rattle.counting_reader.proofs.Mapped.{mapped_after}
+use Rattle.frame_headers.specs.Spans.{tile_spans}
+use Rattle.frame_headers.specs.State.{shape_of}
+use Rattle.frame_headers.specs.declared.header.Header.{Header}
+use Rattle.prob_contexts.specs.Lists.{ContextLists}
+use Rattle.block_geometry.specs.Frames.{places_of}
+use Rattle.block_geometry.specs.declared.transform_blocks.FramePlaces.{FramePlaces}
+use Rattle.block_plan.specs.Planned.{PlannedBlock}
+use Rattle.block_plan.specs.declared.block.BlockAt.{BlockAt}
+use Rattle.block_plan.specs.declared.block.BlockInfo.{BlockInfo}
+use Rattle.block_residue.specs.Residues as residues
+use Rattle.block_residue.specs.declared.sides.TileSides.{TileSides}
+use Rattle.mode_syntax.proofs.Mapped.{tile_everywhere}
+use Rattle.mode_syntax.specs.ModeInfo.{intra_frame_mode_info}
+use Rattle.mode_syntax.specs.Walk.{Walk, decode_tile}
+use Rattle.frame_decoder.specs.Code.{PlainTile, plain_block, plain_walk, tile_of, value_of, read_whole, GivesTile, GivesWhole}
+use Rattle.frame_decoder.specs.Frames.{FrameInput, FrameResult, decoded, put_more, raw, read_frame, rebuilt}
+use Rattle.frame_decoder.specs.Reading.{Column, FrameRead, TileRead, begun, column_after, column_at, infos, no_column, nothing_read, read_block, read_tile, read_tile_of, read_tiles, read_walk, with_tile}
+use Rattle.frame_decoder.specs.declared.tile_places.TilePlaces.{TilePlaces}
+
+-- the plain decoder's tile where so much is read, in a frame whose samples were these before the tile
+abbrev pub view : Shape → FrameMap → TileRead → PlainTile
+view shape m s = record { blocks = infos (s.earlier ++ s.blocks); sides = s.sides; map = fold (put_more shape) (Some m) s.blocks }
+
+state_more : (shape : Shape) (m : FrameMap) (s : TileRead) (b : PlannedBlock) (sides : TileSides)
+    → ◌≡◌ {A = PlainTile} (record { blocks = infos (s.earlier ++ s.blocks) ++ b.info ∷ []; sides = sides; map = put_more shape (fold (put_more shape) (Some m) s.blocks) b })
+    (view shape m (record { earlier = s.earlier; blocks = s.blocks ++ b ∷ []; sides = sides }))
+state_more shape m s b sides = λ i. record {
+  blocks = (sym (map-append (λ (b : PlannedBlock). b.info) (s.earlier ++ s.blocks) (b ∷ [])) ∙ ap infos (append_assoc s.earlier s.blocks (b ∷ []))) i;
+  sides = sides;
+  map = sym (fold-append (put_more shape) (Some m) s.blocks (b ∷ [])) i;
+}
+
+block_seen : (header : Header) (modes : Modes) (contexts : ContextLists) (m : FrameMap) (at : BlockAt) (s : TileRead)
+    → plain_block header modes contexts at (view (shape_of header) m s) ≡ mapped (view (shape_of header) m) (read_block header modes contexts at s)
+unfolding plain_block read_block settle mapped
+block_seen header modes contexts m at s =
+    mapped_after (view (shape_of header) m) (intra_frame_mode_info header modes contexts (infos (s.earlier ++ s.blocks)) at) _ _
+    (λ info. mapped_after (view (shape_of header) m) (residues.read_block header contexts at.tile_from info s.sides) _ _
+    (λ read. ap settle (state_more (shape_of header) m s read.0 read.1)))
+
+pub tile_seen : (header : Header) (modes : Modes) (contexts : ContextLists) (frame : FramePlaces) (tile : TilePlaces) (m : FrameMap) (columns r c n : ℕ) (s : TileRead)
+    → decode_tile (plain_walk header modes contexts frame tile.col_from tile.col_to) columns r c n (view (shape_of header) m s)
+    ≡ mapped (view (shape_of header) m) (decode_tile (read_walk header modes contexts frame tile) columns r c n s)
+tile_seen header modes contexts frame tile m columns r c n s =
+    tile_everywhere (read_walk header modes contexts frame tile) (plain_block header modes contexts) (λ s. s.blocks) (view (shape_of header) m)
+    (λ at s. block_seen header modes contexts m at s) (λ s. refl) columns r c n s
+
+pub values_mapped : {S T : Type 0} (f : S → T) (s : Syntax ℕ Rule (Settled S)) (w : Window) → value_of (run_bools (mapped f s) w) ≡ map_ok f (value_of (run_bools s w))
+unfolding mapped
+values_mapped f (done x) w = refl
+values_mapped f (broken e) w = refl
+values_mapped f (ask p k) w = values_mapped f (k (bit_of p w)) (after_bit p w)
+
+---- A tile's bytes ----
+
+pub whole_not_started : {A : Type 0} (s : Syntax ℕ Rule (Settled A)) (bytes : List ℕ) (rule : Rule) → started bytes ≡ Err rule → read_whole s bytes ≡ Err rule
+unfolding read_whole
+whole_not_started s bytes rule is = rw is refl
+
+counted_value : {A : Type 0} (r : Result (Settled A × Window) Rule) (counts : List ℕ) (counting : Bool) (x : A) (m : Standing) → with_counts r counts counting ≡ Ok (x, m) → value_of r ≡ Ok x
+counted_value (Ok p) counts counting x m is = let same : ◌≡◌ {A = _ × Standing} (p.0.value, record { window = p.1; counts = counted_if counting counts p.0.counted; counting = counting }) (x, m) = cc in ap (λ z. Ok z.0) same
+counted_value (Err e) counts counting x m is = let no : ⊥ = cc in absurd no
+
+counted_fault : {A : Type 0} (r : Result (Settled A × Window) Rule) (counts : List ℕ) (counting : Bool) (rule : Rule) → with_counts r counts counting ≡ Err rule → value_of r ≡ Err rule
+counted_fault (Ok p) counts counting rule is = let no : ⊥ = cc in absurd no
+counted_fault (Err e) counts counting rule is = let same : e ≡ rule = cc in ap (λ z. Err z) same
+
+pub whole_read : (s : Syntax ℕ Rule (Settled PlainTile)) (bytes : List ℕ) (old new : CountingReader 0) (result : Result (Unit {0}) Rule) (column : TileColumn) (planes : FramePlanes)
+    → started bytes ≡ Ok (standing_of old).window → GivesTile s old result column planes new → GivesWhole (read_whole s bytes) result column planes
+unfolding read_whole run_counting
+whole_read s bytes old new (Ok u) column planes starts gives =
+    rw starts (counted_value (run_bools s (standing_of old).window) (standing_of old).counts false (tile_of column planes) (standing_of new) gives)
+whole_read s bytes old new (Err rule) column planes starts gives =
+    rw starts (counted_fault (run_bools s (standing_of old).window) (standing_of old).counts false rule gives)

@@ -1,0 +1,38 @@
+-- What a table of pictures holds.
+use Rattle.std.specs.Prelude.{◌≡◌, ◌<◌, ◌==◌, ℕ, Bool, false, List, map, length, Option, Some, None, All, IfSome, slice_get}
+use Rattle.std.specs.List.{list_any}
+use Rattle.vp9_types.specs.Maps.{FrameMap}
+use Rattle.vp9_types.specs.declared.shape.Shape.{Shape}
+use Rattle.planes.specs.Pictures.{map_of}
+use Rattle.planes.specs.declared.picture.Picture.{Picture}
+use Rattle.picture_table.specs.declared.table.PictureTable.{PictureTable}
+
+abbrev pub is_named : ℕ → Option ℕ → Bool
+is_named place None = false
+is_named place (Some named) = named == place
+
+-- a slot names this place
+abbrev pub names : ℕ → List (Option ℕ) → Bool
+names place slots = list_any (is_named place) slots
+
+-- the places that slots name are there
+pub record IsTable (t : PictureTable) : Type 0 where
+  pub within : All (λ slot. IfSome slot (λ place. place < length t.pictures.items)) t.slots
+
+-- the picture at a place is so
+abbrev pub HasPicture : PictureTable → ℕ → (Picture → Type 0) → Type 0
+HasPicture t place P = (p : Picture) × (slice_get t.pictures.items place ≡ Some p) × P p
+
+-- what a picture shows
+abbrev pub shown : Option Picture → Option (Shape × FrameMap)
+shown None = None
+shown (Some p) = Some (p.shape, map_of p)
+
+-- what a slot holds
+abbrev pub held_in : List Picture → Option ℕ → Option (Shape × FrameMap)
+held_in pictures None = None
+held_in pictures (Some place) = shown (slice_get pictures place)
+
+-- what the slots hold
+abbrev pub held : PictureTable → List (Option (Shape × FrameMap))
+held t = map (held_in t.pictures.items) t.slots

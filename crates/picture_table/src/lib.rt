@@ -1,0 +1,8 @@
+//! The pictures that a decoder keeps: those that its eight slots name, and one more to decode into.
+#![tactic(auto)]
+
+mod table;
+#[cfg(test)]
+mod tests;
+
+pub use table::PictureTable;
