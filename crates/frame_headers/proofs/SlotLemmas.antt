@@ -1,6 +1,6 @@
 -- Slots are refreshed one after another.
 use Rattle.std.proofs.Common.{◌≡◌, ℕ, ◌+◌, ◌/◌, ◌<◌, ◌≤◌, List, [], ◌∷◌, ◌++◌, length, get_or, take, drop, refl, ap, sym, inl, inr, ◌∙◌, append_assoc, arith}
-use Rattle.std.specs.Prelude.{Option, Some, None, map, ◌%◌, ◌==◌}
+use Rattle.std.specs.Prelude.{Option, Some, map, ◌%◌, ◌==◌}
 use Rattle.std.proofs.lemmas.Bool.{cases_Bool}
 use Rattle.std.proofs.Math.ListN.{set}
 use Rattle.std.proofs.lemmas.Grind.{drop_more_same}
@@ -15,16 +15,16 @@ pub record IsRefreshed {A : Type 0} (refresh : ℕ) (frame : A) (before : List (
 pub none_refreshed : {A : Type 0} (refresh : ℕ) (frame : A) (before : List (Option A)) → IsRefreshed refresh frame before 0 refresh before
 none_refreshed refresh frame before = record { front = refl; back = refl }
 
-pub slot_refreshed : {A : Type 0} (refresh : ℕ) (frame : A) (before : List (Option A)) (i flags : ℕ) (slots : List (Option A))
+pub slot_refreshed : {A : Type 0} (refresh : ℕ) (frame : A) (before : List (Option A)) (i flags : ℕ) (slots : List (Option A)) (old : Option A)
     → i < length slots → length slots ≡ length before
     → IsRefreshed refresh frame before i flags slots
-    → IsRefreshed refresh frame before (i + 1) (flags / 2) (set slots i (held flags frame (get_or slots i None)))
-slot_refreshed refresh frame before i flags slots low long h =
-    let x = held flags frame (get_or slots i None) in
+    → IsRefreshed refresh frame before (i + 1) (flags / 2) (set slots i (held flags frame (get_or slots i old)))
+slot_refreshed refresh frame before i flags slots old low long h =
+    let x = held flags frame (get_or slots i old) in
     let low_before : i < length before = omega arith in
-    let split = drop_more before i None low_before in
-    let old : get_or slots i None ∷ drop (i + 1) slots ≡ get_or before i None ∷ drop (i + 1) before = sym (drop_more slots i None low) ∙ h.back ∙ split in
-    let same : get_or slots i None ≡ get_or before i None = cc in
+    let split = drop_more before i old low_before in
+    let was : get_or slots i old ∷ drop (i + 1) slots ≡ get_or before i old ∷ drop (i + 1) before = sym (drop_more slots i old low) ∙ h.back ∙ split in
+    let same : get_or slots i old ≡ get_or before i old = cc in
     let rest = refreshed (flags / 2) frame (drop (i + 1) before) in
     record {
       front = ap (λ xs. xs ++ rest) (take_more_set slots i x low)

@@ -1,11 +1,13 @@
 -- The places that slots name.
-use Rattle.std.proofs.Common.{◌≡◌, ◌≢◌, ◌∙◌, ℕ, zero, suc, ◌+◌, ◌<◌, ◌≤◌, ◌==◌, ◌||◌, Bool, true, false, List, [], ◌∷◌, ◌++◌, length, map, refl, sym, ap, inl, inr, arith}
+use Rattle.std.proofs.Common.{◌≡◌, ◌≢◌, ◌∙◌, ℕ, zero, suc, ◌+◌, ◌/◌, ◌%◌, ◌<◌, ◌≤◌, ◌==◌, ◌||◌, Bool, true, false, List, [], ◌∷◌, ◌++◌, length, map, refl, sym, ap, rules, inl, inr, arith}
 use Rattle.std.specs.Prelude.{All, IfSome, Option, Some, None, if◌then◌else◌, slice_get, slice_set}
-use Rattle.std.proofs.lemmas.Bool.{cases_Bool, eqb-true}
+use Rattle.std.proofs.lemmas.List.Elements.{All-cons, All-head, All-tail}
+use Rattle.std.proofs.lemmas.Bool.{cases_Bool, eqb-false, eqb-true}
+use Rattle.frame_headers.specs.State.{held, refreshed}
 use Rattle.planes.specs.declared.picture.Picture.{Picture}
-use Rattle.picture_table.specs.Code.{held_in, is_named, names, shown}
+use Rattle.picture_table.specs.Code.{IsBelow, held_in, is_named, names, shown}
 
-without : ℕ → List (Option ℕ) → List (Option ℕ)
+abbrev without : ℕ → List (Option ℕ) → List (Option ℕ)
 without m [] = []
 without m (slot ∷ slots) = if is_named m slot then without m slots else slot ∷ without m slots
 
@@ -14,15 +16,15 @@ no_longer m [] = omega arith
 no_longer m (slot ∷ slots) =
     let rest = no_longer m slots in
     elim (cases_Bool (is_named m slot)) [
-      | inl yes ↦ rw yes (omega (arith, rest))
-      | inr no ↦ rw no (omega (arith, rest))
+      | inl gone ↦ rw gone (omega (arith, rest))
+      | inr kept ↦ rw kept (omega (arith, rest))
     ]
 
 shorter : (m : ℕ) (slots : List (Option ℕ)) → names m slots ≡ true → length (without m slots) < length slots
 shorter m [] h = let no : false ≡ true = h in absurd cc
 shorter m (slot ∷ slots) h = elim (cases_Bool (is_named m slot)) [
-  | inl yes ↦ let rest = no_longer m slots in rw yes (omega (arith, rest))
-  | inr no ↦ let rest = shorter m slots (rw no at h) in rw no (omega (arith, rest))
+  | inl gone ↦ let rest = no_longer m slots in rw gone (omega (arith, rest))
+  | inr kept ↦ let rest = shorter m slots (rw kept at h) in rw kept (omega (arith, rest))
 ]
 
 one_place : (p m : ℕ) (slot : Option ℕ) → is_named p slot ≡ true → is_named m slot ≡ true → p ≡ m
@@ -36,10 +38,18 @@ still_named m p (slot ∷ slots) other h = elim (cases_Bool (is_named m slot)) [
     | inl here ↦ absurd (other (one_place p m slot here gone))
     | inr there ↦ rw gone (still_named m p slots other (rw there at h))
   ]
-  | inr stays ↦ elim (cases_Bool (is_named p slot)) [
-    | inl here ↦ rw stays (rw here refl)
-    | inr there ↦ rw stays (rw there (still_named m p slots other (rw there at h)))
+  | inr others ↦ elim (cases_Bool (is_named p slot)) [
+    | inl here ↦ rw others (rw here refl)
+    | inr there ↦ rw others (rw there (still_named m p slots other (rw there at h)))
   ]
+]
+
+-- one place more is named
+pub one_more_named : (n : ℕ) (slots : List (Option ℕ)) → ((p : ℕ) → p < n → names p slots ≡ true) → names n slots ≡ true
+    → (p : ℕ) → p < n + 1 → names p slots ≡ true
+one_more_named n slots h last p low = elim (cases_Bool (p == n)) [
+  | inl same ↦ rw (eqb-true p n same) last
+  | inr other ↦ let differ = eqb-false p n other in h p (omega (arith, low, differ))
 ]
 
 -- slots name no more places than there are slots
@@ -51,17 +61,69 @@ few_named (suc m) slots h =
     omega (arith, last, rest)
 
 -- no place behind the last is named
-pub none_behind : (count : ℕ) (slots : List (Option ℕ)) → All (λ slot. IfSome slot (λ place. place < count)) slots → names count slots ≡ false
-none_behind count slots within = ?
+pub none_behind : (count : ℕ) (slots : List (Option ℕ)) → All (IsBelow count) slots → names count slots ≡ false
+none_behind count [] within = refl
+none_behind count (None ∷ slots) within = none_behind count slots (All-tail (IsBelow count) None slots within)
+none_behind count (Some named ∷ slots) within =
+    let low : named < count = All-head (IsBelow count) (Some named) slots within in
+    let other : (named == count) ≡ false = search rules in
+    rw other (none_behind count slots (All-tail (IsBelow count) (Some named) slots within))
+
+held_below : (count flags place : ℕ) (slot : Option ℕ) → place < count → IsBelow count slot → IsBelow count (held flags place slot)
+held_below count flags place slot low h = elim (cases_Bool (flags % 2 == 1)) [ inl one ↦ rw one low | inr none ↦ rw none h ]
+
+-- slots that are refreshed by a place that is there name places that are there
+pub refreshed_below : (count place : ℕ) (slots : List (Option ℕ)) (flags : ℕ) → place < count → All (IsBelow count) slots → All (IsBelow count) (refreshed flags place slots)
+refreshed_below count place [] flags low h = h
+refreshed_below count place (slot ∷ slots) flags low h =
+    All-cons (IsBelow count) (held flags place slot) (refreshed (flags / 2) place slots) (held_below count flags place slot low (All-head (IsBelow count) slot slots h))
+    (refreshed_below count place slots (flags / 2) low (All-tail (IsBelow count) slot slots h))
+
+pub as_many_refreshed : (place : ℕ) (slots : List (Option ℕ)) (flags : ℕ) → length (refreshed flags place slots) ≡ length slots
+as_many_refreshed place [] flags = refl
+as_many_refreshed place (slot ∷ slots) flags = ap (λ n. suc n) (as_many_refreshed place slots (flags / 2))
 
 ---- Pictures at other places ----
+
+either_not : (a b : Bool) → (a || b) ≡ false → (a ≡ false) × (b ≡ false)
+either_not true b h = absurd cc
+either_not false b h = (refl, h)
+
+get_beside : {X : Type 0} (xs : List X) (k j : ℕ) (x : X) → j ≢ k → slice_get (slice_set xs k x) j ≡ slice_get xs j
+get_beside [] k j x other = refl
+get_beside (y ∷ xs) zero zero x other = absurd (other refl)
+get_beside (y ∷ xs) zero (suc j) x other = refl
+get_beside (y ∷ xs) (suc k) zero x other = refl
+get_beside (y ∷ xs) (suc k) (suc j) x other = get_beside xs k j x (λ same. other (ap (λ n. suc n) same))
+
+get_before : {X : Type 0} (xs : List X) (j : ℕ) (x : X) → j < length xs → slice_get (xs ++ x ∷ []) j ≡ slice_get xs j
+get_before [] j x low = absurd (omega (arith, low))
+get_before (y ∷ xs) zero x low = refl
+get_before (y ∷ xs) (suc j) x low = get_before xs j x (omega (arith, low))
+
+pub last_is : {X : Type 0} (xs ys : List X) (j : ℕ) (x : X) → ys ≡ xs ++ x ∷ [] → j ≡ length xs → slice_get ys j ≡ Some x
+last_is xs ys j x is end = rw (is, end) (at_end xs x)
+  where
+    at_end : {X : Type 0} (xs : List X) (x : X) → slice_get (xs ++ x ∷ []) (length xs) ≡ Some x
+    at_end [] x = refl
+    at_end (y ∷ xs) x = at_end xs x
 
 -- what slots hold stays while a place that none of them names is used again
 pub held_beside : (pictures : List Picture) (place : ℕ) (p : Picture) (slots : List (Option ℕ)) → names place slots ≡ false
     → map (held_in (slice_set pictures place p)) slots ≡ map (held_in pictures) slots
-held_beside pictures place p slots free = ?
+held_beside pictures place p [] free = refl
+held_beside pictures place p (None ∷ slots) free = ap (λ rest. None ∷ rest) (held_beside pictures place p slots free)
+held_beside pictures place p (Some named ∷ slots) free =
+    let both = either_not (named == place) (names place slots) free in
+    let same = get_beside pictures place named p (λ same. eqb-false named place both.0 same) in
+    λ i. shown (same i) ∷ held_beside pictures place p slots both.1 i
 
 -- or while there is one more
-pub held_before : (pictures : List Picture) (p : Picture) (slots : List (Option ℕ)) → All (λ slot. IfSome slot (λ place. place < length pictures)) slots
+pub held_before : (pictures : List Picture) (p : Picture) (slots : List (Option ℕ)) → All (IsBelow (length pictures)) slots
     → map (held_in (pictures ++ p ∷ [])) slots ≡ map (held_in pictures) slots
-held_before pictures p slots within = ?
+held_before pictures p [] within = refl
+held_before pictures p (None ∷ slots) within = ap (λ rest. None ∷ rest) (held_before pictures p slots (All-tail (IsBelow (length pictures)) None slots within))
+held_before pictures p (Some named ∷ slots) within =
+    let low : named < length pictures = All-head (IsBelow (length pictures)) (Some named) slots within in
+    let same = get_before pictures named p low in
+    λ i. shown (same i) ∷ held_before pictures p slots (All-tail (IsBelow (length pictures)) (Some named) slots within) i

@@ -15,9 +15,13 @@ is_named place (Some named) = named == place
 abbrev pub names : ℕ → List (Option ℕ) → Bool
 names place slots = list_any (is_named place) slots
 
+abbrev pub IsBelow : ℕ → Option ℕ → Type 0
+IsBelow count slot = IfSome slot (λ place. place < count)
+
 -- the places that slots name are there
 pub record IsTable (t : PictureTable) : Type 0 where
-  pub within : All (λ slot. IfSome slot (λ place. place < length t.pictures.items)) t.slots
+  pub many : length t.slots ≡ 8
+  pub within : All (IsBelow (length t.pictures.items)) t.slots
 
 -- the picture at a place is so
 abbrev pub HasPicture : PictureTable → ℕ → (Picture → Type 0) → Type 0

@@ -1,4 +1,4 @@
-ghost use Rattle.std.specs.Prelude.{◌≡◌, ◌≤◌, ◌<◌, ℕ, [], Bool, None, Some, true, false, replicate, length, max, IfOk};
+ghost use Rattle.std.specs.Prelude.{◌≡◌, ◌≤◌, ◌<◌, [], None, false, replicate, length, max, IfOk};
 ghost use Rattle.planes.specs.Pictures.{FitsPlanes};
 ghost use Rattle.picture_table.specs.Code.{is_named, names};
 
@@ -27,12 +27,7 @@ fn is_named(place: usize, slot: Option<usize>) -> bool
 fn names(slots: &[Option<usize>], place: usize) -> bool
     ensures { result ≡ names place slots.now }
 {
-    for i in 0..slots.len() {
-        if is_named(place, slots[i]) {
-            return true;
-        }
-    }
-    false
+    slots.iter().any(|slot| is_named(place, *slot))
 }
 
 impl PictureTable {

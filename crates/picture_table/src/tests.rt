@@ -3,7 +3,13 @@ use std::test::Fail;
 use vp9_types::{Depth, Shape};
 
 fn grey(w: u32, h: u32) -> Shape {
-    Shape { w, h, depth: Depth::Eight, ss_x: true, ss_y: true }
+    Shape {
+        w,
+        h,
+        depth: Depth::Eight,
+        ss_x: true,
+        ss_y: true,
+    }
 }
 
 #[test]
