@@ -1,8 +1,9 @@
 -- The tiles of a frame, one after another, of which each block is put in as it is read.
-use Rattle.std.proofs.Common.{◌≡◌, ◌∙◌, ◌++◌, ◌∷◌, [], ℕ, suc, ◌-◌, ◌+◌, ◌<◌, ◌≤◌, true, false, Bool, refl, sym, ap, List, map, length, slice_range, arith}
+use Rattle.std.proofs.Common.{◌≡◌, ◌∙◌, ◌++◌, ◌∷◌, [], ℕ, zero, suc, ◌-◌, ◌+◌, ◌<◌, ◌≤◌, true, false, Bool, refl, sym, ap, List, map, length, slice_range, arith}
 use Rattle.std.specs.Prelude.{Some, None, Ok, Err, Option, Result, drop, slice_get, slice_set, slice_index_or, IfOk, IsOk}
 use Rattle.std.specs.List.{fold}
-use Rattle.std.proofs.lemmas.List.{map-set}
+use Rattle.std.proofs.lemmas.List.{drop_all, drop_more, map-set}
+use Rattle.std.proofs.lemmas.Option.{get_or_from_slice_get, slice_get_within}
 use Rattle.std.proofs.lemmas.List.Sums.{fold-append}
 use Rattle.vp9_types.specs.Maps.{FrameMap}
 use Rattle.vp9_types.specs.Results.{map_ok, map_err, ◌>>=◌}
@@ -18,7 +19,9 @@ use Rattle.bool_decoder.specs.Bools.{run_bools}
 use Rattle.bool_decoder.specs.Window.{Window, started}
 use Rattle.compressed_header.specs.Header.{forward}
 use Rattle.counting_reader.specs.Counting.{Settled, mapped}
-use Rattle.frame_headers.specs.Spans.{tile_spans}
+use Rattle.frame_headers.specs.Spans.{followed, in_front, tile_count, tile_spans, tiles_from}
+use Rattle.frame_headers.specs.Spans.{tile_at as tile_at_place}
+use Rattle.planes.specs.Pictures.{blank}
 use Rattle.frame_headers.specs.State.{shape_of}
 use Rattle.frame_headers.specs.declared.header.Header.{Header}
 use Rattle.prob_contexts.specs.Lists.{ContextLists}
@@ -26,7 +29,7 @@ use Rattle.block_geometry.specs.Frames.{places_of}
 use Rattle.block_plan.specs.declared.block.BlockInfo.{BlockInfo}
 use Rattle.mode_syntax.specs.Walk.{decode_tile}
 use Rattle.frame_decoder.specs.Code.{PlainTile, column_as_listed, plain_walk, read_whole, value_of}
-use Rattle.frame_decoder.specs.Frames.{FrameInput, FrameResult, decoded, put_more, raw, read_frame, rebuilt}
+use Rattle.frame_decoder.specs.Frames.{FrameInput, FrameResult, decoded, put_more, raw, read_all_tiles, read_frame, rebuilt}
 use Rattle.frame_decoder.specs.Reading.{Column, FrameRead, TileRead, begun, column_after, column_at, infos, nothing_read, read_tile, read_tile_of, read_tiles, with_tile}
 use Rattle.frame_decoder.specs.Tiles.{tile_places, column_of}
 use Rattle.frame_decoder.specs.declared.tile_places.TilePlaces.{TilePlaces}
@@ -109,12 +112,114 @@ tile_done header modes contexts m after_it n bytes f s put reads whole =
       q.reads,
       map-set column_as_listed f.columns k (column_after q.tile.value)
           ∙ ap (λ (t : PlainTile). slice_set (map column_as_listed f.columns) k (t.blocks, t.sides.y.above, t.sides.u.above, t.sides.v.above)) q.seen,
-      fold-append (put_more shape) (Some m) f.blocks q.tile.value.blocks ∙ ?,
+      fold-append (put_more shape) (Some blank) f.blocks q.tile.value.blocks ∙ ap (λ o. fold (put_more shape) o q.tile.value.blocks) put ∙ now,
     )
 
 ---- All tiles ----
 
+in_front_long : (span : Span) (r : Result (List Span) Rule) (n : ℕ) (spans : List Span) → ((rest : List Span) → r ≡ Ok rest → length rest ≡ n) → in_front span r ≡ Ok spans
+    → length spans ≡ suc n
+in_front_long span (Ok rest) n spans h is = let same : span ∷ rest ≡ spans = cc in ap length (sym same) ∙ ap (λ n. suc n) (h rest refl)
+in_front_long span (Err rule) n spans h is = let no : ⊥ = cc in absurd no
+
+behind_first : (r : Result Span Rule) (more : Span → Result (List Span) Rule) (n : ℕ) (spans : List Span) → ((span : Span) (rest : List Span) → more span ≡ Ok rest → length rest ≡ n)
+    → followed r more ≡ Ok spans → length spans ≡ suc n
+behind_first (Ok span) more n spans h is = in_front_long span (more span) n spans (h span) is
+behind_first (Err rule) more n spans h is = let no : ⊥ = cc in absurd no
+
+-- as many as there are tiles
+many_from : (frame : List ℕ) (n at : ℕ) (spans : List Span) → tiles_from frame n at ≡ Ok spans → length spans ≡ n
+many_from frame zero at spans is = let same : [] ≡ spans = cc in ap length (sym same)
+many_from frame (suc n) at spans is = behind_first (tile_at_place frame n at) (λ span. tiles_from frame n span.to) n spans (λ span rest so. many_from frame n span.to rest so) is
+
+many_spans : (frame : List ℕ) (header : Header) (compressed : Span) (spans : List Span) → tile_spans frame header compressed ≡ Ok spans → length spans ≡ tile_count header
+unfolding tile_spans
+many_spans frame header compressed spans is = many_from frame (tile_count header) compressed.to spans is
+
 drop_at : {X : Type 0} (xs : List X) (n : ℕ) (x : X) → slice_get xs n ≡ Some x → drop n xs ≡ x ∷ drop (n + 1) xs
-drop_at [] n x is = let no : ⊥ = cc in absurd no
-drop_at (y ∷ xs) 0 x is = ?
-drop_at (y ∷ xs) (suc n) x is = ?
+drop_at xs n x is = drop_more xs n x (slice_get_within xs n x is) ∙ ap (λ y. y ∷ drop (n + 1) xs) (get_or_from_slice_get xs n x x is)
+
+-- reading goes on from the n-th tile on, and leads to this
+abbrev pub IsLeft : Header → Modes → ContextLists → List ℕ → Span → ℕ → FrameRead → Type 0
+IsLeft header modes contexts bytes compressed n f = (spans : List Span) × (tile_spans bytes header compressed ≡ Ok spans)
+    × (read_all_tiles header modes contexts bytes compressed ≡ read_tiles header modes contexts bytes n (drop n spans) f)
+
+pub all_left : (header : Header) (modes : Modes) (contexts : ContextLists) (bytes : List ℕ) (compressed : Span)
+    → IsOk (tile_spans bytes header compressed) → IsLeft header modes contexts bytes compressed 0 (nothing_read header)
+all_left header modes contexts bytes compressed tested = by_spans (tile_spans bytes header compressed) refl tested
+  where
+    by_spans : (r : Result (List Span) Rule) → tile_spans bytes header compressed ≡ r → IsOk r → IsLeft header modes contexts bytes compressed 0 (nothing_read header)
+    by_spans (Ok spans) is ok = (spans, is, rw is refl)
+    by_spans (Err rule) is ok = absurd cc
+
+span_at : (r : Result (List Span) Rule) (spans : List Span) (n : ℕ) (span : Span) → r ≡ Ok spans → IfOk r (λ spans. slice_get spans n ≡ Some span) → slice_get spans n ≡ Some span
+span_at r spans n span is h = rw is at h
+
+next : (header : Header) (modes : Modes) (contexts : ContextLists) (bytes : List ℕ) (compressed span : Span) (n : ℕ) (f : FrameRead)
+    (left : IsLeft header modes contexts bytes compressed n f) → IfOk (tile_spans bytes header compressed) (λ spans. slice_get spans n ≡ Some span)
+    → read_all_tiles header modes contexts bytes compressed
+    ≡ (read_tile_of header modes contexts n (slice_range bytes span.from span.to) f >>= read_tiles header modes contexts bytes (n + 1) (drop (n + 1) left.0))
+unfolding read_tiles
+next header modes contexts bytes compressed span n f left is =
+    let at = span_at (tile_spans bytes header compressed) left.0 n span left.1 is in
+    left.2 ∙ ap (λ spans. read_tiles header modes contexts bytes n spans f) (drop_at left.0 n span at)
+
+-- the frame breaks the rule that the n-th tile breaks
+pub frame_breaks : (header : Header) (modes : Modes) (contexts : ContextLists) (bytes : List ℕ) (compressed span : Span) (n : ℕ) (f : FrameRead) (rule : Rule)
+    → IsLeft header modes contexts bytes compressed n f → IfOk (tile_spans bytes header compressed) (λ spans. slice_get spans n ≡ Some span)
+    → read_tile_of header modes contexts n (slice_range bytes span.from span.to) f ≡ Err rule → read_all_tiles header modes contexts bytes compressed ≡ Err rule
+frame_breaks header modes contexts bytes compressed span n f rule left is breaks =
+    next header modes contexts bytes compressed span n f left is
+    ∙ ap (λ r. r >>= read_tiles header modes contexts bytes (n + 1) (drop (n + 1) left.0)) breaks
+
+pub goes_on : (header : Header) (modes : Modes) (contexts : ContextLists) (bytes : List ℕ) (compressed span : Span) (n : ℕ) (f g : FrameRead)
+    → IsLeft header modes contexts bytes compressed n f → IfOk (tile_spans bytes header compressed) (λ spans. slice_get spans n ≡ Some span)
+    → read_tile_of header modes contexts n (slice_range bytes span.from span.to) f ≡ Ok g → IsLeft header modes contexts bytes compressed (n + 1) g
+goes_on header modes contexts bytes compressed span n f g left is reads = (
+  left.0,
+  left.1,
+  next header modes contexts bytes compressed span n f left is
+      ∙ ap (λ r. r >>= read_tiles header modes contexts bytes (n + 1) (drop (n + 1) left.0)) reads,
+)
+
+-- all tiles are read
+pub ends : (header : Header) (modes : Modes) (contexts : ContextLists) (bytes : List ℕ) (compressed : Span) (n : ℕ) (f : FrameRead)
+    → tile_count header ≤ n → IsLeft header modes contexts bytes compressed n f → read_all_tiles header modes contexts bytes compressed ≡ Ok f
+unfolding read_tiles
+ends header modes contexts bytes compressed n f all left =
+    let many : length left.0 ≤ n = omega (arith, all, many_spans bytes header compressed left.0 left.1) in
+    left.2 ∙ ap (λ spans. read_tiles header modes contexts bytes n spans f) (drop_all n left.0 many)
+
+---- A frame ----
+
+pub forward_breaks : (f : FrameInput) (rule : Rule) → forward f.header f.before (slice_range f.bytes f.compressed.from f.compressed.to) ≡ Err rule → decoded f ≡ Err (fault.Broken rule)
+unfolding decoded read_frame
+forward_breaks f rule is = rw is refl
+
+pub forward_not_started : (header : Header) (before : ContextLists) (bytes : List ℕ) (rule : Rule) → started bytes ≡ Err rule → forward header before bytes ≡ Err rule
+unfolding forward
+forward_not_started header before bytes rule is = rw is refl
+
+pub sizes_break : (f : FrameInput) (updated : ContextLists × Modes) (rule : Rule)
+    → forward f.header f.before (slice_range f.bytes f.compressed.from f.compressed.to) ≡ Ok updated → tile_spans f.bytes f.header f.compressed ≡ Err rule
+    → decoded f ≡ Err (fault.Broken rule)
+unfolding decoded read_frame
+sizes_break f updated rule made is = rw (made, is) refl
+
+pub tiles_break : (f : FrameInput) (updated : ContextLists × Modes) (rule : Rule)
+    → forward f.header f.before (slice_range f.bytes f.compressed.from f.compressed.to) ≡ Ok updated
+    → read_all_tiles f.header updated.1 updated.0 f.bytes f.compressed ≡ Err rule → decoded f ≡ Err (fault.Broken rule)
+unfolding decoded read_frame
+tiles_break f updated rule made is = rw made (rw is refl)
+
+pub nothing_put : (shape : Shape) → raw shape [] ≡ Some blank
+unfolding raw
+nothing_put shape = refl
+
+-- what a frame leaves whose tiles are read so
+pub frame_done : (f : FrameInput) (updated : ContextLists × Modes) (read : FrameRead) (m : FrameMap)
+    → forward f.header f.before (slice_range f.bytes f.compressed.from f.compressed.to) ≡ Ok updated
+    → read_all_tiles f.header updated.1 updated.0 f.bytes f.compressed ≡ Ok read → raw (shape_of f.header) read.blocks ≡ Some m
+    → decoded f ≡ Ok (record { blocks = map (λ c. infos c.blocks) read.columns; map = m; counted = read.counted; contexts = updated.0 })
+unfolding decoded read_frame
+frame_done f updated read m made reads put = rw made (rw reads (ap (rebuilt (read, updated.0)) put))

@@ -5,3 +5,4 @@ pub mod SquareReads
 pub mod RowReads
 pub mod TileReads
 pub mod FrameReads
+mod ColumnSteps

@@ -3,6 +3,7 @@ use Rattle.std.specs.Prelude.{ℕ, List, map, slice_range, Option, Some, None, R
 use Rattle.std.specs.List.{fold}
 use Rattle.vp9_types.specs.Maps.{FrameMap}
 use Rattle.vp9_types.specs.Results.{◌>>=◌, map_err}
+use Rattle.vp9_types.specs.declared.block.Modes.{Modes}
 use Rattle.vp9_types.specs.declared.job.Span.{Span}
 use Rattle.vp9_types.specs.declared.outcome.Fault.{Fault}
 use Rattle.vp9_types.specs.declared.outcome.Fault.TheVariants as fault
@@ -28,13 +29,17 @@ pub record FrameInput : Type 0 where
   pub bytes : List ℕ
   pub before : ContextLists
 
--- what it says behind its header, and its contexts; or the first rule that it breaks: the compressed header's, then those of
--- the tiles' sizes, then tile by tile
+-- all tiles of a frame, or the first rule that is broken: those of their sizes, and then tile by tile
+abbrev pub read_all_tiles : Header → Modes → ContextLists → List ℕ → Span → Result FrameRead Rule
+read_all_tiles header modes contexts bytes compressed =
+    tile_spans bytes header compressed >>= λ spans. read_tiles header modes contexts bytes 0 spans (nothing_read header)
+
+-- what it says behind its header, and its contexts; or the first rule that it breaks: the compressed header's, and then
+-- those of its tiles
 unfoldable pub read_frame : FrameInput → Result (FrameRead × ContextLists) Rule
 read_frame f = do
   updated ← forward f.header f.before (slice_range f.bytes f.compressed.from f.compressed.to)
-  spans ← tile_spans f.bytes f.header f.compressed
-  read ← read_tiles f.header updated.1 updated.0 f.bytes 0 spans (nothing_read f.header)
+  read ← read_all_tiles f.header updated.1 updated.0 f.bytes f.compressed
   Ok (read, updated.0)
 
 -- one block more is put in

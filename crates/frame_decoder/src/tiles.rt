@@ -1,7 +1,6 @@
 //! The superblocks of a tile.
 
 ghost use Rattle.std.specs.Prelude.{◌≡◌, ◌-◌, ◌+◌, ◌*◌, ◌<◌, ◌≤◌, length, IsOk, OnOk};
-ghost use Rattle.vp9_types.specs.Results.{◌>>=◌};
 ghost use Rattle.frame_headers.specs.Spans.{tile_count, tile_spans};
 ghost use Rattle.frame_headers.specs.State.{shape_of};
 ghost use Rattle.frame_headers.specs.Tiles.{AreFewTiles};
@@ -9,7 +8,8 @@ ghost use Rattle.prob_contexts.specs.Lists.{lists_of};
 ghost use Rattle.vp9_types.specs.Sizes.{superblocks_along};
 ghost use Rattle.mode_syntax.specs.Walk.{decode_row, decode_tile};
 ghost use Rattle.frame_decoder.specs.Code.{tile_of, walk_of, limit_of, read_whole, ArePlanes, AreTileColumns, HoldsRead, IsReady, SameColumns, GivesRead, GivesTile, GivesWhole};
-ghost use Rattle.frame_decoder.specs.Reading.{FrameRead, nothing_read, read_tile_of, read_tiles};
+ghost use Rattle.frame_decoder.specs.Frames.{read_all_tiles};
+ghost use Rattle.frame_decoder.specs.Reading.{FrameRead, nothing_read, read_tile_of};
 
 use crate::columns::{BlockRoom, TileColumn};
 use crate::squares::decode_square;
@@ -169,7 +169,7 @@ pub(crate) fn decode_tiles(
     requires columns { AreTileColumns setting.now.header 0 columns.old }
     requires planes { ArePlanes (shape_of setting.now.header) planes.old }
     requires start { HoldsRead setting.now.header columns.old planes.old (nothing_read setting.now.header) }
-    ensures gives { GivesRead setting.now.header (tile_spans bytes.now setting.now.header compressed >>= λ spans. read_tiles setting.now.header setting.now.modes (lists_of setting.now.contexts) bytes.now 0 spans (nothing_read setting.now.header))
+    ensures gives { GivesRead setting.now.header (read_all_tiles setting.now.header setting.now.modes (lists_of setting.now.contexts) bytes.now compressed)
         result columns.new planes.new }
     ensures planes { OnOk result (ArePlanes (shape_of setting.now.header) planes.new) }
 {

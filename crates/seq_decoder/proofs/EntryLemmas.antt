@@ -1,6 +1,6 @@
 -- What a frame and a payload add.
 use Rattle.std.proofs.Common.{◌≡◌, ℕ, ◌+◌, ◌<◌, ◌≤◌, List, [], ◌++◌, length, get_or, drop, ap, sym, subst, refl, ◌∙◌, append_assoc}
-use Rattle.std.specs.Prelude.{Option, Result, Ok, Err}
+use Rattle.std.specs.Prelude.{Option, Some, Result, Ok, Err, map}
 use Rattle.std.proofs.lemmas.List.{append-nil, drop_more, drop_all}
 use Rattle.edge_io.specs.Putting.{Takes}
 use Rattle.vp9_types.specs.declared.job.Span.{Span}
@@ -10,18 +10,20 @@ use Rattle.vp9_types.specs.declared.outcome.Outcome.{Outcome}
 use Rattle.vp9_types.specs.declared.outcome.Outcome.TheVariants as outcome
 use Rattle.vp9_types.specs.declared.rule.Rule.{Rule}
 use Rattle.superframe_index.specs.Frames.{frames_of}
-use Rattle.seq_decoder.specs.After.{CodedFrame, coded_frame, shown_picture, state_after}
+use Rattle.seq_decoder.specs.After.{CodedFrame, coded_frame, picture_of, shown_picture, state_after}
 use Rattle.edge_io.specs.declared.sink.PutFault.{PutFault}
 use Rattle.edge_io.specs.declared.sink.PutFault.TheVariants as refused
-use Rattle.frame_headers.specs.State.{next_persist}
+use Rattle.frame_headers.proofs.SlotLemmas.{refreshed_told}
+use Rattle.frame_headers.specs.State.{next_persist, refreshed, shape_of}
+use Rattle.picture_table.specs.Code.{held, held_in, shown}
+use Rattle.picture_table.specs.declared.table.PictureTable.{PictureTable}
 use Rattle.prob_contexts.specs.Lists.{ContextLists, lists_of}
 use Rattle.seq_decoder.specs.declared.coding.Coded.{Coded}
-use Rattle.frame_decoder.specs.Code.{HoldsResult}
 use Rattle.frame_decoder.specs.Frames.{FrameResult}
 use Rattle.frame_decoder.specs.declared.halt.Halt.{Halt}
 use Rattle.frame_decoder.specs.declared.halt.Halt.TheVariants as halt
 use Rattle.seq_decoder.specs.SavedContexts.{saved_before, with_own, saved_after}
-use Rattle.seq_decoder.specs.Code.{saved_lists, StandsFor, Place, place_after, Entry, shown_text, entry_of, frame_entry, going_on, frames_entry, parts_entry, payload_entry, frame_of, IsCoded, TakesFront, Shows, EndsAt, Halts, halt_outcome, refusal_outcome}
+use Rattle.seq_decoder.specs.Code.{saved_lists, StandsFor, Place, place_after, Entry, shown_text, entry_of, frame_entry, going_on, frames_entry, parts_entry, payload_entry, frame_of, shown_of, IsAt, IsCoded, TakesFront, Shows, EndsAt, Halts, halt_outcome, refusal_outcome}
 use Rattle.seq_decoder.specs.FileFrames.{frame_bytes}
 use Rattle.seq_decoder.specs.Outcomes.{outcome_at}
 use Rattle.seq_decoder.specs.Runs.{RunEnding}
@@ -50,10 +52,10 @@ frame_stops place frame fault old faults h =
     subst (λ e. Halts e old old faults faults (outcome_at place.frame fault)) (sym (frame_refused place frame fault h)) (fault_halts place fault old faults)
 
 -- at a frame that can't be decoded
-pub frame_halted : (place : Place) (frame : List ℕ) (h : Halt) (old : Option (List ℕ)) (faults : ℕ) → IsCoded (coded_frame (persist_of place.state) place.state.contexts frame) (Err h)
+pub frame_halted : (place : Place) (frame : List ℕ) (h : Halt) (table : PictureTable) (old : Option (List ℕ)) (faults : ℕ) → IsCoded (coded_frame (persist_of place.state) place.state.contexts frame) table (Err h)
     → Halts (frame_entry place frame) old old faults faults (halt_outcome place.frame h)
-frame_halted place frame (halt.Fault fault) old faults is = frame_stops place frame fault old faults is
-frame_halted place frame halt.OutOfMemory old faults is = (no_front old (frame_entry place frame).text, refl)
+frame_halted place frame (halt.Fault fault) table old faults is = frame_stops place frame fault old faults is
+frame_halted place frame halt.OutOfMemory table old faults is = (no_front old (frame_entry place frame).text, refl)
 
 frame_fronts : (place : Place) (frame : List ℕ) (f : CodedFrame) (old new : Option (List ℕ)) → coded_frame (persist_of place.state) place.state.contexts frame ≡ Ok f
     → TakesFront old new (shown_text (shown_picture place.frame f)) → TakesFront old new (frame_entry place frame).text
@@ -66,21 +68,38 @@ frame_refuses place frame f old new faults now refused.Failed h k = (frame_front
 frame_refuses place frame f old new faults now refused.OutOfMemory h k = (frame_fronts place frame f old new h k.0, k.1)
 
 -- a frame that is decoded as the code's state says is decoded so in the state
-pub coded_in : (d : Decoder) (state : State) (bytes : List ℕ) (r : Result Coded Halt) → StandsFor d state
-    → IsCoded (coded_frame d.persist (saved_lists d.saved) bytes) r → IsCoded (coded_frame (persist_of state) state.contexts bytes) r
-coded_in d state bytes r stands h =
-    subst (λ saved. IsCoded (coded_frame (persist_of state) saved bytes) r) stands.contexts (subst (λ p. IsCoded (coded_frame p (saved_lists d.saved) bytes) r) stands.persist h)
+pub coded_in : (d : Decoder) (state : State) (bytes : List ℕ) (table : PictureTable) (r : Result Coded Halt) → StandsFor d state
+    → IsCoded (coded_frame d.persist (saved_lists d.saved) bytes) table r → IsCoded (coded_frame (persist_of state) state.contexts bytes) table r
+coded_in d state bytes table r stands h =
+    subst (λ saved. IsCoded (coded_frame (persist_of state) saved bytes) table r) stands.contexts (subst (λ p. IsCoded (coded_frame p (saved_lists d.saved) bytes) table r) stands.persist h)
+
+shown_at : (table : PictureTable) (c : Coded) (result : FrameResult) (at : IsAt table c result) → held_in table.pictures.items (Some c.place) ≡ Some (shape_of c.header, result.map)
+shown_at table c result at = ap shown at.there ∙ (λ i. Some (at.holds.shape i, at.holds.map i))
+
+-- what the slots hold behind a frame
+slots_after : (number : ℕ) (state : State) (c : Coded) (result : FrameResult) (old d : Decoder) (table : PictureTable) → IsAt table c result → StandsFor old state
+    → held table ≡ held old.table → d.table.pictures ≡ table.pictures → d.table.slots ≡ refreshed c.header.refresh c.place table.slots
+    → held d.table ≡ map shown_of (state_after number state (frame_of c result)).slots
+slots_after number state c result old d table at stands same pictures slots =
+    let told = (shape_of c.header, result.map) in
+    (λ i. map (held_in (pictures i).items) (slots i))
+    ∙ refreshed_told (held_in table.pictures.items) table.slots c.header.refresh c.place told (shown_at table c result at)
+    ∙ ap (refreshed c.header.refresh told) (same ∙ stands.slots)
+    ∙ sym (refreshed_told shown_of state.slots c.header.refresh (picture_of number (frame_of c result)) told refl)
 
 -- behind a frame
-pub stands_after : (number : ℕ) (state : State) (c : Coded) (result : FrameResult) (old d : Decoder) (reset : List ContextLists) → HoldsResult c.header c.picture c.decoded result → StandsFor old state
+pub stands_after : (number : ℕ) (state : State) (c : Coded) (result : FrameResult) (old d : Decoder) (reset : List ContextLists) (table : PictureTable) → IsAt table c result → StandsFor old state
     → d.persist ≡ next_persist c.header old.persist → reset ≡ saved_before c.header (saved_lists old.saved)
-    → saved_lists d.saved ≡ with_own c.header (lists_of c.decoded.contexts) reset → StandsFor d (state_after number state (frame_of c result))
+    → saved_lists d.saved ≡ with_own c.header (lists_of c.decoded.contexts) reset
+    → held table ≡ held old.table → d.table.pictures ≡ table.pictures → d.table.slots ≡ refreshed c.header.refresh c.place table.slots
+    → StandsFor d (state_after number state (frame_of c result))
 unfolding saved_after
-stands_after number state c result old d reset holds stands is_persist is_reset is_new = record {
+stands_after number state c result old d reset table at stands is_persist is_reset is_new same pictures slots = record {
   persist = is_persist ∙ ap (next_persist c.header) stands.persist ∙ sym (persist_after number state (frame_of c result));
   contexts = is_new ∙ ap (with_own c.header (lists_of c.decoded.contexts)) is_reset
       ∙ ap (λ s. with_own c.header (lists_of c.decoded.contexts) (saved_before c.header s)) stands.contexts
-      ∙ ap (λ own. with_own c.header own (saved_before c.header state.contexts)) holds.contexts;
+      ∙ ap (λ own. with_own c.header own (saved_before c.header state.contexts)) at.holds.contexts;
+  slots = slots_after number state c result old d table at stands same pictures slots;
 }
 
 -- a frame that is decoded and written

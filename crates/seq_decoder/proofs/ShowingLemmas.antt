@@ -1,7 +1,8 @@
 -- What a frame shows, in the words of the frame's text.
-use Rattle.std.proofs.Common.{◌≡◌, ℕ, ◌+◌, ◌-◌, ◌*◌, ◌/◌, ◌^◌, ◌≤◌, ◌<◌, List, [], take, drop, Bool, true, false, arith, refl, sym, ap, subst, ◌∙◌}
-use Rattle.std.specs.Prelude.{Option, Some, None, Result, Ok, Err, if◌then◌else◌}
+use Rattle.std.proofs.Common.{◌≡◌, ℕ, ◌+◌, ◌-◌, ◌*◌, ◌/◌, ◌^◌, ◌≤◌, ◌<◌, List, [], get_or, take, drop, Bool, true, false, arith, refl, sym, ap, subst, ◌∙◌}
+use Rattle.std.specs.Prelude.{Option, Some, None, Result, Ok, Err, slice_get, if◌then◌else◌}
 use Rattle.std.proofs.lemmas.List.{take-append-drop}
+use Rattle.std.proofs.lemmas.Option.{get_or_from_slice_get}
 use Rattle.edge_io.specs.declared.sink.PutFault.{PutFault}
 use Rattle.edge_io.specs.declared.sink.PutFault.TheVariants as refused
 use Rattle.edge_io.specs.Putting.{Takes, PutsAll, CountsPutFaults}
@@ -37,8 +38,8 @@ small_in f header V y x eight fits = small_at _ _ y x eight fits.range.v
 pub small_samples : (f : Picture) (header : Header) (shape : Shape) (p : Plane) (y x : ℕ) → FitsHeader f header → shape ≡ shape_of header → shape.depth ≡ Eight → map_of f p y x < 256
 small_samples f header shape p y x fits is eight = small_in f header p y x (ap (λ s. s.depth) (sym is) ∙ eight) fits
 
-pub text_shown : (c : Coded) (shape : Shape) → c.header.show_frame ≡ true → shape ≡ shape_of c.header → frame_text shape (map_of c.picture) ≡ text_of c
-text_shown c shape shown is = rw (shown, is) refl
+pub text_shown : (header : Header) (picture : Picture) (shape : Shape) → header.show_frame ≡ true → shape ≡ shape_of header → frame_text shape (map_of picture) ≡ text_of header picture
+text_shown header picture shape shown is = rw (shown, is) refl
 
 -- chroma of a plane rounded up is within half of what is rounded up to places
 half_within : (n : ℕ) (ss : Bool) → subsampled_size n ss ≤ halved ss (8 * ((n + 7) / 8))
@@ -87,17 +88,21 @@ shown_by true number shape m = refl
 shown_by false number shape m = refl
 
 -- the text of what is shown of a frame
-text_is : (number : ℕ) (c : Coded) (result : FrameResult) → HoldsResult c.header c.picture c.decoded result → text_of c ≡ shown_text (shown_picture number (frame_of c result))
-text_is number c result holds =
+text_is : (number : ℕ) (c : Coded) (picture : Picture) (result : FrameResult) → HoldsResult c.header picture c.decoded result → text_of c.header picture ≡ shown_text (shown_picture number (frame_of c result))
+text_is number c picture result holds =
     ap (λ m. if c.header.show_frame then frame_text (shape_of c.header) m else []) holds.map ∙ shown_by c.header.show_frame number (shape_of c.header) result.map
 
-pub text_taken : (number : ℕ) (c : Coded) (result : FrameResult) (old new : Option (List ℕ)) → HoldsResult c.header c.picture c.decoded result
-    → Takes old new (text_of c) → Takes old new (shown_text (shown_picture number (frame_of c result)))
-text_taken number c result old new holds takes = subst (Takes old new) (text_is number c result holds) takes
+pub text_taken : (number : ℕ) (c : Coded) (picture : Picture) (result : FrameResult) (old new : Option (List ℕ)) → HoldsResult c.header picture c.decoded result
+    → Takes old new (text_of c.header picture) → Takes old new (shown_text (shown_picture number (frame_of c result)))
+text_taken number c picture result old new holds takes = subst (Takes old new) (text_is number c picture result holds) takes
 
-pub text_refused : (number : ℕ) (c : Coded) (result : FrameResult) (old new : Option (List ℕ)) (faults now : ℕ) (refusal : PutFault) → HoldsResult c.header c.picture c.decoded result
-    → Shows (text_of c) old new faults now (Err refusal) → Shows (shown_text (shown_picture number (frame_of c result))) old new faults now (Err refusal)
-text_refused number c result old new faults now refusal holds shows = subst (λ t. Shows t old new faults now (Err refusal)) (text_is number c result holds) shows
+pub text_refused : (number : ℕ) (c : Coded) (picture : Picture) (result : FrameResult) (old new : Option (List ℕ)) (faults now : ℕ) (refusal : PutFault) → HoldsResult c.header picture c.decoded result
+    → Shows (text_of c.header picture) old new faults now (Err refusal) → Shows (shown_text (shown_picture number (frame_of c result))) old new faults now (Err refusal)
+text_refused number c picture result old new faults now refusal holds shows = subst (λ t. Shows t old new faults now (Err refusal)) (text_is number c picture result holds) shows
 
-pub fits_header : (c : Coded) (result : FrameResult) → HoldsResult c.header c.picture c.decoded result → FitsHeader c.picture c.header
-fits_header c result holds = record { shape = holds.shape; sizes = holds.sizes; range = holds.range }
+pub fits_header : (c : Coded) (picture : Picture) (result : FrameResult) → HoldsResult c.header picture c.decoded result → FitsHeader picture c.header
+fits_header c picture result holds = record { shape = holds.shape; sizes = holds.sizes; range = holds.range }
+
+-- the picture that is shown is the one at the frame's place
+pub picture_is : (pictures : List Picture) (place : ℕ) (picture got : Picture) → slice_get pictures place ≡ Some picture → got ≡ get_or pictures place got → got ≡ picture
+picture_is pictures place picture got there is = is ∙ get_or_from_slice_get pictures place picture got there

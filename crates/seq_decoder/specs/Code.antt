@@ -1,5 +1,5 @@
 -- What the code keeps, what a frame and a payload add to a run, and what the calls answer.
-use Rattle.std.specs.Prelude.{◌≡◌, ℕ, ◌+◌, ◌≤◌, ◌<◌, List, [], ◌∷◌, ◌++◌, map, Option, Some, None, Result, Ok, Err, if◌then◌else◌}
+use Rattle.std.specs.Prelude.{◌≡◌, ℕ, ◌+◌, ◌≤◌, ◌<◌, List, [], ◌∷◌, ◌++◌, map, Option, Some, None, Result, Ok, Err, false, slice_get, if◌then◌else◌}
 use Rattle.edge_io.specs.Putting.{Takes}
 use Rattle.edge_io.specs.declared.sink.PutFault.{PutFault}
 use Rattle.edge_io.specs.declared.sink.PutFault.TheVariants as refused
@@ -7,11 +7,15 @@ use Rattle.vp9_types.specs.declared.job.Span.{Span}
 use Rattle.vp9_types.specs.declared.outcome.Fault.{Fault}
 use Rattle.vp9_types.specs.declared.outcome.Outcome.{Outcome}
 use Rattle.vp9_types.specs.declared.outcome.Outcome.TheVariants as outcome
+use Rattle.vp9_types.specs.Maps.{FrameMap}
 use Rattle.vp9_types.specs.declared.rule.Rule.{Rule}
+use Rattle.vp9_types.specs.declared.shape.Shape.{Shape}
 use Rattle.frame_headers.specs.declared.header.Header.{Header}
 use Rattle.frame_headers.specs.State.{shape_of}
 use Rattle.prob_contexts.specs.Lists.{ContextLists, lists_of}
 use Rattle.superframe_index.specs.Frames.{frames_of}
+use Rattle.picture_table.specs.Code.{held, names}
+use Rattle.picture_table.specs.declared.table.PictureTable.{PictureTable}
 use Rattle.planes.specs.Pictures.{HasSizes, IsInRange, map_of}
 use Rattle.planes.specs.declared.picture.Picture as planes
 use Rattle.frame_decoder.specs.Code.{HoldsResult}
@@ -39,10 +43,15 @@ saved_lists s = map lists_of s.places
 abbrev pub LiesWithin : ℕ → Span → Type 0
 LiesWithin bytes span = (span.from ≤ span.to) × (span.to ≤ bytes)
 
--- what the code holds of the state: what headers read, and the saved contexts
+abbrev pub shown_of : Option Picture → Option (Shape × FrameMap)
+shown_of None = None
+shown_of (Some picture) = Some (picture.shape, picture.map)
+
+-- what the code holds of the state: what headers read, the saved contexts, and what the slots hold
 pub record StandsFor (d : Decoder) (s : State) : Type 0 where
   pub persist : d.persist ≡ persist_of s
   pub contexts : saved_lists d.saved ≡ s.contexts
+  pub slots : held d.table ≡ map shown_of s.slots
 
 -- the number of the next frame, and the state before it
 pub record Place : Type 0 where
@@ -107,15 +116,22 @@ pub record FitsHeader (picture : planes.Picture) (header : Header) : Type 0 wher
   pub sizes : HasSizes (shape_of header) picture.planes
   pub range : IsInRange (shape_of header).depth picture.planes
 
--- the text of what a frame of the code shows
-abbrev pub text_of : Coded → List ℕ
-text_of c = if c.header.show_frame then frame_text (shape_of c.header) (map_of c.picture) else []
+-- the text of what a frame with this header and these samples shows
+abbrev pub text_of : Header → planes.Picture → List ℕ
+text_of header picture = if header.show_frame then frame_text (shape_of header) (map_of picture) else []
+
+-- the frame's samples stand at its place, which no slot names
+pub record IsAt (table : PictureTable) (c : Coded) (result : FrameResult) : Type 0 where
+  pub picture : planes.Picture
+  pub there : slice_get table.pictures.items c.place ≡ Some picture
+  pub free : names c.place table.slots ≡ false
+  pub holds : HoldsResult c.header picture c.decoded result
 
 -- the frame is that, or the fault is that one. Want of memory has no cause, and no sink is asked here
-abbrev pub IsCoded : Result CodedFrame Fault → Result Coded Halt → Type 0
-IsCoded f (Ok c) = (result : FrameResult) × (f ≡ Ok (frame_of c result)) × HoldsResult c.header c.picture c.decoded result
-IsCoded f (Err (halt.Fault fault)) = f ≡ Err fault
-IsCoded f (Err halt.OutOfMemory) = Unit {0}
+abbrev pub IsCoded : Result CodedFrame Fault → PictureTable → Result Coded Halt → Type 0
+IsCoded f table (Ok c) = (result : FrameResult) × (f ≡ Ok (frame_of c result)) × IsAt table c result
+IsCoded f table (Err (halt.Fault fault)) = f ≡ Err fault
+IsCoded f table (Err halt.OutOfMemory) = Unit {0}
 
 -- a front of the text was taken
 pub record TakesFront (old new : Option (List ℕ)) (text : List ℕ) : Type 0 where

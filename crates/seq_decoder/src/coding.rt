@@ -1,29 +1,28 @@
 //! One frame, from its bytes to its samples and contexts.
 
-ghost use Rattle.std.specs.Prelude.{◌≡◌, None, IfOk, length};
+ghost use Rattle.std.specs.Prelude.{◌≡◌, None, IfOk, OnOk, length};
 ghost use Rattle.frame_headers.specs.State.{SlotsHaveSizes};
 ghost use Rattle.frame_headers.specs.Sizes.{IsFrameSize};
 ghost use Rattle.frame_headers.specs.Tiles.{AreFewTiles};
 ghost use Rattle.frame_decoder.specs.Built.{first_unbuilt};
+ghost use Rattle.picture_table.specs.Code.{held, IsTable};
 ghost use Rattle.seq_decoder.specs.After.{built_head, coded_frame};
-ghost use Rattle.seq_decoder.specs.Code.{IsCoded};
-ghost use Rattle.seq_decoder.specs.Code.{LiesWithin};
+ghost use Rattle.seq_decoder.specs.Code.{saved_lists, IsCoded, LiesWithin};
 ghost use Rattle.seq_decoder.specs.SavedContexts.{saved_before};
-ghost use Rattle.seq_decoder.specs.Code.{saved_lists};
 
 use crate::saved::{SavedContexts, place_of};
 use frame_decoder::{Decoded, Halt, decode_frame, first_unbuilt};
 use frame_headers::{FrameHead, Header, Persist, read};
-use planes::Picture;
+use picture_table::PictureTable;
 use std::alloc::Global;
 use vp9_types::{Fault, Part, Span};
 
-/// A decoded frame: its header, what it leaves, and its samples.
+/// A decoded frame: its header, what it leaves, and the place of its samples in the table of pictures.
 #[derive(Drop)]
 pub struct Coded {
     pub header: Header,
     pub decoded: Decoded,
-    pub picture: Picture,
+    pub place: usize,
 }
 
 /// The header of a frame, if all that it asks for is built, and where its compressed header lies.
@@ -46,16 +45,20 @@ fn read_built(bytes: &[u8], persist: &Persist) -> Result<(Header, Span), Fault>
     }
 }
 
-/// Decodes a frame, for which the saved contexts are reset as it asks.
+/// Decodes a frame, for which the saved contexts are reset as it asks, into a picture that no slot holds.
 #[tactic(auto, unfolding(crate::specs::After::coded_frame))]
 pub fn decode_coded(
     alloc: Global,
     bytes: &[u8],
     persist: &Persist,
     saved: &mut SavedContexts,
+    table: &mut PictureTable,
 ) -> Result<Coded, Halt>
-    requires { SlotsHaveSizes persist.now }
-    ensures coded { IsCoded (coded_frame persist.now (saved_lists saved.old) bytes.now) result }
+    requires sizes { SlotsHaveSizes persist.now }
+    requires table { IsTable table.old }
+    ensures coded { IsCoded (coded_frame persist.now (saved_lists saved.old) bytes.now) table.new result }
+    ensures held { OnOk result (held table.new ≡ held table.old) }
+    ensures table { OnOk result (IsTable table.new) }
     ensures saved { IfOk result (λ c. saved_lists saved.new ≡ saved_before c.header (saved_lists saved.old)) }
     ensures size { IfOk result (λ c. IsFrameSize c.header.size) }
 {
@@ -65,11 +68,12 @@ pub fn decode_coded(
     };
     saved.reset(&header);
     let before = saved.at(place_of(&header));
-    let mut picture = Picture::new(alloc, header.shape())?;
-    let decoded = decode_frame(alloc, bytes, &header, compressed, &before, &mut picture)?;
+    let place = table.blank(alloc, header.shape())?;
+    let picture = &mut table.pictures[place];
+    let decoded = decode_frame(alloc, bytes, &header, compressed, &before, picture)?;
     Ok(Coded {
         header,
         decoded,
-        picture,
+        place,
     })
 }

@@ -2,6 +2,7 @@
 
 ghost use Rattle.std.specs.Prelude.{◌≡◌, ◌≤◌, ◌<◌, ◌+◌, ◌^◌, OnOk};
 ghost use Rattle.frame_headers.specs.State.{SlotsHaveSizes};
+ghost use Rattle.picture_table.specs.Code.{IsTable};
 ghost use Rattle.seq_decoder.specs.Code.{StandsFor, place_at, frame_entry, payload_entry, halt_outcome, refusal_outcome, Adds};
 ghost use Rattle.seq_decoder.specs.Outcomes.{outcome_at};
 ghost use Rattle.seq_decoder.specs.State.{State, start_state};
@@ -12,6 +13,7 @@ use crate::showing::show;
 use edge_io::{PutFault, Sink};
 use frame_decoder::Halt;
 use frame_headers::Persist;
+use picture_table::PictureTable;
 use std::alloc::Global;
 use superframe_index::split;
 use vp9_types::{Fault, Outcome, Stop};
@@ -22,6 +24,7 @@ pub struct Decoder {
     pub frame: u64,
     pub persist: Persist,
     pub saved: SavedContexts,
+    pub table: PictureTable,
 }
 
 /// How a decode ends at a frame that can't be decoded.
@@ -54,15 +57,17 @@ fn refusal_outcome(refusal: PutFault) -> Outcome
 
 impl Decoder {
     /// Before the first frame.
-    pub fn new() -> Decoder
+    pub fn new(alloc: Global) -> Decoder
         ensures first { result.frame ≡ 0 }
         ensures stands { StandsFor result start_state }
         ensures sized { SlotsHaveSizes result.persist }
+        ensures table { IsTable result.table }
     {
         Decoder {
             frame: 0,
             persist: Persist::START,
             saved: SavedContexts::new(),
+            table: PictureTable::new(alloc),
         }
     }
 
@@ -75,21 +80,26 @@ impl Decoder {
     ) -> Result<(), Outcome>
         requires low { self.old.frame < 2 ^ 63 + 8 }
         requires sized { SlotsHaveSizes self.old.persist }
+        requires table { IsTable self.old.table }
         requires sink { K.can_put sink.old }
         ensures adds { (state : State) → StandsFor self.old state → Adds (frame_entry (place_at self.old state) bytes.now) self.new
             (K.taken sink.old) (K.taken sink.new) (K.faults sink.old) (K.faults sink.new) result }
         ensures near { OnOk result (self.new.frame ≤ self.old.frame + 1) }
         ensures sized { OnOk result (SlotsHaveSizes self.new.persist) }
+        ensures table { OnOk result (IsTable self.new.table) }
         ensures again { OnOk result (K.can_put sink.new) }
     {
-        let coded = match decode_coded(alloc, bytes, &self.persist, &mut self.saved) {
+        let (persist, saved, table) = (&self.persist, &mut self.saved, &mut self.table);
+        let coded = match decode_coded(alloc, bytes, persist, saved, table) {
             Ok(coded) => coded,
             Err(halt) => return Err(halt_outcome(self.frame, halt)),
         };
-        if let Err(refusal) = show(alloc, &coded, sink) {
+        let picture = &self.table.pictures[coded.place];
+        if let Err(refusal) = show(alloc, &coded.header, picture, sink) {
             return Err(refusal_outcome(refusal));
         }
         self.saved.save(&coded.header, &coded.decoded.contexts);
+        self.table.refresh(coded.header.refresh, coded.place);
         self.persist = coded.header.next(&self.persist);
         self.frame += 1;
         Ok(())
@@ -104,11 +114,13 @@ impl Decoder {
     ) -> Result<(), Outcome>
         requires low { self.old.frame < 2 ^ 63 }
         requires sized { SlotsHaveSizes self.old.persist }
+        requires table { IsTable self.old.table }
         requires sink { K.can_put sink.old }
         ensures adds { (state : State) → StandsFor self.old state → Adds (payload_entry (place_at self.old state) payload.now) self.new
             (K.taken sink.old) (K.taken sink.new) (K.faults sink.old) (K.faults sink.new) result }
         ensures near { OnOk result (self.new.frame ≤ self.old.frame + 8) }
         ensures sized { OnOk result (SlotsHaveSizes self.new.persist) }
+        ensures table { OnOk result (IsTable self.new.table) }
         ensures again { OnOk result (K.can_put sink.new) }
     {
         let parts = match split(payload) {

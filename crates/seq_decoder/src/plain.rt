@@ -15,7 +15,7 @@ pub fn decode_plain<K: Sink>(alloc: Global, bytes: &[u8], sink: &mut K) -> Outco
     requires { K.can_put sink.old }
     ensures { Decodes (run_of bytes.now) (K.taken sink.old) (K.taken sink.new) (K.faults sink.old) (K.faults sink.new) result }
 {
-    let mut decoder = Decoder::new();
+    let mut decoder = Decoder::new(alloc);
     let mut at = match read_header(bytes) {
         Ok(at) => at,
         Err(rule) => return outcome_at(decoder.frame, Fault::Broken(rule)),

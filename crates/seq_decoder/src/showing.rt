@@ -4,30 +4,36 @@ ghost use Rattle.std.specs.Prelude.{OnOk};
 ghost use Rattle.frame_headers.specs.Sizes.{IsFrameSize};
 ghost use Rattle.seq_decoder.specs.Code.{FitsHeader, Shows, text_of};
 
-use crate::coding::Coded;
 use edge_io::{PutFault, Sink};
+use frame_headers::Header;
 use frame_output::render;
+use planes::Picture;
 use std::alloc::Global;
 
 /// The least size of the buffer that rows are put into the sink from.
 const LEAST_BUFFER: usize = 1 << 16;
 
 /// Puts the text of a frame into a sink, if the frame is shown.
-pub fn show<K: Sink>(alloc: Global, coded: &Coded, sink: &mut K) -> Result<(), PutFault>
-    requires size { IsFrameSize coded.now.header.size }
-    requires fits { FitsHeader coded.now.picture coded.now.header }
+pub fn show<K: Sink>(
+    alloc: Global,
+    header: &Header,
+    picture: &Picture,
+    sink: &mut K,
+) -> Result<(), PutFault>
+    requires size { IsFrameSize header.now.size }
+    requires fits { FitsHeader picture.now header.now }
     requires sink { K.can_put sink.old }
-    ensures shows { Shows (text_of coded.now) (K.taken sink.old) (K.taken sink.new) (K.faults sink.old) (K.faults sink.new) result }
+    ensures shows { Shows (text_of header.now picture.now) (K.taken sink.old) (K.taken sink.new) (K.faults sink.old) (K.faults sink.new) result }
     ensures again { OnOk result (K.can_put sink.new) }
 {
-    if !coded.header.show_frame {
+    if !header.show_frame {
         return Ok(());
     }
-    let shape = coded.header.shape();
+    let shape = header.shape();
     let size = LEAST_BUFFER.max(2 * shape.w as usize);
     let mut buffer = match Vec::from_elem(alloc, 0u8, size) {
         Ok(buffer) => buffer,
         Err(_) => return Err(PutFault::OutOfMemory),
     };
-    render(&shape, &coded.picture, &mut buffer, sink)
+    render(&shape, picture, &mut buffer, sink)
 }

@@ -1,6 +1,6 @@
 use Rattle.std.proofs.Common.{◌≡◌}
 use Rattle.std.proofs.lemmas.Result.{err_from_is_err_and}
-use Rattle.frame_decoder.proofs.FrameReads.{whole_read, whole_not_started}
+use Rattle.frame_decoder.proofs.TileReads.{whole_read, whole_not_started}
 use Rattle.frame_decoder.proofs.tiles.decode_tile.Goals as goal
 
 pub returns-in_err-reader-clause-gives : goal.returns-in_err-reader-clause-gives

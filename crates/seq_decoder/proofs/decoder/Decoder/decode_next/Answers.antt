@@ -9,10 +9,13 @@ use Rattle.seq_decoder.proofs.decoder.Decoder.decode_next.Goals as goal
 pub returns-in-Err-clause-adds : goal.returns-in-Err-clause-adds
 returns-in-Err-clause-adds g c =
     λ state stands. rw c.halt_outcome.ensures
-    (frame_halted (place_at c.args.self.now state) c.args.bytes.now c.in-Err.halt _ _ (coded_in c.args.self.now state c.args.bytes.now (Err c.in-Err.halt) stands c.in-Err.ensures.coded))
+    (frame_halted (place_at c.args.self.now state) c.args.bytes.now c.in-Err.halt _ _ _ (coded_in c.args.self.now state c.args.bytes.now c.decode_coded.new.table (Err c.in-Err.halt) stands c.in-Err.ensures.coded))
 
 pub show-requires-clause-fits : goal.show-requires-clause-fits
-show-requires-clause-fits g c = let coded = c.in-Ok.ensures.coded in fits_header c.in-Ok.coded coded.0 coded.2
+show-requires-clause-fits g c =
+    let coded = c.in-Ok.ensures.coded in
+    let same = picture_is _ _ coded.2.picture _ coded.2.there c.index-picture.is in
+    rw same (fits_header c.in-Ok.coded coded.2.picture coded.0 coded.2.holds)
 
 pub returns-in-Err-show-clause-adds : goal.returns-in-Err-show-clause-adds
 returns-in-Err-show-clause-adds g c =
