@@ -1,20 +1,11 @@
 -- What a sink took, piece by piece.
-use Rattle.std.proofs.Common.{◌≡◌, ℕ, ◌+◌, ◌≤◌, List, [], ◌++◌, length, take, Option, Some, refl, sym, ◌∙◌, ap, arith}
+use Rattle.std.proofs.Common.{◌≡◌, ℕ, ◌+◌, List, [], ◌++◌, length, take, Option, refl, sym, ◌∙◌, ap, arith}
 use Rattle.std.specs.Prelude.{Result, Ok, Err}
 use Rattle.std.proofs.lemmas.List.{append_assoc, append-nil, length-append, take-append-le}
 use Rattle.std.proofs.Math.Seq.{take-append-add}
 use Rattle.edge_io.specs.declared.sink.PutFault.{PutFault}
-use Rattle.edge_io.specs.Putting.{Takes, PutsAll}
-
--- after a refusal
-abbrev pub TakesFront : Option (List ℕ) → Option (List ℕ) → List ℕ → Type 0
-TakesFront old new piece = (n : ℕ) × (n ≤ length piece) × Takes old new (take n piece)
-
-pub takes_none : (old : Option (List ℕ)) → Takes old old []
-takes_none old = (λ bytes told. told ∙ ap Some (sym (append-nil bytes)), λ none. none)
-
-pub takes_both : (old mid new : Option (List ℕ)) (a b : List ℕ) → Takes old mid a → Takes mid new b → Takes old new (a ++ b)
-takes_both old mid new a b first next = (λ bytes told. next.0 (bytes ++ a) (first.0 bytes told) ∙ ap Some (append_assoc bytes a b), λ none. next.1 (first.1 none))
+use Rattle.edge_io.specs.Putting.{Takes, TakesFront, PutsAll}
+use Rattle.edge_io.proofs.Fronts.{takes_none, takes_both}
 
 -- a part was taken, and of the next one a front
 pub front_of : (old mid new : Option (List ℕ)) (whole a b c : List ℕ) → whole ≡ a ++ b ++ c → Takes old mid a → TakesFront mid new b → TakesFront old new whole
