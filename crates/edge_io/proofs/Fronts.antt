@@ -1,7 +1,7 @@
 -- What several calls of a source gave, and what several calls of a sink took.
 use Rattle.std.proofs.Common.{◌≡◌, ℕ, ◌+◌, ◌-◌, ◌<◌, ◌≤◌, List, [], ◌++◌, length, take, drop, Option, Some, Err, sym, ◌∙◌, ap, arith}
-use Rattle.std.proofs.lemmas.List.{append_assoc, append-nil, take-append-drop, take_rest, length-drop}
-use Rattle.std.proofs.Math.Seq.{take-add}
+use Rattle.std.proofs.lemmas.List.{append_assoc, append-nil, take-append-drop, take_rest, length-drop, length-append, take-append-le}
+use Rattle.std.proofs.Math.Seq.{take-add, take-append-add}
 use Rattle.edge_io.specs.Filling.{Moves, WhereTold, IsKept}
 use Rattle.edge_io.specs.Reading.{Gave, GaveAll}
 use Rattle.edge_io.specs.Putting.{Takes, TakesFront, Puts}
@@ -30,6 +30,17 @@ pub refused_front : (old mid new : Option (List ℕ)) (piece : List ℕ) (at : �
     → Puts mid new (take (length piece - at) (drop at piece)) (Err refusal) → TakesFront old new piece
 refused_front old mid new piece at refused.Failed within first next = front_more old mid new piece at within first next
 refused_front old mid new piece at refused.OutOfMemory within first kept = (at, within, λ bytes told. kept (bytes ++ take at piece) (first bytes told))
+
+-- a part was taken, and of the next one a front
+pub front_of : (old mid new : Option (List ℕ)) (whole a b c : List ℕ) → whole ≡ a ++ b ++ c → Takes old mid a → TakesFront mid new b → TakesFront old new whole
+front_of old mid new whole a b c is first next =
+    let n = next.0 in
+    let low = next.1 in
+    let front : take (length a + n) whole ≡ a ++ take n b =
+    ap (take (length a + n)) (is ∙ append_assoc a b c) ∙ take-append-add a (b ++ c) n ∙ ap (λ l. a ++ l) (take-append-le n b c low) in
+    let long : length whole ≡ length a + length b + length c =
+    ap length is ∙ length-append (a ++ b) c ∙ ap (λ k. k + length c) (length-append a b) in
+    (length a + n, omega (arith, long, low), rw front (takes_both old mid new a (take n b) first next.2))
 
 pub gave_more : (old mid new : Option (List ℕ)) (all buf : List ℕ) (n : ℕ) → Gave old mid all → WhereTold mid (λ bytes. Moves n buf bytes new) → Gave old new (all ++ take n buf)
 gave_more old mid new all buf n gave moved =

@@ -12,8 +12,7 @@ use Rattle.vp9_types.specs.declared.shape.Depth.{Depth}
 use Rattle.vp9_types.specs.declared.shape.Depth.TheVariants.{Eight, Ten, Twelve}
 use Rattle.vp9_types.specs.Maps.{Map, row_of}
 use Rattle.frame_output.specs.Texts.{two_bytes, sample_text, sample_size, row_text, rows_text}
-use Rattle.edge_io.proofs.Fronts.{takes_none, takes_both}
-use Rattle.frame_output.proofs.Fronts.{front_of}
+use Rattle.edge_io.proofs.Fronts.{takes_none, takes_both, front_of}
 
 -- ---- one row
 
