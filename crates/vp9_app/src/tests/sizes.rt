@@ -20,41 +20,6 @@ const GREY_65536_BY_1: &[u8] = b"\x83I\x83B\x0f\xff\xf0\0\0\0\0\0\0\x02\0\0\0\0\
 \x01\0\0\0\0\x01\0\0\0\0\x01\0\0\0\0\x01\0\0\0\0\x01\0\0\0\0\x01\0\0\0\0\x01\0\0\0\0\x01\0\0\0\0\
 \x01\0\0\0\0\x01\0\0\0\0\x01\0\0";
 
-// So often a frame, and so many bytes written.
-struct Case {
-    name: &'static str,
-    frame: &'static [u8],
-    count: u32,
-    bytes: usize,
-}
-
-const CASES: [Case; 4] = [
-    Case {
-        name: "352x288",
-        frame: GREY_352_BY_288,
-        count: 3,
-        bytes: 456_192,
-    },
-    Case {
-        name: "130x132",
-        frame: GREY_130_BY_132,
-        count: 2,
-        bytes: 51_480,
-    },
-    Case {
-        name: "1x65536",
-        frame: GREY_1_BY_65536,
-        count: 2,
-        bytes: 262_144,
-    },
-    Case {
-        name: "10,000 packets",
-        frame: GREY_1_BY_1,
-        count: 10_000,
-        bytes: 30_000,
-    },
-];
-
 // A packet for each frame.
 fn file_of(alloc: Global, frame: &[u8], count: u32) -> Result<Vec<u8>, AllocError> {
     let mut file = Vec::new(alloc);
@@ -79,16 +44,43 @@ fn run_frames<R: Threads + Wait + Sync>(
     run_words(rt, alloc, &[word], &file, &NONE)
 }
 
+// Whether so many of such frames are decoded, to so many grey samples.
+fn decodes_to_grey<R: Threads + Wait + Sync>(
+    rt: &R,
+    alloc: Global,
+    frame: &[u8],
+    count: u32,
+    samples: usize,
+) -> Result<bool, AllocError> {
+    let ran = run_frames(rt, alloc, "decode", frame, count)?;
+    let bytes = ran.out.bytes();
+    Ok(ran.status != Status::OutOfMemory
+        && ran.status == Status::Done
+        && bytes.len() == samples
+        && bytes.iter().all(|byte| *byte == 0x80))
+}
+
 #[test]
-fn frames_of_real_sizes_are_decoded(rt: HostRuntime) -> Result<(), Fail> {
-    for case in CASES {
-        let name = case.name;
-        let ran = run_frames(&rt, rt.alloc(), "decode", case.frame, case.count)?;
-        assert!(rt; ran.status != Status::OutOfMemory, "{name}");
-        assert_eq!(rt; ran.status, Status::Done, "{name}");
-        assert_eq!(rt; ran.out.bytes().len(), case.bytes, "{name}");
-        assert!(rt; ran.out.bytes().iter().all(|byte| *byte == 0x80), "{name}");
-    }
+fn frames_of_352x288_are_decoded(rt: HostRuntime) -> Result<(), Fail> {
+    assert!(rt; decodes_to_grey(&rt, rt.alloc(), GREY_352_BY_288, 3, 456_192)?);
+    Ok(())
+}
+
+#[test]
+fn frames_of_130x132_are_decoded(rt: HostRuntime) -> Result<(), Fail> {
+    assert!(rt; decodes_to_grey(&rt, rt.alloc(), GREY_130_BY_132, 2, 51_480)?);
+    Ok(())
+}
+
+#[test]
+fn a_column_of_65536_is_decoded(rt: HostRuntime) -> Result<(), Fail> {
+    assert!(rt; decodes_to_grey(&rt, rt.alloc(), GREY_1_BY_65536, 2, 262_144)?);
+    Ok(())
+}
+
+#[test]
+fn ten_thousand_packets_are_decoded(rt: HostRuntime) -> Result<(), Fail> {
+    assert!(rt; decodes_to_grey(&rt, rt.alloc(), GREY_1_BY_1, 10_000, 30_000)?);
     Ok(())
 }
 
