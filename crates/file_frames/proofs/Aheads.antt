@@ -1,13 +1,13 @@
 -- What a cursor has ahead of it, by what it finds at its place.
-use Rattle.std.proofs.Common.{◌≡◌, ℕ, ◌+◌, ◌<◌, ◌≤◌, List, [], ◌∷◌, ◌++◌, length, get_or, map, drop, ap, sym, refl, ◌∙◌}
-use Rattle.std.specs.Prelude.{Option, Some, None, Result, Ok, Err}
+use Rattle.std.proofs.Common.{◌≡◌, ℕ, ◌+◌, ◌<◌, ◌≤◌, List, [], ◌∷◌, length, get_or, map, drop, ap, sym, ◌∙◌}
+use Rattle.std.specs.Prelude.{Option, Some, None, Ok, Err}
 use Rattle.std.proofs.lemmas.List.{drop_more, drop_all}
 use Rattle.vp9_types.specs.declared.job.Span.{Span}
 use Rattle.vp9_types.specs.declared.rule.Rule.{Rule}
-use Rattle.ivf_container.specs.Packets.{Packets, no_packets, with_payload, packets_of, packets_from}
+use Rattle.ivf_container.specs.Packets.{Packets, with_payload, packets_of, packets_from}
 use Rattle.superframe_index.specs.Frames.{at_spans, frames_of}
 use Rattle.file_frames.specs.FileFrames.{joined, split_packets, frames_of_file}
-use Rattle.file_frames.specs.Code.{Ahead, ahead_from, all_ahead, packets_left, span_bytes, ahead_at}
+use Rattle.file_frames.specs.Code.{ahead_from, all_ahead, packets_left, span_bytes, ahead_at}
 
 -- before the first frame
 pub all_is_ahead : (bytes : List ℕ) (at : ℕ) (broken : Option Rule) (payload : List ℕ) (spans : List Span) → spans ≡ [] → packets_of bytes ≡ packets_left bytes at broken

@@ -1,10 +1,9 @@
 -- The frames of a file as a relation, and as they are computed.
-use Rattle.std.proofs.Common.{◌≡◌, ℕ, List, [], ◌∷◌, ap, sym, subst, refl, ◌∙◌, inl, inr}
-use Rattle.std.specs.Prelude.{Option, Some, Result, Ok, Err}
+use Rattle.std.proofs.Common.{◌≡◌, ℕ, List, [], ◌∷◌, ap, refl, ◌∙◌, inl, inr}
+use Rattle.std.specs.Prelude.{Option, Result, Ok, Err}
 use Rattle.vp9_types.specs.declared.rule.Rule.{Rule}
-use Rattle.ivf_container.specs.Packets.{Packets, IsFile, packets_of}
 use Rattle.superframe_index.specs.Frames.{IsSplit, at_spans, frames_of}
-use Rattle.file_frames.specs.FileFrames.{FileFrames, no_frames, with_frames, AreSplit, HasFrames, joined, split_all, split_packets, frames_of_file}
+use Rattle.file_frames.specs.FileFrames.{FileFrames, with_frames, AreSplit, joined, split_all}
 
 abbrev Split : Type 0
 Split = Result (List (List ℕ)) Rule

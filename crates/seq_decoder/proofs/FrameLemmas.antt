@@ -1,7 +1,7 @@
 -- What a frame adds.
-use Rattle.std.proofs.Common.{◌≡◌, ℕ, List, [], ap, sym, subst, refl, ◌∙◌, arith}
+use Rattle.std.proofs.Common.{◌≡◌, ℕ, List, ap, sym, subst, refl, ◌∙◌, arith}
 use Rattle.std.specs.Prelude.{Option, Result, Ok, Err}
-use Rattle.edge_io.specs.Putting.{Takes, TakesFront}
+use Rattle.edge_io.specs.Putting.{TakesFront}
 use Rattle.edge_io.specs.declared.sink.PutFault.{PutFault}
 use Rattle.edge_io.specs.declared.sink.PutFault.TheVariants as refused
 use Rattle.edge_io.proofs.Fronts.{takes_none}
@@ -15,7 +15,7 @@ use Rattle.frame_decoder.specs.declared.halt.Halt.{Halt}
 use Rattle.frame_decoder.specs.declared.halt.Halt.TheVariants as halt
 use Rattle.seq_decoder.specs.After.{CodedFrame, coded_frame, Stepped, after, step, shown_picture, state_after}
 use Rattle.seq_decoder.specs.SavedContexts.{saved_before, with_own, saved_after}
-use Rattle.seq_decoder.specs.Code.{saved_lists, StandsFor, shown_text, step_text, frame_of, IsCoded, Shows, Faults, Halts, halt_outcome, refusal_outcome}
+use Rattle.seq_decoder.specs.Code.{saved_lists, StandsFor, shown_text, step_text, frame_of, IsCoded, Shows, Halts, halt_outcome, refusal_outcome}
 use Rattle.seq_decoder.specs.Outcomes.{outcome_at}
 use Rattle.seq_decoder.specs.State.{State, persist_of}
 use Rattle.seq_decoder.specs.declared.coding.Coded.{Coded}

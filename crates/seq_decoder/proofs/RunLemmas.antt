@@ -1,5 +1,5 @@
 -- The run so far, and how a decode ends.
-use Rattle.std.proofs.Common.{◌≡◌, ℕ, ◌+◌, ◌<◌, List, [], ◌∷◌, ◌++◌, length, take, ap, sym, subst, refl, ◌∙◌, append_assoc}
+use Rattle.std.proofs.Common.{◌≡◌, ℕ, ◌+◌, ◌<◌, List, [], ◌∷◌, ◌++◌, ap, sym, subst, refl, ◌∙◌}
 use Rattle.std.specs.Prelude.{Option, Some, None, Result, Ok, Err}
 use Rattle.std.specs.List.{flat_map}
 use Rattle.std.proofs.lemmas.List.{append-nil}
@@ -13,12 +13,12 @@ use Rattle.vp9_types.specs.declared.outcome.Outcome.TheVariants as outcome
 use Rattle.vp9_types.specs.declared.outcome.Stop.{Stop}
 use Rattle.file_frames.specs.Code.{Ahead, all_ahead, walk_ahead, IsOnWay}
 use Rattle.file_frames.specs.FileFrames.{frames_of_file}
-use Rattle.file_frames.specs.Walks.{Added, walk}
+use Rattle.file_frames.specs.Walks.{walk}
 use Rattle.file_frames.proofs.Walks.{sets_out, goes_by, ends_at, arrives, breaks}
 use Rattle.seq_decoder.specs.After.{Stepped, step}
 use Rattle.seq_decoder.specs.Code.{shown_text, step_text, Faults, Halts}
 use Rattle.seq_decoder.specs.Outcomes.{Completes, WritesFront, Decodes}
-use Rattle.seq_decoder.specs.Runs.{Run, shown_list, added, decoding, run_of, picture_text, out_text}
+use Rattle.seq_decoder.specs.Runs.{shown_list, added, decoding, run_of, picture_text, out_text}
 use Rattle.seq_decoder.specs.State.{Picture, State, start_state}
 
 -- These frames were shown and written, and this state and these frames are left.

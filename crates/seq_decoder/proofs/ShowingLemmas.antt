@@ -3,7 +3,7 @@ use Rattle.std.proofs.Common.{◌≡◌, ℕ, ◌+◌, ◌-◌, ◌*◌, ◌/◌
 use Rattle.std.specs.Prelude.{Option, Some, None, Result, Ok, Err, if◌then◌else◌}
 use Rattle.edge_io.specs.declared.sink.PutFault.{PutFault}
 use Rattle.edge_io.specs.declared.sink.PutFault.TheVariants as refused
-use Rattle.edge_io.specs.Putting.{Takes, TakesFront, PutsAll, CountsPutFaults}
+use Rattle.edge_io.specs.Putting.{Takes, PutsAll, CountsPutFaults}
 use Rattle.vp9_types.specs.declared.shape.Depth.{Depth}
 use Rattle.vp9_types.specs.declared.shape.Depth.TheVariants.{Eight}
 use Rattle.vp9_types.specs.declared.shape.Plane.{Plane}

@@ -1,6 +1,6 @@
 -- The listing so far, and what the next frame adds.
-use Rattle.std.proofs.Common.{◌≡◌, ℕ, ◌+◌, List, [], ◌∷◌, ◌++◌, ap, sym, subst, ◌∙◌}
-use Rattle.std.specs.Prelude.{Option, Some, None, Result, Ok, Err}
+use Rattle.std.proofs.Common.{◌≡◌, ℕ, ◌+◌, List, [], ◌∷◌, ap, sym, subst, ◌∙◌}
+use Rattle.std.specs.Prelude.{Some, None, Ok, Err}
 use Rattle.vp9_types.specs.declared.outcome.Stop.{Stop}
 use Rattle.vp9_types.specs.declared.rule.Rule.{Rule}
 use Rattle.file_frames.specs.Code.{Ahead, all_ahead, IsOnWay}

@@ -86,19 +86,28 @@ fn row_named(tables: &[&'static [Row]], name: &str) -> Option<&'static Row> {
 
 #[test]
 fn listings_end_as_they_are_to(rt: HostRuntime) -> Result<(), Fail> {
-    assert_eq!(rt; first_other(&rt, rt.alloc(), list::TABLES.as_slice())?, None);
+    assert_eq!(rt;
+        first_other(&rt, rt.alloc(), list::TABLES.as_slice())?,
+        None
+    );
     Ok(())
 }
 
 #[test]
 fn decodes_end_as_they_are_to(rt: HostRuntime) -> Result<(), Fail> {
-    assert_eq!(rt; first_other(&rt, rt.alloc(), lossless_decode::TABLES.as_slice())?, None);
+    assert_eq!(rt;
+        first_other(&rt, rt.alloc(), lossless_decode::TABLES.as_slice())?,
+        None
+    );
     Ok(())
 }
 
 #[test]
 fn levels_that_do_not_fit_end_a_decode(rt: HostRuntime) -> Result<(), Fail> {
-    assert_eq!(rt; first_other(&rt, rt.alloc(), overflow_frames::TABLES.as_slice())?, None);
+    assert_eq!(rt;
+        first_other(&rt, rt.alloc(), overflow_frames::TABLES.as_slice())?,
+        None
+    );
     Ok(())
 }
 

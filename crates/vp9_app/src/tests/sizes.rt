@@ -16,7 +16,8 @@ const GREY_130_BY_132: &[u8] = b"\x83I\x83B\0\x08\x10\x080\0\0\0\0\x04\0\0";
 
 const GREY_1_BY_65536: &[u8] = b"\x83I\x83B\0\0\x0f\xff\xf0\0\0\0\0\x04\0\0";
 
-const GREY_65536_BY_1: &[u8] = b"\x83I\x83B\x0f\xff\xf0\0\0\0\0\0\0\x02\0\0\0\0\x01\0\0\0\0\x01\0\0\0\0\x01\0\0\0\0\x01\0\0\0\0\
+const GREY_65536_BY_1: &[u8] =
+    b"\x83I\x83B\x0f\xff\xf0\0\0\0\0\0\0\x02\0\0\0\0\x01\0\0\0\0\x01\0\0\0\0\x01\0\0\0\0\x01\0\0\0\0\
 \x01\0\0\0\0\x01\0\0\0\0\x01\0\0\0\0\x01\0\0\0\0\x01\0\0\0\0\x01\0\0\0\0\x01\0\0\0\0\x01\0\0\0\0\
 \x01\0\0\0\0\x01\0\0\0\0\x01\0\0";
 
@@ -54,10 +55,12 @@ fn decodes_to_grey<R: Threads + Wait + Sync>(
 ) -> Result<bool, AllocError> {
     let ran = run_frames(rt, alloc, "decode", frame, count)?;
     let bytes = ran.out.bytes();
-    Ok(ran.status != Status::OutOfMemory
-        && ran.status == Status::Done
-        && bytes.len() == samples
-        && bytes.iter().all(|byte| *byte == 0x80))
+    Ok(
+        ran.status != Status::OutOfMemory
+            && ran.status == Status::Done
+            && bytes.len() == samples
+            && bytes.iter().all(|byte| *byte == 0x80),
+    )
 }
 
 #[test]
@@ -114,7 +117,8 @@ fn many_frames_are_listed(rt: HostRuntime) -> Result<(), Fail> {
 fn a_row_of_65536_is_listed(rt: HostRuntime) -> Result<(), Fail> {
     let ran = run_frames(&rt, rt.alloc(), "list", GREY_65536_BY_1, 1)?;
     assert!(rt; ran.status != Status::OutOfMemory);
-    let line = b"frame 0: key 65536x1 profile 0 depth 8 ss 11 show 1 refresh ff q 0 level 0 tiles 16x1 size 91\n";
+    let line =
+        b"frame 0: key 65536x1 profile 0 depth 8 ss 11 show 1 refresh ff q 0 level 0 tiles 16x1 size 91\n";
     assert_eq!(rt; ran.out.bytes(), line.as_slice());
     Ok(())
 }

@@ -1,4 +1,4 @@
-use Rattle.std.proofs.Common.{ap, sym, ◌∙◌}
+use Rattle.std.proofs.Common.{ap, ◌∙◌}
 use Rattle.ivf_container.specs.Packets.{packets_of}
 use Rattle.file_frames.specs.FileFrames.{split_packets, frames_of_file}
 use Rattle.file_frames.proofs.Splits.{are_split, only_split}

@@ -1,4 +1,4 @@
-use Rattle.std.proofs.Common.{◌≡◌, ◌≢◌, ◌≤◌, ◌<◌, ℕ, arith, ap, refl, sym, subst, length, List, [], ◌∙◌, Some, None}
+use Rattle.std.proofs.Common.{◌≡◌, ◌≢◌, ◌≤◌, ◌<◌, ℕ, arith, ap, refl, sym, subst, length, [], ◌∙◌, Some, None}
 use Rattle.std.specs.Prelude.{Ok}
 use Rattle.file_frames.specs.Code.{ahead, HasMoved}
 use Rattle.file_frames.proofs.Aheads.{in_hand}
