@@ -44,8 +44,7 @@ def main():
         folder = pathlib.Path(sys.argv[1])
     files = sorted(folder.glob("*.ivf"))
     if not files:
-        print(f"no streams in {folder}: nothing was checked")
-        return
+        sys.exit(f"no streams in {folder}: nothing was checked")
     for file in files:
         data = file.read_bytes()
         packets = list(payloads(data))

@@ -1,4 +1,4 @@
-ghost use Rattle.std.specs.Prelude.{◌≡◌, ◌≤◌, ◌<◌, ◌+◌, ◌^◌, ◌++◌, ◌↔◌, ℕ, [], length, min, Contains, Some, IsErr, IsErrOf, IfOk, OnOk};
+ghost use Rattle.std.specs.Prelude.{◌≡◌, ◌≤◌, ◌<◌, ◌+◌, ◌^◌, ◌++◌, ◌↔◌, ℕ, [], length, min, Contains, Some, IsErr, IsErrOf, IfOk};
 ghost use Rattle.edge_io.specs.Filling.{Fills, CountsGiven, CountsFaults};
 ghost use Rattle.edge_io.specs.declared.sink.PutFault.TheVariants as refused;
 
@@ -58,7 +58,7 @@ impl Source for MemSource {
         ensures given { CountsGiven (source_given self.old) (source_given self.new) result }
         ensures most { source_given self.new < 2 ^ 63 }
         ensures faults { CountsFaults (source_faults self.old) (source_faults self.new) result }
-        ensures again { OnOk result (Unit {0}) }
+        ensures again { source_faults self.new ≡ source_faults self.old → Unit {0} }
 
         // The chosen calls fail, and no other does.
         ensures chosen { IsErr result ↔ Contains (source_fails self.old) (source_calls self.old + 1) }
@@ -117,12 +117,13 @@ impl Sink for MemSink {
         ensures bytes { Puts (Some (sink_bytes self.old)) (Some (sink_bytes self.new)) piece.now result }
         ensures faults { CountsPutFaults true (sink_faults self.old) (sink_faults self.new) result }
         ensures grows { true ≡ true }
-        ensures again { OnOk result (Unit {0}) }
+        ensures again { sink_faults self.new ≡ sink_faults self.old → Unit {0} }
 
         // The chosen calls fail, and no other does.
         ensures chosen { IsErrOf result refused.Failed ↔ Contains (sink_fails self.old) (sink_calls self.old + 1) }
         ensures calls { sink_calls self.new ≡ min (sink_calls self.old + 1) u64.MAX }
         ensures fails { sink_fails self.new ≡ sink_fails self.old }
+        ensures none_taken { IsErr result → sink_bytes self.new ≡ sink_bytes self.old }
         ensures whole { IfOk result (λ n. n ≡ length piece.now) }
     {
         if self.calls.next_fails() {

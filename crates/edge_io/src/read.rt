@@ -1,4 +1,4 @@
-ghost use Rattle.std.specs.Prelude.{◌≡◌, OnOk};
+ghost use Rattle.std.specs.Prelude.{◌≡◌};
 ghost use Rattle.edge_io.specs.declared.read.ReadError.TheVariants as refused;
 ghost use Rattle.edge_io.specs.Reading.{ReadsAll, CountsReadFaults};
 
@@ -31,7 +31,7 @@ pub fn read_all<S: Source>(alloc: Global, source: &mut S) -> Result<Vec<u8>, Rea
     requires { S.can_fill source.old }
     ensures bytes { ReadsAll (S.rest source.old) (S.rest source.new) result }
     ensures faults { CountsReadFaults (S.faults source.old) (S.faults source.new) result }
-    ensures again { OnOk result (S.can_fill source.new) }
+    ensures again { S.faults source.new ≡ S.faults source.old → S.can_fill source.new }
 {
     let mut all = Vec::new(alloc);
     let mut room = vec![in alloc; 0; PIECE]?;

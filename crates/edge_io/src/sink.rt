@@ -1,4 +1,4 @@
-ghost use Rattle.std.specs.Prelude.{◌≡◌, ℕ, Bool, List, Option, OnOk};
+ghost use Rattle.std.specs.Prelude.{◌≡◌, ℕ, Bool, List, Option};
 ghost use Rattle.edge_io.specs.declared.sink.PutFault.TheVariants as refused;
 
 use std::alloc::AllocError;
@@ -39,11 +39,12 @@ pub trait Sink {
     /// Its count of faults isn't at its last value, so it may be asked.
     ghost can_put: { Self → Type 0 };
 
-    /// Takes bytes from the front of the piece, at least one of them if there is one, and says how many they are.
+    /// Takes bytes from the front of the piece, at least one of them if there is one, and says how many they are. Where
+    /// it failed it may have taken some of them all the same; where it had no memory it took none.
     fn put(&mut self, piece: &[u8]) -> Result<usize, PutFault>
         requires { can_put self.old }
         ensures bytes { Puts (taken self.old) (taken self.new) piece.now result }
         ensures faults { CountsPutFaults (grows self.old) (faults self.old) (faults self.new) result }
         ensures grows { grows self.new ≡ grows self.old }
-        ensures again { OnOk result (can_put self.new) };
+        ensures again { faults self.new ≡ faults self.old → can_put self.new };
 }

@@ -1,4 +1,4 @@
-ghost use Rattle.std.specs.Prelude.{◌<◌, ◌^◌, ℕ, List, Option, OnOk};
+ghost use Rattle.std.specs.Prelude.{◌≡◌, ◌<◌, ◌^◌, ℕ, List, Option};
 ghost use Rattle.edge_io.specs.Filling.{Fills, CountsGiven, CountsFaults};
 
 use thiserror::Error;
@@ -30,5 +30,5 @@ pub trait Source {
         ensures given { CountsGiven (given self.old) (given self.new) result }
         ensures most { given self.new < 2 ^ 63 }
         ensures faults { CountsFaults (faults self.old) (faults self.new) result }
-        ensures again { OnOk result (can_fill self.new) };
+        ensures again { faults self.new ≡ faults self.old → can_fill self.new };
 }

@@ -1,5 +1,6 @@
-ghost use Rattle.std.specs.Prelude.{◌≡◌, ◌≤◌, ◌<◌, ◌^◌, None, false, length, IfSome, IsErr, OnOk};
-ghost use Rattle.edge_io.specs.Filling.{Fills, CountsGiven, CountsFaults};
+ghost use Rattle.std.specs.Prelude.{◌≡◌, ◌≤◌, ◌<◌, ◌^◌, false, length, IsErr};
+ghost use Rattle.edge_io.specs.Filling.{Fills, IsKept, CountsGiven, CountsFaults};
+ghost use Rattle.edge_io.specs.Putting.{WritesSome};
 
 use crate::sink::{PutFault, Sink};
 use crate::source::{Failed, Source};
@@ -9,7 +10,7 @@ use std::io::{ErrorKind, Read, Write};
 // A source that never ends is read so far.
 const MOST: usize = 1 << 40;
 
-/// The bytes of a reader, up to 2^40 of them. It tells nothing of them, and fails once at most.
+/// The bytes of a reader, up to 2^40 of them. It tells what the reader tells of them, and fails once at most.
 #[derive(Drop)]
 pub struct StdSource<R> {
     reader: R,
@@ -18,7 +19,7 @@ pub struct StdSource<R> {
     ghost bounded: { given ≤ 2 ^ 40 },
 }
 
-/// A writer. It tells nothing of what it took, and fails once at most.
+/// A writer, flushed after each write. It tells what the writer tells of what it took, and fails once at most.
 #[derive(Drop)]
 pub struct StdSink<W> {
     writer: W,
@@ -72,25 +73,25 @@ impl<W> StdSink<W> {
 }
 
 // One read, tried again where a signal interrupted it.
-fn read_some<R: Read>(reader: &mut R, buf: &mut [u8]) -> Option<usize>
-    ensures { IfSome result (λ n. n ≤ length buf.new) }
+fn read_some<R: Read>(reader: &mut R, buf: &mut [u8]) -> Result<usize, Failed>
+    ensures { Fills (R.remaining reader.old) (R.remaining reader.new) buf.new result }
 {
     for _ in 0..u64::MAX {
         match reader.read(buf) {
-            Ok(n) => return Some(n),
+            Ok(n) => return Ok(n),
             Err(error) => {
                 if error.kind() != ErrorKind::Interrupted {
-                    return None;
+                    return Err(Failed);
                 }
             }
         }
     }
-    None
+    Err(Failed)
 }
 
 // One write, tried again where a signal interrupted it. A writer that takes nothing has failed.
 fn write_some<W: Write>(writer: &mut W, piece: &[u8]) -> Option<usize>
-    ensures { IfSome result (λ n. (n ≤ length piece.now) × (0 < n)) }
+    ensures { WritesSome (W.contents writer.old) (W.contents writer.new) piece.now result }
 {
     for _ in 0..u64::MAX {
         match writer.write(piece) {
@@ -106,7 +107,9 @@ fn write_some<W: Write>(writer: &mut W, piece: &[u8]) -> Option<usize>
 }
 
 // Hands on what a writer holds back, so that a fault counts in the call that met it.
-fn flushed<W: Write>(writer: &mut W) -> bool {
+fn flushed<W: Write>(writer: &mut W) -> bool
+    ensures { IsKept (W.contents writer.old) (W.contents writer.new) }
+{
     for _ in 0..u64::MAX {
         match writer.flush() {
             Ok(()) => return true,
@@ -121,9 +124,9 @@ fn flushed<W: Write>(writer: &mut W) -> bool {
 }
 
 impl<R: Read> Source for StdSource<R> {
-    ghost use Rattle.edge_io.specs.System.{reader_failed, reader_given, reader_faults};
+    ghost use Rattle.edge_io.specs.System.{reader_of, reader_failed, reader_given, reader_faults};
 
-    ghost rest = { λ _. None };
+    ghost rest = { λ source. R.remaining (reader_of source) };
 
     ghost given = { λ source. reader_given source };
 
@@ -133,11 +136,11 @@ impl<R: Read> Source for StdSource<R> {
 
     fn fill(&mut self, buf: &mut [u8]) -> Result<usize, Failed>
         requires { reader_failed self.old ≡ false }
-        ensures bytes { Fills None None buf.new result }
+        ensures bytes { Fills (R.remaining (reader_of self.old)) (R.remaining (reader_of self.new)) buf.new result }
         ensures given { CountsGiven (reader_given self.old) (reader_given self.new) result }
         ensures most { reader_given self.new ≤ 2 ^ 40 }
         ensures faults { CountsFaults (reader_faults self.old) (reader_faults self.new) result }
-        ensures again { OnOk result (reader_failed self.new ≡ false) }
+        ensures again { reader_faults self.new ≡ reader_faults self.old → reader_failed self.new ≡ false }
 
         // Where it has given so many bytes, the next of them is a fault.
         ensures last { reader_given self.old ≡ 2 ^ 40 → 0 < length buf.old → IsErr result }
@@ -147,7 +150,7 @@ impl<R: Read> Source for StdSource<R> {
         }
         let room = buf.len().min(MOST - self.given);
         if room > 0
-            && let Some(n) = read_some(&mut self.reader, &mut buf[..room])
+            && let Ok(n) = read_some(&mut self.reader, &mut buf[..room])
         {
             self.given += n;
             return Ok(n);
@@ -158,9 +161,9 @@ impl<R: Read> Source for StdSource<R> {
 }
 
 impl<W: Write> Sink for StdSink<W> {
-    ghost use Rattle.edge_io.specs.System.{writer_failed, writer_faults};
+    ghost use Rattle.edge_io.specs.System.{writer_of, writer_failed, writer_faults};
 
-    ghost taken = { λ _. None };
+    ghost taken = { λ sink. W.contents (writer_of sink) };
 
     ghost faults = { λ sink. writer_faults sink };
 

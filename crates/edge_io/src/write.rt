@@ -1,4 +1,4 @@
-ghost use Rattle.std.specs.Prelude.{◌≡◌, OnOk};
+ghost use Rattle.std.specs.Prelude.{◌≡◌};
 ghost use Rattle.edge_io.specs.Putting.{PutsAll, CountsPutFaults};
 
 use crate::sink::{PutFault, Sink};
@@ -9,7 +9,7 @@ pub fn put_all<K: Sink>(sink: &mut K, piece: &[u8]) -> Result<(), PutFault>
     ensures bytes { PutsAll (K.taken sink.old) (K.taken sink.new) piece.now result }
     ensures faults { CountsPutFaults (K.grows sink.old) (K.faults sink.old) (K.faults sink.new) result }
     ensures grows { K.grows sink.new ≡ K.grows sink.old }
-    ensures again { OnOk result (K.can_put sink.new) }
+    ensures again { K.faults sink.new ≡ K.faults sink.old → K.can_put sink.new }
 {
     let mut at = 0;
     while at < piece.len() {

@@ -1,31 +1,10 @@
 -- What a sink took, piece by piece.
-use Rattle.std.proofs.Common.{◌≡◌, ℕ, ◌+◌, ◌≤◌, List, [], ◌++◌, length, take, Option, Some, refl, sym, ◌∙◌, ap, arith}
+use Rattle.std.proofs.Common.{ℕ, List, [], ◌++◌, Option, refl, sym}
 use Rattle.std.specs.Prelude.{Result, Ok, Err}
-use Rattle.std.proofs.lemmas.List.{append_assoc, append-nil, length-append, take-append-le}
-use Rattle.std.proofs.Math.Seq.{take-append-add}
+use Rattle.std.proofs.lemmas.List.{append_assoc, append-nil}
 use Rattle.edge_io.specs.declared.sink.PutFault.{PutFault}
-use Rattle.edge_io.specs.Putting.{Takes, PutsAll}
-
--- after a refusal
-abbrev pub TakesFront : Option (List ℕ) → Option (List ℕ) → List ℕ → Type 0
-TakesFront old new piece = (n : ℕ) × (n ≤ length piece) × Takes old new (take n piece)
-
-pub takes_none : (old : Option (List ℕ)) → Takes old old []
-takes_none old = (λ bytes told. told ∙ ap Some (sym (append-nil bytes)), λ none. none)
-
-pub takes_both : (old mid new : Option (List ℕ)) (a b : List ℕ) → Takes old mid a → Takes mid new b → Takes old new (a ++ b)
-takes_both old mid new a b first next = (λ bytes told. next.0 (bytes ++ a) (first.0 bytes told) ∙ ap Some (append_assoc bytes a b), λ none. next.1 (first.1 none))
-
--- a part was taken, and of the next one a front
-pub front_of : (old mid new : Option (List ℕ)) (whole a b c : List ℕ) → whole ≡ a ++ b ++ c → Takes old mid a → TakesFront mid new b → TakesFront old new whole
-front_of old mid new whole a b c is first next =
-    let n = next.0 in
-    let low = next.1 in
-    let front : take (length a + n) whole ≡ a ++ take n b =
-    ap (take (length a + n)) (is ∙ append_assoc a b c) ∙ take-append-add a (b ++ c) n ∙ ap (λ l. a ++ l) (take-append-le n b c low) in
-    let long : length whole ≡ length a + length b + length c =
-    ap length is ∙ length-append (a ++ b) c ∙ ap (λ k. k + length c) (length-append a b) in
-    (length a + n, omega (arith, long, low), rw front (takes_both old mid new a (take n b) first next.2))
+use Rattle.edge_io.specs.Putting.{Takes, TakesFront, PutsAll}
+use Rattle.edge_io.proofs.Fronts.{takes_none, takes_both, front_of}
 
 -- of three pieces
 pub first_refused : (old new : Option (List ℕ)) (a b c : List ℕ) → TakesFront old new a → TakesFront old new (a ++ b ++ c)

@@ -7,12 +7,12 @@ use Rattle.std.proofs.lemmas.List.FromFn.{length-map-range_with_len, get_or-map-
 use Rattle.std.proofs.lemmas.Grind.{flat_map-append}
 use Rattle.std.proofs.lemmas.Slice.{take-put_mid}
 use borrow.Rule.Slice.PartMut.{put_mid}
-use Rattle.edge_io.specs.Putting.{Takes}
+use Rattle.edge_io.specs.Putting.{Takes, TakesFront}
 use Rattle.vp9_types.specs.declared.shape.Depth.{Depth}
 use Rattle.vp9_types.specs.declared.shape.Depth.TheVariants.{Eight, Ten, Twelve}
 use Rattle.vp9_types.specs.Maps.{Map, row_of}
 use Rattle.frame_output.specs.Texts.{two_bytes, sample_text, sample_size, row_text, rows_text}
-use Rattle.frame_output.proofs.Fronts.{TakesFront, takes_none, takes_both, front_of}
+use Rattle.edge_io.proofs.Fronts.{takes_none, takes_both, front_of}
 
 -- ---- one row
 

@@ -1,4 +1,4 @@
-ghost use Rattle.std.specs.Prelude.{◌≡◌, ◌*◌, ◌<◌, ◌≤◌, ℕ, OnOk, length};
+ghost use Rattle.std.specs.Prelude.{◌≡◌, ◌*◌, ◌<◌, ◌≤◌, ℕ, length};
 ghost use Rattle.vp9_types.specs.declared.shape.Depth.TheVariants.{Eight};
 ghost use Rattle.vp9_types.specs.declared.shape.Plane.{Plane};
 ghost use Rattle.vp9_types.specs.Shapes.{plane_width, plane_height};
@@ -27,7 +27,7 @@ pub fn render<S: Samples, K: Sink>(
     ensures bytes { PutsAll (K.taken sink.old) (K.taken sink.new) (frame_text shape.now (S.map samples.now)) result }
     ensures faults { CountsPutFaults (K.grows sink.old) (K.faults sink.old) (K.faults sink.new) result }
     ensures grows { K.grows sink.new ≡ K.grows sink.old }
-    ensures again { OnOk result (K.can_put sink.new) }
+    ensures again { K.faults sink.new ≡ K.faults sink.old → K.can_put sink.new }
 {
     put_plane(shape, samples, Plane::Y, buffer, sink)?;
     put_plane(shape, samples, Plane::U, buffer, sink)?;
@@ -51,7 +51,7 @@ fn put_plane<S: Samples, K: Sink>(
     ensures bytes { PutsAll (K.taken sink.old) (K.taken sink.new) (plane_text shape.now (S.map samples.now) plane) result }
     ensures faults { CountsPutFaults (K.grows sink.old) (K.faults sink.old) (K.faults sink.new) result }
     ensures grows { K.grows sink.new ≡ K.grows sink.old }
-    ensures again { OnOk result (K.can_put sink.new) }
+    ensures again { K.faults sink.new ≡ K.faults sink.old → K.can_put sink.new }
 {
     let (width, height) = shape.plane_size(plane);
     let (width, height) = (width as usize, height as usize);

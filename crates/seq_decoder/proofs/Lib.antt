@@ -1,6 +1,4 @@
-pub mod Fronts
 pub mod Slots
 pub mod ShowingLemmas
-pub mod EntryLemmas
-pub mod Joining
+pub mod FrameLemmas
 pub mod RunLemmas

@@ -1,111 +1,117 @@
 -- The run so far, and how a decode ends.
-use Rattle.std.proofs.Common.{◌≡◌, ℕ, ◌<◌, List, [], ◌++◌, length, take, ap, sym, subst, refl, ◌∙◌, append_assoc}
+use Rattle.std.proofs.Common.{◌≡◌, ℕ, ◌+◌, ◌<◌, List, [], ◌∷◌, ◌++◌, ap, sym, subst, refl, ◌∙◌}
 use Rattle.std.specs.Prelude.{Option, Some, None, Result, Ok, Err}
+use Rattle.std.specs.List.{flat_map}
 use Rattle.std.proofs.lemmas.List.{append-nil}
-use Rattle.std.proofs.Math.Seq.{take-append_seam}
-use Rattle.edge_io.specs.Putting.{Takes}
+use Rattle.std.proofs.lemmas.Grind.{flat_map-append}
+use Rattle.edge_io.specs.Putting.{Takes, TakesFront}
+use Rattle.edge_io.proofs.Fronts.{takes_none, takes_both, front_of}
+use Rattle.vp9_types.specs.declared.outcome.Fault.{Fault}
 use Rattle.vp9_types.specs.declared.outcome.Fault.TheVariants as fault
 use Rattle.vp9_types.specs.declared.outcome.Outcome.{Outcome}
 use Rattle.vp9_types.specs.declared.outcome.Outcome.TheVariants as outcome
-use Rattle.vp9_types.specs.declared.rule.Rule.{Rule}
-use Rattle.ivf_container.specs.Packets.{Packets, no_packets, with_payload, packets_of}
-use Rattle.seq_decoder.specs.Code.{Place, first_place, Entry, payload_entry, TakesFront, EndsAt, Halts}
-use Rattle.seq_decoder.specs.Outcomes.{Completes, WritesFront, Decodes, outcome_at}
-use Rattle.seq_decoder.specs.Runs.{Run, RunEnding, done, stop_at, run_of, out_text}
-use Rattle.seq_decoder.proofs.Fronts.{takes_none, takes_more, front_behind, front_longer}
-use Rattle.seq_decoder.proofs.Joining.{Writing, written, only_ends, with_text, writes_on, write_packets, written_by_payloads}
+use Rattle.vp9_types.specs.declared.outcome.Stop.{Stop}
+use Rattle.file_frames.specs.Code.{Ahead, all_ahead, walk_ahead, IsOnWay}
+use Rattle.file_frames.specs.FileFrames.{frames_of_file}
+use Rattle.file_frames.specs.Walks.{walk}
+use Rattle.file_frames.proofs.Walks.{sets_out, goes_by, ends_at, arrives, breaks}
+use Rattle.seq_decoder.specs.After.{Stepped, step}
+use Rattle.seq_decoder.specs.Code.{shown_text, step_text, Faults, Halts}
+use Rattle.seq_decoder.specs.Outcomes.{Completes, WritesFront, Decodes}
+use Rattle.seq_decoder.specs.Runs.{shown_list, added, decoding, run_of, picture_text, out_text}
+use Rattle.seq_decoder.specs.State.{Picture, State, start_state}
 
--- A text was written, and what is left of the run are these packets from this place on.
-pub record HasWritten (bytes : List ℕ) (place : Place) (packets : Packets) (old new : Option (List ℕ)) (faults now : ℕ) : Type 0 where
-  pub text : List ℕ
-  pub takes : Takes old new text
+-- These frames were shown and written, and this state and these frames are left.
+pub record HasWritten (bytes : List ℕ) (state : State) (a : Ahead) (old new : Option (List ℕ)) (faults now : ℕ) : Type 0 where
+  pub shown : List Picture
+  pub way : IsOnWay decoding bytes shown state a
+  pub takes : Takes old new (flat_map picture_text shown)
   pub quiet : now ≡ faults
-  pub whole : written (run_of bytes) ≡ with_text text (write_packets place packets)
 
--- before the first packet
-pub none_written : (bytes : List ℕ) (place : Place) (packets : Packets) (old : Option (List ℕ)) (faults : ℕ) → place ≡ first_place → packets_of bytes ≡ packets
-    → HasWritten bytes place packets old old faults faults
-none_written bytes place packets old faults first is = record {
-  text = [];
-  takes = takes_none old;
-  quiet = refl;
-  whole = written_by_payloads bytes ∙ ap (write_packets first_place) is ∙ ap (λ p. write_packets p packets) (sym first);
+-- before the first frame
+pub none_written : (bytes : List ℕ) (a : Ahead) (old : Option (List ℕ)) (faults : ℕ) → a ≡ all_ahead bytes → HasWritten bytes start_state a old old faults faults
+none_written bytes a old faults is = record { shown = []; way = sets_out decoding bytes a is; takes = takes_none old; quiet = refl }
+
+-- the next frame, as the cursor gives it
+abbrev pub IsFrame : Ahead → ℕ → List ℕ → Ahead → Type 0
+IsFrame a number frame next = (a ≡ record { number = number; frames = frame ∷ next.frames; ending = next.ending }) × (next.number ≡ number + 1)
+
+text_of_list : (shown : Option Picture) → flat_map picture_text (shown_list shown) ≡ shown_text shown
+text_of_list None = refl
+text_of_list (Some picture) = append-nil (picture_text picture)
+
+-- one frame more
+pub frame_written : (bytes frame : List ℕ) (number : ℕ) (state : State) (a rest : Ahead) (next : Stepped) (old mid new : Option (List ℕ)) (faults then now : ℕ)
+    → IsFrame a number frame rest → HasWritten bytes state a old mid faults then → step number state frame ≡ Ok next → Takes mid new (shown_text next.shown) → now ≡ then
+    → HasWritten bytes next.state rest old new faults now
+frame_written bytes frame number state a rest next old mid new faults then now is h stepped takes quiet = record {
+  shown = h.shown ++ shown_list next.shown;
+  way = goes_by decoding bytes h.shown state a rest number frame (record { state = next.state; adds = shown_list next.shown }) h.way is (ap added stepped);
+  takes = subst (Takes old new) (ap (λ t. flat_map picture_text h.shown ++ t) (sym (text_of_list next.shown)) ∙ sym (flat_map-append picture_text h.shown (shown_list next.shown)))
+      (takes_both old mid new (flat_map picture_text h.shown) (shown_text next.shown) h.takes takes);
+  quiet = quiet ∙ h.quiet;
 }
 
-completes : (run : Run) (text : List ℕ) (ending : RunEnding) (old new : Option (List ℕ)) (faults now : ℕ)
-    → written run ≡ record { text = text; ending = ending } → Takes old new text → now ≡ faults → Completes run old new faults now ending
-completes run text ending old new faults now is takes quiet = record {
+completes : (bytes : List ℕ) (shown : List Picture) (ending : Option (ℕ × Fault)) (old new : Option (List ℕ)) (faults now : ℕ)
+    → walk decoding (frames_of_file bytes) ≡ record { adds = shown; ending = ending } → Takes old new (flat_map picture_text shown) → now ≡ faults → Completes (run_of bytes) old new faults now ending
+unfolding run_of
+completes bytes shown ending old new faults now is takes quiet = record {
   ends = ap (λ w. w.ending) is;
-  writes = subst (Takes old new) (sym (ap (λ w. w.text) is)) takes;
+  writes = subst (λ w. Takes old new (flat_map picture_text w)) (sym (ap (λ w. w.adds) is)) takes;
   quiet = quiet;
 }
 
--- where nothing is left
-nothing_left : (bytes : List ℕ) (text : List ℕ) (ending : RunEnding) (old new : Option (List ℕ)) (faults now : ℕ)
-    → written (run_of bytes) ≡ with_text text (only_ends ending) → Takes old new text → now ≡ faults → Completes (run_of bytes) old new faults now ending
-nothing_left bytes text ending old new faults now is takes quiet =
-    completes (run_of bytes) text ending old new faults now (is ∙ ap (λ t. record { text = t; ending = ending }) (append-nil text)) takes quiet
-
-pub run_done : (bytes : List ℕ) (place : Place) (packets : Packets) (old new : Option (List ℕ)) (faults now : ℕ) → packets ≡ no_packets None
-    → HasWritten bytes place packets old new faults now → Decodes (run_of bytes) old new faults now outcome.Done
-run_done bytes place packets old new faults now is h = nothing_left bytes h.text done old new faults now (h.whole ∙ ap (λ p. with_text h.text (write_packets place p)) is) h.takes h.quiet
+-- at the end of the file
+pub run_done : (bytes : List ℕ) (state : State) (a : Ahead) (old new : Option (List ℕ)) (faults now : ℕ) → a ≡ record { number = a.number; frames = []; ending = None }
+    → HasWritten bytes state a old new faults now → Decodes (run_of bytes) old new faults now outcome.Done
+run_done bytes state a old new faults now is h = completes bytes h.shown None old new faults now (arrives decoding bytes h.shown state a a.number h.way is) h.takes h.quiet
 
 -- at a rule of the container
-pub run_broken : (bytes : List ℕ) (place : Place) (packets : Packets) (rule : Rule) (old new : Option (List ℕ)) (faults now : ℕ) → packets ≡ no_packets (Some rule)
-    → HasWritten bytes place packets old new faults now → Decodes (run_of bytes) old new faults now (outcome_at place.frame (fault.Broken rule))
-run_broken bytes place packets rule old new faults now is h =
-    nothing_left bytes h.text (stop_at place.frame rule) old new faults now (h.whole ∙ ap (λ p. with_text h.text (write_packets place p)) is) h.takes h.quiet
+pub run_broken : (bytes : List ℕ) (state : State) (a : Ahead) (stop : Stop) (old new : Option (List ℕ)) (faults now : ℕ) → a ≡ record { number = stop.frame; frames = []; ending = Some stop.rule }
+    → HasWritten bytes state a old new faults now → Decodes (run_of bytes) old new faults now (outcome.Broken stop)
+run_broken bytes state a stop old new faults now is h =
+    completes bytes h.shown (Some (stop.frame, fault.Broken stop.rule)) old new faults now (breaks decoding bytes h.shown state a stop.frame stop.rule h.way is) h.takes h.quiet
 
--- one more packet, after which the decode goes on
-pub packet_written : (bytes payload : List ℕ) (place next : Place) (packets rest : Packets) (old mid new : Option (List ℕ)) (faults then now : ℕ)
-    → packets ≡ with_payload payload rest → HasWritten bytes place packets old mid faults then
-    → ((payload_entry place payload).next ≡ Ok next) × Takes mid new (payload_entry place payload).text × (now ≡ then)
-    → HasWritten bytes next rest old new faults now
-packet_written bytes payload place next packets rest old mid new faults then now is h a =
-    let e = payload_entry place payload in
-    record {
-      text = h.text ++ e.text;
-      takes = takes_more old mid new h.text e.text h.takes a.1;
-      quiet = a.2 ∙ h.quiet;
-      whole = h.whole ∙ ap (λ p. with_text h.text (write_packets place p)) is
-          ∙ ap (λ n. with_text h.text (writes_on e.text n (λ p. write_packets p rest))) a.0
-          ∙ ap (λ t. record { text = t; ending = (write_packets next rest).ending }) (sym (append_assoc h.text e.text (write_packets next rest).text));
-    }
+fault_in_run : (bytes frame : List ℕ) (number : ℕ) (state : State) (a rest : Ahead) (old mid new : Option (List ℕ)) (faults then now : ℕ) (at : ℕ) (fault : Fault)
+    → IsFrame a number frame rest → HasWritten bytes state a old mid faults then → Faults number (step number state frame) mid new then now at fault
+    → Completes (run_of bytes) old new faults now (Some (at, fault))
+fault_in_run bytes frame number state a rest old mid new faults then now at fault is h f =
+    completes bytes h.shown (Some (at, fault)) old new faults now
+    (ends_at decoding bytes h.shown state a rest number frame fault h.way is (ap added f.ends) ∙ ap (λ n. record { adds = h.shown; ending = Some (n, fault) }) (sym f.frame))
+    (subst (Takes old new) (append-nil (flat_map picture_text h.shown)) (takes_both old mid new (flat_map picture_text h.shown) [] h.takes f.none))
+    (f.quiet ∙ h.quiet)
 
-writing_text : (text : List ℕ) (next : Result Place RunEnding) (more : Place → Writing) → (x : List ℕ) × ((writes_on text next more).text ≡ text ++ x)
-writing_text text (Ok place) more = ((more place).text, refl)
-writing_text text (Err ending) more = ([], sym (append-nil text))
+front_of_run : (bytes text : List ℕ) (old mid new : Option (List ℕ)) (shown : List Picture) (more : List ℕ) → out_text (run_of bytes) ≡ flat_map picture_text shown ++ text ++ more
+    → Takes old mid (flat_map picture_text shown) → TakesFront mid new text → WritesFront (run_of bytes) old new
+front_of_run bytes text old mid new shown more is takes front =
+    let f = front_of old mid new (out_text (run_of bytes)) (flat_map picture_text shown) text more is takes front in
+    (f.0, f.2)
 
-front_taken : (run : Run) (old new : Option (List ℕ)) → TakesFront old new (out_text run) → WritesFront run old new
-front_taken run old new k = (length k.front, subst (Takes old new) (sym (ap (take (length k.front)) k.whole ∙ take-append_seam k.front k.rest)) k.takes)
+-- where a front of the frame's text was taken, a front of the run's was
+front_in_run : (bytes frame : List ℕ) (number : ℕ) (state : State) (a rest : Ahead) (old mid new : Option (List ℕ)) (faults then : ℕ) (r : Result Stepped Fault)
+    → IsFrame a number frame rest → HasWritten bytes state a old mid faults then → step number state frame ≡ r → TakesFront mid new (step_text r) → WritesFront (run_of bytes) old new
+unfolding run_of
+front_in_run bytes frame number state a rest old mid new faults then (Ok next) is h stepped front =
+    let more = walk_ahead decoding next.state rest in
+    let way = goes_by decoding bytes h.shown state a rest number frame (record { state = next.state; adds = shown_list next.shown }) h.way is (ap added stepped) in
+    front_of_run bytes (shown_text next.shown) old mid new h.shown (flat_map picture_text more.adds)
+    (ap (λ w. flat_map picture_text w.adds) way ∙ flat_map-append picture_text (h.shown ++ shown_list next.shown) more.adds
+    ∙ ap (λ t. t ++ flat_map picture_text more.adds) (flat_map-append picture_text h.shown (shown_list next.shown) ∙ ap (λ t. flat_map picture_text h.shown ++ t) (text_of_list next.shown)))
+    h.takes front
+front_in_run bytes frame number state a rest old mid new faults then (Err fault) is h stepped front =
+    front_of_run bytes [] old mid new h.shown []
+    (ap (λ w. flat_map picture_text w.adds) (ends_at decoding bytes h.shown state a rest number frame fault h.way is (ap added stepped))
+    ∙ sym (append-nil (flat_map picture_text h.shown)) ∙ sym (append-nil (flat_map picture_text h.shown ++ [])))
+    h.takes front
 
-front_in_run : (run : Run) (t : List ℕ) (e : Entry) (more : Place → Writing) (old mid new : Option (List ℕ))
-    → written run ≡ with_text t (writes_on e.text e.next more) → Takes old mid t → TakesFront mid new e.text → WritesFront run old new
-front_in_run run t e more old mid new is takes front =
-    let going = writing_text e.text e.next more in
-    front_taken run old new
-    (subst (TakesFront old new) (ap (λ x. t ++ x) (sym going.1) ∙ sym (ap (λ w. w.text) is)) (front_behind old mid new t (e.text ++ going.0) takes (front_longer mid new e.text going.0 front)))
-
-end_in_run : (run : Run) (t : List ℕ) (e : Entry) (more : Place → Writing) (old mid new : Option (List ℕ)) (faults then now : ℕ) (ending : RunEnding)
-    → written run ≡ with_text t (writes_on e.text e.next more) → Takes old mid t → then ≡ faults → EndsAt e mid new then now ending → Completes run old new faults now ending
-end_in_run run t e more old mid new faults then now ending is takes quiet h =
-    completes run (t ++ e.text) ending old new faults now (is ∙ ap (λ n. with_text t (writes_on e.text n more)) h.ends) (takes_more old mid new t e.text takes h.takes) (h.quiet ∙ quiet)
-
-halts_in_run : (run : Run) (t : List ℕ) (e : Entry) (more : Place → Writing) (old mid new : Option (List ℕ)) (faults then now : ℕ) (o : Outcome)
-    → written run ≡ with_text t (writes_on e.text e.next more) → Takes old mid t → then ≡ faults → Halts e mid new then now o → Decodes run old new faults now o
-halts_in_run run t e more old mid new faults then now outcome.Done is takes quiet h = absurd h
-halts_in_run run t e more old mid new faults then now (outcome.Broken stop) is takes quiet h = end_in_run run t e more old mid new faults then now _ is takes quiet h
-halts_in_run run t e more old mid new faults then now (outcome.Unbuilt frame part) is takes quiet h = end_in_run run t e more old mid new faults then now _ is takes quiet h
-halts_in_run run t e more old mid new faults then now outcome.WriteFault is takes quiet h =
-    (subst (λ f. f < now) quiet h.1, front_in_run run t e more old mid new is takes h.0)
-halts_in_run run t e more old mid new faults then now outcome.OutOfMemory is takes quiet h =
-    (h.1 ∙ quiet, front_in_run run t e more old mid new is takes h.0)
-halts_in_run run t e more old mid new faults then now outcome.ReadFault is takes quiet h = h
-
--- at a packet where the decode ends
-pub packet_halts : (bytes payload : List ℕ) (place : Place) (packets rest : Packets) (old mid new : Option (List ℕ)) (faults then now : ℕ) (o : Outcome)
-    → packets ≡ with_payload payload rest → HasWritten bytes place packets old mid faults then
-    → Halts (payload_entry place payload) mid new then now o → Decodes (run_of bytes) old new faults now o
-packet_halts bytes payload place packets rest old mid new faults then now o is h a =
-    halts_in_run (run_of bytes) h.text (payload_entry place payload) (λ p. write_packets p rest) old mid new faults then now o
-    (h.whole ∙ ap (λ p. with_text h.text (write_packets place p)) is) h.takes h.quiet a
+-- where the decode ends in a frame
+pub frame_halts : (bytes frame : List ℕ) (number : ℕ) (state : State) (a rest : Ahead) (old mid new : Option (List ℕ)) (faults then now : ℕ) (o : Outcome)
+    → IsFrame a number frame rest → HasWritten bytes state a old mid faults then → Halts number (step number state frame) mid new then now o → Decodes (run_of bytes) old new faults now o
+frame_halts bytes frame number state a rest old mid new faults then now outcome.Done is h f = absurd f
+frame_halts bytes frame number state a rest old mid new faults then now (outcome.Broken stop) is h f = fault_in_run bytes frame number state a rest old mid new faults then now stop.frame (fault.Broken stop.rule) is h f
+frame_halts bytes frame number state a rest old mid new faults then now (outcome.Unbuilt at part) is h f = fault_in_run bytes frame number state a rest old mid new faults then now at (fault.Unbuilt part) is h f
+frame_halts bytes frame number state a rest old mid new faults then now outcome.WriteFault is h f =
+    (subst (λ k. k < now) h.quiet f.1, front_in_run bytes frame number state a rest old mid new faults then (step number state frame) is h refl f.0)
+frame_halts bytes frame number state a rest old mid new faults then now outcome.OutOfMemory is h f =
+    (f.1 ∙ h.quiet, front_in_run bytes frame number state a rest old mid new faults then (step number state frame) is h refl f.0)
+frame_halts bytes frame number state a rest old mid new faults then now outcome.ReadFault is h f = f

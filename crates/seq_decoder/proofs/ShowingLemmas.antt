@@ -1,7 +1,6 @@
 -- What a frame shows, in the words of the frame's text.
-use Rattle.std.proofs.Common.{◌≡◌, ℕ, ◌+◌, ◌-◌, ◌*◌, ◌/◌, ◌^◌, ◌≤◌, ◌<◌, List, [], get_or, take, drop, Bool, true, false, arith, refl, sym, ap, subst, ◌∙◌}
+use Rattle.std.proofs.Common.{◌≡◌, ℕ, ◌+◌, ◌-◌, ◌*◌, ◌/◌, ◌^◌, ◌≤◌, ◌<◌, List, [], get_or, Bool, true, false, arith, refl, sym, ap, subst, ◌∙◌}
 use Rattle.std.specs.Prelude.{Option, Some, None, Result, Ok, Err, slice_get, if◌then◌else◌}
-use Rattle.std.proofs.lemmas.List.{take-append-drop}
 use Rattle.std.proofs.lemmas.Option.{get_or_from_slice_get}
 use Rattle.edge_io.specs.declared.sink.PutFault.{PutFault}
 use Rattle.edge_io.specs.declared.sink.PutFault.TheVariants as refused
@@ -24,7 +23,7 @@ use Rattle.frame_decoder.specs.Frames.{FrameResult}
 use Rattle.frame_output.specs.Texts.{frame_text}
 use Rattle.seq_decoder.specs.declared.coding.Coded.{Coded}
 use Rattle.seq_decoder.specs.After.{shown_picture}
-use Rattle.seq_decoder.specs.Code.{FitsHeader, TakesFront, Shows, shown_text, frame_of, text_of}
+use Rattle.seq_decoder.specs.Code.{FitsHeader, Shows, shown_text, frame_of, text_of}
 
 small_at : (depth : Depth) (m : Map) (y x : ℕ) → depth ≡ Eight → IsAtMost (2 ^ depth_bits depth - 1) m → m y x < 256
 small_at depth m y x eight most = omega (arith, subst (λ d. IsAtMost (2 ^ depth_bits d - 1) m) eight most y x)
@@ -68,14 +67,11 @@ held_rows f header shape p y fits is low =
     rw (area_is (shape_of header) f.planes p fits.sizes)
     (record { above = omega arith; below = omega (arith, high, (plane_within (shape_of header) p).1); left = omega arith; right = omega arith })
 
-a_front : (old new : Option (List ℕ)) (text : List ℕ) (n : ℕ) → Takes old new (take n text) → TakesFront old new text
-a_front old new text n takes = record { front = take n text; rest = drop n text; whole = sym (take-append-drop n text); takes = takes }
-
 put_shows : (old new : Option (List ℕ)) (grows : Bool) (faults now : ℕ) (text : List ℕ) (r : Result (Unit {0}) PutFault)
     → PutsAll old new text r → CountsPutFaults grows faults now r → Shows text old new faults now r
 put_shows old new grows faults now text (Ok u) h k = (h, k)
-put_shows old new grows faults now text (Err refused.Failed) h k = (a_front old new text h.0 h.2, k)
-put_shows old new grows faults now text (Err refused.OutOfMemory) h k = (a_front old new text h.0 h.2, k.0)
+put_shows old new grows faults now text (Err refused.Failed) h k = (h, k)
+put_shows old new grows faults now text (Err refused.OutOfMemory) h k = (h, k.0)
 
 -- what a call of render puts
 pub render_shows : (old new : Option (List ℕ)) (grows : Bool) (faults now : ℕ) (text shown : List ℕ) (r : Result (Unit {0}) PutFault) → text ≡ shown

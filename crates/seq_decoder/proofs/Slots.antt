@@ -2,8 +2,8 @@
 use Rattle.std.proofs.Common.{◌≡◌, ℕ, List, ap, sym, subst, refl, ◌∙◌}
 use Rattle.std.specs.Prelude.{Some, Result, Ok}
 use Rattle.vp9_types.specs.declared.outcome.Fault.{Fault}
-use Rattle.frame_headers.specs.State.{next_persist, shape_of, start_persist}
 use Rattle.frame_headers.proofs.SlotLemmas.{refreshed_told}
+use Rattle.frame_headers.specs.State.{next_persist, shape_of, start_persist}
 use Rattle.seq_decoder.specs.After.{CodedFrame, coded_frame, Stepped, after, state_after, picture_of, step}
 use Rattle.seq_decoder.specs.State.{Picture, State, start_state, persist_of, slot_shape}
 

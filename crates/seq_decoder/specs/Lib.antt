@@ -1,4 +1,3 @@
-pub mod FileFrames
 pub mod State
 pub mod SavedContexts
 pub mod After

@@ -1,6 +1,6 @@
 //! One frame, from its bytes to its samples and contexts.
 
-ghost use Rattle.std.specs.Prelude.{◌≡◌, None, IfOk, OnOk, length};
+ghost use Rattle.std.specs.Prelude.{◌≡◌, ◌≤◌, None, IfOk, OnOk, length, max};
 ghost use Rattle.frame_headers.specs.State.{SlotsHaveSizes};
 ghost use Rattle.frame_headers.specs.Sizes.{IsFrameSize};
 ghost use Rattle.frame_headers.specs.Tiles.{AreFewTiles};
@@ -59,6 +59,7 @@ pub fn decode_coded(
     ensures coded { IsCoded (coded_frame persist.now (saved_lists saved.old) bytes.now) table.new result }
     ensures held { OnOk result (held table.new ≡ held table.old) }
     ensures table { OnOk result (IsTable table.new) }
+    ensures few { OnOk result (length table.new.pictures.items ≤ max 9 (length table.old.pictures.items)) }
     ensures saved { IfOk result (λ c. saved_lists saved.new ≡ saved_before c.header (saved_lists saved.old)) }
     ensures size { IfOk result (λ c. IsFrameSize c.header.size) }
 {

@@ -1,33 +1,34 @@
 //! The frames of a file, one after another.
 
+ghost use Rattle.std.specs.Prelude.{◌≡◌};
 ghost use Rattle.seq_decoder.specs.Outcomes.{Decodes};
 ghost use Rattle.seq_decoder.specs.Runs.{run_of};
 
-use crate::decoder::{Decoder, outcome_at};
+use crate::decoder::Decoder;
 use edge_io::Sink;
-use ivf_container::{next_packet, read_header};
+use file_frames::FrameCursor;
 use std::alloc::Global;
-use vp9_types::{Fault, Outcome};
+use vp9_types::Outcome;
 
 /// Decodes an IVF file and writes the frames that it shows, in order and each as it is decoded, up to its end or the
-/// first frame that breaks a rule or that uses a part that isn't built. It never answers a read fault.
+/// first frame that breaks a rule or that uses a part that isn't built. It never answers a read fault. A sink that didn't
+/// fail may be used on.
 pub fn decode_plain<K: Sink>(alloc: Global, bytes: &[u8], sink: &mut K) -> Outcome
     requires { K.can_put sink.old }
-    ensures { Decodes (run_of bytes.now) (K.taken sink.old) (K.taken sink.new) (K.faults sink.old) (K.faults sink.new) result }
+    ensures decodes { Decodes (run_of bytes.now) (K.taken sink.old) (K.taken sink.new) (K.faults sink.old) (K.faults sink.new) result }
+    ensures grows { K.grows sink.new ≡ K.grows sink.old }
+    ensures again { K.faults sink.new ≡ K.faults sink.old → K.can_put sink.new }
 {
     let mut decoder = Decoder::new(alloc);
-    let mut at = match read_header(bytes) {
-        Ok(at) => at,
-        Err(rule) => return outcome_at(decoder.frame, Fault::Broken(rule)),
-    };
-    'packets: loop {
-        let packet = match next_packet(bytes, at) {
-            Ok(Some(packet)) => packet,
+    let mut frames = FrameCursor::new(bytes);
+    'frames: loop {
+        let frame = match frames.next_frame() {
+            Ok(Some(frame)) => frame,
             Ok(None) => return Outcome::Done,
-            Err(rule) => return outcome_at(decoder.frame, Fault::Broken(rule)),
+            Err(stop) => return Outcome::Broken(stop),
         };
-        match decoder.decode_payload(alloc, &bytes[packet.from..packet.to], sink) {
-            Ok(()) => at = packet.to,
+        match decoder.decode_next(alloc, frame, sink) {
+            Ok(()) => {}
             Err(outcome) => return outcome,
         }
     }

@@ -1,6 +1,6 @@
 //! What a frame shows.
 
-ghost use Rattle.std.specs.Prelude.{OnOk};
+ghost use Rattle.std.specs.Prelude.{◌≡◌};
 ghost use Rattle.frame_headers.specs.Sizes.{IsFrameSize};
 ghost use Rattle.seq_decoder.specs.Code.{FitsHeader, Shows, text_of};
 
@@ -24,7 +24,8 @@ pub fn show<K: Sink>(
     requires fits { FitsHeader picture.now header.now }
     requires sink { K.can_put sink.old }
     ensures shows { Shows (text_of header.now picture.now) (K.taken sink.old) (K.taken sink.new) (K.faults sink.old) (K.faults sink.new) result }
-    ensures again { OnOk result (K.can_put sink.new) }
+    ensures grows { K.grows sink.new ≡ K.grows sink.old }
+    ensures again { K.faults sink.new ≡ K.faults sink.old → K.can_put sink.new }
 {
     if !header.show_frame {
         return Ok(());

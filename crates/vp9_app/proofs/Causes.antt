@@ -8,7 +8,9 @@ use Rattle.command_words.specs.declared.command.Command.{Command}
 use Rattle.vp9_app.specs.declared.status.Status.{Status}
 use Rattle.vp9_app.specs.declared.status.Status.TheVariants as status
 use Rattle.vp9_app.specs.Notes.{note_line}
-use Rattle.vp9_app.specs.Answers.{OfSource, OfSink, SinkQuiet, Completes, output_of, WritesFront, Works, Untouched, without_memory, Reports, MayLackMemory, AllQuiet, HasCause, IsComplete, Answers}
+use Rattle.vp9_app.specs.Answers.{OfSource, OfSink, SinkQuiet, Completes, output_of, WritesFront, Works, Untouched, without_memory, Reports, Runs}
+use Rattle.vp9_app.specs.Code.{MayLackMemory}
+use Rattle.vp9_app.specs.Laws.{AllQuiet, HasCause, IsComplete}
 
 -- a whole output is a front of it
 completes_front : (c : Command) (s : OfSource) (o : OfSink) (st : Status) → Completes c s o st → WritesFront c s o
@@ -71,7 +73,7 @@ cause_lacking None s o n status.ReadFault h q = absurd h
 cause_lacking None s o n status.WriteFault h q = absurd h
 cause_lacking None s o n status.OutOfMemory h q = (h.1, q)
 
-cause_of : (c : Option Command) (s : OfSource) (o n : OfSink) (told last : Status) → Works c s o told → Reports n told last → HasCause c s o n last
+pub cause_of : (c : Option Command) (s : OfSource) (o n : OfSink) (told last : Status) → Works c s o told → Reports n told last → HasCause c s o n last
 cause_of c s o n told last h (inl r) = subst (λ st. HasCause c s o n st) (sym r.1) (cause_told c s o n told h r.0 r.2)
 cause_of c s o n told last h (inr (inl r)) = subst (λ st. HasCause c s o n st) (sym r.1) (inr r.0)
 cause_of c s o n told last h (inr (inr r)) = subst (λ st. HasCause c s o n st) (sym r.2) (cause_lacking c s o n told h r.0)
@@ -124,16 +126,14 @@ complete_none s o n told last h (inl r) = λ a. subst (λ st. (st ≡ status.Usa
 complete_none s o n told last h (inr (inl r)) = λ a. absurd (clash n.faults n.faults_now r.0 a.note)
 complete_none s o n told last h (inr (inr r)) = λ a. inr (r.2 ∙ lacks_memory told (no_command s o told h))
 
-complete_of : (c : Option Command) (s : OfSource) (o n : OfSink) (told last : Status) → Works c s o told → Reports n told last → IsComplete c s o n last
+pub complete_of : (c : Option Command) (s : OfSource) (o n : OfSink) (told last : Status) → Works c s o told → Reports n told last → IsComplete c s o n last
 complete_of (Some c) = complete_some c
 complete_of None = complete_none
 
-pub answers : (c : Option Command) (s : OfSource) (o n : OfSink) (first told last : Status) → Works c s o first → MayLackMemory first told → Reports n told last → Answers c s o n last
-answers c s o n first told last h m r =
-    let w = works_told c s o first told h m in
-    record { run = record { first = told; work = w; note = r }; cause = cause_of c s o n told last w r; complete = complete_of c s o n told last w r }
+pub runs : (c : Option Command) (s : OfSource) (o n : OfSink) (first told last : Status) → Works c s o first → MayLackMemory first told → Reports n told last → Runs c s o n last
+runs c s o n first told last h m r = record { first = told; work = works_told c s o first told h m; note = r }
 
 -- where nothing was read or written, want of memory may be the answer to any words
 pub no_work : (c : Option Command) (s : OfSource) (o : OfSink) → Untouched s o → Works c s o status.OutOfMemory
-no_work (Some c) s o h = (h.0, h.1, λ bytes told. (0, (λ taken is. h.3 ∙ is ∙ ap Some (sym (append-nil taken)), λ none. h.3 ∙ none)))
+no_work (Some c) s o h = (h.0, h.1, λ bytes told. (0, λ taken is. h.3 ∙ is ∙ ap Some (sym (append-nil taken))))
 no_work None s o h = h

@@ -1,14 +1,47 @@
--- The listing so far, and what the next packet adds.
-use Rattle.std.proofs.Common.{◌≡◌, ℕ, List, [], ap, ◌∙◌}
-use Rattle.std.specs.Prelude.{Some}
+-- The listing so far, and what the next frame adds.
+use Rattle.std.proofs.Common.{◌≡◌, ℕ, ◌+◌, List, [], ◌∷◌, ap, sym, subst, ◌∙◌}
+use Rattle.std.specs.Prelude.{Some, None, Ok, Err}
+use Rattle.vp9_types.specs.declared.outcome.Stop.{Stop}
 use Rattle.vp9_types.specs.declared.rule.Rule.{Rule}
-use Rattle.ivf_container.specs.Packets.{Packets, no_packets, packets_of}
-use Rattle.vp9_app.specs.Listing.{with_text, first_place, listing, stops_at}
-use Rattle.vp9_app.proofs.Joining.{list_packets, listing_by_payloads}
+use Rattle.file_frames.specs.Code.{Ahead, all_ahead, IsOnWay}
+use Rattle.file_frames.proofs.Walks.{sets_out, goes_by, ends_at, arrives, breaks}
+use Rattle.frame_headers.specs.declared.persist.Persist.{Persist}
+use Rattle.frame_headers.specs.State.{start_persist}
+use Rattle.vp9_app.specs.Code.{AddsLine}
+use Rattle.vp9_app.specs.Listing.{list_step, lining, listing}
 
--- before the first packet
-pub listed_first : (bytes : List ℕ) (packets : Packets) → packets_of bytes ≡ packets → listing bytes ≡ with_text [] (list_packets first_place packets)
-listed_first bytes packets h = listing_by_payloads bytes ∙ ap (list_packets first_place) h
+-- the lines so far, and what is left
+abbrev pub HasListed : List ℕ → List ℕ → Persist → Ahead → Type 0
+HasListed bytes text persist a = IsOnWay lining bytes text persist a
 
-pub listed_broken : (bytes : List ℕ) (rule : Rule) → packets_of bytes ≡ no_packets (Some rule) → listing bytes ≡ stops_at [] first_place rule
-listed_broken bytes rule h = listing_by_payloads bytes ∙ ap (list_packets first_place) h
+-- the next frame, as the cursor gives it
+abbrev pub IsFrame : Ahead → ℕ → List ℕ → Ahead → Type 0
+IsFrame a number frame next = (a ≡ record { number = number; frames = frame ∷ next.frames; ending = next.ending }) × (next.number ≡ number + 1)
+
+-- before the first frame
+pub none_listed : (bytes text : List ℕ) (a : Ahead) → text ≡ [] → a ≡ all_ahead bytes → HasListed bytes text start_persist a
+none_listed bytes text a none is = subst (λ t. HasListed bytes t start_persist a) (sym none) (sets_out lining bytes a is)
+
+-- one frame more
+pub frame_listed : (bytes frame : List ℕ) (number : ℕ) (persist next : Persist) (a rest : Ahead) (text new : List ℕ)
+    → HasListed bytes text persist a → IsFrame a number frame rest → AddsLine text (list_step number persist frame) (Ok next) new → HasListed bytes new next rest
+frame_listed bytes frame number persist next a rest text new h is adds =
+    subst (λ t. HasListed bytes t next rest) (sym adds.2) (goes_by lining bytes text persist a rest number frame (record { state = next; adds = adds.0 }) h is adds.1)
+
+-- at a frame that breaks a rule
+pub frame_breaks : (bytes frame : List ℕ) (number : ℕ) (persist : Persist) (a rest : Ahead) (text new : List ℕ) (rule : Rule)
+    → HasListed bytes text persist a → IsFrame a number frame rest → AddsLine text (list_step number persist frame) (Err rule) new → listing bytes ≡ record { adds = new; ending = Some (number, rule) }
+unfolding listing
+frame_breaks bytes frame number persist a rest text new rule h is adds =
+    ends_at lining bytes text persist a rest number frame rule h is adds.0 ∙ ap (λ t. record { adds = t; ending = Some (number, rule) }) (sym adds.1)
+
+-- at the end of the file, and at a rule of the container
+pub all_listed : (bytes : List ℕ) (persist : Persist) (a : Ahead) (text : List ℕ) → HasListed bytes text persist a → a ≡ record { number = a.number; frames = []; ending = None }
+    → listing bytes ≡ record { adds = text; ending = None }
+unfolding listing
+all_listed bytes persist a text h is = arrives lining bytes text persist a a.number h is
+
+pub file_breaks : (bytes : List ℕ) (persist : Persist) (a : Ahead) (text : List ℕ) (stop : Stop) → HasListed bytes text persist a → a ≡ record { number = stop.frame; frames = []; ending = Some stop.rule }
+    → listing bytes ≡ record { adds = text; ending = Some (stop.frame, stop.rule) }
+unfolding listing
+file_breaks bytes persist a text stop h is = breaks lining bytes text persist a stop.frame stop.rule h is

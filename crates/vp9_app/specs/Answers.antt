@@ -1,4 +1,4 @@
--- What a run of the program does, and the causes of its answers.
+-- What a run of the program reads, writes and tells.
 use Rattle.std.specs.Prelude.{◌≡◌, ◌⊎◌, ℕ, ◌<◌, Bool, IsTrue, List, [], take, Option, Some, None}
 use Rattle.edge_io.specs.Filling.{WhereTold}
 use Rattle.edge_io.specs.Putting.{Takes}
@@ -54,7 +54,7 @@ pub record Output : Type 0 where
 -- The listing; or the shown frames of the sequential decoding process, in order, to the end of the bytes or up to the
 -- first frame that breaks a rule or that uses a part that isn't built. How a file is decoded changes nothing of it.
 abbrev pub output_of : Command → List ℕ → Output
-output_of command.List bytes = record { text = (listing bytes).text; status = ended (listing bytes).ending }
+output_of command.List bytes = record { text = (listing bytes).adds; status = ended (listing bytes).ending }
 output_of (command.Decode options) bytes = record { text = out_text (run_of bytes); status = run_ended (run_of bytes).ending }
 
 -- the source was read to its end, the whole output of its bytes is written, and it ends so
@@ -102,47 +102,8 @@ Reports n first last =
     ⊎ (SinkFailed n × (last ≡ status.WriteFault) × ((k : ℕ) × Takes n.before n.after (take k (note_line first))))
     ⊎ (SinkQuiet n × IsTrue n.grows × (last ≡ without_memory first) × ((k : ℕ) × Takes n.before n.after (take k (note_line first))))
 
--- where there is no memory for the line of a rule or a part, want of memory is told instead
-abbrev pub MayLackMemory : Status → Status → Type 0
-MayLackMemory (status.Broken stop) told = (told ≡ status.Broken stop) ⊎ (told ≡ status.OutOfMemory)
-MayLackMemory (status.Unbuilt frame part) told = (told ≡ status.Unbuilt frame part) ⊎ (told ≡ status.OutOfMemory)
-MayLackMemory first told = told ≡ first
-
-abbrev pub Tells : OfSink → Status → Status → Type 0
-Tells n first last = (told : Status) × MayLackMemory first told × Reports n told last
-
 -- the whole run: the work ends somehow, and then the note is written
 pub record Runs (c : Option Command) (s : OfSource) (o n : OfSink) (last : Status) : Type 0 where
   pub first : Status
   pub work : Works c s o first
   pub note : Reports n first last
-
--- no count rose
-pub record AllQuiet (s : OfSource) (o n : OfSink) : Type 0 where
-  pub source : SourceQuiet s
-  pub out : SinkQuiet o
-  pub note : SinkQuiet n
-
--- the cause of each answer
-abbrev pub HasCause : Option Command → OfSource → OfSink → OfSink → Status → Type 0
-HasCause c s o n status.Done = (used : Command) × (c ≡ Some used) × AllQuiet s o n × Completes used s o status.Done × Takes n.before n.after []
-HasCause c s o n (status.Broken stop) =
-    (used : Command) × (c ≡ Some used) × AllQuiet s o n × Completes used s o (status.Broken stop) × Takes n.before n.after (note_line (status.Broken stop))
-HasCause c s o n (status.Unbuilt frame part) =
-    (used : Command) × (c ≡ Some used) × HasUnbuilt used × AllQuiet s o n × Completes used s o (status.Unbuilt frame part)
-    × Takes n.before n.after (note_line (status.Unbuilt frame part))
-HasCause c s o n status.Usage = (c ≡ None) × AllQuiet s o n × Takes n.before n.after (note_line status.Usage)
-HasCause c s o n status.ReadFault =
-    (used : Command) × (c ≡ Some used) × SourceFailed s × SinkQuiet o × SinkQuiet n × (o.after ≡ o.before) × Takes n.before n.after (note_line status.ReadFault)
-HasCause c s o n status.WriteFault = SinkFailed o ⊎ SinkFailed n
-HasCause c s o n status.OutOfMemory = SinkQuiet o × SinkQuiet n
-
--- where no count rises and the source tells its bytes, the answer is that of the words and the output, or want of memory
-abbrev pub IsComplete : Option Command → OfSource → OfSink → OfSink → Status → Type 0
-IsComplete None s o n last = AllQuiet s o n → (last ≡ status.Usage) ⊎ (last ≡ status.OutOfMemory)
-IsComplete (Some c) s o n last = AllQuiet s o n → WhereTold s.rest (λ bytes. (last ≡ (output_of c bytes).status) ⊎ (last ≡ status.OutOfMemory))
-
-pub record Answers (c : Option Command) (s : OfSource) (o n : OfSink) (last : Status) : Type 0 where
-  pub run : Runs c s o n last
-  pub cause : HasCause c s o n last
-  pub complete : IsComplete c s o n last

@@ -1,6 +1,7 @@
 pub mod Lines
 pub mod Listing
-pub mod Payloads
 pub mod Statuses
 pub mod Notes
 pub mod Answers
+pub mod Laws
+pub mod Code

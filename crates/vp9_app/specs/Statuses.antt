@@ -1,11 +1,10 @@
 -- How a run ends.
-use Rattle.std.specs.Prelude.{ℕ}
+use Rattle.std.specs.Prelude.{ℕ, Option, Some, None}
+use Rattle.vp9_types.specs.declared.outcome.Fault.{Fault}
+use Rattle.vp9_types.specs.declared.outcome.Fault.TheVariants as fault
 use Rattle.vp9_types.specs.declared.outcome.Outcome.{Outcome}
 use Rattle.vp9_types.specs.declared.outcome.Outcome.TheVariants as outcome
-use Rattle.seq_decoder.specs.Runs.{RunEnding}
-use Rattle.seq_decoder.specs.Runs as run
-use Rattle.vp9_app.specs.declared.listing.Ending.{Ending}
-use Rattle.vp9_app.specs.declared.listing.Ending.TheVariants as ending
+use Rattle.vp9_types.specs.declared.rule.Rule.{Rule}
 use Rattle.vp9_app.specs.declared.status.Status.{Status}
 use Rattle.vp9_app.specs.declared.status.Status.TheVariants as status
 
@@ -18,16 +17,19 @@ code_of status.WriteFault = 5
 code_of status.OutOfMemory = 6
 code_of (status.Unbuilt frame part) = 9
 
+abbrev pub status_at : ℕ → Fault → Status
+status_at frame (fault.Broken rule) = status.Broken (record { frame = frame; rule = rule })
+status_at frame (fault.Unbuilt part) = status.Unbuilt frame part
+
 -- the status of a listing that ends so
-abbrev pub ended : Ending → Status
-ended ending.End = status.Done
-ended (ending.Broken stop) = status.Broken stop
+abbrev pub ended : Option (ℕ × Rule) → Status
+ended None = status.Done
+ended (Some end) = status_at end.0 (fault.Broken end.1)
 
 -- the status of a run of the decoder that ends so
-abbrev pub run_ended : RunEnding → Status
-run_ended run.done = status.Done
-run_ended (run.broken stop) = status.Broken stop
-run_ended (run.unbuilt frame part) = status.Unbuilt frame part
+abbrev pub run_ended : Option (ℕ × Fault) → Status
+run_ended None = status.Done
+run_ended (Some end) = status_at end.0 end.1
 
 -- the status of a decode that ended so
 abbrev pub decode_ended : Outcome → Status

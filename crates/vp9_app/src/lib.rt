@@ -1,6 +1,7 @@
 //! The decoder's commands over any source and sinks.
 #![tactic(auto)]
 
+mod laws;
 mod line;
 mod listing;
 mod note;
@@ -9,6 +10,7 @@ mod status;
 #[cfg(test)]
 mod tests;
 
-pub use listing::{Ending, Listed, list_file};
+pub use laws::answers_have_their_causes;
+pub use listing::{Listed, list_file};
 pub use program::{Ran, run};
 pub use status::Status;

@@ -1,6 +1,7 @@
 ghost use Rattle.std.specs.Prelude.{◌≡◌, IfOk, string_bytes};
 ghost use Rattle.std.specs.Result.{ForOk};
-ghost use Rattle.vp9_app.specs.Answers.{sink_seen, Reports, Tells, MayLackMemory};
+ghost use Rattle.vp9_app.specs.Answers.{sink_seen, Reports};
+ghost use Rattle.vp9_app.specs.Code.{Tells, MayLackMemory};
 ghost use Rattle.vp9_app.specs.Notes.{note_line, stop_line, part_line};
 
 use crate::status::Status;
@@ -34,7 +35,9 @@ fn part_text(alloc: Global, frame: u64, part: Part) -> Result<String, AllocError
 fn put_line<N: Sink>(note: &mut N, line: &str, first: Status) -> Status
     requires can { N.can_put note.old }
     requires line { line.now ≡ note_line first }
-    ensures { Reports (sink_seen (N.grows note.old) (N.taken note.old) (N.taken note.new) (N.faults note.old) (N.faults note.new)) first result }
+    ensures reports { Reports (sink_seen (N.grows note.old) (N.taken note.old) (N.taken note.new) (N.faults note.old) (N.faults note.new)) first result }
+    ensures grows { N.grows note.new ≡ N.grows note.old }
+    ensures again { N.faults note.new ≡ N.faults note.old → N.can_put note.new }
 {
     match put_all(note, line.as_bytes()) {
         Ok(()) => first,
@@ -52,7 +55,9 @@ fn put_text<N: Sink>(note: &mut N, line: Result<String, AllocError>, first: Stat
     requires line { ForOk line (λ text. string_bytes text ≡ note_line first) }
     requires may_lack { MayLackMemory first Status.OutOfMemory }
     requires may_stay { MayLackMemory first first }
-    ensures { Tells (sink_seen (N.grows note.old) (N.taken note.old) (N.taken note.new) (N.faults note.old) (N.faults note.new)) first result }
+    ensures tells { Tells (sink_seen (N.grows note.old) (N.taken note.old) (N.taken note.new) (N.faults note.old) (N.faults note.new)) first result }
+    ensures grows { N.grows note.new ≡ N.grows note.old }
+    ensures again { N.faults note.new ≡ N.faults note.old → N.can_put note.new }
 {
     match line {
         Ok(text) => put_line(note, text.as_str(), first),
@@ -63,7 +68,9 @@ fn put_text<N: Sink>(note: &mut N, line: Result<String, AllocError>, first: Stat
 /// Puts the line that tells how the work ended, and says how the run ends with that.
 pub fn report<N: Sink>(alloc: Global, first: Status, note: &mut N) -> Status
     requires { N.can_put note.old }
-    ensures { Tells (sink_seen (N.grows note.old) (N.taken note.old) (N.taken note.new) (N.faults note.old) (N.faults note.new)) first result }
+    ensures tells { Tells (sink_seen (N.grows note.old) (N.taken note.old) (N.taken note.new) (N.faults note.old) (N.faults note.new)) first result }
+    ensures grows { N.grows note.new ≡ N.grows note.old }
+    ensures again { N.faults note.new ≡ N.faults note.old → N.can_put note.new }
 {
     match first {
         Status::Done => put_line(note, "", first),

@@ -1,10 +1,10 @@
 ghost use Rattle.std.specs.Prelude.{◌≡◌, Some, None, map, string_bytes};
-ghost use Rattle.vp9_app.specs.Answers.{source_seen, sink_seen, Works, Answers};
+ghost use Rattle.vp9_app.specs.Answers.{source_seen, sink_seen, Works, Runs};
 ghost use Rattle.command_words.specs.Words.{command_of};
 
 use crate::listing::list_file;
 use crate::note::report;
-use crate::status::Status;
+use crate::status::{Status, listing_status};
 use command_words::{Command, DecodeOptions, read_words};
 use edge_io::{Gate, PutFault, ReadError, Sink, Source, put_all, read_all};
 use seq_decoder::decode_plain;
@@ -24,9 +24,12 @@ pub struct Ran<S, K, N> {
 fn list<S: Source, K: Sink>(alloc: Global, source: &mut S, out: &mut K) -> Status
     requires source { S.can_fill source.old }
     requires out { K.can_put out.old }
-    ensures { Works (Some Command.List)
+    ensures work { Works (Some Command.List)
         (source_seen (S.rest source.old) (S.rest source.new) (S.faults source.old) (S.faults source.new))
         (sink_seen (K.grows out.old) (K.taken out.old) (K.taken out.new) (K.faults out.old) (K.faults out.new)) result }
+    ensures source_again { S.faults source.new ≡ S.faults source.old → S.can_fill source.new }
+    ensures grows { K.grows out.new ≡ K.grows out.old }
+    ensures out_again { K.faults out.new ≡ K.faults out.old → K.can_put out.new }
 {
     let bytes = match read_all(alloc, source) {
         Ok(bytes) => bytes,
@@ -38,7 +41,7 @@ fn list<S: Source, K: Sink>(alloc: Global, source: &mut S, out: &mut K) -> Statu
         Err(_) => return Status::OutOfMemory,
     };
     match put_all(out, listed.text.as_bytes()) {
-        Ok(()) => Status::from(listed.ending),
+        Ok(()) => listing_status(listed.ending),
         Err(PutFault::Failed) => Status::WriteFault,
         Err(PutFault::OutOfMemory) => Status::OutOfMemory,
     }
@@ -53,9 +56,12 @@ fn decode<S: Source, K: Sink>(
 ) -> Status
     requires source { S.can_fill source.old }
     requires out { K.can_put out.old }
-    ensures { Works (Some (Command.Decode _options))
+    ensures work { Works (Some (Command.Decode _options))
         (source_seen (S.rest source.old) (S.rest source.new) (S.faults source.old) (S.faults source.new))
         (sink_seen (K.grows out.old) (K.taken out.old) (K.taken out.new) (K.faults out.old) (K.faults out.new)) result }
+    ensures source_again { S.faults source.new ≡ S.faults source.old → S.can_fill source.new }
+    ensures grows { K.grows out.new ≡ K.grows out.old }
+    ensures out_again { K.faults out.new ≡ K.faults out.old → K.can_put out.new }
 {
     match read_all(alloc, source) {
         Ok(bytes) => Status::from(decode_plain(alloc, bytes.as_slice(), out)),
@@ -72,6 +78,9 @@ fn work<S: Source, K: Sink>(alloc: Global, words: &[String], source: &mut S, out
         (source_seen (S.rest source.old) (S.rest source.new) (S.faults source.old) (S.faults source.new))
         (sink_seen (K.grows out.old) (K.taken out.old) (K.taken out.new) (K.faults out.old) (K.faults out.new)) result }
     ensures untouched { command_of (map string_bytes words.now) ≡ None → (source.new ≡ source.old) × (out.new ≡ out.old) }
+    ensures source_again { S.faults source.new ≡ S.faults source.old → S.can_fill source.new }
+    ensures grows { K.grows out.new ≡ K.grows out.old }
+    ensures out_again { K.faults out.new ≡ K.faults out.old → K.can_put out.new }
 {
     match read_words(alloc, words) {
         Ok(Some(Command::List)) => list(alloc, source, out),
@@ -104,14 +113,19 @@ pub fn run<
     requires out { K.can_put out }
     requires note { N.can_put note }
 
-    // What is read, written and told, at each status with its cause.
-    ensures answer { Answers (command_of (map string_bytes words.now))
+    // What is read, written and told. (`answers_have_their_causes` says what follows at each status.)
+    ensures answer { Runs (command_of (map string_bytes words.now))
         (source_seen (S.rest source) (S.rest result.source) (S.faults source) (S.faults result.source))
         (sink_seen (K.grows out) (K.taken out) (K.taken result.out) (K.faults out) (K.faults result.out))
         (sink_seen (N.grows note) (N.taken note) (N.taken result.note) (N.faults note) (N.faults result.note)) result.status }
 
     // Words that are no command touch neither source nor out.
     ensures untouched { command_of (map string_bytes words.now) ≡ None → (result.source ≡ source) × (result.out ≡ out) }
+
+    // What didn't fail may be used on.
+    ensures source_again { S.faults result.source ≡ S.faults source → S.can_fill result.source }
+    ensures out_again { (K.grows result.out ≡ K.grows out) × (K.faults result.out ≡ K.faults out → K.can_put result.out) }
+    ensures note_again { (N.grows result.note ≡ N.grows note) × (N.faults result.note ≡ N.faults note → N.can_put result.note) }
 {
     let first = work(alloc, words, &mut source, &mut out);
     let status = report(alloc, first, &mut note);

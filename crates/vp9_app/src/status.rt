@@ -1,7 +1,7 @@
 ghost use Rattle.std.specs.Prelude.{◌≡◌};
-ghost use Rattle.vp9_app.specs.Statuses.{code_of};
+ghost use Rattle.vp9_app.specs.Statuses.{code_of, ended};
+ghost use Rattle.vp9_app.specs.Code.{ending_of};
 
-use crate::listing::Ending;
 use vp9_types::{Outcome, Part, Stop};
 
 /// How a run of the program ends.
@@ -39,17 +39,13 @@ impl Status {
     }
 }
 
-impl From<Ending> for Status {
-    ghost use Rattle.std.specs.Prelude.{◌≡◌};
-    ghost use Rattle.vp9_app.specs.Statuses.{ended};
-
-    ghost from_gives = { λ ending status. status ≡ ended ending };
-
-    fn from(ending: Ending) -> Status {
-        match ending {
-            Ending::End => Status::Done,
-            Ending::Broken(stop) => Status::Broken(stop),
-        }
+/// How a listing ends, by the frame that breaks a rule, if one does.
+pub fn listing_status(ending: Option<Stop>) -> Status
+    ensures { result ≡ ended (ending_of ending) }
+{
+    match ending {
+        None => Status::Done,
+        Some(stop) => Status::Broken(stop),
     }
 }
 

@@ -1,4 +1,5 @@
 mod rows;
+mod sizes;
 
 use super::*;
 use edge_io::{MemSink, MemSource, OpenGate};
@@ -24,13 +25,23 @@ const NONE: Fails = Fails {
     note: &[],
 };
 
-fn words_of(alloc: Global, row: &Row) -> Result<Vec<String>, AllocError> {
+// The program's name, and these words.
+fn run_words<R: Threads + Wait + Sync>(
+    rt: &R,
+    alloc: Global,
+    given: &[&'static str],
+    input: &[u8],
+    fails: &Fails,
+) -> Result<MemRan, AllocError> {
     let mut words = Vec::new(alloc);
     words.push(String::from_str(alloc, "vp9dec")?)?;
-    for word in row.words {
+    for word in given {
         words.push(String::from_str(alloc, word)?)?;
     }
-    Ok(words)
+    let source = MemSource::new(alloc, input, fails.source)?;
+    let out = MemSink::new(alloc, fails.out)?;
+    let note = MemSink::new(alloc, fails.note)?;
+    Ok(run(rt, alloc, words.as_slice(), source, out, note, &OpenGate))
 }
 
 fn run_row<R: Threads + Wait + Sync>(
@@ -39,11 +50,27 @@ fn run_row<R: Threads + Wait + Sync>(
     row: &Row,
     fails: &Fails,
 ) -> Result<MemRan, AllocError> {
-    let words = words_of(alloc, row)?;
-    let source = MemSource::new(alloc, row.input, fails.source)?;
-    let out = MemSink::new(alloc, fails.out)?;
-    let note = MemSink::new(alloc, fails.note)?;
-    Ok(run(rt, alloc, words.as_slice(), source, out, note, &OpenGate))
+    run_words(rt, alloc, row.words, row.input, fails)
+}
+
+// The first row that ends otherwise than it is to.
+fn first_other<R: Threads + Wait + Sync>(
+    rt: &R,
+    alloc: Global,
+    tables: &[&'static [Row]],
+) -> Result<Option<&'static str>, AllocError> {
+    for table in tables {
+        for row in *table {
+            let ran = run_row(rt, alloc, row, &NONE)?;
+            let ends = ran.status.code() == row.status;
+            let writes = ran.out.bytes() == row.output;
+            let tells = ran.note.bytes() == row.note.as_bytes();
+            if !(ends && writes && tells) {
+                return Ok(Some(row.name));
+            }
+        }
+    }
+    Ok(None)
 }
 
 fn row_named(tables: &[&'static [Row]], name: &str) -> Option<&'static Row> {
@@ -59,43 +86,28 @@ fn row_named(tables: &[&'static [Row]], name: &str) -> Option<&'static Row> {
 
 #[test]
 fn listings_end_as_they_are_to(rt: HostRuntime) -> Result<(), Fail> {
-    for table in list::TABLES {
-        for row in table {
-            let name = row.name;
-            let ran = run_row(&rt, rt.alloc(), row, &NONE)?;
-            assert_eq!(rt; ran.status.code(), row.status, "{name}");
-            assert_eq!(rt; ran.out.bytes(), row.output, "{name}");
-            assert_eq!(rt; ran.note.bytes(), row.note.as_bytes(), "{name}");
-        }
-    }
+    assert_eq!(rt;
+        first_other(&rt, rt.alloc(), list::TABLES.as_slice())?,
+        None
+    );
     Ok(())
 }
 
 #[test]
 fn decodes_end_as_they_are_to(rt: HostRuntime) -> Result<(), Fail> {
-    for table in lossless_decode::TABLES {
-        for row in table {
-            let name = row.name;
-            let ran = run_row(&rt, rt.alloc(), row, &NONE)?;
-            assert_eq!(rt; ran.status.code(), row.status, "{name}");
-            assert_eq!(rt; ran.out.bytes(), row.output, "{name}");
-            assert_eq!(rt; ran.note.bytes(), row.note.as_bytes(), "{name}");
-        }
-    }
+    assert_eq!(rt;
+        first_other(&rt, rt.alloc(), lossless_decode::TABLES.as_slice())?,
+        None
+    );
     Ok(())
 }
 
 #[test]
 fn levels_that_do_not_fit_end_a_decode(rt: HostRuntime) -> Result<(), Fail> {
-    for table in overflow_frames::TABLES {
-        for row in table {
-            let name = row.name;
-            let ran = run_row(&rt, rt.alloc(), row, &NONE)?;
-            assert_eq!(rt; ran.status.code(), row.status, "{name}");
-            assert_eq!(rt; ran.out.bytes(), row.output, "{name}");
-            assert_eq!(rt; ran.note.bytes(), row.note.as_bytes(), "{name}");
-        }
-    }
+    assert_eq!(rt;
+        first_other(&rt, rt.alloc(), overflow_frames::TABLES.as_slice())?,
+        None
+    );
     Ok(())
 }
 
@@ -153,17 +165,5 @@ fn a_read_fault_leaves_no_frame(rt: HostRuntime) -> Result<(), Fail> {
     assert_eq!(rt; ran.status.code(), 4);
     assert_eq!(rt; ran.note.bytes(), b"read fault\n".as_slice());
     assert_eq!(rt; ran.out.bytes().len(), 0);
-    Ok(())
-}
-
-#[test]
-fn memory_is_not_lacking(rt: HostRuntime) -> Result<(), Fail> {
-    let row = row_named(
-        list::TABLES.as_slice(),
-        "frames before a bad one are listed",
-    )
-    .ok_or("no such row")?;
-    let ran = run_row(&rt, rt.alloc(), row, &NONE)?;
-    assert!(rt; ran.status != Status::OutOfMemory);
     Ok(())
 }

@@ -34,5 +34,5 @@ loop-y-preserved g c = let a = c.args in
           c.loop-y.y c.min-count.result _ c.loop-y.invariant.taken wrote c.in_ok-put_all.ensures.bytes;
       faults = c.in_ok-put_all.ensures.faults ∙ c.loop-y.invariant.faults;
       grows = c.put_all.ensures.grows ∙ c.loop-y.invariant.grows;
-      again = c.in_ok-put_all.ensures.again;
+      again = c.in_ok-put_all.ensures.again c.in_ok-put_all.ensures.faults;
     }

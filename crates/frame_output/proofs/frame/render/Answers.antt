@@ -2,7 +2,8 @@ use Rattle.std.proofs.lemmas.Result.{err_from_is_err_and}
 use Rattle.std.proofs.Common.{◌++◌}
 use Rattle.vp9_types.specs.declared.shape.Plane.TheVariants.{Y, U, V}
 use Rattle.frame_output.specs.Texts.{plane_text, frame_text}
-use Rattle.frame_output.proofs.Fronts.{first_refused, second_refused, takes_both, puts_last}
+use Rattle.edge_io.proofs.Fronts.{takes_both}
+use Rattle.frame_output.proofs.Fronts.{first_refused, second_refused, puts_last}
 use Rattle.frame_output.proofs.frame.render.Goals as goal
 
 pub returns-in_err-put_plane-clause-bytes : goal.returns-in_err-put_plane-clause-bytes

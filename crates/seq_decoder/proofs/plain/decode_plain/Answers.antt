@@ -1,58 +1,41 @@
-use Rattle.std.proofs.Common.{arith, ap, subst, refl}
+use Rattle.std.proofs.Common.{subst, ◌∙◌}
 use Rattle.std.specs.Prelude.{Ok}
-use Rattle.ivf_container.specs.Packets.{IsNext, packets_from, payload_of}
-use Rattle.seq_decoder.specs.Code.{place_at}
-use Rattle.seq_decoder.specs.State.{start_state}
-use Rattle.seq_decoder.proofs.RunLemmas.{none_written, run_done, run_broken, packet_written, packet_halts}
+use Rattle.file_frames.specs.Code.{IsNext, ahead}
+use Rattle.seq_decoder.proofs.RunLemmas.{run_done, run_broken, frame_written, frame_halts}
 use Rattle.seq_decoder.proofs.plain.decode_plain.Goals as goal
 
-pub returns-in-Err : goal.returns-in-Err
-returns-in-Err g c =
-    rw c.outcome_at.ensures
-    (run_broken c.args.bytes.now (place_at c.new-decoder.result start_state) _ c.in-Err.rule _ _ _ _ refl
-    (none_written c.args.bytes.now (place_at c.new-decoder.result start_state) _ _ _ (ap (λ n. record { frame = n; state = start_state }) c.new-decoder.ensures.first) c.in-Err.ensures.begun))
+pub returns-in-Ok-None-clause-decodes : goal.returns-in-Ok-None-clause-decodes
+returns-in-Ok-None-clause-decodes g c =
+    let h = c.frames.invariant.written in
+    let next = subst (λ o. IsNext (ahead c.frames.frames) (Ok o) (ahead c.next_frame.new.self)) c.in-Ok-None.field-0-is c.in-Ok-None.ensures.next in
+    run_done c.args.bytes.now h.0 (ahead c.frames.frames) _ _ _ _ next.0 h.2
 
-pub packets-init : goal.packets-init
-packets-init g c = record {
-  within = c.in-Ok.ensures.begun.0;
-  few = omega (arith, c.new-decoder.ensures.first);
-  sized = c.new-decoder.ensures.sized;
-  can = c.requires;
-  written = (start_state, c.new-decoder.ensures.stands, none_written c.args.bytes.now (place_at c.new-decoder.result start_state) _ _ _ (ap (λ n. record { frame = n; state = start_state }) c.new-decoder.ensures.first) c.in-Ok.ensures.begun.1);
-}
+pub returns-in-Err-clause-decodes : goal.returns-in-Err-clause-decodes
+returns-in-Err-clause-decodes g c =
+    let h = c.frames.invariant.written in
+    run_broken c.args.bytes.now h.0 (ahead c.frames.frames) c.in-Err.stop _ _ _ _ c.in-Err.ensures.next.0 h.2
 
-pub next_packet-requires : goal.next_packet-requires
-next_packet-requires g c = c.packets.invariant.within
-
-pub returns-in-Err-next_packet : goal.returns-in-Err-next_packet
-returns-in-Err-next_packet g c =
-    rw c.outcome_at-in-Err-next_packet.ensures
-    (run_broken c.args.bytes.now (place_at c.packets.decoder c.packets.invariant.written.0) _ c.in-Err-next_packet.rule _ _ _ _ c.in-Err-next_packet.ensures.next.1 c.packets.invariant.written.2)
-
-pub returns-in-Ok-None : goal.returns-in-Ok-None
-returns-in-Ok-None g c =
-    let next = subst (λ o. IsNext c.args.bytes.now c.packets.at (Ok o)) c.in-Ok-None.field-0-is c.in-Ok-None.ensures.next in
-    run_done c.args.bytes.now (place_at c.packets.decoder c.packets.invariant.written.0) _ _ _ _ _ next.1 c.packets.invariant.written.2
-
-pub returns-in-Err-decode_payload : goal.returns-in-Err-decode_payload
-returns-in-Err-decode_payload g c =
-    let next = subst (λ o. IsNext c.args.bytes.now c.packets.at (Ok o)) c.in-Ok-Some.field-0-is c.in-Ok-Some.ensures.next in
-    packet_halts c.args.bytes.now (payload_of c.args.bytes.now c.in-Ok-Some.packet) (place_at c.packets.decoder c.packets.invariant.written.0) _ (packets_from c.args.bytes.now c.in-Ok-Some.packet.to) _ _ _ _ _ _
-    c.in-Err-decode_payload.outcome next.packets c.packets.invariant.written.2 (c.in-Err-decode_payload.ensures.adds c.packets.invariant.written.0 c.packets.invariant.written.1)
-
-pub packets-preserved : goal.packets-preserved
-packets-preserved g c =
-    let next = subst (λ o. IsNext c.args.bytes.now c.packets.at (Ok o)) c.in-Ok-Some.field-0-is c.in-Ok-Some.ensures.next in
-    let a = c.in-Ok-decode_payload.ensures.adds c.packets.invariant.written.0 c.packets.invariant.written.1 in
+pub frames-preserved : goal.frames-preserved
+frames-preserved g c =
+    let h = c.frames.invariant.written in
+    let frame = c.in-Ok-Some.frame in
+    let next = subst (λ o. IsNext (ahead c.frames.frames) (Ok o) (ahead c.next_frame.new.self)) c.in-Ok-Some.field-0-is c.in-Ok-Some.ensures.next in
+    let a = c.in-Ok.ensures.adds h.0 h.1 in
     record {
-      within = next.within;
-      few = omega (arith, c.packets.invariant.few, c.in-Ok-decode_payload.ensures.near, next.from, next.in_order);
-      sized = c.in-Ok-decode_payload.ensures.sized;
-      can = c.in-Ok-decode_payload.ensures.again;
+      sized = c.in-Ok.ensures.sized;
+      table = c.in-Ok.ensures.table;
+      can = c.in-Ok.ensures.again a.4;
+      grows = c.in-Ok.ensures.grows ∙ c.frames.invariant.grows;
       written = (
-        a.0,
-        a.1,
-        packet_written c.args.bytes.now (payload_of c.args.bytes.now c.in-Ok-Some.packet) (place_at c.packets.decoder c.packets.invariant.written.0) (place_at c.decode_payload.new.self a.0) _ (packets_from c.args.bytes.now c.in-Ok-Some.packet.to) _ _ _ _ _ _
-            next.packets c.packets.invariant.written.2 (a.2, a.3, a.4),
+        a.0.state,
+        a.2,
+        frame_written c.args.bytes.now frame.bytes.now frame.number h.0 (ahead c.frames.frames) (ahead c.next_frame.new.self) a.0 _ _ _ _ _ _ next h.2 a.1 a.3 a.4,
       );
     }
+
+pub returns-in-Err-decode_next-clause-decodes : goal.returns-in-Err-decode_next-clause-decodes
+returns-in-Err-decode_next-clause-decodes g c =
+    let h = c.frames.invariant.written in
+    let frame = c.in-Ok-Some.frame in
+    let next = subst (λ o. IsNext (ahead c.frames.frames) (Ok o) (ahead c.next_frame.new.self)) c.in-Ok-Some.field-0-is c.in-Ok-Some.ensures.next in
+    frame_halts c.args.bytes.now frame.bytes.now frame.number h.0 (ahead c.frames.frames) (ahead c.next_frame.new.self) _ _ _ _ _ _ c.in-Err-decode_next.outcome next h.2 (c.in-Err-decode_next.ensures.adds h.0 h.1)

@@ -1,19 +1,19 @@
-use Rattle.std.proofs.Common.{◌-◌, ◌≤◌, length}
+use Rattle.std.proofs.Common.{◌≡◌, length}
 use Rattle.frame_headers.specs.State.{SlotsHaveSizes}
-use Rattle.ivf_container.specs.Packets.{packets_from}
-use Rattle.seq_decoder.specs.Code.{StandsFor, place_at}
+use Rattle.file_frames.specs.Code.{ahead}
+use Rattle.seq_decoder.specs.Code.{MayDecode, StandsFor}
 use Rattle.seq_decoder.specs.State.{State}
 use Rattle.seq_decoder.proofs.RunLemmas.{HasWritten}
 use Rattle.seq_decoder.proofs.plain.decode_plain.Given as goal
 
-abbrev pub invariant-packets : goal.invariant-packets
-invariant-packets g l = record {
-  within : l.at ≤ length l.bytes;
-  few : l.decoder.frame ≤ l.at;
+abbrev pub invariant-frames : goal.invariant-frames
+invariant-frames g l = record {
   sized : SlotsHaveSizes l.decoder.persist;
+  table : MayDecode l.decoder.table;
   can : g.K.Sink.can_put l.sink;
-  written : (state : State) × StandsFor l.decoder state × HasWritten l.bytes (place_at l.decoder state) (packets_from l.bytes l.at) (g.K.Sink.taken l.initial.sink) (g.K.Sink.taken l.sink) (g.K.Sink.faults l.initial.sink) (g.K.Sink.faults l.sink);
+  grows : g.K.Sink.grows l.sink ≡ g.K.Sink.grows l.initial.sink;
+  written : (state : State) × StandsFor l.decoder state × HasWritten l.bytes state (ahead l.frames) (g.K.Sink.taken l.initial.sink) (g.K.Sink.taken l.sink) (g.K.Sink.faults l.initial.sink) (g.K.Sink.faults l.sink);
 }
 
-abbrev pub decreases-packets : goal.decreases-packets
-decreases-packets g l = length l.bytes - l.at
+abbrev pub decreases-frames : goal.decreases-frames
+decreases-frames g l = length (ahead l.frames).frames

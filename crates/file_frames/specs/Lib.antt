@@ -1,0 +1,4 @@
+pub mod FileFrames
+pub mod Walks
+pub mod Laws
+pub mod Code

@@ -1,0 +1,10 @@
+//! The frames of a file: those of its payloads, one after another, and walks over them.
+#![tactic(auto)]
+
+mod cursor;
+mod laws;
+#[cfg(test)]
+mod tests;
+
+pub use cursor::{FileFrame, FrameCursor};
+pub use laws::{file_has_these_frames, walks_go_on};

@@ -1,0 +1,59 @@
+#!/bin/sh
+# Runs vp9dec on each FILE.ivf of a folder (the argument, or ../shared/streams beside the repository). What `list` writes is
+# compared with FILE.list, byte by byte; how `decode` and `decode --plain` end, how much they write and what they tell, with
+# tools/decode_endings.py; and what they write, where a file is decoded to its end, with FILE.md5 or FILE.ivf.md5. The status
+# is 0 where something was checked and nothing differs.
+set -u
+top=$(dirname -- "$(dirname -- "$(readlink -f -- "$0")")")
+folder=${1:-$top/../shared/streams}
+out=$(mktemp -d) || exit 1
+trap 'rm -rf "$out"' EXIT
+trap 'exit 1' HUP INT TERM
+agree=0 ended=0 differ=0
+
+# Once, so that a program that can't be built is told once. A file of nothing breaks a rule.
+"$top/vp9dec" list </dev/null >"$out/text" 2>"$out/note"
+[ $? -eq 3 ] || { cat "$out/note"; exit 1; }
+
+# run FILE WORDS: what it writes is in text, and how it ends in found
+run() {
+    # shellcheck disable=SC2086 # each word is an argument
+    "$top/vp9dec" $2 <"$1" >"$out/text" 2>"$out/note"
+    found="$? $(wc -c <"$out/text")$(sed 's/^/ /' "$out/note")"
+}
+
+# tell NAME WORDS WANTED GOT: counts a run that ends, or writes, otherwise than it is to
+tell() {
+    differ=$((differ + 1))
+    echo "$1: $2: '$4', and not '$3'"
+}
+
+sum_of() {
+    md5sum <"$1" | cut -d ' ' -f 1
+}
+
+for file in "$folder"/*.ivf; do
+    [ -e "$file" ] || continue
+    name=$(basename -- "$file")
+    if list=${file%.ivf}.list && [ -e "$list" ]; then
+        run "$file" list
+        wanted="0 $(wc -c <"$list")"
+        if [ "$found" = "$wanted" ] && cmp -s "$out/text" "$list"; then agree=$((agree + 1)); else tell "$name" list "$wanted" "$found"; fi
+    fi
+    wanted=$(python3 "$top/tools/decode_endings.py" "$file") || { tell "$name" decode "an ending" "none"; continue; }
+    sum=$(cat "${file%.ivf}.md5" "$file.md5" 2>/dev/null | cut -d ' ' -f 1)
+    for words in "decode" "decode --plain"; do
+        run "$file" "$words"
+        if [ "$found" != "$wanted" ]; then
+            tell "$name" "$words" "$wanted" "$found"
+        elif [ "${found%% *}" -ne 0 ]; then
+            ended=$((ended + 1))
+        elif [ "$(sum_of "$out/text")" = "$sum" ]; then
+            agree=$((agree + 1))
+        else
+            tell "$name" "$words" "$sum" "$(sum_of "$out/text")"
+        fi
+    done
+done
+echo "$agree agree, $ended ended where they are to, $differ differ"
+[ "$differ" -eq 0 ] && [ "$agree" -gt 0 ]
