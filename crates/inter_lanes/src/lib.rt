@@ -8,5 +8,5 @@ mod taps;
 mod vectors;
 
 pub use numbers::{rounded, weighted};
-pub use runs::filter_run;
+pub use runs::{filter_line, filter_run};
 pub use taps::TapLanes;

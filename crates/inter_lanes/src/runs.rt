@@ -20,7 +20,7 @@ pub fn filter_run(
     requires few { count ≤ 4096 }
     requires sixteens { count ≡ 16 * (count / 16) }
     requires room { count ≤ length out.old }
-    requires near { from ≤ 32768 }
+    requires near { from ≤ 65536 }
     requires narrow { step ≤ 64 }
     requires enough { from + count + 7 * step ≤ length samples.now }
     requires small { (k : ℕ) → slice_index samples.now k ≤ 4095 }
@@ -31,5 +31,33 @@ pub fn filter_run(
         let at = 16 * b;
         let values = taps.filter_sixteen(samples, from + at, step, most);
         out[at..at + 16].copy_from_slice(&values);
+    }
+}
+
+/// n filtered values of any n up to 64: as `filter_run`, but so many samples are read as a multiple of sixteen would take.
+#[inline(always)]
+pub fn filter_line(
+    out: &mut [u16],
+    n: usize,
+    samples: &[u16],
+    from: usize,
+    step: usize,
+    taps: &TapLanes,
+    most: u16,
+)
+    requires few { n ≤ 64 }
+    requires room { n ≤ length out.old }
+    requires near { from ≤ 65536 }
+    requires narrow { step ≤ 64 }
+    requires enough { from + 16 * ((n + 15) / 16) + 7 * step ≤ length samples.now }
+    requires small { (k : ℕ) → slice_index samples.now k ≤ 4095 }
+    ensures value { (j : ℕ) → j < n → slice_index out.new j ≡ filtered most taps.now (λ k. slice_index samples.now (from + k * step + j)) }
+    ensures after { (j : ℕ) → n ≤ j → slice_index out.new j ≡ slice_index out.old j }
+{
+    let whole = 16 * (n / 16);
+    filter_run(out, whole, samples, from, step, taps, most);
+    if whole < n {
+        let values = taps.filter_sixteen(samples, from + whole, step, most);
+        out[whole..n].copy_from_slice(&values[..n - whole]);
     }
 }

@@ -11,7 +11,7 @@ use std::simd::prelude::*;
 /// Sixteen sums of two weighted samples, `step` places from each other.
 #[inline(always)]
 pub(crate) fn pair_at(samples: &[u16], place: usize, step: usize, taps: i16x16) -> (i32x8, i32x8)
-    requires near { place ≤ 2 ^ 17 }
+    requires near { place ≤ 2 ^ 18 }
     requires narrow { step ≤ 64 }
     requires room { place + step + 16 ≤ length samples.now }
     requires small { (k : ℕ) → slice_index samples.now k ≤ 4095 }

@@ -60,7 +60,7 @@ impl TapLanes {
         step: usize,
         most: u16,
     ) -> [u16; 16]
-        requires near { place ≤ 2 ^ 16 }
+        requires near { place ≤ 2 ^ 17 }
         requires narrow { step ≤ 64 }
         requires room { place + 7 * step + 16 ≤ length samples.now }
         requires small { (k : ℕ) → slice_index samples.now k ≤ 4095 }
