@@ -11,7 +11,7 @@ use mir.Val.{SFits}
 use borrow.Rule.Simd.Lanes.{act1, act2, Asks1}
 use borrow.Table.Row.{s_int}
 use Rattle.inter_lanes.proofs.NumberLemmas.{fits_16, fits_32, tap_kept, eight_is}
-use Rattle.inter_lanes.specs.Filter.{ rounded, filtered}
+use Rattle.inter_lanes.specs.Filter.{rounded, filtered}
 use Rattle.inter_lanes.specs.Code.{AreLanes, AreTurns, IsTurned, at, taps_in}
 
 pub widened_lane : (z : ℤ) → unsigned_abs z ≤ 4095 → act1 (cast signed signed w32) (s_int w16) (s_int w32) (of_z w16 z) ≡ of_z w32 z
@@ -123,6 +123,7 @@ turns_small p q a lanes others low = lanes_of 16 4095 (by_turns p q a) refl
   where
     f : (k : ℕ) → k < 16 → unsigned_abs (joined p q k) ≤ 4095
     f k few = rw (front p q k lanes few) (lanes.small k)
+
     g : (n k : ℕ) → n ≡ 16 + k → k < 16 → unsigned_abs (joined p q n) ≤ 4095
     g n k is few = rw (behind p q n k lanes others is few) (others.small k)
 
@@ -147,8 +148,11 @@ neighbour_is m p k taps lanes low =
 
 neighbour_small : (m p : List ℤ) (k : ℕ) → AreLanes 16 128 m → AreLanes 16 4095 p → k + 1 < 16 → unsigned_abs (neighbours (products m p) k) ≤ 2 ^ 20
 neighbour_small m p k taps lanes low = rw (neighbour_is m p k taps lanes low)
-    (omega (arith, sum_small (at m k *ℤ at p k) (at m (k + 1) *ℤ at p (k + 1)) (2 ^ 19) (2 ^ 19) (product_small (at m k) (at p k) (taps.small k) (lanes.small k))
-    (product_small (at m (k + 1)) (at p (k + 1)) (taps.small (k + 1)) (lanes.small (k + 1)))))
+    (omega (
+      arith,
+      sum_small (at m k *ℤ at p k) (at m (k + 1) *ℤ at p (k + 1)) (2 ^ 19) (2 ^ 19) (product_small (at m k) (at p k) (taps.small k) (lanes.small k))
+          (product_small (at m (k + 1)) (at p (k + 1)) (taps.small (k + 1)) (lanes.small (k + 1))),
+    ))
 
 pub sums_small : (m p : List ℤ) → AreLanes 16 128 m → AreLanes 16 4095 p → AreLanes 8 (2 ^ 20) (neighbour_sums (products m p))
 sums_small m p taps lanes = lanes_of 8 (2 ^ 20) (neighbour_sums (products m p)) refl
@@ -313,8 +317,12 @@ pub sixteen_value : (most : ℕ) (taps first second third fourth : List ℤ) (xs
     x ≡ filtered most taps (λ k. get_or xs (place + k * step + i) 0)
 sixteen_value most taps first second third fourth xs place step i j x p q r s v view one two three four p_lanes q_lanes r_lanes s_lanes v_lanes value sum p_is q_is r_is s_is =
     let value_is = rw (sums_kept v (2 ^ 22) (omega arith) v_lanes) at value in
-    let sum_is = rw (sums_kept p (2 ^ 20) (omega arith) p_lanes, sums_kept q (2 ^ 20) (omega arith) q_lanes, sums_kept r (2 ^ 20) (omega arith) r_lanes,
-        sums_kept s (2 ^ 20) (omega arith) s_lanes) at sum in
+    let sum_is = rw (
+      sums_kept p (2 ^ 20) (omega arith) p_lanes,
+      sums_kept q (2 ^ 20) (omega arith) q_lanes,
+      sums_kept r (2 ^ 20) (omega arith) r_lanes,
+      sums_kept s (2 ^ 20) (omega arith) s_lanes,
+    ) at sum in
     value_is ∙ ap (rounded most) (
     eight_is (taps_in first second third fourth) (λ k. get_or xs (place + k * step + i) 0) (at p j) (at q j) (at r j) (at s j) (at v j) sum_is
     (pair_moved first first xs (at p j) (place + i) (place + step + i) (place + 0 * step + i) (place + 1 * step + i) one refl (omega arith) (omega arith) p_is)
@@ -345,12 +353,22 @@ pub taps_made : (taps p q r s : List ℤ) → length taps ≡ 8 → ((k : ℕ) �
     taps_in (kept_16 p) (kept_16 q) (kept_16 r) (kept_16 s) ≡ taps
 taps_made taps p q r s size small p_turns q_turns r_turns s_turns =
     rw (taps_kept p p_turns.lanes, taps_kept q q_turns.lanes, taps_kept r r_turns.lanes, taps_kept s s_turns.lanes)
-    (rw (even p _ _ p_turns ∙ tap 0, odd p _ _ p_turns ∙ tap 1, even q _ _ q_turns ∙ tap 2, odd q _ _ q_turns ∙ tap 3,
-    even r _ _ r_turns ∙ tap 4, odd r _ _ r_turns ∙ tap 5, even s _ _ s_turns ∙ tap 6, odd s _ _ s_turns ∙ tap 7) (eight_values taps size))
+    (rw (
+      even p _ _ p_turns ∙ tap 0,
+      odd p _ _ p_turns ∙ tap 1,
+      even q _ _ q_turns ∙ tap 2,
+      odd q _ _ q_turns ∙ tap 3,
+      even r _ _ r_turns ∙ tap 4,
+      odd r _ _ r_turns ∙ tap 5,
+      even s _ _ s_turns ∙ tap 6,
+      odd s _ _ s_turns ∙ tap 7,
+    ) (eight_values taps size))
   where
     tap : (k : ℕ) → tap_again taps k ≡ at taps k
     tap k = tap_kept (at taps k) (small k)
+
     even : (v : List ℤ) (a b : ℤ) → AreTurns a b v → at v 0 ≡ a
     even v a b turns = turns.even 0 (omega arith)
+
     odd : (v : List ℤ) (a b : ℤ) → AreTurns a b v → at v 1 ≡ b
     odd v a b turns = turns.odd 0 (omega arith)

@@ -12,7 +12,11 @@ fn mean_of_two(sum: i32) -> i32
     ensures value { result ≡ mean 2 sum }
     ensures near { unsigned_abs result ≤ 2 ^ 16 }
 {
-    if sum < 0 { -((1 - sum) / 2) } else { (sum + 1) / 2 }
+    if sum < 0 {
+        -((1 - sum) / 2)
+    } else {
+        (sum + 1) / 2
+    }
 }
 
 /// The mean of four numbers, by two sums of two of them.
@@ -23,10 +27,19 @@ fn mean_of_four(first: i32, second: i32) -> i32
     ensures near { unsigned_abs result ≤ 2 ^ 16 }
 {
     let sum = first + second;
-    if sum < 0 { -((2 - sum) / 4) } else { (sum + 2) / 4 }
+    if sum < 0 {
+        -((2 - sum) / 4)
+    } else {
+        (sum + 2) / 4
+    }
 }
 
-pub(crate) fn component(inter: &InterPrediction, list: usize, quarter: usize, along: Direction) -> i32
+pub(crate) fn component(
+    inter: &InterPrediction,
+    list: usize,
+    quarter: usize,
+    along: Direction,
+) -> i32
     requires list { list < 2 }
     requires quarter { quarter < 4 }
     ensures value { result ≡ component along (vector_at inter.now list quarter) }
@@ -40,7 +53,13 @@ pub(crate) fn component(inter: &InterPrediction, list: usize, quarter: usize, al
 }
 
 /// The sum of the components of two quarters.
-fn sum_of(inter: &InterPrediction, list: usize, first: usize, second: usize, along: Direction) -> i32
+fn sum_of(
+    inter: &InterPrediction,
+    list: usize,
+    first: usize,
+    second: usize,
+    along: Direction,
+) -> i32
     requires list { list < 2 }
     requires first { first < 4 }
     requires second { second < 4 }

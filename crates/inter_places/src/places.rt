@@ -37,7 +37,8 @@ pub fn part_count(shape: &Shape, size: BlockSize, plane: Plane) -> usize
     ensures { result ≡ parts_of shape.now size plane }
 {
     if is_below_8x8(size) {
-        fours(subsampling(shape, plane, Direction::Down)) * fours(subsampling(shape, plane, Direction::Across))
+        fours(subsampling(shape, plane, Direction::Down))
+            * fours(subsampling(shape, plane, Direction::Across))
     } else {
         1
     }
@@ -82,7 +83,13 @@ fn span_of(shape: &Shape, block: &BlockInfo, plane: Plane, along: Direction) -> 
     }
 }
 
-fn part_vector(shape: &Shape, size: BlockSize, inter: &InterPrediction, part: BlockPart, along: Direction) -> i32
+fn part_vector(
+    shape: &Shape,
+    size: BlockSize,
+    inter: &InterPrediction,
+    part: BlockPart,
+    along: Direction,
+) -> i32
     requires number { part.number < parts_of shape.now size part.plane }
     requires list { part.list < 2 }
     ensures value { result ≡ part_vector shape.now size inter.now part along }
@@ -145,7 +152,11 @@ fn coded_length(shape: &Shape, plane: Plane, along: Direction) -> u32
     ensures { result ≡ coded_length shape.now plane along }
 {
     let luma = 8 * luma_length(shape, along).div_ceil(8);
-    if subsampling(shape, plane, along) { luma / 2 } else { luma }
+    if subsampling(shape, plane, along) {
+        luma / 2
+    } else {
+        luma
+    }
 }
 
 /// How long a part of a block is along a direction.

@@ -1,8 +1,8 @@
 //! Single values, at any step.
 
-ghost use Rattle.std.specs.Prelude.{◌≡◌, ℕ, ◌+◌, ◌*◌, ◌/◌, ◌<◌, ◌≤◌, length, slice_index};
+ghost use Rattle.std.specs.Prelude.{◌≡◌, ℕ, ◌+◌, ◌*◌, ◌/◌, ◌%◌, ◌<◌, ◌≤◌, length, slice_index};
 ghost use Rattle.inter_lanes.specs.Filter.{filtered};
-ghost use Rattle.inter_places.specs.Axes.{straight, offset, phase};
+ghost use Rattle.inter_places.specs.Axes.{straight, offset, phase, IsAxis};
 ghost use Rattle.inter_scaled.specs.Inter.{along};
 ghost use Rattle.inter_scaled.specs.Code.{IsFilter};
 ghost use Rattle.vp9_tables.specs.Filters.{taps_of};
@@ -72,6 +72,27 @@ fn value_along(row: &[u16], j: usize, filter: &LineFilter) -> u16
 {
     let offset = offset_of(&filter.axis, j);
     let eight = eight_samples(row, &filter.axis, offset / 16);
+    filtered_eight(&eight, filter, offset)
+}
+
+/// A value down column j of lines of n, so many sixteenths of a sample behind the first.
+#[inline(always)]
+pub(crate) fn value_below(
+    lines: &[u16],
+    n: usize,
+    j: usize,
+    filter: &LineFilter,
+    offset: usize,
+) -> u16
+    requires filter { IsFilter filter.now }
+    requires near { offset ≤ 2063 }
+    requires narrow { n ≤ 64 }
+    requires j { j < n }
+    requires room { (offset / 16 + 8) * n ≤ length lines.now }
+    requires samples { (k : ℕ) → slice_index lines.now k ≤ 4095 }
+    ensures { result ≡ filtered filter.now.most (taps_of filter.now.kind (offset % 16)) (λ k. slice_index lines.now ((offset / 16 + k) * n + j)) }
+{
+    let eight = eight_below(lines, n, offset / 16, j);
     filtered_eight(&eight, filter, offset)
 }
 
