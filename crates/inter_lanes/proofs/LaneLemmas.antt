@@ -1,5 +1,5 @@
 -- Lanes: what each operation on vectors gives, lane by lane.
-use Rattle.std.proofs.Common.{◌≡◌, ℕ, ◌+◌, ◌*◌, ◌^◌, ◌<◌, ◌≤◌, ℤ, pos, negsuc, ◌+ℤ◌, ◌*ℤ◌, List, unsigned_abs, to_z, of_z, arith, refl, ◌∙◌, ap, sym, length, get_or, ◌++◌, [], ◌∷◌, map, ◌%◌, inl, inr, zero, suc}
+use Rattle.std.proofs.Common.{◌≡◌, ℕ, ◌+◌, ◌*◌, ◌^◌, ◌<◌, ◌≤◌, ℤ, pos, negsuc, ◌+ℤ◌, ◌*ℤ◌, List, unsigned_abs, to_z, of_z, arith, refl, ◌∙◌, ap, sym, length, get_or, ◌++◌, [], ◌∷◌, map, ◌%◌, ◌/◌, ◌⊎◌, inl, inr, zero, suc}
 use Rattle.std.proofs.lemmas.Int.{unsigned_abs-mul, to_z-of_z, of_z-to_z, wrapping_mul_is, wrapping_add_is, int_wrap_fits, fits_signed_mul}
 use Rattle.std.proofs.Math.Nat.{mod-lt, mul-le-mul}
 use lib.Lanes.{Each1, zip2, chunk}
@@ -11,7 +11,7 @@ use mir.Val.{SFits}
 use borrow.Rule.Simd.Lanes.{act1, act2, Asks1}
 use borrow.Table.Row.{s_int}
 use Rattle.inter_lanes.proofs.NumberLemmas.{fits_16, fits_32, tap_kept, eight_is}
-use Rattle.inter_lanes.specs.Filter.{rounded, filtered}
+use Rattle.inter_lanes.specs.Filter.{weighted, rounded, filtered}
 use Rattle.inter_lanes.specs.Code.{AreLanes, AreTurns, IsTurned, at, taps_in}
 
 pub widened_lane : (z : ℤ) → unsigned_abs z ≤ 4095 → act1 (cast signed signed w32) (s_int w16) (s_int w32) (of_z w16 z) ≡ of_z w32 z
@@ -372,3 +372,50 @@ taps_made taps p q r s size small p_turns q_turns r_turns s_turns =
 
     odd : (v : List ℤ) (a b : ℤ) → AreTurns a b v → at v 1 ≡ b
     odd v a b turns = turns.odd 0 (omega arith)
+
+-- a sum of two weighted neighbours, by what each step says of it
+pub neighbours_value : (taps p : List ℤ) (a b j : ℕ) (r : List ℤ) → j < 8 → IsTurned taps → AreLanes 16 4095 p → AreLanes 8 (2 ^ 20) r →
+    at r j ≡ (at (kept_16 taps) (2 * j) *ℤ at (kept_16 p) (2 * j)) +ℤ (at (kept_16 taps) (2 * j + 1) *ℤ at (kept_16 p) (2 * j + 1)) →
+    at p (2 * j) ≡ pos a → at p (2 * j + 1) ≡ pos b → at (kept_32 r) j ≡ (at taps 0 *ℤ pos a) +ℤ (at taps 1 *ℤ pos b)
+neighbours_value taps p a b j r low turned p_lanes r_lanes sum first second =
+    let is = rw (taps_kept taps turned.lanes, samples_kept p p_lanes) at sum in
+    rw (sums_kept r (2 ^ 20) (omega arith) r_lanes, is, turned.even j low, turned.odd j low, first, second) refl
+
+-- a sum of eight weighted samples of a row, by what each step says of it
+pub along_value : (taps first second third fourth : List ℤ) (xs : List ℕ) (place j : ℕ) (p q r s v : List ℤ) →
+    taps_in first second third fourth ≡ taps → IsTurned first → IsTurned second → IsTurned third → IsTurned fourth →
+    AreLanes 8 (2 ^ 20) p → AreLanes 8 (2 ^ 20) q → AreLanes 8 (2 ^ 20) r → AreLanes 8 (2 ^ 20) s → AreLanes 8 (2 ^ 22) v →
+    at v j ≡ (at (kept_32 p) j +ℤ at (kept_32 q) j) +ℤ (at (kept_32 r) j +ℤ at (kept_32 s) j) →
+    at p j ≡ (at (kept_16 first) 0 *ℤ pos (get_or xs (place + 2 * j) 0)) +ℤ (at (kept_16 first) 1 *ℤ pos (get_or xs (place + (2 * j + 1)) 0)) →
+    at q j ≡ (at (kept_16 second) 0 *ℤ pos (get_or xs (place + 2 + 2 * j) 0)) +ℤ (at (kept_16 second) 1 *ℤ pos (get_or xs (place + 2 + (2 * j + 1)) 0)) →
+    at r j ≡ (at (kept_16 third) 0 *ℤ pos (get_or xs (place + 4 + 2 * j) 0)) +ℤ (at (kept_16 third) 1 *ℤ pos (get_or xs (place + 4 + (2 * j + 1)) 0)) →
+    at s j ≡ (at (kept_16 fourth) 0 *ℤ pos (get_or xs (place + 6 + 2 * j) 0)) +ℤ (at (kept_16 fourth) 1 *ℤ pos (get_or xs (place + 6 + (2 * j + 1)) 0)) →
+    at (kept_32 v) j ≡ weighted taps (λ k. get_or xs (place + (2 * j + k)) 0)
+along_value taps first second third fourth xs place j p q r s v view one two three four p_lanes q_lanes r_lanes s_lanes v_lanes sum p_is q_is r_is s_is =
+    let sum_is = rw (sums_kept p (2 ^ 20) (omega arith) p_lanes, sums_kept q (2 ^ 20) (omega arith) q_lanes, sums_kept r (2 ^ 20) (omega arith) r_lanes,
+        sums_kept s (2 ^ 20) (omega arith) s_lanes) at sum in
+    rw (sums_kept v (2 ^ 22) (omega arith) v_lanes) (
+    eight_is (taps_in first second third fourth) (λ k. get_or xs (place + (2 * j + k)) 0) (at p j) (at q j) (at r j) (at s j) (at v j) sum_is
+    (pair_moved first first xs (at p j) (place + 2 * j) (place + (2 * j + 1)) (place + (2 * j + 0)) (place + (2 * j + 1)) one refl (omega arith) refl p_is)
+    (pair_moved second second xs (at q j) (place + 2 + 2 * j) (place + 2 + (2 * j + 1)) (place + (2 * j + 2)) (place + (2 * j + 3)) two refl (omega arith) (omega arith) q_is)
+    (pair_moved third third xs (at r j) (place + 4 + 2 * j) (place + 4 + (2 * j + 1)) (place + (2 * j + 4)) (place + (2 * j + 5)) three refl (omega arith) (omega arith) r_is)
+    (pair_moved fourth fourth xs (at s j) (place + 6 + 2 * j) (place + 6 + (2 * j + 1)) (place + (2 * j + 6)) (place + (2 * j + 7)) four refl (omega arith) (omega arith) s_is)
+    ∙ ap (λ (ts : List ℤ). weighted ts (λ k. get_or xs (place + (2 * j + k)) 0)) view)
+
+weighted_same : (taps : List ℤ) (f g : ℕ → ℕ) → ((k : ℕ) → f k ≡ g k) → weighted taps f ≡ weighted taps g
+unfolding weighted
+weighted_same taps f g same = rw (same 0, same 1, same 2, same 3, same 4, same 5, same 6, same 7) refl
+
+pub turn_value : (most : ℕ) (taps : List ℤ) (xs : List ℕ) (i j x place from : ℕ) (v : List ℤ) → AreLanes 8 (2 ^ 22) v →
+    ((k : ℕ) → from + (2 * j + k) ≡ place + (i + k)) → x ≡ rounded most (at (kept_32 v) j) → at v j ≡ weighted taps (λ k. get_or xs (from + (2 * j + k)) 0) →
+    x ≡ filtered most taps (λ k. get_or xs (place + (i + k)) 0)
+turn_value most taps xs i j x place from v lanes moved value sum =
+    let value_is = rw (sums_kept v (2 ^ 22) (omega arith) lanes) at value in
+    value_is ∙ ap (rounded most) (sum ∙ weighted_same taps (λ k. get_or xs (from + (2 * j + k)) 0) (λ k. get_or xs (place + (i + k)) 0)
+    (λ k. ap (λ (z : ℕ). get_or xs z 0) (moved k)))
+
+pub halves : (j : ℕ) → (2 * (j / 2) ≡ j) ⊎ (2 * (j / 2) + 1 ≡ j)
+halves j = elim (cases_lt (2 * (j / 2)) j) [
+  | inl odd ↦ inr (omega arith)
+  | inr even ↦ inl (omega arith)
+]

@@ -5,8 +5,8 @@ ghost use Rattle.inter_lanes.specs.Filter.{filtered};
 
 use crate::taps::TapLanes;
 
-/// So many filtered values, sixteen at a time: for the value at place j tap k stands at `from + k * step + j`. A step of 1
-/// filters along a row; in rows of n samples that lie one after another a step of n filters down their columns.
+/// So many filtered values, sixteen at a time: for the value at place j tap k stands at `from + k * step + j`. In
+/// rows of n samples that lie one after another a step of n filters down their columns.
 #[inline(always)]
 pub fn filter_run(
     out: &mut [u16],
@@ -34,30 +34,33 @@ pub fn filter_run(
     }
 }
 
-/// n filtered values of any n up to 64: as `filter_run`, but so many samples are read as a multiple of sixteen would take.
+/// n values filtered along a row, from a place on: tap k stands k places after a value's own. So many samples are read as
+/// the next multiple of sixteen would take.
 #[inline(always)]
 pub fn filter_line(
     out: &mut [u16],
     n: usize,
     samples: &[u16],
     from: usize,
-    step: usize,
     taps: &TapLanes,
     most: u16,
 )
     requires few { n ≤ 64 }
     requires room { n ≤ length out.old }
     requires near { from ≤ 65536 }
-    requires narrow { step ≤ 64 }
-    requires enough { from + 16 * ((n + 15) / 16) + 7 * step ≤ length samples.now }
+    requires enough { from + 16 * ((n + 15) / 16) + 7 ≤ length samples.now }
     requires small { (k : ℕ) → slice_index samples.now k ≤ 4095 }
-    ensures value { (j : ℕ) → j < n → slice_index out.new j ≡ filtered most taps.now (λ k. slice_index samples.now (from + k * step + j)) }
+    ensures value { (j : ℕ) → j < n → slice_index out.new j ≡ filtered most taps.now (λ k. slice_index samples.now (from + (j + k))) }
     ensures after { (j : ℕ) → n ≤ j → slice_index out.new j ≡ slice_index out.old j }
 {
+    for b in 0..n / 16 {
+        let at = 16 * b;
+        let values = taps.filter_along(samples, from + at, most);
+        out[at..at + 16].copy_from_slice(&values);
+    }
     let whole = 16 * (n / 16);
-    filter_run(out, whole, samples, from, step, taps, most);
     if whole < n {
-        let values = taps.filter_sixteen(samples, from + whole, step, most);
+        let values = taps.filter_along(samples, from + whole, most);
         out[whole..n].copy_from_slice(&values[..n - whole]);
     }
 }

@@ -31,6 +31,21 @@ pub(crate) fn pair_at(samples: &[u16], place: usize, step: usize, taps: i16x16) 
     (first, second)
 }
 
+/// Eight sums of two weighted neighbours, every second of those along a row.
+#[inline(always)]
+pub(crate) fn neighbours_at(samples: &[u16], place: usize, taps: i16x16) -> i32x8
+    requires near { place ≤ 2 ^ 18 }
+    requires room { place + 16 ≤ length samples.now }
+    requires small { (k : ℕ) → slice_index samples.now k ≤ 4095 }
+    requires taps { IsTurned taps }
+    ensures lanes { AreLanes 8 (2 ^ 20) result }
+    ensures value { (j : ℕ) → j < 8 → at result j
+        ≡ ((at taps 0 *ℤ pos (slice_index samples.now (place + 2 * j))) +ℤ (at taps 1 *ℤ pos (slice_index samples.now (place + (2 * j + 1))))) }
+{
+    let p = load(samples, place);
+    pair_sums(p, taps)
+}
+
 /// Eight sums of four values.
 #[inline(always)]
 pub(crate) fn four_sums(p: i32x8, q: i32x8, r: i32x8, s: i32x8) -> i32x8
@@ -58,6 +73,23 @@ pub(crate) fn rounded_lanes(low: &[i32; 8], high: &[i32; 8], most: u16) -> [u16;
         let (a, b) = (low[j], high[j]);
         values[j] = rounded(a, most);
         values[8 + j] = rounded(b, most);
+    }
+    values
+}
+
+/// Values of two vectors by turns.
+#[inline(always)]
+pub(crate) fn rounded_turns(even: &[i32; 8], odd: &[i32; 8], most: u16) -> [u16; 16]
+    requires even { AreLanes 8 (2 ^ 22) even.now }
+    requires odd { AreLanes 8 (2 ^ 22) odd.now }
+    ensures even { (j : ℕ) → j < 8 → slice_index result (2 * j) ≡ rounded most (at even.now j) }
+    ensures odd { (j : ℕ) → j < 8 → slice_index result (2 * j + 1) ≡ rounded most (at odd.now j) }
+{
+    let mut values = [0; 16];
+    for j in 0..8usize {
+        let (a, b) = (even[j], odd[j]);
+        values[2 * j] = rounded(a, most);
+        values[2 * j + 1] = rounded(b, most);
     }
     values
 }

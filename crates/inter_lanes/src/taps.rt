@@ -1,10 +1,10 @@
 //! The taps of a filter in lanes.
 
 ghost use Rattle.std.specs.Prelude.{◌≡◌, ℕ, ◌+◌, ◌*◌, ◌^◌, ◌<◌, ◌≤◌, ℤ, pos, List, slice_index, slice_index_or, length};
-ghost use Rattle.inter_lanes.specs.Filter.{IsTap, filtered};
-ghost use Rattle.inter_lanes.specs.Code.{AreTurns, IsTurned, taps_in};
+ghost use Rattle.inter_lanes.specs.Filter.{IsTap, filtered, weighted};
+ghost use Rattle.inter_lanes.specs.Code.{AreLanes, AreTurns, IsTurned, at, taps_in};
 
-use crate::sixteen::{four_sums, pair_at, rounded_lanes};
+use crate::sixteen::{four_sums, neighbours_at, pair_at, rounded_lanes, rounded_turns};
 use std::marker::Model;
 use std::simd::prelude::*;
 
@@ -73,5 +73,34 @@ impl TapLanes {
         let low = four_sums(p.0, q.0, r.0, s.0);
         let high = four_sums(p.1, q.1, r.1, s.1);
         rounded_lanes(&low.to_array(), &high.to_array(), most)
+    }
+
+    /// Eight sums of eight weighted samples, from every second place of a row on.
+    #[inline(always)]
+    fn sums_along(&self, samples: &[u16], place: usize) -> i32x8
+        requires near { place ≤ 2 ^ 17 + 1 }
+        requires room { place + 22 ≤ length samples.now }
+        requires small { (k : ℕ) → slice_index samples.now k ≤ 4095 }
+        ensures lanes { AreLanes 8 (2 ^ 22) result }
+        ensures value { (j : ℕ) → j < 8 → at result j ≡ weighted self.now (λ k. slice_index samples.now (place + (2 * j + k))) }
+    {
+        let p = neighbours_at(samples, place, self.first);
+        let q = neighbours_at(samples, place + 2, self.second);
+        let r = neighbours_at(samples, place + 4, self.third);
+        let s = neighbours_at(samples, place + 6, self.fourth);
+        four_sums(p, q, r, s)
+    }
+
+    /// Sixteen values filtered along a row, from a place on: tap k stands k places after a value's own.
+    #[inline(always)]
+    pub(crate) fn filter_along(&self, samples: &[u16], place: usize, most: u16) -> [u16; 16]
+        requires near { place ≤ 2 ^ 17 }
+        requires room { place + 23 ≤ length samples.now }
+        requires small { (k : ℕ) → slice_index samples.now k ≤ 4095 }
+        ensures { (j : ℕ) → j < 16 → slice_index result j ≡ filtered most self.now (λ k. slice_index samples.now (place + (j + k))) }
+    {
+        let even = self.sums_along(samples, place);
+        let odd = self.sums_along(samples, place + 1);
+        rounded_turns(&even.to_array(), &odd.to_array(), most)
     }
 }

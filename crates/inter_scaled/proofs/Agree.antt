@@ -89,7 +89,7 @@ pub along_same : (most : ℕ) (kind : InterpFilter) (a : Axis) (f g : ℕ → �
 unfolding along
 along_same most kind a f g j same = filtered_same most (taps_of kind (phase a j)) (λ k. f (place a j k)) (λ k. g (place a j k)) same
 
-place_below : (a : Axis) (j k : ℕ) → 0 < a.size → place a j k < a.size
+pub place_below : (a : Axis) (j k : ℕ) → 0 < a.size → place a j k < a.size
 unfolding place
 place_below a j k some = straight_below a (offset a j / 16 + k) some
 

@@ -3,9 +3,9 @@
 ghost use Rattle.std.specs.Prelude.{◌≡◌, ◌≤◌, true};
 ghost use Rattle.std.specs.Bool.{OnTrue};
 ghost use Rattle.inter_places.specs.Axes.{IsAxis, fraction};
-ghost use Rattle.inter_scaled.specs.Code.{IsFilter};
+ghost use Rattle.inter_scaled.specs.Code.{IsFilter, IsCopied, IsRun};
 
-use crate::places::phase_of;
+use crate::places::{is_inside, phase_of};
 use inter_lanes::TapLanes;
 use inter_places::Axis;
 use vp9_tables::taps;
@@ -58,5 +58,25 @@ impl LineFilter {
         ensures phase { OnTrue result (fraction self.now.axis ≡ 0) }
     {
         self.axis.step == 16 && self.phase == 0
+    }
+
+    /// Whether lines of n values are samples as they are, inside the plane.
+    #[inline(always)]
+    pub(crate) fn is_copied(&self, n: usize) -> bool
+        requires filter { IsFilter self.now }
+        requires few { n ≤ 64 }
+        ensures { OnTrue result (IsCopied self.now n) }
+    {
+        self.is_whole() && is_inside(&self.axis, n + 7)
+    }
+
+    /// Whether lines of n values are filtered from samples inside the plane.
+    #[inline(always)]
+    pub(crate) fn is_run(&self, n: usize) -> bool
+        requires filter { IsFilter self.now }
+        requires few { n ≤ 64 }
+        ensures { OnTrue result (IsRun self.now n) }
+    {
+        self.is_unscaled() && is_inside(&self.axis, 16 * n.div_ceil(16) + 7)
     }
 }

@@ -3,6 +3,7 @@
 ghost use Rattle.std.specs.Prelude.{◌≡◌, ℕ, ◌+◌, ◌*◌, ◌<◌, ◌≤◌};
 ghost use Rattle.std.specs.Bool.{OnTrue};
 ghost use Rattle.inter_places.specs.Axes.{straight, fraction, offset, IsAxis};
+ghost use Rattle.inter_scaled.specs.Code.{AreInside};
 
 use inter_places::Axis;
 
@@ -27,8 +28,7 @@ pub(crate) fn straight(a: &Axis, n: usize) -> usize
 pub(crate) fn is_inside(a: &Axis, n: usize) -> bool
     requires axis { IsAxis a.now }
     requires near { n ≤ 256 }
-    ensures places { OnTrue result ((t : ℕ) → t < n → straight a.now t ≡ straight a.now 0 + t) }
-    ensures room { OnTrue result (straight a.now 0 + n ≤ a.now.size) }
+    ensures { OnTrue result (AreInside a.now n) }
 {
     let at = (a.start >> 4) - 3;
     0 <= at && at as usize + n <= a.size as usize

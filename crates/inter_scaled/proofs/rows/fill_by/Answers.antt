@@ -4,7 +4,7 @@ use Rattle.inter_places.specs.Axes.{straight}
 use Rattle.inter_scaled.specs.Inter.{along}
 use Rattle.inter_scaled.proofs.Agree.{along_inside}
 use Rattle.inter_scaled.proofs.Blocks.{rows_more}
-use Rattle.inter_scaled.proofs.rows.fill_lines.Goals as goal
+use Rattle.inter_scaled.proofs.rows.fill_by.Goals as goal
 
 pub loop-r-preserved : goal.loop-r-preserved
 loop-r-preserved g c = let a = c.args in let f = a.across.now in let p = a.place.now in
