@@ -86,12 +86,6 @@ pub fn rounded(sum: i32, most: u16) -> u16
     requires { unsigned_abs sum ≤ 2 ^ 22 }
     ensures { result ≡ rounded most sum }
 {
-    let value = (sum + 64) >> 7;
-    if value < 0 {
-        0
-    } else if value > i32::from(most) {
-        most
-    } else {
-        value as u16
-    }
+    let value = ((sum + 64) >> 7).max(0).min(i32::from(most));
+    value as u16
 }

@@ -52,10 +52,12 @@ fn fill_by<S: Samples, const KIND: usize>(
     ensures { HoldsRows lines.new place.now.columns count
         (λ r j. along across.now.most across.now.kind across.now.axis (S.map view.now place.now.plane (straight place.now.down (first + r))) j) }
 {
+    // a copy stays in registers
+    let place = *place;
     let n = place.columns;
     let from = straight(&across.axis, 0);
     for r in 0..count {
-        let row = read_row(view, place, first + r, across.most);
+        let row = read_row(view, &place, first + r, across.most);
         put_line::<KIND>(lines, r, n, row, from, across);
     }
 }
