@@ -1,0 +1,12 @@
+//! Filtered values, sixteen at a time (the block inter prediction process, 8.5.2 of the standard).
+#![tactic(auto)]
+
+mod numbers;
+mod runs;
+mod sixteen;
+mod taps;
+mod vectors;
+
+pub use numbers::{rounded, weighted};
+pub use runs::{filter_line, filter_run};
+pub use taps::TapLanes;

@@ -1,0 +1,58 @@
+//! Vectors of samples, and of sums of weighted samples.
+
+ghost use Rattle.std.specs.Prelude.{◌≡◌, ℕ, ℤ, ◌+◌, ◌*◌, ◌^◌, ◌<◌, ◌≤◌, pos, ◌+ℤ◌, ◌*ℤ◌, slice_index, length};
+ghost use Rattle.inter_lanes.specs.Code.{AreLanes, AreTurns, at};
+
+use std::simd::prelude::*;
+
+/// Sixteen samples.
+#[inline(always)]
+pub(crate) fn load(samples: &[u16], place: usize) -> i16x16
+    requires room { place + 16 ≤ length samples.now }
+    requires small { (k : ℕ) → slice_index samples.now k ≤ 4095 }
+    ensures lanes { AreLanes 16 4095 result }
+    ensures value { (j : ℕ) → j < 16 → at result j ≡ pos (slice_index samples.now (place + j)) }
+{
+    u16x16::from_slice(&samples[place..]).cast()
+}
+
+/// The lanes of two vectors by turns.
+#[inline(always)]
+pub(crate) fn woven(p: i16x16, q: i16x16) -> (i16x16, i16x16)
+    requires p { AreLanes 16 4095 p }
+    requires q { AreLanes 16 4095 q }
+    ensures first { AreLanes 16 4095 result.0 }
+    ensures second { AreLanes 16 4095 result.1 }
+    ensures first_even { (j : ℕ) → j < 8 → at result.0 (2 * j) ≡ at p j }
+    ensures first_odd { (j : ℕ) → j < 8 → at result.0 (2 * j + 1) ≡ at q j }
+    ensures second_even { (j : ℕ) → j < 8 → at result.1 (2 * j) ≡ at p (8 + j) }
+    ensures second_odd { (j : ℕ) → j < 8 → at result.1 (2 * j + 1) ≡ at q (8 + j) }
+{
+    p.interleave(q)
+}
+
+/// Sums of two neighbours, each weighted by its lane of `taps`. LLVM makes of it one instruction that multiplies and adds.
+#[inline(always)]
+pub(crate) fn pair_sums(p: i16x16, taps: i16x16) -> i32x8
+    requires p { AreLanes 16 4095 p }
+    requires taps { AreLanes 16 128 taps }
+    ensures lanes { AreLanes 8 (2 ^ 20) result }
+    ensures value { (j : ℕ) → j < 8 → at result j ≡ ((at taps (2 * j) *ℤ at p (2 * j)) +ℤ (at taps (2 * j + 1) *ℤ at p (2 * j + 1))) }
+{
+    let products: i32x16 = taps.cast::<i32>() * p.cast::<i32>();
+    let even: i32x8 = products.swizzle([0, 2, 4, 6, 8, 10, 12, 14]);
+    let odd: i32x8 = products.swizzle([1, 3, 5, 7, 9, 11, 13, 15]);
+    even + odd
+}
+
+/// Sums of two vectors.
+#[inline(always)]
+pub(crate) fn plus<const MOST: usize>(a: i32x8, b: i32x8) -> i32x8
+    requires few { MOST ≤ 2 ^ 21 }
+    requires a { AreLanes 8 MOST a }
+    requires b { AreLanes 8 MOST b }
+    ensures lanes { AreLanes 8 (2 * MOST) result }
+    ensures value { (j : ℕ) → j < 8 → at result j ≡ (at a j +ℤ at b j) }
+{
+    a + b
+}

@@ -1,0 +1,4 @@
+pub mod Axes
+pub mod Vectors
+pub mod Scaling
+pub mod Places

@@ -1,0 +1,16 @@
+//! Where inter blocks are predicted from (8.5.2 of the standard): vectors of planes, clamped and scaled.
+#![tactic(auto)]
+
+mod axis;
+mod means;
+mod part;
+mod places;
+mod scaling;
+mod span;
+#[cfg(test)]
+mod tests;
+
+pub use axis::{Axis, Place};
+pub use part::{BlockPart, Direction};
+pub use places::{part_count, place};
+pub use span::{BlockSpan, clamp_mv};

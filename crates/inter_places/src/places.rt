@@ -1,0 +1,228 @@
+//! Places of the parts of blocks.
+
+ghost use Rattle.std.specs.Prelude.{◌≡◌, ℕ, ◌*◌, ◌/◌, ◌+◌, ◌<◌, ◌≤◌, ◌^◌, unsigned_abs};
+ghost use Rattle.inter_places.specs.Axes.{IsAxis, IsPlace};
+ghost use Rattle.inter_places.specs.Vectors.{IsSpan};
+ghost use Rattle.inter_places.specs.Places.{IsPart, IsReference, parts_of, place_of, subsampling, fours, behind, part_length, part_vector, part_start, predicted_length, part_axis, span_of, coded_length, luma_length, plane_length};
+ghost use Rattle.vp9_types.specs.Shapes.{mi_rows, mi_cols, halved};
+
+use crate::axis::{Axis, Place};
+use crate::means::{component, mean_vector};
+use crate::part::{BlockPart, Direction};
+use crate::scaling::{axis_of, first_sample, scale};
+use crate::span::BlockSpan;
+use block_geometry::{height_8, is_below_8x8, width_8};
+use block_plan::{BlockInfo, InterPrediction};
+use vp9_types::{BlockSize, Plane, Shape};
+
+fn subsampling(shape: &Shape, plane: Plane, along: Direction) -> bool
+    ensures { result ≡ subsampling shape.now plane along }
+{
+    match along {
+        Direction::Down => plane != Plane::Y && shape.ss_y,
+        Direction::Across => plane != Plane::Y && shape.ss_x,
+    }
+}
+
+fn fours(ss: bool) -> usize
+    ensures value { result ≡ fours ss }
+    ensures some { 1 ≤ result }
+    ensures few { result ≤ 2 }
+{
+    if ss { 1 } else { 2 }
+}
+
+/// Into how many parts a block is divided in a plane.
+pub fn part_count(shape: &Shape, size: BlockSize, plane: Plane) -> usize
+    ensures { result ≡ parts_of shape.now size plane }
+{
+    if is_below_8x8(size) {
+        fours(subsampling(shape, plane, Direction::Down))
+            * fours(subsampling(shape, plane, Direction::Across))
+    } else {
+        1
+    }
+}
+
+/// How far a part begins behind its block.
+fn behind(shape: &Shape, size: BlockSize, part: BlockPart, along: Direction) -> u32
+    requires { part.number < parts_of shape.now size part.plane }
+    ensures value { result ≡ behind shape.now part along }
+    ensures inside { result + 4 ≤ halved (subsampling shape.now part.plane along) 8 }
+    ensures fours { result ≡ 4 * (result / 4) }
+{
+    let across = fours(subsampling(shape, part.plane, Direction::Across));
+    match along {
+        Direction::Down => 4 * (part.number / across) as u32,
+        Direction::Across => 4 * (part.number % across) as u32,
+    }
+}
+
+fn span_of(shape: &Shape, block: &BlockInfo, plane: Plane, along: Direction) -> BlockSpan
+    requires wide { shape.now.w ≤ 65536 }
+    requires high { shape.now.h ≤ 65536 }
+    requires row { block.now.row < mi_rows shape.now }
+    requires column { block.now.col < mi_cols shape.now }
+    ensures value { result ≡ span_of shape.now block.now plane along }
+    ensures fits { IsSpan result }
+{
+    let ss = subsampling(shape, plane, along);
+    match along {
+        Direction::Down => BlockSpan {
+            first: block.row,
+            count: u32::from(height_8(block.size)),
+            all: shape.h.div_ceil(8),
+            ss,
+        },
+        Direction::Across => BlockSpan {
+            first: block.col,
+            count: u32::from(width_8(block.size)),
+            all: shape.w.div_ceil(8),
+            ss,
+        },
+    }
+}
+
+fn part_vector(
+    shape: &Shape,
+    size: BlockSize,
+    inter: &InterPrediction,
+    part: BlockPart,
+    along: Direction,
+) -> i32
+    requires number { part.number < parts_of shape.now size part.plane }
+    requires list { part.list < 2 }
+    ensures value { result ≡ part_vector shape.now size inter.now part along }
+    ensures near { unsigned_abs result ≤ 2 ^ 16 }
+{
+    let ss_x = subsampling(shape, part.plane, Direction::Across);
+    let ss_y = subsampling(shape, part.plane, Direction::Down);
+    if is_below_8x8(size) {
+        mean_vector(inter, part.list, ss_x, ss_y, part.number, along)
+    } else {
+        component(inter, part.list, 0, along)
+    }
+}
+
+fn luma_length(shape: &Shape, along: Direction) -> u32
+    ensures { result ≡ luma_length shape.now along }
+{
+    match along {
+        Direction::Down => shape.h,
+        Direction::Across => shape.w,
+    }
+}
+
+fn plane_length(shape: &Shape, plane: Plane, along: Direction) -> u32
+    ensures { result ≡ plane_length shape.now plane along }
+{
+    let (width, height) = shape.plane_size(plane);
+    match along {
+        Direction::Down => height,
+        Direction::Across => width,
+    }
+}
+
+/// Where a part of a block is predicted from along one direction.
+fn part_axis(
+    shape: &Shape,
+    block: &BlockInfo,
+    inter: &InterPrediction,
+    part: BlockPart,
+    reference: &Shape,
+    along: Direction,
+) -> Axis
+    requires part { IsPart shape.now block.now part }
+    requires reference { IsReference shape.now reference.now }
+    ensures value { result ≡ part_axis shape.now block.now inter.now part reference.now along }
+    ensures fits { IsAxis result }
+{
+    let span = span_of(shape, block, part.plane, along);
+    let behind = behind(shape, block.size, part, along);
+    let vector = part_vector(shape, block.size, inter, part, along);
+    let scale = scale(luma_length(reference, along), luma_length(shape, along));
+    let size = plane_length(reference, part.plane, along);
+    axis_of(&span, behind, vector, scale, size)
+}
+
+/// The samples of a plane in the frame's places of 8x8.
+fn coded_length(shape: &Shape, plane: Plane, along: Direction) -> u32
+    requires wide { shape.now.w ≤ 65536 }
+    requires high { shape.now.h ≤ 65536 }
+    ensures { result ≡ coded_length shape.now plane along }
+{
+    let luma = 8 * luma_length(shape, along).div_ceil(8);
+    if subsampling(shape, plane, along) {
+        luma / 2
+    } else {
+        luma
+    }
+}
+
+/// How long a part of a block is along a direction.
+fn part_length(size: BlockSize, span: &BlockSpan) -> u32
+    requires { IsSpan span.now }
+    ensures value { result ≡ part_length size span.now }
+    ensures some { 4 ≤ result }
+    ensures few { result ≤ 64 }
+    ensures fours { result ≡ 4 * (result / 4) }
+{
+    if is_below_8x8(size) {
+        4
+    } else if span.ss {
+        4 * span.count
+    } else {
+        8 * span.count
+    }
+}
+
+/// How much of it lies in the frame's places of 8x8.
+fn predicted_length(shape: &Shape, block: &BlockInfo, part: BlockPart, along: Direction) -> u32
+    requires wide { shape.now.w ≤ 65536 }
+    requires high { shape.now.h ≤ 65536 }
+    requires part { IsPart shape.now block.now part }
+    ensures value { result ≡ predicted_length shape.now block.now part along }
+    ensures some { 4 ≤ result }
+    ensures few { result ≤ 64 }
+    ensures fours { result ≡ 4 * (result / 4) }
+{
+    let span = span_of(shape, block, part.plane, along);
+    let start = first_sample(&span) + behind(shape, block.size, part, along);
+    let end = coded_length(shape, part.plane, along);
+    part_length(block.size, &span).min(end - start)
+}
+
+fn part_start(shape: &Shape, block: &BlockInfo, part: BlockPart, along: Direction) -> u32
+    requires wide { shape.now.w ≤ 65536 }
+    requires high { shape.now.h ≤ 65536 }
+    requires part { IsPart shape.now block.now part }
+    ensures { result ≡ part_start shape.now block.now part along }
+{
+    let span = span_of(shape, block, part.plane, along);
+    first_sample(&span) + behind(shape, block.size, part, along)
+}
+
+/// Where a part of a block is predicted from in a reference.
+#[tactic(auto, unfolding(crate::specs::Places::place_of))]
+pub fn place(
+    shape: &Shape,
+    block: &BlockInfo,
+    inter: &InterPrediction,
+    part: BlockPart,
+    reference: &Shape,
+) -> Place
+    requires part { IsPart shape.now block.now part }
+    requires reference { IsReference shape.now reference.now }
+    ensures value { result ≡ place_of shape.now block.now inter.now part reference.now }
+    ensures fits { IsPlace result }
+{
+    Place {
+        plane: part.plane,
+        row: part_start(shape, block, part, Direction::Down) as usize,
+        column: part_start(shape, block, part, Direction::Across) as usize,
+        rows: predicted_length(shape, block, part, Direction::Down) as usize,
+        columns: predicted_length(shape, block, part, Direction::Across) as usize,
+        down: part_axis(shape, block, inter, part, reference, Direction::Down),
+        across: part_axis(shape, block, inter, part, reference, Direction::Across),
+    }
+}

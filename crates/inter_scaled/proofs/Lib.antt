@@ -1,0 +1,4 @@
+pub mod Agree
+pub mod Blocks
+pub mod RowLemmas
+pub mod Whole

@@ -1,0 +1,9 @@
+use Rattle.std.proofs.Common.{◌≡◌, ◌<◌, ◌≤◌, ℕ, get_or}
+use Rattle.inter_scaled.specs.Inter.{average}
+use Rattle.inter_scaled.proofs.means.average.Given as goal
+
+abbrev pub invariant-loop-k : goal.invariant-loop-k
+invariant-loop-k l = record {
+  value : (k : ℕ) → k < l.k → get_or l.block k 0 ≡ average (get_or l.initial.block k 0) (get_or l.other k 0);
+  after : (k : ℕ) → l.k ≤ k → get_or l.block k 0 ≡ get_or l.initial.block k 0;
+}

@@ -1,0 +1,33 @@
+-- What the code keeps while it predicts.
+use Rattle.std.specs.Prelude.{ℕ, ◌+◌, ◌*◌, ◌/◌, ◌-◌, ◌≤◌, ◌<◌, ◌≡◌}
+use Rattle.vp9_tables.specs.Filters.{taps_of}
+use Rattle.inter_places.specs.declared.axis.Axis.{Axis}
+use Rattle.inter_places.specs.Axes.{IsAxis, fraction, offset, straight}
+use Rattle.inter_scaled.specs.declared.filter.LineFilter.{LineFilter}
+
+-- an axis with the taps of its first phase
+pub record IsFilter (f : LineFilter) : Type 0 where
+  pub axis : IsAxis f.axis
+  pub phase : f.phase ≡ fraction f.axis
+  pub taps : f.taps ≡ taps_of f.kind (fraction f.axis)
+  pub most : f.most ≤ 4095
+
+-- how many lines of the reference so many rows are filtered from
+abbrev pub lines_for : Axis → ℕ → ℕ
+lines_for a rows = offset a (rows - 1) / 16 + 8
+
+-- n places follow one another in the plane
+pub record AreInside (a : Axis) (n : ℕ) : Type 0 where
+  pub places : (t : ℕ) → t < n → straight a t ≡ straight a 0 + t
+  pub room : straight a 0 + n ≤ a.size
+
+-- a line of n values is samples as they are, one after another
+pub record IsCopied (f : LineFilter) (n : ℕ) : Type 0 where
+  pub step : f.axis.step ≡ 16
+  pub phase : fraction f.axis ≡ 0
+  pub inside : AreInside f.axis (n + 7)
+
+-- a line of n values is filtered from samples one after another, read by sixteens
+pub record IsRun (f : LineFilter) (n : ℕ) : Type 0 where
+  pub step : f.axis.step ≡ 16
+  pub inside : AreInside f.axis (16 * ((n + 15) / 16) + 7)

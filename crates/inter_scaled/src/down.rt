@@ -1,0 +1,70 @@
+//! Columns of lines.
+
+ghost use Rattle.std.specs.Prelude.{◌≡◌, ℕ, ◌+◌, ◌*◌, ◌/◌, ◌<◌, ◌≤◌, length, slice_index};
+ghost use Rattle.vp9_types.specs.Maps.{HoldsRows};
+ghost use Rattle.vp9_tables.specs.Filters.{taps_of};
+ghost use Rattle.inter_lanes.specs.Filter.{filtered};
+ghost use Rattle.inter_places.specs.Axes.{offset, phase};
+ghost use Rattle.inter_scaled.specs.Code.{IsFilter, lines_for};
+
+use crate::filter::LineFilter;
+use crate::places::offset_of;
+use crate::scaled::value_below;
+use inter_lanes::filter_run;
+
+/// Row i of n values at any step, each filtered down a column.
+fn scale_row(out: &mut [u16], i: usize, n: usize, lines: &[u16], down: &LineFilter)
+    requires filter { IsFilter down.now }
+    requires low { i < 64 }
+    requires few { n ≤ 64 }
+    requires room { i * n + n ≤ length out.old }
+    requires enough { (offset down.now.axis i / 16 + 8) * n ≤ length lines.now }
+    requires samples { (k : ℕ) → slice_index lines.now k ≤ 4095 }
+    ensures row { (j : ℕ) → j < n → slice_index out.new (i * n + j)
+        ≡ filtered down.now.most (taps_of down.now.kind (phase down.now.axis i)) (λ k. slice_index lines.now ((offset down.now.axis i / 16 + k) * n + j)) }
+    ensures before { (k : ℕ) → k < i * n → slice_index out.new k ≡ slice_index out.old k }
+{
+    let offset = offset_of(&down.axis, i);
+    for j in 0..n {
+        out[i * n + j] = value_below(lines, n, j, down, offset);
+    }
+}
+
+/// Rows of n values at any step, each filtered down a column.
+fn scale_down(out: &mut [u16], rows: usize, n: usize, lines: &[u16], down: &LineFilter)
+    requires filter { IsFilter down.now }
+    requires low { rows ≤ 64 }
+    requires some { 0 < rows }
+    requires few { n ≤ 64 }
+    requires room { rows * n ≤ length out.old }
+    requires enough { lines_for down.now.axis rows * n ≤ length lines.now }
+    requires samples { (k : ℕ) → slice_index lines.now k ≤ 4095 }
+    ensures { HoldsRows out.new n rows
+        (λ i j. filtered down.now.most (taps_of down.now.kind (phase down.now.axis i)) (λ k. slice_index lines.now ((offset down.now.axis i / 16 + k) * n + j))) }
+{
+    for i in 0..rows {
+        scale_row(out, i, n, lines, down);
+    }
+}
+
+/// Rows of n values, each filtered down a column of lines of n.
+#[inline(always)]
+pub(crate) fn filter_down(out: &mut [u16], rows: usize, n: usize, lines: &[u16], down: &LineFilter)
+    requires filter { IsFilter down.now }
+    requires low { rows ≤ 64 }
+    requires some { 0 < rows }
+    requires rows { rows ≡ 4 * (rows / 4) }
+    requires few { n ≤ 64 }
+    requires columns { n ≡ 4 * (n / 4) }
+    requires room { rows * n ≤ length out.old }
+    requires enough { lines_for down.now.axis rows * n ≤ length lines.now }
+    requires samples { (k : ℕ) → slice_index lines.now k ≤ 4095 }
+    ensures { HoldsRows out.new n rows
+        (λ i j. filtered down.now.most (taps_of down.now.kind (phase down.now.axis i)) (λ k. slice_index lines.now ((offset down.now.axis i / 16 + k) * n + j))) }
+{
+    if down.is_unscaled() {
+        filter_run(out, rows * n, lines, 0, n, &down.taps, down.most);
+    } else {
+        scale_down(out, rows, n, lines, down);
+    }
+}

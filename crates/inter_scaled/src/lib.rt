@@ -1,0 +1,18 @@
+//! Inter prediction (8.5.2 of the standard): blocks filtered out of a reference at places of 1/16 sample, at every scale.
+#![tactic(auto)]
+
+mod down;
+mod filter;
+mod laws;
+mod lines;
+mod means;
+mod places;
+mod prediction;
+mod rows;
+mod scaled;
+#[cfg(test)]
+mod tests;
+
+pub use laws::{phase_zero_copies, rows_suffice, samples_stay_in_range};
+pub use means::average;
+pub use prediction::{LINES, predict};

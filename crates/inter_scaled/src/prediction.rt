@@ -1,0 +1,47 @@
+//! Blocks predicted from a reference.
+
+ghost use Rattle.std.specs.Prelude.{◌≡◌, ℕ, ◌*◌, ◌≤◌, length};
+ghost use Rattle.vp9_types.specs.Maps.{HoldsRows, IsAtMost};
+ghost use Rattle.inter_places.specs.Axes.{IsPlace, first_place, last_place};
+ghost use Rattle.inter_scaled.specs.Inter.{predicted_at};
+
+use crate::down::filter_down;
+use crate::filter::LineFilter;
+use crate::places::offset_of;
+use crate::rows::fill_lines;
+use inter_places::Place;
+use vp9_types::{InterpFilter, Samples};
+
+/// The samples of the lines that a block is filtered from: 134 of 64 at the greatest step.
+pub const LINES: usize = 8576;
+
+/// Predicts a block of a plane: rows of `place.columns` samples. Rows of the reference are asked for from the block's first
+/// place to its last alone. The lines are room for what is made on the way.
+pub fn predict<S: Samples>(
+    view: &S,
+    place: &Place,
+    kind: InterpFilter,
+    most: u16,
+    lines: &mut [u16],
+    out: &mut [u16],
+)
+    requires place { IsPlace place.now }
+    requires most { most ≤ 4095 }
+    requires lines { LINES ≤ length lines.old }
+    requires out { place.now.rows * place.now.columns ≤ length out.old }
+    requires held { (r : ℕ) → first_place place.now.down ≤ r → r ≤ last_place place.now.down place.now.rows → S.holds view.now place.now.plane r }
+    requires wide { place.now.across.size ≤ S.width view.now place.now.plane }
+    requires samples { IsAtMost most (S.map view.now place.now.plane) }
+    ensures { HoldsRows out.new place.now.columns place.now.rows (predicted_at most kind place.now (S.map view.now)) }
+{
+    let across = LineFilter::new(&place.across, kind, most);
+    let down = LineFilter::new(&place.down, kind, most);
+    if down.is_whole() {
+        fill_lines(out, view, place, &across, 3, place.rows);
+    } else {
+        let count = offset_of(&place.down, place.rows - 1) / 16 + 8;
+        fill_lines(lines, view, place, &across, 0, count);
+        let end = count * place.columns;
+        filter_down(out, place.rows, place.columns, &lines[..end], &down);
+    }
+}
