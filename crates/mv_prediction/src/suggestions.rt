@@ -201,11 +201,7 @@ fn with_others_at<N: Neighbours>(
 
 /// With those of the first two neighbours, which a quarter asks by their quarters.
 #[tactic(auto, using(crate::proofs::Founds::two_places))]
-fn with_first_two<N: Neighbours>(
-    earlier: &N,
-    search: &MvSearch,
-    wanted: Wanted,
-) -> Found
+fn with_first_two<N: Neighbours>(earlier: &N, search: &MvSearch, wanted: Wanted) -> Found
     requires sub { IfSome wanted.sub (λ k. k < 4) }
     requires held { (r c : ℕ) → r < search.now.places.rows → search.now.at.tile_from ≤ c → c < search.now.at.tile_to → N.holds earlier.now r c }
     requires small { All HasSmallVectors (N.blocks earlier.now) }

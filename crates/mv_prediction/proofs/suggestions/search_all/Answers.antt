@@ -28,7 +28,7 @@ returns-then-is_full-2-clause-is g c =
     let block = covering (blocks_of g.Q.Neighbours.blocks (option_copied c.args.before)) s.at.row s.at.col in
     let full : is_full c.with_own_before-found.result ≡ true = search rules in
     let own : c.with_own_before-found.result ≡ with_vectors c.with_other_six-found.result (own_of reference None [] block) =
-        rw c.block_before-block.ensures.is at c.with_own_before-found.ensures.is in
+    rw c.block_before-block.ensures.is at c.with_own_before-found.ensures.is in
     three_parts_full (flat_map (own_at earlier s reference c.args.wanted.sub) (range_with_len 0 2)) (flat_map (own_at earlier s reference None) (range_with_len 2 6))
     (own_of reference None [] block) (flat_map (others_at earlier s reference) (range_with_len 0 8)) (others_of s.biases reference block)
     c.with_first_two-found.result c.with_other_six-found.result c.with_own_before-found.result
@@ -42,9 +42,9 @@ returns-clause-is g c =
     let earlier = g.N.Neighbours.blocks c.args.earlier.now in
     let block = covering (blocks_of g.Q.Neighbours.blocks (option_copied c.args.before)) s.at.row s.at.col in
     let own : c.with_own_before-found.result ≡ with_vectors c.with_other_six-found.result (own_of reference None [] block) =
-        rw c.block_before-block.ensures.is at c.with_own_before-found.ensures.is in
+    rw c.block_before-block.ensures.is at c.with_own_before-found.ensures.is in
     let others : c.with_others_before.result ≡ with_vectors c.with_turned-found.result (others_of s.biases reference block) =
-        rw c.block_before-block.ensures.is at c.with_others_before.ensures.is in
+    rw c.block_before-block.ensures.is at c.with_others_before.ensures.is in
     all_parts (flat_map (own_at earlier s reference c.args.wanted.sub) (range_with_len 0 2)) (flat_map (own_at earlier s reference None) (range_with_len 2 6))
     (own_of reference None [] block) (flat_map (others_at earlier s reference) (range_with_len 0 8)) (others_of s.biases reference block)
     c.with_first_two-found.result c.with_other_six-found.result c.with_own_before-found.result c.with_turned-found.result c.with_others_before.result
