@@ -140,6 +140,7 @@ impl Draws {
             size,
             skip: false,
             segment: 0,
+            segment_predicted: false,
             tx: TxSize::T4x4,
             prediction,
         }
