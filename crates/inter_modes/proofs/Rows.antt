@@ -2,8 +2,11 @@
 use Rattle.std.proofs.Common.{◌≡◌, ℕ, zero, suc, ◌<◌, ◌∷◌, [], List, arith, All}
 use Rattle.std.specs.Prelude.{slice_index_or}
 use Rattle.std.proofs.lemmas.List.Elements.{All-head, All-tail}
+use Rattle.block_plan.specs.Blocks.{IsIntra}
 use Rattle.block_plan.specs.declared.block.Mv.{Mv}
-use Rattle.mv_prediction.specs.Code.{AreSmall}
+use Rattle.block_plan.specs.declared.block.Prediction.{Prediction}
+use Rattle.block_plan.specs.declared.block.Prediction.TheVariants.{Intra, Inter}
+use Rattle.mv_prediction.specs.Code.{AreSmall, PredictsSmall}
 use Rattle.mv_prediction.specs.Vectors.{no_vector, IsSmallVector}
 
 no_small : IsSmallVector no_vector
@@ -26,3 +29,7 @@ four_rows a b c d sa sb sc sd (suc zero) list = row_small b list sb
 four_rows a b c d sa sb sc sd (suc (suc zero)) list = row_small c list sc
 four_rows a b c d sa sb sc sd (suc (suc (suc zero))) list = row_small d list sd
 four_rows a b c d sa sb sc sd (suc (suc (suc (suc quarter)))) list = none_small list
+
+pub intra_small : (p : Prediction) → IsIntra p → PredictsSmall p
+intra_small (Intra modes) intra = tt
+intra_small (Inter modes) intra = absurd intra

@@ -13,7 +13,7 @@ use Rattle.mv_prediction.specs.SubBlocks.{vector_at}
 use Rattle.segment_map.specs.Segments.{SegmentIds, id_map, least_id}
 use Rattle.inter_modes.specs.ModeInfo.{InterFrame}
 use Rattle.inter_modes.specs.Vectors.{row_at}
-use Rattle.inter_modes.specs.declared.mode_info.Frame.{Frame}
+use Rattle.inter_modes.specs.declared.frame_blocks.Frame.{Frame}
 use Rattle.inter_modes.specs.declared.quarters.Quarter.{Quarter}
 use Rattle.inter_modes.specs.declared.quarters.QuartersBefore.{QuartersBefore}
 

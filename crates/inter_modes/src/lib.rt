@@ -3,9 +3,11 @@
 
 mod blocks;
 mod contexts;
+mod frame_blocks;
 mod intra_blocks;
-mod mode_info;
 mod quarters;
 mod references;
 mod starts;
 mod vectors;
+
+pub use frame_blocks::mode_info;

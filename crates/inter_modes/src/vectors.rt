@@ -26,6 +26,7 @@ pub(crate) const NO_VECTORS: [Mv; 2] = [NO_VECTOR; 2];
 
 /// What the vectors of a block are read by: probabilities, of vectors and of modes with their context, whether its frame
 /// allows high precision, the block, the blocks before it, and those of the frame before.
+#[derive(Drop)]
 pub(crate) struct Sources<'a, N, Q> {
     pub probs: &'a VectorProbs,
     pub modes: &'a [u8; 21],

@@ -1,6 +1,6 @@
 //! What a block reads.
 
-ghost use Rattle.std.specs.Prelude.{◌≡◌, ◌<◌, ◌≤◌, ℕ, IfOk, IfSome};
+ghost use Rattle.std.specs.Prelude.{◌≡◌, ◌-◌, ◌<◌, ◌≤◌, ℕ, IfOk, IfSome};
 ghost use Rattle.std.specs.List.{All};
 ghost use Rattle.std.specs.Option.{option_copied};
 ghost use Rattle.vp9_tables.specs.Blocks.{greatest_of};
@@ -32,6 +32,7 @@ use segment_map::SegmentMap;
 use vp9_types::Rule;
 
 /// An inter frame.
+#[derive(Drop)]
 struct Frame<'a> {
     setting: &'a FrameSetting,
     fields: &'a InterFields,
@@ -146,5 +147,94 @@ fn read_beside<N: Neighbours, Q: Neighbours, const COUNTS: bool>(
         read_inter_block(reader, src, frame, above, left, &start)
     } else {
         read_intra_block(reader, frame, at, &start)
+    }
+}
+
+/// What a block of an inter frame reads.
+#[tactic(auto, unfolding(crate::specs::ModeInfo::inter_frame_mode_info))]
+fn inter_frame_mode_info<N: Neighbours, Q: Neighbours, const COUNTS: bool>(
+    reader: &mut CountingReader<COUNTS>,
+    frame: &Frame<'_>,
+    at: BlockAt,
+    earlier: &N,
+    map: &SegmentMap,
+    before: Option<&Q>,
+) -> Result<BlockInfo, Rule>
+    requires site { IsSite (record { places = frame.now.setting.now.places; biases = sign_biases frame.now.fields.now.references; at = at }) }
+    requires map { (map.now.rows ≡ frame.now.setting.now.places.rows) × (map.now.cols ≡ frame.now.setting.now.places.cols) }
+    requires held { (r c : ℕ) → r < frame.now.setting.now.places.rows → at.tile_from ≤ c → c < at.tile_to → N.holds earlier.now r c }
+    requires held_before { IfSome (option_copied before) (λ q. Q.holds q at.row at.col) }
+    requires small { All HasSmallVectors (N.blocks earlier.now) }
+    requires small_before { All HasSmallVectors (blocks_of Q.blocks (option_copied before)) }
+    ensures read { Reads (inter_frame_mode_info (frame_in frame.now) (id_map map.now) (N.blocks earlier.now) (blocks_of Q.blocks (option_copied before.entry)) at) reader.old result reader.new }
+    ensures block { IfOk result (IsBlockAt at) }
+{
+    let contexts = &frame.setting.contexts;
+    let search = MvSearch {
+        places: frame.setting.places,
+        biases: SignBiases::of(&frame.fields.references),
+        at,
+    };
+    let src = Sources {
+        probs: &contexts.vectors,
+        modes: &contexts.inter.modes,
+        context: mode_context(&search, earlier),
+        high_precision: frame.fields.high_precision,
+        search,
+        earlier,
+        before,
+    };
+    let above = above_place(earlier, at.row, at.col);
+    let left = left_place(earlier, at.tile_from, at.row, at.col);
+    read_beside(reader, &src, frame, above, left, map)
+}
+
+/// What a block of an intra frame reads.
+#[tactic(auto, unfolding(crate::specs::ModeInfo::intra_frame_block), using(counting_reader::proofs::CountingRuns::counting_bind, counting_reader::proofs::CountingRuns::run_settle, crate::proofs::Rows::intra_small))]
+fn intra_frame_block<N: Neighbours, const COUNTS: bool>(
+    reader: &mut CountingReader<COUNTS>,
+    setting: &FrameSetting,
+    at: BlockAt,
+    earlier: &N,
+) -> Result<BlockInfo, Rule>
+    requires above { 0 < at.row → N.holds earlier.now (at.row - 1) at.col }
+    requires left { at.tile_from < at.col → N.holds earlier.now at.row (at.col - 1) }
+    ensures read { Reads (intra_frame_block setting.now.header setting.now.modes (lists_of setting.now.contexts) (N.blocks earlier.now) at) reader.old result reader.new }
+    ensures block { IfOk result (IsBlockAt at) }
+{
+    Ok(intra_frame_mode_info(reader, setting, earlier, at))
+}
+
+/// What a block reads: `BlockScale` where it names a reference out of range, `MvRange` where a new vector is; the reader then
+/// stands behind the last symbol that it read. The block starts inside the frame and its tile; `earlier` has the frame's
+/// blocks before it, `map` the segments before the frame, and `before` the blocks of the frame before, where its vectors are
+/// used.
+#[tactic(auto, unfolding(crate::specs::ModeInfo::mode_info))]
+pub fn mode_info<N: Neighbours, Q: Neighbours, const COUNTS: bool>(
+    reader: &mut CountingReader<COUNTS>,
+    setting: &FrameSetting,
+    at: BlockAt,
+    earlier: &N,
+    map: &SegmentMap,
+    before: Option<&Q>,
+) -> Result<BlockInfo, Rule>
+    requires row { at.row < setting.now.places.rows }
+    requires first { at.tile_from ≤ at.col }
+    requires last { at.col < at.tile_to }
+    requires tile { at.tile_to ≤ setting.now.places.cols }
+    requires map { (map.now.rows ≡ setting.now.places.rows) × (map.now.cols ≡ setting.now.places.cols) }
+    requires held { (r c : ℕ) → r < setting.now.places.rows → at.tile_from ≤ c → c < at.tile_to → N.holds earlier.now r c }
+    requires held_before { IfSome (option_copied before) (λ q. Q.holds q at.row at.col) }
+    requires small { All HasSmallVectors (N.blocks earlier.now) }
+    requires small_before { All HasSmallVectors (blocks_of Q.blocks (option_copied before)) }
+    ensures read { Reads (mode_info setting.now.header setting.now.modes (lists_of setting.now.contexts) (id_map map.now) (N.blocks earlier.now) (blocks_of Q.blocks (option_copied before.entry)) at) reader.old result reader.new }
+    ensures block { IfOk result (IsBlockAt at) }
+{
+    match &setting.header.kind {
+        FrameKind::Inter(fields) => {
+            let frame = Frame { setting, fields };
+            inter_frame_mode_info(reader, &frame, at, earlier, map, before)
+        }
+        FrameKind::Key | FrameKind::IntraOnly => intra_frame_block(reader, setting, at, earlier),
     }
 }
