@@ -161,5 +161,6 @@ def digest(seed, uses_before):
     return total
 
 
-for seed, uses_before in ((1, True), (2, False), (3, True)):
-    print(seed, uses_before, digest(seed, uses_before))
+if __name__ == "__main__":
+    for seed, uses_before in ((1, True), (2, False), (3, True)):
+        print(seed, uses_before, digest(seed, uses_before))

@@ -20,9 +20,7 @@ use crate::intra_blocks::read_intra_prediction;
 use crate::references::{in_range_or_rule, read_references};
 use crate::starts::{BlockStart, read_block_start, segment_reference};
 use crate::vectors::Sources;
-use block_plan::{
-    BlockAt, BlockInfo, Neighbours, Prediction, References, above_place, left_place,
-};
+use block_plan::{BlockAt, BlockInfo, Neighbours, Prediction, References, above_place, left_place};
 use counting_reader::CountingReader;
 use frame_headers::{FrameKind, InterFields};
 use frame_setting::FrameSetting;
@@ -67,8 +65,12 @@ fn read_intra_block<const COUNTS: bool>(
     ensures block { IfOk result (IsBlockAt at) }
 {
     let contexts = &frame.setting.contexts;
-    let prediction =
-        read_intra_prediction(reader, &contexts.inter.y_modes, &contexts.uv_modes, at.size);
+    let prediction = read_intra_prediction(
+        reader,
+        &contexts.inter.y_modes,
+        &contexts.uv_modes,
+        at.size,
+    );
     Ok(block_with(at, start, Prediction::Intra(prediction)))
 }
 
@@ -114,7 +116,14 @@ fn read_inter_block<N: Neighbours, Q: Neighbours, const COUNTS: bool>(
 {
     let setting = frame.setting;
     let segment = start.segment.id;
-    let references = read_checked_references(reader, frame, src.search.biases, above, left, segment)?;
+    let references = read_checked_references(
+        reader,
+        frame,
+        src.search.biases,
+        above,
+        left,
+        segment,
+    )?;
     let filters = &setting.contexts.inter.filters;
     let skips = skips_segment(&setting.header.params.segmentation, segment);
     let filter = (frame.fields.filter, filter_context(above, left));

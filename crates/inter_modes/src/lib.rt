@@ -11,3 +11,6 @@ mod starts;
 mod vectors;
 
 pub use frame_blocks::mode_info;
+
+#[cfg(test)]
+mod tests;

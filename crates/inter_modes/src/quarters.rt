@@ -59,7 +59,13 @@ fn read_four<N: Neighbours, Q: Neighbours, const COUNTS: bool>(
 {
     let none = NO_VECTORS;
     let q = read_quarter(reader, src, refs, 0, &before_of(best, none, none, none))?;
-    let r = read_quarter(reader, src, refs, 1, &before_of(best, q.vectors, none, none))?;
+    let r = read_quarter(
+        reader,
+        src,
+        refs,
+        1,
+        &before_of(best, q.vectors, none, none),
+    )?;
     let before = before_of(best, q.vectors, r.vectors, none);
     let t = read_quarter(reader, src, refs, 2, &before)?;
     let before = before_of(best, q.vectors, r.vectors, t.vectors);
@@ -83,7 +89,13 @@ fn read_two_columns<N: Neighbours, Q: Neighbours, const COUNTS: bool>(
 {
     let none = NO_VECTORS;
     let q = read_quarter(reader, src, refs, 0, &before_of(best, none, none, none))?;
-    let r = read_quarter(reader, src, refs, 1, &before_of(best, q.vectors, none, none))?;
+    let r = read_quarter(
+        reader,
+        src,
+        refs,
+        1,
+        &before_of(best, q.vectors, none, none),
+    )?;
     Ok([q, r, q, r])
 }
 

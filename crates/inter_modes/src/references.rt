@@ -229,7 +229,8 @@ pub(crate) fn in_range_or_rule(
 ) -> Result<References, Rule>
     ensures { result ≡ in_range_or_rule size.now frame.now references }
 {
-    if is_in_range(size, frame, references.first) && second_in_range(size, frame, references.second)
+    if is_in_range(size, frame, references.first)
+        && second_in_range(size, frame, references.second)
     {
         Ok(references)
     } else {

@@ -138,7 +138,13 @@ fn read_large<const COUNTS: bool>(
     let bits = read_bits(reader, probs, c, n);
     let nodes = nodes_from(&probs.fractions, 3 * c);
     let fraction = reader.counted_tree(ProbKind::VectorFraction, 3 * c, mv_fr_tree(), nodes);
-    let high = read_high(reader, precise, ProbKind::VectorHigh, c, probs.high[c as usize]);
+    let high = read_high(
+        reader,
+        precise,
+        ProbKind::VectorHigh,
+        c,
+        probs.high[c as usize],
+    );
     8 * power_of_two(n) + (8 * bits + 2 * u16::from(fraction) + u16::from(high) + 1)
 }
 
