@@ -40,7 +40,7 @@ pub enum Prediction {
     Inter(InterPrediction),
 }
 
-/// A block, at a row and column of places of 8x8 luma samples.
+/// A block, at a row and column of places of 8x8 luma samples. Its segment may be predicted from the map before its frame.
 #[derive(Clone, Copy, Debug, PartialEq, Eq)]
 pub struct BlockInfo {
     pub row: u32,
@@ -48,6 +48,7 @@ pub struct BlockInfo {
     pub size: BlockSize,
     pub skip: bool,
     pub segment: u8,
+    pub segment_predicted: bool,
     pub tx: TxSize,
     pub prediction: Prediction,
 }

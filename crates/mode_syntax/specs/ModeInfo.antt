@@ -1,5 +1,5 @@
 -- What a block of an intra frame reads (6.4.6 of the standard: intra_frame_mode_info), from the blocks before it.
-use Rattle.std.specs.Prelude.{ℕ, Bool, List, Option}
+use Rattle.std.specs.Prelude.{ℕ, Bool, false, List, Option}
 use Rattle.vp9_types.specs.Syntax.{Syntax}
 use Rattle.vp9_types.specs.declared.block.IntraMode.{IntraMode}
 use Rattle.vp9_types.specs.declared.block.Modes.{Modes}
@@ -24,6 +24,7 @@ intra_block at segment skip tx luma chroma = record {
   size = at.size;
   skip = skip;
   segment = segment;
+  segment_predicted = false;
   tx = tx;
   prediction = Intra (record { luma = luma; chroma = chroma });
 }

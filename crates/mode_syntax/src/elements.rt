@@ -31,7 +31,7 @@ pub(crate) fn read_intra_segment_id<const COUNTS: bool>(
 }
 
 /// Whether the blocks of a segment are skipped.
-fn skips_segment(segmentation: &Segmentation, segment: u8) -> bool
+pub fn skips_segment(segmentation: &Segmentation, segment: u8) -> bool
     requires { segment ≤ 7 }
     ensures { result ≡ skips_segment segmentation.now segment }
 {
@@ -48,7 +48,8 @@ fn skip_beside(block: Option<&BlockInfo>) -> u8
     }
 }
 
-pub(crate) fn skip_context(above: Option<&BlockInfo>, left: Option<&BlockInfo>) -> u8
+/// The context of a block's skip, 0 to 2.
+pub fn skip_context(above: Option<&BlockInfo>, left: Option<&BlockInfo>) -> u8
     ensures is { result ≡ skip_context (option_copied above.entry) (option_copied left.entry) }
     ensures most { result ≤ 2 }
 {
@@ -57,7 +58,7 @@ pub(crate) fn skip_context(above: Option<&BlockInfo>, left: Option<&BlockInfo>) 
 
 /// Whether a block is skipped.
 #[tactic(auto, unfolding(crate::specs::Elements::read_skip), using(counting_reader::proofs::CountingRuns::run_settle))]
-pub(crate) fn read_skip<const COUNTS: bool>(
+pub fn read_skip<const COUNTS: bool>(
     reader: &mut CountingReader<COUNTS>,
     segmentation: &Segmentation,
     probs: &[u8; 3],

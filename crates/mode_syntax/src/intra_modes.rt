@@ -21,7 +21,7 @@ pub(crate) struct EdgeModes {
 }
 
 /// The mode of a number, 0 to 9.
-fn intra_of(number: u8) -> IntraMode
+pub fn intra_of(number: u8) -> IntraMode
     ensures { result ≡ intra_of number }
 {
     match number {

@@ -57,6 +57,7 @@ fn read_beside<const COUNTS: bool>(
         size: at.size,
         skip,
         segment,
+        segment_predicted: false,
         tx,
         prediction: Prediction::Intra(IntraPrediction { luma, chroma }),
     }

@@ -336,6 +336,7 @@ fn dc_block(row: u32, col: u32, size: BlockSize) -> BlockInfo {
         size,
         skip: false,
         segment: 0,
+        segment_predicted: false,
         tx: TxSize::T4x4,
         prediction: Prediction::Intra(IntraPrediction {
             luma: [IntraMode::Dc; 4],

@@ -39,8 +39,9 @@ fn greatest_of(size: BlockSize) -> TxSize
     max_tx_size(size)
 }
 
+/// The greatest transform of a block in a frame of a mode.
 #[tactic(auto, using(block_plan::proofs::Transforms::tx_of_number))]
-fn greatest_allowed(mode: TxMode, size: BlockSize) -> TxSize
+pub fn greatest_allowed(mode: TxMode, size: BlockSize) -> TxSize
     ensures is { result ≡ tx_of (greatest_allowed mode size) }
     ensures fits { tx_number result ≤ greatest_of size }
 {
@@ -68,7 +69,7 @@ fn tx_sum(greatest: u8, above: Option<&BlockInfo>, left: Option<&BlockInfo>) -> 
 }
 
 /// The context of a block's transform size, 0 or 1.
-pub(crate) fn tx_context(size: BlockSize, above: Option<&BlockInfo>, left: Option<&BlockInfo>) -> u8
+pub fn tx_context(size: BlockSize, above: Option<&BlockInfo>, left: Option<&BlockInfo>) -> u8
     ensures is { result ≡ tx_context size (option_copied above.entry) (option_copied left.entry) }
     ensures most { result ≤ 1 }
 {
@@ -156,7 +157,7 @@ fn read_tx_symbol<const COUNTS: bool>(
 
 /// The transform size of an intra block.
 #[tactic(auto, unfolding(crate::specs::Elements::read_tx_size), using(counting_reader::proofs::CountingRuns::run_settle, crate::proofs::TxSizes::some_transform))]
-pub(crate) fn read_tx_size<const COUNTS: bool>(
+pub fn read_tx_size<const COUNTS: bool>(
     reader: &mut CountingReader<COUNTS>,
     mode: TxMode,
     probs: &TxProbs,

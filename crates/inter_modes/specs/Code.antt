@@ -1,0 +1,60 @@
+-- What the code keeps and its calls answer.
+use Rattle.std.specs.Prelude.{◌≡◌, ℕ, ◌<◌, ◌≤◌, Bool, List, Option, IfSome}
+use Rattle.std.specs.List.{All}
+use Rattle.vp9_tables.specs.Blocks.{greatest_of}
+use Rattle.vp9_tables.specs.Numbers.{tx_number}
+use Rattle.prob_contexts.specs.Lists.{lists_of}
+use Rattle.block_geometry.specs.Parts.{part_inside}
+use Rattle.block_plan.specs.declared.block.BlockAt.{BlockAt}
+use Rattle.block_plan.specs.declared.block.BlockInfo.{BlockInfo}
+use Rattle.mv_prediction.specs.Code.{AreSmall, HasSmallVectors, IsSite, blocks_of}
+use Rattle.mv_prediction.specs.declared.search.MvSearch.{MvSearch}
+use Rattle.mv_prediction.specs.SubBlocks.{vector_at}
+use Rattle.segment_map.specs.Segments.{SegmentIds, id_map, least_id}
+use Rattle.inter_modes.specs.ModeInfo.{InterFrame}
+use Rattle.inter_modes.specs.Vectors.{row_at}
+use Rattle.inter_modes.specs.declared.frame_blocks.Frame.{Frame}
+use Rattle.inter_modes.specs.declared.quarters.Quarter.{Quarter}
+use Rattle.inter_modes.specs.declared.quarters.QuartersBefore.{QuartersBefore}
+
+-- the least id of a map over a block
+abbrev pub least_of : SegmentIds → BlockAt → ℕ
+least_of m at = least_id (id_map m) (part_inside (record { rows = m.rows; cols = m.cols }) at.row at.col at.size)
+
+-- the vectors of the quarters before one are small
+pub record AreSmallBefore (b : QuartersBefore) : Type 0 where
+  pub best : AreSmall b.best
+  pub first : AreSmall (row_at b.rows 0)
+  pub second : AreSmall (row_at b.rows 1)
+  pub third : AreSmall (row_at b.rows 2)
+
+-- so are those of quarters that are read
+abbrev pub AreSmallQuarters : List Quarter → Type 0
+AreSmallQuarters qs = All (λ (q : Quarter). AreSmall q.vectors) qs
+
+-- what is asked of an inter frame, as the code holds it
+abbrev pub frame_in : Frame → InterFrame
+frame_in f = record {
+  header = f.setting.now.header;
+  fields = f.fields.now;
+  modes = f.setting.now.modes;
+  contexts = lists_of f.setting.now.contexts;
+}
+
+-- a block that is read at a place: the next ones may stand beside it
+pub record IsBlockAt (at : BlockAt) (b : BlockInfo) : Type 0 where
+  pub row : b.row ≡ at.row
+  pub col : b.col ≡ at.col
+  pub size : b.size ≡ at.size
+  pub segment : b.segment ≤ 7
+  pub fits : tx_number b.tx ≤ greatest_of at.size
+  pub small : HasSmallVectors b
+
+-- what may be asked of the blocks before a block, and of those of the frame before, and how large their vectors are
+pub record MaySearch {N Q : Type 0} (holds : N → ℕ → ℕ → Type 0) (blocks : N → List BlockInfo) (holds_before : Q → ℕ → ℕ → Type 0) (blocks_before : Q → List BlockInfo)
+    (earlier : N) (before : Option Q) (s : MvSearch) : Type 0 where
+  pub site : IsSite s
+  pub held : (r c : ℕ) → r < s.places.rows → s.at.tile_from ≤ c → c < s.at.tile_to → holds earlier r c
+  pub held_before : IfSome before (λ q. holds_before q s.at.row s.at.col)
+  pub small : All HasSmallVectors (blocks earlier)
+  pub small_before : All HasSmallVectors (blocks_of blocks_before before)

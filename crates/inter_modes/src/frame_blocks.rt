@@ -1,0 +1,249 @@
+//! What a block reads.
+
+ghost use Rattle.std.specs.Prelude.{◌≡◌, ◌-◌, ◌<◌, ◌≤◌, ℕ, IfOk, IfSome};
+ghost use Rattle.std.specs.List.{All};
+ghost use Rattle.std.specs.Option.{option_copied};
+ghost use Rattle.vp9_tables.specs.Blocks.{greatest_of};
+ghost use Rattle.vp9_tables.specs.Numbers.{tx_number};
+ghost use Rattle.prob_contexts.specs.Lists.{lists_of, vector_lists};
+ghost use Rattle.block_plan.specs.declared.block.Prediction.TheVariants.{Intra};
+ghost use Rattle.counting_reader.specs.Code.{Reads};
+ghost use Rattle.mv_prediction.specs.Candidates.{mode_context, sign_biases};
+ghost use Rattle.mv_prediction.specs.Code.{HasSmallVectors, IsSite, blocks_of};
+ghost use Rattle.segment_map.specs.Segments.{id_map};
+ghost use Rattle.inter_modes.specs.Code.{MaySearch, IsBlockAt, frame_in, least_of};
+ghost use Rattle.inter_modes.specs.ModeInfo.{checked_references, inter_block, intra_block, inter_frame_block, inter_frame_mode_info, intra_frame_block, mode_info, block_with};
+
+use crate::blocks::read_inter_prediction;
+use crate::contexts::filter_context;
+use crate::intra_blocks::read_intra_prediction;
+use crate::references::{in_range_or_rule, read_references};
+use crate::starts::{BlockStart, read_block_start, segment_reference};
+use crate::vectors::Sources;
+use block_plan::{BlockAt, BlockInfo, Neighbours, Prediction, References, above_place, left_place};
+use counting_reader::CountingReader;
+use frame_headers::{FrameKind, InterFields};
+use frame_setting::FrameSetting;
+use mode_syntax::{intra_frame_mode_info, skips_segment};
+use mv_prediction::{MvSearch, SignBiases, mode_context};
+use segment_map::SegmentMap;
+use vp9_types::Rule;
+
+/// An inter frame.
+#[derive(Drop)]
+struct Frame<'a> {
+    setting: &'a FrameSetting,
+    fields: &'a InterFields,
+}
+
+fn block_with(at: BlockAt, start: &BlockStart, prediction: Prediction) -> BlockInfo
+    ensures { result ≡ block_with at start.now prediction }
+{
+    BlockInfo {
+        row: at.row,
+        col: at.col,
+        size: at.size,
+        skip: start.skip,
+        segment: start.segment.id,
+        segment_predicted: start.segment.predicted,
+        tx: start.tx,
+        prediction,
+    }
+}
+
+/// An intra block of an inter frame.
+#[tactic(auto, unfolding(crate::specs::ModeInfo::intra_block), using(counting_reader::proofs::CountingRuns::counting_bind, counting_reader::proofs::CountingRuns::run_settle))]
+fn read_intra_block<const COUNTS: bool>(
+    reader: &mut CountingReader<COUNTS>,
+    frame: &Frame<'_>,
+    at: BlockAt,
+    start: &BlockStart,
+) -> Result<BlockInfo, Rule>
+    requires segment { start.now.segment.id ≤ 7 }
+    requires fits { tx_number start.now.tx ≤ greatest_of at.size }
+    ensures read { Reads (intra_block (frame_in frame.now) at start.now) reader.old result reader.new }
+    ensures block { IfOk result (IsBlockAt at) }
+{
+    let contexts = &frame.setting.contexts;
+    let prediction = read_intra_prediction(
+        reader,
+        &contexts.inter.y_modes,
+        &contexts.uv_modes,
+        at.size,
+    );
+    Ok(block_with(at, start, Prediction::Intra(prediction)))
+}
+
+/// The references of an inter block, which must be in range.
+#[tactic(auto, unfolding(crate::specs::ModeInfo::checked_references), using(counting_reader::proofs::CountingRuns::counting_bind, counting_reader::proofs::CountingRuns::run_settle))]
+fn read_checked_references<const COUNTS: bool>(
+    reader: &mut CountingReader<COUNTS>,
+    frame: &Frame<'_>,
+    biases: SignBiases,
+    above: Option<&BlockInfo>,
+    left: Option<&BlockInfo>,
+    segment: u8,
+) -> Result<References, Rule>
+    requires segment { segment ≤ 7 }
+    ensures { Reads (checked_references (frame_in frame.now) biases (option_copied above.entry) (option_copied left.entry) segment) reader.old result reader.new }
+{
+    let setting = frame.setting;
+    let feature = segment_reference(&setting.header.params.segmentation, segment);
+    let mode = setting.modes.reference_mode;
+    let probs = &setting.contexts.inter;
+    let references = read_references(reader, feature, (mode, biases), probs, above, left);
+    in_range_or_rule(&setting.header.size, &frame.fields.references, references)
+}
+
+/// An inter block, from the blocks above it and at its left.
+#[tactic(auto, unfolding(crate::specs::ModeInfo::inter_block), using(counting_reader::proofs::CountingRuns::counting_bind, counting_reader::proofs::CountingRuns::run_settle))]
+fn read_inter_block<N: Neighbours, Q: Neighbours, const COUNTS: bool>(
+    reader: &mut CountingReader<COUNTS>,
+    src: &Sources<'_, N, Q>,
+    frame: &Frame<'_>,
+    above: Option<&BlockInfo>,
+    left: Option<&BlockInfo>,
+    start: &BlockStart,
+) -> Result<BlockInfo, Rule>
+    requires segment { start.now.segment.id ≤ 7 }
+    requires fits { tx_number start.now.tx ≤ greatest_of src.now.search.at.size }
+    requires context { src.now.context ≡ mode_context (N.blocks src.now.earlier.now) src.now.search }
+    requires few { src.now.context ≤ 6 }
+    requires modes { src.now.modes.now ≡ frame.now.setting.now.contexts.inter.modes }
+    requires may { MaySearch N.holds N.blocks Q.holds Q.blocks src.now.earlier.now (option_copied src.now.before) src.now.search }
+    ensures read { Reads (inter_block (frame_in frame.now) (record { lists = vector_lists src.now.probs.now; allowed = src.now.high_precision; earlier = N.blocks src.now.earlier.now; before = blocks_of Q.blocks (option_copied src.now.before); search = src.now.search }) (option_copied above.entry) (option_copied left.entry) start.now) reader.old result reader.new }
+    ensures block { IfOk result (IsBlockAt src.now.search.at) }
+{
+    let setting = frame.setting;
+    let segment = start.segment.id;
+    let references = read_checked_references(
+        reader,
+        frame,
+        src.search.biases,
+        above,
+        left,
+        segment,
+    )?;
+    let filters = &setting.contexts.inter.filters;
+    let skips = skips_segment(&setting.header.params.segmentation, segment);
+    let filter = (frame.fields.filter, filter_context(above, left));
+    let prediction = read_inter_prediction(reader, src, filters, skips, filter, references)?;
+    Ok(block_with(src.search.at, start, Prediction::Inter(prediction)))
+}
+
+/// A block of an inter frame, from the blocks above it and at its left, and the map before its frame.
+#[tactic(auto, unfolding(crate::specs::ModeInfo::inter_frame_block), using(counting_reader::proofs::CountingRuns::counting_bind, counting_reader::proofs::CountingRuns::run_settle))]
+fn read_beside<N: Neighbours, Q: Neighbours, const COUNTS: bool>(
+    reader: &mut CountingReader<COUNTS>,
+    src: &Sources<'_, N, Q>,
+    frame: &Frame<'_>,
+    above: Option<&BlockInfo>,
+    left: Option<&BlockInfo>,
+    map: &SegmentMap,
+) -> Result<BlockInfo, Rule>
+    requires row { src.now.search.at.row < map.now.rows }
+    requires col { src.now.search.at.col < map.now.cols }
+    requires context { src.now.context ≡ mode_context (N.blocks src.now.earlier.now) src.now.search }
+    requires few { src.now.context ≤ 6 }
+    requires modes { src.now.modes.now ≡ frame.now.setting.now.contexts.inter.modes }
+    requires may { MaySearch N.holds N.blocks Q.holds Q.blocks src.now.earlier.now (option_copied src.now.before) src.now.search }
+    ensures read { Reads (inter_frame_block (frame_in frame.now) (record { lists = vector_lists src.now.probs.now; allowed = src.now.high_precision; earlier = N.blocks src.now.earlier.now; before = blocks_of Q.blocks (option_copied src.now.before); search = src.now.search }) (option_copied above.entry) (option_copied left.entry) (least_of map.now src.now.search.at)) reader.old result reader.new }
+    ensures block { IfOk result (IsBlockAt src.now.search.at) }
+{
+    let at = src.search.at;
+    let start = read_block_start(reader, frame.setting, above, left, at, map);
+    if start.is_inter {
+        read_inter_block(reader, src, frame, above, left, &start)
+    } else {
+        read_intra_block(reader, frame, at, &start)
+    }
+}
+
+/// What a block of an inter frame reads.
+#[tactic(auto, unfolding(crate::specs::ModeInfo::inter_frame_mode_info))]
+fn inter_frame_mode_info<N: Neighbours, Q: Neighbours, const COUNTS: bool>(
+    reader: &mut CountingReader<COUNTS>,
+    frame: &Frame<'_>,
+    at: BlockAt,
+    earlier: &N,
+    map: &SegmentMap,
+    before: Option<&Q>,
+) -> Result<BlockInfo, Rule>
+    requires site { IsSite (record { places = frame.now.setting.now.places; biases = sign_biases frame.now.fields.now.references; at = at }) }
+    requires map { (map.now.rows ≡ frame.now.setting.now.places.rows) × (map.now.cols ≡ frame.now.setting.now.places.cols) }
+    requires held { (r c : ℕ) → r < frame.now.setting.now.places.rows → at.tile_from ≤ c → c < at.tile_to → N.holds earlier.now r c }
+    requires held_before { IfSome (option_copied before) (λ q. Q.holds q at.row at.col) }
+    requires small { All HasSmallVectors (N.blocks earlier.now) }
+    requires small_before { All HasSmallVectors (blocks_of Q.blocks (option_copied before)) }
+    ensures read { Reads (inter_frame_mode_info (frame_in frame.now) (id_map map.now) (N.blocks earlier.now) (blocks_of Q.blocks (option_copied before.entry)) at) reader.old result reader.new }
+    ensures block { IfOk result (IsBlockAt at) }
+{
+    let contexts = &frame.setting.contexts;
+    let search = MvSearch {
+        places: frame.setting.places,
+        biases: SignBiases::of(&frame.fields.references),
+        at,
+    };
+    let src = Sources {
+        probs: &contexts.vectors,
+        modes: &contexts.inter.modes,
+        context: mode_context(&search, earlier),
+        high_precision: frame.fields.high_precision,
+        search,
+        earlier,
+        before,
+    };
+    let above = above_place(earlier, at.row, at.col);
+    let left = left_place(earlier, at.tile_from, at.row, at.col);
+    read_beside(reader, &src, frame, above, left, map)
+}
+
+/// What a block of an intra frame reads.
+#[tactic(auto, unfolding(crate::specs::ModeInfo::intra_frame_block), using(counting_reader::proofs::CountingRuns::counting_bind, counting_reader::proofs::CountingRuns::run_settle, crate::proofs::Rows::intra_small))]
+fn intra_frame_block<N: Neighbours, const COUNTS: bool>(
+    reader: &mut CountingReader<COUNTS>,
+    setting: &FrameSetting,
+    at: BlockAt,
+    earlier: &N,
+) -> Result<BlockInfo, Rule>
+    requires above { 0 < at.row → N.holds earlier.now (at.row - 1) at.col }
+    requires left { at.tile_from < at.col → N.holds earlier.now at.row (at.col - 1) }
+    ensures read { Reads (intra_frame_block setting.now.header setting.now.modes (lists_of setting.now.contexts) (N.blocks earlier.now) at) reader.old result reader.new }
+    ensures block { IfOk result (IsBlockAt at) }
+{
+    Ok(intra_frame_mode_info(reader, setting, earlier, at))
+}
+
+/// What a block reads: `BlockScale` where it names a reference out of range, `MvRange` where a new vector is; the reader then
+/// stands behind the last symbol that it read. The block starts inside the frame and its tile; `earlier` has the frame's
+/// blocks before it, `map` the segments before the frame, and `before` the blocks of the frame before, where its vectors are
+/// used.
+#[tactic(auto, unfolding(crate::specs::ModeInfo::mode_info))]
+pub fn mode_info<N: Neighbours, Q: Neighbours, const COUNTS: bool>(
+    reader: &mut CountingReader<COUNTS>,
+    setting: &FrameSetting,
+    at: BlockAt,
+    earlier: &N,
+    map: &SegmentMap,
+    before: Option<&Q>,
+) -> Result<BlockInfo, Rule>
+    requires row { at.row < setting.now.places.rows }
+    requires first { at.tile_from ≤ at.col }
+    requires last { at.col < at.tile_to }
+    requires tile { at.tile_to ≤ setting.now.places.cols }
+    requires map { (map.now.rows ≡ setting.now.places.rows) × (map.now.cols ≡ setting.now.places.cols) }
+    requires held { (r c : ℕ) → r < setting.now.places.rows → at.tile_from ≤ c → c < at.tile_to → N.holds earlier.now r c }
+    requires held_before { IfSome (option_copied before) (λ q. Q.holds q at.row at.col) }
+    requires small { All HasSmallVectors (N.blocks earlier.now) }
+    requires small_before { All HasSmallVectors (blocks_of Q.blocks (option_copied before)) }
+    ensures read { Reads (mode_info setting.now.header setting.now.modes (lists_of setting.now.contexts) (id_map map.now) (N.blocks earlier.now) (blocks_of Q.blocks (option_copied before.entry)) at) reader.old result reader.new }
+    ensures block { IfOk result (IsBlockAt at) }
+{
+    match &setting.header.kind {
+        FrameKind::Inter(fields) => {
+            let frame = Frame { setting, fields };
+            inter_frame_mode_info(reader, &frame, at, earlier, map, before)
+        }
+        FrameKind::Key | FrameKind::IntraOnly => intra_frame_block(reader, setting, at, earlier),
+    }
+}

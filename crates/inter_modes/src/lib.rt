@@ -1,0 +1,16 @@
+//! The modes of the blocks of inter frames (6.4.5 and 6.4.11 to 6.4.18 of the standard).
+#![tactic(auto)]
+
+mod blocks;
+mod contexts;
+mod frame_blocks;
+mod intra_blocks;
+mod quarters;
+mod references;
+mod starts;
+mod vectors;
+
+pub use frame_blocks::mode_info;
+
+#[cfg(test)]
+mod tests;

@@ -1,0 +1,251 @@
+//! The vectors of inter blocks.
+
+ghost use Rattle.std.specs.Prelude.{◌≡◌, ◌<◌, ◌≤◌, ◌∷◌, [], Some, IfOk};
+ghost use Rattle.std.specs.Option.{option_copied};
+ghost use Rattle.prob_contexts.specs.Lists.{vector_lists};
+ghost use Rattle.counting_reader.specs.Code.{Reads};
+ghost use Rattle.mv_prediction.specs.Code.{AreSmall, blocks_of};
+ghost use Rattle.mv_prediction.specs.Vectors.{IsSmallVector};
+ghost use Rattle.inter_modes.specs.Code.{MaySearch, AreSmallBefore};
+ghost use Rattle.inter_modes.specs.Vectors.{inter_of, inter_mode, vector_of_mode, near_of_block, near_of_quarter, block_vector, block_vectors, second_best, best_vectors, of_list, quarter_vector, quarter_vectors, quarter};
+
+use crate::intra_blocks::nodes_from;
+use crate::quarters::{Quarter, QuartersBefore};
+use block_plan::{Mv, Neighbours, References};
+use counting_reader::CountingReader;
+use mv_prediction::{MvSearch, NearVectors, candidates, near_vectors, sub_block_vectors};
+use mv_syntax::read_new_vector;
+use prob_contexts::{ProbKind, VectorProbs};
+use vp9_tables::inter_mode_tree;
+use vp9_types::{InterMode, ReferenceFrame, Rule};
+
+const NO_VECTOR: Mv = Mv { row: 0, column: 0 };
+
+/// Those of a quarter that isn't read.
+pub(crate) const NO_VECTORS: [Mv; 2] = [NO_VECTOR; 2];
+
+/// What the vectors of a block are read by: probabilities, of vectors and of modes with their context, whether its frame
+/// allows high precision, the block, the blocks before it, and those of the frame before.
+#[derive(Drop)]
+pub(crate) struct Sources<'a, N, Q> {
+    pub probs: &'a VectorProbs,
+    pub modes: &'a [u8; 21],
+    pub context: u8,
+    pub high_precision: bool,
+    pub search: MvSearch,
+    pub earlier: &'a N,
+    pub before: Option<&'a Q>,
+}
+
+/// The mode of a number, 0 to 3.
+fn inter_of(number: u8) -> InterMode
+    ensures { result ≡ inter_of number }
+{
+    match number {
+        0 => InterMode::Nearest,
+        1 => InterMode::Near,
+        2 => InterMode::Zero,
+        _ => InterMode::New,
+    }
+}
+
+#[tactic(auto, unfolding(crate::specs::Vectors::inter_mode), using(counting_reader::proofs::CountingRuns::counting_bind, counting_reader::proofs::CountingRuns::run_settle))]
+pub(crate) fn read_inter_mode<const COUNTS: bool>(
+    reader: &mut CountingReader<COUNTS>,
+    probs: &[u8; 21],
+    context: u8,
+) -> InterMode
+    requires { context ≤ 6 }
+    ensures { Reads (inter_mode probs.now context) reader.old result reader.new }
+{
+    let first = 3 * u16::from(context);
+    let nodes = nodes_from(probs, first);
+    inter_of(reader.counted_tree(ProbKind::InterMode, first, inter_mode_tree(), nodes))
+}
+
+/// The nearest and the near vector of a block.
+fn near_of_block<N: Neighbours, Q: Neighbours>(
+    src: &Sources<'_, N, Q>,
+    reference: ReferenceFrame,
+) -> NearVectors
+    requires may { MaySearch N.holds N.blocks Q.holds Q.blocks src.now.earlier.now (option_copied src.now.before) src.now.search }
+    ensures is { result ≡ near_of_block (record { lists = vector_lists src.now.probs.now; allowed = src.now.high_precision; earlier = N.blocks src.now.earlier.now; before = blocks_of Q.blocks (option_copied src.now.before); search = src.now.search }) reference }
+    ensures nearest { IsSmallVector result.nearest }
+    ensures near { IsSmallVector result.near }
+{
+    let two = candidates(&src.search, reference, None, src.earlier, src.before);
+    near_vectors(src.high_precision, &two)
+}
+
+/// Those of a quarter.
+fn near_of_quarter<N: Neighbours, Q: Neighbours>(
+    src: &Sources<'_, N, Q>,
+    reference: ReferenceFrame,
+    k: u8,
+    quarters: &[Mv; 3],
+) -> NearVectors
+    requires k { k < 4 }
+    requires may { MaySearch N.holds N.blocks Q.holds Q.blocks src.now.earlier.now (option_copied src.now.before) src.now.search }
+    requires small { AreSmall quarters.now }
+    ensures is { result ≡ near_of_quarter (record { lists = vector_lists src.now.probs.now; allowed = src.now.high_precision; earlier = N.blocks src.now.earlier.now; before = blocks_of Q.blocks (option_copied src.now.before); search = src.now.search }) reference k quarters.now }
+    ensures nearest { IsSmallVector result.nearest }
+    ensures near { IsSmallVector result.near }
+{
+    let two = candidates(&src.search, reference, Some(k), src.earlier, src.before);
+    sub_block_vectors(k, &two, quarters)
+}
+
+/// A block's vector of a reference.
+#[tactic(auto, unfolding(crate::specs::Vectors::block_vector, crate::specs::Vectors::vector_of_mode), using(counting_reader::proofs::CountingRuns::run_settle))]
+fn read_block_vector<N: Neighbours, Q: Neighbours, const COUNTS: bool>(
+    reader: &mut CountingReader<COUNTS>,
+    src: &Sources<'_, N, Q>,
+    mode: InterMode,
+    reference: ReferenceFrame,
+) -> Result<Mv, Rule>
+    requires may { MaySearch N.holds N.blocks Q.holds Q.blocks src.now.earlier.now (option_copied src.now.before) src.now.search }
+    ensures read { Reads (block_vector (record { lists = vector_lists src.now.probs.now; allowed = src.now.high_precision; earlier = N.blocks src.now.earlier.now; before = blocks_of Q.blocks (option_copied src.now.before); search = src.now.search }) mode reference) reader.old result reader.new }
+    ensures small { IfOk result IsSmallVector }
+{
+    match mode {
+        InterMode::Zero => Ok(NO_VECTOR),
+        InterMode::Nearest => Ok(near_of_block(src, reference).nearest),
+        InterMode::Near => Ok(near_of_block(src, reference).near),
+        InterMode::New => {
+            let best = near_of_block(src, reference).nearest;
+            read_new_vector(reader, src.probs, src.high_precision, best)
+        }
+    }
+}
+
+/// A block's vectors of its references.
+#[tactic(auto, unfolding(crate::specs::Vectors::block_vectors, crate::specs::Vectors::with_second), using(counting_reader::proofs::CountingRuns::counting_bind, counting_reader::proofs::CountingRuns::run_settle))]
+pub(crate) fn read_block_vectors<N: Neighbours, Q: Neighbours, const COUNTS: bool>(
+    reader: &mut CountingReader<COUNTS>,
+    src: &Sources<'_, N, Q>,
+    mode: InterMode,
+    references: References,
+) -> Result<[Mv; 2], Rule>
+    requires may { MaySearch N.holds N.blocks Q.holds Q.blocks src.now.earlier.now (option_copied src.now.before) src.now.search }
+    ensures read { Reads (block_vectors (record { lists = vector_lists src.now.probs.now; allowed = src.now.high_precision; earlier = N.blocks src.now.earlier.now; before = blocks_of Q.blocks (option_copied src.now.before); search = src.now.search }) mode references) reader.old result reader.new }
+    ensures small { IfOk result AreSmall }
+{
+    let first = match read_block_vector(reader, src, mode, references.first) {
+        Ok(first) => first,
+        Err(rule) => return Err(rule),
+    };
+    match references.second {
+        None => Ok([first, NO_VECTOR]),
+        Some(reference) => match read_block_vector(reader, src, mode, reference) {
+            Ok(second) => Ok([first, second]),
+            Err(rule) => Err(rule),
+        },
+    }
+}
+
+/// The best vectors of a block below 8x8.
+pub(crate) fn best_vectors<N: Neighbours, Q: Neighbours>(
+    src: &Sources<'_, N, Q>,
+    references: References,
+) -> [Mv; 2]
+    requires may { MaySearch N.holds N.blocks Q.holds Q.blocks src.now.earlier.now (option_copied src.now.before) src.now.search }
+    ensures is { result ≡ best_vectors (record { lists = vector_lists src.now.probs.now; allowed = src.now.high_precision; earlier = N.blocks src.now.earlier.now; before = blocks_of Q.blocks (option_copied src.now.before); search = src.now.search }) references }
+    ensures small { AreSmall result }
+{
+    let first = near_of_block(src, references.first).nearest;
+    match references.second {
+        None => [first, NO_VECTOR],
+        Some(reference) => [first, near_of_block(src, reference).nearest],
+    }
+}
+
+/// The vectors of a list of the quarters before one.
+fn of_list(list: usize, rows: &[[Mv; 2]; 3]) -> [Mv; 3]
+    requires { list < 2 }
+    ensures { result ≡ of_list list rows.now }
+{
+    [rows[0][list], rows[1][list], rows[2][list]]
+}
+
+/// A quarter's vector of a reference, of the first list or the second.
+#[tactic(auto, unfolding(crate::specs::Vectors::quarter_vector, crate::specs::Vectors::vector_of_mode), using(counting_reader::proofs::CountingRuns::run_settle))]
+fn read_quarter_vector<N: Neighbours, Q: Neighbours, const COUNTS: bool>(
+    reader: &mut CountingReader<COUNTS>,
+    src: &Sources<'_, N, Q>,
+    mode: InterMode,
+    wanted: (ReferenceFrame, usize),
+    k: u8,
+    before: &QuartersBefore,
+) -> Result<Mv, Rule>
+    requires list { wanted.1 < 2 }
+    requires k { k < 4 }
+    requires may { MaySearch N.holds N.blocks Q.holds Q.blocks src.now.earlier.now (option_copied src.now.before) src.now.search }
+    requires small { AreSmallBefore before.now }
+    ensures read { Reads (quarter_vector (record { lists = vector_lists src.now.probs.now; allowed = src.now.high_precision; earlier = N.blocks src.now.earlier.now; before = blocks_of Q.blocks (option_copied src.now.before); search = src.now.search }) mode wanted.0 wanted.1 k before.now) reader.old result reader.new }
+    ensures small { IfOk result IsSmallVector }
+{
+    let (reference, list) = wanted;
+    let quarters = of_list(list, &before.rows);
+    match mode {
+        InterMode::Zero => Ok(NO_VECTOR),
+        InterMode::Nearest => Ok(near_of_quarter(src, reference, k, &quarters).nearest),
+        InterMode::Near => Ok(near_of_quarter(src, reference, k, &quarters).near),
+        InterMode::New => {
+            read_new_vector(reader, src.probs, src.high_precision, before.best[list])
+        }
+    }
+}
+
+/// A quarter's vectors of its block's references.
+#[tactic(auto, unfolding(crate::specs::Vectors::quarter_vectors, crate::specs::Vectors::with_second), using(counting_reader::proofs::CountingRuns::counting_bind, counting_reader::proofs::CountingRuns::run_settle))]
+fn read_quarter_vectors<N: Neighbours, Q: Neighbours, const COUNTS: bool>(
+    reader: &mut CountingReader<COUNTS>,
+    src: &Sources<'_, N, Q>,
+    mode: InterMode,
+    references: References,
+    k: u8,
+    before: &QuartersBefore,
+) -> Result<[Mv; 2], Rule>
+    requires k { k < 4 }
+    requires may { MaySearch N.holds N.blocks Q.holds Q.blocks src.now.earlier.now (option_copied src.now.before) src.now.search }
+    requires small { AreSmallBefore before.now }
+    ensures read { Reads (quarter_vectors (record { lists = vector_lists src.now.probs.now; allowed = src.now.high_precision; earlier = N.blocks src.now.earlier.now; before = blocks_of Q.blocks (option_copied src.now.before); search = src.now.search }) mode references k before.now) reader.old result reader.new }
+    ensures small { IfOk result AreSmall }
+{
+    let first = match read_quarter_vector(reader, src, mode, (references.first, 0), k, before) {
+        Ok(first) => first,
+        Err(rule) => return Err(rule),
+    };
+    match references.second {
+        None => Ok([first, NO_VECTOR]),
+        Some(reference) => {
+            match read_quarter_vector(reader, src, mode, (reference, 1), k, before) {
+                Ok(second) => Ok([first, second]),
+                Err(rule) => Err(rule),
+            }
+        }
+    }
+}
+
+/// A quarter's mode and vectors.
+#[tactic(auto, unfolding(crate::specs::Vectors::quarter), using(counting_reader::proofs::CountingRuns::counting_bind, counting_reader::proofs::CountingRuns::run_settle))]
+pub(crate) fn read_quarter<N: Neighbours, Q: Neighbours, const COUNTS: bool>(
+    reader: &mut CountingReader<COUNTS>,
+    src: &Sources<'_, N, Q>,
+    references: References,
+    k: u8,
+    before: &QuartersBefore,
+) -> Result<Quarter, Rule>
+    requires context { src.now.context ≤ 6 }
+    requires k { k < 4 }
+    requires may { MaySearch N.holds N.blocks Q.holds Q.blocks src.now.earlier.now (option_copied src.now.before) src.now.search }
+    requires small { AreSmallBefore before.now }
+    ensures read { Reads (quarter (record { lists = vector_lists src.now.probs.now; allowed = src.now.high_precision; earlier = N.blocks src.now.earlier.now; before = blocks_of Q.blocks (option_copied src.now.before); search = src.now.search }) src.now.modes.now src.now.context references k before.now) reader.old result reader.new }
+    ensures small { IfOk result (λ q. AreSmall q.vectors) }
+{
+    let mode = read_inter_mode(reader, src.modes, src.context);
+    match read_quarter_vectors(reader, src, mode, references, k, before) {
+        Ok(vectors) => Ok(Quarter { mode, vectors }),
+        Err(rule) => Err(rule),
+    }
+}

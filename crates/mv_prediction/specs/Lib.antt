@@ -1,0 +1,5 @@
+pub mod Vectors
+pub mod Candidates
+pub mod SubBlocks
+pub mod Code
+pub mod Laws
