@@ -1,0 +1,71 @@
+//! Eight lines at a time, of four samples on each side.
+
+ghost use Rattle.std.specs.Prelude.{◌≡◌, ℕ, ◌<◌, ◌≤◌};
+ghost use Rattle.line_filter.specs.Lines.{filtered_near};
+ghost use Rattle.line_filter.specs.Code.{IsNear, line_of, near_at};
+
+use crate::edge::Limits;
+use crate::near::{Near, filtered};
+
+/// Eight samples of a row.
+pub type Row = [u16; 8];
+
+/// Eight rows of eight samples.
+#[derive(Clone, Copy, Debug, PartialEq, Eq)]
+pub struct Lanes {
+    pub r0: Row,
+    pub r1: Row,
+    pub r2: Row,
+    pub r3: Row,
+    pub r4: Row,
+    pub r5: Row,
+    pub r6: Row,
+    pub r7: Row,
+}
+
+#[inline(always)]
+#[tactic(auto, unfolding(crate::specs::Code::near_at))]
+fn near(x: &Lanes, j: usize) -> Near
+    requires { j < 8 }
+    ensures { result ≡ near_at x.now j }
+{
+    Near {
+        p3: x.r0[j],
+        p2: x.r1[j],
+        p1: x.r2[j],
+        p0: x.r3[j],
+        q0: x.r4[j],
+        q1: x.r5[j],
+        q2: x.r6[j],
+        q3: x.r7[j],
+    }
+}
+
+/// Eight columns filtered, each as its line alone.
+#[inline(always)]
+pub fn filtered_lanes(x: &Lanes, l: Limits, wide: bool) -> Lanes
+    requires small { (j : ℕ) → j < 8 → IsNear (near_at x.now j) }
+    requires half { l.half ≤ 2048 }
+    ensures { (j : ℕ) → j < 8 → line_of (near_at result j) ≡ filtered_near l wide (line_of (near_at x.now j)) }
+{
+    let mut r0 = [0; 8];
+    let mut r1 = [0; 8];
+    let mut r2 = [0; 8];
+    let mut r3 = [0; 8];
+    let mut r4 = [0; 8];
+    let mut r5 = [0; 8];
+    let mut r6 = [0; 8];
+    let mut r7 = [0; 8];
+    for j in 0..8usize {
+        let line = filtered(near(x, j), l, wide);
+        r0[j] = line.p3;
+        r1[j] = line.p2;
+        r2[j] = line.p1;
+        r3[j] = line.p0;
+        r4[j] = line.q0;
+        r5[j] = line.q1;
+        r6[j] = line.q2;
+        r7[j] = line.q3;
+    }
+    Lanes { r0, r1, r2, r3, r4, r5, r6, r7 }
+}
