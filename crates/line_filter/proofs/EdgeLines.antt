@@ -1,5 +1,5 @@
 -- The lines of an edge don't meet: one after another they leave what they leave all at once.
-use Rattle.std.proofs.Common.{◌≡◌, true, false, ◌<◌, ◌≤◌, ◌+◌, ◌*◌, ◌-◌, ℕ, zero, suc, inl, inr, refl, sym, ◌∙◌, arith, ap, List, [], ◌∷◌, ◌++◌, slice_index, min, map, subst}
+use Rattle.std.proofs.Common.{◌≡◌, true, false, ◌+◌, ◌*◌, ◌-◌, ℕ, zero, suc, refl, sym, ◌∙◌, arith, ap, min, subst}
 use Rattle.std.specs.List.{range_with_len, fold}
 use Rattle.std.proofs.Math.Path.{fun_ext}
 use Rattle.std.proofs.lemmas.Bool.Decides.{nat_tests}
@@ -9,9 +9,9 @@ use Rattle.std.proofs.lemmas.List.Sums.{fold_push}
 use Rattle.vp9_types.specs.Maps.{Map, with_block}
 use Rattle.planes.proofs.RowLemmas.{one_row_more, no_rows}
 use Rattle.planes.specs.declared.area.Area.{Area}
-use Rattle.planes.specs.Planes.{lower_end, right_end, with_part}
+use Rattle.planes.specs.Planes.{lower_end, right_end}
 use Rattle.line_filter.specs.declared.edge.Edge.{Edge}
-use Rattle.line_filter.specs.declared.edge.FilterWidth.TheVariants.{Four, Eight, Sixteen}
+use Rattle.line_filter.specs.declared.edge.FilterWidth.TheVariants.{Four, Eight}
 use Rattle.line_filter.specs.declared.edge.Limits.{Limits}
 use Rattle.line_filter.specs.declared.edge.Pass.TheVariants.{Vertical, Horizontal}
 use Rattle.line_filter.specs.Lines.{Line, filtered_near, filtered_line}
@@ -55,8 +55,8 @@ along_at_once e m (suc n) =
     (one_more (with_line Vertical e) m n
     ∙ (ap (λ (g : Map). with_line Vertical e g n) so
     ∙ (ap (λ (s : ℕ → ℕ). with_block (with_block m e.row x n k (rows_filtered e m)) (e.row + n) x 1 k
-        (λ i j. in_order (reach e.width) (filtered_line e.limits e.width (line_at (reach e.width) s e.column)) j))
-      (below m e.row x n k (rows_filtered e m))
+    (λ i j. in_order (reach e.width) (filtered_line e.limits e.width (line_at (reach e.width) s e.column)) j))
+    (below m e.row x n k (rows_filtered e m))
     ∙ one_row_more m e.row x n k (rows_filtered e m))))
 
 pub down_at_once : (e : Edge) (m : Map) (n : ℕ) → fold (with_line Horizontal e) m (range_with_len 0 n)
@@ -70,8 +70,8 @@ down_at_once e m (suc n) =
     (one_more (with_line Horizontal e) m n
     ∙ (ap (λ (g : Map). with_line Horizontal e g n) so
     ∙ (ap (λ (s : ℕ → ℕ). with_block (with_block m y e.column k n (columns_filtered e m)) y (e.column + n) k 1
-        (λ i j. in_order (reach e.width) (filtered_line e.limits e.width (line_at (reach e.width) s e.row)) i))
-      (right m y e.column k n (columns_filtered e m))
+    (λ i j. in_order (reach e.width) (filtered_line e.limits e.width (line_at (reach e.width) s e.row)) i))
+    (right m y e.column k n (columns_filtered e m))
     ∙ one_column_more m y e.column n k (columns_filtered e m))))
 
 -- by the lines all at once, as the code has them

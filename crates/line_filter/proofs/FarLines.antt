@@ -1,5 +1,5 @@
 -- The filters that look at four samples on each side, on a line of eight on each side.
-use Rattle.std.proofs.Common.{◌≡◌, ℕ, Bool, true, false, ◌&&◌, List, [], ◌∷◌, ◌++◌, refl, sym, ap, ◌∙◌}
+use Rattle.std.proofs.Common.{◌≡◌, Bool, true, false, ◌&&◌, [], ◌∷◌, ◌++◌, refl, sym, ap, ◌∙◌}
 use Rattle.std.specs.Prelude.{not, if◌then◌else◌}
 use Rattle.line_filter.specs.declared.edge.Limits.{Limits}
 use Rattle.line_filter.specs.declared.edge.FilterWidth.TheVariants.{Sixteen}

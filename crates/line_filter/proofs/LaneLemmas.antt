@@ -1,5 +1,5 @@
 -- Lanes, one line more at a time.
-use Rattle.std.proofs.Common.{◌≡◌, ℕ, ◌+◌, ◌<◌, List, [], ◌∷◌, sym, length-set, length, set, get_or, refl, ◌∙◌, ap, arith, below_more, slice_index}
+use Rattle.std.proofs.Common.{◌≡◌, ℕ, ◌+◌, ◌<◌, List, [], ◌∷◌, sym, length-set, length, set, refl, ◌∙◌, ap, arith, below_more, slice_index}
 use Rattle.std.proofs.lemmas.Grind.{get_or-set_at}
 use Rattle.std.proofs.lemmas.List.{get_or-set_other}
 use Rattle.line_filter.specs.declared.lanes.Lanes.{Lanes}
@@ -11,8 +11,15 @@ use Rattle.line_filter.specs.Code.{line_of, wide_line_of, near_at, near_between,
 -- eight rows with the samples of a line at column n
 abbrev pub with_line_at : Lanes → ℕ → Near → Lanes
 with_line_at x n r = record {
-    r0 = set x.r0 n r.p3; r1 = set x.r1 n r.p2; r2 = set x.r2 n r.p1; r3 = set x.r3 n r.p0;
-    r4 = set x.r4 n r.q0; r5 = set x.r5 n r.q1; r6 = set x.r6 n r.q2; r7 = set x.r7 n r.q3 }
+  r0 = set x.r0 n r.p3;
+  r1 = set x.r1 n r.p2;
+  r2 = set x.r2 n r.p1;
+  r3 = set x.r3 n r.p0;
+  r4 = set x.r4 n r.q0;
+  r5 = set x.r5 n r.q1;
+  r6 = set x.r6 n r.q2;
+  r7 = set x.r7 n r.q3;
+}
 
 -- each row has eight samples
 pub record AreFull (x : Lanes) : Type 0 where
@@ -27,8 +34,15 @@ pub record AreFull (x : Lanes) : Type 0 where
 
 pub full_more : (x : Lanes) (n : ℕ) (r : Near) → AreFull x → AreFull (with_line_at x n r)
 full_more x n r so = record {
-    r0 = rw length-set so.r0; r1 = rw length-set so.r1; r2 = rw length-set so.r2; r3 = rw length-set so.r3;
-    r4 = rw length-set so.r4; r5 = rw length-set so.r5; r6 = rw length-set so.r6; r7 = rw length-set so.r7 }
+  r0 = rw length-set so.r0;
+  r1 = rw length-set so.r1;
+  r2 = rw length-set so.r2;
+  r3 = rw length-set so.r3;
+  r4 = rw length-set so.r4;
+  r5 = rw length-set so.r5;
+  r6 = rw length-set so.r6;
+  r7 = rw length-set so.r7;
+}
 
 other : (u : List ℕ) (n x j : ℕ) → j < n → slice_index (set u n x) j ≡ slice_index u j
 other u n x j low = get_or-set_other u n j x 0 (λ same. omega arith)
@@ -38,13 +52,29 @@ here u n x long low = get_or-set_at u n n x 0 refl (omega (arith, long))
 
 near_before : (x : Lanes) (n : ℕ) (r : Near) (j : ℕ) → j < n → near_at (with_line_at x n r) j ≡ near_at x j
 unfolding near_at
-near_before x n r j low = rw (other x.r0 n r.p3 j low, other x.r1 n r.p2 j low, other x.r2 n r.p1 j low, other x.r3 n r.p0 j low,
-    other x.r4 n r.q0 j low, other x.r5 n r.q1 j low, other x.r6 n r.q2 j low, other x.r7 n r.q3 j low) refl
+near_before x n r j low = rw (
+  other x.r0 n r.p3 j low,
+  other x.r1 n r.p2 j low,
+  other x.r2 n r.p1 j low,
+  other x.r3 n r.p0 j low,
+  other x.r4 n r.q0 j low,
+  other x.r5 n r.q1 j low,
+  other x.r6 n r.q2 j low,
+  other x.r7 n r.q3 j low,
+) refl
 
 near_here : (x : Lanes) (n : ℕ) (r : Near) → AreFull x → n < 8 → near_at (with_line_at x n r) n ≡ r
 unfolding near_at
-near_here x n r so low = rw (here x.r0 n r.p3 so.r0 low, here x.r1 n r.p2 so.r1 low, here x.r2 n r.p1 so.r2 low, here x.r3 n r.p0 so.r3 low,
-    here x.r4 n r.q0 so.r4 low, here x.r5 n r.q1 so.r5 low, here x.r6 n r.q2 so.r6 low, here x.r7 n r.q3 so.r7 low) refl
+near_here x n r so low = rw (
+  here x.r0 n r.p3 so.r0 low,
+  here x.r1 n r.p2 so.r1 low,
+  here x.r2 n r.p1 so.r2 low,
+  here x.r3 n r.p0 so.r3 low,
+  here x.r4 n r.q0 so.r4 low,
+  here x.r5 n r.q1 so.r5 low,
+  here x.r6 n r.q2 so.r6 low,
+  here x.r7 n r.q3 so.r7 low,
+) refl
 
 -- the first n columns are these lines
 abbrev pub AreLines : Lanes → (ℕ → Line) → ℕ → Type 0
@@ -66,8 +96,9 @@ lower_of w = record { p3 = w.near.q0; p2 = w.near.q1; p1 = w.near.q2; p0 = w.nea
 
 abbrev joined : Near → Near → Line
 joined u v = record {
-    p = u.q3 ∷ u.q2 ∷ u.q1 ∷ u.q0 ∷ u.p0 ∷ u.p1 ∷ u.p2 ∷ u.p3 ∷ [];
-    q = v.p3 ∷ v.p2 ∷ v.p1 ∷ v.p0 ∷ v.q0 ∷ v.q1 ∷ v.q2 ∷ v.q3 ∷ [] }
+  p = u.q3 ∷ u.q2 ∷ u.q1 ∷ u.q0 ∷ u.p0 ∷ u.p1 ∷ u.p2 ∷ u.p3 ∷ [];
+  q = v.p3 ∷ v.p2 ∷ v.p1 ∷ v.p0 ∷ v.q0 ∷ v.q1 ∷ v.q2 ∷ v.q3 ∷ [];
+}
 
 abbrev pub wide_at : Lanes → Lanes → ℕ → Line
 wide_at a b j = wide_line_of (near_between a b j) (far_between a b j)
@@ -84,8 +115,8 @@ pub wide_line_more : (f : ℕ → Line) (a b : Lanes) (n : ℕ) (w : Wide) → A
 wide_line_more f a b n w full_a full_b low is so =
     below_more (λ j. wide_at (with_line_at a n (upper_of w)) (with_line_at b n (lower_of w)) j ≡ f j) n
     (λ j h. wide_is (with_line_at a n (upper_of w)) (with_line_at b n (lower_of w)) j
-      ∙ (ap (λ (z : Near). joined z (near_at (with_line_at b n (lower_of w)) j)) (near_before a n (upper_of w) j h)
-      ∙ (ap (joined (near_at a j)) (near_before b n (lower_of w) j h) ∙ (sym (wide_is a b j) ∙ so j h))))
+    ∙ (ap (λ (z : Near). joined z (near_at (with_line_at b n (lower_of w)) j)) (near_before a n (upper_of w) j h)
+    ∙ (ap (joined (near_at a j)) (near_before b n (lower_of w) j h) ∙ (sym (wide_is a b j) ∙ so j h))))
     (wide_is (with_line_at a n (upper_of w)) (with_line_at b n (lower_of w)) n
-      ∙ (ap (λ (z : Near). joined z (near_at (with_line_at b n (lower_of w)) n)) (near_here a n (upper_of w) full_a low)
-      ∙ (ap (joined (upper_of w)) (near_here b n (lower_of w) full_b low) ∙ is)))
+    ∙ (ap (λ (z : Near). joined z (near_at (with_line_at b n (lower_of w)) n)) (near_here a n (upper_of w) full_a low)
+    ∙ (ap (joined (upper_of w)) (near_here b n (lower_of w) full_b low) ∙ is)))

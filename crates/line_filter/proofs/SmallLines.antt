@@ -1,6 +1,6 @@
 -- Filtered samples stay in the range of their depth.
-use Rattle.std.proofs.Common.{◌≡◌, ◌<◌, ◌≤◌, ◌+◌, ◌*◌, ◌-◌, ◌/◌, ◌&&◌, ℕ, ℤ, pos, ◌+ℤ◌, Bool, true, false, cond, inl, inr, refl, sym, ◌∙◌, arith, ap, List, length, get_or, min, map, sum, slice_index, unsigned_abs, nat_lt, nat_le}
-use Rattle.std.specs.Prelude.{not, if◌then◌else◌}
+use Rattle.std.proofs.Common.{◌≡◌, ◌≤◌, ◌+◌, ◌*◌, ◌-◌, ◌&&◌, ℕ, ℤ, Bool, true, false, cond, inl, inr, arith, ap, map, sum, slice_index, nat_lt, nat_le}
+use Rattle.std.specs.Prelude.{not}
 use Rattle.std.specs.List.{range_with_len, fold}
 use Rattle.std.proofs.lemmas.Bool.{cases_lt}
 use Rattle.std.proofs.lemmas.Int.{ints, clamps}
@@ -58,14 +58,16 @@ mean_seven most k x small =
 wide_three : (most : ℕ) (x : Line) → IsSmall most x → IsSmall most (wide_filter 3 x)
 unfolding wide_filter
 wide_three most x small = record {
-    p = listed most _ _ (λ i. either most (nat_lt i 3) _ _ (mean_three most _ x small) (small.p i));
-    q = listed most _ _ (λ i. either most (nat_lt i 3) _ _ (mean_three most _ x small) (small.q i)) }
+  p = listed most _ _ (λ i. either most (nat_lt i 3) _ _ (mean_three most _ x small) (small.p i));
+  q = listed most _ _ (λ i. either most (nat_lt i 3) _ _ (mean_three most _ x small) (small.q i));
+}
 
 wide_seven : (most : ℕ) (x : Line) → IsSmall most x → IsSmall most (wide_filter 7 x)
 unfolding wide_filter
 wide_seven most x small = record {
-    p = listed most _ _ (λ i. either most (nat_lt i 7) _ _ (mean_seven most _ x small) (small.p i));
-    q = listed most _ _ (λ i. either most (nat_lt i 7) _ _ (mean_seven most _ x small) (small.q i)) }
+  p = listed most _ _ (λ i. either most (nat_lt i 7) _ _ (mean_seven most _ x small) (small.p i));
+  q = listed most _ _ (λ i. either most (nat_lt i 7) _ _ (mean_seven most _ x small) (small.q i));
+}
 
 moved_small : (half sample : ℕ) (by : ℤ) → moved half sample by ≤ 2 * half - 1
 unfolding filter4_clamp
@@ -74,8 +76,9 @@ moved_small half sample by = omega (arith, ints, clamps)
 narrow_small : (l : Limits) (x : Line) → IsSmall (2 * l.half - 1) x → IsSmall (2 * l.half - 1) (narrow_filter l x)
 unfolding narrow_filter
 narrow_small l x small = record {
-    p = listed _ _ _ (λ i. either _ (nat_lt i 1) _ _ (moved_small l.half _ _) (either _ (nat_lt i 2 && not (L.hev_mask l x)) _ _ (moved_small l.half _ _) (small.p i)));
-    q = listed _ _ _ (λ i. either _ (nat_lt i 1) _ _ (moved_small l.half _ _) (either _ (nat_lt i 2 && not (L.hev_mask l x)) _ _ (moved_small l.half _ _) (small.q i))) }
+  p = listed _ _ _ (λ i. either _ (nat_lt i 1) _ _ (moved_small l.half _ _) (either _ (nat_lt i 2 && not (L.hev_mask l x)) _ _ (moved_small l.half _ _) (small.p i)));
+  q = listed _ _ _ (λ i. either _ (nat_lt i 1) _ _ (moved_small l.half _ _) (either _ (nat_lt i 2 && not (L.hev_mask l x)) _ _ (moved_small l.half _ _) (small.q i)));
+}
 
 near_small : (l : Limits) (wide : Bool) (x : Line) → IsSmall (2 * l.half - 1) x → IsSmall (2 * l.half - 1) (filtered_near l wide x)
 unfolding filtered_near

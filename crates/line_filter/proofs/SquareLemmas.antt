@@ -1,16 +1,14 @@
 -- Squares of eight rows of eight samples, loaded and stored.
-use Rattle.std.proofs.Common.{◌≡◌, ◌<◌, ◌≤◌, ◌+◌, ◌*◌, ◌-◌, ℕ, zero, suc, inl, inr, refl, sym, ◌∙◌, arith, ap, List, [], ◌∷◌, length, get_or, take, drop, ◌++◌, replicate, slice_index}
+use Rattle.std.proofs.Common.{◌≡◌, ◌<◌, ◌≤◌, ◌+◌, ◌*◌, ◌-◌, ℕ, inl, inr, sym, ◌∙◌, arith, ap, List, length, get_or, drop, ◌++◌, replicate, slice_index}
 use Rattle.std.proofs.lemmas.Bool.{cases_lt}
 use Rattle.std.proofs.lemmas.Bool.Decides.{nat_tests}
 use Rattle.std.proofs.lemmas.List.{get_or_append_left, get_or-append_right, get_or-drop, get_or-replicate, get_or_past}
 use borrow.Rule.Slice.PartMut.{put_mid}
 use Rattle.vp9_types.specs.Maps.{Map, rows_of, with_block}
 use Rattle.planes.specs.declared.area.Area.{Area}
-use Rattle.planes.specs.Planes.{PlaneSamples, plane_map, moved_to, lower_end, right_end, with_part}
-use Rattle.planes.proofs.RowLemmas.{with_block_same, one_row_more, no_rows, add-sub_left, row_put}
+use Rattle.planes.specs.Planes.{PlaneSamples, plane_map, moved_to, right_end, with_part}
+use Rattle.planes.proofs.RowLemmas.{with_block_same, one_row_more, add-sub_left, row_put}
 use Rattle.planes.proofs.PlaneLemmas.{area_map}
-use Rattle.line_filter.specs.declared.lanes.Lanes.{Lanes}
-use Rattle.line_filter.specs.Code.{AreLanes}
 
 -- right of its samples a plane shows 0
 right_zero : (a : Area) (xs : List ℕ) (row column : ℕ) → right_end a ≤ column → area_map a xs row column ≡ 0

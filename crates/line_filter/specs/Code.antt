@@ -4,7 +4,6 @@ use Rattle.vp9_types.specs.Maps.{Map}
 use Rattle.planes.specs.declared.area.Area.{Area}
 use Rattle.planes.specs.Planes.{lower_end, right_end, with_part}
 use Rattle.line_filter.specs.declared.edge.Edge.{Edge}
-use Rattle.line_filter.specs.declared.edge.Limits.{Limits}
 use Rattle.line_filter.specs.declared.edge.Pass.{Pass}
 use Rattle.line_filter.specs.declared.edge.Pass.TheVariants.{Vertical, Horizontal}
 use Rattle.line_filter.specs.declared.far.Far.{Far}
@@ -20,8 +19,9 @@ line_of x = record { p = x.p0 ∷ x.p1 ∷ x.p2 ∷ x.p3 ∷ []; q = x.q0 ∷ x.
 -- eight samples on each side
 abbrev pub wide_line_of : Near → Far → Line
 wide_line_of x y = record {
-    p = x.p0 ∷ x.p1 ∷ x.p2 ∷ x.p3 ∷ y.p4 ∷ y.p5 ∷ y.p6 ∷ y.p7 ∷ [];
-    q = x.q0 ∷ x.q1 ∷ x.q2 ∷ x.q3 ∷ y.q4 ∷ y.q5 ∷ y.q6 ∷ y.q7 ∷ [] }
+  p = x.p0 ∷ x.p1 ∷ x.p2 ∷ x.p3 ∷ y.p4 ∷ y.p5 ∷ y.p6 ∷ y.p7 ∷ [];
+  q = x.q0 ∷ x.q1 ∷ x.q2 ∷ x.q3 ∷ y.q4 ∷ y.q5 ∷ y.q6 ∷ y.q7 ∷ [];
+}
 
 -- samples of 12 bits at most
 pub record IsNear (x : Near) : Type 0 where
@@ -47,19 +47,40 @@ pub record IsFar (x : Far) : Type 0 where
 -- column j of four rows above an edge and four below it
 unfoldable pub near_at : Lanes → ℕ → Near
 near_at x j = record {
-    p3 = slice_index x.r0 j; p2 = slice_index x.r1 j; p1 = slice_index x.r2 j; p0 = slice_index x.r3 j;
-    q0 = slice_index x.r4 j; q1 = slice_index x.r5 j; q2 = slice_index x.r6 j; q3 = slice_index x.r7 j }
+  p3 = slice_index x.r0 j;
+  p2 = slice_index x.r1 j;
+  p1 = slice_index x.r2 j;
+  p0 = slice_index x.r3 j;
+  q0 = slice_index x.r4 j;
+  q1 = slice_index x.r5 j;
+  q2 = slice_index x.r6 j;
+  q3 = slice_index x.r7 j;
+}
 
 -- column j of eight rows above an edge and eight below it: the samples next to the edge, and the others
 unfoldable pub near_between : Lanes → Lanes → ℕ → Near
 near_between a b j = record {
-    p3 = slice_index a.r4 j; p2 = slice_index a.r5 j; p1 = slice_index a.r6 j; p0 = slice_index a.r7 j;
-    q0 = slice_index b.r0 j; q1 = slice_index b.r1 j; q2 = slice_index b.r2 j; q3 = slice_index b.r3 j }
+  p3 = slice_index a.r4 j;
+  p2 = slice_index a.r5 j;
+  p1 = slice_index a.r6 j;
+  p0 = slice_index a.r7 j;
+  q0 = slice_index b.r0 j;
+  q1 = slice_index b.r1 j;
+  q2 = slice_index b.r2 j;
+  q3 = slice_index b.r3 j;
+}
 
 unfoldable pub far_between : Lanes → Lanes → ℕ → Far
 far_between a b j = record {
-    p7 = slice_index a.r0 j; p6 = slice_index a.r1 j; p5 = slice_index a.r2 j; p4 = slice_index a.r3 j;
-    q4 = slice_index b.r4 j; q5 = slice_index b.r5 j; q6 = slice_index b.r6 j; q7 = slice_index b.r7 j }
+  p7 = slice_index a.r0 j;
+  p6 = slice_index a.r1 j;
+  p5 = slice_index a.r2 j;
+  p4 = slice_index a.r3 j;
+  q4 = slice_index b.r4 j;
+  q5 = slice_index b.r5 j;
+  q6 = slice_index b.r6 j;
+  q7 = slice_index b.r7 j;
+}
 
 -- eight rows of eight samples are a part of a map
 pub record AreLanes (x : Lanes) (f : ℕ → ℕ → ℕ) : Type 0 where
@@ -102,7 +123,15 @@ down x k = slice_index x.r0 k ∷ slice_index x.r1 k ∷ slice_index x.r2 k ∷ 
 -- columns as rows
 unfoldable pub turned : Lanes → Lanes
 turned x = record {
-    r0 = down x 0; r1 = down x 1; r2 = down x 2; r3 = down x 3; r4 = down x 4; r5 = down x 5; r6 = down x 6; r7 = down x 7 }
+  r0 = down x 0;
+  r1 = down x 1;
+  r2 = down x 2;
+  r3 = down x 3;
+  r4 = down x 4;
+  r5 = down x 5;
+  r6 = down x 6;
+  r7 = down x 7;
+}
 
 -- the first four samples of two rows by turns, and the last four
 abbrev pub upper_woven : List ℕ → List ℕ → List ℕ

@@ -1,5 +1,5 @@
 -- The lines across an edge of a plane, filtered one after another (8.8.2 of the standard).
-use Rattle.std.specs.Prelude.{ℕ, ◌+◌, ◌-◌, ◌*◌, List, map, nat_lt, if◌then◌else◌}
+use Rattle.std.specs.Prelude.{ℕ, ◌+◌, ◌-◌, ◌*◌, map, nat_lt, if◌then◌else◌}
 use Rattle.std.specs.List.{range_with_len, fold}
 use Rattle.vp9_types.specs.Maps.{Map, with_block}
 use Rattle.line_filter.specs.declared.edge.Edge.{Edge}
@@ -18,8 +18,9 @@ reach Sixteen = 8
 -- n samples on each side of a place in a row or column of samples
 unfoldable pub line_at : ℕ → (ℕ → ℕ) → ℕ → Line
 line_at n samples at = record {
-    p = map (λ i. samples (at - 1 - i)) (range_with_len 0 n);
-    q = map (λ i. samples (at + i)) (range_with_len 0 n) }
+  p = map (λ i. samples (at - 1 - i)) (range_with_len 0 n);
+  q = map (λ i. samples (at + i)) (range_with_len 0 n);
+}
 
 -- the line of a column across the edge above a row, and that of a row across the edge left of a column
 abbrev pub line_down : ℕ → Map → ℕ → ℕ → Line

@@ -49,8 +49,9 @@ mean x n k = (sum (map (λ j. place x n (k + j - n)) (range_with_len 0 (2 * n + 
 -- 8.8.5: the n samples next to the edge become means, 3 or 7 on each side
 unfoldable pub wide_filter : ℕ → Line → Line
 wide_filter n x = record {
-    p = map (λ i. if nat_lt i n then mean x n (n - i) else p x i) (range_with_len 0 (length x.p));
-    q = map (λ i. if nat_lt i n then mean x n (n + 1 + i) else q x i) (range_with_len 0 (length x.q)) }
+  p = map (λ i. if nat_lt i n then mean x n (n - i) else p x i) (range_with_len 0 (length x.p));
+  q = map (λ i. if nat_lt i n then mean x n (n + 1 + i) else q x i) (range_with_len 0 (length x.q));
+}
 
 -- to the numbers from -half to half - 1
 unfoldable pub filter4_clamp : ℕ → ℤ → ℤ
@@ -76,9 +77,10 @@ narrow_filter l x =
     let filter3 = int_shr (filter1 +ℤ pos 1) 1 in
     record {
       p = map (λ i. if nat_lt i 1 then moved l.half (p x 0) filter2
-        else (if nat_lt i 2 && not (hev_mask l x) then moved l.half (p x 1) filter3 else p x i)) (range_with_len 0 (length x.p));
+          else (if nat_lt i 2 && not (hev_mask l x) then moved l.half (p x 1) filter3 else p x i)) (range_with_len 0 (length x.p));
       q = map (λ i. if nat_lt i 1 then moved l.half (q x 0) (neg_ℤ filter1)
-        else (if nat_lt i 2 && not (hev_mask l x) then moved l.half (q x 1) (neg_ℤ filter3) else q x i)) (range_with_len 0 (length x.q)) }
+          else (if nat_lt i 2 && not (hev_mask l x) then moved l.half (q x 1) (neg_ℤ filter3) else q x i)) (range_with_len 0 (length x.q));
+    }
 
 abbrev pub is_eight_or_more : FilterWidth → Bool
 is_eight_or_more Four = false

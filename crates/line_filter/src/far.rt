@@ -6,7 +6,7 @@ ghost use Rattle.line_filter.specs.declared.edge.FilterWidth.TheVariants.{Sixtee
 ghost use Rattle.line_filter.specs.Code.{IsNear, IsFar, wide_line_of};
 
 use crate::edge::Limits;
-use crate::near::{Near, filtered, filter_mask, is_close, flat_mask};
+use crate::near::{Near, filter_mask, filtered, flat_mask, is_close};
 
 /// The fifth to the eighth sample on each side of an edge.
 #[derive(Clone, Copy, Debug, PartialEq, Eq)]
@@ -40,7 +40,24 @@ pub fn flat_mask2(x: Near, y: Far, l: Limits) -> bool
 }
 
 #[inline(always)]
-pub fn mean16(a: u16, b: u16, c: u16, d: u16, e: u16, f: u16, g: u16, h: u16, i: u16, j: u16, k: u16, l: u16, m: u16, n: u16, o: u16, p: u16) -> u16
+pub fn mean16(
+    a: u16,
+    b: u16,
+    c: u16,
+    d: u16,
+    e: u16,
+    f: u16,
+    g: u16,
+    h: u16,
+    i: u16,
+    j: u16,
+    k: u16,
+    l: u16,
+    m: u16,
+    n: u16,
+    o: u16,
+    p: u16,
+) -> u16
     requires a { a ≤ 4095 }
     requires b { b ≤ 4095 }
     requires c { c ≤ 4095 }
@@ -69,23 +86,83 @@ pub fn smooth_far(x: Near, y: Far) -> Wide
     requires far { IsFar y }
     ensures { wide_line_of result.near result.far ≡ wide_filter 7 (wide_line_of x y) }
 {
-    let p6 = mean16(y.p7, y.p7, y.p7, y.p7, y.p7, y.p7, y.p7, y.p6, y.p6, y.p5, y.p4, x.p3, x.p2, x.p1, x.p0, x.q0);
-    let p5 = mean16(y.p7, y.p7, y.p7, y.p7, y.p7, y.p7, y.p6, y.p5, y.p5, y.p4, x.p3, x.p2, x.p1, x.p0, x.q0, x.q1);
-    let p4 = mean16(y.p7, y.p7, y.p7, y.p7, y.p7, y.p6, y.p5, y.p4, y.p4, x.p3, x.p2, x.p1, x.p0, x.q0, x.q1, x.q2);
-    let p3 = mean16(y.p7, y.p7, y.p7, y.p7, y.p6, y.p5, y.p4, x.p3, x.p3, x.p2, x.p1, x.p0, x.q0, x.q1, x.q2, x.q3);
-    let p2 = mean16(y.p7, y.p7, y.p7, y.p6, y.p5, y.p4, x.p3, x.p2, x.p2, x.p1, x.p0, x.q0, x.q1, x.q2, x.q3, y.q4);
-    let p1 = mean16(y.p7, y.p7, y.p6, y.p5, y.p4, x.p3, x.p2, x.p1, x.p1, x.p0, x.q0, x.q1, x.q2, x.q3, y.q4, y.q5);
-    let p0 = mean16(y.p7, y.p6, y.p5, y.p4, x.p3, x.p2, x.p1, x.p0, x.p0, x.q0, x.q1, x.q2, x.q3, y.q4, y.q5, y.q6);
-    let q0 = mean16(y.p6, y.p5, y.p4, x.p3, x.p2, x.p1, x.p0, x.q0, x.q0, x.q1, x.q2, x.q3, y.q4, y.q5, y.q6, y.q7);
-    let q1 = mean16(y.p5, y.p4, x.p3, x.p2, x.p1, x.p0, x.q0, x.q1, x.q1, x.q2, x.q3, y.q4, y.q5, y.q6, y.q7, y.q7);
-    let q2 = mean16(y.p4, x.p3, x.p2, x.p1, x.p0, x.q0, x.q1, x.q2, x.q2, x.q3, y.q4, y.q5, y.q6, y.q7, y.q7, y.q7);
-    let q3 = mean16(x.p3, x.p2, x.p1, x.p0, x.q0, x.q1, x.q2, x.q3, x.q3, y.q4, y.q5, y.q6, y.q7, y.q7, y.q7, y.q7);
-    let q4 = mean16(x.p2, x.p1, x.p0, x.q0, x.q1, x.q2, x.q3, y.q4, y.q4, y.q5, y.q6, y.q7, y.q7, y.q7, y.q7, y.q7);
-    let q5 = mean16(x.p1, x.p0, x.q0, x.q1, x.q2, x.q3, y.q4, y.q5, y.q5, y.q6, y.q7, y.q7, y.q7, y.q7, y.q7, y.q7);
-    let q6 = mean16(x.p0, x.q0, x.q1, x.q2, x.q3, y.q4, y.q5, y.q6, y.q6, y.q7, y.q7, y.q7, y.q7, y.q7, y.q7, y.q7);
+    let p6 = mean16(
+        y.p7, y.p7, y.p7, y.p7, y.p7, y.p7, y.p7, y.p6, y.p6, y.p5, y.p4, x.p3, x.p2, x.p1, x.p0,
+        x.q0,
+    );
+    let p5 = mean16(
+        y.p7, y.p7, y.p7, y.p7, y.p7, y.p7, y.p6, y.p5, y.p5, y.p4, x.p3, x.p2, x.p1, x.p0, x.q0,
+        x.q1,
+    );
+    let p4 = mean16(
+        y.p7, y.p7, y.p7, y.p7, y.p7, y.p6, y.p5, y.p4, y.p4, x.p3, x.p2, x.p1, x.p0, x.q0, x.q1,
+        x.q2,
+    );
+    let p3 = mean16(
+        y.p7, y.p7, y.p7, y.p7, y.p6, y.p5, y.p4, x.p3, x.p3, x.p2, x.p1, x.p0, x.q0, x.q1, x.q2,
+        x.q3,
+    );
+    let p2 = mean16(
+        y.p7, y.p7, y.p7, y.p6, y.p5, y.p4, x.p3, x.p2, x.p2, x.p1, x.p0, x.q0, x.q1, x.q2, x.q3,
+        y.q4,
+    );
+    let p1 = mean16(
+        y.p7, y.p7, y.p6, y.p5, y.p4, x.p3, x.p2, x.p1, x.p1, x.p0, x.q0, x.q1, x.q2, x.q3, y.q4,
+        y.q5,
+    );
+    let p0 = mean16(
+        y.p7, y.p6, y.p5, y.p4, x.p3, x.p2, x.p1, x.p0, x.p0, x.q0, x.q1, x.q2, x.q3, y.q4, y.q5,
+        y.q6,
+    );
+    let q0 = mean16(
+        y.p6, y.p5, y.p4, x.p3, x.p2, x.p1, x.p0, x.q0, x.q0, x.q1, x.q2, x.q3, y.q4, y.q5, y.q6,
+        y.q7,
+    );
+    let q1 = mean16(
+        y.p5, y.p4, x.p3, x.p2, x.p1, x.p0, x.q0, x.q1, x.q1, x.q2, x.q3, y.q4, y.q5, y.q6, y.q7,
+        y.q7,
+    );
+    let q2 = mean16(
+        y.p4, x.p3, x.p2, x.p1, x.p0, x.q0, x.q1, x.q2, x.q2, x.q3, y.q4, y.q5, y.q6, y.q7, y.q7,
+        y.q7,
+    );
+    let q3 = mean16(
+        x.p3, x.p2, x.p1, x.p0, x.q0, x.q1, x.q2, x.q3, x.q3, y.q4, y.q5, y.q6, y.q7, y.q7, y.q7,
+        y.q7,
+    );
+    let q4 = mean16(
+        x.p2, x.p1, x.p0, x.q0, x.q1, x.q2, x.q3, y.q4, y.q4, y.q5, y.q6, y.q7, y.q7, y.q7, y.q7,
+        y.q7,
+    );
+    let q5 = mean16(
+        x.p1, x.p0, x.q0, x.q1, x.q2, x.q3, y.q4, y.q5, y.q5, y.q6, y.q7, y.q7, y.q7, y.q7, y.q7,
+        y.q7,
+    );
+    let q6 = mean16(
+        x.p0, x.q0, x.q1, x.q2, x.q3, y.q4, y.q5, y.q6, y.q6, y.q7, y.q7, y.q7, y.q7, y.q7, y.q7,
+        y.q7,
+    );
     Wide {
-        near: Near { p3, p2, p1, p0, q0, q1, q2, q3 },
-        far: Far { p7: y.p7, p6, p5, p4, q4, q5, q6, q7: y.q7 },
+        near: Near {
+            p3,
+            p2,
+            p1,
+            p0,
+            q0,
+            q1,
+            q2,
+            q3,
+        },
+        far: Far {
+            p7: y.p7,
+            p6,
+            p5,
+            p4,
+            q4,
+            q5,
+            q6,
+            q7: y.q7,
+        },
     }
 }
 

@@ -91,7 +91,25 @@ pub fn filtered_far_lanes(above: &Lanes, below: &Lanes, l: Limits) -> (Lanes, La
         b6[j] = line.far.q6;
         b7[j] = line.far.q7;
     }
-    let above = Lanes { r0: a0, r1: a1, r2: a2, r3: a3, r4: a4, r5: a5, r6: a6, r7: a7 };
-    let below = Lanes { r0: b0, r1: b1, r2: b2, r3: b3, r4: b4, r5: b5, r6: b6, r7: b7 };
+    let above = Lanes {
+        r0: a0,
+        r1: a1,
+        r2: a2,
+        r3: a3,
+        r4: a4,
+        r5: a5,
+        r6: a6,
+        r7: a7,
+    };
+    let below = Lanes {
+        r0: b0,
+        r1: b1,
+        r2: b2,
+        r3: b3,
+        r4: b4,
+        r5: b5,
+        r6: b6,
+        r7: b7,
+    };
     (above, below)
 }

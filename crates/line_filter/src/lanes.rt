@@ -67,5 +67,14 @@ pub fn filtered_lanes(x: &Lanes, l: Limits, wide: bool) -> Lanes
         r6[j] = line.q2;
         r7[j] = line.q3;
     }
-    Lanes { r0, r1, r2, r3, r4, r5, r6, r7 }
+    Lanes {
+        r0,
+        r1,
+        r2,
+        r3,
+        r4,
+        r5,
+        r6,
+        r7,
+    }
 }

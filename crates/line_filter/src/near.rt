@@ -98,7 +98,11 @@ pub fn outer(x: Near, high: bool, half: u16) -> i16
     ensures value { result ≡ outer high half (line_of x) }
     ensures size { unsigned_abs result ≤ 2048 }
 {
-    if high { clip(x.p1 as i16 - x.q1 as i16, half) } else { 0 }
+    if high {
+        clip(x.p1 as i16 - x.q1 as i16, half)
+    } else {
+        0
+    }
 }
 
 #[inline(always)]
@@ -180,7 +184,11 @@ pub fn moved_unless(high: bool, sample: u16, by: i16, half: u16) -> u16
     requires half { half ≤ 2048 }
     ensures { result ≡ (if not high then moved half sample by else sample) }
 {
-    if high { sample } else { moved(sample, by, half) }
+    if high {
+        sample
+    } else {
+        moved(sample, by, half)
+    }
 }
 
 #[inline(always)]

@@ -43,7 +43,11 @@ fn row_at_end(plane: &SamplePlane, row: usize, column: usize) -> Row
     ensures { (j : ℕ) → j < 8 → slice_index result j ≡ plane_map plane.now row (column + j) }
 {
     plane.zero_below();
-    if row < plane.area().lower_end() { row_part(plane, row, column) } else { [0; 8] }
+    if row < plane.area().lower_end() {
+        row_part(plane, row, column)
+    } else {
+        [0; 8]
+    }
 }
 
 #[inline(always)]

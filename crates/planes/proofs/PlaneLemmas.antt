@@ -1,14 +1,15 @@
 -- Planes as maps: rows of them, and blocks put in.
-use Rattle.std.proofs.Common.{◌≡◌, ◌<◌, ◌≤◌, ◌+◌, ◌*◌, ◌-◌, ◌&&◌, ℕ, inl, inr, refl, sym, ◌∙◌, arith, ap, List, length, get_or, take, drop, ◌++◌, subst, Bool, true, false, cond, ltb, leb, replicate, min}
+use Rattle.std.proofs.Common.{◌≡◌, ◌<◌, ◌≤◌, ◌+◌, ◌*◌, ◌-◌, ◌&&◌, ℕ, inl, inr, refl, sym, ◌∙◌, arith, ap, List, length, get_or, take, drop, ◌++◌, subst, Bool, true, false, cond, ltb, leb, replicate, min, map}
+use Rattle.std.specs.List.{range_with_len}
 use Rattle.std.proofs.Math.Nat.{mul-le-mul_right}
 use Rattle.std.proofs.Math.Path.{fun_ext}
-use Rattle.std.proofs.lemmas.Bool.{cases_lt, cases_Bool}
+use Rattle.std.proofs.lemmas.Bool.{cases_lt, cases_Bool, lt-ltb}
 use Rattle.std.proofs.lemmas.Bool.Decides.{nat_tests}
 use Rattle.std.proofs.lemmas.List.{get_or-take, get_or-drop, get_or-replicate, get_or_past, get_or_default, same_lists, take_at, length-replicate, length-take, length-drop}
 use Rattle.std.proofs.lemmas.List.FromFn.{length-map-range_with_len, get_or-map-range_with_len}
 use Rattle.vp9_types.specs.Maps.{Map, IsAtMost, rows_of, row_of, with_block}
 use Rattle.planes.specs.declared.area.Area.{Area}
-use Rattle.planes.specs.Planes.{PlaneSamples, moved_to, with_part, HasRow, lower_end, right_end}
+use Rattle.planes.specs.Planes.{PlaneSamples, plane_map, moved_to, with_part, HasRow, HasColumn, StartsIn, lower_end, right_end}
 use Rattle.planes.specs.Code.{place_in}
 use Rattle.planes.specs.Code.{written_over, with_row}
 use Rattle.planes.proofs.RowLemmas.{next, place, add-sub_left, row_put}
@@ -167,7 +168,8 @@ no_more n low = omega arith
 pub below_zero : (a : Area) (xs : List ℕ) → length xs ≡ a.rows * a.columns → (row column : ℕ) → lower_end a ≤ row → area_map a xs row column ≡ 0
 unfolding moved_to rows_of
 below_zero a xs whole row column below =
-    let y = row - a.first_row in let x = column - a.first_column in
+    let y = row - a.first_row in
+    let x = column - a.first_column in
     let past = get_or_past xs (y * a.columns + x) 0 (omega (arith, whole, mul-le-mul_right a.columns (rows_past a.first_row a.rows row below))) in
     no_more _ (either 0 (leb a.first_row row && leb a.first_column column) _ _ (either 0 (ltb x a.columns) _ _ (omega (arith, past)) (omega arith)) (omega arith))
   where

@@ -1,11 +1,10 @@
-use Rattle.std.proofs.Common.{◌≡◌, ◌≤◌, ◌+◌, ◌-◌, ◌*◌, ◌<◌, ℕ, arith, rules, ◌∙◌, ap, refl}
+use Rattle.std.proofs.Common.{◌+◌, arith, ◌∙◌, ap, refl}
 use Rattle.vp9_types.specs.Maps.{Map}
 use Rattle.planes.specs.Planes.{plane_map}
-use Rattle.line_filter.specs.declared.edge.FilterWidth.TheVariants.{Sixteen}
-use Rattle.line_filter.specs.Lines.{Line, filtered_near, filtered_line}
-use Rattle.line_filter.specs.Edges.{line_down, line_along, line_at, in_order}
-use Rattle.line_filter.specs.Code.{down_filtered, along_filtered}
-use Rattle.line_filter.proofs.LineBlocks.{near_small, between_small, far_small, turned_lanes, turned_by, near_line, wide_line, lanes_of_lines, upper_of_lines, lower_of_lines, put_below, put_beside}
+use Rattle.line_filter.specs.Lines.{Line, filtered_near}
+use Rattle.line_filter.specs.Edges.{line_along, in_order}
+use Rattle.line_filter.specs.Code.{along_filtered}
+use Rattle.line_filter.proofs.LineBlocks.{near_small, turned_lanes, turned_by, near_line, lanes_of_lines}
 use Rattle.line_filter.proofs.edges.filter_along.Goals as goal
 
 pub filtered_lanes-lanes-requires-clause-small : goal.filtered_lanes-lanes-requires-clause-small
@@ -17,6 +16,6 @@ returns-clause-map c = let a = c.args in
     let m : Map = plane_map a.plane.now in
     let f : Line → Line = filtered_near a.l a.wide in
     let lanes = lanes_of_lines c.filtered_lanes-lanes.result (λ j. f (line_along 4 m (a.row + j) a.column))
-        (λ j low. c.filtered_lanes-lanes.ensures j low
-          ∙ ap f (near_line c.turned.result _ (m (a.row + j)) a.column j (turned_by c.lanes_at.result c.turned.result _ c.turned.ensures c.lanes_at.ensures) (omega (arith, c.requires.inside.left)) low (λ i. refl))) in
+    (λ j low. c.filtered_lanes-lanes.ensures j low
+    ∙ ap f (near_line c.turned.result _ (m (a.row + j)) a.column j (turned_by c.lanes_at.result c.turned.result _ c.turned.ensures c.lanes_at.ensures) (omega (arith, c.requires.inside.left)) low (λ i. refl))) in
     c.put_lanes.ensures.map (λ i j. in_order 4 (f (line_along 4 m (a.row + i) a.column)) j) (turned_by _ _ _ c.turned-2.ensures lanes)

@@ -1,5 +1,5 @@
 use Rattle.line_filter.specs.declared.lanes.Lanes.{Lanes}
-use Rattle.line_filter.specs.Lines.{Line, filtered_near}
+use Rattle.line_filter.specs.Lines.{filtered_near}
 use Rattle.line_filter.specs.Code.{line_of, near_at}
 use Rattle.line_filter.proofs.LaneLemmas.{AreFull, AreLines}
 use Rattle.line_filter.proofs.lanes.filtered_lanes.Given as goal

@@ -1,5 +1,4 @@
-use Rattle.std.proofs.Common.{rules, ◌≡◌, ◌≤◌, ◌+◌, ℕ, ℤ, pos, neg_ℤ, ◌+ℤ◌, ◌-ℤ◌, ◌*ℤ◌, arith, ap, ◌∙◌, sym, refl, unsigned_abs, to_z, of_z}
-use Rattle.std.specs.Int.{int_shr}
+use Rattle.std.proofs.Common.{arith}
 use Rattle.std.proofs.lemmas.Int.{ints, clamps}
 use Rattle.line_filter.specs.Lines as L
 use Rattle.line_filter.specs.Lines.{outer, change, moved}

@@ -1,12 +1,8 @@
-use Rattle.std.proofs.Common.{rules, ◌≡◌, ◌≤◌, ◌+◌, ℕ, ℤ, pos, neg_ℤ, ◌+ℤ◌, ◌-ℤ◌, ◌*ℤ◌, arith, ap, ◌∙◌, sym, refl, unsigned_abs, to_z, of_z}
-use Rattle.std.specs.Prelude.{not, if◌then◌else◌}
+use Rattle.std.proofs.Common.{◌≡◌, ℤ, ◌+ℤ◌, arith, ap, ◌∙◌}
 use Rattle.std.specs.Int.{int_shr}
-use Rattle.std.proofs.lemmas.Int.{ints, clamps}
-use mir.Syntax.{w16}
+use Rattle.std.proofs.lemmas.Int.{ints}
 use Rattle.line_filter.specs.Lines as L
 use Rattle.line_filter.specs.Lines.{outer, change, moved, hev_mask}
-use Rattle.line_filter.specs.Code.{line_of}
-use Rattle.line_filter.proofs.Narrow.{narrow_is}
 use Rattle.line_filter.proofs.near.step.Goals as goal
 
 pub returns-clause-value : goal.returns-clause-value

@@ -1,4 +1,4 @@
-use Rattle.std.proofs.Common.{◌≡◌, ℕ, arith, rules, ◌∙◌, sym, replicate}
+use Rattle.std.proofs.Common.{sym, replicate}
 use Rattle.vp9_types.specs.Maps.{rows_of}
 use Rattle.planes.proofs.RowLemmas.{no_rows}
 use Rattle.line_filter.proofs.SquareLemmas.{stored, all_stored}

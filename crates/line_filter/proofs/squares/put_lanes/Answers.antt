@@ -1,4 +1,4 @@
-use Rattle.std.proofs.Common.{◌≡◌, ℕ, arith, rules, ◌∙◌}
+use Rattle.std.proofs.Common.{◌∙◌}
 use Rattle.planes.specs.Planes.{plane_map}
 use Rattle.line_filter.proofs.SquareLemmas.{part_same}
 use Rattle.line_filter.proofs.squares.put_lanes.Goals as goal

@@ -1,4 +1,4 @@
-use Rattle.std.proofs.Common.{◌≡◌, ℕ, arith, rules, ◌∙◌}
+use Rattle.std.proofs.Common.{rules}
 use Rattle.line_filter.proofs.SquareLemmas.{row_set}
 use Rattle.line_filter.proofs.squares.put_row.Goals as goal
 

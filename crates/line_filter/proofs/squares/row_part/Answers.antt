@@ -1,4 +1,4 @@
-use Rattle.std.proofs.Common.{◌≡◌, ℕ, arith, rules, ◌∙◌, ap}
+use Rattle.std.proofs.Common.{arith, ◌∙◌, ap}
 use Rattle.planes.specs.declared.area.Area.{Area}
 use Rattle.planes.specs.Planes.{right_end}
 use Rattle.line_filter.proofs.SquareLemmas.{part_of_eight}

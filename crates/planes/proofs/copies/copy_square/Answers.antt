@@ -1,4 +1,5 @@
-use Rattle.std.proofs.Common.{sym, arith}
+use Rattle.std.proofs.Common.{◌≡◌, ◌+◌, ◌*◌, ◌∙◌, ℕ, sym, arith, ap, refl}
+use Rattle.vp9_types.specs.Maps.{rows_of, with_block}
 use Rattle.planes.proofs.RowLemmas.{no_rows, row_stored}
 use Rattle.planes.proofs.copies.copy_square.Goals as goal
 

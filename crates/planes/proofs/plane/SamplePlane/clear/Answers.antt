@@ -1,3 +1,4 @@
+use Rattle.std.proofs.Common.{refl}
 use Rattle.planes.proofs.PlaneLemmas.{zero_map}
 use Rattle.planes.proofs.plane.SamplePlane.clear.Goals as goal
 
