@@ -1,7 +1,7 @@
 -- The edges of a frame in the order in which they are filtered, and what the filter makes of a frame (8.8.1 and 8.8.2 of the
 -- standard). The filter reads and changes each plane by itself, so a frame's edges are listed plane by plane; those of one
 -- plane come in the order of the standard.
-use Rattle.std.specs.Prelude.{ℕ, ◌+◌, ◌-◌, ◌*◌, Bool, List, [], ◌∷◌, ◌++◌, map, Option, Some, None, min, nat_eq, if◌then◌else◌}
+use Rattle.std.specs.Prelude.{ℕ, ◌+◌, ◌-◌, ◌*◌, Bool, true, false, List, [], ◌∷◌, ◌++◌, map, Option, Some, None, min, nat_eq, if◌then◌else◌}
 use Rattle.std.specs.Int.{div_ceil}
 use Rattle.std.specs.List.{range_with_len, flat_map, fold}
 use Rattle.vp9_types.specs.Maps.{Map, FrameMap}
@@ -22,25 +22,48 @@ use Rattle.loop_edges.specs.Cells.{sub_x, sub_y, outer_edge, has_inner}
 use Rattle.loop_edges.specs.Levels.{filter_level, limits_of}
 use Rattle.loop_edges.specs.declared.setting.EdgeSetting.{EdgeSetting}
 
--- the edge so many samples from the side of a cell, with those of its eight lines that are in the plane
-abbrev pub edge_at : Shape → Plane → Limits → Pass → ℕ → ℕ → ℕ → FilterWidth → Edge
-edge_at shape plane limits Vertical row column by width = record {
-    pass = Vertical; row = row; column = column + by; lines = min 8 (coded_height shape plane - row); width = width; limits = limits }
-edge_at shape plane limits Horizontal row column by width = record {
-    pass = Horizontal; row = row + by; column = column; lines = min 8 (coded_width shape plane - column); width = width; limits = limits }
+-- the edge at the side of a cell, with those of its eight lines that are in the plane
+abbrev pub side_edge : Shape → Plane → Pass → ℕ → ℕ → Limits → FilterWidth → Edge
+side_edge shape plane Vertical r c limits width = record {
+    pass = Vertical;
+    row = halved (sub_y shape plane) (8 * r);
+    column = halved (sub_x shape plane) (8 * c);
+    lines = min 8 (coded_height shape plane - halved (sub_y shape plane) (8 * r));
+    width = width;
+    limits = limits }
+side_edge shape plane Horizontal r c limits width = record {
+    pass = Horizontal;
+    row = halved (sub_y shape plane) (8 * r);
+    column = halved (sub_x shape plane) (8 * c);
+    lines = min 8 (coded_width shape plane - halved (sub_x shape plane) (8 * c));
+    width = width;
+    limits = limits }
 
-abbrev pub one_if : Option FilterWidth → (FilterWidth → Edge) → List Edge
-one_if None edge = []
-one_if (Some width) edge = edge width ∷ []
+-- the one four samples further on, in its middle
+abbrev pub middle_edge : Shape → Plane → Pass → ℕ → ℕ → Limits → Edge
+middle_edge shape plane Vertical r c limits =
+    let e = side_edge shape plane Vertical r c limits Four in record e { column = e.column + 4 }
+middle_edge shape plane Horizontal r c limits =
+    let e = side_edge shape plane Horizontal r c limits Four in record e { row = e.row + 4 }
 
--- those of a cell's block: at its side, then in its middle; none at level 0
+abbrev pub side_edges : Shape → Plane → Pass → ℕ → ℕ → Limits → Option FilterWidth → List Edge
+side_edges shape plane pass r c limits None = []
+side_edges shape plane pass r c limits (Some width) = side_edge shape plane pass r c limits width ∷ []
+
+abbrev pub middle_edges : Shape → Plane → Pass → ℕ → ℕ → Limits → Bool → List Edge
+middle_edges shape plane pass r c limits false = []
+middle_edges shape plane pass r c limits true = middle_edge shape plane pass r c limits ∷ []
+
+-- those of a cell's block: at its side, then in its middle
+unfoldable pub both_edges : Shape → Plane → Pass → ℕ → ℕ → BlockInfo → Limits → List Edge
+both_edges shape plane pass r c b limits =
+    side_edges shape plane pass r c limits (outer_edge shape plane pass b r c) ++ middle_edges shape plane pass r c limits (has_inner shape plane pass b r c)
+
+-- none at level 0
 unfoldable pub block_edges : EdgeSetting → Plane → Pass → ℕ → ℕ → BlockInfo → List Edge
 block_edges f plane pass r c b =
-    let level = filter_level f b in
-    let at = edge_at f.shape plane (limits_of f.shape.depth f.filter.sharpness level) pass (halved (sub_y f.shape plane) (8 * r)) (halved (sub_x f.shape plane) (8 * c)) in
-    if nat_eq level 0 then []
-    else one_if (outer_edge f.shape plane pass b r c) (at 0)
-        ++ one_if (if has_inner f.shape plane pass b r c then Some Four else None) (at 4)
+    if nat_eq (filter_level f b) 0 then []
+    else both_edges f.shape plane pass r c b (limits_of f.shape.depth f.filter.sharpness (filter_level f b))
 
 abbrev pub edges_of : EdgeSetting → Plane → Pass → ℕ → ℕ → Option BlockInfo → List Edge
 edges_of f plane pass r c None = []

@@ -1,0 +1,7 @@
+//! The loop filter over a frame, one row of superblocks at a time (8.8 of the standard).
+#![tactic(auto)]
+
+mod blocks;
+mod way;
+
+pub use way::PlanePass;
