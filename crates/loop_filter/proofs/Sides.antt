@@ -95,7 +95,7 @@ reached sub n end w low last = elim (cases_Bool (sub && nat_eq (n + 1) end)) [
   | inr none ↦ omega (arith, reach_low w, whole_side sub n end low none)
 ]
 
-high : (shape : Shape) (plane : Plane) → coded_height shape plane ≡ halved (sub_y shape plane) (8 * mi_rows shape)
+pub high : (shape : Shape) (plane : Plane) → coded_height shape plane ≡ halved (sub_y shape plane) (8 * mi_rows shape)
 high shape Y = refl
 high shape U = refl
 high shape V = refl

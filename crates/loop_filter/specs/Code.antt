@@ -1,8 +1,11 @@
 -- What the code asks of planes and of cells.
-use Rattle.std.specs.Prelude.{ℕ, ◌+◌, ◌-◌, ◌*◌, ◌<◌, ◌≤◌, ◌≡◌, Bool, ◌&&◌, true, false, Option, Some, None, min, nat_eq}
+use Rattle.std.specs.Prelude.{ℕ, List, All, ◌+◌, ◌-◌, ◌*◌, ◌<◌, ◌≤◌, ◌≡◌, Bool, ◌&&◌, true, false, Option, Some, None, min, nat_eq}
 use Rattle.vp9_types.specs.Shapes.{halved, mi_rows, mi_cols, coded_width, coded_height}
 use Rattle.vp9_types.specs.declared.shape.Plane.{Plane}
 use Rattle.vp9_types.specs.declared.shape.Shape.{Shape}
+use Rattle.vp9_tables.specs.Blocks.{greatest_of}
+use Rattle.vp9_tables.specs.Numbers.{tx_number}
+use Rattle.block_plan.specs.declared.block.BlockInfo.{BlockInfo}
 use Rattle.planes.specs.Planes.{lower_end, right_end}
 use Rattle.planes.specs.declared.area.Area.{Area}
 use Rattle.line_filter.specs.Code.{IsEdgeIn}
@@ -39,3 +42,25 @@ CanFilterSide shape way a at limits (Some width) = IsEdgeIn a (side_edge shape w
 abbrev pub CanFilterMiddle : Shape → PlanePass → Area → CellAt → Limits → Bool → Type 0
 CanFilterMiddle shape way a at limits false = Unit {0}
 CanFilterMiddle shape way a at limits true = IsEdgeIn a (middle_edge shape way.plane way.pass at.row at.col limits)
+
+-- An area has the whole width of a plane, and those rows that the filter looks at around a row of cells.
+pub record IsRowIn (shape : Shape) (plane : Plane) (a : Area) (r : ℕ) : Type 0 where
+  pub row : r < mi_rows shape
+  pub above : a.first_row ≤ row_of shape plane r
+  pub above_all : 0 < r → a.first_row + 8 ≤ row_of shape plane r
+  pub below : min 8 (lower_end a - row_of shape plane r) ≡ min 8 (coded_height shape plane - row_of shape plane r)
+  pub left : a.first_column ≡ 0
+  pub right : right_end a ≡ coded_width shape plane
+
+-- An area has the whole width of a plane, and the rows of a row of superblocks with the eight above it: all of the plane, or
+-- a part of it.
+pub record HasFilterRows (shape : Shape) (plane : Plane) (sr : ℕ) (a : Area) : Type 0 where
+  pub above : a.first_row ≤ halved (sub_y shape plane) (64 * sr) - 8
+  pub below : min (coded_height shape plane) (halved (sub_y shape plane) (64 * (sr + 1))) ≤ lower_end a
+  pub end : lower_end a ≤ coded_height shape plane
+  pub left : a.first_column ≡ 0
+  pub right : right_end a ≡ coded_width shape plane
+
+-- no block has a transform that is larger than it
+abbrev pub AllFit : List BlockInfo → Type 0
+AllFit blocks = All (λ b. tx_number b.tx ≤ greatest_of b.size) blocks

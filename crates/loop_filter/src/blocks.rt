@@ -14,12 +14,12 @@ ghost use Rattle.loop_edges.specs.Cells.{outer_edge, has_inner, sub_x, sub_y};
 ghost use Rattle.loop_edges.specs.Edges.{side_edge, middle_edge, side_edges, middle_edges, both_edges, block_edges};
 ghost use Rattle.loop_filter.specs.Code.{IsCellIn, CanFilterSide, CanFilterMiddle};
 
-use crate::way::PlanePass;
+use crate::way::{PlanePass, sub_x, sub_y};
 use block_plan::BlockInfo;
 use line_filter::{Edge, FilterWidth, Limits, Pass, filter_edge};
 use loop_edges::{CellAt, EdgeSetting, cell_edges, filter_level, limits_of};
 use planes::SamplePlane;
-use vp9_types::{Plane, Shape};
+use vp9_types::Shape;
 
 #[inline(always)]
 fn halved(sub: bool, n: usize) -> usize
@@ -38,11 +38,11 @@ fn side_edge(shape: &Shape, way: PlanePass, at: CellAt, limits: Limits, width: F
     requires wide { halved (sub_x shape.now way.plane) (8 * at.col) ≤ coded_width shape.now way.plane }
     ensures { result ≡ side_edge shape.now way.plane way.pass at.row at.col limits width }
 {
-    let is_chroma = way.plane != Plane::Y;
-    let row = halved(is_chroma && shape.ss_y, 8 * at.row as usize);
-    let column = halved(is_chroma && shape.ss_x, 8 * at.col as usize);
-    let rows = halved(is_chroma && shape.ss_y, (shape.h as usize + 7) / 8 * 8);
-    let columns = halved(is_chroma && shape.ss_x, (shape.w as usize + 7) / 8 * 8);
+    let (sub_x, sub_y) = (sub_x(shape, way.plane), sub_y(shape, way.plane));
+    let row = halved(sub_y, 8 * at.row as usize);
+    let column = halved(sub_x, 8 * at.col as usize);
+    let rows = halved(sub_y, (shape.h as usize + 7) / 8 * 8);
+    let columns = halved(sub_x, (shape.w as usize + 7) / 8 * 8);
     let lines = match way.pass {
         Pass::Vertical => rows - row,
         Pass::Horizontal => columns - column,

@@ -2,6 +2,7 @@
 #![tactic(auto)]
 
 mod blocks;
+mod cells;
 mod way;
 
 pub use way::PlanePass;
