@@ -1,5 +1,5 @@
 -- Cells one after another.
-use Rattle.std.proofs.Common.{◌≡◌, unwrap_or, ◌<◌, ◌≤◌, ◌+◌, ◌*◌, ◌-◌, ◌/◌, ◌%◌, ◌&&◌, ℕ, zero, suc, Bool, true, false, inl, inr, refl, sym, ◌∙◌, arith, ap, List, [], ◌∷◌, ◌++◌, length, get_or, map, min, All}
+use Rattle.std.proofs.Common.{◌≡◌, unwrap_or, nat_eq, ◌<◌, ◌≤◌, ◌+◌, ◌*◌, ◌-◌, ◌/◌, ◌%◌, ◌&&◌, ℕ, zero, suc, Bool, true, false, inl, inr, refl, sym, ◌∙◌, arith, ap, List, [], ◌∷◌, ◌++◌, length, get_or, map, min, All}
 use Rattle.std.specs.Prelude.{Option, Some, None, if◌then◌else◌}
 use Rattle.std.specs.Int.{div_ceil}
 use Rattle.std.specs.List.{range_with_len, flat_map, fold}
@@ -7,8 +7,10 @@ use Rattle.std.proofs.lemmas.Grind.{flat_map-append}
 use Rattle.std.proofs.lemmas.List.{map-id, append-nil}
 use Rattle.std.proofs.lemmas.List.FromFn.{map-range_with_len_more}
 use Rattle.std.proofs.lemmas.List.Sums.{fold-append}
-use Rattle.vp9_types.specs.Maps.{Map}
+use Rattle.vp9_types.specs.Maps.{Map, frame_map}
+use Rattle.std.proofs.Math.Path.{fun_ext}
 use Rattle.vp9_types.specs.Shapes.{halved, mi_rows, mi_cols, coded_width, coded_height}
+use Rattle.vp9_types.specs.Sizes.{superblocks_along}
 use Rattle.vp9_types.specs.declared.shape.Plane.{Plane}
 use Rattle.vp9_types.specs.declared.shape.Plane.TheVariants.{Y, U, V}
 use Rattle.vp9_types.specs.declared.shape.Shape.{Shape}
@@ -22,7 +24,7 @@ use Rattle.line_filter.specs.Edges.{with_edge}
 use Rattle.line_filter.specs.declared.edge.Edge.{Edge}
 use Rattle.loop_edges.specs.Cells.{sub_x, sub_y}
 use Rattle.line_filter.specs.declared.edge.Pass.{Pass}
-use Rattle.loop_edges.specs.Edges.{step_of, edges_of, cell_edges}
+use Rattle.loop_edges.specs.Edges.{step_of, edges_of, cell_edges, row_edges, with_row, superblock_edges}
 use Rattle.loop_edges.specs.declared.setting.EdgeSetting.{EdgeSetting}
 use Rattle.loop_filter.proofs.Sides.{high}
 use Rattle.loop_filter.specs.Code.{IsCellIn, IsRowIn, HasFilterRows, AllFit, row_of, column_of}
@@ -119,3 +121,34 @@ pub cell_by : (f : EdgeSetting) (blocks : List BlockInfo) (plane : Plane) (pass 
     → o ≡ covering blocks r c → new ≡ fold with_edge m (edges_of f plane pass r c o) → new ≡ fold with_edge m (cell_edges f blocks plane pass r c)
 unfolding cell_edges
 cell_by f blocks plane pass r c o m new is done = done ∙ ap (λ (z : Option BlockInfo). fold with_edge m (edges_of f plane pass r c z)) is
+
+-- two lists of edges, one after the other
+pub two_lists : (m mid new : Map) (xs ys : List Edge) → mid ≡ fold with_edge m xs → new ≡ fold with_edge mid ys → new ≡ fold with_edge m (xs ++ ys)
+two_lists m mid new xs ys first second = second ∙ (rw first refl ∙ sym (fold-append with_edge m xs ys))
+
+-- three planes of a frame, each by itself
+pub three_planes : (f : EdgeSetting) (blocks : List BlockInfo) (sr : ℕ) (y u v y1 u1 v1 : Map)
+    → y1 ≡ fold with_edge y (row_edges f blocks Y sr) → u1 ≡ fold with_edge u (row_edges f blocks U sr) → v1 ≡ fold with_edge v (row_edges f blocks V sr)
+    → frame_map y1 u1 v1 ≡ with_row f blocks (frame_map y u v) sr
+unfolding with_row
+three_planes f blocks sr y u v y1 u1 v1 ys us vs = fun_ext λ plane. each plane
+  where
+    each : (plane : Plane) → frame_map y1 u1 v1 plane ≡ fold with_edge (frame_map y u v plane) (row_edges f blocks plane sr)
+    each Y = ys
+    each U = us
+    each V = vs
+
+none : (f : EdgeSetting) (blocks : List BlockInfo) (sr : ℕ) (plane : Plane) (m : Map) → nat_eq f.filter.level 0 ≡ true → m ≡ fold with_edge m (row_edges f blocks plane sr)
+unfolding row_edges
+none f blocks sr plane m off = rw off refl
+
+-- without a level there are no edges
+pub no_edges : (f : EdgeSetting) (blocks : List BlockInfo) (sr : ℕ) (y u v : Map) → nat_eq f.filter.level 0 ≡ true
+    → frame_map y u v ≡ with_row f blocks (frame_map y u v) sr
+no_edges f blocks sr y u v off = three_planes f blocks sr y u v y u v (none f blocks sr Y y off) (none f blocks sr U u off) (none f blocks sr V v off)
+
+pub row_by : (f : EdgeSetting) (blocks : List BlockInfo) (plane : Plane) (sr : ℕ) (m new : Map) (n : ℕ) → nat_eq f.filter.level 0 ≡ false
+    → n ≡ superblocks_along (mi_cols f.shape) → new ≡ fold with_edge m (flat_map (superblock_edges f blocks plane sr) (range_with_len 0 n))
+    → new ≡ fold with_edge m (row_edges f blocks plane sr)
+unfolding row_edges
+row_by f blocks plane sr m new n on all done = done ∙ rw (on, all) refl

@@ -8,6 +8,8 @@ use Rattle.vp9_tables.specs.Numbers.{tx_number}
 use Rattle.block_plan.specs.declared.block.BlockInfo.{BlockInfo}
 use Rattle.planes.specs.Planes.{lower_end, right_end}
 use Rattle.planes.specs.declared.area.Area.{Area}
+use Rattle.planes.specs.declared.frame_planes.FramePlanes.{FramePlanes}
+use Rattle.vp9_types.specs.declared.shape.Plane.TheVariants.{Y, U, V}
 use Rattle.line_filter.specs.Code.{IsEdgeIn}
 use Rattle.line_filter.specs.declared.edge.FilterWidth.{FilterWidth}
 use Rattle.line_filter.specs.declared.edge.Limits.{Limits}
@@ -64,3 +66,14 @@ pub record HasFilterRows (shape : Shape) (plane : Plane) (sr : ℕ) (a : Area) :
 -- no block has a transform that is larger than it
 abbrev pub AllFit : List BlockInfo → Type 0
 AllFit blocks = All (λ b. tx_number b.tx ≤ greatest_of b.size) blocks
+
+pub record HoldsFilterRows (shape : Shape) (sr : ℕ) (f : FramePlanes) : Type 0 where
+  pub y : HasFilterRows shape Y sr f.y.area
+  pub u : HasFilterRows shape U sr f.u.area
+  pub v : HasFilterRows shape V sr f.v.area
+
+-- two frames' planes lie in the same places
+pub record HasAreasOf (f g : FramePlanes) : Type 0 where
+  pub y : g.y.area ≡ f.y.area
+  pub u : g.u.area ≡ f.u.area
+  pub v : g.v.area ≡ f.v.area

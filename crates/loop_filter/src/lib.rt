@@ -3,6 +3,7 @@
 
 mod blocks;
 mod cells;
+mod rows;
 mod way;
 
-pub use way::PlanePass;
+pub use rows::filter_row;
