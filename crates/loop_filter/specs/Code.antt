@@ -5,6 +5,7 @@ use Rattle.vp9_types.specs.declared.shape.Plane.{Plane}
 use Rattle.vp9_types.specs.declared.shape.Shape.{Shape}
 use Rattle.vp9_tables.specs.Blocks.{greatest_of}
 use Rattle.vp9_tables.specs.Numbers.{tx_number}
+use Rattle.block_plan.specs.Grid.{GridOf}
 use Rattle.block_plan.specs.declared.block.BlockInfo.{BlockInfo}
 use Rattle.planes.specs.Planes.{lower_end, right_end}
 use Rattle.planes.specs.declared.area.Area.{Area}
@@ -77,3 +78,10 @@ pub record HasAreasOf (f g : FramePlanes) : Type 0 where
   pub y : g.y.area ≡ f.y.area
   pub u : g.u.area ≡ f.u.area
   pub v : g.v.area ≡ f.v.area
+
+-- the blocks of a whole frame, none of which has a transform that is larger than it
+pub record IsWholeGrid (shape : Shape) (grid : GridOf) : Type 0 where
+  pub rows : grid.rows ≡ mi_rows shape
+  pub from : grid.from ≡ 0
+  pub to : grid.to ≡ mi_cols shape
+  pub fit : AllFit grid.blocks

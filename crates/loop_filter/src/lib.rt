@@ -4,6 +4,8 @@
 mod blocks;
 mod cells;
 mod rows;
+#[cfg(test)]
+mod tests;
 mod way;
 
-pub use rows::filter_row;
+pub use rows::{filter_frame, filter_row};

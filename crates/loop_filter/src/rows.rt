@@ -7,9 +7,9 @@ ghost use Rattle.vp9_types.specs.Shapes.{mi_rows, mi_cols};
 ghost use Rattle.vp9_types.specs.Sizes.{greatest, superblocks_along};
 ghost use Rattle.vp9_types.specs.declared.shape.Plane.TheVariants.{Y, U, V};
 ghost use Rattle.planes.specs.Planes.{plane_map};
-ghost use Rattle.planes.specs.Pictures.{FitsPlanes, IsInRange, samples_of};
+ghost use Rattle.planes.specs.Pictures.{FitsPlanes, HasSizes, IsInRange, samples_of};
 ghost use Rattle.line_filter.specs.Edges.{with_edge};
-ghost use Rattle.loop_edges.specs.Edges.{superblock_edges, row_edges, with_row};
+ghost use Rattle.loop_edges.specs.Edges.{superblock_edges, row_edges, with_row, filtered_frame};
 ghost use Rattle.loop_filter.specs.Code.{HasFilterRows, HoldsFilterRows, HasAreasOf, AllFit};
 
 use crate::cells::filter_pass;
@@ -75,5 +75,22 @@ pub fn filter_row<N: Neighbours>(planes: &mut FramePlanes, f: &EdgeSetting, bloc
         filter_plane(&mut planes.y, f, Plane::Y, blocks, sr);
         filter_plane(&mut planes.u, f, Plane::U, blocks, sr);
         filter_plane(&mut planes.v, f, Plane::V, blocks, sr);
+    }
+}
+
+/// Filters a frame in place, row after row of superblocks. The planes are whole.
+pub fn filter_frame<N: Neighbours>(planes: &mut FramePlanes, f: &EdgeSetting, blocks: &N)
+    requires size { FitsPlanes f.now.shape }
+    requires sizes { HasSizes f.now.shape planes.old }
+    requires held { (r c : ℕ) → r < mi_rows f.now.shape → c < mi_cols f.now.shape → N.holds blocks.now r c }
+    requires fit { AllFit (N.blocks blocks.now) }
+    requires range { IsInRange f.now.shape.depth planes.old }
+    ensures sizes { HasSizes f.now.shape planes.new }
+    ensures map { samples_of planes.new ≡ filtered_frame f.now (N.blocks blocks.now) (samples_of planes.old) }
+    ensures range { IsInRange f.now.shape.depth planes.new }
+{
+    let count = ((f.shape.h + 7) / 8 + 7) / 8;
+    for sr in 0..count {
+        filter_row(planes, f, blocks, sr);
     }
 }
