@@ -1,6 +1,6 @@
 //! Drawn pictures with drawn blocks, filtered, beside what tools/filter_rows.py makes of them line by line.
 
-ghost use Rattle.std.specs.Prelude.{◌≡◌, ℕ, ◌≤◌, ◌<◌, slice_index, length, IfOk};
+ghost use Rattle.std.specs.Prelude.{◌≡◌, ◌+◌, ℕ, ◌≤◌, ◌<◌, slice_index, length, IfOk};
 ghost use Rattle.vp9_types.specs.Maps.{IsAtMost};
 ghost use Rattle.vp9_types.specs.Shapes.{mi_rows, mi_cols};
 ghost use Rattle.vp9_types.specs.Sizes.{greatest};
@@ -148,7 +148,42 @@ fn block_of(numbers: &[u8; 8]) -> BlockInfo
     }
 }
 
-/// The blocks that eight numbers each stand for.
+/// Puts a block that starts inside of the frame.
+fn put_inside(grid: &mut BlockGrid, rows: u32, cols: u32, block: BlockInfo)
+    requires rows { grid.old.rows ≡ rows }
+    requires from { grid.old.from ≡ 0 }
+    requires to { grid.old.to ≡ cols }
+    requires room { 1 ≤ grid.old.room }
+    requires fit { AllFit grid.old.blocks }
+    requires one { tx_number block.tx ≤ greatest_of block.size }
+    ensures rows { grid.new.rows ≡ rows }
+    ensures from { grid.new.from ≡ 0 }
+    ensures to { grid.new.to ≡ cols }
+    ensures room { grid.old.room ≤ grid.new.room + 1 }
+    ensures fit { AllFit grid.new.blocks }
+{
+    if block.row < rows && block.col < cols {
+        grid.put(block);
+    }
+}
+
+/// Puts the blocks that eight numbers each stand for.
+fn put_blocks(grid: &mut BlockGrid, rows: u32, cols: u32, numbers: &[[u8; 8]])
+    requires rows { grid.old.rows ≡ rows }
+    requires from { grid.old.from ≡ 0 }
+    requires to { grid.old.to ≡ cols }
+    requires room { length numbers.now ≤ grid.old.room }
+    requires fit { AllFit grid.old.blocks }
+    ensures rows { grid.new.rows ≡ rows }
+    ensures from { grid.new.from ≡ 0 }
+    ensures to { grid.new.to ≡ cols }
+    ensures fit { AllFit grid.new.blocks }
+{
+    for k in 0..numbers.len() {
+        put_inside(grid, rows, cols, block_of(&numbers[k]));
+    }
+}
+
 fn grid_of(alloc: Global, shape: &Shape, numbers: &[[u8; 8]]) -> Result<BlockGrid, AllocError>
     requires size { FitsPlanes shape.now }
     ensures { IfOk result (λ grid. IsWholeGrid shape.now grid) }
@@ -156,12 +191,7 @@ fn grid_of(alloc: Global, shape: &Shape, numbers: &[[u8; 8]]) -> Result<BlockGri
     let rows = (shape.h + 7) / 8;
     let cols = (shape.w + 7) / 8;
     let mut grid = BlockGrid::new(alloc, rows, 0, cols, numbers.len())?;
-    for k in 0..numbers.len() {
-        let block = block_of(&numbers[k]);
-        if block.row < rows && block.col < cols {
-            grid.put(block);
-        }
-    }
+    put_blocks(&mut grid, rows, cols, numbers);
     Ok(grid)
 }
 
@@ -179,7 +209,7 @@ fn draw_row(line: &mut [u16], y: usize, one: u32, most: u16, first: u32) -> u32
     let mut state = first;
     for x in 0..line.len() {
         state = next(state);
-        let spread = SPREADS[(y / 16 + 3 * (x / 16)) % 8] * one;
+        let spread = (SPREADS[(y / 16 + 3 * (x / 16)) % 8] * one).max(1);
         let base = 100 * one + ((x / 8 * 5 + y / 8 * 3) % 11) as u32 * one / 2;
         let sample = base + (state >> 16) % spread;
         line[x] = (sample as u16).min(most);
@@ -198,8 +228,9 @@ fn fill(plane: &mut SamplePlane, one: u32, most: u16, seed: u32)
     let mut state = seed;
     let columns = area.columns.min(1024);
     for y in 0..area.rows {
-        state = draw_row(&mut line[..columns], y, one, most, state);
-        plane.put_block(area.first_row + y, area.first_column, 1, columns, &line[..columns]);
+        let part = &mut line[..columns];
+        state = draw_row(part, y, one, most, state);
+        plane.put_block(area.first_row + y, area.first_column, 1, columns, part);
     }
 }
 
