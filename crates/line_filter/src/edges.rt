@@ -11,7 +11,7 @@ ghost use Rattle.line_filter.specs.Code.{IsAcross, IsAlong, IsEdgeIn, IsAcrossBy
 
 use crate::edge::{Edge, FilterWidth, Limits, Pass};
 use crate::far_lanes::filtered_far_lanes;
-use crate::lanes::filtered_lanes;
+use crate::lanes::filtered_by;
 use crate::squares::{lanes_at, put_lanes};
 use crate::turn::turned;
 use planes::SamplePlane;
@@ -25,7 +25,7 @@ fn filter_down(plane: &mut SamplePlane, row: usize, column: usize, l: Limits, wi
     ensures area { plane.new.area ≡ plane.old.area }
     ensures map { plane_map plane.new ≡ down_filtered 4 (filtered_near l wide) plane.old.area (plane_map plane.old) row column }
 {
-    let lanes = filtered_lanes(&lanes_at(plane, row - 4, column), l, wide);
+    let lanes = filtered_by(&lanes_at(plane, row - 4, column), l, wide);
     put_lanes(plane, row - 4, column, &lanes);
 }
 
@@ -38,7 +38,7 @@ fn filter_along(plane: &mut SamplePlane, row: usize, column: usize, l: Limits, w
     ensures area { plane.new.area ≡ plane.old.area }
     ensures map { plane_map plane.new ≡ along_filtered 4 (filtered_near l wide) plane.old.area (plane_map plane.old) row column }
 {
-    let lanes = filtered_lanes(&turned(&lanes_at(plane, row, column - 4)), l, wide);
+    let lanes = filtered_by(&turned(&lanes_at(plane, row, column - 4)), l, wide);
     put_lanes(plane, row, column - 4, &turned(&lanes));
 }
 

@@ -48,7 +48,7 @@ fn far(above: &Lanes, below: &Lanes, j: usize) -> Far
 
 /// Eight columns filtered by the filters of all widths, each as its line alone: eight rows above the edge, and eight
 /// below it.
-#[inline(always)]
+#[inline(never)]
 pub fn filtered_far_lanes(above: &Lanes, below: &Lanes, l: Limits) -> (Lanes, Lanes)
     requires near { (j : ℕ) → j < 8 → IsNear (near_between above.now below.now j) }
     requires far { (j : ℕ) → j < 8 → IsFar (far_between above.now below.now j) }
