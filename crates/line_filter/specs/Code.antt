@@ -8,6 +8,7 @@ use Rattle.line_filter.specs.declared.edge.Pass.{Pass}
 use Rattle.line_filter.specs.declared.edge.Pass.TheVariants.{Vertical, Horizontal}
 use Rattle.line_filter.specs.declared.far.Far.{Far}
 use Rattle.line_filter.specs.declared.lanes.Lanes.{Lanes}
+use Rattle.line_filter.specs.declared.lanes.Rows.{Rows}
 use Rattle.line_filter.specs.declared.near.Near.{Near}
 use Rattle.line_filter.specs.Edges.{reach, line_down, line_along, in_order}
 use Rattle.line_filter.specs.Lines.{Line}
@@ -43,6 +44,10 @@ pub record IsFar (x : Far) : Type 0 where
   pub q5 : x.q5 ≤ 4095
   pub q6 : x.q6 ≤ 4095
   pub q7 : x.q7 ≤ 4095
+
+-- rows, sample by sample
+abbrev pub lanes_of : Rows → Lanes
+lanes_of x = record { r0 = x.r0; r1 = x.r1; r2 = x.r2; r3 = x.r3; r4 = x.r4; r5 = x.r5; r6 = x.r6; r7 = x.r7 }
 
 -- column j of four rows above an edge and four below it
 unfoldable pub near_at : Lanes → ℕ → Near

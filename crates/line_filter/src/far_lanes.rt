@@ -3,18 +3,18 @@
 ghost use Rattle.std.specs.Prelude.{◌≡◌, ℕ, ◌<◌, ◌≤◌};
 ghost use Rattle.line_filter.specs.Lines.{filtered_line};
 ghost use Rattle.line_filter.specs.declared.edge.FilterWidth.TheVariants.{Sixteen};
-ghost use Rattle.line_filter.specs.Code.{IsNear, IsFar, wide_line_of, near_between, far_between};
+ghost use Rattle.line_filter.specs.Code.{IsNear, IsFar, wide_line_of, near_between, far_between, lanes_of};
 
 use crate::edge::Limits;
 use crate::far::{Far, filtered_far};
-use crate::lanes::Lanes;
+use crate::lanes::{Lanes, Rows, lanes_of, rows_of};
 use crate::near::Near;
 
 #[inline(always)]
 #[tactic(auto, unfolding(crate::specs::Code::near_between))]
-fn near(above: &Lanes, below: &Lanes, j: usize) -> Near
+fn near(above: &Rows, below: &Rows, j: usize) -> Near
     requires { j < 8 }
-    ensures { result ≡ near_between above.now below.now j }
+    ensures { result ≡ near_between (lanes_of above.now) (lanes_of below.now) j }
 {
     Near {
         p3: above.r4[j],
@@ -30,9 +30,9 @@ fn near(above: &Lanes, below: &Lanes, j: usize) -> Near
 
 #[inline(always)]
 #[tactic(auto, unfolding(crate::specs::Code::far_between))]
-fn far(above: &Lanes, below: &Lanes, j: usize) -> Far
+fn far(above: &Rows, below: &Rows, j: usize) -> Far
     requires { j < 8 }
-    ensures { result ≡ far_between above.now below.now j }
+    ensures { result ≡ far_between (lanes_of above.now) (lanes_of below.now) j }
 {
     Far {
         p7: above.r0[j],
@@ -46,15 +46,13 @@ fn far(above: &Lanes, below: &Lanes, j: usize) -> Far
     }
 }
 
-/// Eight columns filtered by the filters of all widths, each as its line alone: eight rows above the edge, and eight
-/// below it.
-#[inline(never)]
-pub fn filtered_far_lanes(above: &Lanes, below: &Lanes, l: Limits) -> (Lanes, Lanes)
-    requires near { (j : ℕ) → j < 8 → IsNear (near_between above.now below.now j) }
-    requires far { (j : ℕ) → j < 8 → IsFar (far_between above.now below.now j) }
+#[inline(always)]
+fn filtered_far_rows(above: &Rows, below: &Rows, l: Limits) -> (Rows, Rows)
+    requires near { (j : ℕ) → j < 8 → IsNear (near_between (lanes_of above.now) (lanes_of below.now) j) }
+    requires far { (j : ℕ) → j < 8 → IsFar (far_between (lanes_of above.now) (lanes_of below.now) j) }
     requires half { l.half ≤ 2048 }
-    ensures { (j : ℕ) → j < 8 → wide_line_of (near_between result.0 result.1 j) (far_between result.0 result.1 j)
-        ≡ filtered_line l Sixteen (wide_line_of (near_between above.now below.now j) (far_between above.now below.now j)) }
+    ensures { (j : ℕ) → j < 8 → wide_line_of (near_between (lanes_of result.0) (lanes_of result.1) j) (far_between (lanes_of result.0) (lanes_of result.1) j)
+        ≡ filtered_line l Sixteen (wide_line_of (near_between (lanes_of above.now) (lanes_of below.now) j) (far_between (lanes_of above.now) (lanes_of below.now) j)) }
 {
     let mut a0 = [0; 8];
     let mut a1 = [0; 8];
@@ -91,7 +89,7 @@ pub fn filtered_far_lanes(above: &Lanes, below: &Lanes, l: Limits) -> (Lanes, La
         b6[j] = line.far.q6;
         b7[j] = line.far.q7;
     }
-    let above = Lanes {
+    let above = Rows {
         r0: a0,
         r1: a1,
         r2: a2,
@@ -101,7 +99,7 @@ pub fn filtered_far_lanes(above: &Lanes, below: &Lanes, l: Limits) -> (Lanes, La
         r6: a6,
         r7: a7,
     };
-    let below = Lanes {
+    let below = Rows {
         r0: b0,
         r1: b1,
         r2: b2,
@@ -112,4 +110,18 @@ pub fn filtered_far_lanes(above: &Lanes, below: &Lanes, l: Limits) -> (Lanes, La
         r7: b7,
     };
     (above, below)
+}
+
+/// Eight columns filtered by the filters of all widths, each as its line alone: eight rows above the edge, and eight
+/// below it.
+#[inline(never)]
+pub fn filtered_far_lanes(above: &Lanes, below: &Lanes, l: Limits) -> (Lanes, Lanes)
+    requires near { (j : ℕ) → j < 8 → IsNear (near_between above.now below.now j) }
+    requires far { (j : ℕ) → j < 8 → IsFar (far_between above.now below.now j) }
+    requires half { l.half ≤ 2048 }
+    ensures { (j : ℕ) → j < 8 → wide_line_of (near_between result.0 result.1 j) (far_between result.0 result.1 j)
+        ≡ filtered_line l Sixteen (wide_line_of (near_between above.now below.now j) (far_between above.now below.now j)) }
+{
+    let (above, below) = filtered_far_rows(&rows_of(above), &rows_of(below), l);
+    (lanes_of(&above), lanes_of(&below))
 }

@@ -2,17 +2,31 @@
 
 ghost use Rattle.std.specs.Prelude.{◌≡◌, ℕ, ◌<◌, ◌≤◌, true, false};
 ghost use Rattle.line_filter.specs.Lines.{filtered_near};
-ghost use Rattle.line_filter.specs.Code.{IsNear, line_of, near_at};
+ghost use Rattle.line_filter.specs.Code.{IsNear, line_of, near_at, lanes_of};
 
 use crate::edge::Limits;
 use crate::near::{Near, filtered};
+use std::simd::prelude::*;
 
 /// Eight samples of a row.
 pub type Row = [u16; 8];
 
-/// Eight rows of eight samples.
-#[derive(Clone, Copy, Debug, PartialEq, Eq)]
+/// Eight rows of eight samples, in vectors.
+#[derive(Clone, Copy)]
 pub struct Lanes {
+    pub r0: u16x8,
+    pub r1: u16x8,
+    pub r2: u16x8,
+    pub r3: u16x8,
+    pub r4: u16x8,
+    pub r5: u16x8,
+    pub r6: u16x8,
+    pub r7: u16x8,
+}
+
+/// The same, sample by sample.
+#[derive(Clone, Copy)]
+pub struct Rows {
     pub r0: Row,
     pub r1: Row,
     pub r2: Row,
@@ -23,11 +37,60 @@ pub struct Lanes {
     pub r7: Row,
 }
 
+/// Eight samples in a vector. By `from_array` they would be loaded one by one.
+#[inline(always)]
+pub fn loaded(row: &Row) -> u16x8
+    ensures { result ≡ row.now }
+{
+    u16x8::from_slice(row)
+}
+
+#[inline(always)]
+pub fn stored(lanes: u16x8) -> Row
+    ensures { result ≡ lanes }
+{
+    let mut row = [0; 8];
+    lanes.copy_to_slice(&mut row);
+    row
+}
+
+#[inline(always)]
+pub fn rows_of(x: &Lanes) -> Rows
+    ensures { lanes_of result ≡ x.now }
+{
+    Rows {
+        r0: stored(x.r0),
+        r1: stored(x.r1),
+        r2: stored(x.r2),
+        r3: stored(x.r3),
+        r4: stored(x.r4),
+        r5: stored(x.r5),
+        r6: stored(x.r6),
+        r7: stored(x.r7),
+    }
+}
+
+#[inline(always)]
+pub fn lanes_of(x: &Rows) -> Lanes
+    ensures { result ≡ lanes_of x.now }
+{
+    Lanes {
+        r0: loaded(&x.r0),
+        r1: loaded(&x.r1),
+        r2: loaded(&x.r2),
+        r3: loaded(&x.r3),
+        r4: loaded(&x.r4),
+        r5: loaded(&x.r5),
+        r6: loaded(&x.r6),
+        r7: loaded(&x.r7),
+    }
+}
+
 #[inline(always)]
 #[tactic(auto, unfolding(crate::specs::Code::near_at))]
-fn near(x: &Lanes, j: usize) -> Near
+fn near(x: &Rows, j: usize) -> Near
     requires { j < 8 }
-    ensures { result ≡ near_at x.now j }
+    ensures { result ≡ near_at (lanes_of x.now) j }
 {
     Near {
         p3: x.r0[j],
@@ -43,10 +106,10 @@ fn near(x: &Lanes, j: usize) -> Near
 
 /// Eight columns filtered, each as its line alone.
 #[inline(always)]
-fn filtered_lanes(x: &Lanes, l: Limits, wide: bool) -> Lanes
-    requires small { (j : ℕ) → j < 8 → IsNear (near_at x.now j) }
+fn filtered_rows(x: &Rows, l: Limits, wide: bool) -> Rows
+    requires small { (j : ℕ) → j < 8 → IsNear (near_at (lanes_of x.now) j) }
     requires half { l.half ≤ 2048 }
-    ensures { (j : ℕ) → j < 8 → line_of (near_at result j) ≡ filtered_near l wide (line_of (near_at x.now j)) }
+    ensures { (j : ℕ) → j < 8 → line_of (near_at (lanes_of result) j) ≡ filtered_near l wide (line_of (near_at (lanes_of x.now) j)) }
 {
     let mut r0 = [0; 8];
     let mut r1 = [0; 8];
@@ -67,7 +130,7 @@ fn filtered_lanes(x: &Lanes, l: Limits, wide: bool) -> Lanes
         r6[j] = line.q2;
         r7[j] = line.q3;
     }
-    Lanes {
+    Rows {
         r0,
         r1,
         r2,
@@ -86,7 +149,7 @@ pub fn filtered_by_four(x: &Lanes, l: Limits) -> Lanes
     requires half { l.half ≤ 2048 }
     ensures { (j : ℕ) → j < 8 → line_of (near_at result j) ≡ filtered_near l false (line_of (near_at x.now j)) }
 {
-    filtered_lanes(x, l, false)
+    lanes_of(&filtered_rows(&rows_of(x), l, false))
 }
 
 /// Those of width 8, likewise.
@@ -96,7 +159,7 @@ pub fn filtered_by_eight(x: &Lanes, l: Limits) -> Lanes
     requires half { l.half ≤ 2048 }
     ensures { (j : ℕ) → j < 8 → line_of (near_at result j) ≡ filtered_near l true (line_of (near_at x.now j)) }
 {
-    filtered_lanes(x, l, true)
+    lanes_of(&filtered_rows(&rows_of(x), l, true))
 }
 
 /// By the filters of width 4, or of width 8.

@@ -5,18 +5,17 @@ ghost use Rattle.vp9_types.specs.Maps.{rows_of, with_block};
 ghost use Rattle.planes.specs.Planes.{HasRow, StartsIn, plane_map, with_part, lower_end, right_end};
 ghost use Rattle.line_filter.specs.Code.{AreLanes, HasSquare};
 
-use crate::lanes::{Lanes, Row};
+use crate::lanes::{Lanes, Row, loaded, stored};
+use std::simd::prelude::*;
 use planes::SamplePlane;
 
 /// Eight samples of a row of a plane.
 #[inline(always)]
-fn row_inside(plane: &SamplePlane, row: usize, column: usize) -> Row
+fn row_inside(plane: &SamplePlane, row: usize, column: usize) -> u16x8
     requires inside { HasRow plane.now.area row column 8 }
     ensures { (j : ℕ) → j < 8 → slice_index result j ≡ plane_map plane.now row (column + j) }
 {
-    let mut loaded = [0; 8];
-    loaded.copy_from_slice(plane.row(row, column, 8));
-    loaded
+    u16x8::from_slice(plane.row(row, column, 8))
 }
 
 /// Eight samples of a row, with 0 for those right of the plane.
@@ -75,14 +74,14 @@ fn lanes_at_end(plane: &SamplePlane, row: usize, column: usize) -> Lanes
     ensures { AreLanes result (λ i j. plane_map plane.now (row + i) (column + j)) }
 {
     Lanes {
-        r0: row_at_end(plane, row, column),
-        r1: row_at_end(plane, row + 1, column),
-        r2: row_at_end(plane, row + 2, column),
-        r3: row_at_end(plane, row + 3, column),
-        r4: row_at_end(plane, row + 4, column),
-        r5: row_at_end(plane, row + 5, column),
-        r6: row_at_end(plane, row + 6, column),
-        r7: row_at_end(plane, row + 7, column),
+        r0: loaded(&row_at_end(plane, row, column)),
+        r1: loaded(&row_at_end(plane, row + 1, column)),
+        r2: loaded(&row_at_end(plane, row + 2, column)),
+        r3: loaded(&row_at_end(plane, row + 3, column)),
+        r4: loaded(&row_at_end(plane, row + 4, column)),
+        r5: loaded(&row_at_end(plane, row + 5, column)),
+        r6: loaded(&row_at_end(plane, row + 6, column)),
+        r7: loaded(&row_at_end(plane, row + 7, column)),
     }
 }
 
@@ -116,15 +115,51 @@ fn flat(x: &Lanes) -> [u16; 64]
     ensures { (f : ℕ → ℕ → ℕ) → AreLanes x.now f → (i j : ℕ) → i < 8 → j < 8 → rows_of 8 result i j ≡ f i j }
 {
     let mut block = [0; 64];
-    put_row(&mut block, 0, &x.r0);
-    put_row(&mut block, 1, &x.r1);
-    put_row(&mut block, 2, &x.r2);
-    put_row(&mut block, 3, &x.r3);
-    put_row(&mut block, 4, &x.r4);
-    put_row(&mut block, 5, &x.r5);
-    put_row(&mut block, 6, &x.r6);
-    put_row(&mut block, 7, &x.r7);
+    put_row(&mut block, 0, &stored(x.r0));
+    put_row(&mut block, 1, &stored(x.r1));
+    put_row(&mut block, 2, &stored(x.r2));
+    put_row(&mut block, 3, &stored(x.r3));
+    put_row(&mut block, 4, &stored(x.r4));
+    put_row(&mut block, 5, &stored(x.r5));
+    put_row(&mut block, 6, &stored(x.r6));
+    put_row(&mut block, 7, &stored(x.r7));
     block
+}
+
+/// Eight samples put at a row and column.
+#[inline(always)]
+fn put_inside(plane: &mut SamplePlane, row: usize, column: usize, x: u16x8)
+    requires inside { HasRow plane.old.area row column 8 }
+    ensures area { plane.new.area ≡ plane.old.area }
+    ensures map { plane_map plane.new ≡ with_block (plane_map plane.old) row column 1 8 (λ _ j. slice_index x j) }
+{
+    x.copy_to_slice(plane.row_mut(row, column, 8));
+}
+
+#[inline(always)]
+fn put_square(plane: &mut SamplePlane, row: usize, column: usize, x: &Lanes)
+    requires inside { HasSquare plane.old.area row column }
+    requires near { row ≤ 65536 }
+    ensures area { plane.new.area ≡ plane.old.area }
+    ensures map { (f : ℕ → ℕ → ℕ) → AreLanes x.now f → plane_map plane.new ≡ with_block (plane_map plane.old) row column 8 8 f }
+{
+    put_inside(plane, row, column, x.r0);
+    put_inside(plane, row + 1, column, x.r1);
+    put_inside(plane, row + 2, column, x.r2);
+    put_inside(plane, row + 3, column, x.r3);
+    put_inside(plane, row + 4, column, x.r4);
+    put_inside(plane, row + 5, column, x.r5);
+    put_inside(plane, row + 6, column, x.r6);
+    put_inside(plane, row + 7, column, x.r7);
+}
+
+#[inline(never)]
+fn put_part(plane: &mut SamplePlane, row: usize, column: usize, x: &Lanes)
+    requires inside { StartsIn plane.old.area row column }
+    ensures area { plane.new.area ≡ plane.old.area }
+    ensures map { (f : ℕ → ℕ → ℕ) → AreLanes x.now f → plane_map plane.new ≡ with_part plane.old.area (plane_map plane.old) row column 8 8 f }
+{
+    plane.put_square::<8>(row, column, &flat(x));
 }
 
 /// Puts eight rows of eight samples at a row and column. What lies outside of the plane is left out.
@@ -134,5 +169,10 @@ pub fn put_lanes(plane: &mut SamplePlane, row: usize, column: usize, x: &Lanes)
     ensures area { plane.new.area ≡ plane.old.area }
     ensures map { (f : ℕ → ℕ → ℕ) → AreLanes x.now f → plane_map plane.new ≡ with_part plane.old.area (plane_map plane.old) row column 8 8 f }
 {
-    plane.put_square::<8>(row, column, &flat(x));
+    let area = plane.area();
+    if row + 8 <= area.lower_end() && column + 8 <= area.right_end() {
+        put_square(plane, row, column, x);
+    } else {
+        put_part(plane, row, column, x);
+    }
 }

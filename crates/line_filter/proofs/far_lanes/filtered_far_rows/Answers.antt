@@ -2,8 +2,9 @@ use Rattle.std.proofs.Common.{refl, arith}
 use Rattle.line_filter.specs.declared.edge.FilterWidth.TheVariants.{Sixteen}
 use Rattle.line_filter.specs.declared.lanes.Lanes.{Lanes}
 use Rattle.line_filter.specs.Lines.{filtered_line}
+use Rattle.line_filter.specs.Code.{lanes_of}
 use Rattle.line_filter.proofs.LaneLemmas.{full_more, wide_line_more, wide_at, upper_of, lower_of}
-use Rattle.line_filter.proofs.far_lanes.filtered_far_lanes.Goals as goal
+use Rattle.line_filter.proofs.far_lanes.filtered_far_rows.Goals as goal
 
 pub loop-j-init : goal.loop-j-init
 loop-j-init c = (
@@ -20,7 +21,7 @@ loop-j-preserved c =
     let w = c.filtered_far-line.result in (
       full_more a l.j (upper_of w) i.0,
       full_more b l.j (lower_of w) i.1,
-      wide_line_more (λ j. filtered_line c.args.l Sixteen (wide_at c.args.above.now c.args.below.now j)) a b l.j w i.0 i.1 c.loop-j-test.true
+      wide_line_more (λ j. filtered_line c.args.l Sixteen (wide_at (lanes_of c.args.above.now) (lanes_of c.args.below.now) j)) a b l.j w i.0 i.1 c.loop-j-test.true
           (rw (c.near.ensures, c.far.ensures) at c.filtered_far-line.ensures) i.2,
     )
 
