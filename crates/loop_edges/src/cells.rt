@@ -47,6 +47,21 @@ fn is_smooth(block: &BlockInfo) -> bool
     block.skip && matches!(block.prediction, Prediction::Inter(_))
 }
 
+/// Whether a place is a multiple of a block's size. Divisions by numbers that aren't written out are slow.
+#[inline(always)]
+fn is_multiple(place: u32, size: u8) -> bool
+    requires { 1 ≤ size }
+    ensures { result ≡ nat_eq (place % size) 0 }
+{
+    match size {
+        1 => true,
+        2 => place % 2 == 0,
+        4 => place % 4 == 0,
+        8 => place % 8 == 0,
+        _ => place % size as u32 == 0,
+    }
+}
+
 #[inline(always)]
 fn crossed_at(place: u32, size: u8, sub: bool, end: u32) -> Crossing
     requires size { 1 ≤ size }
@@ -58,7 +73,7 @@ fn crossed_at(place: u32, size: u8, sub: bool, end: u32) -> Crossing
 {
     Crossing {
         k: if sub { place % 8 / 2 } else { place % 8 },
-        is_border: place % size as u32 == 0,
+        is_border: is_multiple(place, size),
         is_first: place == 0,
         is_last: sub && place + 1 == end,
     }
