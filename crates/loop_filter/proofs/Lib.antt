@@ -1,3 +1,4 @@
 pub mod Sides
 pub mod Walks
 pub mod Frames
+pub mod FinalRows

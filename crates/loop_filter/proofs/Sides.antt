@@ -32,7 +32,7 @@ use Rattle.loop_edges.specs.declared.cells.Crossing.{Crossing}
 use Rattle.loop_filter.specs.Code.{IsCellIn, CanFilterSide, CanFilterMiddle, row_of, column_of}
 use Rattle.loop_filter.specs.declared.way.PlanePass.{PlanePass}
 
-reach_low : (w : FilterWidth) → reach w ≤ 8
+pub reach_low : (w : FilterWidth) → reach w ≤ 8
 reach_low Four = omega arith
 reach_low Eight = omega arith
 reach_low Sixteen = omega arith

@@ -3,9 +3,11 @@
 
 mod blocks;
 mod cells;
+mod laws;
 mod rows;
 #[cfg(test)]
 mod tests;
 mod way;
 
+pub use laws::rows_follow_one_another;
 pub use rows::{filter_frame, filter_row};
