@@ -169,5 +169,9 @@ pub fn filtered_by(x: &Lanes, l: Limits, wide: bool) -> Lanes
     requires half { l.half ≤ 2048 }
     ensures { (j : ℕ) → j < 8 → line_of (near_at result j) ≡ filtered_near l wide (line_of (near_at x.now j)) }
 {
-    if wide { filtered_by_eight(x, l) } else { filtered_by_four(x, l) }
+    if wide {
+        filtered_by_eight(x, l)
+    } else {
+        filtered_by_four(x, l)
+    }
 }

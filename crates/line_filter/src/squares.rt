@@ -6,8 +6,8 @@ ghost use Rattle.planes.specs.Planes.{HasRow, StartsIn, plane_map, with_part, lo
 ghost use Rattle.line_filter.specs.Code.{AreLanes, HasSquare};
 
 use crate::lanes::{Lanes, Row, loaded, stored};
-use std::simd::prelude::*;
 use planes::SamplePlane;
+use std::simd::prelude::*;
 
 /// Eight samples of a row of a plane.
 #[inline(always)]

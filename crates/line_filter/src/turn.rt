@@ -33,5 +33,14 @@ pub fn turned(x: &Lanes) -> Lanes
     let (r2, r3) = woven(j, l);
     let (r4, r5) = woven(m, o);
     let (r6, r7) = woven(n, p);
-    Lanes { r0, r1, r2, r3, r4, r5, r6, r7 }
+    Lanes {
+        r0,
+        r1,
+        r2,
+        r3,
+        r4,
+        r5,
+        r6,
+        r7,
+    }
 }

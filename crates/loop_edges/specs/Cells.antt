@@ -1,6 +1,6 @@
 -- Which edges of blocks and transform blocks the filter goes across, in a cell of 8x8 samples of a plane (8.8.2 of the
 -- standard).
-use Rattle.std.specs.Prelude.{ℕ, ◌+◌, ◌*◌, ◌/◌, ◌%◌, Bool, ◌&&◌, ◌||◌, not, true, false, Option, Some, None, nat_eq, if◌then◌else◌}
+use Rattle.std.specs.Prelude.{ℕ, ◌+◌, ◌%◌, Bool, ◌&&◌, ◌||◌, not, true, false, Option, Some, None, nat_eq, if◌then◌else◌}
 use Rattle.vp9_types.specs.Shapes.{is_chroma, halved, mi_rows, mi_cols}
 use Rattle.vp9_types.specs.declared.block.TxSize.{TxSize}
 use Rattle.vp9_types.specs.declared.block.TxSize.TheVariants.{T4x4, T8x8, T16x16, T32x32}
@@ -42,15 +42,17 @@ is_smooth b = b.skip && is_inter b.prediction
 -- subsampled, at every second one.
 abbrev pub across : Shape → Plane → Pass → BlockInfo → ℕ → ℕ → Crossing
 across shape plane Vertical b r c = record {
-    k = halved (sub_x shape plane) (c % 8);
-    is_border = nat_eq (c % width_8 b.size) 0;
-    is_first = nat_eq c 0;
-    is_last = sub_x shape plane && nat_eq (c + 1) (mi_cols shape) }
+  k = halved (sub_x shape plane) (c % 8);
+  is_border = nat_eq (c % width_8 b.size) 0;
+  is_first = nat_eq c 0;
+  is_last = sub_x shape plane && nat_eq (c + 1) (mi_cols shape);
+}
 across shape plane Horizontal b r c = record {
-    k = halved (sub_y shape plane) (r % 8);
-    is_border = nat_eq (r % height_8 b.size) 0;
-    is_first = nat_eq r 0;
-    is_last = sub_y shape plane && nat_eq (r + 1) (mi_rows shape) }
+  k = halved (sub_y shape plane) (r % 8);
+  is_border = nat_eq (r % height_8 b.size) 0;
+  is_first = nat_eq r 0;
+  is_last = sub_y shape plane && nat_eq (r + 1) (mi_rows shape);
+}
 
 abbrev pub widest : Crossing → FilterWidth
 widest a = if a.is_last then Eight else Sixteen

@@ -4,7 +4,7 @@
 use Rattle.std.specs.Prelude.{ℕ, ◌+◌, ◌-◌, ◌*◌, Bool, true, false, List, [], ◌∷◌, ◌++◌, map, Option, Some, None, min, nat_eq, if◌then◌else◌}
 use Rattle.std.specs.Int.{div_ceil}
 use Rattle.std.specs.List.{range_with_len, flat_map, fold}
-use Rattle.vp9_types.specs.Maps.{Map, FrameMap}
+use Rattle.vp9_types.specs.Maps.{FrameMap}
 use Rattle.vp9_types.specs.Shapes.{halved, mi_rows, mi_cols, coded_width, coded_height}
 use Rattle.vp9_types.specs.Sizes.{superblocks_along}
 use Rattle.vp9_types.specs.declared.shape.Plane.{Plane}
@@ -25,19 +25,21 @@ use Rattle.loop_edges.specs.declared.setting.EdgeSetting.{EdgeSetting}
 -- the edge at the side of a cell, with those of its eight lines that are in the plane
 abbrev pub side_edge : Shape → Plane → Pass → ℕ → ℕ → Limits → FilterWidth → Edge
 side_edge shape plane Vertical r c limits width = record {
-    pass = Vertical;
-    row = halved (sub_y shape plane) (8 * r);
-    column = halved (sub_x shape plane) (8 * c);
-    lines = min 8 (coded_height shape plane - halved (sub_y shape plane) (8 * r));
-    width = width;
-    limits = limits }
+  pass = Vertical;
+  row = halved (sub_y shape plane) (8 * r);
+  column = halved (sub_x shape plane) (8 * c);
+  lines = min 8 (coded_height shape plane - halved (sub_y shape plane) (8 * r));
+  width = width;
+  limits = limits;
+}
 side_edge shape plane Horizontal r c limits width = record {
-    pass = Horizontal;
-    row = halved (sub_y shape plane) (8 * r);
-    column = halved (sub_x shape plane) (8 * c);
-    lines = min 8 (coded_width shape plane - halved (sub_x shape plane) (8 * c));
-    width = width;
-    limits = limits }
+  pass = Horizontal;
+  row = halved (sub_y shape plane) (8 * r);
+  column = halved (sub_x shape plane) (8 * c);
+  lines = min 8 (coded_width shape plane - halved (sub_x shape plane) (8 * c));
+  width = width;
+  limits = limits;
+}
 
 -- the one four samples further on, in its middle
 abbrev pub middle_edge : Shape → Plane → Pass → ℕ → ℕ → Limits → Edge

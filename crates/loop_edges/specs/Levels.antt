@@ -76,8 +76,9 @@ limit_of sharpness level =
 
 unfoldable pub limits_of : Depth → ℕ → ℕ → Limits
 limits_of depth sharpness level = record {
-    limit = limit_of sharpness level * one_of depth;
-    blimit = (2 * (level + 2) + limit_of sharpness level) * one_of depth;
-    thresh = level / 16 * one_of depth;
-    one = one_of depth;
-    half = 128 * one_of depth }
+  limit = limit_of sharpness level * one_of depth;
+  blimit = (2 * (level + 2) + limit_of sharpness level) * one_of depth;
+  thresh = level / 16 * one_of depth;
+  one = one_of depth;
+  half = 128 * one_of depth;
+}

@@ -91,10 +91,20 @@ fn across(shape: &Shape, plane: Plane, pass: Pass, block: &BlockInfo, at: CellAt
     let is_chroma = plane != Plane::Y;
     match pass {
         Pass::Vertical => {
-            crossed_at(at.col, width_8(block.size), is_chroma && shape.ss_x, (shape.w + 7) / 8)
+            crossed_at(
+                at.col,
+                width_8(block.size),
+                is_chroma && shape.ss_x,
+                (shape.w + 7) / 8,
+            )
         }
         Pass::Horizontal => {
-            crossed_at(at.row, height_8(block.size), is_chroma && shape.ss_y, (shape.h + 7) / 8)
+            crossed_at(
+                at.row,
+                height_8(block.size),
+                is_chroma && shape.ss_y,
+                (shape.h + 7) / 8,
+            )
         }
     }
 }
@@ -103,7 +113,11 @@ fn across(shape: &Shape, plane: Plane, pass: Pass, block: &BlockInfo, at: CellAt
 fn widest(a: Crossing) -> FilterWidth
     ensures { result ≡ widest a }
 {
-    if a.is_last { FilterWidth::Eight } else { FilterWidth::Sixteen }
+    if a.is_last {
+        FilterWidth::Eight
+    } else {
+        FilterWidth::Sixteen
+    }
 }
 
 #[inline(always)]
@@ -114,7 +128,11 @@ fn outer_width(tx: TxSize, a: Crossing) -> Option<FilterWidth>
         TxSize::T32x32 => if a.k % 4 == 0 { Some(widest(a)) } else { None },
         TxSize::T16x16 => if a.k % 2 == 0 { Some(widest(a)) } else { None },
         TxSize::T8x8 => Some(FilterWidth::Eight),
-        TxSize::T4x4 => Some(if a.k % 4 == 0 { FilterWidth::Eight } else { FilterWidth::Four }),
+        TxSize::T4x4 => Some(if a.k % 4 == 0 {
+            FilterWidth::Eight
+        } else {
+            FilterWidth::Four
+        }),
     }
 }
 
@@ -127,7 +145,13 @@ fn has_outer(block: &BlockInfo, a: Crossing) -> bool
 
 /// The edges of a cell of a plane, by the block there.
 #[tactic(auto, unfolding(crate::specs::Cells::outer_edge, crate::specs::Cells::has_inner))]
-pub fn cell_edges(shape: &Shape, plane: Plane, pass: Pass, block: &BlockInfo, at: CellAt) -> CellEdges
+pub fn cell_edges(
+    shape: &Shape,
+    plane: Plane,
+    pass: Pass,
+    block: &BlockInfo,
+    at: CellAt,
+) -> CellEdges
     requires wide { shape.now.w ≤ 65536 }
     requires high { shape.now.h ≤ 65536 }
     requires row { at.row ≤ 8192 }
@@ -138,7 +162,11 @@ pub fn cell_edges(shape: &Shape, plane: Plane, pass: Pass, block: &BlockInfo, at
 {
     let tx = plane_block(shape, block, plane).tx;
     let here = across(shape, plane, pass, block, at);
-    let outer = if has_outer(block, here) { outer_width(tx, here) } else { None };
+    let outer = if has_outer(block, here) {
+        outer_width(tx, here)
+    } else {
+        None
+    };
     let beside = across(shape, plane, Pass::Vertical, block, at);
     let inner = tx == TxSize::T4x4 && !is_smooth(block) && !beside.is_last && !here.is_last;
     CellEdges { outer, inner }

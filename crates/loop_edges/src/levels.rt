@@ -39,7 +39,11 @@ fn segment_level(f: &EdgeSetting, segment: u8) -> u8
     }
     match f.segmentation.features.segments.get(segment as usize) {
         None => f.filter.level,
-        Some(features) => with_feature(f.segmentation.features.absolute, f.filter.level, features.level),
+        Some(features) => with_feature(
+            f.segmentation.features.absolute,
+            f.filter.level,
+            features.level,
+        ),
     }
 }
 
@@ -58,7 +62,11 @@ fn reference_delta(deltas: &LoopDeltas, reference: ReferenceFrame) -> i16
 fn mode_delta(deltas: &LoopDeltas, mode: InterMode) -> i16
     ensures { result ≡ mode_delta deltas.now mode }
 {
-    if mode == InterMode::Zero { deltas.mode[0] } else { deltas.mode[1] }
+    if mode == InterMode::Zero {
+        deltas.mode[0]
+    } else {
+        deltas.mode[1]
+    }
 }
 
 #[inline(always)]
@@ -78,7 +86,10 @@ fn delta_of(deltas: &LoopDeltas, prediction: &Prediction) -> i32
     match prediction {
         Prediction::Intra(_) => deltas.reference[0] as i32,
         Prediction::Inter(b) => {
-            sum_of(reference_delta(deltas, b.references.first), mode_delta(deltas, b.modes[3]))
+            sum_of(
+                reference_delta(deltas, b.references.first),
+                mode_delta(deltas, b.modes[3]),
+            )
         }
     }
 }
@@ -157,7 +168,11 @@ fn limit_of(sharpness: u8, level: u8) -> u8
 fn limited(sharpness: u8, shifted: u8) -> u8
     ensures { result ≡ (if nat_lt 0 sharpness then min shifted (9 - sharpness) else shifted) }
 {
-    if sharpness > 0 { shifted.min(9u8.saturating_sub(sharpness)) } else { shifted }
+    if sharpness > 0 {
+        shifted.min(9u8.saturating_sub(sharpness))
+    } else {
+        shifted
+    }
 }
 
 /// What the filter compares with at a level, in steps of the depth.

@@ -46,7 +46,8 @@ both_from : (t : ℕ) (xs ys : List Edge) → IsFrom t xs → IsFrom t ys → Is
 both_from t xs ys first second = record {
   keeps = λ m y x above. ap (λ (g : Map). g y x) (fold-append with_edge m xs ys) ∙ (second.keeps (fold with_edge m xs) y x above ∙ first.keeps m y x above);
   local = λ m n same y x below. ap (λ (g : Map). g y x) (fold-append with_edge m xs ys)
-    ∙ (second.local (fold with_edge m xs) (fold with_edge n xs) (first.local m n same) y x below ∙ sym (ap (λ (g : Map). g y x) (fold-append with_edge n xs ys))) }
+      ∙ (second.local (fold with_edge m xs) (fold with_edge n xs) (first.local m n same) y x below ∙ sym (ap (λ (g : Map). g y x) (fold-append with_edge n xs ys)));
+}
 
 walk_from : (t : ℕ) (g : ℕ → List Edge) (h : ℕ → ℕ) → ((i : ℕ) → IsFrom t (g (h i))) → (n : ℕ) → IsFrom t (flat_map g (map h (range_with_len 0 n)))
 walk_from t g h each zero = none_from t
@@ -57,7 +58,8 @@ walk_from t g h each (suc n) =
     subst (λ (k : ℕ). IsFrom t (flat_map g (map h (range_with_len 0 k)))) (sym next) (record {
       keeps = λ m y x above. ap (λ (z : Map). z y x) (one_more g h m n) ∙ (e.keeps _ y x above ∙ so.keeps m y x above);
       local = λ a b same y x below. ap (λ (z : Map). z y x) (one_more g h a n)
-        ∙ (e.local _ _ (so.local a b same) y x below ∙ sym (ap (λ (z : Map). z y x) (one_more g h b n))) })
+          ∙ (e.local _ _ (so.local a b same) y x below ∙ sym (ap (λ (z : Map). z y x) (one_more g h b n)));
+    })
 
 walk_from_plain : (t : ℕ) (g : ℕ → List Edge) → ((i : ℕ) → IsFrom t (g i)) → (n : ℕ) → IsFrom t (flat_map g (range_with_len 0 n))
 walk_from_plain t g each zero = none_from t
@@ -68,7 +70,8 @@ walk_from_plain t g each (suc n) =
     subst (λ (k : ℕ). IsFrom t (flat_map g (range_with_len 0 k))) (sym next) (record {
       keeps = λ m y x above. ap (λ (z : Map). z y x) (one_more_plain g m n) ∙ (e.keeps _ y x above ∙ so.keeps m y x above);
       local = λ a b same y x below. ap (λ (z : Map). z y x) (one_more_plain g a n)
-        ∙ (e.local _ _ (so.local a b same) y x below ∙ sym (ap (λ (z : Map). z y x) (one_more_plain g b n))) })
+          ∙ (e.local _ _ (so.local a b same) y x below ∙ sym (ap (λ (z : Map). z y x) (one_more_plain g b n)));
+    })
 
 same_range : (f g : ℕ → ℕ) (n : ℕ) → ((i : ℕ) → i < n → f i ≡ g i) → map f (range_with_len 0 n) ≡ map g (range_with_len 0 n)
 same_range f g zero same = refl
@@ -80,9 +83,10 @@ same_range f g (suc n) same =
 
 same_line : (r at t : ℕ) (s u : ℕ → ℕ) → ((k : ℕ) → t ≤ k → s k ≡ u k) → t ≤ at - r → line_at r s at ≡ line_at r u at
 unfolding line_at
-same_line r at t s u same low = rw
-    (same_range (λ i. s (at - 1 - i)) (λ i. u (at - 1 - i)) r (λ i lt. same (at - 1 - i) (omega (arith, low, lt))),
-    same_range (λ i. s (at + i)) (λ i. u (at + i)) r (λ i lt. same (at + i) (omega (arith, low)))) refl
+same_line r at t s u same low = rw (
+  same_range (λ i. s (at - 1 - i)) (λ i. u (at - 1 - i)) r (λ i lt. same (at - 1 - i) (omega (arith, low, lt))),
+  same_range (λ i. s (at + i)) (λ i. u (at + i)) r (λ i lt. same (at + i) (omega (arith, low))),
+) refl
 
 above_block : (m b : Map) (y0 x0 rows columns y x : ℕ) → y < y0 → with_block m y0 x0 rows columns b y x ≡ m y x
 unfolding with_block
@@ -104,21 +108,23 @@ one_from_by t e Vertical is low =
     rw is (record {
       keeps = λ m y x above. ap (λ (g : Map). g y x) (along_at_once e m e.lines) ∙ above_block m (rows_filtered e m) e.row (e.column - r) e.lines (2 * r) y x (omega (arith, low, above));
       local = λ m n same y x below. ap (λ (g : Map). g y x) (along_at_once e m e.lines)
-        ∙ (same_block m n (rows_filtered e m) (rows_filtered e n) e.row (e.column - r) e.lines (2 * r) y x
-            (ap (λ (s : ℕ → ℕ). in_order r (filtered_line e.limits e.width (line_at r s e.column)) (x - (e.column - r)))
-              (fun_ext λ k. same (e.row + (y - e.row)) k (omega (arith, low))))
-            (same y x below)
-        ∙ sym (ap (λ (g : Map). g y x) (along_at_once e n e.lines))) })
+          ∙ (same_block m n (rows_filtered e m) (rows_filtered e n) e.row (e.column - r) e.lines (2 * r) y x
+          (ap (λ (s : ℕ → ℕ). in_order r (filtered_line e.limits e.width (line_at r s e.column)) (x - (e.column - r)))
+          (fun_ext λ k. same (e.row + (y - e.row)) k (omega (arith, low))))
+          (same y x below)
+          ∙ sym (ap (λ (g : Map). g y x) (along_at_once e n e.lines)));
+    })
 one_from_by t e Horizontal is low =
     let r = reach e.width in
     rw is (record {
       keeps = λ m y x above. ap (λ (g : Map). g y x) (down_at_once e m e.lines) ∙ above_block m (columns_filtered e m) (e.row - r) e.column (2 * r) e.lines y x (omega (arith, low, above));
       local = λ m n same y x below. ap (λ (g : Map). g y x) (down_at_once e m e.lines)
-        ∙ (same_block m n (columns_filtered e m) (columns_filtered e n) (e.row - r) e.column (2 * r) e.lines y x
-            (ap (λ (z : Line). in_order r (filtered_line e.limits e.width z) (y - (e.row - r)))
-              (same_line r e.row t (λ k. m k (e.column + (x - e.column))) (λ k. n k (e.column + (x - e.column))) (λ k far. same k (e.column + (x - e.column)) far) low))
-            (same y x below)
-        ∙ sym (ap (λ (g : Map). g y x) (down_at_once e n e.lines))) })
+          ∙ (same_block m n (columns_filtered e m) (columns_filtered e n) (e.row - r) e.column (2 * r) e.lines y x
+          (ap (λ (z : Line). in_order r (filtered_line e.limits e.width z) (y - (e.row - r)))
+          (same_line r e.row t (λ k. m k (e.column + (x - e.column))) (λ k. n k (e.column + (x - e.column))) (λ k far. same k (e.column + (x - e.column)) far) low))
+          (same y x below)
+          ∙ sym (ap (λ (g : Map). g y x) (down_at_once e n e.lines)));
+    })
 
 one_from : (t : ℕ) (e : Edge) → t ≤ e.row - reach e.width → IsFrom t (e ∷ [])
 one_from t e low = one_from_by t e e.pass refl low

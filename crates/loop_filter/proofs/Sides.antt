@@ -45,10 +45,6 @@ reach_some Sixteen = omega arith
 same_width : (v w : FilterWidth) → Some v ≡ Some w → v ≡ w
 same_width v w is = ap (λ (o : Option FilterWidth). unwrap_or o Four) is
 
-
-
-
-
 narrowed_widest : (z : Crossing) (w : FilterWidth) → widest z ≡ w → z.is_last ≡ true → reach w ≡ 4
 narrowed_widest z w is last = rw (sym is, last) refl
 
@@ -116,7 +112,8 @@ side_by shape plane Vertical b a r c limits w so first last =
       below = omega (arith, so.below, row, high shape plane);
       left = omega (arith, so.left, so.left_all (later c first), reach_low w);
       right = omega (arith, so.right, wide shape plane, column);
-      lines = sym so.below }
+      lines = sym so.below;
+    }
 side_by shape plane Horizontal b a r c limits w so first last =
     let row = reached (sub_y shape plane) r (mi_rows shape) w so.row last in
     let column = half_side (sub_x shape plane) c (mi_cols shape) so.column in
@@ -125,7 +122,8 @@ side_by shape plane Horizontal b a r c limits w so first last =
       below = omega (arith, so.below, row, reach_low w, reach_some w, high shape plane);
       left = omega (arith, so.left);
       right = omega (arith, so.right, wide shape plane, column);
-      lines = rw so.right refl }
+      lines = rw so.right refl;
+    }
 
 pub side_fits : (shape : Shape) (way : PlanePass) (b : BlockInfo) (a : Area) (at : CellAt) (limits : Limits) (o : Option FilterWidth)
     → IsCellIn shape way.plane a at.row at.col → o ≡ outer_edge shape way.plane way.pass b at.row at.col → CanFilterSide shape way a at limits o
@@ -135,8 +133,8 @@ side_fits shape way b a at limits (Some w) so is =
     let z = across shape way.plane way.pass b at.row at.col in
     let p = not (is_smooth b) || z.is_border in
     side_by shape way.plane way.pass b a at.row at.col limits w so
-      (not_first p z.is_first (outer_width (tx_in shape b way.plane) z) w (sym is))
-      (narrowed (tx_in shape b way.plane) z w (there p z.is_first (outer_width (tx_in shape b way.plane) z) w (sym is)))
+    (not_first p z.is_first (outer_width (tx_in shape b way.plane) z) w (sym is))
+    (narrowed (tx_in shape b way.plane) z w (there p z.is_first (outer_width (tx_in shape b way.plane) z) w (sym is)))
 
 last_of : (p q r s : Bool) → (p && q && not r && not s) ≡ true → s ≡ false
 last_of true true false false is = refl
@@ -155,7 +153,8 @@ middle_by shape plane Vertical b a r c limits so last =
       below = omega (arith, so.below, row, high shape plane);
       left = omega (arith, so.left);
       right = omega (arith, so.right, wide shape plane, column);
-      lines = sym so.below }
+      lines = sym so.below;
+    }
 middle_by shape plane Horizontal b a r c limits so last =
     let row = whole_side (sub_y shape plane) r (mi_rows shape) so.row last in
     let column = half_side (sub_x shape plane) c (mi_cols shape) so.column in
@@ -164,7 +163,8 @@ middle_by shape plane Horizontal b a r c limits so last =
       below = omega (arith, so.below, row, high shape plane);
       left = omega (arith, so.left);
       right = omega (arith, so.right, wide shape plane, column);
-      lines = rw so.right refl }
+      lines = rw so.right refl;
+    }
 
 pub middle_fits : (shape : Shape) (way : PlanePass) (b : BlockInfo) (a : Area) (at : CellAt) (limits : Limits) (inner : Bool)
     → IsCellIn shape way.plane a at.row at.col → inner ≡ has_inner shape way.plane way.pass b at.row at.col → CanFilterMiddle shape way a at limits inner
@@ -172,8 +172,8 @@ unfolding has_inner
 middle_fits shape way b a at limits false so is = tt
 middle_fits shape way b a at limits true so is =
     middle_by shape way.plane way.pass b a at.row at.col limits so
-      (last_of (is_4x4 (tx_in shape b way.plane)) (not (is_smooth b)) (across shape way.plane Vertical b at.row at.col).is_last
-        (across shape way.plane way.pass b at.row at.col).is_last (sym is))
+    (last_of (is_4x4 (tx_in shape b way.plane)) (not (is_smooth b)) (across shape way.plane Vertical b at.row at.col).is_last
+    (across shape way.plane way.pass b at.row at.col).is_last (sym is))
 
 top_of : (d : Depth) (sharpness level : ℕ) → 2 * (limits_of d sharpness level).half - 1 ≡ greatest d
 unfolding limits_of

@@ -62,14 +62,21 @@ unfolding covering
 covering_fits [] r c b fit is = let no : ⊥ = cc in absurd no
 covering_fits (x ∷ blocks) r c b fit is =
     chosen_fits (covering blocks r c) (covers x r c) x b (λ y here. covering_fits blocks r c y (λ i d low. fit (suc i) d (omega (arith, low))) here)
-      (fit zero x (omega arith)) is
+    (fit zero x (omega arith)) is
 
 -- a cell of a row of cells
 pub cell_in : (shape : Shape) (plane : Plane) (a : Area) (r sc j : ℕ) → IsRowIn shape plane a r → 8 * sc + step_of (sub_x shape plane) * j < mi_cols shape
     → IsCellIn shape plane a r (8 * sc + step_of (sub_x shape plane) * j)
 cell_in shape plane a r sc j so low = record {
-    row = so.row; column = low; above = so.above; above_all = so.above_all; below = so.below; left = so.left; right = so.right;
-    left_all = right_of (sub_x shape plane) sc j }
+  row = so.row;
+  column = low;
+  above = so.above;
+  above_all = so.above_all;
+  below = so.below;
+  left = so.left;
+  right = so.right;
+  left_all = right_of (sub_x shape plane) sc j;
+}
   where
     right_of : (sub : Bool) (sc j : ℕ) → 0 < 8 * sc + step_of sub * j → 8 ≤ halved sub (8 * (8 * sc + step_of sub * j))
     right_of true sc j some = omega (arith, some)
@@ -99,7 +106,8 @@ row_in shape plane a sr i so low few =
       above_all = λ some. above_by (sub_y shape plane) sr i a.first_row so.above some;
       below = omega (arith, at, full, so.below, so.end);
       left = so.left;
-      right = so.right }
+      right = so.right;
+    }
   where
     above_by : (sub : Bool) (sr i first : ℕ) → first ≤ halved sub (64 * sr) - 8 → 0 < 8 * sr + step_of sub * i → first + 8 ≤ halved sub (8 * (8 * sr + step_of sub * i))
     above_by true zero i first above some = omega (arith, above, some)

@@ -47,7 +47,14 @@ fn side_edge(shape: &Shape, way: PlanePass, at: CellAt, limits: Limits, width: F
         Pass::Vertical => rows - row,
         Pass::Horizontal => columns - column,
     };
-    Edge { pass: way.pass, row, column, lines: lines.min(8), width, limits }
+    Edge {
+        pass: way.pass,
+        row,
+        column,
+        lines: lines.min(8),
+        width,
+        limits,
+    }
 }
 
 /// The edge in the middle of a cell.
@@ -62,8 +69,14 @@ fn middle_edge(shape: &Shape, way: PlanePass, at: CellAt, limits: Limits) -> Edg
 {
     let side = side_edge(shape, way, at, limits, FilterWidth::Four);
     match way.pass {
-        Pass::Vertical => Edge { column: side.column + 4, ..side },
-        Pass::Horizontal => Edge { row: side.row + 4, ..side },
+        Pass::Vertical => Edge {
+            column: side.column + 4,
+            ..side
+        },
+        Pass::Horizontal => Edge {
+            row: side.row + 4,
+            ..side
+        },
     }
 }
 
@@ -139,7 +152,13 @@ fn filter_edges(
 
 /// The edges of a cell filtered, by its block.
 #[tactic(auto, unfolding(loop_edges::specs::Edges::block_edges))]
-pub fn filter_block(samples: &mut SamplePlane, f: &EdgeSetting, way: PlanePass, at: CellAt, block: &BlockInfo)
+pub fn filter_block(
+    samples: &mut SamplePlane,
+    f: &EdgeSetting,
+    way: PlanePass,
+    at: CellAt,
+    block: &BlockInfo,
+)
     requires size { FitsPlanes f.now.shape }
     requires cell { IsCellIn f.now.shape way.plane samples.old.area at.row at.col }
     requires fits { tx_number block.now.tx ≤ greatest_of block.now.size }

@@ -40,7 +40,13 @@ fn cells_along(sub: bool, end: u32, s: u32) -> u32
     (end - 8 * s).min(8).div_ceil(step_of(sub))
 }
 
-fn filter_cell<N: Neighbours>(samples: &mut SamplePlane, f: &EdgeSetting, way: PlanePass, blocks: &N, at: CellAt)
+fn filter_cell<N: Neighbours>(
+    samples: &mut SamplePlane,
+    f: &EdgeSetting,
+    way: PlanePass,
+    blocks: &N,
+    at: CellAt,
+)
     requires size { FitsPlanes f.now.shape }
     requires cell { IsCellIn f.now.shape way.plane samples.old.area at.row at.col }
     requires held { N.holds blocks.now at.row at.col }
@@ -56,7 +62,14 @@ fn filter_cell<N: Neighbours>(samples: &mut SamplePlane, f: &EdgeSetting, way: P
 }
 
 /// A row of a superblock's cells, from left to right.
-fn filter_cell_row<N: Neighbours>(samples: &mut SamplePlane, f: &EdgeSetting, way: PlanePass, blocks: &N, row: u32, sc: u32)
+fn filter_cell_row<N: Neighbours>(
+    samples: &mut SamplePlane,
+    f: &EdgeSetting,
+    way: PlanePass,
+    blocks: &N,
+    row: u32,
+    sc: u32,
+)
     requires size { FitsPlanes f.now.shape }
     requires row { IsRowIn f.now.shape way.plane samples.old.area row }
     requires column { 8 * sc ≤ mi_cols f.now.shape }
@@ -72,12 +85,28 @@ fn filter_cell_row<N: Neighbours>(samples: &mut SamplePlane, f: &EdgeSetting, wa
     let step = step_of(sub);
     let count = cells_along(sub, (f.shape.w + 7) / 8, sc);
     for j in 0..count {
-        filter_cell(samples, f, way, blocks, CellAt { row, col: 8 * sc + step * j });
+        filter_cell(
+            samples,
+            f,
+            way,
+            blocks,
+            CellAt {
+                row,
+                col: 8 * sc + step * j,
+            },
+        );
     }
 }
 
 /// A pass over a superblock: its rows of cells, from top to bottom.
-pub fn filter_pass<N: Neighbours>(samples: &mut SamplePlane, f: &EdgeSetting, way: PlanePass, blocks: &N, sr: u32, sc: u32)
+pub fn filter_pass<N: Neighbours>(
+    samples: &mut SamplePlane,
+    f: &EdgeSetting,
+    way: PlanePass,
+    blocks: &N,
+    sr: u32,
+    sc: u32,
+)
     requires size { FitsPlanes f.now.shape }
     requires rows { HasFilterRows f.now.shape way.plane sr samples.old.area }
     requires row { 8 * sr ≤ mi_rows f.now.shape }

@@ -16,5 +16,4 @@ pub fn rows_follow_one_another()
     ensures leaves { (f : EdgeSetting) (blocks : List BlockInfo) (sr : ℕ) → LeavesRowsAbove f blocks sr }
     ensures reads { (f : EdgeSetting) (blocks : List BlockInfo) (sr : ℕ) → ReadsNoRowAbove f blocks sr }
     ensures settled { (f : EdgeSetting) (blocks : List BlockInfo) (rows : ℕ) → AreFinal f blocks rows }
-{
-}
+{}

@@ -22,7 +22,14 @@ use vp9_types::Plane;
 
 /// A superblock of a plane: all its vertical edges, then all its horizontal ones.
 #[tactic(auto, unfolding(loop_edges::specs::Edges::superblock_edges), using(crate::proofs::Walks::two_lists))]
-fn filter_superblock<N: Neighbours>(samples: &mut SamplePlane, f: &EdgeSetting, plane: Plane, blocks: &N, sr: u32, sc: u32)
+fn filter_superblock<N: Neighbours>(
+    samples: &mut SamplePlane,
+    f: &EdgeSetting,
+    plane: Plane,
+    blocks: &N,
+    sr: u32,
+    sc: u32,
+)
     requires size { FitsPlanes f.now.shape }
     requires rows { HasFilterRows f.now.shape plane sr samples.old.area }
     requires row { 8 * sr ≤ mi_rows f.now.shape }
@@ -34,12 +41,38 @@ fn filter_superblock<N: Neighbours>(samples: &mut SamplePlane, f: &EdgeSetting, 
     ensures map { plane_map samples.new ≡ fold with_edge (plane_map samples.old) (superblock_edges f.now (N.blocks blocks.now) plane sr sc) }
     ensures range { IsAtMost (greatest f.now.shape.depth) (plane_map samples.new) }
 {
-    filter_pass(samples, f, PlanePass { plane, pass: Pass::Vertical }, blocks, sr, sc);
-    filter_pass(samples, f, PlanePass { plane, pass: Pass::Horizontal }, blocks, sr, sc);
+    filter_pass(
+        samples,
+        f,
+        PlanePass {
+            plane,
+            pass: Pass::Vertical,
+        },
+        blocks,
+        sr,
+        sc,
+    );
+    filter_pass(
+        samples,
+        f,
+        PlanePass {
+            plane,
+            pass: Pass::Horizontal,
+        },
+        blocks,
+        sr,
+        sc,
+    );
 }
 
 /// A row of superblocks of a plane, from left to right.
-fn filter_plane<N: Neighbours>(samples: &mut SamplePlane, f: &EdgeSetting, plane: Plane, blocks: &N, sr: u32)
+fn filter_plane<N: Neighbours>(
+    samples: &mut SamplePlane,
+    f: &EdgeSetting,
+    plane: Plane,
+    blocks: &N,
+    sr: u32,
+)
     requires size { FitsPlanes f.now.shape }
     requires on { nat_eq f.now.filter.level 0 ≡ false }
     requires rows { HasFilterRows f.now.shape plane sr samples.old.area }

@@ -14,14 +14,18 @@ ghost use Rattle.loop_filter.specs.Code.{AllFit, IsWholeGrid};
 mod rows;
 
 use super::*;
-use block_plan::{BlockGrid, BlockInfo, InterPrediction, IntraPrediction, Mv, Prediction, References};
+use block_plan::{
+    BlockGrid, BlockInfo, InterPrediction, IntraPrediction, Mv, Prediction, References,
+};
 use frame_headers::{Features, LoopDeltas, LoopFilter, SegmentFeatures, Segmentation};
 use loop_edges::EdgeSetting;
 use planes::{FramePlanes, SamplePlane};
 use std::alloc::{AllocError, Global};
 use std::test::Fail;
 use vp9_tables::max_tx_size;
-use vp9_types::{BlockSize, Depth, InterMode, InterpFilter, IntraMode, Plane, ReferenceFrame, Shape, TxSize};
+use vp9_types::{
+    BlockSize, Depth, InterMode, InterpFilter, IntraMode, Plane, ReferenceFrame, Shape, TxSize,
+};
 
 /// A frame's filter, the seed of its samples, and the checksums of its planes before and after. A feature of 100 is none.
 pub struct Case {
@@ -62,7 +66,10 @@ const SIZES: [BlockSize; 13] = [
 const SPREADS: [u32; 8] = [1, 2, 3, 5, 9, 30, 120, 2];
 
 fn feature_of(value: i16) -> SegmentFeatures {
-    SegmentFeatures { level: if value == 100 { None } else { Some(value) }, ..SegmentFeatures::NONE }
+    SegmentFeatures {
+        level: if value == 100 { None } else { Some(value) },
+        ..SegmentFeatures::NONE
+    }
 }
 
 fn shape_of(case: &Case) -> Shape
@@ -74,7 +81,13 @@ fn shape_of(case: &Case) -> Shape
         10 => Depth::Ten,
         _ => Depth::Twelve,
     };
-    Shape { w: case.w, h: case.h, depth, ss_x: case.ss_x, ss_y: case.ss_y }
+    Shape {
+        w: case.w,
+        h: case.h,
+        depth,
+        ss_x: case.ss_x,
+        ss_y: case.ss_y,
+    }
 }
 
 fn setting_of(case: &Case) -> EdgeSetting
@@ -91,9 +104,19 @@ fn setting_of(case: &Case) -> EdgeSetting
             level: case.level,
             sharpness: case.sharpness,
             delta_enabled: case.deltas,
-            deltas: LoopDeltas { reference: case.reference, mode: case.mode },
+            deltas: LoopDeltas {
+                reference: case.reference,
+                mode: case.mode,
+            },
         },
-        segmentation: Segmentation { enabled: case.segments, map: None, features: Features { absolute: case.absolute, segments } },
+        segmentation: Segmentation {
+            enabled: case.segments,
+            map: None,
+            features: Features {
+                absolute: case.absolute,
+                segments,
+            },
+        },
     }
 }
 
@@ -116,15 +139,25 @@ fn fitting(tx: TxSize, size: BlockSize) -> TxSize
 
 fn prediction_of(kind: u8, mode: u8) -> Prediction {
     let first = match kind {
-        0 => return Prediction::Intra(IntraPrediction { luma: [IntraMode::Dc; 4], chroma: IntraMode::Dc }),
+        0 => return Prediction::Intra(IntraPrediction {
+            luma: [IntraMode::Dc; 4],
+            chroma: IntraMode::Dc,
+        }),
         1 => ReferenceFrame::Last,
         2 => ReferenceFrame::Golden,
         _ => ReferenceFrame::Altref,
     };
-    let last = if mode == 0 { InterMode::Zero } else { InterMode::New };
+    let last = if mode == 0 {
+        InterMode::Zero
+    } else {
+        InterMode::New
+    };
     Prediction::Inter(InterPrediction {
         modes: [InterMode::Near, InterMode::Zero, InterMode::New, last],
-        references: References { first, second: None },
+        references: References {
+            first,
+            second: None,
+        },
         filter: InterpFilter::Regular,
         vectors: [[Mv { row: 0, column: 0 }; 2]; 4],
     })
@@ -246,7 +279,11 @@ fn checksum(plane: &SamplePlane) -> u64 {
 }
 
 fn sums_of(planes: &FramePlanes) -> [u64; 3] {
-    [checksum(&planes.y), checksum(&planes.u), checksum(&planes.v)]
+    [
+        checksum(&planes.y),
+        checksum(&planes.u),
+        checksum(&planes.v),
+    ]
 }
 
 fn one_of(depth: Depth) -> u32

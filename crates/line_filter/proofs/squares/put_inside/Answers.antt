@@ -1,4 +1,4 @@
-use Rattle.std.proofs.Common.{◌≡◌, ℕ, List, length, sym, ap, ◌∙◌, arith, slice_index}
+use Rattle.std.proofs.Common.{ℕ, List, sym, ap, ◌∙◌, slice_index}
 use Rattle.std.specs.Simd.Lanes.{put_chunk}
 use Rattle.std.proofs.lemmas.Simd.{length-put_chunk, put_chunk_whole}
 use Rattle.vp9_types.specs.Maps.{with_block}

@@ -1,4 +1,4 @@
-use Rattle.std.proofs.Common.{◌≡◌, ◌+◌, ℕ, arith, sym, ◌∙◌}
+use Rattle.std.proofs.Common.{◌+◌, arith, sym}
 use Rattle.planes.specs.Planes.{plane_map}
 use Rattle.planes.proofs.RowLemmas.{no_rows}
 use Rattle.line_filter.proofs.SquareLemmas.{put_more}

@@ -15,4 +15,5 @@ loop-j-preserved g c = let a = c.args in let i = c.loop-j.invariant in record {
   area = c.filter_cell.ensures.area ∙ i.area;
   range = c.filter_cell.ensures.range;
   map = walk_more (cell_edges a.f.now (g.N.Neighbours.blocks a.blocks.now) a.way.plane a.way.pass a.row)
-    (λ (j : ℕ). 8 * a.sc + step_of (sub_x a.f.now.shape a.way.plane) * j) (plane_map a.samples.now) _ _ c.loop-j.j _ (rw (c.step_of-step.ensures.value, c.sub_x-sub.ensures) refl) i.map c.filter_cell.ensures.map }
+      (λ (j : ℕ). 8 * a.sc + step_of (sub_x a.f.now.shape a.way.plane) * j) (plane_map a.samples.now) _ _ c.loop-j.j _ (rw (c.step_of-step.ensures.value, c.sub_x-sub.ensures) refl) i.map c.filter_cell.ensures.map;
+}

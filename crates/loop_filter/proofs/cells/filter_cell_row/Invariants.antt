@@ -13,4 +13,5 @@ invariant-loop-j g l = record {
   area : l.samples.area ≡ l.initial.samples.area;
   range : IsAtMost (greatest l.f.shape.depth) (plane_map l.samples);
   map : plane_map l.samples ≡ fold with_edge (plane_map l.initial.samples)
-    (cell_row l.f (g.N.Neighbours.blocks l.blocks) l.way.plane l.way.pass l.row (cells_from (sub_x l.f.shape l.way.plane) l.sc l.j)) }
+      (cell_row l.f (g.N.Neighbours.blocks l.blocks) l.way.plane l.way.pass l.row (cells_from (sub_x l.f.shape l.way.plane) l.sc l.j));
+}

@@ -14,5 +14,6 @@ invariant-loop-i g l = record {
   area : l.samples.area ≡ l.initial.samples.area;
   range : IsAtMost (greatest l.f.shape.depth) (plane_map l.samples);
   map : plane_map l.samples ≡ fold with_edge (plane_map l.initial.samples)
-    (flat_map (λ r. cell_row l.f (g.N.Neighbours.blocks l.blocks) l.way.plane l.way.pass r (cells_of (sub_x l.f.shape l.way.plane) (mi_cols l.f.shape) l.sc))
-      (cells_from (sub_y l.f.shape l.way.plane) l.sr l.i)) }
+      (flat_map (λ r. cell_row l.f (g.N.Neighbours.blocks l.blocks) l.way.plane l.way.pass r (cells_of (sub_x l.f.shape l.way.plane) (mi_cols l.f.shape) l.sc))
+      (cells_from (sub_y l.f.shape l.way.plane) l.sr l.i));
+}

@@ -13,7 +13,8 @@ pub loop-sr-preserved : goal.loop-sr-preserved
 loop-sr-preserved g c = record {
   sizes = sizes_kept c.args.f.now.shape c.loop-sr.planes c.filter_row.new.planes c.loop-sr.invariant.sizes c.filter_row.ensures.areas;
   range = c.filter_row.ensures.range;
-  map = rows_done c.args.f.now (g.N.Neighbours.blocks c.args.blocks.now) (samples_of c.args.planes.now) _ _ c.loop-sr.sr c.loop-sr.invariant.map c.filter_row.ensures.map }
+  map = rows_done c.args.f.now (g.N.Neighbours.blocks c.args.blocks.now) (samples_of c.args.planes.now) _ _ c.loop-sr.sr c.loop-sr.invariant.map c.filter_row.ensures.map;
+}
 
 pub returns-clause-map : goal.returns-clause-map
 returns-clause-map g c = all_done c.args.f.now (g.N.Neighbours.blocks c.args.blocks.now) (samples_of c.args.planes.now) _ c.loop-sr.sr

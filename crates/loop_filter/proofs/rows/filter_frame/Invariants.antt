@@ -7,4 +7,5 @@ abbrev pub invariant-loop-sr : goal.invariant-loop-sr
 invariant-loop-sr g l = record {
   sizes : HasSizes l.f.shape l.planes;
   range : IsInRange l.f.shape.depth l.planes;
-  map : samples_of l.planes ≡ filtered_before l.f (g.N.Neighbours.blocks l.blocks) (samples_of l.initial.planes) l.sr }
+  map : samples_of l.planes ≡ filtered_before l.f (g.N.Neighbours.blocks l.blocks) (samples_of l.initial.planes) l.sr;
+}

@@ -12,4 +12,5 @@ invariant-loop-sc g l = record {
   area : l.samples.area ≡ l.initial.samples.area;
   range : IsAtMost (greatest l.f.shape.depth) (plane_map l.samples);
   map : plane_map l.samples ≡ fold with_edge (plane_map l.initial.samples)
-    (flat_map (superblock_edges l.f (g.N.Neighbours.blocks l.blocks) l.plane l.sr) (range_with_len 0 l.sc)) }
+      (flat_map (superblock_edges l.f (g.N.Neighbours.blocks l.blocks) l.plane l.sr) (range_with_len 0 l.sc));
+}

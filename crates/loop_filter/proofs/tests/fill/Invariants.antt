@@ -6,4 +6,5 @@ use Rattle.loop_filter.proofs.tests.fill.Given as goal
 abbrev pub invariant-loop-y : goal.invariant-loop-y
 invariant-loop-y l = record {
   area : l.plane.area ≡ l.initial.plane.area;
-  small : IsAtMost l.most (plane_map l.plane) }
+  small : IsAtMost l.most (plane_map l.plane);
+}

@@ -8,4 +8,5 @@ invariant-loop-k l = record {
   from : ◌≡◌ {A = ℕ} l.grid.from 0;
   to : l.grid.to ≡ l.cols;
   room : length l.numbers ≤ l.grid.room + l.k;
-  fit : AllFit l.grid.blocks }
+  fit : AllFit l.grid.blocks;
+}
