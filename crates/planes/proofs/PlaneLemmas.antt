@@ -160,3 +160,18 @@ with_block_small most m row column rows columns b small also y x = either most _
 
 pub zeros_small : (most : ℕ) (m : Map) → m ≡ (λ _ _. 0) → IsAtMost most m
 zeros_small most m zeros y x = rw (ap (λ (m : Map). m y x) zeros) (omega arith)
+
+no_more : (n : ℕ) → n ≤ 0 → n ≡ 0
+no_more n low = omega arith
+
+-- below its samples an area shows 0
+pub below_zero : (a : Area) (xs : List ℕ) → length xs ≡ a.rows * a.columns → (row column : ℕ) → lower_end a ≤ row → area_map a xs row column ≡ 0
+unfolding moved_to rows_of
+below_zero a xs whole row column below =
+    let y = row - a.first_row in
+    let x = column - a.first_column in
+    let past = get_or_past xs (y * a.columns + x) 0 (omega (arith, whole, mul-le-mul_right a.columns (rows_past a.first_row a.rows row below))) in
+    no_more _ (either 0 (leb a.first_row row && leb a.first_column column) _ _ (either 0 (ltb x a.columns) _ _ (omega (arith, past)) (omega arith)) (omega arith))
+  where
+    rows_past : (first rows row : ℕ) → first + rows ≤ row → rows ≤ row - first
+    rows_past first rows row below = omega arith

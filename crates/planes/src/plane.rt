@@ -46,6 +46,15 @@ impl SamplePlane {
         self.area
     }
 
+    /// Below its area a plane has no samples: its map is 0 there.
+    #[inline(always)]
+    #[tactic(auto, using(crate::proofs::PlaneLemmas::below_zero))]
+    pub fn zero_below(&self)
+        ensures { (row column : ℕ) → lower_end self.now.area ≤ row → plane_map self.now row column ≡ 0 }
+    {
+        let _area = self.area;
+    }
+
     /// So many samples of a row, from a column on.
     #[inline(always)]
     #[tactic(auto, using(crate::proofs::PlaneLemmas::row_fits, crate::proofs::PlaneLemmas::row_is))]

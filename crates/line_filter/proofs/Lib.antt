@@ -1,0 +1,7 @@
+pub mod Narrow
+pub mod FarLines
+pub mod LaneLemmas
+pub mod SquareLemmas
+pub mod LineBlocks
+pub mod EdgeLines
+pub mod SmallLines

@@ -1,0 +1,66 @@
+-- Squares of eight rows of eight samples, loaded and stored.
+use Rattle.std.proofs.Common.{◌≡◌, ◌<◌, ◌≤◌, ◌+◌, ◌*◌, ◌-◌, ℕ, inl, inr, sym, ◌∙◌, arith, ap, List, length, get_or, drop, ◌++◌, replicate, slice_index}
+use Rattle.std.proofs.lemmas.Bool.{cases_lt}
+use Rattle.std.proofs.lemmas.Bool.Decides.{nat_tests}
+use Rattle.std.proofs.lemmas.List.{get_or_append_left, get_or-append_right, get_or-drop, get_or-replicate, get_or_past}
+use borrow.Rule.Slice.PartMut.{put_mid}
+use Rattle.vp9_types.specs.Maps.{Map, rows_of, with_block}
+use Rattle.planes.specs.declared.area.Area.{Area}
+use Rattle.planes.specs.Planes.{PlaneSamples, plane_map, moved_to, right_end, with_part}
+use Rattle.planes.proofs.RowLemmas.{with_block_same, one_row_more, add-sub_left, row_put}
+use Rattle.planes.proofs.PlaneLemmas.{area_map}
+
+-- right of its samples a plane shows 0
+right_zero : (a : Area) (xs : List ℕ) (row column : ℕ) → right_end a ≤ column → area_map a xs row column ≡ 0
+unfolding moved_to rows_of
+right_zero a xs row column past = grind (arith, nat_tests)
+
+eight_zeros : (j : ℕ) → ◌≡◌ {A = ℕ} (get_or (replicate 8 0) j 0) 0
+eight_zeros j = elim (cases_lt j 8) [
+  | inl low ↦ get_or-replicate 8 j 0 0 low
+  | inr past ↦ get_or_past (replicate 8 0) j 0 past
+]
+
+-- what there is of a row, and zeros
+pub part_of_eight : (p : PlaneSamples) (row column count : ℕ) (now : List ℕ) → ◌≡◌ {A = ℕ} (length now) count → count ≤ 8
+    → ((j : ℕ) → j < count → slice_index now j ≡ plane_map p row (column + j)) → (count < 8 → right_end p.area ≤ column + count)
+    → (j : ℕ) → j < 8 → ◌≡◌ {A = ℕ} (slice_index (now ++ drop count (replicate 8 0)) j) (plane_map p row (column + j))
+part_of_eight p row column count now long few is past j low = elim (cases_lt j count) [
+  | inl there ↦ get_or_append_left now (drop count (replicate 8 0)) 0 j (omega (arith, long)) ∙ is j there
+  | inr gone ↦ get_or-append_right now (drop count (replicate 8 0)) count j 0 long gone ∙ (get_or-drop count (replicate 8 0) (j - count) 0 ∙ eight_zeros _)
+      ∙ sym (right_zero p.area p.samples row (column + j) (omega (arith, past (omega arith))))
+]
+
+-- a row of a square is stored
+pub row_set : (i : ℕ) (block now : List ℕ) → i < 8 → length block ≡ 64 → length now ≡ 8
+    → rows_of 8 (put_mid (i * 8) (i * 8 + 8 - i * 8) block now) ≡ with_block (rows_of 8 block) i 0 1 8 (λ _ j. slice_index now j)
+row_set i block now low long eight =
+    let at : i * 8 ≡ i * 8 + 0 = omega arith in
+    rw (add-sub_left, at) (row_put 8 block now i 0 8 (omega arith) (omega (arith, long)) eight)
+
+-- one row more is stored
+pub stored : (m old new : Map) (i : ℕ) (row : List ℕ) (f : Map) → old ≡ with_block m 0 0 i 8 f
+    → new ≡ with_block old i 0 1 8 (λ _ j. slice_index row j)
+    → ((j : ℕ) → j < 8 → slice_index row j ≡ f i j) → new ≡ with_block m 0 0 (i + 1) 8 f
+stored m old new i row f so is holds =
+    let at : i ≡ 0 + i = omega arith in
+    is ∙ rw so (with_block_same (with_block m 0 0 i 8 f) i 0 1 8 _ _ (λ k j _ low. holds j low) ∙ (ap (λ (k : ℕ). with_block (with_block m 0 0 i 8 f) k 0 1 8 (λ _ j. f i j)) at ∙ one_row_more m 0 0 i 8 f))
+
+inside : (m f : Map) (i j : ℕ) → i < 8 → j < 8 → with_block m 0 0 8 8 f i j ≡ f i j
+unfolding with_block
+inside m f i j low narrow = grind (arith, nat_tests)
+
+pub all_stored : (new m f : Map) → new ≡ with_block m 0 0 8 8 f → (i j : ℕ) → i < 8 → j < 8 → new i j ≡ f i j
+all_stored new m f is i j low narrow = ap (λ (g : Map). g i j) is ∙ inside m f i j low narrow
+
+-- a square of samples may stand for what it holds
+pub part_same : (a : Area) (m : Map) (row column : ℕ) (b f : Map) → ((i j : ℕ) → i < 8 → j < 8 → b i j ≡ f i j)
+    → with_part a m row column 8 8 b ≡ with_part a m row column 8 8 f
+part_same a m row column b f same = with_block_same m row column _ _ b f (λ i j low narrow. same i j (omega arith) (omega arith))
+
+-- one row more of a square is put into a plane
+pub put_more : (m old new : Map) (y x i r : ℕ) (row : List ℕ) (f : Map) → r ≡ y + i → old ≡ with_block m y x i 8 f
+    → new ≡ with_block old r x 1 8 (λ _ j. slice_index row j)
+    → ((j : ℕ) → j < 8 → slice_index row j ≡ f i j) → new ≡ with_block m y x (i + 1) 8 f
+put_more m old new y x i r row f at so is holds =
+    is ∙ rw (at, so) (with_block_same (with_block m y x i 8 f) (y + i) x 1 8 _ _ (λ k j _ low. holds j low) ∙ one_row_more m y x i 8 f)

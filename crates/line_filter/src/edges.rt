@@ -1,0 +1,123 @@
+//! Edges of a plane filtered, eight lines at a time.
+
+ghost use Rattle.std.specs.Prelude.{◌≡◌, ◌+◌, ◌-◌, ◌*◌, ◌≤◌};
+ghost use Rattle.vp9_types.specs.Maps.{IsAtMost};
+ghost use Rattle.planes.specs.Planes.{plane_map, with_part, lower_end, right_end};
+ghost use Rattle.line_filter.specs.declared.edge.FilterWidth.TheVariants.{Sixteen};
+ghost use Rattle.line_filter.specs.declared.edge.Pass.TheVariants.{Vertical, Horizontal};
+ghost use Rattle.line_filter.specs.Lines.{filtered_near, filtered_line};
+ghost use Rattle.line_filter.specs.Edges.{line_down, line_along, in_order, with_edge};
+ghost use Rattle.line_filter.specs.Code.{IsAcross, IsAlong, IsEdgeIn, IsAcrossBy, IsAlongBy, down_filtered, along_filtered};
+
+use crate::edge::{Edge, FilterWidth, Limits, Pass};
+use crate::far_lanes::filtered_far_lanes;
+use crate::lanes::filtered_by;
+use crate::squares::{lanes_at, put_lanes};
+use crate::turn::turned;
+use planes::SamplePlane;
+
+/// Filters the eight columns from a place on across the edge above it.
+#[inline(always)]
+fn filter_down(plane: &mut SamplePlane, row: usize, column: usize, l: Limits, wide: bool)
+    requires inside { IsAcrossBy 4 plane.old.area row column }
+    requires small { IsAtMost 4095 (plane_map plane.old) }
+    requires half { l.half ≤ 2048 }
+    ensures area { plane.new.area ≡ plane.old.area }
+    ensures map { plane_map plane.new ≡ down_filtered 4 (filtered_near l wide) plane.old.area (plane_map plane.old) row column }
+{
+    let lanes = filtered_by(&lanes_at(plane, row - 4, column), l, wide);
+    put_lanes(plane, row - 4, column, &lanes);
+}
+
+/// Filters the eight rows from a place on across the edge at its left.
+#[inline(always)]
+fn filter_along(plane: &mut SamplePlane, row: usize, column: usize, l: Limits, wide: bool)
+    requires inside { IsAlongBy 4 plane.old.area row column }
+    requires small { IsAtMost 4095 (plane_map plane.old) }
+    requires half { l.half ≤ 2048 }
+    ensures area { plane.new.area ≡ plane.old.area }
+    ensures map { plane_map plane.new ≡ along_filtered 4 (filtered_near l wide) plane.old.area (plane_map plane.old) row column }
+{
+    let lanes = filtered_by(&turned(&lanes_at(plane, row, column - 4)), l, wide);
+    put_lanes(plane, row, column - 4, &turned(&lanes));
+}
+
+/// The same as `filter_down` by the filters of all widths.
+#[inline(always)]
+fn filter_far_down(plane: &mut SamplePlane, row: usize, column: usize, l: Limits)
+    requires inside { IsAcrossBy 8 plane.old.area row column }
+    requires small { IsAtMost 4095 (plane_map plane.old) }
+    requires half { l.half ≤ 2048 }
+    ensures area { plane.new.area ≡ plane.old.area }
+    ensures map { plane_map plane.new ≡ down_filtered 8 (filtered_line l Sixteen) plane.old.area (plane_map plane.old) row column }
+{
+    let above = lanes_at(plane, row - 8, column);
+    let below = lanes_at(plane, row, column);
+    let (above, below) = filtered_far_lanes(&above, &below, l);
+    put_lanes(plane, row - 8, column, &above);
+    put_lanes(plane, row, column, &below);
+}
+
+/// The same as `filter_along` by the filters of all widths.
+#[inline(always)]
+fn filter_far_along(plane: &mut SamplePlane, row: usize, column: usize, l: Limits)
+    requires inside { IsAlongBy 8 plane.old.area row column }
+    requires small { IsAtMost 4095 (plane_map plane.old) }
+    requires half { l.half ≤ 2048 }
+    ensures area { plane.new.area ≡ plane.old.area }
+    ensures map { plane_map plane.new ≡ along_filtered 8 (filtered_line l Sixteen) plane.old.area (plane_map plane.old) row column }
+{
+    let left = turned(&lanes_at(plane, row, column - 8));
+    let right = turned(&lanes_at(plane, row, column));
+    let (left, right) = filtered_far_lanes(&left, &right, l);
+    put_lanes(plane, row, column - 8, &turned(&left));
+    put_lanes(plane, row, column, &turned(&right));
+}
+
+#[inline(always)]
+fn filter_horizontal(plane: &mut SamplePlane, e: Edge)
+    requires pass { e.pass ≡ Horizontal }
+    requires inside { IsAcross plane.old.area e }
+    requires small { IsAtMost 4095 (plane_map plane.old) }
+    requires half { e.limits.half ≤ 2048 }
+    ensures area { plane.new.area ≡ plane.old.area }
+    ensures map { plane_map plane.new ≡ with_edge (plane_map plane.old) e }
+{
+    match e.width {
+        FilterWidth::Four => filter_down(plane, e.row, e.column, e.limits, false),
+        FilterWidth::Eight => filter_down(plane, e.row, e.column, e.limits, true),
+        FilterWidth::Sixteen => filter_far_down(plane, e.row, e.column, e.limits),
+    }
+}
+
+#[inline(always)]
+fn filter_vertical(plane: &mut SamplePlane, e: Edge)
+    requires pass { e.pass ≡ Vertical }
+    requires inside { IsAlong plane.old.area e }
+    requires small { IsAtMost 4095 (plane_map plane.old) }
+    requires half { e.limits.half ≤ 2048 }
+    ensures area { plane.new.area ≡ plane.old.area }
+    ensures map { plane_map plane.new ≡ with_edge (plane_map plane.old) e }
+{
+    match e.width {
+        FilterWidth::Four => filter_along(plane, e.row, e.column, e.limits, false),
+        FilterWidth::Eight => filter_along(plane, e.row, e.column, e.limits, true),
+        FilterWidth::Sixteen => filter_far_along(plane, e.row, e.column, e.limits),
+    }
+}
+
+/// Filters the lines across an edge of a plane, or of a part of one that has the samples that the filter looks at.
+/// The samples are in the range of the depth that the limits are for.
+pub fn filter_edge(plane: &mut SamplePlane, e: Edge)
+    requires inside { IsEdgeIn plane.old.area e }
+    requires range { IsAtMost (2 * e.limits.half - 1) (plane_map plane.old) }
+    requires half { e.limits.half ≤ 2048 }
+    ensures area { plane.new.area ≡ plane.old.area }
+    ensures map { plane_map plane.new ≡ with_edge (plane_map plane.old) e }
+    ensures range { IsAtMost (2 * e.limits.half - 1) (plane_map plane.new) }
+{
+    match e.pass {
+        Pass::Vertical => filter_vertical(plane, e),
+        Pass::Horizontal => filter_horizontal(plane, e),
+    }
+}

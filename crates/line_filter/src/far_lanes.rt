@@ -1,0 +1,127 @@
+//! Eight lines at a time, of eight samples on each side.
+
+ghost use Rattle.std.specs.Prelude.{◌≡◌, ℕ, ◌<◌, ◌≤◌};
+ghost use Rattle.line_filter.specs.Lines.{filtered_line};
+ghost use Rattle.line_filter.specs.declared.edge.FilterWidth.TheVariants.{Sixteen};
+ghost use Rattle.line_filter.specs.Code.{IsNear, IsFar, wide_line_of, near_between, far_between, lanes_of};
+
+use crate::edge::Limits;
+use crate::far::{Far, filtered_far};
+use crate::lanes::{Lanes, Rows, lanes_of, rows_of};
+use crate::near::Near;
+
+#[inline(always)]
+#[tactic(auto, unfolding(crate::specs::Code::near_between))]
+fn near(above: &Rows, below: &Rows, j: usize) -> Near
+    requires { j < 8 }
+    ensures { result ≡ near_between (lanes_of above.now) (lanes_of below.now) j }
+{
+    Near {
+        p3: above.r4[j],
+        p2: above.r5[j],
+        p1: above.r6[j],
+        p0: above.r7[j],
+        q0: below.r0[j],
+        q1: below.r1[j],
+        q2: below.r2[j],
+        q3: below.r3[j],
+    }
+}
+
+#[inline(always)]
+#[tactic(auto, unfolding(crate::specs::Code::far_between))]
+fn far(above: &Rows, below: &Rows, j: usize) -> Far
+    requires { j < 8 }
+    ensures { result ≡ far_between (lanes_of above.now) (lanes_of below.now) j }
+{
+    Far {
+        p7: above.r0[j],
+        p6: above.r1[j],
+        p5: above.r2[j],
+        p4: above.r3[j],
+        q4: below.r4[j],
+        q5: below.r5[j],
+        q6: below.r6[j],
+        q7: below.r7[j],
+    }
+}
+
+#[inline(always)]
+fn filtered_far_rows(above: &Rows, below: &Rows, l: Limits) -> (Rows, Rows)
+    requires near { (j : ℕ) → j < 8 → IsNear (near_between (lanes_of above.now) (lanes_of below.now) j) }
+    requires far { (j : ℕ) → j < 8 → IsFar (far_between (lanes_of above.now) (lanes_of below.now) j) }
+    requires half { l.half ≤ 2048 }
+    ensures { (j : ℕ) → j < 8 → wide_line_of (near_between (lanes_of result.0) (lanes_of result.1) j) (far_between (lanes_of result.0) (lanes_of result.1) j)
+        ≡ filtered_line l Sixteen (wide_line_of (near_between (lanes_of above.now) (lanes_of below.now) j) (far_between (lanes_of above.now) (lanes_of below.now) j)) }
+{
+    let mut a0 = [0; 8];
+    let mut a1 = [0; 8];
+    let mut a2 = [0; 8];
+    let mut a3 = [0; 8];
+    let mut a4 = [0; 8];
+    let mut a5 = [0; 8];
+    let mut a6 = [0; 8];
+    let mut a7 = [0; 8];
+    let mut b0 = [0; 8];
+    let mut b1 = [0; 8];
+    let mut b2 = [0; 8];
+    let mut b3 = [0; 8];
+    let mut b4 = [0; 8];
+    let mut b5 = [0; 8];
+    let mut b6 = [0; 8];
+    let mut b7 = [0; 8];
+    for j in 0..8usize {
+        let line = filtered_far(near(above, below, j), far(above, below, j), l);
+        a0[j] = line.far.p7;
+        a1[j] = line.far.p6;
+        a2[j] = line.far.p5;
+        a3[j] = line.far.p4;
+        a4[j] = line.near.p3;
+        a5[j] = line.near.p2;
+        a6[j] = line.near.p1;
+        a7[j] = line.near.p0;
+        b0[j] = line.near.q0;
+        b1[j] = line.near.q1;
+        b2[j] = line.near.q2;
+        b3[j] = line.near.q3;
+        b4[j] = line.far.q4;
+        b5[j] = line.far.q5;
+        b6[j] = line.far.q6;
+        b7[j] = line.far.q7;
+    }
+    let above = Rows {
+        r0: a0,
+        r1: a1,
+        r2: a2,
+        r3: a3,
+        r4: a4,
+        r5: a5,
+        r6: a6,
+        r7: a7,
+    };
+    let below = Rows {
+        r0: b0,
+        r1: b1,
+        r2: b2,
+        r3: b3,
+        r4: b4,
+        r5: b5,
+        r6: b6,
+        r7: b7,
+    };
+    (above, below)
+}
+
+/// Eight columns filtered by the filters of all widths, each as its line alone: eight rows above the edge, and eight
+/// below it.
+#[inline(never)]
+pub fn filtered_far_lanes(above: &Lanes, below: &Lanes, l: Limits) -> (Lanes, Lanes)
+    requires near { (j : ℕ) → j < 8 → IsNear (near_between above.now below.now j) }
+    requires far { (j : ℕ) → j < 8 → IsFar (far_between above.now below.now j) }
+    requires half { l.half ≤ 2048 }
+    ensures { (j : ℕ) → j < 8 → wide_line_of (near_between result.0 result.1 j) (far_between result.0 result.1 j)
+        ≡ filtered_line l Sixteen (wide_line_of (near_between above.now below.now j) (far_between above.now below.now j)) }
+{
+    let (above, below) = filtered_far_rows(&rows_of(above), &rows_of(below), l);
+    (lanes_of(&above), lanes_of(&below))
+}

@@ -1,0 +1,238 @@
+//! One line, with no branch: the loops over eight columns become lanes.
+
+ghost use Rattle.std.specs.Prelude.{◌≡◌, ◌≤◌, ◌∷◌, [], ◌+◌, ◌*◌, ◌/◌, ◌+ℤ◌, ◌-ℤ◌, ◌*ℤ◌, ◌≤ℤ◌, ◌^◌, pos, neg_ℤ, unsigned_abs, nat_le, ◌&&◌, not, if◌then◌else◌};
+ghost use Rattle.std.specs.Int.{int_shr, abs_diff};
+ghost use Rattle.line_filter.specs.Lines.{filter4_clamp, moved, filter_mask, hev_mask, flat_mask, outer, change, narrow_filter, wide_filter, filtered_near};
+ghost use Rattle.line_filter.specs.Code.{IsNear, line_of};
+
+use crate::edge::Limits;
+
+/// Four samples on each side of an edge.
+#[derive(Clone, Copy, Debug, PartialEq, Eq)]
+pub struct Near {
+    pub p3: u16,
+    pub p2: u16,
+    pub p1: u16,
+    pub p0: u16,
+    pub q0: u16,
+    pub q1: u16,
+    pub q2: u16,
+    pub q3: u16,
+}
+
+#[inline(always)]
+pub fn is_close(x: u16, y: u16, most: u16) -> bool
+    ensures { result ≡ nat_le (abs_diff x y) most }
+{
+    x.abs_diff(y) <= most
+}
+
+#[inline(always)]
+#[tactic(auto, unfolding(crate::specs::Lines::filter_mask))]
+pub fn filter_mask(x: Near, l: Limits) -> bool
+    requires small { IsNear x }
+    ensures { result ≡ filter_mask l (line_of x) }
+{
+    is_close(x.p3, x.p2, l.limit)
+        & is_close(x.p2, x.p1, l.limit)
+        & is_close(x.p1, x.p0, l.limit)
+        & is_close(x.q1, x.q0, l.limit)
+        & is_close(x.q2, x.q1, l.limit)
+        & is_close(x.q3, x.q2, l.limit)
+        & (2 * x.p0.abs_diff(x.q0) + x.p1.abs_diff(x.q1) / 2 <= l.blimit)
+}
+
+#[inline(always)]
+#[tactic(auto, unfolding(crate::specs::Lines::hev_mask))]
+pub fn is_high_variance(x: Near, l: Limits) -> bool
+    ensures { result ≡ hev_mask l (line_of x) }
+{
+    (x.p1.abs_diff(x.p0) > l.thresh) | (x.q1.abs_diff(x.q0) > l.thresh)
+}
+
+#[inline(always)]
+#[tactic(auto, unfolding(crate::specs::Lines::flat_mask))]
+pub fn flat_mask(x: Near, l: Limits) -> bool
+    ensures { result ≡ flat_mask l (line_of x) }
+{
+    (is_close(x.p1, x.p0, l.one) & is_close(x.q1, x.q0, l.one))
+        & (is_close(x.p2, x.p0, l.one) & is_close(x.q2, x.q0, l.one))
+        & (is_close(x.p3, x.p0, l.one) & is_close(x.q3, x.q0, l.one))
+}
+
+#[inline(always)]
+#[tactic(auto, unfolding(crate::specs::Lines::filter4_clamp))]
+pub fn clip(x: i16, half: u16) -> i16
+    requires half { half ≤ 2048 }
+    ensures value { result ≡ filter4_clamp half x }
+    ensures low { neg_ℤ (pos half) ≤ℤ result }
+    ensures high { result ≤ℤ pos half }
+    ensures size { unsigned_abs result ≤ 2048 }
+{
+    let half = half as i16;
+    x.min(half - 1).max(-half)
+}
+
+#[inline(always)]
+pub fn eighth(x: i16) -> i16
+    requires { unsigned_abs x ≤ 2048 }
+    ensures value { result ≡ int_shr x 3 }
+    ensures size { unsigned_abs result ≤ unsigned_abs x }
+{
+    x >> 3
+}
+
+#[inline(always)]
+pub fn halved(x: i16) -> i16
+    requires { unsigned_abs x ≤ 2049 }
+    ensures value { result ≡ int_shr x 1 }
+    ensures size { unsigned_abs result ≤ unsigned_abs x }
+{
+    x >> 1
+}
+
+#[inline(always)]
+pub fn outer(x: Near, high: bool, half: u16) -> i16
+    requires small { IsNear x }
+    requires half { half ≤ 2048 }
+    ensures value { result ≡ outer high half (line_of x) }
+    ensures size { unsigned_abs result ≤ 2048 }
+{
+    if high {
+        clip(x.p1 as i16 - x.q1 as i16, half)
+    } else {
+        0
+    }
+}
+
+#[inline(always)]
+pub fn change(x: Near, high: bool, half: u16) -> i16
+    requires small { IsNear x }
+    requires half { half ≤ 2048 }
+    ensures value { result ≡ change high half (line_of x) }
+    ensures size { unsigned_abs result ≤ 2048 }
+{
+    let outer = outer(x, high, half);
+    clip(outer + 3 * (x.q0 as i16 - x.p0 as i16), half)
+}
+
+/// An eighth of the change, rounded.
+#[inline(always)]
+pub fn step(f: i16, more: i16, half: u16) -> i16
+    requires f { unsigned_abs f ≤ 2048 }
+    requires more { unsigned_abs more ≤ 4 }
+    requires half { half ≤ 2048 }
+    ensures value { result ≡ int_shr (filter4_clamp half (f +ℤ more)) 3 }
+    ensures size { unsigned_abs result ≤ 2048 }
+{
+    eighth(clip(f + more, half))
+}
+
+#[inline(always)]
+pub fn moved(sample: u16, by: i16, half: u16) -> u16
+    requires small { sample ≤ 4095 }
+    requires by { unsigned_abs by ≤ 2049 }
+    requires half { half ≤ 2048 }
+    ensures { result ≡ moved half sample by }
+{
+    (clip(sample as i16 - half as i16 + by, half) + half as i16) as u16
+}
+
+#[inline(always)]
+pub fn mean8(a: u16, b: u16, c: u16, d: u16, e: u16, f: u16, g: u16, h: u16) -> u16
+    requires a { a ≤ 4095 }
+    requires b { b ≤ 4095 }
+    requires c { c ≤ 4095 }
+    requires d { d ≤ 4095 }
+    requires e { e ≤ 4095 }
+    requires f { f ≤ 4095 }
+    requires g { g ≤ 4095 }
+    requires h { h ≤ 4095 }
+    ensures { result ≡ (a + b + c + d + e + f + g + h + 4) / 8 }
+{
+    (a + b + c + d + e + f + g + h + 4) >> 3
+}
+
+#[inline(always)]
+#[tactic(auto, unfolding(crate::specs::Lines::narrow_filter))]
+pub fn narrow(x: Near, l: Limits) -> Near
+    requires small { IsNear x }
+    requires half { l.half ≤ 2048 }
+    ensures { line_of result ≡ narrow_filter l (line_of x) }
+{
+    let high = is_high_variance(x, l);
+    let f = change(x, high, l.half);
+    let a = step(f, 4, l.half);
+    let b = step(f, 3, l.half);
+    let g = halved(a + 1);
+    Near {
+        p3: x.p3,
+        p2: x.p2,
+        p1: moved_unless(high, x.p1, g, l.half),
+        p0: moved(x.p0, b, l.half),
+        q0: moved(x.q0, -a, l.half),
+        q1: moved_unless(high, x.q1, -g, l.half),
+        q2: x.q2,
+        q3: x.q3,
+    }
+}
+
+#[inline(always)]
+pub fn moved_unless(high: bool, sample: u16, by: i16, half: u16) -> u16
+    requires small { sample ≤ 4095 }
+    requires by { unsigned_abs by ≤ 2049 }
+    requires half { half ≤ 2048 }
+    ensures { result ≡ (if not high then moved half sample by else sample) }
+{
+    if high {
+        sample
+    } else {
+        moved(sample, by, half)
+    }
+}
+
+#[inline(always)]
+#[tactic(auto, unfolding(crate::specs::Lines::wide_filter))]
+pub fn smooth(x: Near) -> Near
+    requires small { IsNear x }
+    ensures { line_of result ≡ wide_filter 3 (line_of x) }
+{
+    Near {
+        p3: x.p3,
+        p2: mean8(x.p3, x.p3, x.p3, x.p2, x.p2, x.p1, x.p0, x.q0),
+        p1: mean8(x.p3, x.p3, x.p2, x.p1, x.p1, x.p0, x.q0, x.q1),
+        p0: mean8(x.p3, x.p2, x.p1, x.p0, x.p0, x.q0, x.q1, x.q2),
+        q0: mean8(x.p2, x.p1, x.p0, x.q0, x.q0, x.q1, x.q2, x.q3),
+        q1: mean8(x.p1, x.p0, x.q0, x.q1, x.q1, x.q2, x.q3, x.q3),
+        q2: mean8(x.p0, x.q0, x.q1, x.q2, x.q2, x.q3, x.q3, x.q3),
+        q3: x.q3,
+    }
+}
+
+/// The line filtered, where it is no wider than eight.
+#[inline(always)]
+#[tactic(auto, unfolding(crate::specs::Lines::filtered_near))]
+pub fn filtered(x: Near, l: Limits, wide: bool) -> Near
+    requires small { IsNear x }
+    requires half { l.half ≤ 2048 }
+    ensures { line_of result ≡ filtered_near l wide (line_of x) }
+{
+    let calm = filter_mask(x, l);
+    let flat = flat_mask(x, l) & wide;
+    let narrow = narrow(x, l);
+    let smooth = smooth(x);
+    chosen(calm, flat, x, smooth, narrow)
+}
+
+#[inline(always)]
+pub fn chosen(calm: bool, flat: bool, x: Near, smooth: Near, narrow: Near) -> Near
+    ensures { result ≡ (if not calm then x else (if flat then smooth else narrow)) }
+{
+    if !calm {
+        x
+    } else if flat {
+        smooth
+    } else {
+        narrow
+    }
+}

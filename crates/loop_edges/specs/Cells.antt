@@ -1,0 +1,86 @@
+-- Which edges of blocks and transform blocks the filter goes across, in a cell of 8x8 samples of a plane (8.8.2 of the
+-- standard).
+use Rattle.std.specs.Prelude.{ℕ, ◌+◌, ◌%◌, Bool, ◌&&◌, ◌||◌, not, true, false, Option, Some, None, nat_eq, if◌then◌else◌}
+use Rattle.vp9_types.specs.Shapes.{is_chroma, halved, mi_rows, mi_cols}
+use Rattle.vp9_types.specs.declared.block.TxSize.{TxSize}
+use Rattle.vp9_types.specs.declared.block.TxSize.TheVariants.{T4x4, T8x8, T16x16, T32x32}
+use Rattle.vp9_types.specs.declared.shape.Plane.{Plane}
+use Rattle.vp9_types.specs.declared.shape.Shape.{Shape}
+use Rattle.block_geometry.specs.Sizes.{width_8, height_8}
+use Rattle.frame_headers.specs.State.{shape_of}
+use Rattle.frame_headers.specs.declared.header.Header.{Header}
+use Rattle.block_plan.specs.InPlanes.{tx_in}
+use Rattle.block_plan.specs.declared.block.BlockInfo.{BlockInfo}
+use Rattle.block_plan.specs.declared.block.Prediction.{Prediction}
+use Rattle.block_plan.specs.declared.block.Prediction.TheVariants.{Intra, Inter}
+use Rattle.line_filter.specs.declared.edge.FilterWidth.{FilterWidth}
+use Rattle.line_filter.specs.declared.edge.FilterWidth.TheVariants.{Four, Eight, Sixteen}
+use Rattle.line_filter.specs.declared.edge.Pass.{Pass}
+use Rattle.line_filter.specs.declared.edge.Pass.TheVariants.{Vertical, Horizontal}
+use Rattle.loop_edges.specs.declared.cells.Crossing.{Crossing}
+use Rattle.loop_edges.specs.declared.setting.EdgeSetting.{EdgeSetting}
+
+abbrev pub setting_of : Header → EdgeSetting
+setting_of h = record { shape = shape_of h; filter = h.params.loop_filter; segmentation = h.params.segmentation }
+
+-- a plane's subsampling
+abbrev pub sub_x : Shape → Plane → Bool
+sub_x shape plane = is_chroma plane && shape.ss_x
+
+abbrev pub sub_y : Shape → Plane → Bool
+sub_y shape plane = is_chroma plane && shape.ss_y
+
+abbrev pub is_inter : Prediction → Bool
+is_inter (Intra _) = false
+is_inter (Inter _) = true
+
+-- it has no residue that edges inside of it could come from
+abbrev pub is_smooth : BlockInfo → Bool
+is_smooth b = b.skip && is_inter b.prediction
+
+-- How a pass sees a cell across its edges. A cell stands at a row and column of 8x8 luma samples; where its plane is
+-- subsampled, at every second one.
+abbrev pub across : Shape → Plane → Pass → BlockInfo → ℕ → ℕ → Crossing
+across shape plane Vertical b r c = record {
+  k = halved (sub_x shape plane) (c % 8);
+  is_border = nat_eq (c % width_8 b.size) 0;
+  is_first = nat_eq c 0;
+  is_last = sub_x shape plane && nat_eq (c + 1) (mi_cols shape);
+}
+across shape plane Horizontal b r c = record {
+  k = halved (sub_y shape plane) (r % 8);
+  is_border = nat_eq (r % height_8 b.size) 0;
+  is_first = nat_eq r 0;
+  is_last = sub_y shape plane && nat_eq (r + 1) (mi_rows shape);
+}
+
+abbrev pub widest : Crossing → FilterWidth
+widest a = if a.is_last then Eight else Sixteen
+
+-- the width of the filter at the side of a cell, if a transform block begins there
+abbrev pub outer_width : TxSize → Crossing → Option FilterWidth
+outer_width T32x32 a = if nat_eq (a.k % 4) 0 then Some (widest a) else None
+outer_width T16x16 a = if nat_eq (a.k % 2) 0 then Some (widest a) else None
+outer_width T8x8 a = Some Eight
+outer_width T4x4 a = Some (if nat_eq (a.k % 4) 0 then Eight else Four)
+
+abbrev pub has_outer : BlockInfo → Crossing → Bool
+has_outer b a = (not (is_smooth b) || a.is_border) && not a.is_first
+
+-- the edge at the side of a cell: left of it or above it
+unfoldable pub outer_edge : Shape → Plane → Pass → BlockInfo → ℕ → ℕ → Option FilterWidth
+outer_edge shape plane pass b r c =
+    if has_outer b (across shape plane pass b r c) then outer_width (tx_in shape b plane) (across shape plane pass b r c) else None
+
+abbrev pub is_4x4 : TxSize → Bool
+is_4x4 T4x4 = true
+is_4x4 T8x8 = false
+is_4x4 T16x16 = false
+is_4x4 T32x32 = false
+
+-- The edge in the middle of a cell, of width 4. In both passes there is none in a last column that is subsampled, in the
+-- second pass none in such a last row.
+unfoldable pub has_inner : Shape → Plane → Pass → BlockInfo → ℕ → ℕ → Bool
+has_inner shape plane pass b r c =
+    is_4x4 (tx_in shape b plane) && not (is_smooth b)
+    && not (across shape plane Vertical b r c).is_last && not (across shape plane pass b r c).is_last

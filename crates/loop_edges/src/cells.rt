@@ -1,0 +1,173 @@
+//! The edges of a cell of 8x8 samples of a plane.
+
+ghost use Rattle.std.specs.Prelude.{◌≡◌, ◌≤◌, ◌+◌, ◌%◌, ◌&&◌, nat_eq};
+ghost use Rattle.vp9_types.specs.Shapes.{halved};
+ghost use Rattle.vp9_tables.specs.Blocks.{greatest_of};
+ghost use Rattle.vp9_tables.specs.Numbers.{tx_number};
+ghost use Rattle.block_plan.specs.InPlanes.{tx_in};
+ghost use Rattle.line_filter.specs.declared.edge.Pass.TheVariants.{Vertical, Horizontal};
+ghost use Rattle.loop_edges.specs.Cells.{is_smooth, across, outer_width, outer_edge, has_outer, has_inner, sub_x, sub_y, widest};
+
+use block_geometry::{height_8, width_8};
+use block_plan::{BlockInfo, Prediction, plane_block};
+use line_filter::{FilterWidth, Pass};
+use vp9_types::{Plane, Shape, TxSize};
+
+/// A cell of a plane: the row and column of its 8x8 luma samples, both even where the plane is subsampled.
+#[derive(Clone, Copy, Debug, PartialEq, Eq)]
+pub struct CellAt {
+    pub row: u32,
+    pub col: u32,
+}
+
+/// The edges of a cell in a pass: that at its side, if there is one, and whether there is one in its middle.
+#[derive(Clone, Copy, Debug, PartialEq, Eq)]
+pub struct CellEdges {
+    pub outer: Option<FilterWidth>,
+    pub inner: bool,
+}
+
+/// A cell as a pass sees it, across its edges.
+#[derive(Clone, Copy, Debug, PartialEq, Eq)]
+pub struct Crossing {
+    /// Its column or row in its superblock, counted in cells of the plane: 0 to 7.
+    pub k: u32,
+    /// Whether its block begins there.
+    pub is_border: bool,
+    /// Whether it is the frame's first.
+    pub is_first: bool,
+    /// Whether it is the frame's last in a direction that is subsampled: then half of it is in the plane.
+    pub is_last: bool,
+}
+
+#[inline(always)]
+fn is_smooth(block: &BlockInfo) -> bool
+    ensures { result ≡ is_smooth block.now }
+{
+    block.skip && matches!(block.prediction, Prediction::Inter(_))
+}
+
+/// Whether a place is a multiple of a block's size. Divisions by numbers that aren't written out are slow.
+#[inline(always)]
+fn is_multiple(place: u32, size: u8) -> bool
+    requires { 1 ≤ size }
+    ensures { result ≡ nat_eq (place % size) 0 }
+{
+    match size {
+        1 => true,
+        2 => place % 2 == 0,
+        4 => place % 4 == 0,
+        8 => place % 8 == 0,
+        _ => place % size as u32 == 0,
+    }
+}
+
+#[inline(always)]
+fn crossed_at(place: u32, size: u8, sub: bool, end: u32) -> Crossing
+    requires size { 1 ≤ size }
+    requires place { place ≤ 8192 }
+    ensures k { result.k ≡ halved sub (place % 8) }
+    ensures border { result.is_border ≡ nat_eq (place % size) 0 }
+    ensures first { result.is_first ≡ nat_eq place 0 }
+    ensures last { result.is_last ≡ (sub && nat_eq (place + 1) end) }
+{
+    Crossing {
+        k: if sub { place % 8 / 2 } else { place % 8 },
+        is_border: is_multiple(place, size),
+        is_first: place == 0,
+        is_last: sub && place + 1 == end,
+    }
+}
+
+/// A cell as a pass sees it.
+#[inline(always)]
+fn across(shape: &Shape, plane: Plane, pass: Pass, block: &BlockInfo, at: CellAt) -> Crossing
+    requires wide { shape.now.w ≤ 65536 }
+    requires high { shape.now.h ≤ 65536 }
+    requires row { at.row ≤ 8192 }
+    requires col { at.col ≤ 8192 }
+    ensures { result ≡ across shape.now plane pass block.now at.row at.col }
+{
+    let is_chroma = plane != Plane::Y;
+    match pass {
+        Pass::Vertical => {
+            crossed_at(
+                at.col,
+                width_8(block.size),
+                is_chroma && shape.ss_x,
+                (shape.w + 7) / 8,
+            )
+        }
+        Pass::Horizontal => {
+            crossed_at(
+                at.row,
+                height_8(block.size),
+                is_chroma && shape.ss_y,
+                (shape.h + 7) / 8,
+            )
+        }
+    }
+}
+
+#[inline(always)]
+fn widest(a: Crossing) -> FilterWidth
+    ensures { result ≡ widest a }
+{
+    if a.is_last {
+        FilterWidth::Eight
+    } else {
+        FilterWidth::Sixteen
+    }
+}
+
+#[inline(always)]
+fn outer_width(tx: TxSize, a: Crossing) -> Option<FilterWidth>
+    ensures { result ≡ outer_width tx a }
+{
+    match tx {
+        TxSize::T32x32 => if a.k % 4 == 0 { Some(widest(a)) } else { None },
+        TxSize::T16x16 => if a.k % 2 == 0 { Some(widest(a)) } else { None },
+        TxSize::T8x8 => Some(FilterWidth::Eight),
+        TxSize::T4x4 => Some(if a.k % 4 == 0 {
+            FilterWidth::Eight
+        } else {
+            FilterWidth::Four
+        }),
+    }
+}
+
+#[inline(always)]
+fn has_outer(block: &BlockInfo, a: Crossing) -> bool
+    ensures { result ≡ has_outer block.now a }
+{
+    (!is_smooth(block) || a.is_border) && !a.is_first
+}
+
+/// The edges of a cell of a plane, by the block there.
+#[tactic(auto, unfolding(crate::specs::Cells::outer_edge, crate::specs::Cells::has_inner))]
+pub fn cell_edges(
+    shape: &Shape,
+    plane: Plane,
+    pass: Pass,
+    block: &BlockInfo,
+    at: CellAt,
+) -> CellEdges
+    requires wide { shape.now.w ≤ 65536 }
+    requires high { shape.now.h ≤ 65536 }
+    requires row { at.row ≤ 8192 }
+    requires col { at.col ≤ 8192 }
+    requires fits { tx_number block.now.tx ≤ greatest_of block.now.size }
+    ensures outer { result.outer ≡ outer_edge shape.now plane pass block.now at.row at.col }
+    ensures inner { result.inner ≡ has_inner shape.now plane pass block.now at.row at.col }
+{
+    let tx = plane_block(shape, block, plane).tx;
+    let here = across(shape, plane, pass, block, at);
+    let outer = if has_outer(block, here) {
+        outer_width(tx, here)
+    } else {
+        None
+    };
+    let beside = across(shape, plane, Pass::Vertical, block, at);
+    let inner = tx == TxSize::T4x4 && !is_smooth(block) && !beside.is_last && !here.is_last;
+    CellEdges { outer, inner }
+}

@@ -1,0 +1,4 @@
+pub mod Sides
+pub mod Walks
+pub mod Frames
+pub mod FinalRows

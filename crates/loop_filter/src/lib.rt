@@ -1,0 +1,13 @@
+//! The loop filter over a frame, one row of superblocks at a time (8.8 of the standard).
+#![tactic(auto)]
+
+mod blocks;
+mod cells;
+mod laws;
+mod rows;
+#[cfg(test)]
+mod tests;
+mod way;
+
+pub use laws::rows_follow_one_another;
+pub use rows::{filter_frame, filter_row};

@@ -1,0 +1,129 @@
+//! A row of superblocks filtered, in place.
+
+ghost use Rattle.std.specs.Prelude.{◌≡◌, ◌≤◌, ◌<◌, ◌*◌, ◌+◌, ◌/◌, ℕ, false, nat_eq};
+ghost use Rattle.std.specs.List.{fold};
+ghost use Rattle.vp9_types.specs.Maps.{IsAtMost};
+ghost use Rattle.vp9_types.specs.Shapes.{mi_rows, mi_cols};
+ghost use Rattle.vp9_types.specs.Sizes.{greatest, superblocks_along};
+ghost use Rattle.vp9_types.specs.declared.shape.Plane.TheVariants.{Y, U, V};
+ghost use Rattle.planes.specs.Planes.{plane_map};
+ghost use Rattle.planes.specs.Pictures.{FitsPlanes, HasSizes, IsInRange, samples_of};
+ghost use Rattle.line_filter.specs.Edges.{with_edge};
+ghost use Rattle.loop_edges.specs.Edges.{superblock_edges, row_edges, with_row, filtered_frame};
+ghost use Rattle.loop_filter.specs.Code.{HasFilterRows, HoldsFilterRows, HasAreasOf, AllFit};
+
+use crate::cells::filter_pass;
+use crate::way::PlanePass;
+use block_plan::Neighbours;
+use line_filter::Pass;
+use loop_edges::EdgeSetting;
+use planes::{FramePlanes, SamplePlane};
+use vp9_types::Plane;
+
+/// A superblock of a plane: all its vertical edges, then all its horizontal ones.
+#[tactic(auto, unfolding(loop_edges::specs::Edges::superblock_edges), using(crate::proofs::Walks::two_lists))]
+fn filter_superblock<N: Neighbours>(
+    samples: &mut SamplePlane,
+    f: &EdgeSetting,
+    plane: Plane,
+    blocks: &N,
+    sr: u32,
+    sc: u32,
+)
+    requires size { FitsPlanes f.now.shape }
+    requires rows { HasFilterRows f.now.shape plane sr samples.old.area }
+    requires row { 8 * sr ≤ mi_rows f.now.shape }
+    requires column { 8 * sc ≤ mi_cols f.now.shape }
+    requires held { (r c : ℕ) → 8 * sr ≤ r → r < 8 * (sr + 1) → r < mi_rows f.now.shape → c < mi_cols f.now.shape → N.holds blocks.now r c }
+    requires fit { AllFit (N.blocks blocks.now) }
+    requires range { IsAtMost (greatest f.now.shape.depth) (plane_map samples.old) }
+    ensures area { samples.new.area ≡ samples.old.area }
+    ensures map { plane_map samples.new ≡ fold with_edge (plane_map samples.old) (superblock_edges f.now (N.blocks blocks.now) plane sr sc) }
+    ensures range { IsAtMost (greatest f.now.shape.depth) (plane_map samples.new) }
+{
+    filter_pass(
+        samples,
+        f,
+        PlanePass {
+            plane,
+            pass: Pass::Vertical,
+        },
+        blocks,
+        sr,
+        sc,
+    );
+    filter_pass(
+        samples,
+        f,
+        PlanePass {
+            plane,
+            pass: Pass::Horizontal,
+        },
+        blocks,
+        sr,
+        sc,
+    );
+}
+
+/// A row of superblocks of a plane, from left to right.
+fn filter_plane<N: Neighbours>(
+    samples: &mut SamplePlane,
+    f: &EdgeSetting,
+    plane: Plane,
+    blocks: &N,
+    sr: u32,
+)
+    requires size { FitsPlanes f.now.shape }
+    requires on { nat_eq f.now.filter.level 0 ≡ false }
+    requires rows { HasFilterRows f.now.shape plane sr samples.old.area }
+    requires row { 8 * sr ≤ mi_rows f.now.shape }
+    requires held { (r c : ℕ) → 8 * sr ≤ r → r < 8 * (sr + 1) → r < mi_rows f.now.shape → c < mi_cols f.now.shape → N.holds blocks.now r c }
+    requires fit { AllFit (N.blocks blocks.now) }
+    requires range { IsAtMost (greatest f.now.shape.depth) (plane_map samples.old) }
+    ensures area { samples.new.area ≡ samples.old.area }
+    ensures map { plane_map samples.new ≡ fold with_edge (plane_map samples.old) (row_edges f.now (N.blocks blocks.now) plane sr) }
+    ensures range { IsAtMost (greatest f.now.shape.depth) (plane_map samples.new) }
+{
+    let count = ((f.shape.w + 7) / 8 + 7) / 8;
+    for sc in 0..count {
+        filter_superblock(samples, f, plane, blocks, sr, sc);
+    }
+}
+
+/// Filters a row of superblocks of a frame, in place. The planes are whole, or parts that have the row's samples and the
+/// eight rows above it, which the filter goes on changing; those above them it leaves. The blocks are those of the whole
+/// frame, asked for in this row alone. The samples are what the rows before have left.
+pub fn filter_row<N: Neighbours>(planes: &mut FramePlanes, f: &EdgeSetting, blocks: &N, sr: u32)
+    requires size { FitsPlanes f.now.shape }
+    requires rows { HoldsFilterRows f.now.shape sr planes.old }
+    requires row { 8 * sr ≤ mi_rows f.now.shape }
+    requires held { (r c : ℕ) → 8 * sr ≤ r → r < 8 * (sr + 1) → r < mi_rows f.now.shape → c < mi_cols f.now.shape → N.holds blocks.now r c }
+    requires fit { AllFit (N.blocks blocks.now) }
+    requires range { IsInRange f.now.shape.depth planes.old }
+    ensures areas { HasAreasOf planes.old planes.new }
+    ensures map { samples_of planes.new ≡ with_row f.now (N.blocks blocks.now) (samples_of planes.old) sr }
+    ensures range { IsInRange f.now.shape.depth planes.new }
+{
+    if f.filter.level > 0 {
+        filter_plane(&mut planes.y, f, Plane::Y, blocks, sr);
+        filter_plane(&mut planes.u, f, Plane::U, blocks, sr);
+        filter_plane(&mut planes.v, f, Plane::V, blocks, sr);
+    }
+}
+
+/// Filters a frame in place, row after row of superblocks. The planes are whole.
+pub fn filter_frame<N: Neighbours>(planes: &mut FramePlanes, f: &EdgeSetting, blocks: &N)
+    requires size { FitsPlanes f.now.shape }
+    requires sizes { HasSizes f.now.shape planes.old }
+    requires held { (r c : ℕ) → r < mi_rows f.now.shape → c < mi_cols f.now.shape → N.holds blocks.now r c }
+    requires fit { AllFit (N.blocks blocks.now) }
+    requires range { IsInRange f.now.shape.depth planes.old }
+    ensures sizes { HasSizes f.now.shape planes.new }
+    ensures map { samples_of planes.new ≡ filtered_frame f.now (N.blocks blocks.now) (samples_of planes.old) }
+    ensures range { IsInRange f.now.shape.depth planes.new }
+{
+    let count = ((f.shape.h + 7) / 8 + 7) / 8;
+    for sr in 0..count {
+        filter_row(planes, f, blocks, sr);
+    }
+}
