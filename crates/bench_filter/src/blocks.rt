@@ -8,7 +8,9 @@ ghost use Rattle.planes.specs.Pictures.{FitsPlanes};
 ghost use Rattle.loop_filter.specs.Code.{AllFit, IsWholeGrid};
 
 use block_geometry::{height_8, width_8};
-use block_plan::{BlockGrid, BlockInfo, InterPrediction, IntraPrediction, Mv, Prediction, References};
+use block_plan::{
+    BlockGrid, BlockInfo, InterPrediction, IntraPrediction, Mv, Prediction, References,
+};
 use std::alloc::{AllocError, Global};
 use vp9_tables::max_tx_size;
 use vp9_types::{BlockSize, InterMode, InterpFilter, IntraMode, ReferenceFrame, Shape, TxSize};
@@ -57,12 +59,18 @@ fn prediction_of(is_inter: bool) -> Prediction {
     if is_inter {
         Prediction::Inter(InterPrediction {
             modes: [InterMode::New; 4],
-            references: References { first: ReferenceFrame::Last, second: None },
+            references: References {
+                first: ReferenceFrame::Last,
+                second: None,
+            },
             filter: InterpFilter::Regular,
             vectors: [[Mv { row: 0, column: 0 }; 2]; 4],
         })
     } else {
-        Prediction::Intra(IntraPrediction { luma: [IntraMode::Dc; 4], chroma: IntraMode::Dc })
+        Prediction::Intra(IntraPrediction {
+            luma: [IntraMode::Dc; 4],
+            chroma: IntraMode::Dc,
+        })
     }
 }
 
@@ -99,7 +107,10 @@ fn put_at(grid: &mut BlockGrid, row: u32, col: u32, total: usize, number: u32)
 {
     let superblock = (row / 8).wrapping_mul(1000).wrapping_add(col / 8);
     let size = size_of((next(next(superblock)) >> 16) % 13);
-    if row % height_8(size) as u32 == 0 && col % width_8(size) as u32 == 0 && grid.blocks().len() < total {
+    if row % height_8(size) as u32 == 0
+        && col % width_8(size) as u32 == 0
+        && grid.blocks().len() < total
+    {
         grid.put(block_at(row, col, size, number));
     }
 }
@@ -117,7 +128,13 @@ fn put_row(grid: &mut BlockGrid, row: u32, cols: u32, total: usize)
     ensures fit { AllFit grid.new.blocks }
 {
     for col in 0..cols {
-        put_at(grid, row, col, total, row.wrapping_mul(cols).wrapping_add(col));
+        put_at(
+            grid,
+            row,
+            col,
+            total,
+            row.wrapping_mul(cols).wrapping_add(col),
+        );
     }
 }
 

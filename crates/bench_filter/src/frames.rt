@@ -26,9 +26,24 @@ fn setting_of(level: u8) -> EdgeSetting
     ensures depth { result.shape.depth ≡ Eight }
 {
     EdgeSetting {
-        shape: Shape { w: 1920, h: 1080, depth: Depth::Eight, ss_x: true, ss_y: true },
-        filter: LoopFilter { level, sharpness: 0, delta_enabled: false, deltas: LoopDeltas::DEFAULT },
-        segmentation: Segmentation { enabled: false, map: None, features: Features::NONE },
+        shape: Shape {
+            w: 1920,
+            h: 1080,
+            depth: Depth::Eight,
+            ss_x: true,
+            ss_y: true,
+        },
+        filter: LoopFilter {
+            level,
+            sharpness: 0,
+            delta_enabled: false,
+            deltas: LoopDeltas::DEFAULT,
+        },
+        segmentation: Segmentation {
+            enabled: false,
+            map: None,
+            features: Features::NONE,
+        },
     }
 }
 

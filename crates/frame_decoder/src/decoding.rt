@@ -51,7 +51,13 @@ pub fn decode_frame(
     check_tiles(bytes, header, compressed)?;
     let setting = FrameSetting::new(header, modes, contexts);
     let mut columns = TileColumn::all(alloc, &setting)?;
-    decode_tiles(bytes, &setting, compressed, &mut columns, picture.planes_mut())?;
+    decode_tiles(
+        bytes,
+        &setting,
+        compressed,
+        &mut columns,
+        picture.planes_mut(),
+    )?;
     Ok(Decoded {
         contexts: setting.contexts,
         columns,

@@ -392,8 +392,12 @@ pub along_value : (taps first second third fourth : List ℤ) (xs : List ℕ) (p
     at s j ≡ (at (kept_16 fourth) 0 *ℤ pos (get_or xs (place + 6 + 2 * j) 0)) +ℤ (at (kept_16 fourth) 1 *ℤ pos (get_or xs (place + 6 + (2 * j + 1)) 0)) →
     at (kept_32 v) j ≡ weighted taps (λ k. get_or xs (place + (2 * j + k)) 0)
 along_value taps first second third fourth xs place j p q r s v view one two three four p_lanes q_lanes r_lanes s_lanes v_lanes sum p_is q_is r_is s_is =
-    let sum_is = rw (sums_kept p (2 ^ 20) (omega arith) p_lanes, sums_kept q (2 ^ 20) (omega arith) q_lanes, sums_kept r (2 ^ 20) (omega arith) r_lanes,
-        sums_kept s (2 ^ 20) (omega arith) s_lanes) at sum in
+    let sum_is = rw (
+      sums_kept p (2 ^ 20) (omega arith) p_lanes,
+      sums_kept q (2 ^ 20) (omega arith) q_lanes,
+      sums_kept r (2 ^ 20) (omega arith) r_lanes,
+      sums_kept s (2 ^ 20) (omega arith) s_lanes,
+    ) at sum in
     rw (sums_kept v (2 ^ 22) (omega arith) v_lanes) (
     eight_is (taps_in first second third fourth) (λ k. get_or xs (place + (2 * j + k)) 0) (at p j) (at q j) (at r j) (at s j) (at v j) sum_is
     (pair_moved first first xs (at p j) (place + 2 * j) (place + (2 * j + 1)) (place + (2 * j + 0)) (place + (2 * j + 1)) one refl (omega arith) refl p_is)

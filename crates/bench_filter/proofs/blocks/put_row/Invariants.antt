@@ -8,4 +8,5 @@ invariant-loop-col l = record {
   first : ◌≡◌ {A = ℕ} l.grid.from 0;
   to : l.grid.to ≡ l.initial.grid.to;
   room : l.grid.room + length l.grid.blocks ≡ l.total;
-  fit : AllFit l.grid.blocks }
+  fit : AllFit l.grid.blocks;
+}

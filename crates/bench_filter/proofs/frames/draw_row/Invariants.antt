@@ -4,4 +4,5 @@ use Rattle.bench_filter.proofs.frames.draw_row.Given as goal
 abbrev pub invariant-loop-x : goal.invariant-loop-x
 invariant-loop-x l = record {
   long : length l.line ≡ length l.initial.line;
-  small : (k : ℕ) → k < l.x → get_or l.line k 0 ≤ 255 }
+  small : (k : ℕ) → k < l.x → get_or l.line k 0 ≤ 255;
+}

@@ -8,4 +8,5 @@ pub loop-y-preserved : goal.loop-y-preserved
 loop-y-preserved c = let a = c.args in record {
   area = c.put_block.ensures.area ∙ c.loop-y.invariant.area;
   small = rw c.put_block.ensures.map (with_block_small 255 (plane_map c.loop-y.plane) _ _ _ _ (rows_of c.min-columns.result c.draw_row-state.new.line)
-    c.loop-y.invariant.small (rows_small 255 c.min-columns.result c.draw_row-state.new.line c.draw_row-state.ensures.small)) }
+      c.loop-y.invariant.small (rows_small 255 c.min-columns.result c.draw_row-state.new.line c.draw_row-state.ensures.small));
+}

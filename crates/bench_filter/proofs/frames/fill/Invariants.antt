@@ -6,4 +6,5 @@ use Rattle.bench_filter.proofs.frames.fill.Given as goal
 abbrev pub invariant-loop-y : goal.invariant-loop-y
 invariant-loop-y l = record {
   area : l.plane.area ≡ l.initial.plane.area;
-  small : IsAtMost 255 (plane_map l.plane) }
+  small : IsAtMost 255 (plane_map l.plane);
+}

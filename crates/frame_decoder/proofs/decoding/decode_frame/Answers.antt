@@ -34,8 +34,8 @@ returns-in_err-decode_tiles c =
     let p = err_from_is_err_and c.from_residual-in_err-decode_tiles.result c.from_residual-in_err-decode_tiles.ensures.1 in
     let set = c.new-setting.ensures in
     let same : read_all_tiles c.new-setting.result.header c.new-setting.result.modes (lists_of c.new-setting.result.contexts) c.args.bytes.now c.args.compressed
-        ≡ read_all_tiles c.args.header.now c.in_ok-contexts.modes (lists_of c.in_ok-contexts.contexts) c.args.bytes.now c.args.compressed =
-        λ i. read_all_tiles (set.header i) (set.modes i) (lists_of (set.contexts i)) c.args.bytes.now c.args.compressed in
+    ≡ read_all_tiles c.args.header.now c.in_ok-contexts.modes (lists_of c.in_ok-contexts.contexts) c.args.bytes.now c.args.compressed =
+    λ i. read_all_tiles (set.header i) (set.modes i) (lists_of (set.contexts i)) c.args.bytes.now c.args.compressed in
     rw (p.1, p.2) (tiles_break _ (lists_of c.in_ok-contexts.contexts, c.in_ok-contexts.modes) _ c.in_ok-contexts.ensures (sym same ∙ c.in_err-decode_tiles.ensures.gives))
 
 pub returns : goal.returns
@@ -44,8 +44,8 @@ returns c =
     let set = c.new-setting.ensures in
     let planes = c.decode_tiles.new.planes in
     let same : read_all_tiles c.new-setting.result.header c.new-setting.result.modes (lists_of c.new-setting.result.contexts) c.args.bytes.now c.args.compressed
-        ≡ read_all_tiles header c.in_ok-contexts.modes (lists_of c.in_ok-contexts.contexts) c.args.bytes.now c.args.compressed =
-        λ i. read_all_tiles (set.header i) (set.modes i) (lists_of (set.contexts i)) c.args.bytes.now c.args.compressed in
+    ≡ read_all_tiles header c.in_ok-contexts.modes (lists_of c.in_ok-contexts.contexts) c.args.bytes.now c.args.compressed =
+    λ i. read_all_tiles (set.header i) (set.modes i) (lists_of (set.contexts i)) c.args.bytes.now c.args.compressed in
     let gives = c.in_ok-decode_tiles.ensures.gives in
     let read = gives.0 in
     let put : raw (shape_of header) read.blocks ≡ Some (samples_of planes) = ap (λ (header : Header). raw (shape_of header) read.blocks) (sym set.header) ∙ gives.2.map_held in
