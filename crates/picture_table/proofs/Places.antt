@@ -101,6 +101,11 @@ get_before [] j x low = absurd (omega (arith, low))
 get_before (y ∷ xs) zero x low = refl
 get_before (y ∷ xs) (suc j) x low = get_before xs j x (omega (arith, low))
 
+pub put_there : {X : Type 0} (xs : List X) (place : ℕ) (old new : X) → slice_get xs place ≡ Some old → slice_get (slice_set xs place new) place ≡ Some new
+put_there [] place old new there = let no : ⊥ = cc in absurd no
+put_there (x ∷ xs) zero old new there = refl
+put_there (x ∷ xs) (suc place) old new there = put_there xs place old new there
+
 pub last_is : {X : Type 0} (xs ys : List X) (j : ℕ) (x : X) → ys ≡ xs ++ x ∷ [] → j ≡ length xs → slice_get ys j ≡ Some x
 last_is xs ys j x is end = rw (is, end) (at_end xs x)
   where

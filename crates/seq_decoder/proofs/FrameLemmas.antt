@@ -8,16 +8,21 @@ use Rattle.edge_io.specs.declared.sink.PutFault.TheVariants as refused
 use Rattle.edge_io.proofs.Fronts.{takes_none}
 use Rattle.vp9_types.specs.declared.outcome.Fault.{Fault}
 use Rattle.vp9_types.specs.declared.outcome.Fault.TheVariants as fault
+use Rattle.vp9_types.specs.Maps.{FrameMap}
+use Rattle.vp9_types.specs.declared.job.Span.{Span}
+use Rattle.vp9_types.specs.declared.shape.Shape.{Shape}
+use Rattle.frame_headers.specs.declared.header.Header.{Header}
+use Rattle.frame_headers.specs.declared.persist.Persist.{Persist}
 use Rattle.frame_headers.proofs.SlotLemmas.{refreshed_told}
 use Rattle.frame_headers.specs.State.{next_persist, refreshed, shape_of}
 use Rattle.picture_table.specs.Code.{held, held_in, shown}
 use Rattle.picture_table.specs.declared.table.PictureTable.{PictureTable}
 use Rattle.prob_contexts.specs.Lists.{ContextLists, lists_of}
-use Rattle.frame_decoder.specs.Frames.{FrameResult}
+use Rattle.frame_decoder.specs.Frames.{FrameResult, decoded}
 use Rattle.frame_decoder.specs.declared.halt.Halt.{Halt}
 use Rattle.frame_decoder.specs.declared.halt.Halt.TheVariants as halt
-use Rattle.seq_decoder.specs.After.{CodedFrame, coded_frame, Stepped, after, picture_of, step, shown_picture, state_after}
-use Rattle.seq_decoder.specs.SavedContexts.{saved_before, with_own, saved_after}
+use Rattle.seq_decoder.specs.After.{CodedFrame, behind_head, built_head, coded_frame, if_decoded, Stepped, after, picture_of, step, shown_picture, state_after}
+use Rattle.seq_decoder.specs.SavedContexts.{context_before, saved_before, with_own, saved_after}
 use Rattle.seq_decoder.specs.Code.{saved_lists, StandsFor, shown_text, step_text, frame_of, shown_of, IsAt, IsCoded, Shows, Halts, halt_outcome, refusal_outcome}
 use Rattle.seq_decoder.specs.Outcomes.{outcome_at}
 use Rattle.seq_decoder.specs.State.{State, persist_of}
@@ -33,6 +38,16 @@ stepped_so number state frame r h = ap (after number state) h
 fault_halts : (number : ℕ) (stepped : Result Stepped Fault) (fault : Fault) (old : Option (List ℕ)) (faults : ℕ) → stepped ≡ Err fault → Halts number stepped old old faults faults (outcome_at number fault)
 fault_halts number stepped (fault.Broken rule) old faults is = record { ends = is; frame = refl; none = takes_none old; quiet = refl }
 fault_halts number stepped (fault.Unbuilt part) old faults is = record { ends = is; frame = refl; none = takes_none old; quiet = refl }
+
+-- a frame whose header is read and whose contexts are these holds what is decoded
+pub coded_so : (persist : Persist) (saved : List ContextLists) (frame : List ℕ) (h : Header × Span) (before : ContextLists) (result : FrameResult) → Ok h ≡ built_head persist frame
+    → before ≡ context_before h.0 saved → decoded (record { header = h.0; compressed = h.1; bytes = frame; before = before }) ≡ Ok result
+    → coded_frame persist saved frame ≡ Ok (record { header = h.0; result = result })
+unfolding coded_frame
+coded_so persist saved frame h before result is contexts decodes =
+    ap (behind_head saved frame) (sym is)
+    ∙ ap (λ b. if_decoded h.0 (decoded (record { header = h.0; compressed = h.1; bytes = frame; before = b }))) (sym contexts)
+    ∙ ap (if_decoded h.0) decodes
 
 -- at a frame that can't be decoded
 pub frame_halted : (number : ℕ) (state : State) (frame : List ℕ) (h : Halt) (table : PictureTable) (old : Option (List ℕ)) (faults : ℕ) → IsCoded (coded_frame (persist_of state) state.contexts frame) table (Err h)
@@ -64,7 +79,7 @@ slots_after : (number : ℕ) (state : State) (c : Coded) (result : FrameResult) 
     → held table ≡ held old.table → d.table.pictures ≡ table.pictures → d.table.slots ≡ refreshed c.header.refresh c.place table.slots
     → held d.table ≡ map shown_of (state_after number state (frame_of c result)).slots
 slots_after number state c result old d table at stands same pictures slots =
-    let told = (shape_of c.header, result.map) in
+    let told : Shape × FrameMap = (shape_of c.header, result.map) in
     (λ i. map (held_in (pictures i).items) (slots i))
     ∙ refreshed_told (held_in table.pictures.items) table.slots c.header.refresh c.place told (shown_at table c result at)
     ∙ ap (refreshed c.header.refresh told) (same ∙ stands.slots)

@@ -88,13 +88,14 @@ text_is : (number : ℕ) (c : Coded) (picture : Picture) (result : FrameResult) 
 text_is number c picture result holds =
     ap (λ m. if c.header.show_frame then frame_text (shape_of c.header) m else []) holds.map ∙ shown_by c.header.show_frame number (shape_of c.header) result.map
 
-pub text_taken : (number : ℕ) (c : Coded) (picture : Picture) (result : FrameResult) (old new : Option (List ℕ)) → HoldsResult c.header picture c.decoded result
-    → Takes old new (text_of c.header picture) → Takes old new (shown_text (shown_picture number (frame_of c result)))
-text_taken number c picture result old new holds takes = subst (Takes old new) (text_is number c picture result holds) takes
+pub text_taken : (number : ℕ) (c : Coded) (picture got : Picture) (result : FrameResult) (old new : Option (List ℕ)) → got ≡ picture → HoldsResult c.header picture c.decoded result
+    → Takes old new (text_of c.header got) → Takes old new (shown_text (shown_picture number (frame_of c result)))
+text_taken number c picture got result old new same holds takes = subst (Takes old new) (ap (text_of c.header) same ∙ text_is number c picture result holds) takes
 
-pub text_refused : (number : ℕ) (c : Coded) (picture : Picture) (result : FrameResult) (old new : Option (List ℕ)) (faults now : ℕ) (refusal : PutFault) → HoldsResult c.header picture c.decoded result
-    → Shows (text_of c.header picture) old new faults now (Err refusal) → Shows (shown_text (shown_picture number (frame_of c result))) old new faults now (Err refusal)
-text_refused number c picture result old new faults now refusal holds shows = subst (λ t. Shows t old new faults now (Err refusal)) (text_is number c picture result holds) shows
+pub text_refused : (number : ℕ) (c : Coded) (picture got : Picture) (result : FrameResult) (old new : Option (List ℕ)) (faults now : ℕ) (refusal : PutFault) → got ≡ picture → HoldsResult c.header picture c.decoded result
+    → Shows (text_of c.header got) old new faults now (Err refusal) → Shows (shown_text (shown_picture number (frame_of c result))) old new faults now (Err refusal)
+text_refused number c picture got result old new faults now refusal same holds shows =
+    subst (λ t. Shows t old new faults now (Err refusal)) (ap (text_of c.header) same ∙ text_is number c picture result holds) shows
 
 pub fits_header : (c : Coded) (picture : Picture) (result : FrameResult) → HoldsResult c.header picture c.decoded result → FitsHeader picture c.header
 fits_header c picture result holds = record { shape = holds.shape; sizes = holds.sizes; range = holds.range }

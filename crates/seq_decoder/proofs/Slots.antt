@@ -5,7 +5,7 @@ use Rattle.vp9_types.specs.declared.outcome.Fault.{Fault}
 use Rattle.frame_headers.proofs.SlotLemmas.{refreshed_told}
 use Rattle.frame_headers.specs.State.{next_persist, shape_of, start_persist}
 use Rattle.seq_decoder.specs.After.{CodedFrame, coded_frame, Stepped, after, state_after, picture_of, step}
-use Rattle.seq_decoder.specs.State.{Picture, State, start_state, persist_of, slot_shape}
+use Rattle.seq_decoder.specs.State.{State, start_state, persist_of, slot_shape}
 
 -- what headers read after a frame
 pub persist_after : (number : ℕ) (state : State) (f : CodedFrame) → persist_of (state_after number state f) ≡ next_persist f.header (persist_of state)
