@@ -99,16 +99,16 @@ wide v = map (act1 (cast signed signed w32) (s_int w16) (s_int w32)) (map (of_z 
 abbrev pub products : List ℤ → List ℤ → List ℕ
 products m p = zip2 (act2 wrap_mul (s_int w32) (s_int w32) (s_int w32)) (wide m) (wide p)
 
-wide_at : (v : List ℤ) (most k : ℕ) → AreLanes 16 most v → most ≤ 4095 → k < 16 → get_or (wide v) k 0 ≡ of_z w32 (at v k)
+wide_at : {n : ℕ} (v : List ℤ) (most k : ℕ) → AreLanes n most v → most ≤ 4095 → k < n → get_or (wide v) k 0 ≡ of_z w32 (at v k)
 wide_at v most k lanes few low =
     get_or-map (act1 (cast signed signed w32) (s_int w16) (s_int w32)) (map (of_z w16) v) k 0 0 (omega (arith, length-map v (of_z w16), lanes.long))
     ∙ ap (act1 (cast signed signed w32) (s_int w16) (s_int w32)) (get_or-map (of_z w16) v k (pos 0) 0 (omega (arith, lanes.long)))
     ∙ widened_lane (at v k) (omega (arith, lanes.small k))
 
-length_wide : (v : List ℤ) (most : ℕ) → AreLanes 16 most v → length (wide v) ≡ 16
+length_wide : {n : ℕ} (v : List ℤ) (most : ℕ) → AreLanes n most v → length (wide v) ≡ n
 length_wide v most lanes = length-map (map (of_z w16) v) (act1 (cast signed signed w32) (s_int w16) (s_int w32)) ∙ length-map v (of_z w16) ∙ lanes.long
 
-product_at : (m p : List ℤ) (k : ℕ) → AreLanes 16 128 m → AreLanes 16 4095 p → k < 16 → get_or (products m p ++ products m p) k 0 ≡ of_z w32 (at m k *ℤ at p k)
+product_at : {n : ℕ} (m p : List ℤ) (k : ℕ) → AreLanes n 128 m → AreLanes n 4095 p → k < n → get_or (products m p ++ products m p) k 0 ≡ of_z w32 (at m k *ℤ at p k)
 product_at m p k taps lanes low =
     let f = act2 wrap_mul (s_int w32) (s_int w32) (s_int w32) in
     let long_m = length_wide m 128 taps in
@@ -137,16 +137,16 @@ neighbour_sums z = neighbours z 0 ∷ neighbours z 2 ∷ neighbours z 4 ∷ neig
 product_small : (s a : ℤ) → unsigned_abs s ≤ 128 → unsigned_abs a ≤ 4095 → unsigned_abs (s *ℤ a) ≤ 2 ^ 19
 product_small s a few small = omega (arith, unsigned_abs-mul s a, mul-le-mul few small)
 
-neighbour_is : (m p : List ℤ) (k : ℕ) → AreLanes 16 128 m → AreLanes 16 4095 p → k + 1 < 16 →
+neighbour_is : {n : ℕ} (m p : List ℤ) (k : ℕ) → AreLanes n 128 m → AreLanes n 4095 p → k + 1 < n →
     neighbours (products m p) k ≡ (at m k *ℤ at p k) +ℤ (at m (k + 1) *ℤ at p (k + 1))
-neighbour_is m p k taps lanes low =
-    let one : k < 16 = omega arith in
+neighbour_is {n} m p k taps lanes low =
+    let one : k < n = omega arith in
     rw (product_at m p k taps lanes one, product_at m p (k + 1) taps lanes low)
     (plus_lane (at m k *ℤ at p k) (at m (k + 1) *ℤ at p (k + 1))
     (omega (arith, product_small (at m k) (at p k) (taps.small k) (lanes.small k)))
     (omega (arith, product_small (at m (k + 1)) (at p (k + 1)) (taps.small (k + 1)) (lanes.small (k + 1)))))
 
-neighbour_small : (m p : List ℤ) (k : ℕ) → AreLanes 16 128 m → AreLanes 16 4095 p → k + 1 < 16 → unsigned_abs (neighbours (products m p) k) ≤ 2 ^ 20
+neighbour_small : {n : ℕ} (m p : List ℤ) (k : ℕ) → AreLanes n 128 m → AreLanes n 4095 p → k + 1 < n → unsigned_abs (neighbours (products m p) k) ≤ 2 ^ 20
 neighbour_small m p k taps lanes low = rw (neighbour_is m p k taps lanes low)
     (omega (
       arith,
@@ -170,55 +170,55 @@ sums_are m p taps lanes = each_eight (λ j. at (neighbour_sums (products m p)) j
     f k low = neighbour_is m p k taps lanes low
 
 -- a load
-abbrev pub loaded : List ℕ → ℕ → List ℤ
-loaded xs place = map (to_z w16) (map (act1 (cast unsigned signed w16) (s_int w16) (s_int w16)) (chunk place 16 xs))
+abbrev pub loaded : ℕ → List ℕ → ℕ → List ℤ
+loaded n xs place = map (to_z w16) (map (act1 (cast unsigned signed w16) (s_int w16) (s_int w16)) (chunk place n xs))
 
-pub load_is : (xs : List ℕ) (place : ℕ) → ((k : ℕ) → get_or xs k 0 ≤ 4095) → place + 16 ≤ length xs → (j : ℕ) → j < 16 → at (loaded xs place) j ≡ pos (get_or xs (place + j) 0)
-load_is xs place small room j low =
+pub load_is : (n : ℕ) (xs : List ℕ) (place : ℕ) → ((k : ℕ) → get_or xs k 0 ≤ 4095) → place + n ≤ length xs → (j : ℕ) → j < n → at (loaded n xs place) j ≡ pos (get_or xs (place + j) 0)
+load_is n xs place small room j low =
     let f = act1 (cast unsigned signed w16) (s_int w16) (s_int w16) in
-    let long = length-chunk place 16 xs room in
-    get_or-map (to_z w16) (map f (chunk place 16 xs)) j 0 (pos 0) (omega (arith, length-map (chunk place 16 xs) f, long))
-    ∙ ap (to_z w16) (get_or-map f (chunk place 16 xs) j 0 0 (omega (arith, long)) ∙ ap f (get_or-chunk place 16 xs j 0 low)) ∙ taken_lane (get_or xs (place + j) 0) (small (place + j))
+    let long = length-chunk place n xs room in
+    get_or-map (to_z w16) (map f (chunk place n xs)) j 0 (pos 0) (omega (arith, length-map (chunk place n xs) f, long))
+    ∙ ap (to_z w16) (get_or-map f (chunk place n xs) j 0 0 (omega (arith, long)) ∙ ap f (get_or-chunk place n xs j 0 low)) ∙ taken_lane (get_or xs (place + j) 0) (small (place + j))
 
-pub load_lanes : (xs : List ℕ) (place : ℕ) → ((k : ℕ) → get_or xs k 0 ≤ 4095) → place + 16 ≤ length xs → AreLanes 16 4095 (loaded xs place)
-load_lanes xs place small room =
+pub load_lanes : (n : ℕ) (xs : List ℕ) (place : ℕ) → ((k : ℕ) → get_or xs k 0 ≤ 4095) → place + n ≤ length xs → AreLanes n 4095 (loaded n xs place)
+load_lanes n xs place small room =
     let f = act1 (cast unsigned signed w16) (s_int w16) (s_int w16) in
-    let long : length (loaded xs place) ≡ 16 = length-map (map f (chunk place 16 xs)) (to_z w16) ∙ length-map (chunk place 16 xs) f ∙ length-chunk place 16 xs room in
+    let long : length (loaded n xs place) ≡ n = length-map (map f (chunk place n xs)) (to_z w16) ∙ length-map (chunk place n xs) f ∙ length-chunk place n xs room in
     record {
       long = long;
-      small = λ j. elim (cases_lt j 16) [
-        | inl low ↦ rw (load_is xs place small room j low) (small (place + j))
-        | inr past ↦ rw (get_or_past (loaded xs place) j (pos 0) (omega arith)) (omega arith)
+      small = λ j. elim (cases_lt j n) [
+        | inl low ↦ rw (load_is n xs place small room j low) (small (place + j))
+        | inr past ↦ rw (get_or_past (loaded n xs place) j (pos 0) (omega arith)) (omega arith)
       ];
     }
 
-pub load_asks : (xs : List ℕ) (place : ℕ) → ((k : ℕ) → get_or xs k 0 ≤ 4095) → place + 16 ≤ length xs → Each1 (Asks1 (cast unsigned signed w16) (s_int w16)) (chunk place 16 xs)
-load_asks xs place small room = Each1-from_get_or (Asks1 (cast unsigned signed w16) (s_int w16)) (chunk place 16 xs) 0
-    (λ k low. let few : k < 16 = omega (arith, length-chunk place 16 xs room) in rw (get_or-chunk place 16 xs k 0 few) (asked_lane (get_or xs (place + k) 0) (small (place + k))))
+pub load_asks : (n : ℕ) (xs : List ℕ) (place : ℕ) → ((k : ℕ) → get_or xs k 0 ≤ 4095) → place + n ≤ length xs → Each1 (Asks1 (cast unsigned signed w16) (s_int w16)) (chunk place n xs)
+load_asks n xs place small room = Each1-from_get_or (Asks1 (cast unsigned signed w16) (s_int w16)) (chunk place n xs) 0
+    (λ k low. let few : k < n = omega (arith, length-chunk place n xs room) in rw (get_or-chunk place n xs k 0 few) (asked_lane (get_or xs (place + k) 0) (small (place + k))))
 
 -- sums of two vectors
 abbrev pub added : List ℤ → List ℤ → List ℤ
 added a b = map (to_z w32) (zip2 (act2 wrap_add (s_int w32) (s_int w32) (s_int w32)) (map (of_z w32) a) (map (of_z w32) b))
 
-pub added_is : (a b : List ℤ) (most : ℕ) → most ≤ 2 ^ 21 → AreLanes 8 most a → AreLanes 8 most b → (j : ℕ) → j < 8 → at (added a b) j ≡ at a j +ℤ at b j
-added_is a b most few lanes others j low =
+pub added_is : {n : ℕ} (a b : List ℤ) (most : ℕ) → most ≤ 2 ^ 21 → AreLanes n most a → AreLanes n most b → (j : ℕ) → j < n → at (added a b) j ≡ at a j +ℤ at b j
+added_is {n} a b most few lanes others j low =
     let f = act2 wrap_add (s_int w32) (s_int w32) (s_int w32) in
-    let long_a : length (map (of_z w32) a) ≡ 8 = length-map a (of_z w32) ∙ lanes.long in
-    let long_b : length (map (of_z w32) b) ≡ 8 = length-map b (of_z w32) ∙ others.long in
+    let long_a : length (map (of_z w32) a) ≡ n = length-map a (of_z w32) ∙ lanes.long in
+    let long_b : length (map (of_z w32) b) ≡ n = length-map b (of_z w32) ∙ others.long in
     get_or-map (to_z w32) (zip2 f (map (of_z w32) a) (map (of_z w32) b)) j 0 (pos 0) (omega (arith, length-zip2 f (map (of_z w32) a) (map (of_z w32) b) (long_a ∙ sym long_b), long_a))
     ∙ ap (to_z w32) (get_or-zip2 f (map (of_z w32) a) (map (of_z w32) b) j 0 0 0 (omega (arith, long_a)) (omega (arith, long_b))
     ∙ rw (get_or-map (of_z w32) a j (pos 0) 0 (omega (arith, lanes.long)), get_or-map (of_z w32) b j (pos 0) 0 (omega (arith, others.long))) refl)
     ∙ plus_lane (at a j) (at b j) (omega (arith, lanes.small j, few)) (omega (arith, others.small j, few))
 
-pub added_lanes : (a b : List ℤ) (most : ℕ) → most ≤ 2 ^ 21 → AreLanes 8 most a → AreLanes 8 most b → AreLanes 8 (2 * most) (added a b)
-added_lanes a b most few lanes others =
+pub added_lanes : {n : ℕ} (a b : List ℤ) (most : ℕ) → most ≤ 2 ^ 21 → AreLanes n most a → AreLanes n most b → AreLanes n (2 * most) (added a b)
+added_lanes {n} a b most few lanes others =
     let f = act2 wrap_add (s_int w32) (s_int w32) (s_int w32) in
-    let long_a : length (map (of_z w32) a) ≡ 8 = length-map a (of_z w32) ∙ lanes.long in
-    let long_b : length (map (of_z w32) b) ≡ 8 = length-map b (of_z w32) ∙ others.long in
-    let long : length (added a b) ≡ 8 = length-map (zip2 f (map (of_z w32) a) (map (of_z w32) b)) (to_z w32) ∙ length-zip2 f (map (of_z w32) a) (map (of_z w32) b) (long_a ∙ sym long_b) ∙ long_a in
+    let long_a : length (map (of_z w32) a) ≡ n = length-map a (of_z w32) ∙ lanes.long in
+    let long_b : length (map (of_z w32) b) ≡ n = length-map b (of_z w32) ∙ others.long in
+    let long : length (added a b) ≡ n = length-map (zip2 f (map (of_z w32) a) (map (of_z w32) b)) (to_z w32) ∙ length-zip2 f (map (of_z w32) a) (map (of_z w32) b) (long_a ∙ sym long_b) ∙ long_a in
     record {
       long = long;
-      small = λ j. elim (cases_lt j 8) [
+      small = λ j. elim (cases_lt j n) [
         | inl low ↦ rw (added_is a b most few lanes others j low) (omega (arith, sum_small (at a j) (at b j) most most (lanes.small j) (others.small j)))
         | inr past ↦ rw (get_or_past (added a b) j (pos 0) (omega arith)) (omega arith)
       ];
@@ -239,29 +239,29 @@ pub same_32 : (v : List ℤ) → ((j : ℕ) → unsigned_abs (get_or v j (pos 0)
 same_32 [] small = refl
 same_32 (x ∷ v) small = rw (to_z-of_z w32 x (fits_32 x (small 0))) (ap (λ (u : List ℤ). x ∷ u) (same_32 v (λ j. small (suc j))))
 
-pub samples_kept : (v : List ℤ) → AreLanes 16 4095 v → kept_16 v ≡ v
+pub samples_kept : {n : ℕ} (v : List ℤ) → AreLanes n 4095 v → kept_16 v ≡ v
 samples_kept v lanes = same_16 v lanes.small
 
-pub taps_kept : (v : List ℤ) → AreLanes 16 128 v → kept_16 v ≡ v
+pub taps_kept : {n : ℕ} (v : List ℤ) → AreLanes n 128 v → kept_16 v ≡ v
 taps_kept v lanes = same_16 v (λ j. omega (arith, lanes.small j))
 
-pub sums_kept : (v : List ℤ) (most : ℕ) → most ≤ 2 ^ 24 → AreLanes 8 most v → kept_32 v ≡ v
+pub sums_kept : {n : ℕ} (v : List ℤ) (most : ℕ) → most ≤ 2 ^ 24 → AreLanes n most v → kept_32 v ≡ v
 sums_kept v most few lanes = same_32 v (λ j. omega (arith, few, lanes.small j))
 
-pub samples_again : (v : List ℤ) → AreLanes 16 4095 v → AreLanes 16 4095 (kept_16 v)
+pub samples_again : {n : ℕ} (v : List ℤ) → AreLanes n 4095 v → AreLanes n 4095 (kept_16 v)
 samples_again v lanes = rw (samples_kept v lanes) lanes
 
-pub taps_again : (v : List ℤ) → AreLanes 16 128 v → AreLanes 16 128 (kept_16 v)
+pub taps_again : {n : ℕ} (v : List ℤ) → AreLanes n 128 v → AreLanes n 128 (kept_16 v)
 taps_again v lanes = rw (taps_kept v lanes) lanes
 
-pub sums_again : (v : List ℤ) (most : ℕ) → most ≤ 2 ^ 24 → AreLanes 8 most v → AreLanes 8 most (kept_32 v)
+pub sums_again : {n : ℕ} (v : List ℤ) (most : ℕ) → most ≤ 2 ^ 24 → AreLanes n most v → AreLanes n most (kept_32 v)
 sums_again v most few lanes = rw (sums_kept v most few lanes) lanes
 
-pub turned_again : (v : List ℤ) → IsTurned v → IsTurned (kept_16 v)
+pub turned_again : {n : ℕ} (v : List ℤ) → IsTurned n v → IsTurned n (kept_16 v)
 turned_again v turned = rw (taps_kept v turned.lanes) turned
 
 -- a sum of two weighted samples, by what each step says of it
-pub pair_value : (taps w p q : List ℤ) (a b i j : ℕ) (r : List ℤ) → j < 8 → IsTurned taps → AreLanes 16 4095 w → AreLanes 16 4095 p → AreLanes 16 4095 q → AreLanes 8 (2 ^ 20) r →
+pub pair_value : (taps w p q : List ℤ) (a b i j : ℕ) (r : List ℤ) → j < 8 → IsTurned 8 taps → AreLanes 16 4095 w → AreLanes 16 4095 p → AreLanes 16 4095 q → AreLanes 8 (2 ^ 20) r →
     at r j ≡ (at (kept_16 taps) (2 * j) *ℤ at (kept_16 w) (2 * j)) +ℤ (at (kept_16 taps) (2 * j + 1) *ℤ at (kept_16 w) (2 * j + 1)) →
     at w (2 * j) ≡ at (kept_16 p) i → at w (2 * j + 1) ≡ at (kept_16 q) i → at p i ≡ pos a → at q i ≡ pos b →
     at (kept_32 r) j ≡ (at taps 0 *ℤ pos a) +ℤ (at taps 1 *ℤ pos b)
@@ -272,8 +272,8 @@ pair_value taps w p q a b i j r low turned w_lanes p_lanes q_lanes r_lanes sum e
     rw (sums_kept r (2 ^ 20) (omega arith) r_lanes, is, turned.even j low, turned.odd j low, even_is, odd_is, first, second) refl
 
 -- a sum of four values
-pub four_value : (p q r s a b v : List ℤ) (j : ℕ) → AreLanes 8 (2 ^ 20) p → AreLanes 8 (2 ^ 20) q → AreLanes 8 (2 ^ 20) r → AreLanes 8 (2 ^ 20) s →
-    AreLanes 8 (2 ^ 21) a → AreLanes 8 (2 ^ 21) b → AreLanes 8 (2 ^ 22) v →
+pub four_value : {n : ℕ} (p q r s a b v : List ℤ) (j : ℕ) → AreLanes n (2 ^ 20) p → AreLanes n (2 ^ 20) q → AreLanes n (2 ^ 20) r → AreLanes n (2 ^ 20) s →
+    AreLanes n (2 ^ 21) a → AreLanes n (2 ^ 21) b → AreLanes n (2 ^ 22) v →
     at a j ≡ at (kept_32 p) j +ℤ at (kept_32 q) j → at b j ≡ at (kept_32 r) j +ℤ at (kept_32 s) j → at v j ≡ at (kept_32 a) j +ℤ at (kept_32 b) j →
     at (kept_32 v) j ≡ (at p j +ℤ at q j) +ℤ (at r j +ℤ at s j)
 four_value p q r s a b v j p_lanes q_lanes r_lanes s_lanes a_lanes b_lanes v_lanes first second whole =
@@ -283,7 +283,7 @@ four_value p q r s a b v j p_lanes q_lanes r_lanes s_lanes a_lanes b_lanes v_lan
     rw (sums_kept v (2 ^ 22) (omega arith) v_lanes, whole_is, first_is, second_is) refl
 
 pub turns_are : (s t : ℤ) → unsigned_abs s ≤ 128 → unsigned_abs t ≤ 128 →
-    AreTurns s t (s ∷ t ∷ s ∷ t ∷ s ∷ t ∷ s ∷ t ∷ s ∷ t ∷ s ∷ t ∷ s ∷ t ∷ s ∷ t ∷ [])
+    AreTurns 8 s t (s ∷ t ∷ s ∷ t ∷ s ∷ t ∷ s ∷ t ∷ s ∷ t ∷ s ∷ t ∷ s ∷ t ∷ s ∷ t ∷ [])
 turns_are s t one other = record {
   lanes = lanes_of 16 128 (s ∷ t ∷ s ∷ t ∷ s ∷ t ∷ s ∷ t ∷ s ∷ t ∷ s ∷ t ∷ s ∷ t ∷ s ∷ t ∷ []) refl
       (one, (other, (one, (other, (one, (other, (one, (other, (one, (other, (one, (other, (one, (other, (one, (other, tt))))))))))))))));
@@ -292,21 +292,21 @@ turns_are s t one other = record {
 }
 
 pub turns_kept : (s t : ℤ) → unsigned_abs s ≤ 128 → unsigned_abs t ≤ 128 →
-    AreTurns s t (kept_16 (s ∷ t ∷ s ∷ t ∷ s ∷ t ∷ s ∷ t ∷ s ∷ t ∷ s ∷ t ∷ s ∷ t ∷ s ∷ t ∷ []))
+    AreTurns 8 s t (kept_16 (s ∷ t ∷ s ∷ t ∷ s ∷ t ∷ s ∷ t ∷ s ∷ t ∷ s ∷ t ∷ s ∷ t ∷ s ∷ t ∷ []))
 turns_kept s t one other = rw (tap_kept s one, tap_kept t other) (turns_are s t one other)
 
 -- two taps by turns start with them
-pub turned_of : (s t : ℤ) (v : List ℤ) → AreTurns s t v → IsTurned v
+pub turned_of : (s t : ℤ) (v : List ℤ) → AreTurns 8 s t v → IsTurned 8 v
 turned_of s t v turns = rw (turns.even 0 (omega arith), turns.odd 0 (omega arith)) turns
 
-pair_moved : (v w : List ℤ) (xs : List ℕ) (z : ℤ) (a b m n : ℕ) → IsTurned v → v ≡ w → a ≡ m → b ≡ n →
+pair_moved : {h : ℕ} (v w : List ℤ) (xs : List ℕ) (z : ℤ) (a b m n : ℕ) → IsTurned h v → v ≡ w → a ≡ m → b ≡ n →
     z ≡ (at (kept_16 v) 0 *ℤ pos (get_or xs a 0)) +ℤ (at (kept_16 v) 1 *ℤ pos (get_or xs b 0)) →
     z ≡ (at w 0 *ℤ pos (get_or xs m 0)) +ℤ (at w 1 *ℤ pos (get_or xs n 0))
 pair_moved v w xs z a b m n turned same here there is = rw (sym same, sym here, sym there) (rw (taps_kept v turned.lanes) at is)
 
 -- one of sixteen values, by what each step says of it
 pub sixteen_value : (most : ℕ) (taps first second third fourth : List ℤ) (xs : List ℕ) (place step i j x : ℕ) (p q r s v : List ℤ) →
-    taps_in first second third fourth ≡ taps → IsTurned first → IsTurned second → IsTurned third → IsTurned fourth →
+    taps_in first second third fourth ≡ taps → IsTurned 8 first → IsTurned 8 second → IsTurned 8 third → IsTurned 8 fourth →
     AreLanes 8 (2 ^ 20) p → AreLanes 8 (2 ^ 20) q → AreLanes 8 (2 ^ 20) r → AreLanes 8 (2 ^ 20) s → AreLanes 8 (2 ^ 22) v →
     x ≡ rounded most (at (kept_32 v) j) →
     at v j ≡ (at (kept_32 p) j +ℤ at (kept_32 q) j) +ℤ (at (kept_32 r) j +ℤ at (kept_32 s) j) →
@@ -348,8 +348,8 @@ tap_again taps k = to_z w16 (of_z w16 (get_or taps k (pos 0)))
 
 -- the taps of four vectors that were made of eight taps
 pub taps_made : (taps p q r s : List ℤ) → length taps ≡ 8 → ((k : ℕ) → unsigned_abs (get_or taps k (pos 0)) ≤ 128) →
-    AreTurns (tap_again taps 0) (tap_again taps 1) p → AreTurns (tap_again taps 2) (tap_again taps 3) q →
-    AreTurns (tap_again taps 4) (tap_again taps 5) r → AreTurns (tap_again taps 6) (tap_again taps 7) s →
+    AreTurns 8 (tap_again taps 0) (tap_again taps 1) p → AreTurns 8 (tap_again taps 2) (tap_again taps 3) q →
+    AreTurns 8 (tap_again taps 4) (tap_again taps 5) r → AreTurns 8 (tap_again taps 6) (tap_again taps 7) s →
     taps_in (kept_16 p) (kept_16 q) (kept_16 r) (kept_16 s) ≡ taps
 taps_made taps p q r s size small p_turns q_turns r_turns s_turns =
     rw (taps_kept p p_turns.lanes, taps_kept q q_turns.lanes, taps_kept r r_turns.lanes, taps_kept s s_turns.lanes)
@@ -367,14 +367,14 @@ taps_made taps p q r s size small p_turns q_turns r_turns s_turns =
     tap : (k : ℕ) → tap_again taps k ≡ at taps k
     tap k = tap_kept (at taps k) (small k)
 
-    even : (v : List ℤ) (a b : ℤ) → AreTurns a b v → at v 0 ≡ a
+    even : (v : List ℤ) (a b : ℤ) → AreTurns 8 a b v → at v 0 ≡ a
     even v a b turns = turns.even 0 (omega arith)
 
-    odd : (v : List ℤ) (a b : ℤ) → AreTurns a b v → at v 1 ≡ b
+    odd : (v : List ℤ) (a b : ℤ) → AreTurns 8 a b v → at v 1 ≡ b
     odd v a b turns = turns.odd 0 (omega arith)
 
 -- a sum of two weighted neighbours, by what each step says of it
-pub neighbours_value : (taps p : List ℤ) (a b j : ℕ) (r : List ℤ) → j < 8 → IsTurned taps → AreLanes 16 4095 p → AreLanes 8 (2 ^ 20) r →
+pub neighbours_value : {h : ℕ} (taps p : List ℤ) (a b j : ℕ) (r : List ℤ) → j < h → IsTurned h taps → AreLanes (2 * h) 4095 p → AreLanes h (2 ^ 20) r →
     at r j ≡ (at (kept_16 taps) (2 * j) *ℤ at (kept_16 p) (2 * j)) +ℤ (at (kept_16 taps) (2 * j + 1) *ℤ at (kept_16 p) (2 * j + 1)) →
     at p (2 * j) ≡ pos a → at p (2 * j + 1) ≡ pos b → at (kept_32 r) j ≡ (at taps 0 *ℤ pos a) +ℤ (at taps 1 *ℤ pos b)
 neighbours_value taps p a b j r low turned p_lanes r_lanes sum first second =
@@ -382,9 +382,9 @@ neighbours_value taps p a b j r low turned p_lanes r_lanes sum first second =
     rw (sums_kept r (2 ^ 20) (omega arith) r_lanes, is, turned.even j low, turned.odd j low, first, second) refl
 
 -- a sum of eight weighted samples of a row, by what each step says of it
-pub along_value : (taps first second third fourth : List ℤ) (xs : List ℕ) (place j : ℕ) (p q r s v : List ℤ) →
-    taps_in first second third fourth ≡ taps → IsTurned first → IsTurned second → IsTurned third → IsTurned fourth →
-    AreLanes 8 (2 ^ 20) p → AreLanes 8 (2 ^ 20) q → AreLanes 8 (2 ^ 20) r → AreLanes 8 (2 ^ 20) s → AreLanes 8 (2 ^ 22) v →
+pub along_value : {h : ℕ} (taps first second third fourth : List ℤ) (xs : List ℕ) (place j : ℕ) (p q r s v : List ℤ) →
+    taps_in first second third fourth ≡ taps → IsTurned h first → IsTurned h second → IsTurned h third → IsTurned h fourth →
+    AreLanes h (2 ^ 20) p → AreLanes h (2 ^ 20) q → AreLanes h (2 ^ 20) r → AreLanes h (2 ^ 20) s → AreLanes h (2 ^ 22) v →
     at v j ≡ (at (kept_32 p) j +ℤ at (kept_32 q) j) +ℤ (at (kept_32 r) j +ℤ at (kept_32 s) j) →
     at p j ≡ (at (kept_16 first) 0 *ℤ pos (get_or xs (place + 2 * j) 0)) +ℤ (at (kept_16 first) 1 *ℤ pos (get_or xs (place + (2 * j + 1)) 0)) →
     at q j ≡ (at (kept_16 second) 0 *ℤ pos (get_or xs (place + 2 + 2 * j) 0)) +ℤ (at (kept_16 second) 1 *ℤ pos (get_or xs (place + 2 + (2 * j + 1)) 0)) →
@@ -410,7 +410,7 @@ weighted_same : (taps : List ℤ) (f g : ℕ → ℕ) → ((k : ℕ) → f k ≡
 unfolding weighted
 weighted_same taps f g same = rw (same 0, same 1, same 2, same 3, same 4, same 5, same 6, same 7) refl
 
-pub turn_value : (most : ℕ) (taps : List ℤ) (xs : List ℕ) (i j x place from : ℕ) (v : List ℤ) → AreLanes 8 (2 ^ 22) v →
+pub turn_value : {n : ℕ} (most : ℕ) (taps : List ℤ) (xs : List ℕ) (i j x place from : ℕ) (v : List ℤ) → AreLanes n (2 ^ 22) v →
     ((k : ℕ) → from + (2 * j + k) ≡ place + (i + k)) → x ≡ rounded most (at (kept_32 v) j) → at v j ≡ weighted taps (λ k. get_or xs (from + (2 * j + k)) 0) →
     x ≡ filtered most taps (λ k. get_or xs (place + (i + k)) 0)
 turn_value most taps xs i j x place from v lanes moved value sum =
@@ -423,3 +423,86 @@ halves j = elim (cases_lt (2 * (j / 2)) j) [
   | inl odd ↦ inr (omega arith)
   | inr even ↦ inl (omega arith)
 ]
+
+-- half of a vector of two taps by turns
+each_four : (P : ℕ → Type 0) → P 0 → P 1 → P 2 → P 3 → (j : ℕ) → j < 4 → P j
+each_four P a b c d zero low = a
+each_four P a b c d (suc zero) low = b
+each_four P a b c d (suc (suc zero)) low = c
+each_four P a b c d (suc (suc (suc zero))) low = d
+each_four P a b c d (suc (suc (suc (suc j)))) low = absurd (omega arith)
+
+abbrev pub first_eight : List ℤ → List ℤ
+first_eight v = joined v v 0 ∷ joined v v 1 ∷ joined v v 2 ∷ joined v v 3 ∷ joined v v 4 ∷ joined v v 5 ∷ joined v v 6 ∷ joined v v 7 ∷ []
+
+up_to_16 : (v : List ℤ) → AreLanes 16 128 v → AreLanes 16 4095 v
+up_to_16 v lanes = record { long = lanes.long; small = λ j. omega (arith, lanes.small j) }
+
+half_turns : (v : List ℤ) → IsTurned 8 v → AreTurns 4 (at v 0) (at v 1) (first_eight v)
+half_turns v turned = record {
+  lanes = lanes_of 8 128 (first_eight v) refl
+      (f 0 (omega arith), (f 1 (omega arith), (f 2 (omega arith), (f 3 (omega arith), (f 4 (omega arith), (f 5 (omega arith), (f 6 (omega arith), (f 7 (omega arith), tt))))))));
+  even = each_four (λ j. at (first_eight v) (2 * j) ≡ at v 0) (is 0 (omega arith)) (is 2 (omega arith) ∙ turned.even 1 (omega arith))
+      (is 4 (omega arith) ∙ turned.even 2 (omega arith)) (is 6 (omega arith) ∙ turned.even 3 (omega arith));
+  odd = each_four (λ j. at (first_eight v) (2 * j + 1) ≡ at v 1) (is 1 (omega arith)) (is 3 (omega arith) ∙ turned.odd 1 (omega arith))
+      (is 5 (omega arith) ∙ turned.odd 2 (omega arith)) (is 7 (omega arith) ∙ turned.odd 3 (omega arith));
+}
+  where
+    is : (k : ℕ) → k < 16 → joined v v k ≡ at v k
+    is k low = front v v k (up_to_16 v turned.lanes) low
+
+    f : (k : ℕ) → k < 16 → unsigned_abs (joined v v k) ≤ 128
+    f k low = rw (is k low) (turned.lanes.small k)
+
+turned_of_4 : (s t : ℤ) (v : List ℤ) → AreTurns 4 s t v → IsTurned 4 v
+turned_of_4 s t v turns = rw (turns.even 0 (omega arith), turns.odd 0 (omega arith)) turns
+
+pub half_turned : (v : List ℤ) → IsTurned 8 v → IsTurned 4 (first_eight v)
+half_turned v turned = turned_of_4 (at v 0) (at v 1) (first_eight v) (half_turns v turned)
+
+pub half_starts : (v : List ℤ) → AreLanes 16 128 v → (at (first_eight v) 0 ≡ at v 0) × (at (first_eight v) 1 ≡ at v 1)
+half_starts v lanes = (front v v 0 (up_to_16 v lanes) (omega arith), front v v 1 (up_to_16 v lanes) (omega arith))
+
+abbrev pub neighbour_sums_4 : List ℕ → List ℤ
+neighbour_sums_4 z = neighbours z 0 ∷ neighbours z 2 ∷ neighbours z 4 ∷ neighbours z 6 ∷ []
+
+pub sums_4_small : (m p : List ℤ) → AreLanes 8 128 m → AreLanes 8 4095 p → AreLanes 4 (2 ^ 20) (neighbour_sums_4 (products m p))
+sums_4_small m p taps lanes = lanes_of 4 (2 ^ 20) (neighbour_sums_4 (products m p)) refl (f 0 (omega arith), (f 2 (omega arith), (f 4 (omega arith), (f 6 (omega arith), tt))))
+  where
+    f : (k : ℕ) → k + 1 < 8 → unsigned_abs (neighbours (products m p) k) ≤ 2 ^ 20
+    f k low = neighbour_small m p k taps lanes low
+
+pub sums_4_are : (m p : List ℤ) → AreLanes 8 128 m → AreLanes 8 4095 p → (j : ℕ) → j < 4 →
+    at (neighbour_sums_4 (products m p)) j ≡ (at m (2 * j) *ℤ at p (2 * j)) +ℤ (at m (2 * j + 1) *ℤ at p (2 * j + 1))
+sums_4_are m p taps lanes = each_four (λ j. at (neighbour_sums_4 (products m p)) j ≡ (at m (2 * j) *ℤ at p (2 * j)) +ℤ (at m (2 * j + 1) *ℤ at p (2 * j + 1)))
+    (f 0 (omega arith)) (f 2 (omega arith)) (f 4 (omega arith)) (f 6 (omega arith))
+  where
+    f : (k : ℕ) → k + 1 < 8 → neighbours (products m p) k ≡ (at m k *ℤ at p k) +ℤ (at m (k + 1) *ℤ at p (k + 1))
+    f k low = neighbour_is m p k taps lanes low
+
+-- the same by the first halves of the vectors of taps
+pub half_value : (taps first second third fourth a b c d : List ℤ) (xs : List ℕ) (place j : ℕ) (p q r s v : List ℤ) →
+    taps_in first second third fourth ≡ taps → IsTurned 8 first → IsTurned 8 second → IsTurned 8 third → IsTurned 8 fourth →
+    IsTurned 4 a → IsTurned 4 b → IsTurned 4 c → IsTurned 4 d →
+    at a 0 ≡ at (kept_16 first) 0 → at a 1 ≡ at (kept_16 first) 1 → at b 0 ≡ at (kept_16 second) 0 → at b 1 ≡ at (kept_16 second) 1 →
+    at c 0 ≡ at (kept_16 third) 0 → at c 1 ≡ at (kept_16 third) 1 → at d 0 ≡ at (kept_16 fourth) 0 → at d 1 ≡ at (kept_16 fourth) 1 →
+    AreLanes 4 (2 ^ 20) p → AreLanes 4 (2 ^ 20) q → AreLanes 4 (2 ^ 20) r → AreLanes 4 (2 ^ 20) s → AreLanes 4 (2 ^ 22) v →
+    at v j ≡ (at (kept_32 p) j +ℤ at (kept_32 q) j) +ℤ (at (kept_32 r) j +ℤ at (kept_32 s) j) →
+    at p j ≡ (at (kept_16 a) 0 *ℤ pos (get_or xs (place + 2 * j) 0)) +ℤ (at (kept_16 a) 1 *ℤ pos (get_or xs (place + (2 * j + 1)) 0)) →
+    at q j ≡ (at (kept_16 b) 0 *ℤ pos (get_or xs (place + 2 + 2 * j) 0)) +ℤ (at (kept_16 b) 1 *ℤ pos (get_or xs (place + 2 + (2 * j + 1)) 0)) →
+    at r j ≡ (at (kept_16 c) 0 *ℤ pos (get_or xs (place + 4 + 2 * j) 0)) +ℤ (at (kept_16 c) 1 *ℤ pos (get_or xs (place + 4 + (2 * j + 1)) 0)) →
+    at s j ≡ (at (kept_16 d) 0 *ℤ pos (get_or xs (place + 6 + 2 * j) 0)) +ℤ (at (kept_16 d) 1 *ℤ pos (get_or xs (place + 6 + (2 * j + 1)) 0)) →
+    at (kept_32 v) j ≡ weighted taps (λ k. get_or xs (place + (2 * j + k)) 0)
+half_value taps first second third fourth a b c d xs place j p q r s v view one two three four a_turned b_turned c_turned d_turned a0 a1 b0 b1 c0 c1 d0 d1 =
+    along_value taps a b c d xs place j p q r s v
+    (rw (
+      rw (taps_kept first one.lanes) at a0,
+      rw (taps_kept first one.lanes) at a1,
+      rw (taps_kept second two.lanes) at b0,
+      rw (taps_kept second two.lanes) at b1,
+      rw (taps_kept third three.lanes) at c0,
+      rw (taps_kept third three.lanes) at c1,
+      rw (taps_kept fourth four.lanes) at d0,
+      rw (taps_kept fourth four.lanes) at d1,
+    ) view)
+    a_turned b_turned c_turned d_turned

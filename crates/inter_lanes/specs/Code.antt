@@ -9,16 +9,16 @@ pub record AreLanes (n most : ℕ) (v : List ℤ) : Type 0 where
   pub long : length v ≡ n
   pub small : (j : ℕ) → unsigned_abs (at v j) ≤ most
 
--- two taps by turns
-pub record AreTurns (s t : ℤ) (v : List ℤ) : Type 0 where
-  pub lanes : AreLanes 16 128 v
-  pub even : (j : ℕ) → j < 8 → at v (2 * j) ≡ s
-  pub odd : (j : ℕ) → j < 8 → at v (2 * j + 1) ≡ t
+-- two taps by turns, n times
+pub record AreTurns (n : ℕ) (s t : ℤ) (v : List ℤ) : Type 0 where
+  pub lanes : AreLanes (2 * n) 128 v
+  pub even : (j : ℕ) → j < n → at v (2 * j) ≡ s
+  pub odd : (j : ℕ) → j < n → at v (2 * j + 1) ≡ t
 
 -- the taps of four vectors
 abbrev pub taps_in : List ℤ → List ℤ → List ℤ → List ℤ → List ℤ
 taps_in p q r s = at p 0 ∷ at p 1 ∷ at q 0 ∷ at q 1 ∷ at r 0 ∷ at r 1 ∷ at s 0 ∷ at s 1 ∷ []
 
--- each vector has its two taps by turns
-abbrev pub IsTurned : List ℤ → Type 0
-IsTurned v = AreTurns (at v 0) (at v 1) v
+-- a vector's first two lanes stand in it by turns, n times
+abbrev pub IsTurned : ℕ → List ℤ → Type 0
+IsTurned n v = AreTurns n (at v 0) (at v 1) v

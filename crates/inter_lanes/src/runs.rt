@@ -59,8 +59,11 @@ pub fn filter_line(
         out[at..at + 16].copy_from_slice(&values);
     }
     let whole = 16 * (n / 16);
-    if whole < n {
+    if n - whole > 8 {
         let values = taps.filter_along(samples, from + whole, most);
+        out[whole..n].copy_from_slice(&values[..n - whole]);
+    } else if whole < n {
+        let values = taps.filter_eight_along(samples, from + whole, most);
         out[whole..n].copy_from_slice(&values[..n - whole]);
     }
 }

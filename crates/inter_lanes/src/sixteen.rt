@@ -5,7 +5,7 @@ ghost use Rattle.inter_lanes.specs.Filter.{rounded};
 ghost use Rattle.inter_lanes.specs.Code.{AreLanes, IsTurned, at};
 
 use crate::numbers::rounded;
-use crate::vectors::{load, pair_sums, plus, woven};
+use crate::vectors::{load, load_eight, pair_sums, pair_sums_of_eight, plus, plus_of_four, woven};
 use std::simd::prelude::*;
 
 /// Sixteen sums of two weighted samples, `step` places from each other.
@@ -15,7 +15,7 @@ pub(crate) fn pair_at(samples: &[u16], place: usize, step: usize, taps: i16x16) 
     requires narrow { step ≤ 64 }
     requires room { place + step + 16 ≤ length samples.now }
     requires small { (k : ℕ) → slice_index samples.now k ≤ 4095 }
-    requires taps { IsTurned taps }
+    requires taps { IsTurned 8 taps }
     ensures first { AreLanes 8 (2 ^ 20) result.0 }
     ensures second { AreLanes 8 (2 ^ 20) result.1 }
     ensures first_value { (j : ℕ) → j < 8 → at result.0 j
@@ -37,13 +37,28 @@ pub(crate) fn neighbours_at(samples: &[u16], place: usize, taps: i16x16) -> i32x
     requires near { place ≤ 2 ^ 18 }
     requires room { place + 16 ≤ length samples.now }
     requires small { (k : ℕ) → slice_index samples.now k ≤ 4095 }
-    requires taps { IsTurned taps }
+    requires taps { IsTurned 8 taps }
     ensures lanes { AreLanes 8 (2 ^ 20) result }
     ensures value { (j : ℕ) → j < 8 → at result j
         ≡ ((at taps 0 *ℤ pos (slice_index samples.now (place + 2 * j))) +ℤ (at taps 1 *ℤ pos (slice_index samples.now (place + (2 * j + 1))))) }
 {
     let p = load(samples, place);
     pair_sums(p, taps)
+}
+
+/// Four such sums.
+#[inline(always)]
+pub(crate) fn four_neighbours_at(samples: &[u16], place: usize, taps: i16x8) -> i32x4
+    requires near { place ≤ 2 ^ 18 }
+    requires room { place + 8 ≤ length samples.now }
+    requires small { (k : ℕ) → slice_index samples.now k ≤ 4095 }
+    requires taps { IsTurned 4 taps }
+    ensures lanes { AreLanes 4 (2 ^ 20) result }
+    ensures value { (j : ℕ) → j < 4 → at result j
+        ≡ ((at taps 0 *ℤ pos (slice_index samples.now (place + 2 * j))) +ℤ (at taps 1 *ℤ pos (slice_index samples.now (place + (2 * j + 1))))) }
+{
+    let p = load_eight(samples, place);
+    pair_sums_of_eight(p, taps)
 }
 
 /// Eight sums of four values.
@@ -59,6 +74,21 @@ pub(crate) fn four_sums(p: i32x8, q: i32x8, r: i32x8, s: i32x8) -> i32x8
     let first = plus::<1048576>(p, q);
     let second = plus::<1048576>(r, s);
     plus::<2097152>(first, second)
+}
+
+/// Four sums of four values.
+#[inline(always)]
+pub(crate) fn four_sums_of_four(p: i32x4, q: i32x4, r: i32x4, s: i32x4) -> i32x4
+    requires p { AreLanes 4 (2 ^ 20) p }
+    requires q { AreLanes 4 (2 ^ 20) q }
+    requires r { AreLanes 4 (2 ^ 20) r }
+    requires s { AreLanes 4 (2 ^ 20) s }
+    ensures lanes { AreLanes 4 (2 ^ 22) result }
+    ensures value { (j : ℕ) → j < 4 → at result j ≡ ((at p j +ℤ at q j) +ℤ (at r j +ℤ at s j)) }
+{
+    let first = plus_of_four::<1048576>(p, q);
+    let second = plus_of_four::<1048576>(r, s);
+    plus_of_four::<2097152>(first, second)
 }
 
 #[inline(always)]
@@ -87,6 +117,23 @@ pub(crate) fn rounded_turns(even: &[i32; 8], odd: &[i32; 8], most: u16) -> [u16;
 {
     let mut values = [0; 16];
     for j in 0..8usize {
+        let (a, b) = (even[j], odd[j]);
+        values[2 * j] = rounded(a, most);
+        values[2 * j + 1] = rounded(b, most);
+    }
+    values
+}
+
+/// The same of half as many.
+#[inline(always)]
+pub(crate) fn rounded_turns_of_eight(even: &[i32; 4], odd: &[i32; 4], most: u16) -> [u16; 8]
+    requires even { AreLanes 4 (2 ^ 22) even.now }
+    requires odd { AreLanes 4 (2 ^ 22) odd.now }
+    ensures even { (j : ℕ) → j < 4 → slice_index result (2 * j) ≡ rounded most (at even.now j) }
+    ensures odd { (j : ℕ) → j < 4 → slice_index result (2 * j + 1) ≡ rounded most (at odd.now j) }
+{
+    let mut values = [0; 8];
+    for j in 0..4usize {
         let (a, b) = (even[j], odd[j]);
         values[2 * j] = rounded(a, most);
         values[2 * j + 1] = rounded(b, most);

@@ -4,7 +4,11 @@ ghost use Rattle.std.specs.Prelude.{◌≡◌, ℕ, ◌+◌, ◌*◌, ◌^◌, �
 ghost use Rattle.inter_lanes.specs.Filter.{IsTap, filtered, weighted};
 ghost use Rattle.inter_lanes.specs.Code.{AreLanes, AreTurns, IsTurned, at, taps_in};
 
-use crate::sixteen::{four_sums, neighbours_at, pair_at, rounded_lanes, rounded_turns};
+use crate::sixteen::{
+    four_neighbours_at, four_sums, four_sums_of_four, neighbours_at, pair_at, rounded_lanes,
+    rounded_turns, rounded_turns_of_eight,
+};
+use crate::vectors::half_of;
 use std::marker::Model;
 use std::simd::prelude::*;
 
@@ -22,14 +26,14 @@ impl Model for TapLanes {
 
     ghost view = { λ t. taps_in t.first t.second t.third t.fourth };
 
-    ghost invariant = { λ t. IsTurned t.first × IsTurned t.second × IsTurned t.third × IsTurned t.fourth };
+    ghost invariant = { λ t. IsTurned 8 t.first × IsTurned 8 t.second × IsTurned 8 t.third × IsTurned 8 t.fourth };
 }
 
 #[inline(always)]
 fn turns(s: i16, t: i16) -> i16x16
     requires s { IsTap s }
     requires t { IsTap t }
-    ensures { AreTurns s t result }
+    ensures { AreTurns 8 s t result }
 {
     i16x16::from_array([s, t, s, t, s, t, s, t, s, t, s, t, s, t, s, t])
 }
@@ -102,5 +106,38 @@ impl TapLanes {
         let even = self.sums_along(samples, place);
         let odd = self.sums_along(samples, place + 1);
         rounded_turns(&even.to_array(), &odd.to_array(), most)
+    }
+
+    /// Four sums of eight weighted samples, from every second place of a row on.
+    #[inline(always)]
+    fn four_sums_along(&self, samples: &[u16], place: usize) -> i32x4
+        requires near { place ≤ 2 ^ 17 + 1 }
+        requires room { place + 14 ≤ length samples.now }
+        requires small { (k : ℕ) → slice_index samples.now k ≤ 4095 }
+        ensures lanes { AreLanes 4 (2 ^ 22) result }
+        ensures value { (j : ℕ) → j < 4 → at result j ≡ weighted self.now (λ k. slice_index samples.now (place + (2 * j + k))) }
+    {
+        let a = half_of(self.first);
+        let b = half_of(self.second);
+        let c = half_of(self.third);
+        let d = half_of(self.fourth);
+        let p = four_neighbours_at(samples, place, a);
+        let q = four_neighbours_at(samples, place + 2, b);
+        let r = four_neighbours_at(samples, place + 4, c);
+        let s = four_neighbours_at(samples, place + 6, d);
+        four_sums_of_four(p, q, r, s)
+    }
+
+    /// Eight values filtered along a row, as `filter_along` does sixteen.
+    #[inline(always)]
+    pub(crate) fn filter_eight_along(&self, samples: &[u16], place: usize, most: u16) -> [u16; 8]
+        requires near { place ≤ 2 ^ 17 }
+        requires room { place + 15 ≤ length samples.now }
+        requires small { (k : ℕ) → slice_index samples.now k ≤ 4095 }
+        ensures { (j : ℕ) → j < 8 → slice_index result j ≡ filtered most self.now (λ k. slice_index samples.now (place + (j + k))) }
+    {
+        let even = self.four_sums_along(samples, place);
+        let odd = self.four_sums_along(samples, place + 1);
+        rounded_turns_of_eight(&even.to_array(), &odd.to_array(), most)
     }
 }

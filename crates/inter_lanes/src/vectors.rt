@@ -1,7 +1,7 @@
 //! Vectors of samples, and of sums of weighted samples.
 
 ghost use Rattle.std.specs.Prelude.{◌≡◌, ℕ, ℤ, ◌+◌, ◌*◌, ◌^◌, ◌<◌, ◌≤◌, pos, ◌+ℤ◌, ◌*ℤ◌, slice_index, length};
-ghost use Rattle.inter_lanes.specs.Code.{AreLanes, AreTurns, at};
+ghost use Rattle.inter_lanes.specs.Code.{AreLanes, IsTurned, at};
 
 use std::simd::prelude::*;
 
@@ -14,6 +14,17 @@ pub(crate) fn load(samples: &[u16], place: usize) -> i16x16
     ensures value { (j : ℕ) → j < 16 → at result j ≡ pos (slice_index samples.now (place + j)) }
 {
     u16x16::from_slice(&samples[place..]).cast()
+}
+
+/// Eight samples.
+#[inline(always)]
+pub(crate) fn load_eight(samples: &[u16], place: usize) -> i16x8
+    requires room { place + 8 ≤ length samples.now }
+    requires small { (k : ℕ) → slice_index samples.now k ≤ 4095 }
+    ensures lanes { AreLanes 8 4095 result }
+    ensures value { (j : ℕ) → j < 8 → at result j ≡ pos (slice_index samples.now (place + j)) }
+{
+    u16x8::from_slice(&samples[place..]).cast()
 }
 
 /// The lanes of two vectors by turns.
@@ -45,6 +56,31 @@ pub(crate) fn pair_sums(p: i16x16, taps: i16x16) -> i32x8
     even + odd
 }
 
+/// The same of half as many.
+#[inline(always)]
+pub(crate) fn pair_sums_of_eight(p: i16x8, taps: i16x8) -> i32x4
+    requires p { AreLanes 8 4095 p }
+    requires taps { AreLanes 8 128 taps }
+    ensures lanes { AreLanes 4 (2 ^ 20) result }
+    ensures value { (j : ℕ) → j < 4 → at result j ≡ ((at taps (2 * j) *ℤ at p (2 * j)) +ℤ (at taps (2 * j + 1) *ℤ at p (2 * j + 1))) }
+{
+    let products: i32x8 = taps.cast::<i32>() * p.cast::<i32>();
+    let even: i32x4 = products.swizzle([0, 2, 4, 6]);
+    let odd: i32x4 = products.swizzle([1, 3, 5, 7]);
+    even + odd
+}
+
+/// The first eight lanes of two taps by turns.
+#[inline(always)]
+pub(crate) fn half_of(taps: i16x16) -> i16x8
+    requires { IsTurned 8 taps }
+    ensures turned { IsTurned 4 result }
+    ensures first { at result 0 ≡ at taps 0 }
+    ensures second { at result 1 ≡ at taps 1 }
+{
+    taps.extract::<0, 8>()
+}
+
 /// Sums of two vectors.
 #[inline(always)]
 pub(crate) fn plus<const MOST: usize>(a: i32x8, b: i32x8) -> i32x8
@@ -53,6 +89,18 @@ pub(crate) fn plus<const MOST: usize>(a: i32x8, b: i32x8) -> i32x8
     requires b { AreLanes 8 MOST b }
     ensures lanes { AreLanes 8 (2 * MOST) result }
     ensures value { (j : ℕ) → j < 8 → at result j ≡ (at a j +ℤ at b j) }
+{
+    a + b
+}
+
+/// The same of half as many.
+#[inline(always)]
+pub(crate) fn plus_of_four<const MOST: usize>(a: i32x4, b: i32x4) -> i32x4
+    requires few { MOST ≤ 2 ^ 21 }
+    requires a { AreLanes 4 MOST a }
+    requires b { AreLanes 4 MOST b }
+    ensures lanes { AreLanes 4 (2 * MOST) result }
+    ensures value { (j : ℕ) → j < 4 → at result j ≡ (at a j +ℤ at b j) }
 {
     a + b
 }
