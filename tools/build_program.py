@@ -37,7 +37,7 @@ def prove(log, count):
     with open(log, "w") as out, subprocess.Popen(command, cwd=TOP, stdout=subprocess.PIPE, stderr=subprocess.STDOUT, text=True) as run:
         for line in run.stdout:
             out.write(line)
-            if line.startswith("== "):
+            if line.startswith("== ") and line != "== summary\n":
                 done += 1
                 seconds = int(time.monotonic() - begin)
                 tell(f"{line[3:].strip()}: {done} of {crates}, at {seconds // 60}:{seconds % 60:02}")
