@@ -87,6 +87,7 @@ fn block_at(row: u32, col: u32, size: BlockSize, number: u32) -> BlockInfo
         size,
         skip: (draw >> 8) % 3 > 0,
         segment: 0,
+        segment_predicted: false,
         tx: fitting(tx_of((draw >> 16) % 5), size),
         prediction: prediction_of((draw >> 12) % 2 == 1),
     }

@@ -82,6 +82,7 @@ fn block_of(row: u32, col: u32, size: BlockSize, inter: InterPrediction) -> Bloc
         size,
         skip: false,
         segment: 0,
+        segment_predicted: false,
         tx: TxSize::T4x4,
         prediction: Prediction::Inter(inter),
     }

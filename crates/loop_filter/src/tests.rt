@@ -176,6 +176,7 @@ fn block_of(numbers: &[u8; 8]) -> BlockInfo
         size,
         skip: numbers[3] != 0,
         segment: numbers[4],
+        segment_predicted: false,
         tx: fitting(tx_of(numbers[5]), size),
         prediction: prediction_of(numbers[6], numbers[7]),
     }
