@@ -58,3 +58,9 @@ pub record MaySearch {N Q : Type 0} (holds : N → ℕ → ℕ → Type 0) (bloc
   pub held_before : IfSome before (λ q. holds_before q s.at.row s.at.col)
   pub small : All HasSmallVectors (blocks earlier)
   pub small_before : All HasSmallVectors (blocks_of blocks_before before)
+
+-- a block starts in a map, and its segment is one that a map holds
+pub record IsMapped (m : SegmentIds) (b : BlockInfo) : Type 0 where
+  pub row : b.row < m.rows
+  pub col : b.col < m.cols
+  pub segment : b.segment < 8

@@ -4,4 +4,5 @@ pub mod IntraBlocks
 pub mod References
 pub mod Vectors
 pub mod ModeInfo
+pub mod Segments
 pub mod Code

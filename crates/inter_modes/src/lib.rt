@@ -7,10 +7,12 @@ mod frame_blocks;
 mod intra_blocks;
 mod quarters;
 mod references;
+mod segments;
 mod starts;
 mod vectors;
 
 pub use frame_blocks::mode_info;
+pub use segments::update_segments;
 
 #[cfg(test)]
 mod tests;
