@@ -32,7 +32,7 @@ def tell(text):
 def prove(log, count):
     """One command proves them side by side: two commands would wait for each other's libraries."""
     crates, done, begin = crate_count(), 0, time.monotonic()
-    tell(f"proves {crates} crates, {count} at a time; from nothing that takes some 20 minutes on four cores, once")
+    tell(f"proves {crates} crates, {count} at a time; from nothing that takes tens of minutes on four cores, once")
     command = ["rt", "all", "check", "--jobs", str(count)]
     with open(log, "w") as out, subprocess.Popen(command, cwd=TOP, stdout=subprocess.PIPE, stderr=subprocess.STDOUT, text=True) as run:
         for line in run.stdout:
