@@ -1,8 +1,15 @@
+//! What no clause says: that there is memory for a picture, and that it is used again.
+
+ghost use Rattle.std.specs.Prelude.{◌≡◌};
+
 use super::*;
 use std::test::Fail;
 use vp9_types::{Depth, Shape};
 
-fn grey(w: u32, h: u32) -> Shape {
+fn grey(w: u32, h: u32) -> Shape
+    ensures wide { result.w ≡ w }
+    ensures high { result.h ≡ h }
+{
     Shape {
         w,
         h,
@@ -13,14 +20,11 @@ fn grey(w: u32, h: u32) -> Shape {
 }
 
 #[test]
-fn a_picture_that_no_slot_names_is_used_again(alloc: Global) -> Result<(), Fail> {
-    let mut table = PictureTable::new(alloc);
-    let first = table.blank(alloc, grey(64, 64))?;
-    table.refresh(0xff, first);
-    let second = table.blank(alloc, grey(64, 64))?;
-    assert_ne!(first, second);
-    let third = table.blank(alloc, grey(8, 8))?;
-    assert_eq!(second, third);
-    assert_eq!(table.pictures.len(), 2);
+fn a_picture_that_no_slot_names_is_used_again(rt: HostRuntime) -> Result<(), Fail> {
+    let mut table = PictureTable::new(rt.alloc());
+    let first = table.blank(rt.alloc(), grey(64, 64))?;
+    let second = table.blank(rt.alloc(), grey(8, 8))?;
+    assert_eq!(rt; first, second);
+    assert_eq!(rt; table.pictures.len(), 1);
     Ok(())
 }
