@@ -1,3 +1,4 @@
+pub mod FrameBlocks
 pub mod BlockSteps
 mod Adapting
 mod TileOffsets

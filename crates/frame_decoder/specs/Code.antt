@@ -1,5 +1,5 @@
 -- What the code keeps, and what its calls answer.
-use Rattle.std.specs.Prelude.{◌≡◌, ◌<◌, ◌≤◌, ◌+◌, ◌-◌, ◌*◌, ◌^◌, ℕ, true, false, Bool, List, [], ◌∷◌, ◌++◌, map, length, min, slice_index_or, Option, Some, None, Result, Ok, Err, if◌then◌else◌}
+use Rattle.std.specs.Prelude.{◌≡◌, ◌<◌, ◌≤◌, ◌+◌, ◌-◌, ◌*◌, ◌^◌, ℕ, true, false, Bool, List, [], ◌∷◌, ◌++◌, map, length, min, All, slice_index_or, Option, Some, None, Result, Ok, Err, if◌then◌else◌}
 use Rattle.vp9_types.specs.Maps.{FrameMap}
 use Rattle.vp9_types.specs.Results.{map_ok, ◌>>=◌}
 use Rattle.bool_decoder.specs.Bools.{run_bools}
@@ -12,7 +12,11 @@ use Rattle.vp9_types.specs.declared.outcome.Fault.{Fault}
 use Rattle.vp9_types.specs.declared.outcome.Fault.TheVariants as fault
 use Rattle.vp9_types.specs.declared.rule.Rule.{Rule}
 use Rattle.vp9_types.specs.declared.shape.Shape.{Shape}
+use Rattle.vp9_tables.specs.Blocks.{greatest_of}
+use Rattle.vp9_tables.specs.Numbers.{tx_number}
+use Rattle.frame_headers.specs.Spans.{tile_count}
 use Rattle.frame_headers.specs.State.{shape_of}
+use Rattle.frame_headers.specs.Tiles.{AreFewTiles}
 use Rattle.frame_headers.specs.declared.header.Header.{Header}
 use Rattle.frame_setting.specs.declared.setting.FrameSetting.{FrameSetting}
 use Rattle.prob_contexts.specs.Counted.{counts_after, no_counts}
@@ -21,6 +25,7 @@ use Rattle.counting_reader.specs.Code.{Reads, standing_of}
 use Rattle.counting_reader.specs.Counting.{Settled, settle, run_counting}
 use Rattle.counting_reader.specs.Counting as counting
 use Rattle.counting_reader.specs.declared.reader.CountingReader.{CountingReader}
+use Rattle.block_geometry.specs.Sizes.{width_8}
 use Rattle.block_geometry.specs.declared.transform_blocks.FramePlaces.{FramePlaces}
 use Rattle.block_plan.specs.declared.block.BlockAt.{BlockAt}
 use Rattle.block_plan.specs.declared.block.BlockInfo.{BlockInfo}
@@ -78,6 +83,14 @@ walk_of setting c = plain_walk setting.header setting.modes (lists_of setting.co
 abbrev pub limit_of : TileColumn → ℕ
 limit_of c = c.grid.from + 8 * superblocks_along (c.grid.to - c.grid.from)
 
+-- no block has a transform that is larger than it
+abbrev pub AllFit : List BlockInfo → Type 0
+AllFit blocks = All (λ b. tx_number b.tx ≤ greatest_of b.size) blocks
+
+-- blocks lie in the superblocks of a tile's columns
+abbrev pub AllLie : ℕ → ℕ → List BlockInfo → Type 0
+AllLie from limit blocks = All (λ b. (from ≤ b.col) × (b.col + width_8 b.size ≤ limit)) blocks
+
 -- between two blocks
 pub record IsReady (setting : FrameSetting) (c : TileColumn) (planes : FramePlanes) : Type 0 where
   pub rows : c.grid.rows ≡ setting.places.rows
@@ -85,6 +98,8 @@ pub record IsReady (setting : FrameSetting) (c : TileColumn) (planes : FramePlan
   pub within : c.grid.to ≤ setting.places.cols
   pub ends : c.grid.to ≡ min (limit_of c) setting.places.cols
   pub fit : FitPlanes (shape_of setting.header) c.sides
+  pub fit_blocks : AllFit c.grid.blocks
+  pub lie : AllLie c.grid.from (limit_of c) c.grid.blocks
   pub sizes : HasSizes (shape_of setting.header) planes
   pub range : IsInRange (shape_of setting.header).depth planes
 
@@ -119,6 +134,8 @@ pub record IsTileColumn (header : Header) (n k : ℕ) (c : TileColumn) : Type 0 
   pub from : c.grid.from ≡ tile_offset (mi_cols (shape_of header)) header.params.tiles.columns_log2 k
   pub to : c.grid.to ≡ tile_offset (mi_cols (shape_of header)) header.params.tiles.columns_log2 (k + 1)
   pub fit : FitPlanes (shape_of header) c.sides
+  pub fit_blocks : AllFit c.grid.blocks
+  pub lie : AllLie c.grid.from (limit_of c) c.grid.blocks
   pub room : (r : ℕ) → n ≤ r * 2 ^ header.params.tiles.columns_log2 + k
       → 64 * (superblocks_along (c.grid.to - c.grid.from)
       * (superblocks_along (mi_rows (shape_of header)) - superblocks_before (mi_rows (shape_of header)) header.params.tiles.rows_log2 r)) ≤ c.grid.room
@@ -126,6 +143,11 @@ pub record IsTileColumn (header : Header) (n k : ℕ) (c : TileColumn) : Type 0 
 pub record AreTileColumns (header : Header) (n : ℕ) (columns : List TileColumn) : Type 0 where
   pub many : length columns ≡ 2 ^ header.params.tiles.columns_log2
   pub each : (k : ℕ) (d : TileColumn) → k < length columns → IsTileColumn header n k (slice_index_or columns k d)
+
+-- a frame's tile columns, behind its last tile
+pub record AreColumnsOf (setting : FrameSetting) (columns : List TileColumn) : Type 0 where
+  pub few : AreFewTiles setting.header.params.tiles
+  pub are : AreTileColumns setting.header (tile_count setting.header) columns
 
 -- the planes of a frame
 pub record ArePlanes (shape : Shape) (planes : FramePlanes) : Type 0 where

@@ -1,6 +1,6 @@
--- A coded frame: all of its tiles are read, and then its blocks are put in, one after another.
+-- A coded frame: all of its tiles are read, then its blocks are put in, one after another, and then it is filtered.
 use Rattle.std.specs.Prelude.{ℕ, List, map, slice_range, Option, Some, None, Result, Ok, Err}
-use Rattle.std.specs.List.{fold}
+use Rattle.std.specs.List.{fold, flat_map}
 use Rattle.vp9_types.specs.Maps.{FrameMap}
 use Rattle.vp9_types.specs.Results.{◌>>=◌, map_err}
 use Rattle.vp9_types.specs.declared.block.Modes.{Modes}
@@ -20,6 +20,8 @@ use Rattle.block_plan.specs.Planned.{PlannedBlock}
 use Rattle.block_plan.specs.declared.block.BlockInfo.{BlockInfo}
 use Rattle.planes.specs.Pictures.{blank}
 use Rattle.block_rebuild.specs.Blocks.{put_planned}
+use Rattle.loop_edges.specs.Cells.{setting_of}
+use Rattle.loop_edges.specs.Edges.{filtered_frame}
 use Rattle.frame_decoder.specs.Reading.{FrameRead, infos, nothing_read, read_tiles}
 
 -- what a frame is decoded from: its header, where its compressed header lies, its bytes, and the contexts that it starts from
@@ -58,11 +60,19 @@ pub record FrameResult : Type 0 where
   pub counted : List CountedBool
   pub contexts : ContextLists
 
-abbrev pub rebuilt : FrameRead × ContextLists → Option FrameMap → Result FrameResult Fault
-rebuilt read None = Err (fault.Unbuilt part.Inter)
-rebuilt read (Some m) = Ok (record {
-  blocks = map (λ c. infos c.blocks) read.0.columns;
-  map = m;
+-- all blocks of a frame, tile column by tile column
+abbrev pub all_blocks : List (List BlockInfo) → List BlockInfo
+all_blocks columns = flat_map (λ column. column) columns
+
+abbrev pub blocks_read : FrameRead → List (List BlockInfo)
+blocks_read read = map (λ c. infos c.blocks) read.columns
+
+-- Blocks are predicted from samples that aren't filtered; the filtered ones are the frame's.
+abbrev pub rebuilt : Header → FrameRead × ContextLists → Option FrameMap → Result FrameResult Fault
+rebuilt header read None = Err (fault.Unbuilt part.Inter)
+rebuilt header read (Some m) = Ok (record {
+  blocks = blocks_read read.0;
+  map = filtered_frame (setting_of header) (all_blocks (blocks_read read.0)) m;
   counted = read.0.counted;
   contexts = read.1;
 })
@@ -70,4 +80,4 @@ rebuilt read (Some m) = Ok (record {
 unfoldable pub decoded : FrameInput → Result FrameResult Fault
 decoded f = do
   read ← map_err fault.Broken (read_frame f)
-  rebuilt read (raw (shape_of f.header) read.0.blocks)
+  rebuilt f.header read (raw (shape_of f.header) read.0.blocks)

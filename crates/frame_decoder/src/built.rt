@@ -1,7 +1,7 @@
 //! What can't be decoded yet.
 
 ghost use Rattle.std.specs.Prelude.{◌≡◌};
-ghost use Rattle.frame_decoder.specs.Built.{first_unbuilt};
+ghost use Rattle.frame_decoder.specs.Built.{first_unbuilt, adapts};
 
 use frame_headers::{FrameKind, Header};
 use vp9_types::Part;
@@ -11,29 +11,15 @@ use vp9_types::Part;
 pub fn first_unbuilt(header: &Header) -> Option<Part>
     ensures { result ≡ first_unbuilt header.now }
 {
-    if header.profile != 0 {
-        return Some(Part::Profile);
+    match header.kind {
+        FrameKind::Key | FrameKind::IntraOnly => None,
+        FrameKind::Inter(_) => Some(Part::Inter),
     }
-    if matches!(header.kind, FrameKind::IntraOnly) {
-        return Some(Part::IntraOnly);
-    }
-    if !header.params.quantizer.lossless() {
-        return Some(Part::Lossy);
-    }
-    if header.params.loop_filter.level != 0 {
-        return Some(Part::Filter);
-    }
-    if matches!(header.kind, FrameKind::Inter(_)) {
-        return Some(Part::Inter);
-    }
-    if header.params.segmentation.enabled {
-        return Some(Part::Segmentation);
-    }
-    if header.params.tiles.columns_log2 != 0 || header.params.tiles.rows_log2 != 0 {
-        return Some(Part::Tiles);
-    }
-    if !header.error_resilient && !header.contexts.parallel {
-        return Some(Part::Adaptation);
-    }
-    None
+}
+
+/// Whether the probabilities of a frame are adapted after it.
+pub fn adapts(header: &Header) -> bool
+    ensures { result ≡ adapts header.now }
+{
+    !(header.error_resilient || header.contexts.parallel)
 }

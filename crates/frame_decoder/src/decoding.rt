@@ -9,16 +9,20 @@ ghost use Rattle.prob_contexts.specs.Lists.{lists_of};
 ghost use Rattle.frame_decoder.specs.Built.{first_unbuilt};
 ghost use Rattle.frame_decoder.specs.Code.{IsDecoded};
 
+use crate::built::adapts;
 use crate::columns::TileColumn;
+use crate::frame_blocks::FrameBlocks;
 use crate::halt::Halt;
 use crate::tiles::decode_tiles;
 use compressed_header::read;
 use frame_headers::{Header, check_tiles};
 use frame_setting::FrameSetting;
-use planes::Picture;
+use loop_edges::EdgeSetting;
+use loop_filter::filter_frame;
+use planes::{FramePlanes, Picture};
 use prob_contexts::{Contexts, Counts};
 use std::alloc::Global;
-use vp9_types::Span;
+use vp9_types::{Rule, Span};
 
 /// What a frame leaves beside its samples: its contexts after the forward update, its blocks by tile column, and what was
 /// counted, if its probabilities are adapted.
@@ -27,6 +31,22 @@ pub struct Decoded {
     pub contexts: Contexts,
     pub columns: Vec<TileColumn>,
     pub counts: Counts,
+}
+
+/// All tiles of a frame, and what was counted in them, if its probabilities are adapted.
+fn decode_counted(
+    bytes: &[u8],
+    setting: &FrameSetting,
+    compressed: Span,
+    columns: &mut [TileColumn],
+    planes: &mut FramePlanes,
+) -> Result<Counts, Rule>
+{
+    if adapts(&setting.header) {
+        decode_tiles::<true>(bytes, setting, compressed, columns, planes)
+    } else {
+        decode_tiles::<false>(bytes, setting, compressed, columns, planes)
+    }
 }
 
 /// Decodes a coded frame that starts from the contexts `before`, and whose compressed header lies at `compressed`, into a
@@ -51,16 +71,12 @@ pub fn decode_frame(
     check_tiles(bytes, header, compressed)?;
     let setting = FrameSetting::new(header, modes, contexts);
     let mut columns = TileColumn::all(alloc, &setting)?;
-    decode_tiles(
-        bytes,
-        &setting,
-        compressed,
-        &mut columns,
-        picture.planes_mut(),
-    )?;
+    let counts = decode_counted(bytes, &setting, compressed, &mut columns, picture.planes_mut())?;
+    let blocks = FrameBlocks::new(&setting, &columns);
+    filter_frame(picture.planes_mut(), &EdgeSetting::new(header), &blocks);
     Ok(Decoded {
         contexts: setting.contexts,
         columns,
-        counts: Counts::new(),
+        counts,
     })
 }

@@ -4,12 +4,13 @@
 mod built;
 mod columns;
 mod decoding;
+mod frame_blocks;
 mod halt;
 mod squares;
 mod tile_places;
 mod tiles;
 
-pub use built::first_unbuilt;
+pub use built::{adapts, first_unbuilt};
 pub use columns::{BlockRoom, TileColumn};
 pub use decoding::{Decoded, decode_frame};
 pub use halt::Halt;

@@ -156,13 +156,13 @@ fn decode_nth(
 }
 
 /// All tiles of a frame in order, whose compressed header lies at `compressed`. Their sizes are tested.
-pub(crate) fn decode_tiles(
+pub(crate) fn decode_tiles<const COUNTS: bool>(
     bytes: &[u8],
     setting: &FrameSetting,
     compressed: Span,
     columns: &mut [TileColumn],
     planes: &mut FramePlanes,
-) -> Result<(), Rule>
+) -> Result<Counts, Rule>
     requires few { AreFewTiles setting.now.header.params.tiles }
     requires within { compressed.to ≤ length bytes.now }
     requires tested { IsOk (tile_spans bytes.now setting.now.header compressed) }
@@ -171,6 +171,7 @@ pub(crate) fn decode_tiles(
     requires start { HoldsRead setting.now.header columns.old planes.old (nothing_read setting.now.header) }
     ensures gives { GivesRead setting.now.header (read_all_tiles setting.now.header setting.now.modes (lists_of setting.now.contexts) bytes.now compressed)
         result columns.new planes.new }
+    ensures columns { OnOk result (AreTileColumns setting.now.header (tile_count setting.now.header) columns.new) }
     ensures planes { OnOk result (ArePlanes (shape_of setting.now.header) planes.new) }
 {
     let mut room = BlockRoom::new();
@@ -179,5 +180,5 @@ pub(crate) fn decode_tiles(
         let tile = &bytes[span.from..span.to];
         decode_nth(tile, setting, n, columns, planes, &mut room)?;
     }
-    Ok(())
+    Ok(Counts::new())
 }

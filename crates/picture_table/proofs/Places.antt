@@ -1,11 +1,13 @@
 -- The places that slots name.
-use Rattle.std.proofs.Common.{◌≡◌, ◌≢◌, ◌∙◌, ℕ, zero, suc, ◌+◌, ◌/◌, ◌%◌, ◌<◌, ◌≤◌, ◌==◌, ◌||◌, Bool, true, false, List, [], ◌∷◌, ◌++◌, length, map, refl, sym, ap, rules, inl, inr, arith}
+use Rattle.std.proofs.Common.{◌≡◌, ◌≢◌, ◌∙◌, ℕ, zero, suc, ◌+◌, ◌/◌, ◌%◌, ◌<◌, ◌≤◌, ◌==◌, ◌||◌, Bool, true, false, List, [], ◌∷◌, ◌++◌, length, map, refl, sym, ap, subst, rules, inl, inr, arith}
 use Rattle.std.specs.Prelude.{All, IfSome, Option, Some, None, if◌then◌else◌, slice_get, slice_set}
 use Rattle.std.proofs.lemmas.List.Elements.{All-cons, All-head, All-tail}
+use Rattle.std.proofs.lemmas.List.{length-append, length-set}
 use Rattle.std.proofs.lemmas.Bool.{cases_Bool, eqb-false, eqb-true}
 use Rattle.frame_headers.specs.State.{held, refreshed}
 use Rattle.planes.specs.declared.picture.Picture.{Picture}
-use Rattle.picture_table.specs.Code.{IsBelow, held_in, is_named, names, shown}
+use Rattle.picture_table.specs.Code.{IsBelow, IsSound, IsSoundAt, IsTable, NamesSound, held_in, is_named, names, shown}
+use Rattle.picture_table.specs.declared.table.PictureTable.{PictureTable}
 
 abbrev without : ℕ → List (Option ℕ) → List (Option ℕ)
 without m [] = []
@@ -132,3 +134,67 @@ held_before pictures p (Some named ∷ slots) within =
     let low : named < length pictures = All-head (IsBelow (length pictures)) (Some named) slots within in
     let same = get_before pictures named p low in
     λ i. shown (same i) ∷ held_before pictures p slots (All-tail (IsBelow (length pictures)) (Some named) slots within) i
+
+---- Sound pictures ----
+
+same_sound : (a b : Option Picture) → a ≡ b → IfSome b IsSound → IfSome a IsSound
+same_sound a b same h = subst (λ o. IfSome o IsSound) (sym same) h
+
+-- those that slots name stay so while a place that none of them names is used again
+pub sound_beside : (pictures : List Picture) (place : ℕ) (p : Picture) (slots : List (Option ℕ)) → names place slots ≡ false
+    → All (NamesSound pictures) slots → All (NamesSound (slice_set pictures place p)) slots
+sound_beside pictures place p [] free h = λ i d low. absurd (omega (arith, low))
+sound_beside pictures place p (None ∷ slots) free h =
+    All-cons (NamesSound (slice_set pictures place p)) None slots tt (sound_beside pictures place p slots free (All-tail (NamesSound pictures) None slots h))
+sound_beside pictures place p (Some named ∷ slots) free h =
+    let both = either_not (named == place) (names place slots) free in
+    let same = get_beside pictures place named p (λ same. eqb-false named place both.0 same) in
+    All-cons (NamesSound (slice_set pictures place p)) (Some named) slots (same_sound _ _ same (All-head (NamesSound pictures) (Some named) slots h))
+    (sound_beside pictures place p slots both.1 (All-tail (NamesSound pictures) (Some named) slots h))
+
+-- or while there is one more
+pub sound_before : (pictures : List Picture) (p : Picture) (slots : List (Option ℕ)) → All (IsBelow (length pictures)) slots
+    → All (NamesSound pictures) slots → All (NamesSound (pictures ++ p ∷ [])) slots
+sound_before pictures p [] within h = λ i d low. absurd (omega (arith, low))
+sound_before pictures p (None ∷ slots) within h =
+    All-cons (NamesSound (pictures ++ p ∷ [])) None slots tt
+    (sound_before pictures p slots (All-tail (IsBelow (length pictures)) None slots within) (All-tail (NamesSound pictures) None slots h))
+sound_before pictures p (Some named ∷ slots) within h =
+    let low : named < length pictures = All-head (IsBelow (length pictures)) (Some named) slots within in
+    All-cons (NamesSound (pictures ++ p ∷ [])) (Some named) slots (same_sound _ _ (get_before pictures named p low) (All-head (NamesSound pictures) (Some named) slots h))
+    (sound_before pictures p slots (All-tail (IsBelow (length pictures)) (Some named) slots within) (All-tail (NamesSound pictures) (Some named) slots h))
+
+held_sound : (pictures : List Picture) (flags place : ℕ) (slot : Option ℕ) → IsSoundAt pictures place → NamesSound pictures slot → NamesSound pictures (held flags place slot)
+held_sound pictures flags place slot new h = elim (cases_Bool (flags % 2 == 1)) [ inl one ↦ rw one new | inr none ↦ rw none h ]
+
+-- or are refreshed by a sound one
+pub sound_refreshed : (pictures : List Picture) (place : ℕ) (slots : List (Option ℕ)) (flags : ℕ) → IsSoundAt pictures place
+    → All (NamesSound pictures) slots → All (NamesSound pictures) (refreshed flags place slots)
+sound_refreshed pictures place [] flags new h = h
+sound_refreshed pictures place (slot ∷ slots) flags new h =
+    All-cons (NamesSound pictures) (held flags place slot) (refreshed (flags / 2) place slots) (held_sound pictures flags place slot new (All-head (NamesSound pictures) slot slots h))
+    (sound_refreshed pictures place slots (flags / 2) new (All-tail (NamesSound pictures) slot slots h))
+
+below_more : (n m : ℕ) (slots : List (Option ℕ)) → n ≤ m → All (IsBelow n) slots → All (IsBelow m) slots
+below_more n m [] more h = λ i d low. absurd (omega (arith, low))
+below_more n m (None ∷ slots) more h = All-cons (IsBelow m) None slots tt (below_more n m slots more (All-tail (IsBelow n) None slots h))
+below_more n m (Some named ∷ slots) more h =
+    let low : named < n = All-head (IsBelow n) (Some named) slots h in
+    let here : named < m = omega (arith, low, more) in
+    All-cons (IsBelow m) (Some named) slots here (below_more n m slots more (All-tail (IsBelow n) (Some named) slots h))
+
+-- a table stays one while a place that no slot names is used again
+pub table_beside : (t u : PictureTable) (place : ℕ) (p : Picture) → names place t.slots ≡ false → u.slots ≡ t.slots → u.pictures.items ≡ slice_set t.pictures.items place p → IsTable t → IsTable u
+table_beside t u place p free slots is h = record {
+  many = rw slots h.many;
+  within = rw (slots, is) (below_more (length t.pictures.items) _ t.slots (omega (arith, length-set t.pictures.items place p)) h.within);
+  sound = rw (slots, is) (sound_beside t.pictures.items place p t.slots free h.sound);
+}
+
+-- or gets one picture more
+pub table_before : (t u : PictureTable) (p : Picture) → u.slots ≡ t.slots → u.pictures.items ≡ t.pictures.items ++ p ∷ [] → IsTable t → IsTable u
+table_before t u p slots is h = record {
+  many = rw slots h.many;
+  within = rw (slots, is) (below_more (length t.pictures.items) _ t.slots (omega (arith, length-append t.pictures.items (p ∷ []))) h.within);
+  sound = rw (slots, is) (sound_before t.pictures.items p t.slots h.within h.sound);
+}

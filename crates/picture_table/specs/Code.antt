@@ -3,7 +3,7 @@ use Rattle.std.specs.Prelude.{◌≡◌, ◌<◌, ◌==◌, ℕ, Bool, false, Li
 use Rattle.std.specs.List.{list_any}
 use Rattle.vp9_types.specs.Maps.{FrameMap}
 use Rattle.vp9_types.specs.declared.shape.Shape.{Shape}
-use Rattle.planes.specs.Pictures.{map_of}
+use Rattle.planes.specs.Pictures.{FitsPlanes, HasSizes, IsInRange, map_of}
 use Rattle.planes.specs.declared.picture.Picture.{Picture}
 use Rattle.picture_table.specs.declared.table.PictureTable.{PictureTable}
 
@@ -18,10 +18,24 @@ names place slots = list_any (is_named place) slots
 abbrev pub IsBelow : ℕ → Option ℕ → Type 0
 IsBelow count slot = IfSome slot (λ place. place < count)
 
--- the places that slots name are there
+-- a picture of a size that frames have, with all samples of its shape, each in the range of its depth
+pub record IsSound (p : Picture) : Type 0 where
+  pub fits : FitsPlanes p.shape
+  pub sizes : HasSizes p.shape p.planes
+  pub range : IsInRange p.shape.depth p.planes
+
+-- the picture at a place is, if one is there
+abbrev pub IsSoundAt : List Picture → ℕ → Type 0
+IsSoundAt pictures place = IfSome (slice_get pictures place) IsSound
+
+abbrev pub NamesSound : List Picture → Option ℕ → Type 0
+NamesSound pictures slot = IfSome slot (IsSoundAt pictures)
+
+-- the places that slots name are there, and their pictures are sound
 pub record IsTable (t : PictureTable) : Type 0 where
   pub many : length t.slots ≡ 8
   pub within : All (IsBelow (length t.pictures.items)) t.slots
+  pub sound : All (NamesSound t.pictures.items) t.slots
 
 -- the picture at a place is so
 abbrev pub HasPicture : PictureTable → ℕ → (Picture → Type 0) → Type 0

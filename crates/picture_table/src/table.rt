@@ -33,7 +33,7 @@ fn names(slots: &[Option<usize>], place: usize) -> bool
 impl PictureTable {
     ghost use Rattle.planes.specs.Pictures.{IsBlank};
     ghost use Rattle.frame_headers.specs.State.{refreshed};
-    ghost use Rattle.picture_table.specs.Code.{HasPicture, IsTable, held};
+    ghost use Rattle.picture_table.specs.Code.{HasPicture, IsSoundAt, IsTable, held};
 
     /// No picture, and eight slots that hold nothing.
     pub fn new(alloc: Global) -> PictureTable
@@ -87,6 +87,7 @@ impl PictureTable {
     pub fn refresh(&mut self, refresh: u8, place: usize)
         requires table { IsTable self.old }
         requires there { place < length self.old.pictures.items }
+        requires sound { IsSoundAt self.old.pictures.items place }
         ensures slots { self.new.slots ≡ refreshed refresh place self.old.slots }
         ensures pictures { self.new.pictures ≡ self.old.pictures }
         ensures table { IsTable self.new }

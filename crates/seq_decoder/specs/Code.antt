@@ -1,22 +1,29 @@
 -- What the code keeps, and what the calls answer.
-use Rattle.std.specs.Prelude.{◌≡◌, ℕ, ◌≤◌, ◌<◌, List, [], map, Option, Some, None, Result, Ok, Err, false, length, slice_get, if◌then◌else◌}
+use Rattle.std.specs.Prelude.{◌≡◌, ℕ, ◌+◌, ◌/◌, ◌≤◌, ◌<◌, Bool, List, [], map, Option, Some, None, Result, Ok, Err, false, length, slice_get, if◌then◌else◌}
 use Rattle.edge_io.specs.Putting.{Takes, TakesFront}
 use Rattle.edge_io.specs.declared.sink.PutFault.{PutFault}
 use Rattle.edge_io.specs.declared.sink.PutFault.TheVariants as refused
 use Rattle.vp9_types.specs.declared.job.Span.{Span}
-use Rattle.vp9_types.specs.Maps.{FrameMap}
+use Rattle.vp9_types.specs.Maps.{FrameMap, Map}
 use Rattle.vp9_types.specs.declared.outcome.Fault.{Fault}
 use Rattle.vp9_types.specs.declared.outcome.Fault.TheVariants as fault
 use Rattle.vp9_types.specs.declared.outcome.Outcome.{Outcome}
 use Rattle.vp9_types.specs.declared.outcome.Outcome.TheVariants as outcome
 use Rattle.vp9_types.specs.declared.shape.Shape.{Shape}
+use Rattle.frame_headers.specs.declared.header.FrameHead.{FrameHead}
+use Rattle.frame_headers.specs.declared.header.FrameHead.TheVariants as head
+use Rattle.frame_headers.specs.declared.header.FrameSize.{FrameSize}
 use Rattle.frame_headers.specs.declared.header.Header.{Header}
-use Rattle.frame_headers.specs.State.{shape_of}
+use Rattle.frame_headers.specs.Sizes.{IsFrameSize}
+use Rattle.frame_headers.specs.State.{SlotsHaveSizes}
+use Rattle.frame_headers.specs.Tiles.{AreFewTiles}
 use Rattle.prob_contexts.specs.Lists.{ContextLists, lists_of}
+use Rattle.segment_map.specs.Segments.{SegmentIds, id_map}
 use Rattle.picture_table.specs.Code.{held, names, IsTable}
 use Rattle.picture_table.specs.declared.table.PictureTable.{PictureTable}
-use Rattle.planes.specs.Pictures.{HasSizes, IsInRange, map_of}
+use Rattle.planes.specs.Pictures.{map_of}
 use Rattle.planes.specs.declared.picture.Picture as planes
+use Rattle.frame_decoder.specs.Built.{first_unbuilt}
 use Rattle.frame_decoder.specs.Code.{HoldsResult}
 use Rattle.frame_decoder.specs.Frames.{FrameResult}
 use Rattle.frame_decoder.specs.declared.halt.Halt.{Halt}
@@ -25,10 +32,11 @@ use Rattle.frame_output.specs.Texts.{frame_text}
 use Rattle.seq_decoder.specs.declared.coding.Coded.{Coded}
 use Rattle.seq_decoder.specs.declared.decoder.Decoder.{Decoder}
 use Rattle.seq_decoder.specs.declared.saved.SavedContexts.{SavedContexts}
-use Rattle.seq_decoder.specs.After.{CodedFrame, Stepped}
+use Rattle.seq_decoder.specs.After.{Stepped, segments_before}
 use Rattle.seq_decoder.specs.Outcomes.{outcome_at}
 use Rattle.seq_decoder.specs.Runs.{picture_text}
-use Rattle.seq_decoder.specs.State.{Picture, State, persist_of}
+use Rattle.seq_decoder.specs.SavedContexts.{saved_before}
+use Rattle.seq_decoder.specs.State.{Picture, State, last_is_key, last_size, no_segments, persist_of}
 
 ---- What the code keeps ----
 
@@ -45,45 +53,65 @@ abbrev pub shown_of : Option Picture → Option (Shape × FrameMap)
 shown_of None = None
 shown_of (Some picture) = Some (picture.shape, picture.map)
 
--- a table of at most nine pictures: eight that slots hold, and one to decode into
-pub record MayDecode (table : PictureTable) : Type 0 where
-  pub table_is : IsTable table
-  pub few : length table.pictures.items ≤ 9
+-- what a map holds of the segments, if there is one
+abbrev pub segments_held : Option SegmentIds → Map
+segments_held None = no_segments
+segments_held (Some m) = id_map m
 
--- what the code holds of the state: what headers read, the saved contexts, and what the slots hold
+-- it has the places of a frame of this size, if there was one
+abbrev pub HasPlaces : Option FrameSize → Option SegmentIds → Type 0
+HasPlaces None m = Unit {0}
+HasPlaces (Some size) None = ⊥
+HasPlaces (Some size) (Some m) = (m.rows ≡ (size.height + 7) / 8) × (m.cols ≡ (size.width + 7) / 8)
+
+-- between two frames: a table of at most nine pictures, eight that slots hold and one to decode into, and a map of segments
+-- of the last frame's places
+pub record MayDecode (d : Decoder) : Type 0 where
+  pub sized : SlotsHaveSizes d.persist
+  pub table_is : IsTable d.table
+  pub few : length d.table.pictures.items ≤ 9
+  pub places : HasPlaces d.persist.size d.segments
+
+-- what the code holds of the state: what headers read, the saved contexts, what the slots hold, the segments, and whether the
+-- last frame was a key frame
 pub record StandsFor (d : Decoder) (s : State) : Type 0 where
   pub persist : d.persist ≡ persist_of s
   pub contexts : saved_lists d.saved ≡ s.contexts
   pub slots : held d.table ≡ map shown_of s.slots
+  pub segments : segments_held d.segments ≡ s.segments
+  pub key : d.after_key ≡ last_is_key s.last
+
+-- the same, for a frame that is decoded but not kept: it found the contexts and the segments so
+pub record HasBegun (header : Header) (d : Decoder) (s : State) : Type 0 where
+  pub persist : d.persist ≡ persist_of s
+  pub contexts : saved_lists d.saved ≡ saved_before header s.contexts
+  pub slots : held d.table ≡ map shown_of s.slots
+  pub segments : segments_held d.segments ≡ segments_before header (last_size s.last) s.segments
+  pub key : d.after_key ≡ last_is_key s.last
 
 ---- What the calls answer ----
 
--- a frame of the code that leaves this
-abbrev pub frame_of : Coded → FrameResult → CodedFrame
-frame_of c result = record { header = c.header; result = result }
+-- a header that the decoder is built for, of a frame of so many bytes
+abbrev pub CanDecode : ℕ → FrameHead → Type 0
+CanDecode bytes (head.Coded header compressed) = IsFrameSize header.size × AreFewTiles header.params.tiles × LiesWithin bytes compressed × (first_unbuilt header ≡ None)
+CanDecode bytes (head.ShowExisting slot) = Unit {0}
 
--- a picture of a frame of this header
-pub record FitsHeader (picture : planes.Picture) (header : Header) : Type 0 where
-  pub shape : picture.shape ≡ shape_of header
-  pub sizes : HasSizes (shape_of header) picture.planes
-  pub range : IsInRange (shape_of header).depth picture.planes
-
--- the text of what a frame with this header and these samples shows
-abbrev pub text_of : Header → planes.Picture → List ℕ
-text_of header picture = if header.show_frame then frame_text (shape_of header) (map_of picture) else []
+-- the text of a picture, if it is shown
+abbrev pub text_if : Bool → planes.Picture → List ℕ
+text_if shown picture = if shown then frame_text picture.shape (map_of picture) else []
 
 -- the frame's samples stand at its place, which no slot names
-pub record IsAt (table : PictureTable) (c : Coded) (result : FrameResult) : Type 0 where
+pub record IsAt (header : Header) (table : PictureTable) (c : Coded) (result : FrameResult) : Type 0 where
   pub picture : planes.Picture
   pub there : slice_get table.pictures.items c.place ≡ Some picture
   pub free : names c.place table.slots ≡ false
-  pub holds : HoldsResult c.header picture c.decoded result
+  pub holds : HoldsResult header picture c.decoded result
 
 -- the frame is that, or the fault is that one. Want of memory has no cause, and no sink is asked here
-abbrev pub IsCoded : Result CodedFrame Fault → PictureTable → Result Coded Halt → Type 0
-IsCoded f table (Ok c) = (result : FrameResult) × (f ≡ Ok (frame_of c result)) × IsAt table c result
-IsCoded f table (Err (halt.Fault fault)) = f ≡ Err fault
-IsCoded f table (Err halt.OutOfMemory) = Unit {0}
+abbrev pub IsCoded : Header → Result FrameResult Fault → PictureTable → Result Coded Halt → Type 0
+IsCoded header f table (Ok c) = (result : FrameResult) × (f ≡ Ok result) × IsAt header table c result
+IsCoded header f table (Err (halt.Fault fault)) = f ≡ Err fault
+IsCoded header f table (Err halt.OutOfMemory) = Unit {0}
 
 -- The text was put into a sink that didn't fail, or a front of it was. Its count of faults, before and now, rose exactly
 -- where the answer is a fault. Memory is wanted for more than the sink.

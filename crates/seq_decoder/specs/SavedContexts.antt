@@ -1,11 +1,16 @@
 -- The four saved contexts around a frame (reset_frame_context and setup_past_independence in 7.2, load_probs and
--- save_probs in 8.4.2 of the standard).
+-- save_probs in 8.4.2 of the standard), and adaptation between them.
 use Rattle.std.specs.Prelude.{ℕ, ◌==◌, ◌||◌, ◌&&◌, Bool, true, false, List, replicate, slice_index_or, slice_set, if◌then◌else◌}
 use Rattle.frame_headers.specs.declared.header.FrameKind.{FrameKind}
 use Rattle.frame_headers.specs.declared.header.FrameKind.TheVariants.{Key, IntraOnly, Inter}
 use Rattle.frame_headers.specs.declared.header.Header.{Header}
 use Rattle.frame_headers.specs.Header.{forgets}
 use Rattle.prob_contexts.specs.Lists.{ContextLists}
+use Rattle.backward_adapt.specs.Adaptation.{adaptation}
+use Rattle.backward_adapt.specs.declared.kind.AdaptKind.{AdaptKind}
+use Rattle.backward_adapt.specs.declared.kind.AdaptKind.TheVariants as adapt
+use Rattle.frame_decoder.specs.Built.{adapts}
+use Rattle.frame_decoder.specs.Frames.{FrameResult}
 use Rattle.prob_contexts.specs.Defaults.{default_lists}
 
 abbrev pub is_key : FrameKind → Bool
@@ -42,10 +47,22 @@ context_at saved place = slice_index_or saved place default_lists
 abbrev pub context_before : Header → List ContextLists → ContextLists
 context_before header saved = context_at (saved_before header saved) (place_of header)
 
+-- what its adaptation asks of a frame
+abbrev pub kind_of : FrameKind → Bool → AdaptKind
+kind_of Key after_key = adapt.Intra
+kind_of IntraOnly after_key = adapt.Intra
+kind_of (Inter fields) after_key = adapt.Inter (record { after_key = after_key; high_precision = fields.high_precision })
+
+-- a frame's own contexts, behind it: those of its compressed header, or what adaptation makes of them by what it counted and the
+-- context that it started from
+abbrev pub own_contexts : Header → Bool → FrameResult → ContextLists → ContextLists
+own_contexts header after_key r before =
+    if adapts header then adaptation (kind_of header.kind after_key) r.counted before r.contexts else r.contexts
+
 -- a frame that refreshes a context saves its own
 abbrev pub with_own : Header → ContextLists → List ContextLists → List ContextLists
 with_own header own saved = if header.contexts.refresh then slice_set saved (place_of header) own else saved
 
--- The saved contexts after a frame, by its own, which the compressed header made. A frame that adapts them isn't built.
-unfoldable pub saved_after : Header → ContextLists → List ContextLists → List ContextLists
-saved_after header own saved = with_own header own (saved_before header saved)
+-- the saved contexts after a frame
+unfoldable pub saved_after : Header → Bool → FrameResult → List ContextLists → List ContextLists
+saved_after header after_key r saved = with_own header (own_contexts header after_key r (context_before header saved)) (saved_before header saved)

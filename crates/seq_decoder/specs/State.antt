@@ -1,5 +1,5 @@
 -- What a decoder keeps from frame to frame (7.2 and 8.10 of the standard).
-use Rattle.std.specs.Prelude.{ℕ, Bool, List, map, Option, Some, None, replicate}
+use Rattle.std.specs.Prelude.{ℕ, Bool, false, List, map, Option, Some, None, replicate}
 use Rattle.vp9_types.specs.declared.shape.Shape.{Shape}
 use Rattle.vp9_types.specs.Maps.{Map, FrameMap}
 use Rattle.frame_headers.specs.Color.{default_color}
@@ -62,6 +62,10 @@ slot_shape (Some picture) = Some picture.shape
 abbrev pub last_size : Option LastFrame → Option FrameSize
 last_size None = None
 last_size (Some last) = Some last.size
+
+abbrev pub last_is_key : Option LastFrame → Bool
+last_is_key None = false
+last_is_key (Some last) = last.key
 
 -- what headers read of it
 abbrev pub persist_of : State → Persist

@@ -1,14 +1,21 @@
 //! Laws of the definitions, as contracts of functions that do nothing.
 
 ghost use Rattle.std.specs.Prelude.{◌≡◌, List, ℕ, Ok};
+ghost use Rattle.vp9_types.specs.declared.job.Span.{Span};
+ghost use Rattle.frame_headers.specs.declared.header.FrameHead.TheVariants as head;
+ghost use Rattle.frame_headers.specs.declared.header.Header.{Header};
 ghost use Rattle.frame_headers.specs.State.{next_persist, start_persist};
-ghost use Rattle.seq_decoder.specs.After.{CodedFrame, Stepped, coded_frame, step};
+ghost use Rattle.seq_decoder.specs.After.{Stepped, built_head, step};
 ghost use Rattle.seq_decoder.specs.State.{State, persist_of, start_state};
 
-/// What headers read of the state is what the listing's definition passes on: before the first frame, and after each.
+/// What headers read of the state is what the listing's definition passes on: before the first frame, after each coded one,
+/// and after a slot that is shown.
 pub fn headers_read_what_persists()
     ensures start { persist_of start_state ≡ start_persist }
-    ensures step { (number : ℕ) (state : State) (bytes : List ℕ) (frame : CodedFrame) (next : Stepped)
-        → coded_frame (persist_of state) state.contexts bytes ≡ Ok frame → step number state bytes ≡ Ok next
-        → persist_of next.state ≡ next_persist frame.header (persist_of state) }
+    ensures coded { (number : ℕ) (state : State) (bytes : List ℕ) (header : Header) (compressed : Span) (next : Stepped)
+        → built_head (persist_of state) bytes ≡ Ok (head.Coded header compressed) → step number state bytes ≡ Ok next
+        → persist_of next.state ≡ next_persist header (persist_of state) }
+    ensures shown { (number : ℕ) (state : State) (bytes : List ℕ) (slot : ℕ) (next : Stepped)
+        → built_head (persist_of state) bytes ≡ Ok (head.ShowExisting slot) → step number state bytes ≡ Ok next
+        → next.state ≡ state }
 {}

@@ -6,6 +6,7 @@ mod decoder;
 mod laws;
 mod plain;
 mod saved;
+mod segments;
 mod showing;
 #[cfg(test)]
 mod tests;

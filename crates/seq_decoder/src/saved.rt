@@ -15,7 +15,8 @@ pub struct SavedContexts {
     pub places: [Contexts; 4],
 }
 
-fn loses_past(header: &Header) -> bool
+/// Whether a frame loses the past (setup_past_independence in 7.2 of the standard).
+pub fn loses_past(header: &Header) -> bool
     ensures { result ≡ loses_past header.now }
 {
     match header.kind {

@@ -1,11 +1,10 @@
 //! What a frame shows.
 
 ghost use Rattle.std.specs.Prelude.{◌≡◌};
-ghost use Rattle.frame_headers.specs.Sizes.{IsFrameSize};
-ghost use Rattle.seq_decoder.specs.Code.{FitsHeader, Shows, text_of};
+ghost use Rattle.picture_table.specs.Code.{IsSound};
+ghost use Rattle.seq_decoder.specs.Code.{Shows, text_if};
 
 use edge_io::{PutFault, Sink};
-use frame_headers::Header;
 use frame_output::render;
 use planes::Picture;
 use std::alloc::Global;
@@ -13,24 +12,23 @@ use std::alloc::Global;
 /// The least size of the buffer that rows are put into the sink from.
 const LEAST_BUFFER: usize = 1 << 16;
 
-/// Puts the text of a frame into a sink, if the frame is shown.
+/// Puts the text of a picture into a sink, if it is shown.
 pub fn show<K: Sink>(
     alloc: Global,
-    header: &Header,
+    shown: bool,
     picture: &Picture,
     sink: &mut K,
 ) -> Result<(), PutFault>
-    requires size { IsFrameSize header.now.size }
-    requires fits { FitsHeader picture.now header.now }
+    requires sound { IsSound picture.now }
     requires sink { K.can_put sink.old }
-    ensures shows { Shows (text_of header.now picture.now) (K.taken sink.old) (K.taken sink.new) (K.faults sink.old) (K.faults sink.new) result }
+    ensures shows { Shows (text_if shown picture.now) (K.taken sink.old) (K.taken sink.new) (K.faults sink.old) (K.faults sink.new) result }
     ensures grows { K.grows sink.new ≡ K.grows sink.old }
     ensures again { K.faults sink.new ≡ K.faults sink.old → K.can_put sink.new }
 {
-    if !header.show_frame {
+    if !shown {
         return Ok(());
     }
-    let shape = header.shape();
+    let shape = picture.shape();
     let size = LEAST_BUFFER.max(2 * shape.w as usize);
     let mut buffer = match Vec::from_elem(alloc, 0u8, size) {
         Ok(buffer) => buffer,

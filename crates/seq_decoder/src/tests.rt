@@ -8,9 +8,9 @@ const HIDDEN_THEN_SHOWN: &[u8] = b"DKIF\0\0 \0VP90\0\0\0\0\0\0\0\0\0\0\0\0\0\0\0
 $\0\0\0\0\0\0\0\0\0\0\0\
 \x81I\x83B\0\0\0\0\0\0\0\0\0\x04\0\0\x83I\x83B\0\0\0\0\0\0\0\0\0\x04\0\0\xc1\x10\x10\xc1";
 
-// The same frame of depth 10.
-const OF_DEPTH_10: &[u8] = b"DKIF\0\0 \0VP90\0\0\0\0\0\0\0\0\0\0\0\0\0\0\0\0\0\0\0\0\
-\x10\0\0\0\0\0\0\0\0\0\0\0\x93I\x83B\0\0\0\0\0\0\0\0\0\x02\0\0";
+// A grey key frame of 8x8, and an inter frame.
+const KEY_THEN_INTER: &[u8] = b"DKIF\0\0 \0VP90\0\0\0\0\0\0\0\0\0\0\0\0\0\0\0\0\0\0\0\0\x10\0\0\0\0\0\0\0\0\0\0\0\x83I\x83B\0\0p\0p\
+\0\0\0\0\x04\0\0\x12\0\0\0\0\0\0\0\0\0\0\0\x87\0\0\0\0\xfe\0\x0e\x10\0\0\0\0\x08\0\x0c\xe9\n";
 
 #[test]
 fn hidden_frames_are_not_written(rt: HostRuntime) -> Result<(), Fail> {
@@ -22,11 +22,11 @@ fn hidden_frames_are_not_written(rt: HostRuntime) -> Result<(), Fail> {
 }
 
 #[test]
-fn a_part_that_is_not_built_ends_the_decode(rt: HostRuntime) -> Result<(), Fail> {
+fn an_inter_frame_ends_the_decode(rt: HostRuntime) -> Result<(), Fail> {
     let mut sink = MemSink::new(rt.alloc(), &[])?;
-    let outcome = decode_plain(rt.alloc(), OF_DEPTH_10, &mut sink);
-    let part = Part::Profile;
-    assert_eq!(rt; outcome, Outcome::Unbuilt { frame: 0, part });
-    assert_eq!(rt; sink.bytes().len(), 0);
+    let outcome = decode_plain(rt.alloc(), KEY_THEN_INTER, &mut sink);
+    let part = Part::Inter;
+    assert_eq!(rt; outcome, Outcome::Unbuilt { frame: 1, part });
+    assert_eq!(rt; sink.bytes(), [0x80; 96].as_slice());
     Ok(())
 }

@@ -3,7 +3,7 @@ mod sizes;
 
 use super::*;
 use edge_io::{MemSink, MemSource, OpenGate};
-use rows::{Row, list, lossless_decode, overflow_frames};
+use rows::{Row, intra_decode, list, overflow_frames};
 use std::alloc::{AllocError, Global};
 use std::sync::Wait;
 use std::test::Fail;
@@ -96,7 +96,7 @@ fn listings_end_as_they_are_to(rt: HostRuntime) -> Result<(), Fail> {
 #[test]
 fn decodes_end_as_they_are_to(rt: HostRuntime) -> Result<(), Fail> {
     assert_eq!(rt;
-        first_other(&rt, rt.alloc(), lossless_decode::TABLES.as_slice())?,
+        first_other(&rt, rt.alloc(), intra_decode::TABLES.as_slice())?,
         None
     );
     Ok(())
@@ -144,7 +144,7 @@ fn faults_end_a_listing(rt: HostRuntime) -> Result<(), Fail> {
 // The second put is that of the next plane or of the next frame, as the writer cuts them.
 #[test]
 fn a_write_fault_leaves_a_front(rt: HostRuntime) -> Result<(), Fail> {
-    let row = row_named(lossless_decode::TABLES.as_slice(), "two key frames").ok_or("no such row")?;
+    let row = row_named(intra_decode::TABLES.as_slice(), "two key frames").ok_or("no such row")?;
     let failing = Fails { out: &[2], ..NONE };
     let ran = run_row(&rt, rt.alloc(), row, &failing)?;
     assert_eq!(rt; ran.status.code(), 5);
@@ -156,7 +156,7 @@ fn a_write_fault_leaves_a_front(rt: HostRuntime) -> Result<(), Fail> {
 
 #[test]
 fn a_read_fault_leaves_no_frame(rt: HostRuntime) -> Result<(), Fail> {
-    let row = row_named(lossless_decode::TABLES.as_slice(), "two key frames").ok_or("no such row")?;
+    let row = row_named(intra_decode::TABLES.as_slice(), "two key frames").ok_or("no such row")?;
     let failing = Fails {
         source: &[1],
         ..NONE

@@ -1,6 +1,6 @@
-use Rattle.std.proofs.Common.{◌≡◌, length, map, ap, ◌∙◌, arith}
+use Rattle.std.proofs.Common.{◌≡◌, length, map, ap, ◌∙◌, arith, refl}
 use Rattle.picture_table.specs.Code.{held_in}
-use Rattle.picture_table.proofs.Places.{held_before, held_beside, last_is}
+use Rattle.picture_table.proofs.Places.{held_before, held_beside, last_is, table_before}
 use Rattle.picture_table.proofs.table.PictureTable.blank.Goals as goal
 
 pub returns-in_ok-renew-clause-held : goal.returns-in_ok-renew-clause-held
@@ -16,3 +16,6 @@ pub returns-in_ok-push-clause-held : goal.returns-in_ok-push-clause-held
 returns-in_ok-push-clause-held c =
     ap (λ items. map (held_in items) c.args.self.now.slots) c.in_ok-push.ensures.items
     ∙ held_before c.args.self.now.pictures.items c.in_ok-new.field-0 c.args.self.now.slots c.requires.table.within
+
+pub returns-in_ok-push-clause-table : goal.returns-in_ok-push-clause-table
+returns-in_ok-push-clause-table c = table_before c.args.self.now _ c.in_ok-new.field-0 refl c.in_ok-push.ensures.items c.requires.table
