@@ -18,7 +18,7 @@ use Rattle.bool_decoder.specs.Bools.{run_bools}
 use Rattle.bool_decoder.specs.Window.{Window, started, bit_of, after_bit}
 use Rattle.compressed_header.specs.Header.{forward}
 use Rattle.counting_reader.specs.Counting.{Settled, Standing, settle, mapped, with_counts, counted_if, run_counting}
-use Rattle.counting_reader.specs.Code.{standing_of}
+use Rattle.counting_reader.specs.Code.{counts_by, standing_of}
 use Rattle.counting_reader.specs.declared.reader.CountingReader.{CountingReader}
 use Rattle.planes.specs.Pictures.{blank}
 use Rattle.planes.specs.declared.frame_planes.FramePlanes.{FramePlanes}
@@ -92,10 +92,10 @@ counted_fault : {A : Type 0} (r : Result (Settled A × Window) Rule) (counts : L
 counted_fault (Ok p) counts counting rule is = let no : ⊥ = cc in absurd no
 counted_fault (Err e) counts counting rule is = let same : e ≡ rule = cc in ap (λ z. Err z) same
 
-pub whole_read : (s : Syntax ℕ Rule (Settled PlainTile)) (bytes : List ℕ) (old new : CountingReader 0) (result : Result (Unit {0}) Rule) (column : TileColumn) (planes : FramePlanes)
+pub whole_read : {n : ℕ} (s : Syntax ℕ Rule (Settled PlainTile)) (bytes : List ℕ) (old new : CountingReader n) (result : Result (Unit {0}) Rule) (column : TileColumn) (planes : FramePlanes)
     → started bytes ≡ Ok (standing_of old).window → GivesTile s old result column planes new → GivesWhole (read_whole s bytes) result column planes
 unfolding read_whole run_counting
-whole_read s bytes old new (Ok u) column planes starts gives =
-    rw starts (counted_value (run_bools s (standing_of old).window) (standing_of old).counts false (tile_of column planes) (standing_of new) gives)
-whole_read s bytes old new (Err rule) column planes starts gives =
-    rw starts (counted_fault (run_bools s (standing_of old).window) (standing_of old).counts false rule gives)
+whole_read {n} s bytes old new (Ok u) column planes starts gives =
+    rw starts (counted_value (run_bools s (standing_of old).window) (standing_of old).counts (counts_by n) (tile_of column planes) (standing_of new) gives)
+whole_read {n} s bytes old new (Err rule) column planes starts gives =
+    rw starts (counted_fault (run_bools s (standing_of old).window) (standing_of old).counts (counts_by n) rule gives)

@@ -12,7 +12,7 @@ ghost use Rattle.frame_decoder.specs.Frames.{read_all_tiles};
 ghost use Rattle.frame_decoder.specs.Reading.{FrameRead, nothing_read, read_tile_of};
 
 use crate::columns::{BlockRoom, TileColumn};
-use crate::squares::decode_square;
+use crate::squares::decode_superblock;
 use crate::tile_places::TilePlaces;
 use counting_reader::CountingReader;
 use frame_headers::tile_span;
@@ -38,9 +38,9 @@ fn superblocks(from: u32, to: u32) -> u32
 }
 
 /// A row of superblocks, from the first one on.
-fn decode_row(
+fn decode_row<const COUNTS: bool>(
     setting: &FrameSetting,
-    reader: &mut CountingReader<false>,
+    reader: &mut CountingReader<COUNTS>,
     column: &mut TileColumn,
     planes: &mut FramePlanes,
     room: &mut BlockRoom,
@@ -64,15 +64,15 @@ fn decode_row(
             col: first.col + SIDE * i,
             ..first
         };
-        decode_square(setting, reader, column, planes, room, at)?;
+        decode_superblock(setting, reader, column, planes, room, at)?;
     }
     Ok(())
 }
 
 /// All rows of superblocks of a tile.
-fn decode_rows(
+fn decode_rows<const COUNTS: bool>(
     setting: &FrameSetting,
-    reader: &mut CountingReader<false>,
+    reader: &mut CountingReader<COUNTS>,
     column: &mut TileColumn,
     planes: &mut FramePlanes,
     room: &mut BlockRoom,
@@ -106,7 +106,7 @@ fn decode_rows(
 
 /// A tile, from its bytes.
 #[tactic(auto, unfolding(crate::specs::Code::read_whole))]
-fn decode_tile(
+fn decode_tile<const COUNTS: bool>(
     bytes: &[u8],
     setting: &FrameSetting,
     tile: &TilePlaces,
@@ -126,7 +126,7 @@ fn decode_tile(
     ensures same { OnOk result (SameColumns column.old column.new) }
     ensures room { OnOk result (column.old.grid.room ≤ column.new.grid.room + 64 * (superblocks_along (column.old.grid.to - column.old.grid.from) * superblocks_along (tile.now.row_to - tile.now.row_from))) }
 {
-    let mut reader = CountingReader::<false>::start(bytes, Counts::new())?;
+    let mut reader = CountingReader::<COUNTS>::start(bytes, Counts::new())?;
     decode_rows(setting, &mut reader, column, planes, room, tile)
 }
 
@@ -152,7 +152,7 @@ fn decode_nth(
     let tile = TilePlaces::new(setting.places, tiles, n);
     let column = &mut columns[(n % tiles.columns()) as usize];
     column.sides.clear_left();
-    decode_tile(bytes, setting, &tile, column, planes, room)
+    decode_tile::<false>(bytes, setting, &tile, column, planes, room)
 }
 
 /// All tiles of a frame in order, whose compressed header lies at `compressed`. Their sizes are tested.
