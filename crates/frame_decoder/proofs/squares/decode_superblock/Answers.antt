@@ -1,6 +1,8 @@
 use Rattle.std.proofs.Common.{◌≡◌, ◌∙◌, ◌-◌, ◌+◌, ◌*◌, ◌^◌, ◌<◌, ◌≤◌, refl, sym, subst, arith}
 use Rattle.std.proofs.lemmas.Result.{err_from_is_err_and}
+use Rattle.counting_reader.specs.Code.{standing_of}
 use Rattle.frame_decoder.specs.Code.{IsSquareIn}
+use Rattle.frame_decoder.specs.declared.columns.TileColumn.{TileColumn}
 use Rattle.frame_decoder.proofs.SquareReads.{same_on, same_walk}
 use Rattle.frame_decoder.proofs.QuarterReads.{is_split, is_unsplit, quarter_fails, quarter_goes_on, quarter_within, quarters_end, quarters_left, quarters_room, split_is, split_limits, square_room}
 use Rattle.frame_decoder.proofs.squares.decode_superblock.Goals as goal
@@ -31,17 +33,15 @@ loop-i-init g c = record {
   ready = c.in_ok-split.ensures.ready;
   same = record { from = refl; to = refl };
   room = omega arith;
-  left = quarters_left c.args.setting.now c.args.at _ _ _;
+  left = quarters_left c.args.setting.now c.args.at c.decode_unsplit.new.column c.decode_unsplit.new.planes (standing_of c.decode_unsplit.new.reader);
 }
 
-pub decode_square_32-requires-clause-within : goal.decode_square_32-requires-clause-within
-decode_square_32-requires-clause-within g c =
+pub decode_square_32-requires : goal.decode_square_32-requires
+decode_square_32-requires g c =
     let h = is_split _ _ _ _ _ _ c.in_ok-split.split _ _ c.if-not-split.false c.in_ok-split.ensures.gives in
-    let lies = subst (λ d. IsSquareIn d c.args.at) (sym h.column) c.requires.within in
-    rw c.quarter_of-quarter.ensures (quarter_within _ _ c.args.at c.loop-i.i lies h.least c.loop-i-test.true c.loop-i.invariant.same c.loop-i.invariant.room)
-
-pub decode_square_32-requires-clause-level : goal.decode_square_32-requires-clause-level
-decode_square_32-requires-clause-level g c = rw c.quarter_of-quarter.ensures (omega (arith, c.requires.level))
+    let lies = subst (λ (d : TileColumn). IsSquareIn d c.args.at) (sym h.column) c.requires.within in
+    let within = quarter_within _ _ c.args.at c.loop-i.i lies h.least c.loop-i-test.true c.loop-i.invariant.same c.loop-i.invariant.room in
+    (c.loop-i.invariant.ready, (rw c.quarter_of-quarter.ensures within, rw c.quarter_of-quarter.ensures (omega (arith, c.requires.level))))
 
 pub returns-in_err-decode_square_32-clause-gives : goal.returns-in_err-decode_square_32-clause-gives
 returns-in_err-decode_square_32-clause-gives g c =
@@ -73,4 +73,4 @@ pub returns-clause-room : goal.returns-clause-room
 returns-clause-room g c =
     let h = is_split _ _ _ _ _ _ c.in_ok-split.split _ _ c.if-not-split.false c.in_ok-split.ensures.gives in
     let all : c.loop-i.i ≡ 4 = omega arith in
-    subst (λ d. d.grid.room ≤ _ + 4 ^ c.args.at.level) h.column (square_room c.args.at.level c.loop-i.i _ _ h.least all c.loop-i.invariant.room)
+    subst (λ (d : TileColumn). d.grid.room ≤ c.loop-i.column.grid.room + 4 ^ c.args.at.level) h.column (square_room c.args.at.level c.loop-i.i _ _ h.least all c.loop-i.invariant.room)

@@ -1,4 +1,5 @@
 use Rattle.std.proofs.Common.{◌≡◌, ◌∙◌, ◌+◌, ◌-◌, ◌^◌, ◌≤◌, true, suc, sym, refl, arith}
+use Rattle.std.specs.Prelude.{Ok, Err}
 use Rattle.std.proofs.lemmas.Result.{err_from_is_err_and}
 use Rattle.frame_decoder.specs.Code.{walk_of}
 use Rattle.frame_decoder.proofs.SquareReads.{square_below, square_beside, smallest_done, whole_done, rows_done, columns_done}
@@ -15,53 +16,53 @@ returns-then-at-setting-clause-gives g c =
 
 pub returns-then-at-eq0-clause-gives : goal.returns-then-at-eq0-clause-gives
 returns-then-at-eq0-clause-gives g c =
-    smallest_done c.args.setting.now c.args.column.now _ c.args.at _ c.block_of-first.result _ _ _ _ _ _ _
+    smallest_done c.args.setting.now c.args.column.now c.args.planes.now c.args.at _ c.block_of-first.result _ c.args.reader.now c.read_partition-partition.new.reader c.decode_block.new.reader (Ok tt) c.decode_block.new.column c.decode_block.new.planes
     (record { from = c.requires.within.from; to = c.requires.within.to; row = c.if-at-setting.false; col = c.if-at-setting-2.false; read = c.read_partition-partition.ensures })
     c.if-at-eq0.true c.part_size-size.ensures.is c.block_of-first.ensures c.in_ok-decode_block.ensures.gives
 
 pub returns-in_err-decode_block-clause-gives : goal.returns-in_err-decode_block-clause-gives
 returns-in_err-decode_block-clause-gives g c =
     let p = err_from_is_err_and c.from_residual.result c.from_residual.ensures.1 in
-    rw (p.1, p.2) (smallest_done c.args.setting.now c.args.column.now _ c.args.at _ c.block_of-first.result _ _ _ _ _ _ _
+    rw (p.1, p.2) (smallest_done c.args.setting.now c.args.column.now c.args.planes.now c.args.at _ c.block_of-first.result _ c.args.reader.now c.read_partition-partition.new.reader c.decode_block.new.reader (Err _) c.decode_block.new.column c.decode_block.new.planes
     (record { from = c.requires.within.from; to = c.requires.within.to; row = c.if-at-setting.false; col = c.if-at-setting-2.false; read = c.read_partition-partition.ensures })
     c.if-at-eq0.true c.part_size-size.ensures.is c.block_of-first.ensures c.in_err-decode_block.ensures.gives)
 
-pub returns-in-Whole-clause-gives : goal.returns-in-Whole-clause-gives
-returns-in-Whole-clause-gives g c =
-    whole_done c.args.setting.now c.args.column.now _ c.args.at _ c.block_of-first.result _ _ _ _ _ _ _
+pub returns-in_ok-decode_block-in-Whole-clause-gives : goal.returns-in_ok-decode_block-in-Whole-clause-gives
+returns-in_ok-decode_block-in-Whole-clause-gives g c =
+    whole_done c.args.setting.now c.args.column.now c.args.planes.now c.args.at _ c.block_of-first.result _ c.args.reader.now c.read_partition-partition.new.reader c.decode_block-in-Whole.new.reader (Ok tt) c.decode_block-in-Whole.new.column c.decode_block-in-Whole.new.planes
     (record { from = c.requires.within.from; to = c.requires.within.to; row = c.if-at-setting.false; col = c.if-at-setting-2.false; read = c.read_partition-partition.ensures })
     (omega (arith, c.if-at-eq0.false)) c.part_size-size.ensures.is c.block_of-first.ensures c.in-Whole.is c.in_ok-decode_block-in-Whole.ensures.gives
 
 pub returns-in_err-decode_block-in-Whole-clause-gives : goal.returns-in_err-decode_block-in-Whole-clause-gives
 returns-in_err-decode_block-in-Whole-clause-gives g c =
     let p = err_from_is_err_and c.from_residual-in_err-decode_block-in-Whole.result c.from_residual-in_err-decode_block-in-Whole.ensures.1 in
-    rw (p.1, p.2) (whole_done c.args.setting.now c.args.column.now _ c.args.at _ c.block_of-first.result _ _ _ _ _ _ _
+    rw (p.1, p.2) (whole_done c.args.setting.now c.args.column.now c.args.planes.now c.args.at _ c.block_of-first.result _ c.args.reader.now c.read_partition-partition.new.reader c.decode_block-in-Whole.new.reader (Err _) c.decode_block-in-Whole.new.column c.decode_block-in-Whole.new.planes
     (record { from = c.requires.within.from; to = c.requires.within.to; row = c.if-at-setting.false; col = c.if-at-setting-2.false; read = c.read_partition-partition.ensures })
     (omega (arith, c.if-at-eq0.false)) c.part_size-size.ensures.is c.block_of-first.ensures c.in-Whole.is c.in_err-decode_block-in-Whole.ensures.gives)
 
-pub returns-in-Horizontal-clause-gives : goal.returns-in-Horizontal-clause-gives
-returns-in-Horizontal-clause-gives g c =
-    rows_done c.args.setting.now c.args.column.now _ c.args.at _ c.block_of-first.result _ _ _ _ _ _ _ _
+pub returns-in_ok-decode_halves-in-Horizontal-clause-gives : goal.returns-in_ok-decode_halves-in-Horizontal-clause-gives
+returns-in_ok-decode_halves-in-Horizontal-clause-gives g c =
+    rows_done c.args.setting.now c.args.column.now c.args.planes.now c.args.at _ c.block_of-first.result _ _ c.args.reader.now c.read_partition-partition.new.reader c.decode_halves.new.reader (Ok tt) c.decode_halves.new.column c.decode_halves.new.planes
     (record { from = c.requires.within.from; to = c.requires.within.to; row = c.if-at-setting.false; col = c.if-at-setting-2.false; read = c.read_partition-partition.ensures })
-    (omega (arith, c.if-at-eq0.false)) c.part_size-size.ensures.is c.block_of-first.ensures c.in-Horizontal.is c.side_of-half.ensures.is (rw c.block_of-second.ensures at c.in_ok-decode_halves.ensures.gives)
+    (omega (arith, c.if-at-eq0.false)) c.part_size-size.ensures.is c.block_of-first.ensures c.in-Horizontal.is c.side_of-half.ensures.is (rw c.block_of-second.ensures at c.in_ok-decode_halves-in-Horizontal.ensures.gives)
 
-pub returns-in_err-decode_halves-clause-gives : goal.returns-in_err-decode_halves-clause-gives
-returns-in_err-decode_halves-clause-gives g c =
-    let p = err_from_is_err_and c.from_residual-in_err-decode_halves.result c.from_residual-in_err-decode_halves.ensures.1 in
-    rw (p.1, p.2) (rows_done c.args.setting.now c.args.column.now _ c.args.at _ c.block_of-first.result _ _ _ _ _ _ _ _
+pub returns-in_err-decode_halves-in-Horizontal-clause-gives : goal.returns-in_err-decode_halves-in-Horizontal-clause-gives
+returns-in_err-decode_halves-in-Horizontal-clause-gives g c =
+    let p = err_from_is_err_and c.from_residual-in_err-decode_halves-in-Horizontal.result c.from_residual-in_err-decode_halves-in-Horizontal.ensures.1 in
+    rw (p.1, p.2) (rows_done c.args.setting.now c.args.column.now c.args.planes.now c.args.at _ c.block_of-first.result _ _ c.args.reader.now c.read_partition-partition.new.reader c.decode_halves.new.reader (Err _) c.decode_halves.new.column c.decode_halves.new.planes
     (record { from = c.requires.within.from; to = c.requires.within.to; row = c.if-at-setting.false; col = c.if-at-setting-2.false; read = c.read_partition-partition.ensures })
-    (omega (arith, c.if-at-eq0.false)) c.part_size-size.ensures.is c.block_of-first.ensures c.in-Horizontal.is c.side_of-half.ensures.is (rw c.block_of-second.ensures at c.in_err-decode_halves.ensures.gives))
+    (omega (arith, c.if-at-eq0.false)) c.part_size-size.ensures.is c.block_of-first.ensures c.in-Horizontal.is c.side_of-half.ensures.is (rw c.block_of-second.ensures at c.in_err-decode_halves-in-Horizontal.ensures.gives))
 
-pub returns-in-Vertical-clause-gives : goal.returns-in-Vertical-clause-gives
-returns-in-Vertical-clause-gives g c =
-    columns_done c.args.setting.now c.args.column.now _ c.args.at _ c.block_of-first.result _ _ _ _ _ _ _ _
+pub returns-in_ok-decode_halves-in-Vertical-clause-gives : goal.returns-in_ok-decode_halves-in-Vertical-clause-gives
+returns-in_ok-decode_halves-in-Vertical-clause-gives g c =
+    columns_done c.args.setting.now c.args.column.now c.args.planes.now c.args.at _ c.block_of-first.result _ _ c.args.reader.now c.read_partition-partition.new.reader c.decode_halves-in-Vertical.new.reader (Ok tt) c.decode_halves-in-Vertical.new.column c.decode_halves-in-Vertical.new.planes
     (record { from = c.requires.within.from; to = c.requires.within.to; row = c.if-at-setting.false; col = c.if-at-setting-2.false; read = c.read_partition-partition.ensures })
     (omega (arith, c.if-at-eq0.false)) c.part_size-size.ensures.is c.block_of-first.ensures c.in-Vertical.is c.side_of-half.ensures.is (rw c.block_of-second-in-Vertical.ensures at c.in_ok-decode_halves-in-Vertical.ensures.gives)
 
 pub returns-in_err-decode_halves-in-Vertical-clause-gives : goal.returns-in_err-decode_halves-in-Vertical-clause-gives
 returns-in_err-decode_halves-in-Vertical-clause-gives g c =
     let p = err_from_is_err_and c.from_residual-in_err-decode_halves-in-Vertical.result c.from_residual-in_err-decode_halves-in-Vertical.ensures.1 in
-    rw (p.1, p.2) (columns_done c.args.setting.now c.args.column.now _ c.args.at _ c.block_of-first.result _ _ _ _ _ _ _ _
+    rw (p.1, p.2) (columns_done c.args.setting.now c.args.column.now c.args.planes.now c.args.at _ c.block_of-first.result _ _ c.args.reader.now c.read_partition-partition.new.reader c.decode_halves-in-Vertical.new.reader (Err _) c.decode_halves-in-Vertical.new.column c.decode_halves-in-Vertical.new.planes
     (record { from = c.requires.within.from; to = c.requires.within.to; row = c.if-at-setting.false; col = c.if-at-setting-2.false; read = c.read_partition-partition.ensures })
     (omega (arith, c.if-at-eq0.false)) c.part_size-size.ensures.is c.block_of-first.ensures c.in-Vertical.is c.side_of-half.ensures.is (rw c.block_of-second-in-Vertical.ensures at c.in_err-decode_halves-in-Vertical.ensures.gives))
 

@@ -28,7 +28,12 @@ returns-clause-gives g c =
     rw (sym c.superblocks-count.ensures.is) (row_ends (walk_of c.args.setting.now c.args.column.now) c.args.first.row c.args.first.tile_from c.superblocks-count.result _ c.loop-i.i _ _
     c.loop-i-test.false c.loop-i.invariant.left)
 
-pub decode_superblock-requires-clause-within : goal.decode_superblock-requires-clause-within
-decode_superblock-requires-clause-within g c =
+pub decode_superblock-requires : goal.decode_superblock-requires
+decode_superblock-requires g c = (
+  c.loop-i.invariant.ready,
+  (
     row_square c.args.column.now _ c.args.first c.loop-i.i c.superblocks-count.result c.loop-i.invariant.same c.requires.from c.requires.to c.requires.begin c.requires.level
-    c.superblocks-count.ensures.is c.loop-i-test.true c.requires.room c.loop-i.invariant.room
+        c.superblocks-count.ensures.is c.loop-i-test.true c.requires.room c.loop-i.invariant.room,
+    c.requires.level,
+  ),
+)
