@@ -1,5 +1,5 @@
 -- What the code keeps, and what its calls answer.
-use Rattle.std.specs.Prelude.{◌≡◌, ◌<◌, ◌≤◌, ◌+◌, ◌-◌, ◌*◌, ◌/◌, ◌%◌, ◌^◌, ℕ, true, false, Bool, List, [], ◌∷◌, ◌++◌, map, length, min, slice_index_or, Option, Some, None, Result, Ok, Err, if◌then◌else◌}
+use Rattle.std.specs.Prelude.{◌≡◌, ◌<◌, All, ◌≤◌, ◌+◌, ◌-◌, ◌*◌, ◌/◌, ◌%◌, ◌^◌, ℕ, true, false, Bool, List, [], ◌∷◌, ◌++◌, map, length, min, slice_index_or, Option, Some, None, Result, Ok, Err, if◌then◌else◌}
 use Rattle.vp9_types.specs.Maps.{FrameMap}
 use Rattle.vp9_types.specs.Results.{map_ok, ◌>>=◌}
 use Rattle.bool_decoder.specs.Bools.{run_bools}
@@ -18,9 +18,12 @@ use Rattle.frame_setting.specs.declared.setting.FrameSetting.{FrameSetting}
 use Rattle.prob_contexts.specs.Counted.{counts_after, no_counts}
 use Rattle.prob_contexts.specs.Lists.{ContextLists, lists_of}
 use Rattle.counting_reader.specs.Code.{Reads, standing_of}
-use Rattle.counting_reader.specs.Counting.{Settled, Standing, settle, run_counting}
+use Rattle.counting_reader.specs.Counting.{Settled, Standing, counted_if, settle, run_counting}
 use Rattle.counting_reader.specs.Counting as counting
 use Rattle.counting_reader.specs.declared.reader.CountingReader.{CountingReader}
+use Rattle.block_geometry.specs.Sizes.{width_8}
+use Rattle.vp9_tables.specs.Blocks.{greatest_of}
+use Rattle.vp9_tables.specs.Numbers.{tx_number}
 use Rattle.block_geometry.specs.declared.transform_blocks.FramePlaces.{FramePlaces}
 use Rattle.block_plan.specs.declared.block.BlockAt.{BlockAt}
 use Rattle.block_plan.specs.declared.block.BlockInfo.{BlockInfo}
@@ -81,6 +84,13 @@ walk_of setting c = plain_walk setting.header setting.modes (lists_of setting.co
 abbrev pub limit_of : TileColumn → ℕ
 limit_of c = c.grid.from + 8 * superblocks_along (c.grid.to - c.grid.from)
 
+-- each block's transform size fits in it, and it lies between these places of 8x8
+abbrev pub AllFit : List BlockInfo → Type 0
+AllFit blocks = All (λ b. tx_number b.tx ≤ greatest_of b.size) blocks
+
+abbrev pub AllLie : ℕ → ℕ → List BlockInfo → Type 0
+AllLie from limit blocks = All (λ b. (from ≤ b.col) × (b.col + width_8 b.size ≤ limit)) blocks
+
 -- between two blocks
 pub record IsReady (setting : FrameSetting) (c : TileColumn) (planes : FramePlanes) : Type 0 where
   pub rows : c.grid.rows ≡ setting.places.rows
@@ -90,6 +100,8 @@ pub record IsReady (setting : FrameSetting) (c : TileColumn) (planes : FramePlan
   pub fit : FitPlanes (shape_of setting.header) c.sides
   pub sizes : HasSizes (shape_of setting.header) planes
   pub range : IsInRange (shape_of setting.header).depth planes
+  pub fit_blocks : AllFit c.grid.blocks
+  pub lie : AllLie c.grid.from (limit_of c) c.grid.blocks
 
 -- the same columns of the frame
 pub record SameColumns (old new : TileColumn) : Type 0 where
@@ -141,15 +153,17 @@ GivesUnsplit setting at before planes_before old (Err rule) c planes new =
 ---- A tile's bytes ----
 
 -- what a tile settles on, by an arithmetic decoder of its own over its bytes
-abbrev pub value_of : {A : Type 0} → Result (Settled A × Window) Rule → Result A Rule
-value_of r = map_ok (λ p. p.0.value) r
+abbrev pub settled_of : {A : Type 0} → Result (Settled A × Window) Rule → Result (Settled A) Rule
+settled_of r = map_ok (λ p. p.0) r
 
-unfoldable pub read_whole : {A : Type 0} → Syntax ℕ Rule (Settled A) → List ℕ → Result A Rule
-read_whole s bytes = started bytes >>= λ window. value_of (run_bools s window)
+unfoldable pub read_whole : {A : Type 0} → Syntax ℕ Rule (Settled A) → List ℕ → Result (Settled A) Rule
+read_whole s bytes = started bytes >>= λ window. settled_of (run_bools s window)
 
-abbrev pub GivesWhole : Result PlainTile Rule → Result (Unit {0}) Rule → TileColumn → FramePlanes → Type 0
-GivesWhole computed (Ok u) c planes = computed ≡ Ok (tile_of c planes)
-GivesWhole computed (Err rule) c planes = computed ≡ Err rule
+-- a tile is read, and what is counted in it comes to these counts, where counting is on
+abbrev pub GivesWhole : Bool → List ℕ → Result (Settled PlainTile) Rule → Result (List ℕ) Rule → TileColumn → FramePlanes → Type 0
+GivesWhole counting before computed (Ok counts) c planes =
+    (counted : List CountedBool) × (computed ≡ Ok (record { value = tile_of c planes; counted = counted })) × (counts ≡ counted_if counting before counted)
+GivesWhole counting before computed (Err rule) c planes = computed ≡ Err rule
 
 ---- All tiles ----
 
@@ -162,6 +176,8 @@ pub record IsTileColumn (header : Header) (n k : ℕ) (c : TileColumn) : Type 0 
   pub room : (r : ℕ) → n ≤ r * 2 ^ header.params.tiles.columns_log2 + k
       → 64 * (superblocks_along (c.grid.to - c.grid.from)
       * (superblocks_along (mi_rows (shape_of header)) - superblocks_before (mi_rows (shape_of header)) header.params.tiles.rows_log2 r)) ≤ c.grid.room
+  pub fit_blocks : AllFit c.grid.blocks
+  pub lie : AllLie c.grid.from (limit_of c) c.grid.blocks
 
 pub record AreTileColumns (header : Header) (n : ℕ) (columns : List TileColumn) : Type 0 where
   pub many : length columns ≡ 2 ^ header.params.tiles.columns_log2
@@ -184,17 +200,18 @@ pub record HoldsRead (header : Header) (columns : List TileColumn) (planes : Fra
   pub columns_held : map column_of_code columns ≡ map column_as_listed read.columns
   pub map_held : raw (shape_of header) read.blocks ≡ Some (samples_of planes)
 
--- reading goes on to what the code holds then, or breaks the rule
-abbrev pub GivesRead : Header → Result FrameRead Rule → Result (Unit {0}) Rule → List TileColumn → FramePlanes → Type 0
-GivesRead header computed (Ok u) columns planes = (read : FrameRead) × (computed ≡ Ok read) × HoldsRead header columns planes read
-GivesRead header computed (Err rule) columns planes = computed ≡ Err rule
-
----- A frame ----
-
--- whether a frame's counts are wanted: its probabilities are adapted after it
+-- the counts of what is read, where counting is on: where a frame's probabilities are adapted after it
 abbrev pub counts_if : Bool → List CountedBool → List ℕ
 counts_if true bools = counts_after no_counts bools
 counts_if false bools = no_counts
+
+-- reading goes on to what the code holds then, with its counts, or breaks the rule
+abbrev pub GivesRead : Header → Bool → Result FrameRead Rule → Result (List ℕ) Rule → List TileColumn → FramePlanes → Type 0
+GivesRead header counting computed (Ok counts) columns planes =
+    (read : FrameRead) × (computed ≡ Ok read) × HoldsRead header columns planes read × (counts ≡ counts_if counting read.counted)
+GivesRead header counting computed (Err rule) columns planes = computed ≡ Err rule
+
+---- A frame ----
 
 abbrev pub blocks_of : List TileColumn → List (List BlockInfo)
 blocks_of columns = map (λ c. c.grid.blocks) columns

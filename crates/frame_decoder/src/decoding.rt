@@ -51,7 +51,7 @@ pub fn decode_frame(
     check_tiles(bytes, header, compressed)?;
     let setting = FrameSetting::new(header, modes, contexts);
     let mut columns = TileColumn::all(alloc, &setting)?;
-    decode_tiles(
+    decode_tiles::<false>(
         bytes,
         &setting,
         compressed,

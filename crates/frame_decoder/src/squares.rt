@@ -4,6 +4,7 @@ ghost use Rattle.std.specs.Prelude.{◌≡◌, ℕ, ◌+◌, ◌-◌, ◌^◌, �
 ghost use Rattle.frame_headers.specs.State.{shape_of};
 ghost use Rattle.prob_contexts.specs.Lists.{lists_of};
 ghost use Rattle.counting_reader.specs.Counting.{in_order};
+ghost use Rattle.block_geometry.specs.Sizes.{width_8};
 ghost use Rattle.mode_syntax.specs.Walk.{block_inside, decode_partition};
 ghost use Rattle.frame_decoder.specs.Code.{plain_block, quarter, tile_of, walk_of, limit_of, IsReady, IsSquareIn, SameColumns, GivesTile, GivesUnsplit};
 
@@ -33,6 +34,7 @@ fn decode_block<const COUNTS: bool>(
     requires col { at.col < at.tile_to }
     requires from { at.tile_from ≡ column.old.grid.from }
     requires to { at.tile_to ≡ column.old.grid.to }
+    requires wide { at.col + width_8 at.size ≤ limit_of column.old }
     requires room { 1 ≤ column.old.grid.room }
     ensures gives { GivesTile (plain_block setting.now.header setting.now.modes (lists_of setting.now.contexts) at (tile_of column.old planes.old))
         reader.old result column.new planes.new reader.new }
@@ -74,6 +76,7 @@ fn decode_inside<const COUNTS: bool>(
     requires within { at.col < limit_of column.old }
     requires from { at.tile_from ≡ column.old.grid.from }
     requires to { at.tile_to ≡ column.old.grid.to }
+    requires wide { at.col + width_8 at.size ≤ limit_of column.old }
     requires room { 1 ≤ column.old.grid.room }
     ensures gives { GivesTile (block_inside (walk_of setting.now column.old) at.row at.col at.size (tile_of column.old planes.old))
         reader.old result column.new planes.new reader.new }
@@ -107,6 +110,8 @@ fn decode_halves<const COUNTS: bool>(
     requires to { halves.0.tile_to ≡ column.old.grid.to }
     requires from_second { halves.1.tile_from ≡ halves.0.tile_from }
     requires to_second { halves.1.tile_to ≡ halves.0.tile_to }
+    requires wide { halves.0.col + width_8 halves.0.size ≤ limit_of column.old }
+    requires wide_second { halves.1.col + width_8 halves.1.size ≤ limit_of column.old }
     requires room { 2 ≤ column.old.grid.room }
     ensures gives { GivesTile (in_order (plain_block setting.now.header setting.now.modes (lists_of setting.now.contexts) halves.0 (tile_of column.old planes.old)) (block_inside (walk_of setting.now column.old) halves.1.row halves.1.col halves.1.size))
         reader.old result column.new planes.new reader.new }

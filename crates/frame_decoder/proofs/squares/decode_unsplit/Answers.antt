@@ -2,6 +2,7 @@ use Rattle.std.proofs.Common.{◌≡◌, ◌∙◌, ◌+◌, ◌-◌, ◌^◌, �
 use Rattle.std.specs.Prelude.{Ok, Err}
 use Rattle.std.proofs.lemmas.Result.{err_from_is_err_and}
 use Rattle.frame_decoder.specs.Code.{walk_of}
+use Rattle.frame_decoder.proofs.BlockSteps.{first_wide, second_wide}
 use Rattle.frame_decoder.proofs.SquareReads.{square_below, square_beside, smallest_done, whole_done, rows_done, columns_done}
 use Rattle.frame_decoder.proofs.squares.decode_unsplit.Goals.{then-at-setting-via-then-at-setting, then-at-setting-via-else-at-setting+then-at-setting-2}
 use Rattle.frame_decoder.proofs.squares.decode_unsplit.Goals as goal
@@ -75,3 +76,21 @@ returns-in-Split-clause-gives g c = record {
   column = refl;
   samples = refl;
 }
+
+pub decode_block-requires-clause-wide : goal.decode_block-requires-clause-wide
+decode_block-requires-clause-wide g c = rw c.block_of-first.ensures (first_wide _ c.args.at.level c.args.at.col _ _ c.requires.most c.part_size-size.ensures.is c.requires.within.within)
+
+pub decode_block-in-Whole-requires-clause-wide : goal.decode_block-in-Whole-requires-clause-wide
+decode_block-in-Whole-requires-clause-wide g c = rw c.block_of-first.ensures (first_wide _ c.args.at.level c.args.at.col _ _ c.requires.most c.part_size-size.ensures.is c.requires.within.within)
+
+pub decode_halves-requires-clause-wide : goal.decode_halves-requires-clause-wide
+decode_halves-requires-clause-wide g c = rw c.block_of-first.ensures (first_wide _ c.args.at.level c.args.at.col _ _ c.requires.most c.part_size-size.ensures.is c.requires.within.within)
+
+pub decode_halves-requires-clause-wide_second : goal.decode_halves-requires-clause-wide_second
+decode_halves-requires-clause-wide_second g c = rw c.block_of-second.ensures (first_wide _ c.args.at.level c.args.at.col _ _ c.requires.most c.part_size-size.ensures.is c.requires.within.within)
+
+pub decode_halves-in-Vertical-requires-clause-wide : goal.decode_halves-in-Vertical-requires-clause-wide
+decode_halves-in-Vertical-requires-clause-wide g c = rw c.block_of-first.ensures (first_wide _ c.args.at.level c.args.at.col _ _ c.requires.most c.part_size-size.ensures.is c.requires.within.within)
+
+pub decode_halves-in-Vertical-requires-clause-wide_second : goal.decode_halves-in-Vertical-requires-clause-wide_second
+decode_halves-in-Vertical-requires-clause-wide_second g c = rw c.block_of-second-in-Vertical.ensures (second_wide _ c.args.at.level _ c.args.at.col _ _ (omega (arith, c.if-at-eq0.false)) c.requires.most c.part_size-size.ensures.is c.in-Vertical.is c.side_of-half.ensures.is c.requires.within.within)
