@@ -1,5 +1,14 @@
 -- A block of a tile whose blocks are put in as they are read.
-use Rattle.std.proofs.Common.{◌≡◌, ◌∙◌, ◌++◌, ◌∷◌, [], ℕ, refl, sym, ap, Bool, List}
+use Rattle.std.proofs.Common.{◌≡◌, ◌∙◌, ◌++◌, ◌∷◌, [], ℕ, zero, suc, ◌+◌, ◌-◌, ◌^◌, ◌≤◌, refl, sym, ap, arith, Bool, List}
+use Rattle.std.proofs.lemmas.List.Elements.{All-push}
+use Rattle.vp9_tables.specs.Blocks.{greatest_of}
+use Rattle.vp9_tables.specs.Numbers.{tx_number}
+use Rattle.vp9_types.specs.declared.block.BlockSize.{BlockSize}
+use Rattle.vp9_types.specs.declared.block.Partition.{Partition}
+use Rattle.vp9_types.specs.declared.block.Partition.TheVariants.{Vertical}
+use Rattle.block_geometry.specs.Partitions.{part_size}
+use Rattle.block_geometry.specs.Sizes.{width_8}
+use Rattle.mode_syntax.proofs.Mapped.{narrow, half, smallest, twice}
 use Rattle.std.specs.Prelude.{Some, Ok, Err, Option}
 use Rattle.vp9_types.specs.Maps.{FrameMap}
 use Rattle.vp9_types.specs.declared.block.Modes.{Modes}
@@ -22,7 +31,7 @@ use Rattle.block_residue.specs.Residues as residues
 use Rattle.block_residue.specs.declared.sides.TileSides.{TileSides}
 use Rattle.block_rebuild.specs.Blocks.{put_planned, put_by, put_intra}
 use Rattle.mode_syntax.specs.ModeInfo.{intra_frame_mode_info}
-use Rattle.frame_decoder.specs.Code.{PlainTile, plain_block}
+use Rattle.frame_decoder.specs.Code.{AllFit, AllLie, PlainTile, plain_block}
 use Rattle.frame_decoder.specs.Frames.{put_more}
 
 -- whether a block counts as skipped doesn't matter where it is put in
@@ -59,3 +68,38 @@ pub block_broken : (header : Header) (modes : Modes) (contexts : ContextLists) (
 unfolding plain_block
 block_broken header modes contexts at blocks sides map a b info rule modes_read residue =
     counting_bind _ _ _ ∙ rw modes_read (counting_bind _ _ _ ∙ rw residue refl)
+
+---- Listed blocks ----
+
+-- one more fits
+pub fits_more : (blocks : List BlockInfo) (b info : BlockInfo) (size : BlockSize) (any : Bool) → info ≡ listed b any → b.size ≡ size → tx_number b.tx ≤ greatest_of size
+    → AllFit blocks → AllFit (blocks ++ info ∷ [])
+fits_more blocks b info size any is sized fits all =
+    let here : tx_number b.tx ≤ greatest_of b.size = rw sized fits in
+    All-push (λ (b : BlockInfo). tx_number b.tx ≤ greatest_of b.size) blocks info all (rw is here)
+
+-- one more lies between the places
+pub lies_more : (from limit : ℕ) (blocks : List BlockInfo) (b info : BlockInfo) (at : BlockAt) (any : Bool) → info ≡ listed b any → b.col ≡ at.col → b.size ≡ at.size
+    → from ≤ at.col → at.col + width_8 at.size ≤ limit → AllLie from limit blocks → AllLie from limit (blocks ++ info ∷ [])
+lies_more from limit blocks b info at any is col sized first last all =
+    All-push (λ (b : BlockInfo). (from ≤ b.col) × (b.col + width_8 b.size ≤ limit)) blocks info all (rw is (rw col first, rw (col, sized) last))
+
+---- The widths of a square's parts ----
+
+pub wide_part : (p : Partition) (n : ℕ) → n ≤ 3 → width_8 (part_size p n) ≤ 2 ^ n
+wide_part p zero few = smallest p
+wide_part p (suc n) few = narrow n p few
+
+pub wide_half : (n : ℕ) → 1 ≤ n → n ≤ 3 → 2 ^ (n - 1) + width_8 (part_size Vertical n) ≤ 2 ^ n
+wide_half zero least few = absurd (omega arith)
+wide_half (suc n) least few =
+    let same : suc n - 1 ≡ n = omega arith in
+    rw same (omega (arith, half n few, twice n))
+
+-- a square's first part, and its second one at the right, lie in its columns
+pub first_wide : (p : Partition) (n col limit : ℕ) (size : BlockSize) → n ≤ 3 → size ≡ part_size p n → col + 2 ^ n ≤ limit → col + width_8 size ≤ limit
+first_wide p n col limit size few is within = rw is (omega (arith, wide_part p n few, within))
+
+pub second_wide : (p : Partition) (n half col limit : ℕ) (size : BlockSize) → 1 ≤ n → n ≤ 3 → size ≡ part_size p n → p ≡ Vertical → half ≡ 2 ^ (n - 1) → col + 2 ^ n ≤ limit
+    → col + half + width_8 size ≤ limit
+second_wide p n half col limit size least few is part side within = rw (is, part, side) (omega (arith, wide_half n least few, within))

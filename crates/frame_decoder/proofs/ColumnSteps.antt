@@ -16,7 +16,11 @@ use Rattle.vp9_types.specs.declared.shape.Shape.{Shape}
 use Rattle.frame_headers.specs.State.{shape_of}
 use Rattle.frame_headers.specs.declared.header.Header.{Header}
 use Rattle.frame_headers.specs.declared.tiles.TileInfo.{TileInfo}
+use Rattle.prob_contexts.specs.Counted.{counts_after, no_counts, with_bool}
 use Rattle.prob_contexts.specs.Lists.{lists_of}
+use Rattle.prob_contexts.specs.declared.kind.CountedBool.{CountedBool}
+use Rattle.counting_reader.specs.Counting.{counted_if}
+use Rattle.std.proofs.lemmas.List.Sums.{fold-append}
 use Rattle.block_geometry.specs.Frames.{places_of}
 use Rattle.block_geometry.specs.declared.transform_blocks.FramePlaces.{FramePlaces}
 use Rattle.block_residue.specs.Code.{FitPlane, FitPlanes}
@@ -26,7 +30,7 @@ use Rattle.frame_setting.specs.declared.setting.FrameSetting.{FrameSetting}
 use Rattle.mode_syntax.specs.Walk.{decode_tile}
 use Rattle.planes.specs.Pictures.{samples_of}
 use Rattle.planes.specs.declared.frame_planes.FramePlanes.{FramePlanes}
-use Rattle.frame_decoder.specs.Code.{PlainTile, ArePlanes, AreTileColumns, GivesRead, GivesWhole, HoldsRead, IsReady, IsTileColumn, SameColumns, blocks_of, column_as_listed, column_of_code, limit_of, plain_walk, read_whole, tile_of, walk_of}
+use Rattle.frame_decoder.specs.Code.{PlainTile, ArePlanes, AreTileColumns, GivesRead, GivesWhole, HoldsRead, IsReady, IsTileColumn, SameColumns, blocks_of, column_as_listed, column_of_code, counts_if, limit_of, plain_walk, read_whole, tile_of, walk_of}
 use Rattle.frame_decoder.specs.Reading.{Column, FrameRead, begun, column_at, infos, no_column, read_tile_of, sides_below}
 use Rattle.frame_decoder.specs.Tiles.{column_of, row_of, superblocks_before, tile_offset, tile_places}
 use Rattle.frame_decoder.specs.declared.columns.TileColumn.{TileColumn}
@@ -83,6 +87,8 @@ ready_of setting n k c sides planes h fit ready =
       fit = fit;
       sizes = ready.sizes;
       range = ready.range;
+      fit_blocks = h.fit_blocks;
+      lie = h.lie;
     }
 
 pub begins_there : (setting : FrameSetting) (n k : ℕ) (c : TileColumn) (t : TilePlaces) → k ≡ column_of setting.header.params.tiles n → t ≡ tile_places setting.places setting.header.params.tiles n
@@ -160,10 +166,20 @@ column_after setting n k c new sides planes t below at is h ready same left =
           (superblocks_before (mi_rows (shape_of setting.header)) tiles.rows_log2 r) c.grid.room new.grid.room tall.low tall.order tall.within
           (before_grows (mi_rows (shape_of setting.header)) tiles.rows_log2 (row_of tiles n + 1) r (next_row (2 ^ tiles.columns_log2) n r (row_of tiles n) k (place ∙ ap (λ k. row_of tiles n * 2 ^ tiles.columns_log2 + k) (sym at)) later))
           (room_there setting.header n k c at h) left);
+      fit_blocks = ready.fit_blocks;
+      lie = ready.lie;
     }
 
 later_is : (header : Header) (n k : ℕ) (c : TileColumn) → IsTileColumn header n k c → IsTileColumn header (n + 1) k c
-later_is header n k c h = record { rows = h.rows; from = h.from; to = h.to; fit = h.fit; room = λ r low. h.room r (omega (arith, low)) }
+later_is header n k c h = record {
+  rows = h.rows;
+  from = h.from;
+  to = h.to;
+  fit = h.fit;
+  room = λ r low. h.room r (omega (arith, low));
+  fit_blocks = h.fit_blocks;
+  lie = h.lie;
+}
 
 columns_with : (setting : FrameSetting) (n k : ℕ) (columns : List TileColumn) (new : TileColumn) → k < length columns
     → AreTileColumns setting.header n columns → IsTileColumn setting.header (n + 1) k new → AreTileColumns setting.header (n + 1) (slice_set columns k new)
@@ -178,14 +194,14 @@ columns_with setting n k columns new low h is = record {
   ];
 }
 
-pub columns_after : (setting : FrameSetting) (n k : ℕ) (columns : List TileColumn) (x new : TileColumn) (sides : TileSides) (planes : FramePlanes) (t : TilePlaces) (result : Result (Unit {0}) Rule)
+pub columns_after : (setting : FrameSetting) (n k : ℕ) (columns : List TileColumn) (x new : TileColumn) (sides : TileSides) (planes : FramePlanes) (t : TilePlaces) (result : Result (List ℕ) Rule)
     → n < 2 ^ setting.header.params.tiles.columns_log2 * 2 ^ setting.header.params.tiles.rows_log2 → k < length columns
     → k ≡ column_of setting.header.params.tiles n → t ≡ tile_places setting.places setting.header.params.tiles n → AreTileColumns setting.header n columns
     → OnOk result (IsReady setting new planes) → OnOk result (SameColumns (with_sides (slice_index_or columns k x) sides) new)
     → OnOk result ((slice_index_or columns k x).grid.room ≤ new.grid.room
     + 64 * (superblocks_along ((slice_index_or columns k x).grid.to - (slice_index_or columns k x).grid.from) * superblocks_along (t.row_to - t.row_from)))
     → OnOk result (AreTileColumns setting.header (n + 1) (slice_set columns k new))
-columns_after setting n k columns x new sides planes t (Ok u) below low at is h ready same left =
+columns_after setting n k columns x new sides planes t (Ok counts) below low at is h ready same left =
     columns_with setting n k columns new low h (column_after setting n k (slice_index_or columns k x) new sides planes t below at is (h.each k x low) ready same left)
 columns_after setting n k columns x new sides planes t (Err rule) below low at is h ready same left = tt
 
@@ -235,27 +251,39 @@ walk_told setting n k c planes m read t at is h s state =
     λ i. decode_tile (plain_walk setting.header setting.modes (lists_of setting.contexts) (setting.whole i) (from i) (to i)) (superblocks_along ((same i).col_to - (same i).col_from)) (same i).row_from (same i).col_from
     (superblocks_along ((same i).row_to - (same i).row_from)) (state i)
 
-pub gives_nth : (setting : FrameSetting) (n k : ℕ) (columns : List TileColumn) (x new : TileColumn) (planes after_it : FramePlanes) (t : TilePlaces) (bytes : List ℕ) (result : Result (Unit {0}) Rule)
+-- counts go on from those before
+counted_on : (counting : Bool) (xs ys : List CountedBool) → counted_if counting (counts_if counting xs) ys ≡ counts_if counting (xs ++ ys)
+unfolding counts_after
+counted_on true xs ys = sym (fold-append with_bool no_counts xs ys)
+counted_on false xs ys = refl
+
+pub none_counted : (counting : Bool) (counts : List ℕ) → counts ≡ no_counts → counts ≡ counts_if counting []
+unfolding counts_after
+none_counted true counts is = is
+none_counted false counts is = is
+
+pub gives_nth : (setting : FrameSetting) (n k : ℕ) (columns : List TileColumn) (x new : TileColumn) (planes after_it : FramePlanes) (t : TilePlaces) (bytes before : List ℕ) (counting : Bool) (result : Result (List ℕ) Rule)
     → k ≡ column_of setting.header.params.tiles n → k < length columns → t ≡ tile_places setting.places setting.header.params.tiles n
     → IsTileColumn setting.header n k (slice_index_or columns k x)
-    → GivesWhole (read_whole (decode_tile (walk_of setting (slice_index_or columns k x)) (superblocks_along (t.col_to - t.col_from)) t.row_from t.col_from (superblocks_along (t.row_to - t.row_from))
+    → GivesWhole counting before (read_whole (decode_tile (walk_of setting (slice_index_or columns k x)) (superblocks_along (t.col_to - t.col_from)) t.row_from t.col_from (superblocks_along (t.row_to - t.row_from))
     (tile_of (with_sides (slice_index_or columns k x) (cleared (slice_index_or columns k x).sides)) planes)) bytes) result new after_it
-    → (read : FrameRead) → HoldsRead setting.header columns planes read
-    → GivesRead setting.header (read_tile_of setting.header setting.modes (lists_of setting.contexts) n bytes read) result (slice_set columns k new) after_it
-gives_nth setting n k columns x new planes after_it t bytes (Ok u) at low is h gives read holds =
+    → (read : FrameRead) → HoldsRead setting.header columns planes read → before ≡ counts_if counting read.counted
+    → GivesRead setting.header counting (read_tile_of setting.header setting.modes (lists_of setting.contexts) n bytes read) result (slice_set columns k new) after_it
+gives_nth setting n k columns x new planes after_it t bytes before counting (Ok counts) at low is h gives read holds so_far =
     let header = setting.header in
     let state = state_told header n k columns planes read x at low h holds in
     let same = walk_told setting n k (slice_index_or columns k x) planes (samples_of planes) read t at is h _ state in
-    let done = tile_done header setting.modes (lists_of setting.contexts) (samples_of planes) (samples_of after_it) n bytes read (tile_of new after_it) holds.map_held
-    (ap (λ s. read_whole s bytes) (sym same) ∙ gives) refl in (
+    let done = tile_done header setting.modes (lists_of setting.contexts) (samples_of planes) (samples_of after_it) n bytes read (record { value = tile_of new after_it; counted = gives.0 }) holds.map_held
+    (ap (λ s. read_whole s bytes) (sym same) ∙ gives.1) refl in (
       done.0,
       done.1,
       record {
         columns_held = map-set column_of_code columns k new ∙ (λ i. slice_set (holds.columns_held i) (at i) (column_of_code new)) ∙ sym done.2;
         map_held = done.3;
       },
+      gives.2 ∙ ap (λ counts. counted_if counting counts gives.0) so_far ∙ counted_on counting read.counted gives.0 ∙ ap (counts_if counting) (sym done.4),
     )
-gives_nth setting n k columns x new planes after_it t bytes (Err rule) at low is h gives read holds =
+gives_nth setting n k columns x new planes after_it t bytes before counting (Err rule) at low is h gives read holds so_far =
     let header = setting.header in
     let state = state_told header n k columns planes read x at low h holds in
     let same = walk_told setting n k (slice_index_or columns k x) planes (samples_of planes) read t at is h _ state in
@@ -322,8 +350,8 @@ blocks_told columns read held = sym (of_code columns) ∙ ap (map (λ told. told
 pub begins : (header : Header) (k : ℕ) (c : TileColumn) → c.grid.rows ≡ mi_rows (shape_of header)
     → c.grid.from ≡ tile_offset (mi_cols (shape_of header)) header.params.tiles.columns_log2 k → c.grid.to ≡ tile_offset (mi_cols (shape_of header)) header.params.tiles.columns_log2 (k + 1)
     → FitPlanes (shape_of header) c.sides
-    → c.grid.room ≡ 64 * (superblocks_along (c.grid.to - c.grid.from) * superblocks_along (mi_rows (shape_of header))) → IsTileColumn header 0 k c
-begins header k c rows from to fit room = record {
+    → c.grid.room ≡ 64 * (superblocks_along (c.grid.to - c.grid.from) * superblocks_along (mi_rows (shape_of header))) → c.grid.blocks ≡ [] → IsTileColumn header 0 k c
+begins header k c rows from to fit room none = record {
   rows = rows;
   from = from;
   to = to;
@@ -333,4 +361,6 @@ begins header k c rows from to fit room = record {
       let less : superblocks_along rows - superblocks_before rows header.params.tiles.rows_log2 r ≤ superblocks_along rows = omega arith in
       let most = mul-le-mul_left (superblocks_along (c.grid.to - c.grid.from)) less in
       rw room (omega (arith, most));
+  fit_blocks = rw none tt;
+  lie = rw none tt;
 }

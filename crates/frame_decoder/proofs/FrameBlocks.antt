@@ -2,6 +2,7 @@
 use Rattle.std.proofs.Common.{◌≡◌, ◌∙◌, ◌⊎◌, ℕ, zero, suc, ◌+◌, ◌-◌, ◌*◌, ◌/◌, ◌^◌, ◌<◌, ◌≤◌, List, [], ◌∷◌, ◌++◌, length, map, get_or, inl, inr, refl, sym, ap, subst, arith, Bool, true, false}
 use Rattle.std.specs.Prelude.{◌&&◌, Option, Some, None, All, min, nat_le, nat_lt, slice_index_or, if◌then◌else◌}
 use Rattle.std.proofs.lemmas.List.{get_or-map, length-map}
+use Rattle.std.proofs.lemmas.List.Elements.{All-append}
 use Rattle.std.proofs.lemmas.Bool.{le-ltb, lt-leb}
 use Rattle.vp9_types.specs.Maps.{is_within}
 use Rattle.vp9_types.specs.Shapes.{mi_cols}
@@ -9,9 +10,11 @@ use Rattle.vp9_types.specs.Sizes.{superblocks_along}
 use Rattle.block_geometry.specs.Sizes.{height_8, width_8}
 use Rattle.block_plan.specs.Blocks.{covers, covering, or_else}
 use Rattle.block_plan.specs.declared.block.BlockInfo.{BlockInfo}
+use Rattle.vp9_tables.specs.Blocks.{greatest_of}
+use Rattle.vp9_tables.specs.Numbers.{tx_number}
 use Rattle.frame_headers.specs.State.{shape_of}
 use Rattle.frame_headers.specs.declared.header.Header.{Header}
-use Rattle.frame_decoder.specs.Code.{AllFit, AllLie, AreTileColumns, blocks_of, limit_of}
+use Rattle.frame_decoder.specs.Code.{AllFit, AllLie, AreTileColumns, HasStarts, blocks_of, limit_of}
 use Rattle.frame_decoder.specs.Frames.{all_blocks}
 use Rattle.frame_decoder.specs.Tiles.{superblocks_before, tile_offset}
 use Rattle.frame_decoder.specs.declared.columns.TileColumn.{TileColumn}
@@ -131,7 +134,20 @@ covered_in_column header n k r c columns d are there from to =
             let within : j < length columns = omega (arith, low, many columns) in
             ap (λ blocks. covering blocks r c) (block_list_at columns j d within) ∙ elsewhere header n k j r c columns d are within apart from to))
 
-all_fit : (header : Header) (n : ℕ) (columns : List TileColumn) (d : TileColumn) → AreTileColumns header n columns → (j : ℕ) → j < length (blocks_of columns) → AllFit (get_or (blocks_of columns) j [])
-all_fit header n columns d are j low =
-    let within : j < length columns = omega (arith, low, many columns) in
-    subst AllFit (sym (block_list_at columns j d within)) (are.each j d within).fit_blocks
+fit_joined : (columns : List (List BlockInfo)) → ((j : ℕ) → j < length columns → AllFit (get_or columns j [])) → AllFit (all_blocks columns)
+fit_joined [] fit = λ i d low. absurd (omega (arith, low))
+fit_joined (xs ∷ columns) fit =
+    All-append (λ b. tx_number b.tx ≤ greatest_of b.size) xs (all_blocks columns) (fit zero (omega arith)) (fit_joined columns (λ j low. fit (suc j) (omega (arith, low))))
+
+-- no block of the frame has a transform that is larger than it
+pub all_fit : (header : Header) (n : ℕ) (columns : List TileColumn) → AreTileColumns header n columns → AllFit (all_blocks (blocks_of columns))
+all_fit header n columns are = fit_joined (blocks_of columns) (one columns are)
+  where
+    one : (columns : List TileColumn) → AreTileColumns header n columns → (j : ℕ) → j < length (blocks_of columns) → AllFit (get_or (blocks_of columns) j [])
+    one [] are j low = absurd (omega (arith, low))
+    one (c ∷ rest) are j low =
+        let within : j < length (c ∷ rest) = omega (arith, low, many (c ∷ rest)) in
+        subst AllFit (sym (block_list_at (c ∷ rest) j c within)) (are.each j c within).fit_blocks
+
+pub starts_of : (header : Header) (n : ℕ) (columns : List TileColumn) → AreTileColumns header n columns → All (HasStarts header) columns
+starts_of header n columns are = λ k d low. (are.each k d low).starts

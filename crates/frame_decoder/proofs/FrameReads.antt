@@ -28,12 +28,14 @@ use Rattle.prob_contexts.specs.Lists.{ContextLists}
 use Rattle.block_geometry.specs.Frames.{places_of}
 use Rattle.block_plan.specs.declared.block.BlockInfo.{BlockInfo}
 use Rattle.mode_syntax.specs.Walk.{decode_tile}
-use Rattle.frame_decoder.specs.Code.{PlainTile, column_as_listed, plain_walk, read_whole, value_of}
-use Rattle.frame_decoder.specs.Frames.{FrameInput, FrameResult, decoded, put_more, raw, read_all_tiles, read_frame, rebuilt}
+use Rattle.frame_decoder.specs.Code.{PlainTile, column_as_listed, plain_walk, read_whole, settled_of}
+use Rattle.loop_edges.specs.Cells.{setting_of}
+use Rattle.loop_edges.specs.Edges.{filtered_frame}
+use Rattle.frame_decoder.specs.Frames.{FrameInput, FrameResult, all_blocks, blocks_read, decoded, put_more, raw, read_all_tiles, read_frame, rebuilt}
 use Rattle.frame_decoder.specs.Reading.{Column, FrameRead, TileRead, begun, column_after, column_at, infos, nothing_read, read_tile, read_tile_of, read_tiles, with_tile}
 use Rattle.frame_decoder.specs.Tiles.{tile_places, column_of}
 use Rattle.frame_decoder.specs.declared.tile_places.TilePlaces.{TilePlaces}
-use Rattle.frame_decoder.proofs.TileReads.{tile_seen, values_mapped, view}
+use Rattle.frame_decoder.proofs.TileReads.{seen_by, tile_seen, values_mapped, view}
 
 ---- A tile ----
 
@@ -51,28 +53,28 @@ abbrev pub tile_before : Header → FrameMap → ℕ → FrameRead → PlainTile
 tile_before header m n f = view (shape_of header) m (begun (shape_of header) (column_at header f (column_of header.params.tiles n)))
 
 breaks_by : (w : Result Window Rule) (s : Syntax ℕ Rule (Settled TileRead)) (shape : Shape) (m : FrameMap) (rule : Rule) (k : ℕ) (f : FrameRead)
-    → (w >>= λ v. value_of (run_bools (mapped (view shape m) s) v)) ≡ Err rule
+    → (w >>= λ v. settled_of (run_bools (mapped (view shape m) s) v)) ≡ Err rule
     → (w >>= λ v. run_bools s v >>= λ read. Ok (with_tile k f read.0)) ≡ Err rule
 breaks_by (Err e) s shape m rule k f is = let same : e ≡ rule = cc in ap (λ z. Err z) same
 breaks_by (Ok v) s shape m rule k f is = by_run (run_bools s v) (sym (values_mapped (view shape m) s v) ∙ is)
   where
-    by_run : (r : Result (Settled TileRead × Window) Rule) → map_ok (view shape m) (value_of r) ≡ Err rule → (r >>= λ read. Ok (with_tile k f read.0)) ≡ Err rule
+    by_run : (r : Result (Settled TileRead × Window) Rule) → map_ok (seen_by (view shape m)) (settled_of r) ≡ Err rule → (r >>= λ read. Ok (with_tile k f read.0)) ≡ Err rule
     by_run (Ok p) h = let no : ⊥ = cc in absurd no
     by_run (Err e) h = let same : e ≡ rule = cc in ap (λ z. Err z) same
 
 -- what is read of a tile whose plain decoding settles so
-record IsRead (w : Result Window Rule) (t : Syntax ℕ Rule (Settled TileRead)) (shape : Shape) (m : FrameMap) (s : PlainTile) (k : ℕ) (f : FrameRead) : Type 0 where
+record IsRead (w : Result Window Rule) (t : Syntax ℕ Rule (Settled TileRead)) (shape : Shape) (m : FrameMap) (s : Settled PlainTile) (k : ℕ) (f : FrameRead) : Type 0 where
   tile : Settled TileRead
   reads : (w >>= λ v. run_bools t v >>= λ read. Ok (with_tile k f read.0)) ≡ Ok (with_tile k f tile)
-  seen : view shape m tile.value ≡ s
+  seen : seen_by (view shape m) tile ≡ s
 
-read_by : (w : Result Window Rule) (t : Syntax ℕ Rule (Settled TileRead)) (shape : Shape) (m : FrameMap) (s : PlainTile) (k : ℕ) (f : FrameRead)
-    → (w >>= λ v. value_of (run_bools (mapped (view shape m) t) v)) ≡ Ok s → IsRead w t shape m s k f
+read_by : (w : Result Window Rule) (t : Syntax ℕ Rule (Settled TileRead)) (shape : Shape) (m : FrameMap) (s : Settled PlainTile) (k : ℕ) (f : FrameRead)
+    → (w >>= λ v. settled_of (run_bools (mapped (view shape m) t) v)) ≡ Ok s → IsRead w t shape m s k f
 read_by (Err e) t shape m s k f is = let no : ⊥ = cc in absurd no
 read_by (Ok v) t shape m s k f is = by_run (run_bools t v) refl (sym (values_mapped (view shape m) t v) ∙ is)
   where
-    by_run : (r : Result (Settled TileRead × Window) Rule) → run_bools t v ≡ r → map_ok (view shape m) (value_of r) ≡ Ok s → IsRead (Ok v) t shape m s k f
-    by_run (Ok p) so h = let same : view shape m p.0.value ≡ s = cc in record { tile = p.0; reads = rw so refl; seen = same }
+    by_run : (r : Result (Settled TileRead × Window) Rule) → run_bools t v ≡ r → map_ok (seen_by (view shape m)) (settled_of r) ≡ Ok s → IsRead (Ok v) t shape m s k f
+    by_run (Ok p) so h = let same : seen_by (view shape m) p.0 ≡ s = cc in record { tile = p.0; reads = rw so refl; seen = same }
     by_run (Err e) so h = let no : ⊥ = cc in absurd no
 
 -- the tile's walk, with and without samples
@@ -92,27 +94,28 @@ pub tile_breaks : (header : Header) (modes : Modes) (contexts : ContextLists) (m
 unfolding read_tile_of read_whole
 tile_breaks header modes contexts m n bytes f rule breaks =
     breaks_by (started bytes) _ (shape_of header) m rule (column_of header.params.tiles n) f
-    (ap (λ s. started bytes >>= λ w. value_of (run_bools s w)) (sym (tile_told header modes contexts m n f)) ∙ breaks)
+    (ap (λ s. started bytes >>= λ w. settled_of (run_bools s w)) (sym (tile_told header modes contexts m n f)) ∙ breaks)
 
 -- it leaves what the plain decoder settles on
-pub tile_done : (header : Header) (modes : Modes) (contexts : ContextLists) (m after_it : FrameMap) (n : ℕ) (bytes : List ℕ) (f : FrameRead) (s : PlainTile)
+pub tile_done : (header : Header) (modes : Modes) (contexts : ContextLists) (m after_it : FrameMap) (n : ℕ) (bytes : List ℕ) (f : FrameRead) (s : Settled PlainTile)
     → raw (shape_of header) f.blocks ≡ Some m
-    → read_whole (plain_tile header modes contexts (tile_at header n) (tile_before header m n f)) bytes ≡ Ok s → s.map ≡ Some after_it
+    → read_whole (plain_tile header modes contexts (tile_at header n) (tile_before header m n f)) bytes ≡ Ok s → s.value.map ≡ Some after_it
     → (read : FrameRead) × (read_tile_of header modes contexts n bytes f ≡ Ok read)
-    × (map column_as_listed read.columns ≡ slice_set (map column_as_listed f.columns) (column_of header.params.tiles n) (s.blocks, s.sides.y.above, s.sides.u.above, s.sides.v.above))
-    × (raw (shape_of header) read.blocks ≡ Some after_it)
+    × (map column_as_listed read.columns ≡ slice_set (map column_as_listed f.columns) (column_of header.params.tiles n) (s.value.blocks, s.value.sides.y.above, s.value.sides.u.above, s.value.sides.v.above))
+    × (raw (shape_of header) read.blocks ≡ Some after_it) × (read.counted ≡ f.counted ++ s.counted)
 unfolding read_tile_of read_whole raw
 tile_done header modes contexts m after_it n bytes f s put reads whole =
     let shape = shape_of header in
     let k = column_of header.params.tiles n in
     let q = read_by (started bytes) _ shape m s k f
-    (ap (λ s. started bytes >>= λ w. value_of (run_bools s w)) (sym (tile_told header modes contexts m n f)) ∙ reads) in
-    let now : fold (put_more shape) (Some m) q.tile.value.blocks ≡ Some after_it = ap (λ (t : PlainTile). t.map) q.seen ∙ whole in (
+    (ap (λ s. started bytes >>= λ w. settled_of (run_bools s w)) (sym (tile_told header modes contexts m n f)) ∙ reads) in
+    let now : fold (put_more shape) (Some m) q.tile.value.blocks ≡ Some after_it = ap (λ (t : Settled PlainTile). t.value.map) q.seen ∙ whole in (
       with_tile k f q.tile,
       q.reads,
       map-set column_as_listed f.columns k (column_after q.tile.value)
-          ∙ ap (λ (t : PlainTile). slice_set (map column_as_listed f.columns) k (t.blocks, t.sides.y.above, t.sides.u.above, t.sides.v.above)) q.seen,
+          ∙ ap (λ (t : Settled PlainTile). slice_set (map column_as_listed f.columns) k (t.value.blocks, t.value.sides.y.above, t.value.sides.u.above, t.value.sides.v.above)) q.seen,
       fold-append (put_more shape) (Some blank) f.blocks q.tile.value.blocks ∙ ap (λ o. fold (put_more shape) o q.tile.value.blocks) put ∙ now,
+      ap (λ (t : Settled PlainTile). f.counted ++ t.counted) q.seen,
     )
 
 ---- All tiles ----
@@ -220,6 +223,6 @@ nothing_put shape = refl
 pub frame_done : (f : FrameInput) (updated : ContextLists × Modes) (read : FrameRead) (m : FrameMap)
     → forward f.header f.before (slice_range f.bytes f.compressed.from f.compressed.to) ≡ Ok updated
     → read_all_tiles f.header updated.1 updated.0 f.bytes f.compressed ≡ Ok read → raw (shape_of f.header) read.blocks ≡ Some m
-    → decoded f ≡ Ok (record { blocks = map (λ c. infos c.blocks) read.columns; map = m; counted = read.counted; contexts = updated.0 })
+    → decoded f ≡ Ok (record { blocks = blocks_read read; map = filtered_frame (setting_of f.header) (all_blocks (blocks_read read)) m; counted = read.counted; contexts = updated.0 })
 unfolding decoded read_frame
-frame_done f updated read m made reads put = rw made (rw reads (ap (rebuilt (read, updated.0)) put))
+frame_done f updated read m made reads put = rw made (rw reads (ap (rebuilt f.header (read, updated.0)) put))

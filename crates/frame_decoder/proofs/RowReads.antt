@@ -1,6 +1,6 @@
 -- What is read in turns, each 8 places on from the one before it: while so many turns are done, reading the rest from
 -- there is reading all.
-use Rattle.std.proofs.Common.{◌≡◌, ◌∙◌, ℕ, suc, ◌+◌, ◌-◌, ◌*◌, ◌<◌, ◌≤◌, refl, ap, arith}
+use Rattle.std.proofs.Common.{◌≡◌, ◌∙◌, ℕ, suc, ◌+◌, ◌-◌, ◌*◌, ◌<◌, ◌≤◌, refl, sym, ap, arith}
 use Rattle.std.specs.Prelude.{List, Result, Ok, Err}
 use Rattle.vp9_types.specs.Syntax.{Syntax}
 use Rattle.vp9_types.specs.Reading.{after}
@@ -8,7 +8,12 @@ use Rattle.vp9_types.specs.declared.rule.Rule.{Rule}
 use Rattle.counting_reader.specs.Code.{standing_of}
 use Rattle.counting_reader.specs.Counting.{Settled, Standing, run_counting}
 use Rattle.counting_reader.specs.declared.reader.CountingReader.{CountingReader}
+use Rattle.vp9_types.specs.Sizes.{superblocks_along}
 use Rattle.mode_syntax.specs.Walk.{Walk, decode_partition, decode_row, decode_tile}
+use Rattle.mode_syntax.specs.declared.square_at.SquareAt.{SquareAt}
+use Rattle.frame_decoder.specs.Code.{IsSquareIn, SameColumns, limit_of}
+use Rattle.frame_decoder.specs.declared.columns.TileColumn.{TileColumn}
+use Rattle.frame_decoder.proofs.SquareReads.{same_limit}
 use Rattle.counting_reader.proofs.CountingRuns.{counting_bind, run_settle}
 
 -- of so many turns from a place on
@@ -102,3 +107,17 @@ pub rows_room : (wide i start before after_it : ℕ) → start ≤ before + 64 *
 rows_room wide i start before after_it first second =
     let more : wide * (i + 1) ≡ wide * i + wide = grind arith in
     omega (arith, first, second, more)
+
+-- the i-th superblock of a row lies in the column, which has room for it
+pub row_square : (before c : TileColumn) (first : SquareAt) (i n : ℕ) → SameColumns before c → first.tile_from ≡ before.grid.from → first.tile_to ≡ before.grid.to
+    → first.col ≡ first.tile_from → first.level ≡ 3 → n ≡ superblocks_along (first.tile_to - first.tile_from) → i < n
+    → 64 * superblocks_along (before.grid.to - before.grid.from) ≤ before.grid.room → before.grid.room ≤ c.grid.room + 64 * i
+    → IsSquareIn c (record { row = first.row; col = first.col + 8 * i; level = first.level; tile_from = first.tile_from; tile_to = first.tile_to })
+row_square before c first i n same from to begin level count more room used =
+    let all : n ≡ superblocks_along (before.grid.to - before.grid.from) = count ∙ (λ j. superblocks_along (to j - from j)) in record {
+      first = omega (arith, begin);
+      within = rw (level, same_limit _ _ same) (omega (arith, begin, from, all, more));
+      from = from ∙ sym same.from;
+      to = to ∙ sym same.to;
+      room = rw level (omega (arith, all, more, room, used));
+    }

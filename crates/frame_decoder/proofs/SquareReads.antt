@@ -21,7 +21,7 @@ use Rattle.counting_reader.specs.declared.reader.CountingReader.{CountingReader}
 use Rattle.mode_syntax.specs.Partitions.{partition_at}
 use Rattle.mode_syntax.specs.Walk.{Walk, block_at, square_at, starts_inside, block_inside, smallest_parts, parts, decode_partition}
 use Rattle.planes.specs.declared.frame_planes.FramePlanes.{FramePlanes}
-use Rattle.frame_decoder.specs.Code.{PlainTile, GivesTile, SameColumns, plain_walk, walk_of, limit_of}
+use Rattle.frame_decoder.specs.Code.{PlainTile, GivesTile, SameColumns, plain_block, plain_walk, tile_of, walk_of, limit_of}
 use Rattle.frame_decoder.specs.declared.columns.TileColumn.{TileColumn}
 use Rattle.counting_reader.proofs.CountingRuns.{counting_bind, run_settle}
 
@@ -138,41 +138,6 @@ columns_give walk n k half r c s p first size old new result column planes part 
     let sized : size ≡ part_size Vertical (suc k) = is ∙ (λ i. part_size (part i) (level i)) in
     rw part (rw (place, sized, side) at gives)
 
-pub split_gives : {m : ℕ} (walk : Walk PlainTile) (k r c : ℕ) (s : PlainTile) (p : Partition) (old new : CountingReader m) (result : Result (Unit {0}) Rule) (column : TileColumn) (planes : FramePlanes)
-    → p ≡ Split → GivesTile (parts walk (decode_partition walk k) k r c s Split) old result column planes new
-    → GivesTile (parts walk (decode_partition walk k) k r c s p) old result column planes new
-split_gives walk k r c s p old new result column planes part gives = rw part gives
-
-pub quarters_give : {m : ℕ} (walk : Walk PlainTile) (k half r c : ℕ) (s t u v : PlainTile) (a b d e f : CountingReader m) (result : Result (Unit {0}) Rule) (column : TileColumn) (planes : FramePlanes)
-    → half ≡ 2 ^ k → Reads (decode_partition walk k r c s) a t b → Reads (decode_partition walk k r (c + half) t) b u d
-    → Reads (decode_partition walk k (r + half) c u) d v e → GivesTile (decode_partition walk k (r + half) (c + half) v) e result column planes f
-    → GivesTile (parts walk (decode_partition walk k) k r c s Split) a result column planes f
-unfolding parts
-quarters_give walk k half r c s t u v a b d e f result column planes side first second third fourth =
-    then_gives _ _ t a b f result column planes first
-    (then_gives _ _ u b d f result column planes (rw side at second)
-    (then_gives _ _ v d e f result column planes (rw side at third) (rw side at fourth)))
-
-pub second_breaks : {m : ℕ} (walk : Walk PlainTile) (k half r c : ℕ) (s t : PlainTile) (a b : CountingReader m) (rule : Rule)
-    → half ≡ 2 ^ k → Reads (decode_partition walk k r c s) a t b → run_counting (decode_partition walk k r (c + half) t) (standing_of b) ≡ Err rule
-    → run_counting (parts walk (decode_partition walk k) k r c s Split) (standing_of a) ≡ Err rule
-unfolding parts
-second_breaks walk k half r c s t a b rule side first second = counting_bind _ _ _ ∙ rw first (then_breaks _ _ b rule (rw side at second))
-
-pub third_breaks : {m : ℕ} (walk : Walk PlainTile) (k half r c : ℕ) (s t u : PlainTile) (a b d : CountingReader m) (rule : Rule)
-    → half ≡ 2 ^ k → Reads (decode_partition walk k r c s) a t b → Reads (decode_partition walk k r (c + half) t) b u d
-    → run_counting (decode_partition walk k (r + half) c u) (standing_of d) ≡ Err rule
-    → run_counting (parts walk (decode_partition walk k) k r c s Split) (standing_of a) ≡ Err rule
-unfolding parts
-third_breaks walk k half r c s t u a b d rule side first second third =
-    counting_bind _ _ _ ∙ rw first (counting_bind _ _ _ ∙ rw (rw side at second) (then_breaks _ _ d rule (rw side at third)))
-
-pub first_breaks : {m : ℕ} (walk : Walk PlainTile) (k r c : ℕ) (s : PlainTile) (a : CountingReader m) (rule : Rule)
-    → run_counting (decode_partition walk k r c s) (standing_of a) ≡ Err rule
-    → run_counting (parts walk (decode_partition walk k) k r c s Split) (standing_of a) ≡ Err rule
-unfolding parts
-first_breaks walk k r c s a rule first = then_breaks _ _ a rule first
-
 ---- Levels ----
 
 pub halved_side : (n : ℕ) → 1 ≤ n → 2 ^ n ≡ 2 ^ (n - 1) + 2 ^ (n - 1)
@@ -195,3 +160,66 @@ block_is walk at block r c size sized from to is same = is ∙ (λ i. record { r
 pub partition_read : {m : ℕ} (intra : Bool) (probs : List ℕ) (blocks : List BlockInfo) (frame : FramePlaces) (at there : SquareAt) (old new : CountingReader m) (p : Partition) → at ≡ there
     → Reads (partition_at intra probs blocks frame at) old p new → Reads (partition_at intra probs blocks frame there) old p new
 partition_read intra probs blocks frame at there old new p is read = rw (sym is) read
+
+-- a square that starts inside the frame, and whose partition is read
+pub record IsOpened (setting : FrameSetting) (c : TileColumn) (at : SquareAt) (p : Partition) (old new : Standing) : Type 0 where
+  pub from : at.tile_from ≡ c.grid.from
+  pub to : at.tile_to ≡ c.grid.to
+  pub row : at.row < setting.places.rows
+  pub col : at.col < setting.places.cols
+  pub read : run_counting (partition_at true (lists_of setting.contexts).partitions c.grid.blocks setting.places at) old ≡ Ok (p, new)
+
+-- a square of 8x8 is one block, or four that are read as one
+pub smallest_done : {m : ℕ} (setting : FrameSetting) (c : TileColumn) (before : FramePlanes) (at : SquareAt) (p : Partition) (first : BlockAt) (size : BlockSize) (old mid new : CountingReader m)
+    (result : Result (Unit {0}) Rule) (column : TileColumn) (planes : FramePlanes) → IsOpened setting c at p (standing_of old) (standing_of mid) → at.level ≡ 0 → size ≡ part_size p at.level
+    → first ≡ record { row = at.row; col = at.col; size = size; tile_from = at.tile_from; tile_to = at.tile_to }
+    → GivesTile (plain_block setting.header setting.modes (lists_of setting.contexts) first (tile_of c before)) mid result column planes new
+    → GivesTile (decode_partition (walk_of setting c) at.level at.row at.col (tile_of c before)) old result column planes new
+smallest_done setting c before at p first size old mid new result column planes h level sized is gives =
+    let walk = walk_of setting c in
+    let small : size ≡ part_size p 0 = sized ∙ (λ i. part_size p (level i)) in
+    smallest_gives walk at.level at.row at.col (tile_of c before) p first old mid new result column planes h.row h.col level
+    (block_is walk at first at.row at.col size (part_size p 0) h.from h.to is small)
+    (partition_read true walk.probs c.grid.blocks walk.frame at (square_at walk at.level at.row at.col) old mid p (square_is walk at h.from h.to) h.read) gives
+
+pub whole_done : {m : ℕ} (setting : FrameSetting) (c : TileColumn) (before : FramePlanes) (at : SquareAt) (p : Partition) (first : BlockAt) (size : BlockSize) (old mid new : CountingReader m)
+    (result : Result (Unit {0}) Rule) (column : TileColumn) (planes : FramePlanes) → IsOpened setting c at p (standing_of old) (standing_of mid) → 1 ≤ at.level → size ≡ part_size p at.level
+    → first ≡ record { row = at.row; col = at.col; size = size; tile_from = at.tile_from; tile_to = at.tile_to } → p ≡ Whole
+    → GivesTile (plain_block setting.header setting.modes (lists_of setting.contexts) first (tile_of c before)) mid result column planes new
+    → GivesTile (decode_partition (walk_of setting c) at.level at.row at.col (tile_of c before)) old result column planes new
+whole_done setting c before at p first size old mid new result column planes h least sized is part gives =
+    let walk = walk_of setting c in
+    let k = at.level - 1 in
+    let level : at.level ≡ k + 1 = omega (arith, least) in
+    let next : at.level ≡ suc k = omega (arith, least) in
+    parts_give walk at.level k at.row at.col (tile_of c before) p old mid new result column planes h.row h.col level
+    (partition_read true walk.probs c.grid.blocks walk.frame at (square_at walk at.level at.row at.col) old mid p (square_is walk at h.from h.to) h.read)
+    (whole_gives walk at.level k at.row at.col (tile_of c before) p first size mid new result column planes part next sized (block_is walk at first at.row at.col size size h.from h.to is refl) gives)
+
+pub rows_done : {m : ℕ} (setting : FrameSetting) (c : TileColumn) (before : FramePlanes) (at : SquareAt) (p : Partition) (first : BlockAt) (size : BlockSize) (half : ℕ) (old mid new : CountingReader m)
+    (result : Result (Unit {0}) Rule) (column : TileColumn) (planes : FramePlanes) → IsOpened setting c at p (standing_of old) (standing_of mid) → 1 ≤ at.level → size ≡ part_size p at.level
+    → first ≡ record { row = at.row; col = at.col; size = size; tile_from = at.tile_from; tile_to = at.tile_to } → p ≡ Horizontal → half ≡ 2 ^ (at.level - 1)
+    → GivesTile (in_order (plain_block setting.header setting.modes (lists_of setting.contexts) first (tile_of c before)) (block_inside (walk_of setting c) (at.row + half) at.col size)) mid result column planes new
+    → GivesTile (decode_partition (walk_of setting c) at.level at.row at.col (tile_of c before)) old result column planes new
+rows_done setting c before at p first size half old mid new result column planes h least sized is part side gives =
+    let walk = walk_of setting c in
+    let k = at.level - 1 in
+    let level : at.level ≡ k + 1 = omega (arith, least) in
+    let next : at.level ≡ suc k = omega (arith, least) in
+    parts_give walk at.level k at.row at.col (tile_of c before) p old mid new result column planes h.row h.col level
+    (partition_read true walk.probs c.grid.blocks walk.frame at (square_at walk at.level at.row at.col) old mid p (square_is walk at h.from h.to) h.read)
+    (rows_give walk at.level k half at.row at.col (tile_of c before) p first size mid new result column planes part next side sized (block_is walk at first at.row at.col size size h.from h.to is refl) gives)
+
+pub columns_done : {m : ℕ} (setting : FrameSetting) (c : TileColumn) (before : FramePlanes) (at : SquareAt) (p : Partition) (first : BlockAt) (size : BlockSize) (half : ℕ) (old mid new : CountingReader m)
+    (result : Result (Unit {0}) Rule) (column : TileColumn) (planes : FramePlanes) → IsOpened setting c at p (standing_of old) (standing_of mid) → 1 ≤ at.level → size ≡ part_size p at.level
+    → first ≡ record { row = at.row; col = at.col; size = size; tile_from = at.tile_from; tile_to = at.tile_to } → p ≡ Vertical → half ≡ 2 ^ (at.level - 1)
+    → GivesTile (in_order (plain_block setting.header setting.modes (lists_of setting.contexts) first (tile_of c before)) (block_inside (walk_of setting c) at.row (at.col + half) size)) mid result column planes new
+    → GivesTile (decode_partition (walk_of setting c) at.level at.row at.col (tile_of c before)) old result column planes new
+columns_done setting c before at p first size half old mid new result column planes h least sized is part side gives =
+    let walk = walk_of setting c in
+    let k = at.level - 1 in
+    let level : at.level ≡ k + 1 = omega (arith, least) in
+    let next : at.level ≡ suc k = omega (arith, least) in
+    parts_give walk at.level k at.row at.col (tile_of c before) p old mid new result column planes h.row h.col level
+    (partition_read true walk.probs c.grid.blocks walk.frame at (square_at walk at.level at.row at.col) old mid p (square_is walk at h.from h.to) h.read)
+    (columns_give walk at.level k half at.row at.col (tile_of c before) p first size mid new result column planes part next side sized (block_is walk at first at.row at.col size size h.from h.to is refl) gives)

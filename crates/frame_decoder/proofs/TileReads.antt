@@ -1,6 +1,6 @@
 -- A tile that is read, and whose blocks are put in as they are read.
-use Rattle.std.proofs.Common.{◌≡◌, ◌∙◌, ◌++◌, ◌∷◌, [], ℕ, ◌-◌, ◌+◌, ◌^◌, ◌%◌, true, false, Bool, refl, sym, ap, List, map, append_assoc, replicate, slice_range, slice_set, get_or}
-use Rattle.std.specs.Prelude.{Some, None, Ok, Err, Option, Result}
+use Rattle.std.proofs.Common.{◌≡◌, ◌∙◌, ◌++◌, ◌∷◌, [], ℕ, zero, suc, rules, ◌-◌, ◌+◌, ◌^◌, ◌%◌, true, false, Bool, refl, sym, ap, List, map, append_assoc, replicate, slice_range, slice_set, get_or}
+use Rattle.std.specs.Prelude.{not, nat_eq, Some, None, Ok, Err, Option, Result}
 use Rattle.std.specs.List.{fold}
 use Rattle.std.proofs.lemmas.List.{map-append}
 use Rattle.std.proofs.lemmas.List.Sums.{fold-append}
@@ -18,7 +18,8 @@ use Rattle.bool_decoder.specs.Bools.{run_bools}
 use Rattle.bool_decoder.specs.Window.{Window, started, bit_of, after_bit}
 use Rattle.compressed_header.specs.Header.{forward}
 use Rattle.counting_reader.specs.Counting.{Settled, Standing, settle, mapped, with_counts, counted_if, run_counting}
-use Rattle.counting_reader.specs.Code.{standing_of}
+use Rattle.counting_reader.specs.Code.{Reads, counts_by, standing_of}
+use Rattle.prob_contexts.specs.declared.kind.CountedBool.{CountedBool}
 use Rattle.counting_reader.specs.declared.reader.CountingReader.{CountingReader}
 use Rattle.planes.specs.Pictures.{blank}
 use Rattle.planes.specs.declared.frame_planes.FramePlanes.{FramePlanes}
@@ -39,7 +40,7 @@ use Rattle.block_residue.specs.declared.sides.TileSides.{TileSides}
 use Rattle.mode_syntax.proofs.Mapped.{tile_everywhere}
 use Rattle.mode_syntax.specs.ModeInfo.{intra_frame_mode_info}
 use Rattle.mode_syntax.specs.Walk.{Walk, decode_tile}
-use Rattle.frame_decoder.specs.Code.{PlainTile, plain_block, plain_walk, tile_of, value_of, read_whole, GivesTile, GivesWhole}
+use Rattle.frame_decoder.specs.Code.{PlainTile, plain_block, plain_walk, settled_of, tile_of, read_whole, GivesTile, GivesWhole}
 use Rattle.frame_decoder.specs.Frames.{FrameInput, FrameResult, decoded, put_more, raw, read_frame, rebuilt}
 use Rattle.frame_decoder.specs.Reading.{Column, FrameRead, TileRead, begun, column_after, column_at, infos, no_column, nothing_read, read_block, read_tile, read_tile_of, read_tiles, read_walk, with_tile}
 use Rattle.frame_decoder.specs.declared.tile_places.TilePlaces.{TilePlaces}
@@ -72,7 +73,11 @@ tile_seen header modes contexts frame tile m columns r c n s =
     tile_everywhere (read_walk header modes contexts frame tile) (plain_block header modes contexts) (λ s. s.blocks) (view (shape_of header) m)
     (λ at s. block_seen header modes contexts m at s) (λ s. refl) columns r c n s
 
-pub values_mapped : {S T : Type 0} (f : S → T) (s : Syntax ℕ Rule (Settled S)) (w : Window) → value_of (run_bools (mapped f s) w) ≡ map_ok f (value_of (run_bools s w))
+-- the same was counted
+abbrev pub seen_by : {S T : Type 0} → (S → T) → Settled S → Settled T
+seen_by f s = record { value = f s.value; counted = s.counted }
+
+pub values_mapped : {S T : Type 0} (f : S → T) (s : Syntax ℕ Rule (Settled S)) (w : Window) → settled_of (run_bools (mapped f s) w) ≡ map_ok (seen_by f) (settled_of (run_bools s w))
 unfolding mapped
 values_mapped f (done x) w = refl
 values_mapped f (broken e) w = refl
@@ -80,22 +85,39 @@ values_mapped f (ask p k) w = values_mapped f (k (bit_of p w)) (after_bit p w)
 
 ---- A tile's bytes ----
 
+abbrev with_counted : {A : Type 0} → List CountedBool → A → Settled A
+with_counted counted x = record { value = x; counted = counted }
+
 pub whole_not_started : {A : Type 0} (s : Syntax ℕ Rule (Settled A)) (bytes : List ℕ) (rule : Rule) → started bytes ≡ Err rule → read_whole s bytes ≡ Err rule
 unfolding read_whole
 whole_not_started s bytes rule is = rw is refl
 
-counted_value : {A : Type 0} (r : Result (Settled A × Window) Rule) (counts : List ℕ) (counting : Bool) (x : A) (m : Standing) → with_counts r counts counting ≡ Ok (x, m) → value_of r ≡ Ok x
-counted_value (Ok p) counts counting x m is = let same : ◌≡◌ {A = _ × Standing} (p.0.value, record { window = p.1; counts = counted_if counting counts p.0.counted; counting = counting }) (x, m) = cc in ap (λ z. Ok z.0) same
+counted_value : {A : Type 0} (r : Result (Settled A × Window) Rule) (counts : List ℕ) (counting : Bool) (x : A) (m : Standing) → with_counts r counts counting ≡ Ok (x, m)
+    → (counted : List CountedBool) × (settled_of r ≡ Ok (record { value = x; counted = counted })) × (m.counts ≡ counted_if counting counts counted)
+counted_value {A} (Ok p) counts counting x m is =
+    let same : ◌≡◌ {A = A × Standing} (p.0.value, record { window = p.1; counts = counted_if counting counts p.0.counted; counting = counting }) (x, m) = cc in
+    (p.0.counted, ap (λ z. Ok (with_counted p.0.counted z.0)) same, sym (ap (λ z. z.1.counts) same))
 counted_value (Err e) counts counting x m is = let no : ⊥ = cc in absurd no
 
-counted_fault : {A : Type 0} (r : Result (Settled A × Window) Rule) (counts : List ℕ) (counting : Bool) (rule : Rule) → with_counts r counts counting ≡ Err rule → value_of r ≡ Err rule
+counted_fault : {A : Type 0} (r : Result (Settled A × Window) Rule) (counts : List ℕ) (counting : Bool) (rule : Rule) → with_counts r counts counting ≡ Err rule → settled_of r ≡ Err rule
 counted_fault (Ok p) counts counting rule is = let no : ⊥ = cc in absurd no
 counted_fault (Err e) counts counting rule is = let same : e ≡ rule = cc in ap (λ z. Err z) same
 
-pub whole_read : (s : Syntax ℕ Rule (Settled PlainTile)) (bytes : List ℕ) (old new : CountingReader 0) (result : Result (Unit {0}) Rule) (column : TileColumn) (planes : FramePlanes)
-    → started bytes ≡ Ok (standing_of old).window → GivesTile s old result column planes new → GivesWhole (read_whole s bytes) result column planes
+-- whether a reader counts, by its type's parameter
+pub counts_by_is : (n : ℕ) → counts_by n ≡ not (nat_eq n 0)
+counts_by_is zero = refl
+counts_by_is (suc n) = search rules
+
+pub whole_read : {n : ℕ} (s : Syntax ℕ Rule (Settled PlainTile)) (bytes counts : List ℕ) (old new : CountingReader n) (column : TileColumn) (planes : FramePlanes) (counting : Bool)
+    → counts_by n ≡ counting → started bytes ≡ Ok (standing_of old).window → (standing_of old).counts ≡ counts → Reads s old (tile_of column planes) new
+    → GivesWhole counting counts (read_whole s bytes) (Ok (standing_of new).counts) column planes
 unfolding read_whole run_counting
-whole_read s bytes old new (Ok u) column planes starts gives =
-    rw starts (counted_value (run_bools s (standing_of old).window) (standing_of old).counts false (tile_of column planes) (standing_of new) gives)
-whole_read s bytes old new (Err rule) column planes starts gives =
-    rw starts (counted_fault (run_bools s (standing_of old).window) (standing_of old).counts false rule gives)
+whole_read {n} s bytes counts old new column planes counting is starts before gives =
+    let read = counted_value (run_bools s (standing_of old).window) (standing_of old).counts (counts_by n) (tile_of column planes) (standing_of new) gives in
+    (read.0, rw starts read.1, read.2 ∙ (λ i. counted_if (is i) (before i) read.0))
+
+pub whole_broken : {n : ℕ} (s : Syntax ℕ Rule (Settled PlainTile)) (bytes : List ℕ) (old : CountingReader n) (rule : Rule)
+    → started bytes ≡ Ok (standing_of old).window → run_counting s (standing_of old) ≡ Err rule → read_whole s bytes ≡ Err rule
+unfolding read_whole run_counting
+whole_broken {n} s bytes old rule starts gives =
+    rw starts (counted_fault (run_bools s (standing_of old).window) (standing_of old).counts (counts_by n) rule gives)

@@ -1,5 +1,5 @@
 -- What the code keeps, and what its calls answer.
-use Rattle.std.specs.Prelude.{◌≡◌, ◌<◌, ◌≤◌, ◌+◌, ◌-◌, ◌*◌, ◌^◌, ℕ, true, false, Bool, List, [], ◌∷◌, ◌++◌, map, length, min, All, slice_index_or, Option, Some, None, Result, Ok, Err, if◌then◌else◌}
+use Rattle.std.specs.Prelude.{◌≡◌, ◌<◌, All, ◌≤◌, ◌+◌, ◌-◌, ◌*◌, ◌/◌, ◌%◌, ◌^◌, ℕ, true, false, Bool, List, [], ◌∷◌, ◌++◌, map, length, min, slice_index_or, Option, Some, None, Result, Ok, Err, if◌then◌else◌}
 use Rattle.vp9_types.specs.Maps.{FrameMap}
 use Rattle.vp9_types.specs.Results.{map_ok, ◌>>=◌}
 use Rattle.bool_decoder.specs.Bools.{run_bools}
@@ -22,7 +22,7 @@ use Rattle.frame_setting.specs.declared.setting.FrameSetting.{FrameSetting}
 use Rattle.prob_contexts.specs.Counted.{counts_after, no_counts}
 use Rattle.prob_contexts.specs.Lists.{ContextLists, lists_of}
 use Rattle.counting_reader.specs.Code.{Reads, standing_of}
-use Rattle.counting_reader.specs.Counting.{Settled, settle, run_counting}
+use Rattle.counting_reader.specs.Counting.{Settled, Standing, counted_if, settle, run_counting}
 use Rattle.counting_reader.specs.Counting as counting
 use Rattle.counting_reader.specs.declared.reader.CountingReader.{CountingReader}
 use Rattle.block_geometry.specs.Sizes.{width_8}
@@ -33,7 +33,10 @@ use Rattle.block_residue.specs.Code.{FitPlanes}
 use Rattle.block_residue.specs.Residues as residues
 use Rattle.block_residue.specs.declared.sides.TileSides.{TileSides}
 use Rattle.mode_syntax.specs.ModeInfo.{intra_frame_mode_info}
-use Rattle.mode_syntax.specs.Walk.{Walk}
+use Rattle.mode_syntax.specs.Partitions.{partition_at}
+use Rattle.mode_syntax.specs.Walk.{Walk, decode_partition}
+use Rattle.mode_syntax.specs.declared.square_at.SquareAt.{SquareAt}
+use Rattle.vp9_types.specs.declared.block.Partition.TheVariants.{Split}
 use Rattle.planes.specs.Pictures.{HasSizes, IsInRange, map_of, samples_of}
 use Rattle.planes.specs.declared.frame_planes.FramePlanes.{FramePlanes}
 use Rattle.planes.specs.declared.picture.Picture.{Picture}
@@ -88,6 +91,11 @@ abbrev pub AllFit : List BlockInfo → Type 0
 AllFit blocks = All (λ b. tx_number b.tx ≤ greatest_of b.size) blocks
 
 -- blocks lie in the superblocks of a tile's columns
+-- blocks start inside a frame of so many places, and each has one of the eight segments
+abbrev pub AllStart : ℕ → ℕ → List BlockInfo → Type 0
+AllStart rows cols blocks = All (λ b. (b.row < rows) × (b.col < cols) × (b.segment < 8)) blocks
+
+-- blocks lie in the superblocks of a tile's columns
 abbrev pub AllLie : ℕ → ℕ → List BlockInfo → Type 0
 AllLie from limit blocks = All (λ b. (from ≤ b.col) × (b.col + width_8 b.size ≤ limit)) blocks
 
@@ -100,6 +108,7 @@ pub record IsReady (setting : FrameSetting) (c : TileColumn) (planes : FramePlan
   pub fit : FitPlanes (shape_of setting.header) c.sides
   pub fit_blocks : AllFit c.grid.blocks
   pub lie : AllLie c.grid.from (limit_of c) c.grid.blocks
+  pub starts : AllStart setting.places.rows setting.places.cols c.grid.blocks
   pub sizes : HasSizes (shape_of setting.header) planes
   pub range : IsInRange (shape_of setting.header).depth planes
 
@@ -113,18 +122,57 @@ abbrev pub GivesTile : {n : ℕ} → Syntax ℕ Rule (Settled PlainTile) → Cou
 GivesTile s old (Ok u) c planes new = Reads s old (tile_of c planes) new
 GivesTile s old (Err rule) c planes new = run_counting s (standing_of old) ≡ Err rule
 
+---- Squares ----
+
+-- a square of a tile column that has room for all of its blocks
+pub record IsSquareIn (c : TileColumn) (at : SquareAt) : Type 0 where
+  pub first : at.tile_from ≤ at.col
+  pub within : at.col + 2 ^ at.level ≤ limit_of c
+  pub from : at.tile_from ≡ c.grid.from
+  pub to : at.tile_to ≡ c.grid.to
+  pub room : 4 ^ at.level ≤ c.grid.room
+
+-- its i-th quarter, row by row
+abbrev pub quarter : SquareAt → ℕ → SquareAt
+quarter at i = record {
+  row = at.row + 2 ^ (at.level - 1) * (i / 2);
+  col = at.col + 2 ^ (at.level - 1) * (i % 2);
+  level = at.level - 1;
+  tile_from = at.tile_from;
+  tile_to = at.tile_to;
+}
+
+-- a square that starts inside the frame is split, and nothing but that is read of it
+pub record IsSplit (setting : FrameSetting) (at : SquareAt) (before : TileColumn) (planes_before : FramePlanes) (old new : Standing) (c : TileColumn) (planes : FramePlanes) : Type 0 where
+  pub least : 1 ≤ at.level
+  pub row : at.row < setting.places.rows
+  pub col : at.col < setting.places.cols
+  pub read : run_counting (partition_at true (lists_of setting.contexts).partitions before.grid.blocks setting.places at) old ≡ Ok (Split, new)
+  pub column : c ≡ before
+  pub samples : planes ≡ planes_before
+
+-- all of a square is decoded, or it is split, or the rule is broken
+abbrev pub GivesUnsplit : {n : ℕ} → FrameSetting → SquareAt → TileColumn → FramePlanes → CountingReader n → Result Bool Rule → TileColumn → FramePlanes → CountingReader n → Type 0
+GivesUnsplit setting at before planes_before old (Ok false) c planes new =
+    Reads (decode_partition (walk_of setting before) at.level at.row at.col (tile_of before planes_before)) old (tile_of c planes) new
+GivesUnsplit setting at before planes_before old (Ok true) c planes new = IsSplit setting at before planes_before (standing_of old) (standing_of new) c planes
+GivesUnsplit setting at before planes_before old (Err rule) c planes new =
+    run_counting (decode_partition (walk_of setting before) at.level at.row at.col (tile_of before planes_before)) (standing_of old) ≡ Err rule
+
 ---- A tile's bytes ----
 
 -- what a tile settles on, by an arithmetic decoder of its own over its bytes
-abbrev pub value_of : {A : Type 0} → Result (Settled A × Window) Rule → Result A Rule
-value_of r = map_ok (λ p. p.0.value) r
+abbrev pub settled_of : {A : Type 0} → Result (Settled A × Window) Rule → Result (Settled A) Rule
+settled_of r = map_ok (λ p. p.0) r
 
-unfoldable pub read_whole : {A : Type 0} → Syntax ℕ Rule (Settled A) → List ℕ → Result A Rule
-read_whole s bytes = started bytes >>= λ window. value_of (run_bools s window)
+unfoldable pub read_whole : {A : Type 0} → Syntax ℕ Rule (Settled A) → List ℕ → Result (Settled A) Rule
+read_whole s bytes = started bytes >>= λ window. settled_of (run_bools s window)
 
-abbrev pub GivesWhole : Result PlainTile Rule → Result (Unit {0}) Rule → TileColumn → FramePlanes → Type 0
-GivesWhole computed (Ok u) c planes = computed ≡ Ok (tile_of c planes)
-GivesWhole computed (Err rule) c planes = computed ≡ Err rule
+-- a tile is read, and what is counted in it comes to these counts, where counting is on
+abbrev pub GivesWhole : Bool → List ℕ → Result (Settled PlainTile) Rule → Result (List ℕ) Rule → TileColumn → FramePlanes → Type 0
+GivesWhole counting before computed (Ok counts) c planes =
+    (counted : List CountedBool) × (computed ≡ Ok (record { value = tile_of c planes; counted = counted })) × (counts ≡ counted_if counting before counted)
+GivesWhole counting before computed (Err rule) c planes = computed ≡ Err rule
 
 ---- All tiles ----
 
@@ -136,6 +184,7 @@ pub record IsTileColumn (header : Header) (n k : ℕ) (c : TileColumn) : Type 0 
   pub fit : FitPlanes (shape_of header) c.sides
   pub fit_blocks : AllFit c.grid.blocks
   pub lie : AllLie c.grid.from (limit_of c) c.grid.blocks
+  pub starts : AllStart (mi_rows (shape_of header)) (mi_cols (shape_of header)) c.grid.blocks
   pub room : (r : ℕ) → n ≤ r * 2 ^ header.params.tiles.columns_log2 + k
       → 64 * (superblocks_along (c.grid.to - c.grid.from)
       * (superblocks_along (mi_rows (shape_of header)) - superblocks_before (mi_rows (shape_of header)) header.params.tiles.rows_log2 r)) ≤ c.grid.room
@@ -166,20 +215,25 @@ pub record HoldsRead (header : Header) (columns : List TileColumn) (planes : Fra
   pub columns_held : map column_of_code columns ≡ map column_as_listed read.columns
   pub map_held : raw (shape_of header) read.blocks ≡ Some (samples_of planes)
 
--- reading goes on to what the code holds then, or breaks the rule
-abbrev pub GivesRead : Header → Result FrameRead Rule → Result (Unit {0}) Rule → List TileColumn → FramePlanes → Type 0
-GivesRead header computed (Ok u) columns planes = (read : FrameRead) × (computed ≡ Ok read) × HoldsRead header columns planes read
-GivesRead header computed (Err rule) columns planes = computed ≡ Err rule
-
----- A frame ----
-
--- whether a frame's counts are wanted: its probabilities are adapted after it
+-- the counts of what is read, where counting is on: where a frame's probabilities are adapted after it
 abbrev pub counts_if : Bool → List CountedBool → List ℕ
 counts_if true bools = counts_after no_counts bools
 counts_if false bools = no_counts
 
+-- reading goes on to what the code holds then, with its counts, or breaks the rule
+abbrev pub GivesRead : Header → Bool → Result FrameRead Rule → Result (List ℕ) Rule → List TileColumn → FramePlanes → Type 0
+GivesRead header counting computed (Ok counts) columns planes =
+    (read : FrameRead) × (computed ≡ Ok read) × HoldsRead header columns planes read × (counts ≡ counts_if counting read.counted)
+GivesRead header counting computed (Err rule) columns planes = computed ≡ Err rule
+
+---- A frame ----
+
 abbrev pub blocks_of : List TileColumn → List (List BlockInfo)
 blocks_of columns = map (λ c. c.grid.blocks) columns
+
+-- each block of a column starts inside its frame, and has one of the eight segments
+abbrev pub HasStarts : Header → TileColumn → Type 0
+HasStarts header c = AllStart (mi_rows (shape_of header)) (mi_cols (shape_of header)) c.grid.blocks
 
 -- the code holds what a frame leaves
 pub record HoldsResult (header : Header) (picture : Picture) (d : Decoded) (r : FrameResult) : Type 0 where
@@ -189,6 +243,7 @@ pub record HoldsResult (header : Header) (picture : Picture) (d : Decoded) (r : 
   pub range : IsInRange (shape_of header).depth picture.planes
   pub contexts : lists_of d.contexts ≡ r.contexts
   pub blocks : blocks_of d.columns.items ≡ r.blocks
+  pub starts : All (HasStarts header) d.columns.items
   pub counts : d.counts ≡ counts_if (adapts header) r.counted
 
 -- the frame is that, or the fault is that one. Want of memory has no cause

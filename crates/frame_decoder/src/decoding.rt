@@ -1,13 +1,16 @@
 //! A frame, from its bytes to its samples.
 
-ghost use Rattle.std.specs.Prelude.{◌≤◌, ◌≡◌, None, length};
+ghost use Rattle.std.specs.Prelude.{◌≤◌, ◌≡◌, None, IsOk, OnOk, length};
 ghost use Rattle.frame_headers.specs.Sizes.{IsFrameSize};
+ghost use Rattle.frame_headers.specs.Spans.{tile_count, tile_spans};
 ghost use Rattle.frame_headers.specs.State.{shape_of};
 ghost use Rattle.frame_headers.specs.Tiles.{AreFewTiles};
 ghost use Rattle.planes.specs.Pictures.{IsBlank};
 ghost use Rattle.prob_contexts.specs.Lists.{lists_of};
-ghost use Rattle.frame_decoder.specs.Built.{first_unbuilt};
-ghost use Rattle.frame_decoder.specs.Code.{IsDecoded};
+ghost use Rattle.frame_decoder.specs.Built.{adapts, first_unbuilt};
+ghost use Rattle.frame_decoder.specs.Code.{AreTileColumns, ArePlanes, GivesRead, HoldsRead, IsDecoded};
+ghost use Rattle.frame_decoder.specs.Frames.{read_all_tiles};
+ghost use Rattle.frame_decoder.specs.Reading.{nothing_read};
 
 use crate::built::adapts;
 use crate::columns::TileColumn;
@@ -41,6 +44,16 @@ fn decode_counted(
     columns: &mut [TileColumn],
     planes: &mut FramePlanes,
 ) -> Result<Counts, Rule>
+    requires few { AreFewTiles setting.now.header.params.tiles }
+    requires within { compressed.to ≤ length bytes.now }
+    requires tested { IsOk (tile_spans bytes.now setting.now.header compressed) }
+    requires columns { AreTileColumns setting.now.header 0 columns.old }
+    requires planes { ArePlanes (shape_of setting.now.header) planes.old }
+    requires start { HoldsRead setting.now.header columns.old planes.old (nothing_read setting.now.header) }
+    ensures gives { GivesRead setting.now.header (adapts setting.now.header)
+        (read_all_tiles setting.now.header setting.now.modes (lists_of setting.now.contexts) bytes.now compressed) result columns.new planes.new }
+    ensures columns { OnOk result (AreTileColumns setting.now.header (tile_count setting.now.header) columns.new) }
+    ensures planes { OnOk result (ArePlanes (shape_of setting.now.header) planes.new) }
 {
     if adapts(&setting.header) {
         decode_tiles::<true>(bytes, setting, compressed, columns, planes)

@@ -3,12 +3,10 @@
 ghost use Rattle.std.specs.Prelude.{◌≡◌, ℕ, ◌+◌, ◌-◌, ◌^◌, ◌<◌, ◌≤◌, OnOk};
 ghost use Rattle.frame_headers.specs.State.{shape_of};
 ghost use Rattle.prob_contexts.specs.Lists.{lists_of};
-ghost use Rattle.counting_reader.specs.Code.{Reads};
 ghost use Rattle.counting_reader.specs.Counting.{in_order};
-ghost use Rattle.mode_syntax.specs.Partitions.{partition_at};
-ghost use Rattle.mode_syntax.specs.Walk.{block_at, square_at, block_inside, parts, decode_partition};
-ghost use Rattle.vp9_types.specs.declared.block.Partition.TheVariants as partition;
-ghost use Rattle.frame_decoder.specs.Code.{plain_block, tile_of, walk_of, limit_of, IsReady, SameColumns, GivesTile};
+ghost use Rattle.block_geometry.specs.Sizes.{width_8};
+ghost use Rattle.mode_syntax.specs.Walk.{block_inside, decode_partition};
+ghost use Rattle.frame_decoder.specs.Code.{plain_block, quarter, tile_of, walk_of, limit_of, IsReady, IsSquareIn, SameColumns, GivesTile, GivesUnsplit};
 
 use crate::columns::{BlockRoom, TileColumn};
 use block_geometry::part_size;
@@ -36,6 +34,7 @@ fn decode_block<const COUNTS: bool>(
     requires col { at.col < at.tile_to }
     requires from { at.tile_from ≡ column.old.grid.from }
     requires to { at.tile_to ≡ column.old.grid.to }
+    requires wide { at.col + width_8 at.size ≤ limit_of column.old }
     requires room { 1 ≤ column.old.grid.room }
     ensures gives { GivesTile (plain_block setting.now.header setting.now.modes (lists_of setting.now.contexts) at (tile_of column.old planes.old))
         reader.old result column.new planes.new reader.new }
@@ -77,6 +76,7 @@ fn decode_inside<const COUNTS: bool>(
     requires within { at.col < limit_of column.old }
     requires from { at.tile_from ≡ column.old.grid.from }
     requires to { at.tile_to ≡ column.old.grid.to }
+    requires wide { at.col + width_8 at.size ≤ limit_of column.old }
     requires room { 1 ≤ column.old.grid.room }
     ensures gives { GivesTile (block_inside (walk_of setting.now column.old) at.row at.col at.size (tile_of column.old planes.old))
         reader.old result column.new planes.new reader.new }
@@ -110,6 +110,8 @@ fn decode_halves<const COUNTS: bool>(
     requires to { halves.0.tile_to ≡ column.old.grid.to }
     requires from_second { halves.1.tile_from ≡ halves.0.tile_from }
     requires to_second { halves.1.tile_to ≡ halves.0.tile_to }
+    requires wide { halves.0.col + width_8 halves.0.size ≤ limit_of column.old }
+    requires wide_second { halves.1.col + width_8 halves.1.size ≤ limit_of column.old }
     requires room { 2 ≤ column.old.grid.room }
     ensures gives { GivesTile (in_order (plain_block setting.now.header setting.now.modes (lists_of setting.now.contexts) halves.0 (tile_of column.old planes.old)) (block_inside (walk_of setting.now column.old) halves.1.row halves.1.col halves.1.size))
         reader.old result column.new planes.new reader.new }
@@ -135,107 +137,177 @@ fn block_of(at: SquareAt, row: u32, col: u32, size: BlockSize) -> BlockAt
     }
 }
 
-/// The four quarters of a square that starts inside the frame.
-#[cycle(squares)]
-fn decode_quarters(
+/// A square, unless it is split: then its quarters are still to be decoded, and the answer is true. It has no block if it
+/// starts outside the frame.
+fn decode_unsplit<const COUNTS: bool>(
     setting: &FrameSetting,
-    reader: &mut CountingReader<false>,
+    reader: &mut CountingReader<COUNTS>,
     column: &mut TileColumn,
     planes: &mut FramePlanes,
     room: &mut BlockRoom,
     at: SquareAt,
-) -> Result<(), Rule>
+) -> Result<bool, Rule>
     requires ready { IsReady setting.now column.old planes.old }
-    requires row { at.row < setting.now.places.rows }
-    requires col { at.col < setting.now.places.cols }
-    requires first { at.tile_from ≤ at.col }
-    requires within { at.col + 2 ^ at.level ≤ limit_of column.old }
-    requires from { at.tile_from ≡ column.old.grid.from }
-    requires to { at.tile_to ≡ column.old.grid.to }
-    requires least { 1 ≤ at.level }
+    requires within { IsSquareIn column.old at }
     requires most { at.level ≤ 3 }
-    requires room { 4 ^ at.level ≤ column.old.grid.room }
-    ensures gives { GivesTile (parts (walk_of setting.now column.old) (decode_partition (walk_of setting.now column.old) (at.level - 1)) (at.level - 1) at.row at.col (tile_of column.old planes.old) partition.Split)
-        reader.old result column.new planes.new reader.new }
+    ensures gives { GivesUnsplit setting.now at column.old planes.old reader.old result column.new planes.new reader.new }
     ensures ready { OnOk result (IsReady setting.now column.new planes.new) }
     ensures same { OnOk result (SameColumns column.old column.new) }
     ensures room { OnOk result (column.old.grid.room ≤ column.new.grid.room + 4 ^ at.level) }
 {
+    if at.row >= setting.places.rows || at.col >= setting.places.cols {
+        return Ok(false);
+    }
+    let partition = read_partition(reader, setting, true, &column.grid, at);
+    let size = part_size(partition, at.level);
+    let first = block_of(at, at.row, at.col, size);
+    if at.level == 0 {
+        decode_block(setting, reader, column, planes, room, first)?;
+        return Ok(false);
+    }
     let half = side_of(at.level - 1);
-    let (right, below) = (at.col + half, at.row + half);
-    let level = at.level - 1;
-    decode_square(
-        setting,
-        reader,
-        column,
-        planes,
-        room,
-        SquareAt { level, ..at },
-    )?;
-    let upper_right = SquareAt {
-        level,
-        col: right,
-        ..at
-    };
-    decode_square(setting, reader, column, planes, room, upper_right)?;
-    let lower_left = SquareAt {
-        level,
-        row: below,
-        ..at
-    };
-    decode_square(setting, reader, column, planes, room, lower_left)?;
-    let lower_right = SquareAt {
-        level,
-        row: below,
-        col: right,
-        ..at
-    };
-    decode_square(setting, reader, column, planes, room, lower_right)
+    match partition {
+        Partition::Whole => {
+            decode_block(setting, reader, column, planes, room, first)?;
+            Ok(false)
+        }
+        Partition::Horizontal => {
+            let second = block_of(at, at.row + half, at.col, size);
+            decode_halves(setting, reader, column, planes, room, (first, second))?;
+            Ok(false)
+        }
+        Partition::Vertical => {
+            let second = block_of(at, at.row, at.col + half, size);
+            decode_halves(setting, reader, column, planes, room, (first, second))?;
+            Ok(false)
+        }
+        Partition::Split => Ok(true),
+    }
 }
 
-/// A square, unless it starts outside the frame.
-#[cycle(squares)]
-pub(crate) fn decode_square(
+/// The `i`-th quarter of a square, row by row.
+fn quarter_of(at: SquareAt, i: u32) -> SquareAt
+    requires least { 1 ≤ at.level }
+    requires most { at.level ≤ 3 }
+    requires row { at.row < 65536 }
+    requires col { at.col < 65536 }
+    requires below { i < 4 }
+    ensures { result ≡ quarter at i }
+{
+    let half = side_of(at.level - 1);
+    SquareAt {
+        row: at.row + half * (i / 2),
+        col: at.col + half * (i % 2),
+        level: at.level - 1,
+        ..at
+    }
+}
+
+/// A square of 8x8. One is never split.
+fn decode_square_8<const COUNTS: bool>(
     setting: &FrameSetting,
-    reader: &mut CountingReader<false>,
+    reader: &mut CountingReader<COUNTS>,
     column: &mut TileColumn,
     planes: &mut FramePlanes,
     room: &mut BlockRoom,
     at: SquareAt,
 ) -> Result<(), Rule>
     requires ready { IsReady setting.now column.old planes.old }
-    requires first { at.tile_from ≤ at.col }
-    requires within { at.col + 2 ^ at.level ≤ limit_of column.old }
-    requires from { at.tile_from ≡ column.old.grid.from }
-    requires to { at.tile_to ≡ column.old.grid.to }
-    requires most { at.level ≤ 3 }
-    requires room { 4 ^ at.level ≤ column.old.grid.room }
+    requires within { IsSquareIn column.old at }
+    requires level { at.level ≡ 0 }
     ensures gives { GivesTile (decode_partition (walk_of setting.now column.old) at.level at.row at.col (tile_of column.old planes.old))
         reader.old result column.new planes.new reader.new }
     ensures ready { OnOk result (IsReady setting.now column.new planes.new) }
     ensures same { OnOk result (SameColumns column.old column.new) }
     ensures room { OnOk result (column.old.grid.room ≤ column.new.grid.room + 4 ^ at.level) }
 {
-    if at.row >= setting.places.rows || at.col >= setting.places.cols {
+    let _split = decode_unsplit(setting, reader, column, planes, room, at)?;
+    Ok(())
+}
+
+/// A square of 16x16: its quarters, where it is split.
+fn decode_square_16<const COUNTS: bool>(
+    setting: &FrameSetting,
+    reader: &mut CountingReader<COUNTS>,
+    column: &mut TileColumn,
+    planes: &mut FramePlanes,
+    room: &mut BlockRoom,
+    at: SquareAt,
+) -> Result<(), Rule>
+    requires ready { IsReady setting.now column.old planes.old }
+    requires within { IsSquareIn column.old at }
+    requires level { at.level ≡ 1 }
+    ensures gives { GivesTile (decode_partition (walk_of setting.now column.old) at.level at.row at.col (tile_of column.old planes.old))
+        reader.old result column.new planes.new reader.new }
+    ensures ready { OnOk result (IsReady setting.now column.new planes.new) }
+    ensures same { OnOk result (SameColumns column.old column.new) }
+    ensures room { OnOk result (column.old.grid.room ≤ column.new.grid.room + 4 ^ at.level) }
+{
+    let split = decode_unsplit(setting, reader, column, planes, room, at)?;
+    if !split {
         return Ok(());
     }
-    let partition = read_partition(reader, setting, true, &column.grid, at);
-    let size = part_size(partition, at.level);
-    let first = block_of(at, at.row, at.col, size);
-    if at.level == 0 {
-        return decode_block(setting, reader, column, planes, room, first);
+    for i in 0..4 {
+        let quarter = quarter_of(at, i);
+        decode_square_8(setting, reader, column, planes, room, quarter)?;
     }
-    let half = side_of(at.level - 1);
-    match partition {
-        Partition::Whole => decode_block(setting, reader, column, planes, room, first),
-        Partition::Horizontal => {
-            let second = block_of(at, at.row + half, at.col, size);
-            decode_halves(setting, reader, column, planes, room, (first, second))
-        }
-        Partition::Vertical => {
-            let second = block_of(at, at.row, at.col + half, size);
-            decode_halves(setting, reader, column, planes, room, (first, second))
-        }
-        Partition::Split => decode_quarters(setting, reader, column, planes, room, at),
+    Ok(())
+}
+
+/// A square of 32x32: its quarters, where it is split.
+fn decode_square_32<const COUNTS: bool>(
+    setting: &FrameSetting,
+    reader: &mut CountingReader<COUNTS>,
+    column: &mut TileColumn,
+    planes: &mut FramePlanes,
+    room: &mut BlockRoom,
+    at: SquareAt,
+) -> Result<(), Rule>
+    requires ready { IsReady setting.now column.old planes.old }
+    requires within { IsSquareIn column.old at }
+    requires level { at.level ≡ 2 }
+    ensures gives { GivesTile (decode_partition (walk_of setting.now column.old) at.level at.row at.col (tile_of column.old planes.old))
+        reader.old result column.new planes.new reader.new }
+    ensures ready { OnOk result (IsReady setting.now column.new planes.new) }
+    ensures same { OnOk result (SameColumns column.old column.new) }
+    ensures room { OnOk result (column.old.grid.room ≤ column.new.grid.room + 4 ^ at.level) }
+{
+    let split = decode_unsplit(setting, reader, column, planes, room, at)?;
+    if !split {
+        return Ok(());
     }
+    for i in 0..4 {
+        let quarter = quarter_of(at, i);
+        decode_square_16(setting, reader, column, planes, room, quarter)?;
+    }
+    Ok(())
+}
+
+/// A square of 64x64: its quarters, where it is split.
+pub(crate) fn decode_superblock<const COUNTS: bool>(
+    setting: &FrameSetting,
+    reader: &mut CountingReader<COUNTS>,
+    column: &mut TileColumn,
+    planes: &mut FramePlanes,
+    room: &mut BlockRoom,
+    at: SquareAt,
+) -> Result<(), Rule>
+    requires ready { IsReady setting.now column.old planes.old }
+    requires within { IsSquareIn column.old at }
+    requires level { at.level ≡ 3 }
+    ensures gives { GivesTile (decode_partition (walk_of setting.now column.old) at.level at.row at.col (tile_of column.old planes.old))
+        reader.old result column.new planes.new reader.new }
+    ensures ready { OnOk result (IsReady setting.now column.new planes.new) }
+    ensures same { OnOk result (SameColumns column.old column.new) }
+    ensures room { OnOk result (column.old.grid.room ≤ column.new.grid.room + 4 ^ at.level) }
+{
+    let split = decode_unsplit(setting, reader, column, planes, room, at)?;
+    if !split {
+        return Ok(());
+    }
+    for i in 0..4 {
+        let quarter = quarter_of(at, i);
+        decode_square_32(setting, reader, column, planes, room, quarter)?;
+    }
+    Ok(())
 }

@@ -7,12 +7,12 @@ ghost use Rattle.frame_headers.specs.Tiles.{AreFewTiles};
 ghost use Rattle.prob_contexts.specs.Lists.{lists_of};
 ghost use Rattle.vp9_types.specs.Sizes.{superblocks_along};
 ghost use Rattle.mode_syntax.specs.Walk.{decode_row, decode_tile};
-ghost use Rattle.frame_decoder.specs.Code.{tile_of, walk_of, limit_of, read_whole, ArePlanes, AreTileColumns, HoldsRead, IsReady, SameColumns, GivesRead, GivesTile, GivesWhole};
+ghost use Rattle.frame_decoder.specs.Code.{counts_if, tile_of, walk_of, read_whole, ArePlanes, AreTileColumns, HoldsRead, IsReady, SameColumns, GivesRead, GivesTile, GivesWhole};
 ghost use Rattle.frame_decoder.specs.Frames.{read_all_tiles};
 ghost use Rattle.frame_decoder.specs.Reading.{FrameRead, nothing_read, read_tile_of};
 
 use crate::columns::{BlockRoom, TileColumn};
-use crate::squares::decode_square;
+use crate::squares::decode_superblock;
 use crate::tile_places::TilePlaces;
 use counting_reader::CountingReader;
 use frame_headers::tile_span;
@@ -38,9 +38,9 @@ fn superblocks(from: u32, to: u32) -> u32
 }
 
 /// A row of superblocks, from the first one on.
-fn decode_row(
+fn decode_row<const COUNTS: bool>(
     setting: &FrameSetting,
-    reader: &mut CountingReader<false>,
+    reader: &mut CountingReader<COUNTS>,
     column: &mut TileColumn,
     planes: &mut FramePlanes,
     room: &mut BlockRoom,
@@ -64,15 +64,15 @@ fn decode_row(
             col: first.col + SIDE * i,
             ..first
         };
-        decode_square(setting, reader, column, planes, room, at)?;
+        decode_superblock(setting, reader, column, planes, room, at)?;
     }
     Ok(())
 }
 
 /// All rows of superblocks of a tile.
-fn decode_rows(
+fn decode_rows<const COUNTS: bool>(
     setting: &FrameSetting,
-    reader: &mut CountingReader<false>,
+    reader: &mut CountingReader<COUNTS>,
     column: &mut TileColumn,
     planes: &mut FramePlanes,
     room: &mut BlockRoom,
@@ -104,47 +104,49 @@ fn decode_rows(
     Ok(())
 }
 
-/// A tile, from its bytes.
+/// A tile, from its bytes, with the counts so far; answers the counts behind it.
 #[tactic(auto, unfolding(crate::specs::Code::read_whole))]
-fn decode_tile(
+fn decode_tile<const COUNTS: bool>(
     bytes: &[u8],
     setting: &FrameSetting,
     tile: &TilePlaces,
     column: &mut TileColumn,
     planes: &mut FramePlanes,
-    room: &mut BlockRoom,
-) -> Result<(), Rule>
+    counts: Counts,
+) -> Result<Counts, Rule>
     requires ready { IsReady setting.now column.old planes.old }
     requires from { tile.now.col_from ≡ column.old.grid.from }
     requires to { tile.now.col_to ≡ column.old.grid.to }
     requires order { tile.now.row_from ≤ tile.now.row_to }
     requires low { tile.now.row_to ≤ 8192 }
     requires room { 64 * (superblocks_along (column.old.grid.to - column.old.grid.from) * superblocks_along (tile.now.row_to - tile.now.row_from)) ≤ column.old.grid.room }
-    ensures gives { GivesWhole (read_whole (decode_tile (walk_of setting.now column.old) (superblocks_along (tile.now.col_to - tile.now.col_from)) tile.now.row_from tile.now.col_from (superblocks_along (tile.now.row_to - tile.now.row_from)) (tile_of column.old planes.old)) bytes.now)
+    ensures gives { GivesWhole COUNTS counts (read_whole (decode_tile (walk_of setting.now column.old) (superblocks_along (tile.now.col_to - tile.now.col_from)) tile.now.row_from tile.now.col_from (superblocks_along (tile.now.row_to - tile.now.row_from)) (tile_of column.old planes.old)) bytes.now)
         result column.new planes.new }
     ensures ready { OnOk result (IsReady setting.now column.new planes.new) }
     ensures same { OnOk result (SameColumns column.old column.new) }
     ensures room { OnOk result (column.old.grid.room ≤ column.new.grid.room + 64 * (superblocks_along (column.old.grid.to - column.old.grid.from) * superblocks_along (tile.now.row_to - tile.now.row_from))) }
 {
-    let mut reader = CountingReader::<false>::start(bytes, Counts::new())?;
-    decode_rows(setting, &mut reader, column, planes, room, tile)
+    let mut room = BlockRoom::new();
+    let mut reader = CountingReader::<COUNTS>::start(bytes, counts)?;
+    decode_rows(setting, &mut reader, column, planes, &mut room, tile)?;
+    Ok(reader.into_counts())
 }
 
-/// The `n`-th tile of a frame, from its bytes.
-fn decode_nth(
+/// The `n`-th tile of a frame, from its bytes, with the counts so far; answers the counts behind it.
+fn decode_nth<const COUNTS: bool>(
     bytes: &[u8],
     setting: &FrameSetting,
     n: u32,
     columns: &mut [TileColumn],
     planes: &mut FramePlanes,
-    room: &mut BlockRoom,
-) -> Result<(), Rule>
+    counts: Counts,
+) -> Result<Counts, Rule>
     requires few { AreFewTiles setting.now.header.params.tiles }
     requires below { n < tile_count setting.now.header }
     requires columns { AreTileColumns setting.now.header n columns.old }
     requires planes { ArePlanes (shape_of setting.now.header) planes.old }
-    ensures gives { (read : FrameRead) → HoldsRead setting.now.header columns.old planes.old read
-        → GivesRead setting.now.header (read_tile_of setting.now.header setting.now.modes (lists_of setting.now.contexts) n bytes.now read) result columns.new planes.new }
+    ensures gives { (read : FrameRead) → HoldsRead setting.now.header columns.old planes.old read → counts ≡ counts_if COUNTS read.counted
+        → GivesRead setting.now.header COUNTS (read_tile_of setting.now.header setting.now.modes (lists_of setting.now.contexts) n bytes.now read) result columns.new planes.new }
     ensures columns { OnOk result (AreTileColumns setting.now.header (n + 1) columns.new) }
     ensures planes { OnOk result (ArePlanes (shape_of setting.now.header) planes.new) }
 {
@@ -152,10 +154,11 @@ fn decode_nth(
     let tile = TilePlaces::new(setting.places, tiles, n);
     let column = &mut columns[(n % tiles.columns()) as usize];
     column.sides.clear_left();
-    decode_tile(bytes, setting, &tile, column, planes, room)
+    decode_tile::<COUNTS>(bytes, setting, &tile, column, planes, counts)
 }
 
-/// All tiles of a frame in order, whose compressed header lies at `compressed`. Their sizes are tested.
+/// All tiles of a frame in order, whose compressed header lies at `compressed`. Their sizes are tested. Answers the counts of
+/// all of them, if counting is on.
 pub(crate) fn decode_tiles<const COUNTS: bool>(
     bytes: &[u8],
     setting: &FrameSetting,
@@ -169,16 +172,16 @@ pub(crate) fn decode_tiles<const COUNTS: bool>(
     requires columns { AreTileColumns setting.now.header 0 columns.old }
     requires planes { ArePlanes (shape_of setting.now.header) planes.old }
     requires start { HoldsRead setting.now.header columns.old planes.old (nothing_read setting.now.header) }
-    ensures gives { GivesRead setting.now.header (read_all_tiles setting.now.header setting.now.modes (lists_of setting.now.contexts) bytes.now compressed)
+    ensures gives { GivesRead setting.now.header COUNTS (read_all_tiles setting.now.header setting.now.modes (lists_of setting.now.contexts) bytes.now compressed)
         result columns.new planes.new }
     ensures columns { OnOk result (AreTileColumns setting.now.header (tile_count setting.now.header) columns.new) }
     ensures planes { OnOk result (ArePlanes (shape_of setting.now.header) planes.new) }
 {
-    let mut room = BlockRoom::new();
+    let mut counts = Counts::new();
     for n in 0..setting.header.params.tiles.count() {
         let span = tile_span(bytes, &setting.header, compressed, n);
         let tile = &bytes[span.from..span.to];
-        decode_nth(tile, setting, n, columns, planes, &mut room)?;
+        counts = decode_nth::<COUNTS>(tile, setting, n, columns, planes, counts)?;
     }
-    Ok(Counts::new())
+    Ok(counts)
 }

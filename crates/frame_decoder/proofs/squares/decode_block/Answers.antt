@@ -4,7 +4,7 @@ use Rattle.frame_headers.specs.State.{shape_of}
 use Rattle.prob_contexts.specs.Lists.{lists_of}
 use Rattle.block_plan.specs.Code.{planned_with}
 use Rattle.planes.specs.Pictures.{samples_of}
-use Rattle.frame_decoder.proofs.BlockSteps.{block_read, block_broken, put_listed}
+use Rattle.frame_decoder.proofs.BlockSteps.{block_read, block_broken, fits_more, lies_more, put_listed}
 use Rattle.frame_decoder.proofs.squares.decode_block.Goals as goal
 
 pub returns-in_err-listed-clause-gives : goal.returns-in_err-listed-clause-gives
@@ -37,4 +37,8 @@ returns-clause-ready g c = record {
   fit = c.in_ok-listed.ensures.fit;
   sizes = rw c.shape.ensures at c.put_block.ensures.sizes;
   range = rw c.shape.ensures at c.put_block.ensures.range;
+  fit_blocks = rw c.put.ensures (fits_more _ c.intra_frame_mode_info-block.result _ c.args.at.size c.in_ok-listed.ensures.listed.0 c.in_ok-listed.ensures.listed.1
+      c.intra_frame_mode_info-block.ensures.size c.intra_frame_mode_info-block.ensures.fits c.requires.ready.fit_blocks);
+  lie = rw c.put.ensures (lies_more _ _ _ c.intra_frame_mode_info-block.result _ c.args.at c.in_ok-listed.ensures.listed.0 c.in_ok-listed.ensures.listed.1
+      c.intra_frame_mode_info-block.ensures.col c.intra_frame_mode_info-block.ensures.size (rw c.requires.from at c.requires.first) c.requires.wide c.requires.ready.lie);
 }

@@ -8,7 +8,7 @@ use Rattle.frame_decoder.proofs.RowReads.{IsLeft, rows_at}
 use Rattle.frame_decoder.proofs.tiles.decode_rows.Given as goal
 
 abbrev pub invariant-loop-i : goal.invariant-loop-i
-invariant-loop-i l = record {
+invariant-loop-i g l = record {
   ready : IsReady l.setting l.column l.planes;
   same : SameColumns l.initial.column l.column;
   room : l.initial.column.grid.room ≤ l.column.grid.room + 64 * (superblocks_along (l.initial.column.grid.to - l.initial.column.grid.from) * l.i);

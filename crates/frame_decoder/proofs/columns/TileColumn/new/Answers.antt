@@ -13,4 +13,4 @@ returns-clause-is c =
     let cols : setting.places.cols ≡ mi_cols (shape_of setting.header) = ap (λ (p : FramePlaces). p.cols) setting.whole in
     let room : c.in_ok-grid.grid.room ≡ 64 * (superblocks_along (c.in_ok-grid.grid.to - c.in_ok-grid.grid.from) * superblocks_along setting.places.rows) = search rules in
     begins setting.header c.args.k (record { grid = c.in_ok-grid.grid; sides = c.in_ok-sides.sides }) (rw c.in_ok-grid.ensures rows) (rw (c.in_ok-grid.ensures, c.tile_offset-from.ensures, cols) refl)
-    (rw (c.in_ok-grid.ensures, c.tile_offset-to.ensures, cols) refl) (rw c.shape.ensures at c.in_ok-sides.ensures.fit) (room ∙ ap (λ n. 64 * (superblocks_along (c.in_ok-grid.grid.to - c.in_ok-grid.grid.from) * superblocks_along n)) rows)
+    (rw (c.in_ok-grid.ensures, c.tile_offset-to.ensures, cols) refl) (rw c.shape.ensures at c.in_ok-sides.ensures.fit) (room ∙ ap (λ n. 64 * (superblocks_along (c.in_ok-grid.grid.to - c.in_ok-grid.grid.from) * superblocks_along n)) rows) (rw c.in_ok-grid.ensures refl)

@@ -1,0 +1,96 @@
+use Rattle.std.proofs.Common.{◌≡◌, ◌∙◌, ◌+◌, ◌-◌, ◌^◌, ◌≤◌, true, suc, sym, refl, arith}
+use Rattle.std.specs.Prelude.{Ok, Err}
+use Rattle.std.proofs.lemmas.Result.{err_from_is_err_and}
+use Rattle.frame_decoder.specs.Code.{walk_of}
+use Rattle.frame_decoder.proofs.BlockSteps.{first_wide, second_wide}
+use Rattle.frame_decoder.proofs.SquareReads.{square_below, square_beside, smallest_done, whole_done, rows_done, columns_done}
+use Rattle.frame_decoder.proofs.squares.decode_unsplit.Goals.{then-at-setting-via-then-at-setting, then-at-setting-via-else-at-setting+then-at-setting-2}
+use Rattle.frame_decoder.proofs.squares.decode_unsplit.Goals as goal
+
+pub returns-then-at-setting-clause-gives : goal.returns-then-at-setting-clause-gives
+returns-then-at-setting-clause-gives g c =
+    let walk = walk_of c.args.setting.now c.args.column.now in
+    elim c.then-at-setting.branch [
+      | then-at-setting-via-then-at-setting w ↦ square_below walk c.args.at.level c.args.at.row c.args.at.col _ _ w.if-at-setting.true
+      | then-at-setting-via-else-at-setting+then-at-setting-2 w ↦ square_beside walk c.args.at.level c.args.at.row c.args.at.col _ _ w.if-at-setting-2.true
+    ]
+
+pub returns-then-at-eq0-clause-gives : goal.returns-then-at-eq0-clause-gives
+returns-then-at-eq0-clause-gives g c =
+    smallest_done c.args.setting.now c.args.column.now c.args.planes.now c.args.at _ c.block_of-first.result _ c.args.reader.now c.read_partition-partition.new.reader c.decode_block.new.reader (Ok tt) c.decode_block.new.column c.decode_block.new.planes
+    (record { from = c.requires.within.from; to = c.requires.within.to; row = c.if-at-setting.false; col = c.if-at-setting-2.false; read = c.read_partition-partition.ensures })
+    c.if-at-eq0.true c.part_size-size.ensures.is c.block_of-first.ensures c.in_ok-decode_block.ensures.gives
+
+pub returns-in_err-decode_block-clause-gives : goal.returns-in_err-decode_block-clause-gives
+returns-in_err-decode_block-clause-gives g c =
+    let p = err_from_is_err_and c.from_residual.result c.from_residual.ensures.1 in
+    rw (p.1, p.2) (smallest_done c.args.setting.now c.args.column.now c.args.planes.now c.args.at _ c.block_of-first.result _ c.args.reader.now c.read_partition-partition.new.reader c.decode_block.new.reader (Err _) c.decode_block.new.column c.decode_block.new.planes
+    (record { from = c.requires.within.from; to = c.requires.within.to; row = c.if-at-setting.false; col = c.if-at-setting-2.false; read = c.read_partition-partition.ensures })
+    c.if-at-eq0.true c.part_size-size.ensures.is c.block_of-first.ensures c.in_err-decode_block.ensures.gives)
+
+pub returns-in_ok-decode_block-in-Whole-clause-gives : goal.returns-in_ok-decode_block-in-Whole-clause-gives
+returns-in_ok-decode_block-in-Whole-clause-gives g c =
+    whole_done c.args.setting.now c.args.column.now c.args.planes.now c.args.at _ c.block_of-first.result _ c.args.reader.now c.read_partition-partition.new.reader c.decode_block-in-Whole.new.reader (Ok tt) c.decode_block-in-Whole.new.column c.decode_block-in-Whole.new.planes
+    (record { from = c.requires.within.from; to = c.requires.within.to; row = c.if-at-setting.false; col = c.if-at-setting-2.false; read = c.read_partition-partition.ensures })
+    (omega (arith, c.if-at-eq0.false)) c.part_size-size.ensures.is c.block_of-first.ensures c.in-Whole.is c.in_ok-decode_block-in-Whole.ensures.gives
+
+pub returns-in_err-decode_block-in-Whole-clause-gives : goal.returns-in_err-decode_block-in-Whole-clause-gives
+returns-in_err-decode_block-in-Whole-clause-gives g c =
+    let p = err_from_is_err_and c.from_residual-in_err-decode_block-in-Whole.result c.from_residual-in_err-decode_block-in-Whole.ensures.1 in
+    rw (p.1, p.2) (whole_done c.args.setting.now c.args.column.now c.args.planes.now c.args.at _ c.block_of-first.result _ c.args.reader.now c.read_partition-partition.new.reader c.decode_block-in-Whole.new.reader (Err _) c.decode_block-in-Whole.new.column c.decode_block-in-Whole.new.planes
+    (record { from = c.requires.within.from; to = c.requires.within.to; row = c.if-at-setting.false; col = c.if-at-setting-2.false; read = c.read_partition-partition.ensures })
+    (omega (arith, c.if-at-eq0.false)) c.part_size-size.ensures.is c.block_of-first.ensures c.in-Whole.is c.in_err-decode_block-in-Whole.ensures.gives)
+
+pub returns-in_ok-decode_halves-in-Horizontal-clause-gives : goal.returns-in_ok-decode_halves-in-Horizontal-clause-gives
+returns-in_ok-decode_halves-in-Horizontal-clause-gives g c =
+    rows_done c.args.setting.now c.args.column.now c.args.planes.now c.args.at _ c.block_of-first.result _ _ c.args.reader.now c.read_partition-partition.new.reader c.decode_halves.new.reader (Ok tt) c.decode_halves.new.column c.decode_halves.new.planes
+    (record { from = c.requires.within.from; to = c.requires.within.to; row = c.if-at-setting.false; col = c.if-at-setting-2.false; read = c.read_partition-partition.ensures })
+    (omega (arith, c.if-at-eq0.false)) c.part_size-size.ensures.is c.block_of-first.ensures c.in-Horizontal.is c.side_of-half.ensures.is (rw c.block_of-second.ensures at c.in_ok-decode_halves-in-Horizontal.ensures.gives)
+
+pub returns-in_err-decode_halves-in-Horizontal-clause-gives : goal.returns-in_err-decode_halves-in-Horizontal-clause-gives
+returns-in_err-decode_halves-in-Horizontal-clause-gives g c =
+    let p = err_from_is_err_and c.from_residual-in_err-decode_halves-in-Horizontal.result c.from_residual-in_err-decode_halves-in-Horizontal.ensures.1 in
+    rw (p.1, p.2) (rows_done c.args.setting.now c.args.column.now c.args.planes.now c.args.at _ c.block_of-first.result _ _ c.args.reader.now c.read_partition-partition.new.reader c.decode_halves.new.reader (Err _) c.decode_halves.new.column c.decode_halves.new.planes
+    (record { from = c.requires.within.from; to = c.requires.within.to; row = c.if-at-setting.false; col = c.if-at-setting-2.false; read = c.read_partition-partition.ensures })
+    (omega (arith, c.if-at-eq0.false)) c.part_size-size.ensures.is c.block_of-first.ensures c.in-Horizontal.is c.side_of-half.ensures.is (rw c.block_of-second.ensures at c.in_err-decode_halves-in-Horizontal.ensures.gives))
+
+pub returns-in_ok-decode_halves-in-Vertical-clause-gives : goal.returns-in_ok-decode_halves-in-Vertical-clause-gives
+returns-in_ok-decode_halves-in-Vertical-clause-gives g c =
+    columns_done c.args.setting.now c.args.column.now c.args.planes.now c.args.at _ c.block_of-first.result _ _ c.args.reader.now c.read_partition-partition.new.reader c.decode_halves-in-Vertical.new.reader (Ok tt) c.decode_halves-in-Vertical.new.column c.decode_halves-in-Vertical.new.planes
+    (record { from = c.requires.within.from; to = c.requires.within.to; row = c.if-at-setting.false; col = c.if-at-setting-2.false; read = c.read_partition-partition.ensures })
+    (omega (arith, c.if-at-eq0.false)) c.part_size-size.ensures.is c.block_of-first.ensures c.in-Vertical.is c.side_of-half.ensures.is (rw c.block_of-second-in-Vertical.ensures at c.in_ok-decode_halves-in-Vertical.ensures.gives)
+
+pub returns-in_err-decode_halves-in-Vertical-clause-gives : goal.returns-in_err-decode_halves-in-Vertical-clause-gives
+returns-in_err-decode_halves-in-Vertical-clause-gives g c =
+    let p = err_from_is_err_and c.from_residual-in_err-decode_halves-in-Vertical.result c.from_residual-in_err-decode_halves-in-Vertical.ensures.1 in
+    rw (p.1, p.2) (columns_done c.args.setting.now c.args.column.now c.args.planes.now c.args.at _ c.block_of-first.result _ _ c.args.reader.now c.read_partition-partition.new.reader c.decode_halves-in-Vertical.new.reader (Err _) c.decode_halves-in-Vertical.new.column c.decode_halves-in-Vertical.new.planes
+    (record { from = c.requires.within.from; to = c.requires.within.to; row = c.if-at-setting.false; col = c.if-at-setting-2.false; read = c.read_partition-partition.ensures })
+    (omega (arith, c.if-at-eq0.false)) c.part_size-size.ensures.is c.block_of-first.ensures c.in-Vertical.is c.side_of-half.ensures.is (rw c.block_of-second-in-Vertical.ensures at c.in_err-decode_halves-in-Vertical.ensures.gives))
+
+pub returns-in-Split-clause-gives : goal.returns-in-Split-clause-gives
+returns-in-Split-clause-gives g c = record {
+  least = omega (arith, c.if-at-eq0.false);
+  row = c.if-at-setting.false;
+  col = c.if-at-setting-2.false;
+  read = rw c.in-Split.is at c.read_partition-partition.ensures;
+  column = refl;
+  samples = refl;
+}
+
+pub decode_block-requires-clause-wide : goal.decode_block-requires-clause-wide
+decode_block-requires-clause-wide g c = rw c.block_of-first.ensures (first_wide _ c.args.at.level c.args.at.col _ _ c.requires.most c.part_size-size.ensures.is c.requires.within.within)
+
+pub decode_block-in-Whole-requires-clause-wide : goal.decode_block-in-Whole-requires-clause-wide
+decode_block-in-Whole-requires-clause-wide g c = rw c.block_of-first.ensures (first_wide _ c.args.at.level c.args.at.col _ _ c.requires.most c.part_size-size.ensures.is c.requires.within.within)
+
+pub decode_halves-requires-clause-wide : goal.decode_halves-requires-clause-wide
+decode_halves-requires-clause-wide g c = rw c.block_of-first.ensures (first_wide _ c.args.at.level c.args.at.col _ _ c.requires.most c.part_size-size.ensures.is c.requires.within.within)
+
+pub decode_halves-requires-clause-wide_second : goal.decode_halves-requires-clause-wide_second
+decode_halves-requires-clause-wide_second g c = rw c.block_of-second.ensures (first_wide _ c.args.at.level c.args.at.col _ _ c.requires.most c.part_size-size.ensures.is c.requires.within.within)
+
+pub decode_halves-in-Vertical-requires-clause-wide : goal.decode_halves-in-Vertical-requires-clause-wide
+decode_halves-in-Vertical-requires-clause-wide g c = rw c.block_of-first.ensures (first_wide _ c.args.at.level c.args.at.col _ _ c.requires.most c.part_size-size.ensures.is c.requires.within.within)
+
+pub decode_halves-in-Vertical-requires-clause-wide_second : goal.decode_halves-in-Vertical-requires-clause-wide_second
+decode_halves-in-Vertical-requires-clause-wide_second g c = rw c.block_of-second-in-Vertical.ensures (second_wide _ c.args.at.level _ c.args.at.col _ _ (omega (arith, c.if-at-eq0.false)) c.requires.most c.part_size-size.ensures.is c.in-Vertical.is c.side_of-half.ensures.is c.requires.within.within)
