@@ -41,7 +41,7 @@ decode_square_8-requires g c =
     let h = is_split _ _ _ _ _ _ c.in_ok-split.split _ _ c.if-not-split.false c.in_ok-split.ensures.gives in
     let lies = subst (λ (d : TileColumn). IsSquareIn d c.args.at) (sym h.column) c.requires.within in
     let within = quarter_within _ _ c.args.at c.loop-i.i lies h.least c.loop-i-test.true c.loop-i.invariant.same c.loop-i.invariant.room in
-    (c.loop-i.invariant.ready, (rw c.quarter_of-quarter.ensures within, rw c.quarter_of-quarter.ensures (omega (arith, c.requires.level))))
+    (omega arith, (c.loop-i.invariant.ready, (rw c.quarter_of-quarter.ensures within, rw c.quarter_of-quarter.ensures (omega (arith, c.requires.level)))))
 
 pub returns-in_err-decode_square_8-clause-gives : goal.returns-in_err-decode_square_8-clause-gives
 returns-in_err-decode_square_8-clause-gives g c =

@@ -30,10 +30,13 @@ returns-clause-gives g c =
 
 pub decode_superblock-requires : goal.decode_superblock-requires
 decode_superblock-requires g c = (
-  c.loop-i.invariant.ready,
+  omega arith,
   (
-    row_square c.args.column.now _ c.args.first c.loop-i.i c.superblocks-count.result c.loop-i.invariant.same c.requires.from c.requires.to c.requires.begin c.requires.level
-        c.superblocks-count.ensures.is c.loop-i-test.true c.requires.room c.loop-i.invariant.room,
-    c.requires.level,
+    c.loop-i.invariant.ready,
+    (
+      row_square c.args.column.now _ c.args.first c.loop-i.i c.superblocks-count.result c.loop-i.invariant.same c.requires.from c.requires.to c.requires.begin c.requires.level
+          c.superblocks-count.ensures.is c.loop-i-test.true c.requires.room c.loop-i.invariant.room,
+      c.requires.level,
+    ),
   ),
 )
