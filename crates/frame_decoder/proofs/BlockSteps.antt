@@ -1,6 +1,9 @@
 -- A block of a tile whose blocks are put in as they are read.
-use Rattle.std.proofs.Common.{◌≡◌, ◌∙◌, ◌++◌, ◌∷◌, [], ℕ, zero, suc, ◌+◌, ◌-◌, ◌^◌, ◌≤◌, refl, sym, ap, arith, Bool, List}
+use Rattle.std.proofs.Common.{◌≡◌, ◌∙◌, ◌++◌, ◌∷◌, [], ℕ, zero, suc, ◌+◌, ◌-◌, ◌^◌, ◌≤◌, ◌<◌, refl, sym, ap, arith, Bool, List}
 use Rattle.std.proofs.lemmas.List.Elements.{All-push}
+use Rattle.std.specs.Prelude.{min}
+use Rattle.std.proofs.lemmas.Nat.{pow_pos}
+use Rattle.std.proofs.Math.Nat.{one-le-pow, pow-le-pow_right}
 use Rattle.vp9_tables.specs.Blocks.{greatest_of}
 use Rattle.vp9_tables.specs.Numbers.{tx_number}
 use Rattle.vp9_types.specs.declared.block.BlockSize.{BlockSize}
@@ -31,7 +34,7 @@ use Rattle.block_residue.specs.Residues as residues
 use Rattle.block_residue.specs.declared.sides.TileSides.{TileSides}
 use Rattle.block_rebuild.specs.Blocks.{put_planned, put_by, put_intra}
 use Rattle.mode_syntax.specs.ModeInfo.{intra_frame_mode_info}
-use Rattle.frame_decoder.specs.Code.{AllFit, AllLie, PlainTile, plain_block}
+use Rattle.frame_decoder.specs.Code.{AllFit, AllLie, AllStart, PlainTile, plain_block}
 use Rattle.frame_decoder.specs.Frames.{put_more}
 
 -- whether a block counts as skipped doesn't matter where it is put in
@@ -96,6 +99,13 @@ wide_half (suc n) least few =
     let same : suc n - 1 ≡ n = omega arith in
     rw same (omega (arith, half n few, twice n))
 
+-- one more starts inside the frame
+pub starts_more : (rows cols : ℕ) (blocks : List BlockInfo) (b info : BlockInfo) (any : Bool) → info ≡ listed b any → b.row < rows → b.col < cols → b.segment ≤ 7
+    → AllStart rows cols blocks → AllStart rows cols (blocks ++ info ∷ [])
+starts_more rows cols blocks b info any is row col segment all =
+    let few : b.segment < 8 = omega (arith, segment) in
+    All-push (λ b. (b.row < rows) × (b.col < cols) × (b.segment < 8)) blocks info all (rw is (row, col, few))
+
 -- a square's first part, and its second one at the right, lie in its columns
 pub first_wide : (p : Partition) (n col limit : ℕ) (size : BlockSize) → n ≤ 3 → size ≡ part_size p n → col + 2 ^ n ≤ limit → col + width_8 size ≤ limit
 first_wide p n col limit size few is within = rw is (omega (arith, wide_part p n few, within))
@@ -103,3 +113,27 @@ first_wide p n col limit size few is within = rw is (omega (arith, wide_part p n
 pub second_wide : (p : Partition) (n half col limit : ℕ) (size : BlockSize) → 1 ≤ n → n ≤ 3 → size ≡ part_size p n → p ≡ Vertical → half ≡ 2 ^ (n - 1) → col + 2 ^ n ≤ limit
     → col + half + width_8 size ≤ limit
 second_wide p n half col limit size least few is part side within = rw (is, part, side) (omega (arith, wide_half n least few, within))
+
+---- A square that starts inside the frame ----
+
+-- its first column is one of the tile's
+pub first_col_in : (n col to limit cols : ℕ) → col + 2 ^ n ≤ limit → col < cols → to ≡ min limit cols → col < to
+first_col_in n col to limit cols within there ends = omega (arith, within, there, ends, pow_pos n)
+
+pub first_col_below : (n col limit : ℕ) → col + 2 ^ n ≤ limit → col < limit
+first_col_below n col limit within = omega (arith, within, pow_pos n)
+
+pub room_for_one : (n room : ℕ) → 4 ^ n ≤ room → 1 ≤ room
+room_for_one n room enough = omega (arith, enough, one-le-pow n 4 (omega arith))
+
+pub room_for_two : (n room : ℕ) → 1 ≤ n → 4 ^ n ≤ room → 2 ≤ room
+room_for_two n room least enough =
+    let more : 4 ^ 1 ≤ 4 ^ n = pow-le-pow_right {n = 4} (omega arith) least in
+    omega (arith, enough, more)
+
+pub second_col_below : (n side col limit : ℕ) → 1 ≤ n → side ≡ 2 ^ (n - 1) → col + 2 ^ n ≤ limit → col + side < limit
+second_col_below zero side col limit least is within = absurd (omega (arith, least))
+second_col_below (suc n) side col limit least is within =
+    let same : suc n - 1 ≡ n = omega arith in
+    let so : side ≡ 2 ^ n = rw same at is in
+    omega (arith, so, twice n, within, pow_pos n)

@@ -30,7 +30,7 @@ use Rattle.frame_setting.specs.declared.setting.FrameSetting.{FrameSetting}
 use Rattle.mode_syntax.specs.Walk.{decode_tile}
 use Rattle.planes.specs.Pictures.{samples_of}
 use Rattle.planes.specs.declared.frame_planes.FramePlanes.{FramePlanes}
-use Rattle.frame_decoder.specs.Code.{PlainTile, ArePlanes, AreTileColumns, GivesRead, GivesWhole, HoldsRead, IsReady, IsTileColumn, SameColumns, blocks_of, column_as_listed, column_of_code, counts_if, limit_of, plain_walk, read_whole, tile_of, walk_of}
+use Rattle.frame_decoder.specs.Code.{PlainTile, AllStart, ArePlanes, AreTileColumns, GivesRead, GivesWhole, HoldsRead, IsReady, IsTileColumn, SameColumns, blocks_of, column_as_listed, column_of_code, counts_if, limit_of, plain_walk, read_whole, tile_of, walk_of}
 use Rattle.frame_decoder.specs.Reading.{Column, FrameRead, begun, column_at, infos, no_column, read_tile_of, sides_below}
 use Rattle.frame_decoder.specs.Tiles.{column_of, row_of, superblocks_before, tile_offset, tile_places}
 use Rattle.frame_decoder.specs.declared.columns.TileColumn.{TileColumn}
@@ -89,6 +89,7 @@ ready_of setting n k c sides planes h fit ready =
       range = ready.range;
       fit_blocks = h.fit_blocks;
       lie = h.lie;
+      starts = subst (λ (p : FramePlaces). AllStart p.rows p.cols c.grid.blocks) (sym setting.whole) h.starts;
     }
 
 pub begins_there : (setting : FrameSetting) (n k : ℕ) (c : TileColumn) (t : TilePlaces) → k ≡ column_of setting.header.params.tiles n → t ≡ tile_places setting.places setting.header.params.tiles n
@@ -168,6 +169,7 @@ column_after setting n k c new sides planes t below at is h ready same left =
           (room_there setting.header n k c at h) left);
       fit_blocks = ready.fit_blocks;
       lie = ready.lie;
+      starts = subst (λ (p : FramePlaces). AllStart p.rows p.cols new.grid.blocks) setting.whole ready.starts;
     }
 
 later_is : (header : Header) (n k : ℕ) (c : TileColumn) → IsTileColumn header n k c → IsTileColumn header (n + 1) k c
@@ -179,6 +181,7 @@ later_is header n k c h = record {
   room = λ r low. h.room r (omega (arith, low));
   fit_blocks = h.fit_blocks;
   lie = h.lie;
+  starts = h.starts;
 }
 
 columns_with : (setting : FrameSetting) (n k : ℕ) (columns : List TileColumn) (new : TileColumn) → k < length columns
@@ -361,6 +364,7 @@ begins header k c rows from to fit room none = record {
       let less : superblocks_along rows - superblocks_before rows header.params.tiles.rows_log2 r ≤ superblocks_along rows = omega arith in
       let most = mul-le-mul_left (superblocks_along (c.grid.to - c.grid.from)) less in
       rw room (omega (arith, most));
-  fit_blocks = rw none tt;
-  lie = rw none tt;
+  fit_blocks = rw none (λ i d low. absurd (omega (arith, low)));
+  lie = rw none (λ i d low. absurd (omega (arith, low)));
+  starts = rw none (λ i d low. absurd (omega (arith, low)));
 }

@@ -1,10 +1,10 @@
-use Rattle.std.proofs.Common.{◌≡◌, ◌∙◌, sym, refl, ap}
+use Rattle.std.proofs.Common.{◌≡◌, ◌∙◌, sym, refl, ap, arith}
 use Rattle.std.proofs.lemmas.Result.{err_from_is_err_and}
 use Rattle.frame_headers.specs.State.{shape_of}
 use Rattle.prob_contexts.specs.Lists.{lists_of}
 use Rattle.block_plan.specs.Code.{planned_with}
 use Rattle.planes.specs.Pictures.{samples_of}
-use Rattle.frame_decoder.proofs.BlockSteps.{block_read, block_broken, fits_more, lies_more, put_listed}
+use Rattle.frame_decoder.proofs.BlockSteps.{block_read, block_broken, fits_more, lies_more, put_listed, starts_more}
 use Rattle.frame_decoder.proofs.squares.decode_block.Goals as goal
 
 pub returns-in_err-listed-clause-gives : goal.returns-in_err-listed-clause-gives
@@ -41,4 +41,7 @@ returns-clause-ready g c = record {
       c.intra_frame_mode_info-block.ensures.size c.intra_frame_mode_info-block.ensures.fits c.requires.ready.fit_blocks);
   lie = rw c.put.ensures (lies_more _ _ _ c.intra_frame_mode_info-block.result _ c.args.at c.in_ok-listed.ensures.listed.0 c.in_ok-listed.ensures.listed.1
       c.intra_frame_mode_info-block.ensures.col c.intra_frame_mode_info-block.ensures.size (rw c.requires.from at c.requires.first) c.requires.wide c.requires.ready.lie);
+  starts = rw c.put.ensures (starts_more c.args.setting.now.places.rows c.args.setting.now.places.cols _ c.intra_frame_mode_info-block.result _ c.in_ok-listed.ensures.listed.0 c.in_ok-listed.ensures.listed.1
+      (rw c.intra_frame_mode_info-block.ensures.row c.requires.row) (rw c.intra_frame_mode_info-block.ensures.col (omega (arith, c.requires.col, c.requires.to, c.requires.ready.within)))
+      c.intra_frame_mode_info-block.ensures.segment c.requires.ready.starts);
 }

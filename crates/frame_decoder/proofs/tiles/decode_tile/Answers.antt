@@ -16,4 +16,4 @@ returns-in_err-decode_rows-clause-gives g c =
 
 pub returns-clause-gives : goal.returns-clause-gives
 returns-clause-gives g c =
-    rw c.into_counts.ensures (whole_read _ c.args.bytes.now _ _ _ _ _ _ (counts_by_is g.row.COUNTS) c.in_ok-reader.ensures.0 c.in_ok-reader.ensures.1 c.in_ok-decode_rows.ensures.gives)
+    rw c.into_counts.ensures (whole_read _ c.args.bytes.now _ _ c.decode_rows.new.reader c.decode_rows.new.column c.decode_rows.new.planes _ (counts_by_is g.row.COUNTS) c.in_ok-reader.ensures.0 c.in_ok-reader.ensures.1 c.in_ok-decode_rows.ensures.gives)
