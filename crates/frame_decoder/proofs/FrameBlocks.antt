@@ -29,7 +29,7 @@ or_else_assoc (Some x) b c = refl
 or_else_assoc None b c = refl
 
 -- in two lists one after the other
-covering_both : (xs ys : List BlockInfo) (r c : ℕ) → covering (xs ++ ys) r c ≡ or_else (covering ys r c) (covering xs r c)
+pub covering_both : (xs ys : List BlockInfo) (r c : ℕ) → covering (xs ++ ys) r c ≡ or_else (covering ys r c) (covering xs r c)
 unfolding covering
 covering_both [] ys r c = sym (or_else_none (covering ys r c))
 covering_both (x ∷ xs) ys r c =

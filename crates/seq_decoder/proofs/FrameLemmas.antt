@@ -1,8 +1,9 @@
 -- What a frame adds.
-use Rattle.std.proofs.Common.{◌≡◌, ℕ, List, ap, sym, subst, refl, ◌∙◌, arith}
-use Rattle.std.specs.Prelude.{Option, Some, Result, Ok, Err, ◌<◌, length, map}
+use Rattle.std.proofs.Common.{◌≡◌, ◌≤◌, ℕ, zero, suc, List, [], ◌∷◌, true, false, ap, sym, subst, refl, ◌∙◌, arith}
+use Rattle.std.specs.Prelude.{All, Bool, IfSome, Option, Some, None, Result, Ok, Err, ◌<◌, get_or, length, map, slice_get}
+use Rattle.std.proofs.lemmas.List.Elements.{All-head, All-tail}
 use Rattle.std.proofs.lemmas.Option.{slice_get_within}
-use Rattle.edge_io.specs.Putting.{TakesFront}
+use Rattle.edge_io.specs.Putting.{Takes, TakesFront}
 use Rattle.edge_io.specs.declared.sink.PutFault.{PutFault}
 use Rattle.edge_io.specs.declared.sink.PutFault.TheVariants as refused
 use Rattle.edge_io.proofs.Fronts.{takes_none}
@@ -12,94 +13,173 @@ use Rattle.vp9_types.specs.Maps.{FrameMap}
 use Rattle.vp9_types.specs.declared.job.Span.{Span}
 use Rattle.vp9_types.specs.declared.shape.Shape.{Shape}
 use Rattle.frame_headers.specs.declared.header.Header.{Header}
-use Rattle.frame_headers.specs.declared.persist.Persist.{Persist}
 use Rattle.frame_headers.proofs.SlotLemmas.{refreshed_told}
-use Rattle.frame_headers.specs.State.{next_persist, refreshed, shape_of}
-use Rattle.picture_table.specs.Code.{held, held_in, shown}
+use Rattle.frame_headers.specs.State.{SlotsHaveSizes, next_persist, refreshed, shape_of}
+use Rattle.frame_headers.specs.declared.header.FrameKind.{FrameKind}
+use Rattle.frame_headers.specs.declared.header.FrameKind.TheVariants.{Key, IntraOnly, Inter}
+use Rattle.frame_headers.specs.declared.header.FrameSize.{FrameSize}
+use Rattle.frame_headers.specs.declared.persist.Persist.{Persist}
+use Rattle.frame_output.specs.Texts.{frame_text}
+use Rattle.picture_table.specs.Code.{IsBelow, IsSound, IsSoundAt, IsTable, NamesSound, held, held_in, shown}
 use Rattle.picture_table.specs.declared.table.PictureTable.{PictureTable}
 use Rattle.prob_contexts.specs.Lists.{ContextLists, lists_of}
+use Rattle.planes.specs.declared.picture.Picture as planes
 use Rattle.frame_decoder.specs.Frames.{FrameResult, decoded}
 use Rattle.frame_decoder.specs.declared.halt.Halt.{Halt}
 use Rattle.frame_decoder.specs.declared.halt.Halt.TheVariants as halt
-use Rattle.seq_decoder.specs.After.{CodedFrame, behind_head, built_head, coded_frame, if_decoded, Stepped, after, picture_of, step, shown_picture, state_after}
-use Rattle.seq_decoder.specs.SavedContexts.{context_before, saved_before, with_own, saved_after}
-use Rattle.seq_decoder.specs.Code.{saved_lists, StandsFor, shown_text, step_text, frame_of, shown_of, IsAt, IsCoded, Shows, Halts, halt_outcome, refusal_outcome}
+use Rattle.seq_decoder.specs.After.{Stepped, after_coded, input_of, picture_of, shown_picture, state_after}
+use Rattle.seq_decoder.specs.SavedContexts.{context_at, is_key, own_contexts, place_of, saved_before, with_own, saved_after}
+use Rattle.seq_decoder.specs.Code.{saved_lists, StandsFor, shown_text, step_text, shown_of, text_if, IsAt, IsCoded, HasBegun, Shows, Adds, Halts, halt_outcome, refusal_outcome}
 use Rattle.seq_decoder.specs.Outcomes.{outcome_at}
-use Rattle.seq_decoder.specs.State.{State, persist_of}
+use Rattle.seq_decoder.specs.State.{Picture, State, persist_of}
 use Rattle.seq_decoder.specs.declared.coding.Coded.{Coded}
 use Rattle.seq_decoder.specs.declared.decoder.Decoder.{Decoder}
+use Rattle.seq_decoder.proofs.ShowingLemmas.{text_is}
 use Rattle.seq_decoder.proofs.Slots.{persist_after}
 
--- what a frame makes of a state, by what its bytes hold
-pub stepped_so : (number : ℕ) (state : State) (frame : List ℕ) (r : Result CodedFrame Fault) → coded_frame (persist_of state) state.contexts frame ≡ r → step number state frame ≡ after number state r
-unfolding step
-stepped_so number state frame r h = ap (after number state) h
+---- A frame that can't be decoded, or written ----
 
-fault_halts : (number : ℕ) (stepped : Result Stepped Fault) (fault : Fault) (old : Option (List ℕ)) (faults : ℕ) → stepped ≡ Err fault → Halts number stepped old old faults faults (outcome_at number fault)
+pub fault_halts : (number : ℕ) (stepped : Result Stepped Fault) (fault : Fault) (old : Option (List ℕ)) (faults : ℕ) → stepped ≡ Err fault → Halts number stepped old old faults faults (outcome_at number fault)
 fault_halts number stepped (fault.Broken rule) old faults is = record { ends = is; frame = refl; none = takes_none old; quiet = refl }
 fault_halts number stepped (fault.Unbuilt part) old faults is = record { ends = is; frame = refl; none = takes_none old; quiet = refl }
 
--- a frame whose header is read and whose contexts are these holds what is decoded
-pub coded_so : (persist : Persist) (saved : List ContextLists) (frame : List ℕ) (h : Header × Span) (before : ContextLists) (result : FrameResult) → Ok h ≡ built_head persist frame
-    → before ≡ context_before h.0 saved → decoded (record { header = h.0; compressed = h.1; bytes = frame; before = before }) ≡ Ok result
-    → coded_frame persist saved frame ≡ Ok (record { header = h.0; result = result })
-unfolding coded_frame
-coded_so persist saved frame h before result is contexts decodes =
-    ap (behind_head saved frame) (sym is)
-    ∙ ap (λ b. if_decoded h.0 (decoded (record { header = h.0; compressed = h.1; bytes = frame; before = b }))) (sym contexts)
-    ∙ ap (if_decoded h.0) decodes
+-- for want of memory, before anything is written
+pub wants_memory : (number : ℕ) (stepped : Result Stepped Fault) (old : Option (List ℕ)) (faults : ℕ) → Halts number stepped old old faults faults (halt_outcome number halt.OutOfMemory)
+wants_memory number stepped old faults = ((0, omega arith, takes_none old), refl)
 
 -- at a frame that can't be decoded
-pub frame_halted : (number : ℕ) (state : State) (frame : List ℕ) (h : Halt) (table : PictureTable) (old : Option (List ℕ)) (faults : ℕ) → IsCoded (coded_frame (persist_of state) state.contexts frame) table (Err h)
-    → Halts number (step number state frame) old old faults faults (halt_outcome number h)
-frame_halted number state frame (halt.Fault fault) table old faults is = fault_halts number (step number state frame) fault old faults (stepped_so number state frame (Err fault) is)
-frame_halted number state frame halt.OutOfMemory table old faults is = ((0, omega arith, takes_none old), refl)
-
-front_shown : (number : ℕ) (state : State) (frame : List ℕ) (f : CodedFrame) (old new : Option (List ℕ)) → coded_frame (persist_of state) state.contexts frame ≡ Ok f
-    → TakesFront old new (shown_text (shown_picture number f)) → TakesFront old new (step_text (step number state frame))
-front_shown number state frame f old new h k = subst (λ s. TakesFront old new (step_text s)) (sym (stepped_so number state frame (Ok f) h)) k
+pub frame_halted : (number : ℕ) (state : State) (header : Header) (d : Result FrameResult Fault) (h : Halt) (table : PictureTable) (old : Option (List ℕ)) (faults : ℕ) → IsCoded header d table (Err h)
+    → Halts number (after_coded number state header d) old old faults faults (halt_outcome number h)
+frame_halted number state header d (halt.Fault fault) table old faults is = fault_halts number (after_coded number state header d) fault old faults (ap (after_coded number state header) is)
+frame_halted number state header d halt.OutOfMemory table old faults is = wants_memory number (after_coded number state header d) old faults
 
 -- at a frame that the sink refuses
-pub frame_refused : (number : ℕ) (state : State) (frame : List ℕ) (f : CodedFrame) (old new : Option (List ℕ)) (faults now : ℕ) (refusal : PutFault) → coded_frame (persist_of state) state.contexts frame ≡ Ok f
-    → Shows (shown_text (shown_picture number f)) old new faults now (Err refusal) → Halts number (step number state frame) old new faults now (refusal_outcome refusal)
-frame_refused number state frame f old new faults now refused.Failed h k = (front_shown number state frame f old new h k.0, k.1)
-frame_refused number state frame f old new faults now refused.OutOfMemory h k = (front_shown number state frame f old new h k.0, k.1)
+pub refused_at : (number : ℕ) (stepped : Result Stepped Fault) (next : Stepped) (old new : Option (List ℕ)) (faults now : ℕ) (refusal : PutFault) → stepped ≡ Ok next
+    → Shows (shown_text next.shown) old new faults now (Err refusal) → Halts number stepped old new faults now (refusal_outcome refusal)
+refused_at number stepped next old new faults now refused.Failed is k = (subst (λ s. TakesFront old new (step_text s)) (sym is) k.0, k.1)
+refused_at number stepped next old new faults now refused.OutOfMemory is k = (subst (λ s. TakesFront old new (step_text s)) (sym is) k.0, k.1)
 
--- a frame that is decoded as the code's state says is decoded so in the state
-pub coded_in : (d : Decoder) (state : State) (bytes : List ℕ) (table : PictureTable) (r : Result Coded Halt) → StandsFor d state
-    → IsCoded (coded_frame d.persist (saved_lists d.saved) bytes) table r → IsCoded (coded_frame (persist_of state) state.contexts bytes) table r
-coded_in d state bytes table r stands h =
-    subst (λ saved. IsCoded (coded_frame (persist_of state) saved bytes) table r) stands.contexts (subst (λ p. IsCoded (coded_frame p (saved_lists d.saved) bytes) table r) stands.persist h)
+-- its text
+pub text_refused : (number : ℕ) (header : Header) (table : PictureTable) (c : Coded) (got : planes.Picture) (old new : Option (List ℕ)) (faults now : ℕ) (refusal : PutFault) (result : FrameResult)
+    (at : IsAt header table c result) → got ≡ at.picture
+    → Shows (text_if header.show_frame got) old new faults now (Err refusal) → Shows (shown_text (shown_picture number header result)) old new faults now (Err refusal)
+text_refused number header table c got old new faults now refusal result at same shows =
+    subst (λ t. Shows t old new faults now (Err refusal)) (ap (text_if header.show_frame) same ∙ text_is number header c at.picture result at.holds) shows
 
-shown_at : (table : PictureTable) (c : Coded) (result : FrameResult) (at : IsAt table c result) → held_in table.pictures.items (Some c.place) ≡ Some (shape_of c.header, result.map)
-shown_at table c result at = ap shown at.there ∙ (λ i. Some (at.holds.shape i, at.holds.map i))
+pub text_taken : (number : ℕ) (header : Header) (table : PictureTable) (c : Coded) (got : planes.Picture) (old new : Option (List ℕ)) (result : FrameResult) (at : IsAt header table c result) → got ≡ at.picture
+    → Takes old new (text_if header.show_frame got) → Takes old new (shown_text (shown_picture number header result))
+text_taken number header table c got old new result at same takes = subst (Takes old new) (ap (text_if header.show_frame) same ∙ text_is number header c at.picture result at.holds) takes
+
+---- What is kept of a frame ----
+
+shown_at : (header : Header) (table : PictureTable) (c : Coded) (result : FrameResult) (at : IsAt header table c result) → held_in table.pictures.items (Some c.place) ≡ Some (shape_of header, result.map)
+shown_at header table c result at = ap shown at.there ∙ (λ i. Some (at.holds.shape i, at.holds.map i))
 
 -- what the slots hold behind a frame
-slots_after : (number : ℕ) (state : State) (c : Coded) (result : FrameResult) (old d : Decoder) (table : PictureTable) → IsAt table c result → StandsFor old state
-    → held table ≡ held old.table → d.table.pictures ≡ table.pictures → d.table.slots ≡ refreshed c.header.refresh c.place table.slots
-    → held d.table ≡ map shown_of (state_after number state (frame_of c result)).slots
-slots_after number state c result old d table at stands same pictures slots =
-    let told : Shape × FrameMap = (shape_of c.header, result.map) in
+pub slots_after : (number : ℕ) (state : State) (header : Header) (c : Coded) (result : FrameResult) (table new : PictureTable) → IsAt header table c result
+    → held table ≡ map shown_of state.slots → new.pictures ≡ table.pictures → new.slots ≡ refreshed header.refresh c.place table.slots
+    → held new ≡ map shown_of (state_after number state header result).slots
+slots_after number state header c result table new at same pictures slots =
+    let told : Shape × FrameMap = (shape_of header, result.map) in
     (λ i. map (held_in (pictures i).items) (slots i))
-    ∙ refreshed_told (held_in table.pictures.items) table.slots c.header.refresh c.place told (shown_at table c result at)
-    ∙ ap (refreshed c.header.refresh told) (same ∙ stands.slots)
-    ∙ sym (refreshed_told shown_of state.slots c.header.refresh (picture_of number (frame_of c result)) told refl)
+    ∙ refreshed_told (held_in table.pictures.items) table.slots header.refresh c.place told (shown_at header table c result at)
+    ∙ ap (refreshed header.refresh told) same
+    ∙ sym (refreshed_told shown_of state.slots header.refresh (picture_of number header result) told refl)
 
 -- the place of a frame is there
-pub place_there : (table : PictureTable) (c : Coded) (result : FrameResult) → IsAt table c result → c.place < length table.pictures.items
-place_there table c result at = slice_get_within table.pictures.items c.place at.picture at.there
+pub place_there : (header : Header) (table : PictureTable) (c : Coded) (result : FrameResult) → IsAt header table c result → c.place < length table.pictures.items
+place_there header table c result at = slice_get_within table.pictures.items c.place at.picture at.there
 
--- behind a frame
-pub stands_after : (number : ℕ) (state : State) (c : Coded) (result : FrameResult) (old d : Decoder) (reset : List ContextLists) (table : PictureTable) → IsAt table c result → StandsFor old state
-    → d.persist ≡ next_persist c.header old.persist → reset ≡ saved_before c.header (saved_lists old.saved)
-    → saved_lists d.saved ≡ with_own c.header (lists_of c.decoded.contexts) reset
-    → held table ≡ held old.table → d.table.pictures ≡ table.pictures → d.table.slots ≡ refreshed c.header.refresh c.place table.slots
-    → StandsFor d (state_after number state (frame_of c result))
+pub not_key : (kind : FrameKind) → (kind ≡ Key → ⊥) → false ≡ is_key kind
+not_key Key other = absurd (other refl)
+not_key IntraOnly other = refl
+not_key (Inter fields) other = refl
+
+pub sized_of : (p : Persist) (size : Option FrameSize) → SlotsHaveSizes (record p { size = size }) → SlotsHaveSizes p
+unfolding SlotsHaveSizes
+sized_of p size h = h
+
+pub sized_with : (p : Persist) (size : Option FrameSize) → SlotsHaveSizes p → SlotsHaveSizes (record p { size = size })
+unfolding SlotsHaveSizes
+sized_with p size h = h
+
+-- the saved contexts behind a frame
+pub contexts_after : (header : Header) (r : FrameResult) (after_key : Bool) (saved new found : List ContextLists) (own before : ContextLists) → new ≡ with_own header own found
+    → own ≡ own_contexts header after_key r before → before ≡ context_at found (place_of header) → found ≡ saved_before header saved → new ≡ saved_after header after_key r saved
 unfolding saved_after
-stands_after number state c result old d reset table at stands is_persist is_reset is_new same pictures slots = record {
-  persist = is_persist ∙ ap (next_persist c.header) stands.persist ∙ sym (persist_after number state (frame_of c result));
-  contexts = is_new ∙ ap (with_own c.header (lists_of c.decoded.contexts)) is_reset
-      ∙ ap (λ s. with_own c.header (lists_of c.decoded.contexts) (saved_before c.header s)) stands.contexts
-      ∙ ap (λ own. with_own c.header own (saved_before c.header state.contexts)) at.holds.contexts;
-  slots = slots_after number state c result old d table at stands same pictures slots;
-}
+contexts_after header r after_key saved new found own before is_new is_own is_before is_found =
+    is_new ∙ (λ i. with_own header (is_own i) (is_found i)) ∙ ap (λ b. with_own header (own_contexts header after_key r b) (saved_before header saved)) (is_before ∙ ap (λ f. context_at f (place_of header)) is_found)
+
+-- a frame that is decoded from the code's contexts is decoded so in the state
+pub decoded_in : (d : Decoder) (state : State) (bytes : List ℕ) (header : Header) (compressed : Span) (r : Result FrameResult Fault) → StandsFor d state
+    → decoded (input_of (saved_lists d.saved) bytes header compressed) ≡ r → decoded (input_of state.contexts bytes header compressed) ≡ r
+decoded_in d state bytes header compressed r stands is = ap (λ saved. decoded (input_of saved bytes header compressed)) (sym stands.contexts) ∙ is
+
+---- A slot that is shown ----
+
+-- what the code holds in a slot is what the state holds there
+slot_told : (xs : List (Option Picture)) (slots : List (Option ℕ)) (pictures : List planes.Picture) (n : ℕ) → map (held_in pictures) slots ≡ map shown_of xs
+    → held_in pictures (get_or slots n None) ≡ shown_of (get_or xs n None)
+slot_told [] [] pictures n same = refl
+slot_told [] (s ∷ slots) pictures n same = absurd cc
+slot_told (x ∷ xs) [] pictures n same = absurd cc
+slot_told (x ∷ xs) (s ∷ slots) pictures zero same = heads same
+  where
+    heads : {A : Type 0} {a b : A} {rest others : List A} → a ∷ rest ≡ b ∷ others → a ≡ b
+    heads e = cc
+slot_told (x ∷ xs) (s ∷ slots) pictures (suc n) same = slot_told xs slots pictures n (tails same)
+  where
+    tails : {A : Type 0} {a b : A} {rest others : List A} → a ∷ rest ≡ b ∷ others → rest ≡ others
+    tails e = cc
+
+abbrev text_of : Option (Shape × FrameMap) → List ℕ
+text_of None = []
+text_of (Some told) = frame_text told.0 told.1
+
+text_told : (o : Option Picture) → text_of (shown_of o) ≡ shown_text o
+text_told None = refl
+text_told (Some p) = refl
+
+named_sound : (pictures : List planes.Picture) (slots : List (Option ℕ)) (n place : ℕ) → All (NamesSound pictures) slots → get_or slots n None ≡ Some place → IsSoundAt pictures place
+named_sound pictures [] n place all is = absurd cc
+named_sound pictures (s ∷ slots) zero place all is = subst (NamesSound pictures) is (All-head (NamesSound pictures) s slots all)
+named_sound pictures (s ∷ slots) (suc n) place all is = named_sound pictures slots n place (All-tail (NamesSound pictures) s slots all) is
+
+named_there : (count : ℕ) (slots : List (Option ℕ)) (n place : ℕ) → All (IsBelow count) slots → get_or slots n None ≡ Some place → place < count
+named_there count [] n place all is = absurd cc
+named_there count (s ∷ slots) zero place all is = subst (IsBelow count) is (All-head (IsBelow count) s slots all)
+named_there count (s ∷ slots) (suc n) place all is = named_there count slots n place (All-tail (IsBelow count) s slots all) is
+
+got_there : (pictures : List planes.Picture) (place : ℕ) (d : planes.Picture) → place < length pictures → slice_get pictures place ≡ Some (get_or pictures place d)
+got_there [] place d low = absurd (omega (arith, low))
+got_there (p ∷ pictures) zero d low = refl
+got_there (p ∷ pictures) (suc place) d low = got_there pictures place d (omega (arith, low))
+
+pub shown_place : (t : PictureTable) (n place : ℕ) → IsTable t → get_or t.slots n None ≡ Some place → place < length t.pictures.items
+shown_place t n place h is = named_there (length t.pictures.items) t.slots n place h.within is
+
+is_at : (t : PictureTable) (n place : ℕ) (got : planes.Picture) → IsTable t → get_or t.slots n None ≡ Some place → got ≡ get_or t.pictures.items place got → slice_get t.pictures.items place ≡ Some got
+is_at t n place got h is same = got_there t.pictures.items place got (shown_place t n place h is) ∙ ap (λ p. Some p) (sym same)
+
+pub shown_sound : (t : PictureTable) (n place : ℕ) (got : planes.Picture) → IsTable t → get_or t.slots n None ≡ Some place → got ≡ get_or t.pictures.items place got → IsSound got
+shown_sound t n place got h is same = subst (λ o. IfSome o IsSound) (is_at t n place got h is same) (named_sound t.pictures.items t.slots n place h.sound is)
+
+-- the text of a slot's picture
+pub slot_text : (d : Decoder) (state : State) (n place : ℕ) (got : planes.Picture) → StandsFor d state → IsTable d.table → get_or d.table.slots n None ≡ Some place
+    → got ≡ get_or d.table.pictures.items place got → text_if true got ≡ shown_text (get_or state.slots n None)
+slot_text d state n place got stands h is same =
+    ap text_of (sym (ap shown (is_at d.table n place got h is same)) ∙ ap (held_in d.table.pictures.items) (sym is) ∙ slot_told state.slots d.table.slots d.table.pictures.items n stands.slots)
+    ∙ text_told (get_or state.slots n None)
+
+-- of a slot that holds nothing
+pub no_text : (d : Decoder) (state : State) (n : ℕ) → StandsFor d state → get_or d.table.slots n None ≡ None → [] ≡ shown_text (get_or state.slots n None)
+no_text d state n stands is =
+    ap text_of (ap (held_in d.table.pictures.items) (sym is) ∙ slot_told state.slots d.table.slots d.table.pictures.items n stands.slots)
+    ∙ text_told (get_or state.slots n None)
+
+pub none_of : (o : Option ℕ) → ((x : ℕ) → o ≡ Some x → ⊥) → o ≡ None
+none_of None other = refl
+none_of (Some x) other = absurd (other x refl)
+
+pub shows_nothing : (old : Option (List ℕ)) (text : List ℕ) → [] ≡ text → Takes old old text
+shows_nothing old text is = subst (Takes old old) is (takes_none old)

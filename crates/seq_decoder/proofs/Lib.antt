@@ -2,3 +2,4 @@ pub mod Slots
 pub mod ShowingLemmas
 pub mod FrameLemmas
 pub mod RunLemmas
+pub mod SegmentLemmas

@@ -14,7 +14,8 @@ use Rattle.vp9_types.specs.Maps.{Map, FrameMap, IsAtMost}
 use Rattle.vp9_types.specs.Shapes.{depth_bits, halved, subsampled_size, plane_width, plane_height, coded_width, coded_height}
 use Rattle.frame_headers.specs.declared.header.Header.{Header}
 use Rattle.frame_headers.specs.State.{shape_of}
-use Rattle.planes.specs.Pictures.{HasSizes, coded_area, plane_of, map_of}
+use Rattle.picture_table.specs.Code.{IsSound}
+use Rattle.planes.specs.Pictures.{FitsPlanes, HasSizes, coded_area, plane_of, map_of}
 use Rattle.planes.specs.Planes.{HasRow}
 use Rattle.planes.specs.declared.frame_planes.FramePlanes.{FramePlanes}
 use Rattle.planes.specs.declared.picture.Picture.{Picture}
@@ -23,22 +24,22 @@ use Rattle.frame_decoder.specs.Frames.{FrameResult}
 use Rattle.frame_output.specs.Texts.{frame_text}
 use Rattle.seq_decoder.specs.declared.coding.Coded.{Coded}
 use Rattle.seq_decoder.specs.After.{shown_picture}
-use Rattle.seq_decoder.specs.Code.{FitsHeader, Shows, shown_text, frame_of, text_of}
+use Rattle.seq_decoder.specs.Code.{Shows, shown_text, text_if}
 
 small_at : (depth : Depth) (m : Map) (y x : ℕ) → depth ≡ Eight → IsAtMost (2 ^ depth_bits depth - 1) m → m y x < 256
 small_at depth m y x eight most = omega (arith, subst (λ d. IsAtMost (2 ^ depth_bits d - 1) m) eight most y x)
 
-small_in : (f : Picture) (header : Header) (p : Plane) (y x : ℕ) → (shape_of header).depth ≡ Eight → FitsHeader f header → map_of f p y x < 256
-small_in f header Y y x eight fits = small_at _ _ y x eight fits.range.y
-small_in f header U y x eight fits = small_at _ _ y x eight fits.range.u
-small_in f header V y x eight fits = small_at _ _ y x eight fits.range.v
+small_in : (f : Picture) (p : Plane) (y x : ℕ) → f.shape.depth ≡ Eight → IsSound f → map_of f p y x < 256
+small_in f Y y x eight sound = small_at _ _ y x eight sound.range.y
+small_in f U y x eight sound = small_at _ _ y x eight sound.range.u
+small_in f V y x eight sound = small_at _ _ y x eight sound.range.v
 
 -- at depth 8 a sample fits a byte
-pub small_samples : (f : Picture) (header : Header) (shape : Shape) (p : Plane) (y x : ℕ) → FitsHeader f header → shape ≡ shape_of header → shape.depth ≡ Eight → map_of f p y x < 256
-small_samples f header shape p y x fits is eight = small_in f header p y x (ap (λ s. s.depth) (sym is) ∙ eight) fits
+pub small_samples : (f : Picture) (shape : Shape) (p : Plane) (y x : ℕ) → IsSound f → shape ≡ f.shape → shape.depth ≡ Eight → map_of f p y x < 256
+small_samples f shape p y x sound is eight = small_in f p y x (ap (λ s. s.depth) (sym is) ∙ eight) sound
 
-pub text_shown : (header : Header) (picture : Picture) (shape : Shape) → header.show_frame ≡ true → shape ≡ shape_of header → frame_text shape (map_of picture) ≡ text_of header picture
-text_shown header picture shape shown is = rw (shown, is) refl
+pub text_shown : (shown : Bool) (picture : Picture) (shape : Shape) → shown ≡ true → shape ≡ picture.shape → frame_text shape (map_of picture) ≡ text_if shown picture
+text_shown shown picture shape is same = rw (is, same) refl
 
 -- chroma of a plane rounded up is within half of what is rounded up to places
 half_within : (n : ℕ) (ss : Bool) → subsampled_size n ss ≤ halved ss (8 * ((n + 7) / 8))
@@ -56,16 +57,16 @@ area_is shape f U h = h.u
 area_is shape f V h = h.v
 
 -- the rows of a picture are as wide as what is shown of them
-pub wide_rows : (f : Picture) (header : Header) (shape : Shape) (p : Plane) → FitsHeader f header → shape ≡ shape_of header → plane_width shape p ≤ (plane_of f.planes p).area.columns
-wide_rows f header shape p fits is = rw (is, area_is (shape_of header) f.planes p fits.sizes) ((plane_within (shape_of header) p).0)
+pub wide_rows : (f : Picture) (shape : Shape) (p : Plane) → IsSound f → shape ≡ f.shape → plane_width shape p ≤ (plane_of f.planes p).area.columns
+wide_rows f shape p sound is = rw (is, area_is f.shape f.planes p sound.sizes) ((plane_within f.shape p).0)
 
 -- and it has as many as are shown
-pub held_rows : (f : Picture) (header : Header) (shape : Shape) (p : Plane) (y : ℕ) → FitsHeader f header → shape ≡ shape_of header → y < plane_height shape p
+pub held_rows : (f : Picture) (shape : Shape) (p : Plane) (y : ℕ) → IsSound f → shape ≡ f.shape → y < plane_height shape p
     → HasRow (plane_of f.planes p).area y 0 (plane_of f.planes p).area.columns
-held_rows f header shape p y fits is low =
+held_rows f shape p y sound is low =
     let high = subst (λ s. y < plane_height s p) is low in
-    rw (area_is (shape_of header) f.planes p fits.sizes)
-    (record { above = omega arith; below = omega (arith, high, (plane_within (shape_of header) p).1); left = omega arith; right = omega arith })
+    rw (area_is f.shape f.planes p sound.sizes)
+    (record { above = omega arith; below = omega (arith, high, (plane_within f.shape p).1); left = omega arith; right = omega arith })
 
 put_shows : (old new : Option (List ℕ)) (grows : Bool) (faults now : ℕ) (text : List ℕ) (r : Result (Unit {0}) PutFault)
     → PutsAll old new text r → CountsPutFaults grows faults now r → Shows text old new faults now r
@@ -84,21 +85,17 @@ shown_by true number shape m = refl
 shown_by false number shape m = refl
 
 -- the text of what is shown of a frame
-text_is : (number : ℕ) (c : Coded) (picture : Picture) (result : FrameResult) → HoldsResult c.header picture c.decoded result → text_of c.header picture ≡ shown_text (shown_picture number (frame_of c result))
-text_is number c picture result holds =
-    ap (λ m. if c.header.show_frame then frame_text (shape_of c.header) m else []) holds.map ∙ shown_by c.header.show_frame number (shape_of c.header) result.map
+pub text_is : (number : ℕ) (header : Header) (c : Coded) (picture : Picture) (result : FrameResult) → HoldsResult header picture c.decoded result
+    → text_if header.show_frame picture ≡ shown_text (shown_picture number header result)
+text_is number header c picture result holds =
+    (λ i. if header.show_frame then frame_text (holds.shape i) (holds.map i) else []) ∙ shown_by header.show_frame number (shape_of header) result.map
 
-pub text_taken : (number : ℕ) (c : Coded) (picture got : Picture) (result : FrameResult) (old new : Option (List ℕ)) → got ≡ picture → HoldsResult c.header picture c.decoded result
-    → Takes old new (text_of c.header got) → Takes old new (shown_text (shown_picture number (frame_of c result)))
-text_taken number c picture got result old new same holds takes = subst (Takes old new) (ap (text_of c.header) same ∙ text_is number c picture result holds) takes
-
-pub text_refused : (number : ℕ) (c : Coded) (picture got : Picture) (result : FrameResult) (old new : Option (List ℕ)) (faults now : ℕ) (refusal : PutFault) → got ≡ picture → HoldsResult c.header picture c.decoded result
-    → Shows (text_of c.header got) old new faults now (Err refusal) → Shows (shown_text (shown_picture number (frame_of c result))) old new faults now (Err refusal)
-text_refused number c picture got result old new faults now refusal same holds shows =
-    subst (λ t. Shows t old new faults now (Err refusal)) (ap (text_of c.header) same ∙ text_is number c picture result holds) shows
-
-pub fits_header : (c : Coded) (picture : Picture) (result : FrameResult) → HoldsResult c.header picture c.decoded result → FitsHeader picture c.header
-fits_header c picture result holds = record { shape = holds.shape; sizes = holds.sizes; range = holds.range }
+pub is_sound : (header : Header) (c : Coded) (picture : Picture) (result : FrameResult) → FitsPlanes (shape_of header) → HoldsResult header picture c.decoded result → IsSound picture
+is_sound header c picture result fits holds = record {
+  fits = rw holds.shape fits;
+  sizes = rw holds.shape holds.sizes;
+  range = rw holds.shape holds.range;
+}
 
 -- the picture that is shown is the one at the frame's place
 pub picture_is : (pictures : List Picture) (place : ℕ) (picture got : Picture) → slice_get pictures place ≡ Some picture → got ≡ get_or pictures place got → got ≡ picture

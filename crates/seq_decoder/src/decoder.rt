@@ -62,6 +62,17 @@ fn refusal_outcome(refusal: PutFault) -> Outcome
     }
 }
 
+/// The place of what a slot holds, if it holds something.
+fn place_in(slots: &[Option<usize>; 8], slot: u8) -> Option<usize>
+    ensures { result ≡ get_or slots.now slot None }
+{
+    if slot < 8 {
+        slots[usize::from(slot)]
+    } else {
+        None
+    }
+}
+
 impl Decoder {
     /// Before the first frame.
     pub fn new(alloc: Global) -> Decoder
@@ -107,7 +118,7 @@ impl Decoder {
         requires may { MayDecode self.old }
         requires size { IsFrameSize header.now.size }
         requires few { AreFewTiles header.now.params.tiles }
-        requires placed { LiesWithin (length frame.entry.bytes.now) compressed }
+        requires placed { LiesWithin (length frame.bytes.now) compressed }
         requires built { first_unbuilt header.now ≡ None }
         requires sink { K.can_put sink.old }
         ensures adds { (state : State) → StandsFor self.old state → Adds frame.entry.number
@@ -118,8 +129,9 @@ impl Decoder {
         ensures again { K.faults sink.new ≡ K.faults sink.old → K.can_put sink.new }
     {
         let (last, segments) = (self.persist.size, &mut self.segments);
-        if begin_segments(alloc, header, last, segments).is_err() {
-            return Err(Outcome::OutOfMemory);
+        match begin_segments(alloc, header, last, segments) {
+            Ok(()) => {}
+            Err(_) => return Err(Outcome::OutOfMemory),
         }
         let (saved, table) = (&mut self.saved, &mut self.table);
         let coded = match decode_coded(alloc, frame.bytes, header, compressed, saved, table) {
@@ -143,10 +155,10 @@ impl Decoder {
         ensures grows { K.grows sink.new ≡ K.grows sink.old }
         ensures again { K.faults sink.new ≡ K.faults sink.old → K.can_put sink.new }
     {
-        let Some(Some(place)) = self.table.slots.get(slot as usize) else {
+        let Some(place) = place_in(&self.table.slots, slot) else {
             return Ok(());
         };
-        match show(alloc, true, &self.table.pictures[*place], sink) {
+        match show(alloc, true, &self.table.pictures[place], sink) {
             Ok(()) => Ok(()),
             Err(refusal) => Err(refusal_outcome(refusal)),
         }

@@ -22,8 +22,7 @@ frames-preserved g c =
     let next = subst (λ o. IsNext (ahead c.frames.frames) (Ok o) (ahead c.next_frame.new.self)) c.in-Ok-Some.field-0-is c.in-Ok-Some.ensures.next in
     let a = c.in-Ok.ensures.adds h.0 h.1 in
     record {
-      sized = c.in-Ok.ensures.sized;
-      table = c.in-Ok.ensures.table;
+      may = c.in-Ok.ensures.may;
       can = c.in-Ok.ensures.again a.4;
       grows = c.in-Ok.ensures.grows ∙ c.frames.invariant.grows;
       written = (

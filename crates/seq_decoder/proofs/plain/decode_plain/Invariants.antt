@@ -1,5 +1,4 @@
 use Rattle.std.proofs.Common.{◌≡◌, length}
-use Rattle.frame_headers.specs.State.{SlotsHaveSizes}
 use Rattle.file_frames.specs.Code.{ahead}
 use Rattle.seq_decoder.specs.Code.{MayDecode, StandsFor}
 use Rattle.seq_decoder.specs.State.{State}
@@ -8,8 +7,7 @@ use Rattle.seq_decoder.proofs.plain.decode_plain.Given as goal
 
 abbrev pub invariant-frames : goal.invariant-frames
 invariant-frames g l = record {
-  sized : SlotsHaveSizes l.decoder.persist;
-  table : MayDecode l.decoder.table;
+  may : MayDecode l.decoder;
   can : g.K.Sink.can_put l.sink;
   grows : g.K.Sink.grows l.sink ≡ g.K.Sink.grows l.initial.sink;
   written : (state : State) × StandsFor l.decoder state × HasWritten l.bytes state (ahead l.frames) (g.K.Sink.taken l.initial.sink) (g.K.Sink.taken l.sink) (g.K.Sink.faults l.initial.sink) (g.K.Sink.faults l.sink);

@@ -1,5 +1,11 @@
+use Rattle.std.proofs.Common.{arith}
 use Rattle.frame_headers.proofs.SizeLemmas.{start_has_sizes}
 use Rattle.seq_decoder.proofs.decoder.Decoder.new.Goals as goal
 
-pub returns-clause-sized : goal.returns-clause-sized
-returns-clause-sized c = start_has_sizes
+pub returns-clause-may : goal.returns-clause-may
+returns-clause-may c = record {
+  sized = start_has_sizes;
+  table_is = c.new-2.ensures.table;
+  few = rw c.new-2.ensures.pictures (omega arith);
+  places = tt;
+}
