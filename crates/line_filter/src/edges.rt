@@ -1,6 +1,6 @@
 //! Edges of a plane filtered, eight lines at a time.
 
-ghost use Rattle.std.specs.Prelude.{◌≡◌, ◌+◌, ◌-◌, ◌*◌, ◌≤◌};
+ghost use Rattle.std.specs.Prelude.{◌≡◌, ◌+◌, ◌-◌, ◌*◌, ◌≤◌, true, false};
 ghost use Rattle.vp9_types.specs.Maps.{IsAtMost};
 ghost use Rattle.planes.specs.Planes.{plane_map, with_part, lower_end, right_end};
 ghost use Rattle.line_filter.specs.declared.edge.FilterWidth.TheVariants.{Sixteen};
@@ -42,8 +42,56 @@ fn filter_along(plane: &mut SamplePlane, row: usize, column: usize, l: Limits, w
     put_lanes(plane, row, column - 4, &turned(&lanes));
 }
 
+/// `filter_down` by the filters of width 4, compiled by itself.
+#[inline(never)]
+fn filter_four_down(plane: &mut SamplePlane, row: usize, column: usize, l: Limits)
+    requires inside { IsAcrossBy 4 plane.old.area row column }
+    requires small { IsAtMost 4095 (plane_map plane.old) }
+    requires half { l.half ≤ 2048 }
+    ensures area { plane.new.area ≡ plane.old.area }
+    ensures map { plane_map plane.new ≡ down_filtered 4 (filtered_near l false) plane.old.area (plane_map plane.old) row column }
+{
+    filter_down(plane, row, column, l, false);
+}
+
+/// `filter_down` by the filters of width 8, compiled by itself.
+#[inline(never)]
+fn filter_eight_down(plane: &mut SamplePlane, row: usize, column: usize, l: Limits)
+    requires inside { IsAcrossBy 4 plane.old.area row column }
+    requires small { IsAtMost 4095 (plane_map plane.old) }
+    requires half { l.half ≤ 2048 }
+    ensures area { plane.new.area ≡ plane.old.area }
+    ensures map { plane_map plane.new ≡ down_filtered 4 (filtered_near l true) plane.old.area (plane_map plane.old) row column }
+{
+    filter_down(plane, row, column, l, true);
+}
+
+/// `filter_along` by the filters of width 4, compiled by itself.
+#[inline(never)]
+fn filter_four_along(plane: &mut SamplePlane, row: usize, column: usize, l: Limits)
+    requires inside { IsAlongBy 4 plane.old.area row column }
+    requires small { IsAtMost 4095 (plane_map plane.old) }
+    requires half { l.half ≤ 2048 }
+    ensures area { plane.new.area ≡ plane.old.area }
+    ensures map { plane_map plane.new ≡ along_filtered 4 (filtered_near l false) plane.old.area (plane_map plane.old) row column }
+{
+    filter_along(plane, row, column, l, false);
+}
+
+/// `filter_along` by the filters of width 8, compiled by itself.
+#[inline(never)]
+fn filter_eight_along(plane: &mut SamplePlane, row: usize, column: usize, l: Limits)
+    requires inside { IsAlongBy 4 plane.old.area row column }
+    requires small { IsAtMost 4095 (plane_map plane.old) }
+    requires half { l.half ≤ 2048 }
+    ensures area { plane.new.area ≡ plane.old.area }
+    ensures map { plane_map plane.new ≡ along_filtered 4 (filtered_near l true) plane.old.area (plane_map plane.old) row column }
+{
+    filter_along(plane, row, column, l, true);
+}
+
 /// The same as `filter_down` by the filters of all widths.
-#[inline(always)]
+#[inline(never)]
 fn filter_far_down(plane: &mut SamplePlane, row: usize, column: usize, l: Limits)
     requires inside { IsAcrossBy 8 plane.old.area row column }
     requires small { IsAtMost 4095 (plane_map plane.old) }
@@ -59,7 +107,7 @@ fn filter_far_down(plane: &mut SamplePlane, row: usize, column: usize, l: Limits
 }
 
 /// The same as `filter_along` by the filters of all widths.
-#[inline(always)]
+#[inline(never)]
 fn filter_far_along(plane: &mut SamplePlane, row: usize, column: usize, l: Limits)
     requires inside { IsAlongBy 8 plane.old.area row column }
     requires small { IsAtMost 4095 (plane_map plane.old) }
@@ -84,8 +132,8 @@ fn filter_horizontal(plane: &mut SamplePlane, e: Edge)
     ensures map { plane_map plane.new ≡ with_edge (plane_map plane.old) e }
 {
     match e.width {
-        FilterWidth::Four => filter_down(plane, e.row, e.column, e.limits, false),
-        FilterWidth::Eight => filter_down(plane, e.row, e.column, e.limits, true),
+        FilterWidth::Four => filter_four_down(plane, e.row, e.column, e.limits),
+        FilterWidth::Eight => filter_eight_down(plane, e.row, e.column, e.limits),
         FilterWidth::Sixteen => filter_far_down(plane, e.row, e.column, e.limits),
     }
 }
@@ -100,14 +148,15 @@ fn filter_vertical(plane: &mut SamplePlane, e: Edge)
     ensures map { plane_map plane.new ≡ with_edge (plane_map plane.old) e }
 {
     match e.width {
-        FilterWidth::Four => filter_along(plane, e.row, e.column, e.limits, false),
-        FilterWidth::Eight => filter_along(plane, e.row, e.column, e.limits, true),
+        FilterWidth::Four => filter_four_along(plane, e.row, e.column, e.limits),
+        FilterWidth::Eight => filter_eight_along(plane, e.row, e.column, e.limits),
         FilterWidth::Sixteen => filter_far_along(plane, e.row, e.column, e.limits),
     }
 }
 
 /// Filters the lines across an edge of a plane, or of a part of one that has the samples that the filter looks at.
 /// The samples are in the range of the depth that the limits are for.
+#[inline(always)]
 pub fn filter_edge(plane: &mut SamplePlane, e: Edge)
     requires inside { IsEdgeIn plane.old.area e }
     requires range { IsAtMost (2 * e.limits.half - 1) (plane_map plane.old) }
