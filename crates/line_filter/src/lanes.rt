@@ -1,11 +1,11 @@
 //! Eight lines at a time, of four samples on each side.
 
 ghost use Rattle.std.specs.Prelude.{◌≡◌, ℕ, ◌<◌, ◌≤◌, true, false};
-ghost use Rattle.line_filter.specs.Lines.{filtered_near};
+ghost use Rattle.line_filter.specs.Lines.{flat_mask, filtered_near};
 ghost use Rattle.line_filter.specs.Code.{IsNear, line_of, near_at, lanes_of};
 
 use crate::edge::Limits;
-use crate::near::{Near, filtered};
+use crate::near::{Near, filtered, flat_mask};
 use std::simd::prelude::*;
 
 /// Eight samples of a row.
@@ -152,6 +152,18 @@ pub fn filtered_by_four(x: &Lanes, l: Limits) -> Lanes
     lanes_of(&filtered_rows(&rows_of(x), l, false))
 }
 
+/// Whether a column may be flat: without one the filter of width 8 does what that of width 4 does.
+#[inline(always)]
+fn is_any_flat(x: &Rows, l: Limits) -> bool
+    ensures { result ≡ false → (j : ℕ) → j < 8 → flat_mask l (line_of (near_at (lanes_of x.now) j)) ≡ false }
+{
+    let mut any = false;
+    for j in 0..8usize {
+        any |= flat_mask(near(x, j), l);
+    }
+    any
+}
+
 /// Those of width 8, likewise.
 #[inline(never)]
 pub fn filtered_by_eight(x: &Lanes, l: Limits) -> Lanes
@@ -159,7 +171,12 @@ pub fn filtered_by_eight(x: &Lanes, l: Limits) -> Lanes
     requires half { l.half ≤ 2048 }
     ensures { (j : ℕ) → j < 8 → line_of (near_at result j) ≡ filtered_near l true (line_of (near_at x.now j)) }
 {
-    lanes_of(&filtered_rows(&rows_of(x), l, true))
+    let rows = rows_of(x);
+    if is_any_flat(&rows, l) {
+        lanes_of(&filtered_rows(&rows, l, true))
+    } else {
+        lanes_of(&filtered_rows(&rows, l, false))
+    }
 }
 
 /// By the filters of width 4, or of width 8.

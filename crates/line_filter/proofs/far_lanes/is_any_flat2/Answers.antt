@@ -1,0 +1,16 @@
+use Rattle.std.proofs.Common.{arith, refl}
+use Rattle.line_filter.specs.Lines.{flat_mask2}
+use Rattle.line_filter.specs.Code.{lanes_of}
+use Rattle.line_filter.proofs.AnyLanes.{none_more}
+use Rattle.line_filter.proofs.LaneLemmas.{wide_at}
+use Rattle.line_filter.proofs.far_lanes.is_any_flat2.Goals as goal
+
+pub loop-j-init : goal.loop-j-init
+loop-j-init c = λ none k low. absurd (omega (arith, low))
+
+pub loop-j-preserved : goal.loop-j-preserved
+loop-j-preserved c = none_more (λ k. flat_mask2 c.args.l (wide_at (lanes_of c.args.above.now) (lanes_of c.args.below.now) k)) c.loop-j.any c.flat_mask2-any.result c.loop-j.j
+    c.loop-j.invariant (rw (c.flat_mask2-any.ensures, c.near.ensures, c.far.ensures) refl)
+
+pub returns : goal.returns
+returns c = λ none j low. c.loop-j.invariant none j (omega (arith, low, c.loop-j-test.false))
