@@ -5,4 +5,3 @@ pub mod SquareLemmas
 pub mod LineBlocks
 pub mod EdgeLines
 pub mod SmallLines
-pub mod AnyLanes

@@ -18,27 +18,39 @@ use planes::SamplePlane;
 
 /// Filters the eight columns from a place on across the edge above it.
 #[inline(always)]
-fn filter_down(plane: &mut SamplePlane, row: usize, column: usize, l: Limits, wide: bool)
+fn filter_down<const SITE: usize>(
+    plane: &mut SamplePlane,
+    row: usize,
+    column: usize,
+    l: Limits,
+    wide: bool,
+)
     requires inside { IsAcrossBy 4 plane.old.area row column }
     requires small { IsAtMost 4095 (plane_map plane.old) }
     requires half { l.half ≤ 2048 }
     ensures area { plane.new.area ≡ plane.old.area }
     ensures map { plane_map plane.new ≡ down_filtered 4 (filtered_near l wide) plane.old.area (plane_map plane.old) row column }
 {
-    let lanes = filtered_by(&lanes_at(plane, row - 4, column), l, wide);
+    let lanes = filtered_by::<SITE>(&lanes_at(plane, row - 4, column), l, wide);
     put_lanes(plane, row - 4, column, &lanes);
 }
 
 /// Filters the eight rows from a place on across the edge at its left.
 #[inline(always)]
-fn filter_along(plane: &mut SamplePlane, row: usize, column: usize, l: Limits, wide: bool)
+fn filter_along<const SITE: usize>(
+    plane: &mut SamplePlane,
+    row: usize,
+    column: usize,
+    l: Limits,
+    wide: bool,
+)
     requires inside { IsAlongBy 4 plane.old.area row column }
     requires small { IsAtMost 4095 (plane_map plane.old) }
     requires half { l.half ≤ 2048 }
     ensures area { plane.new.area ≡ plane.old.area }
     ensures map { plane_map plane.new ≡ along_filtered 4 (filtered_near l wide) plane.old.area (plane_map plane.old) row column }
 {
-    let lanes = filtered_by(&turned(&lanes_at(plane, row, column - 4)), l, wide);
+    let lanes = filtered_by::<SITE>(&turned(&lanes_at(plane, row, column - 4)), l, wide);
     put_lanes(plane, row, column - 4, &turned(&lanes));
 }
 
@@ -51,7 +63,7 @@ fn filter_four_down(plane: &mut SamplePlane, row: usize, column: usize, l: Limit
     ensures area { plane.new.area ≡ plane.old.area }
     ensures map { plane_map plane.new ≡ down_filtered 4 (filtered_near l false) plane.old.area (plane_map plane.old) row column }
 {
-    filter_down(plane, row, column, l, false);
+    filter_down::<0>(plane, row, column, l, false);
 }
 
 /// `filter_down` by the filters of width 8, compiled by itself.
@@ -63,7 +75,7 @@ fn filter_eight_down(plane: &mut SamplePlane, row: usize, column: usize, l: Limi
     ensures area { plane.new.area ≡ plane.old.area }
     ensures map { plane_map plane.new ≡ down_filtered 4 (filtered_near l true) plane.old.area (plane_map plane.old) row column }
 {
-    filter_down(plane, row, column, l, true);
+    filter_down::<1>(plane, row, column, l, true);
 }
 
 /// `filter_along` by the filters of width 4, compiled by itself.
@@ -75,7 +87,7 @@ fn filter_four_along(plane: &mut SamplePlane, row: usize, column: usize, l: Limi
     ensures area { plane.new.area ≡ plane.old.area }
     ensures map { plane_map plane.new ≡ along_filtered 4 (filtered_near l false) plane.old.area (plane_map plane.old) row column }
 {
-    filter_along(plane, row, column, l, false);
+    filter_along::<2>(plane, row, column, l, false);
 }
 
 /// `filter_along` by the filters of width 8, compiled by itself.
@@ -87,7 +99,7 @@ fn filter_eight_along(plane: &mut SamplePlane, row: usize, column: usize, l: Lim
     ensures area { plane.new.area ≡ plane.old.area }
     ensures map { plane_map plane.new ≡ along_filtered 4 (filtered_near l true) plane.old.area (plane_map plane.old) row column }
 {
-    filter_along(plane, row, column, l, true);
+    filter_along::<3>(plane, row, column, l, true);
 }
 
 /// The same as `filter_down` by the filters of all widths.
@@ -101,7 +113,7 @@ fn filter_far_down(plane: &mut SamplePlane, row: usize, column: usize, l: Limits
 {
     let above = lanes_at(plane, row - 8, column);
     let below = lanes_at(plane, row, column);
-    let (above, below) = filtered_far_lanes(&above, &below, l);
+    let (above, below) = filtered_far_lanes::<0>(&above, &below, l);
     put_lanes(plane, row - 8, column, &above);
     put_lanes(plane, row, column, &below);
 }
@@ -117,7 +129,7 @@ fn filter_far_along(plane: &mut SamplePlane, row: usize, column: usize, l: Limit
 {
     let left = turned(&lanes_at(plane, row, column - 8));
     let right = turned(&lanes_at(plane, row, column));
-    let (left, right) = filtered_far_lanes(&left, &right, l);
+    let (left, right) = filtered_far_lanes::<1>(&left, &right, l);
     put_lanes(plane, row, column - 8, &turned(&left));
     put_lanes(plane, row, column, &turned(&right));
 }

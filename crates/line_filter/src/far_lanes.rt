@@ -1,13 +1,13 @@
 //! Eight lines at a time, of eight samples on each side.
 
-ghost use Rattle.std.specs.Prelude.{◌≡◌, ℕ, ◌<◌, ◌≤◌, true, false};
-ghost use Rattle.line_filter.specs.Lines.{flat_mask2, filtered_near, filtered_line};
+ghost use Rattle.std.specs.Prelude.{◌≡◌, ℕ, ◌<◌, ◌≤◌};
+ghost use Rattle.line_filter.specs.Lines.{filtered_line};
 ghost use Rattle.line_filter.specs.declared.edge.FilterWidth.TheVariants.{Sixteen};
 ghost use Rattle.line_filter.specs.Code.{IsNear, IsFar, wide_line_of, near_between, far_between, lanes_of};
 
 use crate::edge::Limits;
-use crate::far::{Far, filtered_far, flat_mask2};
-use crate::lanes::{Lanes, Rows, filtered_by_eight, lanes_of, rows_of};
+use crate::far::{Far, filtered_far};
+use crate::lanes::{Lanes, Rows, lanes_of, rows_of};
 use crate::near::Near;
 
 #[inline(always)]
@@ -112,71 +112,20 @@ fn filtered_far_rows(above: &Rows, below: &Rows, l: Limits) -> (Rows, Rows)
     (above, below)
 }
 
-/// Whether a column may be flat over eight samples: without one the filter of width 8 does all.
-#[inline(always)]
-fn is_any_flat2(above: &Rows, below: &Rows, l: Limits) -> bool
-    ensures { result ≡ false → (j : ℕ) → j < 8 →
-        flat_mask2 l (wide_line_of (near_between (lanes_of above.now) (lanes_of below.now) j) (far_between (lanes_of above.now) (lanes_of below.now) j)) ≡ false }
-{
-    let mut any = false;
-    for j in 0..8usize {
-        any |= flat_mask2(near(above, below, j), far(above, below, j), l);
-    }
-    any
-}
-
-/// The four rows on each side of the edge filtered by the filter of width 8.
-#[inline(always)]
-fn filtered_between(above: &Lanes, below: &Lanes, l: Limits) -> (Lanes, Lanes)
-    requires near { (j : ℕ) → j < 8 → IsNear (near_between above.now below.now j) }
-    requires half { l.half ≤ 2048 }
-    ensures { (j : ℕ) → j < 8 → wide_line_of (near_between result.0 result.1 j) (far_between result.0 result.1 j)
-        ≡ filtered_near l true (wide_line_of (near_between above.now below.now j) (far_between above.now below.now j)) }
-{
-    let inner = Lanes {
-        r0: above.r4,
-        r1: above.r5,
-        r2: above.r6,
-        r3: above.r7,
-        r4: below.r0,
-        r5: below.r1,
-        r6: below.r2,
-        r7: below.r3,
-    };
-    let x = filtered_by_eight(&inner, l);
-    let above = Lanes {
-        r4: x.r0,
-        r5: x.r1,
-        r6: x.r2,
-        r7: x.r3,
-        ..*above
-    };
-    let below = Lanes {
-        r0: x.r4,
-        r1: x.r5,
-        r2: x.r6,
-        r3: x.r7,
-        ..*below
-    };
-    (above, below)
-}
-
 /// Eight columns filtered by the filters of all widths, each as its line alone: eight rows above the edge, and eight
-/// below it.
-#[inline(never)]
-pub fn filtered_far_lanes(above: &Lanes, below: &Lanes, l: Limits) -> (Lanes, Lanes)
+/// below it. Each caller has a `SITE` of its own.
+#[inline(always)]
+pub fn filtered_far_lanes<const SITE: usize>(
+    above: &Lanes,
+    below: &Lanes,
+    l: Limits,
+) -> (Lanes, Lanes)
     requires near { (j : ℕ) → j < 8 → IsNear (near_between above.now below.now j) }
     requires far { (j : ℕ) → j < 8 → IsFar (far_between above.now below.now j) }
     requires half { l.half ≤ 2048 }
     ensures { (j : ℕ) → j < 8 → wide_line_of (near_between result.0 result.1 j) (far_between result.0 result.1 j)
         ≡ filtered_line l Sixteen (wide_line_of (near_between above.now below.now j) (far_between above.now below.now j)) }
 {
-    let upper = rows_of(above);
-    let lower = rows_of(below);
-    if is_any_flat2(&upper, &lower, l) {
-        let (above, below) = filtered_far_rows(&upper, &lower, l);
-        (lanes_of(&above), lanes_of(&below))
-    } else {
-        filtered_between(above, below, l)
-    }
+    let (above, below) = filtered_far_rows(&rows_of(above), &rows_of(below), l);
+    (lanes_of(&above), lanes_of(&below))
 }
