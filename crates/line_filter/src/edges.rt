@@ -1,6 +1,6 @@
 //! Edges of a plane filtered, eight lines at a time.
 
-ghost use Rattle.std.specs.Prelude.{◌≡◌, ◌+◌, ◌-◌, ◌*◌, ◌≤◌, true, false};
+ghost use Rattle.std.specs.Prelude.{◌≡◌, ◌+◌, ◌-◌, ◌*◌, ◌≤◌};
 ghost use Rattle.vp9_types.specs.Maps.{IsAtMost};
 ghost use Rattle.planes.specs.Planes.{plane_map, with_part, lower_end, right_end};
 ghost use Rattle.line_filter.specs.declared.edge.FilterWidth.TheVariants.{Sixteen};
@@ -16,8 +16,9 @@ use crate::squares::{lanes_at, put_lanes};
 use crate::turn::turned;
 use planes::SamplePlane;
 
-/// Filters the eight columns from a place on across the edge above it.
-#[inline(always)]
+/// Filters the eight columns from a place on across the edge above it. Each width has a `SITE` of its own, and is compiled
+/// by itself.
+#[inline(never)]
 fn filter_down<const SITE: usize>(
     plane: &mut SamplePlane,
     row: usize,
@@ -35,8 +36,8 @@ fn filter_down<const SITE: usize>(
     put_lanes(plane, row - 4, column, &lanes);
 }
 
-/// Filters the eight rows from a place on across the edge at its left.
-#[inline(always)]
+/// Filters the eight rows from a place on across the edge at its left, likewise.
+#[inline(never)]
 fn filter_along<const SITE: usize>(
     plane: &mut SamplePlane,
     row: usize,
@@ -52,54 +53,6 @@ fn filter_along<const SITE: usize>(
 {
     let lanes = filtered_by::<SITE>(&turned(&lanes_at(plane, row, column - 4)), l, wide);
     put_lanes(plane, row, column - 4, &turned(&lanes));
-}
-
-/// `filter_down` by the filters of width 4, compiled by itself.
-#[inline(never)]
-fn filter_four_down(plane: &mut SamplePlane, row: usize, column: usize, l: Limits)
-    requires inside { IsAcrossBy 4 plane.old.area row column }
-    requires small { IsAtMost 4095 (plane_map plane.old) }
-    requires half { l.half ≤ 2048 }
-    ensures area { plane.new.area ≡ plane.old.area }
-    ensures map { plane_map plane.new ≡ down_filtered 4 (filtered_near l false) plane.old.area (plane_map plane.old) row column }
-{
-    filter_down::<0>(plane, row, column, l, false);
-}
-
-/// `filter_down` by the filters of width 8, compiled by itself.
-#[inline(never)]
-fn filter_eight_down(plane: &mut SamplePlane, row: usize, column: usize, l: Limits)
-    requires inside { IsAcrossBy 4 plane.old.area row column }
-    requires small { IsAtMost 4095 (plane_map plane.old) }
-    requires half { l.half ≤ 2048 }
-    ensures area { plane.new.area ≡ plane.old.area }
-    ensures map { plane_map plane.new ≡ down_filtered 4 (filtered_near l true) plane.old.area (plane_map plane.old) row column }
-{
-    filter_down::<1>(plane, row, column, l, true);
-}
-
-/// `filter_along` by the filters of width 4, compiled by itself.
-#[inline(never)]
-fn filter_four_along(plane: &mut SamplePlane, row: usize, column: usize, l: Limits)
-    requires inside { IsAlongBy 4 plane.old.area row column }
-    requires small { IsAtMost 4095 (plane_map plane.old) }
-    requires half { l.half ≤ 2048 }
-    ensures area { plane.new.area ≡ plane.old.area }
-    ensures map { plane_map plane.new ≡ along_filtered 4 (filtered_near l false) plane.old.area (plane_map plane.old) row column }
-{
-    filter_along::<2>(plane, row, column, l, false);
-}
-
-/// `filter_along` by the filters of width 8, compiled by itself.
-#[inline(never)]
-fn filter_eight_along(plane: &mut SamplePlane, row: usize, column: usize, l: Limits)
-    requires inside { IsAlongBy 4 plane.old.area row column }
-    requires small { IsAtMost 4095 (plane_map plane.old) }
-    requires half { l.half ≤ 2048 }
-    ensures area { plane.new.area ≡ plane.old.area }
-    ensures map { plane_map plane.new ≡ along_filtered 4 (filtered_near l true) plane.old.area (plane_map plane.old) row column }
-{
-    filter_along::<3>(plane, row, column, l, true);
 }
 
 /// The same as `filter_down` by the filters of all widths.
@@ -144,8 +97,8 @@ fn filter_horizontal(plane: &mut SamplePlane, e: Edge)
     ensures map { plane_map plane.new ≡ with_edge (plane_map plane.old) e }
 {
     match e.width {
-        FilterWidth::Four => filter_four_down(plane, e.row, e.column, e.limits),
-        FilterWidth::Eight => filter_eight_down(plane, e.row, e.column, e.limits),
+        FilterWidth::Four => filter_down::<0>(plane, e.row, e.column, e.limits, false),
+        FilterWidth::Eight => filter_down::<1>(plane, e.row, e.column, e.limits, true),
         FilterWidth::Sixteen => filter_far_down(plane, e.row, e.column, e.limits),
     }
 }
@@ -160,8 +113,8 @@ fn filter_vertical(plane: &mut SamplePlane, e: Edge)
     ensures map { plane_map plane.new ≡ with_edge (plane_map plane.old) e }
 {
     match e.width {
-        FilterWidth::Four => filter_four_along(plane, e.row, e.column, e.limits),
-        FilterWidth::Eight => filter_eight_along(plane, e.row, e.column, e.limits),
+        FilterWidth::Four => filter_along::<2>(plane, e.row, e.column, e.limits, false),
+        FilterWidth::Eight => filter_along::<3>(plane, e.row, e.column, e.limits, true),
         FilterWidth::Sixteen => filter_far_along(plane, e.row, e.column, e.limits),
     }
 }
