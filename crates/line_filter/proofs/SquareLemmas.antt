@@ -57,10 +57,3 @@ all_stored new m f is i j low narrow = ap (λ (g : Map). g i j) is ∙ inside m 
 pub part_same : (a : Area) (m : Map) (row column : ℕ) (b f : Map) → ((i j : ℕ) → i < 8 → j < 8 → b i j ≡ f i j)
     → with_part a m row column 8 8 b ≡ with_part a m row column 8 8 f
 part_same a m row column b f same = with_block_same m row column _ _ b f (λ i j low narrow. same i j (omega arith) (omega arith))
-
--- one row more of a square is put into a plane
-pub put_more : (m old new : Map) (y x i r : ℕ) (row : List ℕ) (f : Map) → r ≡ y + i → old ≡ with_block m y x i 8 f
-    → new ≡ with_block old r x 1 8 (λ _ j. slice_index row j)
-    → ((j : ℕ) → j < 8 → slice_index row j ≡ f i j) → new ≡ with_block m y x (i + 1) 8 f
-put_more m old new y x i r row f at so is holds =
-    is ∙ rw (at, so) (with_block_same (with_block m y x i 8 f) (y + i) x 1 8 _ _ (λ k j _ low. holds j low) ∙ one_row_more m y x i 8 f)

@@ -16,34 +16,47 @@ use crate::squares::{lanes_at, put_lanes};
 use crate::turn::turned;
 use planes::SamplePlane;
 
-/// Filters the eight columns from a place on across the edge above it.
-#[inline(always)]
-fn filter_down(plane: &mut SamplePlane, row: usize, column: usize, l: Limits, wide: bool)
+/// Filters the eight columns from a place on across the edge above it. Each width has a `SITE` of its own, and is compiled
+/// by itself.
+#[inline(never)]
+fn filter_down<const SITE: usize>(
+    plane: &mut SamplePlane,
+    row: usize,
+    column: usize,
+    l: Limits,
+    wide: bool,
+)
     requires inside { IsAcrossBy 4 plane.old.area row column }
     requires small { IsAtMost 4095 (plane_map plane.old) }
     requires half { l.half ≤ 2048 }
     ensures area { plane.new.area ≡ plane.old.area }
     ensures map { plane_map plane.new ≡ down_filtered 4 (filtered_near l wide) plane.old.area (plane_map plane.old) row column }
 {
-    let lanes = filtered_by(&lanes_at(plane, row - 4, column), l, wide);
+    let lanes = filtered_by::<SITE>(&lanes_at(plane, row - 4, column), l, wide);
     put_lanes(plane, row - 4, column, &lanes);
 }
 
-/// Filters the eight rows from a place on across the edge at its left.
-#[inline(always)]
-fn filter_along(plane: &mut SamplePlane, row: usize, column: usize, l: Limits, wide: bool)
+/// Filters the eight rows from a place on across the edge at its left, likewise.
+#[inline(never)]
+fn filter_along<const SITE: usize>(
+    plane: &mut SamplePlane,
+    row: usize,
+    column: usize,
+    l: Limits,
+    wide: bool,
+)
     requires inside { IsAlongBy 4 plane.old.area row column }
     requires small { IsAtMost 4095 (plane_map plane.old) }
     requires half { l.half ≤ 2048 }
     ensures area { plane.new.area ≡ plane.old.area }
     ensures map { plane_map plane.new ≡ along_filtered 4 (filtered_near l wide) plane.old.area (plane_map plane.old) row column }
 {
-    let lanes = filtered_by(&turned(&lanes_at(plane, row, column - 4)), l, wide);
+    let lanes = filtered_by::<SITE>(&turned(&lanes_at(plane, row, column - 4)), l, wide);
     put_lanes(plane, row, column - 4, &turned(&lanes));
 }
 
 /// The same as `filter_down` by the filters of all widths.
-#[inline(always)]
+#[inline(never)]
 fn filter_far_down(plane: &mut SamplePlane, row: usize, column: usize, l: Limits)
     requires inside { IsAcrossBy 8 plane.old.area row column }
     requires small { IsAtMost 4095 (plane_map plane.old) }
@@ -53,13 +66,13 @@ fn filter_far_down(plane: &mut SamplePlane, row: usize, column: usize, l: Limits
 {
     let above = lanes_at(plane, row - 8, column);
     let below = lanes_at(plane, row, column);
-    let (above, below) = filtered_far_lanes(&above, &below, l);
+    let (above, below) = filtered_far_lanes::<0>(&above, &below, l);
     put_lanes(plane, row - 8, column, &above);
     put_lanes(plane, row, column, &below);
 }
 
 /// The same as `filter_along` by the filters of all widths.
-#[inline(always)]
+#[inline(never)]
 fn filter_far_along(plane: &mut SamplePlane, row: usize, column: usize, l: Limits)
     requires inside { IsAlongBy 8 plane.old.area row column }
     requires small { IsAtMost 4095 (plane_map plane.old) }
@@ -69,7 +82,7 @@ fn filter_far_along(plane: &mut SamplePlane, row: usize, column: usize, l: Limit
 {
     let left = turned(&lanes_at(plane, row, column - 8));
     let right = turned(&lanes_at(plane, row, column));
-    let (left, right) = filtered_far_lanes(&left, &right, l);
+    let (left, right) = filtered_far_lanes::<1>(&left, &right, l);
     put_lanes(plane, row, column - 8, &turned(&left));
     put_lanes(plane, row, column, &turned(&right));
 }
@@ -84,8 +97,8 @@ fn filter_horizontal(plane: &mut SamplePlane, e: Edge)
     ensures map { plane_map plane.new ≡ with_edge (plane_map plane.old) e }
 {
     match e.width {
-        FilterWidth::Four => filter_down(plane, e.row, e.column, e.limits, false),
-        FilterWidth::Eight => filter_down(plane, e.row, e.column, e.limits, true),
+        FilterWidth::Four => filter_down::<0>(plane, e.row, e.column, e.limits, false),
+        FilterWidth::Eight => filter_down::<1>(plane, e.row, e.column, e.limits, true),
         FilterWidth::Sixteen => filter_far_down(plane, e.row, e.column, e.limits),
     }
 }
@@ -100,14 +113,15 @@ fn filter_vertical(plane: &mut SamplePlane, e: Edge)
     ensures map { plane_map plane.new ≡ with_edge (plane_map plane.old) e }
 {
     match e.width {
-        FilterWidth::Four => filter_along(plane, e.row, e.column, e.limits, false),
-        FilterWidth::Eight => filter_along(plane, e.row, e.column, e.limits, true),
+        FilterWidth::Four => filter_along::<2>(plane, e.row, e.column, e.limits, false),
+        FilterWidth::Eight => filter_along::<3>(plane, e.row, e.column, e.limits, true),
         FilterWidth::Sixteen => filter_far_along(plane, e.row, e.column, e.limits),
     }
 }
 
 /// Filters the lines across an edge of a plane, or of a part of one that has the samples that the filter looks at.
 /// The samples are in the range of the depth that the limits are for.
+#[inline(always)]
 pub fn filter_edge(plane: &mut SamplePlane, e: Edge)
     requires inside { IsEdgeIn plane.old.area e }
     requires range { IsAtMost (2 * e.limits.half - 1) (plane_map plane.old) }

@@ -1,6 +1,6 @@
 //! One line of eight samples on each side.
 
-ghost use Rattle.std.specs.Prelude.{◌≡◌, ◌≤◌, ◌+◌, ◌/◌, ◌&&◌, nat_le, if◌then◌else◌};
+ghost use Rattle.std.specs.Prelude.{◌≡◌, ◌≤◌, ◌&&◌, nat_le, if◌then◌else◌};
 ghost use Rattle.line_filter.specs.Lines.{flat_mask2, wide_filter, filtered_line};
 ghost use Rattle.line_filter.specs.declared.edge.FilterWidth.TheVariants.{Sixteen};
 ghost use Rattle.line_filter.specs.Code.{IsNear, IsFar, wide_line_of};
@@ -39,46 +39,7 @@ pub fn flat_mask2(x: Near, y: Far, l: Limits) -> bool
         & (is_close(y.p7, x.p0, l.one) & is_close(y.q7, x.q0, l.one))
 }
 
-#[inline(always)]
-pub fn mean16(
-    a: u16,
-    b: u16,
-    c: u16,
-    d: u16,
-    e: u16,
-    f: u16,
-    g: u16,
-    h: u16,
-    i: u16,
-    j: u16,
-    k: u16,
-    l: u16,
-    m: u16,
-    n: u16,
-    o: u16,
-    p: u16,
-) -> u16
-    requires a { a ≤ 4095 }
-    requires b { b ≤ 4095 }
-    requires c { c ≤ 4095 }
-    requires d { d ≤ 4095 }
-    requires e { e ≤ 4095 }
-    requires f { f ≤ 4095 }
-    requires g { g ≤ 4095 }
-    requires h { h ≤ 4095 }
-    requires i { i ≤ 4095 }
-    requires j { j ≤ 4095 }
-    requires k { k ≤ 4095 }
-    requires l { l ≤ 4095 }
-    requires m { m ≤ 4095 }
-    requires n { n ≤ 4095 }
-    requires o { o ≤ 4095 }
-    requires p { p ≤ 4095 }
-    ensures { result ≡ (a + b + c + d + e + f + g + h + i + j + k + l + m + n + o + p + 8) / 16 }
-{
-    (a + b + c + d + e + f + g + h + i + j + k + l + m + n + o + p + 8) >> 4
-}
-
+/// Fourteen means of sixteen samples: from each sum to the next, two samples leave and two come.
 #[inline(always)]
 #[tactic(auto, unfolding(crate::specs::Lines::wide_filter))]
 pub fn smooth_far(x: Near, y: Far) -> Wide
@@ -86,81 +47,39 @@ pub fn smooth_far(x: Near, y: Far) -> Wide
     requires far { IsFar y }
     ensures { wide_line_of result.near result.far ≡ wide_filter 7 (wide_line_of x y) }
 {
-    let p6 = mean16(
-        y.p7, y.p7, y.p7, y.p7, y.p7, y.p7, y.p7, y.p6, y.p6, y.p5, y.p4, x.p3, x.p2, x.p1, x.p0,
-        x.q0,
-    );
-    let p5 = mean16(
-        y.p7, y.p7, y.p7, y.p7, y.p7, y.p7, y.p6, y.p5, y.p5, y.p4, x.p3, x.p2, x.p1, x.p0, x.q0,
-        x.q1,
-    );
-    let p4 = mean16(
-        y.p7, y.p7, y.p7, y.p7, y.p7, y.p6, y.p5, y.p4, y.p4, x.p3, x.p2, x.p1, x.p0, x.q0, x.q1,
-        x.q2,
-    );
-    let p3 = mean16(
-        y.p7, y.p7, y.p7, y.p7, y.p6, y.p5, y.p4, x.p3, x.p3, x.p2, x.p1, x.p0, x.q0, x.q1, x.q2,
-        x.q3,
-    );
-    let p2 = mean16(
-        y.p7, y.p7, y.p7, y.p6, y.p5, y.p4, x.p3, x.p2, x.p2, x.p1, x.p0, x.q0, x.q1, x.q2, x.q3,
-        y.q4,
-    );
-    let p1 = mean16(
-        y.p7, y.p7, y.p6, y.p5, y.p4, x.p3, x.p2, x.p1, x.p1, x.p0, x.q0, x.q1, x.q2, x.q3, y.q4,
-        y.q5,
-    );
-    let p0 = mean16(
-        y.p7, y.p6, y.p5, y.p4, x.p3, x.p2, x.p1, x.p0, x.p0, x.q0, x.q1, x.q2, x.q3, y.q4, y.q5,
-        y.q6,
-    );
-    let q0 = mean16(
-        y.p6, y.p5, y.p4, x.p3, x.p2, x.p1, x.p0, x.q0, x.q0, x.q1, x.q2, x.q3, y.q4, y.q5, y.q6,
-        y.q7,
-    );
-    let q1 = mean16(
-        y.p5, y.p4, x.p3, x.p2, x.p1, x.p0, x.q0, x.q1, x.q1, x.q2, x.q3, y.q4, y.q5, y.q6, y.q7,
-        y.q7,
-    );
-    let q2 = mean16(
-        y.p4, x.p3, x.p2, x.p1, x.p0, x.q0, x.q1, x.q2, x.q2, x.q3, y.q4, y.q5, y.q6, y.q7, y.q7,
-        y.q7,
-    );
-    let q3 = mean16(
-        x.p3, x.p2, x.p1, x.p0, x.q0, x.q1, x.q2, x.q3, x.q3, y.q4, y.q5, y.q6, y.q7, y.q7, y.q7,
-        y.q7,
-    );
-    let q4 = mean16(
-        x.p2, x.p1, x.p0, x.q0, x.q1, x.q2, x.q3, y.q4, y.q4, y.q5, y.q6, y.q7, y.q7, y.q7, y.q7,
-        y.q7,
-    );
-    let q5 = mean16(
-        x.p1, x.p0, x.q0, x.q1, x.q2, x.q3, y.q4, y.q5, y.q5, y.q6, y.q7, y.q7, y.q7, y.q7, y.q7,
-        y.q7,
-    );
-    let q6 = mean16(
-        x.p0, x.q0, x.q1, x.q2, x.q3, y.q4, y.q5, y.q6, y.q6, y.q7, y.q7, y.q7, y.q7, y.q7, y.q7,
-        y.q7,
-    );
+    let p6 = 7 * y.p7 + 2 * y.p6 + y.p5 + y.p4 + x.p3 + x.p2 + x.p1 + x.p0 + x.q0 + 8;
+    let p5 = p6 - y.p7 - y.p6 + y.p5 + x.q1;
+    let p4 = p5 - y.p7 - y.p5 + y.p4 + x.q2;
+    let p3 = p4 - y.p7 - y.p4 + x.p3 + x.q3;
+    let p2 = p3 - y.p7 - x.p3 + x.p2 + y.q4;
+    let p1 = p2 - y.p7 - x.p2 + x.p1 + y.q5;
+    let p0 = p1 - y.p7 - x.p1 + x.p0 + y.q6;
+    let q0 = p0 - y.p7 - x.p0 + x.q0 + y.q7;
+    let q1 = q0 - y.p6 - x.q0 + x.q1 + y.q7;
+    let q2 = q1 - y.p5 - x.q1 + x.q2 + y.q7;
+    let q3 = q2 - y.p4 - x.q2 + x.q3 + y.q7;
+    let q4 = q3 - x.p3 - x.q3 + y.q4 + y.q7;
+    let q5 = q4 - x.p2 - y.q4 + y.q5 + y.q7;
+    let q6 = q5 - x.p1 - y.q5 + y.q6 + y.q7;
     Wide {
         near: Near {
-            p3,
-            p2,
-            p1,
-            p0,
-            q0,
-            q1,
-            q2,
-            q3,
+            p3: p3 >> 4,
+            p2: p2 >> 4,
+            p1: p1 >> 4,
+            p0: p0 >> 4,
+            q0: q0 >> 4,
+            q1: q1 >> 4,
+            q2: q2 >> 4,
+            q3: q3 >> 4,
         },
         far: Far {
             p7: y.p7,
-            p6,
-            p5,
-            p4,
-            q4,
-            q5,
-            q6,
+            p6: p6 >> 4,
+            p5: p5 >> 4,
+            p4: p4 >> 4,
+            q4: q4 >> 4,
+            q5: q5 >> 4,
+            q6: q6 >> 4,
             q7: y.q7,
         },
     }

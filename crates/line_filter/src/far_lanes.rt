@@ -113,9 +113,13 @@ fn filtered_far_rows(above: &Rows, below: &Rows, l: Limits) -> (Rows, Rows)
 }
 
 /// Eight columns filtered by the filters of all widths, each as its line alone: eight rows above the edge, and eight
-/// below it.
-#[inline(never)]
-pub fn filtered_far_lanes(above: &Lanes, below: &Lanes, l: Limits) -> (Lanes, Lanes)
+/// below it. Each caller has a `SITE` of its own.
+#[inline(always)]
+pub fn filtered_far_lanes<const SITE: usize>(
+    above: &Lanes,
+    below: &Lanes,
+    l: Limits,
+) -> (Lanes, Lanes)
     requires near { (j : ℕ) → j < 8 → IsNear (near_between above.now below.now j) }
     requires far { (j : ℕ) → j < 8 → IsFar (far_between above.now below.now j) }
     requires half { l.half ≤ 2048 }

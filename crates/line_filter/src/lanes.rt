@@ -1,6 +1,6 @@
 //! Eight lines at a time, of four samples on each side.
 
-ghost use Rattle.std.specs.Prelude.{◌≡◌, ℕ, ◌<◌, ◌≤◌, true, false};
+ghost use Rattle.std.specs.Prelude.{◌≡◌, ℕ, ◌<◌, ◌≤◌};
 ghost use Rattle.line_filter.specs.Lines.{filtered_near};
 ghost use Rattle.line_filter.specs.Code.{IsNear, line_of, near_at, lanes_of};
 
@@ -142,36 +142,13 @@ fn filtered_rows(x: &Rows, l: Limits, wide: bool) -> Rows
     }
 }
 
-/// Those of width 4. It is compiled by itself: where it is a part of its callers, its lanes become single samples there.
-#[inline(never)]
-pub fn filtered_by_four(x: &Lanes, l: Limits) -> Lanes
-    requires small { (j : ℕ) → j < 8 → IsNear (near_at x.now j) }
-    requires half { l.half ≤ 2048 }
-    ensures { (j : ℕ) → j < 8 → line_of (near_at result j) ≡ filtered_near l false (line_of (near_at x.now j)) }
-{
-    lanes_of(&filtered_rows(&rows_of(x), l, false))
-}
-
-/// Those of width 8, likewise.
-#[inline(never)]
-pub fn filtered_by_eight(x: &Lanes, l: Limits) -> Lanes
-    requires small { (j : ℕ) → j < 8 → IsNear (near_at x.now j) }
-    requires half { l.half ≤ 2048 }
-    ensures { (j : ℕ) → j < 8 → line_of (near_at result j) ≡ filtered_near l true (line_of (near_at x.now j)) }
-{
-    lanes_of(&filtered_rows(&rows_of(x), l, true))
-}
-
-/// By the filters of width 4, or of width 8.
+/// Eight columns filtered by the filters of width 4, or of width 8. Each caller has a `SITE` of its own, and so a copy that
+/// becomes a part of it: lanes stay in registers.
 #[inline(always)]
-pub fn filtered_by(x: &Lanes, l: Limits, wide: bool) -> Lanes
+pub fn filtered_by<const SITE: usize>(x: &Lanes, l: Limits, wide: bool) -> Lanes
     requires small { (j : ℕ) → j < 8 → IsNear (near_at x.now j) }
     requires half { l.half ≤ 2048 }
     ensures { (j : ℕ) → j < 8 → line_of (near_at result j) ≡ filtered_near l wide (line_of (near_at x.now j)) }
 {
-    if wide {
-        filtered_by_eight(x, l)
-    } else {
-        filtered_by_four(x, l)
-    }
+    lanes_of(&filtered_rows(&rows_of(x), l, wide))
 }

@@ -1,6 +1,6 @@
 //! One line, with no branch: the loops over eight columns become lanes.
 
-ghost use Rattle.std.specs.Prelude.{◌≡◌, ◌≤◌, ◌∷◌, [], ◌+◌, ◌*◌, ◌/◌, ◌+ℤ◌, ◌-ℤ◌, ◌*ℤ◌, ◌≤ℤ◌, ◌^◌, pos, neg_ℤ, unsigned_abs, nat_le, ◌&&◌, not, if◌then◌else◌};
+ghost use Rattle.std.specs.Prelude.{◌≡◌, ◌≤◌, ◌∷◌, [], ◌+ℤ◌, ◌-ℤ◌, ◌*ℤ◌, ◌≤ℤ◌, ◌^◌, pos, neg_ℤ, unsigned_abs, nat_le, ◌&&◌, not, if◌then◌else◌};
 ghost use Rattle.std.specs.Int.{int_shr, abs_diff};
 ghost use Rattle.line_filter.specs.Lines.{filter4_clamp, moved, filter_mask, hev_mask, flat_mask, outer, change, narrow_filter, wide_filter, filtered_near};
 ghost use Rattle.line_filter.specs.Code.{IsNear, line_of};
@@ -139,21 +139,6 @@ pub fn moved(sample: u16, by: i16, half: u16) -> u16
 }
 
 #[inline(always)]
-pub fn mean8(a: u16, b: u16, c: u16, d: u16, e: u16, f: u16, g: u16, h: u16) -> u16
-    requires a { a ≤ 4095 }
-    requires b { b ≤ 4095 }
-    requires c { c ≤ 4095 }
-    requires d { d ≤ 4095 }
-    requires e { e ≤ 4095 }
-    requires f { f ≤ 4095 }
-    requires g { g ≤ 4095 }
-    requires h { h ≤ 4095 }
-    ensures { result ≡ (a + b + c + d + e + f + g + h + 4) / 8 }
-{
-    (a + b + c + d + e + f + g + h + 4) >> 3
-}
-
-#[inline(always)]
 #[tactic(auto, unfolding(crate::specs::Lines::narrow_filter))]
 pub fn narrow(x: Near, l: Limits) -> Near
     requires small { IsNear x }
@@ -191,20 +176,27 @@ pub fn moved_unless(high: bool, sample: u16, by: i16, half: u16) -> u16
     }
 }
 
+/// Six means of eight samples: from each sum to the next, two samples leave and two come.
 #[inline(always)]
 #[tactic(auto, unfolding(crate::specs::Lines::wide_filter))]
 pub fn smooth(x: Near) -> Near
     requires small { IsNear x }
     ensures { line_of result ≡ wide_filter 3 (line_of x) }
 {
+    let p2 = 3 * x.p3 + 2 * x.p2 + x.p1 + x.p0 + x.q0 + 4;
+    let p1 = p2 - x.p3 - x.p2 + x.p1 + x.q1;
+    let p0 = p1 - x.p3 - x.p1 + x.p0 + x.q2;
+    let q0 = p0 - x.p3 - x.p0 + x.q0 + x.q3;
+    let q1 = q0 - x.p2 - x.q0 + x.q1 + x.q3;
+    let q2 = q1 - x.p1 - x.q1 + x.q2 + x.q3;
     Near {
         p3: x.p3,
-        p2: mean8(x.p3, x.p3, x.p3, x.p2, x.p2, x.p1, x.p0, x.q0),
-        p1: mean8(x.p3, x.p3, x.p2, x.p1, x.p1, x.p0, x.q0, x.q1),
-        p0: mean8(x.p3, x.p2, x.p1, x.p0, x.p0, x.q0, x.q1, x.q2),
-        q0: mean8(x.p2, x.p1, x.p0, x.q0, x.q0, x.q1, x.q2, x.q3),
-        q1: mean8(x.p1, x.p0, x.q0, x.q1, x.q1, x.q2, x.q3, x.q3),
-        q2: mean8(x.p0, x.q0, x.q1, x.q2, x.q2, x.q3, x.q3, x.q3),
+        p2: p2 >> 3,
+        p1: p1 >> 3,
+        p0: p0 >> 3,
+        q0: q0 >> 3,
+        q1: q1 >> 3,
+        q2: q2 >> 3,
         q3: x.q3,
     }
 }

@@ -126,42 +126,6 @@ fn flat(x: &Lanes) -> [u16; 64]
     block
 }
 
-/// Eight samples put at a row and column.
-#[inline(always)]
-fn put_inside(plane: &mut SamplePlane, row: usize, column: usize, x: u16x8)
-    requires inside { HasRow plane.old.area row column 8 }
-    ensures area { plane.new.area ≡ plane.old.area }
-    ensures map { plane_map plane.new ≡ with_block (plane_map plane.old) row column 1 8 (λ _ j. slice_index x j) }
-{
-    x.copy_to_slice(plane.row_mut(row, column, 8));
-}
-
-#[inline(always)]
-fn put_square(plane: &mut SamplePlane, row: usize, column: usize, x: &Lanes)
-    requires inside { HasSquare plane.old.area row column }
-    requires near { row ≤ 65536 }
-    ensures area { plane.new.area ≡ plane.old.area }
-    ensures map { (f : ℕ → ℕ → ℕ) → AreLanes x.now f → plane_map plane.new ≡ with_block (plane_map plane.old) row column 8 8 f }
-{
-    put_inside(plane, row, column, x.r0);
-    put_inside(plane, row + 1, column, x.r1);
-    put_inside(plane, row + 2, column, x.r2);
-    put_inside(plane, row + 3, column, x.r3);
-    put_inside(plane, row + 4, column, x.r4);
-    put_inside(plane, row + 5, column, x.r5);
-    put_inside(plane, row + 6, column, x.r6);
-    put_inside(plane, row + 7, column, x.r7);
-}
-
-#[inline(never)]
-fn put_part(plane: &mut SamplePlane, row: usize, column: usize, x: &Lanes)
-    requires inside { StartsIn plane.old.area row column }
-    ensures area { plane.new.area ≡ plane.old.area }
-    ensures map { (f : ℕ → ℕ → ℕ) → AreLanes x.now f → plane_map plane.new ≡ with_part plane.old.area (plane_map plane.old) row column 8 8 f }
-{
-    plane.put_square::<8>(row, column, &flat(x));
-}
-
 /// Puts eight rows of eight samples at a row and column. What lies outside of the plane is left out.
 #[inline(always)]
 pub fn put_lanes(plane: &mut SamplePlane, row: usize, column: usize, x: &Lanes)
@@ -169,10 +133,5 @@ pub fn put_lanes(plane: &mut SamplePlane, row: usize, column: usize, x: &Lanes)
     ensures area { plane.new.area ≡ plane.old.area }
     ensures map { (f : ℕ → ℕ → ℕ) → AreLanes x.now f → plane_map plane.new ≡ with_part plane.old.area (plane_map plane.old) row column 8 8 f }
 {
-    let area = plane.area();
-    if row + 8 <= area.lower_end() && column + 8 <= area.right_end() {
-        put_square(plane, row, column, x);
-    } else {
-        put_part(plane, row, column, x);
-    }
+    plane.put_square::<8>(row, column, &flat(x));
 }

@@ -144,6 +144,7 @@ fn has_outer(block: &BlockInfo, a: Crossing) -> bool
 }
 
 /// The edges of a cell of a plane, by the block there.
+#[inline(always)]
 #[tactic(auto, unfolding(crate::specs::Cells::outer_edge, crate::specs::Cells::has_inner))]
 pub fn cell_edges(
     shape: &Shape,

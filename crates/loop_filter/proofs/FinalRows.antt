@@ -1,5 +1,5 @@
 -- What edges leave, and what they read.
-use Rattle.std.proofs.Common.{◌≡◌, ◌<◌, ◌≤◌, ◌+◌, ◌*◌, ◌-◌, ℕ, zero, suc, Bool, true, false, cond, inl, inr, refl, sym, ◌∙◌, arith, ap, List, [], ◌∷◌, ◌++◌, map, nat_eq, subst}
+use Rattle.std.proofs.Common.{◌≡◌, ◌<◌, ◌≤◌, ◌+◌, ◌*◌, ◌-◌, ℕ, zero, suc, Bool, true, false, cond, refl, sym, ◌∙◌, arith, ap, List, [], ◌∷◌, ◌++◌, map, nat_eq, subst}
 use Rattle.std.specs.Prelude.{Option, Some, None, if◌then◌else◌}
 use Rattle.std.specs.List.{range_with_len, flat_map, fold}
 use Rattle.std.proofs.Math.Path.{fun_ext}
@@ -13,20 +13,19 @@ use Rattle.vp9_types.specs.declared.shape.Plane.{Plane}
 use Rattle.vp9_types.specs.declared.shape.Shape.{Shape}
 use Rattle.block_plan.specs.Blocks.{covering}
 use Rattle.block_plan.specs.declared.block.BlockInfo.{BlockInfo}
-use Rattle.line_filter.specs.Edges.{reach, line_at, in_order, with_line, with_edge}
+use Rattle.line_filter.specs.Edges.{reach, line_at, in_order, with_edge}
 use Rattle.line_filter.specs.Lines.{Line, filtered_line}
 use Rattle.line_filter.specs.declared.edge.Edge.{Edge}
 use Rattle.line_filter.specs.declared.edge.FilterWidth.{FilterWidth}
-use Rattle.line_filter.specs.declared.edge.FilterWidth.TheVariants.{Four}
 use Rattle.line_filter.specs.declared.edge.Limits.{Limits}
 use Rattle.line_filter.specs.declared.edge.Pass.{Pass}
 use Rattle.line_filter.specs.declared.edge.Pass.TheVariants.{Vertical, Horizontal}
 use Rattle.line_filter.proofs.EdgeLines.{along_at_once, down_at_once, rows_filtered, columns_filtered}
 use Rattle.loop_edges.specs.Cells.{sub_x, sub_y, outer_edge, has_inner}
-use Rattle.loop_edges.specs.Edges.{side_edge, middle_edge, side_edges, middle_edges, both_edges, block_edges, edges_of, cell_edges, step_of, cells_of, cells_from, cells_along, cell_row, pass_edges, superblock_edges, row_edges, edges_before, with_row, filtered_before, filtered_frame}
+use Rattle.loop_edges.specs.Edges.{side_edge, middle_edge, side_edges, middle_edges, both_edges, block_edges, edges_of, cell_edges, step_of, cells_of, cells_along, cell_row, pass_edges, superblock_edges, row_edges, with_row, filtered_before, filtered_frame}
 use Rattle.loop_edges.specs.Levels.{filter_level, limits_of}
 use Rattle.loop_edges.specs.declared.setting.EdgeSetting.{EdgeSetting}
-use Rattle.loop_filter.specs.Laws.{first_changed, AgreeFrom, LeavesRowsAbove, ReadsNoRowAbove, AreFinal}
+use Rattle.loop_filter.specs.Laws.{first_changed, LeavesRowsAbove, ReadsNoRowAbove, AreFinal}
 use Rattle.loop_filter.proofs.Sides.{reach_low}
 use Rattle.loop_filter.proofs.Walks.{one_more, one_more_plain}
 use Rattle.loop_filter.proofs.Frames.{row_more}

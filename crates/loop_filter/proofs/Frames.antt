@@ -1,6 +1,5 @@
 -- Rows of superblocks one after another.
-use Rattle.std.proofs.Common.{◌≡◌, ◌≤◌, ◌+◌, ◌*◌, ◌-◌, ℕ, refl, sym, ◌∙◌, arith, ap, List, min}
-use Rattle.std.specs.List.{range_with_len, flat_map, fold}
+use Rattle.std.proofs.Common.{◌≡◌, ◌+◌, ℕ, refl, sym, ◌∙◌, arith, ap, List}
 use Rattle.std.proofs.Math.Path.{fun_ext}
 use Rattle.vp9_types.specs.Maps.{FrameMap}
 use Rattle.vp9_types.specs.Sizes.{superblocks_along}
@@ -12,7 +11,6 @@ use Rattle.planes.specs.Pictures.{HasSizes, coded_area}
 use Rattle.planes.specs.declared.area.Area.{Area}
 use Rattle.planes.specs.declared.frame_planes.FramePlanes.{FramePlanes}
 use Rattle.block_plan.specs.declared.block.BlockInfo.{BlockInfo}
-use Rattle.line_filter.specs.Edges.{with_edge}
 use Rattle.loop_edges.specs.Edges.{edges_before, row_edges, with_row, filtered_before, filtered_frame}
 use Rattle.loop_edges.specs.declared.setting.EdgeSetting.{EdgeSetting}
 use Rattle.loop_filter.specs.Code.{HasFilterRows, HoldsFilterRows, HasAreasOf}

@@ -1,5 +1,5 @@
 -- The edges that a cell has lie in the area that is there.
-use Rattle.std.proofs.Common.{◌≡◌, ◌<◌, ◌≤◌, ◌+◌, ◌*◌, ◌-◌, ◌/◌, ◌%◌, ◌&&◌, ◌||◌, ℕ, Bool, true, false, inl, inr, refl, sym, ◌∙◌, arith, ap, min, nat_eq, unwrap_or, subst}
+use Rattle.std.proofs.Common.{◌≡◌, ◌<◌, ◌≤◌, ◌+◌, ◌*◌, ◌-◌, ◌%◌, ◌&&◌, ◌||◌, ℕ, Bool, true, false, inl, inr, refl, sym, arith, ap, nat_eq, unwrap_or}
 use Rattle.std.specs.Prelude.{not, if◌then◌else◌, Option, Some, None}
 use Rattle.std.proofs.lemmas.Bool.{cases_Bool}
 use Rattle.std.proofs.lemmas.Bool.Decides.{nat_tests}
@@ -13,23 +13,22 @@ use Rattle.vp9_types.specs.declared.shape.Depth.TheVariants as depth
 use Rattle.vp9_types.specs.declared.shape.Plane.{Plane}
 use Rattle.vp9_types.specs.declared.shape.Plane.TheVariants.{Y, U, V}
 use Rattle.vp9_types.specs.declared.shape.Shape.{Shape}
-use Rattle.planes.specs.Planes.{lower_end, right_end}
 use Rattle.planes.specs.declared.area.Area.{Area}
 use Rattle.block_plan.specs.InPlanes.{tx_in}
 use Rattle.block_plan.specs.declared.block.BlockInfo.{BlockInfo}
-use Rattle.line_filter.specs.Code.{IsEdgeIn, IsAlong, IsAcross}
+use Rattle.line_filter.specs.Code.{IsEdgeIn}
 use Rattle.line_filter.specs.Edges.{reach}
 use Rattle.line_filter.specs.declared.edge.FilterWidth.{FilterWidth}
 use Rattle.line_filter.specs.declared.edge.FilterWidth.TheVariants.{Four, Eight, Sixteen}
 use Rattle.line_filter.specs.declared.edge.Limits.{Limits}
 use Rattle.line_filter.specs.declared.edge.Pass.{Pass}
 use Rattle.line_filter.specs.declared.edge.Pass.TheVariants.{Vertical, Horizontal}
-use Rattle.loop_edges.specs.Cells.{across, widest, outer_width, outer_edge, has_outer, has_inner, is_4x4, is_smooth, sub_x, sub_y}
+use Rattle.loop_edges.specs.Cells.{across, widest, outer_width, outer_edge, has_inner, is_4x4, is_smooth, sub_x, sub_y}
 use Rattle.loop_edges.specs.Edges.{side_edge, middle_edge}
 use Rattle.loop_edges.specs.Levels.{limits_of}
 use Rattle.loop_edges.specs.declared.cells.CellAt.{CellAt}
 use Rattle.loop_edges.specs.declared.cells.Crossing.{Crossing}
-use Rattle.loop_filter.specs.Code.{IsCellIn, CanFilterSide, CanFilterMiddle, row_of, column_of}
+use Rattle.loop_filter.specs.Code.{IsCellIn, CanFilterSide, CanFilterMiddle}
 use Rattle.loop_filter.specs.declared.way.PlanePass.{PlanePass}
 
 pub reach_low : (w : FilterWidth) → reach w ≤ 8

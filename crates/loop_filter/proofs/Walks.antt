@@ -1,7 +1,6 @@
 -- Cells one after another.
-use Rattle.std.proofs.Common.{◌≡◌, unwrap_or, nat_eq, ◌<◌, ◌≤◌, ◌+◌, ◌*◌, ◌-◌, ◌/◌, ◌%◌, ◌&&◌, ℕ, zero, suc, Bool, true, false, inl, inr, refl, sym, ◌∙◌, arith, ap, List, [], ◌∷◌, ◌++◌, length, get_or, map, min, All}
+use Rattle.std.proofs.Common.{◌≡◌, unwrap_or, nat_eq, ◌<◌, ◌≤◌, ◌+◌, ◌*◌, ◌-◌, ℕ, zero, suc, Bool, true, false, refl, sym, ◌∙◌, arith, ap, List, [], ◌∷◌, ◌++◌, map}
 use Rattle.std.specs.Prelude.{Option, Some, None, if◌then◌else◌}
-use Rattle.std.specs.Int.{div_ceil}
 use Rattle.std.specs.List.{range_with_len, flat_map, fold}
 use Rattle.std.proofs.lemmas.Grind.{flat_map-append}
 use Rattle.std.proofs.lemmas.List.{map-id, append-nil}
@@ -9,14 +8,13 @@ use Rattle.std.proofs.lemmas.List.FromFn.{map-range_with_len_more}
 use Rattle.std.proofs.lemmas.List.Sums.{fold-append}
 use Rattle.vp9_types.specs.Maps.{Map, frame_map}
 use Rattle.std.proofs.Math.Path.{fun_ext}
-use Rattle.vp9_types.specs.Shapes.{halved, mi_rows, mi_cols, coded_width, coded_height}
+use Rattle.vp9_types.specs.Shapes.{halved, mi_rows, mi_cols}
 use Rattle.vp9_types.specs.Sizes.{superblocks_along}
 use Rattle.vp9_types.specs.declared.shape.Plane.{Plane}
 use Rattle.vp9_types.specs.declared.shape.Plane.TheVariants.{Y, U, V}
 use Rattle.vp9_types.specs.declared.shape.Shape.{Shape}
 use Rattle.vp9_tables.specs.Blocks.{greatest_of}
 use Rattle.vp9_tables.specs.Numbers.{tx_number}
-use Rattle.planes.specs.Planes.{lower_end, right_end}
 use Rattle.planes.specs.declared.area.Area.{Area}
 use Rattle.block_plan.specs.Blocks.{covering, covers, or_else}
 use Rattle.block_plan.specs.declared.block.BlockInfo.{BlockInfo}
@@ -26,8 +24,7 @@ use Rattle.loop_edges.specs.Cells.{sub_x, sub_y}
 use Rattle.line_filter.specs.declared.edge.Pass.{Pass}
 use Rattle.loop_edges.specs.Edges.{step_of, edges_of, cell_edges, row_edges, with_row, superblock_edges}
 use Rattle.loop_edges.specs.declared.setting.EdgeSetting.{EdgeSetting}
-use Rattle.loop_filter.proofs.Sides.{high}
-use Rattle.loop_filter.specs.Code.{IsCellIn, IsRowIn, HasFilterRows, AllFit, row_of, column_of}
+use Rattle.loop_filter.specs.Code.{IsCellIn, IsRowIn, HasFilterRows, AllFit}
 
 flat_map_push : (g : ℕ → List Edge) (xs : List ℕ) (x : ℕ) → flat_map g (xs ++ x ∷ []) ≡ flat_map g xs ++ g x
 flat_map_push g xs x = rw (flat_map-append, append-nil) refl

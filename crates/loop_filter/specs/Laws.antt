@@ -1,5 +1,5 @@
 -- What the rows of a frame owe to one another while they are filtered.
-use Rattle.std.specs.Prelude.{ℕ, ◌+◌, ◌-◌, ◌*◌, ◌<◌, ◌≤◌, ◌≡◌, List}
+use Rattle.std.specs.Prelude.{ℕ, ◌-◌, ◌*◌, ◌<◌, ◌≤◌, ◌≡◌, List}
 use Rattle.vp9_types.specs.Maps.{FrameMap}
 use Rattle.vp9_types.specs.Shapes.{halved, mi_rows}
 use Rattle.vp9_types.specs.Sizes.{superblocks_along}

@@ -127,6 +127,7 @@ fn filter_middle(
 }
 
 /// The edges of a cell filtered at the limits of its block's level.
+#[inline(always)]
 #[tactic(auto, unfolding(loop_edges::specs::Edges::both_edges))]
 fn filter_edges(
     samples: &mut SamplePlane,
@@ -151,6 +152,7 @@ fn filter_edges(
 }
 
 /// The edges of a cell filtered, by its block.
+#[inline(always)]
 #[tactic(auto, unfolding(loop_edges::specs::Edges::block_edges))]
 pub fn filter_block(
     samples: &mut SamplePlane,

@@ -40,6 +40,7 @@ fn cells_along(sub: bool, end: u32, s: u32) -> u32
     (end - 8 * s).min(8).div_ceil(step_of(sub))
 }
 
+#[inline(always)]
 fn filter_cell<N: Neighbours>(
     samples: &mut SamplePlane,
     f: &EdgeSetting,
@@ -62,6 +63,7 @@ fn filter_cell<N: Neighbours>(
 }
 
 /// A row of a superblock's cells, from left to right.
+#[inline(always)]
 fn filter_cell_row<N: Neighbours>(
     samples: &mut SamplePlane,
     f: &EdgeSetting,
@@ -98,7 +100,8 @@ fn filter_cell_row<N: Neighbours>(
     }
 }
 
-/// A pass over a superblock: its rows of cells, from top to bottom.
+/// A pass over a superblock: its rows of cells, from top to bottom. It is a part of its callers, which name plane and pass.
+#[inline(always)]
 pub fn filter_pass<N: Neighbours>(
     samples: &mut SamplePlane,
     f: &EdgeSetting,

@@ -21,6 +21,7 @@ use planes::{FramePlanes, SamplePlane};
 use vp9_types::Plane;
 
 /// A superblock of a plane: all its vertical edges, then all its horizontal ones.
+#[inline(always)]
 #[tactic(auto, unfolding(loop_edges::specs::Edges::superblock_edges), using(crate::proofs::Walks::two_lists))]
 fn filter_superblock<N: Neighbours>(
     samples: &mut SamplePlane,
@@ -66,6 +67,7 @@ fn filter_superblock<N: Neighbours>(
 }
 
 /// A row of superblocks of a plane, from left to right.
+#[inline(always)]
 fn filter_plane<N: Neighbours>(
     samples: &mut SamplePlane,
     f: &EdgeSetting,

@@ -1,4 +1,4 @@
-use Rattle.std.proofs.Common.{◌≡◌, ◌∙◌}
+use Rattle.std.proofs.Common.{◌∙◌}
 use Rattle.vp9_types.specs.Maps.{rows_of}
 use Rattle.planes.specs.Planes.{plane_map}
 use Rattle.planes.proofs.PlaneLemmas.{with_block_small, rows_small}

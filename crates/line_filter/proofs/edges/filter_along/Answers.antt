@@ -8,11 +8,11 @@ use Rattle.line_filter.proofs.LineBlocks.{near_small, turned_lanes, turned_by, n
 use Rattle.line_filter.proofs.edges.filter_along.Goals as goal
 
 pub filtered_by-lanes-requires-clause-small : goal.filtered_by-lanes-requires-clause-small
-filtered_by-lanes-requires-clause-small c = rw c.turned.ensures (near_small _ _ (turned_lanes c.lanes_at.result _ c.lanes_at.ensures) (λ i j. c.requires.small _ _))
+filtered_by-lanes-requires-clause-small g c = rw c.turned.ensures (near_small _ _ (turned_lanes c.lanes_at.result _ c.lanes_at.ensures) (λ i j. c.requires.small _ _))
 
 pub returns-clause-map : goal.returns-clause-map
 unfolding along_filtered
-returns-clause-map c = let a = c.args in
+returns-clause-map g c = let a = c.args in
     let m : Map = plane_map a.plane.now in
     let f : Line → Line = filtered_near a.l a.wide in
     let lanes = lanes_of_lines c.filtered_by-lanes.result (λ j. f (line_along 4 m (a.row + j) a.column))

@@ -8,11 +8,11 @@ use Rattle.line_filter.proofs.LineBlocks.{near_small, near_line, lanes_of_lines}
 use Rattle.line_filter.proofs.edges.filter_down.Goals as goal
 
 pub filtered_by-lanes-requires-clause-small : goal.filtered_by-lanes-requires-clause-small
-filtered_by-lanes-requires-clause-small c = near_small c.lanes_at.result _ c.lanes_at.ensures (λ i j. c.requires.small _ _)
+filtered_by-lanes-requires-clause-small g c = near_small c.lanes_at.result _ c.lanes_at.ensures (λ i j. c.requires.small _ _)
 
 pub returns-clause-map : goal.returns-clause-map
 unfolding down_filtered
-returns-clause-map c = let a = c.args in
+returns-clause-map g c = let a = c.args in
     let m : Map = plane_map a.plane.now in
     let f : Line → Line = filtered_near a.l a.wide in
     c.put_lanes.ensures.map (λ i j. in_order 4 (f (line_down 4 m a.row (a.column + j))) i)

@@ -1,4 +1,3 @@
-use Rattle.std.proofs.Common.{◌≡◌}
 use Rattle.loop_filter.proofs.Sides.{side_fits, middle_fits}
 use Rattle.loop_filter.proofs.blocks.filter_edges.Goals as goal
 

@@ -1,4 +1,4 @@
-use Rattle.std.proofs.Common.{◌≡◌, ◌+◌, ◌*◌, ℕ, ap, ◌∙◌, refl}
+use Rattle.std.proofs.Common.{◌+◌, ◌*◌, ℕ, ◌∙◌, refl}
 use Rattle.planes.specs.Planes.{plane_map}
 use Rattle.loop_edges.specs.Cells.{sub_x}
 use Rattle.loop_edges.specs.Edges.{cell_row, cell_edges, step_of}

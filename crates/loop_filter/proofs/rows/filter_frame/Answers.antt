@@ -1,4 +1,4 @@
-use Rattle.std.proofs.Common.{◌≡◌, ℕ, arith}
+use Rattle.std.proofs.Common.{arith}
 use Rattle.planes.specs.Pictures.{samples_of}
 use Rattle.loop_filter.proofs.Frames.{no_rows, rows_done, all_done, holds_rows, sizes_kept}
 use Rattle.loop_filter.proofs.rows.filter_frame.Goals as goal

@@ -1,4 +1,4 @@
-use Rattle.std.proofs.Common.{◌≡◌, ℕ}
+use Rattle.std.proofs.Common.{◌≡◌}
 use Rattle.planes.specs.Pictures.{HasSizes, IsInRange, samples_of}
 use Rattle.loop_edges.specs.Edges.{filtered_before}
 use Rattle.loop_filter.proofs.rows.filter_frame.Given as goal

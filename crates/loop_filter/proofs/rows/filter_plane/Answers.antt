@@ -1,7 +1,4 @@
-use Rattle.std.proofs.Common.{◌≡◌, ℕ, ap, ◌∙◌, sym, arith}
-use Rattle.vp9_types.specs.Maps.{Map}
-use Rattle.vp9_types.specs.Shapes.{mi_cols}
-use Rattle.vp9_types.specs.Sizes.{superblocks_along}
+use Rattle.std.proofs.Common.{◌∙◌, arith}
 use Rattle.planes.specs.Planes.{plane_map}
 use Rattle.loop_edges.specs.Edges.{superblock_edges}
 use Rattle.loop_filter.proofs.Walks.{walk_more_plain, row_by}

@@ -1,4 +1,4 @@
-use Rattle.std.proofs.Common.{◌≡◌, ℕ, arith}
+use Rattle.std.proofs.Common.{arith}
 use Rattle.std.proofs.lemmas.Bool.Decides.{nat_tests}
 use Rattle.planes.specs.Planes.{plane_map}
 use Rattle.loop_filter.proofs.Walks.{three_planes, no_edges}

@@ -1,7 +1,7 @@
 use Rattle.std.proofs.Common.{◌∙◌}
 use Rattle.planes.specs.Planes.{plane_map}
 use Rattle.line_filter.proofs.SquareLemmas.{part_same}
-use Rattle.line_filter.proofs.squares.put_part.Goals as goal
+use Rattle.line_filter.proofs.squares.put_lanes.Goals as goal
 
 pub returns-clause-map : goal.returns-clause-map
 returns-clause-map c = λ f so. let a = c.args in
