@@ -1,5 +1,5 @@
 -- A block of a tile whose blocks are put in as they are read.
-use Rattle.std.proofs.Common.{◌≡◌, ◌∙◌, ◌++◌, ◌∷◌, [], ℕ, zero, suc, ◌+◌, ◌-◌, ◌^◌, ◌≤◌, ◌<◌, refl, sym, ap, arith, Bool, List}
+use Rattle.std.proofs.Common.{◌≡◌, ◌∙◌, ◌++◌, ◌∷◌, [], ℕ, zero, suc, ◌+◌, ◌-◌, ◌^◌, ◌≤◌, ◌<◌, refl, ap, arith, Bool, List}
 use Rattle.std.proofs.lemmas.List.Elements.{All-push}
 use Rattle.std.specs.Prelude.{min}
 use Rattle.std.proofs.lemmas.Nat.{pow_pos}
@@ -35,7 +35,6 @@ use Rattle.block_residue.specs.declared.sides.TileSides.{TileSides}
 use Rattle.block_rebuild.specs.Blocks.{put_planned, put_by, put_intra}
 use Rattle.mode_syntax.specs.ModeInfo.{intra_frame_mode_info}
 use Rattle.frame_decoder.specs.Code.{AllFit, AllLie, AllStart, PlainTile, plain_block}
-use Rattle.frame_decoder.specs.Frames.{put_more}
 
 -- whether a block counts as skipped doesn't matter where it is put in
 by_prediction : (shape : Shape) (tile_from : ℕ) (b : BlockInfo) (any : Bool) (r : BlockResidues) (p : Prediction) (m : FrameMap)

@@ -1,13 +1,13 @@
 -- A tile of a column: what it needs, and what it leaves of the column.
-use Rattle.std.proofs.Common.{◌≡◌, ◌≢◌, ◌∙◌, ℕ, zero, suc, ◌+◌, ◌-◌, ◌*◌, ◌/◌, ◌^◌, ◌<◌, ◌≤◌, List, [], ◌∷◌, ◌++◌, Bool, true, false, length, map, replicate, get_or, take, drop, refl, sym, ap, subst, inl, inr, arith}
-use Rattle.std.specs.Prelude.{Option, Some, Result, Ok, Err, OnOk, ◌==◌, slice_index_or, slice_set}
+use Rattle.std.proofs.Common.{◌≡◌, ◌∙◌, ℕ, ◌+◌, ◌-◌, ◌*◌, ◌^◌, ◌<◌, ◌≤◌, List, [], ◌∷◌, ◌++◌, Bool, true, false, length, map, replicate, get_or, take, drop, refl, sym, ap, subst, inl, inr, arith}
+use Rattle.std.specs.Prelude.{Some, Result, Ok, Err, OnOk, ◌==◌, slice_index_or, slice_set}
 use Rattle.std.proofs.Math.Nat.{mul-le-mul_left, mul-le-mul_right}
 use Rattle.std.proofs.Math.Seq.{take-append_seam}
 use Rattle.std.proofs.Math.ListN.{get_or-append, get_or-map as map_at}
 use Rattle.std.proofs.lemmas.Bool.{cases_Bool, cases_lt, eqb-false, eqb-true}
 use Rattle.std.proofs.lemmas.List.{append-nil, get_or-map, get_or-set_other, get_or-set_same, length-append, length-replicate, length-set, map-append, map-set, replicate-append-replicate}
 use Rattle.vp9_types.specs.Maps.{FrameMap}
-use Rattle.vp9_types.specs.Shapes.{coded_height, mi_cols, mi_rows}
+use Rattle.vp9_types.specs.Shapes.{mi_cols, mi_rows}
 use Rattle.vp9_types.specs.Sizes.{superblocks_along}
 use Rattle.vp9_types.specs.declared.rule.Rule.{Rule}
 use Rattle.vp9_types.specs.declared.shape.Plane.{Plane}
@@ -30,7 +30,7 @@ use Rattle.frame_setting.specs.declared.setting.FrameSetting.{FrameSetting}
 use Rattle.mode_syntax.specs.Walk.{decode_tile}
 use Rattle.planes.specs.Pictures.{samples_of}
 use Rattle.planes.specs.declared.frame_planes.FramePlanes.{FramePlanes}
-use Rattle.frame_decoder.specs.Code.{PlainTile, AllStart, ArePlanes, AreTileColumns, GivesRead, GivesWhole, HoldsRead, IsReady, IsTileColumn, SameColumns, blocks_of, column_as_listed, column_of_code, counts_if, limit_of, plain_walk, read_whole, tile_of, walk_of}
+use Rattle.frame_decoder.specs.Code.{PlainTile, AllStart, ArePlanes, AreTileColumns, GivesRead, GivesWhole, HoldsRead, IsReady, IsTileColumn, SameColumns, blocks_of, column_as_listed, column_of_code, counts_if, plain_walk, read_whole, tile_of, walk_of}
 use Rattle.frame_decoder.specs.Reading.{Column, FrameRead, begun, column_at, infos, no_column, read_tile_of, sides_below}
 use Rattle.frame_decoder.specs.Tiles.{column_of, row_of, superblocks_before, tile_offset, tile_places}
 use Rattle.frame_decoder.specs.declared.columns.TileColumn.{TileColumn}

@@ -1,12 +1,11 @@
 -- Which block covers a place of a frame, by its tile column.
-use Rattle.std.proofs.Common.{◌≡◌, ◌∙◌, ◌⊎◌, ℕ, zero, suc, ◌+◌, ◌-◌, ◌*◌, ◌/◌, ◌^◌, ◌<◌, ◌≤◌, List, [], ◌∷◌, ◌++◌, length, map, get_or, inl, inr, refl, sym, ap, subst, arith, Bool, true, false}
+use Rattle.std.proofs.Common.{◌≡◌, ◌∙◌, ◌⊎◌, ℕ, zero, suc, ◌+◌, ◌<◌, ◌≤◌, List, [], ◌∷◌, ◌++◌, length, get_or, inl, inr, refl, sym, ap, subst, arith, Bool, true, false}
 use Rattle.std.specs.Prelude.{◌&&◌, Option, Some, None, All, min, nat_le, nat_lt, slice_index_or, if◌then◌else◌}
 use Rattle.std.proofs.lemmas.List.{get_or-map, length-map}
 use Rattle.std.proofs.lemmas.List.Elements.{All-append}
 use Rattle.std.proofs.lemmas.Bool.{le-ltb, lt-leb}
 use Rattle.vp9_types.specs.Maps.{is_within}
 use Rattle.vp9_types.specs.Shapes.{mi_cols}
-use Rattle.vp9_types.specs.Sizes.{superblocks_along}
 use Rattle.block_geometry.specs.Sizes.{height_8, width_8}
 use Rattle.block_plan.specs.Blocks.{covers, covering, or_else}
 use Rattle.block_plan.specs.declared.block.BlockInfo.{BlockInfo}
@@ -130,9 +129,9 @@ pub covered_in_column : (header : Header) (n k r c : ℕ) (columns : List TileCo
 covered_in_column header n k r c columns d are there from to =
     ap (λ blocks. covering blocks r c) (sym (block_list_at columns k d there))
     ∙ sym (in_one (blocks_of columns) k r c (omega (arith, there, many columns))
-        (λ j low apart.
-            let within : j < length columns = omega (arith, low, many columns) in
-            ap (λ blocks. covering blocks r c) (block_list_at columns j d within) ∙ elsewhere header n k j r c columns d are within apart from to))
+    (λ j low apart.
+    let within : j < length columns = omega (arith, low, many columns) in
+    ap (λ blocks. covering blocks r c) (block_list_at columns j d within) ∙ elsewhere header n k j r c columns d are within apart from to))
 
 fit_joined : (columns : List (List BlockInfo)) → ((j : ℕ) → j < length columns → AllFit (get_or columns j [])) → AllFit (all_blocks columns)
 fit_joined [] fit = λ i d low. absurd (omega (arith, low))

@@ -1,17 +1,16 @@
 -- The tiles of a frame, one after another, of which each block is put in as it is read.
-use Rattle.std.proofs.Common.{◌≡◌, ◌∙◌, ◌++◌, ◌∷◌, [], ℕ, zero, suc, ◌-◌, ◌+◌, ◌<◌, ◌≤◌, true, false, Bool, refl, sym, ap, List, map, length, slice_range, arith}
-use Rattle.std.specs.Prelude.{Some, None, Ok, Err, Option, Result, drop, slice_get, slice_set, slice_index_or, IfOk, IsOk}
+use Rattle.std.proofs.Common.{◌≡◌, ◌∙◌, ◌++◌, ◌∷◌, [], ℕ, zero, suc, ◌-◌, ◌+◌, ◌≤◌, refl, sym, ap, List, map, length, slice_range, arith}
+use Rattle.std.specs.Prelude.{Some, Ok, Err, Result, drop, slice_get, slice_set, IfOk, IsOk}
 use Rattle.std.specs.List.{fold}
 use Rattle.std.proofs.lemmas.List.{drop_all, drop_more, map-set}
 use Rattle.std.proofs.lemmas.Option.{get_or_from_slice_get, slice_get_within}
 use Rattle.std.proofs.lemmas.List.Sums.{fold-append}
 use Rattle.vp9_types.specs.Maps.{FrameMap}
-use Rattle.vp9_types.specs.Results.{map_ok, map_err, ◌>>=◌}
+use Rattle.vp9_types.specs.Results.{map_ok, ◌>>=◌}
 use Rattle.vp9_types.specs.Sizes.{superblocks_along}
 use Rattle.vp9_types.specs.Syntax.{Syntax}
 use Rattle.vp9_types.specs.declared.block.Modes.{Modes}
 use Rattle.vp9_types.specs.declared.job.Span.{Span}
-use Rattle.vp9_types.specs.declared.outcome.Fault.{Fault}
 use Rattle.vp9_types.specs.declared.outcome.Fault.TheVariants as fault
 use Rattle.vp9_types.specs.declared.rule.Rule.{Rule}
 use Rattle.vp9_types.specs.declared.shape.Shape.{Shape}
@@ -26,13 +25,12 @@ use Rattle.frame_headers.specs.State.{shape_of}
 use Rattle.frame_headers.specs.declared.header.Header.{Header}
 use Rattle.prob_contexts.specs.Lists.{ContextLists}
 use Rattle.block_geometry.specs.Frames.{places_of}
-use Rattle.block_plan.specs.declared.block.BlockInfo.{BlockInfo}
 use Rattle.mode_syntax.specs.Walk.{decode_tile}
 use Rattle.frame_decoder.specs.Code.{PlainTile, column_as_listed, plain_walk, read_whole, settled_of}
 use Rattle.loop_edges.specs.Cells.{setting_of}
 use Rattle.loop_edges.specs.Edges.{filtered_frame}
-use Rattle.frame_decoder.specs.Frames.{FrameInput, FrameResult, all_blocks, blocks_read, decoded, put_more, raw, read_all_tiles, read_frame, rebuilt}
-use Rattle.frame_decoder.specs.Reading.{Column, FrameRead, TileRead, begun, column_after, column_at, infos, nothing_read, read_tile, read_tile_of, read_tiles, with_tile}
+use Rattle.frame_decoder.specs.Frames.{FrameInput, all_blocks, blocks_read, decoded, put_more, raw, read_all_tiles, read_frame, rebuilt}
+use Rattle.frame_decoder.specs.Reading.{FrameRead, TileRead, begun, column_after, column_at, nothing_read, read_tile, read_tile_of, read_tiles, with_tile}
 use Rattle.frame_decoder.specs.Tiles.{tile_places, column_of}
 use Rattle.frame_decoder.specs.declared.tile_places.TilePlaces.{TilePlaces}
 use Rattle.frame_decoder.proofs.TileReads.{seen_by, tile_seen, values_mapped, view}

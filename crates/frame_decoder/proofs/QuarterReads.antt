@@ -13,12 +13,11 @@ use Rattle.frame_setting.specs.declared.setting.FrameSetting.{FrameSetting}
 use Rattle.counting_reader.specs.Code.{Reads, standing_of}
 use Rattle.counting_reader.specs.Counting.{Settled, Standing, settle, run_counting, in_order}
 use Rattle.counting_reader.specs.declared.reader.CountingReader.{CountingReader}
-use Rattle.prob_contexts.specs.Lists.{lists_of}
 use Rattle.mode_syntax.specs.Partitions.{partition_at}
 use Rattle.mode_syntax.specs.Walk.{Walk, square_at, parts, decode_partition}
 use Rattle.mode_syntax.specs.declared.square_at.SquareAt.{SquareAt}
 use Rattle.planes.specs.declared.frame_planes.FramePlanes.{FramePlanes}
-use Rattle.frame_decoder.specs.Code.{PlainTile, GivesUnsplit, IsSplit, IsSquareIn, SameColumns, limit_of, quarter, tile_of, walk_of}
+use Rattle.frame_decoder.specs.Code.{PlainTile, GivesUnsplit, IsSplit, IsSquareIn, SameColumns, quarter, tile_of, walk_of}
 use Rattle.frame_decoder.specs.declared.columns.TileColumn.{TileColumn}
 use Rattle.counting_reader.proofs.CountingRuns.{counting_bind, run_settle}
 use Rattle.frame_decoder.proofs.SquareReads.{halved_side, larger_square, quarters_of, same_limit, square_is}

@@ -1,17 +1,15 @@
 -- What is read in turns, each 8 places on from the one before it: while so many turns are done, reading the rest from
 -- there is reading all.
 use Rattle.std.proofs.Common.{◌≡◌, ◌∙◌, ℕ, suc, ◌+◌, ◌-◌, ◌*◌, ◌<◌, ◌≤◌, refl, sym, ap, arith}
-use Rattle.std.specs.Prelude.{List, Result, Ok, Err}
+use Rattle.std.specs.Prelude.{Result, Ok, Err}
 use Rattle.vp9_types.specs.Syntax.{Syntax}
 use Rattle.vp9_types.specs.Reading.{after}
 use Rattle.vp9_types.specs.declared.rule.Rule.{Rule}
-use Rattle.counting_reader.specs.Code.{standing_of}
 use Rattle.counting_reader.specs.Counting.{Settled, Standing, run_counting}
-use Rattle.counting_reader.specs.declared.reader.CountingReader.{CountingReader}
 use Rattle.vp9_types.specs.Sizes.{superblocks_along}
 use Rattle.mode_syntax.specs.Walk.{Walk, decode_partition, decode_row, decode_tile}
 use Rattle.mode_syntax.specs.declared.square_at.SquareAt.{SquareAt}
-use Rattle.frame_decoder.specs.Code.{IsSquareIn, SameColumns, limit_of}
+use Rattle.frame_decoder.specs.Code.{IsSquareIn, SameColumns}
 use Rattle.frame_decoder.specs.declared.columns.TileColumn.{TileColumn}
 use Rattle.frame_decoder.proofs.SquareReads.{same_limit}
 use Rattle.counting_reader.proofs.CountingRuns.{counting_bind, run_settle}

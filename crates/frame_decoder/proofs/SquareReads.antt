@@ -2,7 +2,7 @@
 use Rattle.std.proofs.Common.{◌≡◌, ◌∙◌, ℕ, zero, suc, ◌+◌, ◌-◌, ◌*◌, ◌^◌, ◌<◌, ◌≤◌, refl, sym, arith, Bool, true, false, rules}
 use Rattle.std.specs.Prelude.{List, Result, Ok, Err}
 use Rattle.vp9_types.specs.declared.block.Partition.{Partition}
-use Rattle.vp9_types.specs.declared.block.Partition.TheVariants.{Whole, Horizontal, Vertical, Split}
+use Rattle.vp9_types.specs.declared.block.Partition.TheVariants.{Whole, Horizontal, Vertical}
 use Rattle.frame_setting.specs.declared.setting.FrameSetting.{FrameSetting}
 use Rattle.prob_contexts.specs.Lists.{lists_of}
 use Rattle.std.proofs.Math.Nat.{pow-suc}

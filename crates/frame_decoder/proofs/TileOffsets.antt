@@ -94,13 +94,13 @@ part_as_computed places place log2 all few there low is =
 pub place_from : (places log2 place : ℕ) → place < places → tile_offset places log2 (part_at (superblocks_along places) (2 ^ log2) (place / 8)) ≤ place
 place_from places log2 place there =
     let begins : superblocks_before places log2 (part_at (superblocks_along places) (2 ^ log2) (place / 8)) ≤ place / 8 =
-        part_begins (superblocks_along places) (2 ^ log2) (place / 8) (omega (arith, there)) (pow_pos log2) in
+    part_begins (superblocks_along places) (2 ^ log2) (place / 8) (omega (arith, there)) (pow_pos log2) in
     omega (arith, begins)
 
 pub place_to : (places log2 place : ℕ) → place < places → place < tile_offset places log2 (part_at (superblocks_along places) (2 ^ log2) (place / 8) + 1)
 place_to places log2 place there =
     let ends : place / 8 + 1 ≤ superblocks_before places log2 (part_at (superblocks_along places) (2 ^ log2) (place / 8) + 1) =
-        part_ends (superblocks_along places) (2 ^ log2) (place / 8) (omega (arith, there)) (pow_pos log2) in
+    part_ends (superblocks_along places) (2 ^ log2) (place / 8) (omega (arith, there)) (pow_pos log2) in
     omega (arith, ends, there)
 
 pub place_below : (places log2 place : ℕ) → place < places → part_at (superblocks_along places) (2 ^ log2) (place / 8) < 2 ^ log2

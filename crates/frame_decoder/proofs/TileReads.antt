@@ -1,48 +1,38 @@
 -- A tile that is read, and whose blocks are put in as they are read.
-use Rattle.std.proofs.Common.{◌≡◌, ◌∙◌, ◌++◌, ◌∷◌, [], ℕ, zero, suc, rules, ◌-◌, ◌+◌, ◌^◌, ◌%◌, true, false, Bool, refl, sym, ap, List, map, append_assoc, replicate, slice_range, slice_set, get_or}
-use Rattle.std.specs.Prelude.{not, nat_eq, Some, None, Ok, Err, Option, Result}
+use Rattle.std.proofs.Common.{◌≡◌, ◌∙◌, ◌++◌, ◌∷◌, [], ℕ, zero, suc, rules, Bool, refl, sym, ap, List, append_assoc}
+use Rattle.std.specs.Prelude.{not, nat_eq, Some, Ok, Err, Result}
 use Rattle.std.specs.List.{fold}
 use Rattle.std.proofs.lemmas.List.{map-append}
 use Rattle.std.proofs.lemmas.List.Sums.{fold-append}
 use Rattle.vp9_types.specs.Maps.{FrameMap}
-use Rattle.vp9_types.specs.Results.{map_ok, map_err, ◌>>=◌}
-use Rattle.vp9_types.specs.Sizes.{superblocks_along}
+use Rattle.vp9_types.specs.Results.{map_ok}
 use Rattle.vp9_types.specs.Syntax.{Syntax, done, broken, ask}
 use Rattle.vp9_types.specs.declared.block.Modes.{Modes}
-use Rattle.vp9_types.specs.declared.job.Span.{Span}
-use Rattle.vp9_types.specs.declared.outcome.Fault.{Fault}
-use Rattle.vp9_types.specs.declared.outcome.Fault.TheVariants as fault
 use Rattle.vp9_types.specs.declared.rule.Rule.{Rule}
 use Rattle.vp9_types.specs.declared.shape.Shape.{Shape}
 use Rattle.bool_decoder.specs.Bools.{run_bools}
 use Rattle.bool_decoder.specs.Window.{Window, started, bit_of, after_bit}
-use Rattle.compressed_header.specs.Header.{forward}
 use Rattle.counting_reader.specs.Counting.{Settled, Standing, settle, mapped, with_counts, counted_if, run_counting}
 use Rattle.counting_reader.specs.Code.{Reads, counts_by, standing_of}
 use Rattle.prob_contexts.specs.declared.kind.CountedBool.{CountedBool}
 use Rattle.counting_reader.specs.declared.reader.CountingReader.{CountingReader}
-use Rattle.planes.specs.Pictures.{blank}
 use Rattle.planes.specs.declared.frame_planes.FramePlanes.{FramePlanes}
 use Rattle.frame_decoder.specs.declared.columns.TileColumn.{TileColumn}
-use Rattle.frame_decoder.specs.Tiles.{tile_places, column_of}
 use Rattle.counting_reader.proofs.Mapped.{mapped_after}
-use Rattle.frame_headers.specs.Spans.{tile_spans}
 use Rattle.frame_headers.specs.State.{shape_of}
 use Rattle.frame_headers.specs.declared.header.Header.{Header}
 use Rattle.prob_contexts.specs.Lists.{ContextLists}
-use Rattle.block_geometry.specs.Frames.{places_of}
 use Rattle.block_geometry.specs.declared.transform_blocks.FramePlaces.{FramePlaces}
 use Rattle.block_plan.specs.Planned.{PlannedBlock}
 use Rattle.block_plan.specs.declared.block.BlockAt.{BlockAt}
-use Rattle.block_plan.specs.declared.block.BlockInfo.{BlockInfo}
 use Rattle.block_residue.specs.Residues as residues
 use Rattle.block_residue.specs.declared.sides.TileSides.{TileSides}
 use Rattle.mode_syntax.proofs.Mapped.{tile_everywhere}
 use Rattle.mode_syntax.specs.ModeInfo.{intra_frame_mode_info}
-use Rattle.mode_syntax.specs.Walk.{Walk, decode_tile}
-use Rattle.frame_decoder.specs.Code.{PlainTile, plain_block, plain_walk, settled_of, tile_of, read_whole, GivesTile, GivesWhole}
-use Rattle.frame_decoder.specs.Frames.{FrameInput, FrameResult, decoded, put_more, raw, read_frame, rebuilt}
-use Rattle.frame_decoder.specs.Reading.{Column, FrameRead, TileRead, begun, column_after, column_at, infos, no_column, nothing_read, read_block, read_tile, read_tile_of, read_tiles, read_walk, with_tile}
+use Rattle.mode_syntax.specs.Walk.{decode_tile}
+use Rattle.frame_decoder.specs.Code.{PlainTile, plain_block, plain_walk, settled_of, tile_of, read_whole, GivesWhole}
+use Rattle.frame_decoder.specs.Frames.{put_more}
+use Rattle.frame_decoder.specs.Reading.{TileRead, infos, read_block, read_walk}
 use Rattle.frame_decoder.specs.declared.tile_places.TilePlaces.{TilePlaces}
 
 -- the plain decoder's tile where so much is read, in a frame whose samples were these before the tile

@@ -1,6 +1,6 @@
 -- What the tiles of a frame say, block by block (6.4, 6.4.2 and 6.4.4 of the standard: decode_tiles, decode_tile,
 -- decode_block). No sample is needed to read them.
-use Rattle.std.specs.Prelude.{ℕ, ◌+◌, ◌-◌, ◌/◌, ◌^◌, Bool, false, true, List, [], ◌∷◌, ◌++◌, map, get_or, replicate, slice_range, slice_set, Result, Ok, Err}
+use Rattle.std.specs.Prelude.{ℕ, ◌+◌, ◌-◌, ◌/◌, ◌^◌, Bool, false, true, List, [], ◌∷◌, ◌++◌, map, get_or, replicate, slice_range, slice_set, Result, Ok}
 use Rattle.vp9_types.specs.Results.{◌>>=◌}
 use Rattle.vp9_types.specs.Shapes.{coded_width, coded_height}
 use Rattle.vp9_types.specs.Sizes.{superblocks_along}

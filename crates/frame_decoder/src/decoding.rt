@@ -84,7 +84,13 @@ pub fn decode_frame(
     check_tiles(bytes, header, compressed)?;
     let setting = FrameSetting::new(header, modes, contexts);
     let mut columns = TileColumn::all(alloc, &setting)?;
-    let counts = decode_counted(bytes, &setting, compressed, &mut columns, picture.planes_mut())?;
+    let counts = decode_counted(
+        bytes,
+        &setting,
+        compressed,
+        &mut columns,
+        picture.planes_mut(),
+    )?;
     let blocks = FrameBlocks::new(&setting, &columns);
     filter_frame(picture.planes_mut(), &EdgeSetting::new(header), &blocks);
     Ok(Decoded {

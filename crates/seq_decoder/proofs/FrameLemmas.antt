@@ -1,5 +1,5 @@
 -- What a frame adds.
-use Rattle.std.proofs.Common.{◌≡◌, ◌≤◌, ℕ, zero, suc, List, [], ◌∷◌, true, false, ap, sym, subst, refl, ◌∙◌, arith}
+use Rattle.std.proofs.Common.{◌≡◌, ℕ, zero, suc, List, [], ◌∷◌, true, false, ap, sym, subst, refl, ◌∙◌, arith}
 use Rattle.std.specs.Prelude.{All, Bool, IfSome, Option, Some, None, Result, Ok, Err, ◌<◌, get_or, length, map, slice_get}
 use Rattle.std.proofs.lemmas.List.Elements.{All-head, All-tail}
 use Rattle.std.proofs.lemmas.Option.{slice_get_within}
@@ -14,7 +14,7 @@ use Rattle.vp9_types.specs.declared.job.Span.{Span}
 use Rattle.vp9_types.specs.declared.shape.Shape.{Shape}
 use Rattle.frame_headers.specs.declared.header.Header.{Header}
 use Rattle.frame_headers.proofs.SlotLemmas.{refreshed_told}
-use Rattle.frame_headers.specs.State.{SlotsHaveSizes, next_persist, refreshed, shape_of}
+use Rattle.frame_headers.specs.State.{SlotsHaveSizes, refreshed, shape_of}
 use Rattle.frame_headers.specs.declared.header.FrameKind.{FrameKind}
 use Rattle.frame_headers.specs.declared.header.FrameKind.TheVariants.{Key, IntraOnly, Inter}
 use Rattle.frame_headers.specs.declared.header.FrameSize.{FrameSize}
@@ -22,20 +22,19 @@ use Rattle.frame_headers.specs.declared.persist.Persist.{Persist}
 use Rattle.frame_output.specs.Texts.{frame_text}
 use Rattle.picture_table.specs.Code.{IsBelow, IsSound, IsSoundAt, IsTable, NamesSound, held, held_in, shown}
 use Rattle.picture_table.specs.declared.table.PictureTable.{PictureTable}
-use Rattle.prob_contexts.specs.Lists.{ContextLists, lists_of}
+use Rattle.prob_contexts.specs.Lists.{ContextLists}
 use Rattle.planes.specs.declared.picture.Picture as planes
 use Rattle.frame_decoder.specs.Frames.{FrameResult, decoded}
 use Rattle.frame_decoder.specs.declared.halt.Halt.{Halt}
 use Rattle.frame_decoder.specs.declared.halt.Halt.TheVariants as halt
 use Rattle.seq_decoder.specs.After.{Stepped, after_coded, input_of, picture_of, shown_picture, state_after}
 use Rattle.seq_decoder.specs.SavedContexts.{context_at, is_key, own_contexts, place_of, saved_before, with_own, saved_after}
-use Rattle.seq_decoder.specs.Code.{saved_lists, StandsFor, shown_text, step_text, shown_of, text_if, IsAt, IsCoded, HasBegun, Shows, Adds, Halts, halt_outcome, refusal_outcome}
+use Rattle.seq_decoder.specs.Code.{saved_lists, StandsFor, shown_text, step_text, shown_of, text_if, IsAt, IsCoded, Shows, Halts, halt_outcome, refusal_outcome}
 use Rattle.seq_decoder.specs.Outcomes.{outcome_at}
-use Rattle.seq_decoder.specs.State.{Picture, State, persist_of}
+use Rattle.seq_decoder.specs.State.{Picture, State}
 use Rattle.seq_decoder.specs.declared.coding.Coded.{Coded}
 use Rattle.seq_decoder.specs.declared.decoder.Decoder.{Decoder}
 use Rattle.seq_decoder.proofs.ShowingLemmas.{text_is}
-use Rattle.seq_decoder.proofs.Slots.{persist_after}
 
 ---- A frame that can't be decoded, or written ----
 

@@ -1,5 +1,5 @@
 -- The segments of a frame, tile column by tile column.
-use Rattle.std.proofs.Common.{◌≡◌, ◌∙◌, ℕ, ◌+◌, ◌<◌, List, [], ◌∷◌, ◌++◌, Bool, true, false, length, map, take, get_or, refl, sym, ap}
+use Rattle.std.proofs.Common.{◌≡◌, ◌∙◌, ℕ, ◌+◌, ◌<◌, List, [], ◌∷◌, ◌++◌, Bool, true, false, length, take, get_or, refl, ap}
 use Rattle.std.specs.Prelude.{◌&&◌, Option, Some, None, nat_lt, if◌then◌else◌}
 use Rattle.std.proofs.Math.Path.{fun_ext}
 use Rattle.std.proofs.lemmas.Grind.{flat_map-append}
@@ -38,10 +38,10 @@ pub one_column_more : (segmentation : Segmentation) (frame : FramePlaces) (colum
     ≡ segments_after segmentation frame (get_or columns i d).grid.blocks (segments_after segmentation frame (all_blocks (blocks_of (take i columns))) ids)
 one_column_more segmentation frame columns i d ids there =
     let blocks : all_blocks (blocks_of (take (i + 1) columns)) ≡ all_blocks (blocks_of (take i columns)) ++ (get_or columns i d).grid.blocks =
-        ap (λ columns. all_blocks (blocks_of columns)) (take_more columns i d there)
-        ∙ ap all_blocks (map-append (λ (c : TileColumn). c.grid.blocks) (take i columns) (get_or columns i d ∷ []))
-        ∙ flat_map-append (λ (column : List BlockInfo). column) (blocks_of (take i columns)) ((get_or columns i d).grid.blocks ∷ [])
-        ∙ ap (λ rest. all_blocks (blocks_of (take i columns)) ++ rest) (append-nil (get_or columns i d).grid.blocks) in
+    ap (λ columns. all_blocks (blocks_of columns)) (take_more columns i d there)
+    ∙ ap all_blocks (map-append (λ (c : TileColumn). c.grid.blocks) (take i columns) (get_or columns i d ∷ []))
+    ∙ flat_map-append (λ (column : List BlockInfo). column) (blocks_of (take i columns)) ((get_or columns i d).grid.blocks ∷ [])
+    ∙ ap (λ rest. all_blocks (blocks_of (take i columns)) ++ rest) (append-nil (get_or columns i d).grid.blocks) in
     ap (λ xs. segments_after segmentation frame xs ids) blocks
     ∙ after_both (segmentation.enabled && updates segmentation.map) frame (all_blocks (blocks_of (take i columns))) (get_or columns i d).grid.blocks ids
 

@@ -1,5 +1,5 @@
 -- What headers read of a state.
-use Rattle.std.proofs.Common.{◌≡◌, ℕ, List, ap, sym, subst, refl, ◌∙◌}
+use Rattle.std.proofs.Common.{◌≡◌, ℕ, List, ap, sym, refl, ◌∙◌}
 use Rattle.std.specs.Prelude.{Some, Result, Ok, Err}
 use Rattle.vp9_types.specs.declared.job.Span.{Span}
 use Rattle.vp9_types.specs.declared.outcome.Fault.{Fault}

@@ -1,7 +1,7 @@
 //! Worked runs: what a command reads, writes and tells, and how it ends.
 
-pub mod list;
 pub mod intra_decode;
+pub mod list;
 pub mod overflow_frames;
 
 pub struct Row {

@@ -1,5 +1,5 @@
-use Rattle.std.proofs.Common.{◌≡◌, ◌∙◌, ap, map, refl, sym, subst, arith}
-use Rattle.std.specs.Prelude.{Some, Ok, Err, Result}
+use Rattle.std.proofs.Common.{◌≡◌, ◌∙◌, ap, sym, subst, arith}
+use Rattle.std.specs.Prelude.{Some}
 use Rattle.std.proofs.lemmas.Result.{err_from_is_err_and}
 use Rattle.frame_headers.specs.Spans.{tile_count}
 use Rattle.frame_headers.specs.State.{shape_of}
@@ -9,7 +9,7 @@ use Rattle.prob_contexts.specs.Lists.{lists_of}
 use Rattle.loop_edges.specs.Cells.{setting_of}
 use Rattle.loop_edges.specs.Edges.{filtered_frame}
 use Rattle.loop_edges.specs.declared.setting.EdgeSetting.{EdgeSetting}
-use Rattle.planes.specs.Pictures.{HasSizes, IsInRange, blank, samples_of}
+use Rattle.planes.specs.Pictures.{HasSizes, IsInRange, samples_of}
 use Rattle.frame_decoder.specs.Built.{adapts}
 use Rattle.frame_decoder.specs.Code.{ArePlanes, AreTileColumns, blocks_of, counts_if}
 use Rattle.frame_decoder.specs.Frames.{all_blocks, blocks_read, raw, read_all_tiles}
@@ -54,21 +54,21 @@ new-blocks-requires c =
 pub filter_frame-requires-clause-sizes : goal.filter_frame-requires-clause-sizes
 filter_frame-requires-clause-sizes c =
     let fit : ArePlanes (shape_of c.args.header.now) c.decode_counted.new.planes =
-        subst (λ (header : Header). ArePlanes (shape_of header) c.decode_counted.new.planes) c.new-setting.ensures.header c.in_ok-counts.ensures.planes in
+    subst (λ (header : Header). ArePlanes (shape_of header) c.decode_counted.new.planes) c.new-setting.ensures.header c.in_ok-counts.ensures.planes in
     rw (c.new.ensures, c.planes_mut-2.ensures.value) fit.sizes
 
 pub filter_frame-requires-clause-fit : goal.filter_frame-requires-clause-fit
 filter_frame-requires-clause-fit c =
     rw c.new-blocks.ensures.columns
     (all_fit c.new-setting.result.header (tile_count c.new-setting.result.header) c.deref.result.now
-        (subst (λ columns. AreTileColumns c.new-setting.result.header (tile_count c.new-setting.result.header) columns)
-            (sym (c.deref.ensures.value ∙ written_back c.decode_counted.new.columns c.in_ok-columns.columns.items c.in_ok-columns.columns.len (omega (arith, c.decode_counted.auto.columns))))
-            c.in_ok-counts.ensures.columns))
+    (subst (λ columns. AreTileColumns c.new-setting.result.header (tile_count c.new-setting.result.header) columns)
+    (sym (c.deref.ensures.value ∙ written_back c.decode_counted.new.columns c.in_ok-columns.columns.items c.in_ok-columns.columns.len (omega (arith, c.decode_counted.auto.columns))))
+    c.in_ok-counts.ensures.columns))
 
 pub filter_frame-requires-clause-range : goal.filter_frame-requires-clause-range
 filter_frame-requires-clause-range c =
     let fit : ArePlanes (shape_of c.args.header.now) c.decode_counted.new.planes =
-        subst (λ (header : Header). ArePlanes (shape_of header) c.decode_counted.new.planes) c.new-setting.ensures.header c.in_ok-counts.ensures.planes in
+    subst (λ (header : Header). ArePlanes (shape_of header) c.decode_counted.new.planes) c.new-setting.ensures.header c.in_ok-counts.ensures.planes in
     rw (c.new.ensures, c.planes_mut-2.ensures.value) fit.range
 
 pub returns : goal.returns
@@ -86,8 +86,8 @@ returns c =
     let told : blocks_of c.decode_counted.new.columns ≡ blocks_read read = blocks_told c.decode_counted.new.columns read.columns gives.2.columns_held in
     let columns : c.new-blocks.result.columns.now ≡ c.decode_counted.new.columns = c.new-blocks.ensures.columns ∙ c.deref.ensures.value ∙ back in
     let m : samples_of c.filter_frame.new.planes ≡ filtered_frame (setting_of header) (all_blocks (blocks_read read)) (samples_of planes) =
-        c.filter_frame.ensures.map ∙ (λ i. filtered_frame (c.new.ensures i) (all_blocks (blocks_of (columns i))) (samples_of (c.planes_mut-2.ensures.value i)))
-        ∙ ap (λ blocks. filtered_frame (setting_of header) (all_blocks blocks) (samples_of planes)) told in (
+    c.filter_frame.ensures.map ∙ (λ i. filtered_frame (c.new.ensures i) (all_blocks (blocks_of (columns i))) (samples_of (c.planes_mut-2.ensures.value i)))
+    ∙ ap (λ blocks. filtered_frame (setting_of header) (all_blocks blocks) (samples_of planes)) told in (
       record { blocks = blocks_read read; map = filtered_frame (setting_of header) (all_blocks (blocks_read read)) (samples_of planes); counted = read.counted; contexts = lists_of c.in_ok-contexts.contexts },
       frame_done (record { header = header; compressed = c.args.compressed; bytes = c.args.bytes.now; before = lists_of c.args.before.now })
           (lists_of c.in_ok-contexts.contexts, c.in_ok-contexts.modes) read (samples_of planes) c.in_ok-contexts.ensures (sym same ∙ gives.1) put,

@@ -1,9 +1,8 @@
-use Rattle.std.proofs.Common.{◌≡◌, ◌∙◌, sym, refl, ap, arith}
+use Rattle.std.proofs.Common.{arith}
 use Rattle.std.proofs.lemmas.Result.{err_from_is_err_and}
 use Rattle.frame_headers.specs.State.{shape_of}
 use Rattle.prob_contexts.specs.Lists.{lists_of}
 use Rattle.block_plan.specs.Code.{planned_with}
-use Rattle.planes.specs.Pictures.{samples_of}
 use Rattle.frame_decoder.proofs.BlockSteps.{block_read, block_broken, fits_more, lies_more, put_listed, starts_more}
 use Rattle.frame_decoder.proofs.squares.decode_block.Goals as goal
 

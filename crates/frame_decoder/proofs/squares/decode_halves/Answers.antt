@@ -1,4 +1,3 @@
-use Rattle.std.proofs.Common.{◌≡◌, sym}
 use Rattle.std.proofs.lemmas.Result.{err_from_is_err_and}
 use Rattle.frame_decoder.proofs.SquareReads.{then_gives, then_breaks, same_walk}
 use Rattle.frame_decoder.proofs.squares.decode_halves.Goals as goal

@@ -1,5 +1,3 @@
-use Rattle.std.proofs.Common.{◌≡◌, ◌<◌, refl, arith}
-use Rattle.mode_syntax.specs.Walk.{block_at}
 use Rattle.frame_decoder.specs.Code.{walk_of}
 use Rattle.frame_decoder.proofs.SquareReads.{below, beside, inside_gives, inside_none}
 use Rattle.frame_decoder.proofs.squares.decode_inside.Goals.{then-at-setting-via-then-at-setting, then-at-setting-via-else-at-setting+then-at-setting-2}

@@ -1,4 +1,3 @@
-use Rattle.std.proofs.Common.{◌≡◌, arith}
 use Rattle.std.proofs.lemmas.Result.{err_from_is_err_and}
 use Rattle.frame_decoder.proofs.QuarterReads.{is_smallest}
 use Rattle.frame_decoder.proofs.squares.decode_square_8.Goals as goal

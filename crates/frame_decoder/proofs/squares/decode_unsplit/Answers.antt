@@ -1,4 +1,4 @@
-use Rattle.std.proofs.Common.{◌≡◌, ◌∙◌, ◌+◌, ◌-◌, ◌^◌, ◌≤◌, true, suc, sym, refl, arith}
+use Rattle.std.proofs.Common.{◌∙◌, ◌≤◌, refl, arith}
 use Rattle.std.specs.Prelude.{Ok, Err}
 use Rattle.std.proofs.lemmas.Result.{err_from_is_err_and}
 use Rattle.frame_decoder.specs.Code.{walk_of}
@@ -80,43 +80,149 @@ returns-in-Split-clause-gives g c = record {
 pub decode_block-requires : goal.decode_block-requires
 decode_block-requires g c =
     let f = c.block_of-first.ensures in
-    let in_tile = c.requires.within in
-    (omega arith, (c.requires.ready, (rw f c.if-at-setting.false, (rw f in_tile.first,
-    (rw f (first_col_in c.args.at.level c.args.at.col _ _ _ in_tile.within c.if-at-setting-2.false (in_tile.to ∙ c.requires.ready.ends)),
-    (rw f in_tile.from, (rw f in_tile.to,
-    (rw f (first_wide _ c.args.at.level c.args.at.col _ _ c.requires.most c.part_size-size.ensures.is in_tile.within),
-    room_for_one c.args.at.level _ in_tile.room))))))))
+    let in_tile = c.requires.within in (
+      omega arith,
+      (
+        c.requires.ready,
+        (
+          rw f c.if-at-setting.false,
+          (
+            rw f in_tile.first,
+            (
+              rw f (first_col_in c.args.at.level c.args.at.col _ _ _ in_tile.within c.if-at-setting-2.false (in_tile.to ∙ c.requires.ready.ends)),
+              (
+                rw f in_tile.from,
+                (
+                  rw f in_tile.to,
+                  (
+                    rw f (first_wide _ c.args.at.level c.args.at.col _ _ c.requires.most c.part_size-size.ensures.is in_tile.within),
+                    room_for_one c.args.at.level _ in_tile.room,
+                  ),
+                ),
+              ),
+            ),
+          ),
+        ),
+      ),
+    )
 
 pub decode_block-requires-in-Whole : goal.decode_block-requires-in-Whole
 decode_block-requires-in-Whole g c =
     let f = c.block_of-first.ensures in
-    let in_tile = c.requires.within in
-    (omega arith, (c.requires.ready, (rw f c.if-at-setting.false, (rw f in_tile.first,
-    (rw f (first_col_in c.args.at.level c.args.at.col _ _ _ in_tile.within c.if-at-setting-2.false (in_tile.to ∙ c.requires.ready.ends)),
-    (rw f in_tile.from, (rw f in_tile.to,
-    (rw f (first_wide _ c.args.at.level c.args.at.col _ _ c.requires.most c.part_size-size.ensures.is in_tile.within),
-    room_for_one c.args.at.level _ in_tile.room))))))))
+    let in_tile = c.requires.within in (
+      omega arith,
+      (
+        c.requires.ready,
+        (
+          rw f c.if-at-setting.false,
+          (
+            rw f in_tile.first,
+            (
+              rw f (first_col_in c.args.at.level c.args.at.col _ _ _ in_tile.within c.if-at-setting-2.false (in_tile.to ∙ c.requires.ready.ends)),
+              (
+                rw f in_tile.from,
+                (
+                  rw f in_tile.to,
+                  (
+                    rw f (first_wide _ c.args.at.level c.args.at.col _ _ c.requires.most c.part_size-size.ensures.is in_tile.within),
+                    room_for_one c.args.at.level _ in_tile.room,
+                  ),
+                ),
+              ),
+            ),
+          ),
+        ),
+      ),
+    )
 
 pub decode_halves-requires : goal.decode_halves-requires
 decode_halves-requires g c =
     let f = c.block_of-first.ensures in
     let s = c.block_of-second.ensures in
     let in_tile = c.requires.within in
-    let least : 1 ≤ c.args.at.level = omega (arith, c.if-at-eq0.false) in
-    (omega arith, (c.requires.ready, (rw f c.if-at-setting.false, (rw f c.if-at-setting-2.false, (rw f in_tile.first, (rw (f, s) in_tile.first,
-    (rw f (first_col_below c.args.at.level c.args.at.col _ in_tile.within), (rw s (first_col_below c.args.at.level c.args.at.col _ in_tile.within),
-    (rw f in_tile.from, (rw f in_tile.to, (rw (f, s) refl, (rw (f, s) refl,
-    (rw f (first_wide _ c.args.at.level c.args.at.col _ _ c.requires.most c.part_size-size.ensures.is in_tile.within),
-    (rw s (first_wide _ c.args.at.level c.args.at.col _ _ c.requires.most c.part_size-size.ensures.is in_tile.within), room_for_two c.args.at.level _ least in_tile.room))))))))))))))
+    let least : 1 ≤ c.args.at.level = omega (arith, c.if-at-eq0.false) in (
+      omega arith,
+      (
+        c.requires.ready,
+        (
+          rw f c.if-at-setting.false,
+          (
+            rw f c.if-at-setting-2.false,
+            (
+              rw f in_tile.first,
+              (
+                rw (f, s) in_tile.first,
+                (
+                  rw f (first_col_below c.args.at.level c.args.at.col _ in_tile.within),
+                  (
+                    rw s (first_col_below c.args.at.level c.args.at.col _ in_tile.within),
+                    (
+                      rw f in_tile.from,
+                      (
+                        rw f in_tile.to,
+                        (
+                          rw (f, s) refl,
+                          (
+                            rw (f, s) refl,
+                            (
+                              rw f (first_wide _ c.args.at.level c.args.at.col _ _ c.requires.most c.part_size-size.ensures.is in_tile.within),
+                              (rw s (first_wide _ c.args.at.level c.args.at.col _ _ c.requires.most c.part_size-size.ensures.is in_tile.within), room_for_two c.args.at.level _ least in_tile.room),
+                            ),
+                          ),
+                        ),
+                      ),
+                    ),
+                  ),
+                ),
+              ),
+            ),
+          ),
+        ),
+      ),
+    )
 
 pub decode_halves-requires-in-Vertical : goal.decode_halves-requires-in-Vertical
 decode_halves-requires-in-Vertical g c =
     let f = c.block_of-first.ensures in
     let s = c.block_of-second-in-Vertical.ensures in
     let in_tile = c.requires.within in
-    let least : 1 ≤ c.args.at.level = omega (arith, c.if-at-eq0.false) in
-    (omega arith, (c.requires.ready, (rw f c.if-at-setting.false, (rw f c.if-at-setting-2.false, (rw f in_tile.first, (rw (f, s) (omega (arith, in_tile.first)),
-    (rw f (first_col_below c.args.at.level c.args.at.col _ in_tile.within), (rw s (second_col_below c.args.at.level _ c.args.at.col _ least c.side_of-half.ensures.is in_tile.within),
-    (rw f in_tile.from, (rw f in_tile.to, (rw (f, s) refl, (rw (f, s) refl,
-    (rw f (first_wide _ c.args.at.level c.args.at.col _ _ c.requires.most c.part_size-size.ensures.is in_tile.within),
-    (rw s (second_wide _ c.args.at.level _ c.args.at.col _ _ least c.requires.most c.part_size-size.ensures.is c.in-Vertical.is c.side_of-half.ensures.is in_tile.within), room_for_two c.args.at.level _ least in_tile.room))))))))))))))
+    let least : 1 ≤ c.args.at.level = omega (arith, c.if-at-eq0.false) in (
+      omega arith,
+      (
+        c.requires.ready,
+        (
+          rw f c.if-at-setting.false,
+          (
+            rw f c.if-at-setting-2.false,
+            (
+              rw f in_tile.first,
+              (
+                rw (f, s) (omega (arith, in_tile.first)),
+                (
+                  rw f (first_col_below c.args.at.level c.args.at.col _ in_tile.within),
+                  (
+                    rw s (second_col_below c.args.at.level _ c.args.at.col _ least c.side_of-half.ensures.is in_tile.within),
+                    (
+                      rw f in_tile.from,
+                      (
+                        rw f in_tile.to,
+                        (
+                          rw (f, s) refl,
+                          (
+                            rw (f, s) refl,
+                            (
+                              rw f (first_wide _ c.args.at.level c.args.at.col _ _ c.requires.most c.part_size-size.ensures.is in_tile.within),
+                              (rw s (second_wide _ c.args.at.level _ c.args.at.col _ _ least c.requires.most c.part_size-size.ensures.is c.in-Vertical.is c.side_of-half.ensures.is in_tile.within), room_for_two c.args.at.level _ least in_tile.room),
+                            ),
+                          ),
+                        ),
+                      ),
+                    ),
+                  ),
+                ),
+              ),
+            ),
+          ),
+        ),
+      ),
+    )

@@ -1,4 +1,4 @@
-use Rattle.std.proofs.Common.{◌≡◌, ◌∙◌, ◌+◌, ◌-◌, ◌*◌, ◌/◌, ◌%◌, ◌^◌, ◌<◌, ◌≤◌, ap, sym, length, arith}
+use Rattle.std.proofs.Common.{◌≡◌, ◌%◌, ◌<◌, ap, length, arith}
 use Rattle.vp9_types.specs.Shapes.{mi_rows}
 use Rattle.frame_headers.specs.State.{shape_of}
 use Rattle.block_geometry.specs.declared.transform_blocks.FramePlaces.{FramePlaces}

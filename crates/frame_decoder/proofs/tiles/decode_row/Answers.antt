@@ -1,6 +1,5 @@
-use Rattle.std.proofs.Common.{◌≡◌, ◌≤◌, ◌+◌, ◌*◌, ◌-◌, ◌<◌, ◌∙◌, sym, refl, arith}
+use Rattle.std.proofs.Common.{sym, arith}
 use Rattle.std.proofs.lemmas.Result.{err_from_is_err_and}
-use Rattle.vp9_types.specs.Sizes.{superblocks_along}
 use Rattle.frame_decoder.specs.Code.{walk_of}
 use Rattle.frame_decoder.proofs.SquareReads.{same_walk, same_on}
 use Rattle.frame_decoder.proofs.RowReads.{row_square, row_goes_on, row_fails, row_ends}

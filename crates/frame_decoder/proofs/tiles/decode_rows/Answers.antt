@@ -1,4 +1,4 @@
-use Rattle.std.proofs.Common.{◌≡◌, ◌≤◌, ◌+◌, ◌*◌, ◌-◌, ◌<◌, ◌∙◌, sym, refl, arith}
+use Rattle.std.proofs.Common.{◌-◌, sym}
 use Rattle.std.proofs.lemmas.Result.{err_from_is_err_and}
 use Rattle.vp9_types.specs.Sizes.{superblocks_along}
 use Rattle.frame_decoder.specs.Code.{walk_of}

@@ -1,5 +1,3 @@
-use Rattle.std.proofs.Common.{◌≡◌, ◌∙◌, sym}
-use Rattle.std.specs.Prelude.{Ok}
 use Rattle.std.proofs.lemmas.Result.{err_from_is_err_and}
 use Rattle.frame_decoder.proofs.TileReads.{counts_by_is, whole_broken, whole_not_started, whole_read}
 use Rattle.frame_decoder.proofs.tiles.decode_tile.Goals as goal

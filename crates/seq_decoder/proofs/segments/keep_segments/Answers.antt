@@ -1,4 +1,4 @@
-use Rattle.std.proofs.Common.{◌≡◌, ◌∙◌, arith, sym, ap, subst, take}
+use Rattle.std.proofs.Common.{◌≡◌, ◌∙◌, sym, ap, subst, take}
 use Rattle.std.specs.Prelude.{Some}
 use Rattle.block_geometry.specs.Frames.{places_of}
 use Rattle.block_geometry.specs.declared.transform_blocks.FramePlaces.{FramePlaces}
@@ -8,7 +8,6 @@ use Rattle.frame_decoder.specs.Frames.{all_blocks}
 use Rattle.frame_decoder.specs.declared.columns.TileColumn.{TileColumn}
 use Rattle.inter_modes.specs.Segments.{segments_after}
 use Rattle.segment_map.specs.Segments.{id_map}
-use Rattle.segment_map.specs.Segments.{SegmentIds}
 use Rattle.seq_decoder.specs.Code.{HasPlaces}
 use Rattle.seq_decoder.proofs.SegmentLemmas.{no_column_yet, one_column_more}
 use Rattle.seq_decoder.proofs.segments.keep_segments.Goals as goal
@@ -24,12 +23,12 @@ loop-column-preserved c =
     let segmentation = c.args.header.now.params.segmentation in
     let places = c.loop-column.invariant.places in
     let frame : ◌≡◌ {A = FramePlaces} (record { rows = c.loop-column.map.rows; cols = c.loop-column.map.cols }) (places_of (shape_of c.args.header.now)) =
-        (λ i. record { rows = places.0 i; cols = places.1 i }) in
+    (λ i. record { rows = places.0 i; cols = places.1 i }) in
     let updated = c.update_segments.ensures in record {
       places = (updated.rows ∙ places.0, updated.cols ∙ places.1);
       held = updated.map
           ∙ (λ i. segments_after segmentation (frame i) (c.blocks-in-loop-column.ensures i) (c.loop-column.invariant.held i))
           ∙ ap (λ (column : TileColumn). segments_after segmentation (places_of (shape_of c.args.header.now)) column.grid.blocks
-              (segments_after segmentation (places_of (shape_of c.args.header.now)) (all_blocks (blocks_of (take c.loop-column.column-index c.args.columns.now))) (id_map c.in-Some.map))) c.column-item.is
+          (segments_after segmentation (places_of (shape_of c.args.header.now)) (all_blocks (blocks_of (take c.loop-column.column-index c.args.columns.now))) (id_map c.in-Some.map))) c.column-item.is
           ∙ sym (one_column_more segmentation (places_of (shape_of c.args.header.now)) c.args.columns.now c.loop-column.column-index c.column-item.result (id_map c.in-Some.map) c.loop-column-test.true);
     }

@@ -1,4 +1,4 @@
-use Rattle.std.proofs.Common.{◌≡◌, ◌<◌, ◌∙◌, ap, map, replicate, refl, arith}
+use Rattle.std.proofs.Common.{◌≡◌, ◌∙◌, ap, map, replicate, arith}
 use Rattle.frame_headers.specs.State.{shape_of}
 use Rattle.frame_decoder.specs.Code.{column_as_listed}
 use Rattle.frame_decoder.specs.Reading.{no_column}

@@ -1,4 +1,4 @@
-use Rattle.std.proofs.Common.{◌≡◌, ◌∙◌, ◌<◌, ◌≤◌, length, sym, arith}
+use Rattle.std.proofs.Common.{◌≡◌, ◌∙◌, length, sym, arith}
 use Rattle.picture_table.proofs.Places.{few_named, none_behind, one_more_named}
 use Rattle.picture_table.proofs.table.PictureTable.free_place.Goals as goal
 

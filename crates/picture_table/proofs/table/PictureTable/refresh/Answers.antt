@@ -1,5 +1,4 @@
-use Rattle.std.proofs.Common.{◌∙◌, subst}
-use Rattle.picture_table.specs.Code.{IsBelow}
+use Rattle.std.proofs.Common.{◌∙◌}
 use Rattle.picture_table.proofs.Places.{as_many_refreshed, refreshed_below, sound_refreshed}
 use Rattle.picture_table.proofs.table.PictureTable.refresh.Goals as goal
 

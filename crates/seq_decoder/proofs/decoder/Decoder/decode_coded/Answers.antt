@@ -1,7 +1,5 @@
-use Rattle.std.proofs.Common.{◌≡◌, ◌∙◌, ap, sym, subst, refl, arith}
-use Rattle.std.specs.Prelude.{Option, Some, Ok, Err}
-use Rattle.frame_headers.specs.State.{shape_of}
-use Rattle.frame_headers.specs.declared.persist.Persist.{Persist}
+use Rattle.std.proofs.Common.{◌∙◌, ap, arith}
+use Rattle.std.specs.Prelude.{Some, Ok}
 use Rattle.seq_decoder.specs.After.{after_coded, segments_before, shown_picture, state_after}
 use Rattle.seq_decoder.specs.Code.{HasBegun}
 use Rattle.seq_decoder.specs.SavedContexts.{saved_before}

@@ -1,9 +1,8 @@
-use Rattle.std.proofs.Common.{◌≡◌, ◌∙◌, ap, sym, subst, refl}
-use Rattle.std.specs.Prelude.{Option, Some}
+use Rattle.std.proofs.Common.{◌∙◌, ap, sym, subst}
+use Rattle.std.specs.Prelude.{Some}
 use Rattle.block_geometry.specs.Frames.{places_of}
 use Rattle.frame_headers.specs.State.{next_persist, shape_of}
 use Rattle.frame_headers.specs.declared.persist.Persist.{Persist}
-use Rattle.frame_headers.specs.declared.header.FrameSize.{FrameSize}
 use Rattle.frame_decoder.specs.Code.{blocks_of}
 use Rattle.frame_decoder.specs.Frames.{all_blocks}
 use Rattle.inter_modes.specs.Segments.{segments_after}

@@ -1,5 +1,5 @@
-use Rattle.std.proofs.Common.{sym, refl, subst, true, ◌∙◌}
-use Rattle.std.specs.Prelude.{None, Some, Ok, Err, get_or}
+use Rattle.std.proofs.Common.{sym, refl, subst, ◌∙◌}
+use Rattle.std.specs.Prelude.{None, Err, get_or}
 use Rattle.edge_io.specs.Putting.{Takes}
 use Rattle.seq_decoder.specs.Code.{Shows}
 use Rattle.seq_decoder.proofs.FrameLemmas.{no_text, none_of, refused_at, shown_sound, shows_nothing, slot_text}
@@ -30,5 +30,5 @@ pub returns-in-Err-clause-adds : goal.returns-in-Err-clause-adds
 returns-in-Err-clause-adds g c = λ number state stands.
     rw c.refusal_outcome.ensures
     (refused_at number _ (record { state = state; shown = get_or state.slots c.args.slot None }) (g.K.Sink.taken c.args.sink.now) (g.K.Sink.taken c.show.new.sink)
-        (g.K.Sink.faults c.args.sink.now) (g.K.Sink.faults c.show.new.sink) c.in-Err.refusal refl
+    (g.K.Sink.faults c.args.sink.now) (g.K.Sink.faults c.show.new.sink) c.in-Err.refusal refl
     (subst (λ t. Shows t (g.K.Sink.taken c.args.sink.now) (g.K.Sink.taken c.show.new.sink) (g.K.Sink.faults c.args.sink.now) (g.K.Sink.faults c.show.new.sink) (Err c.in-Err.refusal)) (slot_text c.args.self.now state c.args.slot c.in-Some.place c.index.result.now stands c.requires.may.table_is (sym c.in-Some.ensures) c.index.ensures) c.in-Err.ensures.shows))
