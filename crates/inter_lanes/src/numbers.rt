@@ -86,6 +86,6 @@ pub fn rounded(sum: i32, most: u16) -> u16
     requires { unsigned_abs sum ≤ 2 ^ 22 }
     ensures { result ≡ rounded most sum }
 {
-    let value = ((sum + 64) >> 7).max(0).min(i32::from(most));
-    value as u16
+    let value = ((sum + 64) >> 7).max(0).min(65535) as u16;
+    value.min(most)
 }

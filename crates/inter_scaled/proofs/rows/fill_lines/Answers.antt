@@ -1,0 +1,2 @@
+use Rattle.inter_scaled.proofs.rows.fill_lines.Goals as goal
+
