@@ -574,3 +574,20 @@ clip_least most (negsuc n) low = omega (arith, low)
 pub rounded_least : (most : ℕ) (sum : ℤ) → most ≤ 65535 → min most (rounded 65535 sum) ≡ rounded most sum
 unfolding rounded
 rounded_least most sum low = clip_least most (int_shr (sum +ℤ pos 64) 7) low
+
+pub sum_again : {n : ℕ} (r : List ℤ) (k : ℕ) → AreLanes n (2 ^ 20) r → to_z w32 (of_z w32 (at (kept_32 r) k)) ≡ at r k
+sum_again r k lanes = rw (sums_kept r (2 ^ 20) (omega arith) lanes) (to_z-of_z w32 (at r k) (fits_32 (at r k) (omega (arith, lanes.small k))))
+
+-- a sum of eight weighted samples that follow one another, by what each step says of it
+pub run_value : (taps p : List ℤ) (xs : List ℕ) (place : ℕ) (r : List ℤ) (v : ℤ) → AreLanes 8 128 taps → AreLanes 8 4095 p → AreLanes 4 (2 ^ 20) r → unsigned_abs v ≤ 2 ^ 22 →
+    v ≡ (to_z w32 (of_z w32 (at (kept_32 r) 0)) +ℤ to_z w32 (of_z w32 (at (kept_32 r) 1))) +ℤ (to_z w32 (of_z w32 (at (kept_32 r) 2)) +ℤ to_z w32 (of_z w32 (at (kept_32 r) 3))) →
+    ((j : ℕ) → j < 4 → at r j ≡ (at (kept_16 taps) (2 * j) *ℤ at (kept_16 p) (2 * j)) +ℤ (at (kept_16 taps) (2 * j + 1) *ℤ at (kept_16 p) (2 * j + 1))) →
+    ((j : ℕ) → j < 8 → at p j ≡ pos (get_or xs (place + j) 0)) → to_z w32 (of_z w32 v) ≡ weighted taps (λ k. get_or xs (place + k) 0)
+run_value taps p xs place r v taps_lanes p_lanes r_lanes small whole sums values =
+    let sum = rw (sum_again r 0 r_lanes, sum_again r 1 r_lanes, sum_again r 2 r_lanes, sum_again r 3 r_lanes) at whole in
+    to_z-of_z w32 v (fits_32 v (omega (arith, small)))
+    ∙ eight_is taps (λ k. get_or xs (place + k) 0) (at r 0) (at r 1) (at r 2) (at r 3) v sum (pair 0 (omega arith)) (pair 1 (omega arith)) (pair 2 (omega arith)) (pair 3 (omega arith))
+  where
+    pair : (j : ℕ) → j < 4 → at r j ≡ (at taps (2 * j) *ℤ pos (get_or xs (place + 2 * j) 0)) +ℤ (at taps (2 * j + 1) *ℤ pos (get_or xs (place + (2 * j + 1)) 0))
+    pair j few = let is = rw (taps_kept taps taps_lanes, samples_kept p p_lanes) at (sums j few) in
+        is ∙ rw (values (2 * j) (omega (arith, few)), values (2 * j + 1) (omega (arith, few))) refl

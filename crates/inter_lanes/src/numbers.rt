@@ -1,7 +1,10 @@
 //! One filtered value.
 
-ghost use Rattle.std.specs.Prelude.{◌≡◌, ℕ, ◌+◌, ◌*◌, ◌^◌, ◌≤◌, ◌<◌, pos, ◌+ℤ◌, ◌*ℤ◌, unsigned_abs, slice_index, slice_index_or};
+ghost use Rattle.std.specs.Prelude.{◌≡◌, ℕ, ◌+◌, ◌*◌, ◌^◌, ◌≤◌, ◌<◌, pos, ◌+ℤ◌, ◌*ℤ◌, unsigned_abs, slice_index, slice_index_or, length};
 ghost use Rattle.inter_lanes.specs.Filter.{IsTap, weight, weighted, rounded};
+
+use crate::vectors::{load_eight, pair_sums_of_eight};
+use std::simd::prelude::*;
 
 #[inline(always)]
 fn product(sample: u16, tap: i16) -> i32
@@ -76,6 +79,23 @@ pub fn weighted(x: &[u16; 8], taps: &[i16; 8]) -> i32
     let q = pair_at(x, taps, 2);
     let r = pair_at(x, taps, 4);
     let s = pair_at(x, taps, 6);
+    four_of(p, q, r, s)
+}
+
+/// The same of eight samples that follow one another from a place on.
+#[inline(always)]
+pub fn weighted_run(samples: &[u16], place: usize, taps: &[i16; 8]) -> i32
+    requires room { place + 8 ≤ length samples.now }
+    requires small { (k : ℕ) → slice_index samples.now k ≤ 4095 }
+    requires taps { (k : ℕ) → IsTap (slice_index_or taps.now k (pos 0)) }
+    ensures value { result ≡ weighted taps.now (λ k. slice_index samples.now (place + k)) }
+    ensures size { unsigned_abs result ≤ 2 ^ 22 }
+{
+    let lanes = i16x8::from_array(*taps);
+    let run = load_eight(samples, place);
+    let sums = pair_sums_of_eight(run, lanes).to_array();
+    let (p, q) = (sums[0], sums[1]);
+    let (r, s) = (sums[2], sums[3]);
     four_of(p, q, r, s)
 }
 

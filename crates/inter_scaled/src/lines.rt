@@ -15,8 +15,8 @@ use inter_places::Axis;
 /// Samples of a row at n places that follow one another, from the place on that lies `first` after the third before the
 /// first. Past an end of the row they are the last ones.
 #[inline(always)]
-fn read_places(out: &mut [u16], n: usize, row: &[u16], a: &Axis, first: usize)
-    requires few { n ≤ 71 }
+pub(crate) fn read_places(out: &mut [u16], n: usize, row: &[u16], a: &Axis, first: usize)
+    requires few { n ≤ 136 }
     requires near { first ≤ 64 }
     requires room { n ≤ length out.old }
     requires axis { IsAxis a.now }

@@ -1,0 +1,2 @@
+use Rattle.inter_scaled.proofs.down.scale_sixteens.Goals as goal
+
