@@ -11,7 +11,6 @@ use Rattle.std.proofs.lemmas.Simd.{Each1-get_or, Each1-from_get_or, get_or-zip2,
 use Rattle.std.proofs.lemmas.Bool.{cases_lt, cases_Bool, ltb-true, ltb-false}
 use Rattle.std.proofs.lemmas.List.{get_or_past, get_or-map, length-map, get_or_append_left, get_or-append-add}
 use mir.Syntax.{w16, w32, cast, signed, unsigned, wrap_mul, wrap_add}
-use mir.Val.{SFits}
 use borrow.Rule.Simd.Lanes.{act1, act2, Asks1}
 use borrow.Table.Row.{s_int}
 use Rattle.inter_lanes.proofs.NumberLemmas.{fits_16, fits_32, tap_kept, eight_is}
@@ -549,22 +548,22 @@ abbrev pub least_fours : ℕ → List ℕ → List ℕ → List ℕ
 least_fours most p q = least_of most p q 0 ∷ least_of most p q 1 ∷ least_of most p q 2 ∷ least_of most p q 3 ∷ least_of most p q 8 ∷ least_of most p q 9 ∷ least_of most p q 10 ∷ least_of most p q 11 ∷ least_of most p q 4 ∷ least_of most p q 5 ∷ least_of most p q 6 ∷ least_of most p q 7 ∷ least_of most p q 12 ∷ least_of most p q 13 ∷ least_of most p q 14 ∷ least_of most p q 15 ∷ []
 
 pub fours_low : (most : ℕ) (p q : List ℕ) → length p ≡ 8 → (j : ℕ) → j < 8 → get_or (least_fours most p q) (low_lane j) 0 ≡ min most (get_or p j 0)
-fours_low most p q long = each_eight (λ j. get_or (least_fours most p q) (low_lane j) 0 ≡ min most (get_or p j 0)) 
+fours_low most p q long = each_eight (λ j. get_or (least_fours most p q) (low_lane j) 0 ≡ min most (get_or p j 0))
     (least_front most p q 0 long (omega arith)) (least_front most p q 1 long (omega arith)) (least_front most p q 2 long (omega arith)) (least_front most p q 3 long (omega arith)) (least_front most p q 4 long (omega arith)) (least_front most p q 5 long (omega arith)) (least_front most p q 6 long (omega arith)) (least_front most p q 7 long (omega arith))
 
 pub fours_high : (most : ℕ) (p q : List ℕ) → length p ≡ 8 → (j : ℕ) → j < 8 → get_or (least_fours most p q) (high_lane j) 0 ≡ min most (get_or q j 0)
-fours_high most p q long = each_eight (λ j. get_or (least_fours most p q) (high_lane j) 0 ≡ min most (get_or q j 0)) 
+fours_high most p q long = each_eight (λ j. get_or (least_fours most p q) (high_lane j) 0 ≡ min most (get_or q j 0))
     (least_behind most p q 8 0 long (omega arith)) (least_behind most p q 9 1 long (omega arith)) (least_behind most p q 10 2 long (omega arith)) (least_behind most p q 11 3 long (omega arith)) (least_behind most p q 12 4 long (omega arith)) (least_behind most p q 13 5 long (omega arith)) (least_behind most p q 14 6 long (omega arith)) (least_behind most p q 15 7 long (omega arith))
 
 abbrev pub least_turns : ℕ → List ℕ → List ℕ → List ℕ
 least_turns most p q = least_of most p q 0 ∷ least_of most p q 8 ∷ least_of most p q 1 ∷ least_of most p q 9 ∷ least_of most p q 2 ∷ least_of most p q 10 ∷ least_of most p q 3 ∷ least_of most p q 11 ∷ least_of most p q 4 ∷ least_of most p q 12 ∷ least_of most p q 5 ∷ least_of most p q 13 ∷ least_of most p q 6 ∷ least_of most p q 14 ∷ least_of most p q 7 ∷ least_of most p q 15 ∷ []
 
 pub turns_even : (most : ℕ) (p q : List ℕ) → length p ≡ 8 → (j : ℕ) → j < 8 → get_or (least_turns most p q) (2 * j) 0 ≡ min most (get_or p j 0)
-turns_even most p q long = each_eight (λ j. get_or (least_turns most p q) (2 * j) 0 ≡ min most (get_or p j 0)) 
+turns_even most p q long = each_eight (λ j. get_or (least_turns most p q) (2 * j) 0 ≡ min most (get_or p j 0))
     (least_front most p q 0 long (omega arith)) (least_front most p q 1 long (omega arith)) (least_front most p q 2 long (omega arith)) (least_front most p q 3 long (omega arith)) (least_front most p q 4 long (omega arith)) (least_front most p q 5 long (omega arith)) (least_front most p q 6 long (omega arith)) (least_front most p q 7 long (omega arith))
 
 pub turns_odd : (most : ℕ) (p q : List ℕ) → length p ≡ 8 → (j : ℕ) → j < 8 → get_or (least_turns most p q) (2 * j + 1) 0 ≡ min most (get_or q j 0)
-turns_odd most p q long = each_eight (λ j. get_or (least_turns most p q) (2 * j + 1) 0 ≡ min most (get_or q j 0)) 
+turns_odd most p q long = each_eight (λ j. get_or (least_turns most p q) (2 * j + 1) 0 ≡ min most (get_or q j 0))
     (least_behind most p q 8 0 long (omega arith)) (least_behind most p q 9 1 long (omega arith)) (least_behind most p q 10 2 long (omega arith)) (least_behind most p q 11 3 long (omega arith)) (least_behind most p q 12 4 long (omega arith)) (least_behind most p q 13 5 long (omega arith)) (least_behind most p q 14 6 long (omega arith)) (least_behind most p q 15 7 long (omega arith))
 
 clip_least : (most : ℕ) (z : ℤ) → most ≤ 65535 → min most (clip 65535 z) ≡ clip most z

@@ -39,8 +39,14 @@ pub(crate) fn woven(p: i16x16, q: i16x16) -> (i16x16, i16x16)
     ensures second_even { (j : ℕ) → j < 8 → at result.1 (2 * j) ≡ at p (high_lane j) }
     ensures second_odd { (j : ℕ) → j < 8 → at result.1 (2 * j + 1) ≡ at q (high_lane j) }
 {
-    let low = p.shuffle(q, [0, 16, 1, 17, 2, 18, 3, 19, 8, 24, 9, 25, 10, 26, 11, 27]);
-    let high = p.shuffle(q, [4, 20, 5, 21, 6, 22, 7, 23, 12, 28, 13, 29, 14, 30, 15, 31]);
+    let low = p.shuffle(
+        q,
+        [0, 16, 1, 17, 2, 18, 3, 19, 8, 24, 9, 25, 10, 26, 11, 27],
+    );
+    let high = p.shuffle(
+        q,
+        [4, 20, 5, 21, 6, 22, 7, 23, 12, 28, 13, 29, 14, 30, 15, 31],
+    );
     (low, high)
 }
 

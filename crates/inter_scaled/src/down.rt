@@ -31,7 +31,15 @@ fn scale_sixteens(out: &mut [u16], i: usize, n: usize, lines: &[u16], down: &Lin
     let whole = 16 * (n / 16);
     let at = i * n;
     let from = offset / 16 * n;
-    filter_run(&mut out[at..at + whole], whole, lines, from, n, &lanes, down.most);
+    filter_run(
+        &mut out[at..at + whole],
+        whole,
+        lines,
+        from,
+        n,
+        &lanes,
+        down.most,
+    );
 }
 
 /// The rest of row i, each value by itself.

@@ -1,5 +1,4 @@
-use Rattle.std.proofs.Common.{ℤ, List, ◌≤◌, ◌^◌, arith, unsigned_abs}
-use Rattle.inter_lanes.specs.Code.{AreLanes, at}
+use Rattle.inter_lanes.specs.Code.{AreLanes}
 use Rattle.inter_lanes.proofs.LaneLemmas.{samples_again, taps_again, sum_again, run_value}
 use Rattle.inter_lanes.proofs.numbers.weighted_run.Goals as goal
 

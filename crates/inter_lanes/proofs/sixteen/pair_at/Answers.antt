@@ -1,4 +1,4 @@
-use Rattle.std.proofs.Common.{◌+◌, slice_index, arith, ◌≤◌, ◌^◌}
+use Rattle.std.proofs.Common.{◌+◌, slice_index, arith, ◌^◌}
 use Rattle.inter_lanes.specs.Code.{low_lane, high_lane}
 use Rattle.inter_lanes.proofs.LaneLemmas.{samples_again, taps_again, sums_again, pair_value, low_below, high_below}
 use Rattle.inter_lanes.proofs.sixteen.pair_at.Goals as goal

@@ -1,4 +1,4 @@
-use Rattle.std.proofs.Common.{◌≡◌, ℕ, ◌≤◌, ◌∙◌, ap, arith, min}
+use Rattle.std.proofs.Common.{◌∙◌, ap, arith, min}
 use Rattle.inter_lanes.specs.Code.{at}
 use Rattle.inter_lanes.proofs.LaneLemmas.{rounded_least}
 use Rattle.inter_lanes.proofs.sixteen.rounded_lanes.Goals as goal

@@ -1,4 +1,4 @@
-use Rattle.std.proofs.Common.{◌≡◌, ℕ, ◌+◌, ◌≤◌, arith, ap, ◌∙◌}
+use Rattle.std.proofs.Common.{◌≡◌, ℕ, ◌+◌, arith, ap, ◌∙◌}
 use Rattle.inter_lanes.specs.Code.{at, low_lane}
 use Rattle.inter_lanes.proofs.LaneLemmas.{fours_even, fours_odd, fours_small}
 use Rattle.inter_lanes.proofs.vectors.woven.Goals as goal

@@ -1,2 +1,0 @@
-use Rattle.inter_scaled.proofs.down.scale_sixteens.Goals as goal
-

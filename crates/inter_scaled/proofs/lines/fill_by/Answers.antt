@@ -1,4 +1,4 @@
-use Rattle.std.proofs.Common.{◌≡◌, ℕ, ◌+◌, ◌∙◌, ap, arith, refl, get_or, List, ℤ}
+use Rattle.std.proofs.Common.{◌≡◌, ℕ, ◌+◌, ◌∙◌, ap, arith, get_or, List, ℤ}
 use Rattle.inter_lanes.specs.Filter.{filtered}
 use Rattle.inter_places.specs.Axes.{straight}
 use Rattle.inter_scaled.proofs.Agree.{along_straight, filtered_same}

@@ -1,4 +1,4 @@
-use Rattle.std.proofs.Common.{◌≡◌, ℕ, ◌+◌, ◌*◌, ◌/◌, ◌-◌, ◌<◌, ◌≤◌, ◌∙◌, ap, arith, refl, get_or, take}
+use Rattle.std.proofs.Common.{◌≡◌, ℕ, ◌+◌, ◌*◌, ◌/◌, ◌-◌, ◌<◌, ◌∙◌, ap, arith, refl, get_or, take}
 use Rattle.inter_places.specs.Axes.{straight, offset}
 use Rattle.inter_scaled.specs.Inter.{along}
 use Rattle.inter_scaled.proofs.Agree.{lines_between, whole_line, line_among, along_small, whole_predicted, both_passes, part_is}

@@ -1,4 +1,4 @@
-use Rattle.std.proofs.Common.{◌≡◌, ◌+◌, ◌<◌, ◌∙◌, ℕ, ap, arith}
+use Rattle.std.proofs.Common.{◌≡◌, ◌+◌, ◌<◌, ◌∙◌, ap, arith}
 use Rattle.inter_places.specs.Axes.{straight}
 use Rattle.inter_scaled.proofs.Blocks.{rows_more}
 use Rattle.inter_scaled.proofs.rows.copy_lines.Goals as goal

@@ -1,4 +1,4 @@
-use Rattle.std.proofs.Common.{◌≡◌, ℕ, ◌+◌, ◌<◌, ◌∙◌, arith}
+use Rattle.std.proofs.Common.{◌+◌, ◌∙◌, arith}
 use Rattle.inter_places.specs.Axes.{straight}
 use Rattle.inter_scaled.specs.Code.{IsCopied}
 use Rattle.inter_scaled.proofs.Agree.{along_whole}

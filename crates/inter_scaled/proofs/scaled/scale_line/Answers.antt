@@ -1,6 +1,4 @@
-use Rattle.std.proofs.Common.{◌≡◌, ℕ, ◌+◌, ◌*◌, ◌/◌, ◌%◌, ◌≤◌, ◌<◌, ◌∙◌, ap, arith, refl, get_or, take, inl, inr}
-use Rattle.std.proofs.lemmas.Bool.{cases_lt}
-use Rattle.std.proofs.lemmas.List.{get_or_past, length-take}
+use Rattle.std.proofs.Common.{◌≡◌, ℕ, ◌+◌, ◌/◌, ◌<◌, ◌∙◌, ap, arith, get_or, take}
 use Rattle.vp9_tables.specs.Filters.{taps_of}
 use Rattle.inter_places.specs.Axes.{straight, offset, phase}
 use Rattle.inter_scaled.proofs.Agree.{filtered_same, part_is, along_is, offset_order}

@@ -1,5 +1,4 @@
-use Rattle.std.proofs.Common.{◌≡◌, ℕ, ◌+◌, ◌-◌, ◌*◌, ◌^◌, ◌≤◌, ◌<◌, arith, inl, inr, subst, slice_index, get_or}
-use Rattle.std.proofs.lemmas.Bool.{cases_lt}
+use Rattle.std.proofs.Common.{◌≡◌, ℕ, ◌+◌, ◌*◌, ◌^◌, arith, inl, inr, subst, slice_index, get_or}
 use Rattle.inter_lanes.specs.Filter.{filtered}
 use Rattle.inter_lanes.specs.Code.{low_lane, high_lane}
 use Rattle.inter_lanes.proofs.LaneLemmas.{sums_again, turned_again, sixteen_value, half_lane, half_below, lane_cases}
