@@ -55,7 +55,7 @@ for level in levels:
                         answers[key] = answer
             if len({answers[name, blocks] for name in programs}) > 1:
                 sys.exit(f"{kind} {size}: {answers}")
-            each = {name: (least[name, blocks] - least[name, 0]) / blocks * 1e9 for name in programs}
+            each = {name: max(least[name, blocks] - least[name, 0], 1e-4) / blocks * 1e9 for name in programs}
             ratios = [f"{name} {each[name]:.1f} (ratio {each['Rattle'] / each[name]:.2f})" for name in programs if name != "Rattle"]
             print(f"{level} {kind} {size}x{size}: Rattle {each['Rattle']:.1f} ns a block; {', '.join(ratios)}", flush=True)
 PY
