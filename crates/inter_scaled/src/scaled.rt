@@ -10,7 +10,7 @@ ghost use Rattle.vp9_tables.specs.Filters.{taps_of};
 use crate::filter::LineFilter;
 use crate::lines::read_places;
 use crate::places::{is_inside, offset_of, straight};
-use inter_lanes::{rounded, weighted, weighted_run};
+use inter_lanes::{rounded, weighted_run};
 use vp9_tables::taps;
 
 /// Eight samples of a column of rows of n.
@@ -33,14 +33,15 @@ fn eight_below(lines: &[u16], n: usize, first: usize, j: usize) -> [u16; 8]
 
 /// Eight samples filtered by a phase.
 #[inline(always)]
+#[tactic(auto, using(crate::proofs::Agree::each_tap))]
 fn filtered_eight(eight: &[u16; 8], filter: &LineFilter, offset: usize) -> u16
     requires filter { IsFilter filter.now }
     requires near { offset ≤ 2063 }
     requires samples { (k : ℕ) → slice_index eight.now k ≤ 4095 }
-    ensures { result ≡ filtered filter.now.most (taps_of filter.now.kind (offset % 16)) (slice_index eight.now) }
+    ensures { result ≡ filtered filter.now.most (taps_of filter.now.kind (offset % 16)) (λ k. slice_index eight.now (0 + k)) }
 {
     let filter_taps = taps(filter.kind, (offset % 16) as u8);
-    let sum = weighted(eight, filter_taps);
+    let sum = weighted_run(eight, 0, filter_taps);
     rounded(sum, filter.most)
 }
 
