@@ -1,18 +1,21 @@
 -- Lanes: what each operation on vectors gives, lane by lane.
-use Rattle.std.proofs.Common.{◌≡◌, ℕ, ◌+◌, ◌*◌, ◌^◌, ◌<◌, ◌≤◌, ℤ, pos, negsuc, ◌+ℤ◌, ◌*ℤ◌, List, unsigned_abs, to_z, of_z, arith, refl, ◌∙◌, ap, sym, length, get_or, ◌++◌, [], ◌∷◌, map, ◌%◌, ◌/◌, ◌⊎◌, inl, inr, zero, suc}
+use Rattle.std.proofs.Common.{◌≡◌, ℕ, ◌+◌, ◌*◌, ◌^◌, ◌<◌, ◌≤◌, ℤ, pos, negsuc, ◌+ℤ◌, ◌*ℤ◌, List, unsigned_abs, to_z, of_z, arith, refl, ◌∙◌, ap, sym, length, get_or, ◌++◌, [], ◌∷◌, map, ◌%◌, ◌/◌, ◌⊎◌, inl, inr, zero, suc, min}
 use Rattle.std.proofs.lemmas.Int.{unsigned_abs-mul, to_z-of_z, of_z-to_z, wrapping_mul_is, wrapping_add_is, int_wrap_fits, fits_signed_mul}
 use Rattle.std.proofs.Math.Nat.{mod-lt, mul-le-mul}
-use lib.Lanes.{Each1, zip2, chunk}
+use lib.Lanes.{Each1, zip2, chunk, top}
+use mathlib.Core.Bool.{cond}
+use lib.Dec.{ltb}
+use Rattle.std.specs.Int.{int_shr}
+use Rattle.vp9_types.specs.Sizes.{clip}
 use Rattle.std.proofs.lemmas.Simd.{Each1-get_or, Each1-from_get_or, get_or-zip2, length-zip2, length-chunk, get_or-chunk}
-use Rattle.std.proofs.lemmas.Bool.{cases_lt}
+use Rattle.std.proofs.lemmas.Bool.{cases_lt, cases_Bool, ltb-true, ltb-false}
 use Rattle.std.proofs.lemmas.List.{get_or_past, get_or-map, length-map, get_or_append_left, get_or-append-add}
 use mir.Syntax.{w16, w32, cast, signed, unsigned, wrap_mul, wrap_add}
-use mir.Val.{SFits}
 use borrow.Rule.Simd.Lanes.{act1, act2, Asks1}
 use borrow.Table.Row.{s_int}
 use Rattle.inter_lanes.proofs.NumberLemmas.{fits_16, fits_32, tap_kept, eight_is}
 use Rattle.inter_lanes.specs.Filter.{weighted, rounded, filtered}
-use Rattle.inter_lanes.specs.Code.{AreLanes, AreTurns, IsTurned, at, taps_in}
+use Rattle.inter_lanes.specs.Code.{AreLanes, AreTurns, IsTurned, at, taps_in, low_lane, high_lane}
 
 pub widened_lane : (z : ℤ) → unsigned_abs z ≤ 4095 → act1 (cast signed signed w32) (s_int w16) (s_int w32) (of_z w16 z) ≡ of_z w32 z
 widened_lane z small = ap (of_z w32) (to_z-of_z w16 z (fits_16 z small))
@@ -75,22 +78,36 @@ behind p q n k lanes others is low =
     ap (to_z w16) (ap (λ i. get_or (map (of_z w16) p ++ map (of_z w16) q) i 0) past ∙ get_or-append-add (map (of_z w16) p) (map (of_z w16) q) k 0
     ∙ get_or-map (of_z w16) q k (pos 0) 0 (omega (arith, others.long))) ∙ to_z-of_z w16 (at q k) (fits_16 (at q k) (others.small k))
 
--- eight of each by turns, from lane a on
-abbrev pub by_turns : List ℤ → List ℤ → ℕ → List ℤ
-by_turns p q a = joined p q (a + 0) ∷ joined p q (a + 16) ∷ joined p q (a + 1) ∷ joined p q (a + 17) ∷ joined p q (a + 2) ∷ joined p q (a + 18) ∷ joined p q (a + 3) ∷ joined p q (a + 19)
-    ∷ joined p q (a + 4) ∷ joined p q (a + 20) ∷ joined p q (a + 5) ∷ joined p q (a + 21) ∷ joined p q (a + 6) ∷ joined p q (a + 22) ∷ joined p q (a + 7) ∷ joined p q (a + 23) ∷ []
+-- four of each half by turns, from lane a on
+abbrev pub by_fours : List ℤ → List ℤ → ℕ → List ℤ
+by_fours p q a = joined p q (a + 0) ∷ joined p q (a + 16) ∷ joined p q (a + 1) ∷ joined p q (a + 17) ∷ joined p q (a + 2) ∷ joined p q (a + 18) ∷ joined p q (a + 3) ∷ joined p q (a + 19) ∷ joined p q (a + 8) ∷ joined p q (a + 24) ∷ joined p q (a + 9) ∷ joined p q (a + 25) ∷ joined p q (a + 10) ∷ joined p q (a + 26) ∷ joined p q (a + 11) ∷ joined p q (a + 27) ∷ []
 
-pub turns_even : (p q : List ℤ) (a : ℕ) → AreLanes 16 4095 p → a ≤ 8 → (j : ℕ) → j < 8 → at (by_turns p q a) (2 * j) ≡ at p (a + j)
-turns_even p q a lanes low = each_eight (λ j. at (by_turns p q a) (2 * j) ≡ at p (a + j))
-    (front p q (a + 0) lanes (omega arith)) (front p q (a + 1) lanes (omega arith)) (front p q (a + 2) lanes (omega arith)) (front p q (a + 3) lanes (omega arith))
-    (front p q (a + 4) lanes (omega arith)) (front p q (a + 5) lanes (omega arith)) (front p q (a + 6) lanes (omega arith)) (front p q (a + 7) lanes (omega arith))
+pub fours_even : (p q : List ℤ) (a : ℕ) → AreLanes 16 4095 p → a ≤ 4 → (j : ℕ) → j < 8 → at (by_fours p q a) (2 * j) ≡ at p (a + low_lane j)
+fours_even p q a lanes low = each_eight (λ j. at (by_fours p q a) (2 * j) ≡ at p (a + low_lane j))
+    (front p q (a + 0) lanes (omega arith)) (front p q (a + 1) lanes (omega arith)) (front p q (a + 2) lanes (omega arith)) (front p q (a + 3) lanes (omega arith)) (front p q (a + 8) lanes (omega arith)) (front p q (a + 9) lanes (omega arith)) (front p q (a + 10) lanes (omega arith)) (front p q (a + 11) lanes (omega arith))
 
-pub turns_odd : (p q : List ℤ) (a : ℕ) → AreLanes 16 4095 p → AreLanes 16 4095 q → a ≤ 8 → (j : ℕ) → j < 8 → at (by_turns p q a) (2 * j + 1) ≡ at q (a + j)
-turns_odd p q a lanes others low = each_eight (λ j. at (by_turns p q a) (2 * j + 1) ≡ at q (a + j))
-    (behind p q (a + 16) (a + 0) lanes others (omega arith) (omega arith)) (behind p q (a + 17) (a + 1) lanes others (omega arith) (omega arith))
-    (behind p q (a + 18) (a + 2) lanes others (omega arith) (omega arith)) (behind p q (a + 19) (a + 3) lanes others (omega arith) (omega arith))
-    (behind p q (a + 20) (a + 4) lanes others (omega arith) (omega arith)) (behind p q (a + 21) (a + 5) lanes others (omega arith) (omega arith))
-    (behind p q (a + 22) (a + 6) lanes others (omega arith) (omega arith)) (behind p q (a + 23) (a + 7) lanes others (omega arith) (omega arith))
+pub fours_odd : (p q : List ℤ) (a : ℕ) → AreLanes 16 4095 p → AreLanes 16 4095 q → a ≤ 4 → (j : ℕ) → j < 8 → at (by_fours p q a) (2 * j + 1) ≡ at q (a + low_lane j)
+fours_odd p q a lanes others low = each_eight (λ j. at (by_fours p q a) (2 * j + 1) ≡ at q (a + low_lane j))
+    (behind p q (a + 16) (a + 0) lanes others (omega arith) (omega arith)) (behind p q (a + 17) (a + 1) lanes others (omega arith) (omega arith)) (behind p q (a + 18) (a + 2) lanes others (omega arith) (omega arith)) (behind p q (a + 19) (a + 3) lanes others (omega arith) (omega arith)) (behind p q (a + 24) (a + 8) lanes others (omega arith) (omega arith)) (behind p q (a + 25) (a + 9) lanes others (omega arith) (omega arith)) (behind p q (a + 26) (a + 10) lanes others (omega arith) (omega arith)) (behind p q (a + 27) (a + 11) lanes others (omega arith) (omega arith))
+
+pub low_below : (j : ℕ) → j < 8 → low_lane j < 16
+low_below j few = omega (arith, few)
+
+pub high_below : (j : ℕ) → j < 8 → high_lane j < 16
+high_below j few = omega (arith, few)
+
+-- which lane of its vector lane i of sixteen is
+abbrev pub half_lane : ℕ → ℕ
+half_lane i = i % 4 + 4 * (i / 8)
+
+pub half_below : (i : ℕ) → i < 16 → half_lane i < 8
+half_below i few = omega (arith, few)
+
+pub lane_cases : (i : ℕ) → (low_lane (half_lane i) ≡ i) ⊎ (high_lane (half_lane i) ≡ i)
+lane_cases i = elim (cases_lt (i % 8) 4) [
+  | inl low ↦ inl (omega (arith, low))
+  | inr high ↦ inr (omega (arith, high))
+]
 
 -- products of two vectors
 abbrev pub wide : List ℤ → List ℕ
@@ -117,9 +134,9 @@ product_at m p k taps lanes low =
     ∙ get_or-zip2 f (wide m) (wide p) k 0 0 0 (omega (arith, long_m)) (omega (arith, long_p))
     ∙ rw (wide_at m 128 k taps (omega arith) low, wide_at p 4095 k lanes (omega arith) low) (times_lane (at m k) (at p k) (taps.small k) (lanes.small k))
 
-pub turns_small : (p q : List ℤ) (a : ℕ) → AreLanes 16 4095 p → AreLanes 16 4095 q → a ≤ 8 → AreLanes 16 4095 (by_turns p q a)
-turns_small p q a lanes others low = lanes_of 16 4095 (by_turns p q a) refl
-    (f (a + 0) (omega arith), (g (a + 16) (a + 0) (omega arith) (omega arith), (f (a + 1) (omega arith), (g (a + 17) (a + 1) (omega arith) (omega arith), (f (a + 2) (omega arith), (g (a + 18) (a + 2) (omega arith) (omega arith), (f (a + 3) (omega arith), (g (a + 19) (a + 3) (omega arith) (omega arith), (f (a + 4) (omega arith), (g (a + 20) (a + 4) (omega arith) (omega arith), (f (a + 5) (omega arith), (g (a + 21) (a + 5) (omega arith) (omega arith), (f (a + 6) (omega arith), (g (a + 22) (a + 6) (omega arith) (omega arith), (f (a + 7) (omega arith), (g (a + 23) (a + 7) (omega arith) (omega arith), tt))))))))))))))))
+pub fours_small : (p q : List ℤ) (a : ℕ) → AreLanes 16 4095 p → AreLanes 16 4095 q → a ≤ 4 → AreLanes 16 4095 (by_fours p q a)
+fours_small p q a lanes others low = lanes_of 16 4095 (by_fours p q a) refl
+    (f (a + 0) (omega arith), (g (a + 16) (a + 0) (omega arith) (omega arith), (f (a + 1) (omega arith), (g (a + 17) (a + 1) (omega arith) (omega arith), (f (a + 2) (omega arith), (g (a + 18) (a + 2) (omega arith) (omega arith), (f (a + 3) (omega arith), (g (a + 19) (a + 3) (omega arith) (omega arith), (f (a + 8) (omega arith), (g (a + 24) (a + 8) (omega arith) (omega arith), (f (a + 9) (omega arith), (g (a + 25) (a + 9) (omega arith) (omega arith), (f (a + 10) (omega arith), (g (a + 26) (a + 10) (omega arith) (omega arith), (f (a + 11) (omega arith), (g (a + 27) (a + 11) (omega arith) (omega arith), tt))))))))))))))))
   where
     f : (k : ℕ) → k < 16 → unsigned_abs (joined p q k) ≤ 4095
     f k few = rw (front p q k lanes few) (lanes.small k)
@@ -506,3 +523,70 @@ half_value taps first second third fourth a b c d xs place j p q r s v view one 
       rw (taps_kept fourth four.lanes) at d1,
     ) view)
     a_turned b_turned c_turned d_turned
+
+-- the less of two numbers of 16 bits
+abbrev pub least : ℕ → ℕ → ℕ
+least most x = cond (top 15 (cond (ltb x most) 65535 0)) x most
+
+least_is : (most x : ℕ) → least most x ≡ min most x
+least_is most x = elim (cases_Bool (ltb x most)) [
+  | inl one ↦ rw one (omega (arith, ltb-true x most one))
+  | inr none ↦ rw none (omega (arith, ltb-false x most none))
+]
+
+abbrev pub least_of : ℕ → List ℕ → List ℕ → ℕ → ℕ
+least_of most p q k = least most (get_or (p ++ q) k 0)
+
+least_front : (most : ℕ) (p q : List ℕ) (k : ℕ) → length p ≡ 8 → k < 8 → least_of most p q k ≡ min most (get_or p k 0)
+least_front most p q k long low = least_is most (get_or (p ++ q) k 0) ∙ ap (min most) (get_or_append_left p q 0 k (omega (arith, long)))
+
+least_behind : (most : ℕ) (p q : List ℕ) (n k : ℕ) → length p ≡ 8 → n ≡ 8 + k → least_of most p q n ≡ min most (get_or q k 0)
+least_behind most p q n k long is = let past : n ≡ length p + k = omega (arith, long, is) in
+    least_is most (get_or (p ++ q) n 0) ∙ ap (min most) (ap (λ i. get_or (p ++ q) i 0) past ∙ get_or-append-add p q k 0)
+
+abbrev pub least_fours : ℕ → List ℕ → List ℕ → List ℕ
+least_fours most p q = least_of most p q 0 ∷ least_of most p q 1 ∷ least_of most p q 2 ∷ least_of most p q 3 ∷ least_of most p q 8 ∷ least_of most p q 9 ∷ least_of most p q 10 ∷ least_of most p q 11 ∷ least_of most p q 4 ∷ least_of most p q 5 ∷ least_of most p q 6 ∷ least_of most p q 7 ∷ least_of most p q 12 ∷ least_of most p q 13 ∷ least_of most p q 14 ∷ least_of most p q 15 ∷ []
+
+pub fours_low : (most : ℕ) (p q : List ℕ) → length p ≡ 8 → (j : ℕ) → j < 8 → get_or (least_fours most p q) (low_lane j) 0 ≡ min most (get_or p j 0)
+fours_low most p q long = each_eight (λ j. get_or (least_fours most p q) (low_lane j) 0 ≡ min most (get_or p j 0))
+    (least_front most p q 0 long (omega arith)) (least_front most p q 1 long (omega arith)) (least_front most p q 2 long (omega arith)) (least_front most p q 3 long (omega arith)) (least_front most p q 4 long (omega arith)) (least_front most p q 5 long (omega arith)) (least_front most p q 6 long (omega arith)) (least_front most p q 7 long (omega arith))
+
+pub fours_high : (most : ℕ) (p q : List ℕ) → length p ≡ 8 → (j : ℕ) → j < 8 → get_or (least_fours most p q) (high_lane j) 0 ≡ min most (get_or q j 0)
+fours_high most p q long = each_eight (λ j. get_or (least_fours most p q) (high_lane j) 0 ≡ min most (get_or q j 0))
+    (least_behind most p q 8 0 long (omega arith)) (least_behind most p q 9 1 long (omega arith)) (least_behind most p q 10 2 long (omega arith)) (least_behind most p q 11 3 long (omega arith)) (least_behind most p q 12 4 long (omega arith)) (least_behind most p q 13 5 long (omega arith)) (least_behind most p q 14 6 long (omega arith)) (least_behind most p q 15 7 long (omega arith))
+
+abbrev pub least_turns : ℕ → List ℕ → List ℕ → List ℕ
+least_turns most p q = least_of most p q 0 ∷ least_of most p q 8 ∷ least_of most p q 1 ∷ least_of most p q 9 ∷ least_of most p q 2 ∷ least_of most p q 10 ∷ least_of most p q 3 ∷ least_of most p q 11 ∷ least_of most p q 4 ∷ least_of most p q 12 ∷ least_of most p q 5 ∷ least_of most p q 13 ∷ least_of most p q 6 ∷ least_of most p q 14 ∷ least_of most p q 7 ∷ least_of most p q 15 ∷ []
+
+pub turns_even : (most : ℕ) (p q : List ℕ) → length p ≡ 8 → (j : ℕ) → j < 8 → get_or (least_turns most p q) (2 * j) 0 ≡ min most (get_or p j 0)
+turns_even most p q long = each_eight (λ j. get_or (least_turns most p q) (2 * j) 0 ≡ min most (get_or p j 0))
+    (least_front most p q 0 long (omega arith)) (least_front most p q 1 long (omega arith)) (least_front most p q 2 long (omega arith)) (least_front most p q 3 long (omega arith)) (least_front most p q 4 long (omega arith)) (least_front most p q 5 long (omega arith)) (least_front most p q 6 long (omega arith)) (least_front most p q 7 long (omega arith))
+
+pub turns_odd : (most : ℕ) (p q : List ℕ) → length p ≡ 8 → (j : ℕ) → j < 8 → get_or (least_turns most p q) (2 * j + 1) 0 ≡ min most (get_or q j 0)
+turns_odd most p q long = each_eight (λ j. get_or (least_turns most p q) (2 * j + 1) 0 ≡ min most (get_or q j 0))
+    (least_behind most p q 8 0 long (omega arith)) (least_behind most p q 9 1 long (omega arith)) (least_behind most p q 10 2 long (omega arith)) (least_behind most p q 11 3 long (omega arith)) (least_behind most p q 12 4 long (omega arith)) (least_behind most p q 13 5 long (omega arith)) (least_behind most p q 14 6 long (omega arith)) (least_behind most p q 15 7 long (omega arith))
+
+clip_least : (most : ℕ) (z : ℤ) → most ≤ 65535 → min most (clip 65535 z) ≡ clip most z
+clip_least most (pos n) low = omega (arith, low)
+clip_least most (negsuc n) low = omega (arith, low)
+
+pub rounded_least : (most : ℕ) (sum : ℤ) → most ≤ 65535 → min most (rounded 65535 sum) ≡ rounded most sum
+unfolding rounded
+rounded_least most sum low = clip_least most (int_shr (sum +ℤ pos 64) 7) low
+
+pub sum_again : {n : ℕ} (r : List ℤ) (k : ℕ) → AreLanes n (2 ^ 20) r → to_z w32 (of_z w32 (at (kept_32 r) k)) ≡ at r k
+sum_again r k lanes = rw (sums_kept r (2 ^ 20) (omega arith) lanes) (to_z-of_z w32 (at r k) (fits_32 (at r k) (omega (arith, lanes.small k))))
+
+-- a sum of eight weighted samples that follow one another, by what each step says of it
+pub run_value : (taps p : List ℤ) (xs : List ℕ) (place : ℕ) (r : List ℤ) (v : ℤ) → AreLanes 8 128 taps → AreLanes 8 4095 p → AreLanes 4 (2 ^ 20) r → unsigned_abs v ≤ 2 ^ 22 →
+    v ≡ (to_z w32 (of_z w32 (at (kept_32 r) 0)) +ℤ to_z w32 (of_z w32 (at (kept_32 r) 1))) +ℤ (to_z w32 (of_z w32 (at (kept_32 r) 2)) +ℤ to_z w32 (of_z w32 (at (kept_32 r) 3))) →
+    ((j : ℕ) → j < 4 → at r j ≡ (at (kept_16 taps) (2 * j) *ℤ at (kept_16 p) (2 * j)) +ℤ (at (kept_16 taps) (2 * j + 1) *ℤ at (kept_16 p) (2 * j + 1))) →
+    ((j : ℕ) → j < 8 → at p j ≡ pos (get_or xs (place + j) 0)) → to_z w32 (of_z w32 v) ≡ weighted taps (λ k. get_or xs (place + k) 0)
+run_value taps p xs place r v taps_lanes p_lanes r_lanes small whole sums values =
+    let sum = rw (sum_again r 0 r_lanes, sum_again r 1 r_lanes, sum_again r 2 r_lanes, sum_again r 3 r_lanes) at whole in
+    to_z-of_z w32 v (fits_32 v (omega (arith, small)))
+    ∙ eight_is taps (λ k. get_or xs (place + k) 0) (at r 0) (at r 1) (at r 2) (at r 3) v sum (pair 0 (omega arith)) (pair 1 (omega arith)) (pair 2 (omega arith)) (pair 3 (omega arith))
+  where
+    pair : (j : ℕ) → j < 4 → at r j ≡ (at taps (2 * j) *ℤ pos (get_or xs (place + 2 * j) 0)) +ℤ (at taps (2 * j + 1) *ℤ pos (get_or xs (place + (2 * j + 1)) 0))
+    pair j few = let is = rw (taps_kept taps taps_lanes, samples_kept p p_lanes) at (sums j few) in
+        is ∙ rw (values (2 * j) (omega (arith, few)), values (2 * j + 1) (omega (arith, few))) refl

@@ -1,8 +1,15 @@
 -- Vectors of the code, as the lists of their lanes.
-use Rattle.std.specs.Prelude.{ℕ, ◌≡◌, ◌≤◌, ◌<◌, ◌+◌, ◌*◌, ℤ, pos, List, [], ◌∷◌, length, slice_index_or, unsigned_abs}
+use Rattle.std.specs.Prelude.{ℕ, ◌≡◌, ◌≤◌, ◌<◌, ◌+◌, ◌*◌, ◌/◌, ℤ, pos, List, [], ◌∷◌, length, slice_index_or, unsigned_abs}
 
 abbrev pub at : List ℤ → ℕ → ℤ
 at v j = slice_index_or v j (pos 0)
+
+-- sixteen lanes stand in two vectors of eight, four of each half by turns: where lane j of the first and of the second belongs
+abbrev pub low_lane : ℕ → ℕ
+low_lane j = j + 4 * (j / 4)
+
+abbrev pub high_lane : ℕ → ℕ
+high_lane j = 4 + (j + 4 * (j / 4))
 
 -- n lanes that are at most so large
 pub record AreLanes (n most : ℕ) (v : List ℤ) : Type 0 where

@@ -7,6 +7,6 @@ mod sixteen;
 mod taps;
 mod vectors;
 
-pub use numbers::{rounded, weighted};
+pub use numbers::{rounded, weighted_run};
 pub use runs::{filter_line, filter_run};
 pub use taps::TapLanes;

@@ -1,17 +1,10 @@
 //! One filtered value.
 
-ghost use Rattle.std.specs.Prelude.{◌≡◌, ℕ, ◌+◌, ◌*◌, ◌^◌, ◌≤◌, ◌<◌, pos, ◌+ℤ◌, ◌*ℤ◌, unsigned_abs, slice_index, slice_index_or};
-ghost use Rattle.inter_lanes.specs.Filter.{IsTap, weight, weighted, rounded};
+ghost use Rattle.std.specs.Prelude.{◌≡◌, ℕ, ◌+◌, ◌*◌, ◌^◌, ◌≤◌, ◌<◌, pos, ◌+ℤ◌, ◌*ℤ◌, unsigned_abs, slice_index, slice_index_or, length};
+ghost use Rattle.inter_lanes.specs.Filter.{IsTap, weighted, rounded};
 
-#[inline(always)]
-fn product(sample: u16, tap: i16) -> i32
-    requires sample { sample ≤ 4095 }
-    requires tap { IsTap tap }
-    ensures value { result ≡ (tap *ℤ pos sample) }
-    ensures size { unsigned_abs result ≤ 2 ^ 19 }
-{
-    i32::from(tap) * i32::from(sample)
-}
+use crate::vectors::{load_eight, pair_sums_of_eight};
+use std::simd::prelude::*;
 
 #[inline(always)]
 fn plus(x: i32, y: i32) -> i32
@@ -23,35 +16,7 @@ fn plus(x: i32, y: i32) -> i32
     x + y
 }
 
-/// The sum of two weighted samples.
-#[inline(always)]
-fn pair_of(a: u16, b: u16, s: i16, t: i16) -> i32
-    requires a { a ≤ 4095 }
-    requires b { b ≤ 4095 }
-    requires s { IsTap s }
-    requires t { IsTap t }
-    ensures value { result ≡ ((s *ℤ pos a) +ℤ (t *ℤ pos b)) }
-    ensures size { unsigned_abs result ≤ 2 ^ 20 }
-{
-    plus(product(a, s), product(b, t))
-}
-
-/// The sum of the samples of taps k and k + 1.
-#[inline(always)]
-#[tactic(auto, using(crate::proofs::NumberLemmas::tap_kept))]
-fn pair_at(x: &[u16; 8], taps: &[i16; 8], k: usize) -> i32
-    requires k { k < 7 }
-    requires samples { (k : ℕ) → slice_index x.now k ≤ 4095 }
-    requires taps { (k : ℕ) → IsTap (slice_index_or taps.now k (pos 0)) }
-    ensures value { result ≡ (weight taps.now k (slice_index x.now k) +ℤ weight taps.now (k + 1) (slice_index x.now (k + 1))) }
-    ensures size { unsigned_abs result ≤ 2 ^ 20 }
-{
-    let s = taps[k];
-    let t = taps[k + 1];
-    pair_of(x[k], x[k + 1], s, t)
-}
-
-/// The sum of four such sums.
+/// The sum of four sums of two weighted samples.
 #[inline(always)]
 fn four_of(a: i32, b: i32, c: i32, d: i32) -> i32
     requires a { unsigned_abs a ≤ 2 ^ 20 }
@@ -64,18 +29,20 @@ fn four_of(a: i32, b: i32, c: i32, d: i32) -> i32
     plus(plus(a, b), plus(c, d))
 }
 
-/// The sum of eight weighted samples of at most 12 bits.
+/// The sum of eight weighted samples that follow one another from a place on.
 #[inline(always)]
-pub fn weighted(x: &[u16; 8], taps: &[i16; 8]) -> i32
-    requires samples { (k : ℕ) → slice_index x.now k ≤ 4095 }
+pub fn weighted_run(samples: &[u16], place: usize, taps: &[i16; 8]) -> i32
+    requires room { place + 8 ≤ length samples.now }
+    requires small { (k : ℕ) → slice_index samples.now k ≤ 4095 }
     requires taps { (k : ℕ) → IsTap (slice_index_or taps.now k (pos 0)) }
-    ensures value { result ≡ weighted taps.now (slice_index x.now) }
+    ensures value { result ≡ weighted taps.now (λ k. slice_index samples.now (place + k)) }
     ensures size { unsigned_abs result ≤ 2 ^ 22 }
 {
-    let p = pair_at(x, taps, 0);
-    let q = pair_at(x, taps, 2);
-    let r = pair_at(x, taps, 4);
-    let s = pair_at(x, taps, 6);
+    let lanes = i16x8::from_array(*taps);
+    let run = load_eight(samples, place);
+    let sums = pair_sums_of_eight(run, lanes).to_array();
+    let (p, q) = (sums[0], sums[1]);
+    let (r, s) = (sums[2], sums[3]);
     four_of(p, q, r, s)
 }
 
@@ -86,6 +53,6 @@ pub fn rounded(sum: i32, most: u16) -> u16
     requires { unsigned_abs sum ≤ 2 ^ 22 }
     ensures { result ≡ rounded most sum }
 {
-    let value = ((sum + 64) >> 7).max(0).min(i32::from(most));
-    value as u16
+    let value = ((sum + 64) >> 7).max(0).min(65535) as u16;
+    value.min(most)
 }

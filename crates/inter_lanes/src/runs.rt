@@ -62,6 +62,9 @@ pub fn filter_line(
     if n - whole > 8 {
         let values = taps.filter_along(samples, from + whole, most);
         out[whole..n].copy_from_slice(&values[..n - whole]);
+    } else if n - whole == 8 {
+        let values = taps.filter_eight_along(samples, from + whole, most);
+        out[whole..whole + 8].copy_from_slice(&values);
     } else if whole < n {
         let values = taps.filter_eight_along(samples, from + whole, most);
         out[whole..n].copy_from_slice(&values[..n - whole]);

@@ -2,10 +2,13 @@
 
 ghost use Rattle.std.specs.Prelude.{◌≡◌, ℕ, ◌+◌, ◌*◌, ◌^◌, ◌<◌, ◌≤◌, pos, ◌+ℤ◌, ◌*ℤ◌, slice_index, length};
 ghost use Rattle.inter_lanes.specs.Filter.{rounded};
-ghost use Rattle.inter_lanes.specs.Code.{AreLanes, IsTurned, at};
+ghost use Rattle.inter_lanes.specs.Code.{AreLanes, IsTurned, at, low_lane, high_lane};
 
 use crate::numbers::rounded;
-use crate::vectors::{load, load_eight, pair_sums, pair_sums_of_eight, plus, plus_of_four, woven};
+use crate::vectors::{
+    least_by_fours, least_by_turns, load, load_eight, pair_sums, pair_sums_of_eight, plus,
+    plus_of_four, woven,
+};
 use std::simd::prelude::*;
 
 /// Sixteen sums of two weighted samples, `step` places from each other.
@@ -19,9 +22,9 @@ pub(crate) fn pair_at(samples: &[u16], place: usize, step: usize, taps: i16x16) 
     ensures first { AreLanes 8 (2 ^ 20) result.0 }
     ensures second { AreLanes 8 (2 ^ 20) result.1 }
     ensures first_value { (j : ℕ) → j < 8 → at result.0 j
-        ≡ ((at taps 0 *ℤ pos (slice_index samples.now (place + j))) +ℤ (at taps 1 *ℤ pos (slice_index samples.now (place + step + j)))) }
+        ≡ ((at taps 0 *ℤ pos (slice_index samples.now (place + low_lane j))) +ℤ (at taps 1 *ℤ pos (slice_index samples.now (place + step + low_lane j)))) }
     ensures second_value { (j : ℕ) → j < 8 → at result.1 j
-        ≡ ((at taps 0 *ℤ pos (slice_index samples.now (place + (8 + j)))) +ℤ (at taps 1 *ℤ pos (slice_index samples.now (place + step + (8 + j))))) }
+        ≡ ((at taps 0 *ℤ pos (slice_index samples.now (place + high_lane j))) +ℤ (at taps 1 *ℤ pos (slice_index samples.now (place + step + high_lane j)))) }
 {
     let p = load(samples, place);
     let q = load(samples, place + step);
@@ -91,20 +94,31 @@ pub(crate) fn four_sums_of_four(p: i32x4, q: i32x4, r: i32x4, s: i32x4) -> i32x4
     plus_of_four::<2097152>(first, second)
 }
 
+/// Eight sums, rounded and not below 0.
+#[inline(always)]
+fn saturated(sums: &[i32; 8]) -> [u16; 8]
+    requires { AreLanes 8 (2 ^ 22) sums.now }
+    ensures { (j : ℕ) → j < 8 → slice_index result j ≡ rounded 65535 (at sums.now j) }
+{
+    let mut values = [0; 8];
+    for j in 0..8usize {
+        let sum = sums[j];
+        values[j] = rounded(sum, 65535);
+    }
+    values
+}
+
+/// Values of two vectors, four of each by turns.
 #[inline(always)]
 pub(crate) fn rounded_lanes(low: &[i32; 8], high: &[i32; 8], most: u16) -> [u16; 16]
     requires low { AreLanes 8 (2 ^ 22) low.now }
     requires high { AreLanes 8 (2 ^ 22) high.now }
-    ensures low { (j : ℕ) → j < 8 → slice_index result j ≡ rounded most (at low.now j) }
-    ensures high { (j : ℕ) → j < 8 → slice_index result (8 + j) ≡ rounded most (at high.now j) }
+    ensures low { (j : ℕ) → j < 8 → slice_index result (low_lane j) ≡ rounded most (at low.now j) }
+    ensures high { (j : ℕ) → j < 8 → slice_index result (high_lane j) ≡ rounded most (at high.now j) }
 {
-    let mut values = [0; 16];
-    for j in 0..8usize {
-        let (a, b) = (low[j], high[j]);
-        values[j] = rounded(a, most);
-        values[8 + j] = rounded(b, most);
-    }
-    values
+    let p = saturated(low);
+    let q = saturated(high);
+    least_by_fours(&p, &q, most)
 }
 
 /// Values of two vectors by turns.
@@ -115,13 +129,9 @@ pub(crate) fn rounded_turns(even: &[i32; 8], odd: &[i32; 8], most: u16) -> [u16;
     ensures even { (j : ℕ) → j < 8 → slice_index result (2 * j) ≡ rounded most (at even.now j) }
     ensures odd { (j : ℕ) → j < 8 → slice_index result (2 * j + 1) ≡ rounded most (at odd.now j) }
 {
-    let mut values = [0; 16];
-    for j in 0..8usize {
-        let (a, b) = (even[j], odd[j]);
-        values[2 * j] = rounded(a, most);
-        values[2 * j + 1] = rounded(b, most);
-    }
-    values
+    let p = saturated(even);
+    let q = saturated(odd);
+    least_by_turns(&p, &q, most)
 }
 
 /// The same of half as many.

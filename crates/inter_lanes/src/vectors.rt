@@ -1,7 +1,7 @@
 //! Vectors of samples, and of sums of weighted samples.
 
-ghost use Rattle.std.specs.Prelude.{◌≡◌, ℕ, ℤ, ◌+◌, ◌*◌, ◌^◌, ◌<◌, ◌≤◌, pos, ◌+ℤ◌, ◌*ℤ◌, slice_index, length};
-ghost use Rattle.inter_lanes.specs.Code.{AreLanes, IsTurned, at};
+ghost use Rattle.std.specs.Prelude.{◌≡◌, ℕ, ℤ, ◌+◌, ◌*◌, ◌^◌, ◌<◌, ◌≤◌, pos, ◌+ℤ◌, ◌*ℤ◌, slice_index, length, min};
+ghost use Rattle.inter_lanes.specs.Code.{AreLanes, IsTurned, at, low_lane, high_lane};
 
 use std::simd::prelude::*;
 
@@ -27,19 +27,51 @@ pub(crate) fn load_eight(samples: &[u16], place: usize) -> i16x8
     u16x8::from_slice(&samples[place..]).cast()
 }
 
-/// The lanes of two vectors by turns.
+/// The lanes of two vectors by turns, four of each half of the vectors: what one instruction weaves without crossing the halves.
 #[inline(always)]
 pub(crate) fn woven(p: i16x16, q: i16x16) -> (i16x16, i16x16)
     requires p { AreLanes 16 4095 p }
     requires q { AreLanes 16 4095 q }
     ensures first { AreLanes 16 4095 result.0 }
     ensures second { AreLanes 16 4095 result.1 }
-    ensures first_even { (j : ℕ) → j < 8 → at result.0 (2 * j) ≡ at p j }
-    ensures first_odd { (j : ℕ) → j < 8 → at result.0 (2 * j + 1) ≡ at q j }
-    ensures second_even { (j : ℕ) → j < 8 → at result.1 (2 * j) ≡ at p (8 + j) }
-    ensures second_odd { (j : ℕ) → j < 8 → at result.1 (2 * j + 1) ≡ at q (8 + j) }
+    ensures first_even { (j : ℕ) → j < 8 → at result.0 (2 * j) ≡ at p (low_lane j) }
+    ensures first_odd { (j : ℕ) → j < 8 → at result.0 (2 * j + 1) ≡ at q (low_lane j) }
+    ensures second_even { (j : ℕ) → j < 8 → at result.1 (2 * j) ≡ at p (high_lane j) }
+    ensures second_odd { (j : ℕ) → j < 8 → at result.1 (2 * j + 1) ≡ at q (high_lane j) }
 {
-    p.interleave(q)
+    let low = p.shuffle(
+        q,
+        [0, 16, 1, 17, 2, 18, 3, 19, 8, 24, 9, 25, 10, 26, 11, 27],
+    );
+    let high = p.shuffle(
+        q,
+        [4, 20, 5, 21, 6, 22, 7, 23, 12, 28, 13, 29, 14, 30, 15, 31],
+    );
+    (low, high)
+}
+
+/// Values of two vectors, four of each by turns, or `most` where it is less.
+#[inline(always)]
+pub(crate) fn least_by_fours(low: &[u16; 8], high: &[u16; 8], most: u16) -> [u16; 16]
+    ensures low { (j : ℕ) → j < 8 → slice_index result (low_lane j) ≡ min most (slice_index low.now j) }
+    ensures high { (j : ℕ) → j < 8 → slice_index result (high_lane j) ≡ min most (slice_index high.now j) }
+{
+    let p = u16x8::from_array(*low);
+    let q = u16x8::from_array(*high);
+    let values: u16x16 = p.shuffle(q, [0, 1, 2, 3, 8, 9, 10, 11, 4, 5, 6, 7, 12, 13, 14, 15]);
+    values.simd_min(u16x16::splat(most)).to_array()
+}
+
+/// The same with one of each by turns.
+#[inline(always)]
+pub(crate) fn least_by_turns(even: &[u16; 8], odd: &[u16; 8], most: u16) -> [u16; 16]
+    ensures even { (j : ℕ) → j < 8 → slice_index result (2 * j) ≡ min most (slice_index even.now j) }
+    ensures odd { (j : ℕ) → j < 8 → slice_index result (2 * j + 1) ≡ min most (slice_index odd.now j) }
+{
+    let p = u16x8::from_array(*even);
+    let q = u16x8::from_array(*odd);
+    let values: u16x16 = p.shuffle(q, [0, 8, 1, 9, 2, 10, 3, 11, 4, 12, 5, 13, 6, 14, 7, 15]);
+    values.simd_min(u16x16::splat(most)).to_array()
 }
 
 /// Sums of two neighbours, each weighted by its lane of `taps`. LLVM makes of it one instruction that multiplies and adds.

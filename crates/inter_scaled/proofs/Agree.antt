@@ -36,7 +36,7 @@ clamped_order size x a b le = let is : b ≡ a + (b - a) = omega (arith, le) in
 sixteenths : (f s t : ℕ) → s ≤ t → (f + s) / 16 ≤ (f + t) / 16
 sixteenths f s t le = omega (arith, le)
 
-offset_order : (a : Axis) (i j : ℕ) → i ≤ j → offset a i / 16 ≤ offset a j / 16
+pub offset_order : (a : Axis) (i j : ℕ) → i ≤ j → offset a i / 16 ≤ offset a j / 16
 offset_order a i j le = sixteenths (fraction a) (a.step * i) (a.step * j) (mul-le-mul_left a.step le)
 
 pub place_order : (a : Axis) (i j k l : ℕ) → i ≤ j → k ≤ l → place a i k ≤ place a j l

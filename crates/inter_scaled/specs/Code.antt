@@ -8,7 +8,6 @@ use Rattle.inter_scaled.specs.declared.filter.LineFilter.{LineFilter}
 -- an axis with the taps of its first phase
 pub record IsFilter (f : LineFilter) : Type 0 where
   pub axis : IsAxis f.axis
-  pub phase : f.phase ≡ fraction f.axis
   pub taps : f.taps ≡ taps_of f.kind (fraction f.axis)
   pub most : f.most ≤ 4095
 
@@ -22,10 +21,10 @@ pub record AreInside (a : Axis) (n : ℕ) : Type 0 where
   pub room : straight a 0 + n ≤ a.size
 
 -- a line of n values is samples as they are, one after another
-pub record IsCopied (f : LineFilter) (n : ℕ) : Type 0 where
-  pub step : f.axis.step ≡ 16
-  pub phase : fraction f.axis ≡ 0
-  pub inside : AreInside f.axis (n + 7)
+pub record IsCopied (a : Axis) (n : ℕ) : Type 0 where
+  pub step : a.step ≡ 16
+  pub phase : fraction a ≡ 0
+  pub inside : AreInside a (n + 7)
 
 -- a line of n values is filtered from samples one after another, read by sixteens
 pub record IsRun (f : LineFilter) (n : ℕ) : Type 0 where

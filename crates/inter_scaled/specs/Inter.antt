@@ -1,5 +1,5 @@
 -- The predicted samples of a block (the block inter prediction process, 8.5.2 of the standard).
-use Rattle.std.specs.Prelude.{ℕ, ◌+◌, ◌*◌, ◌/◌, ◌≤◌, ◌≡◌, length, List, slice_index}
+use Rattle.std.specs.Prelude.{ℕ, ◌+◌, ◌/◌}
 use Rattle.vp9_types.specs.Maps.{Map, FrameMap}
 use Rattle.vp9_types.specs.declared.block.InterpFilter.{InterpFilter}
 use Rattle.vp9_tables.specs.Filters.{taps_of}

@@ -10,7 +10,55 @@ ghost use Rattle.inter_scaled.specs.Code.{IsFilter, lines_for};
 use crate::filter::LineFilter;
 use crate::places::offset_of;
 use crate::scaled::value_below;
-use inter_lanes::filter_run;
+use inter_lanes::{TapLanes, filter_run};
+use vp9_tables::taps;
+
+/// Sixteens of values from the beginning of row i on, at any step, each filtered down a column.
+#[tactic(auto, using(crate::proofs::Agree::each_tap))]
+fn scale_sixteens(out: &mut [u16], i: usize, n: usize, lines: &[u16], down: &LineFilter)
+    requires filter { IsFilter down.now }
+    requires low { i < 64 }
+    requires few { n ≤ 64 }
+    requires room { i * n + n ≤ length out.old }
+    requires enough { (offset down.now.axis i / 16 + 8) * n ≤ length lines.now }
+    requires samples { (k : ℕ) → slice_index lines.now k ≤ 4095 }
+    ensures row { (j : ℕ) → j < 16 * (n / 16) → slice_index out.new (i * n + j)
+        ≡ filtered down.now.most (taps_of down.now.kind (phase down.now.axis i)) (λ k. slice_index lines.now ((offset down.now.axis i / 16 + k) * n + j)) }
+    ensures before { (k : ℕ) → k < i * n → slice_index out.new k ≡ slice_index out.old k }
+{
+    let offset = offset_of(&down.axis, i);
+    let lanes = TapLanes::new(taps(down.kind, (offset % 16) as u8));
+    let whole = 16 * (n / 16);
+    let at = i * n;
+    let from = offset / 16 * n;
+    filter_run(
+        &mut out[at..at + whole],
+        whole,
+        lines,
+        from,
+        n,
+        &lanes,
+        down.most,
+    );
+}
+
+/// The rest of row i, each value by itself.
+fn scale_rest(out: &mut [u16], i: usize, n: usize, lines: &[u16], down: &LineFilter)
+    requires filter { IsFilter down.now }
+    requires low { i < 64 }
+    requires few { n ≤ 64 }
+    requires room { i * n + n ≤ length out.old }
+    requires enough { (offset down.now.axis i / 16 + 8) * n ≤ length lines.now }
+    requires samples { (k : ℕ) → slice_index lines.now k ≤ 4095 }
+    ensures row { (j : ℕ) → 16 * (n / 16) ≤ j → j < n → slice_index out.new (i * n + j)
+        ≡ filtered down.now.most (taps_of down.now.kind (phase down.now.axis i)) (λ k. slice_index lines.now ((offset down.now.axis i / 16 + k) * n + j)) }
+    ensures before { (k : ℕ) → k < i * n + 16 * (n / 16) → slice_index out.new k ≡ slice_index out.old k }
+{
+    let offset = offset_of(&down.axis, i);
+    for j in 16 * (n / 16)..n {
+        out[i * n + j] = value_below(lines, n, j, down, offset);
+    }
+}
 
 /// Row i of n values at any step, each filtered down a column.
 fn scale_row(out: &mut [u16], i: usize, n: usize, lines: &[u16], down: &LineFilter)
@@ -24,10 +72,8 @@ fn scale_row(out: &mut [u16], i: usize, n: usize, lines: &[u16], down: &LineFilt
         ≡ filtered down.now.most (taps_of down.now.kind (phase down.now.axis i)) (λ k. slice_index lines.now ((offset down.now.axis i / 16 + k) * n + j)) }
     ensures before { (k : ℕ) → k < i * n → slice_index out.new k ≡ slice_index out.old k }
 {
-    let offset = offset_of(&down.axis, i);
-    for j in 0..n {
-        out[i * n + j] = value_below(lines, n, j, down, offset);
-    }
+    scale_sixteens(out, i, n, lines, down);
+    scale_rest(out, i, n, lines, down);
 }
 
 /// Rows of n values at any step, each filtered down a column.

@@ -2,8 +2,8 @@
 
 ghost use Rattle.std.specs.Prelude.{◌≡◌, ◌≤◌, true};
 ghost use Rattle.std.specs.Bool.{OnTrue};
-ghost use Rattle.inter_places.specs.Axes.{IsAxis, fraction};
-ghost use Rattle.inter_scaled.specs.Code.{IsFilter, IsCopied, IsRun};
+ghost use Rattle.inter_places.specs.Axes.{IsAxis};
+ghost use Rattle.inter_scaled.specs.Code.{IsFilter, IsRun};
 
 use crate::places::{is_inside, phase_of};
 use inter_lanes::TapLanes;
@@ -11,12 +11,18 @@ use inter_places::Axis;
 use vp9_tables::taps;
 use vp9_types::InterpFilter;
 
+/// The kind of a filter, and the greatest sample.
+#[derive(Clone, Copy)]
+pub(crate) struct Interpolation {
+    pub(crate) kind: InterpFilter,
+    pub(crate) most: u16,
+}
+
 /// Where the values of a block are filtered from along one direction, and by what: the taps are those of its first phase.
 #[derive(Drop)]
 pub(crate) struct LineFilter {
     pub(crate) axis: Axis,
     pub(crate) kind: InterpFilter,
-    pub(crate) phase: u8,
     pub(crate) most: u16,
     pub(crate) taps: TapLanes,
 }
@@ -32,13 +38,11 @@ impl LineFilter {
         ensures kind { result.kind ≡ kind }
         ensures most { result.most ≡ most }
     {
-        let phase = phase_of(axis);
         LineFilter {
             axis: *axis,
             kind,
-            phase,
             most,
-            taps: TapLanes::new(taps(kind, phase)),
+            taps: TapLanes::new(taps(kind, phase_of(axis))),
         }
     }
 
@@ -48,26 +52,6 @@ impl LineFilter {
         ensures { OnTrue result (self.now.axis.step ≡ 16) }
     {
         self.axis.step == 16
-    }
-
-    /// Whether each value is a sample as it is.
-    #[inline(always)]
-    pub(crate) fn is_whole(&self) -> bool
-        requires { IsFilter self.now }
-        ensures step { OnTrue result (self.now.axis.step ≡ 16) }
-        ensures phase { OnTrue result (fraction self.now.axis ≡ 0) }
-    {
-        self.axis.step == 16 && self.phase == 0
-    }
-
-    /// Whether lines of n values are samples as they are, inside the plane.
-    #[inline(always)]
-    pub(crate) fn is_copied(&self, n: usize) -> bool
-        requires filter { IsFilter self.now }
-        requires few { n ≤ 64 }
-        ensures { OnTrue result (IsCopied self.now n) }
-    {
-        self.is_whole() && is_inside(&self.axis, n + 7)
     }
 
     /// Whether lines of n values are filtered from samples inside the plane.

@@ -2,12 +2,12 @@
 
 ghost use Rattle.std.specs.Prelude.{◌≡◌, ℕ, ◌+◌, ◌*◌, ◌/◌, ◌<◌, ◌≤◌, length, slice_index};
 ghost use Rattle.inter_lanes.specs.Filter.{filtered};
-ghost use Rattle.inter_places.specs.Axes.{straight, IsAxis, fraction};
+ghost use Rattle.inter_places.specs.Axes.{straight, IsAxis};
 ghost use Rattle.inter_scaled.specs.Inter.{along};
-ghost use Rattle.inter_scaled.specs.Code.{IsFilter, IsCopied, IsRun};
+ghost use Rattle.inter_scaled.specs.Code.{IsFilter, IsRun};
 
 use crate::filter::LineFilter;
-use crate::places::straight;
+use crate::places::{is_whole, straight};
 use crate::scaled::scale_line;
 use inter_lanes::filter_line;
 use inter_places::Axis;
@@ -15,8 +15,8 @@ use inter_places::Axis;
 /// Samples of a row at n places that follow one another, from the place on that lies `first` after the third before the
 /// first. Past an end of the row they are the last ones.
 #[inline(always)]
-fn read_places(out: &mut [u16], n: usize, row: &[u16], a: &Axis, first: usize)
-    requires few { n ≤ 71 }
+pub(crate) fn read_places(out: &mut [u16], n: usize, row: &[u16], a: &Axis, first: usize)
+    requires few { n ≤ 136 }
     requires near { first ≤ 64 }
     requires room { n ≤ length out.old }
     requires axis { IsAxis a.now }
@@ -55,7 +55,7 @@ fn fill_line(out: &mut [u16], n: usize, row: &[u16], filter: &LineFilter)
     ensures value { (j : ℕ) → j < n → slice_index out.new j ≡ along filter.now.most filter.now.kind filter.now.axis (slice_index row.now) j }
     ensures after { (j : ℕ) → n ≤ j → slice_index out.new j ≡ slice_index out.old j }
 {
-    if filter.is_whole() {
+    if is_whole(&filter.axis) {
         read_places(out, n, row, &filter.axis, 3);
     } else if filter.is_unscaled() {
         filter_places(out, n, row, filter);
@@ -64,21 +64,8 @@ fn fill_line(out: &mut [u16], n: usize, row: &[u16], filter: &LineFilter)
     }
 }
 
-/// A line of n samples as they are, one after another.
-#[inline(always)]
-fn copy_run(out: &mut [u16], n: usize, row: &[u16], from: usize)
-    requires room { n ≤ length out.old }
-    requires near { from ≤ 65536 }
-    requires few { n ≤ 64 }
-    requires enough { from + n + 7 ≤ length row.now }
-    ensures value { (j : ℕ) → j < n → slice_index out.new j ≡ slice_index row.now (from + 3 + j) }
-    ensures after { (j : ℕ) → n ≤ j → slice_index out.new j ≡ slice_index out.old j }
-{
-    out[..n].copy_from_slice(&row[from + 3..from + 3 + n]);
-}
-
-/// A line of n values: of kind 0 samples as they are, of kind 1 filtered from samples one after another, the first of which
-/// stands at place `from` of the row; of kind 2 whatever they are.
+/// A line of n values: of kind 0 filtered from samples one after another, the first of which stands at place `from` of the
+/// row; of kind 1 whatever they are.
 #[inline(always)]
 fn fill_by<const KIND: usize>(
     out: &mut [u16],
@@ -87,8 +74,7 @@ fn fill_by<const KIND: usize>(
     from: usize,
     filter: &LineFilter,
 )
-    requires copied { KIND ≡ 0 → IsCopied filter.now n }
-    requires run { KIND ≡ 1 → IsRun filter.now n }
+    requires run { KIND ≡ 0 → IsRun filter.now n }
     requires from { from ≡ straight filter.now.axis 0 }
     requires filter { IsFilter filter.now }
     requires few { n ≤ 64 }
@@ -99,8 +85,6 @@ fn fill_by<const KIND: usize>(
     ensures after { (j : ℕ) → n ≤ j → slice_index out.new j ≡ slice_index out.old j }
 {
     if KIND == 0 {
-        copy_run(out, n, row, from);
-    } else if KIND == 1 {
         filter_line(out, n, row, from, &filter.taps, filter.most);
     } else {
         fill_line(out, n, row, filter);
@@ -117,8 +101,7 @@ pub(crate) fn put_line<const KIND: usize>(
     from: usize,
     filter: &LineFilter,
 )
-    requires copied { KIND ≡ 0 → IsCopied filter.now n }
-    requires run { KIND ≡ 1 → IsRun filter.now n }
+    requires run { KIND ≡ 0 → IsRun filter.now n }
     requires from { from ≡ straight filter.now.axis 0 }
     requires filter { IsFilter filter.now }
     requires low { i ≤ 256 }

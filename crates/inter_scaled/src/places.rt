@@ -3,7 +3,7 @@
 ghost use Rattle.std.specs.Prelude.{◌≡◌, ℕ, ◌+◌, ◌*◌, ◌<◌, ◌≤◌};
 ghost use Rattle.std.specs.Bool.{OnTrue};
 ghost use Rattle.inter_places.specs.Axes.{straight, fraction, offset, IsAxis};
-ghost use Rattle.inter_scaled.specs.Code.{AreInside};
+ghost use Rattle.inter_scaled.specs.Code.{AreInside, IsCopied};
 
 use inter_places::Axis;
 
@@ -57,4 +57,24 @@ pub(crate) fn offset_of(a: &Axis, j: usize) -> usize
     ensures near { result ≤ 2063 }
 {
     phase_of(a) as usize + a.step as usize * j
+}
+
+/// Whether each value is a sample as it is.
+#[inline(always)]
+pub(crate) fn is_whole(a: &Axis) -> bool
+    requires { IsAxis a.now }
+    ensures step { OnTrue result (a.now.step ≡ 16) }
+    ensures phase { OnTrue result (fraction a.now ≡ 0) }
+{
+    a.step == 16 && phase_of(a) == 0
+}
+
+/// Whether lines of n values are samples as they are, inside the plane.
+#[inline(always)]
+pub(crate) fn is_copied(a: &Axis, n: usize) -> bool
+    requires axis { IsAxis a.now }
+    requires few { n ≤ 64 }
+    ensures { OnTrue result (IsCopied a.now n) }
+{
+    is_whole(a) && is_inside(a, n + 7)
 }

@@ -6,8 +6,8 @@ ghost use Rattle.inter_places.specs.Axes.{IsPlace, first_place, last_place};
 ghost use Rattle.inter_scaled.specs.Inter.{predicted_at};
 
 use crate::down::filter_down;
-use crate::filter::LineFilter;
-use crate::places::offset_of;
+use crate::filter::{Interpolation, LineFilter};
+use crate::places::{is_whole, offset_of};
 use crate::rows::fill_lines;
 use inter_places::Place;
 use vp9_types::{InterpFilter, Samples};
@@ -34,14 +34,14 @@ pub fn predict<S: Samples>(
     requires samples { IsAtMost most (S.map view.now place.now.plane) }
     ensures { HoldsRows out.new place.now.columns place.now.rows (predicted_at most kind place.now (S.map view.now)) }
 {
-    let across = LineFilter::new(&place.across, kind, most);
-    let down = LineFilter::new(&place.down, kind, most);
-    if down.is_whole() {
-        fill_lines(out, view, place, &across, 3, place.rows);
+    let by = Interpolation { kind, most };
+    if is_whole(&place.down) {
+        fill_lines(out, view, place, by, 3, place.rows);
     } else {
         let count = offset_of(&place.down, place.rows - 1) / 16 + 8;
-        fill_lines(lines, view, place, &across, 0, count);
+        fill_lines(lines, view, place, by, 0, count);
         let end = count * place.columns;
+        let down = LineFilter::new(&place.down, kind, most);
         filter_down(out, place.rows, place.columns, &lines[..end], &down);
     }
 }

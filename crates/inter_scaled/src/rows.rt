@@ -6,9 +6,9 @@ ghost use Rattle.inter_places.specs.Axes.{straight, IsPlace};
 ghost use Rattle.inter_scaled.specs.Inter.{along};
 ghost use Rattle.inter_scaled.specs.Code.{IsFilter, IsCopied, IsRun};
 
-use crate::filter::LineFilter;
+use crate::filter::{Interpolation, LineFilter};
 use crate::lines::put_line;
-use crate::places::straight;
+use crate::places::{is_copied, straight};
 use inter_places::Place;
 use vp9_types::Samples;
 
@@ -38,8 +38,7 @@ fn fill_by<S: Samples, const KIND: usize>(
     first: usize,
     count: usize,
 )
-    requires copied { KIND ≡ 0 → IsCopied across.now place.now.columns }
-    requires run { KIND ≡ 1 → IsRun across.now place.now.columns }
+    requires run { KIND ≡ 0 → IsRun across.now place.now.columns }
     requires place { IsPlace place.now }
     requires filter { IsFilter across.now }
     requires axis { across.now.axis ≡ place.now.across }
@@ -62,9 +61,8 @@ fn fill_by<S: Samples, const KIND: usize>(
     }
 }
 
-/// Lines along so many rows of the reference, from the one on that lies `first` after the third before the first.
-#[inline(always)]
-pub(crate) fn fill_lines<S: Samples>(
+/// Filtered lines along so many rows of the reference, from the one on that lies `first` after the third before the first.
+fn filter_lines<S: Samples>(
     lines: &mut [u16],
     view: &S,
     place: &Place,
@@ -84,11 +82,102 @@ pub(crate) fn fill_lines<S: Samples>(
     ensures { HoldsRows lines.new place.now.columns count
         (λ r j. along across.now.most across.now.kind across.now.axis (S.map view.now place.now.plane (straight place.now.down (first + r))) j) }
 {
-    if across.is_copied(place.columns) {
+    if across.is_run(place.columns) {
         fill_by::<S, 0>(lines, view, place, across, first, count);
-    } else if across.is_run(place.columns) {
-        fill_by::<S, 1>(lines, view, place, across, first, count);
     } else {
-        fill_by::<S, 2>(lines, view, place, across, first, count);
+        fill_by::<S, 1>(lines, view, place, across, first, count);
+    }
+}
+
+/// Row i of N samples as they are.
+#[inline(always)]
+fn put_run<const N: usize>(lines: &mut [u16], i: usize, row: &[u16], from: usize)
+    requires low { i ≤ 256 }
+    requires few { N ≤ 64 }
+    requires near { from ≤ 65536 }
+    requires room { i * N + N ≤ length lines.old }
+    requires enough { from + N ≤ length row.now }
+    ensures row { (j : ℕ) → j < N → slice_index lines.new (i * N + j) ≡ slice_index row.now (from + j) }
+    ensures before { (k : ℕ) → k < i * N → slice_index lines.new k ≡ slice_index lines.old k }
+{
+    let at = i * N;
+    lines[at..at + N].copy_from_slice(&row[from..from + N]);
+}
+
+/// Lines of N samples as they are: each width has a loop of its own.
+fn copy_lines<S: Samples, const N: usize>(
+    lines: &mut [u16],
+    view: &S,
+    place: &Place,
+    most: u16,
+    first: usize,
+    count: usize,
+)
+    requires width { N ≡ place.now.columns }
+    requires copied { IsCopied place.now.across place.now.columns }
+    requires place { IsPlace place.now }
+    requires low { count ≤ 134 }
+    requires near { first ≤ 3 }
+    requires room { count * place.now.columns ≤ length lines.old }
+    requires held { (r : ℕ) → r < count → S.holds view.now place.now.plane (straight place.now.down (first + r)) }
+    requires wide { place.now.across.size ≤ S.width view.now place.now.plane }
+    requires samples { IsAtMost most (S.map view.now place.now.plane) }
+    ensures { HoldsRows lines.new place.now.columns count
+        (λ r j. S.map view.now place.now.plane (straight place.now.down (first + r)) (straight place.now.across (3 + j))) }
+{
+    // a copy stays in registers
+    let place = *place;
+    let from = straight(&place.across, 3);
+    for r in 0..count {
+        let row = read_row(view, &place, first + r, most);
+        put_run::<N>(lines, r, row, from);
+    }
+}
+
+/// A block's columns, if its lines are samples as they are, else 0.
+#[inline(always)]
+fn copied_columns(place: &Place) -> usize
+    requires { IsPlace place.now }
+    ensures width { 0 < result → result ≡ place.now.columns }
+    ensures copied { 0 < result → IsCopied place.now.across place.now.columns }
+{
+    if is_copied(&place.across, place.columns) {
+        place.columns
+    } else {
+        0
+    }
+}
+
+/// Lines along so many rows of the reference, from the one on that lies `first` after the third before the first.
+#[inline(always)]
+pub(crate) fn fill_lines<S: Samples>(
+    lines: &mut [u16],
+    view: &S,
+    place: &Place,
+    by: Interpolation,
+    first: usize,
+    count: usize,
+)
+    requires place { IsPlace place.now }
+    requires most { by.most ≤ 4095 }
+    requires low { count ≤ 134 }
+    requires near { first ≤ 3 }
+    requires room { count * place.now.columns ≤ length lines.old }
+    requires held { (r : ℕ) → r < count → S.holds view.now place.now.plane (straight place.now.down (first + r)) }
+    requires wide { place.now.across.size ≤ S.width view.now place.now.plane }
+    requires samples { IsAtMost by.most (S.map view.now place.now.plane) }
+    ensures { HoldsRows lines.new place.now.columns count
+        (λ r j. along by.most by.kind place.now.across (S.map view.now place.now.plane (straight place.now.down (first + r))) j) }
+{
+    match copied_columns(place) {
+        4 => copy_lines::<S, 4>(lines, view, place, by.most, first, count),
+        8 => copy_lines::<S, 8>(lines, view, place, by.most, first, count),
+        16 => copy_lines::<S, 16>(lines, view, place, by.most, first, count),
+        32 => copy_lines::<S, 32>(lines, view, place, by.most, first, count),
+        64 => copy_lines::<S, 64>(lines, view, place, by.most, first, count),
+        _ => {
+            let across = LineFilter::new(&place.across, by.kind, by.most);
+            filter_lines(lines, view, place, &across, first, count);
+        }
     }
 }

@@ -1,4 +1,4 @@
-use Rattle.std.proofs.Common.{◌+◌, ◌*◌, ◌^◌, ◌≤◌, slice_index, arith}
+use Rattle.std.proofs.Common.{◌+◌, ◌*◌, ◌^◌, slice_index, arith}
 use Rattle.inter_lanes.proofs.LaneLemmas.{samples_again, taps_again, sums_again, neighbours_value}
 use Rattle.inter_lanes.proofs.sixteen.four_neighbours_at.Goals as goal
 

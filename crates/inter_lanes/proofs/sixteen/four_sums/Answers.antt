@@ -1,4 +1,4 @@
-use Rattle.std.proofs.Common.{arith, ◌≤◌, ◌^◌}
+use Rattle.std.proofs.Common.{arith, ◌^◌}
 use Rattle.inter_lanes.proofs.LaneLemmas.{sums_again, four_value}
 use Rattle.inter_lanes.proofs.sixteen.four_sums.Goals as goal
 

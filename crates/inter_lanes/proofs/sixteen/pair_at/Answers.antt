@@ -1,5 +1,6 @@
-use Rattle.std.proofs.Common.{◌+◌, slice_index, arith, ◌≤◌, ◌^◌}
-use Rattle.inter_lanes.proofs.LaneLemmas.{samples_again, taps_again, sums_again, pair_value}
+use Rattle.std.proofs.Common.{◌+◌, slice_index, arith, ◌^◌}
+use Rattle.inter_lanes.specs.Code.{low_lane, high_lane}
+use Rattle.inter_lanes.proofs.LaneLemmas.{samples_again, taps_again, sums_again, pair_value, low_below, high_below}
 use Rattle.inter_lanes.proofs.sixteen.pair_at.Goals as goal
 
 pub woven-requires-clause-p : goal.woven-requires-clause-p
@@ -28,12 +29,12 @@ returns-clause-second c = sums_again c.pair_sums-second.result (2 ^ 20) (omega a
 
 pub returns-clause-first_value : goal.returns-clause-first_value
 returns-clause-first_value c = λ j low. let a = c.args in
-    pair_value a.taps c.woven.result.0 c.load-p.result c.load-q.result (slice_index a.samples.now (a.place + j)) (slice_index a.samples.now (a.place + a.step + j)) j j c.pair_sums-first.result
+    pair_value a.taps c.woven.result.0 c.load-p.result c.load-q.result (slice_index a.samples.now (a.place + low_lane j)) (slice_index a.samples.now (a.place + a.step + low_lane j)) (low_lane j) j c.pair_sums-first.result
     low c.requires.taps c.woven.ensures.first c.load-p.ensures.lanes c.load-q.ensures.lanes c.pair_sums-first.ensures.lanes (c.pair_sums-first.ensures.value j low)
-    (c.woven.ensures.first_even j low) (c.woven.ensures.first_odd j low) (c.load-p.ensures.value j (omega arith)) (c.load-q.ensures.value j (omega arith))
+    (c.woven.ensures.first_even j low) (c.woven.ensures.first_odd j low) (c.load-p.ensures.value (low_lane j) (low_below j low)) (c.load-q.ensures.value (low_lane j) (low_below j low))
 
 pub returns-clause-second_value : goal.returns-clause-second_value
 returns-clause-second_value c = λ j low. let a = c.args in
-    pair_value a.taps c.woven.result.1 c.load-p.result c.load-q.result (slice_index a.samples.now (a.place + (8 + j))) (slice_index a.samples.now (a.place + a.step + (8 + j))) (8 + j) j
+    pair_value a.taps c.woven.result.1 c.load-p.result c.load-q.result (slice_index a.samples.now (a.place + high_lane j)) (slice_index a.samples.now (a.place + a.step + high_lane j)) (high_lane j) j
     c.pair_sums-second.result low c.requires.taps c.woven.ensures.second c.load-p.ensures.lanes c.load-q.ensures.lanes c.pair_sums-second.ensures.lanes (c.pair_sums-second.ensures.value j low)
-    (c.woven.ensures.second_even j low) (c.woven.ensures.second_odd j low) (c.load-p.ensures.value (8 + j) (omega arith)) (c.load-q.ensures.value (8 + j) (omega arith))
+    (c.woven.ensures.second_even j low) (c.woven.ensures.second_odd j low) (c.load-p.ensures.value (high_lane j) (high_below j low)) (c.load-q.ensures.value (high_lane j) (high_below j low))

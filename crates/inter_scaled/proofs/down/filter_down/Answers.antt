@@ -1,4 +1,4 @@
-use Rattle.std.proofs.Common.{◌≡◌, ℕ, ◌+◌, ◌*◌, ◌/◌, ◌-◌, ◌≤◌, ◌<◌, ◌∙◌, ap, sym, arith, get_or, List, ℤ}
+use Rattle.std.proofs.Common.{◌≡◌, ℕ, ◌+◌, ◌*◌, ◌/◌, ◌∙◌, ap, sym, arith, get_or, List, ℤ}
 use Rattle.vp9_tables.specs.Filters.{taps_of}
 use Rattle.inter_lanes.specs.Filter.{filtered}
 use Rattle.inter_places.specs.Axes.{phase, offset}

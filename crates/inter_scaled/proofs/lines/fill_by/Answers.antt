@@ -1,20 +1,12 @@
-use Rattle.std.proofs.Common.{◌≡◌, ℕ, ◌+◌, ◌∙◌, ap, arith, refl, get_or, List, ℤ}
+use Rattle.std.proofs.Common.{◌≡◌, ℕ, ◌+◌, ◌∙◌, ap, arith, get_or, List, ℤ}
 use Rattle.inter_lanes.specs.Filter.{filtered}
 use Rattle.inter_places.specs.Axes.{straight}
-use Rattle.inter_scaled.proofs.Agree.{along_whole, along_straight, filtered_same}
+use Rattle.inter_scaled.proofs.Agree.{along_straight, filtered_same}
 use Rattle.inter_scaled.proofs.lines.fill_by.Goals as goal
 
 pub returns-then-this-eq0-clause-value : goal.returns-then-this-eq0-clause-value
 returns-then-this-eq0-clause-value g c = λ j low. let a = c.args in let f = a.filter.now in
-    let copied = c.requires.copied c.if-this-eq0.true in
-    let at = copied.inside.places (3 + j) (omega arith) in
-    let same : a.from + 3 + j ≡ straight f.axis (3 + j) = omega (arith, at, c.requires.from) in
-    c.copy_run.ensures.value j low ∙ ap (λ (z : ℕ). get_or a.row.now z 0) same
-    ∙ along_whole f.most f.kind f.axis (λ (k : ℕ). get_or a.row.now k 0) j copied.step copied.phase c.requires.samples
-
-pub returns-then-this-eq1-clause-value : goal.returns-then-this-eq1-clause-value
-returns-then-this-eq1-clause-value g c = λ j low. let a = c.args in let f = a.filter.now in
-    let run = c.requires.run c.if-this-eq1.true in
+    let run = c.requires.run c.if-this-eq0.true in
     c.filter_line.ensures.value j low
     ∙ filtered_same f.most f.taps (λ (k : ℕ). get_or a.row.now (a.from + (j + k)) 0) (λ (k : ℕ). get_or a.row.now (straight f.axis (j + k)) 0)
     (λ k few. let at = run.inside.places (j + k) (omega arith) in

@@ -1,4 +1,4 @@
-use Rattle.std.proofs.Common.{◌-◌, ◌≤◌, arith}
+use Rattle.std.proofs.Common.{◌-◌, arith}
 use Rattle.inter_scaled.proofs.Agree.{place_below}
 use Rattle.inter_scaled.proofs.tests.sum_of.Goals as goal
 

@@ -1,4 +1,4 @@
-use Rattle.std.proofs.Common.{◌≡◌, ℕ, ◌+◌, ◌*◌, ◌/◌, ◌%◌, ◌^◌, ◌≤◌, ◌<◌, arith, inl, inr, subst, slice_index, get_or}
+use Rattle.std.proofs.Common.{◌≡◌, ℕ, ◌+◌, ◌*◌, ◌/◌, ◌^◌, arith, inl, inr, subst, slice_index, get_or}
 use Rattle.inter_lanes.specs.Filter.{filtered}
 use Rattle.inter_lanes.proofs.LaneLemmas.{sums_again, turn_value, halves}
 use Rattle.inter_lanes.proofs.taps.TapLanes.filter_along.Goals as goal

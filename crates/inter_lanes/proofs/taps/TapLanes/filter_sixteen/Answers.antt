@@ -1,7 +1,7 @@
-use Rattle.std.proofs.Common.{◌≡◌, ℕ, ◌+◌, ◌-◌, ◌*◌, ◌^◌, ◌≤◌, ◌<◌, arith, inl, inr, subst, slice_index, get_or}
-use Rattle.std.proofs.lemmas.Bool.{cases_lt}
+use Rattle.std.proofs.Common.{◌≡◌, ℕ, ◌+◌, ◌*◌, ◌^◌, arith, inl, inr, subst, slice_index, get_or}
 use Rattle.inter_lanes.specs.Filter.{filtered}
-use Rattle.inter_lanes.proofs.LaneLemmas.{sums_again, turned_again, sixteen_value}
+use Rattle.inter_lanes.specs.Code.{low_lane, high_lane}
+use Rattle.inter_lanes.proofs.LaneLemmas.{sums_again, turned_again, sixteen_value, half_lane, half_below, lane_cases}
 use Rattle.inter_lanes.proofs.taps.TapLanes.filter_sixteen.Goals as goal
 
 pub pair_at-p-requires-clause-taps : goal.pair_at-p-requires-clause-taps
@@ -47,17 +47,19 @@ pub rounded_lanes-requires-clause-high : goal.rounded_lanes-requires-clause-high
 rounded_lanes-requires-clause-high c = sums_again c.four_sums-high.result (2 ^ 22) (omega arith) c.four_sums-high.ensures.lanes
 
 pub returns : goal.returns
-returns c = λ j low. let a = c.args in let t = c.self.inside in let n = c.self.invariant in elim (cases_lt j 8) [
-  | inl few ↦ sixteen_value a.most a.self.now t.first t.second t.third t.fourth a.samples.now a.place a.step (j) (j) (slice_index c.rounded_lanes.result (j))
+returns c = λ i low. let a = c.args in let t = c.self.inside in let n = c.self.invariant in elim (lane_cases i) [
+  | inl is ↦ let few = half_below i low in
+      subst (λ (k : ℕ). slice_index c.rounded_lanes.result k ≡ filtered a.most a.self.now (λ m. get_or a.samples.now (a.place + m * a.step + k) 0)) is
+      (sixteen_value a.most a.self.now t.first t.second t.third t.fourth a.samples.now a.place a.step (low_lane (half_lane i)) (half_lane i) (slice_index c.rounded_lanes.result (low_lane (half_lane i)))
       c.pair_at-p.result.0 c.pair_at-q.result.0 c.pair_at-r.result.0 c.pair_at-s.result.0 c.four_sums-low.result
       c.self.view_is n.0 n.1 n.2 n.3 c.pair_at-p.ensures.first c.pair_at-q.ensures.first c.pair_at-r.ensures.first c.pair_at-s.ensures.first c.four_sums-low.ensures.lanes
-      (c.rounded_lanes.ensures.low (j) few) (c.four_sums-low.ensures.value (j) few)
-      (c.pair_at-p.ensures.first_value (j) few) (c.pair_at-q.ensures.first_value (j) few) (c.pair_at-r.ensures.first_value (j) few) (c.pair_at-s.ensures.first_value (j) few)
-  | inr past ↦ let is : 8 + (j - 8) ≡ j = omega arith in let few : j - 8 < 8 = omega arith in
-      subst (λ (i : ℕ). slice_index c.rounded_lanes.result i ≡ filtered a.most a.self.now (λ k. get_or a.samples.now (a.place + k * a.step + i) 0)) is
-      (sixteen_value a.most a.self.now t.first t.second t.third t.fourth a.samples.now a.place a.step (8 + (j - 8)) (j - 8) (slice_index c.rounded_lanes.result (8 + (j - 8)))
+      (c.rounded_lanes.ensures.low (half_lane i) few) (c.four_sums-low.ensures.value (half_lane i) few)
+      (c.pair_at-p.ensures.first_value (half_lane i) few) (c.pair_at-q.ensures.first_value (half_lane i) few) (c.pair_at-r.ensures.first_value (half_lane i) few) (c.pair_at-s.ensures.first_value (half_lane i) few))
+  | inr is ↦ let few = half_below i low in
+      subst (λ (k : ℕ). slice_index c.rounded_lanes.result k ≡ filtered a.most a.self.now (λ m. get_or a.samples.now (a.place + m * a.step + k) 0)) is
+      (sixteen_value a.most a.self.now t.first t.second t.third t.fourth a.samples.now a.place a.step (high_lane (half_lane i)) (half_lane i) (slice_index c.rounded_lanes.result (high_lane (half_lane i)))
       c.pair_at-p.result.1 c.pair_at-q.result.1 c.pair_at-r.result.1 c.pair_at-s.result.1 c.four_sums-high.result
       c.self.view_is n.0 n.1 n.2 n.3 c.pair_at-p.ensures.second c.pair_at-q.ensures.second c.pair_at-r.ensures.second c.pair_at-s.ensures.second c.four_sums-high.ensures.lanes
-      (c.rounded_lanes.ensures.high (j - 8) few) (c.four_sums-high.ensures.value (j - 8) few)
-      (c.pair_at-p.ensures.second_value (j - 8) few) (c.pair_at-q.ensures.second_value (j - 8) few) (c.pair_at-r.ensures.second_value (j - 8) few) (c.pair_at-s.ensures.second_value (j - 8) few))
+      (c.rounded_lanes.ensures.high (half_lane i) few) (c.four_sums-high.ensures.value (half_lane i) few)
+      (c.pair_at-p.ensures.second_value (half_lane i) few) (c.pair_at-q.ensures.second_value (half_lane i) few) (c.pair_at-r.ensures.second_value (half_lane i) few) (c.pair_at-s.ensures.second_value (half_lane i) few))
 ]

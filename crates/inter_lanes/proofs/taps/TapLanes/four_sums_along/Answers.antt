@@ -1,4 +1,4 @@
-use Rattle.std.proofs.Common.{arith, ◌≤◌, ◌^◌}
+use Rattle.std.proofs.Common.{arith, ◌^◌}
 use Rattle.inter_lanes.proofs.LaneLemmas.{sums_again, turned_again, half_value}
 use Rattle.inter_lanes.proofs.taps.TapLanes.four_sums_along.Goals as goal
 

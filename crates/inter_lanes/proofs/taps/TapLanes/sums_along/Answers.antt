@@ -1,4 +1,4 @@
-use Rattle.std.proofs.Common.{arith, ◌≤◌, ◌^◌}
+use Rattle.std.proofs.Common.{arith, ◌^◌}
 use Rattle.inter_lanes.proofs.LaneLemmas.{sums_again, turned_again, along_value}
 use Rattle.inter_lanes.proofs.taps.TapLanes.sums_along.Goals as goal
 
