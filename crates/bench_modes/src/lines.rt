@@ -1,0 +1,87 @@
+//! What is read for a line of the input.
+
+ghost use Rattle.std.specs.Prelude.{◌≡◌};
+
+use crate::checksums::{of_blocks, of_counts};
+use crate::frames::{COLS, Frame, ROWS, next_frame};
+use crate::header::header;
+use counting_reader::CountingReader;
+use frame_setting::FrameSetting;
+use prob_contexts::{Counts, default_contexts};
+use segment_map::SegmentMap;
+use std::alloc::{AllocError, Global};
+use vp9_types::{Modes, ReferenceMode, TxMode};
+
+/// How many bytes the frames are read of.
+const SIZE: usize = 8 << 20;
+
+const SEED: u32 = 4;
+
+/// The next state of a linear congruential generator, whose highest byte is what it draws.
+fn drawn(state: u32) -> u32 {
+    state.wrapping_mul(1664525).wrapping_add(1013904223)
+}
+
+pub fn bytes(alloc: Global) -> Result<Vec<u8>, AllocError> {
+    let mut bytes = Vec::with_capacity(alloc, SIZE)?;
+    let mut state = SEED;
+    for _ in 0..SIZE {
+        state = drawn(state);
+        bytes.push((state >> 24) as u8)?;
+    }
+    Ok(bytes)
+}
+
+/// So many frames, the last of which is kept.
+fn read_frames<'a, const COUNTS: bool>(
+    alloc: Global,
+    bytes: &'a [u8],
+    setting: &FrameSetting,
+    frames: u32,
+) -> Result<Frame<'a, COUNTS>, AllocError>
+    requires { (setting.now.places.rows ≡ 135) × (setting.now.places.cols ≡ 240) }
+{
+    let map = SegmentMap::new(alloc, ROWS, COLS)?;
+    let Ok(reader) = CountingReader::<COUNTS>::start(bytes, Counts::new()) else {
+        return Err(AllocError);
+    };
+    let mut frame = Frame::new(alloc, reader)?;
+    for number in 0..frames {
+        frame = next_frame(alloc, bytes, setting, &map, frame, number)?;
+    }
+    Ok(frame)
+}
+
+fn read_line<const COUNTS: bool>(
+    alloc: Global,
+    bytes: &[u8],
+    line: &str,
+    frames: u32,
+) -> Result<String, AllocError> {
+    let modes = Modes {
+        tx_mode: TxMode::Selected,
+        reference_mode: ReferenceMode::Selected,
+    };
+    let setting = FrameSetting::new(&header(), modes, default_contexts());
+    let frame = read_frames::<COUNTS>(alloc, bytes, &setting, frames)?;
+    let blocks = frame.grid.blocks();
+    let (count, sum) = (blocks.len(), of_blocks(blocks));
+    let counted = of_counts(&frame.reader.into_counts());
+    format!(in alloc; "{line}: {count} blocks, {sum} {counted}")
+}
+
+/// What is printed for a line: a number of frames, behind `silent` if nothing is counted.
+pub fn describe(alloc: Global, bytes: &[u8], line: &str) -> Result<String, AllocError> {
+    let (silent, rest) = match line.strip_prefix("silent ") {
+        Some(rest) => (true, rest),
+        None => (false, line),
+    };
+    let Ok(frames) = rest.parse::<u32>() else {
+        return format!(in alloc; "{line}: not a number");
+    };
+    if silent {
+        read_line::<false>(alloc, bytes, line, frames)
+    } else {
+        read_line::<true>(alloc, bytes, line, frames)
+    }
+}
