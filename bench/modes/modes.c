@@ -1,5 +1,5 @@
-/* The partitions and modes of an inter frame of 1920x1080, read as crates/bench_modes reads them, in C over the same bool
-   decoder: the same bools, candidates, contexts and counts. It prints the same checksums. */
+/* The modes of inter frames of 1920x1080, read as crates/bench_modes reads them, in C over the same bool decoder: the same
+   bools, candidates, contexts and counts, in drawn partitions or such as are read too. It prints the same checksums. */
 #include <inttypes.h>
 #include <stdint.h>
 #include <stdio.h>
@@ -51,7 +51,8 @@ enum { NEAREST, NEAR, ZERO, NEW };
 typedef struct {
     decoder d;
     grid now, before;
-    int has_before;
+    int has_before, whole;
+    uint32_t draws;
     uint8_t above[COLS], left[8];
     uint64_t counters[2 * ALL];
 } tile;
@@ -418,9 +419,8 @@ static void read_block(tile *t, int r, int c, int size) {
 static const uint8_t SIZES[4][4] = {{3, 2, 1, 0}, {6, 5, 4, 3}, {9, 8, 7, 6}, {12, 11, 10, 9}};
 
 /* The contexts above and at the left have a bit for each level whose squares are wider or higher than the block there. */
-static void read_square(tile *t, int r, int c, int level) {
-    if (r >= ROWS || c >= COLS) return;
-    int side = 1 << level, half = side / 2, rows = r + half < ROWS, cols = c + half < COLS, p;
+static int read_partition(tile *t, int r, int c, int level) {
+    int half = (1 << level) / 2, rows = r + half < ROWS, cols = c + half < COLS, p;
     int context = 4 * level + 2 * (t->left[r & 7] >> level & 1) + (t->above[c] >> level & 1);
     const uint8_t *probs = PROB_PARTITION + 3 * context;
     if (rows && cols) {
@@ -436,7 +436,22 @@ static void read_square(tile *t, int r, int c, int level) {
         p = 3;
     for (int k = 0; k < p; k++) t->counters[2 * (PARTITION + 3 * context + k) + 1]++;
     if (p < 3) t->counters[2 * (PARTITION + 3 * context + p)]++;
-    int size = SIZES[level][p];
+    return p;
+}
+
+static int draw_partition(tile *t) {
+    t->draws = drawn(t->draws);
+    return t->draws >> 29 < 3 ? t->draws >> 29 : 3;
+}
+
+static void inside(tile *t, int r, int c, int size) {
+    if (r < ROWS && c < COLS) read_block(t, r, c, size);
+}
+
+static void read_square(tile *t, int r, int c, int level) {
+    if (r >= ROWS || c >= COLS) return;
+    int p = t->whole ? read_partition(t, r, c, level) : draw_partition(t);
+    int side = 1 << level, half = side / 2, size = SIZES[level][p];
     if (level > 0 && p == 3) {
         read_square(t, r, c, level - 1);
         read_square(t, r, c + half, level - 1);
@@ -445,8 +460,9 @@ static void read_square(tile *t, int r, int c, int level) {
         return;
     }
     read_block(t, r, c, size);
-    if (level > 0 && p == 1 && rows) read_block(t, r + half, c, size);
-    if (level > 0 && p == 2 && cols) read_block(t, r, c + half, size);
+    if (level > 0 && p == 1) inside(t, r + half, c, size);
+    if (level > 0 && p == 2) inside(t, r, c + half, size);
+    if (!t->whole) return;
     int above = 0, left = 0;
     for (int k = 0; k < 4; k++) {
         above |= (BLOCK_SIZES[2 * size] < 8 << k) << k;
@@ -506,8 +522,9 @@ int main(void) {
     char line[64];
     while (fgets(line, sizeof line, stdin)) {
         line[strcspn(line, "\n")] = 0;
-        int frames = atoi(line);
         tile *t = calloc(1, sizeof *t);
+        t->whole = !strncmp(line, "whole ", 6);
+        int frames = atoi(line + 6 * t->whole);
         for (int k = 0; k < frames; k++) {
             if (k % FRAMES == 0) start(&t->d, bytes, SIZE);
             read_frame(t);
@@ -516,8 +533,8 @@ int main(void) {
         for (int k = 0; k < t->now.n; k++) add_block(&t->now.blocks[k]);
         printf("%s: %d blocks, %" PRIu32, line, t->now.n, sum);
         sum = 0;
-        for (int k = 0; k < 12; k++) add_number(t->counters[k]);
-        for (int k = 2 * SKIP; k < 2 * ALL; k++) add_number(t->counters[k]);
+        for (int k = 0; k < 24; k++) add_number(t->counters[k] & 65535);
+        for (int k = 2 * SKIP; k < 2 * ALL; k++) add_number(t->counters[k] & 65535);
         printf(" %" PRIu32 "\n", sum);
     }
     return 0;

@@ -1,7 +1,8 @@
 #!/usr/bin/env bash
-# Times the modes of inter frames of 1920x1080, of pseudo-random bytes: crates/bench_modes, proved and built by LLVM, counting
-# and not, beside the same in C (gcc -O3), which counts. All must print one checksum of blocks, and those that count one of
-# counts. The least of several runs counts, less what no frames take. Where valgrind is there, instructions are told too.
+# Times the modes of inter frames of 1920x1080, of pseudo-random bytes, in drawn partitions and in such as are read too:
+# crates/bench_modes, proved and built by LLVM, counting and not, beside the same in C (gcc -O3), which counts. All must
+# print one checksum of blocks, and those that count one of counts. The least of several runs counts, less what no frames
+# take. Where valgrind is there, instructions are told too.
 set -eu
 cd "$(dirname "$0")/../.."
 frames=${1:-200}
@@ -44,13 +45,17 @@ def instructions(program, kind):
     return (end - begin) / 20 / 1e6
 
 
-(c, sum_c), (counted, sum_counted), (silent, sum_silent) = figure("c", ""), figure("rattle", ""), figure("rattle", "silent ")
-if sum_c != sum_counted or sum_c[0] != sum_silent[0]:
-    sys.exit(f"C printed {sum_c!r}, Rattle {sum_counted!r} and {sum_silent!r}")
-print(f"C {c:.0f} us a frame, Rattle {counted:.0f} us, ratio {counted / c:.2f}; without counts {silent:.0f} us")
-if shutil.which("valgrind"):
-    c_told, told = instructions("c", ""), instructions("rattle", "")
-    print(f"C {c_told:.2f} million instructions a frame, Rattle {told:.2f} million, ratio {told / c_told:.2f}; "
-          f"without counts {instructions('rattle', 'silent '):.2f} million")
-sys.exit("slower than 1.3 times C" if counted > 1.3 * c else 0)
+slow = False
+for kind, what in (("", "a frame of drawn partitions"), ("whole ", "a frame with its partitions")):
+    (c, sum_c), (counted, sum_counted), (silent, sum_silent) = (
+        figure("c", kind), figure("rattle", kind), figure("rattle", f"silent {kind}"))
+    if sum_c != sum_counted or sum_c[0] != sum_silent[0]:
+        sys.exit(f"C printed {sum_c!r}, Rattle {sum_counted!r} and {sum_silent!r}")
+    print(f"C {c:.0f} us {what}, Rattle {counted:.0f} us, ratio {counted / c:.2f}; without counts {silent:.0f} us")
+    if shutil.which("valgrind"):
+        c_told, told, silent_told = (
+            instructions("c", kind), instructions("rattle", kind), instructions("rattle", f"silent {kind}"))
+        print(f"C {c_told:.1f} million instructions, Rattle {told:.1f}, ratio {told / c_told:.2f}; without counts {silent_told:.1f}")
+    slow = slow or counted > 1.3 * c
+sys.exit("slower than 1.3 times C" if slow else 0)
 PY

@@ -17,9 +17,14 @@ impl Digest {
         self.sum = self.sum.wrapping_mul(31).wrapping_add(shifted);
     }
 
+    fn add_number(&mut self, number: i16) {
+        let shifted = (i32::from(number) + 65536) as u32;
+        self.sum = self.sum.wrapping_mul(31).wrapping_add(shifted);
+    }
+
     fn add_vector(&mut self, v: Mv) {
-        self.add(i32::from(v.row) as u32);
-        self.add(i32::from(v.column) as u32);
+        self.add_number(v.row);
+        self.add_number(v.column);
     }
 
     fn add_block(&mut self, block: &BlockInfo) {
@@ -62,8 +67,8 @@ impl Digest {
         requires { size ≤ kind_size kind }
     {
         for place in 0..size {
-            self.add(counts.counter(kind, place, false) as u32);
-            self.add(counts.counter(kind, place, true) as u32);
+            self.add((counts.counter(kind, place, false) & 65535) as u32);
+            self.add((counts.counter(kind, place, true) & 65535) as u32);
         }
     }
 }

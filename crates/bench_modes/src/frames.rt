@@ -26,12 +26,18 @@ const ROOM: usize = 64 * 17 * 30;
 /// After how many frames the bytes are read from the beginning again.
 const FRAMES: u32 = 100;
 
+/// The next state of a linear congruential generator, whose highest bits are what it draws.
+pub fn drawn(state: u32) -> u32 {
+    state.wrapping_mul(1664525).wrapping_add(1013904223)
+}
+
 /// A frame, as far as it is read, and how many blocks there is room for.
 #[derive(Drop)]
 pub struct Frame<'a, const COUNTS: bool> {
     pub reader: CountingReader<'a, COUNTS>,
     pub grid: BlockGrid,
     room: usize,
+    draws: u32,
     ghost rows: { grid.rows ≡ 135 },
     ghost from: { grid.from ≡ 0 },
     ghost to: { grid.to ≡ 240 },
@@ -39,13 +45,14 @@ pub struct Frame<'a, const COUNTS: bool> {
     ghost small: { All HasSmallVectors grid.blocks },
 }
 
-/// What the blocks of a frame are read by beside the bytes: what is fixed for it, the map of segments before it, and the
-/// blocks of the frame before.
+/// What the blocks of a frame are read by beside the bytes: what is fixed for it, the map of segments before it, the
+/// blocks of the frame before; and whether partitions are read too, or drawn.
 #[derive(Drop)]
 pub struct Sources<'a> {
     pub setting: &'a FrameSetting,
     pub map: &'a SegmentMap,
     pub before: Option<&'a BlockGrid>,
+    pub whole: bool,
     pub ghost places: { (setting.now.places.rows ≡ 135) × (setting.now.places.cols ≡ 240) },
     pub ghost segments: { (map.now.rows ≡ 135) × (map.now.cols ≡ 240) },
     pub ghost grid: { IfSome (option_copied before) (λ g. (g.rows ≡ 135) × (g.from ≡ 0) × (g.to ≡ 240) × All HasSmallVectors g.blocks) },
@@ -59,7 +66,19 @@ impl<'a, const COUNTS: bool> Frame<'a, COUNTS> {
             reader,
             grid,
             room: ROOM,
+            draws: 0,
         })
+    }
+
+    /// One of eight draws is a whole square, one each are halves, and five are quarters.
+    fn draw_partition(&mut self) -> Partition {
+        self.draws = drawn(self.draws);
+        match self.draws >> 29 {
+            0 => Partition::Whole,
+            1 => Partition::Horizontal,
+            2 => Partition::Vertical,
+            _ => Partition::Split,
+        }
     }
 }
 
@@ -116,6 +135,30 @@ fn read_block<const COUNTS: bool>(
     frame.room -= 1;
 }
 
+fn partition_of<const COUNTS: bool>(
+    frame: &mut Frame<'_, COUNTS>,
+    sources: &Sources<'_>,
+    row: u32,
+    col: u32,
+    level: u8,
+) -> Partition
+    requires level { level ≤ 3 }
+    requires row { row < 135 }
+    requires col { col < 240 }
+{
+    if !sources.whole {
+        return frame.draw_partition();
+    }
+    let at = SquareAt {
+        row,
+        col,
+        level,
+        tile_from: 0,
+        tile_to: COLS,
+    };
+    read_partition(&mut frame.reader, sources.setting, false, &frame.grid, at)
+}
+
 fn read_square<const COUNTS: bool>(
     frame: &mut Frame<'_, COUNTS>,
     sources: &Sources<'_>,
@@ -130,14 +173,7 @@ fn read_square<const COUNTS: bool>(
     if row >= ROWS || col >= COLS {
         return;
     }
-    let at = SquareAt {
-        row,
-        col,
-        level,
-        tile_from: 0,
-        tile_to: COLS,
-    };
-    let partition = read_partition(&mut frame.reader, sources.setting, false, &frame.grid, at);
+    let partition = partition_of(frame, sources, row, col, level);
     let size = part_size(partition, level);
     if level == 0 {
         return read_block(frame, sources, row, col, size);
@@ -176,19 +212,25 @@ fn read_rows<const COUNTS: bool>(frame: &mut Frame<'_, COUNTS>, sources: &Source
     }
 }
 
-/// Reads the frame of a number behind the frame before it.
+/// Reads the frame of a number behind the frame before it, where partitions are read too or drawn.
 pub fn next_frame<'a, const COUNTS: bool>(
     alloc: Global,
     bytes: &'a [u8],
-    setting: &FrameSetting,
-    map: &SegmentMap,
+    fixed: (&FrameSetting, &SegmentMap),
     before: Frame<'a, COUNTS>,
     number: u32,
+    whole: bool,
 ) -> Result<Frame<'a, COUNTS>, AllocError>
-    requires places { (setting.now.places.rows ≡ 135) × (setting.now.places.cols ≡ 240) }
-    requires map { (map.now.rows ≡ 135) × (map.now.cols ≡ 240) }
+    requires places { (fixed.0.now.places.rows ≡ 135) × (fixed.0.now.places.cols ≡ 240) }
+    requires map { (fixed.1.now.rows ≡ 135) × (fixed.1.now.cols ≡ 240) }
 {
-    let Frame { reader, grid, .. } = before;
+    let Frame {
+        reader,
+        grid,
+        draws,
+        ..
+    } = before;
+    let (setting, map) = fixed;
     let reader = if number % FRAMES == 0 {
         let Ok(reader) = CountingReader::start(bytes, reader.into_counts()) else {
             return Err(AllocError);
@@ -198,10 +240,12 @@ pub fn next_frame<'a, const COUNTS: bool>(
         reader
     };
     let mut frame = Frame::new(alloc, reader)?;
+    frame.draws = draws;
     let sources = Sources {
         setting,
         map,
         before: if number == 0 { None } else { Some(&grid) },
+        whole,
     };
     read_rows(&mut frame, &sources);
     Ok(frame)

@@ -3,7 +3,7 @@
 ghost use Rattle.std.specs.Prelude.{◌≡◌};
 
 use crate::checksums::{of_blocks, of_counts};
-use crate::frames::{COLS, Frame, ROWS, next_frame};
+use crate::frames::{COLS, Frame, ROWS, drawn, next_frame};
 use crate::header::header;
 use counting_reader::CountingReader;
 use frame_setting::FrameSetting;
@@ -16,11 +16,6 @@ use vp9_types::{Modes, ReferenceMode, TxMode};
 const SIZE: usize = 8 << 20;
 
 const SEED: u32 = 4;
-
-/// The next state of a linear congruential generator, whose highest byte is what it draws.
-fn drawn(state: u32) -> u32 {
-    state.wrapping_mul(1664525).wrapping_add(1013904223)
-}
 
 pub fn bytes(alloc: Global) -> Result<Vec<u8>, AllocError> {
     let mut bytes = Vec::with_capacity(alloc, SIZE)?;
@@ -38,6 +33,7 @@ fn read_frames<'a, const COUNTS: bool>(
     bytes: &'a [u8],
     setting: &FrameSetting,
     frames: u32,
+    whole: bool,
 ) -> Result<Frame<'a, COUNTS>, AllocError>
     requires { (setting.now.places.rows ≡ 135) × (setting.now.places.cols ≡ 240) }
 {
@@ -47,7 +43,7 @@ fn read_frames<'a, const COUNTS: bool>(
     };
     let mut frame = Frame::new(alloc, reader)?;
     for number in 0..frames {
-        frame = next_frame(alloc, bytes, setting, &map, frame, number)?;
+        frame = next_frame(alloc, bytes, (setting, &map), frame, number, whole)?;
     }
     Ok(frame)
 }
@@ -57,31 +53,37 @@ fn read_line<const COUNTS: bool>(
     bytes: &[u8],
     line: &str,
     frames: u32,
+    whole: bool,
 ) -> Result<String, AllocError> {
     let modes = Modes {
         tx_mode: TxMode::Selected,
         reference_mode: ReferenceMode::Selected,
     };
     let setting = FrameSetting::new(&header(), modes, default_contexts());
-    let frame = read_frames::<COUNTS>(alloc, bytes, &setting, frames)?;
+    let frame = read_frames::<COUNTS>(alloc, bytes, &setting, frames, whole)?;
     let blocks = frame.grid.blocks();
     let (count, sum) = (blocks.len(), of_blocks(blocks));
     let counted = of_counts(&frame.reader.into_counts());
     format!(in alloc; "{line}: {count} blocks, {sum} {counted}")
 }
 
-/// What is printed for a line: a number of frames, behind `silent` if nothing is counted.
+/// What is printed for a line: a number of frames, behind `whole` if partitions are read too and not drawn, and behind
+/// `silent` if nothing is counted.
 pub fn describe(alloc: Global, bytes: &[u8], line: &str) -> Result<String, AllocError> {
     let (silent, rest) = match line.strip_prefix("silent ") {
         Some(rest) => (true, rest),
         None => (false, line),
     };
+    let (whole, rest) = match rest.strip_prefix("whole ") {
+        Some(rest) => (true, rest),
+        None => (false, rest),
+    };
     let Ok(frames) = rest.parse::<u32>() else {
         return format!(in alloc; "{line}: not a number");
     };
     if silent {
-        read_line::<false>(alloc, bytes, line, frames)
+        read_line::<false>(alloc, bytes, line, frames, whole)
     } else {
-        read_line::<true>(alloc, bytes, line, frames)
+        read_line::<true>(alloc, bytes, line, frames, whole)
     }
 }

@@ -1,5 +1,5 @@
 //! Times the reading of the modes of inter frames: each line of the input names how many frames of 1920x1080 to read of
-//! pseudo-random bytes. It prints checksums of the last one's blocks and of what was counted.
+//! pseudo-random bytes, with drawn partitions or such as are read too. It prints checksums of the last one's blocks and of what was counted.
 #![tactic(auto)]
 
 mod checksums;

@@ -1,5 +1,5 @@
 -- What a block reads depends on the blocks of its tile's columns alone.
-use Rattle.std.proofs.Common.{◌≡◌, ℕ, ◌-◌, ◌<◌, ◌≤◌, ◌∷◌, [], ◌∙◌, Bool, true, false, not, ◌&&◌, List, Option, Some, None, Ok, refl, ap, arith, if◌then◌else◌}
+use Rattle.std.proofs.Common.{◌≡◌, ℕ, ◌-◌, ◌<◌, ◌≤◌, ◌∷◌, [], ◌∙◌, Bool, true, false, not, ◌&&◌, List, Option, Some, None, Ok, inl, inr, refl, ap, arith, if◌then◌else◌}
 use Rattle.std.specs.Prelude.{nat_lt}
 use Rattle.std.proofs.lemmas.Bool.{cases_lt, lt-ltb, le-ltb}
 use Rattle.vp9_types.specs.Maps.{Map}
