@@ -297,14 +297,18 @@ static int quarter_vector(tile *t, const block *b, int mode, int list, int sub, 
         *out = (mv){0, 0};
         return 1;
     }
+    if (mode == NEAREST && sub > 0) {
+        *out = b->vectors[sub < 3 ? 0 : 2][list];
+        return 1;
+    }
     candidates(t, b, b->refs[list], sub, two);
     if (sub == 0)
         *out = two[mode == NEAR];
     else if (sub < 3)
-        *out = mode == NEAREST ? b->vectors[0][list] : other_than(b->vectors[0][list], two, 2);
+        *out = other_than(b->vectors[0][list], two, 2);
     else {
         mv all[4] = {b->vectors[1][list], b->vectors[0][list], two[0], two[1]};
-        *out = mode == NEAREST ? b->vectors[2][list] : other_than(b->vectors[2][list], all, 4);
+        *out = other_than(b->vectors[2][list], all, 4);
     }
     return 1;
 }
