@@ -1,6 +1,6 @@
 //! Frames of one tile, without residue.
 
-ghost use Rattle.std.specs.Prelude.{◌≡◌, ◌<◌, ◌≤◌, IfSome};
+ghost use Rattle.std.specs.Prelude.{◌≡◌, ◌<◌, ◌≤◌, ForSome};
 ghost use Rattle.std.specs.List.{All};
 ghost use Rattle.std.specs.Option.{option_copied};
 ghost use Rattle.mv_prediction.specs.Code.{HasSmallVectors};
@@ -23,9 +23,6 @@ pub const COLS: u32 = 240;
 /// How many blocks there may be.
 const ROOM: usize = 64 * 17 * 30;
 
-/// After how many frames the bytes are read from the beginning again.
-const FRAMES: u32 = 100;
-
 /// The next state of a linear congruential generator, whose highest bits are what it draws.
 pub fn drawn(state: u32) -> u32 {
     state.wrapping_mul(1664525).wrapping_add(1013904223)
@@ -33,8 +30,7 @@ pub fn drawn(state: u32) -> u32 {
 
 /// A frame, as far as it is read, and how many blocks there is room for.
 #[derive(Drop)]
-pub struct Frame<'a, const COUNTS: bool> {
-    pub reader: CountingReader<'a, COUNTS>,
+pub struct Frame {
     pub grid: BlockGrid,
     room: usize,
     draws: u32,
@@ -55,15 +51,14 @@ pub struct Sources<'a> {
     pub whole: bool,
     pub ghost places: { (setting.now.places.rows ≡ 135) × (setting.now.places.cols ≡ 240) },
     pub ghost segments: { (map.now.rows ≡ 135) × (map.now.cols ≡ 240) },
-    pub ghost grid: { IfSome (option_copied before) (λ g. (g.rows ≡ 135) × (g.from ≡ 0) × (g.to ≡ 240) × All HasSmallVectors g.blocks) },
+    pub ghost grid: { ForSome (option_copied before) (λ g. (g.rows ≡ 135) × (g.from ≡ 0) × (g.to ≡ 240) × All HasSmallVectors g.blocks) },
 }
 
-impl<'a, const COUNTS: bool> Frame<'a, COUNTS> {
+impl Frame {
     /// Nothing is read yet.
-    pub fn new(alloc: Global, reader: CountingReader<'a, COUNTS>) -> Result<Self, AllocError> {
+    pub fn new(alloc: Global) -> Result<Self, AllocError> {
         let grid = BlockGrid::new(alloc, ROWS, 0, COLS, ROOM)?;
         Ok(Frame {
-            reader,
             grid,
             room: ROOM,
             draws: 0,
@@ -104,7 +99,8 @@ fn grey(at: BlockAt) -> BlockInfo
 }
 
 fn read_block<const COUNTS: bool>(
-    frame: &mut Frame<'_, COUNTS>,
+    reader: &mut CountingReader<COUNTS>,
+    frame: &mut Frame,
     sources: &Sources<'_>,
     row: u32,
     col: u32,
@@ -121,7 +117,7 @@ fn read_block<const COUNTS: bool>(
         tile_to: COLS,
     };
     let block = match mode_info(
-        &mut frame.reader,
+        reader,
         sources.setting,
         at,
         &frame.grid,
@@ -136,7 +132,8 @@ fn read_block<const COUNTS: bool>(
 }
 
 fn partition_of<const COUNTS: bool>(
-    frame: &mut Frame<'_, COUNTS>,
+    reader: &mut CountingReader<COUNTS>,
+    frame: &mut Frame,
     sources: &Sources<'_>,
     row: u32,
     col: u32,
@@ -156,11 +153,12 @@ fn partition_of<const COUNTS: bool>(
         tile_from: 0,
         tile_to: COLS,
     };
-    read_partition(&mut frame.reader, sources.setting, false, &frame.grid, at)
+    read_partition(reader, sources.setting, false, &frame.grid, at)
 }
 
 fn read_square<const COUNTS: bool>(
-    frame: &mut Frame<'_, COUNTS>,
+    reader: &mut CountingReader<COUNTS>,
+    frame: &mut Frame,
     sources: &Sources<'_>,
     row: u32,
     col: u32,
@@ -173,73 +171,69 @@ fn read_square<const COUNTS: bool>(
     if row >= ROWS || col >= COLS {
         return;
     }
-    let partition = partition_of(frame, sources, row, col, level);
+    let partition = partition_of(reader, frame, sources, row, col, level);
     let size = part_size(partition, level);
     if level == 0 {
-        return read_block(frame, sources, row, col, size);
+        return read_block(reader, frame, sources, row, col, size);
     }
     let half = side_of(level - 1);
     match partition {
-        Partition::Whole => read_block(frame, sources, row, col, size),
+        Partition::Whole => read_block(reader, frame, sources, row, col, size),
         Partition::Horizontal => {
-            read_block(frame, sources, row, col, size);
-            read_block(frame, sources, row + half, col, size);
+            read_block(reader, frame, sources, row, col, size);
+            read_block(reader, frame, sources, row + half, col, size);
         }
         Partition::Vertical => {
-            read_block(frame, sources, row, col, size);
-            read_block(frame, sources, row, col + half, size);
+            read_block(reader, frame, sources, row, col, size);
+            read_block(reader, frame, sources, row, col + half, size);
         }
         Partition::Split => {
-            read_square(frame, sources, row, col, level - 1);
-            read_square(frame, sources, row, col + half, level - 1);
-            read_square(frame, sources, row + half, col, level - 1);
-            read_square(frame, sources, row + half, col + half, level - 1);
+            read_square(reader, frame, sources, row, col, level - 1);
+            read_square(reader, frame, sources, row, col + half, level - 1);
+            read_square(reader, frame, sources, row + half, col, level - 1);
+            read_square(reader, frame, sources, row + half, col + half, level - 1);
         }
     }
 }
 
-fn read_row<const COUNTS: bool>(frame: &mut Frame<'_, COUNTS>, sources: &Sources<'_>, row: u32)
+fn read_row<const COUNTS: bool>(
+    reader: &mut CountingReader<COUNTS>,
+    frame: &mut Frame,
+    sources: &Sources<'_>,
+    row: u32,
+)
     requires { row ≤ 200 }
 {
     for i in 0..30 {
-        read_square(frame, sources, row, 8 * i, 3);
+        read_square(reader, frame, sources, row, 8 * i, 3);
     }
 }
 
-fn read_rows<const COUNTS: bool>(frame: &mut Frame<'_, COUNTS>, sources: &Sources<'_>) {
+fn read_rows<const COUNTS: bool>(
+    reader: &mut CountingReader<COUNTS>,
+    frame: &mut Frame,
+    sources: &Sources<'_>,
+) {
     for i in 0..17 {
-        read_row(frame, sources, 8 * i);
+        read_row(reader, frame, sources, 8 * i);
     }
 }
 
 /// Reads the frame of a number behind the frame before it, where partitions are read too or drawn.
-pub fn next_frame<'a, const COUNTS: bool>(
+pub fn next_frame<const COUNTS: bool>(
     alloc: Global,
-    bytes: &'a [u8],
+    reader: &mut CountingReader<COUNTS>,
     fixed: (&FrameSetting, &SegmentMap),
-    before: Frame<'a, COUNTS>,
+    before: Frame,
     number: u32,
     whole: bool,
-) -> Result<Frame<'a, COUNTS>, AllocError>
+) -> Result<Frame, AllocError>
     requires places { (fixed.0.now.places.rows ≡ 135) × (fixed.0.now.places.cols ≡ 240) }
     requires map { (fixed.1.now.rows ≡ 135) × (fixed.1.now.cols ≡ 240) }
 {
-    let Frame {
-        reader,
-        grid,
-        draws,
-        ..
-    } = before;
+    let Frame { grid, draws, .. } = before;
     let (setting, map) = fixed;
-    let reader = if number % FRAMES == 0 {
-        let Ok(reader) = CountingReader::start(bytes, reader.into_counts()) else {
-            return Err(AllocError);
-        };
-        reader
-    } else {
-        reader
-    };
-    let mut frame = Frame::new(alloc, reader)?;
+    let mut frame = Frame::new(alloc)?;
     frame.draws = draws;
     let sources = Sources {
         setting,
@@ -247,6 +241,6 @@ pub fn next_frame<'a, const COUNTS: bool>(
         before: if number == 0 { None } else { Some(&grid) },
         whole,
     };
-    read_rows(&mut frame, &sources);
+    read_rows(reader, &mut frame, &sources);
     Ok(frame)
 }

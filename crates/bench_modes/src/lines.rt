@@ -17,6 +17,9 @@ const SIZE: usize = 8 << 20;
 
 const SEED: u32 = 4;
 
+/// After how many frames they are read from the beginning again.
+const FRAMES: u32 = 100;
+
 pub fn bytes(alloc: Global) -> Result<Vec<u8>, AllocError> {
     let mut bytes = Vec::with_capacity(alloc, SIZE)?;
     let mut state = SEED;
@@ -27,25 +30,41 @@ pub fn bytes(alloc: Global) -> Result<Vec<u8>, AllocError> {
     Ok(bytes)
 }
 
-/// So many frames, the last of which is kept.
-fn read_frames<'a, const COUNTS: bool>(
-    alloc: Global,
+/// The reader of a frame of a number, behind the one before it or at the beginning again.
+fn reader_of<'a, const COUNTS: bool>(
     bytes: &'a [u8],
+    reader: CountingReader<'a, COUNTS>,
+    number: u32,
+) -> Result<CountingReader<'a, COUNTS>, AllocError> {
+    if number % FRAMES > 0 {
+        return Ok(reader);
+    }
+    match CountingReader::start(bytes, reader.into_counts()) {
+        Ok(reader) => Ok(reader),
+        Err(_) => Err(AllocError),
+    }
+}
+
+/// So many frames, the last of which is kept, and what is counted.
+fn read_frames<const COUNTS: bool>(
+    alloc: Global,
+    bytes: &[u8],
     setting: &FrameSetting,
     frames: u32,
     whole: bool,
-) -> Result<Frame<'a, COUNTS>, AllocError>
+) -> Result<(Frame, Counts), AllocError>
     requires { (setting.now.places.rows ≡ 135) × (setting.now.places.cols ≡ 240) }
 {
     let map = SegmentMap::new(alloc, ROWS, COLS)?;
-    let Ok(reader) = CountingReader::<COUNTS>::start(bytes, Counts::new()) else {
+    let Ok(mut reader) = CountingReader::<COUNTS>::start(bytes, Counts::new()) else {
         return Err(AllocError);
     };
-    let mut frame = Frame::new(alloc, reader)?;
+    let mut frame = Frame::new(alloc)?;
     for number in 0..frames {
-        frame = next_frame(alloc, bytes, (setting, &map), frame, number, whole)?;
+        reader = reader_of(bytes, reader, number)?;
+        frame = next_frame(alloc, &mut reader, (setting, &map), frame, number, whole)?;
     }
-    Ok(frame)
+    Ok((frame, reader.into_counts()))
 }
 
 fn read_line<const COUNTS: bool>(
@@ -60,10 +79,10 @@ fn read_line<const COUNTS: bool>(
         reference_mode: ReferenceMode::Selected,
     };
     let setting = FrameSetting::new(&header(), modes, default_contexts());
-    let frame = read_frames::<COUNTS>(alloc, bytes, &setting, frames, whole)?;
+    let (frame, counts) = read_frames::<COUNTS>(alloc, bytes, &setting, frames, whole)?;
     let blocks = frame.grid.blocks();
     let (count, sum) = (blocks.len(), of_blocks(blocks));
-    let counted = of_counts(&frame.reader.into_counts());
+    let counted = of_counts(&counts);
     format!(in alloc; "{line}: {count} blocks, {sum} {counted}")
 }
 
