@@ -1,7 +1,5 @@
-pub mod Contexts
 pub mod Starts
 pub mod IntraBlocks
-pub mod References
 pub mod Vectors
 pub mod ModeInfo
 pub mod Segments

@@ -38,9 +38,9 @@ use Rattle.mv_prediction.specs.Candidates.{mode_context, sign_biases}
 use Rattle.mv_prediction.specs.declared.search.MvSearch.{MvSearch}
 use Rattle.mv_prediction.specs.declared.search.SignBiases.{SignBiases}
 use Rattle.segment_map.specs.Segments.{least_id}
-use Rattle.inter_modes.specs.Contexts.{filter_context}
+use Rattle.inter_contexts.specs.Contexts.{filter_context}
 use Rattle.inter_modes.specs.IntraBlocks.{intra_block_mode_info}
-use Rattle.inter_modes.specs.References.{ref_frames, in_range_or_rule}
+use Rattle.inter_contexts.specs.References.{ref_frames, in_range_or_rule}
 use Rattle.inter_modes.specs.Starts.{segment_reference, block_start}
 use Rattle.inter_modes.specs.Vectors.{Sources, inter_mode, block_vectors, quarters, ◌>>?◌}
 use Rattle.inter_modes.specs.declared.quarters.Quarter.{Quarter}

@@ -22,7 +22,7 @@ use Rattle.block_plan.specs.declared.block.BlockInfo.{BlockInfo}
 use Rattle.counting_reader.specs.Counting.{Settled, settle, uncounted, ◌>>=◌}
 use Rattle.counting_reader.specs.Symbols.{counted_flag}
 use Rattle.mode_syntax.specs.Elements.{skip_context, read_skip, tx_context, read_tx_size}
-use Rattle.inter_modes.specs.Contexts.{is_inter_context, predicted_context}
+use Rattle.inter_contexts.specs.Contexts.{is_inter_context, predicted_context}
 use Rattle.inter_modes.specs.declared.starts.SegmentOf.{SegmentOf}
 use Rattle.inter_modes.specs.declared.starts.BlockStart.{BlockStart}
 

@@ -15,15 +15,14 @@ ghost use Rattle.inter_modes.specs.Code.{MaySearch, IsBlockAt, frame_in, least_o
 ghost use Rattle.inter_modes.specs.ModeInfo.{checked_references, inter_block, intra_block, inter_frame_block, inter_frame_mode_info, intra_frame_block, mode_info, block_with};
 
 use crate::blocks::read_inter_prediction;
-use crate::contexts::filter_context;
 use crate::intra_blocks::read_intra_prediction;
-use crate::references::{in_range_or_rule, read_references};
 use crate::starts::{BlockStart, read_block_start, segment_reference};
 use crate::vectors::Sources;
 use block_plan::{BlockAt, BlockInfo, Neighbours, Prediction, References, above_place, left_place};
 use counting_reader::CountingReader;
 use frame_headers::{FrameKind, InterFields};
 use frame_setting::FrameSetting;
+use inter_contexts::{filter_context, in_range_or_rule, read_references};
 use mode_syntax::{intra_frame_mode_info, skips_segment};
 use mv_prediction::{MvSearch, SignBiases, mode_context};
 use segment_map::SegmentMap;

@@ -2,16 +2,16 @@
 #![tactic(auto)]
 
 mod blocks;
-mod contexts;
 mod frame_blocks;
 mod intra_blocks;
+mod laws;
 mod quarters;
-mod references;
 mod segments;
 mod starts;
 mod vectors;
 
 pub use frame_blocks::mode_info;
+pub use laws::blocks_are_of_their_columns;
 pub use segments::update_segments;
 
 #[cfg(test)]

@@ -95,6 +95,27 @@ fn near_of_quarter<N: Neighbours, Q: Neighbours>(
     sub_block_vectors(k, &two, quarters)
 }
 
+/// The nearest vector of a quarter: of the first one alone it is a candidate.
+#[tactic(auto, unfolding(mv_prediction::specs::SubBlocks::sub_block_vectors))]
+fn nearest_of_quarter<N: Neighbours, Q: Neighbours>(
+    src: &Sources<'_, N, Q>,
+    reference: ReferenceFrame,
+    k: u8,
+    quarters: &[Mv; 3],
+) -> Mv
+    requires k { k < 4 }
+    requires may { MaySearch N.holds N.blocks Q.holds Q.blocks src.now.earlier.now (option_copied src.now.before) src.now.search }
+    requires small { AreSmall quarters.now }
+    ensures is { result ≡ (near_of_quarter (record { lists = vector_lists src.now.probs.now; allowed = src.now.high_precision; earlier = N.blocks src.now.earlier.now; before = blocks_of Q.blocks (option_copied src.now.before); search = src.now.search }) reference k quarters.now).nearest }
+    ensures small { IsSmallVector result }
+{
+    match k {
+        0 => near_of_quarter(src, reference, k, quarters).nearest,
+        1 | 2 => quarters[0],
+        _ => quarters[2],
+    }
+}
+
 /// A block's vector of a reference.
 #[tactic(auto, unfolding(crate::specs::Vectors::block_vector, crate::specs::Vectors::vector_of_mode), using(counting_reader::proofs::CountingRuns::run_settle))]
 fn read_block_vector<N: Neighbours, Q: Neighbours, const COUNTS: bool>(
@@ -188,7 +209,7 @@ fn read_quarter_vector<N: Neighbours, Q: Neighbours, const COUNTS: bool>(
     let quarters = of_list(list, &before.rows);
     match mode {
         InterMode::Zero => Ok(NO_VECTOR),
-        InterMode::Nearest => Ok(near_of_quarter(src, reference, k, &quarters).nearest),
+        InterMode::Nearest => Ok(nearest_of_quarter(src, reference, k, &quarters)),
         InterMode::Near => Ok(near_of_quarter(src, reference, k, &quarters).near),
         InterMode::New => {
             read_new_vector(reader, src.probs, src.high_precision, before.best[list])

@@ -40,6 +40,7 @@ fn is_second(second: Option<ReferenceFrame>, reference: ReferenceFrame) -> bool
 }
 
 /// With a block's vector of a reference.
+#[inline(always)]
 #[tactic(auto, unfolding(crate::specs::Code::with_vectors))]
 fn with_own(
     found: Found,
@@ -67,6 +68,7 @@ fn with_own(
     }
 }
 
+#[inline(always)]
 fn turned(biases: &SignBiases, wanted: ReferenceFrame, other: ReferenceFrame, v: Mv) -> Mv
     requires { IsSmallVector v }
     ensures is { result ≡ turned biases.now wanted other v }
@@ -79,6 +81,7 @@ fn turned(biases: &SignBiases, wanted: ReferenceFrame, other: ReferenceFrame, v:
     }
 }
 
+#[inline(always)]
 #[tactic(auto, unfolding(crate::specs::Code::with_vectors))]
 fn with_first(
     found: Found,
@@ -98,6 +101,7 @@ fn with_first(
     }
 }
 
+#[inline(always)]
 #[tactic(auto, unfolding(crate::specs::Code::with_vectors))]
 fn with_second(
     found: Found,
@@ -123,6 +127,7 @@ fn with_second(
 }
 
 /// With a block's vectors of other references.
+#[inline(always)]
 #[tactic(auto, using(crate::proofs::Founds::both_parts, crate::proofs::Founds::with_none))]
 fn with_others(
     found: Found,
@@ -145,6 +150,7 @@ fn with_others(
 }
 
 /// With the vector that the neighbour at an offset has of the wanted reference.
+#[inline(always)]
 #[tactic(auto, using(crate::proofs::Founds::full_is_all, crate::proofs::Founds::with_none))]
 fn with_own_at<N: Neighbours>(
     found: Found,
@@ -175,6 +181,7 @@ fn with_own_at<N: Neighbours>(
 }
 
 /// With those that it has of other references.
+#[inline(always)]
 #[tactic(auto, using(crate::proofs::Founds::full_is_all, crate::proofs::Founds::with_none))]
 fn with_others_at<N: Neighbours>(
     found: Found,

@@ -5,7 +5,7 @@ ghost use Rattle.std.specs.Option.{option_copied};
 ghost use Rattle.prob_contexts.specs.Lists.{inter_lists};
 ghost use Rattle.counting_reader.specs.Code.{Reads};
 ghost use Rattle.frame_headers.specs.References.{is_in_range};
-ghost use Rattle.inter_modes.specs.References.{fixed_of, variable_by, with_fixed, single, is_compound, compound_references, golden_or_altref, single_reference, coded_references, of_feature, ref_frames, reference_in, second_in_range, in_range_or_rule};
+ghost use Rattle.inter_contexts.specs.References.{fixed_of, variable_by, with_fixed, single, is_compound, compound_references, golden_or_altref, single_reference, coded_references, of_feature, ref_frames, reference_in, second_in_range, in_range_or_rule};
 
 use crate::contexts::reference_context;
 use block_plan::{BlockInfo, References};
@@ -178,7 +178,7 @@ fn of_feature(reference: FeatureReference) -> ReferenceFrame
 
 /// The references that a block's segment takes, or those that the block codes.
 #[tactic(auto, unfolding(crate::specs::References::ref_frames), using(counting_reader::proofs::CountingRuns::run_settle))]
-pub(crate) fn read_references<const COUNTS: bool>(
+pub fn read_references<const COUNTS: bool>(
     reader: &mut CountingReader<COUNTS>,
     feature: Option<FeatureReference>,
     frame: (ReferenceMode, SignBiases),
@@ -222,7 +222,7 @@ fn second_in_range(
 }
 
 /// The references, if the frame can be predicted from them: else `BlockScale`.
-pub(crate) fn in_range_or_rule(
+pub fn in_range_or_rule(
     size: &FrameSize,
     frame: &frame_headers::References,
     references: References,

@@ -22,7 +22,7 @@ use Rattle.counting_reader.specs.Counting.{Settled, settle, ◌>>=◌}
 use Rattle.counting_reader.specs.Symbols.{counted_flag}
 use Rattle.mv_prediction.specs.Candidates.{bias_of}
 use Rattle.mv_prediction.specs.declared.search.SignBiases.{SignBiases}
-use Rattle.inter_modes.specs.Contexts.{reference_context}
+use Rattle.inter_contexts.specs.Contexts.{reference_context}
 
 -- CompFixedRef: the one whose side the others don't share
 abbrev pub fixed_of : SignBiases → ReferenceFrame

@@ -2,7 +2,7 @@
 
 ghost use Rattle.std.specs.Prelude.{◌≡◌, ◌<◌, ◌≤◌};
 ghost use Rattle.std.specs.Option.{option_copied};
-ghost use Rattle.inter_modes.specs.Contexts.{is_intra, both_intra, is_inter_context, single_kind, compound_kind, variable_of, kind_of_references, kind_in, kind_of, reference_context, filter_in, filter_beside, filter_of_both, filter_context, predicted_beside, predicted_context};
+ghost use Rattle.inter_contexts.specs.Contexts.{is_intra, both_intra, is_inter_context, single_kind, compound_kind, variable_of, kind_of_references, kind_in, kind_of, reference_context, filter_in, filter_beside, filter_of_both, filter_context, predicted_beside, predicted_context};
 ghost use Rattle.mv_prediction.specs.Candidates.{is_reference};
 
 use block_plan::{BlockInfo, Prediction};
@@ -32,7 +32,7 @@ fn both_intra(above: bool, left: bool) -> u8
 }
 
 /// The context of whether a block is inter, 0 to 3.
-pub(crate) fn is_inter_context(above: Option<&BlockInfo>, left: Option<&BlockInfo>) -> u8
+pub fn is_inter_context(above: Option<&BlockInfo>, left: Option<&BlockInfo>) -> u8
     ensures is { result ≡ is_inter_context (option_copied above.entry) (option_copied left.entry) }
     ensures most { result ≤ 3 }
 {
@@ -140,7 +140,7 @@ fn filter_of_both(above: u8, left: u8) -> u8
 
 /// The context of a block's filter, 0 to 3.
 #[tactic(auto, unfolding(crate::specs::Contexts::filter_context))]
-pub(crate) fn filter_context(above: Option<&BlockInfo>, left: Option<&BlockInfo>) -> u8
+pub fn filter_context(above: Option<&BlockInfo>, left: Option<&BlockInfo>) -> u8
     ensures is { result ≡ filter_context (option_copied above.entry) (option_copied left.entry) }
     ensures most { result ≤ 3 }
 {
@@ -158,7 +158,7 @@ fn predicted_beside(block: Option<&BlockInfo>) -> u8
 }
 
 /// The context of whether a block's segment is predicted, 0 to 2.
-pub(crate) fn predicted_context(above: Option<&BlockInfo>, left: Option<&BlockInfo>) -> u8
+pub fn predicted_context(above: Option<&BlockInfo>, left: Option<&BlockInfo>) -> u8
     ensures is { result ≡ predicted_context (option_copied above.entry) (option_copied left.entry) }
     ensures most { result ≤ 2 }
 {
