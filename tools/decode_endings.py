@@ -1,48 +1,40 @@
 #!/usr/bin/env python3
-"""Prints how `vp9dec decode` has to end on each of the given IVF files, which break no rule: a line of its status, how
-many bytes it writes, and its note. The headers are read by tools/compressed_headers.py, apart from the program.
+"""Prints how `vp9dec decode` has to end on a file, by its listing: a line of the status, how many bytes are written, and
+the note. The listing is read from standard input, as `vp9dec list` writes it or as FILE.list has it. Decoding ends at the
+first inter frame, which isn't built.
+
+usage: tools/decode_endings.py <LISTING
 """
+import re
 import sys
 
-from compressed_headers import frames, header, packets
+CODED = re.compile(r"frame (\d+): (key|intra|inter) (\d+)x(\d+) profile \d depth (\d+) ss (\d)(\d) show (\d) refresh (..) ")
+SHOWN = re.compile(r"frame (\d+): show (\d) size ")
 
 
-def first_unbuilt(head):
-    """The first part that a frame uses and that isn't built, in the order in which they are told."""
-    if head is None:
-        return "show-existing"
-    uses = [
-        ("profile", head.profile != 0),
-        ("intra-only", head.kind == "IntraOnly"),
-        ("lossy", not head.lossless),
-        ("filter", head.level != 0),
-        ("inter", head.kind == "Inter"),
-        ("segmentation", head.segmented),
-        ("tiles", head.tiled),
-        ("adaptation", not head.resilient and not head.parallel),
-    ]
-    return next((name for name, used in uses if used), None)
+def text_size(width, height, depth, ss_x, ss_y):
+    """How many bytes the three planes of a frame have."""
+    chroma = (width + ss_x >> ss_x) * (height + ss_y >> ss_y)
+    return (width * height + 2 * chroma) * (1 if depth == 8 else 2)
 
 
-def samples(head):
-    """How many there are in the planes of a frame of profile 0."""
-    width, height = head.size
-    return width * height + 2 * (width + 1 >> 1) * (height + 1 >> 1)
-
-
-def ending(data):
-    slots, number, written = [None] * 8, 0, 0
-    for packet in packets(data):
-        for frame in frames(packet) if packet else ():
-            head = header(frame, slots)
-            part = first_unbuilt(head)
-            if part is not None:
-                return f"9 {written} frame {number}: unbuilt {part}"
-            written += samples(head) if head.shown else 0
-            number += 1
+def ending(lines):
+    slots, written = [0] * 8, 0
+    for line in lines:
+        shown = SHOWN.match(line)
+        if shown:
+            written += slots[int(shown[2])]
+            continue
+        coded = CODED.match(line)
+        assert coded, line
+        number, kind, *numbers, refresh = coded.groups()
+        if kind == "inter":
+            return f"9 {written} frame {number}: unbuilt inter"
+        width, height, depth, ss_x, ss_y, show = map(int, numbers)
+        size = text_size(width, height, depth, ss_x, ss_y)
+        written += size * show
+        slots = [size if int(refresh, 16) >> slot & 1 else old for slot, old in enumerate(slots)]
     return f"0 {written}"
 
 
-for name in sys.argv[1:]:
-    with open(name, "rb") as file:
-        print(ending(file.read()))
+print(ending(sys.stdin))

@@ -3,7 +3,7 @@ mod sizes;
 
 use super::*;
 use edge_io::{MemSink, MemSource, OpenGate};
-use rows::{Row, intra_decode, list, overflow_frames};
+use rows::{Row, drawn_streams, intra_decode, list, overflow_frames};
 use std::alloc::{AllocError, Global};
 use std::sync::Wait;
 use std::test::Fail;
@@ -97,6 +97,16 @@ fn listings_end_as_they_are_to(rt: HostRuntime) -> Result<(), Fail> {
 fn decodes_end_as_they_are_to(rt: HostRuntime) -> Result<(), Fail> {
     assert_eq!(rt;
         first_other(&rt, rt.alloc(), intra_decode::TABLES.as_slice())?,
+        None
+    );
+    Ok(())
+}
+
+// What vpxdec writes of them.
+#[test]
+fn drawn_streams_are_decoded(rt: HostRuntime) -> Result<(), Fail> {
+    assert_eq!(rt;
+        first_other(&rt, rt.alloc(), drawn_streams::TABLES.as_slice())?,
         None
     );
     Ok(())

@@ -1,5 +1,6 @@
 //! Worked runs: what a command reads, writes and tells, and how it ends.
 
+pub mod drawn_streams;
 pub mod intra_decode;
 pub mod list;
 pub mod overflow_frames;
