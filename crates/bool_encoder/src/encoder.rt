@@ -5,7 +5,10 @@ use crate::split::{doublings, narrowed};
 use std::alloc::{AllocError, Global};
 use std::marker::Model;
 
-/// An arithmetic encoder of bools. The first bool of each list is the marker, 0 at one half.
+/// What the marker, 0 at one half, leaves of the first range of 255.
+const MARKED_RANGE: u32 = 128;
+
+/// An arithmetic encoder of bools (9.2 of the standard, in the other direction).
 #[derive(Drop)]
 pub struct BoolEncoder {
     bytes: Vec<u8>,
@@ -31,22 +34,22 @@ impl Model for BoolEncoder {
 impl BoolEncoder {
     ghost use Rattle.std.specs.Prelude.{◌≡◌, IfOk, if◌then◌else◌};
     ghost use Rattle.std.specs.Result.{is_ok};
-    ghost use Rattle.bool_encoder.specs.Part.{first_part, after_put, bool_number, Finishes};
+    ghost use Rattle.bool_encoder.specs.Part.{marked, after_put, bool_number, Finishes};
 
-    /// An encoder that no bool was put into.
-    #[tactic(auto, unfolding(crate::specs::Part::first_part, crate::specs::Code::be_number))]
+    /// An encoder into which the marker was put and nothing else.
+    #[tactic(auto, unfolding(crate::specs::Part::first_part, crate::specs::Part::after_put, crate::specs::Code::be_number, bool_decoder::specs::Coder::doublings_within))]
     pub fn new(alloc: Global) -> Self
-        ensures { result ≡ first_part }
+        ensures { result ≡ marked }
     {
         BoolEncoder {
             bytes: Vec::new(alloc),
             low: 0,
             held: 8,
-            range: 255,
+            range: MARKED_RANGE,
         }
     }
 
-    /// Puts a bool, which is 0 with a probability of `p` out of 256. Without memory the encoder stays as it was.
+    /// Puts a bool, which is 0 with a probability of `p` out of 256. After want of memory the encoder is as it was.
     pub fn bit(&mut self, p: u8, value: bool) -> Result<(), AllocError>
         ensures { self.new ≡ (if is_ok result then after_put p (bool_number value) self.old else self.old) }
     {
@@ -60,7 +63,7 @@ impl BoolEncoder {
         Ok(())
     }
 
-    /// The bytes that a decoder reads the bools from.
+    /// The bytes that a decoder starts on and reads the bools from, to the end of the last byte. The encoder stays as it is.
     pub fn finish(&self) -> Result<Vec<u8>, AllocError>
         ensures { IfOk result (λ bytes. Finishes self.now bytes.items) }
     {
