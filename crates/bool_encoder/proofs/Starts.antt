@@ -6,7 +6,8 @@ use Rattle.std.proofs.lemmas.Nat.{pow-add}
 use Rattle.std.proofs.lemmas.Bool.{ne_eqb}
 use Rattle.vp9_types.specs.Bits.{bits_of, spelled, AreBits}
 use Rattle.vp9_types.specs.Syntax.{Syntax, done, broken, ask}
-use Rattle.bool_decoder.specs.Coder.{front_number, split_of, doublings, first_coder}
+use Rattle.bool_decoder.specs.Coder.{front_number, split_of, doublings, first_coder, after_bool}
+use Rattle.bool_decoder.specs.Bools.{run_coder}
 use Rattle.bool_decoder.specs.Window.{Stands, started, first_window, bit_of, after_bit}
 use Rattle.bool_decoder.proofs.Fronts.{front-spelled}
 use Rattle.bool_decoder.proofs.Stand.{first_stands, bool_stands, step_stands, read_stands}
@@ -87,6 +88,10 @@ starts_by : (bytes : List ℕ) → nat_eq (length bytes) 0 ≡ false → bit_of 
 unfolding started
 starts_by bytes some none = rw (some, none) refl
 
+first_is : (bits : List ℕ) → first_coder bits ≡ coder_at bits first_part
+unfolding first_part first_coder
+first_is bits = refl
+
 first_part_stands : (bits : List ℕ) → Stands (coder_at bits first_part) (first_window bits)
 unfolding first_part first_coder
 first_part_stands bits = first_stands bits
@@ -109,5 +114,6 @@ written_is_read_from s x new bytes h f =
       last = read.0;
       starts = starts_by bytes (some_bytes new bytes f) zero;
       read = read.2;
+      coder = ap (λ c. run_coder s (after_bool 128 c)) (first_is bits) ∙ ap (λ c. run_coder s c) marker.next ∙ back.read;
       behind = read.1;
     }

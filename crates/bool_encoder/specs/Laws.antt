@@ -4,9 +4,9 @@ use Rattle.vp9_types.specs.Bits.{bits_of}
 use Rattle.vp9_types.specs.Syntax.{Syntax, done, broken, ask, ◌>>=◌}
 use Rattle.vp9_types.specs.Each.{each}
 use Rattle.vp9_types.specs.declared.rule.Rule.{Rule}
-use Rattle.bool_decoder.specs.Coder.{Coder, front_number}
+use Rattle.bool_decoder.specs.Coder.{Coder, front_number, first_coder, after_bool}
 use Rattle.bool_decoder.specs.Window.{Window, Stands, started}
-use Rattle.bool_decoder.specs.Bools.{run_bools}
+use Rattle.bool_decoder.specs.Bools.{run_bools, run_coder}
 use Rattle.bool_encoder.specs.Part.{Part, after_put, marked}
 use Rattle.bool_encoder.specs.Bools.{can_put}
 
@@ -19,12 +19,14 @@ pub record Lies (e : Part) (bits : List ℕ) : Type 0 where
 abbrev pub coder_at : List ℕ → Part → Coder
 coder_at bits e = record { bits = bits; n = e.n; low = e.low; range = e.range }
 
--- a decoder that starts on the bytes reads the value, and then stands where the last bool was put
+-- a decoder that starts on the bytes reads the value, and so does the coder behind the marker, which has then read as many
+-- bits and narrowed them to the same low and range as the part that the last bool left
 pub record ReadsFrom {E A : Type 0} (s : Syntax ℕ E A) (bytes : List ℕ) (x : A) (new : Part) : Type 0 where
   pub start : Window
   pub last : Window
   pub starts : started bytes ≡ Ok start
   pub read : run_bools s start ≡ Ok (x, last)
+  pub coder : run_coder s (after_bool 128 (first_coder (bits_of bytes))) ≡ Ok (x, coder_at (bits_of bytes) new)
   pub behind : Stands (coder_at (bits_of bytes) new) last
 
 -- the bools answer the syntax to its end, which settles on the value
