@@ -1,6 +1,6 @@
 -- Lists of answers, and what was put.
-use Rattle.std.proofs.Common.{◌≡◌, ℕ, List, [], ◌∷◌, refl, sym, ◌∙◌}
-use Rattle.vp9_types.specs.Syntax.{Syntax, done, broken, ask, ◌>>=◌}
+use Rattle.std.proofs.Common.{◌≡◌, ℕ, List, [], ◌∷◌, refl, sym}
+use Rattle.vp9_types.specs.Syntax.{Syntax, done, broken, ask}
 use Rattle.vp9_types.specs.declared.rule.Rule.{Rule}
 use Rattle.bool_encoder.specs.Part.{Part, after_put}
 use Rattle.bool_encoder.specs.Bools.{WritesBools}

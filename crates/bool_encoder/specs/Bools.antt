@@ -1,7 +1,6 @@
 -- What is written as bools: answers to the questions of a syntax, each put at the probability that is asked.
-use Rattle.std.specs.Prelude.{◌≡◌, ℕ, ◌<◌, List, [], ◌∷◌}
-use Rattle.vp9_types.specs.Syntax.{Syntax, done, ask, ◌>>=◌}
-use Rattle.vp9_types.specs.Each.{each}
+use Rattle.std.specs.Prelude.{ℕ, ◌<◌}
+use Rattle.vp9_types.specs.Syntax.{Syntax}
 use Rattle.vp9_types.specs.declared.rule.Rule.{Rule}
 use Rattle.bool_encoder.specs.Writing.{Writes, Leads}
 use Rattle.bool_encoder.specs.Part.{Part, after_put}

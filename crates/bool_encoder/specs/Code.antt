@@ -1,5 +1,5 @@
 -- What the code keeps, and what its calls answer.
-use Rattle.std.specs.Prelude.{◌≡◌, ℕ, zero, suc, ◌+◌, ◌*◌, ◌%◌, ◌^◌, ◌<◌, ◌≤◌, ℤ, pos, List, [], ◌∷◌, length, Contains}
+use Rattle.std.specs.Prelude.{◌≡◌, ℕ, suc, ◌+◌, ◌*◌, ◌%◌, ◌^◌, ◌<◌, ◌≤◌, ℤ, pos, List, [], ◌∷◌, length, Contains}
 use Rattle.vp9_types.specs.Trees.{entry_at, subtree, tree_of, tree_symbol}
 use Rattle.vp9_types.specs.declared.rule.Rule.{Rule}
 use Rattle.bool_encoder.specs.Part.{Part}

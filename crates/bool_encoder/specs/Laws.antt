@@ -1,7 +1,7 @@
 -- What the laws say of bools that were put.
 use Rattle.std.specs.Prelude.{◌≡◌, ℕ, ◌+◌, ◌<◌, ◌≤◌, List, [], ◌∷◌, Ok}
 use Rattle.vp9_types.specs.Bits.{bits_of}
-use Rattle.vp9_types.specs.Syntax.{Syntax, done, broken, ask, ◌>>=◌}
+use Rattle.vp9_types.specs.Syntax.{Syntax, done, broken, ask}
 use Rattle.vp9_types.specs.Each.{each}
 use Rattle.vp9_types.specs.declared.rule.Rule.{Rule}
 use Rattle.bool_decoder.specs.Coder.{Coder, front_number, first_coder, after_bool}
