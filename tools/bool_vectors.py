@@ -108,4 +108,5 @@ def main():
     const("DIFFERENCES", "u8", [coder.difference() for _ in range(48)])
 
 
-main()
+if __name__ == "__main__":
+    main()

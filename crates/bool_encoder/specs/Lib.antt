@@ -1,0 +1,6 @@
+pub mod Part
+pub mod Writing
+pub mod Bools
+pub mod Entries
+pub mod Code
+pub mod Laws

@@ -1,0 +1,16 @@
+//! The arithmetic encoder of VP9's bools: what the decoder reads, written.
+#![tactic(auto)]
+
+mod bytes;
+mod encoder;
+mod laws;
+mod split;
+mod symbols;
+#[cfg(test)]
+mod tests;
+mod tree;
+
+pub use encoder::BoolEncoder;
+pub use laws::{every_list_of_bools_is_read, what_is_written_is_read};
+pub use symbols::{put_difference, put_flag, put_literal};
+pub use tree::put_tree;
