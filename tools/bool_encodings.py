@@ -73,7 +73,6 @@ def bools(name, pairs):
     const(f"{name}_PROBS", "u8", [p for p, _ in pairs])
     print(f'const {name}_BOOLS: &[u8; {len(pairs)}] = b"{"".join(str(value) for _, value in pairs)}";')
     const(f"{name}_BYTES", "u8", data)
-    return part
 
 
 def carrying(probs):
