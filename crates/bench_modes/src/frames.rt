@@ -1,9 +1,10 @@
 //! Frames of one tile, without residue.
 
-ghost use Rattle.std.specs.Prelude.{◌≡◌, ◌<◌, ◌≤◌, ForSome};
+ghost use Rattle.std.specs.Prelude.{◌≡◌, ◌<◌, ◌≤◌};
 ghost use Rattle.std.specs.List.{All};
-ghost use Rattle.std.specs.Option.{option_copied};
+ghost use Rattle.std.specs.Option.{ForSome, option_copied};
 ghost use Rattle.mv_prediction.specs.Code.{HasSmallVectors};
+ghost use Rattle.bench_modes.specs.SmallBlocks.{block_props};
 
 use block_geometry::part_size;
 use block_plan::{BlockAt, BlockGrid, BlockInfo, IntraPrediction, Prediction};
@@ -38,20 +39,20 @@ pub struct Frame {
     ghost from: { grid.from ≡ 0 },
     ghost to: { grid.to ≡ 240 },
     ghost grid_room: { grid.room ≡ room },
-    ghost small: { All HasSmallVectors grid.blocks },
+    ghost small: { All HasSmallVectors grid.blocks } by { Prim.hlevel block_props },
 }
 
 /// What the blocks of a frame are read by beside the bytes: what is fixed for it, the map of segments before it, the
 /// blocks of the frame before; and whether partitions are read too, or drawn.
 #[derive(Drop)]
-pub struct Sources<'a> {
+pub struct Sources<'a, 'b> {
     pub setting: &'a FrameSetting,
     pub map: &'a SegmentMap,
-    pub before: Option<&'a BlockGrid>,
+    pub before: Option<&'b BlockGrid>,
     pub whole: bool,
     pub ghost places: { (setting.now.places.rows ≡ 135) × (setting.now.places.cols ≡ 240) },
     pub ghost segments: { (map.now.rows ≡ 135) × (map.now.cols ≡ 240) },
-    pub ghost grid: { ForSome (option_copied before) (λ g. (g.rows ≡ 135) × (g.from ≡ 0) × (g.to ≡ 240) × All HasSmallVectors g.blocks) },
+    pub ghost grid: { ForSome (option_copied before) (λ g. (g.rows ≡ 135) × (g.from ≡ 0) × (g.to ≡ 240) × All HasSmallVectors g.blocks) } by { Prim.hlevel block_props },
 }
 
 impl Frame {
@@ -101,7 +102,7 @@ fn grey(at: BlockAt) -> BlockInfo
 fn read_block<const COUNTS: bool>(
     reader: &mut CountingReader<COUNTS>,
     frame: &mut Frame,
-    sources: &Sources<'_>,
+    sources: &Sources<'_, '_>,
     row: u32,
     col: u32,
     size: BlockSize,
@@ -134,7 +135,7 @@ fn read_block<const COUNTS: bool>(
 fn partition_of<const COUNTS: bool>(
     reader: &mut CountingReader<COUNTS>,
     frame: &mut Frame,
-    sources: &Sources<'_>,
+    sources: &Sources<'_, '_>,
     row: u32,
     col: u32,
     level: u8,
@@ -159,7 +160,7 @@ fn partition_of<const COUNTS: bool>(
 fn read_square<const COUNTS: bool>(
     reader: &mut CountingReader<COUNTS>,
     frame: &mut Frame,
-    sources: &Sources<'_>,
+    sources: &Sources<'_, '_>,
     row: u32,
     col: u32,
     level: u8,
@@ -199,7 +200,7 @@ fn read_square<const COUNTS: bool>(
 fn read_row<const COUNTS: bool>(
     reader: &mut CountingReader<COUNTS>,
     frame: &mut Frame,
-    sources: &Sources<'_>,
+    sources: &Sources<'_, '_>,
     row: u32,
 )
     requires { row ≤ 200 }
@@ -212,7 +213,7 @@ fn read_row<const COUNTS: bool>(
 fn read_rows<const COUNTS: bool>(
     reader: &mut CountingReader<COUNTS>,
     frame: &mut Frame,
-    sources: &Sources<'_>,
+    sources: &Sources<'_, '_>,
 ) {
     for i in 0..17 {
         read_row(reader, frame, sources, 8 * i);
@@ -220,10 +221,10 @@ fn read_rows<const COUNTS: bool>(
 }
 
 /// Reads the frame of a number behind the frame before it, where partitions are read too or drawn.
-pub fn next_frame<const COUNTS: bool>(
+pub fn next_frame<'a, const COUNTS: bool>(
     alloc: Global,
     reader: &mut CountingReader<COUNTS>,
-    fixed: (&FrameSetting, &SegmentMap),
+    fixed: (&'a FrameSetting, &'a SegmentMap),
     before: Frame,
     number: u32,
     whole: bool,
@@ -235,10 +236,11 @@ pub fn next_frame<const COUNTS: bool>(
     let (setting, map) = fixed;
     let mut frame = Frame::new(alloc)?;
     frame.draws = draws;
+    let before = if number == 0 { None } else { Some(&grid) };
     let sources = Sources {
         setting,
         map,
-        before: if number == 0 { None } else { Some(&grid) },
+        before,
         whole,
     };
     read_rows(reader, &mut frame, &sources);
