@@ -64,21 +64,3 @@ is_next bytes at fits r same =
       facts (Ok None) step from = (step, from)
       facts (Err rule) step from = (step.0, from)
       facts (Ok (Some p)) step from = record { from = sym step.from; to = step.to; in_order = omega arith; within = step.within; packets = from }
-
--- the payloads that were found, and the packets from here on, are those of the file
-abbrev pub HasFound : List ℕ → List Packet → ℕ → Type 0
-HasFound bytes spans at = packets_of bytes ≡ with_payloads (map (payload_of bytes) spans) (packets_from bytes at)
-
-pub found_more : (bytes : List ℕ) (spans : List Packet) (at : ℕ) (p : Packet) → HasFound bytes spans at
-    → packets_from bytes at ≡ with_payload (payload_of bytes p) (packets_from bytes p.to) → HasFound bytes (spans ++ p ∷ []) p.to
-found_more bytes spans at p found next =
-    found ∙ ap (with_payloads (map (payload_of bytes) spans)) next
-    ∙ ap (λ xs. record { payloads = xs; ending = (packets_from bytes p.to).ending })
-    (sym (ap (λ xs. xs ++ (packets_from bytes p.to).payloads) (map_push (payload_of bytes) spans p)
-    ∙ append_assoc (map (payload_of bytes) spans) (payload_of bytes p ∷ []) (packets_from bytes p.to).payloads))
-
-pub found_all : (bytes : List ℕ) (spans : List Packet) (at : ℕ) (ending : Option Rule) → HasFound bytes spans at
-    → packets_from bytes at ≡ no_packets ending → packets_of bytes ≡ packets_at bytes spans ending
-found_all bytes spans at ending found next =
-    found ∙ ap (with_payloads (map (payload_of bytes) spans)) next
-    ∙ ap (λ xs. record { payloads = xs; ending = ending }) (append-nil (map (payload_of bytes) spans))

@@ -161,7 +161,3 @@ abbrev pub IsNext : List ℕ → ℕ → Result (Option Packet) Rule → Type 0
 IsNext bytes at (Ok None) = (at ≡ length bytes) × (packets_from bytes at ≡ no_packets None)
 IsNext bytes at (Ok (Some p)) = IsPacket bytes at p
 IsNext bytes at (Err rule) = (rule ≡ IvfTruncated) × (packets_from bytes at ≡ no_packets (Some rule))
-
--- the packets whose payloads lie at these places
-abbrev pub packets_at : List ℕ → List Packet → Option Rule → Packets
-packets_at bytes spans ending = record { payloads = map (payload_of bytes) spans; ending = ending }

@@ -5,8 +5,6 @@ mod laws;
 mod packet;
 #[cfg(test)]
 mod tests;
-mod walk;
 
 pub use laws::file_has_these_packets;
 pub use packet::{Packet, next_packet, read_header};
-pub use walk::{Walk, packets};

@@ -1,4 +1,4 @@
-use crate::{Packet, next_packet, packets, read_header};
+use crate::{Packet, next_packet, read_header};
 use std::test::Fail;
 use vp9_types::Rule;
 
@@ -82,11 +82,14 @@ fn header_cut_short(rt: HostRuntime) {
 
 #[test]
 fn real_stream(rt: HostRuntime) -> Result<(), Fail> {
-    let walk = packets(rt.alloc(), STREAM)?;
-    assert_eq!(rt; walk.ending, None);
-    assert_eq!(rt; walk.spans.len(), 6);
-    for (packet, size) in walk.spans.iter().zip([40, 40, 40, 39, 40, 40]) {
+    let mut next = first_packet(STREAM);
+    for size in [40, 40, 40, 39, 40, 40] {
+        let Ok(Some(packet)) = next else {
+            return Err(Fail::new(format_args!("a packet is missing")));
+        };
         assert_eq!(rt; packet.to.saturating_sub(packet.from), size);
+        next = next_packet(STREAM, packet.to);
     }
+    assert_eq!(rt; next, Ok(None));
     Ok(())
 }

@@ -5,7 +5,7 @@ ghost use Rattle.planes.specs.Planes.{HasRow};
 use crate::frame_planes::FramePlanes;
 use crate::plane::SamplePlane;
 use std::alloc::{AllocError, Global};
-use vp9_types::{Plane, Samples, Shape};
+use vp9_types::{Depth, Plane, Samples, Shape};
 
 /// The samples of a frame, and its shape. Its planes have all of its places of 8x8 luma samples, and what is shown of
 /// them is their part of the shape.
@@ -26,6 +26,23 @@ impl Picture {
     {
         let planes = FramePlanes::new(alloc, &shape)?;
         Ok(Picture { shape, planes })
+    }
+
+    /// A picture of no samples, which needs no memory: it keeps the place of one that is lent out.
+    pub fn none(alloc: Global) -> Picture {
+        let shape = Shape {
+            w: 0,
+            h: 0,
+            depth: Depth::Eight,
+            ss_x: false,
+            ss_y: false,
+        };
+        let planes = FramePlanes {
+            y: SamplePlane::none(alloc),
+            u: SamplePlane::none(alloc),
+            v: SamplePlane::none(alloc),
+        };
+        Picture { shape, planes }
     }
 
     pub fn shape(&self) -> Shape

@@ -37,6 +37,14 @@ impl SamplePlane {
         Ok(SamplePlane { area, samples })
     }
 
+    /// No samples, which needs no memory.
+    pub(crate) fn none(alloc: Global) -> SamplePlane {
+        SamplePlane {
+            area: Area::whole(0, 0),
+            samples: Vec::new(alloc),
+        }
+    }
+
     /// Which rows and columns of the plane there are.
     #[inline(always)]
     pub fn area(&self) -> Area

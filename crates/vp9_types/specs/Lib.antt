@@ -1,5 +1,4 @@
 pub mod Rules
-pub mod Parts
 pub mod Shapes
 pub mod Sizes
 pub mod Results

@@ -16,7 +16,7 @@ pub use block::{
 };
 pub use job::{BandSpan, JobName, Span};
 pub use laws::{reading_is_its_entries, rules_are_numbered, trees_are_stored};
-pub use outcome::{Fault, Outcome, Part, Stop};
+pub use outcome::{Outcome, Stop};
 pub use rule::Rule;
 pub use samples::Samples;
 pub use shape::{Depth, Plane, Shape};
