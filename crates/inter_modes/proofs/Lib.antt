@@ -1,4 +1,5 @@
 pub mod Least
 pub mod Rows
+pub mod InRange
 pub mod SegmentMaps
 pub mod Columns

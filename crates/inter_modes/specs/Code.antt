@@ -1,16 +1,26 @@
 -- What the code keeps and its calls answer.
-use Rattle.std.specs.Prelude.{◌≡◌, ℕ, ◌<◌, ◌≤◌, Bool, List, Option, IfSome}
+use Rattle.std.specs.Prelude.{◌≡◌, ℕ, ◌<◌, ◌≤◌, Bool, true, List, Option, IfSome}
 use Rattle.std.specs.List.{All}
 use Rattle.vp9_tables.specs.Blocks.{greatest_of}
 use Rattle.vp9_tables.specs.Numbers.{tx_number}
+use Rattle.frame_headers.specs.References.{is_in_range}
+use Rattle.frame_headers.specs.declared.header.FrameKind.TheVariants as frame
+use Rattle.frame_headers.specs.declared.header.FrameSize.{FrameSize}
+use Rattle.frame_headers.specs.declared.header.Header.{Header}
+use Rattle.frame_headers.specs.declared.header.InterFields.{InterFields}
+use Rattle.frame_headers.specs.declared.header.References as header
 use Rattle.prob_contexts.specs.Lists.{lists_of}
 use Rattle.block_geometry.specs.Parts.{part_inside}
 use Rattle.block_plan.specs.declared.block.BlockAt.{BlockAt}
 use Rattle.block_plan.specs.declared.block.BlockInfo.{BlockInfo}
+use Rattle.block_plan.specs.declared.block.Prediction.{Prediction}
+use Rattle.block_plan.specs.declared.block.Prediction.TheVariants.{Intra, Inter}
+use Rattle.block_plan.specs.declared.block.References.{References}
 use Rattle.mv_prediction.specs.Code.{AreSmall, HasSmallVectors, IsSite, blocks_of}
 use Rattle.mv_prediction.specs.declared.search.MvSearch.{MvSearch}
 use Rattle.mv_prediction.specs.SubBlocks.{vector_at}
 use Rattle.segment_map.specs.Segments.{SegmentIds, id_map, least_id}
+use Rattle.inter_contexts.specs.References.{reference_in, second_in_range}
 use Rattle.inter_modes.specs.ModeInfo.{InterFrame}
 use Rattle.inter_modes.specs.Vectors.{row_at}
 use Rattle.inter_modes.specs.declared.frame_blocks.Frame.{Frame}
@@ -49,6 +59,23 @@ pub record IsBlockAt (at : BlockAt) (b : BlockInfo) : Type 0 where
   pub segment : b.segment ≤ 7
   pub fits : tx_number b.tx ≤ greatest_of at.size
   pub small : HasSmallVectors b
+
+-- references of a block have sizes from which a frame of a size can be predicted
+abbrev pub AreInRange : FrameSize → header.References → References → Type 0
+AreInRange size refs r = (is_in_range size (reference_in refs r.first) ≡ true) × (second_in_range size refs r.second ≡ true)
+
+-- a block of an inter frame refers only to such
+abbrev pub PredictsInRange : FrameSize → header.References → Prediction → Type 0
+PredictsInRange size refs (Intra modes) = Unit {0}
+PredictsInRange size refs (Inter modes) = AreInRange size refs modes.references
+
+-- a block of any frame: one that refers at all stands in an inter frame
+abbrev pub RefersInRange : Header → Prediction → Type 0
+RefersInRange header (Intra modes) = Unit {0}
+RefersInRange header (Inter modes) =
+    (fields : InterFields) × (header.kind ≡ frame.Inter fields)
+    × (is_in_range header.size (reference_in fields.references modes.references.first) ≡ true)
+    × (second_in_range header.size fields.references modes.references.second ≡ true)
 
 -- what may be asked of the blocks before a block, and of those of the frame before, and how large their vectors are
 pub record MaySearch {N Q : Type 0} (holds : N → ℕ → ℕ → Type 0) (blocks : N → List BlockInfo) (holds_before : Q → ℕ → ℕ → Type 0) (blocks_before : Q → List BlockInfo)

@@ -146,6 +146,7 @@ fn read_whole<N: Neighbours, Q: Neighbours, const COUNTS: bool>(
     ensures read { (lists : InterLists) → lists.modes ≡ src.now.modes.now → lists.filters ≡ filters.now →
         Reads (whole_block (record { lists = vector_lists src.now.probs.now; allowed = src.now.high_precision; earlier = N.blocks src.now.earlier.now; before = blocks_of Q.blocks (option_copied src.now.before); search = src.now.search }) lists skips filter.0 filter.1 references) reader.old result reader.new }
     ensures small { IfOk result (λ p. PredictsSmall (Inter p)) }
+    ensures references { IfOk result (λ p. p.references ≡ references) }
 {
     let mode = read_block_mode(reader, skips, src.modes, src.context);
     let filter = read_filter(reader, filter.0, filters, filter.1);
@@ -169,6 +170,7 @@ fn read_block_of_quarters<N: Neighbours, Q: Neighbours, const COUNTS: bool>(
     ensures read { (lists : InterLists) → lists.modes ≡ src.now.modes.now → lists.filters ≡ filters.now →
         Reads (block_of_quarters (record { lists = vector_lists src.now.probs.now; allowed = src.now.high_precision; earlier = N.blocks src.now.earlier.now; before = blocks_of Q.blocks (option_copied src.now.before); search = src.now.search }) lists filter.0 filter.1 references) reader.old result reader.new }
     ensures small { IfOk result (λ p. PredictsSmall (Inter p)) }
+    ensures references { IfOk result (λ p. p.references ≡ references) }
 {
     let filter = read_filter(reader, filter.0, filters, filter.1);
     let quarters = read_quarters(reader, src, references)?;
@@ -192,6 +194,7 @@ pub(crate) fn read_inter_prediction<N: Neighbours, Q: Neighbours, const COUNTS: 
     ensures read { (lists : InterLists) → lists.modes ≡ src.now.modes.now → lists.filters ≡ filters.now →
         Reads (inter_prediction (record { lists = vector_lists src.now.probs.now; allowed = src.now.high_precision; earlier = N.blocks src.now.earlier.now; before = blocks_of Q.blocks (option_copied src.now.before); search = src.now.search }) lists skips filter.0 filter.1 references) reader.old result reader.new }
     ensures small { IfOk result (λ p. PredictsSmall (Inter p)) }
+    ensures references { IfOk result (λ p. p.references ≡ references) }
 {
     if is_below_8x8(src.search.at.size) {
         read_block_of_quarters(reader, src, filters, filter, references)

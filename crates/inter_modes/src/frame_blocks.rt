@@ -11,7 +11,7 @@ ghost use Rattle.counting_reader.specs.Code.{Reads};
 ghost use Rattle.mv_prediction.specs.Candidates.{mode_context, sign_biases};
 ghost use Rattle.mv_prediction.specs.Code.{HasSmallVectors, IsSite, blocks_of};
 ghost use Rattle.segment_map.specs.Segments.{id_map};
-ghost use Rattle.inter_modes.specs.Code.{MaySearch, IsBlockAt, frame_in, least_of};
+ghost use Rattle.inter_modes.specs.Code.{MaySearch, IsBlockAt, AreInRange, PredictsInRange, RefersInRange, frame_in, least_of};
 ghost use Rattle.inter_modes.specs.ModeInfo.{checked_references, inter_block, intra_block, inter_frame_block, inter_frame_mode_info, intra_frame_block, mode_info, block_with};
 
 use crate::blocks::read_inter_prediction;
@@ -62,6 +62,7 @@ fn read_intra_block<const COUNTS: bool>(
     requires fits { tx_number start.now.tx ≤ greatest_of at.size }
     ensures read { Reads (intra_block (frame_in frame.now) at start.now) reader.old result reader.new }
     ensures block { IfOk result (IsBlockAt at) }
+    ensures in_range { IfOk result (λ b. PredictsInRange frame.now.setting.now.header.size frame.now.fields.now.references b.prediction) }
 {
     let contexts = &frame.setting.contexts;
     let prediction = read_intra_prediction(
@@ -74,7 +75,7 @@ fn read_intra_block<const COUNTS: bool>(
 }
 
 /// The references of an inter block, which must be in range.
-#[tactic(auto, unfolding(crate::specs::ModeInfo::checked_references), using(counting_reader::proofs::CountingRuns::counting_bind, counting_reader::proofs::CountingRuns::run_settle))]
+#[tactic(auto, unfolding(crate::specs::ModeInfo::checked_references), using(counting_reader::proofs::CountingRuns::counting_bind, counting_reader::proofs::CountingRuns::run_settle, crate::proofs::InRange::tested))]
 fn read_checked_references<const COUNTS: bool>(
     reader: &mut CountingReader<COUNTS>,
     frame: &Frame<'_>,
@@ -84,7 +85,8 @@ fn read_checked_references<const COUNTS: bool>(
     segment: u8,
 ) -> Result<References, Rule>
     requires segment { segment ≤ 7 }
-    ensures { Reads (checked_references (frame_in frame.now) biases (option_copied above.entry) (option_copied left.entry) segment) reader.old result reader.new }
+    ensures read { Reads (checked_references (frame_in frame.now) biases (option_copied above.entry) (option_copied left.entry) segment) reader.old result reader.new }
+    ensures in_range { IfOk result (AreInRange frame.now.setting.now.header.size frame.now.fields.now.references) }
 {
     let setting = frame.setting;
     let feature = segment_reference(&setting.header.params.segmentation, segment);
@@ -112,6 +114,7 @@ fn read_inter_block<N: Neighbours, Q: Neighbours, const COUNTS: bool>(
     requires may { MaySearch N.holds N.blocks Q.holds Q.blocks src.now.earlier.now (option_copied src.now.before) src.now.search }
     ensures read { Reads (inter_block (frame_in frame.now) (record { lists = vector_lists src.now.probs.now; allowed = src.now.high_precision; earlier = N.blocks src.now.earlier.now; before = blocks_of Q.blocks (option_copied src.now.before); search = src.now.search }) (option_copied above.entry) (option_copied left.entry) start.now) reader.old result reader.new }
     ensures block { IfOk result (IsBlockAt src.now.search.at) }
+    ensures in_range { IfOk result (λ b. PredictsInRange frame.now.setting.now.header.size frame.now.fields.now.references b.prediction) }
 {
     let setting = frame.setting;
     let segment = start.segment.id;
@@ -148,6 +151,7 @@ fn read_beside<N: Neighbours, Q: Neighbours, const COUNTS: bool>(
     requires may { MaySearch N.holds N.blocks Q.holds Q.blocks src.now.earlier.now (option_copied src.now.before) src.now.search }
     ensures read { Reads (inter_frame_block (frame_in frame.now) (record { lists = vector_lists src.now.probs.now; allowed = src.now.high_precision; earlier = N.blocks src.now.earlier.now; before = blocks_of Q.blocks (option_copied src.now.before); search = src.now.search }) (option_copied above.entry) (option_copied left.entry) (least_of map.now src.now.search.at)) reader.old result reader.new }
     ensures block { IfOk result (IsBlockAt src.now.search.at) }
+    ensures in_range { IfOk result (λ b. PredictsInRange frame.now.setting.now.header.size frame.now.fields.now.references b.prediction) }
 {
     let at = src.search.at;
     let start = read_block_start(reader, frame.setting, above, left, at, map);
@@ -176,6 +180,7 @@ fn inter_frame_mode_info<N: Neighbours, Q: Neighbours, const COUNTS: bool>(
     requires small_before { All HasSmallVectors (blocks_of Q.blocks (option_copied before)) }
     ensures read { Reads (inter_frame_mode_info (frame_in frame.now) (id_map map.now) (N.blocks earlier.now) (blocks_of Q.blocks (option_copied before.entry)) at) reader.old result reader.new }
     ensures block { IfOk result (IsBlockAt at) }
+    ensures in_range { IfOk result (λ b. PredictsInRange frame.now.setting.now.header.size frame.now.fields.now.references b.prediction) }
 {
     let contexts = &frame.setting.contexts;
     let search = MvSearch {
@@ -198,7 +203,7 @@ fn inter_frame_mode_info<N: Neighbours, Q: Neighbours, const COUNTS: bool>(
 }
 
 /// What a block of an intra frame reads.
-#[tactic(auto, unfolding(crate::specs::ModeInfo::intra_frame_block), using(counting_reader::proofs::CountingRuns::counting_bind, counting_reader::proofs::CountingRuns::run_settle, crate::proofs::Rows::intra_small))]
+#[tactic(auto, unfolding(crate::specs::ModeInfo::intra_frame_block), using(counting_reader::proofs::CountingRuns::counting_bind, counting_reader::proofs::CountingRuns::run_settle, crate::proofs::Rows::intra_small, crate::proofs::InRange::intra_in_range))]
 fn intra_frame_block<N: Neighbours, const COUNTS: bool>(
     reader: &mut CountingReader<COUNTS>,
     setting: &FrameSetting,
@@ -209,6 +214,7 @@ fn intra_frame_block<N: Neighbours, const COUNTS: bool>(
     requires left { at.tile_from < at.col → N.holds earlier.now at.row (at.col - 1) }
     ensures read { Reads (intra_frame_block setting.now.header setting.now.modes (lists_of setting.now.contexts) (N.blocks earlier.now) at) reader.old result reader.new }
     ensures block { IfOk result (IsBlockAt at) }
+    ensures in_range { IfOk result (λ b. RefersInRange setting.now.header b.prediction) }
 {
     Ok(intra_frame_mode_info(reader, setting, earlier, at))
 }
@@ -217,7 +223,7 @@ fn intra_frame_block<N: Neighbours, const COUNTS: bool>(
 /// stands behind the last symbol that it read. The block starts inside the frame and its tile; `earlier` has the frame's
 /// blocks before it, `map` the segments before the frame, and `before` the blocks of the frame before, where its vectors are
 /// used.
-#[tactic(auto, unfolding(crate::specs::ModeInfo::mode_info))]
+#[tactic(auto, unfolding(crate::specs::ModeInfo::mode_info), using(crate::proofs::InRange::refers_in_range))]
 pub fn mode_info<N: Neighbours, Q: Neighbours, const COUNTS: bool>(
     reader: &mut CountingReader<COUNTS>,
     setting: &FrameSetting,
@@ -237,6 +243,7 @@ pub fn mode_info<N: Neighbours, Q: Neighbours, const COUNTS: bool>(
     requires small_before { All HasSmallVectors (blocks_of Q.blocks (option_copied before)) }
     ensures read { Reads (mode_info setting.now.header setting.now.modes (lists_of setting.now.contexts) (id_map map.now) (N.blocks earlier.now) (blocks_of Q.blocks (option_copied before.entry)) at) reader.old result reader.new }
     ensures block { IfOk result (IsBlockAt at) }
+    ensures in_range { IfOk result (λ b. RefersInRange setting.now.header b.prediction) }
 {
     match &setting.header.kind {
         FrameKind::Inter(fields) => {
