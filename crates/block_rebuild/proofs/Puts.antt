@@ -1,5 +1,5 @@
 -- Transform blocks put in one after another.
-use Rattle.std.proofs.Common.{◌≡◌, ◌<◌, ◌≤◌, ◌+◌, ◌*◌, ◌∷◌, [], ℕ, ℤ, ◌∙◌, refl, sym, ap, arith, Bool, true, false, List, length, get_or, take, drop}
+use Rattle.std.proofs.Common.{◌≡◌, ◌<◌, ◌+◌, ◌*◌, ◌∷◌, [], ℕ, ℤ, ◌∙◌, sym, ap, arith, Bool, false, List, get_or, take, drop}
 use Rattle.std.specs.List.{All, fold}
 use Rattle.std.proofs.lemmas.List.Sums.{fold-append}
 use Rattle.vp9_types.specs.Maps.{Map}
@@ -25,7 +25,7 @@ use Rattle.planes.specs.Pictures.{coded_area}
 use Rattle.planes.specs.declared.area.Area.{Area}
 use Rattle.intra_predict.specs.declared.coded.CodedBlock.{CodedBlock}
 use Rattle.block_rebuild.specs.Blocks.{coded_block, intra_at, put_residue, put_next, put_intra}
-use Rattle.block_rebuild.specs.Code.{put_more, IsPlaced}
+use Rattle.block_rebuild.specs.Code.{put_more}
 use Rattle.block_rebuild.specs.declared.in_plane.IntraInPlane.{IntraInPlane}
 
 pub put_one_more : (a a' : Area) (b : IntraInPlane) (ats : List (ℕ × ℕ)) (area : ℕ) (some : List Bool) (values : List ℤ) (k y x : ℕ) (start m new : Map)

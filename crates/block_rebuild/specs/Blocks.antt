@@ -1,6 +1,6 @@
 -- A block that is read, put into the planes of its frame (residual in 6.4.21 of the standard, 8.5.1 and 8.6.2 for what is
 -- done with its transform blocks).
-use Rattle.std.specs.Prelude.{ℕ, List, Option, Some, None}
+use Rattle.std.specs.Prelude.{ℕ, Some, None}
 use Rattle.std.specs.List.{fold}
 use Rattle.vp9_types.specs.Maps.{Map, FrameMap, frame_map}
 use Rattle.vp9_types.specs.Shapes.{coded_width, coded_height}
@@ -11,7 +11,7 @@ use Rattle.vp9_types.specs.declared.shape.Shape.{Shape}
 use Rattle.block_geometry.specs.Sizes.{width_8}
 use Rattle.block_geometry.specs.declared.transform_blocks.PlaneBlock.{PlaneBlock}
 use Rattle.block_plan.specs.InPlanes.{plane_block, tx_in, mode_at}
-use Rattle.block_plan.specs.Planned.{Residue, Residues, PlannedBlock, residues_in}
+use Rattle.block_plan.specs.Planned.{Residue, Residues, PlannedBlock}
 use Rattle.block_plan.specs.declared.block.BlockInfo.{BlockInfo}
 use Rattle.block_plan.specs.declared.block.IntraPrediction.{IntraPrediction}
 use Rattle.block_plan.specs.declared.block.Prediction.{Prediction}
@@ -20,6 +20,7 @@ use Rattle.intra_predict.specs.Places.{place_in}
 use Rattle.intra_predict.specs.Steps.{with_predicted, with_rebuilt}
 use Rattle.intra_predict.specs.declared.block.IntraBlock.{IntraBlock}
 use Rattle.intra_predict.specs.declared.coded.CodedBlock.{CodedBlock}
+use Rattle.block_rebuild.specs.InterBlocks.{Rebuilding, put_inter}
 
 -- the tile's columns begin at `tile_from`
 abbrev pub coded_block : ℕ → PlaneBlock → CodedBlock
@@ -53,14 +54,16 @@ put_next shape tile_from b modes p m r =
 unfoldable pub put_intra : Shape → ℕ → BlockInfo → IntraPrediction → Plane → Residues → Map → Map
 put_intra shape tile_from b modes p residues m = fold (put_next shape tile_from b modes p) m residues
 
--- how an inter block is predicted isn't built
-unfoldable pub put_by : Shape → PlannedBlock → Prediction → FrameMap → Option FrameMap
-put_by shape b (Intra modes) m = Some (frame_map
-    (put_intra shape b.tile_from b.info modes Y b.y (m Y))
-    (put_intra shape b.tile_from b.info modes U b.u (m U))
-    (put_intra shape b.tile_from b.info modes V b.v (m V)))
-put_by shape b (Inter modes) m = None
+unfoldable pub put_by : Rebuilding → PlannedBlock → Prediction → FrameMap → FrameMap
+put_by by b (Intra modes) m = frame_map
+    (put_intra by.shape b.tile_from b.info modes Y b.y (m Y))
+    (put_intra by.shape b.tile_from b.info modes U b.u (m U))
+    (put_intra by.shape b.tile_from b.info modes V b.v (m V))
+put_by by b (Inter modes) m = frame_map
+    (put_inter by b.info modes Y b.y (m Y))
+    (put_inter by b.info modes U b.u (m U))
+    (put_inter by b.info modes V b.v (m V))
 
 -- the samples of a frame with a block put in
-abbrev pub put_planned : Shape → PlannedBlock → FrameMap → Option FrameMap
-put_planned shape b m = put_by shape b b.info.prediction m
+abbrev pub put_planned : Rebuilding → PlannedBlock → FrameMap → FrameMap
+put_planned by b m = put_by by b b.info.prediction m

@@ -1,2 +1,3 @@
+pub mod InterBlocks
 pub mod Blocks
 pub mod Code

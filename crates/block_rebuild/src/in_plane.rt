@@ -17,6 +17,7 @@ ghost use Rattle.planes.specs.Planes.{lower_end, right_end, plane_map};
 ghost use Rattle.block_rebuild.specs.Blocks.{coded_block, put_residue, put_intra};
 ghost use Rattle.block_rebuild.specs.Code.{IsPlaced, IsPlaneOf, block_at, put_more};
 
+use crate::sizes::area_of;
 use block_geometry::{FramePlaces, PlaneBlock, TransformGrid, transform_grid, width_8};
 use block_plan::{BlockInfo, IntraPrediction, PlaneResidues, mode_at, plane_block};
 use intra_predict::{CodedBlock, IntraBlock, Scratch, place_of, put_predicted, put_rebuilt};
@@ -56,19 +57,6 @@ fn coded_block(tile_from: u32, block: &PlaneBlock) -> CodedBlock
     }
 }
 
-/// How many values a transform block has.
-fn area_of(tx: TxSize) -> usize
-    ensures value { result ≡ area tx }
-    ensures most { result ≤ 1024 }
-{
-    match tx {
-        TxSize::T4x4 => 16,
-        TxSize::T8x8 => 64,
-        TxSize::T16x16 => 256,
-        TxSize::T32x32 => 1024,
-    }
-}
-
 /// The transform block at a row and column, in 4s.
 fn block_at(b: &IntraInPlane, at: (usize, usize)) -> IntraBlock
     requires low { b.now.coded.row ≤ 8192 }
@@ -87,7 +75,7 @@ fn block_at(b: &IntraInPlane, at: (usize, usize)) -> IntraBlock
 }
 
 /// The plane's frame in places of 8x8 luma samples.
-fn places_of(shape: &Shape) -> FramePlaces
+pub(crate) fn places_of(shape: &Shape) -> FramePlaces
     requires { HasFrameSize shape.now }
     ensures is { result ≡ places_of shape.now }
     ensures few_rows { result.rows ≤ 8192 }

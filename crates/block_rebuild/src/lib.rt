@@ -3,6 +3,13 @@
 
 mod blocks;
 mod in_plane;
+mod inter_in_plane;
+mod references;
+mod residue;
+mod room;
+mod sizes;
 
 pub use blocks::put_block;
 pub use in_plane::IntraInPlane;
+pub use references::{Rebuilding, ReferencePicture};
+pub use room::RebuildRoom;

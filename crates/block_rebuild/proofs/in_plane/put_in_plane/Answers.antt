@@ -1,7 +1,6 @@
-use Rattle.std.proofs.Common.{◌≡◌, ◌∙◌, sym, ap, refl, arith}
+use Rattle.std.proofs.Common.{◌≡◌, ◌∙◌, sym}
 use Rattle.block_geometry.specs.TransformBlocks.{transform_blocks, grid_blocks}
 use Rattle.block_plan.specs.InPlanes.{places_in}
-use Rattle.block_rebuild.specs.Blocks.{put_intra}
 use Rattle.block_rebuild.proofs.Puts.{all_lie, put_is}
 use Rattle.block_rebuild.proofs.in_plane.put_in_plane.Goals as goal
 

@@ -1,0 +1,202 @@
+-- Parts of inter blocks: predicted, and put in one after another.
+use Rattle.std.proofs.Common.{◌≡◌, ◌<◌, ◌≤◌, ◌+◌, ◌*◌, ◌-◌, ◌++◌, ◌∷◌, [], ℕ, ◌∙◌, refl, sym, ap, arith, subst, List, min, map-id}
+use Rattle.std.specs.Prelude.{Option, Some, None, slice_index}
+use Rattle.std.specs.List.{fold, range_with_len}
+use Rattle.std.proofs.lemmas.List.FromFn.{map-range_with_len_more}
+use Rattle.std.proofs.lemmas.List.Sums.{fold-append}
+use Rattle.std.proofs.lemmas.Option.{same_Some}
+use Rattle.std.proofs.Math.Nat.{mul-le-mul_right}
+use Rattle.vp9_types.specs.Maps.{Map, FrameMap, HoldsRows, IsAtMost, rows_of, with_block}
+use Rattle.vp9_types.specs.Shapes.{plane_width, plane_height}
+use Rattle.vp9_types.specs.Sizes.{greatest}
+use Rattle.vp9_types.specs.declared.block.ReferenceFrame.{ReferenceFrame}
+use Rattle.vp9_types.specs.declared.shape.Plane.{Plane}
+use Rattle.vp9_types.specs.declared.shape.Shape.{Shape}
+use Rattle.block_plan.specs.declared.block.BlockInfo.{BlockInfo}
+use Rattle.block_plan.specs.declared.block.InterPrediction.{InterPrediction}
+use Rattle.inter_places.specs.Axes.{IsPlace, last_place}
+use Rattle.inter_places.specs.Places.{coded_length, place_of}
+use Rattle.inter_places.specs.declared.axis.Place.{Place}
+use Rattle.inter_places.specs.declared.part.BlockPart.{BlockPart}
+use Rattle.inter_places.specs.declared.part.Direction.TheVariants.{Down, Across}
+use Rattle.inter_scaled.specs.Inter.{average, both}
+use Rattle.inter_scaled.proofs.Agree.{place_below, predicted_small}
+use Rattle.inter_scaled.proofs.Blocks.{place_below as entry_below}
+use Rattle.planes.specs.Pictures.{coded_area}
+use Rattle.planes.specs.Planes.{StartsIn, lower_end, right_end, with_part}
+use Rattle.planes.specs.declared.area.Area.{Area}
+use Rattle.planes.proofs.PlaneLemmas.{with_block_small}
+use Rattle.planes.proofs.RowLemmas.{with_block_same, place}
+use Rattle.block_rebuild.specs.InterBlocks.{Rebuilding, part_of, predicted_from, predicted_part, put_part, second_from, with_second}
+use Rattle.block_rebuild.specs.Code.{HasReference, IsUsable, reference_of}
+use Rattle.block_rebuild.specs.declared.references.ReferencePicture as code_picture
+use Rattle.block_rebuild.specs.declared.references.Rebuilding as code
+
+---- What is predicted from ----
+
+pub usable_of : {S : Type 0} (holds : S → Plane → ℕ → Type 0) (width : S → Plane → ℕ) (map : S → FrameMap) (by : code.Rebuilding S) (reference : ReferenceFrame)
+    (r : code_picture.ReferencePicture S) → reference_of by reference ≡ Some r → HasReference holds width map by reference → IsUsable holds width map by.shape r
+usable_of holds width map by reference r found has = subst (λ x. IsUsable holds width map by.shape x) (same_Some has.0 r (sym has.1 ∙ found)) has.2
+
+-- rows up to the last place are rows of the plane
+pub row_held : (shape reference : Shape) (b : BlockInfo) (modes : InterPrediction) (part : BlockPart) (place : Place) (n y : ℕ)
+    → place ≡ place_of shape b modes part reference → 0 < place.down.size → y ≤ last_place place.down n → y < plane_height reference place.plane
+unfolding place_of
+row_held shape reference b modes part place n y is some low =
+    let below = place_below place.down (n - 1) 7 some in
+    let size : place.down.size ≡ plane_height reference place.plane = (λ i. (is i).down.size) ∙ (λ i. plane_height reference (sym is i).plane) in
+    rw (← size) (omega (arith, low, below))
+
+pub across_size : (shape reference : Shape) (b : BlockInfo) (modes : InterPrediction) (part : BlockPart) (place : Place)
+    → place ≡ place_of shape b modes part reference → place.across.size ≡ plane_width reference place.plane
+unfolding place_of
+across_size shape reference b modes part place is = (λ i. (is i).across.size) ∙ (λ i. plane_width reference (sym is i).plane)
+
+---- Two references ----
+
+pub averaged : (rows columns : ℕ) (first second new : List ℕ) (f g : Map) → HoldsRows first columns rows f → HoldsRows second columns rows g
+    → ((k : ℕ) → k < rows * columns → slice_index new k ≡ average (slice_index first k) (slice_index second k)) → HoldsRows new columns rows (both f g)
+averaged rows columns first second new f g one two mean = λ i j low left.
+    mean (i * columns + j) (entry_below columns rows i j low left) ∙ (λ k. average (one i j low left k) (two i j low left k))
+
+-- a part has the same rows and columns by both lists
+pub same_rows : (shape reference other : Shape) (b : BlockInfo) (modes : InterPrediction) (p : Plane) (n : ℕ)
+    → (place_of shape b modes (part_of p n 1) other).rows ≡ (place_of shape b modes (part_of p n 0) reference).rows
+unfolding place_of
+same_rows shape reference other b modes p n = refl
+
+pub same_columns : (shape reference other : Shape) (b : BlockInfo) (modes : InterPrediction) (p : Plane) (n : ℕ)
+    → (place_of shape b modes (part_of p n 1) other).columns ≡ (place_of shape b modes (part_of p n 0) reference).columns
+unfolding place_of
+same_columns shape reference other b modes p n = refl
+
+pub by_one : (by : Rebuilding) (b : BlockInfo) (modes : InterPrediction) (p : Plane) (n : ℕ) → modes.references.second ≡ None
+    → predicted_from by.shape b modes (part_of p n 0) (by.references modes.references.first) ≡ predicted_part by b modes p n
+unfolding predicted_part
+by_one by b modes p n none = rw none refl
+
+pub by_two : (by : Rebuilding) (b : BlockInfo) (modes : InterPrediction) (p : Plane) (n : ℕ) (second : ReferenceFrame) → modes.references.second ≡ Some second
+    → both (predicted_from by.shape b modes (part_of p n 0) (by.references modes.references.first)) (predicted_from by.shape b modes (part_of p n 1) (by.references second))
+    ≡ predicted_part by b modes p n
+unfolding predicted_part
+by_two by b modes p n second some = rw some refl
+
+-- a part by two references
+pub two_predicted : (by : Rebuilding) (b : BlockInfo) (modes : InterPrediction) (p : Plane) (n : ℕ) (second : ReferenceFrame) (r s : Shape) (at other : Place) (one two new : List ℕ)
+    → modes.references.second ≡ Some second → at ≡ place_of by.shape b modes (part_of p n 0) r → other ≡ place_of by.shape b modes (part_of p n 1) s
+    → HoldsRows one at.columns at.rows (predicted_from by.shape b modes (part_of p n 0) (by.references modes.references.first))
+    → HoldsRows two other.columns other.rows (predicted_from by.shape b modes (part_of p n 1) (by.references second))
+    → ((k : ℕ) → k < at.rows * at.columns → slice_index new k ≡ average (slice_index one k) (slice_index two k))
+    → HoldsRows new at.columns at.rows (predicted_part by b modes p n)
+two_predicted by b modes p n second r s at other one two new some is also holds more mean =
+    let f : Map = predicted_from by.shape b modes (part_of p n 0) (by.references modes.references.first) in
+    let g : Map = predicted_from by.shape b modes (part_of p n 1) (by.references second) in
+    let rows : other.rows ≡ at.rows = (λ i. (also i).rows) ∙ (same_rows by.shape r s b modes p n ∙ (λ i. (sym is i).rows)) in
+    let columns : other.columns ≡ at.columns = (λ i. (also i).columns) ∙ (same_columns by.shape r s b modes p n ∙ (λ i. (sym is i).columns)) in
+    let lined : HoldsRows two at.columns other.rows g = subst (λ (k : ℕ). HoldsRows two k other.rows g) columns more in
+    let held : HoldsRows two at.columns at.rows g = subst (λ (k : ℕ). HoldsRows two at.columns k g) rows lined in
+    subst (λ (h : Map). HoldsRows new at.columns at.rows h) (by_two by b modes p n second some) (averaged at.rows at.columns one two new f g holds held mean)
+
+pub one_predicted : (by : Rebuilding) (b : BlockInfo) (modes : InterPrediction) (p : Plane) (n : ℕ) (at : Place) (block : List ℕ) → modes.references.second ≡ None
+    → HoldsRows block at.columns at.rows (predicted_from by.shape b modes (part_of p n 0) (by.references modes.references.first))
+    → HoldsRows block at.columns at.rows (predicted_part by b modes p n)
+one_predicted by b modes p n at block none holds = subst (λ (h : Map). HoldsRows block at.columns at.rows h) (by_one by b modes p n none) holds
+
+---- A part in its plane ----
+
+min_right : (a b : ℕ) → min a b ≤ b
+min_right a b = omega arith
+
+zero_plus : (n : ℕ) → 0 + n ≡ n
+zero_plus n = omega arith
+
+rows_inside : (shape reference : Shape) (b : BlockInfo) (modes : InterPrediction) (part : BlockPart)
+    → (place_of shape b modes part reference).rows ≤ coded_length shape part.plane Down - (place_of shape b modes part reference).row
+unfolding place_of
+rows_inside shape reference b modes part = min_right _ _
+
+columns_inside : (shape reference : Shape) (b : BlockInfo) (modes : InterPrediction) (part : BlockPart)
+    → (place_of shape b modes part reference).columns ≤ coded_length shape part.plane Across - (place_of shape b modes part reference).column
+unfolding place_of
+columns_inside shape reference b modes part = min_right _ _
+
+-- what is predicted of a part lies in the plane
+rows_fit : (shape reference : Shape) (b : BlockInfo) (modes : InterPrediction) (part : BlockPart) (at : Place) → at ≡ place_of shape b modes part reference
+    → at.rows ≤ coded_length shape part.plane Down - at.row
+rows_fit shape reference b modes part at is = subst (λ (q : Place). q.rows ≤ coded_length shape part.plane Down - q.row) (sym is) (rows_inside shape reference b modes part)
+
+columns_fit : (shape reference : Shape) (b : BlockInfo) (modes : InterPrediction) (part : BlockPart) (at : Place) → at ≡ place_of shape b modes part reference
+    → at.columns ≤ coded_length shape part.plane Across - at.column
+columns_fit shape reference b modes part at is = subst (λ (q : Place). q.columns ≤ coded_length shape part.plane Across - q.column) (sym is) (columns_inside shape reference b modes part)
+
+pub starts_in : (shape reference : Shape) (b : BlockInfo) (modes : InterPrediction) (p : Plane) (n list : ℕ) (a : Area) (at : Place)
+    → a ≡ coded_area shape p → at ≡ place_of shape b modes (part_of p n list) reference → IsPlace at → StartsIn a at.row at.column
+starts_in shape reference b modes p n list a at whole is fits =
+    let low = rows_fit shape reference b modes (part_of p n list) at is in
+    let narrow = columns_fit shape reference b modes (part_of p n list) at is in
+    rw whole (record {
+      above = omega arith;
+      below = omega (arith, low, fits.some_rows);
+      left = omega arith;
+      right = omega (arith, narrow, fits.some_columns);
+    })
+
+whole_part : (a : Area) (m : Map) (row column rows columns : ℕ) (block : List ℕ) (f : Map) → rows ≤ lower_end a - row → columns ≤ right_end a - column
+    → HoldsRows block columns rows f → with_part a m row column rows columns (rows_of columns block) ≡ with_block m row column rows columns f
+whole_part a m row column rows columns block f low narrow holds =
+    let high : min rows (lower_end a - row) ≡ rows = omega (arith, low) in
+    let wide : min columns (right_end a - column) ≡ columns = omega (arith, narrow) in
+    rw (high, wide) (with_block_same m row column rows columns (rows_of columns block) f (λ i j below left. place columns block i j left ∙ holds i j below left))
+
+place_put : (by : Rebuilding) (reference : Shape) (b : BlockInfo) (modes : InterPrediction) (p : Plane) (n : ℕ) (m : Map) (at : Place)
+    → at ≡ place_of by.shape b modes (part_of p n 0) reference
+    → with_block m at.row at.column at.rows at.columns (predicted_part by b modes p n) ≡ put_part by b modes p m n
+unfolding place_of
+place_put by reference b modes p n m at is = λ i. with_block m (is i).row (is i).column (is i).rows (is i).columns (predicted_part by b modes p n)
+
+pub part_put : (by : Rebuilding) (reference : Shape) (b : BlockInfo) (modes : InterPrediction) (p : Plane) (n : ℕ) (a : Area) (m : Map) (at : Place) (block : List ℕ)
+    → a ≡ coded_area by.shape p → at ≡ place_of by.shape b modes (part_of p n 0) reference → HoldsRows block at.columns at.rows (predicted_part by b modes p n)
+    → with_part a m at.row at.column at.rows at.columns (rows_of at.columns block) ≡ put_part by b modes p m n
+part_put by reference b modes p n a m at block whole is holds =
+    let low = rows_fit by.shape reference b modes (part_of p n 0) at is in
+    let narrow = columns_fit by.shape reference b modes (part_of p n 0) at is in
+    let high : lower_end a ≡ coded_length by.shape p Down = (λ i. lower_end (whole i)) ∙ zero_plus _ in
+    let wide : right_end a ≡ coded_length by.shape p Across = (λ i. right_end (whole i)) ∙ zero_plus _ in
+    whole_part a m at.row at.column at.rows at.columns block (predicted_part by b modes p n) (rw high low) (rw wide narrow) holds
+    ∙ place_put by reference b modes p n m at is
+
+-- predicted samples are in the range of the depth
+mean_small : (most a b : ℕ) → a ≤ most → b ≤ most → average a b ≤ most
+mean_small most a b low also = omega (arith, low, also)
+
+second_small : (by : Rebuilding) (b : BlockInfo) (modes : InterPrediction) (p : Plane) (n : ℕ) (second : Option ReferenceFrame)
+    → IsAtMost (greatest by.shape.depth) (with_second (predicted_from by.shape b modes (part_of p n 0) (by.references modes.references.first)) (second_from by b modes p n second))
+second_small by b modes p n None i j = predicted_small (greatest by.shape.depth) modes.filter _ _ _ i j
+second_small by b modes p n (Some second) i j =
+    mean_small (greatest by.shape.depth) _ _ (predicted_small (greatest by.shape.depth) modes.filter _ _ _ i j) (predicted_small (greatest by.shape.depth) modes.filter _ _ _ i j)
+
+predicted_part_small : (by : Rebuilding) (b : BlockInfo) (modes : InterPrediction) (p : Plane) (n : ℕ) → IsAtMost (greatest by.shape.depth) (predicted_part by b modes p n)
+unfolding predicted_part
+predicted_part_small by b modes p n = second_small by b modes p n modes.references.second
+
+pub part_small : (by : Rebuilding) (b : BlockInfo) (modes : InterPrediction) (p : Plane) (n : ℕ) (m new : Map) → IsAtMost (greatest by.shape.depth) m
+    → new ≡ put_part by b modes p m n → IsAtMost (greatest by.shape.depth) new
+part_small by b modes p n m new small is =
+    rw is (with_block_small (greatest by.shape.depth) m _ _ _ _ (predicted_part by b modes p n) small (predicted_part_small by b modes p n))
+
+-- so many samples have room in a block
+pub few_samples : (rows columns : ℕ) → rows ≤ 64 → columns ≤ 64 → rows * columns ≤ 4096
+few_samples rows columns low narrow = let most = mul-le-mul_right columns low in omega (arith, most, narrow)
+
+---- One after another ----
+
+one_more : (n : ℕ) → range_with_len 0 (n + 1) ≡ range_with_len 0 n ++ n ∷ []
+one_more n = simp map-id at (map-range_with_len_more (λ (x : ℕ). x) 0 n n (omega arith))
+
+pub one_part_more : (by : Rebuilding) (b : BlockInfo) (modes : InterPrediction) (p : Plane) (n : ℕ) (start m new : Map)
+    → m ≡ fold (put_part by b modes p) start (range_with_len 0 n) → new ≡ put_part by b modes p m n → new ≡ fold (put_part by b modes p) start (range_with_len 0 (n + 1))
+one_part_more by b modes p n start m new so is =
+    is
+    ∙ (ap (λ (z : Map). put_part by b modes p z n) so
+    ∙ (sym (fold-append (put_part by b modes p) start (range_with_len 0 n) (n ∷ []))
+    ∙ ap (fold (put_part by b modes p) start) (sym (one_more n))))

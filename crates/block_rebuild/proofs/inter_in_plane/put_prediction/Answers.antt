@@ -1,0 +1,19 @@
+use Rattle.std.proofs.Common.{◌≡◌, ◌∙◌, arith}
+use Rattle.planes.specs.Planes.{plane_map}
+use Rattle.block_rebuild.specs.InterBlocks.{put_prediction}
+use Rattle.block_rebuild.specs.Code.{rebuilding_of}
+use Rattle.block_rebuild.proofs.Parts.{one_part_more}
+use Rattle.block_rebuild.proofs.inter_in_plane.put_prediction.Goals as goal
+
+pub loop-number-preserved : goal.loop-number-preserved
+loop-number-preserved g c = let a = c.args in let b = a.b.now in record {
+  is = c.put_part.ensures.is;
+  so_far = one_part_more (rebuilding_of g.S.Samples.map b.by.now) b.block.now b.modes.now a.plane c.loop-number.number (plane_map a.samples.now) (plane_map c.loop-number.samples) (plane_map c.put_part.new.samples)
+      c.loop-number.invariant.so_far c.put_part.ensures.map;
+}
+
+pub returns-clause-map : goal.returns-clause-map
+unfolding put_prediction
+returns-clause-map g c =
+    let done : c.loop-number.number ≡ c.part_count-count.result = omega (arith, c.loop-number-test.false, c.loop-number.auto.number-end) in
+    rw (done ∙ c.part_count-count.ensures) at c.loop-number.invariant.so_far

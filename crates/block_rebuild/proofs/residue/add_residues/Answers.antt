@@ -1,0 +1,40 @@
+use Rattle.std.proofs.Common.{◌≡◌, ◌<◌, ◌*◌, ◌∙◌, refl, arith, length}
+use Rattle.block_geometry.specs.TransformBlocks.{grid_blocks}
+use Rattle.block_geometry.proofs.Rasters.{length_grid}
+use Rattle.block_plan.specs.Code.{residues_held}
+use Rattle.block_plan.proofs.Held.{one_long}
+use Rattle.vp9_tables.specs.Scans.{area}
+use Rattle.block_rebuild.proofs.Puts.{small_at}
+use Rattle.block_rebuild.proofs.Sums.{add_one_more}
+use Rattle.block_rebuild.proofs.residue.add_residues.Goals as goal
+
+pub loop-k-init : goal.loop-k-init
+unfolding residues_held
+loop-k-init c = record { same = refl; range = c.requires.range; so_far = refl }
+
+pub add_any-requires-clause-inside : goal.add_any-requires-clause-inside
+add_any-requires-clause-inside c =
+    let low : c.loop-k.k < c.args.grid.now.rows * c.args.grid.now.columns = omega (arith, c.loop-k-test.true, c.count-k-end.ensures.count, c.loop-k.auto.k-end) in
+    let here = rw c.place.ensures.place at (c.requires.inside c.loop-k.k (0, 0) (rw (length_grid c.args.grid.now) low)) in
+    rw c.loop-k.invariant.same here
+
+pub add_any-requires-clause-small : goal.add_any-requires-clause-small
+add_any-requires-clause-small c =
+    let low : c.loop-k.k < c.args.grid.now.rows * c.args.grid.now.columns = omega (arith, c.loop-k-test.true, c.count-k-end.ensures.count, c.loop-k.auto.k-end) in
+    rw (c.area_of-area.ensures.value, one_long)
+    (small_at (grid_blocks c.args.grid.now) (area c.args.block.now.tx) c.args.residues.now.some c.args.residues.now.values (length (grid_blocks c.args.grid.now)) c.loop-k.k
+    (rw (length_grid c.args.grid.now) low) c.requires.small)
+
+pub loop-k-preserved : goal.loop-k-preserved
+loop-k-preserved c = record {
+  same = c.add_any.ensures.area ∙ c.loop-k.invariant.same;
+  range = c.add_any.ensures.range;
+  so_far = add_one_more c.args.samples.now.area c.loop-k.samples.area c.args.depth c.args.block.now (grid_blocks c.args.grid.now) (area c.args.block.now.tx) c.args.residues.now.some c.args.residues.now.values c.loop-k.k _ _ _ _
+      c.place.ensures.place c.loop-k.invariant.so_far c.loop-k.invariant.same
+      (rw (c.area_of-area.ensures.value, one_long) at c.add_any.ensures.map);
+}
+
+pub returns-clause-map : goal.returns-clause-map
+returns-clause-map c =
+    let done : c.loop-k.k ≡ length (grid_blocks c.args.grid.now) = rw (length_grid c.args.grid.now) (omega (arith, c.loop-k-test.false, c.loop-k.auto.k-end, c.count-k-end.ensures.count)) in
+    rw done at c.loop-k.invariant.so_far

@@ -1,0 +1,165 @@
+//! An inter block put into a plane.
+
+ghost use Rattle.std.specs.Prelude.{◌≡◌, ◌<◌, ◌≤◌, ◌*◌, length};
+ghost use Rattle.std.specs.List.{fold, range_with_len};
+ghost use Rattle.vp9_types.specs.Maps.{HoldsRows, IsAtMost};
+ghost use Rattle.vp9_types.specs.Shapes.{mi_rows, mi_cols};
+ghost use Rattle.vp9_types.specs.Sizes.{greatest};
+ghost use Rattle.vp9_tables.specs.Blocks.{greatest_of as greatest_transform};
+ghost use Rattle.vp9_tables.specs.Numbers.{tx_number};
+ghost use Rattle.frame_headers.specs.Sizes.{HasFrameSize};
+ghost use Rattle.block_plan.specs.Code.{held_in, AreSmall};
+ghost use Rattle.block_plan.specs.declared.block.Prediction.TheVariants.{Inter};
+ghost use Rattle.inter_places.specs.Axes.{IsPlace};
+ghost use Rattle.inter_places.specs.Places.{IsPart, parts_of, place_of};
+ghost use Rattle.planes.specs.Planes.{plane_map};
+ghost use Rattle.planes.specs.Pictures.{coded_area};
+ghost use Rattle.block_rebuild.specs.InterBlocks.{part_of, predicted_from, predicted_part, put_part, put_prediction, put_inter};
+ghost use Rattle.block_rebuild.specs.Code.{IsPlaneOf, HasReference, HasReferences, picture_of, reference_of, rebuilding_of};
+
+use crate::in_plane::places_of;
+use crate::references::Rebuilding;
+use crate::residue::add_residues;
+use crate::room::RebuildRoom;
+use crate::sizes::greatest_of;
+use block_geometry::transform_grid;
+use block_plan::{BlockInfo, InterPrediction, PlaneResidues, plane_block};
+use inter_places::{BlockPart, Place, part_count, place};
+use inter_scaled::{LINES, average, predict};
+use planes::SamplePlane;
+use vp9_types::{Plane, ReferenceFrame, Samples};
+
+/// An inter block: what its planes share.
+#[derive(Clone, Copy)]
+pub(crate) struct InterCoded<'a, S> {
+    pub by: &'a Rebuilding<'a, S>,
+    pub block: &'a BlockInfo,
+    pub modes: &'a InterPrediction,
+}
+
+/// Predicts a part of a block from a reference, in rows of a block buffer, and says where it lies.
+fn predict_part<S: Samples>(
+    b: &InterCoded<'_, S>,
+    reference: ReferenceFrame,
+    part: BlockPart,
+    lines: &mut [u16],
+    block: &mut [u16],
+) -> Place
+    requires part { IsPart b.now.by.now.shape b.now.block.now part }
+    requires reference { HasReference S.holds S.width S.map b.now.by.now reference }
+    requires lines { LINES ≤ length lines.old }
+    requires room { 4096 ≤ length block.old }
+    ensures place { result ≡ place_of b.now.by.now.shape b.now.block.now b.now.modes.now part (picture_of S.map (reference_of b.now.by.now reference)).shape }
+    ensures fits { IsPlace result }
+    ensures samples { HoldsRows block.new result.columns result.rows (predicted_from b.now.by.now.shape b.now.block.now b.now.modes.now part (picture_of S.map (reference_of b.now.by.now reference))) }
+{
+    let Some(picture) = b.by.reference(reference) else {
+        unreachable!()
+    };
+    let shape = &b.by.shape;
+    let place = place(shape, b.block, b.modes, part, &picture.shape);
+    let most = greatest_of(shape.depth);
+    predict(picture.samples, &place, b.modes.filter, most, lines, block);
+    place
+}
+
+/// Predicts a part of a block from all of its references into the first block of the room.
+fn predict_all<S: Samples>(
+    b: &InterCoded<'_, S>,
+    plane: Plane,
+    number: usize,
+    room: &mut RebuildRoom,
+) -> Place
+    requires part { IsPart b.now.by.now.shape b.now.block.now (part_of plane number 0) }
+    requires references { HasReferences S.holds S.width S.map b.now.by.now (Inter b.now.modes.now) }
+    ensures place { result ≡ place_of b.now.by.now.shape b.now.block.now b.now.modes.now (part_of plane number 0) (picture_of S.map (reference_of b.now.by.now b.now.modes.now.references.first)).shape }
+    ensures fits { IsPlace result }
+    ensures samples { HoldsRows room.new.first result.columns result.rows (predicted_part (rebuilding_of S.map b.now.by.now) b.now.block.now b.now.modes.now plane number) }
+{
+    let references = b.modes.references;
+    let first = BlockPart {
+        plane,
+        number,
+        list: 0,
+    };
+    let place = predict_part(b, references.first, first, &mut room.lines, &mut room.first);
+    if let Some(reference) = references.second {
+        let second = BlockPart {
+            plane,
+            number,
+            list: 1,
+        };
+        predict_part(b, reference, second, &mut room.lines, &mut room.second);
+        average(&mut room.first, &room.second, place.rows * place.columns);
+    }
+    place
+}
+
+/// Puts a part of a block into its plane.
+fn put_part<S: Samples>(
+    samples: &mut SamplePlane,
+    b: &InterCoded<'_, S>,
+    plane: Plane,
+    number: usize,
+    room: &mut RebuildRoom,
+)
+    requires part { IsPart b.now.by.now.shape b.now.block.now (part_of plane number 0) }
+    requires references { HasReferences S.holds S.width S.map b.now.by.now (Inter b.now.modes.now) }
+    requires is { IsPlaneOf b.now.by.now.shape plane samples.old }
+    ensures map { plane_map samples.new ≡ put_part (rebuilding_of S.map b.now.by.now) b.now.block.now b.now.modes.now plane (plane_map samples.old) number }
+    ensures is { IsPlaneOf b.now.by.now.shape plane samples.new }
+{
+    let place = predict_all(b, plane, number, room);
+    samples.put_block(
+        place.row,
+        place.column,
+        place.rows,
+        place.columns,
+        &room.first,
+    );
+}
+
+/// Puts the predicted samples of a block into its plane.
+fn put_prediction<S: Samples>(
+    samples: &mut SamplePlane,
+    b: &InterCoded<'_, S>,
+    plane: Plane,
+    room: &mut RebuildRoom,
+)
+    requires row { b.now.block.now.row < mi_rows b.now.by.now.shape }
+    requires column { b.now.block.now.col < mi_cols b.now.by.now.shape }
+    requires references { HasReferences S.holds S.width S.map b.now.by.now (Inter b.now.modes.now) }
+    requires is { IsPlaneOf b.now.by.now.shape plane samples.old }
+    ensures map { plane_map samples.new ≡ put_prediction (rebuilding_of S.map b.now.by.now) b.now.block.now b.now.modes.now plane (plane_map samples.old) }
+    ensures is { IsPlaneOf b.now.by.now.shape plane samples.new }
+{
+    let count = part_count(&b.by.shape, b.block.size, plane);
+    for number in 0..count {
+        put_part(samples, b, plane, number, room);
+    }
+}
+
+/// Puts an inter block into a plane: all of its samples are predicted before any residue is added.
+pub(crate) fn put_inter<S: Samples>(
+    samples: &mut SamplePlane,
+    b: &InterCoded<'_, S>,
+    plane: Plane,
+    residues: &PlaneResidues,
+    room: &mut RebuildRoom,
+)
+    requires size { HasFrameSize b.now.by.now.shape }
+    requires row { b.now.block.now.row < mi_rows b.now.by.now.shape }
+    requires column { b.now.block.now.col < mi_cols b.now.by.now.shape }
+    requires fits { tx_number b.now.block.now.tx ≤ greatest_transform b.now.block.now.size }
+    requires references { HasReferences S.holds S.width S.map b.now.by.now (Inter b.now.modes.now) }
+    requires is { IsPlaneOf b.now.by.now.shape plane samples.old }
+    requires small { AreSmall (held_in b.now.by.now.shape b.now.block.now plane residues.now) }
+    ensures map { plane_map samples.new ≡ put_inter (rebuilding_of S.map b.now.by.now) b.now.block.now b.now.modes.now plane (held_in b.now.by.now.shape b.now.block.now plane residues.now) (plane_map samples.old) }
+    ensures is { IsPlaneOf b.now.by.now.shape plane samples.new }
+{
+    put_prediction(samples, b, plane, room);
+    let shape = &b.by.shape;
+    let block = plane_block(shape, b.block, plane);
+    let grid = transform_grid(places_of(shape), block);
+    add_residues(samples, &block, &grid, residues, shape.depth);
+}

@@ -1,0 +1,173 @@
+//! Residue added to the samples that stand in a plane (8.6.2 of the standard).
+
+ghost use Rattle.std.specs.Prelude.{◌≡◌, ◌<◌, ◌≤◌, ◌+◌, ◌*◌, ◌^◌, ℕ, pos, length, slice_index, slice_index_or, unsigned_abs};
+ghost use Rattle.std.specs.List.{All, fold};
+ghost use Rattle.vp9_types.specs.Maps.{IsAtMost, with_block};
+ghost use Rattle.vp9_types.specs.Sizes.{clip, greatest, side};
+ghost use Rattle.vp9_tables.specs.Scans.{area};
+ghost use Rattle.block_geometry.specs.TransformBlocks.{grid_blocks, tx_step};
+ghost use Rattle.block_geometry.specs.Code.{IsSmallGrid};
+ghost use Rattle.block_plan.specs.Code.{residue_if, held, IsSmall, AreSmall};
+ghost use Rattle.intra_predict.specs.Residue.{IsResidue, with_residue};
+ghost use Rattle.intra_predict.specs.Steps.{plus_residue, with_square};
+ghost use Rattle.planes.specs.Planes.{HasRow, lower_end, right_end, plane_map};
+ghost use Rattle.block_rebuild.specs.InterBlocks.{tx_row, tx_column, samples_from, add_residue};
+ghost use Rattle.block_rebuild.specs.Code.{add_more};
+
+use crate::sizes::{area_of, greatest_of, halved};
+use block_geometry::{PlaneBlock, TransformGrid};
+use block_plan::PlaneResidues;
+use intra_predict::side_of;
+use planes::SamplePlane;
+use vp9_types::{Depth, TxSize};
+
+#[inline(always)]
+fn clipped(sum: i32, most: u16) -> u16
+    ensures { result ≡ clip most sum }
+{
+    if sum < 0 {
+        0
+    } else if sum > i32::from(most) {
+        most
+    } else {
+        sum as u16
+    }
+}
+
+/// Adds residue to as many samples, and clips them.
+#[inline(always)]
+fn add_line(line: &mut [u16], residue: &[i32], most: u16)
+    requires room { length line.old ≡ length residue.now }
+    requires residue { IsResidue (length residue.now) residue.now }
+    ensures { (k : ℕ) → k < length residue.now →
+        slice_index line.new k ≡ with_residue most (slice_index line.old k) (slice_index_or residue.now k (pos 0)) }
+{
+    for k in 0..residue.len() {
+        let change = residue[k];
+        line[k] = clipped(i32::from(line[k]) + change, most);
+    }
+}
+
+/// Adds residue to the samples of a row, from a column on.
+#[inline(always)]
+fn add_row(samples: &mut SamplePlane, row: usize, column: usize, residue: &[i32], most: u16)
+    requires inside { HasRow samples.old.area row column (length residue.now) }
+    requires residue { IsResidue (length residue.now) residue.now }
+    ensures map { plane_map samples.new ≡ with_block (plane_map samples.old) row column 1 (length residue.now)
+        (λ _ j. with_residue most (plane_map samples.old row (column + j)) (slice_index_or residue.now j (pos 0))) }
+    ensures area { samples.new.area ≡ samples.old.area }
+{
+    let line = samples.row_mut(row, column, residue.len());
+    add_line(line, residue, most);
+}
+
+/// Adds the residue of a transform block to the samples at a row and column. What lies below or right of the plane is left
+/// out.
+fn add_square(
+    samples: &mut SamplePlane,
+    row: usize,
+    column: usize,
+    tx: TxSize,
+    depth: Depth,
+    values: &[i32],
+)
+    requires inside { HasRow samples.old.area row column 1 }
+    requires long { length values.now ≡ area tx }
+    requires small { All (λ x. unsigned_abs x < 2 ^ 24) values.now }
+    ensures map { plane_map samples.new ≡ with_square (right_end samples.old.area) (lower_end samples.old.area) (plane_map samples.old) row column (side tx)
+        (plus_residue depth (side tx) (samples_from (plane_map samples.old) row column) values.now) }
+    ensures area { samples.new.area ≡ samples.old.area }
+{
+    let area = samples.area();
+    let side = side_of(tx);
+    let rows = side.min(area.lower_end() - row);
+    let columns = side.min(area.right_end() - column);
+    let most = greatest_of(depth);
+    for i in 0..rows {
+        let from = i * side;
+        add_row(
+            samples,
+            row + i,
+            column,
+            &values[from..from + columns],
+            most,
+        );
+    }
+}
+
+/// The first row and column of the transform block at a row and column in 4s.
+fn first_sample(block: &PlaneBlock, at: (usize, usize)) -> (usize, usize)
+    requires low { block.now.row ≤ 8192 }
+    requires near { block.now.col ≤ 8192 }
+    requires y { at.0 < 16 }
+    requires x { at.1 < 16 }
+    ensures { result ≡ (tx_row block.now at.0, tx_column block.now at.1) }
+{
+    let row = 8 * block.row as usize;
+    let column = 8 * block.col as usize;
+    (
+        halved(block.ss_y, row) + 4 * at.0,
+        halved(block.ss_x, column) + 4 * at.1,
+    )
+}
+
+/// Adds the residue of a transform block, if it has any, to the samples at its place.
+fn add_any(
+    samples: &mut SamplePlane,
+    block: &PlaneBlock,
+    at: (usize, usize),
+    depth: Depth,
+    some: bool,
+    values: &[i32],
+)
+    requires low { block.now.row ≤ 8192 }
+    requires near { block.now.col ≤ 8192 }
+    requires y { at.0 < 16 }
+    requires x { at.1 < 16 }
+    requires inside { HasRow samples.old.area (tx_row block.now at.0) (tx_column block.now at.1) 1 }
+    requires range { IsAtMost (greatest depth) (plane_map samples.old) }
+    requires long { length values.now ≡ area block.now.tx }
+    requires small { IsSmall (residue_if some values.now) }
+    ensures map { plane_map samples.new ≡ add_residue (right_end samples.old.area) (lower_end samples.old.area) depth block.now at (residue_if some values.now) (plane_map samples.old) }
+    ensures area { samples.new.area ≡ samples.old.area }
+    ensures range { IsAtMost (greatest depth) (plane_map samples.new) }
+{
+    if some {
+        let (row, column) = first_sample(block, at);
+        add_square(samples, row, column, block.tx, depth, values);
+    }
+}
+
+/// Adds the residue of all transform blocks of a block in a plane.
+pub(crate) fn add_residues(
+    samples: &mut SamplePlane,
+    block: &PlaneBlock,
+    grid: &TransformGrid,
+    residues: &PlaneResidues,
+    depth: Depth,
+)
+    requires small_grid { IsSmallGrid grid.now }
+    requires step { grid.now.step ≡ tx_step block.now.tx }
+    requires low { block.now.row ≤ 8192 }
+    requires near { block.now.col ≤ 8192 }
+    requires inside { All (λ at. HasRow samples.old.area (tx_row block.now at.0) (tx_column block.now at.1) 1) (grid_blocks grid.now) }
+    requires range { IsAtMost (greatest depth) (plane_map samples.old) }
+    requires small { AreSmall (held (grid_blocks grid.now) (area block.now.tx) residues.now) }
+    ensures map { plane_map samples.new ≡ fold (add_more samples.old.area depth block.now) (plane_map samples.old) (held (grid_blocks grid.now) (area block.now.tx) residues.now) }
+    ensures area { samples.new.area ≡ samples.old.area }
+    ensures range { IsAtMost (greatest depth) (plane_map samples.new) }
+{
+    let area = area_of(block.tx);
+    for k in 0..grid.count() {
+        let from = k as usize * area;
+        let values = &residues.values[from..from + area];
+        add_any(
+            samples,
+            block,
+            grid.place(k),
+            depth,
+            residues.some[k as usize],
+            values,
+        );
+    }
+}
