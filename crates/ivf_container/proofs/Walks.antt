@@ -1,12 +1,11 @@
 -- The walk over the packets, by its steps.
-use Rattle.std.proofs.Common.{◌≡◌, ℕ, suc, zero, ◌+◌, ◌-◌, ◌<◌, ◌≤◌, List, [], ◌∷◌, length, refl, sym, ap, subst, ◌∙◌, arith, ◌++◌, map, append_assoc}
-use Rattle.std.proofs.lemmas.List.{append-nil, map_push}
+use Rattle.std.proofs.Common.{◌≡◌, ℕ, suc, zero, ◌+◌, ◌-◌, ◌<◌, ◌≤◌, List, length, refl, sym, ap, subst, ◌∙◌, arith}
 use Rattle.std.specs.Prelude.{Option, Some, None, Result, Ok, Err, Bool, true, false, nat_eq, nat_lt, if◌then◌else◌}
 use borrow.Author.Tests.{ltb-true, ltb-false, eqb-true, eqb-false}
 use Rattle.vp9_types.specs.declared.rule.Rule.{Rule}
 use Rattle.vp9_types.specs.declared.rule.Rule.TheVariants.{IvfTruncated}
 use Rattle.ivf_container.specs.declared.packet.Packet.{Packet}
-use Rattle.ivf_container.specs.Packets.{Packets, next_packet_at, IsNext, size_at, packets_from, fewer_from, go_on, no_packets, with_payload, with_payloads, payload_of, packets_of, packets_at}
+use Rattle.ivf_container.specs.Packets.{Packets, next_packet_at, IsNext, size_at, packets_from, fewer_from, go_on, with_payload, payload_of}
 
 -- what the next packet is, without the packets behind it
 pub record IsPlaced (bytes : List ℕ) (at : ℕ) (p : Packet) : Type 0 where
