@@ -1,5 +1,5 @@
 -- A block of a tile whose blocks are put in as they are read.
-use Rattle.std.proofs.Common.{◌≡◌, ◌∙◌, ◌++◌, ◌∷◌, [], ℕ, zero, suc, ◌+◌, ◌-◌, ◌^◌, ◌≤◌, ◌<◌, refl, ap, arith, Bool, List}
+use Rattle.std.proofs.Common.{◌≡◌, ◌∙◌, ◌++◌, ◌∷◌, [], ℕ, zero, suc, ◌+◌, ◌-◌, ◌^◌, ◌≤◌, ◌<◌, refl, ap, arith, Bool, List, get_or, subst, sym}
 use Rattle.std.proofs.lemmas.List.Elements.{All-push}
 use Rattle.std.specs.Prelude.{min}
 use Rattle.std.proofs.lemmas.Nat.{pow_pos}
@@ -12,15 +12,11 @@ use Rattle.vp9_types.specs.declared.block.Partition.TheVariants.{Vertical}
 use Rattle.block_geometry.specs.Partitions.{part_size}
 use Rattle.block_geometry.specs.Sizes.{width_8}
 use Rattle.mode_syntax.proofs.Mapped.{narrow, half, smallest, twice}
-use Rattle.std.specs.Prelude.{Some, Ok, Err, Option}
+use Rattle.std.specs.Prelude.{All, IfSome, Ok, Err, None, Option, Result, Some, true}
 use Rattle.vp9_types.specs.Maps.{FrameMap}
-use Rattle.vp9_types.specs.declared.block.Modes.{Modes}
 use Rattle.vp9_types.specs.declared.rule.Rule.{Rule}
 use Rattle.vp9_types.specs.declared.shape.Shape.{Shape}
-use Rattle.frame_headers.specs.State.{shape_of}
-use Rattle.frame_headers.specs.declared.header.Header.{Header}
-use Rattle.prob_contexts.specs.Lists.{ContextLists}
-use Rattle.counting_reader.specs.Counting.{Standing, run_counting}
+use Rattle.counting_reader.specs.Counting.{Settled, Standing, lifted, run_counting}
 use Rattle.counting_reader.proofs.CountingRuns.{counting_bind, run_settle}
 use Rattle.block_plan.specs.Code.{planned_with}
 use Rattle.block_plan.specs.Planned.{PlannedBlock}
@@ -33,43 +29,83 @@ use Rattle.block_residue.specs.Residues.{listed}
 use Rattle.block_residue.specs.Residues as residues
 use Rattle.block_residue.specs.declared.sides.TileSides.{TileSides}
 use Rattle.block_rebuild.specs.Blocks.{put_planned, put_by, put_intra}
-use Rattle.mode_syntax.specs.ModeInfo.{intra_frame_mode_info}
-use Rattle.frame_decoder.specs.Code.{AllFit, AllLie, AllStart, PlainTile, plain_block}
+use Rattle.block_rebuild.specs.InterBlocks.{Rebuilding, predicted_part, put_inter, put_prediction}
+use Rattle.inter_modes.specs.ModeInfo.{mode_info}
+use Rattle.inter_places.specs.Places.{place_of}
+use Rattle.block_plan.specs.declared.block.InterPrediction.{InterPrediction}
+use Rattle.mv_prediction.specs.Candidates.{vector_of}
+use Rattle.mv_prediction.specs.Code.{HasSmallVectors, PredictsSmall}
+use Rattle.mv_prediction.specs.Vectors.{IsSmallVector}
+use Rattle.vp9_types.specs.Syntax.{Syntax, broken}
+use Rattle.frame_decoder.specs.Sources.{FrameSources, rebuilding}
+use Rattle.block_rebuild.specs.Code.{HasReference, HasReferences}
+use Rattle.block_rebuild.specs.declared.references.Rebuilding as code
+use Rattle.frame_headers.specs.declared.header.FrameKind.TheVariants as frame
+use Rattle.frame_headers.specs.declared.header.Header.{Header}
+use Rattle.frame_headers.specs.declared.header.InterFields.{InterFields}
+use Rattle.inter_contexts.specs.References.{second_in_range}
+use Rattle.inter_modes.specs.Code.{RefersInRange}
+use Rattle.planes.specs.Pictures.{map_of}
+use Rattle.planes.specs.declared.picture.Picture.{Picture}
+use Rattle.vp9_types.specs.declared.block.ReferenceFrame.{ReferenceFrame}
+use Rattle.frame_headers.specs.State.{shape_of}
+use Rattle.vp9_types.specs.Shapes.{mi_cols, mi_rows}
+use Rattle.mv_prediction.specs.Code as vectors
+use Rattle.frame_decoder.specs.declared.frame_blocks.FrameBlocks.{FrameBlocks}
+use Rattle.frame_decoder.specs.Past.{AreVectors, HasPictures, blocks_in, has_row, row_width}
+use Rattle.frame_decoder.specs.Columns.{AllFit, AllLie, AllSmall, AllStart}
+use Rattle.frame_decoder.specs.Code.{PlainTile, plain_block}
 
 -- whether a block counts as skipped doesn't matter where it is put in
-by_prediction : (shape : Shape) (tile_from : ℕ) (b : BlockInfo) (any : Bool) (r : BlockResidues) (p : Prediction) (m : FrameMap)
-    → put_by shape (planned_with shape tile_from b (listed b any) r) p m ≡ put_by shape (planned_with shape tile_from b b r) p m
-unfolding put_by put_intra
-by_prediction shape tile_from b any r (Intra modes) m = refl
-by_prediction shape tile_from b any r (Inter modes) m = refl
+by_prediction : (by : Rebuilding) (shape : Shape) (tile_from : ℕ) (b : BlockInfo) (any : Bool) (r : BlockResidues) (p : Prediction) (m : FrameMap)
+    → put_by by (planned_with shape tile_from b (listed b any) r) p m ≡ put_by by (planned_with shape tile_from b b r) p m
+unfolding put_by put_intra put_inter put_prediction predicted_part place_of
+by_prediction by shape tile_from b any r (Intra modes) m = refl
+by_prediction by shape tile_from b any r (Inter modes) m = refl
 
-pub put_listed : (shape : Shape) (tile_from : ℕ) (b info : BlockInfo) (any : Bool) (r : BlockResidues) (m : FrameMap) (new : Option FrameMap) → info ≡ listed b any
-    → put_planned shape (planned_with shape tile_from b b r) m ≡ new → put_planned shape (planned_with shape tile_from b info r) m ≡ new
-put_listed shape tile_from b info any r m new is put =
-    ap (λ (i : BlockInfo). put_planned shape (planned_with shape tile_from b i r) m) is ∙ (by_prediction shape tile_from b any r b.prediction m ∙ put)
+pub put_listed : (by : Rebuilding) (shape : Shape) (tile_from : ℕ) (b info : BlockInfo) (any : Bool) (r : BlockResidues) (m new : FrameMap) → info ≡ listed b any
+    → new ≡ put_planned by (planned_with shape tile_from b b r) m → new ≡ put_planned by (planned_with shape tile_from b info r) m
+put_listed by shape tile_from b info any r m new is put =
+    put ∙ sym (by_prediction by shape tile_from b any r b.prediction m) ∙ ap (λ (i : BlockInfo). put_planned by (planned_with shape tile_from b i r) m) (sym is)
 
-abbrev plain : List BlockInfo → TileSides → Option FrameMap → PlainTile
+abbrev plain : List BlockInfo → TileSides → FrameMap → PlainTile
 plain blocks sides map = record { blocks = blocks; sides = sides; map = map }
 
-pub block_read : (header : Header) (modes : Modes) (contexts : ContextLists) (at : BlockAt) (blocks : List BlockInfo) (sides after_it : TileSides) (old new : FrameMap)
-    (a b d : Standing) (info : BlockInfo) (planned : PlannedBlock)
-    → run_counting (intra_frame_mode_info header modes contexts blocks at) a ≡ Ok (info, b)
-    → run_counting (residues.read_block header contexts at.tile_from info sides) b ≡ Ok ((planned, after_it), d)
-    → put_planned (shape_of header) planned old ≡ Some new
-    → run_counting (plain_block header modes contexts at (plain blocks sides (Some old))) a ≡ Ok (plain (blocks ++ planned.info ∷ []) after_it (Some new), d)
-unfolding plain_block
-block_read header modes contexts at blocks sides after_it old new a b d info planned modes_read residue put =
-    counting_bind _ _ _ ∙ rw modes_read (counting_bind _ _ _ ∙ rw residue (run_settle _ d
-    ∙ ap (λ (m : Option FrameMap). Ok (plain (blocks ++ planned.info ∷ []) after_it m, d)) put))
+abbrev modes_of : FrameSources → List BlockInfo → BlockAt → Syntax ℕ Rule (Settled (Result BlockInfo Rule))
+modes_of by blocks at = mode_info by.header by.modes by.contexts by.past.segments blocks by.past.vectors at
 
-pub block_broken : (header : Header) (modes : Modes) (contexts : ContextLists) (at : BlockAt) (blocks : List BlockInfo) (sides : TileSides) (map : Option FrameMap)
+pub block_read : (by : FrameSources) (at : BlockAt) (blocks : List BlockInfo) (sides after_it : TileSides) (old new : FrameMap)
+    (a b d : Standing) (info : BlockInfo) (planned : PlannedBlock)
+    → run_counting (modes_of by blocks at) a ≡ Ok (Ok info, b)
+    → run_counting (residues.read_block by.header by.contexts at.tile_from info sides) b ≡ Ok ((planned, after_it), d)
+    → new ≡ put_planned (rebuilding by) planned old
+    → run_counting (plain_block by at (plain blocks sides old)) a ≡ Ok (plain (blocks ++ planned.info ∷ []) after_it new, d)
+unfolding plain_block lifted
+block_read by at blocks sides after_it old new a b d info planned modes_read residue put =
+    counting_bind _ _ _ ∙ rw modes_read (counting_bind _ _ _ ∙ rw (run_settle info b) (counting_bind _ _ _ ∙ rw residue (run_settle _ d
+    ∙ ap (λ (m : FrameMap). Ok (plain (blocks ++ planned.info ∷ []) after_it m, d)) (sym put))))
+
+run_broken : {A : Type 0} (rule : Rule) (m : Standing) → run_counting {A = A} (broken rule) m ≡ Err rule
+unfolding run_counting
+run_broken rule m = refl
+
+-- its modes break a rule
+pub modes_broken : (by : FrameSources) (at : BlockAt) (blocks : List BlockInfo) (sides : TileSides) (map : FrameMap) (a b : Standing) (rule : Rule)
+    → run_counting (modes_of by blocks at) a ≡ Ok (Err rule, b)
+    → run_counting (plain_block by at (plain blocks sides map)) a ≡ Err rule
+unfolding plain_block lifted
+modes_broken by at blocks sides map a b rule modes_read =
+    counting_bind _ _ _ ∙ rw modes_read (counting_bind _ _ _ ∙ rw (run_broken rule b) refl)
+
+-- its residue does
+pub block_broken : (by : FrameSources) (at : BlockAt) (blocks : List BlockInfo) (sides : TileSides) (map : FrameMap)
     (a b : Standing) (info : BlockInfo) (rule : Rule)
-    → run_counting (intra_frame_mode_info header modes contexts blocks at) a ≡ Ok (info, b)
-    → run_counting (residues.read_block header contexts at.tile_from info sides) b ≡ Err rule
-    → run_counting (plain_block header modes contexts at (plain blocks sides map)) a ≡ Err rule
-unfolding plain_block
-block_broken header modes contexts at blocks sides map a b info rule modes_read residue =
-    counting_bind _ _ _ ∙ rw modes_read (counting_bind _ _ _ ∙ rw residue refl)
+    → run_counting (modes_of by blocks at) a ≡ Ok (Ok info, b)
+    → run_counting (residues.read_block by.header by.contexts at.tile_from info sides) b ≡ Err rule
+    → run_counting (plain_block by at (plain blocks sides map)) a ≡ Err rule
+unfolding plain_block lifted
+block_broken by at blocks sides map a b info rule modes_read residue =
+    counting_bind _ _ _ ∙ rw modes_read (counting_bind _ _ _ ∙ rw (run_settle info b) (counting_bind _ _ _ ∙ rw residue refl))
 
 ---- Listed blocks ----
 
@@ -136,3 +172,41 @@ second_col_below (suc n) side col limit least is within =
     let same : suc n - 1 ≡ n = omega arith in
     let so : side ≡ 2 ^ n = rw same at is in
     omega (arith, so, twice n, within, pow_pos n)
+
+-- small vectors, by cases and as a fact
+small_by : (b : BlockInfo) (p : Prediction) → b.prediction ≡ p → ((modes : InterPrediction) (quarter list : ℕ) → b.prediction ≡ Inter modes → IsSmallVector (vector_of modes quarter list)) → PredictsSmall p
+small_by b (Intra modes) is h = tt
+small_by b (Inter modes) is h = λ quarter list. h modes quarter list is
+
+small_from : (p : Prediction) → PredictsSmall p → (modes : InterPrediction) (quarter list : ℕ) → p ≡ Inter modes → IsSmallVector (vector_of modes quarter list)
+small_from p h modes quarter list is = (subst PredictsSmall is h) quarter list
+
+pub all_have_small : (blocks : List BlockInfo) → AllSmall blocks → All HasSmallVectors blocks
+all_have_small blocks all = λ i d low. small_by (get_or blocks i d) (get_or blocks i d).prediction refl (all i d low)
+
+-- one more has small vectors
+pub small_more : (blocks : List BlockInfo) (b info : BlockInfo) (any : Bool) → info ≡ listed b any → HasSmallVectors b → AllSmall blocks → AllSmall (blocks ++ info ∷ [])
+small_more blocks b info any is small all =
+    All-push (λ (b : BlockInfo). (modes : InterPrediction) (quarter list : ℕ) → b.prediction ≡ Inter modes → IsSmallVector (vector_of modes quarter list)) blocks info all
+    (rw is (small_from b.prediction small))
+
+-- the pictures that a block refers to are there
+second_has : (header : Header) (pictures : code.Rebuilding Picture) (fields : InterFields) (second : Option ReferenceFrame) → HasPictures header pictures → header.kind ≡ frame.Inter fields
+    → second_in_range header.size fields.references second ≡ true → IfSome second (HasReference has_row row_width map_of pictures)
+second_has header pictures fields None all kind range = tt
+second_has header pictures fields (Some reference) all kind range = all fields reference kind range
+
+pub has_references : (header : Header) (pictures : code.Rebuilding Picture) (p : Prediction) → HasPictures header pictures → RefersInRange header p → HasReferences has_row row_width map_of pictures p
+has_references header pictures (Intra modes) all range = tt
+has_references header pictures (Inter modes) all range =
+    (all range.0 modes.references.first range.1 range.2, second_has header pictures range.0 modes.references.second all range.1 range.3)
+
+-- the frame before has a block at each place of this one, if its vectors are used, and they are small
+pub vectors_held : (header : Header) (v : Option FrameBlocks) (r c : ℕ) → IfSome v (AreVectors header) → r < mi_rows (shape_of header) → c < mi_cols (shape_of header)
+    → IfSome v (λ b. (r < mi_rows (shape_of b.header.now)) × (c < mi_cols (shape_of b.header.now)))
+vectors_held header None r c are row col = tt
+vectors_held header (Some b) r c are row col = (rw are.rows row, rw are.cols col)
+
+pub vectors_small : (header : Header) (v : Option FrameBlocks) → IfSome v (AreVectors header) → All HasSmallVectors (vectors.blocks_of blocks_in v)
+vectors_small header None are = λ i d low. absurd (omega (arith, low))
+vectors_small header (Some b) are = all_have_small (blocks_in b) are.small

@@ -1,6 +1,6 @@
 -- A tile of a column: what it needs, and what it leaves of the column.
 use Rattle.std.proofs.Common.{◌≡◌, ◌∙◌, ℕ, ◌+◌, ◌-◌, ◌*◌, ◌^◌, ◌<◌, ◌≤◌, List, [], ◌∷◌, ◌++◌, Bool, true, false, length, map, replicate, get_or, take, drop, refl, sym, ap, subst, inl, inr, arith}
-use Rattle.std.specs.Prelude.{Some, Result, Ok, Err, OnOk, ◌==◌, slice_index_or, slice_set}
+use Rattle.std.specs.Prelude.{Result, Ok, Err, OnOk, ◌==◌, slice_index_or, slice_set}
 use Rattle.std.proofs.Math.Nat.{mul-le-mul_left, mul-le-mul_right}
 use Rattle.std.proofs.Math.Seq.{take-append_seam}
 use Rattle.std.proofs.Math.ListN.{get_or-append, get_or-map as map_at}
@@ -17,7 +17,6 @@ use Rattle.frame_headers.specs.State.{shape_of}
 use Rattle.frame_headers.specs.declared.header.Header.{Header}
 use Rattle.frame_headers.specs.declared.tiles.TileInfo.{TileInfo}
 use Rattle.prob_contexts.specs.Counted.{counts_after, no_counts, with_bool}
-use Rattle.prob_contexts.specs.Lists.{lists_of}
 use Rattle.prob_contexts.specs.declared.kind.CountedBool.{CountedBool}
 use Rattle.counting_reader.specs.Counting.{counted_if}
 use Rattle.std.proofs.lemmas.List.Sums.{fold-append}
@@ -30,8 +29,11 @@ use Rattle.frame_setting.specs.declared.setting.FrameSetting.{FrameSetting}
 use Rattle.mode_syntax.specs.Walk.{decode_tile}
 use Rattle.planes.specs.Pictures.{samples_of}
 use Rattle.planes.specs.declared.frame_planes.FramePlanes.{FramePlanes}
-use Rattle.frame_decoder.specs.Code.{PlainTile, AllStart, ArePlanes, AreTileColumns, GivesRead, GivesWhole, HoldsRead, IsReady, IsTileColumn, SameColumns, blocks_of, column_as_listed, column_of_code, counts_if, plain_walk, read_whole, tile_of, walk_of}
+use Rattle.frame_decoder.specs.Columns.{AllStart, AreTileColumns, IsTileColumn, blocks_of}
+use Rattle.frame_decoder.specs.Code.{PlainTile, ArePlanes, GivesRead, GivesWhole, HoldsRead, IsReady, SameColumns, column_as_listed, column_of_code, counts_if, plain_walk, read_whole, sources_of, tile_of, walk_of}
 use Rattle.frame_decoder.specs.Reading.{Column, FrameRead, begun, column_at, infos, no_column, read_tile_of, sides_below}
+use Rattle.frame_decoder.specs.Sources.{FrameSources, rebuilding}
+use Rattle.frame_decoder.specs.declared.sources.FrameSources as code
 use Rattle.frame_decoder.specs.Tiles.{column_of, row_of, superblocks_before, tile_offset, tile_places}
 use Rattle.frame_decoder.specs.declared.columns.TileColumn.{TileColumn}
 use Rattle.frame_decoder.specs.declared.tile_places.TilePlaces.{TilePlaces}
@@ -90,6 +92,7 @@ ready_of setting n k c sides planes h fit ready =
       fit_blocks = h.fit_blocks;
       lie = h.lie;
       starts = subst (λ (p : FramePlaces). AllStart p.rows p.cols c.grid.blocks) (sym setting.whole) h.starts;
+      small = h.small;
     }
 
 pub begins_there : (setting : FrameSetting) (n k : ℕ) (c : TileColumn) (t : TilePlaces) → k ≡ column_of setting.header.params.tiles n → t ≡ tile_places setting.places setting.header.params.tiles n
@@ -170,6 +173,7 @@ column_after setting n k c new sides planes t below at is h ready same left =
       fit_blocks = ready.fit_blocks;
       lie = ready.lie;
       starts = subst (λ (p : FramePlaces). AllStart p.rows p.cols new.grid.blocks) setting.whole ready.starts;
+      small = ready.small;
     }
 
 later_is : (header : Header) (n k : ℕ) (c : TileColumn) → IsTileColumn header n k c → IsTileColumn header (n + 1) k c
@@ -182,6 +186,7 @@ later_is header n k c h = record {
   fit_blocks = h.fit_blocks;
   lie = h.lie;
   starts = h.starts;
+  small = h.small;
 }
 
 columns_with : (setting : FrameSetting) (n k : ℕ) (columns : List TileColumn) (new : TileColumn) → k < length columns
@@ -210,10 +215,10 @@ columns_after setting n k columns x new sides planes t (Err rule) below low at i
 
 ---- What is read ----
 
-column_told : (header : Header) (columns : List TileColumn) (planes : FramePlanes) (read : FrameRead) (k : ℕ) (x : TileColumn) → k < length columns → HoldsRead header columns planes read
-    → column_of_code (slice_index_or columns k x) ≡ column_as_listed (column_at header read k)
-column_told header columns planes read k x low holds =
-    let none = no_column (shape_of header) in
+column_told : (by : FrameSources) (columns : List TileColumn) (planes : FramePlanes) (read : FrameRead) (k : ℕ) (x : TileColumn) → k < length columns → HoldsRead by columns planes read
+    → column_of_code (slice_index_or columns k x) ≡ column_as_listed (column_at by.header read k)
+column_told by columns planes read k x low holds =
+    let none = no_column (shape_of by.header) in
     sym (get_or-map column_of_code columns k x (column_as_listed none) low)
     ∙ ap (λ told. get_or told k (column_as_listed none)) holds.columns_held
     ∙ map_at column_as_listed read.columns k none
@@ -222,36 +227,37 @@ sides_told : (shape : Shape) (p : Plane) (s : Sides) (above : List Bool) → s.a
 sides_told shape p s above is fit = λ i. record { above = is i; left = replicate (fit.left i) false }
 
 -- the plain decoder begins the tile with what is read before it
-state_told : (header : Header) (n k : ℕ) (columns : List TileColumn) (planes : FramePlanes) (read : FrameRead) (x : TileColumn) → k ≡ column_of header.params.tiles n → k < length columns
-    → IsTileColumn header n k (slice_index_or columns k x) → HoldsRead header columns planes read
-    → tile_of (with_sides (slice_index_or columns k x) (cleared (slice_index_or columns k x).sides)) planes ≡ tile_before header (samples_of planes) n read
-state_told header n k columns planes read x at low h holds =
+state_told : (by : FrameSources) (n k : ℕ) (columns : List TileColumn) (planes : FramePlanes) (read : FrameRead) (x : TileColumn) → k ≡ column_of by.header.params.tiles n → k < length columns
+    → IsTileColumn by.header n k (slice_index_or columns k x) → HoldsRead by columns planes read
+    → tile_of (with_sides (slice_index_or columns k x) (cleared (slice_index_or columns k x).sides)) planes ≡ tile_before by (samples_of planes) n read
+state_told by n k columns planes read x at low h holds =
     let c = slice_index_or columns k x in
-    let shape = shape_of header in
-    let d = column_at header read k in
-    let told = column_told header columns planes read k x low holds in
-    let now : tile_of (with_sides c (cleared c.sides)) planes ≡ view shape (samples_of planes) (begun shape d) = λ i. record {
+    let shape = shape_of by.header in
+    let d = column_at by.header read k in
+    let told = column_told by columns planes read k x low holds in
+    let now : tile_of (with_sides c (cleared c.sides)) planes ≡ view (rebuilding by) (samples_of planes) (begun shape d) = λ i. record {
       blocks = (ap (λ z. z.0) told ∙ ap infos (sym (append-nil d.blocks))) i;
       sides = record {
         y = sides_told shape Y c.sides.y d.y (ap (λ z. z.1) told) h.fit.y i;
         u = sides_told shape U c.sides.u d.u (ap (λ z. z.2) told) h.fit.u i;
         v = sides_told shape V c.sides.v d.v (ap (λ z. z.3) told) h.fit.v i;
       };
-      map = Some (samples_of planes);
+      map = samples_of planes;
     } in
-    now ∙ ap (λ k. view shape (samples_of planes) (begun shape (column_at header read k))) at
+    now ∙ ap (λ k. view (rebuilding by) (samples_of planes) (begun shape (column_at by.header read k))) at
 
-walk_told : (setting : FrameSetting) (n k : ℕ) (c : TileColumn) (planes : FramePlanes) (m : FrameMap) (read : FrameRead) (t : TilePlaces)
-    → k ≡ column_of setting.header.params.tiles n → t ≡ tile_places setting.places setting.header.params.tiles n → IsTileColumn setting.header n k c
-    → (s : PlainTile) → s ≡ tile_before setting.header m n read
-    → decode_tile (walk_of setting c) (superblocks_along (t.col_to - t.col_from)) t.row_from t.col_from (superblocks_along (t.row_to - t.row_from)) s
-    ≡ plain_tile setting.header setting.modes (lists_of setting.contexts) (tile_at setting.header n) (tile_before setting.header m n read)
-walk_told setting n k c planes m read t at is h s state =
+walk_told : (by : code.FrameSources) (n k : ℕ) (c : TileColumn) (planes : FramePlanes) (m : FrameMap) (read : FrameRead) (t : TilePlaces)
+    → k ≡ column_of by.setting.header.params.tiles n → t ≡ tile_places by.setting.places by.setting.header.params.tiles n → IsTileColumn by.setting.header n k c
+    → (s : PlainTile) → s ≡ tile_before (sources_of by) m n read
+    → decode_tile (walk_of by c) (superblocks_along (t.col_to - t.col_from)) t.row_from t.col_from (superblocks_along (t.row_to - t.row_from)) s
+    ≡ plain_tile (sources_of by) (tile_at by.setting.header n) (tile_before (sources_of by) m n read)
+walk_told by n k c planes m read t at is h s state =
+    let setting = by.setting in
     let tiles = setting.header.params.tiles in
     let same : t ≡ tile_at setting.header n = is ∙ ap (λ p. tile_places p tiles n) setting.whole in
     let from : c.grid.from ≡ (tile_at setting.header n).col_from = sym (begins_there setting n k c t at is h) ∙ ap (λ (t : TilePlaces). t.col_from) same in
     let to : c.grid.to ≡ (tile_at setting.header n).col_to = sym (ends_there setting n k c t at is h) ∙ ap (λ (t : TilePlaces). t.col_to) same in
-    λ i. decode_tile (plain_walk setting.header setting.modes (lists_of setting.contexts) (setting.whole i) (from i) (to i)) (superblocks_along ((same i).col_to - (same i).col_from)) (same i).row_from (same i).col_from
+    λ i. decode_tile (plain_walk (sources_of by) (setting.whole i) (from i) (to i)) (superblocks_along ((same i).col_to - (same i).col_from)) (same i).row_from (same i).col_from
     (superblocks_along ((same i).row_to - (same i).row_from)) (state i)
 
 -- counts go on from those before
@@ -265,18 +271,18 @@ unfolding counts_after
 none_counted true counts is = is
 none_counted false counts is = is
 
-pub gives_nth : (setting : FrameSetting) (n k : ℕ) (columns : List TileColumn) (x new : TileColumn) (planes after_it : FramePlanes) (t : TilePlaces) (bytes before : List ℕ) (counting : Bool) (result : Result (List ℕ) Rule)
-    → k ≡ column_of setting.header.params.tiles n → k < length columns → t ≡ tile_places setting.places setting.header.params.tiles n
-    → IsTileColumn setting.header n k (slice_index_or columns k x)
-    → GivesWhole counting before (read_whole (decode_tile (walk_of setting (slice_index_or columns k x)) (superblocks_along (t.col_to - t.col_from)) t.row_from t.col_from (superblocks_along (t.row_to - t.row_from))
+pub gives_nth : (by : code.FrameSources) (n k : ℕ) (columns : List TileColumn) (x new : TileColumn) (planes after_it : FramePlanes) (t : TilePlaces) (bytes before : List ℕ) (counting : Bool) (result : Result (List ℕ) Rule)
+    → k ≡ column_of by.setting.header.params.tiles n → k < length columns → t ≡ tile_places by.setting.places by.setting.header.params.tiles n
+    → IsTileColumn by.setting.header n k (slice_index_or columns k x)
+    → GivesWhole counting before (read_whole (decode_tile (walk_of by (slice_index_or columns k x)) (superblocks_along (t.col_to - t.col_from)) t.row_from t.col_from (superblocks_along (t.row_to - t.row_from))
     (tile_of (with_sides (slice_index_or columns k x) (cleared (slice_index_or columns k x).sides)) planes)) bytes) result new after_it
-    → (read : FrameRead) → HoldsRead setting.header columns planes read → before ≡ counts_if counting read.counted
-    → GivesRead setting.header counting (read_tile_of setting.header setting.modes (lists_of setting.contexts) n bytes read) result (slice_set columns k new) after_it
-gives_nth setting n k columns x new planes after_it t bytes before counting (Ok counts) at low is h gives read holds so_far =
-    let header = setting.header in
-    let state = state_told header n k columns planes read x at low h holds in
-    let same = walk_told setting n k (slice_index_or columns k x) planes (samples_of planes) read t at is h _ state in
-    let done = tile_done header setting.modes (lists_of setting.contexts) (samples_of planes) (samples_of after_it) n bytes read (record { value = tile_of new after_it; counted = gives.0 }) holds.map_held
+    → (read : FrameRead) → HoldsRead (sources_of by) columns planes read → before ≡ counts_if counting read.counted
+    → GivesRead (sources_of by) counting (read_tile_of (sources_of by) n bytes read) result (slice_set columns k new) after_it
+gives_nth by n k columns x new planes after_it t bytes before counting (Ok counts) at low is h gives read holds so_far =
+    let told = sources_of by in
+    let state = state_told told n k columns planes read x at low h holds in
+    let same = walk_told by n k (slice_index_or columns k x) planes (samples_of planes) read t at is h _ state in
+    let done = tile_done told (samples_of planes) (samples_of after_it) n bytes read (record { value = tile_of new after_it; counted = gives.0 }) holds.map_held
     (ap (λ s. read_whole s bytes) (sym same) ∙ gives.1) refl in (
       done.0,
       done.1,
@@ -286,11 +292,11 @@ gives_nth setting n k columns x new planes after_it t bytes before counting (Ok 
       },
       gives.2 ∙ ap (λ counts. counted_if counting counts gives.0) so_far ∙ counted_on counting read.counted gives.0 ∙ ap (counts_if counting) (sym done.4),
     )
-gives_nth setting n k columns x new planes after_it t bytes before counting (Err rule) at low is h gives read holds so_far =
-    let header = setting.header in
-    let state = state_told header n k columns planes read x at low h holds in
-    let same = walk_told setting n k (slice_index_or columns k x) planes (samples_of planes) read t at is h _ state in
-    tile_breaks header setting.modes (lists_of setting.contexts) (samples_of planes) n bytes read rule (ap (λ s. read_whole s bytes) (sym same) ∙ gives)
+gives_nth by n k columns x new planes after_it t bytes before counting (Err rule) at low is h gives read holds so_far =
+    let told = sources_of by in
+    let state = state_told told n k columns planes read x at low h holds in
+    let same = walk_told by n k (slice_index_or columns k x) planes (samples_of planes) read t at is h _ state in
+    tile_breaks told (samples_of planes) n bytes read rule (ap (λ s. read_whole s bytes) (sym same) ∙ gives)
 
 ---- The columns at the beginning ----
 
@@ -367,4 +373,5 @@ begins header k c rows from to fit room none = record {
   fit_blocks = rw none (λ i d low. absurd (omega (arith, low)));
   lie = rw none (λ i d low. absurd (omega (arith, low)));
   starts = rw none (λ i d low. absurd (omega (arith, low)));
+  small = rw none (λ i d low. absurd (omega (arith, low)));
 }

@@ -1,4 +1,4 @@
-pub mod FrameBlocks
+pub mod ColumnBlocks
 pub mod BlockSteps
 mod TileOffsets
 pub mod SquareReads

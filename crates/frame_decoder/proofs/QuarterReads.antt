@@ -19,6 +19,7 @@ use Rattle.mode_syntax.specs.declared.square_at.SquareAt.{SquareAt}
 use Rattle.planes.specs.declared.frame_planes.FramePlanes.{FramePlanes}
 use Rattle.frame_decoder.specs.Code.{PlainTile, GivesUnsplit, IsSplit, IsSquareIn, SameColumns, quarter, tile_of, walk_of}
 use Rattle.frame_decoder.specs.declared.columns.TileColumn.{TileColumn}
+use Rattle.frame_decoder.specs.declared.sources.FrameSources.{FrameSources}
 use Rattle.counting_reader.proofs.CountingRuns.{counting_bind, run_settle}
 use Rattle.frame_decoder.proofs.SquareReads.{halved_side, larger_square, quarters_of, same_limit, square_is}
 
@@ -93,23 +94,23 @@ quarters_end walk n r c all i s m done left =
 
 ---- The square ----
 
-pub is_split : {m : ℕ} (setting : FrameSetting) (at : SquareAt) (before : TileColumn) (planes_before : FramePlanes) (old new : CountingReader m) (b : Bool) (c : TileColumn) (planes : FramePlanes)
-    → b ≡ true → GivesUnsplit setting at before planes_before old (Ok b) c planes new → IsSplit setting at before planes_before (standing_of old) (standing_of new) c planes
-is_split setting at before planes_before old new true c planes is h = h
-is_split setting at before planes_before old new false c planes is h = let no : ⊥ = cc in absurd no
+pub is_split : {m : ℕ} (by : FrameSources) (at : SquareAt) (before : TileColumn) (planes_before : FramePlanes) (old new : CountingReader m) (b : Bool) (c : TileColumn) (planes : FramePlanes)
+    → b ≡ true → GivesUnsplit by at before planes_before old (Ok b) c planes new → IsSplit by at before planes_before (standing_of old) (standing_of new) c planes
+is_split by at before planes_before old new true c planes is h = h
+is_split by at before planes_before old new false c planes is h = let no : ⊥ = cc in absurd no
 
-pub is_unsplit : {m : ℕ} (setting : FrameSetting) (at : SquareAt) (before : TileColumn) (planes_before : FramePlanes) (old new : CountingReader m) (b : Bool) (c : TileColumn) (planes : FramePlanes)
-    → b ≡ false → GivesUnsplit setting at before planes_before old (Ok b) c planes new
-    → Reads (decode_partition (walk_of setting before) at.level at.row at.col (tile_of before planes_before)) old (tile_of c planes) new
-is_unsplit setting at before planes_before old new false c planes is h = h
-is_unsplit setting at before planes_before old new true c planes is h = let no : ⊥ = cc in absurd no
+pub is_unsplit : {m : ℕ} (by : FrameSources) (at : SquareAt) (before : TileColumn) (planes_before : FramePlanes) (old new : CountingReader m) (b : Bool) (c : TileColumn) (planes : FramePlanes)
+    → b ≡ false → GivesUnsplit by at before planes_before old (Ok b) c planes new
+    → Reads (decode_partition (walk_of by before) at.level at.row at.col (tile_of before planes_before)) old (tile_of c planes) new
+is_unsplit by at before planes_before old new false c planes is h = h
+is_unsplit by at before planes_before old new true c planes is h = let no : ⊥ = cc in absurd no
 
 -- one of 8x8 is never split
-pub is_smallest : {m : ℕ} (setting : FrameSetting) (at : SquareAt) (before : TileColumn) (planes_before : FramePlanes) (old new : CountingReader m) (b : Bool) (c : TileColumn) (planes : FramePlanes)
-    → at.level ≡ 0 → GivesUnsplit setting at before planes_before old (Ok b) c planes new
-    → Reads (decode_partition (walk_of setting before) at.level at.row at.col (tile_of before planes_before)) old (tile_of c planes) new
-is_smallest setting at before planes_before old new false c planes level h = h
-is_smallest setting at before planes_before old new true c planes level h = absurd (omega (arith, h.least, level))
+pub is_smallest : {m : ℕ} (by : FrameSources) (at : SquareAt) (before : TileColumn) (planes_before : FramePlanes) (old new : CountingReader m) (b : Bool) (c : TileColumn) (planes : FramePlanes)
+    → at.level ≡ 0 → GivesUnsplit by at before planes_before old (Ok b) c planes new
+    → Reads (decode_partition (walk_of by before) at.level at.row at.col (tile_of before planes_before)) old (tile_of c planes) new
+is_smallest by at before planes_before old new false c planes level h = h
+is_smallest by at before planes_before old new true c planes level h = absurd (omega (arith, h.least, level))
 
 -- a place inside a frame
 pub split_limits : (setting : FrameSetting) (at : SquareAt) → at.row < setting.places.rows → at.col < setting.places.cols → (at.row < 65536) × (at.col < 65536)
@@ -119,24 +120,24 @@ split_limits setting at row col =
     (omega (arith, row, rows, setting.size.3), omega (arith, col, cols, setting.size.1))
 
 -- decoding it is decoding its quarters
-abbrev pub split_run : FrameSetting → SquareAt → TileColumn → FramePlanes → Standing → Result (PlainTile × Standing) Rule
-split_run setting at c planes m = run_counting (parts (walk_of setting c) (decode_partition (walk_of setting c) (at.level - 1)) (at.level - 1) at.row at.col (tile_of c planes) Split) m
+abbrev pub split_run : FrameSources → SquareAt → TileColumn → FramePlanes → Standing → Result (PlainTile × Standing) Rule
+split_run by at c planes m = run_counting (parts (walk_of by c) (decode_partition (walk_of by c) (at.level - 1)) (at.level - 1) at.row at.col (tile_of c planes) Split) m
 
-pub split_is : (setting : FrameSetting) (at : SquareAt) (before : TileColumn) (planes_before : FramePlanes) (old new : Standing) (c : TileColumn) (planes : FramePlanes)
-    → IsSquareIn before at → IsSplit setting at before planes_before old new c planes
-    → run_counting (decode_partition (walk_of setting before) at.level at.row at.col (tile_of before planes_before)) old ≡ split_run setting at c planes new
-split_is setting at before planes_before old new c planes lies h =
-    let walk = walk_of setting before in
+pub split_is : (by : FrameSources) (at : SquareAt) (before : TileColumn) (planes_before : FramePlanes) (old new : Standing) (c : TileColumn) (planes : FramePlanes)
+    → IsSquareIn before at → IsSplit by at before planes_before old new c planes
+    → run_counting (decode_partition (walk_of by before) at.level at.row at.col (tile_of before planes_before)) old ≡ split_run by at c planes new
+split_is by at before planes_before old new c planes lies h =
+    let walk = walk_of by before in
     let level : at.level ≡ (at.level - 1) + 1 = omega (arith, h.least) in
-    let read : run_counting (partition_at true walk.probs before.grid.blocks walk.frame (square_at walk at.level at.row at.col)) old ≡ Ok (Split, new) =
-    ap (λ (at : SquareAt). run_counting (partition_at true walk.probs before.grid.blocks walk.frame at) old) (sym (square_is walk at lies.from lies.to)) ∙ h.read in
+    let read : run_counting (partition_at walk.intra walk.probs before.grid.blocks walk.frame (square_at walk at.level at.row at.col)) old ≡ Ok (Split, new) =
+    ap (λ (at : SquareAt). run_counting (partition_at walk.intra walk.probs before.grid.blocks walk.frame at) old) (sym (square_is walk at lies.from lies.to)) ∙ h.read in
     larger_square walk at.level (at.level - 1) at.row at.col (tile_of before planes_before) old h.row h.col level
     ∙ ap (λ r. after r (λ p rest. run_counting (parts walk (decode_partition walk (at.level - 1)) (at.level - 1) at.row at.col (tile_of before planes_before) p) rest)) read
-    ∙ (λ i. split_run setting at (sym h.column i) (sym h.samples i) new)
+    ∙ (λ i. split_run by at (sym h.column i) (sym h.samples i) new)
 
-pub quarters_left : (setting : FrameSetting) (at : SquareAt) (c : TileColumn) (planes : FramePlanes) (m : Standing)
-    → QuartersLeft (walk_of setting c) (at.level - 1) at.row at.col (split_run setting at c planes m) 0 (tile_of c planes) m
-quarters_left setting at c planes m = quarters_begin (walk_of setting c) (at.level - 1) at.row at.col (tile_of c planes) m
+pub quarters_left : (by : FrameSources) (at : SquareAt) (c : TileColumn) (planes : FramePlanes) (m : Standing)
+    → QuartersLeft (walk_of by c) (at.level - 1) at.row at.col (split_run by at c planes m) 0 (tile_of c planes) m
+quarters_left by at c planes m = quarters_begin (walk_of by c) (at.level - 1) at.row at.col (tile_of c planes) m
 
 -- each of its quarters lies in the column, which has room for it
 pub quarter_within : (before c : TileColumn) (at : SquareAt) (i : ℕ) → IsSquareIn before at → 1 ≤ at.level → i < 4 → SameColumns before c

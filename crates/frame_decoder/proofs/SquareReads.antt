@@ -3,7 +3,6 @@ use Rattle.std.proofs.Common.{◌≡◌, ◌∙◌, ℕ, zero, suc, ◌+◌, ◌
 use Rattle.std.specs.Prelude.{List, Result, Ok, Err}
 use Rattle.vp9_types.specs.declared.block.Partition.{Partition}
 use Rattle.vp9_types.specs.declared.block.Partition.TheVariants.{Whole, Horizontal, Vertical}
-use Rattle.frame_setting.specs.declared.setting.FrameSetting.{FrameSetting}
 use Rattle.prob_contexts.specs.Lists.{lists_of}
 use Rattle.std.proofs.Math.Nat.{pow-suc}
 use Rattle.vp9_types.specs.Reading.{after}
@@ -21,8 +20,11 @@ use Rattle.counting_reader.specs.declared.reader.CountingReader.{CountingReader}
 use Rattle.mode_syntax.specs.Partitions.{partition_at}
 use Rattle.mode_syntax.specs.Walk.{Walk, block_at, square_at, starts_inside, block_inside, smallest_parts, parts, decode_partition}
 use Rattle.planes.specs.declared.frame_planes.FramePlanes.{FramePlanes}
-use Rattle.frame_decoder.specs.Code.{PlainTile, GivesTile, SameColumns, plain_block, plain_walk, tile_of, walk_of, limit_of}
+use Rattle.frame_decoder.specs.Columns.{limit_of}
+use Rattle.frame_decoder.specs.Code.{PlainTile, GivesTile, SameColumns, plain_block, plain_walk, sources_of, tile_of, walk_of}
+use Rattle.frame_decoder.specs.Sources.{frame_is_intra}
 use Rattle.frame_decoder.specs.declared.columns.TileColumn.{TileColumn}
+use Rattle.frame_decoder.specs.declared.sources.FrameSources.{FrameSources}
 use Rattle.counting_reader.proofs.CountingRuns.{counting_bind, run_settle}
 
 inside : {S : Type 0} (walk : Walk S) (r c : ℕ) → r < walk.frame.rows → c < walk.frame.cols → starts_inside walk r c ≡ true
@@ -101,8 +103,8 @@ smallest_gives walk n r c s p at old mid new (Err rule) column planes row col le
 
 ---- The same columns ----
 
-pub same_walk : (setting : FrameSetting) (c d : TileColumn) → SameColumns c d → walk_of setting d ≡ walk_of setting c
-same_walk setting c d same = λ i. plain_walk setting.header setting.modes (lists_of setting.contexts) setting.places (same.from i) (same.to i)
+pub same_walk : (by : FrameSources) (c d : TileColumn) → SameColumns c d → walk_of by d ≡ walk_of by c
+same_walk by c d same = λ i. plain_walk (sources_of by) by.setting.places (same.from i) (same.to i)
 
 pub same_on : (a b c : TileColumn) → SameColumns a b → SameColumns b c → SameColumns a c
 same_on a b c first second = record { from = second.from ∙ first.from; to = second.to ∙ first.to }
@@ -162,64 +164,64 @@ pub partition_read : {m : ℕ} (intra : Bool) (probs : List ℕ) (blocks : List 
 partition_read intra probs blocks frame at there old new p is read = rw (sym is) read
 
 -- a square that starts inside the frame, and whose partition is read
-pub record IsOpened (setting : FrameSetting) (c : TileColumn) (at : SquareAt) (p : Partition) (old new : Standing) : Type 0 where
+pub record IsOpened (by : FrameSources) (c : TileColumn) (at : SquareAt) (p : Partition) (old new : Standing) : Type 0 where
   pub from : at.tile_from ≡ c.grid.from
   pub to : at.tile_to ≡ c.grid.to
-  pub row : at.row < setting.places.rows
-  pub col : at.col < setting.places.cols
-  pub read : run_counting (partition_at true (lists_of setting.contexts).partitions c.grid.blocks setting.places at) old ≡ Ok (p, new)
+  pub row : at.row < by.setting.places.rows
+  pub col : at.col < by.setting.places.cols
+  pub read : run_counting (partition_at (frame_is_intra by.setting.header.kind) (lists_of by.setting.contexts).partitions c.grid.blocks by.setting.places at) old ≡ Ok (p, new)
 
 -- a square of 8x8 is one block, or four that are read as one
-pub smallest_done : {m : ℕ} (setting : FrameSetting) (c : TileColumn) (before : FramePlanes) (at : SquareAt) (p : Partition) (first : BlockAt) (size : BlockSize) (old mid new : CountingReader m)
-    (result : Result (Unit {0}) Rule) (column : TileColumn) (planes : FramePlanes) → IsOpened setting c at p (standing_of old) (standing_of mid) → at.level ≡ 0 → size ≡ part_size p at.level
+pub smallest_done : {m : ℕ} (by : FrameSources) (c : TileColumn) (before : FramePlanes) (at : SquareAt) (p : Partition) (first : BlockAt) (size : BlockSize) (old mid new : CountingReader m)
+    (result : Result (Unit {0}) Rule) (column : TileColumn) (planes : FramePlanes) → IsOpened by c at p (standing_of old) (standing_of mid) → at.level ≡ 0 → size ≡ part_size p at.level
     → first ≡ record { row = at.row; col = at.col; size = size; tile_from = at.tile_from; tile_to = at.tile_to }
-    → GivesTile (plain_block setting.header setting.modes (lists_of setting.contexts) first (tile_of c before)) mid result column planes new
-    → GivesTile (decode_partition (walk_of setting c) at.level at.row at.col (tile_of c before)) old result column planes new
-smallest_done setting c before at p first size old mid new result column planes h level sized is gives =
-    let walk = walk_of setting c in
+    → GivesTile (plain_block (sources_of by) first (tile_of c before)) mid result column planes new
+    → GivesTile (decode_partition (walk_of by c) at.level at.row at.col (tile_of c before)) old result column planes new
+smallest_done by c before at p first size old mid new result column planes h level sized is gives =
+    let walk = walk_of by c in
     let small : size ≡ part_size p 0 = sized ∙ (λ i. part_size p (level i)) in
     smallest_gives walk at.level at.row at.col (tile_of c before) p first old mid new result column planes h.row h.col level
     (block_is walk at first at.row at.col size (part_size p 0) h.from h.to is small)
-    (partition_read true walk.probs c.grid.blocks walk.frame at (square_at walk at.level at.row at.col) old mid p (square_is walk at h.from h.to) h.read) gives
+    (partition_read walk.intra walk.probs c.grid.blocks walk.frame at (square_at walk at.level at.row at.col) old mid p (square_is walk at h.from h.to) h.read) gives
 
-pub whole_done : {m : ℕ} (setting : FrameSetting) (c : TileColumn) (before : FramePlanes) (at : SquareAt) (p : Partition) (first : BlockAt) (size : BlockSize) (old mid new : CountingReader m)
-    (result : Result (Unit {0}) Rule) (column : TileColumn) (planes : FramePlanes) → IsOpened setting c at p (standing_of old) (standing_of mid) → 1 ≤ at.level → size ≡ part_size p at.level
+pub whole_done : {m : ℕ} (by : FrameSources) (c : TileColumn) (before : FramePlanes) (at : SquareAt) (p : Partition) (first : BlockAt) (size : BlockSize) (old mid new : CountingReader m)
+    (result : Result (Unit {0}) Rule) (column : TileColumn) (planes : FramePlanes) → IsOpened by c at p (standing_of old) (standing_of mid) → 1 ≤ at.level → size ≡ part_size p at.level
     → first ≡ record { row = at.row; col = at.col; size = size; tile_from = at.tile_from; tile_to = at.tile_to } → p ≡ Whole
-    → GivesTile (plain_block setting.header setting.modes (lists_of setting.contexts) first (tile_of c before)) mid result column planes new
-    → GivesTile (decode_partition (walk_of setting c) at.level at.row at.col (tile_of c before)) old result column planes new
-whole_done setting c before at p first size old mid new result column planes h least sized is part gives =
-    let walk = walk_of setting c in
+    → GivesTile (plain_block (sources_of by) first (tile_of c before)) mid result column planes new
+    → GivesTile (decode_partition (walk_of by c) at.level at.row at.col (tile_of c before)) old result column planes new
+whole_done by c before at p first size old mid new result column planes h least sized is part gives =
+    let walk = walk_of by c in
     let k = at.level - 1 in
     let level : at.level ≡ k + 1 = omega (arith, least) in
     let next : at.level ≡ suc k = omega (arith, least) in
     parts_give walk at.level k at.row at.col (tile_of c before) p old mid new result column planes h.row h.col level
-    (partition_read true walk.probs c.grid.blocks walk.frame at (square_at walk at.level at.row at.col) old mid p (square_is walk at h.from h.to) h.read)
+    (partition_read walk.intra walk.probs c.grid.blocks walk.frame at (square_at walk at.level at.row at.col) old mid p (square_is walk at h.from h.to) h.read)
     (whole_gives walk at.level k at.row at.col (tile_of c before) p first size mid new result column planes part next sized (block_is walk at first at.row at.col size size h.from h.to is refl) gives)
 
-pub rows_done : {m : ℕ} (setting : FrameSetting) (c : TileColumn) (before : FramePlanes) (at : SquareAt) (p : Partition) (first : BlockAt) (size : BlockSize) (half : ℕ) (old mid new : CountingReader m)
-    (result : Result (Unit {0}) Rule) (column : TileColumn) (planes : FramePlanes) → IsOpened setting c at p (standing_of old) (standing_of mid) → 1 ≤ at.level → size ≡ part_size p at.level
+pub rows_done : {m : ℕ} (by : FrameSources) (c : TileColumn) (before : FramePlanes) (at : SquareAt) (p : Partition) (first : BlockAt) (size : BlockSize) (half : ℕ) (old mid new : CountingReader m)
+    (result : Result (Unit {0}) Rule) (column : TileColumn) (planes : FramePlanes) → IsOpened by c at p (standing_of old) (standing_of mid) → 1 ≤ at.level → size ≡ part_size p at.level
     → first ≡ record { row = at.row; col = at.col; size = size; tile_from = at.tile_from; tile_to = at.tile_to } → p ≡ Horizontal → half ≡ 2 ^ (at.level - 1)
-    → GivesTile (in_order (plain_block setting.header setting.modes (lists_of setting.contexts) first (tile_of c before)) (block_inside (walk_of setting c) (at.row + half) at.col size)) mid result column planes new
-    → GivesTile (decode_partition (walk_of setting c) at.level at.row at.col (tile_of c before)) old result column planes new
-rows_done setting c before at p first size half old mid new result column planes h least sized is part side gives =
-    let walk = walk_of setting c in
+    → GivesTile (in_order (plain_block (sources_of by) first (tile_of c before)) (block_inside (walk_of by c) (at.row + half) at.col size)) mid result column planes new
+    → GivesTile (decode_partition (walk_of by c) at.level at.row at.col (tile_of c before)) old result column planes new
+rows_done by c before at p first size half old mid new result column planes h least sized is part side gives =
+    let walk = walk_of by c in
     let k = at.level - 1 in
     let level : at.level ≡ k + 1 = omega (arith, least) in
     let next : at.level ≡ suc k = omega (arith, least) in
     parts_give walk at.level k at.row at.col (tile_of c before) p old mid new result column planes h.row h.col level
-    (partition_read true walk.probs c.grid.blocks walk.frame at (square_at walk at.level at.row at.col) old mid p (square_is walk at h.from h.to) h.read)
+    (partition_read walk.intra walk.probs c.grid.blocks walk.frame at (square_at walk at.level at.row at.col) old mid p (square_is walk at h.from h.to) h.read)
     (rows_give walk at.level k half at.row at.col (tile_of c before) p first size mid new result column planes part next side sized (block_is walk at first at.row at.col size size h.from h.to is refl) gives)
 
-pub columns_done : {m : ℕ} (setting : FrameSetting) (c : TileColumn) (before : FramePlanes) (at : SquareAt) (p : Partition) (first : BlockAt) (size : BlockSize) (half : ℕ) (old mid new : CountingReader m)
-    (result : Result (Unit {0}) Rule) (column : TileColumn) (planes : FramePlanes) → IsOpened setting c at p (standing_of old) (standing_of mid) → 1 ≤ at.level → size ≡ part_size p at.level
+pub columns_done : {m : ℕ} (by : FrameSources) (c : TileColumn) (before : FramePlanes) (at : SquareAt) (p : Partition) (first : BlockAt) (size : BlockSize) (half : ℕ) (old mid new : CountingReader m)
+    (result : Result (Unit {0}) Rule) (column : TileColumn) (planes : FramePlanes) → IsOpened by c at p (standing_of old) (standing_of mid) → 1 ≤ at.level → size ≡ part_size p at.level
     → first ≡ record { row = at.row; col = at.col; size = size; tile_from = at.tile_from; tile_to = at.tile_to } → p ≡ Vertical → half ≡ 2 ^ (at.level - 1)
-    → GivesTile (in_order (plain_block setting.header setting.modes (lists_of setting.contexts) first (tile_of c before)) (block_inside (walk_of setting c) at.row (at.col + half) size)) mid result column planes new
-    → GivesTile (decode_partition (walk_of setting c) at.level at.row at.col (tile_of c before)) old result column planes new
-columns_done setting c before at p first size half old mid new result column planes h least sized is part side gives =
-    let walk = walk_of setting c in
+    → GivesTile (in_order (plain_block (sources_of by) first (tile_of c before)) (block_inside (walk_of by c) at.row (at.col + half) size)) mid result column planes new
+    → GivesTile (decode_partition (walk_of by c) at.level at.row at.col (tile_of c before)) old result column planes new
+columns_done by c before at p first size half old mid new result column planes h least sized is part side gives =
+    let walk = walk_of by c in
     let k = at.level - 1 in
     let level : at.level ≡ k + 1 = omega (arith, least) in
     let next : at.level ≡ suc k = omega (arith, least) in
     parts_give walk at.level k at.row at.col (tile_of c before) p old mid new result column planes h.row h.col level
-    (partition_read true walk.probs c.grid.blocks walk.frame at (square_at walk at.level at.row at.col) old mid p (square_is walk at h.from h.to) h.read)
+    (partition_read walk.intra walk.probs c.grid.blocks walk.frame at (square_at walk at.level at.row at.col) old mid p (square_is walk at h.from h.to) h.read)
     (columns_give walk at.level k half at.row at.col (tile_of c before) p first size mid new result column planes part next side sized (block_is walk at first at.row at.col size size h.from h.to is refl) gives)

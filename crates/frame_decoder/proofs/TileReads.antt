@@ -1,67 +1,67 @@
 -- A tile that is read, and whose blocks are put in as they are read.
 use Rattle.std.proofs.Common.{◌≡◌, ◌∙◌, ◌++◌, ◌∷◌, [], ℕ, zero, suc, rules, Bool, refl, sym, ap, List, append_assoc}
-use Rattle.std.specs.Prelude.{not, nat_eq, Some, Ok, Err, Result}
+use Rattle.std.specs.Prelude.{not, nat_eq, Ok, Err, Result}
 use Rattle.std.specs.List.{fold}
 use Rattle.std.proofs.lemmas.List.{map-append}
 use Rattle.std.proofs.lemmas.List.Sums.{fold-append}
 use Rattle.vp9_types.specs.Maps.{FrameMap}
 use Rattle.vp9_types.specs.Results.{map_ok}
 use Rattle.vp9_types.specs.Syntax.{Syntax, done, broken, ask}
-use Rattle.vp9_types.specs.declared.block.Modes.{Modes}
 use Rattle.vp9_types.specs.declared.rule.Rule.{Rule}
-use Rattle.vp9_types.specs.declared.shape.Shape.{Shape}
 use Rattle.bool_decoder.specs.Bools.{run_bools}
 use Rattle.bool_decoder.specs.Window.{Window, started, bit_of, after_bit}
-use Rattle.counting_reader.specs.Counting.{Settled, Standing, settle, mapped, with_counts, counted_if, run_counting}
+use Rattle.counting_reader.specs.Counting.{Settled, Standing, lifted, settle, mapped, with_counts, counted_if, run_counting}
 use Rattle.counting_reader.specs.Code.{Reads, counts_by, standing_of}
 use Rattle.prob_contexts.specs.declared.kind.CountedBool.{CountedBool}
 use Rattle.counting_reader.specs.declared.reader.CountingReader.{CountingReader}
 use Rattle.planes.specs.declared.frame_planes.FramePlanes.{FramePlanes}
 use Rattle.frame_decoder.specs.declared.columns.TileColumn.{TileColumn}
 use Rattle.counting_reader.proofs.Mapped.{mapped_after}
-use Rattle.frame_headers.specs.State.{shape_of}
-use Rattle.frame_headers.specs.declared.header.Header.{Header}
-use Rattle.prob_contexts.specs.Lists.{ContextLists}
 use Rattle.block_geometry.specs.declared.transform_blocks.FramePlaces.{FramePlaces}
 use Rattle.block_plan.specs.Planned.{PlannedBlock}
 use Rattle.block_plan.specs.declared.block.BlockAt.{BlockAt}
 use Rattle.block_residue.specs.Residues as residues
 use Rattle.block_residue.specs.declared.sides.TileSides.{TileSides}
 use Rattle.mode_syntax.proofs.Mapped.{tile_everywhere}
-use Rattle.mode_syntax.specs.ModeInfo.{intra_frame_mode_info}
+use Rattle.inter_modes.specs.ModeInfo.{mode_info}
 use Rattle.mode_syntax.specs.Walk.{decode_tile}
 use Rattle.frame_decoder.specs.Code.{PlainTile, plain_block, plain_walk, settled_of, tile_of, read_whole, GivesWhole}
+use Rattle.block_rebuild.specs.Blocks.{put_planned}
+use Rattle.block_rebuild.specs.InterBlocks.{Rebuilding}
 use Rattle.frame_decoder.specs.Frames.{put_more}
+use Rattle.frame_decoder.specs.Sources.{FrameSources, rebuilding}
 use Rattle.frame_decoder.specs.Reading.{TileRead, infos, read_block, read_walk}
 use Rattle.frame_decoder.specs.declared.tile_places.TilePlaces.{TilePlaces}
 
 -- the plain decoder's tile where so much is read, in a frame whose samples were these before the tile
-abbrev pub view : Shape → FrameMap → TileRead → PlainTile
-view shape m s = record { blocks = infos (s.earlier ++ s.blocks); sides = s.sides; map = fold (put_more shape) (Some m) s.blocks }
+abbrev pub view : Rebuilding → FrameMap → TileRead → PlainTile
+view put m s = record { blocks = infos (s.earlier ++ s.blocks); sides = s.sides; map = fold (put_more put) m s.blocks }
 
-state_more : (shape : Shape) (m : FrameMap) (s : TileRead) (b : PlannedBlock) (sides : TileSides)
-    → ◌≡◌ {A = PlainTile} (record { blocks = infos (s.earlier ++ s.blocks) ++ b.info ∷ []; sides = sides; map = put_more shape (fold (put_more shape) (Some m) s.blocks) b })
-    (view shape m (record { earlier = s.earlier; blocks = s.blocks ++ b ∷ []; sides = sides }))
-state_more shape m s b sides = λ i. record {
+state_more : (put : Rebuilding) (m : FrameMap) (s : TileRead) (b : PlannedBlock) (sides : TileSides)
+    → ◌≡◌ {A = PlainTile} (record { blocks = infos (s.earlier ++ s.blocks) ++ b.info ∷ []; sides = sides; map = put_planned put b (fold (put_more put) m s.blocks) })
+    (view put m (record { earlier = s.earlier; blocks = s.blocks ++ b ∷ []; sides = sides }))
+state_more put m s b sides = λ i. record {
   blocks = (sym (map-append (λ (b : PlannedBlock). b.info) (s.earlier ++ s.blocks) (b ∷ [])) ∙ ap infos (append_assoc s.earlier s.blocks (b ∷ []))) i;
   sides = sides;
-  map = sym (fold-append (put_more shape) (Some m) s.blocks (b ∷ [])) i;
+  map = sym (fold-append (put_more put) m s.blocks (b ∷ [])) i;
 }
 
-block_seen : (header : Header) (modes : Modes) (contexts : ContextLists) (m : FrameMap) (at : BlockAt) (s : TileRead)
-    → plain_block header modes contexts at (view (shape_of header) m s) ≡ mapped (view (shape_of header) m) (read_block header modes contexts at s)
+block_seen : (by : FrameSources) (m : FrameMap) (at : BlockAt) (s : TileRead)
+    → plain_block by at (view (rebuilding by) m s) ≡ mapped (view (rebuilding by) m) (read_block by at s)
 unfolding plain_block read_block settle mapped
-block_seen header modes contexts m at s =
-    mapped_after (view (shape_of header) m) (intra_frame_mode_info header modes contexts (infos (s.earlier ++ s.blocks)) at) _ _
-    (λ info. mapped_after (view (shape_of header) m) (residues.read_block header contexts at.tile_from info s.sides) _ _
-    (λ read. ap settle (state_more (shape_of header) m s read.0 read.1)))
+block_seen by m at s =
+    let seen = view (rebuilding by) m in
+    mapped_after seen (mode_info by.header by.modes by.contexts by.past.segments (infos (s.earlier ++ s.blocks)) by.past.vectors at) _ _
+    (λ told. mapped_after seen (lifted told) _ _
+    (λ info. mapped_after seen (residues.read_block by.header by.contexts at.tile_from info s.sides) _ _
+    (λ read. ap settle (state_more (rebuilding by) m s read.0 read.1))))
 
-pub tile_seen : (header : Header) (modes : Modes) (contexts : ContextLists) (frame : FramePlaces) (tile : TilePlaces) (m : FrameMap) (columns r c n : ℕ) (s : TileRead)
-    → decode_tile (plain_walk header modes contexts frame tile.col_from tile.col_to) columns r c n (view (shape_of header) m s)
-    ≡ mapped (view (shape_of header) m) (decode_tile (read_walk header modes contexts frame tile) columns r c n s)
-tile_seen header modes contexts frame tile m columns r c n s =
-    tile_everywhere (read_walk header modes contexts frame tile) (plain_block header modes contexts) (λ s. s.blocks) (view (shape_of header) m)
-    (λ at s. block_seen header modes contexts m at s) (λ s. refl) columns r c n s
+pub tile_seen : (by : FrameSources) (frame : FramePlaces) (tile : TilePlaces) (m : FrameMap) (columns r c n : ℕ) (s : TileRead)
+    → decode_tile (plain_walk by frame tile.col_from tile.col_to) columns r c n (view (rebuilding by) m s)
+    ≡ mapped (view (rebuilding by) m) (decode_tile (read_walk by frame tile) columns r c n s)
+tile_seen by frame tile m columns r c n s =
+    tile_everywhere (read_walk by frame tile) (plain_block by) (λ s. s.blocks) (view (rebuilding by) m)
+    (λ at s. block_seen by m at s) (λ s. refl) columns r c n s
 
 -- the same was counted
 abbrev pub seen_by : {S T : Type 0} → (S → T) → Settled S → Settled T

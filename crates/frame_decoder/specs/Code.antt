@@ -1,36 +1,28 @@
 -- What the code keeps, and what its calls answer.
-use Rattle.std.specs.Prelude.{◌≡◌, ◌<◌, All, ◌≤◌, ◌+◌, ◌-◌, ◌*◌, ◌/◌, ◌%◌, ◌^◌, ℕ, true, false, Bool, List, [], ◌∷◌, ◌++◌, map, length, min, slice_index_or, Option, Some, Result, Ok, Err}
+use Rattle.std.specs.Prelude.{◌≡◌, ◌<◌, All, ◌≤◌, ◌+◌, ◌-◌, ◌*◌, ◌/◌, ◌%◌, ◌^◌, ℕ, true, false, Bool, List, [], ◌∷◌, ◌++◌, map, min, Result, Ok, Err}
 use Rattle.vp9_types.specs.Maps.{FrameMap}
 use Rattle.vp9_types.specs.Results.{map_ok, ◌>>=◌}
 use Rattle.bool_decoder.specs.Bools.{run_bools}
 use Rattle.bool_decoder.specs.Window.{Window, started}
-use Rattle.vp9_types.specs.Shapes.{mi_cols, mi_rows}
-use Rattle.vp9_types.specs.Sizes.{superblocks_along}
 use Rattle.vp9_types.specs.Syntax.{Syntax}
-use Rattle.vp9_types.specs.declared.block.Modes.{Modes}
 use Rattle.vp9_types.specs.declared.rule.Rule.{Rule}
 use Rattle.vp9_types.specs.declared.shape.Shape.{Shape}
-use Rattle.vp9_tables.specs.Blocks.{greatest_of}
-use Rattle.vp9_tables.specs.Numbers.{tx_number}
-use Rattle.frame_headers.specs.Spans.{tile_count}
 use Rattle.frame_headers.specs.State.{shape_of}
-use Rattle.frame_headers.specs.Tiles.{AreFewTiles}
 use Rattle.frame_headers.specs.declared.header.Header.{Header}
 use Rattle.frame_setting.specs.declared.setting.FrameSetting.{FrameSetting}
 use Rattle.prob_contexts.specs.Counted.{counts_after, no_counts}
-use Rattle.prob_contexts.specs.Lists.{ContextLists, lists_of}
+use Rattle.prob_contexts.specs.Lists.{lists_of}
 use Rattle.counting_reader.specs.Code.{Reads, standing_of}
-use Rattle.counting_reader.specs.Counting.{Settled, Standing, counted_if, settle, run_counting}
+use Rattle.counting_reader.specs.Counting.{Settled, Standing, counted_if, lifted, settle, run_counting}
 use Rattle.counting_reader.specs.Counting as counting
 use Rattle.counting_reader.specs.declared.reader.CountingReader.{CountingReader}
-use Rattle.block_geometry.specs.Sizes.{width_8}
 use Rattle.block_geometry.specs.declared.transform_blocks.FramePlaces.{FramePlaces}
 use Rattle.block_plan.specs.declared.block.BlockAt.{BlockAt}
 use Rattle.block_plan.specs.declared.block.BlockInfo.{BlockInfo}
 use Rattle.block_residue.specs.Code.{FitPlanes}
 use Rattle.block_residue.specs.Residues as residues
 use Rattle.block_residue.specs.declared.sides.TileSides.{TileSides}
-use Rattle.mode_syntax.specs.ModeInfo.{intra_frame_mode_info}
+use Rattle.inter_modes.specs.ModeInfo.{mode_info}
 use Rattle.mode_syntax.specs.Partitions.{partition_at}
 use Rattle.mode_syntax.specs.Walk.{Walk, decode_partition}
 use Rattle.mode_syntax.specs.declared.square_at.SquareAt.{SquareAt}
@@ -39,14 +31,17 @@ use Rattle.planes.specs.Pictures.{HasSizes, IsInRange, map_of, samples_of}
 use Rattle.planes.specs.declared.frame_planes.FramePlanes.{FramePlanes}
 use Rattle.planes.specs.declared.picture.Picture.{Picture}
 use Rattle.prob_contexts.specs.declared.kind.CountedBool.{CountedBool}
-use Rattle.frame_decoder.specs.Built.{adapts}
-use Rattle.frame_decoder.specs.Frames.{FrameInput, FrameResult, decoded, put_more, raw}
+use Rattle.frame_decoder.specs.Frames.{FrameInput, FrameResult, decoded, raw}
+use Rattle.frame_decoder.specs.Columns.{AllFit, AllLie, AllSmall, AllStart, AreColumnsOf, HasStarts, blocks_of, limit_of}
+use Rattle.frame_decoder.specs.Past.{past_of}
 use Rattle.frame_decoder.specs.Reading.{Column, FrameRead, infos}
-use Rattle.frame_decoder.specs.Tiles.{superblocks_before, tile_offset}
+use Rattle.frame_decoder.specs.Sources.{FrameSources, adapts, frame_is_intra, rebuilding}
 use Rattle.frame_decoder.specs.declared.decoding.Decoded.{Decoded}
 use Rattle.frame_decoder.specs.declared.halt.Halt.{Halt}
 use Rattle.frame_decoder.specs.declared.halt.Halt.TheVariants as halt
 use Rattle.frame_decoder.specs.declared.columns.TileColumn.{TileColumn}
+use Rattle.frame_decoder.specs.declared.sources.FrameSources as code
+use Rattle.block_rebuild.specs.Blocks.{put_planned}
 
 ---- A tile whose blocks are put in as they are read ----
 
@@ -54,48 +49,42 @@ use Rattle.frame_decoder.specs.declared.columns.TileColumn.{TileColumn}
 pub record PlainTile : Type 0 where
   pub blocks : List BlockInfo
   pub sides : TileSides
-  pub map : Option FrameMap
+  pub map : FrameMap
 
-unfoldable pub plain_block : Header → Modes → ContextLists → BlockAt → PlainTile → Syntax ℕ Rule (Settled PlainTile)
-plain_block header modes contexts at s =
-    counting.◌>>=◌ (intra_frame_mode_info header modes contexts s.blocks at) (λ info.
-    counting.◌>>=◌ (residues.read_block header contexts at.tile_from info s.sides) (λ read.
-    settle (record { blocks = s.blocks ++ read.0.info ∷ []; sides = read.1; map = put_more (shape_of header) s.map read.0 })))
+unfoldable pub plain_block : FrameSources → BlockAt → PlainTile → Syntax ℕ Rule (Settled PlainTile)
+plain_block by at s =
+    counting.◌>>=◌ (mode_info by.header by.modes by.contexts by.past.segments s.blocks by.past.vectors at) (λ told.
+    counting.◌>>=◌ (lifted told) (λ info.
+    counting.◌>>=◌ (residues.read_block by.header by.contexts at.tile_from info s.sides) (λ read.
+    settle (record { blocks = s.blocks ++ read.0.info ∷ []; sides = read.1; map = put_planned (rebuilding by) read.0 s.map }))))
 
-abbrev pub plain_walk : Header → Modes → ContextLists → FramePlaces → ℕ → ℕ → Walk PlainTile
-plain_walk header modes contexts frame from to = record {
+abbrev pub plain_walk : FrameSources → FramePlaces → ℕ → ℕ → Walk PlainTile
+plain_walk by frame from to = record {
   frame = frame;
   tile_from = from;
   tile_to = to;
-  intra = true;
-  probs = contexts.partitions;
-  block = plain_block header modes contexts;
+  intra = frame_is_intra by.header.kind;
+  probs = by.contexts.partitions;
+  block = plain_block by;
   blocks = λ s. s.blocks;
 }
 
 -- the code's tile
 abbrev pub tile_of : TileColumn → FramePlanes → PlainTile
-tile_of c planes = record { blocks = c.grid.blocks; sides = c.sides; map = Some (samples_of planes) }
+tile_of c planes = record { blocks = c.grid.blocks; sides = c.sides; map = samples_of planes }
 
-abbrev pub walk_of : FrameSetting → TileColumn → Walk PlainTile
-walk_of setting c = plain_walk setting.header setting.modes (lists_of setting.contexts) setting.places c.grid.from c.grid.to
+---- A tile of the code ----
 
--- the end of its columns of superblocks
-abbrev pub limit_of : TileColumn → ℕ
-limit_of c = c.grid.from + 8 * superblocks_along (c.grid.to - c.grid.from)
+abbrev pub sources_of : code.FrameSources → FrameSources
+sources_of by = record {
+  header = by.setting.header;
+  modes = by.setting.modes;
+  contexts = lists_of by.setting.contexts;
+  past = past_of by.past;
+}
 
--- no block has a transform that is larger than it
-abbrev pub AllFit : List BlockInfo → Type 0
-AllFit blocks = All (λ b. tx_number b.tx ≤ greatest_of b.size) blocks
-
--- blocks lie in the superblocks of a tile's columns
--- blocks start inside a frame of so many places, and each has one of the eight segments
-abbrev pub AllStart : ℕ → ℕ → List BlockInfo → Type 0
-AllStart rows cols blocks = All (λ b. (b.row < rows) × (b.col < cols) × (b.segment < 8)) blocks
-
--- blocks lie in the superblocks of a tile's columns
-abbrev pub AllLie : ℕ → ℕ → List BlockInfo → Type 0
-AllLie from limit blocks = All (λ b. (from ≤ b.col) × (b.col + width_8 b.size ≤ limit)) blocks
+abbrev pub walk_of : code.FrameSources → TileColumn → Walk PlainTile
+walk_of by c = plain_walk (sources_of by) by.setting.places c.grid.from c.grid.to
 
 -- between two blocks
 pub record IsReady (setting : FrameSetting) (c : TileColumn) (planes : FramePlanes) : Type 0 where
@@ -107,6 +96,7 @@ pub record IsReady (setting : FrameSetting) (c : TileColumn) (planes : FramePlan
   pub fit_blocks : AllFit c.grid.blocks
   pub lie : AllLie c.grid.from (limit_of c) c.grid.blocks
   pub starts : AllStart setting.places.rows setting.places.cols c.grid.blocks
+  pub small : AllSmall c.grid.blocks
   pub sizes : HasSizes (shape_of setting.header) planes
   pub range : IsInRange (shape_of setting.header).depth planes
 
@@ -141,21 +131,21 @@ quarter at i = record {
 }
 
 -- a square that starts inside the frame is split, and nothing but that is read of it
-pub record IsSplit (setting : FrameSetting) (at : SquareAt) (before : TileColumn) (planes_before : FramePlanes) (old new : Standing) (c : TileColumn) (planes : FramePlanes) : Type 0 where
+pub record IsSplit (by : code.FrameSources) (at : SquareAt) (before : TileColumn) (planes_before : FramePlanes) (old new : Standing) (c : TileColumn) (planes : FramePlanes) : Type 0 where
   pub least : 1 ≤ at.level
-  pub row : at.row < setting.places.rows
-  pub col : at.col < setting.places.cols
-  pub read : run_counting (partition_at true (lists_of setting.contexts).partitions before.grid.blocks setting.places at) old ≡ Ok (Split, new)
+  pub row : at.row < by.setting.places.rows
+  pub col : at.col < by.setting.places.cols
+  pub read : run_counting (partition_at (frame_is_intra by.setting.header.kind) (lists_of by.setting.contexts).partitions before.grid.blocks by.setting.places at) old ≡ Ok (Split, new)
   pub column : c ≡ before
   pub samples : planes ≡ planes_before
 
 -- all of a square is decoded, or it is split, or the rule is broken
-abbrev pub GivesUnsplit : {n : ℕ} → FrameSetting → SquareAt → TileColumn → FramePlanes → CountingReader n → Result Bool Rule → TileColumn → FramePlanes → CountingReader n → Type 0
-GivesUnsplit setting at before planes_before old (Ok false) c planes new =
-    Reads (decode_partition (walk_of setting before) at.level at.row at.col (tile_of before planes_before)) old (tile_of c planes) new
-GivesUnsplit setting at before planes_before old (Ok true) c planes new = IsSplit setting at before planes_before (standing_of old) (standing_of new) c planes
-GivesUnsplit setting at before planes_before old (Err rule) c planes new =
-    run_counting (decode_partition (walk_of setting before) at.level at.row at.col (tile_of before planes_before)) (standing_of old) ≡ Err rule
+abbrev pub GivesUnsplit : {n : ℕ} → code.FrameSources → SquareAt → TileColumn → FramePlanes → CountingReader n → Result Bool Rule → TileColumn → FramePlanes → CountingReader n → Type 0
+GivesUnsplit by at before planes_before old (Ok false) c planes new =
+    Reads (decode_partition (walk_of by before) at.level at.row at.col (tile_of before planes_before)) old (tile_of c planes) new
+GivesUnsplit by at before planes_before old (Ok true) c planes new = IsSplit by at before planes_before (standing_of old) (standing_of new) c planes
+GivesUnsplit by at before planes_before old (Err rule) c planes new =
+    run_counting (decode_partition (walk_of by before) at.level at.row at.col (tile_of before planes_before)) (standing_of old) ≡ Err rule
 
 ---- A tile's bytes ----
 
@@ -172,30 +162,6 @@ GivesWhole counting before computed (Ok counts) c planes =
     (counted : List CountedBool) × (computed ≡ Ok (record { value = tile_of c planes; counted = counted })) × (counts ≡ counted_if counting before counted)
 GivesWhole counting before computed (Err rule) c planes = computed ≡ Err rule
 
----- All tiles ----
-
--- a tile column of a frame before its n-th tile is decoded: it has room for all blocks of its tiles from there on
-pub record IsTileColumn (header : Header) (n k : ℕ) (c : TileColumn) : Type 0 where
-  pub rows : c.grid.rows ≡ mi_rows (shape_of header)
-  pub from : c.grid.from ≡ tile_offset (mi_cols (shape_of header)) header.params.tiles.columns_log2 k
-  pub to : c.grid.to ≡ tile_offset (mi_cols (shape_of header)) header.params.tiles.columns_log2 (k + 1)
-  pub fit : FitPlanes (shape_of header) c.sides
-  pub fit_blocks : AllFit c.grid.blocks
-  pub lie : AllLie c.grid.from (limit_of c) c.grid.blocks
-  pub starts : AllStart (mi_rows (shape_of header)) (mi_cols (shape_of header)) c.grid.blocks
-  pub room : (r : ℕ) → n ≤ r * 2 ^ header.params.tiles.columns_log2 + k
-      → 64 * (superblocks_along (c.grid.to - c.grid.from)
-      * (superblocks_along (mi_rows (shape_of header)) - superblocks_before (mi_rows (shape_of header)) header.params.tiles.rows_log2 r)) ≤ c.grid.room
-
-pub record AreTileColumns (header : Header) (n : ℕ) (columns : List TileColumn) : Type 0 where
-  pub many : length columns ≡ 2 ^ header.params.tiles.columns_log2
-  pub each : (k : ℕ) (d : TileColumn) → k < length columns → IsTileColumn header n k (slice_index_or columns k d)
-
--- a frame's tile columns, behind its last tile
-pub record AreColumnsOf (setting : FrameSetting) (columns : List TileColumn) : Type 0 where
-  pub few : AreFewTiles setting.header.params.tiles
-  pub are : AreTileColumns setting.header (tile_count setting.header) columns
-
 -- the planes of a frame
 pub record ArePlanes (shape : Shape) (planes : FramePlanes) : Type 0 where
   pub sizes : HasSizes shape planes
@@ -209,9 +175,9 @@ abbrev pub column_as_listed : Column → List BlockInfo × List Bool × List Boo
 column_as_listed c = (infos c.blocks, c.y, c.u, c.v)
 
 -- the code holds what is read, and has put in all of its blocks
-pub record HoldsRead (header : Header) (columns : List TileColumn) (planes : FramePlanes) (read : FrameRead) : Type 0 where
+pub record HoldsRead (by : FrameSources) (columns : List TileColumn) (planes : FramePlanes) (read : FrameRead) : Type 0 where
   pub columns_held : map column_of_code columns ≡ map column_as_listed read.columns
-  pub map_held : raw (shape_of header) read.blocks ≡ Some (samples_of planes)
+  pub map_held : raw (rebuilding by) read.blocks ≡ samples_of planes
 
 -- the counts of what is read, where counting is on: where a frame's probabilities are adapted after it
 abbrev pub counts_if : Bool → List CountedBool → List ℕ
@@ -219,19 +185,12 @@ counts_if true bools = counts_after no_counts bools
 counts_if false bools = no_counts
 
 -- reading goes on to what the code holds then, with its counts, or breaks the rule
-abbrev pub GivesRead : Header → Bool → Result FrameRead Rule → Result (List ℕ) Rule → List TileColumn → FramePlanes → Type 0
-GivesRead header counting computed (Ok counts) columns planes =
-    (read : FrameRead) × (computed ≡ Ok read) × HoldsRead header columns planes read × (counts ≡ counts_if counting read.counted)
-GivesRead header counting computed (Err rule) columns planes = computed ≡ Err rule
+abbrev pub GivesRead : FrameSources → Bool → Result FrameRead Rule → Result (List ℕ) Rule → List TileColumn → FramePlanes → Type 0
+GivesRead by counting computed (Ok counts) columns planes =
+    (read : FrameRead) × (computed ≡ Ok read) × HoldsRead by columns planes read × (counts ≡ counts_if counting read.counted)
+GivesRead by counting computed (Err rule) columns planes = computed ≡ Err rule
 
 ---- A frame ----
-
-abbrev pub blocks_of : List TileColumn → List (List BlockInfo)
-blocks_of columns = map (λ c. c.grid.blocks) columns
-
--- each block of a column starts inside its frame, and has one of the eight segments
-abbrev pub HasStarts : Header → TileColumn → Type 0
-HasStarts header c = AllStart (mi_rows (shape_of header)) (mi_cols (shape_of header)) c.grid.blocks
 
 -- the code holds what a frame leaves
 pub record HoldsResult (header : Header) (picture : Picture) (d : Decoded) (r : FrameResult) : Type 0 where
@@ -242,10 +201,11 @@ pub record HoldsResult (header : Header) (picture : Picture) (d : Decoded) (r : 
   pub contexts : lists_of d.contexts ≡ r.contexts
   pub blocks : blocks_of d.columns.items ≡ r.blocks
   pub starts : All (HasStarts header) d.columns.items
+  pub columns : AreColumnsOf header d.columns.items
   pub counts : d.counts ≡ counts_if (adapts header) r.counted
 
--- the frame is that, or the fault is that one. Want of memory has no cause
+-- the frame is that, or the rule is broken. Want of memory has no cause
 abbrev pub IsDecoded : FrameInput → Picture → Result Decoded Halt → Type 0
 IsDecoded input picture (Ok d) = (r : FrameResult) × (decoded input ≡ Ok r) × HoldsResult input.header picture d r
-IsDecoded input picture (Err (halt.Fault fault)) = decoded input ≡ Err fault
+IsDecoded input picture (Err (halt.Broken rule)) = decoded input ≡ Err rule
 IsDecoded input picture (Err halt.OutOfMemory) = Unit {0}

@@ -1,11 +1,10 @@
 -- What the tiles of a frame say, block by block (6.4, 6.4.2 and 6.4.4 of the standard: decode_tiles, decode_tile,
 -- decode_block). No sample is needed to read them.
-use Rattle.std.specs.Prelude.{ℕ, ◌+◌, ◌-◌, ◌/◌, ◌^◌, Bool, false, true, List, [], ◌∷◌, ◌++◌, map, get_or, replicate, slice_range, slice_set, Result, Ok}
+use Rattle.std.specs.Prelude.{ℕ, ◌+◌, ◌-◌, ◌/◌, ◌^◌, Bool, false, List, [], ◌∷◌, ◌++◌, map, get_or, replicate, slice_range, slice_set, Result, Ok}
 use Rattle.vp9_types.specs.Results.{◌>>=◌}
 use Rattle.vp9_types.specs.Shapes.{coded_width, coded_height}
 use Rattle.vp9_types.specs.Sizes.{superblocks_along}
 use Rattle.vp9_types.specs.Syntax.{Syntax}
-use Rattle.vp9_types.specs.declared.block.Modes.{Modes}
 use Rattle.vp9_types.specs.declared.job.Span.{Span}
 use Rattle.vp9_types.specs.declared.rule.Rule.{Rule}
 use Rattle.vp9_types.specs.declared.shape.Plane.{Plane}
@@ -15,9 +14,8 @@ use Rattle.bool_decoder.specs.Bools.{run_bools}
 use Rattle.bool_decoder.specs.Window.{started}
 use Rattle.frame_headers.specs.State.{shape_of}
 use Rattle.frame_headers.specs.declared.header.Header.{Header}
-use Rattle.prob_contexts.specs.Lists.{ContextLists}
 use Rattle.prob_contexts.specs.declared.kind.CountedBool.{CountedBool}
-use Rattle.counting_reader.specs.Counting.{Settled, settle, mapped}
+use Rattle.counting_reader.specs.Counting.{Settled, lifted, settle}
 use Rattle.counting_reader.specs.Counting as counting
 use Rattle.block_geometry.specs.Frames.{places_of}
 use Rattle.block_geometry.specs.declared.transform_blocks.FramePlaces.{FramePlaces}
@@ -27,8 +25,9 @@ use Rattle.block_plan.specs.declared.block.BlockInfo.{BlockInfo}
 use Rattle.block_residue.specs.Residues as residues
 use Rattle.block_residue.specs.Sides.{Sides}
 use Rattle.block_residue.specs.declared.sides.TileSides.{TileSides}
-use Rattle.mode_syntax.specs.ModeInfo.{intra_frame_mode_info}
+use Rattle.inter_modes.specs.ModeInfo.{mode_info}
 use Rattle.mode_syntax.specs.Walk.{Walk, decode_tile}
+use Rattle.frame_decoder.specs.Sources.{FrameSources, frame_is_intra}
 use Rattle.frame_decoder.specs.Tiles.{column_of, tile_places}
 use Rattle.frame_decoder.specs.declared.tile_places.TilePlaces.{TilePlaces}
 
@@ -45,21 +44,21 @@ abbrev pub infos : List PlannedBlock → List BlockInfo
 infos blocks = map (λ b. b.info) blocks
 
 -- decode_block
-unfoldable pub read_block : Header → Modes → ContextLists → BlockAt → TileRead → Syntax ℕ Rule (Settled TileRead)
-read_block header modes contexts at s =
-    counting.◌>>=◌ (intra_frame_mode_info header modes contexts (infos (s.earlier ++ s.blocks)) at) (λ info.
-    counting.◌>>=◌ (residues.read_block header contexts at.tile_from info s.sides) (λ read.
-    settle (record { earlier = s.earlier; blocks = s.blocks ++ read.0 ∷ []; sides = read.1 })))
+unfoldable pub read_block : FrameSources → BlockAt → TileRead → Syntax ℕ Rule (Settled TileRead)
+read_block by at s =
+    counting.◌>>=◌ (mode_info by.header by.modes by.contexts by.past.segments (infos (s.earlier ++ s.blocks)) by.past.vectors at) (λ told.
+    counting.◌>>=◌ (lifted told) (λ info.
+    counting.◌>>=◌ (residues.read_block by.header by.contexts at.tile_from info s.sides) (λ read.
+    settle (record { earlier = s.earlier; blocks = s.blocks ++ read.0 ∷ []; sides = read.1 }))))
 
--- (all frames that are built are intra frames)
-abbrev pub read_walk : Header → Modes → ContextLists → FramePlaces → TilePlaces → Walk TileRead
-read_walk header modes contexts frame tile = record {
+abbrev pub read_walk : FrameSources → FramePlaces → TilePlaces → Walk TileRead
+read_walk by frame tile = record {
   frame = frame;
   tile_from = tile.col_from;
   tile_to = tile.col_to;
-  intra = true;
-  probs = contexts.partitions;
-  block = read_block header modes contexts;
+  intra = frame_is_intra by.header.kind;
+  probs = by.contexts.partitions;
+  block = read_block by;
   blocks = λ s. infos (s.earlier ++ s.blocks);
 }
 
@@ -96,10 +95,10 @@ no_column shape = record {
 }
 
 -- a tile of a column, superblock by superblock
-unfoldable pub read_tile : Header → Modes → ContextLists → TilePlaces → Column → Syntax ℕ Rule (Settled TileRead)
-read_tile header modes contexts tile c =
-    decode_tile (read_walk header modes contexts (places_of (shape_of header)) tile)
-    (superblocks_along (tile.col_to - tile.col_from)) tile.row_from tile.col_from (superblocks_along (tile.row_to - tile.row_from)) (begun (shape_of header) c)
+unfoldable pub read_tile : FrameSources → TilePlaces → Column → Syntax ℕ Rule (Settled TileRead)
+read_tile by tile c =
+    decode_tile (read_walk by (places_of (shape_of by.header)) tile)
+    (superblocks_along (tile.col_to - tile.col_from)) tile.row_from tile.col_from (superblocks_along (tile.row_to - tile.row_from)) (begun (shape_of by.header) c)
 
 ---- All tiles ----
 
@@ -127,15 +126,15 @@ with_tile k f s = record {
 }
 
 -- the n-th tile, by an arithmetic decoder of its own over its bytes
-unfoldable pub read_tile_of : Header → Modes → ContextLists → ℕ → List ℕ → FrameRead → Result FrameRead Rule
-read_tile_of header modes contexts n bytes f = do
+unfoldable pub read_tile_of : FrameSources → ℕ → List ℕ → FrameRead → Result FrameRead Rule
+read_tile_of by n bytes f = do
   window ← started bytes
-  read ← run_bools (read_tile header modes contexts (tile_places (places_of (shape_of header)) header.params.tiles n)
-      (column_at header f (column_of header.params.tiles n))) window
-  Ok (with_tile (column_of header.params.tiles n) f read.0)
+  read ← run_bools (read_tile by (tile_places (places_of (shape_of by.header)) by.header.params.tiles n)
+      (column_at by.header f (column_of by.header.params.tiles n))) window
+  Ok (with_tile (column_of by.header.params.tiles n) f read.0)
 
 -- the tiles from the n-th on, in order
-unfoldable pub read_tiles : Header → Modes → ContextLists → List ℕ → ℕ → List Span → FrameRead → Result FrameRead Rule
-read_tiles header modes contexts frame n [] f = Ok f
-read_tiles header modes contexts frame n (span ∷ spans) f =
-    read_tile_of header modes contexts n (slice_range frame span.from span.to) f >>= read_tiles header modes contexts frame (n + 1) spans
+unfoldable pub read_tiles : FrameSources → List ℕ → ℕ → List Span → FrameRead → Result FrameRead Rule
+read_tiles by frame n [] f = Ok f
+read_tiles by frame n (span ∷ spans) f =
+    read_tile_of by n (slice_range frame span.from span.to) f >>= read_tiles by frame (n + 1) spans

@@ -4,14 +4,14 @@ ghost use Rattle.std.specs.Prelude.{◌≡◌, ◌<◌, ◌^◌, [], IfOk};
 ghost use Rattle.vp9_types.specs.declared.shape.Plane.TheVariants as plane;
 ghost use Rattle.frame_headers.specs.State.{shape_of};
 ghost use Rattle.frame_headers.specs.Tiles.{AreFewTiles};
-ghost use Rattle.frame_decoder.specs.Code.{AreTileColumns, IsTileColumn};
+ghost use Rattle.frame_decoder.specs.Columns.{AreTileColumns, IsTileColumn};
 
 use crate::tile_places::tile_offset;
 use block_geometry::FramePlaces;
 use block_plan::{BlockGrid, BlockResidues};
+use block_rebuild::RebuildRoom;
 use block_residue::TileSides;
 use frame_setting::FrameSetting;
-use intra_predict::Scratch;
 use std::alloc::{AllocError, Global};
 
 /// A tile column of a frame: its blocks so far, and where those above and at the left have coefficients.
@@ -58,18 +58,18 @@ impl TileColumn {
     }
 }
 
-/// Room for one block: its residue and its prediction.
+/// Room for one block: its residue, and what it is put in by.
 #[derive(Drop)]
 pub struct BlockRoom {
     pub residues: BlockResidues,
-    pub scratch: Scratch,
+    pub rebuild: RebuildRoom,
 }
 
 impl BlockRoom {
     pub fn new() -> BlockRoom {
         BlockRoom {
             residues: BlockResidues::new(),
-            scratch: Scratch::new(),
+            rebuild: RebuildRoom::new(),
         }
     }
 }

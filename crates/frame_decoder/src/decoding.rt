@@ -1,21 +1,22 @@
 //! A frame, from its bytes to its samples.
 
-ghost use Rattle.std.specs.Prelude.{◌≤◌, ◌≡◌, None, IsOk, OnOk, length};
+ghost use Rattle.std.specs.Prelude.{◌≤◌, ◌≡◌, IsOk, OnOk, length};
 ghost use Rattle.frame_headers.specs.Sizes.{IsFrameSize};
 ghost use Rattle.frame_headers.specs.Spans.{tile_count, tile_spans};
 ghost use Rattle.frame_headers.specs.State.{shape_of};
 ghost use Rattle.frame_headers.specs.Tiles.{AreFewTiles};
 ghost use Rattle.planes.specs.Pictures.{IsBlank};
-ghost use Rattle.prob_contexts.specs.Lists.{lists_of};
-ghost use Rattle.frame_decoder.specs.Built.{adapts, first_unbuilt};
-ghost use Rattle.frame_decoder.specs.Code.{AreTileColumns, ArePlanes, GivesRead, HoldsRead, IsDecoded};
+ghost use Rattle.frame_decoder.specs.Columns.{AreTileColumns};
+ghost use Rattle.frame_decoder.specs.Past.{IsPastOf, past_of};
+ghost use Rattle.frame_decoder.specs.Code.{ArePlanes, GivesRead, HoldsRead, IsDecoded, sources_of};
 ghost use Rattle.frame_decoder.specs.Frames.{read_all_tiles};
 ghost use Rattle.frame_decoder.specs.Reading.{nothing_read};
+ghost use Rattle.frame_decoder.specs.Sources.{adapts};
 
-use crate::built::adapts;
 use crate::columns::TileColumn;
 use crate::frame_blocks::FrameBlocks;
 use crate::halt::Halt;
+use crate::sources::{FramePast, FrameSources, adapts};
 use crate::tiles::decode_tiles;
 use compressed_header::read;
 use frame_headers::{Header, check_tiles};
@@ -39,62 +40,59 @@ pub struct Decoded {
 /// All tiles of a frame, and what was counted in them, if its probabilities are adapted.
 fn decode_counted(
     bytes: &[u8],
-    setting: &FrameSetting,
+    by: &FrameSources<'_>,
     compressed: Span,
     columns: &mut [TileColumn],
     planes: &mut FramePlanes,
 ) -> Result<Counts, Rule>
-    requires few { AreFewTiles setting.now.header.params.tiles }
+    requires past { IsPastOf by.now.setting.header by.now.past }
+    requires few { AreFewTiles by.now.setting.header.params.tiles }
     requires within { compressed.to ≤ length bytes.now }
-    requires tested { IsOk (tile_spans bytes.now setting.now.header compressed) }
-    requires columns { AreTileColumns setting.now.header 0 columns.old }
-    requires planes { ArePlanes (shape_of setting.now.header) planes.old }
-    requires start { HoldsRead setting.now.header columns.old planes.old (nothing_read setting.now.header) }
-    ensures gives { GivesRead setting.now.header (adapts setting.now.header)
-        (read_all_tiles setting.now.header setting.now.modes (lists_of setting.now.contexts) bytes.now compressed) result columns.new planes.new }
-    ensures columns { OnOk result (AreTileColumns setting.now.header (tile_count setting.now.header) columns.new) }
-    ensures planes { OnOk result (ArePlanes (shape_of setting.now.header) planes.new) }
+    requires tested { IsOk (tile_spans bytes.now by.now.setting.header compressed) }
+    requires columns { AreTileColumns by.now.setting.header 0 columns.old }
+    requires planes { ArePlanes (shape_of by.now.setting.header) planes.old }
+    requires start { HoldsRead (sources_of by.now) columns.old planes.old (nothing_read by.now.setting.header) }
+    ensures gives { GivesRead (sources_of by.now) (adapts by.now.setting.header)
+        (read_all_tiles (sources_of by.now) bytes.now compressed) result columns.new planes.new }
+    ensures columns { OnOk result (AreTileColumns by.now.setting.header (tile_count by.now.setting.header) columns.new) }
+    ensures planes { OnOk result (ArePlanes (shape_of by.now.setting.header) planes.new) }
 {
-    if adapts(&setting.header) {
-        decode_tiles::<true>(bytes, setting, compressed, columns, planes)
+    if adapts(&by.setting.header) {
+        decode_tiles::<true>(bytes, by, compressed, columns, planes)
     } else {
-        decode_tiles::<false>(bytes, setting, compressed, columns, planes)
+        decode_tiles::<false>(bytes, by, compressed, columns, planes)
     }
 }
 
-/// Decodes a coded frame that starts from the contexts `before`, and whose compressed header lies at `compressed`, into a
-/// picture of zeros of its shape.
+/// Decodes a coded frame, whose compressed header lies at `compressed`, into a picture of zeros of its shape.
 pub fn decode_frame(
     alloc: Global,
     bytes: &[u8],
     header: &Header,
     compressed: Span,
-    before: &Contexts,
+    past: FramePast<'_>,
     picture: &mut Picture,
 ) -> Result<Decoded, Halt>
     requires size { IsFrameSize header.now.size }
     requires few { AreFewTiles header.now.params.tiles }
     requires order { compressed.from ≤ compressed.to }
     requires within { compressed.to ≤ length bytes.now }
-    requires built { first_unbuilt header.now ≡ None }
+    requires past { IsPastOf header.now past }
     requires blank { IsBlank (shape_of header.now) picture.old }
-    ensures { IsDecoded (record { header = header.now; compressed = compressed; bytes = bytes.now; before = lists_of before.now }) picture.new result }
+    ensures { IsDecoded (record { header = header.now; compressed = compressed; bytes = bytes.now; past = past_of past.entry }) picture.new result }
 {
+    let before = past.contexts;
     let (contexts, modes) = read(&bytes[compressed.from..compressed.to], header, before)?;
     check_tiles(bytes, header, compressed)?;
     let setting = FrameSetting::new(header, modes, contexts);
-    let mut columns = TileColumn::all(alloc, &setting)?;
-    let counts = decode_counted(
-        bytes,
-        &setting,
-        compressed,
-        &mut columns,
-        picture.planes_mut(),
-    )?;
-    let blocks = FrameBlocks::new(&setting, &columns);
+    let by = FrameSources { setting, past };
+    let mut columns = TileColumn::all(alloc, &by.setting)?;
+    let planes = picture.planes_mut();
+    let counts = decode_counted(bytes, &by, compressed, &mut columns, planes)?;
+    let blocks = FrameBlocks::new(header, &columns);
     filter_frame(picture.planes_mut(), &EdgeSetting::new(header), &blocks);
     Ok(Decoded {
-        contexts: setting.contexts,
+        contexts,
         columns,
         counts,
     })

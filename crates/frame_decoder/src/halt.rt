@@ -1,24 +1,23 @@
 //! Why there is no frame.
 
 ghost use Rattle.std.specs.Prelude.{◌≡◌};
-ghost use Rattle.vp9_types.specs.declared.outcome.Fault.TheVariants as fault;
 ghost use Rattle.frame_decoder.specs.declared.halt.Halt.TheVariants as halt;
 
 use std::alloc::AllocError;
-use vp9_types::{Fault, Rule};
+use vp9_types::Rule;
 
-/// Why there is no frame: its fault, or want of memory.
+/// Why there is no frame: the rule that it breaks, or want of memory.
 #[derive(Clone, Copy, Debug, PartialEq, Eq)]
 pub enum Halt {
-    Fault(Fault),
+    Broken(Rule),
     OutOfMemory,
 }
 
 impl From<Rule> for Halt {
-    ghost from_gives = { λ rule e. e ≡ halt.Fault (fault.Broken rule) };
+    ghost from_gives = { λ rule e. e ≡ halt.Broken rule };
 
     fn from(rule: Rule) -> Self {
-        Halt::Fault(Fault::Broken(rule))
+        Halt::Broken(rule)
     }
 }
 

@@ -1,17 +1,18 @@
 //! The frames of VP9: from a frame's bytes and its header to its samples (6.4 of the standard).
 #![tactic(auto)]
 
-mod built;
 mod columns;
 mod decoding;
 mod frame_blocks;
 mod halt;
+mod sources;
 mod squares;
 mod tile_places;
 mod tiles;
 
-pub use built::{adapts, first_unbuilt};
 pub use columns::{BlockRoom, TileColumn};
 pub use decoding::{Decoded, decode_frame};
+pub use frame_blocks::FrameBlocks;
 pub use halt::Halt;
+pub use sources::{FramePast, FrameSources, adapts};
 pub use tile_places::TilePlaces;

@@ -4,19 +4,20 @@ ghost use Rattle.std.specs.Prelude.{◌≡◌, ◌-◌, ◌+◌, ◌*◌, ◌<�
 ghost use Rattle.frame_headers.specs.Spans.{tile_count, tile_spans};
 ghost use Rattle.frame_headers.specs.State.{shape_of};
 ghost use Rattle.frame_headers.specs.Tiles.{AreFewTiles};
-ghost use Rattle.prob_contexts.specs.Lists.{lists_of};
 ghost use Rattle.vp9_types.specs.Sizes.{superblocks_along};
 ghost use Rattle.mode_syntax.specs.Walk.{decode_row, decode_tile};
-ghost use Rattle.frame_decoder.specs.Code.{counts_if, tile_of, walk_of, read_whole, ArePlanes, AreTileColumns, HoldsRead, IsReady, SameColumns, GivesRead, GivesTile, GivesWhole};
+ghost use Rattle.frame_decoder.specs.Columns.{AreTileColumns};
+ghost use Rattle.frame_decoder.specs.Past.{IsPastOf};
+ghost use Rattle.frame_decoder.specs.Code.{counts_if, sources_of, tile_of, walk_of, read_whole, ArePlanes, HoldsRead, IsReady, SameColumns, GivesRead, GivesTile, GivesWhole};
 ghost use Rattle.frame_decoder.specs.Frames.{read_all_tiles};
 ghost use Rattle.frame_decoder.specs.Reading.{FrameRead, nothing_read, read_tile_of};
 
 use crate::columns::{BlockRoom, TileColumn};
+use crate::sources::FrameSources;
 use crate::squares::decode_superblock;
 use crate::tile_places::TilePlaces;
 use counting_reader::CountingReader;
 use frame_headers::tile_span;
-use frame_setting::FrameSetting;
 use mode_syntax::SquareAt;
 use planes::FramePlanes;
 use prob_contexts::Counts;
@@ -39,22 +40,23 @@ fn superblocks(from: u32, to: u32) -> u32
 
 /// A row of superblocks, from the first one on.
 fn decode_row<const COUNTS: bool>(
-    setting: &FrameSetting,
+    by: &FrameSources<'_>,
     reader: &mut CountingReader<COUNTS>,
     column: &mut TileColumn,
     planes: &mut FramePlanes,
     room: &mut BlockRoom,
     first: SquareAt,
 ) -> Result<(), Rule>
-    requires ready { IsReady setting.now column.old planes.old }
+    requires ready { IsReady by.now.setting column.old planes.old }
+    requires past { IsPastOf by.now.setting.header by.now.past }
     requires begin { first.col ≡ first.tile_from }
     requires level { first.level ≡ 3 }
     requires from { first.tile_from ≡ column.old.grid.from }
     requires to { first.tile_to ≡ column.old.grid.to }
     requires room { 64 * superblocks_along (column.old.grid.to - column.old.grid.from) ≤ column.old.grid.room }
-    ensures gives { GivesTile (decode_row (walk_of setting.now column.old) first.row first.tile_from (superblocks_along (first.tile_to - first.tile_from)) (tile_of column.old planes.old))
+    ensures gives { GivesTile (decode_row (walk_of by.now column.old) first.row first.tile_from (superblocks_along (first.tile_to - first.tile_from)) (tile_of column.old planes.old))
         reader.old result column.new planes.new reader.new }
-    ensures ready { OnOk result (IsReady setting.now column.new planes.new) }
+    ensures ready { OnOk result (IsReady by.now.setting column.new planes.new) }
     ensures same { OnOk result (SameColumns column.old column.new) }
     ensures room { OnOk result (column.old.grid.room ≤ column.new.grid.room + 64 * superblocks_along (column.old.grid.to - column.old.grid.from)) }
 {
@@ -64,29 +66,30 @@ fn decode_row<const COUNTS: bool>(
             col: first.col + SIDE * i,
             ..first
         };
-        decode_superblock(setting, reader, column, planes, room, at)?;
+        decode_superblock(by, reader, column, planes, room, at)?;
     }
     Ok(())
 }
 
 /// All rows of superblocks of a tile.
 fn decode_rows<const COUNTS: bool>(
-    setting: &FrameSetting,
+    by: &FrameSources<'_>,
     reader: &mut CountingReader<COUNTS>,
     column: &mut TileColumn,
     planes: &mut FramePlanes,
     room: &mut BlockRoom,
     tile: &TilePlaces,
 ) -> Result<(), Rule>
-    requires ready { IsReady setting.now column.old planes.old }
+    requires ready { IsReady by.now.setting column.old planes.old }
+    requires past { IsPastOf by.now.setting.header by.now.past }
     requires from { tile.now.col_from ≡ column.old.grid.from }
     requires to { tile.now.col_to ≡ column.old.grid.to }
     requires order { tile.now.row_from ≤ tile.now.row_to }
     requires low { tile.now.row_to ≤ 8192 }
     requires room { 64 * (superblocks_along (column.old.grid.to - column.old.grid.from) * superblocks_along (tile.now.row_to - tile.now.row_from)) ≤ column.old.grid.room }
-    ensures gives { GivesTile (decode_tile (walk_of setting.now column.old) (superblocks_along (tile.now.col_to - tile.now.col_from)) tile.now.row_from tile.now.col_from (superblocks_along (tile.now.row_to - tile.now.row_from)) (tile_of column.old planes.old))
+    ensures gives { GivesTile (decode_tile (walk_of by.now column.old) (superblocks_along (tile.now.col_to - tile.now.col_from)) tile.now.row_from tile.now.col_from (superblocks_along (tile.now.row_to - tile.now.row_from)) (tile_of column.old planes.old))
         reader.old result column.new planes.new reader.new }
-    ensures ready { OnOk result (IsReady setting.now column.new planes.new) }
+    ensures ready { OnOk result (IsReady by.now.setting column.new planes.new) }
     ensures same { OnOk result (SameColumns column.old column.new) }
     ensures room { OnOk result (column.old.grid.room ≤ column.new.grid.room + 64 * (superblocks_along (column.old.grid.to - column.old.grid.from) * superblocks_along (tile.now.row_to - tile.now.row_from))) }
 {
@@ -99,7 +102,7 @@ fn decode_rows<const COUNTS: bool>(
             tile_from: tile.col_from,
             tile_to: tile.col_to,
         };
-        decode_row(setting, reader, column, planes, room, first)?;
+        decode_row(by, reader, column, planes, room, first)?;
     }
     Ok(())
 }
@@ -108,80 +111,83 @@ fn decode_rows<const COUNTS: bool>(
 #[tactic(auto, unfolding(crate::specs::Code::read_whole))]
 fn decode_tile<const COUNTS: bool>(
     bytes: &[u8],
-    setting: &FrameSetting,
+    by: &FrameSources<'_>,
     tile: &TilePlaces,
     column: &mut TileColumn,
     planes: &mut FramePlanes,
     counts: Counts,
 ) -> Result<Counts, Rule>
-    requires ready { IsReady setting.now column.old planes.old }
+    requires ready { IsReady by.now.setting column.old planes.old }
+    requires past { IsPastOf by.now.setting.header by.now.past }
     requires from { tile.now.col_from ≡ column.old.grid.from }
     requires to { tile.now.col_to ≡ column.old.grid.to }
     requires order { tile.now.row_from ≤ tile.now.row_to }
     requires low { tile.now.row_to ≤ 8192 }
     requires room { 64 * (superblocks_along (column.old.grid.to - column.old.grid.from) * superblocks_along (tile.now.row_to - tile.now.row_from)) ≤ column.old.grid.room }
-    ensures gives { GivesWhole COUNTS counts (read_whole (decode_tile (walk_of setting.now column.old) (superblocks_along (tile.now.col_to - tile.now.col_from)) tile.now.row_from tile.now.col_from (superblocks_along (tile.now.row_to - tile.now.row_from)) (tile_of column.old planes.old)) bytes.now)
+    ensures gives { GivesWhole COUNTS counts (read_whole (decode_tile (walk_of by.now column.old) (superblocks_along (tile.now.col_to - tile.now.col_from)) tile.now.row_from tile.now.col_from (superblocks_along (tile.now.row_to - tile.now.row_from)) (tile_of column.old planes.old)) bytes.now)
         result column.new planes.new }
-    ensures ready { OnOk result (IsReady setting.now column.new planes.new) }
+    ensures ready { OnOk result (IsReady by.now.setting column.new planes.new) }
     ensures same { OnOk result (SameColumns column.old column.new) }
     ensures room { OnOk result (column.old.grid.room ≤ column.new.grid.room + 64 * (superblocks_along (column.old.grid.to - column.old.grid.from) * superblocks_along (tile.now.row_to - tile.now.row_from))) }
 {
     let mut room = BlockRoom::new();
     let mut reader = CountingReader::<COUNTS>::start(bytes, counts)?;
-    decode_rows(setting, &mut reader, column, planes, &mut room, tile)?;
+    decode_rows(by, &mut reader, column, planes, &mut room, tile)?;
     Ok(reader.into_counts())
 }
 
 /// The `n`-th tile of a frame, from its bytes, with the counts so far; answers the counts behind it.
 fn decode_nth<const COUNTS: bool>(
     bytes: &[u8],
-    setting: &FrameSetting,
+    by: &FrameSources<'_>,
     n: u32,
     columns: &mut [TileColumn],
     planes: &mut FramePlanes,
     counts: Counts,
 ) -> Result<Counts, Rule>
-    requires few { AreFewTiles setting.now.header.params.tiles }
-    requires below { n < tile_count setting.now.header }
-    requires columns { AreTileColumns setting.now.header n columns.old }
-    requires planes { ArePlanes (shape_of setting.now.header) planes.old }
-    ensures gives { (read : FrameRead) → HoldsRead setting.now.header columns.old planes.old read → counts ≡ counts_if COUNTS read.counted
-        → GivesRead setting.now.header COUNTS (read_tile_of setting.now.header setting.now.modes (lists_of setting.now.contexts) n bytes.now read) result columns.new planes.new }
-    ensures columns { OnOk result (AreTileColumns setting.now.header (n + 1) columns.new) }
-    ensures planes { OnOk result (ArePlanes (shape_of setting.now.header) planes.new) }
+    requires past { IsPastOf by.now.setting.header by.now.past }
+    requires few { AreFewTiles by.now.setting.header.params.tiles }
+    requires below { n < tile_count by.now.setting.header }
+    requires columns { AreTileColumns by.now.setting.header n columns.old }
+    requires planes { ArePlanes (shape_of by.now.setting.header) planes.old }
+    ensures gives { (read : FrameRead) → HoldsRead (sources_of by.now) columns.old planes.old read → counts ≡ counts_if COUNTS read.counted
+        → GivesRead (sources_of by.now) COUNTS (read_tile_of (sources_of by.now) n bytes.now read) result columns.new planes.new }
+    ensures columns { OnOk result (AreTileColumns by.now.setting.header (n + 1) columns.new) }
+    ensures planes { OnOk result (ArePlanes (shape_of by.now.setting.header) planes.new) }
 {
-    let tiles = setting.header.params.tiles;
-    let tile = TilePlaces::new(setting.places, tiles, n);
+    let tiles = by.setting.header.params.tiles;
+    let tile = TilePlaces::new(by.setting.places, tiles, n);
     let column = &mut columns[(n % tiles.columns()) as usize];
     column.sides.clear_left();
-    decode_tile::<COUNTS>(bytes, setting, &tile, column, planes, counts)
+    decode_tile::<COUNTS>(bytes, by, &tile, column, planes, counts)
 }
 
 /// All tiles of a frame in order, whose compressed header lies at `compressed`. Their sizes are tested. Answers the counts of
 /// all of them, if counting is on.
 pub(crate) fn decode_tiles<const COUNTS: bool>(
     bytes: &[u8],
-    setting: &FrameSetting,
+    by: &FrameSources<'_>,
     compressed: Span,
     columns: &mut [TileColumn],
     planes: &mut FramePlanes,
 ) -> Result<Counts, Rule>
-    requires few { AreFewTiles setting.now.header.params.tiles }
+    requires past { IsPastOf by.now.setting.header by.now.past }
+    requires few { AreFewTiles by.now.setting.header.params.tiles }
     requires within { compressed.to ≤ length bytes.now }
-    requires tested { IsOk (tile_spans bytes.now setting.now.header compressed) }
-    requires columns { AreTileColumns setting.now.header 0 columns.old }
-    requires planes { ArePlanes (shape_of setting.now.header) planes.old }
-    requires start { HoldsRead setting.now.header columns.old planes.old (nothing_read setting.now.header) }
-    ensures gives { GivesRead setting.now.header COUNTS (read_all_tiles setting.now.header setting.now.modes (lists_of setting.now.contexts) bytes.now compressed)
+    requires tested { IsOk (tile_spans bytes.now by.now.setting.header compressed) }
+    requires columns { AreTileColumns by.now.setting.header 0 columns.old }
+    requires planes { ArePlanes (shape_of by.now.setting.header) planes.old }
+    requires start { HoldsRead (sources_of by.now) columns.old planes.old (nothing_read by.now.setting.header) }
+    ensures gives { GivesRead (sources_of by.now) COUNTS (read_all_tiles (sources_of by.now) bytes.now compressed)
         result columns.new planes.new }
-    ensures columns { OnOk result (AreTileColumns setting.now.header (tile_count setting.now.header) columns.new) }
-    ensures planes { OnOk result (ArePlanes (shape_of setting.now.header) planes.new) }
+    ensures columns { OnOk result (AreTileColumns by.now.setting.header (tile_count by.now.setting.header) columns.new) }
+    ensures planes { OnOk result (ArePlanes (shape_of by.now.setting.header) planes.new) }
 {
     let mut counts = Counts::new();
-    for n in 0..setting.header.params.tiles.count() {
-        let span = tile_span(bytes, &setting.header, compressed, n);
+    for n in 0..by.setting.header.params.tiles.count() {
+        let span = tile_span(bytes, &by.setting.header, compressed, n);
         let tile = &bytes[span.from..span.to];
-        counts = decode_nth::<COUNTS>(tile, setting, n, columns, planes, counts)?;
+        counts = decode_nth::<COUNTS>(tile, by, n, columns, planes, counts)?;
     }
     Ok(counts)
 }

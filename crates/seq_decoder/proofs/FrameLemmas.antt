@@ -1,5 +1,5 @@
 -- What a frame adds.
-use Rattle.std.proofs.Common.{◌≡◌, ℕ, zero, suc, List, [], ◌∷◌, true, false, ap, sym, subst, refl, ◌∙◌, arith}
+use Rattle.std.proofs.Common.{◌≡◌, ℕ, zero, suc, List, [], ◌∷◌, true, ap, sym, subst, refl, ◌∙◌, arith}
 use Rattle.std.specs.Prelude.{All, Bool, IfSome, Option, Some, None, Result, Ok, Err, ◌<◌, get_or, length, map, slice_get}
 use Rattle.std.proofs.lemmas.List.Elements.{All-head, All-tail}
 use Rattle.std.proofs.lemmas.Option.{slice_get_within}
@@ -7,16 +7,12 @@ use Rattle.edge_io.specs.Putting.{Takes, TakesFront}
 use Rattle.edge_io.specs.declared.sink.PutFault.{PutFault}
 use Rattle.edge_io.specs.declared.sink.PutFault.TheVariants as refused
 use Rattle.edge_io.proofs.Fronts.{takes_none}
-use Rattle.vp9_types.specs.declared.outcome.Fault.{Fault}
-use Rattle.vp9_types.specs.declared.outcome.Fault.TheVariants as fault
+use Rattle.vp9_types.specs.declared.rule.Rule.{Rule}
 use Rattle.vp9_types.specs.Maps.{FrameMap}
-use Rattle.vp9_types.specs.declared.job.Span.{Span}
 use Rattle.vp9_types.specs.declared.shape.Shape.{Shape}
 use Rattle.frame_headers.specs.declared.header.Header.{Header}
 use Rattle.frame_headers.proofs.SlotLemmas.{refreshed_told}
 use Rattle.frame_headers.specs.State.{SlotsHaveSizes, refreshed, shape_of}
-use Rattle.frame_headers.specs.declared.header.FrameKind.{FrameKind}
-use Rattle.frame_headers.specs.declared.header.FrameKind.TheVariants.{Key, IntraOnly, Inter}
 use Rattle.frame_headers.specs.declared.header.FrameSize.{FrameSize}
 use Rattle.frame_headers.specs.declared.persist.Persist.{Persist}
 use Rattle.frame_output.specs.Texts.{frame_text}
@@ -24,12 +20,12 @@ use Rattle.picture_table.specs.Code.{IsBelow, IsSound, IsSoundAt, IsTable, Names
 use Rattle.picture_table.specs.declared.table.PictureTable.{PictureTable}
 use Rattle.prob_contexts.specs.Lists.{ContextLists}
 use Rattle.planes.specs.declared.picture.Picture as planes
-use Rattle.frame_decoder.specs.Frames.{FrameResult, decoded}
+use Rattle.frame_decoder.specs.Frames.{FrameResult}
 use Rattle.frame_decoder.specs.declared.halt.Halt.{Halt}
 use Rattle.frame_decoder.specs.declared.halt.Halt.TheVariants as halt
-use Rattle.seq_decoder.specs.After.{Stepped, after_coded, input_of, picture_of, shown_picture, state_after}
-use Rattle.seq_decoder.specs.SavedContexts.{context_at, is_key, own_contexts, place_of, saved_before, with_own, saved_after}
-use Rattle.seq_decoder.specs.Code.{saved_lists, StandsFor, shown_text, step_text, shown_of, text_if, IsAt, IsCoded, Shows, Halts, halt_outcome, refusal_outcome}
+use Rattle.seq_decoder.specs.After.{Stepped, after_coded, picture_of, shown_picture, state_after}
+use Rattle.seq_decoder.specs.SavedContexts.{context_at, own_contexts, place_of, saved_before, with_own, saved_after}
+use Rattle.seq_decoder.specs.Code.{StandsFor, shape_told, shown_text, step_text, shown_of, text_if, IsAt, IsCoded, Shows, Halts, halt_outcome, refusal_outcome}
 use Rattle.seq_decoder.specs.Outcomes.{outcome_at}
 use Rattle.seq_decoder.specs.State.{Picture, State}
 use Rattle.seq_decoder.specs.declared.coding.Coded.{Coded}
@@ -38,22 +34,21 @@ use Rattle.seq_decoder.proofs.ShowingLemmas.{text_is}
 
 ---- A frame that can't be decoded, or written ----
 
-pub fault_halts : (number : ℕ) (stepped : Result Stepped Fault) (fault : Fault) (old : Option (List ℕ)) (faults : ℕ) → stepped ≡ Err fault → Halts number stepped old old faults faults (outcome_at number fault)
-fault_halts number stepped (fault.Broken rule) old faults is = record { ends = is; frame = refl; none = takes_none old; quiet = refl }
-fault_halts number stepped (fault.Unbuilt part) old faults is = record { ends = is; frame = refl; none = takes_none old; quiet = refl }
+pub rule_halts : (number : ℕ) (stepped : Result Stepped Rule) (rule : Rule) (old : Option (List ℕ)) (faults : ℕ) → stepped ≡ Err rule → Halts number stepped old old faults faults (outcome_at number rule)
+rule_halts number stepped rule old faults is = record { ends = is; frame = refl; none = takes_none old; quiet = refl }
 
 -- for want of memory, before anything is written
-pub wants_memory : (number : ℕ) (stepped : Result Stepped Fault) (old : Option (List ℕ)) (faults : ℕ) → Halts number stepped old old faults faults (halt_outcome number halt.OutOfMemory)
+pub wants_memory : (number : ℕ) (stepped : Result Stepped Rule) (old : Option (List ℕ)) (faults : ℕ) → Halts number stepped old old faults faults (halt_outcome number halt.OutOfMemory)
 wants_memory number stepped old faults = ((0, omega arith, takes_none old), refl)
 
 -- at a frame that can't be decoded
-pub frame_halted : (number : ℕ) (state : State) (header : Header) (d : Result FrameResult Fault) (h : Halt) (table : PictureTable) (old : Option (List ℕ)) (faults : ℕ) → IsCoded header d table (Err h)
+pub frame_halted : (number : ℕ) (state : State) (header : Header) (d : Result FrameResult Rule) (h : Halt) (table : PictureTable) (old : Option (List ℕ)) (faults : ℕ) → IsCoded header d table (Err h)
     → Halts number (after_coded number state header d) old old faults faults (halt_outcome number h)
-frame_halted number state header d (halt.Fault fault) table old faults is = fault_halts number (after_coded number state header d) fault old faults (ap (after_coded number state header) is)
+frame_halted number state header d (halt.Broken rule) table old faults is = rule_halts number (after_coded number state header d) rule old faults (ap (after_coded number state header) is)
 frame_halted number state header d halt.OutOfMemory table old faults is = wants_memory number (after_coded number state header d) old faults
 
 -- at a frame that the sink refuses
-pub refused_at : (number : ℕ) (stepped : Result Stepped Fault) (next : Stepped) (old new : Option (List ℕ)) (faults now : ℕ) (refusal : PutFault) → stepped ≡ Ok next
+pub refused_at : (number : ℕ) (stepped : Result Stepped Rule) (next : Stepped) (old new : Option (List ℕ)) (faults now : ℕ) (refusal : PutFault) → stepped ≡ Ok next
     → Shows (shown_text next.shown) old new faults now (Err refusal) → Halts number stepped old new faults now (refusal_outcome refusal)
 refused_at number stepped next old new faults now refused.Failed is k = (subst (λ s. TakesFront old new (step_text s)) (sym is) k.0, k.1)
 refused_at number stepped next old new faults now refused.OutOfMemory is k = (subst (λ s. TakesFront old new (step_text s)) (sym is) k.0, k.1)
@@ -85,14 +80,20 @@ slots_after number state header c result table new at same pictures slots =
     ∙ ap (refreshed header.refresh told) same
     ∙ sym (refreshed_told shown_of state.slots header.refresh (picture_of number header result) told refl)
 
+-- their shapes are those that headers read
+pub shapes_after : (header : Header) (c : Coded) (result : FrameResult) (table new : PictureTable) (slots : List (Option Shape)) → IsAt header table c result
+    → map shape_told (held table) ≡ slots → new.pictures ≡ table.pictures → new.slots ≡ refreshed header.refresh c.place table.slots
+    → map shape_told (held new) ≡ refreshed header.refresh (shape_of header) slots
+shapes_after header c result table new slots at same pictures is =
+    let told : Shape × FrameMap = (shape_of header, result.map) in
+    ap (map shape_told)
+    ((λ i. map (held_in (pictures i).items) (is i)) ∙ refreshed_told (held_in table.pictures.items) table.slots header.refresh c.place told (shown_at header table c result at))
+    ∙ refreshed_told shape_told (held table) header.refresh told (shape_of header) refl
+    ∙ ap (refreshed header.refresh (shape_of header)) same
+
 -- the place of a frame is there
 pub place_there : (header : Header) (table : PictureTable) (c : Coded) (result : FrameResult) → IsAt header table c result → c.place < length table.pictures.items
 place_there header table c result at = slice_get_within table.pictures.items c.place at.picture at.there
-
-pub not_key : (kind : FrameKind) → (kind ≡ Key → ⊥) → false ≡ is_key kind
-not_key Key other = absurd (other refl)
-not_key IntraOnly other = refl
-not_key (Inter fields) other = refl
 
 pub sized_of : (p : Persist) (size : Option FrameSize) → SlotsHaveSizes (record p { size = size }) → SlotsHaveSizes p
 unfolding SlotsHaveSizes
@@ -109,15 +110,10 @@ unfolding saved_after
 contexts_after header r after_key saved new found own before is_new is_own is_before is_found =
     is_new ∙ (λ i. with_own header (is_own i) (is_found i)) ∙ ap (λ b. with_own header (own_contexts header after_key r b) (saved_before header saved)) (is_before ∙ ap (λ f. context_at f (place_of header)) is_found)
 
--- a frame that is decoded from the code's contexts is decoded so in the state
-pub decoded_in : (d : Decoder) (state : State) (bytes : List ℕ) (header : Header) (compressed : Span) (r : Result FrameResult Fault) → StandsFor d state
-    → decoded (input_of (saved_lists d.saved) bytes header compressed) ≡ r → decoded (input_of state.contexts bytes header compressed) ≡ r
-decoded_in d state bytes header compressed r stands is = ap (λ saved. decoded (input_of saved bytes header compressed)) (sym stands.contexts) ∙ is
-
 ---- A slot that is shown ----
 
 -- what the code holds in a slot is what the state holds there
-slot_told : (xs : List (Option Picture)) (slots : List (Option ℕ)) (pictures : List planes.Picture) (n : ℕ) → map (held_in pictures) slots ≡ map shown_of xs
+pub slot_told : (xs : List (Option Picture)) (slots : List (Option ℕ)) (pictures : List planes.Picture) (n : ℕ) → map (held_in pictures) slots ≡ map shown_of xs
     → held_in pictures (get_or slots n None) ≡ shown_of (get_or xs n None)
 slot_told [] [] pictures n same = refl
 slot_told [] (s ∷ slots) pictures n same = absurd cc
@@ -157,7 +153,7 @@ got_there (p ∷ pictures) (suc place) d low = got_there pictures place d (omega
 pub shown_place : (t : PictureTable) (n place : ℕ) → IsTable t → get_or t.slots n None ≡ Some place → place < length t.pictures.items
 shown_place t n place h is = named_there (length t.pictures.items) t.slots n place h.within is
 
-is_at : (t : PictureTable) (n place : ℕ) (got : planes.Picture) → IsTable t → get_or t.slots n None ≡ Some place → got ≡ get_or t.pictures.items place got → slice_get t.pictures.items place ≡ Some got
+pub is_at : (t : PictureTable) (n place : ℕ) (got : planes.Picture) → IsTable t → get_or t.slots n None ≡ Some place → got ≡ get_or t.pictures.items place got → slice_get t.pictures.items place ≡ Some got
 is_at t n place got h is same = got_there t.pictures.items place got (shown_place t n place h is) ∙ ap (λ p. Some p) (sym same)
 
 pub shown_sound : (t : PictureTable) (n place : ℕ) (got : planes.Picture) → IsTable t → get_or t.slots n None ≡ Some place → got ≡ get_or t.pictures.items place got → IsSound got

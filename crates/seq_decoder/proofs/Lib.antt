@@ -3,3 +3,5 @@ pub mod ShowingLemmas
 pub mod FrameLemmas
 pub mod RunLemmas
 pub mod SegmentLemmas
+pub mod HeaderReferences
+pub mod PastLemmas

@@ -6,8 +6,7 @@ use Rattle.std.proofs.lemmas.List.{append-nil}
 use Rattle.std.proofs.lemmas.Grind.{flat_map-append}
 use Rattle.edge_io.specs.Putting.{Takes, TakesFront}
 use Rattle.edge_io.proofs.Fronts.{takes_none, takes_both, front_of}
-use Rattle.vp9_types.specs.declared.outcome.Fault.{Fault}
-use Rattle.vp9_types.specs.declared.outcome.Fault.TheVariants as fault
+use Rattle.vp9_types.specs.declared.rule.Rule.{Rule}
 use Rattle.vp9_types.specs.declared.outcome.Outcome.{Outcome}
 use Rattle.vp9_types.specs.declared.outcome.Outcome.TheVariants as outcome
 use Rattle.vp9_types.specs.declared.outcome.Stop.{Stop}
@@ -16,7 +15,7 @@ use Rattle.file_frames.specs.FileFrames.{frames_of_file}
 use Rattle.file_frames.specs.Walks.{walk}
 use Rattle.file_frames.proofs.Walks.{sets_out, goes_by, ends_at, arrives, breaks}
 use Rattle.seq_decoder.specs.After.{Stepped, step}
-use Rattle.seq_decoder.specs.Code.{shown_text, step_text, Faults, Halts}
+use Rattle.seq_decoder.specs.Code.{shown_text, step_text, Breaks, Halts}
 use Rattle.seq_decoder.specs.Outcomes.{Completes, WritesFront, Decodes}
 use Rattle.seq_decoder.specs.Runs.{shown_list, added, decoding, run_of, picture_text, out_text}
 use Rattle.seq_decoder.specs.State.{Picture, State, start_state}
@@ -52,7 +51,7 @@ frame_written bytes frame number state a rest next old mid new faults then now i
   quiet = quiet ∙ h.quiet;
 }
 
-completes : (bytes : List ℕ) (shown : List Picture) (ending : Option (ℕ × Fault)) (old new : Option (List ℕ)) (faults now : ℕ)
+completes : (bytes : List ℕ) (shown : List Picture) (ending : Option (ℕ × Rule)) (old new : Option (List ℕ)) (faults now : ℕ)
     → walk decoding (frames_of_file bytes) ≡ record { adds = shown; ending = ending } → Takes old new (flat_map picture_text shown) → now ≡ faults → Completes (run_of bytes) old new faults now ending
 unfolding run_of
 completes bytes shown ending old new faults now is takes quiet = record {
@@ -70,14 +69,14 @@ run_done bytes state a old new faults now is h = completes bytes h.shown None ol
 pub run_broken : (bytes : List ℕ) (state : State) (a : Ahead) (stop : Stop) (old new : Option (List ℕ)) (faults now : ℕ) → a ≡ record { number = stop.frame; frames = []; ending = Some stop.rule }
     → HasWritten bytes state a old new faults now → Decodes (run_of bytes) old new faults now (outcome.Broken stop)
 run_broken bytes state a stop old new faults now is h =
-    completes bytes h.shown (Some (stop.frame, fault.Broken stop.rule)) old new faults now (breaks decoding bytes h.shown state a stop.frame stop.rule h.way is) h.takes h.quiet
+    completes bytes h.shown (Some (stop.frame, stop.rule)) old new faults now (breaks decoding bytes h.shown state a stop.frame stop.rule h.way is) h.takes h.quiet
 
-fault_in_run : (bytes frame : List ℕ) (number : ℕ) (state : State) (a rest : Ahead) (old mid new : Option (List ℕ)) (faults then now : ℕ) (at : ℕ) (fault : Fault)
-    → IsFrame a number frame rest → HasWritten bytes state a old mid faults then → Faults number (step number state frame) mid new then now at fault
-    → Completes (run_of bytes) old new faults now (Some (at, fault))
-fault_in_run bytes frame number state a rest old mid new faults then now at fault is h f =
-    completes bytes h.shown (Some (at, fault)) old new faults now
-    (ends_at decoding bytes h.shown state a rest number frame fault h.way is (ap added f.ends) ∙ ap (λ n. record { adds = h.shown; ending = Some (n, fault) }) (sym f.frame))
+rule_in_run : (bytes frame : List ℕ) (number : ℕ) (state : State) (a rest : Ahead) (old mid new : Option (List ℕ)) (faults then now : ℕ) (at : ℕ) (rule : Rule)
+    → IsFrame a number frame rest → HasWritten bytes state a old mid faults then → Breaks number (step number state frame) mid new then now at rule
+    → Completes (run_of bytes) old new faults now (Some (at, rule))
+rule_in_run bytes frame number state a rest old mid new faults then now at rule is h f =
+    completes bytes h.shown (Some (at, rule)) old new faults now
+    (ends_at decoding bytes h.shown state a rest number frame rule h.way is (ap added f.ends) ∙ ap (λ n. record { adds = h.shown; ending = Some (n, rule) }) (sym f.frame))
     (subst (Takes old new) (append-nil (flat_map picture_text h.shown)) (takes_both old mid new (flat_map picture_text h.shown) [] h.takes f.none))
     (f.quiet ∙ h.quiet)
 
@@ -88,7 +87,7 @@ front_of_run bytes text old mid new shown more is takes front =
     (f.0, f.2)
 
 -- where a front of the frame's text was taken, a front of the run's was
-front_in_run : (bytes frame : List ℕ) (number : ℕ) (state : State) (a rest : Ahead) (old mid new : Option (List ℕ)) (faults then : ℕ) (r : Result Stepped Fault)
+front_in_run : (bytes frame : List ℕ) (number : ℕ) (state : State) (a rest : Ahead) (old mid new : Option (List ℕ)) (faults then : ℕ) (r : Result Stepped Rule)
     → IsFrame a number frame rest → HasWritten bytes state a old mid faults then → step number state frame ≡ r → TakesFront mid new (step_text r) → WritesFront (run_of bytes) old new
 unfolding run_of
 front_in_run bytes frame number state a rest old mid new faults then (Ok next) is h stepped front =
@@ -98,9 +97,9 @@ front_in_run bytes frame number state a rest old mid new faults then (Ok next) i
     (ap (λ w. flat_map picture_text w.adds) way ∙ flat_map-append picture_text (h.shown ++ shown_list next.shown) more.adds
     ∙ ap (λ t. t ++ flat_map picture_text more.adds) (flat_map-append picture_text h.shown (shown_list next.shown) ∙ ap (λ t. flat_map picture_text h.shown ++ t) (text_of_list next.shown)))
     h.takes front
-front_in_run bytes frame number state a rest old mid new faults then (Err fault) is h stepped front =
+front_in_run bytes frame number state a rest old mid new faults then (Err rule) is h stepped front =
     front_of_run bytes [] old mid new h.shown []
-    (ap (λ w. flat_map picture_text w.adds) (ends_at decoding bytes h.shown state a rest number frame fault h.way is (ap added stepped))
+    (ap (λ w. flat_map picture_text w.adds) (ends_at decoding bytes h.shown state a rest number frame rule h.way is (ap added stepped))
     ∙ sym (append-nil (flat_map picture_text h.shown)) ∙ sym (append-nil (flat_map picture_text h.shown ++ [])))
     h.takes front
 
@@ -108,8 +107,7 @@ front_in_run bytes frame number state a rest old mid new faults then (Err fault)
 pub frame_halts : (bytes frame : List ℕ) (number : ℕ) (state : State) (a rest : Ahead) (old mid new : Option (List ℕ)) (faults then now : ℕ) (o : Outcome)
     → IsFrame a number frame rest → HasWritten bytes state a old mid faults then → Halts number (step number state frame) mid new then now o → Decodes (run_of bytes) old new faults now o
 frame_halts bytes frame number state a rest old mid new faults then now outcome.Done is h f = absurd f
-frame_halts bytes frame number state a rest old mid new faults then now (outcome.Broken stop) is h f = fault_in_run bytes frame number state a rest old mid new faults then now stop.frame (fault.Broken stop.rule) is h f
-frame_halts bytes frame number state a rest old mid new faults then now (outcome.Unbuilt at part) is h f = fault_in_run bytes frame number state a rest old mid new faults then now at (fault.Unbuilt part) is h f
+frame_halts bytes frame number state a rest old mid new faults then now (outcome.Broken stop) is h f = rule_in_run bytes frame number state a rest old mid new faults then now stop.frame stop.rule is h f
 frame_halts bytes frame number state a rest old mid new faults then now outcome.WriteFault is h f =
     (subst (λ k. k < now) h.quiet f.1, front_in_run bytes frame number state a rest old mid new faults then (step number state frame) is h refl f.0)
 frame_halts bytes frame number state a rest old mid new faults then now outcome.OutOfMemory is h f =

@@ -1,31 +1,31 @@
 -- What the code keeps, and what the calls answer.
-use Rattle.std.specs.Prelude.{◌≡◌, ℕ, ◌+◌, ◌/◌, ◌≤◌, ◌<◌, Bool, List, [], map, Option, Some, None, Result, Ok, Err, false, length, slice_get, if◌then◌else◌}
+use Rattle.std.specs.Prelude.{◌≡◌, ℕ, ◌+◌, ◌/◌, ◌≤◌, ◌<◌, Bool, List, [], map, Option, Some, None, Result, Ok, Err, false, length, slice_get, slice_index_or, if◌then◌else◌}
 use Rattle.edge_io.specs.Putting.{Takes, TakesFront}
 use Rattle.edge_io.specs.declared.sink.PutFault.{PutFault}
 use Rattle.edge_io.specs.declared.sink.PutFault.TheVariants as refused
 use Rattle.vp9_types.specs.declared.job.Span.{Span}
 use Rattle.vp9_types.specs.Maps.{FrameMap, Map}
-use Rattle.vp9_types.specs.declared.outcome.Fault.{Fault}
-use Rattle.vp9_types.specs.declared.outcome.Fault.TheVariants as fault
+use Rattle.vp9_types.specs.declared.rule.Rule.{Rule}
 use Rattle.vp9_types.specs.declared.outcome.Outcome.{Outcome}
 use Rattle.vp9_types.specs.declared.outcome.Outcome.TheVariants as outcome
 use Rattle.vp9_types.specs.declared.shape.Shape.{Shape}
-use Rattle.frame_headers.specs.declared.header.FrameHead.{FrameHead}
-use Rattle.frame_headers.specs.declared.header.FrameHead.TheVariants as head
+use Rattle.frame_headers.specs.declared.header.FrameKind.{FrameKind}
+use Rattle.frame_headers.specs.declared.header.FrameKind.TheVariants.{Key, IntraOnly, Inter}
 use Rattle.frame_headers.specs.declared.header.FrameSize.{FrameSize}
+use Rattle.frame_headers.specs.declared.header.Reference.{Reference}
+use Rattle.inter_contexts.specs.References.{reference_in}
+use Rattle.vp9_types.specs.declared.block.ReferenceFrame.{ReferenceFrame}
 use Rattle.frame_headers.specs.declared.header.Header.{Header}
-use Rattle.frame_headers.specs.Sizes.{IsFrameSize}
 use Rattle.frame_headers.specs.State.{SlotsHaveSizes}
-use Rattle.frame_headers.specs.Tiles.{AreFewTiles}
 use Rattle.prob_contexts.specs.Lists.{ContextLists, lists_of}
 use Rattle.segment_map.specs.Segments.{SegmentIds, id_map}
 use Rattle.picture_table.specs.Code.{held, names, IsTable}
 use Rattle.picture_table.specs.declared.table.PictureTable.{PictureTable}
 use Rattle.planes.specs.Pictures.{map_of}
 use Rattle.planes.specs.declared.picture.Picture as planes
-use Rattle.frame_decoder.specs.Built.{first_unbuilt}
+use Rattle.frame_decoder.specs.Columns.{blocks_of}
 use Rattle.frame_decoder.specs.Code.{HoldsResult}
-use Rattle.frame_decoder.specs.Frames.{FrameResult}
+use Rattle.frame_decoder.specs.Frames.{FrameResult, all_blocks}
 use Rattle.frame_decoder.specs.declared.halt.Halt.{Halt}
 use Rattle.frame_decoder.specs.declared.halt.Halt.TheVariants as halt
 use Rattle.frame_output.specs.Texts.{frame_text}
@@ -35,8 +35,10 @@ use Rattle.seq_decoder.specs.declared.saved.SavedContexts.{SavedContexts}
 use Rattle.seq_decoder.specs.After.{Stepped, segments_before}
 use Rattle.seq_decoder.specs.Outcomes.{outcome_at}
 use Rattle.seq_decoder.specs.Runs.{picture_text}
-use Rattle.seq_decoder.specs.SavedContexts.{saved_before}
-use Rattle.seq_decoder.specs.State.{Picture, State, last_is_key, last_size, no_segments, persist_of}
+use Rattle.seq_decoder.specs.SavedContexts.{is_key, saved_before}
+use Rattle.seq_decoder.specs.State.{LastFrame, Picture, State, last_size, no_segments, persist_of}
+use Rattle.block_rebuild.specs.declared.references.ReferencePicture as code_picture
+use Rattle.seq_decoder.specs.declared.last.LastFrame as code_last
 
 ---- What the code keeps ----
 
@@ -64,22 +66,41 @@ HasPlaces None m = Unit {0}
 HasPlaces (Some size) None = ⊥
 HasPlaces (Some size) (Some m) = (m.rows ≡ (size.height + 7) / 8) × (m.cols ≡ (size.width + 7) / 8)
 
--- between two frames: a table of at most nine pictures, eight that slots hold and one to decode into, and a map of segments
--- of the last frame's places
+-- the shape of what a slot holds
+abbrev pub shape_told : Option (Shape × FrameMap) → Option Shape
+shape_told None = None
+shape_told (Some told) = Some told.0
+
+-- between two frames: a table of at most nine pictures, eight that slots hold and one to decode into, whose shapes are those
+-- that headers read, and a map of segments of the last frame's places
 pub record MayDecode (d : Decoder) : Type 0 where
   pub sized : SlotsHaveSizes d.persist
   pub table_is : IsTable d.table
+  pub shapes : map shape_told (held d.table) ≡ d.persist.slots
   pub few : length d.table.pictures.items ≤ 9
   pub places : HasPlaces d.persist.size d.segments
 
--- what the code holds of the state: what headers read, the saved contexts, what the slots hold, the segments, and whether the
--- last frame was a key frame
+-- what the code holds of the last decoded frame
+abbrev pub last_of_code : code_last.LastFrame → LastFrame
+last_of_code last = record {
+  size = last.header.size;
+  shown = last.header.show_frame;
+  key = is_key last.header.kind;
+  blocks = all_blocks (blocks_of last.columns.items);
+}
+
+abbrev pub last_held : Option code_last.LastFrame → Option LastFrame
+last_held None = None
+last_held (Some last) = Some (last_of_code last)
+
+-- what the code holds of the state: what headers read, the saved contexts, what the slots hold, the segments, and the last
+-- decoded frame
 pub record StandsFor (d : Decoder) (s : State) : Type 0 where
   pub persist : d.persist ≡ persist_of s
   pub contexts : saved_lists d.saved ≡ s.contexts
   pub slots : held d.table ≡ map shown_of s.slots
   pub segments : segments_held d.segments ≡ s.segments
-  pub key : d.after_key ≡ last_is_key s.last
+  pub last : last_held d.last ≡ s.last
 
 -- the same, for a frame that is decoded but not kept: it found the contexts and the segments so
 pub record HasBegun (header : Header) (d : Decoder) (s : State) : Type 0 where
@@ -87,14 +108,30 @@ pub record HasBegun (header : Header) (d : Decoder) (s : State) : Type 0 where
   pub contexts : saved_lists d.saved ≡ saved_before header s.contexts
   pub slots : held d.table ≡ map shown_of s.slots
   pub segments : segments_held d.segments ≡ segments_before header (last_size s.last) s.segments
-  pub key : d.after_key ≡ last_is_key s.last
+  pub last : last_held d.last ≡ s.last
+
+-- a slot that a header refers to holds a picture of the reference's shape, in the frame's format
+pub record IsHeld (header : Header) (slots : List (Option (Shape × FrameMap))) (r : Reference) : Type 0 where
+  pub told : Shape × FrameMap
+  pub there : slice_index_or slots r.slot None ≡ Some told
+  pub shape : told.0 ≡ r.shape
+  pub depth : told.0.depth ≡ header.color.depth
+
+abbrev pub NamesHeldBy : FrameKind → Header → List (Option (Shape × FrameMap)) → Type 0
+NamesHeldBy Key header slots = Unit {0}
+NamesHeldBy IntraOnly header slots = Unit {0}
+NamesHeldBy (Inter fields) header slots = (reference : ReferenceFrame) → IsHeld header slots (reference_in fields.references reference)
+
+-- what a picture that is referred to shows
+abbrev pub told_of : Option (code_picture.ReferencePicture planes.Picture) → Option (Shape × FrameMap)
+told_of None = None
+told_of (Some r) = Some (r.shape, map_of r.samples.now)
+
+-- each slot that a frame refers to
+abbrev pub NamesHeld : Header → List (Option (Shape × FrameMap)) → Type 0
+NamesHeld header slots = NamesHeldBy header.kind header slots
 
 ---- What the calls answer ----
-
--- a header that the decoder is built for, of a frame of so many bytes
-abbrev pub CanDecode : ℕ → FrameHead → Type 0
-CanDecode bytes (head.Coded header compressed) = IsFrameSize header.size × AreFewTiles header.params.tiles × LiesWithin bytes compressed × (first_unbuilt header ≡ None)
-CanDecode bytes (head.ShowExisting slot) = Unit {0}
 
 -- the text of a picture, if it is shown
 abbrev pub text_if : Bool → planes.Picture → List ℕ
@@ -107,10 +144,10 @@ pub record IsAt (header : Header) (table : PictureTable) (c : Coded) (result : F
   pub free : names c.place table.slots ≡ false
   pub holds : HoldsResult header picture c.decoded result
 
--- the frame is that, or the fault is that one. Want of memory has no cause, and no sink is asked here
-abbrev pub IsCoded : Header → Result FrameResult Fault → PictureTable → Result Coded Halt → Type 0
+-- the frame is that, or the rule is broken. Want of memory has no cause, and no sink is asked here
+abbrev pub IsCoded : Header → Result FrameResult Rule → PictureTable → Result Coded Halt → Type 0
 IsCoded header f table (Ok c) = (result : FrameResult) × (f ≡ Ok result) × IsAt header table c result
-IsCoded header f table (Err (halt.Fault fault)) = f ≡ Err fault
+IsCoded header f table (Err (halt.Broken rule)) = f ≡ Err rule
 IsCoded header f table (Err halt.OutOfMemory) = Unit {0}
 
 -- The text was put into a sink that didn't fail, or a front of it was. Its count of faults, before and now, rose exactly
@@ -121,7 +158,7 @@ Shows text old new faults now (Err refused.Failed) = TakesFront old new text × 
 Shows text old new faults now (Err refused.OutOfMemory) = TakesFront old new text × (now ≡ faults)
 
 abbrev pub halt_outcome : ℕ → Halt → Outcome
-halt_outcome frame (halt.Fault fault) = outcome_at frame fault
+halt_outcome frame (halt.Broken rule) = outcome_at frame rule
 halt_outcome frame halt.OutOfMemory = outcome.OutOfMemory
 
 abbrev pub refusal_outcome : PutFault → Outcome
@@ -133,27 +170,26 @@ abbrev pub shown_text : Option Picture → List ℕ
 shown_text None = []
 shown_text (Some picture) = picture_text picture
 
-abbrev pub step_text : Result Stepped Fault → List ℕ
+abbrev pub step_text : Result Stepped Rule → List ℕ
 step_text (Ok stepped) = shown_text stepped.shown
-step_text (Err fault) = []
+step_text (Err rule) = []
 
--- the frame has this fault, and nothing was written
-pub record Faults (number : ℕ) (stepped : Result Stepped Fault) (old new : Option (List ℕ)) (faults now : ℕ) (at : ℕ) (fault : Fault) : Type 0 where
-  pub ends : stepped ≡ Err fault
+-- the frame breaks this rule, and nothing was written
+pub record Breaks (number : ℕ) (stepped : Result Stepped Rule) (old new : Option (List ℕ)) (faults now : ℕ) (at : ℕ) (rule : Rule) : Type 0 where
+  pub ends : stepped ≡ Err rule
   pub frame : at ≡ number
   pub none : Takes old new []
   pub quiet : now ≡ faults
 
 -- the decode ends in this frame
-abbrev pub Halts : ℕ → Result Stepped Fault → Option (List ℕ) → Option (List ℕ) → ℕ → ℕ → Outcome → Type 0
+abbrev pub Halts : ℕ → Result Stepped Rule → Option (List ℕ) → Option (List ℕ) → ℕ → ℕ → Outcome → Type 0
 Halts number stepped old new faults now outcome.Done = ⊥
-Halts number stepped old new faults now (outcome.Broken stop) = Faults number stepped old new faults now stop.frame (fault.Broken stop.rule)
-Halts number stepped old new faults now (outcome.Unbuilt frame part) = Faults number stepped old new faults now frame (fault.Unbuilt part)
+Halts number stepped old new faults now (outcome.Broken stop) = Breaks number stepped old new faults now stop.frame stop.rule
 Halts number stepped old new faults now outcome.WriteFault = TakesFront old new (step_text stepped) × (faults < now)
 Halts number stepped old new faults now outcome.OutOfMemory = TakesFront old new (step_text stepped) × (now ≡ faults)
 Halts number stepped old new faults now outcome.ReadFault = ⊥
 
 -- the frame was decoded and written, and the decoder stands for the state behind it; or the decode ends in it
-abbrev pub Adds : ℕ → Result Stepped Fault → Decoder → Option (List ℕ) → Option (List ℕ) → ℕ → ℕ → Result (Unit {0}) Outcome → Type 0
+abbrev pub Adds : ℕ → Result Stepped Rule → Decoder → Option (List ℕ) → Option (List ℕ) → ℕ → ℕ → Result (Unit {0}) Outcome → Type 0
 Adds number stepped d old new faults now (Ok u) = (next : Stepped) × (stepped ≡ Ok next) × StandsFor d next.state × Takes old new (shown_text next.shown) × (now ≡ faults)
 Adds number stepped d old new faults now (Err o) = Halts number stepped old new faults now o

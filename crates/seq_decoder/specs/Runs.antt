@@ -1,33 +1,31 @@
 -- The run of a file: its frames, decoded one after another.
 use Rattle.std.specs.Prelude.{ℕ, List, [], ◌∷◌, Option, Some, None, Result, Ok, Err}
 use Rattle.std.specs.List.{flat_map}
-use Rattle.vp9_types.specs.declared.outcome.Fault.{Fault}
-use Rattle.vp9_types.specs.declared.outcome.Fault.TheVariants as fault
+use Rattle.vp9_types.specs.declared.rule.Rule.{Rule}
 use Rattle.file_frames.specs.FileFrames.{frames_of_file}
 use Rattle.file_frames.specs.Walks.{Added, Walk, Walked, walk}
 use Rattle.frame_output.specs.Texts.{frame_text}
 use Rattle.seq_decoder.specs.After.{Stepped, step}
 use Rattle.seq_decoder.specs.State.{Picture, State, start_state}
 
--- The shown frames in order; and the number of the first frame that breaks a rule or uses a part that isn't built, with that
--- fault, or None where the file ends.
+-- The shown frames in order; and the number of the first frame that breaks a rule, with that rule, or None where the file ends.
 abbrev pub Run : Type 0
-Run = Walked Picture Fault
+Run = Walked Picture Rule
 
 abbrev pub shown_list : Option Picture → List Picture
 shown_list None = []
 shown_list (Some picture) = picture ∷ []
 
-abbrev pub added : Result Stepped Fault → Result (Added State Picture) Fault
+abbrev pub added : Result Stepped Rule → Result (Added State Picture) Rule
 added (Ok stepped) = Ok (record { state = stepped.state; adds = shown_list stepped.shown })
-added (Err fault) = Err fault
+added (Err rule) = Err rule
 
 -- a frame adds what it shows
-abbrev pub decoding : Walk State Picture Fault
+abbrev pub decoding : Walk State Picture Rule
 decoding = record {
   start = start_state;
   step = λ number state frame. added (step number state frame);
-  broken = fault.Broken;
+  broken = λ rule. rule;
 }
 
 unfoldable pub run_of : List ℕ → Run

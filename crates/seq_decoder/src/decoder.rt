@@ -1,54 +1,55 @@
 //! The decoder between two frames.
 
-ghost use Rattle.std.specs.Prelude.{◌≡◌, ℕ, ◌<◌, Some, None, Ok, OnOk, get_or, length};
+ghost use Rattle.std.specs.Prelude.{◌≡◌, ℕ, ◌<◌, Some, None, Ok, IfOk, OnOk, get_or, length};
 ghost use Rattle.frame_headers.specs.Sizes.{IsFrameSize};
 ghost use Rattle.frame_headers.specs.Tiles.{AreFewTiles};
-ghost use Rattle.frame_decoder.specs.Built.{first_unbuilt};
 ghost use Rattle.frame_decoder.specs.Frames.{FrameResult, decoded};
+ghost use Rattle.picture_table.specs.Code.{held};
 ghost use Rattle.seq_decoder.specs.After.{Stepped, after_coded, input_of, state_after, step};
-ghost use Rattle.seq_decoder.specs.Code.{MayDecode, StandsFor, HasBegun, IsAt, LiesWithin, halt_outcome, refusal_outcome, Adds};
+ghost use Rattle.seq_decoder.specs.Code.{MayDecode, NamesHeld, StandsFor, HasBegun, IsAt, IsCoded, LiesWithin, halt_outcome, refusal_outcome, Adds};
 ghost use Rattle.seq_decoder.specs.Outcomes.{outcome_at};
 ghost use Rattle.seq_decoder.specs.State.{State, start_state};
 
-use crate::coding::{Coded, decode_coded, own_contexts, read_built};
+use crate::coding::{Coded, own_contexts};
+use crate::last::LastFrame;
+use crate::past::{after_key, pictures_for, place_in, vectors_before};
 use crate::saved::{SavedContexts, place_of};
-use crate::segments::{begin_segments, keep_segments};
+use crate::segments::{begin_segments, keep_segments, segments_of};
 use crate::showing::show;
 use edge_io::{PutFault, Sink};
 use file_frames::FileFrame;
-use frame_decoder::Halt;
-use frame_headers::{FrameHead, FrameKind, Header, Persist};
+use frame_decoder::{FramePast, Halt, decode_frame};
+use frame_headers::{FrameHead, Header, Persist, read};
 use picture_table::PictureTable;
+use planes::Picture;
 use segment_map::SegmentMap;
 use std::alloc::Global;
-use vp9_types::{Fault, Outcome, Span, Stop};
+use std::mem::replace;
+use vp9_types::{Outcome, Rule, Span, Stop};
 
 /// What is kept of the frames so far: what headers read, the saved contexts, the pictures, the map of segments that the
-/// last frame left, and whether that was a key frame.
+/// last frame left, and that frame's blocks.
 #[derive(Drop)]
 pub struct Decoder {
     pub persist: Persist,
     pub saved: SavedContexts,
     pub table: PictureTable,
     pub segments: Option<SegmentMap>,
-    pub after_key: bool,
+    pub last: Option<LastFrame>,
 }
 
-/// How a decode ends at a frame that can't be decoded.
-fn outcome_at(frame: u64, fault: Fault) -> Outcome
-    ensures { result ≡ outcome_at frame fault }
+/// How a decode ends at a frame that breaks a rule.
+fn outcome_at(frame: u64, rule: Rule) -> Outcome
+    ensures { result ≡ outcome_at frame rule }
 {
-    match fault {
-        Fault::Broken(rule) => Outcome::Broken(Stop { frame, rule }),
-        Fault::Unbuilt(part) => Outcome::Unbuilt { frame, part },
-    }
+    Outcome::Broken(Stop { frame, rule })
 }
 
 fn halt_outcome(frame: u64, halt: Halt) -> Outcome
     ensures { result ≡ halt_outcome frame halt }
 {
     match halt {
-        Halt::Fault(fault) => outcome_at(frame, fault),
+        Halt::Broken(rule) => outcome_at(frame, rule),
         Halt::OutOfMemory => Outcome::OutOfMemory,
     }
 }
@@ -59,17 +60,6 @@ fn refusal_outcome(refusal: PutFault) -> Outcome
     match refusal {
         PutFault::Failed => Outcome::WriteFault,
         PutFault::OutOfMemory => Outcome::OutOfMemory,
-    }
-}
-
-/// The place of what a slot holds, if it holds something.
-fn place_in(slots: &[Option<usize>; 8], slot: u8) -> Option<usize>
-    ensures { result ≡ get_or slots.now slot None }
-{
-    if slot < 8 {
-        slots[usize::from(slot)]
-    } else {
-        None
     }
 }
 
@@ -84,26 +74,65 @@ impl Decoder {
             saved: SavedContexts::new(),
             table: PictureTable::new(alloc),
             segments: None,
-            after_key: false,
+            last: None,
         }
     }
 
+    /// Decodes a frame into a picture that no slot holds, and makes the saved contexts and the segments those that the frame
+    /// starts with.
+    fn decode_picture(
+        &mut self,
+        alloc: Global,
+        bytes: &[u8],
+        header: &Header,
+        compressed: Span,
+    ) -> Result<Coded, Halt>
+        requires may { MayDecode self.old }
+        requires size { IsFrameSize header.now.size }
+        requires few { AreFewTiles header.now.params.tiles }
+        requires placed { LiesWithin (length bytes.now) compressed }
+        requires held { NamesHeld header.now (held self.old.table) }
+        ensures coded { (state : State) → StandsFor self.old state → IsCoded header.now (decoded (input_of state bytes.now header.now compressed)) self.new.table result }
+        ensures at { IfOk result (λ c. (r : FrameResult) × IsAt header.now self.new.table c r) }
+        ensures begun { OnOk result ((state : State) → StandsFor self.old state → HasBegun header.now self.new state) }
+        ensures may { OnOk result (MayDecode (record self.new { persist = record self.new.persist { size = Some header.now.size } })) }
+    {
+        begin_segments(alloc, header, self.persist.size, &mut self.segments)?;
+        self.saved.reset(header);
+        let before = self.saved.at(place_of(header));
+        let place = self.table.blank(alloc, header.shape())?;
+        let mut picture = replace(&mut self.table.pictures[place], Picture::none(alloc));
+        let past = FramePast {
+            contexts: &before,
+            segments: segments_of(&self.segments),
+            vectors: vectors_before(header, &self.last),
+            pictures: pictures_for(header, &self.table),
+        };
+        let decoded = decode_frame(alloc, bytes, header, compressed, past, &mut picture)?;
+        self.table.pictures[place] = picture;
+        Ok(Coded { decoded, place })
+    }
+
     /// Keeps what a frame leaves, for which the saved contexts and the segments are made those that it starts with.
-    fn keep(&mut self, header: &Header, coded: &Coded)
+    fn keep(&mut self, header: &Header, coded: Coded)
         requires size { IsFrameSize header.now.size }
         requires may { MayDecode (record self.old { persist = record self.old.persist { size = Some header.now.size } }) }
-        requires at { (r : FrameResult) × IsAt header.now self.old.table coded.now r }
-        ensures stands { (number : ℕ) (state : State) (r : FrameResult) → HasBegun header.now self.old state → IsAt header.now self.old.table coded.now r
+        requires at { (r : FrameResult) × IsAt header.now self.old.table coded r }
+        ensures stands { (number : ℕ) (state : State) (r : FrameResult) → HasBegun header.now self.old state → IsAt header.now self.old.table coded r
             → StandsFor self.new (state_after number state header.now r) }
         ensures may { MayDecode self.new }
     {
+        let Coded { decoded, place } = coded;
         let before = self.saved.at(place_of(header));
-        let own = own_contexts(header, &before, &coded.decoded, self.after_key);
+        let own = own_contexts(header, &before, &decoded, after_key(&self.last));
         self.saved.save(header, &own);
-        keep_segments(&mut self.segments, header, &coded.decoded.columns);
-        self.table.refresh(header.refresh, coded.place);
-        self.after_key = matches!(header.kind, FrameKind::Key);
+        keep_segments(&mut self.segments, header, &decoded.columns);
+        self.table.refresh(header.refresh, place);
         self.persist = header.next(&self.persist);
+        self.last = Some(LastFrame {
+            header: *header,
+            columns: decoded.columns,
+        });
     }
 
     /// Decodes a coded frame, and writes it if it is shown.
@@ -119,22 +148,16 @@ impl Decoder {
         requires size { IsFrameSize header.now.size }
         requires few { AreFewTiles header.now.params.tiles }
         requires placed { LiesWithin (length frame.bytes.now) compressed }
-        requires built { first_unbuilt header.now ≡ None }
+        requires held { NamesHeld header.now (held self.old.table) }
         requires sink { K.can_put sink.old }
         ensures adds { (state : State) → StandsFor self.old state → Adds frame.entry.number
-            (after_coded frame.entry.number state header.now (decoded (input_of state.contexts frame.entry.bytes.now header.now compressed))) self.new
+            (after_coded frame.entry.number state header.now (decoded (input_of state frame.entry.bytes.now header.now compressed))) self.new
             (K.taken sink.old) (K.taken sink.new) (K.faults sink.old) (K.faults sink.new) result }
         ensures may { OnOk result (MayDecode self.new) }
         ensures grows { K.grows sink.new ≡ K.grows sink.old }
         ensures again { K.faults sink.new ≡ K.faults sink.old → K.can_put sink.new }
     {
-        let (last, segments) = (self.persist.size, &mut self.segments);
-        match begin_segments(alloc, header, last, segments) {
-            Ok(()) => {}
-            Err(_) => return Err(Outcome::OutOfMemory),
-        }
-        let (saved, table) = (&mut self.saved, &mut self.table);
-        let coded = match decode_coded(alloc, frame.bytes, header, compressed, saved, table) {
+        let coded = match self.decode_picture(alloc, frame.bytes, header, compressed) {
             Ok(coded) => coded,
             Err(halt) => return Err(halt_outcome(frame.number, halt)),
         };
@@ -142,7 +165,7 @@ impl Decoder {
         if let Err(refusal) = show(alloc, header.show_frame, picture, sink) {
             return Err(refusal_outcome(refusal));
         }
-        self.keep(header, &coded);
+        self.keep(header, coded);
         Ok(())
     }
 
@@ -179,12 +202,12 @@ impl Decoder {
         ensures grows { K.grows sink.new ≡ K.grows sink.old }
         ensures again { K.faults sink.new ≡ K.faults sink.old → K.can_put sink.new }
     {
-        match read_built(frame.bytes, &self.persist) {
+        match read(frame.bytes, &self.persist) {
             Ok(FrameHead::Coded { header, compressed }) => {
                 self.decode_coded(alloc, frame, &header, compressed, sink)
             }
             Ok(FrameHead::ShowExisting { slot }) => self.show_slot(alloc, slot, sink),
-            Err(fault) => Err(outcome_at(frame.number, fault)),
+            Err(rule) => Err(outcome_at(frame.number, rule)),
         }
     }
 }

@@ -4,8 +4,9 @@ ghost use Rattle.std.specs.Prelude.{◌≡◌, List, ℕ, Ok};
 ghost use Rattle.vp9_types.specs.declared.job.Span.{Span};
 ghost use Rattle.frame_headers.specs.declared.header.FrameHead.TheVariants as head;
 ghost use Rattle.frame_headers.specs.declared.header.Header.{Header};
+ghost use Rattle.frame_headers.specs.Header.{head_of};
 ghost use Rattle.frame_headers.specs.State.{next_persist, start_persist};
-ghost use Rattle.seq_decoder.specs.After.{Stepped, built_head, step};
+ghost use Rattle.seq_decoder.specs.After.{Stepped, step};
 ghost use Rattle.seq_decoder.specs.State.{State, persist_of, start_state};
 
 /// What headers read of the state is what the listing's definition passes on: before the first frame, after each coded one,
@@ -13,9 +14,9 @@ ghost use Rattle.seq_decoder.specs.State.{State, persist_of, start_state};
 pub fn headers_read_what_persists()
     ensures start { persist_of start_state ≡ start_persist }
     ensures coded { (number : ℕ) (state : State) (bytes : List ℕ) (header : Header) (compressed : Span) (next : Stepped)
-        → built_head (persist_of state) bytes ≡ Ok (head.Coded header compressed) → step number state bytes ≡ Ok next
+        → head_of (persist_of state) bytes ≡ Ok (head.Coded header compressed) → step number state bytes ≡ Ok next
         → persist_of next.state ≡ next_persist header (persist_of state) }
     ensures shown { (number : ℕ) (state : State) (bytes : List ℕ) (slot : ℕ) (next : Stepped)
-        → built_head (persist_of state) bytes ≡ Ok (head.ShowExisting slot) → step number state bytes ≡ Ok next
+        → head_of (persist_of state) bytes ≡ Ok (head.ShowExisting slot) → step number state bytes ≡ Ok next
         → next.state ≡ state }
 {}

@@ -3,7 +3,9 @@
 
 mod coding;
 mod decoder;
+mod last;
 mod laws;
+mod past;
 mod plain;
 mod saved;
 mod segments;

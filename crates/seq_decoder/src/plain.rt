@@ -11,8 +11,7 @@ use std::alloc::Global;
 use vp9_types::Outcome;
 
 /// Decodes an IVF file and writes the frames that it shows, in order and each as it is decoded, up to its end or the
-/// first frame that breaks a rule or that uses a part that isn't built. It never answers a read fault. A sink that didn't
-/// fail may be used on.
+/// first frame that breaks a rule. It never answers a read fault. A sink that didn't fail may be used on.
 pub fn decode_plain<K: Sink>(alloc: Global, bytes: &[u8], sink: &mut K) -> Outcome
     requires { K.can_put sink.old }
     ensures decodes { Decodes (run_of bytes.now) (K.taken sink.old) (K.taken sink.new) (K.faults sink.old) (K.faults sink.new) result }

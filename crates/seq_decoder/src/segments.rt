@@ -1,9 +1,9 @@
 //! The map of segments, around a frame.
 
-ghost use Rattle.std.specs.Prelude.{◌≡◌, Some, All, OnOk};
+ghost use Rattle.std.specs.Prelude.{◌≡◌, Some, All, IsSome, OnOk};
 ghost use Rattle.block_geometry.specs.Frames.{places_of};
 ghost use Rattle.frame_headers.specs.State.{shape_of};
-ghost use Rattle.frame_decoder.specs.Code.{HasStarts, blocks_of};
+ghost use Rattle.frame_decoder.specs.Columns.{HasStarts, blocks_of};
 ghost use Rattle.frame_decoder.specs.Frames.{all_blocks};
 ghost use Rattle.inter_modes.specs.Segments.{segments_after};
 ghost use Rattle.seq_decoder.specs.After.{has_size, segments_before};
@@ -42,6 +42,17 @@ pub fn begin_segments(
         *map = Some(SegmentMap::new(alloc, rows, cols)?);
     }
     Ok(())
+}
+
+/// The map of segments that a frame starts with.
+pub fn segments_of(map: &Option<SegmentMap>) -> &SegmentMap
+    requires { IsSome map.now }
+    ensures { map.now ≡ Some result.now }
+{
+    match map {
+        Some(map) => map,
+        None => unreachable!(),
+    }
 }
 
 /// Makes of the map of segments that a frame started with the one that it leaves, tile column by tile column.

@@ -24,8 +24,6 @@ lacks c s o st h = (h.source, h.out, completes_front c s o st h)
 pub works_told : (c : Option Command) (s : OfSource) (o : OfSink) (first told : Status) → Works c s o first → MayLackMemory first told → Works c s o told
 works_told (Some c) s o (status.Broken stop) told h (inl e) = subst (λ st. Works (Some c) s o st) (sym e) h
 works_told (Some c) s o (status.Broken stop) told h (inr e) = subst (λ st. Works (Some c) s o st) (sym e) (lacks c s o (status.Broken stop) h)
-works_told (Some c) s o (status.Unbuilt frame part) told h (inl e) = subst (λ st. Works (Some c) s o st) (sym e) h
-works_told (Some c) s o (status.Unbuilt frame part) told h (inr e) = subst (λ st. Works (Some c) s o st) (sym e) (lacks c s o (status.Unbuilt frame part) h.1)
 works_told (Some c) s o status.Done told h e = subst (λ st. Works (Some c) s o st) (sym e) h
 works_told (Some c) s o status.Usage told h e = absurd h
 works_told (Some c) s o status.ReadFault told h e = subst (λ st. Works (Some c) s o st) (sym e) h
@@ -34,7 +32,6 @@ works_told (Some c) s o status.OutOfMemory told h e = subst (λ st. Works (Some 
 works_told None s o status.Usage told h e = subst (λ st. Works None s o st) (sym e) h
 works_told None s o status.Done told h e = absurd h
 works_told None s o (status.Broken stop) told h e = absurd h
-works_told None s o (status.Unbuilt frame part) told h e = absurd h
 works_told None s o status.ReadFault told h e = absurd h
 works_told None s o status.WriteFault told h e = absurd h
 works_told None s o status.OutOfMemory told h e = subst (λ st. Works None s o st) (sym e) h
@@ -43,7 +40,6 @@ works_told None s o status.OutOfMemory told h e = subst (λ st. Works None s o s
 cause_told : (c : Option Command) (s : OfSource) (o n : OfSink) (told : Status) → Works c s o told → SinkQuiet n → Takes n.before n.after (note_line told) → HasCause c s o n told
 cause_told (Some c) s o n status.Done h q t = (c, refl, record { source = h.source; out = h.out; note = q }, h, t)
 cause_told (Some c) s o n (status.Broken stop) h q t = (c, refl, record { source = h.source; out = h.out; note = q }, h, t)
-cause_told (Some c) s o n (status.Unbuilt frame part) h q t = (c, refl, h.0, record { source = h.1.source; out = h.1.out; note = q }, h.1, t)
 cause_told (Some c) s o n status.ReadFault h q t = (c, refl, h.0, h.1, q, h.2, t)
 cause_told (Some c) s o n status.WriteFault h q t = inl h.1
 cause_told (Some c) s o n status.OutOfMemory h q t = (h.1, q)
@@ -51,7 +47,6 @@ cause_told (Some c) s o n status.Usage h q t = absurd h
 cause_told None s o n status.Usage h q t = (refl, record { source = h.0; out = h.1; note = q }, t)
 cause_told None s o n status.Done h q t = absurd h
 cause_told None s o n (status.Broken stop) h q t = absurd h
-cause_told None s o n (status.Unbuilt frame part) h q t = absurd h
 cause_told None s o n status.ReadFault h q t = absurd h
 cause_told None s o n status.WriteFault h q t = absurd h
 cause_told None s o n status.OutOfMemory h q t = (h.1, q)
@@ -60,7 +55,6 @@ cause_told None s o n status.OutOfMemory h q t = (h.1, q)
 cause_lacking : (c : Option Command) (s : OfSource) (o n : OfSink) (told : Status) → Works c s o told → SinkQuiet n → HasCause c s o n (without_memory told)
 cause_lacking (Some c) s o n status.Done h q = (h.out, q)
 cause_lacking (Some c) s o n (status.Broken stop) h q = (h.out, q)
-cause_lacking (Some c) s o n (status.Unbuilt frame part) h q = (h.1.out, q)
 cause_lacking (Some c) s o n status.ReadFault h q = (h.1, q)
 cause_lacking (Some c) s o n status.WriteFault h q = inl h.1
 cause_lacking (Some c) s o n status.OutOfMemory h q = (h.1, q)
@@ -68,7 +62,6 @@ cause_lacking (Some c) s o n status.Usage h q = absurd h
 cause_lacking None s o n status.Usage h q = (h.1, q)
 cause_lacking None s o n status.Done h q = absurd h
 cause_lacking None s o n (status.Broken stop) h q = absurd h
-cause_lacking None s o n (status.Unbuilt frame part) h q = absurd h
 cause_lacking None s o n status.ReadFault h q = absurd h
 cause_lacking None s o n status.WriteFault h q = absurd h
 cause_lacking None s o n status.OutOfMemory h q = (h.1, q)
@@ -86,7 +79,6 @@ told_by_output : (c : Command) (s : OfSource) (o n : OfSink) (told : Status) →
     → WhereTold s.rest (λ bytes. (told ≡ (output_of c bytes).status) ⊎ (told ≡ status.OutOfMemory))
 told_by_output c s o n status.Done h a = λ bytes t. inl (sym (h.told bytes t).0)
 told_by_output c s o n (status.Broken stop) h a = λ bytes t. inl (sym (h.told bytes t).0)
-told_by_output c s o n (status.Unbuilt frame part) h a = λ bytes t. inl (sym (h.1.told bytes t).0)
 told_by_output c s o n status.ReadFault h a = λ bytes t. absurd (clash s.faults s.faults_now h.0 a.source)
 told_by_output c s o n status.WriteFault h a = λ bytes t. absurd (clash o.faults o.faults_now h.1 a.out)
 told_by_output c s o n status.OutOfMemory h a = λ bytes t. inr refl
@@ -96,7 +88,6 @@ told_by_output c s o n status.Usage h a = absurd h
 lacking : (c : Command) (s : OfSource) (o n : OfSink) (told : Status) → Works (Some c) s o told → AllQuiet s o n → without_memory told ≡ status.OutOfMemory
 lacking c s o n status.Done h a = refl
 lacking c s o n (status.Broken stop) h a = refl
-lacking c s o n (status.Unbuilt frame part) h a = refl
 lacking c s o n status.ReadFault h a = refl
 lacking c s o n status.WriteFault h a = absurd (clash o.faults o.faults_now h.1 a.out)
 lacking c s o n status.OutOfMemory h a = refl
@@ -113,7 +104,6 @@ no_command s o status.Usage h = inl refl
 no_command s o status.OutOfMemory h = inr refl
 no_command s o status.Done h = absurd h
 no_command s o (status.Broken stop) h = absurd h
-no_command s o (status.Unbuilt frame part) h = absurd h
 no_command s o status.ReadFault h = absurd h
 no_command s o status.WriteFault h = absurd h
 

@@ -1,8 +1,7 @@
 -- From how the decoder ended to how the work of `decode` did.
 use Rattle.std.proofs.Common.{◌≡◌, ◌∙◌, ℕ, List, [], ap, sym, subst}
 use Rattle.std.specs.Prelude.{Option, Some, None, take}
-use Rattle.vp9_types.specs.declared.outcome.Fault.{Fault}
-use Rattle.vp9_types.specs.declared.outcome.Fault.TheVariants as fault
+use Rattle.vp9_types.specs.declared.rule.Rule.{Rule}
 use Rattle.edge_io.specs.Filling.{WhereTold}
 use Rattle.edge_io.specs.Putting.{Takes}
 use Rattle.command_words.specs.declared.command.Command.TheVariants as command
@@ -12,21 +11,21 @@ use Rattle.vp9_types.specs.declared.outcome.Outcome.TheVariants as outcome
 use Rattle.seq_decoder.specs.Runs.{out_text, run_of}
 use Rattle.seq_decoder.specs.Outcomes.{Decodes}
 use Rattle.seq_decoder.specs.Outcomes as of_run
-use Rattle.vp9_app.specs.Statuses.{run_ended, decode_ended}
+use Rattle.vp9_app.specs.Statuses.{ended, decode_ended}
 use Rattle.vp9_app.specs.Answers.{OfSource, OfSink, SourceQuiet, Completes, WritesFront, Works}
 
 -- these bytes are all that the source had, and none is left
 abbrev pub WasRead : OfSource → List ℕ → Type 0
 WasRead s bytes = WhereTold s.rest (λ all. (bytes ≡ all) × (s.left ≡ Some []))
 
-completes : (options : DecodeOptions) (s : OfSource) (o : OfSink) (bytes : List ℕ) (e : Option (ℕ × Fault)) → SourceQuiet s → WasRead s bytes
-    → of_run.Completes (run_of bytes) o.before o.after o.faults o.faults_now e → Completes (command.Decode options) s o (run_ended e)
+completes : (options : DecodeOptions) (s : OfSource) (o : OfSink) (bytes : List ℕ) (e : Option (ℕ × Rule)) → SourceQuiet s → WasRead s bytes
+    → of_run.Completes (run_of bytes) o.before o.after o.faults o.faults_now e → Completes (command.Decode options) s o (ended e)
 completes options s o bytes e quiet read d = record {
   source = quiet;
   out = d.quiet;
   told = λ all told.
       let same = (read all told).0 in (
-        ap (λ b. run_ended (run_of b).ending) (sym same) ∙ ap run_ended d.ends,
+        ap (λ b. ended (run_of b).ending) (sym same) ∙ ap ended d.ends,
         subst (λ b. Takes o.before o.after (out_text (run_of b))) same d.writes,
         (read all told).1,
       );
@@ -39,8 +38,7 @@ front options s o bytes read d = λ all told. (d.0, subst (λ b. Takes o.before 
 pub decode_works : (options : DecodeOptions) (s : OfSource) (o : OfSink) (bytes : List ℕ) (result : Outcome) → SourceQuiet s → WasRead s bytes
     → Decodes (run_of bytes) o.before o.after o.faults o.faults_now result → Works (Some (command.Decode options)) s o (decode_ended result)
 decode_works options s o bytes outcome.Done quiet read d = completes options s o bytes None quiet read d
-decode_works options s o bytes (outcome.Broken stop) quiet read d = completes options s o bytes (Some (stop.frame, fault.Broken stop.rule)) quiet read d
-decode_works options s o bytes (outcome.Unbuilt frame part) quiet read d = (tt, completes options s o bytes (Some (frame, fault.Unbuilt part)) quiet read d)
+decode_works options s o bytes (outcome.Broken stop) quiet read d = completes options s o bytes (Some (stop.frame, stop.rule)) quiet read d
 decode_works options s o bytes outcome.WriteFault quiet read d = (quiet, d.0, front options s o bytes read d.1)
 decode_works options s o bytes outcome.OutOfMemory quiet read d = (quiet, d.0, front options s o bytes read d.1)
 decode_works options s o bytes outcome.ReadFault quiet read d = absurd d

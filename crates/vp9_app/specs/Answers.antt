@@ -9,7 +9,7 @@ use Rattle.vp9_app.specs.declared.status.Status.TheVariants as status
 use Rattle.seq_decoder.specs.Runs.{out_text, run_of}
 use Rattle.vp9_app.specs.Listing.{listing}
 use Rattle.vp9_app.specs.Notes.{note_line}
-use Rattle.vp9_app.specs.Statuses.{ended, run_ended}
+use Rattle.vp9_app.specs.Statuses.{ended}
 
 -- what is seen of a source: the bytes that it has left, where it tells them, and its count of faults, before and after
 pub record OfSource : Type 0 where
@@ -52,10 +52,10 @@ pub record Output : Type 0 where
   pub status : Status
 
 -- The listing; or the shown frames of the sequential decoding process, in order, to the end of the bytes or up to the
--- first frame that breaks a rule or that uses a part that isn't built. How a file is decoded changes nothing of it.
+-- first frame that breaks a rule. How a file is decoded changes nothing of it.
 abbrev pub output_of : Command → List ℕ → Output
 output_of command.List bytes = record { text = (listing bytes).adds; status = ended (listing bytes).ending }
-output_of (command.Decode options) bytes = record { text = out_text (run_of bytes); status = run_ended (run_of bytes).ending }
+output_of (command.Decode options) bytes = record { text = out_text (run_of bytes); status = ended (run_of bytes).ending }
 
 -- the source was read to its end, the whole output of its bytes is written, and it ends so
 pub record Completes (c : Command) (s : OfSource) (o : OfSink) (status : Status) : Type 0 where
@@ -66,11 +66,6 @@ pub record Completes (c : Command) (s : OfSource) (o : OfSink) (status : Status)
 -- a front of the output is written
 abbrev pub WritesFront : Command → OfSource → OfSink → Type 0
 WritesFront c s o = WhereTold s.rest (λ bytes. (n : ℕ) × Takes o.before o.after (take n (output_of c bytes).text))
-
--- no part of the listing is unbuilt
-abbrev pub HasUnbuilt : Command → Type 0
-HasUnbuilt command.List = ⊥
-HasUnbuilt (command.Decode options) = Unit
 
 -- nothing was read or written
 abbrev pub Untouched : OfSource → OfSink → Type 0
@@ -83,7 +78,6 @@ Works None s o status.OutOfMemory = Untouched s o
 Works None s o status = ⊥
 Works (Some c) s o status.Done = Completes c s o status.Done
 Works (Some c) s o (status.Broken stop) = Completes c s o (status.Broken stop)
-Works (Some c) s o (status.Unbuilt frame part) = HasUnbuilt c × Completes c s o (status.Unbuilt frame part)
 Works (Some c) s o status.ReadFault = SourceFailed s × SinkQuiet o × (o.after ≡ o.before)
 Works (Some c) s o status.WriteFault = SourceQuiet s × SinkFailed o × WritesFront c s o
 Works (Some c) s o status.OutOfMemory = SourceQuiet s × SinkQuiet o × WritesFront c s o

@@ -22,10 +22,9 @@ abbrev pub AddsLine : List ℕ → Result (Added Persist ℕ) Rule → Result Pe
 AddsLine old step (Ok next) new = (line : List ℕ) × (step ≡ Ok (record { state = next; adds = line })) × (new ≡ old ++ line)
 AddsLine old step (Err rule) new = (step ≡ Err rule) × (new ≡ old)
 
--- where there is no memory for the line of a rule or a part, want of memory is told instead
+-- where there is no memory for the line of a rule, want of memory is told instead
 abbrev pub MayLackMemory : Status → Status → Type 0
 MayLackMemory (status.Broken stop) told = (told ≡ status.Broken stop) ⊎ (told ≡ status.OutOfMemory)
-MayLackMemory (status.Unbuilt frame part) told = (told ≡ status.Unbuilt frame part) ⊎ (told ≡ status.OutOfMemory)
 MayLackMemory first told = told ≡ first
 
 abbrev pub Tells : OfSink → Status → Status → Type 0

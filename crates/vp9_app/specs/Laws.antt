@@ -5,7 +5,7 @@ use Rattle.edge_io.specs.Putting.{Takes}
 use Rattle.command_words.specs.declared.command.Command.{Command}
 use Rattle.vp9_app.specs.declared.status.Status.{Status}
 use Rattle.vp9_app.specs.declared.status.Status.TheVariants as status
-use Rattle.vp9_app.specs.Answers.{OfSource, OfSink, SourceQuiet, SourceFailed, SinkQuiet, SinkFailed, output_of, Completes, HasUnbuilt}
+use Rattle.vp9_app.specs.Answers.{OfSource, OfSink, SourceQuiet, SourceFailed, SinkQuiet, SinkFailed, output_of, Completes}
 use Rattle.vp9_app.specs.Notes.{note_line}
 
 -- no count rose
@@ -19,9 +19,6 @@ abbrev pub HasCause : Option Command → OfSource → OfSink → OfSink → Stat
 HasCause c s o n status.Done = (used : Command) × (c ≡ Some used) × AllQuiet s o n × Completes used s o status.Done × Takes n.before n.after []
 HasCause c s o n (status.Broken stop) =
     (used : Command) × (c ≡ Some used) × AllQuiet s o n × Completes used s o (status.Broken stop) × Takes n.before n.after (note_line (status.Broken stop))
-HasCause c s o n (status.Unbuilt frame part) =
-    (used : Command) × (c ≡ Some used) × HasUnbuilt used × AllQuiet s o n × Completes used s o (status.Unbuilt frame part)
-    × Takes n.before n.after (note_line (status.Unbuilt frame part))
 HasCause c s o n status.Usage = (c ≡ None) × AllQuiet s o n × Takes n.before n.after (note_line status.Usage)
 HasCause c s o n status.ReadFault =
     (used : Command) × (c ≡ Some used) × SourceFailed s × SinkQuiet o × SinkQuiet n × (o.after ≡ o.before) × Takes n.before n.after (note_line status.ReadFault)

@@ -1,7 +1,5 @@
 -- How a run ends.
 use Rattle.std.specs.Prelude.{ℕ, Option, Some, None}
-use Rattle.vp9_types.specs.declared.outcome.Fault.{Fault}
-use Rattle.vp9_types.specs.declared.outcome.Fault.TheVariants as fault
 use Rattle.vp9_types.specs.declared.outcome.Outcome.{Outcome}
 use Rattle.vp9_types.specs.declared.outcome.Outcome.TheVariants as outcome
 use Rattle.vp9_types.specs.declared.rule.Rule.{Rule}
@@ -15,21 +13,11 @@ code_of (status.Broken stop) = 3
 code_of status.ReadFault = 4
 code_of status.WriteFault = 5
 code_of status.OutOfMemory = 6
-code_of (status.Unbuilt frame part) = 9
 
-abbrev pub status_at : ℕ → Fault → Status
-status_at frame (fault.Broken rule) = status.Broken (record { frame = frame; rule = rule })
-status_at frame (fault.Unbuilt part) = status.Unbuilt frame part
-
--- the status of a listing that ends so
+-- the status of a listing, or of a run of the decoder, that ends so
 abbrev pub ended : Option (ℕ × Rule) → Status
 ended None = status.Done
-ended (Some end) = status_at end.0 (fault.Broken end.1)
-
--- the status of a run of the decoder that ends so
-abbrev pub run_ended : Option (ℕ × Fault) → Status
-run_ended None = status.Done
-run_ended (Some end) = status_at end.0 end.1
+ended (Some end) = status.Broken (record { frame = end.0; rule = end.1 })
 
 -- the status of a decode that ended so
 abbrev pub decode_ended : Outcome → Status
@@ -38,4 +26,3 @@ decode_ended (outcome.Broken stop) = status.Broken stop
 decode_ended outcome.ReadFault = status.ReadFault
 decode_ended outcome.WriteFault = status.WriteFault
 decode_ended outcome.OutOfMemory = status.OutOfMemory
-decode_ended (outcome.Unbuilt frame part) = status.Unbuilt frame part

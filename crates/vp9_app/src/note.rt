@@ -2,12 +2,12 @@ ghost use Rattle.std.specs.Prelude.{◌≡◌, IfOk, string_bytes};
 ghost use Rattle.std.specs.Result.{ForOk};
 ghost use Rattle.vp9_app.specs.Answers.{sink_seen, Reports};
 ghost use Rattle.vp9_app.specs.Code.{Tells, MayLackMemory};
-ghost use Rattle.vp9_app.specs.Notes.{note_line, stop_line, part_line};
+ghost use Rattle.vp9_app.specs.Notes.{note_line, stop_line};
 
 use crate::status::Status;
 use edge_io::{PutFault, Sink, put_all};
 use std::alloc::{AllocError, Global};
-use vp9_types::{Part, Stop};
+use vp9_types::Stop;
 
 #[tactic(auto, unfolding(crate::specs::Notes::stop_line))]
 fn stop_text(alloc: Global, stop: Stop) -> Result<String, AllocError>
@@ -18,16 +18,6 @@ fn stop_text(alloc: Global, stop: Stop) -> Result<String, AllocError>
     let name = stop.rule.name();
     let mut text = String::new(alloc);
     writeln!(text, "frame {frame}: rule {number} {name}")?;
-    Ok(text)
-}
-
-#[tactic(auto, unfolding(crate::specs::Notes::part_line))]
-fn part_text(alloc: Global, frame: u64, part: Part) -> Result<String, AllocError>
-    ensures { IfOk result (λ text. string_bytes text ≡ part_line frame part) }
-{
-    let name = part.name();
-    let mut text = String::new(alloc);
-    writeln!(text, "frame {frame}: unbuilt {name}")?;
     Ok(text)
 }
 
@@ -79,6 +69,5 @@ pub fn report<N: Sink>(alloc: Global, first: Status, note: &mut N) -> Status
         Status::WriteFault => put_line(note, "write fault\n", first),
         Status::OutOfMemory => put_line(note, "out of memory\n", first),
         Status::Broken(stop) => put_text(note, stop_text(alloc, stop), first),
-        Status::Unbuilt { frame, part } => put_text(note, part_text(alloc, frame, part), first),
     }
 }

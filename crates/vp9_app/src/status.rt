@@ -2,7 +2,7 @@ ghost use Rattle.std.specs.Prelude.{◌≡◌};
 ghost use Rattle.vp9_app.specs.Statuses.{code_of, ended};
 ghost use Rattle.vp9_app.specs.Code.{ending_of};
 
-use vp9_types::{Outcome, Part, Stop};
+use vp9_types::{Outcome, Stop};
 
 /// How a run of the program ends.
 #[derive(Clone, Copy, Debug, PartialEq, Eq)]
@@ -18,8 +18,6 @@ pub enum Status {
     /// A sink failed.
     WriteFault,
     OutOfMemory,
-    /// A frame uses what isn't built yet; what comes before it is written.
-    Unbuilt { frame: u64, part: Part },
 }
 
 impl Status {
@@ -34,7 +32,6 @@ impl Status {
             Status::ReadFault => 4,
             Status::WriteFault => 5,
             Status::OutOfMemory => 6,
-            Status::Unbuilt { .. } => 9,
         }
     }
 }
@@ -62,7 +59,6 @@ impl From<Outcome> for Status {
             Outcome::ReadFault => Status::ReadFault,
             Outcome::WriteFault => Status::WriteFault,
             Outcome::OutOfMemory => Status::OutOfMemory,
-            Outcome::Unbuilt { frame, part } => Status::Unbuilt { frame, part },
         }
     }
 }

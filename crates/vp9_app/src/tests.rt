@@ -3,7 +3,7 @@ mod sizes;
 
 use super::*;
 use edge_io::{MemSink, MemSource, OpenGate};
-use rows::{Row, drawn_streams, intra_decode, list, overflow_frames};
+use rows::{Row, drawn_streams, inter_decode, intra_decode, list, long_runs, overflow_frames};
 use std::alloc::{AllocError, Global};
 use std::sync::Wait;
 use std::test::Fail;
@@ -99,6 +99,48 @@ fn decodes_end_as_they_are_to(rt: HostRuntime) -> Result<(), Fail> {
         first_other(&rt, rt.alloc(), intra_decode::TABLES.as_slice())?,
         None
     );
+    Ok(())
+}
+
+#[test]
+fn inter_frames_end_as_they_are_to(rt: HostRuntime) -> Result<(), Fail> {
+    assert_eq!(rt;
+        first_other(&rt, rt.alloc(), inter_decode::TABLES.as_slice())?,
+        None
+    );
+    Ok(())
+}
+
+// Whether bytes are so many of each of these, one run after another.
+fn are_runs(bytes: &[u8], runs: &[(usize, u8)]) -> bool {
+    let mut left = bytes;
+    for (count, byte) in runs {
+        if left.len() < *count {
+            return false;
+        }
+        let (run, rest) = left.split_at(*count);
+        if run.iter().any(|b| *b != *byte) {
+            return false;
+        }
+        left = rest;
+    }
+    left.is_empty()
+}
+
+#[test]
+fn long_runs_end_as_they_are_to(rt: HostRuntime) -> Result<(), Fail> {
+    for row in &long_runs::LONG {
+        let ran = run_words(&rt, rt.alloc(), &["decode"], row.input, &NONE)?;
+        assert_eq!(rt; (row.name, ran.status.code()), (row.name, row.status));
+        assert_eq!(rt;
+            (row.name, are_runs(ran.out.bytes(), row.runs)),
+            (row.name, true)
+        );
+        assert_eq!(rt;
+            (row.name, ran.note.bytes()),
+            (row.name, row.note.as_bytes())
+        );
+    }
     Ok(())
 }
 

@@ -1,8 +1,10 @@
 //! Worked runs: what a command reads, writes and tells, and how it ends.
 
 pub mod drawn_streams;
+pub mod inter_decode;
 pub mod intra_decode;
 pub mod list;
+pub mod long_runs;
 pub mod overflow_frames;
 
 pub struct Row {

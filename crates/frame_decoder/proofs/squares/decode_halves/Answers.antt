@@ -9,5 +9,5 @@ returns-in_err-decode_block-clause-gives g c =
 
 pub returns-clause-gives : goal.returns-clause-gives
 returns-clause-gives g c =
-    let walk = same_walk c.args.setting.now c.args.column.now c.decode_block.new.column c.in_ok-decode_block.ensures.same in
+    let walk = same_walk c.args.by.now c.args.column.now c.decode_block.new.column c.in_ok-decode_block.ensures.same in
     then_gives _ _ _ _ _ _ _ _ _ c.in_ok-decode_block.ensures.gives (rw walk at c.decode_inside.ensures.gives)

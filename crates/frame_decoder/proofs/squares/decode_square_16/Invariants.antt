@@ -6,9 +6,9 @@ use Rattle.frame_decoder.proofs.squares.decode_square_16.Given as goal
 
 abbrev pub invariant-loop-i : goal.invariant-loop-i
 invariant-loop-i g l = record {
-  ready : IsReady l.setting l.column l.planes;
+  ready : IsReady l.by.setting l.column l.planes;
   same : SameColumns l.initial.column l.column;
   room : l.initial.column.grid.room ≤ l.column.grid.room + 4 ^ (l.at.level - 1) * l.i;
-  left : QuartersLeft (walk_of l.setting l.initial.column) (l.at.level - 1) l.at.row l.at.col (split_run l.setting l.at l.initial.column l.initial.planes (standing_of l.initial.reader)) l.i
+  left : QuartersLeft (walk_of l.by l.initial.column) (l.at.level - 1) l.at.row l.at.col (split_run l.by l.at l.initial.column l.initial.planes (standing_of l.initial.reader)) l.i
       (tile_of l.column l.planes) (standing_of l.reader);
 }

@@ -8,4 +8,4 @@ returns-in_err-_split-clause-gives g c =
     rw (p.1, p.2) c.in_err-_split.ensures.gives
 
 pub returns-clause-gives : goal.returns-clause-gives
-returns-clause-gives g c = is_smallest _ _ _ _ _ _ c.in_ok-_split._split _ _ c.requires.level c.in_ok-_split.ensures.gives
+returns-clause-gives g c = is_smallest c.args.by.now c.args.at c.args.column.now c.args.planes.now c.args.reader.now c.decode_unsplit.new.reader c.in_ok-_split._split c.decode_unsplit.new.column c.decode_unsplit.new.planes c.requires.level c.in_ok-_split.ensures.gives

@@ -8,10 +8,10 @@ use Rattle.frame_decoder.proofs.tiles.decode_row.Given as goal
 
 abbrev pub invariant-loop-i : goal.invariant-loop-i
 invariant-loop-i g l = record {
-  ready : IsReady l.setting l.column l.planes;
+  ready : IsReady l.by.setting l.column l.planes;
   same : SameColumns l.initial.column l.column;
   room : l.initial.column.grid.room ≤ l.column.grid.room + 64 * l.i;
-  left : IsLeft (decode_row (walk_of l.setting l.initial.column) l.first.row) l.first.tile_from l.count
-      (run_counting (decode_row (walk_of l.setting l.initial.column) l.first.row l.first.tile_from l.count (tile_of l.initial.column l.initial.planes)) (standing_of l.initial.reader))
+  left : IsLeft (decode_row (walk_of l.by l.initial.column) l.first.row) l.first.tile_from l.count
+      (run_counting (decode_row (walk_of l.by l.initial.column) l.first.row l.first.tile_from l.count (tile_of l.initial.column l.initial.planes)) (standing_of l.initial.reader))
       l.i (tile_of l.column l.planes) (standing_of l.reader);
 }

@@ -3,7 +3,7 @@ use Rattle.std.specs.Prelude.{Some}
 use Rattle.block_geometry.specs.Frames.{places_of}
 use Rattle.block_geometry.specs.declared.transform_blocks.FramePlaces.{FramePlaces}
 use Rattle.frame_headers.specs.State.{shape_of}
-use Rattle.frame_decoder.specs.Code.{blocks_of}
+use Rattle.frame_decoder.specs.Columns.{blocks_of}
 use Rattle.frame_decoder.specs.Frames.{all_blocks}
 use Rattle.frame_decoder.specs.declared.columns.TileColumn.{TileColumn}
 use Rattle.inter_modes.specs.Segments.{segments_after}

@@ -1,4 +1,4 @@
-use Rattle.std.proofs.Common.{arith}
+use Rattle.std.proofs.Common.{arith, refl}
 use Rattle.frame_headers.proofs.SizeLemmas.{start_has_sizes}
 use Rattle.seq_decoder.proofs.decoder.Decoder.new.Goals as goal
 
@@ -6,6 +6,7 @@ pub returns-clause-may : goal.returns-clause-may
 returns-clause-may c = record {
   sized = start_has_sizes;
   table_is = c.new-2.ensures.table;
+  shapes = rw c.new-2.ensures.slots refl;
   few = rw c.new-2.ensures.pictures (omega arith);
   places = tt;
 }

@@ -13,7 +13,11 @@ use Rattle.vp9_tables.specs.Blocks.{greatest_of}
 use Rattle.vp9_tables.specs.Numbers.{tx_number}
 use Rattle.frame_headers.specs.State.{shape_of}
 use Rattle.frame_headers.specs.declared.header.Header.{Header}
-use Rattle.frame_decoder.specs.Code.{AllFit, AllLie, AreTileColumns, HasStarts, blocks_of, limit_of}
+use Rattle.block_plan.specs.declared.block.InterPrediction.{InterPrediction}
+use Rattle.block_plan.specs.declared.block.Prediction.TheVariants.{Inter}
+use Rattle.mv_prediction.specs.Candidates.{vector_of}
+use Rattle.mv_prediction.specs.Vectors.{IsSmallVector}
+use Rattle.frame_decoder.specs.Columns.{AllFit, AllLie, AllSmall, AreTileColumns, HasStarts, blocks_of, limit_of}
 use Rattle.frame_decoder.specs.Frames.{all_blocks}
 use Rattle.frame_decoder.specs.Tiles.{superblocks_before, tile_offset}
 use Rattle.frame_decoder.specs.declared.columns.TileColumn.{TileColumn}
@@ -150,3 +154,21 @@ all_fit header n columns are = fit_joined (blocks_of columns) (one columns are)
 
 pub starts_of : (header : Header) (n : ℕ) (columns : List TileColumn) → AreTileColumns header n columns → All (HasStarts header) columns
 starts_of header n columns are = λ k d low. (are.each k d low).starts
+
+joined : (P : BlockInfo → Type 0) (columns : List (List BlockInfo)) → ((j : ℕ) → j < length columns → All P (get_or columns j [])) → All P (all_blocks columns)
+joined P [] each = λ i d low. absurd (omega (arith, low))
+joined P (xs ∷ columns) each =
+    All-append P xs (all_blocks columns) (each zero (omega arith)) (joined P columns (λ j low. each (suc j) (omega (arith, low))))
+
+-- all vectors of the frame are small
+pub all_small : (header : Header) (n : ℕ) (columns : List TileColumn) → AreTileColumns header n columns → AllSmall (all_blocks (blocks_of columns))
+all_small header n columns are = joined IsSmallIn (blocks_of columns) (one columns are)
+  where
+    IsSmallIn : BlockInfo → Type 0
+    IsSmallIn b = (modes : InterPrediction) (quarter list : ℕ) → b.prediction ≡ Inter modes → IsSmallVector (vector_of modes quarter list)
+
+    one : (columns : List TileColumn) → AreTileColumns header n columns → (j : ℕ) → j < length (blocks_of columns) → All IsSmallIn (get_or (blocks_of columns) j [])
+    one [] are j low = absurd (omega (arith, low))
+    one (c ∷ rest) are j low =
+        let within : j < length (c ∷ rest) = omega (arith, low, many (c ∷ rest)) in
+        subst AllSmall (sym (block_list_at (c ∷ rest) j c within)) (are.each j c within).small

@@ -1,0 +1,124 @@
+use Rattle.std.proofs.Common.{◌∙◌, ap, sym, subst, refl, arith}
+use Rattle.std.specs.Prelude.{Some, map, slice_set}
+use Rattle.std.specs.Vec.{with_item}
+use Rattle.std.proofs.lemmas.List.{length-set}
+use Rattle.std.proofs.lemmas.Option.{slice_get_within}
+use Rattle.std.proofs.lemmas.Result.{err_from_is_err_and}
+use Rattle.planes.specs.Pictures.{IsBlank}
+use Rattle.picture_table.proofs.Places.{held_beside, put_there, table_beside}
+use Rattle.frame_decoder.specs.Frames.{decoded}
+use Rattle.seq_decoder.specs.After.{segments_before, vectors_before}
+use Rattle.seq_decoder.specs.Code.{NamesHeld, segments_held, shape_told}
+use Rattle.seq_decoder.specs.SavedContexts.{context_at, place_of, saved_before}
+use Rattle.seq_decoder.proofs.FrameLemmas.{sized_with}
+use Rattle.seq_decoder.proofs.PastLemmas.{coded_halts, input_is}
+use Rattle.seq_decoder.proofs.ShowingLemmas.{picture_is}
+use Rattle.seq_decoder.proofs.decoder.Decoder.decode_picture.Goals as goal
+
+pub pictures_for-requires-clause-table : goal.pictures_for-requires-clause-table
+pictures_for-requires-clause-table c =
+    table_beside c.blank.new.self _ c.in_ok-place.place c.replace-picture.new.dest c.in_ok-place.ensures.free refl refl c.blank.ensures.table
+
+pub pictures_for-requires-clause-held : goal.pictures_for-requires-clause-held
+pictures_for-requires-clause-held c =
+    let t = c.blank.new.self in
+    subst (NamesHeld c.args.header.now) (sym (held_beside t.pictures.items c.in_ok-place.place c.replace-picture.new.dest t.slots c.in_ok-place.ensures.free ∙ c.blank.ensures.held)) c.requires.held
+
+pub decode_frame-requires-clause-blank : goal.decode_frame-requires-clause-blank
+decode_frame-requires-clause-blank c =
+    let blank = c.in_ok-place.ensures.blank in
+    let same = c.replace-picture.ensures.value ∙ picture_is c.blank.new.self.pictures.items c.in_ok-place.place blank.0 c.index_mut.result.now blank.1 c.index_mut.ensures.value in
+    rw same (subst (λ s. IsBlank s blank.0) c.shape.ensures blank.2)
+
+pub returns-in_err-decoded-clause-coded : goal.returns-in_err-decoded-clause-coded
+returns-in_err-decoded-clause-coded c = λ state stands.
+    let p = err_from_is_err_and c.from_residual-in_err-decoded.result c.from_residual-in_err-decoded.ensures.1 in
+    let header = c.args.header.now in
+    let t = c.blank.new.self in
+    let place = c.in_ok-place.place in
+    let dest = c.replace-picture.new.dest in
+    let still = held_beside t.pictures.items place dest t.slots c.in_ok-place.ensures.free ∙ c.blank.ensures.held in
+    let input =
+    input_is state header c.args.bytes.now c.args.compressed _
+    (c.at-before.ensures ∙ (λ i. context_at (c.reset.ensures i) (c.place_of.ensures i)) ∙ ap (λ saved. context_at (saved_before header saved) (place_of header)) stands.contexts)
+    (ap segments_held (sym c.segments_of.ensures) ∙ c.in_ok-begin_segments.ensures.map ∙ (λ i. segments_before header (stands.persist i).size (stands.segments i)))
+    (c.vectors_before.ensures.blocks ∙ ap (vectors_before header) stands.last)
+    (c.pictures_for.ensures.pictures state.slots (still ∙ stands.slots)) in
+    rw (p.1, p.2) (coded_halts header _ _ c.decode_frame.new.picture t _ input c.in_err-decoded.ensures)
+
+pub index_mut-requires-2 : goal.index_mut-requires-2
+index_mut-requires-2 c =
+    let blank = c.in_ok-place.ensures.blank in
+    omega (arith, slice_get_within c.blank.new.self.pictures.items c.in_ok-place.place blank.0 blank.1)
+
+pub returns-clause-coded : goal.returns-clause-coded
+returns-clause-coded c = λ state stands.
+    let decodes = c.in_ok-decoded.ensures in
+    let blank = c.in_ok-place.ensures.blank in
+    let header = c.args.header.now in
+    let t = c.blank.new.self in
+    let place = c.in_ok-place.place in
+    let dest = c.replace-picture.new.dest in
+    let still = held_beside t.pictures.items place dest t.slots c.in_ok-place.ensures.free ∙ c.blank.ensures.held in
+    let input =
+    input_is state header c.args.bytes.now c.args.compressed _
+    (c.at-before.ensures ∙ (λ i. context_at (c.reset.ensures i) (c.place_of.ensures i)) ∙ ap (λ saved. context_at (saved_before header saved) (place_of header)) stands.contexts)
+    (ap segments_held (sym c.segments_of.ensures) ∙ c.in_ok-begin_segments.ensures.map ∙ (λ i. segments_before header (stands.persist i).size (stands.segments i)))
+    (c.vectors_before.ensures.blocks ∙ ap (vectors_before header) stands.last)
+    (c.pictures_for.ensures.pictures state.slots (still ∙ stands.slots)) in (
+      decodes.0,
+      ap decoded (sym input) ∙ decodes.1,
+      record {
+        picture = c.decode_frame.new.picture;
+        there = put_there (slice_set t.pictures.items place dest) place dest c.decode_frame.new.picture (put_there t.pictures.items place blank.0 dest blank.1);
+        free = c.in_ok-place.ensures.free;
+        holds = decodes.2;
+      },
+    )
+
+pub returns-clause-at : goal.returns-clause-at
+returns-clause-at c =
+    let decodes = c.in_ok-decoded.ensures in
+    let blank = c.in_ok-place.ensures.blank in
+    let t = c.blank.new.self in
+    let place = c.in_ok-place.place in
+    let dest = c.replace-picture.new.dest in (
+      decodes.0,
+      record {
+        picture = c.decode_frame.new.picture;
+        there = put_there (slice_set t.pictures.items place dest) place dest c.decode_frame.new.picture (put_there t.pictures.items place blank.0 dest blank.1);
+        free = c.in_ok-place.ensures.free;
+        holds = decodes.2;
+      },
+    )
+
+pub returns-clause-begun : goal.returns-clause-begun
+returns-clause-begun c = λ state stands.
+    let header = c.args.header.now in
+    let t = c.blank.new.self in
+    let place = c.in_ok-place.place in
+    let dest = c.replace-picture.new.dest in
+    let still = held_beside t.pictures.items place dest t.slots c.in_ok-place.ensures.free ∙ c.blank.ensures.held in
+    let kept = held_beside (slice_set t.pictures.items place dest) place c.decode_frame.new.picture t.slots c.in_ok-place.ensures.free ∙ still in record {
+      persist = stands.persist;
+      contexts = c.reset.ensures ∙ ap (saved_before header) stands.contexts;
+      slots = kept ∙ stands.slots;
+      segments = c.in_ok-begin_segments.ensures.map ∙ (λ i. segments_before header (stands.persist i).size (stands.segments i));
+      last = stands.last;
+    }
+
+pub returns-clause-may : goal.returns-clause-may
+returns-clause-may c =
+    let header = c.args.header.now in
+    let t = c.blank.new.self in
+    let place = c.in_ok-place.place in
+    let dest = c.replace-picture.new.dest in
+    let still = held_beside t.pictures.items place dest t.slots c.in_ok-place.ensures.free ∙ c.blank.ensures.held in
+    let kept = held_beside (slice_set t.pictures.items place dest) place c.decode_frame.new.picture t.slots c.in_ok-place.ensures.free ∙ still in record {
+      sized = sized_with c.args.self.now.persist (Some header.size) c.requires.may.sized;
+      table_is = table_beside (record { pictures = with_item t.pictures place dest; slots = t.slots }) _ place c.decode_frame.new.picture c.in_ok-place.ensures.free refl refl
+          (table_beside t _ place dest c.in_ok-place.ensures.free refl refl c.blank.ensures.table);
+      shapes = ap (map shape_told) kept ∙ c.requires.may.shapes;
+      few = omega (arith, length-set (slice_set t.pictures.items place dest) place c.decode_frame.new.picture, length-set t.pictures.items place dest, c.blank.ensures.few, c.requires.may.few);
+      places = c.in_ok-begin_segments.ensures.places;
+    }

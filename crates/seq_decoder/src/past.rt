@@ -1,0 +1,108 @@
+//! What the frames before leave to a frame.
+
+ghost use Rattle.std.specs.Prelude.{◌≡◌, List, Option, None, IfSome, get_or, map, slice_index_or};
+ghost use Rattle.block_rebuild.specs.Code.{rebuilding_of};
+ghost use Rattle.frame_headers.specs.Sizes.{IsFrameSize};
+ghost use Rattle.frame_headers.specs.State.{shape_of};
+ghost use Rattle.mv_prediction.specs.Code as vectors;
+ghost use Rattle.picture_table.specs.Code.{IsSound, IsTable, held};
+ghost use Rattle.planes.specs.Pictures.{map_of};
+ghost use Rattle.frame_decoder.specs.Columns.{AreColumnsOf};
+ghost use Rattle.frame_decoder.specs.Past.{AreVectors, HasPictures, blocks_in};
+ghost use Rattle.seq_decoder.specs.After.{references_of, takes_vectors, vectors_before};
+ghost use Rattle.seq_decoder.specs.Code.{NamesHeld, last_held, last_of_code, shown_of, told_of};
+ghost use Rattle.seq_decoder.specs.State.{Picture as Shown, last_is_key};
+
+use crate::last::LastFrame;
+use block_rebuild::{Rebuilding, ReferencePicture};
+use frame_decoder::FrameBlocks;
+use frame_headers::{FrameKind, Header, Reference};
+use picture_table::PictureTable;
+use planes::Picture;
+
+/// The place of what a slot holds, if it holds something.
+pub fn place_in(slots: &[Option<usize>; 8], slot: u8) -> Option<usize>
+    ensures { result ≡ get_or slots.now slot None }
+{
+    if slot < 8 {
+        slots[usize::from(slot)]
+    } else {
+        None
+    }
+}
+
+/// Whether the last decoded frame was a key frame.
+pub fn after_key(last: &Option<LastFrame>) -> bool
+    ensures { result ≡ last_is_key (last_held last.now) }
+{
+    match last {
+        Some(last) => matches!(last.header.kind, FrameKind::Key),
+        None => false,
+    }
+}
+
+fn takes_vectors(header: &Header, last: &LastFrame) -> bool
+    ensures { result ≡ takes_vectors header.now (last_of_code last.now) }
+{
+    let (size, other) = (header.size, last.header.size);
+    !header.error_resilient
+        && size.width == other.width
+        && size.height == other.height
+        && last.header.show_frame
+}
+
+/// The blocks of the last decoded frame, if a frame may take their vectors.
+pub fn vectors_before<'a>(header: &Header, last: &'a Option<LastFrame>) -> Option<FrameBlocks<'a>>
+    ensures blocks { vectors.blocks_of blocks_in result ≡ vectors_before header.now (last_held last.now) }
+    ensures are { IfSome result (AreVectors header.now) }
+{
+    match last {
+        Some(last) if takes_vectors(header, last) => {
+            Some(FrameBlocks::new(&last.header, &last.columns))
+        }
+        _ => None,
+    }
+}
+
+/// What the slot of a reference holds.
+fn picture_in<'a>(
+    table: &'a PictureTable,
+    reference: &Reference,
+) -> Option<ReferencePicture<'a, Picture>>
+    requires { IsTable table.now }
+    ensures told { told_of result ≡ slice_index_or (held table.now) reference.now.slot None }
+    ensures from { IfSome result (λ r. IsSound r.samples.now × (r.shape ≡ r.samples.now.shape)) }
+{
+    let place = place_in(&table.slots, reference.slot)?;
+    let picture = &table.pictures[place];
+    Some(ReferencePicture {
+        samples: picture,
+        shape: picture.shape(),
+    })
+}
+
+/// The pictures that a frame refers to.
+pub fn pictures_for<'a>(header: &Header, table: &'a PictureTable) -> Rebuilding<'a, Picture>
+    requires size { IsFrameSize header.now.size }
+    requires table { IsTable table.now }
+    requires held { NamesHeld header.now (held table.now) }
+    ensures shape { result.shape ≡ shape_of header.now }
+    ensures pictures { (slots : List (Option Shown)) → held table.now ≡ map shown_of slots → (rebuilding_of map_of result).references ≡ references_of slots header.now.kind }
+    ensures has { HasPictures header.now result }
+{
+    let shape = header.shape();
+    match &header.kind {
+        FrameKind::Key | FrameKind::IntraOnly => Rebuilding {
+            shape,
+            last: None,
+            golden: None,
+            altref: None,
+        },
+        FrameKind::Inter(fields) => Rebuilding {
+            shape,
+            last: picture_in(table, &fields.references.last),
+            golden: picture_in(table, &fields.references.golden),
+            altref: picture_in(table, &fields.references.altref),
+        },
+    }
+}
