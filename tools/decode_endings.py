@@ -1,7 +1,7 @@
 #!/usr/bin/env python3
 """Prints how `vp9dec decode` has to end on a file, by its listing: a line of the status, how many bytes are written, and
-the note. The listing is read from standard input, as `vp9dec list` writes it or as FILE.list has it. Decoding ends at the
-first inter frame, which isn't built.
+the note. The listing is read from standard input, as `vp9dec list` writes it or as FILE.list has it. Of a file that breaks
+no rule: which rule a file breaks, no listing tells.
 
 usage: tools/decode_endings.py <LISTING
 """
@@ -27,9 +27,7 @@ def ending(lines):
             continue
         coded = CODED.match(line)
         assert coded, line
-        number, kind, *numbers, refresh = coded.groups()
-        if kind == "inter":
-            return f"9 {written} frame {number}: unbuilt inter"
+        _, _, *numbers, refresh = coded.groups()
         width, height, depth, ss_x, ss_y, show = map(int, numbers)
         size = text_size(width, height, depth, ss_x, ss_y)
         written += size * show
