@@ -1,5 +1,5 @@
 -- What the code keeps, and what its calls answer.
-use Rattle.std.specs.Prelude.{◌≡◌, ◌<◌, All, ◌≤◌, ◌+◌, ◌-◌, ◌*◌, ◌/◌, ◌%◌, ◌^◌, ℕ, true, false, Bool, List, [], ◌∷◌, ◌++◌, map, min, Result, Ok, Err}
+use Rattle.std.specs.Prelude.{◌≡◌, ◌<◌, All, ◌≤◌, ◌+◌, ◌-◌, ◌*◌, ◌/◌, ◌%◌, ◌^◌, ℕ, true, false, Bool, List, [], ◌∷◌, ◌++◌, map, min, slice_range, IsOk, Result, Ok, Err}
 use Rattle.vp9_types.specs.Maps.{FrameMap}
 use Rattle.vp9_types.specs.Results.{map_ok, ◌>>=◌}
 use Rattle.bool_decoder.specs.Bools.{run_bools}
@@ -7,11 +7,14 @@ use Rattle.bool_decoder.specs.Window.{Window, started}
 use Rattle.vp9_types.specs.Syntax.{Syntax}
 use Rattle.vp9_types.specs.declared.rule.Rule.{Rule}
 use Rattle.vp9_types.specs.declared.shape.Shape.{Shape}
+use Rattle.compressed_header.specs.Header.{forward}
+use Rattle.frame_headers.specs.Spans.{tile_spans}
+use Rattle.vp9_types.specs.declared.job.Span.{Span}
 use Rattle.frame_headers.specs.State.{shape_of}
 use Rattle.frame_headers.specs.declared.header.Header.{Header}
 use Rattle.frame_setting.specs.declared.setting.FrameSetting.{FrameSetting}
 use Rattle.prob_contexts.specs.Counted.{counts_after, no_counts}
-use Rattle.prob_contexts.specs.Lists.{lists_of}
+use Rattle.prob_contexts.specs.Lists.{ContextLists, lists_of}
 use Rattle.counting_reader.specs.Code.{Reads, standing_of}
 use Rattle.counting_reader.specs.Counting.{Settled, Standing, counted_if, lifted, settle, run_counting}
 use Rattle.counting_reader.specs.Counting as counting
@@ -35,7 +38,7 @@ use Rattle.frame_decoder.specs.Frames.{FrameInput, FrameResult, decoded, raw}
 use Rattle.frame_decoder.specs.Columns.{AllFit, AllLie, AllSmall, AllStart, AreColumnsOf, HasStarts, blocks_of, limit_of}
 use Rattle.frame_decoder.specs.Past.{past_of}
 use Rattle.frame_decoder.specs.Reading.{Column, FrameRead, infos}
-use Rattle.frame_decoder.specs.Sources.{FrameSources, adapts, frame_is_intra, rebuilding}
+use Rattle.frame_decoder.specs.Sources.{FramePast, FrameSources, adapts, frame_is_intra, rebuilding}
 use Rattle.frame_decoder.specs.declared.decoding.Decoded.{Decoded}
 use Rattle.frame_decoder.specs.declared.halt.Halt.{Halt}
 use Rattle.frame_decoder.specs.declared.halt.Halt.TheVariants as halt
@@ -203,6 +206,15 @@ pub record HoldsResult (header : Header) (picture : Picture) (d : Decoded) (r : 
   pub starts : All (HasStarts header) d.columns.items
   pub columns : AreColumnsOf header d.columns.items
   pub counts : d.counts ≡ counts_if (adapts header) r.counted
+
+-- what a frame says before its tiles is that, and the sizes of its tiles break no rule; or it breaks the rule already, whatever
+-- else the frames before leave to it
+abbrev pub IsBegun : Header → List ℕ → Span → ContextLists → Result FrameSetting Rule → Type 0
+IsBegun header bytes compressed before (Ok setting) =
+    (setting.header ≡ header) × (forward header before (slice_range bytes compressed.from compressed.to) ≡ Ok (lists_of setting.contexts, setting.modes))
+    × IsOk (tile_spans bytes header compressed)
+IsBegun header bytes compressed before (Err rule) =
+    (past : FramePast) → past.contexts ≡ before → decoded (record { header = header; compressed = compressed; bytes = bytes; past = past }) ≡ Err rule
 
 -- the frame is that, or the rule is broken. Want of memory has no cause
 abbrev pub IsDecoded : FrameInput → Picture → Result Decoded Halt → Type 0

@@ -1,14 +1,15 @@
 //! A frame, from its bytes to its samples.
 
-ghost use Rattle.std.specs.Prelude.{◌≤◌, ◌≡◌, IsOk, OnOk, length};
+ghost use Rattle.std.specs.Prelude.{◌≤◌, ◌≡◌, IsOk, Ok, OnOk, length};
 ghost use Rattle.frame_headers.specs.Sizes.{IsFrameSize};
 ghost use Rattle.frame_headers.specs.Spans.{tile_count, tile_spans};
 ghost use Rattle.frame_headers.specs.State.{shape_of};
 ghost use Rattle.frame_headers.specs.Tiles.{AreFewTiles};
 ghost use Rattle.planes.specs.Pictures.{IsBlank};
+ghost use Rattle.prob_contexts.specs.Lists.{lists_of};
 ghost use Rattle.frame_decoder.specs.Columns.{AreTileColumns};
 ghost use Rattle.frame_decoder.specs.Past.{IsPastOf, past_of};
-ghost use Rattle.frame_decoder.specs.Code.{ArePlanes, GivesRead, HoldsRead, IsDecoded, sources_of};
+ghost use Rattle.frame_decoder.specs.Code.{ArePlanes, GivesRead, IsBegun, HoldsRead, IsDecoded, sources_of};
 ghost use Rattle.frame_decoder.specs.Frames.{read_all_tiles};
 ghost use Rattle.frame_decoder.specs.Reading.{nothing_read};
 ghost use Rattle.frame_decoder.specs.Sources.{adapts};
@@ -64,35 +65,49 @@ fn decode_counted(
     }
 }
 
-/// Decodes a coded frame, whose compressed header lies at `compressed`, into a picture of zeros of its shape.
-pub fn decode_frame(
-    alloc: Global,
+/// Reads what a frame says before its tiles, whose compressed header lies at `compressed`, and tests the sizes of its tiles.
+pub fn begin_frame(
     bytes: &[u8],
     header: &Header,
     compressed: Span,
-    past: FramePast<'_>,
-    picture: &mut Picture,
-) -> Result<Decoded, Halt>
+    before: &Contexts,
+) -> Result<FrameSetting, Rule>
     requires size { IsFrameSize header.now.size }
     requires few { AreFewTiles header.now.params.tiles }
     requires order { compressed.from ≤ compressed.to }
     requires within { compressed.to ≤ length bytes.now }
-    requires past { IsPastOf header.now past }
-    requires blank { IsBlank (shape_of header.now) picture.old }
-    ensures { IsDecoded (record { header = header.now; compressed = compressed; bytes = bytes.now; past = past_of past.entry }) picture.new result }
+    ensures { IsBegun header.now bytes.now compressed (lists_of before.now) result }
 {
-    let before = past.contexts;
     let (contexts, modes) = read(&bytes[compressed.from..compressed.to], header, before)?;
     check_tiles(bytes, header, compressed)?;
-    let setting = FrameSetting::new(header, modes, contexts);
+    Ok(FrameSetting::new(header, modes, contexts))
+}
+
+/// Decodes a coded frame that is begun, into a picture of zeros of its shape.
+pub fn decode_frame(
+    alloc: Global,
+    bytes: &[u8],
+    setting: FrameSetting,
+    compressed: Span,
+    past: FramePast<'_>,
+    picture: &mut Picture,
+) -> Result<Decoded, Halt>
+    requires few { AreFewTiles setting.header.params.tiles }
+    requires within { compressed.to ≤ length bytes.now }
+    requires begun { IsBegun setting.header bytes.now compressed (lists_of past.contexts.now) (Ok setting) }
+    requires past { IsPastOf setting.header past }
+    requires blank { IsBlank (shape_of setting.header) picture.old }
+    ensures { IsDecoded (record { header = setting.header; compressed = compressed; bytes = bytes.now; past = past_of past.entry }) picture.new result }
+{
     let by = FrameSources { setting, past };
+    let header = &by.setting.header;
     let mut columns = TileColumn::all(alloc, &by.setting)?;
     let planes = picture.planes_mut();
     let counts = decode_counted(bytes, &by, compressed, &mut columns, planes)?;
     let blocks = FrameBlocks::new(header, &columns);
     filter_frame(picture.planes_mut(), &EdgeSetting::new(header), &blocks);
     Ok(Decoded {
-        contexts,
+        contexts: by.setting.contexts,
         columns,
         counts,
     })

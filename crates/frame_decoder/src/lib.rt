@@ -11,7 +11,7 @@ mod tile_places;
 mod tiles;
 
 pub use columns::{BlockRoom, TileColumn};
-pub use decoding::{Decoded, decode_frame};
+pub use decoding::{Decoded, begin_frame, decode_frame};
 pub use frame_blocks::FrameBlocks;
 pub use halt::Halt;
 pub use sources::{FramePast, FrameSources, adapts};

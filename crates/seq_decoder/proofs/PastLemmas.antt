@@ -236,11 +236,11 @@ vectors_are header last b takes same columns =
 
 ---- The input of a frame ----
 
-pub input_is : (state : State) (header : Header) (bytes : List ℕ) (compressed : Span) (past : FramePast) → past.contexts ≡ context_before header state.contexts
+pub input_is : (state : State) (own header : Header) (bytes : List ℕ) (compressed : Span) (past : FramePast) → own ≡ header → past.contexts ≡ context_before header state.contexts
     → past.segments ≡ segments_before header (last_size state.last) state.segments → past.vectors ≡ vectors_before header state.last → past.references ≡ references_of state.slots header.kind
-    → ◌≡◌ {A = FrameInput} (record { header = header; compressed = compressed; bytes = bytes; past = past }) (input_of state bytes header compressed)
-input_is state header bytes compressed past contexts segments vectors references = λ i. record {
-  header = header;
+    → ◌≡◌ {A = FrameInput} (record { header = own; compressed = compressed; bytes = bytes; past = past }) (input_of state bytes header compressed)
+input_is state own header bytes compressed past same contexts segments vectors references = λ i. record {
+  header = same i;
   compressed = compressed;
   bytes = bytes;
   past = record { contexts = contexts i; segments = segments i; vectors = vectors i; references = references i };

@@ -18,7 +18,7 @@ use crate::segments::{begin_segments, keep_segments, segments_of};
 use crate::showing::show;
 use edge_io::{PutFault, Sink};
 use file_frames::FileFrame;
-use frame_decoder::{FramePast, Halt, decode_frame};
+use frame_decoder::{FramePast, Halt, begin_frame, decode_frame};
 use frame_headers::{FrameHead, Header, Persist, read};
 use picture_table::PictureTable;
 use planes::Picture;
@@ -78,7 +78,7 @@ impl Decoder {
         }
     }
 
-    /// Decodes a frame into a picture that no slot holds, and makes the saved contexts and the segments those that the frame
+    /// Decodes a frame into a picture that no slot holds, which is taken when what comes before its tiles breaks no rule, and makes the saved contexts and the segments those that the frame
     /// starts with.
     fn decode_picture(
         &mut self,
@@ -97,9 +97,10 @@ impl Decoder {
         ensures begun { OnOk result ((state : State) → StandsFor self.old state → HasBegun header.now self.new state) }
         ensures may { OnOk result (MayDecode (record self.new { persist = record self.new.persist { size = Some header.now.size } })) }
     {
-        begin_segments(alloc, header, self.persist.size, &mut self.segments)?;
         self.saved.reset(header);
         let before = self.saved.at(place_of(header));
+        let setting = begin_frame(bytes, header, compressed, &before)?;
+        begin_segments(alloc, header, self.persist.size, &mut self.segments)?;
         let place = self.table.blank(alloc, header.shape())?;
         let mut picture = replace(&mut self.table.pictures[place], Picture::none(alloc));
         let past = FramePast {
@@ -108,7 +109,7 @@ impl Decoder {
             vectors: vectors_before(header, &self.last),
             pictures: pictures_for(header, &self.table),
         };
-        let decoded = decode_frame(alloc, bytes, header, compressed, past, &mut picture)?;
+        let decoded = decode_frame(alloc, bytes, setting, compressed, past, &mut picture)?;
         self.table.pictures[place] = picture;
         Ok(Coded { decoded, place })
     }

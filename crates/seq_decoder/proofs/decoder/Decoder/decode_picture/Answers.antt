@@ -7,13 +7,39 @@ use Rattle.std.proofs.lemmas.Result.{err_from_is_err_and}
 use Rattle.planes.specs.Pictures.{IsBlank}
 use Rattle.picture_table.proofs.Places.{held_beside, put_there, table_beside}
 use Rattle.frame_decoder.specs.Frames.{decoded}
-use Rattle.seq_decoder.specs.After.{segments_before, vectors_before}
-use Rattle.seq_decoder.specs.Code.{NamesHeld, segments_held, shape_told}
+use Rattle.seq_decoder.specs.After.{past_of, segments_before, vectors_before}
+use Rattle.seq_decoder.specs.Code.{HasPlaces, NamesHeld, segments_held, shape_told}
+use Rattle.frame_decoder.specs.Code.{HoldsResult}
 use Rattle.seq_decoder.specs.SavedContexts.{context_at, place_of, saved_before}
 use Rattle.seq_decoder.proofs.FrameLemmas.{sized_with}
 use Rattle.seq_decoder.proofs.PastLemmas.{coded_halts, input_is}
 use Rattle.seq_decoder.proofs.ShowingLemmas.{picture_is}
 use Rattle.seq_decoder.proofs.decoder.Decoder.decode_picture.Goals as goal
+
+pub returns-in_err-setting-clause-coded : goal.returns-in_err-setting-clause-coded
+returns-in_err-setting-clause-coded c = λ state stands.
+    let p = err_from_is_err_and c.from_residual.result c.from_residual.ensures.1 in
+    let header = c.args.header.now in
+    rw (p.1, p.2) (c.in_err-setting.ensures (past_of state header)
+    (sym (c.at-before.ensures ∙ (λ i. context_at (c.reset.ensures i) (c.place_of.ensures i)) ∙ ap (λ saved. context_at (saved_before header saved) (place_of header)) stands.contexts)))
+
+pub decode_frame-requires-clause-few : goal.decode_frame-requires-clause-few
+decode_frame-requires-clause-few c = rw c.in_ok-setting.ensures.0 c.requires.few
+
+pub decode_frame-requires-clause-begun : goal.decode_frame-requires-clause-begun
+decode_frame-requires-clause-begun c =
+    let begun = c.in_ok-setting.ensures in (refl, rw begun.0 begun.1, rw begun.0 begun.2)
+
+pub decode_frame-requires-clause-past : goal.decode_frame-requires-clause-past
+decode_frame-requires-clause-past c =
+    let places = subst (HasPlaces (Some c.args.header.now.size)) c.segments_of.ensures c.in_ok-begin_segments.ensures.places in
+    rw c.in_ok-setting.ensures.0 (record {
+      shape = c.pictures_for.ensures.shape;
+      rows = places.0;
+      cols = places.1;
+      vectors = c.vectors_before.ensures.are;
+      pictures = c.pictures_for.ensures.has;
+    })
 
 pub pictures_for-requires-clause-table : goal.pictures_for-requires-clause-table
 pictures_for-requires-clause-table c =
@@ -28,7 +54,7 @@ pub decode_frame-requires-clause-blank : goal.decode_frame-requires-clause-blank
 decode_frame-requires-clause-blank c =
     let blank = c.in_ok-place.ensures.blank in
     let same = c.replace-picture.ensures.value ∙ picture_is c.blank.new.self.pictures.items c.in_ok-place.place blank.0 c.index_mut.result.now blank.1 c.index_mut.ensures.value in
-    rw same (subst (λ s. IsBlank s blank.0) c.shape.ensures blank.2)
+    rw (same, c.in_ok-setting.ensures.0) (subst (λ s. IsBlank s blank.0) c.shape.ensures blank.2)
 
 pub returns-in_err-decoded-clause-coded : goal.returns-in_err-decoded-clause-coded
 returns-in_err-decoded-clause-coded c = λ state stands.
@@ -39,7 +65,7 @@ returns-in_err-decoded-clause-coded c = λ state stands.
     let dest = c.replace-picture.new.dest in
     let still = held_beside t.pictures.items place dest t.slots c.in_ok-place.ensures.free ∙ c.blank.ensures.held in
     let input =
-    input_is state header c.args.bytes.now c.args.compressed _
+    input_is state _ header c.args.bytes.now c.args.compressed _ c.in_ok-setting.ensures.0
     (c.at-before.ensures ∙ (λ i. context_at (c.reset.ensures i) (c.place_of.ensures i)) ∙ ap (λ saved. context_at (saved_before header saved) (place_of header)) stands.contexts)
     (ap segments_held (sym c.segments_of.ensures) ∙ c.in_ok-begin_segments.ensures.map ∙ (λ i. segments_before header (stands.persist i).size (stands.segments i)))
     (c.vectors_before.ensures.blocks ∙ ap (vectors_before header) stands.last)
@@ -61,7 +87,7 @@ returns-clause-coded c = λ state stands.
     let dest = c.replace-picture.new.dest in
     let still = held_beside t.pictures.items place dest t.slots c.in_ok-place.ensures.free ∙ c.blank.ensures.held in
     let input =
-    input_is state header c.args.bytes.now c.args.compressed _
+    input_is state _ header c.args.bytes.now c.args.compressed _ c.in_ok-setting.ensures.0
     (c.at-before.ensures ∙ (λ i. context_at (c.reset.ensures i) (c.place_of.ensures i)) ∙ ap (λ saved. context_at (saved_before header saved) (place_of header)) stands.contexts)
     (ap segments_held (sym c.segments_of.ensures) ∙ c.in_ok-begin_segments.ensures.map ∙ (λ i. segments_before header (stands.persist i).size (stands.segments i)))
     (c.vectors_before.ensures.blocks ∙ ap (vectors_before header) stands.last)
@@ -72,7 +98,7 @@ returns-clause-coded c = λ state stands.
         picture = c.decode_frame.new.picture;
         there = put_there (slice_set t.pictures.items place dest) place dest c.decode_frame.new.picture (put_there t.pictures.items place blank.0 dest blank.1);
         free = c.in_ok-place.ensures.free;
-        holds = decodes.2;
+        holds = subst (λ h. HoldsResult h c.decode_frame.new.picture c.in_ok-decoded.decoded decodes.0) c.in_ok-setting.ensures.0 decodes.2;
       },
     )
 
@@ -88,7 +114,7 @@ returns-clause-at c =
         picture = c.decode_frame.new.picture;
         there = put_there (slice_set t.pictures.items place dest) place dest c.decode_frame.new.picture (put_there t.pictures.items place blank.0 dest blank.1);
         free = c.in_ok-place.ensures.free;
-        holds = decodes.2;
+        holds = subst (λ h. HoldsResult h c.decode_frame.new.picture c.in_ok-decoded.decoded decodes.0) c.in_ok-setting.ensures.0 decodes.2;
       },
     )
 
