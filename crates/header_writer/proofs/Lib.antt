@@ -1,0 +1,5 @@
+pub mod FieldLaws
+pub mod EachPuts
+pub mod BitsPut
+pub mod TilePuts
+pub mod HeaderReads
