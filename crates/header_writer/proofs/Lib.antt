@@ -3,3 +3,4 @@ pub mod EachPuts
 pub mod BitsPut
 pub mod TilePuts
 pub mod HeaderReads
+pub mod SlotPuts

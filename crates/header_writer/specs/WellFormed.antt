@@ -24,6 +24,7 @@ use Rattle.frame_headers.specs.declared.segments.MapUpdate.{MapUpdate}
 use Rattle.frame_headers.specs.declared.segments.SegmentFeatures.{SegmentFeatures}
 use Rattle.frame_headers.specs.declared.segments.Segmentation.{Segmentation}
 use Rattle.frame_headers.specs.declared.tiles.TileInfo.{TileInfo}
+use Rattle.header_writer.specs.declared.choices.Choices.{Choices}
 use Rattle.frame_headers.specs.Color.{is_odd_profile, default_color}
 use Rattle.frame_headers.specs.Header.{forgets, kept_deltas, kept_features}
 use Rattle.frame_headers.specs.References.{has_format, is_in_range, all_of, some_of}
@@ -77,7 +78,7 @@ IsMapUpdate map = map.temporal ≡ false → map.prediction ≡ replicate 3 255
 pub record IsSegmentation (old : Features) (segmentation : Segmentation) : Type 0 where
   pub disabled : segmentation.enabled ≡ false → (segmentation.map ≡ None) × (segmentation.features ≡ old)
   pub map : IfSome segmentation.map IsMapUpdate
-  pub features : segmentation.features ≢ old → All AreSegmentFeatures segmentation.features.segments
+  pub features : All AreSegmentFeatures segmentation.features.segments
 
 -- as many columns as the width allows
 pub record IsTileInfo (width : ℕ) (tiles : TileInfo) : Type 0 where
@@ -134,6 +135,16 @@ pub record IsHeader (before : Persist) (header : Header) : Type 0 where
   pub contexts : IsContexts header.error_resilient header.contexts
   pub params : IsParams (kept_deltas before (forgets header.kind header.error_resilient)) (kept_features before (forgets header.kind header.error_resilient))
       header.size.width header.params
+
+-- what isn't coded is as it was before
+pub record AreKept (deltas : LoopDeltas) (features : Features) (choices : Choices) (params : FrameParams) : Type 0 where
+  pub deltas_kept : choices.deltas ≡ false → params.loop_filter.deltas ≡ deltas
+  pub features_kept : choices.features ≡ false → params.segmentation.features ≡ features
+
+abbrev pub CanChoose : Persist → Choices → Uncompressed → Type 0
+CanChoose before choices (ShowExisting slot) = Unit {0}
+CanChoose before choices (Coded header) =
+    AreKept (kept_deltas before (forgets header.kind header.error_resilient)) (kept_features before (forgets header.kind header.error_resilient)) choices header.params
 
 -- a slot that is shown holds a frame
 abbrev pub IsWellFormed : Persist → Uncompressed → Type 0

@@ -1,6 +1,6 @@
 //! The loop filter's parameters.
 
-ghost use Rattle.std.specs.Prelude.{◌≡◌, ◌≢◌, length, IfOk};
+ghost use Rattle.std.specs.Prelude.{◌≡◌, ◌≢◌, length, IfOk, false};
 ghost use Rattle.vp9_types.specs.Each.{each};
 ghost use Rattle.frame_headers.specs.Filter.{coded_delta, coded_deltas, delta_changes, loop_filter_params};
 ghost use Rattle.header_writer.specs.Fields.{Puts};
@@ -73,18 +73,20 @@ fn put_coded_deltas(
     )
 }
 
-/// Deltas are coded where they change.
+/// Deltas that aren't coded are as they were.
 #[tactic(auto, unfolding(frame_headers::specs::Filter::delta_changes), using(bool_encoder::proofs::Binds::writes_bind))]
 fn put_delta_changes(
     bits: &mut BitWriter,
     old: LoopDeltas,
     deltas: LoopDeltas,
+    update: bool,
 ) -> Result<(), AllocError>
+    requires kept { update ≡ false → deltas ≡ old }
     requires reference { AreDeltas old.reference deltas.reference }
     requires mode { AreDeltas old.mode deltas.mode }
     ensures { IfOk result (λ _. Puts (delta_changes old) bits.old deltas bits.new) }
 {
-    if deltas == old {
+    if !update {
         return bits.flag(FieldName::LoopFilterDeltaUpdate, false);
     }
     bits.flag(FieldName::LoopFilterDeltaUpdate, true)?;
@@ -97,15 +99,17 @@ pub fn put_loop_filter(
     bits: &mut BitWriter,
     old: LoopDeltas,
     filter: LoopFilter,
+    update: bool,
 ) -> Result<(), AllocError>
-    requires { IsLoopFilter old filter }
+    requires is { IsLoopFilter old filter }
+    requires kept { update ≡ false → filter.deltas ≡ old }
     ensures { IfOk result (λ _. Puts (loop_filter_params old) bits.old filter bits.new) }
 {
     bits.byte(FieldName::LoopFilterLevel, 6, filter.level)?;
     bits.byte(FieldName::LoopFilterSharpness, 3, filter.sharpness)?;
     bits.flag(FieldName::LoopFilterDeltaEnabled, filter.delta_enabled)?;
     if filter.delta_enabled {
-        put_delta_changes(bits, old, filter.deltas)?;
+        put_delta_changes(bits, old, filter.deltas, update)?;
     }
     Ok(())
 }

@@ -1,11 +1,8 @@
 //! The references of inter frames.
 
-ghost use Rattle.std.specs.Prelude.{◌≡◌, ◌<◌, IfOk, true, false, not, ◌&&◌, slice_index_or, Some, None};
-ghost use Rattle.vp9_types.specs.declared.rule.Rule.{Rule};
-ghost use Rattle.vp9_types.specs.declared.shape.Shape.{Shape};
-ghost use Rattle.frame_headers.specs.declared.persist.Persist.{Persist};
+ghost use Rattle.std.specs.Prelude.{◌≡◌, ◌<◌, ◌&&◌, not, IfOk, true, false};
 ghost use Rattle.frame_headers.specs.declared.header.FrameKind.TheVariants as kinds;
-ghost use Rattle.frame_headers.specs.References.{slot_shape, reference, references, found_size, filter_of, interpolation_filter, inter_fields, some_of, all_of, is_in_range, has_format};
+ghost use Rattle.frame_headers.specs.References.{reference, references, found_size, filter_of, interpolation_filter, inter_fields};
 ghost use Rattle.frame_headers.specs.Sizes.{IsFrameSize};
 ghost use Rattle.header_writer.specs.Fields.{Puts};
 ghost use Rattle.header_writer.specs.WellFormed.{IsReference, AreReferences};
@@ -19,18 +16,15 @@ use frame_headers::{
 use std::alloc::AllocError;
 use vp9_types::InterpFilter;
 
-/// Puts the number of a slot, which holds a frame.
-#[tactic(auto, unfolding(frame_headers::specs::References::slot_shape), using(bool_encoder::proofs::Binds::writes_bind))]
-pub fn put_slot(bits: &mut BitWriter, name: FieldName, slot: u8) -> Result<(), AllocError>
-    requires { slot < 8 }
-    ensures { (before : Persist) (missing : Rule) (shape : Shape) → slice_index_or before.slots slot None ≡ Some shape →
-        IfOk result (λ _. Puts (slot_shape name before missing) bits.old (slot, shape) bits.new) }
+/// The bias that is coded is what is chosen in an error-resilient frame, where it counts as 0, or else what it is.
+fn coded_bias(error_resilient: bool, bias: bool, chosen: bool) -> bool
+    requires { error_resilient ≡ true → bias ≡ false }
+    ensures { (not error_resilient && result) ≡ bias }
 {
-    bits.byte(name, 3, slot)
+    if error_resilient { chosen } else { bias }
 }
 
-/// The bias is the reference's; of an error-resilient frame, where it counts as 0, it is what is chosen.
-#[tactic(auto, unfolding(frame_headers::specs::References::reference), using(bool_encoder::proofs::Binds::writes_bind))]
+#[tactic(auto, using(crate::proofs::SlotPuts::reference_put))]
 fn put_reference(
     bits: &mut BitWriter,
     before: &Persist,
@@ -41,11 +35,9 @@ fn put_reference(
     requires { IsReference before.now error_resilient r }
     ensures { IfOk result (λ _. Puts (reference before.now error_resilient) bits.old r bits.new) }
 {
-    put_slot(bits, FieldName::RefFrameIdx, r.slot)?;
-    if error_resilient {
-        return bits.flag(FieldName::RefFrameSignBias, bias);
-    }
-    bits.flag(FieldName::RefFrameSignBias, r.sign_bias)
+    bits.byte(FieldName::RefFrameIdx, 3, r.slot)?;
+    let coded = coded_bias(error_resilient, r.sign_bias, bias);
+    bits.flag(FieldName::RefFrameSignBias, coded)
 }
 
 #[tactic(auto, unfolding(frame_headers::specs::References::references), using(bool_encoder::proofs::Binds::writes_bind))]

@@ -143,20 +143,22 @@ fn put_map(bits: &mut BitWriter, map: Option<MapUpdate>) -> Result<(), AllocErro
     }
 }
 
-/// Features are coded where they change.
+/// Features that aren't coded are as they were.
 #[tactic(auto, unfolding(frame_headers::specs::Segments::enabled_params, frame_headers::specs::Segments::features_or_old), using(bool_encoder::proofs::Binds::writes_bind))]
 fn put_enabled(
     bits: &mut BitWriter,
     old: &Features,
     segmentation: &Segmentation,
+    update: bool,
 ) -> Result<(), AllocError>
+    requires kept { update ≡ false → segmentation.now.features ≡ old.now }
     requires enabled { segmentation.now.enabled ≡ true }
     requires is { IsSegmentation old.now segmentation.now }
     ensures { IfOk result (λ _. Puts (enabled_params old.now) bits.old segmentation.now bits.new) }
 {
     bits.flag(FieldName::SegmentationUpdateMap, segmentation.map.is_some())?;
     put_map(bits, segmentation.map)?;
-    if segmentation.features == *old {
+    if !update {
         return bits.flag(FieldName::SegmentationUpdateData, false);
     }
     bits.flag(FieldName::SegmentationUpdateData, true)?;
@@ -169,13 +171,15 @@ pub fn put_segmentation(
     bits: &mut BitWriter,
     old: &Features,
     segmentation: &Segmentation,
+    update: bool,
 ) -> Result<(), AllocError>
-    requires { IsSegmentation old.now segmentation.now }
+    requires kept { update ≡ false → segmentation.now.features ≡ old.now }
+    requires is { IsSegmentation old.now segmentation.now }
     ensures { IfOk result (λ _. Puts (segmentation_params old.now) bits.old segmentation.now bits.new) }
 {
     if segmentation.enabled {
         bits.flag(FieldName::SegmentationEnabled, true)?;
-        return put_enabled(bits, old, segmentation);
+        return put_enabled(bits, old, segmentation, update);
     }
     bits.flag(FieldName::SegmentationEnabled, false)
 }

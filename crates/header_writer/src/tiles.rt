@@ -56,9 +56,10 @@ fn put_more_columns(
         bits.flag(FieldName::IncrementTileColsLog2, true)?;
         now += 1;
     }
-    if log2 < greatest {
-        bits.flag(FieldName::IncrementTileColsLog2, false)?;
+    if greatest <= log2 {
+        return Ok(());
     }
+    bits.flag(FieldName::IncrementTileColsLog2, false)?;
     Ok(())
 }
 

@@ -3,23 +3,24 @@
 ghost use Rattle.std.specs.Prelude.{◌≡◌, ◌<◌, ◌≤◌, ◌++◌, List, ℕ, IfOk, OnErr, true, false};
 ghost use Rattle.frame_headers.specs.Header.{coded_profile, frame_profile, frame_sync_code, frame_contexts, frame_params, key_fields, intra_only_fields, intra_and_reset, other_fields, frame_fields, frame_start, forgets, kept_deltas, kept_features, coded_frame, uncompressed_header};
 ghost use Rattle.frame_headers.specs.declared.header.FrameKind.TheVariants as kinds;
+ghost use Rattle.frame_headers.specs.declared.header.Uncompressed.TheVariants as headers;
 ghost use Rattle.frame_headers.specs.Sizes.{IsFrameSize};
 ghost use Rattle.header_writer.specs.Code.{fields_of, start_of};
 ghost use Rattle.header_writer.specs.Fields.{Puts};
 ghost use Rattle.header_writer.specs.Reads.{HoldsHeader};
-ghost use Rattle.header_writer.specs.WellFormed.{IsColor, IsIntraOnlyColor, IsReset, IsContexts, IsParams, IsOfKind, IsHeader, IsWellFormed};
+ghost use Rattle.header_writer.specs.WellFormed.{IsColor, IsIntraOnlyColor, IsReset, IsContexts, IsParams, IsOfKind, IsHeader, IsWellFormed, AreKept, CanChoose};
 
 use crate::bits::BitWriter;
 use crate::choices::Choices;
 use crate::color::{put_color_config, put_intra_only_color, put_reserved_zero};
 use crate::filter::put_loop_filter;
 use crate::quantizer::put_quantizer;
-use crate::references::{put_inter_fields, put_slot};
+use crate::references::put_inter_fields;
 use crate::segments::put_segmentation;
 use crate::size::{put_frame_size, put_render_size};
 use crate::tiles::put_tile_info;
 use frame_headers::{
-    Features, FieldName, FrameContexts, FrameFields, FrameKind, FrameParams, FrameStart, Header,
+    Features, FieldName, FrameContexts, FrameFields, FrameKind, FrameStart, Header,
     LoopDeltas, Persist, Uncompressed,
 };
 use std::alloc::{AllocError, Global};
@@ -80,16 +81,18 @@ fn put_frame_params(
     bits: &mut BitWriter,
     deltas: LoopDeltas,
     features: &Features,
-    width: u32,
-    params: &FrameParams,
+    header: &Header,
+    choices: Choices,
 ) -> Result<(), AllocError>
-    requires { IsParams deltas features.now width params.now }
-    ensures { IfOk result (λ _. Puts (frame_params deltas features.now width) bits.old params.now bits.new) }
+    requires are { IsParams deltas features.now header.now.size.width header.now.params }
+    requires kept { AreKept deltas features.now choices header.now.params }
+    ensures { IfOk result (λ _. Puts (frame_params deltas features.now header.now.size.width) bits.old header.now.params bits.new) }
 {
-    put_loop_filter(bits, deltas, params.loop_filter)?;
+    let params = &header.params;
+    put_loop_filter(bits, deltas, params.loop_filter, choices.deltas)?;
     put_quantizer(bits, params.quantizer)?;
-    put_segmentation(bits, features, &params.segmentation)?;
-    put_tile_info(bits, width, params.tiles)?;
+    put_segmentation(bits, features, &params.segmentation, choices.features)?;
+    put_tile_info(bits, header.size.width, params.tiles)?;
     bits.field(FieldName::HeaderSizeInBytes, 16, params.compressed_size)
 }
 
@@ -239,14 +242,15 @@ fn put_coded_frame(
     header: &Header,
     choices: Choices,
 ) -> Result<(), AllocError>
-    requires { IsHeader before.now header.now }
+    requires is { IsHeader before.now header.now }
+    requires can { CanChoose before.now choices (headers.Coded header.now) }
     ensures { IfOk result (λ _. Puts (coded_frame before.now header.now.profile) bits.old header.now bits.new) }
 {
     put_frame_start(bits, start_of(header))?;
     put_frame_fields(bits, before, header, choices)?;
     put_frame_contexts(bits, header.error_resilient, header.contexts)?;
     let (deltas, features) = kept_by(before, header);
-    put_frame_params(bits, deltas, &features, header.size.width, &header.params)
+    put_frame_params(bits, deltas, &features, header, choices)
 }
 
 #[tactic(auto, unfolding(frame_headers::specs::Header::uncompressed_header), using(bool_encoder::proofs::Binds::writes_bind))]
@@ -256,14 +260,16 @@ fn put_uncompressed(
     header: &Uncompressed,
     choices: Choices,
 ) -> Result<(), AllocError>
-    requires { IsWellFormed before.now header.now }
+    requires is { IsWellFormed before.now header.now }
+    requires can { CanChoose before.now choices header.now }
     ensures { IfOk result (λ _. Puts (uncompressed_header before.now) bits.old header.now bits.new) }
 {
     match header {
         Uncompressed::ShowExisting { slot } => {
             put_frame_profile(bits, 0)?;
             bits.flag(FieldName::ShowExistingFrame, true)?;
-            put_slot(bits, FieldName::FrameToShowMapIdx, *slot)
+            bits.byte(FieldName::FrameToShowMapIdx, 3, *slot)?;
+            Ok(())
         }
         Uncompressed::Coded(header) => {
             put_frame_profile(bits, header.profile)?;
@@ -281,7 +287,8 @@ pub fn write_uncompressed_header(
     header: &Uncompressed,
     choices: Choices,
 ) -> Result<(), AllocError>
-    requires { IsWellFormed before.now header.now }
+    requires is { IsWellFormed before.now header.now }
+    requires can { CanChoose before.now choices header.now }
     ensures put { IfOk result (λ _. (bytes : List ℕ) × (out.new.items ≡ out.old.items ++ bytes) × HoldsHeader before.now header.now bytes) }
     ensures same { OnErr result (out.new.items ≡ out.old.items) }
 {
