@@ -5,7 +5,7 @@ use Rattle.std.specs.List.{AllByRecursion, concat}
 use Rattle.std.specs.Int.{bytes_low_first, to_le_bytes, w32}
 use Rattle.std.proofs.Math.Seq.{drop-cons}
 use Rattle.std.proofs.lemmas.Bool.{ltb-true}
-use Rattle.std.proofs.lemmas.List.{append-nil, append_assoc, take_at, take_more, take_all, drop_all, length-append, length-map}
+use Rattle.std.proofs.lemmas.List.{append-nil, append_assoc, take_at, take_more, take_all, take-take, drop_all, length-append, length-map}
 use Rattle.byteorder.specs.Endian.{little_bytes, little_number}
 use Rattle.byteorder.specs.Numbers.{little_number-reads_back}
 use Rattle.ivf_container.proofs.Walks.{by_test}
@@ -69,7 +69,7 @@ is_index width sizes some few w =
       written = map (little_bytes width) sizes;
       is_header = omega (arith, least, most, some, few);
       whole = refl;
-      count = length-map (little_bytes width) sizes ∙ omega (arith, least, most, some, few);
+      count = length-map sizes (little_bytes width) ∙ omega (arith, least, most, some, few);
       each = each_long width (size_bytes header) sizes bytes;
       are_sizes = again width sizes w.fits ∙ ap (λ n. map (little_number n) (map (little_bytes width) sizes)) (sym bytes);
     }
@@ -117,12 +117,11 @@ list_more width [] x = append-nil (little_bytes width x)
 list_more width (y ∷ xs) x =
     ap (λ bytes. little_bytes width y ++ bytes) (list_more width xs x) ∙ sym (append_assoc (little_bytes width y) (size_list width xs) (little_bytes width x))
 
-pub sizes_go : (old now next sizes : List ℕ) (width i : ℕ) → i < length sizes → 1 ≤ width → width ≤ 4
-    → now ≡ old ++ size_list width (take i sizes) → next ≡ now ++ take width (to_le_bytes w32 (get_or sizes i 0)) → next ≡ old ++ size_list width (take (i + 1) sizes)
-sizes_go old now next sizes width i low some few h g =
-    g ∙ ap (λ bytes. bytes ++ take width (to_le_bytes w32 (get_or sizes i 0))) h
-    ∙ append_assoc old (size_list width (take i sizes)) (take width (to_le_bytes w32 (get_or sizes i 0)))
-    ∙ ap (λ bytes. old ++ (size_list width (take i sizes) ++ bytes)) (low_bytes_of width (get_or sizes i 0) some few)
+pub sizes_go : (old now next sizes : List ℕ) (width i : ℕ) → i < length sizes
+    → now ≡ old ++ size_list width (take i sizes) → next ≡ now ++ little_bytes width (get_or sizes i 0) → next ≡ old ++ size_list width (take (i + 1) sizes)
+sizes_go old now next sizes width i low h g =
+    g ∙ ap (λ bytes. bytes ++ little_bytes width (get_or sizes i 0)) h
+    ∙ append_assoc old (size_list width (take i sizes)) (little_bytes width (get_or sizes i 0))
     ∙ ap (λ bytes. old ++ bytes) (sym (ap (size_list width) (take_more sizes i 0 low) ∙ list_more width (take i sizes) (get_or sizes i 0)))
 
 pub sizes_end : (old now sizes : List ℕ) (width i : ℕ) → length sizes ≤ i → now ≡ old ++ size_list width (take i sizes) → now ≡ old ++ size_list width sizes
@@ -135,7 +134,10 @@ front_of old more now h = ap (take (length old)) h ∙ take_at old more (length 
 
 -- of a front that is longer
 pub front_within : (old more now : List ℕ) → take (length (old ++ more)) now ≡ old ++ more → take (length old) now ≡ old
-front_within old more now h = ?
+front_within old more now h =
+    let long = length-append old more in
+    let all : length old ≤ length (old ++ more) = omega (arith, long) in
+    sym (take-take (length old) (length (old ++ more)) now all) ∙ ap (take (length old)) h ∙ take_at old more (length old) refl
 
 pub index_ends : (old sizes mid now : List ℕ) (header : ℕ) → mid ≡ (old ++ header ∷ []) ++ sizes → now ≡ mid ++ header ∷ [] → now ≡ old ++ (header ∷ sizes ++ header ∷ [])
 index_ends old sizes mid now header h g =

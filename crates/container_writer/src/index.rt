@@ -1,6 +1,7 @@
 //! Superframe indexes (Annex B of the standard).
 
-ghost use Rattle.std.specs.Prelude.{◌≡◌, ◌≤◌, ◌++◌, length, take, IfOk, OnErr};
+ghost use Rattle.std.specs.Prelude.{◌≡◌, ◌≤◌, ◌++◌, max, length, take, IfOk, OnErr};
+ghost use Rattle.byteorder.specs.Endian.{little_bytes};
 ghost use Rattle.container_writer.specs.Indexes.{greatest, width_of, size_list, index_header, index_by, index_bytes};
 
 use std::alloc::AllocError;
@@ -8,12 +9,18 @@ use std::alloc::AllocError;
 /// The marker 110 of an index, in the three highest bits of its first and last byte.
 const MARKER: u8 = 0xc0;
 
+fn larger(a: u32, b: u32) -> u32
+    ensures { result ≡ max a b }
+{
+    if a < b { b } else { a }
+}
+
 fn greatest_of(sizes: &[u32]) -> u32
     ensures { result ≡ greatest sizes.now }
 {
     let mut most = 0;
     for i in 0..sizes.len() {
-        most = most.max(sizes[i]);
+        most = larger(most, sizes[i]);
     }
     most
 }
@@ -35,6 +42,19 @@ fn bytes_of(size: u32) -> u8
     4
 }
 
+/// Puts a size in so many bytes, the lowest first. After want of memory all is as it was.
+#[tactic(auto, using(crate::proofs::WrittenIndexes::low_bytes_of))]
+fn put_size(out: &mut Vec<u8>, size: u32, width: u8) -> Result<(), AllocError>
+    requires least { 1 ≤ width }
+    requires most { width ≤ 4 }
+    ensures put { IfOk result (λ _. out.new.items ≡ out.old.items ++ little_bytes width size) }
+    ensures same { OnErr result (out.new.items ≡ out.old.items) }
+{
+    let bytes = size.to_le_bytes();
+    out.extend_from_slice(&bytes[..usize::from(width)])?;
+    Ok(())
+}
+
 /// Puts each size in as many bytes, the lowest first. After want of memory some may be there.
 fn put_sizes(out: &mut Vec<u8>, sizes: &[u32], width: u8) -> Result<(), AllocError>
     requires least { 1 ≤ width }
@@ -43,8 +63,7 @@ fn put_sizes(out: &mut Vec<u8>, sizes: &[u32], width: u8) -> Result<(), AllocErr
     ensures front { take (length out.old.items) out.new.items ≡ out.old.items }
 {
     for i in 0..sizes.len() {
-        let size = sizes[i].to_le_bytes();
-        out.extend_from_slice(&size[..usize::from(width)])?;
+        put_size(out, sizes[i], width)?;
     }
     Ok(())
 }
