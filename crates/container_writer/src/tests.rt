@@ -22,7 +22,10 @@ fn packets(rt: HostRuntime) -> Result<(), Fail> {
 fn header(rt: HostRuntime) -> Result<(), Fail> {
     let mut out = Vec::new(rt.alloc());
     write_header(&mut out, 520, 136, 30, 1, 1)?;
-    assert_eq!(rt; out.as_slice(), b"DKIF\0\0 \0VP90\x08\x02\x88\0\x1e\0\0\0\x01\0\0\0\x01\0\0\0\0\0\0\0".as_slice());
+    assert_eq!(rt;
+        out.as_slice(),
+        b"DKIF\0\0 \0VP90\x08\x02\x88\0\x1e\0\0\0\x01\0\0\0\x01\0\0\0\0\0\0\0".as_slice()
+    );
     Ok(())
 }
 

@@ -1,5 +1,4 @@
-use Rattle.std.proofs.Common.{◌≡◌, ◌<◌, ◌≤◌, max, length, drop, get_or, arith}
-use Rattle.container_writer.specs.Indexes.{greatest}
+use Rattle.std.proofs.Common.{arith}
 use Rattle.container_writer.proofs.WrittenIndexes.{greatest_goes, greatest_ends}
 use Rattle.container_writer.proofs.index.greatest_of.Goals as goal
 
