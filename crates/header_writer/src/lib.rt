@@ -9,6 +9,8 @@ mod quantizer;
 mod references;
 mod segments;
 mod size;
+#[cfg(test)]
+mod tests;
 mod tiles;
 mod writing;
 
