@@ -20,8 +20,8 @@ use crate::segments::put_segmentation;
 use crate::size::{put_frame_size, put_render_size};
 use crate::tiles::put_tile_info;
 use frame_headers::{
-    Features, FieldName, FrameContexts, FrameFields, FrameKind, FrameStart, Header,
-    LoopDeltas, Persist, Uncompressed,
+    Features, FieldName, FrameContexts, FrameFields, FrameKind, FrameStart, Header, LoopDeltas,
+    Persist, Uncompressed,
 };
 use std::alloc::{AllocError, Global};
 
@@ -97,11 +97,7 @@ fn put_frame_params(
 }
 
 #[tactic(auto, unfolding(frame_headers::specs::Header::key_fields), using(bool_encoder::proofs::Binds::writes_bind))]
-fn put_key_fields(
-    bits: &mut BitWriter,
-    profile: u8,
-    fields: &FrameFields,
-) -> Result<(), AllocError>
+fn put_key_fields(bits: &mut BitWriter, profile: u8, fields: &FrameFields) -> Result<(), AllocError>
     requires size { IsFrameSize fields.now.size }
     requires color { IsColor profile fields.now.color }
     requires kind { fields.now.kind ≡ kinds.Key }
@@ -198,7 +194,11 @@ fn put_frame_fields(
     ensures { IfOk result (λ _. Puts (frame_fields before.now header.now.profile (start_of header.now)) bits.old (fields_of header.now) bits.new) }
 {
     let fields = fields_of(header);
-    let (show, resilient, reset) = (header.show_frame, header.error_resilient, header.reset_context);
+    let (show, resilient, reset) = (
+        header.show_frame,
+        header.error_resilient,
+        header.reset_context,
+    );
     match &header.kind {
         FrameKind::Key => put_key_fields(bits, header.profile, &fields),
         FrameKind::IntraOnly => {

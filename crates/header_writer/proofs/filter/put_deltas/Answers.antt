@@ -16,7 +16,7 @@ loop-i-preserved c =
     let new : to_z w16 (of_z w16 (get_or c.args.deltas.now c.loop-i.i (pos 0))) ≡ get_or c.args.deltas.now c.loop-i.i (pos 0) = search rules in
     let put = rw (old, new) at c.in_ok-put_delta.ensures in
     each_on (coded_delta c.args.update c.args.name) c.args.olds.now c.args.bits.now c.args.deltas.now c.loop-i.i (pos 0) (pos 0) c.loop-i.bits c.put_delta.new.bits
-        low there c.loop-i.invariant put
+    low there c.loop-i.invariant put
 
 pub returns : goal.returns
 returns c =

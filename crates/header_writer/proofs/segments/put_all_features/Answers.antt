@@ -12,11 +12,11 @@ loop-i-preserved c =
     let there : c.loop-i.i < length c.args.segments.now = c.loop-i-test.true in
     let size = length-replicate (length c.args.segments.now) no_segment_features in
     each_on features_for (replicate (length c.args.segments.now) no_segment_features) c.args.bits.now c.args.segments.now c.loop-i.i no_segment_features _
-        c.loop-i.bits c.put_segment_features.new.bits (omega (arith, size, there)) there c.loop-i.invariant c.in_ok-put_segment_features.ensures
+    c.loop-i.bits c.put_segment_features.new.bits (omega (arith, size, there)) there c.loop-i.invariant c.in_ok-put_segment_features.ensures
 
 pub returns : goal.returns
 returns c =
     let there : length c.args.segments.now ≤ c.loop-i.i = c.loop-i-test.false in
     let size = length-replicate (length c.args.segments.now) no_segment_features in
     each_all features_for (replicate (length c.args.segments.now) no_segment_features) c.args.bits.now c.args.segments.now c.loop-i.i c.loop-i.bits
-        (omega (arith, size, there)) there c.loop-i.invariant
+    (omega (arith, size, there)) there c.loop-i.invariant

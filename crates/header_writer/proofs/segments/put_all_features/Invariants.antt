@@ -6,4 +6,4 @@ use Rattle.header_writer.proofs.segments.put_all_features.Given as goal
 abbrev pub invariant-loop-i : goal.invariant-loop-i
 invariant-loop-i l =
     EachLeft features_for (replicate (length l.segments) no_segment_features) l.fn.bits (take l.i l.segments)
-        (drop l.i (replicate (length l.segments) no_segment_features)) l.bits
+    (drop l.i (replicate (length l.segments) no_segment_features)) l.bits

@@ -12,7 +12,7 @@ loop-i-preserved c =
     let there : c.loop-i.i < length c.args.values.now = c.loop-i-test.true in
     let size = length-replicate {A = ℕ} (length c.args.values.now) 255 in
     each_on probability_for (replicate (length c.args.values.now) 255) c.args.bits.now c.args.values.now c.loop-i.i 0 0 c.loop-i.bits c.put_probability.new.bits
-        (omega (arith, size, there)) there c.loop-i.invariant c.in_ok-put_probability.ensures
+    (omega (arith, size, there)) there c.loop-i.invariant c.in_ok-put_probability.ensures
 
 pub returns : goal.returns
 returns c =

@@ -7,7 +7,6 @@ use Rattle.header_writer.proofs.tests.inter_frame.Goals as goal
 pub returns-clause-formed : goal.returns-clause-formed
 unfolding min_log2 max_log2
 returns-clause-formed c =
-
     record {
       profile = omega arith;
       size = (omega arith, omega arith, omega arith, omega arith);
