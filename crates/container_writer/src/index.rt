@@ -2,7 +2,7 @@
 
 ghost use Rattle.std.specs.Prelude.{◌≡◌, ◌≤◌, ◌++◌, max, length, take, IfOk, OnErr};
 ghost use Rattle.byteorder.specs.Endian.{little_bytes};
-ghost use Rattle.container_writer.specs.Indexes.{greatest, width_of, size_list, index_header, index_by, index_bytes};
+ghost use Rattle.container_writer.specs.Indexes.{greatest, width_of, size_list, index_by, index_bytes};
 
 use std::alloc::AllocError;
 

@@ -1,5 +1,5 @@
 -- A header that was put is read from its bytes.
-use Rattle.std.proofs.Common.{◌≡◌, ℕ, ◌+◌, ◌-◌, ◌*◌, ◌/◌, ◌<◌, ◌≤◌, List, [], ◌++◌, length, refl, ap, sym, ◌∙◌, arith, append_assoc}
+use Rattle.std.proofs.Common.{◌≡◌, ℕ, ◌+◌, ◌-◌, ◌/◌, List, [], ◌++◌, length, refl, ap, ◌∙◌, arith, append_assoc}
 use Rattle.std.specs.Prelude.{Ok}
 use Rattle.std.proofs.lemmas.List.{length-append}
 use Rattle.vp9_types.specs.Bits.{bits_of, spelled}
@@ -9,7 +9,7 @@ use Rattle.frame_headers.specs.declared.header.Uncompressed.{Uncompressed}
 use Rattle.frame_headers.specs.declared.header.Uncompressed.TheVariants as uncompressed
 use Rattle.frame_headers.specs.declared.persist.Persist.{Persist}
 use Rattle.frame_headers.specs.Fields.{past}
-use Rattle.frame_headers.specs.Header.{uncompressed_header, placed, head_of}
+use Rattle.frame_headers.specs.Header.{uncompressed_header, placed}
 use Rattle.frame_headers.proofs.BitLemmas.{length-bits_of}
 use Rattle.frame_headers.proofs.HeadLemmas.{head_read}
 use Rattle.header_writer.specs.Fields.{Puts, IsPadded}

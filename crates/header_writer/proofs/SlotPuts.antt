@@ -1,17 +1,17 @@
 -- The slots of references, and a slot that is shown again.
 use Rattle.std.proofs.Common.{◌≡◌, ℕ, List, Bool, true, refl, ap}
-use Rattle.std.specs.Prelude.{Option, Some, None, slice_index_or, not, ◌&&◌, if◌then◌else◌}
+use Rattle.std.specs.Prelude.{Some, None, slice_index_or, not, ◌&&◌}
 use Rattle.vp9_types.specs.declared.rule.Rule.{Rule}
 use Rattle.vp9_types.specs.declared.rule.Rule.TheVariants as rule
 use Rattle.vp9_types.specs.declared.shape.Shape.{Shape}
-use Rattle.vp9_types.specs.Syntax.{done, ◌>>=◌}
+use Rattle.vp9_types.specs.Syntax.{done}
 use Rattle.frame_headers.specs.declared.field.FieldName.{FieldName}
 use Rattle.frame_headers.specs.declared.field.FieldName.TheVariants as name
 use Rattle.frame_headers.specs.declared.header.Reference.{Reference}
 use Rattle.frame_headers.specs.declared.header.Uncompressed.TheVariants as uncompressed
 use Rattle.frame_headers.specs.declared.persist.Persist.{Persist}
 use Rattle.frame_headers.specs.Fields.{f, flag}
-use Rattle.frame_headers.specs.Header.{uncompressed_header, frame_profile, coded_frame}
+use Rattle.frame_headers.specs.Header.{uncompressed_header, frame_profile}
 use Rattle.frame_headers.specs.References.{slot_shape, held_by, reference}
 use Rattle.header_writer.specs.Fields.{Puts}
 use Rattle.header_writer.specs.WellFormed.{IsWellFormed}

@@ -1,9 +1,9 @@
 -- The columns that are doubled one by one.
-use Rattle.std.proofs.Common.{◌≡◌, ℕ, zero, suc, ◌+◌, ◌-◌, ◌<◌, ◌≤◌, List, refl, sym, subst, arith, true, false}
+use Rattle.std.proofs.Common.{◌≡◌, ℕ, suc, ◌+◌, ◌-◌, ◌<◌, ◌≤◌, List, refl, sym, subst, arith, true, false}
 use Rattle.std.specs.Prelude.{if◌then◌else◌}
 use Rattle.vp9_types.specs.Syntax.{done}
 use Rattle.frame_headers.specs.declared.field.FieldName.TheVariants as name
-use Rattle.frame_headers.specs.Fields.{Table, flag}
+use Rattle.frame_headers.specs.Fields.{flag}
 use Rattle.frame_headers.specs.Tiles.{more_columns}
 use Rattle.header_writer.specs.Fields.{Puts}
 use Rattle.header_writer.specs.Code.{LeadsFields}

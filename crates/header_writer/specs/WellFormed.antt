@@ -1,5 +1,5 @@
 -- Headers that can be written: each field is in its range, and agrees with what persists from the frames before.
-use Rattle.std.specs.Prelude.{◌≡◌, ◌≢◌, ℕ, ◌<◌, ◌≤◌, ◌^◌, max, ℤ, pos, unsigned_abs, Bool, true, false, List, length, replicate, slice_index_or, Option, Some, None, IfSome, All}
+use Rattle.std.specs.Prelude.{◌≡◌, ◌≢◌, ℕ, ◌<◌, ◌≤◌, ◌^◌, max, ℤ, pos, unsigned_abs, Bool, true, false, List, length, replicate, slice_index_or, Some, None, IfSome, All}
 use Rattle.vp9_types.specs.declared.shape.Depth.TheVariants.{Eight}
 use Rattle.vp9_types.specs.declared.shape.Shape.{Shape}
 use Rattle.frame_headers.specs.declared.color.ColorConfig.{ColorConfig}
@@ -7,7 +7,6 @@ use Rattle.frame_headers.specs.declared.color.ColorSpace.TheVariants.{Rgb}
 use Rattle.frame_headers.specs.declared.filter.LoopDeltas.{LoopDeltas}
 use Rattle.frame_headers.specs.declared.filter.LoopFilter.{LoopFilter}
 use Rattle.frame_headers.specs.declared.header.FrameContexts.{FrameContexts}
-use Rattle.frame_headers.specs.declared.header.FrameFields.{FrameFields}
 use Rattle.frame_headers.specs.declared.header.FrameKind.{FrameKind}
 use Rattle.frame_headers.specs.declared.header.FrameKind.TheVariants.{Key, IntraOnly, Inter}
 use Rattle.frame_headers.specs.declared.header.FrameParams.{FrameParams}

@@ -25,7 +25,7 @@ impl Model for BitWriter {
 }
 
 impl BitWriter {
-    ghost use Rattle.std.specs.Prelude.{◌≡◌, ◌<◌, ◌≤◌, ◌^◌, ◌++◌, ◌∷◌, [], unsigned_abs, IfOk, if◌then◌else◌};
+    ghost use Rattle.std.specs.Prelude.{◌≡◌, ◌<◌, ◌≤◌, ◌^◌, ◌++◌, ◌∷◌, [], IfOk, if◌then◌else◌};
     ghost use Rattle.std.specs.Result.{is_ok};
     ghost use Rattle.frame_headers.specs.Fields.{f, flag, su};
     ghost use Rattle.header_writer.specs.Fields.{Puts, IsPadded};

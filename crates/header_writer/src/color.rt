@@ -1,6 +1,6 @@
 //! Colour configurations.
 
-ghost use Rattle.std.specs.Prelude.{◌≡◌, ◌≢◌, ◌<◌, ◌≤◌, ℕ, IfOk, true, false};
+ghost use Rattle.std.specs.Prelude.{◌≡◌, ◌≢◌, ◌<◌, ◌≤◌, IfOk, true, false};
 ghost use Rattle.frame_headers.specs.Color.{color_space_of, is_odd_profile, bit_depth, reserved_zero, subsampling, yuv_config, rgb_config, color_config, intra_only_color};
 ghost use Rattle.frame_headers.specs.declared.color.ColorSpace.TheVariants as spaces;
 ghost use Rattle.vp9_types.specs.declared.shape.Depth.TheVariants as depths;

@@ -1,6 +1,6 @@
 //! The quantisers' parameters.
 
-ghost use Rattle.std.specs.Prelude.{◌≡◌, IfOk};
+ghost use Rattle.std.specs.Prelude.{IfOk};
 ghost use Rattle.frame_headers.specs.Quantizer.{delta_q, quantization_params};
 ghost use Rattle.header_writer.specs.Fields.{Puts};
 ghost use Rattle.header_writer.specs.WellFormed.{IsSigned, IsQuantizer};

@@ -1,6 +1,6 @@
 //! Segmentation.
 
-ghost use Rattle.std.specs.Prelude.{◌≡◌, ◌≢◌, ◌<◌, ◌≤◌, IfOk, IfSome, All, replicate, length, is_some, true, false};
+ghost use Rattle.std.specs.Prelude.{◌≡◌, ◌<◌, ◌≤◌, IfOk, IfSome, All, replicate, length, is_some, true, false};
 ghost use Rattle.vp9_types.specs.Each.{each};
 ghost use Rattle.frame_headers.specs.Segments.{probability, probability_for, prediction_probabilities, update_map, signed_feature, reference_of, reference_feature, segment_features, features_for, no_segment_features, update_features, map_or_none, features_or_old, enabled_params, segmentation_params};
 ghost use Rattle.header_writer.specs.Fields.{Puts};

@@ -1,6 +1,6 @@
 //! Sizes.
 
-ghost use Rattle.std.specs.Prelude.{◌≡◌, IfOk};
+ghost use Rattle.std.specs.Prelude.{IfOk};
 ghost use Rattle.frame_headers.specs.Sizes.{frame_size, render_size, IsFrameSize};
 ghost use Rattle.header_writer.specs.Fields.{Puts};
 

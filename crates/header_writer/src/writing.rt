@@ -1,6 +1,6 @@
 //! Whole headers.
 
-ghost use Rattle.std.specs.Prelude.{◌≡◌, ◌<◌, ◌≤◌, ◌++◌, List, ℕ, IfOk, OnErr, true, false};
+ghost use Rattle.std.specs.Prelude.{◌≡◌, ◌<◌, ◌++◌, List, ℕ, IfOk, OnErr, true, false};
 ghost use Rattle.frame_headers.specs.Header.{coded_profile, frame_profile, frame_sync_code, frame_contexts, frame_params, key_fields, intra_only_fields, intra_and_reset, other_fields, frame_fields, frame_start, forgets, kept_deltas, kept_features, coded_frame, uncompressed_header};
 ghost use Rattle.frame_headers.specs.declared.header.FrameKind.TheVariants as kinds;
 ghost use Rattle.frame_headers.specs.declared.header.Uncompressed.TheVariants as headers;

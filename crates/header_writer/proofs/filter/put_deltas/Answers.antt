@@ -1,6 +1,5 @@
-use Rattle.std.proofs.Common.{◌≡◌, ◌<◌, ◌≤◌, length, get_or, subst, arith, rules, pos, to_z, of_z, w16}
+use Rattle.std.proofs.Common.{◌≡◌, ◌<◌, ◌≤◌, length, get_or, arith, rules, pos, to_z, of_z, w16}
 use Rattle.frame_headers.specs.Filter.{coded_delta}
-use Rattle.header_writer.specs.Fields.{Puts}
 use Rattle.header_writer.proofs.EachPuts.{each_begins, each_on, each_all}
 use Rattle.header_writer.proofs.filter.put_deltas.Goals as goal
 

@@ -1,4 +1,4 @@
-use Rattle.std.proofs.Common.{◌≡◌, ◌<◌, ◌≤◌, length, replicate, arith}
+use Rattle.std.proofs.Common.{◌<◌, ◌≤◌, length, replicate, arith}
 use Rattle.std.proofs.lemmas.List.{length-replicate}
 use Rattle.frame_headers.specs.Segments.{features_for, no_segment_features}
 use Rattle.header_writer.proofs.EachPuts.{each_begins, each_on, each_all}

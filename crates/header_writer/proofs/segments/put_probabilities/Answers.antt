@@ -1,4 +1,4 @@
-use Rattle.std.proofs.Common.{◌≡◌, ◌<◌, ◌≤◌, ℕ, length, replicate, arith}
+use Rattle.std.proofs.Common.{◌<◌, ◌≤◌, ℕ, length, replicate, arith}
 use Rattle.std.proofs.lemmas.List.{length-replicate}
 use Rattle.frame_headers.specs.Segments.{probability_for}
 use Rattle.header_writer.proofs.EachPuts.{each_begins, each_on, each_all}
