@@ -2,7 +2,7 @@
 use Rattle.std.proofs.Common.{◌≡◌, ℕ, ◌<◌, ◌^◌, List, [], ◌++◌, length, map, inl, refl, sym, arith}
 use Rattle.std.specs.Prelude.{None}
 use Rattle.std.specs.List.{flat_map, AllByRecursion}
-use Rattle.std.proofs.lemmas.List.{append-nil, append_assoc, take_at}
+use Rattle.std.proofs.lemmas.List.{append-nil, append_assoc}
 use Rattle.byteorder.specs.Numbers.{little_number-reads_back}
 use Rattle.ivf_container.specs.Packets.{Packets, Written, IsHeader, IsWritten, written_bytes, packets_of}
 use Rattle.ivf_container.proofs.Files.{only_packets}
@@ -44,7 +44,3 @@ file_is w h rate scale count packets all =
 -- a payload behind its packet's header
 pub behind_header : (old size stamp payload : List ℕ) → (old ++ (size ++ stamp)) ++ payload ≡ old ++ (size ++ stamp ++ payload)
 behind_header old size stamp payload = simp append_assoc
-
--- what was there, where nothing could be put behind the header
-pub without_more : (old more : List ℕ) → Rattle.std.specs.Prelude.take (length old) (old ++ more) ≡ old
-without_more old more = take_at old more (length old) refl

@@ -5,7 +5,7 @@ use Rattle.std.specs.List.{AllByRecursion}
 use Rattle.std.specs.Int.{bytes_low_first, to_le_bytes, w32}
 use Rattle.std.proofs.Math.Seq.{drop-cons}
 use Rattle.std.proofs.lemmas.Bool.{ltb-true}
-use Rattle.std.proofs.lemmas.List.{append-nil, append_assoc, take_at, take_more, take_all, take-take, drop_all, length-append, length-map}
+use Rattle.std.proofs.lemmas.List.{append-nil, append_assoc, take_more, drop_all, length-map}
 use Rattle.byteorder.specs.Endian.{little_bytes, little_number}
 use Rattle.byteorder.specs.Numbers.{little_number-reads_back}
 use Rattle.ivf_container.proofs.Walks.{by_test}
@@ -123,22 +123,3 @@ sizes_go old now next sizes width i low h g =
     g ∙ ap (λ bytes. bytes ++ little_bytes width (get_or sizes i 0)) h
     ∙ append_assoc old (size_list width (take i sizes)) (little_bytes width (get_or sizes i 0))
     ∙ ap (λ bytes. old ++ bytes) (sym (ap (size_list width) (take_more sizes i 0 low) ∙ list_more width (take i sizes) (get_or sizes i 0)))
-
-pub sizes_end : (old now sizes : List ℕ) (width i : ℕ) → length sizes ≤ i → now ≡ old ++ size_list width (take i sizes) → now ≡ old ++ size_list width sizes
-sizes_end old now sizes width i all h = h ∙ ap (λ ss. old ++ size_list width ss) (take_all i sizes all)
-
--- ---- what was there before
-
-pub front_of : (old more now : List ℕ) → now ≡ old ++ more → take (length old) now ≡ old
-front_of old more now h = ap (take (length old)) h ∙ take_at old more (length old) refl
-
--- of a front that is longer
-pub front_within : (old more now : List ℕ) → take (length (old ++ more)) now ≡ old ++ more → take (length old) now ≡ old
-front_within old more now h =
-    let long = length-append old more in
-    let all : length old ≤ length (old ++ more) = omega (arith, long) in
-    sym (take-take (length old) (length (old ++ more)) now all) ∙ ap (take (length old)) h ∙ take_at old more (length old) refl
-
-pub index_ends : (old sizes mid now : List ℕ) (header : ℕ) → mid ≡ (old ++ header ∷ []) ++ sizes → now ≡ mid ++ header ∷ [] → now ≡ old ++ (header ∷ sizes ++ header ∷ [])
-index_ends old sizes mid now header h g =
-    g ∙ ap (λ bytes. bytes ++ header ∷ []) (h ∙ append_assoc old (header ∷ []) sizes) ∙ append_assoc old (header ∷ sizes) (header ∷ [])
