@@ -1,0 +1,2 @@
+pub mod WrittenFiles
+pub mod WrittenIndexes

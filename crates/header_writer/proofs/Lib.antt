@@ -1,0 +1,6 @@
+pub mod FieldLaws
+pub mod EachPuts
+pub mod BitsPut
+pub mod TilePuts
+pub mod HeaderReads
+pub mod SlotPuts

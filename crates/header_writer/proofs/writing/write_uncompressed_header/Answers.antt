@@ -1,0 +1,10 @@
+use Rattle.header_writer.proofs.HeaderReads.{holds_header}
+use Rattle.header_writer.proofs.writing.write_uncompressed_header.Goals as goal
+
+pub returns-clause-put : goal.returns-clause-put
+returns-clause-put c = (
+  c.in_ok-bytes.bytes.items,
+  rw c.deref.ensures.value at c.in_ok-extend_from_slice.ensures.items,
+  holds_header c.args.before.now c.args.header.now c.put_uncompressed.new.bits c.in_ok-bytes.bytes.items
+      (rw c.new-bits.ensures at c.in_ok-put_uncompressed.ensures) c.in_ok-bytes.ensures,
+)

@@ -1,0 +1,31 @@
+-- What the code has put so far, and the parts in which it takes a header.
+use Rattle.std.specs.Prelude.{ℕ, List, ◌++◌, Bool, true, false}
+use Rattle.vp9_types.specs.Each.{each}
+use Rattle.bool_encoder.specs.Writing.{Leads}
+use Rattle.frame_headers.specs.declared.header.FrameFields.{FrameFields}
+use Rattle.frame_headers.specs.declared.header.FrameKind.{FrameKind}
+use Rattle.frame_headers.specs.declared.header.FrameKind.TheVariants.{Key, IntraOnly, Inter}
+use Rattle.frame_headers.specs.declared.header.FrameStart.{FrameStart}
+use Rattle.frame_headers.specs.declared.header.Header.{Header}
+use Rattle.frame_headers.specs.Fields.{Table}
+use Rattle.header_writer.specs.Fields.{Puts, fits_field, with_field}
+
+-- the elements of the back are still to be put
+abbrev pub EachLeft : {A B : Type 0} → (A → Table B) → List A → List ℕ → List B → List A → List ℕ → Type 0
+EachLeft {B = B} s xs old front back now = (ys : List B) (new : List ℕ) → Puts (each s back) now ys new → Puts (each s xs) old (front ++ ys) new
+
+-- the fields put so far lead one syntax to what the other still asks
+abbrev pub LeadsFields : {A : Type 0} → Table A → List ℕ → Table A → List ℕ → Type 0
+LeadsFields s old rest now = Leads fits_field with_field s old rest now
+
+-- a coded frame's first fields, in the two parts in which they are read
+abbrev pub is_key : FrameKind → Bool
+is_key Key = true
+is_key IntraOnly = false
+is_key (Inter fields) = false
+
+abbrev pub start_of : Header → FrameStart
+start_of header = record { is_key = is_key header.kind; show_frame = header.show_frame; error_resilient = header.error_resilient }
+
+abbrev pub fields_of : Header → FrameFields
+fields_of header = record { kind = header.kind; reset_context = header.reset_context; refresh = header.refresh; color = header.color; size = header.size }

@@ -1,0 +1,4 @@
+pub mod Fields
+pub mod WellFormed
+pub mod Reads
+pub mod Code

@@ -1,0 +1,115 @@
+//! The loop filter's parameters.
+
+ghost use Rattle.std.specs.Prelude.{◌≡◌, ◌≢◌, length, IfOk, false};
+ghost use Rattle.vp9_types.specs.Each.{each};
+ghost use Rattle.frame_headers.specs.Filter.{coded_delta, coded_deltas, delta_changes, loop_filter_params};
+ghost use Rattle.header_writer.specs.Fields.{Puts};
+ghost use Rattle.header_writer.specs.WellFormed.{IsSigned, AreDeltas, IsLoopFilter};
+
+use crate::bits::BitWriter;
+use frame_headers::{FieldName, LoopDeltas, LoopFilter};
+use std::alloc::AllocError;
+
+#[tactic(auto, unfolding(frame_headers::specs::Filter::coded_delta), using(bool_encoder::proofs::Binds::writes_bind))]
+fn put_delta(
+    bits: &mut BitWriter,
+    update: FieldName,
+    name: FieldName,
+    old: i16,
+    delta: i16,
+) -> Result<(), AllocError>
+    requires { delta ≢ old → IsSigned 6 delta }
+    ensures { IfOk result (λ _. Puts (coded_delta update name old) bits.old delta bits.new) }
+{
+    if delta == old {
+        return bits.flag(update, false);
+    }
+    bits.flag(update, true)?;
+    bits.signed(name, 6, delta)
+}
+
+fn put_deltas(
+    bits: &mut BitWriter,
+    update: FieldName,
+    name: FieldName,
+    olds: &[i16],
+    deltas: &[i16],
+) -> Result<(), AllocError>
+    requires size { length olds.now ≡ length deltas.now }
+    requires fit { AreDeltas olds.now deltas.now }
+    ensures { IfOk result (λ _. Puts (each (coded_delta update name) olds.now) bits.old deltas.now bits.new) }
+{
+    for i in 0..deltas.len() {
+        let old = olds[i];
+        let delta = deltas[i];
+        put_delta(bits, update, name, old, delta)?;
+    }
+    Ok(())
+}
+
+#[tactic(auto, unfolding(frame_headers::specs::Filter::coded_deltas), using(bool_encoder::proofs::Binds::writes_bind))]
+fn put_coded_deltas(
+    bits: &mut BitWriter,
+    old: LoopDeltas,
+    deltas: LoopDeltas,
+) -> Result<(), AllocError>
+    requires reference { AreDeltas old.reference deltas.reference }
+    requires mode { AreDeltas old.mode deltas.mode }
+    ensures { IfOk result (λ _. Puts (coded_deltas old) bits.old deltas bits.new) }
+{
+    put_deltas(
+        bits,
+        FieldName::UpdateRefDelta,
+        FieldName::LoopFilterRefDelta,
+        &old.reference,
+        &deltas.reference,
+    )?;
+    put_deltas(
+        bits,
+        FieldName::UpdateModeDelta,
+        FieldName::LoopFilterModeDelta,
+        &old.mode,
+        &deltas.mode,
+    )
+}
+
+/// Deltas that aren't coded are as they were.
+#[tactic(auto, unfolding(frame_headers::specs::Filter::delta_changes), using(bool_encoder::proofs::Binds::writes_bind))]
+fn put_delta_changes(
+    bits: &mut BitWriter,
+    old: LoopDeltas,
+    deltas: LoopDeltas,
+    update: bool,
+) -> Result<(), AllocError>
+    requires kept { update ≡ false → deltas ≡ old }
+    requires reference { AreDeltas old.reference deltas.reference }
+    requires mode { AreDeltas old.mode deltas.mode }
+    ensures { IfOk result (λ _. Puts (delta_changes old) bits.old deltas bits.new) }
+{
+    if !update {
+        return bits.flag(FieldName::LoopFilterDeltaUpdate, false);
+    }
+    bits.flag(FieldName::LoopFilterDeltaUpdate, true)?;
+    put_coded_deltas(bits, old, deltas)
+}
+
+/// Puts `loop_filter_params` (6.2.8 of the standard) over the deltas so far.
+#[tactic(auto, unfolding(frame_headers::specs::Filter::loop_filter_params), using(bool_encoder::proofs::Binds::writes_bind))]
+pub fn put_loop_filter(
+    bits: &mut BitWriter,
+    old: LoopDeltas,
+    filter: LoopFilter,
+    update: bool,
+) -> Result<(), AllocError>
+    requires is { IsLoopFilter old filter }
+    requires kept { update ≡ false → filter.deltas ≡ old }
+    ensures { IfOk result (λ _. Puts (loop_filter_params old) bits.old filter bits.new) }
+{
+    bits.byte(FieldName::LoopFilterLevel, 6, filter.level)?;
+    bits.byte(FieldName::LoopFilterSharpness, 3, filter.sharpness)?;
+    bits.flag(FieldName::LoopFilterDeltaEnabled, filter.delta_enabled)?;
+    if filter.delta_enabled {
+        put_delta_changes(bits, old, filter.deltas, update)?;
+    }
+    Ok(())
+}

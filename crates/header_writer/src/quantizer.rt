@@ -1,0 +1,34 @@
+//! The quantisers' parameters.
+
+ghost use Rattle.std.specs.Prelude.{IfOk};
+ghost use Rattle.frame_headers.specs.Quantizer.{delta_q, quantization_params};
+ghost use Rattle.header_writer.specs.Fields.{Puts};
+ghost use Rattle.header_writer.specs.WellFormed.{IsSigned, IsQuantizer};
+
+use crate::bits::BitWriter;
+use frame_headers::{FieldName, Quantizer};
+use std::alloc::AllocError;
+
+#[tactic(auto, unfolding(frame_headers::specs::Quantizer::delta_q), using(bool_encoder::proofs::Binds::writes_bind))]
+fn put_delta_q(bits: &mut BitWriter, delta: i16) -> Result<(), AllocError>
+    requires { IsSigned 4 delta }
+    ensures { IfOk result (λ _. Puts delta_q bits.old delta bits.new) }
+{
+    if delta == 0 {
+        return bits.flag(FieldName::DeltaCoded, false);
+    }
+    bits.flag(FieldName::DeltaCoded, true)?;
+    bits.signed(FieldName::DeltaQ, 4, delta)
+}
+
+/// Puts `quantization_params` (6.2.9 of the standard).
+#[tactic(auto, unfolding(frame_headers::specs::Quantizer::quantization_params), using(bool_encoder::proofs::Binds::writes_bind))]
+pub fn put_quantizer(bits: &mut BitWriter, quantizer: Quantizer) -> Result<(), AllocError>
+    requires { IsQuantizer quantizer }
+    ensures { IfOk result (λ _. Puts quantization_params bits.old quantizer bits.new) }
+{
+    bits.byte(FieldName::BaseQIdx, 8, quantizer.base)?;
+    put_delta_q(bits, quantizer.y_dc_delta)?;
+    put_delta_q(bits, quantizer.uv_dc_delta)?;
+    put_delta_q(bits, quantizer.uv_ac_delta)
+}
