@@ -34,7 +34,7 @@ use Rattle.frame_headers.specs.Tiles.{superblocks, min_log2, max_log2}
 abbrev pub IsSigned : ℕ → ℤ → Type 0
 IsSigned n x = unsigned_abs x < 2 ^ n
 
--- ---- colours
+---- Colours ----
 
 -- A profile below 2 has 8 bits, the others more. RGB isn't subsampled, has the full range, and is of odd profiles alone.
 -- An even profile has 4:2:0, and an odd one all else.
@@ -49,7 +49,7 @@ pub record IsColor (profile : ℕ) (color : ColorConfig) : Type 0 where
 abbrev pub IsIntraOnlyColor : ℕ → ColorConfig → Type 0
 IsIntraOnlyColor profile color = (profile ≡ 0 → color ≡ default_color) × (profile ≢ 0 → IsColor profile color)
 
--- ---- what ends each header
+---- What ends each header ----
 
 -- a delta that isn't the one before has 6 bits and a sign
 abbrev pub AreDeltas : List ℤ → List ℤ → Type 0
@@ -97,7 +97,7 @@ pub record IsContexts (resilient : Bool) (contexts : FrameContexts) : Type 0 whe
   pub index : contexts.index < 4
   pub fixed : resilient ≡ true → (contexts.refresh ≡ false) × (contexts.parallel ≡ true)
 
--- ---- the fields of a frame, up to its size
+---- The fields of a frame, up to its size ----
 
 pub record IsReset (resilient : Bool) (reset : ℕ) : Type 0 where
   pub small : reset < 4
@@ -125,7 +125,7 @@ IsOfKind before header (Inter fields) =
     IsReset header.error_resilient header.reset_context × (header.color ≡ before.color)
     × AreReferences before header.error_resilient header.size fields.references
 
--- ---- headers
+---- Headers ----
 
 pub record IsHeader (before : Persist) (header : Header) : Type 0 where
   pub profile : header.profile < 4

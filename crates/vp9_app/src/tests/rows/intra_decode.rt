@@ -471,13 +471,24 @@ const ROWS_4: [Row; 10] = [
     },
 ];
 
-const ROWS_5: [Row; 1] = [Row {
-    name: "words: decode --workers 0",
-    words: &["decode", "--workers", "0"],
-    input: b"DKIF\0\0 \0VP90\0\0\0\0\0\0\0\0\0\0\0\0\0\0\0\0\0\0\0\0",
-    status: 2,
-    output: b"",
-    note: "usage: vp9dec list / decode / make / trial\n",
-}];
+const ROWS_5: [Row; 2] = [
+    Row {
+        name: "words: decode --workers 0",
+        words: &["decode", "--workers", "0"],
+        input: b"DKIF\0\0 \0VP90\0\0\0\0\0\0\0\0\0\0\0\0\0\0\0\0\0\0\0\0",
+        status: 2,
+        output: b"",
+        note: "usage: vp9dec list / decode / make / trial\n",
+    },
+    Row {
+        name: "greatest size, no tile",
+        words: &["decode"],
+        input: b"DKIF\0\0 \0VP90\0\0\0\0\0\0\0\0\0\0\0\0\0\0\0\0\0\0\0\0\x0f\0\0\0\0\0\0\0\0\0\0\0\x83I\x83B\x0f\xff\
+\xff\xff\xf0\0\0\0\0\x02\0",
+        status: 3,
+        output: b"",
+        note: "frame 0: rule 19 TileSize\n",
+    },
+];
 
 pub const TABLES: [&[Row]; 6] = [&ROWS_0, &ROWS_1, &ROWS_2, &ROWS_3, &ROWS_4, &ROWS_5];
