@@ -82,6 +82,7 @@ impl Frame {
 fn grey(at: BlockAt) -> BlockInfo
     ensures row { result.row ≡ at.row }
     ensures col { result.col ≡ at.col }
+    ensures size { result.size ≡ at.size }
     ensures small { HasSmallVectors result }
 {
     BlockInfo {
@@ -96,6 +97,29 @@ fn grey(at: BlockAt) -> BlockInfo
             luma: [IntraMode::Dc; 4],
             chroma: IntraMode::Dc,
         }),
+    }
+}
+
+/// A block of a frame as it is read, or a grey one where it breaks a rule.
+fn block_or_grey<const COUNTS: bool>(
+    reader: &mut CountingReader<COUNTS>,
+    frame: &Frame,
+    sources: &Sources<'_, '_>,
+    at: BlockAt,
+) -> BlockInfo
+    requires row { at.row < 135 }
+    requires col { at.col < 240 }
+    requires from { at.tile_from ≡ 0 }
+    requires to { at.tile_to ≡ 240 }
+    ensures row { result.row ≡ at.row }
+    ensures col { result.col ≡ at.col }
+    ensures size { result.size ≡ at.size }
+    ensures small { HasSmallVectors result }
+{
+    let (setting, map) = (sources.setting, sources.map);
+    match mode_info(reader, setting, at, &frame.grid, map, sources.before) {
+        Ok(block) => block,
+        Err(_) => grey(at),
     }
 }
 
@@ -117,17 +141,7 @@ fn read_block<const COUNTS: bool>(
         tile_from: 0,
         tile_to: COLS,
     };
-    let block = match mode_info(
-        reader,
-        sources.setting,
-        at,
-        &frame.grid,
-        sources.map,
-        sources.before,
-    ) {
-        Ok(block) => block,
-        Err(_) => grey(at),
-    };
+    let block = block_or_grey(reader, frame, sources, at);
     frame.grid.put(block);
     frame.room -= 1;
 }

@@ -88,6 +88,9 @@ fn real_stream(rt: HostRuntime) -> Result<(), Fail> {
             return Err(Fail::new(format_args!("a packet is missing")));
         };
         assert_eq!(rt; packet.to.saturating_sub(packet.from), size);
+        if packet.to > STREAM.len() {
+            return Err(Fail::new(format_args!("a packet is too long")));
+        }
         next = next_packet(STREAM, packet.to);
     }
     assert_eq!(rt; next, Ok(None));
