@@ -1,6 +1,6 @@
 //! The blocks of some columns of a frame.
 
-ghost use Rattle.std.specs.Prelude.{◌≡◌, ◌*◌, ◌-◌, ◌<◌, ◌≤◌, ◌++◌, ◌∷◌, [], length, vec_capacity, IfOk};
+ghost use Rattle.std.specs.Prelude.{◌≡◌, ◌*◌, ◌-◌, ◌<◌, ◌≤◌, ◌++◌, ◌∷◌, [], length, vec_capacity, IfOk, IsOk, OnErr, OnOk};
 ghost use Rattle.block_plan.specs.Grid.{GridOf, AgreesWith, NumbersBelow};
 
 use crate::block::BlockInfo;
@@ -53,6 +53,35 @@ impl BlockGrid {
             blocks,
             places,
         })
+    }
+
+    /// Makes this a grid of no blocks, of other columns. It takes no memory where it has enough, and if there is not enough
+    /// it stays as it was.
+    pub fn renew(
+        &mut self,
+        alloc: Global,
+        rows: u32,
+        from: u32,
+        to: u32,
+        room: usize,
+    ) -> Result<(), AllocError>
+        requires { from ≤ to }
+        ensures grid { OnOk result (self.new ≡ record { rows = rows; from = from; to = to; room = self.new.room; blocks = [] }) }
+        ensures room { OnOk result (room ≤ self.new.room) }
+        ensures kept { OnErr result (self.new ≡ self.old) }
+        ensures again { rows * (to - from) ≡ self.old.rows * (self.old.to - self.old.from) → room ≤ self.old.room → IsOk result }
+    {
+        let count = rows as usize * (to - from) as usize;
+        if self.places.len() != count || self.blocks.capacity() < room {
+            *self = BlockGrid::new(alloc, rows, from, to, room)?;
+            return Ok(());
+        }
+        self.blocks.clear();
+        self.places.fill(0);
+        self.rows = rows;
+        self.from = from;
+        self.to = to;
+        Ok(())
     }
 
     /// The next block, which starts at a place of these columns.

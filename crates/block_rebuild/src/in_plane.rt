@@ -17,11 +17,11 @@ ghost use Rattle.planes.specs.Planes.{lower_end, right_end, plane_map};
 ghost use Rattle.block_rebuild.specs.Blocks.{coded_block, put_residue, put_intra};
 ghost use Rattle.block_rebuild.specs.Code.{IsPlaced, IsPlaneOf, block_at, put_more};
 
-use crate::sizes::area_of;
 use block_geometry::{FramePlaces, PlaneBlock, TransformGrid, transform_grid, width_8};
 use block_plan::{BlockInfo, IntraPrediction, PlaneResidues, mode_at, plane_block};
 use intra_predict::{CodedBlock, IntraBlock, Scratch, place_of, put_predicted, put_rebuilt};
 use planes::SamplePlane;
+use vp9_tables::area_of;
 use vp9_types::{BlockSize, Depth, Plane, Shape, TxSize};
 
 /// An intra block of a frame of this shape, in a tile whose columns begin at `tile_from`.

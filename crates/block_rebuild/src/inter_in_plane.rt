@@ -21,7 +21,6 @@ use crate::in_plane::places_of;
 use crate::references::Rebuilding;
 use crate::residue::add_residues;
 use crate::room::RebuildRoom;
-use crate::sizes::greatest_of;
 use block_geometry::transform_grid;
 use block_plan::{BlockInfo, InterPrediction, PlaneResidues, plane_block};
 use inter_places::{BlockPart, Place, part_count, place};
@@ -58,7 +57,7 @@ fn predict_part<S: Samples>(
     };
     let shape = &b.by.shape;
     let place = place(shape, b.block, b.modes, part, &picture.shape);
-    let most = greatest_of(shape.depth);
+    let most = shape.depth.greatest();
     predict(picture.samples, &place, b.modes.filter, most, lines, block);
     place
 }

@@ -7,7 +7,6 @@ mod inter_in_plane;
 mod references;
 mod residue;
 mod room;
-mod sizes;
 
 pub use blocks::put_block;
 pub use in_plane::IntraInPlane;

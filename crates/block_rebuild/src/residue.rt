@@ -14,12 +14,12 @@ ghost use Rattle.planes.specs.Planes.{HasRow, lower_end, right_end, plane_map};
 ghost use Rattle.block_rebuild.specs.InterBlocks.{tx_row, tx_column, samples_from, add_residue};
 ghost use Rattle.block_rebuild.specs.Code.{add_more};
 
-use crate::sizes::{area_of, greatest_of, halved};
 use block_geometry::{PlaneBlock, TransformGrid};
 use block_plan::PlaneResidues;
 use intra_predict::side_of;
 use planes::SamplePlane;
-use vp9_types::{Depth, TxSize};
+use vp9_tables::area_of;
+use vp9_types::{Depth, TxSize, halved};
 
 #[inline(always)]
 fn clipped(sum: i32, most: u16) -> u16
@@ -82,7 +82,7 @@ fn add_square(
     let side = side_of(tx);
     let rows = side.min(area.lower_end() - row);
     let columns = side.min(area.right_end() - column);
-    let most = greatest_of(depth);
+    let most = depth.greatest();
     for i in 0..rows {
         let from = i * side;
         add_row(

@@ -4,7 +4,6 @@ ghost use Rattle.std.specs.Prelude.{◌≡◌, ◌≤◌, ◌<◌};
 ghost use Rattle.frame_headers.specs.State.{shape_of};
 ghost use Rattle.vp9_tables.specs.Blocks.{greatest_of};
 ghost use Rattle.vp9_tables.specs.Numbers.{tx_number};
-ghost use Rattle.vp9_types.specs.Shapes.{halved};
 ghost use Rattle.block_residue.specs.BlocksInPlanes.{block_in, token_kind, type_at, types_by, is_inter, goes_by_mode, flag_row, flag_column};
 
 use crate::quantisers::quant_of;
@@ -14,7 +13,7 @@ use coef_tokens::TokenKind;
 use frame_headers::Header;
 use residue_blocks::Quant;
 use vp9_tables::intra_tx_type;
-use vp9_types::{Plane, TxSize, TxType};
+use vp9_types::{Plane, TxSize, TxType, halved};
 
 /// A block in a plane, as its residue is read: its transform blocks, their types by quarter of an 8x8 block (four times the
 /// same from 8x8 on), whether it is an inter block, and its quantisers.
@@ -98,12 +97,6 @@ impl BlockInPlane {
             self.types[0]
         }
     }
-}
-
-fn halved(ss: bool, n: usize) -> usize
-    ensures { result ≡ halved ss n }
-{
-    if ss { n / 2 } else { n }
 }
 
 /// Where a row of a block's transform blocks stands in the flags at the left.

@@ -18,20 +18,8 @@ use block_geometry::TransformGrid;
 use block_plan::PlaneResidues;
 use counting_reader::CountingReader;
 use prob_contexts::Contexts;
-use vp9_types::{Rule, TxSize};
-
-/// How many values a transform block has.
-fn area_of(tx: TxSize) -> usize
-    ensures value { result ≡ area tx }
-    ensures most { result ≤ 1024 }
-{
-    match tx {
-        TxSize::T4x4 => 16,
-        TxSize::T8x8 => 64,
-        TxSize::T16x16 => 256,
-        TxSize::T32x32 => 1024,
-    }
-}
+use vp9_tables::area_of;
+use vp9_types::Rule;
 
 /// Reads the residues of a block that isn't skipped, and answers whether it has any.
 pub(crate) fn read_residues<const COUNTS: bool>(

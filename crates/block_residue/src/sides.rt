@@ -1,7 +1,8 @@
 //! Where blocks have coefficients.
 
-ghost use Rattle.std.specs.Prelude.{◌≡◌, ◌≤◌, ◌*◌, if◌then◌else◌};
-ghost use Rattle.vp9_types.specs.Shapes.{halved};
+ghost use Rattle.std.specs.Prelude.{◌≡◌, ◌≤◌, ◌*◌, ◌/◌, if◌then◌else◌};
+ghost use Rattle.frame_headers.specs.Sizes.{HasFrameSize};
+ghost use Rattle.vp9_types.specs.Shapes.{coded_height, coded_width};
 ghost use Rattle.coef_tokens.specs.Flags.{flags_of};
 
 use crate::in_plane::{flag_column, flag_row};
@@ -9,7 +10,7 @@ use block_geometry::{PlaneBlock, height_8, width_8};
 use coef_tokens::{first_context, mark};
 use std::alloc::{AllocError, Global};
 use std::marker::Model;
-use vp9_types::{Plane, Shape, TxSize};
+use vp9_types::{Plane, Shape, TxSize, halved};
 
 /// Where the blocks of a plane above and at the left have coefficients: a flag for each 4 samples of the plane's width and
 /// height.
@@ -36,27 +37,38 @@ pub struct TileSides {
 }
 
 impl Sides {
-    ghost use Rattle.std.specs.Prelude.{◌≡◌, ◌<◌, ◌≤◌, IfOk};
+    ghost use Rattle.std.specs.Prelude.{◌≡◌, ◌<◌, ◌≤◌, IfOk, IsOk, OnOk};
     ghost use Rattle.frame_headers.specs.Sizes.{HasFrameSize};
     ghost use Rattle.block_residue.specs.Sides.{no_sides, nothing_left};
     ghost use Rattle.block_residue.specs.Residues.{first_context, with_sides, skipped_sides};
-    ghost use Rattle.block_residue.specs.Code.{IsBeside, KeepsLengths};
+    ghost use Rattle.block_residue.specs.Code.{FitPlane, IsBeside, KeepsLengths};
 
     /// Those of a frame's plane of which no block is read.
     pub(crate) fn new(alloc: Global, shape: &Shape, plane: Plane) -> Result<Sides, AllocError>
         requires { HasFrameSize shape.now }
         ensures { IfOk result (λ s. s ≡ no_sides shape.now plane) }
     {
-        let columns = 2 * shape.w.div_ceil(8) as usize;
-        let rows = 2 * shape.h.div_ceil(8) as usize;
-        let (columns, rows) = match plane {
-            Plane::Y => (columns, rows),
-            Plane::U | Plane::V => (halved(shape.ss_x, columns), halved(shape.ss_y, rows)),
-        };
+        let (columns, rows) = flags_along(shape, plane);
         Ok(Sides {
             above: Vec::from_elem(alloc, false, columns)?,
             left: Vec::from_elem(alloc, false, rows)?,
         })
+    }
+
+    /// Makes these as `new` does. They take no memory where they have the length.
+    fn renew(&mut self, alloc: Global, shape: &Shape, plane: Plane) -> Result<(), AllocError>
+        requires { HasFrameSize shape.now }
+        ensures start { OnOk result (self.new ≡ no_sides shape.now plane) }
+        ensures again { FitPlane shape.now plane self.old → IsOk result }
+    {
+        let (columns, rows) = flags_along(shape, plane);
+        if self.above.len() != columns || self.left.len() != rows {
+            *self = Sides::new(alloc, shape, plane)?;
+            return Ok(());
+        }
+        self.above.fill(false);
+        self.clear_left();
+        Ok(())
     }
 
     /// A tile begins: there is nothing at its left.
@@ -110,7 +122,7 @@ impl Sides {
 }
 
 impl TileSides {
-    ghost use Rattle.std.specs.Prelude.{◌≡◌, IfOk};
+    ghost use Rattle.std.specs.Prelude.{◌≡◌, IfOk, IsOk, OnOk};
     ghost use Rattle.vp9_types.specs.declared.shape.Plane.TheVariants as plane;
     ghost use Rattle.frame_headers.specs.Sizes.{HasFrameSize};
     ghost use Rattle.block_residue.specs.Sides.{no_sides, nothing_left};
@@ -129,6 +141,18 @@ impl TileSides {
         })
     }
 
+    /// Makes these those of a frame of which no block is read. They take no memory where they have the lengths.
+    pub fn renew(&mut self, alloc: Global, shape: &Shape) -> Result<(), AllocError>
+        requires { HasFrameSize shape.now }
+        ensures start { OnOk result (self.new ≡ record { y = no_sides shape.now plane.Y; u = no_sides shape.now plane.U; v = no_sides shape.now plane.V }) }
+        ensures fit { OnOk result (FitPlanes shape.now self.new) }
+        ensures again { FitPlanes shape.now self.old → IsOk result }
+    {
+        self.y.renew(alloc, shape, Plane::Y)?;
+        self.u.renew(alloc, shape, Plane::U)?;
+        self.v.renew(alloc, shape, Plane::V)
+    }
+
     /// A tile begins: there is nothing at its left.
     pub fn clear_left(&mut self)
         ensures { self.new ≡ record { y = nothing_left self.old.y; u = nothing_left self.old.u; v = nothing_left self.old.v } }
@@ -139,10 +163,18 @@ impl TileSides {
     }
 }
 
-fn halved(ss: bool, n: usize) -> usize
-    ensures { result ≡ halved ss n }
+/// How many flags there are along a plane of a frame: of its columns and of its rows.
+fn flags_along(shape: &Shape, plane: Plane) -> (usize, usize)
+    requires { HasFrameSize shape.now }
+    ensures columns { result.0 ≡ coded_width shape.now plane / 4 }
+    ensures rows { result.1 ≡ coded_height shape.now plane / 4 }
 {
-    if ss { n / 2 } else { n }
+    let columns = 2 * shape.w.div_ceil(8) as usize;
+    let rows = 2 * shape.h.div_ceil(8) as usize;
+    match plane {
+        Plane::Y => (columns, rows),
+        Plane::U | Plane::V => (halved(shape.ss_x, columns), halved(shape.ss_y, rows)),
+    }
 }
 
 fn side_in_4s(tx: TxSize) -> usize

@@ -126,12 +126,17 @@ impl<'a, const COUNTS: bool> CountingReader<'a, COUNTS> {
         ensures read { Reads (counted_tree kind first (tree_of tree.now) probs.now) self.old result self.new }
         ensures leaf { result ≤ greatest_leaf tree.now }
     {
+        let mut decoder = self.decoder;
         let mut place: u8 = 0;
         loop {
             let node = place / 2;
-            let one = self.counted_bit(kind, first + u16::from(node), probs[node as usize]);
+            let p = probs[node as usize];
+            let one = self.counted_bit_of(&mut decoder, kind, first + u16::from(node), p);
             match branch_at(tree, place as usize + usize::from(one)) {
-                Branch::Leaf(leaf) => return leaf,
+                Branch::Leaf(leaf) => {
+                    self.go_on(decoder);
+                    return leaf;
+                }
                 Branch::Node(next) => place = next,
             }
         }

@@ -9,7 +9,7 @@ use crate::diagonal::{
 };
 use crate::edges::Edges;
 use crate::flat::{mean_of, predict_h, predict_tm, predict_v, predict_value, total};
-use crate::sizes::{greatest_of, middle_of};
+use crate::sizes::middle_of;
 use vp9_types::{Depth, IntraMode, TxSize};
 
 /// The samples of a block, row after row.
@@ -57,7 +57,7 @@ pub(crate) fn predict_sized(
         IntraMode::D153 => predict_d153(block, size, above, left, corner),
         IntraMode::D207 => predict_d207(block, size, left),
         IntraMode::D63 => predict_d63(block, size, above),
-        IntraMode::Tm => predict_tm(block, size, greatest_of(depth), above, left, corner),
+        IntraMode::Tm => predict_tm(block, size, depth.greatest(), above, left, corner),
     }
 }
 

@@ -8,7 +8,7 @@ ghost use Rattle.intra_predict.specs.Residue.{IsResidue, with_residue};
 ghost use Rattle.vp9_types.specs.Sizes.{clip};
 ghost use Rattle.intra_predict.specs.Steps.{with_square};
 
-use crate::sizes::{greatest_of, side_of};
+use crate::sizes::side_of;
 use planes::SamplePlane;
 use vp9_types::{Depth, TxSize};
 
@@ -20,7 +20,7 @@ pub fn add_residue(block: &mut [u16], residue: &[i32], size: TxSize, depth: Dept
         slice_index block.new k ≡ with_residue (greatest depth) (slice_index block.old k) (slice_index_or residue.now k (pos 0)) }
 {
     let side = side_of(size);
-    add_clipped(block, residue, side * side, greatest_of(depth));
+    add_clipped(block, residue, side * side, depth.greatest());
 }
 
 #[inline(always)]

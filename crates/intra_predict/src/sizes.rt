@@ -1,6 +1,6 @@
 ghost use Rattle.std.specs.Prelude.{◌≡◌, ◌≤◌};
 ghost use Rattle.intra_predict.specs.Sizes.{middle};
-ghost use Rattle.vp9_types.specs.Sizes.{side, greatest};
+ghost use Rattle.vp9_types.specs.Sizes.{side};
 
 use vp9_types::{Depth, TxSize};
 
@@ -13,18 +13,6 @@ pub fn side_of(size: TxSize) -> usize
         TxSize::T8x8 => 8,
         TxSize::T16x16 => 16,
         TxSize::T32x32 => 32,
-    }
-}
-
-/// The greatest sample of a depth.
-pub(crate) fn greatest_of(depth: Depth) -> u16
-    ensures value { result ≡ greatest depth }
-    ensures small { result ≤ 4095 }
-{
-    match depth {
-        Depth::Eight => 255,
-        Depth::Ten => 1023,
-        Depth::Twelve => 4095,
     }
 }
 

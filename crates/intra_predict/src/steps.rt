@@ -16,7 +16,6 @@ use crate::prediction::predict_sized;
 use crate::put::add_clipped;
 use crate::reading::read_sized;
 use crate::scratch::Scratch;
-use crate::sizes::greatest_of;
 use planes::SamplePlane;
 use vp9_types::{Depth, IntraMode, TxSize};
 
@@ -122,6 +121,6 @@ fn rebuild(
     let samples = &mut buffer[..size * size];
     predict_sized(mode, edges, size, depth, samples);
     if let Some(residue) = residue {
-        add_clipped(samples, residue, size * size, greatest_of(depth));
+        add_clipped(samples, residue, size * size, depth.greatest());
     }
 }

@@ -80,7 +80,7 @@ fn checksum(plane: &SamplePlane) -> u64
 }
 
 fn sum_of(row: &Summed) -> u64 {
-    let most = sizes::greatest_of(row.depth);
+    let most = row.depth.greatest();
     let edges = drawn_edges(row.seed, most, row.extreme, row.has_above, row.has_left);
     let side = side_of(row.size);
     let mut block = [0; 1024];

@@ -76,25 +76,25 @@ fn negate(t: &mut [Lanes], a: u8, limit: u32) -> Result<(), Rule>
 #[inline(always)]
 fn rotate_wide(
     t: &mut [Lanes],
-    a: u8,
-    b: u8,
+    places: [u8; 4],
     first: u8,
-    c: u8,
-    d: u8,
     second: u8,
     limit: u32,
 ) -> Result<(), Rule>
-    requires a { a < length t.old }
-    requires b { b < length t.old }
-    requires c { c < length t.old }
-    requires d { d < length t.old }
+    requires a { slice_index places 0 < length t.old }
+    requires b { slice_index places 1 < length t.old }
+    requires c { slice_index places 2 < length t.old }
+    requires d { slice_index places 3 < length t.old }
     requires first { first < 128 }
     requires second { second < 128 }
     requires limit { limit ≤ 2 ^ 24 }
     requires small { All (All IsSmall) t.old }
-    ensures gives { GivesColumns (λ xs. store_four limit xs a b c d (rotated_wide limit first second (at xs a) (at xs b) (at xs c) (at xs d))) result t.old t.new }
+    ensures gives { GivesColumns (λ xs. store_four limit xs (slice_index places 0) (slice_index places 1) (slice_index places 2) (slice_index places 3)
+        (rotated_wide limit first second (at xs (slice_index places 0)) (at xs (slice_index places 1))
+        (at xs (slice_index places 2)) (at xs (slice_index places 3)))) result t.old t.new }
     ensures small { All (All IsSmall) t.new }
 {
+    let [a, b, c, d] = places;
     let w = t[a as usize];
     let x = t[b as usize];
     let y = t[c as usize];
@@ -242,7 +242,7 @@ pub fn apply(t: &mut [Lanes], row: &FlowRow, limit: u32) -> Result<(), Rule>
             c,
             d,
             second_angle,
-        } => rotate_wide(t, *a, *b, *first_angle, *c, *d, *second_angle, limit),
+        } => rotate_wide(t, [*a, *b, *c, *d], *first_angle, *second_angle, limit),
     }
 }
 

@@ -19,14 +19,7 @@ use block_plan::BlockInfo;
 use line_filter::{Edge, FilterWidth, Limits, Pass, filter_edge};
 use loop_edges::{CellAt, EdgeSetting, cell_edges, filter_level, limits_of};
 use planes::SamplePlane;
-use vp9_types::Shape;
-
-#[inline(always)]
-fn halved(sub: bool, n: usize) -> usize
-    ensures { result ≡ halved sub n }
-{
-    if sub { n / 2 } else { n }
-}
+use vp9_types::{Shape, halved};
 
 /// The edge at the side of a cell.
 #[inline(always)]

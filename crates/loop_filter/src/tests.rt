@@ -303,21 +303,11 @@ fn draw(planes: &mut FramePlanes, shape: &Shape, seed: u32)
     ensures sizes { HasSizes shape.now planes.new }
     ensures range { IsInRange shape.now.depth planes.new }
 {
-    let most = greatest_of(shape.depth);
+    let most = shape.depth.greatest();
     let one = one_of(shape.depth);
     fill(&mut planes.y, one, most, seed.wrapping_add(1));
     fill(&mut planes.u, one, most, seed.wrapping_add(2));
     fill(&mut planes.v, one, most, seed.wrapping_add(3));
-}
-
-fn greatest_of(depth: Depth) -> u16
-    ensures { result ≡ greatest depth }
-{
-    match depth {
-        Depth::Eight => 255,
-        Depth::Ten => 1023,
-        Depth::Twelve => 4095,
-    }
 }
 
 /// The checksums before and after.

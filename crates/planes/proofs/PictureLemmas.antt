@@ -1,5 +1,5 @@
 -- Pictures of zeros.
-use Rattle.std.proofs.Common.{◌≡◌, ◌≤◌, ℕ, refl, arith, ap}
+use Rattle.std.proofs.Common.{◌≡◌, ℕ, refl, arith, ap}
 use Rattle.vp9_types.specs.declared.shape.Depth.{Depth}
 use Rattle.vp9_types.specs.declared.shape.Shape.{Shape}
 use Rattle.vp9_types.specs.declared.shape.Plane.{Plane}

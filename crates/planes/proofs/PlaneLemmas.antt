@@ -1,15 +1,14 @@
 -- Planes as maps: rows of them, and blocks put in.
-use Rattle.std.proofs.Common.{◌≡◌, ◌<◌, ◌≤◌, ◌+◌, ◌*◌, ◌-◌, ◌&&◌, ℕ, inl, inr, refl, sym, ◌∙◌, arith, ap, List, length, get_or, take, drop, ◌++◌, subst, Bool, true, false, cond, ltb, leb, replicate, min, map}
-use Rattle.std.specs.List.{range_with_len}
+use Rattle.std.proofs.Common.{◌≡◌, ◌<◌, ◌≤◌, ◌+◌, ◌*◌, ◌-◌, ◌&&◌, ℕ, inl, inr, refl, sym, ◌∙◌, arith, ap, List, length, get_or, take, drop, ◌++◌, subst, Bool, true, false, cond, ltb, leb, replicate, min}
 use Rattle.std.proofs.Math.Nat.{mul-le-mul_right}
 use Rattle.std.proofs.Math.Path.{fun_ext}
-use Rattle.std.proofs.lemmas.Bool.{cases_lt, cases_Bool, lt-ltb}
+use Rattle.std.proofs.lemmas.Bool.{cases_lt, cases_Bool}
 use Rattle.std.proofs.lemmas.Bool.Decides.{nat_tests}
 use Rattle.std.proofs.lemmas.List.{get_or-take, get_or-drop, get_or-replicate, get_or_past, get_or_default, same_lists, take_at, length-replicate, length-take, length-drop}
 use Rattle.std.proofs.lemmas.List.FromFn.{length-map-range_with_len, get_or-map-range_with_len}
 use Rattle.vp9_types.specs.Maps.{Map, IsAtMost, rows_of, row_of, with_block}
 use Rattle.planes.specs.declared.area.Area.{Area}
-use Rattle.planes.specs.Planes.{PlaneSamples, plane_map, moved_to, with_part, HasRow, HasColumn, StartsIn, lower_end, right_end}
+use Rattle.planes.specs.Planes.{PlaneSamples, moved_to, with_part, HasRow, lower_end, right_end}
 use Rattle.planes.specs.Code.{place_in}
 use Rattle.planes.specs.Code.{written_over, with_row}
 use Rattle.planes.proofs.RowLemmas.{next, place, add-sub_left, row_put}

@@ -1,5 +1,5 @@
 -- A part of a frame's plane, as a map in the frame's coordinates.
-use Rattle.std.specs.Prelude.{◌≡◌, ℕ, ◌+◌, ◌-◌, ◌≤◌, ◌<◌, ◌&&◌, List, take, drop, length, min, nat_le, if◌then◌else◌, ◌++◌}
+use Rattle.std.specs.Prelude.{ℕ, ◌+◌, ◌-◌, ◌≤◌, ◌<◌, ◌&&◌, List, min, nat_le, if◌then◌else◌}
 use Rattle.vp9_types.specs.Maps.{Map, rows_of, with_block}
 use Rattle.planes.specs.declared.area.Area.{Area}
 

@@ -25,25 +25,27 @@ pub(crate) fn copy_rows(samples: &mut [u16], width: usize, to: &Area, block: &[u
     }
 }
 
-/// Copies a square block to a row and column of rows of `width` samples.
+/// Copies rows of N samples to a row and column of rows of `width` samples.
 #[inline(always)]
-pub(crate) fn copy_square<const N: usize>(
+pub(crate) fn copy_columns<const N: usize>(
     samples: &mut [u16],
     width: usize,
     row: usize,
     column: usize,
+    rows: usize,
     block: &[u16],
 )
     requires few { N ≤ 64 }
+    requires low { rows ≤ 64 }
     requires wide { column + N ≤ width }
-    requires near { row + N ≤ 65536 }
+    requires near { row + rows ≤ 65536 }
     requires apart { width ≤ 65536 }
-    requires high { (row + N) * width ≤ length samples.old }
-    requires whole { N * N ≤ length block.now }
-    ensures { rows_of width samples.new ≡ with_block (rows_of width samples.old) row column N N (rows_of N block.now) }
+    requires high { (row + rows) * width ≤ length samples.old }
+    requires whole { rows * N ≤ length block.now }
+    ensures { rows_of width samples.new ≡ with_block (rows_of width samples.old) row column rows N (rows_of N block.now) }
 {
     let mut place = row * width + column;
-    for i in 0..N {
+    for i in 0..rows {
         let line: Simd<u16, N> = Simd::from_slice(&block[i * N..i * N + N]);
         line.copy_to_slice(&mut samples[place..place + N]);
         place += width;

@@ -1,13 +1,12 @@
 ghost use Rattle.std.specs.Prelude.{◌≡◌, ◌≤◌, ℕ, IfOk, OnOk, OnErr, IsOk, MatchBool};
 ghost use Rattle.std.specs.Borrow.{sem};
-ghost use Rattle.vp9_types.specs.Shapes.{halved};
 ghost use Rattle.planes.specs.Planes.{IsArea};
 ghost use Rattle.planes.specs.Pictures.{FitsPlanes, coded_area};
 
 use crate::area::Area;
 use crate::plane::SamplePlane;
 use std::alloc::{AllocError, Global};
-use vp9_types::{Plane, Shape};
+use vp9_types::{Plane, Shape, halved};
 
 /// The three planes of a frame.
 #[derive(Drop)]
@@ -106,10 +105,4 @@ pub fn coded_area(shape: &Shape, plane: Plane) -> Area
         Plane::Y => Area::whole(rows, columns),
         Plane::U | Plane::V => Area::whole(halved(shape.ss_y, rows), halved(shape.ss_x, columns)),
     }
-}
-
-fn halved(ss: bool, n: usize) -> usize
-    ensures { result ≡ halved ss n }
-{
-    if ss { n / 2 } else { n }
 }

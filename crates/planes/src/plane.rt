@@ -4,7 +4,7 @@ ghost use Rattle.std.specs.Borrow.{sem};
 ghost use Rattle.planes.specs.Planes.{PlaneSamples, IsArea, StartsIn, HasRow, HasColumn, lower_end, right_end, plane_map, with_part};
 
 use crate::area::Area;
-use crate::copies::{copy_rows, copy_square, read_apart};
+use crate::copies::{copy_columns, copy_rows, read_apart};
 use std::alloc::{AllocError, Global};
 use std::marker::Model;
 
@@ -126,6 +126,37 @@ impl SamplePlane {
         copy_rows(&mut self.samples, area.columns, &to, block, columns);
     }
 
+    /// Puts rows of N samples at a row and column, as `put_block` does.
+    #[inline(always)]
+    pub fn put_columns<const N: usize>(
+        &mut self,
+        row: usize,
+        column: usize,
+        rows: usize,
+        block: &[u16],
+    )
+        requires inside { StartsIn self.old.area row column }
+        requires few { N ≤ 64 }
+        requires low { rows ≤ 64 }
+        requires whole { rows * N ≤ length block.now }
+        ensures area { self.new.area ≡ self.old.area }
+        ensures map { plane_map self.new ≡ with_part self.old.area (plane_map self.old) row column rows N (rows_of N block.now) }
+    {
+        let area = self.area;
+        if rows <= area.lower_end() - row && N <= area.right_end() - column {
+            copy_columns::<N>(
+                &mut self.samples,
+                area.columns,
+                row - area.first_row,
+                column - area.first_column,
+                rows,
+                block,
+            );
+        } else {
+            self.put_block(row, column, rows, N, block);
+        }
+    }
+
     /// Puts a square block at a row and column, as `put_block` does.
     #[inline(always)]
     pub fn put_square<const N: usize>(&mut self, row: usize, column: usize, block: &[u16])
@@ -135,18 +166,7 @@ impl SamplePlane {
         ensures area { self.new.area ≡ self.old.area }
         ensures map { plane_map self.new ≡ with_part self.old.area (plane_map self.old) row column N N (rows_of N block.now) }
     {
-        let area = self.area;
-        if N <= area.lower_end() - row && N <= area.right_end() - column {
-            copy_square::<N>(
-                &mut self.samples,
-                area.columns,
-                row - area.first_row,
-                column - area.first_column,
-                block,
-            );
-        } else {
-            self.put_block(row, column, N, N, block);
-        }
+        self.put_columns::<N>(row, column, N, block);
     }
 
     /// So many samples of a row, from a column on, for writing.

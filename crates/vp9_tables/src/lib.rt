@@ -38,7 +38,7 @@ pub use motion::{
     ref_context, subblock_of_neighbour,
 };
 pub use quantisers::{ac_q, dc_q, quantisers_never_fall};
-pub use scans::{neighbours, neighbours_are_above_and_left, scan, scans_are_orders};
+pub use scans::{area_of, neighbours, neighbours_are_above_and_left, scan, scans_are_orders};
 pub use transforms::{
     adst_8_flow, adst_16_flow, constants_of_transforms, cos64, cosine, dct_flow, sinpi,
 };

@@ -16,6 +16,19 @@ use crate::data::scans::{
 };
 use vp9_types::{TxSize, TxType};
 
+/// How many coefficients a transform block has.
+pub fn area_of(size: TxSize) -> usize
+    ensures value { result ≡ area size }
+    ensures most { result ≤ 1024 }
+{
+    match size {
+        TxSize::T4x4 => 16,
+        TxSize::T8x8 => 64,
+        TxSize::T16x16 => 256,
+        TxSize::T32x32 => 1024,
+    }
+}
+
 /// The positions of a block's coefficients in the order in which they are coded.
 pub fn scan(size: TxSize, kind: TxType) -> &'static [u16]
     ensures table { result.now ≡ scan_of size kind }

@@ -10,7 +10,3 @@ abbrev pub ◌>>=◌ : {A B E : Type 0} → Result A E → (A → Result B E) �
 abbrev pub map_ok : {A B E : Type 0} → (A → B) → Result A E → Result B E
 map_ok f (Ok x) = Ok (f x)
 map_ok f (Err e) = Err e
-
-abbrev pub map_err : {A E F : Type 0} → (E → F) → Result A E → Result A F
-map_err f (Ok x) = Ok x
-map_err f (Err e) = Err (f e)

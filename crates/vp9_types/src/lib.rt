@@ -19,4 +19,4 @@ pub use laws::{reading_is_its_entries, rules_are_numbered, trees_are_stored};
 pub use outcome::{Outcome, Stop};
 pub use rule::Rule;
 pub use samples::Samples;
-pub use shape::{Depth, Plane, Shape};
+pub use shape::{Depth, Plane, Shape, halved};

@@ -1,5 +1,6 @@
-ghost use Rattle.std.specs.Prelude.{◌≡◌};
-ghost use Rattle.vp9_types.specs.Shapes.{depth_bits, subsampled_size};
+ghost use Rattle.std.specs.Prelude.{◌≡◌, ◌≤◌};
+ghost use Rattle.vp9_types.specs.Shapes.{depth_bits, halved, subsampled_size};
+ghost use Rattle.vp9_types.specs.Sizes.{greatest};
 
 /// Bits of a sample.
 #[derive(Clone, Copy, Debug, PartialEq, Eq)]
@@ -18,6 +19,18 @@ impl Depth {
             Depth::Eight => 8,
             Depth::Ten => 10,
             Depth::Twelve => 12,
+        }
+    }
+
+    /// The greatest sample.
+    pub fn greatest(self) -> u16
+        ensures value { result ≡ greatest self }
+        ensures small { result ≤ 4095 }
+    {
+        match self {
+            Depth::Eight => 255,
+            Depth::Ten => 1023,
+            Depth::Twelve => 4095,
         }
     }
 }
@@ -67,4 +80,12 @@ fn subsampled(size: u32, halved: bool) -> u32
     ensures { result ≡ subsampled_size size halved }
 {
     if halved { size.div_ceil(2) } else { size }
+}
+
+/// A length in a plane, from that in luma, where that is a multiple of 2.
+#[inline(always)]
+pub fn halved(ss: bool, n: usize) -> usize
+    ensures { result ≡ halved ss n }
+{
+    if ss { n / 2 } else { n }
 }

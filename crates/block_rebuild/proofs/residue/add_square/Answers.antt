@@ -8,7 +8,7 @@ use Rattle.block_rebuild.proofs.residue.add_square.Goals as goal
 pub loop-i-init : goal.loop-i-init
 loop-i-init c = let a = c.args in let m = plane_map a.samples.now in record {
   same = refl;
-  so_far = sym (no_rows m a.row a.column c.min-columns.result (added c.greatest_of-most.result c.side_of-side.result (samples_from m a.row a.column) a.values.now));
+  so_far = sym (no_rows m a.row a.column c.min-columns.result (added c.greatest-most.result c.side_of-side.result (samples_from m a.row a.column) a.values.now));
 }
 
 pub add_row-requires-clause-inside : goal.add_row-requires-clause-inside
@@ -32,7 +32,7 @@ loop-i-preserved c = let a = c.args in let side = c.side_of-side.result in
     let columns = rw (c.right_end.ensures, c.area-area.ensures.value) at c.min-columns.ensures in
     let fits = row_fits a.values.now a.tx side c.min-rows.result c.min-columns.result c.loop-i.i c.side_of-side.ensures c.requires.long c.loop-i-test.true (omega (arith, rows)) (omega (arith, columns)) in record {
       same = c.add_row.ensures.area ∙ c.loop-i.invariant.same;
-      so_far = row_added (plane_map a.samples.now) (plane_map c.loop-i.samples) (plane_map c.add_row.new.samples) a.row a.column c.loop-i.i c.min-columns.result side c.greatest_of-most.result
+      so_far = row_added (plane_map a.samples.now) (plane_map c.loop-i.samples) (plane_map c.add_row.new.samples) a.row a.column c.loop-i.i c.min-columns.result side c.greatest-most.result
           a.values.now _ refl fits c.loop-i.invariant.so_far c.add_row.ensures.map;
     }
 
@@ -41,5 +41,5 @@ returns-clause-map c = let a = c.args in let area = a.samples.now.area in
     let rows = rw (c.lower_end.ensures, c.area-area.ensures.value, c.side_of-side.ensures) at c.min-rows.ensures in
     let columns = rw (c.right_end.ensures, c.area-area.ensures.value, c.side_of-side.ensures) at c.min-columns.ensures in
     let done : c.loop-i.i ≡ c.min-rows.result = omega (arith, c.loop-i-test.false, c.loop-i.auto.i-end) in
-    square_added (plane_map a.samples.now) (plane_map c.loop-i.samples) a.row a.column c.loop-i.i c.min-columns.result c.side_of-side.result _ (right_end area) (lower_end area) a.depth c.greatest_of-most.result a.values.now
-    c.loop-i.invariant.so_far c.side_of-side.ensures c.greatest_of-most.ensures.value (done ∙ rows) columns
+    square_added (plane_map a.samples.now) (plane_map c.loop-i.samples) a.row a.column c.loop-i.i c.min-columns.result c.side_of-side.result _ (right_end area) (lower_end area) a.depth c.greatest-most.result a.values.now
+    c.loop-i.invariant.so_far c.side_of-side.ensures c.greatest-most.ensures.value (done ∙ rows) columns

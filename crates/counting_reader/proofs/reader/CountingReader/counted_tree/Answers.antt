@@ -11,20 +11,20 @@ loop-leaf-init g c = walk_begins c.args.kind c.args.first c.args.tree.now c.args
 
 pub returns-in-Leaf-clause-read : goal.returns-in-Leaf-clause-read
 returns-in-Leaf-clause-read g c =
-    let r = rw c.from.ensures at c.counted_bit-one.ensures in
+    let r = rw c.from.ensures at c.counted_bit_of-one.ensures in
     let i : Leaf c.in-Leaf.leaf ≡ branch_of (entry_at c.args.tree.now (c.loop-leaf.place + c.from-in-loop-leaf.result)) = rw c.in-Leaf.is at c.branch_at.ensures in
-    walk_ends c.args.kind c.args.first c.args.tree.now c.args.probs.now c.loop-leaf.place c.in-Leaf.leaf c.counted_bit-one.result _ _ _
-    c.loop-leaf.invariant r (rw c.from-in-loop-leaf.ensures at i)
+    rw c.go_on.ensures (walk_ends c.args.kind c.args.first c.args.tree.now c.args.probs.now c.loop-leaf.place c.in-Leaf.leaf c.counted_bit_of-one.result _ _ _
+    c.loop-leaf.invariant r (rw c.from-in-loop-leaf.ensures at i))
 
 pub returns-in-Leaf-clause-leaf : goal.returns-in-Leaf-clause-leaf
 returns-in-Leaf-clause-leaf g c =
     let i : Leaf c.in-Leaf.leaf ≡ branch_of (entry_at c.args.tree.now (c.loop-leaf.place + c.from-in-loop-leaf.result)) = rw c.in-Leaf.is at c.branch_at.ensures in
-    walk_leaf c.args.tree.now c.loop-leaf.place c.in-Leaf.leaf c.counted_bit-one.result c.loop-leaf.invariant.within (rw c.from-in-loop-leaf.ensures at i)
+    walk_leaf c.args.tree.now c.loop-leaf.place c.in-Leaf.leaf c.counted_bit_of-one.result c.loop-leaf.invariant.within (rw c.from-in-loop-leaf.ensures at i)
 
 pub loop-leaf-smaller : goal.loop-leaf-smaller
 loop-leaf-smaller g c =
     let i : Node c.in-Node.next ≡ branch_of (entry_at c.args.tree.now (c.loop-leaf.place + c.from-in-loop-leaf.result)) = rw c.in-Node.is at c.branch_at.ensures in
-    let n = walk_node c.args.tree.now c.loop-leaf.place c.in-Node.next c.counted_bit-one.result (tree_holds c.args.tree.now c.requires.stored) c.loop-leaf.invariant.within (rw c.from-in-loop-leaf.ensures at i) in
+    let n = walk_node c.args.tree.now c.loop-leaf.place c.in-Node.next c.counted_bit_of-one.result (tree_holds c.args.tree.now c.requires.stored) c.loop-leaf.invariant.within (rw c.from-in-loop-leaf.ensures at i) in
     let later = n.0 in
     let room = n.1 in
     let less : length c.args.tree.now - c.in-Node.next < length c.args.tree.now - c.loop-leaf.place = omega arith in
@@ -32,7 +32,7 @@ loop-leaf-smaller g c =
 
 pub loop-leaf-preserved : goal.loop-leaf-preserved
 loop-leaf-preserved g c =
-    let r = rw c.from.ensures at c.counted_bit-one.ensures in
+    let r = rw c.from.ensures at c.counted_bit_of-one.ensures in
     let i : Node c.in-Node.next ≡ branch_of (entry_at c.args.tree.now (c.loop-leaf.place + c.from-in-loop-leaf.result)) = rw c.in-Node.is at c.branch_at.ensures in
-    walk_goes c.args.kind c.args.first c.args.tree.now c.args.probs.now c.loop-leaf.place c.in-Node.next c.counted_bit-one.result _ _ _
+    walk_goes c.args.kind c.args.first c.args.tree.now c.args.probs.now c.loop-leaf.place c.in-Node.next c.counted_bit_of-one.result _ _ _
     (tree_holds c.args.tree.now c.requires.stored) c.loop-leaf.invariant r (rw c.from-in-loop-leaf.ensures at i)

@@ -1,4 +1,3 @@
-use Rattle.std.proofs.Common.{refl}
 use Rattle.planes.proofs.PlaneLemmas.{zero_map}
 use Rattle.planes.proofs.plane.SamplePlane.clear.Goals as goal
 

@@ -1,4 +1,4 @@
-use Rattle.std.proofs.Common.{◌≡◌, ◌+◌, ◌*◌, ◌∙◌, ℕ, arith}
+use Rattle.std.proofs.Common.{◌∙◌}
 use Rattle.planes.proofs.PlaneLemmas.{column_sample}
 use Rattle.planes.proofs.plane.SamplePlane.read_column.Goals as goal
 

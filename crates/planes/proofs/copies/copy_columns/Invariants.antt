@@ -1,6 +1,6 @@
 use Rattle.std.proofs.Common.{◌≡◌, ◌+◌, ◌*◌}
 use Rattle.vp9_types.specs.Maps.{rows_of, with_block}
-use Rattle.planes.proofs.copies.copy_square.Given as goal
+use Rattle.planes.proofs.copies.copy_columns.Given as goal
 
 abbrev pub invariant-loop-i : goal.invariant-loop-i
 invariant-loop-i g l = record {
