@@ -1,8 +1,8 @@
 -- A block, read plane by plane.
-use Rattle.std.proofs.Common.{◌≡◌, ◌<◌, ◌≤◌, ◌+◌, ◌*◌, ◌/◌, ◌&&◌, ◌||◌, [], ℕ, ◌∙◌, refl, sym, ap, arith, Bool, true, false, List, length, get_or}
+use Rattle.std.proofs.Common.{◌≡◌, ◌<◌, ◌≤◌, ◌+◌, ◌*◌, ◌/◌, ◌||◌, [], ℕ, ◌∙◌, refl, arith, Bool, true, false, List}
 use Rattle.std.specs.Prelude.{Result, Ok, Err}
 use Rattle.std.specs.List.{All, list_any}
-use Rattle.vp9_types.specs.Shapes.{halved, mi_rows, mi_cols, coded_width, coded_height}
+use Rattle.vp9_types.specs.Shapes.{halved, mi_rows, mi_cols}
 use Rattle.vp9_types.specs.declared.rule.Rule.{Rule}
 use Rattle.vp9_types.specs.declared.shape.Plane.{Plane}
 use Rattle.vp9_types.specs.declared.shape.Plane.TheVariants.{Y, U, V}
@@ -10,18 +10,15 @@ use Rattle.vp9_types.specs.declared.shape.Shape.{Shape}
 use Rattle.block_geometry.proofs.Rasters.{all_inside}
 use Rattle.block_geometry.specs.Frames.{places_of}
 use Rattle.block_plan.specs.InPlanes.{plane_block, places_in}
-use Rattle.block_plan.specs.Planned.{Residues, PlannedBlock}
+use Rattle.block_plan.specs.Planned.{Residues}
 use Rattle.block_plan.specs.declared.block.BlockInfo.{BlockInfo}
-use Rattle.counting_reader.specs.Counting.{Standing, run_counting, through, settle}
-use Rattle.counting_reader.specs.Code.{Reads, standing_of}
+use Rattle.counting_reader.specs.Counting.{Standing, run_counting, through}
 use Rattle.counting_reader.specs.declared.reader.CountingReader.{CountingReader}
 use Rattle.counting_reader.proofs.CountingRuns.{counting_bind, run_settle}
-use Rattle.frame_headers.specs.State.{shape_of}
 use Rattle.frame_headers.specs.declared.header.Header.{Header}
 use Rattle.prob_contexts.specs.Lists.{ContextLists}
-use Rattle.block_residue.specs.BlocksInPlanes.{flag_row, flag_column, block_in}
 use Rattle.block_residue.specs.Code.{IsBeside, KeepsLengths, FitPlane, IsInFrame, GivesPlane}
-use Rattle.block_residue.specs.Residues.{ReadPlane, read_next, read_skipped, read_in_plane, read_plane, read_block, planned, listed, any_coded, is_coded}
+use Rattle.block_residue.specs.Residues.{ReadPlane, read_next, read_skipped, read_in_plane, read_plane, read_block, listed, is_coded}
 use Rattle.block_residue.specs.Sides.{Sides}
 use Rattle.block_residue.specs.declared.in_plane.BlockInPlane.{BlockInPlane}
 use Rattle.block_residue.specs.declared.sides.TileSides.{TileSides}

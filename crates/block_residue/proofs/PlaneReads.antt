@@ -1,7 +1,7 @@
 -- A block in a plane, read transform block by transform block.
 use Rattle.std.proofs.Common.{◌≡◌, ◌<◌, ◌≤◌, ◌+◌, ◌*◌, ◌-◌, ◌++◌, ◌∷◌, [], ◌||◌, ℕ, ℤ, ◌∙◌, refl, sym, ap, arith, Bool, true, false, List, length, get_or, take, drop, set, zero, suc}
 use borrow.Rule.Slice.PartMut.{put_mid}
-use Rattle.std.specs.Prelude.{Some, None, Ok, Err, nat_lt, unsigned_abs, ◌^◌}
+use Rattle.std.specs.Prelude.{Ok, Err, unsigned_abs, ◌^◌}
 use Rattle.std.specs.List.{All, list_any}
 use Rattle.std.proofs.Math.Nat.{mul-le-mul_right, mul-le-mul}
 use Rattle.std.proofs.lemmas.List.{length-take-le, length-drop}
@@ -16,7 +16,7 @@ use Rattle.block_geometry.specs.TransformBlocks.{grid_blocks, tx_step}
 use Rattle.block_geometry.specs.declared.transform_blocks.PlaneBlock.{PlaneBlock}
 use Rattle.block_geometry.specs.declared.transform_blocks.TransformGrid.{TransformGrid}
 use Rattle.block_geometry.proofs.Rasters.{length_grid}
-use Rattle.block_plan.proofs.Held.{held_next, one_long, part_is}
+use Rattle.block_plan.proofs.Held.{held_next, one_long}
 use Rattle.block_plan.specs.Code.{residue_if, residues_held, IsSmall, AreSmall}
 use Rattle.block_plan.specs.Planned.{Residue, Residues}
 use Rattle.counting_reader.specs.Counting.{Standing, run_counting}

@@ -1,5 +1,5 @@
 -- How the syntax of a transform block's residue is read.
-use Rattle.std.proofs.Common.{◌≡◌, ◌<◌, ℕ, ℤ, pos, ◌∙◌, ap, refl, sym, arith, Bool, List, length}
+use Rattle.std.proofs.Common.{◌≡◌, ◌<◌, ℕ, ℤ, pos, ◌∙◌, refl, sym, arith, List, length}
 use Rattle.std.specs.Prelude.{Some, None, Ok, Err, nat_lt}
 use Rattle.std.proofs.lemmas.Bool.{eq-eqb, ne_eqb}
 use Rattle.std.proofs.lemmas.List.{same_lists, get_or_default}
@@ -11,7 +11,7 @@ use Rattle.prob_contexts.specs.Lists.{ContextLists}
 use Rattle.coef_tokens.specs.Blocks.{block_tables}
 use Rattle.coef_tokens.specs.Code.{HoldsLevels}
 use Rattle.coef_tokens.specs.Places.{Tokens, Read, level_at, block_tokens}
-use Rattle.counting_reader.specs.Counting.{Standing, run_counting, settle, lifted, in_order}
+use Rattle.counting_reader.specs.Counting.{Standing, run_counting, lifted}
 use Rattle.counting_reader.proofs.CountingRuns.{counting_bind, run_settle}
 use Rattle.residue_blocks.specs.Residue.{residue}
 use Rattle.block_plan.specs.Planned.{Residue}

@@ -1,7 +1,7 @@
 -- What the code keeps while it reads a block, and what its calls answer.
-use Rattle.std.specs.Prelude.{◌≡◌, ◌<◌, ◌≤◌, ◌*◌, ◌/◌, ℕ, ℤ, length, Bool, List, Result, Ok, Err, nat_lt}
+use Rattle.std.specs.Prelude.{◌≡◌, ◌<◌, ◌≤◌, ◌/◌, ℕ, ℤ, length, Bool, List, Result, Ok, Err, nat_lt}
 use Rattle.std.specs.List.{list_any}
-use Rattle.vp9_types.specs.Shapes.{halved, coded_width, coded_height, mi_rows, mi_cols}
+use Rattle.vp9_types.specs.Shapes.{coded_width, coded_height, mi_rows, mi_cols}
 use Rattle.vp9_types.specs.Syntax.{Syntax}
 use Rattle.vp9_types.specs.declared.rule.Rule.{Rule}
 use Rattle.vp9_types.specs.declared.shape.Plane.{Plane}

@@ -1,15 +1,13 @@
 -- The residue of a block, read transform block by transform block (residual and tokens in 6.4.21 and 6.4.24 of the standard,
 -- 8.6.2 and 8.7.2 for what is made of the tokens).
-use Rattle.std.specs.Prelude.{ℕ, ◌/◌, ℤ, Bool, true, false, ◌&&◌, ◌||◌, not, List, [], ◌∷◌, ◌++◌, map, Option, Some, None, nat_eq, nat_lt, replicate, Result, Ok, Err, if◌then◌else◌}
+use Rattle.std.specs.Prelude.{ℕ, ℤ, Bool, true, false, ◌&&◌, ◌||◌, not, List, [], ◌∷◌, ◌++◌, map, Some, None, nat_eq, nat_lt, Result, Ok, if◌then◌else◌}
 use Rattle.std.specs.List.{list_any, range_with_len}
 use Rattle.vp9_types.specs.Results.{map_ok}
-use Rattle.vp9_types.specs.Shapes.{coded_width, coded_height}
 use Rattle.vp9_types.specs.Syntax.{Syntax}
 use Rattle.vp9_types.specs.declared.block.TxSize.{TxSize}
 use Rattle.vp9_types.specs.declared.rule.Rule.{Rule}
 use Rattle.vp9_types.specs.declared.shape.Plane.{Plane}
 use Rattle.vp9_types.specs.declared.shape.Plane.TheVariants.{Y, U, V}
-use Rattle.vp9_types.specs.declared.shape.Shape.{Shape}
 use Rattle.vp9_tables.specs.Blocks.{width_of, height_of}
 use Rattle.vp9_tables.specs.Scans.{area}
 use Rattle.block_geometry.specs.Sizes.{is_below_8x8}

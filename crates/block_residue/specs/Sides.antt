@@ -1,6 +1,6 @@
 -- Whether the blocks above and at the left have coefficients (AboveNonzeroContext and LeftNonzeroContext in 6.4.21 of the
 -- standard).
-use Rattle.std.specs.Prelude.{ℕ, ◌/◌, Bool, false, List, replicate, length}
+use Rattle.std.specs.Prelude.{◌/◌, Bool, false, List, replicate, length}
 use Rattle.vp9_types.specs.Shapes.{coded_width, coded_height}
 use Rattle.vp9_types.specs.declared.shape.Plane.{Plane}
 use Rattle.vp9_types.specs.declared.shape.Shape.{Shape}

@@ -17,6 +17,9 @@ pub(crate) fn scale(reference: u32, own: u32) -> u32
     ensures most { result ≤ 2 ^ 15 }
     ensures least { 2 ^ 10 ≤ result }
 {
+    if reference == own {
+        return 16384;
+    }
     (u64::from(reference) * 16384 / u64::from(own)) as u32
 }
 

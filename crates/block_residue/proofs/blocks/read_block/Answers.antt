@@ -1,4 +1,3 @@
-use Rattle.std.proofs.Common.{◌≡◌, refl}
 use Rattle.std.proofs.lemmas.Result.{err_from_is_err_and}
 use Rattle.prob_contexts.specs.Lists.{lists_of}
 use Rattle.block_residue.proofs.BlockReads.{first_broken, second_broken, third_broken, all_read}

@@ -1,10 +1,10 @@
-use Rattle.std.proofs.Common.{◌≡◌, ◌∙◌, ap, sym, refl, arith, Bool, List, ℕ}
+use Rattle.std.proofs.Common.{◌≡◌, ◌∙◌, sym, arith}
 use Rattle.block_geometry.specs.TransformBlocks.{transform_blocks, grid_blocks}
-use Rattle.block_plan.specs.InPlanes.{places_in, plane_block}
+use Rattle.block_plan.specs.InPlanes.{places_in}
 use Rattle.frame_headers.specs.State.{shape_of}
 use Rattle.prob_contexts.specs.Lists.{lists_of}
 use Rattle.block_residue.specs.BlocksInPlanes.{block_in}
-use Rattle.block_residue.proofs.BlockReads.{all_beside, corner_beside, still_fit, plane_skipped, plane_coded}
+use Rattle.block_residue.proofs.BlockReads.{all_beside, plane_skipped, plane_coded}
 use Rattle.block_residue.proofs.blocks.read_plane.Goals as goal
 
 pub returns-then-block-clause-gives : goal.returns-then-block-clause-gives

@@ -1,9 +1,8 @@
-use Rattle.std.proofs.Common.{◌≡◌, ◌<◌, ◌≤◌, ◌+◌, ◌*◌, ◌∙◌, refl, sym, ap, arith, rules, length, List, ℤ, Bool}
+use Rattle.std.proofs.Common.{◌≡◌, ◌<◌, ◌≤◌, ◌*◌, ◌∙◌, refl, arith, rules, length}
 use Rattle.std.proofs.lemmas.Result.{err_from_is_err_and}
-use Rattle.vp9_types.specs.declared.block.TxSize.{TxSize}
 use Rattle.block_geometry.specs.TransformBlocks.{grid_blocks}
 use Rattle.block_geometry.proofs.Rasters.{length_grid}
-use Rattle.block_plan.specs.Code.{residues_held, AreSmall}
+use Rattle.block_plan.specs.Code.{residues_held}
 use Rattle.block_plan.proofs.Held.{one_long}
 use Rattle.counting_reader.proofs.Throughs.{begins, breaks, ends}
 use Rattle.prob_contexts.specs.Lists.{lists_of}

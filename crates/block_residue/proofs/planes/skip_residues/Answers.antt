@@ -1,6 +1,5 @@
-use Rattle.std.proofs.Common.{◌≡◌, ◌<◌, ◌∙◌, ℕ, ℤ, Bool, false, List, refl, ap, sym, map, length, get_or}
+use Rattle.std.proofs.Common.{◌≡◌, ℕ, false, refl, sym, map}
 use Rattle.std.specs.Prelude.{None}
-use Rattle.std.specs.List.{All, list_any}
 use Rattle.std.proofs.lemmas.List.Folds.{list_any_none}
 use Rattle.std.proofs.lemmas.List.Elements.{All-map}
 use Rattle.vp9_tables.specs.Scans.{area}

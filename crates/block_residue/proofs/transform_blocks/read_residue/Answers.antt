@@ -1,4 +1,4 @@
-use Rattle.std.proofs.Common.{◌≡◌, ◌∙◌, ap, sym, arith, Bool}
+use Rattle.std.proofs.Common.{◌∙◌, ap, sym, arith, Bool}
 use Rattle.std.proofs.lemmas.Result.{err_from_is_err_and}
 use Rattle.prob_contexts.specs.Lists.{lists_of}
 use Rattle.coef_tokens.specs.declared.tables.TokenKind.{TokenKind}
