@@ -2,7 +2,7 @@
 
 ghost use Rattle.std.specs.Prelude.{◌≡◌, ◌<◌, ◌≤◌, ◌*◌, length};
 ghost use Rattle.std.specs.List.{fold, range_with_len};
-ghost use Rattle.vp9_types.specs.Maps.{HoldsRows, IsAtMost};
+ghost use Rattle.vp9_types.specs.Maps.{HoldsRows, IsAtMost, rows_of};
 ghost use Rattle.vp9_types.specs.Shapes.{mi_rows, mi_cols};
 ghost use Rattle.vp9_types.specs.Sizes.{greatest};
 ghost use Rattle.vp9_tables.specs.Blocks.{greatest_of as greatest_transform};
@@ -12,7 +12,7 @@ ghost use Rattle.block_plan.specs.Code.{held_in, AreSmall};
 ghost use Rattle.block_plan.specs.declared.block.Prediction.TheVariants.{Inter};
 ghost use Rattle.inter_places.specs.Axes.{IsPlace};
 ghost use Rattle.inter_places.specs.Places.{IsPart, parts_of, place_of};
-ghost use Rattle.planes.specs.Planes.{plane_map};
+ghost use Rattle.planes.specs.Planes.{StartsIn, plane_map, with_part};
 ghost use Rattle.planes.specs.Pictures.{coded_area};
 ghost use Rattle.block_rebuild.specs.InterBlocks.{part_of, predicted_from, predicted_part, put_part, put_prediction, put_inter};
 ghost use Rattle.block_rebuild.specs.Code.{IsPlaneOf, HasReference, HasReferences, picture_of, reference_of, rebuilding_of};
@@ -94,6 +94,25 @@ fn predict_all<S: Samples>(
     place
 }
 
+/// Puts rows of samples at their place in a plane. Rows of each width are copied by a loop of their own.
+fn put_rows(samples: &mut SamplePlane, place: &Place, rows: &[u16])
+    requires place { IsPlace place.now }
+    requires inside { StartsIn samples.old.area place.now.row place.now.column }
+    requires whole { place.now.rows * place.now.columns ≤ length rows.now }
+    ensures area { samples.new.area ≡ samples.old.area }
+    ensures map { plane_map samples.new ≡ with_part samples.old.area (plane_map samples.old) place.now.row place.now.column place.now.rows place.now.columns (rows_of place.now.columns rows.now) }
+{
+    let (row, column, count) = (place.row, place.column, place.rows);
+    match place.columns {
+        4 => samples.put_columns::<4>(row, column, count, rows),
+        8 => samples.put_columns::<8>(row, column, count, rows),
+        16 => samples.put_columns::<16>(row, column, count, rows),
+        32 => samples.put_columns::<32>(row, column, count, rows),
+        64 => samples.put_columns::<64>(row, column, count, rows),
+        columns => samples.put_block(row, column, count, columns, rows),
+    }
+}
+
 /// Puts a part of a block into its plane.
 fn put_part<S: Samples>(
     samples: &mut SamplePlane,
@@ -109,13 +128,7 @@ fn put_part<S: Samples>(
     ensures is { IsPlaneOf b.now.by.now.shape plane samples.new }
 {
     let place = predict_all(b, plane, number, room);
-    samples.put_block(
-        place.row,
-        place.column,
-        place.rows,
-        place.columns,
-        &room.first,
-    );
+    put_rows(samples, &place, &room.first);
 }
 
 /// Puts the predicted samples of a block into its plane.

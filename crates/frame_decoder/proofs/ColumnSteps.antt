@@ -359,7 +359,7 @@ blocks_told columns read held = sym (of_code columns) ∙ ap (map (λ told. told
 pub begins : (header : Header) (k : ℕ) (c : TileColumn) → c.grid.rows ≡ mi_rows (shape_of header)
     → c.grid.from ≡ tile_offset (mi_cols (shape_of header)) header.params.tiles.columns_log2 k → c.grid.to ≡ tile_offset (mi_cols (shape_of header)) header.params.tiles.columns_log2 (k + 1)
     → FitPlanes (shape_of header) c.sides
-    → c.grid.room ≡ 64 * (superblocks_along (c.grid.to - c.grid.from) * superblocks_along (mi_rows (shape_of header))) → c.grid.blocks ≡ [] → IsTileColumn header 0 k c
+    → 64 * (superblocks_along (c.grid.to - c.grid.from) * superblocks_along (mi_rows (shape_of header))) ≤ c.grid.room → c.grid.blocks ≡ [] → IsTileColumn header 0 k c
 begins header k c rows from to fit room none = record {
   rows = rows;
   from = from;
@@ -369,9 +369,20 @@ begins header k c rows from to fit room none = record {
       let rows = mi_rows (shape_of header) in
       let less : superblocks_along rows - superblocks_before rows header.params.tiles.rows_log2 r ≤ superblocks_along rows = omega arith in
       let most = mul-le-mul_left (superblocks_along (c.grid.to - c.grid.from)) less in
-      rw room (omega (arith, most));
+      omega (arith, most, room);
   fit_blocks = rw none (λ i d low. absurd (omega (arith, low)));
   lie = rw none (λ i d low. absurd (omega (arith, low)));
   starts = rw none (λ i d low. absurd (omega (arith, low)));
   small = rw none (λ i d low. absurd (omega (arith, low)));
 }
+
+pub begins_by : (setting : FrameSetting) (k : ℕ) (c : TileColumn) → c.grid.rows ≡ setting.places.rows
+    → c.grid.from ≡ tile_offset setting.places.cols setting.header.params.tiles.columns_log2 k → c.grid.to ≡ tile_offset setting.places.cols setting.header.params.tiles.columns_log2 (k + 1)
+    → FitPlanes (shape_of setting.header) c.sides
+    → 64 * (superblocks_along (c.grid.to - c.grid.from) * superblocks_along setting.places.rows) ≤ c.grid.room → c.grid.blocks ≡ [] → IsTileColumn setting.header 0 k c
+begins_by setting k c rows from to fit room none =
+    let high : setting.places.rows ≡ mi_rows (shape_of setting.header) = ap (λ (p : FramePlaces). p.rows) setting.whole in
+    let wide : setting.places.cols ≡ mi_cols (shape_of setting.header) = ap (λ (p : FramePlaces). p.cols) setting.whole in
+    begins setting.header k c (rows ∙ high) (from ∙ ap (λ n. tile_offset n setting.header.params.tiles.columns_log2 k) wide)
+    (to ∙ ap (λ n. tile_offset n setting.header.params.tiles.columns_log2 (k + 1)) wide) fit
+    (subst (λ n. 64 * (superblocks_along (c.grid.to - c.grid.from) * superblocks_along n) ≤ c.grid.room) high room) none

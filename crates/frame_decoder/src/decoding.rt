@@ -26,7 +26,6 @@ use loop_edges::EdgeSetting;
 use loop_filter::filter_frame;
 use planes::{FramePlanes, Picture};
 use prob_contexts::{Contexts, Counts};
-use std::alloc::Global;
 use vp9_types::{Rule, Span};
 
 /// What a frame leaves beside its samples: its contexts after the forward update, its blocks by tile column, and what was
@@ -83,9 +82,10 @@ pub fn begin_frame(
     Ok(FrameSetting::new(header, modes, contexts))
 }
 
-/// Decodes a coded frame that is begun, into a picture of zeros of its shape.
+/// Decodes a coded frame that is begun, into a picture of zeros of its shape. Its blocks are kept in the memory of an earlier
+/// frame's tile columns, if that had as many and they suffice.
 pub fn decode_frame(
-    alloc: Global,
+    before: Vec<TileColumn>,
     bytes: &[u8],
     setting: FrameSetting,
     compressed: Span,
@@ -101,7 +101,7 @@ pub fn decode_frame(
 {
     let by = FrameSources { setting, past };
     let header = &by.setting.header;
-    let mut columns = TileColumn::all(alloc, &by.setting)?;
+    let mut columns = TileColumn::all(before, &by.setting)?;
     let planes = picture.planes_mut();
     let counts = decode_counted(bytes, &by, compressed, &mut columns, planes)?;
     let blocks = FrameBlocks::new(header, &columns);

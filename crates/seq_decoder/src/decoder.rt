@@ -11,14 +11,14 @@ ghost use Rattle.seq_decoder.specs.Outcomes.{outcome_at};
 ghost use Rattle.seq_decoder.specs.State.{State, start_state};
 
 use crate::coding::{Coded, own_contexts};
-use crate::last::LastFrame;
+use crate::last::{LastFrame, replace_last};
 use crate::past::{after_key, pictures_for, place_in, vectors_before};
 use crate::saved::{SavedContexts, place_of};
 use crate::segments::{begin_segments, keep_segments, segments_of};
 use crate::showing::show;
 use edge_io::{PutFault, Sink};
 use file_frames::FileFrame;
-use frame_decoder::{FramePast, Halt, begin_frame, decode_frame};
+use frame_decoder::{FramePast, Halt, TileColumn, begin_frame, decode_frame};
 use frame_headers::{FrameHead, Header, Persist, read};
 use picture_table::PictureTable;
 use planes::Picture;
@@ -36,6 +36,9 @@ pub struct Decoder {
     pub table: PictureTable,
     pub segments: Option<SegmentMap>,
     pub last: Option<LastFrame>,
+    // Memory that is used again: the tile columns of the frame before the last, and the text of rows.
+    pub columns: Vec<TileColumn>,
+    pub text: Vec<u8>,
 }
 
 /// How a decode ends at a frame that breaks a rule.
@@ -75,6 +78,8 @@ impl Decoder {
             table: PictureTable::new(alloc),
             segments: None,
             last: None,
+            columns: Vec::new(alloc),
+            text: Vec::new(alloc),
         }
     }
 
@@ -103,13 +108,14 @@ impl Decoder {
         begin_segments(alloc, header, self.persist.size, &mut self.segments)?;
         let place = self.table.blank(alloc, header.shape())?;
         let mut picture = replace(&mut self.table.pictures[place], Picture::none(alloc));
+        let columns = replace(&mut self.columns, Vec::new(alloc));
         let past = FramePast {
             contexts: &before,
             segments: segments_of(&self.segments),
             vectors: vectors_before(header, &self.last),
             pictures: pictures_for(header, &self.table),
         };
-        let decoded = decode_frame(alloc, bytes, setting, compressed, past, &mut picture)?;
+        let decoded = decode_frame(columns, bytes, setting, compressed, past, &mut picture)?;
         self.table.pictures[place] = picture;
         Ok(Coded { decoded, place })
     }
@@ -130,10 +136,11 @@ impl Decoder {
         keep_segments(&mut self.segments, header, &decoded.columns);
         self.table.refresh(header.refresh, place);
         self.persist = header.next(&self.persist);
-        self.last = Some(LastFrame {
+        let last = LastFrame {
             header: *header,
             columns: decoded.columns,
-        });
+        };
+        replace_last(&mut self.last, &mut self.columns, last);
     }
 
     /// Decodes a coded frame, and writes it if it is shown.
@@ -163,7 +170,7 @@ impl Decoder {
             Err(halt) => return Err(halt_outcome(frame.number, halt)),
         };
         let picture = &self.table.pictures[coded.place];
-        if let Err(refusal) = show(alloc, header.show_frame, picture, sink) {
+        if let Err(refusal) = show(alloc, header.show_frame, picture, &mut self.text, sink) {
             return Err(refusal_outcome(refusal));
         }
         self.keep(header, coded);
@@ -171,18 +178,20 @@ impl Decoder {
     }
 
     /// Writes what a slot holds.
-    fn show_slot<K: Sink>(&self, alloc: Global, slot: u8, sink: &mut K) -> Result<(), Outcome>
-        requires may { MayDecode self.now }
+    fn show_slot<K: Sink>(&mut self, alloc: Global, slot: u8, sink: &mut K) -> Result<(), Outcome>
+        requires may { MayDecode self.old }
         requires sink { K.can_put sink.old }
-        ensures adds { (number : ℕ) (state : State) → StandsFor self.now state → Adds number (Ok (record { state = state; shown = get_or state.slots slot None })) self.now
+        ensures adds { (number : ℕ) (state : State) → StandsFor self.old state → Adds number (Ok (record { state = state; shown = get_or state.slots slot None })) self.new
             (K.taken sink.old) (K.taken sink.new) (K.faults sink.old) (K.faults sink.new) result }
+        ensures may { MayDecode self.new }
         ensures grows { K.grows sink.new ≡ K.grows sink.old }
         ensures again { K.faults sink.new ≡ K.faults sink.old → K.can_put sink.new }
     {
         let Some(place) = place_in(&self.table.slots, slot) else {
             return Ok(());
         };
-        match show(alloc, true, &self.table.pictures[place], sink) {
+        let picture = &self.table.pictures[place];
+        match show(alloc, true, picture, &mut self.text, sink) {
             Ok(()) => Ok(()),
             Err(refusal) => Err(refusal_outcome(refusal)),
         }

@@ -25,7 +25,7 @@ pub returns-in-Ok-ShowExisting-clause-adds : goal.returns-in-Ok-ShowExisting-cla
 returns-in-Ok-ShowExisting-clause-adds g c = λ state stands.
     let bytes = c.args.frame.bytes.now in
     let is = ap (λ p. head_of p bytes) (sym stands.persist) ∙ sym c.in-Ok-ShowExisting.ensures.exact ∙ ap (λ h. Ok h) c.in-Ok-ShowExisting.field-0-is in
-    subst (λ s. Adds c.args.frame.number s c.args.self.now (g.K.Sink.taken c.args.sink.now) (g.K.Sink.taken c.show_slot.new.sink) (g.K.Sink.faults c.args.sink.now) (g.K.Sink.faults c.show_slot.new.sink) c.show_slot.result) (sym (step_is c.args.frame.number state bytes (Ok (head.ShowExisting c.in-Ok-ShowExisting.slot)) is))
+    subst (λ s. Adds c.args.frame.number s c.show_slot.new.self (g.K.Sink.taken c.args.sink.now) (g.K.Sink.taken c.show_slot.new.sink) (g.K.Sink.faults c.args.sink.now) (g.K.Sink.faults c.show_slot.new.sink) c.show_slot.result) (sym (step_is c.args.frame.number state bytes (Ok (head.ShowExisting c.in-Ok-ShowExisting.slot)) is))
     (c.show_slot.ensures.adds c.args.frame.number state stands)
 
 pub returns-in-Err-clause-adds : goal.returns-in-Err-clause-adds

@@ -8,7 +8,7 @@ use Rattle.frame_decoder.specs.Frames.{all_blocks}
 use Rattle.inter_modes.specs.Segments.{segments_after}
 use Rattle.prob_contexts.specs.Lists.{lists_of}
 use Rattle.seq_decoder.specs.After.{segments_before}
-use Rattle.seq_decoder.specs.Code.{HasPlaces, saved_lists}
+use Rattle.seq_decoder.specs.Code.{HasPlaces, last_held, saved_lists}
 use Rattle.seq_decoder.specs.State.{last_is_key, last_size}
 use Rattle.seq_decoder.specs.SavedContexts.{context_at, is_key, own_contexts}
 use Rattle.seq_decoder.proofs.FrameLemmas.{contexts_after, shapes_after, sized_of, slots_after}
@@ -27,7 +27,7 @@ returns-clause-stands c = λ number state r begun at.
       segments = c.keep_segments.ensures.map
           ∙ (λ i. segments_after header.params.segmentation (places_of (shape_of header)) (all_blocks (blocks_of (c.deref.ensures.value i))) (begun.segments i))
           ∙ ap (λ blocks. segments_after header.params.segmentation (places_of (shape_of header)) (all_blocks blocks) (segments_before header (last_size state.last) state.segments)) at.holds.blocks;
-      last = ap (λ blocks. Some (record { size = header.size; shown = header.show_frame; key = is_key header.kind; blocks = all_blocks blocks })) at.holds.blocks;
+      last = ap last_held c.replace_last.ensures ∙ ap (λ blocks. Some (record { size = header.size; shown = header.show_frame; key = is_key header.kind; blocks = all_blocks blocks })) at.holds.blocks;
     }
 
 pub returns-clause-may : goal.returns-clause-may

@@ -3,7 +3,7 @@ use Rattle.frame_headers.specs.State.{shape_of}
 use Rattle.frame_decoder.specs.Code.{column_as_listed}
 use Rattle.frame_decoder.specs.Reading.{no_column}
 use Rattle.frame_decoder.proofs.ColumnSteps.{one_begun, none_begun, tile_columns}
-use Rattle.frame_decoder.proofs.columns.TileColumn.all.Goals as goal
+use Rattle.frame_decoder.proofs.columns.TileColumn.new_all.Goals as goal
 
 pub loop-k-init : goal.loop-k-init
 loop-k-init c = record { begun = rw c.in_ok-columns.ensures.items (none_begun c.args.setting.now.header); room = omega (arith, c.in_ok-columns.ensures.capacity) }

@@ -1,7 +1,7 @@
 use Rattle.std.proofs.Common.{◌≤◌}
 use Rattle.std.specs.Vec.{vec_capacity}
 use Rattle.frame_decoder.proofs.ColumnSteps.{AreBegun}
-use Rattle.frame_decoder.proofs.columns.TileColumn.all.Given as goal
+use Rattle.frame_decoder.proofs.columns.TileColumn.new_all.Given as goal
 
 abbrev pub invariant-loop-k : goal.invariant-loop-k
 invariant-loop-k l = record {
