@@ -100,6 +100,7 @@ fn starts_inside(step: u32, side: u32, base: u32, end: u32) -> u32
 }
 
 /// The transform blocks of a block in a plane whose start lies inside the frame. The block itself starts there.
+#[inline(always)]
 pub fn transform_grid(frame: FramePlaces, block: PlaneBlock) -> TransformGrid
     requires few_rows { frame.rows ≤ 2 ^ 20 }
     requires few_cols { frame.cols ≤ 2 ^ 20 }
