@@ -1,0 +1,4 @@
+pub mod EachPuts
+pub mod Joins
+pub mod MapPlaces
+pub mod Forwards

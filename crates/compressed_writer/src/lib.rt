@@ -1,0 +1,15 @@
+//! Writes the compressed headers of VP9 frames (6.3 of the standard): the updates that make new probabilities of old ones.
+#![tactic(auto)]
+
+mod differences;
+mod modes;
+mod references;
+#[cfg(test)]
+mod tests;
+mod transforms;
+mod update;
+mod vectors;
+mod writing;
+
+pub use differences::difference_to;
+pub use writing::write_compressed_header;
