@@ -8,7 +8,7 @@ use Rattle.bool_encoder.specs.Part.{Part}
 use Rattle.bool_encoder.specs.Bools.{Puts}
 use Rattle.compressed_header.specs.Updates.{update_mv_prob, mv_updates}
 use Rattle.compressed_writer.specs.Code.{new_of}
-use Rattle.compressed_writer.specs.Updates.{IsVectorUpdate, AreOdd}
+use Rattle.compressed_writer.specs.Updates.{IsOddUpdate, AreOddUpdates}
 use Rattle.compressed_writer.proofs.EachPuts.{puts_bind}
 
 front_of : (xs ys : List ℕ) (k : ℕ) → length xs ≡ k → take k (xs ++ ys) ≡ xs
@@ -69,12 +69,12 @@ component_put (suc (suc i)) from n k old new now next few place e o l h = absurd
 at_place : (from k i : ℕ) (xs : List ℕ) → i < k → slice_index (take k (drop from xs)) i ≡ slice_index xs (from + i)
 at_place from k i xs low = get_or-take k (drop from xs) i 0 low ∙ get_or-drop from xs i 0
 
-pub range_odd : (from k : ℕ) (old new : List ℕ) → AreOdd old new → AreOdd (take k (drop from old)) (take k (drop from new))
+pub range_odd : (from k : ℕ) (old new : List ℕ) → AreOddUpdates old new → AreOddUpdates (take k (drop from old)) (take k (drop from new))
 range_odd from k old new odd = λ i low.
     let size = length-take k (drop from new) in
     let rest = length-drop from new in
     let short : i < min k (length (drop from new)) = subst (λ n. i < n) size low in
     let within : i < k = omega (arith, short) in
     let there : from + i < length new = omega (arith, short, rest) in
-    subst (λ x. IsVectorUpdate x (slice_index (take k (drop from new)) i)) (sym (at_place from k i old within))
-    (subst (λ y. IsVectorUpdate (slice_index old (from + i)) y) (sym (at_place from k i new within)) (odd (from + i) there))
+    subst (λ x. IsOddUpdate x (slice_index (take k (drop from new)) i)) (sym (at_place from k i old within))
+    (subst (λ y. IsOddUpdate (slice_index old (from + i)) y) (sym (at_place from k i new within)) (odd (from + i) there))

@@ -50,24 +50,28 @@ pub record AreInterUpdates (fields : InterFields) (mode : ReferenceMode) (old ne
   pub references : AreReferenceUpdates mode old new
 
 -- a probability of vectors stays, or is one more than the double of a number of 7 bits (6.3.17)
-abbrev pub IsVectorUpdate : ℕ → ℕ → Type 0
-IsVectorUpdate old new = new ≢ old → new % 2 ≡ 1
+abbrev pub IsOddUpdate : ℕ → ℕ → Type 0
+IsOddUpdate old new = new ≢ old → new % 2 ≡ 1
 
-abbrev pub AreOdd : List ℕ → List ℕ → Type 0
-AreOdd old new = (i : ℕ) → i < length new → IsVectorUpdate (slice_index old i) (slice_index new i)
+abbrev pub AreOddUpdates : List ℕ → List ℕ → Type 0
+AreOddUpdates old new = (i : ℕ) → i < length new → IsOddUpdate (slice_index old i) (slice_index new i)
+
+pub record HasOddUpdates (old new : VectorLists) : Type 0 where
+  pub joints : AreOddUpdates old.joints new.joints
+  pub signs : AreOddUpdates old.signs new.signs
+  pub classes : AreOddUpdates old.classes new.classes
+  pub class0 : AreOddUpdates old.class0 new.class0
+  pub bits : AreOddUpdates old.bits new.bits
+  pub class0_fractions : AreOddUpdates old.class0_fractions new.class0_fractions
+  pub fractions : AreOddUpdates old.fractions new.fractions
+  pub class0_high : AreOddUpdates old.class0_high new.class0_high
+  pub high : AreOddUpdates old.high new.high
 
 -- the last bit is coded where the frame's vectors have it (6.3.16)
 pub record AreVectorUpdates (precise : Bool) (old new : VectorLists) : Type 0 where
-  pub joints : AreOdd old.joints new.joints
-  pub signs : AreOdd old.signs new.signs
-  pub classes : AreOdd old.classes new.classes
-  pub class0 : AreOdd old.class0 new.class0
-  pub bits : AreOdd old.bits new.bits
-  pub class0_fractions : AreOdd old.class0_fractions new.class0_fractions
-  pub fractions : AreOdd old.fractions new.fractions
-  pub class0_high : AreOdd old.class0_high new.class0_high
-  pub high : AreOdd old.high new.high
-  pub fixed : precise ≡ false → (new.class0_high ≡ old.class0_high) × (new.high ≡ old.high)
+  pub odd : HasOddUpdates old new
+  pub class0_high : precise ≡ false → new.class0_high ≡ old.class0_high
+  pub high : precise ≡ false → new.high ≡ old.high
 
 -- intra frames code nothing of references, partitions and vectors, and have single references
 abbrev pub IsIntraUpdate : ReferenceMode → ContextLists → ContextLists → Type 0

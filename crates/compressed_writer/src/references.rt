@@ -41,8 +41,18 @@ fn put_reference_probs(
         ReferenceMode::Selected => (true, true, true),
     };
     put_updates_if(encoder, chosen, &before.compound_flag, &after.compound_flag)?;
-    put_updates_if(encoder, single, &before.single_references, &after.single_references)?;
-    put_updates_if(encoder, compound, &before.compound_references, &after.compound_references)
+    put_updates_if(
+        encoder,
+        single,
+        &before.single_references,
+        &after.single_references,
+    )?;
+    put_updates_if(
+        encoder,
+        compound,
+        &before.compound_references,
+        &after.compound_references,
+    )
 }
 
 /// Puts those of references and modes, with the frame's reference mode among them.
@@ -58,7 +68,12 @@ pub fn put_inter_probs(
     ensures { IfOk result (λ _. Puts (inter_probs fields.now (inter_lists before.now)) encoder.old (inter_lists after.now, mode) encoder.new) }
 {
     put_updates(encoder, &before.modes, &after.modes)?;
-    put_updates_if(encoder, is_switchable(fields.filter), &before.filters, &after.filters)?;
+    put_updates_if(
+        encoder,
+        is_switchable(fields.filter),
+        &before.filters,
+        &after.filters,
+    )?;
     put_updates(encoder, &before.is_inter, &after.is_inter)?;
     put_reference_mode(encoder, is_compound_allowed(&fields.references), mode)?;
     put_reference_probs(encoder, mode, before, after)?;

@@ -6,7 +6,7 @@ ghost use Rattle.std.specs.List.{All};
 ghost use Rattle.frame_headers.specs.Quantizer.{is_lossless};
 ghost use Rattle.frame_headers.specs.declared.header.FrameFilter.TheVariants as filter;
 ghost use Rattle.prob_contexts.specs.Lists.{lists_of, vector_lists};
-ghost use Rattle.compressed_writer.specs.Updates.{AreOdd, AreVectorUpdates, CanForward};
+ghost use Rattle.compressed_writer.specs.Updates.{AreOddUpdates, AreVectorUpdates, CanForward};
 
 use crate::write_compressed_header;
 use compressed_header::read;
@@ -220,6 +220,13 @@ fn updates_of_all_kinds(rt: HostRuntime) -> Result<(), Fail> {
     };
     let inter = header(FrameKind::Inter(fields()), 1);
     let after = changed(before);
-    writes(&rt, rt.alloc(), &inter, (before, after), modes, &INTER_BYTES)?;
+    writes(
+        &rt,
+        rt.alloc(),
+        &inter,
+        (before, after),
+        modes,
+        &INTER_BYTES,
+    )?;
     Ok(())
 }

@@ -89,8 +89,28 @@ pub fn put_coefficients(
     requires { AreCoefUpdates mode (coef_lists before.now) (coef_lists after.now) }
     ensures { IfOk result (λ _. Puts (read_coef_probs mode (coef_lists before.now)) encoder.old (coef_lists after.now) encoder.new) }
 {
-    put_size(encoder, allows(mode, TxSize::T4x4), &before.of_4x4, &after.of_4x4)?;
-    put_size(encoder, allows(mode, TxSize::T8x8), &before.of_8x8, &after.of_8x8)?;
-    put_size(encoder, allows(mode, TxSize::T16x16), &before.of_16x16, &after.of_16x16)?;
-    put_size(encoder, allows(mode, TxSize::T32x32), &before.of_32x32, &after.of_32x32)
+    put_size(
+        encoder,
+        allows(mode, TxSize::T4x4),
+        &before.of_4x4,
+        &after.of_4x4,
+    )?;
+    put_size(
+        encoder,
+        allows(mode, TxSize::T8x8),
+        &before.of_8x8,
+        &after.of_8x8,
+    )?;
+    put_size(
+        encoder,
+        allows(mode, TxSize::T16x16),
+        &before.of_16x16,
+        &after.of_16x16,
+    )?;
+    put_size(
+        encoder,
+        allows(mode, TxSize::T32x32),
+        &before.of_32x32,
+        &after.of_32x32,
+    )
 }

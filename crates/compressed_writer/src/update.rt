@@ -6,7 +6,7 @@ ghost use Rattle.vp9_types.specs.Each.{each};
 ghost use Rattle.bool_encoder.specs.Bools.{Puts};
 ghost use Rattle.compressed_header.specs.Updates.{diff_update_prob, update_mv_prob, updates_if, mv_updates};
 ghost use Rattle.compressed_writer.specs.Code.{new_of};
-ghost use Rattle.compressed_writer.specs.Updates.{IsVectorUpdate, AreOdd};
+ghost use Rattle.compressed_writer.specs.Updates.{IsOddUpdate, AreOddUpdates};
 
 use crate::differences::difference_to;
 use bool_encoder::{BoolEncoder, put_difference, put_flag, put_literal};
@@ -30,7 +30,7 @@ fn put_update(encoder: &mut BoolEncoder, old: u8, new: u8) -> Result<(), AllocEr
 
 #[tactic(auto, unfolding(compressed_header::specs::Updates::update_mv_prob), using(bool_encoder::proofs::Binds::writes_bind))]
 fn put_vector_update(encoder: &mut BoolEncoder, old: u8, new: u8) -> Result<(), AllocError>
-    requires { IsVectorUpdate old new }
+    requires { IsOddUpdate old new }
     ensures { IfOk result (λ _. Puts (update_mv_prob old) encoder.old new encoder.new) }
 {
     if new == old {
@@ -40,11 +40,7 @@ fn put_vector_update(encoder: &mut BoolEncoder, old: u8, new: u8) -> Result<(), 
     put_literal(encoder, 7, u32::from(new / 2))
 }
 
-pub fn put_updates(
-    encoder: &mut BoolEncoder,
-    before: &[u8],
-    after: &[u8],
-) -> Result<(), AllocError>
+pub fn put_updates(encoder: &mut BoolEncoder, before: &[u8], after: &[u8]) -> Result<(), AllocError>
     requires size { length before.now ≡ length after.now }
     requires old { All (λ p. 1 ≤ p) before.now }
     requires new { All (λ p. 1 ≤ p) after.now }
@@ -62,7 +58,7 @@ pub fn put_vector_updates(
     after: &[u8],
 ) -> Result<(), AllocError>
     requires size { length before.now ≡ length after.now }
-    requires odd { AreOdd before.now after.now }
+    requires odd { AreOddUpdates before.now after.now }
     ensures { IfOk result (λ _. Puts (each update_mv_prob before.now) encoder.old after.now encoder.new) }
 {
     for i in 0..after.len() {
@@ -104,7 +100,7 @@ pub fn put_component_updates(
     requires place { from ≡ n * i }
     requires old_size { length before.now ≡ 2 * n }
     requires new_size { length after.now ≡ 2 * n }
-    requires odd { AreOdd before.now after.now }
+    requires odd { AreOddUpdates before.now after.now }
     ensures { IfOk result (λ _. Puts (mv_updates from n (new_of i n before.now after.now)) encoder.old (new_of (i + 1) n before.now after.now) encoder.new) }
 {
     put_vector_updates(encoder, &before[from..from + n], &after[from..from + n])?;

@@ -34,7 +34,12 @@ fn put_inter_part(
 {
     put_inter_probs(encoder, fields, mode, &before.inter, &after.inter)?;
     put_updates(encoder, &before.partitions, &after.partitions)?;
-    put_vectors(encoder, fields.high_precision, &before.vectors, &after.vectors)
+    put_vectors(
+        encoder,
+        fields.high_precision,
+        &before.vectors,
+        &after.vectors,
+    )
 }
 
 #[tactic(auto, unfolding(compressed_header::specs::Header::kind_part))]

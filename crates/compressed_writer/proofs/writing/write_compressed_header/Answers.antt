@@ -7,8 +7,8 @@ pub returns-clause-read : goal.returns-clause-read
 returns-clause-read c =
     IfOk-weaker c.finish.result _ _
     (λ bytes f.
-        forwarded c.args.header.now (lists_of c.args.before.now) (lists_of c.args.after.now) c.args.modes c.put_compressed.new.encoder bytes.items
-        (rw c.new-encoder.ensures at c.in_ok-put_compressed.ensures) f)
+    forwarded c.args.header.now (lists_of c.args.before.now) (lists_of c.args.after.now) c.args.modes c.put_compressed.new.encoder bytes.items
+    (rw c.new-encoder.ensures at c.in_ok-put_compressed.ensures) f)
     c.finish.ensures
 
 pub returns-clause-some : goal.returns-clause-some
