@@ -2,6 +2,7 @@
 #![tactic(auto)]
 
 mod differences;
+mod laws;
 mod modes;
 mod references;
 #[cfg(test)]
@@ -12,4 +13,5 @@ mod vectors;
 mod writing;
 
 pub use differences::difference_to;
+pub use laws::what_is_read_can_be_written;
 pub use writing::write_compressed_header;
