@@ -1,0 +1,9 @@
+pub mod EachPuts
+pub mod Joins
+pub mod MapPlaces
+pub mod Forwards
+pub mod Settles
+pub mod OddReads
+pub mod ReadUpdates
+pub mod VectorReads
+pub mod HeaderReads

@@ -1,0 +1,56 @@
+//! The difference that makes a probability of another one.
+
+ghost use Rattle.std.specs.Prelude.{◌≡◌, ◌≢◌, ◌≤◌, slice_index};
+ghost use Rattle.vp9_tables.specs.declared.data.coefficients.TheConstants.{INV_MAP};
+ghost use Rattle.compressed_header.specs.Updates.{recentred, remapped};
+
+/// What stands for `n` around `m`.
+#[tactic(auto, unfolding(compressed_header::specs::Updates::recentred))]
+fn around(n: u8, m: u8) -> u8
+    requires number { n ≤ 254 }
+    requires middle { m ≤ 127 }
+    requires other { n ≢ m }
+    ensures is { recentred result m ≡ n }
+    ensures least { 1 ≤ result }
+    ensures most { result ≤ 254 }
+{
+    if n > 2 * m {
+        n
+    } else if n < m {
+        2 * (m - n) - 1
+    } else {
+        2 * (n - m)
+    }
+}
+
+/// Where the map has `v`: 20 numbers, 13 apart, stand first, and the others behind them in order.
+fn place_in_map(v: u8) -> u8
+    requires least { 1 ≤ v }
+    requires most { v ≤ 254 }
+    ensures is { slice_index INV_MAP result ≡ v }
+    ensures most { result ≤ 253 }
+{
+    let v = u16::from(v);
+    if v % 13 == 7 {
+        (v / 13) as u8
+    } else {
+        (19 + v - (v + 5) / 13) as u8
+    }
+}
+
+/// The coded difference that makes a new probability of an old one. Each has one for each other.
+#[tactic(auto, unfolding(compressed_header::specs::Updates::remapped))]
+pub fn difference_to(new: u8, old: u8) -> u8
+    requires new { 1 ≤ new }
+    requires old { 1 ≤ old }
+    requires other { new ≢ old }
+    ensures is { remapped result old ≡ new }
+    ensures most { result ≤ 253 }
+{
+    let m = old - 1;
+    if m <= 127 {
+        place_in_map(around(new - 1, m))
+    } else {
+        place_in_map(around(255 - new, 254 - m))
+    }
+}

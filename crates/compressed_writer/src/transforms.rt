@@ -1,0 +1,116 @@
+//! Transform sizes and coefficients.
+
+ghost use Rattle.std.specs.Prelude.{◌≡◌, ◌≤◌, IfOk, length, false};
+ghost use Rattle.std.specs.List.{All};
+ghost use Rattle.bool_encoder.specs.Bools.{Puts};
+ghost use Rattle.prob_contexts.specs.Lists.{tx_lists, coef_lists};
+ghost use Rattle.compressed_header.specs.Transforms.{tx_mode_probs, tx_probs_of, size_coef_probs, allows, read_coef_probs};
+ghost use Rattle.compressed_writer.specs.Updates.{AreTxUpdates, AreCoefUpdates};
+
+use crate::update::{put_updates, put_updates_if};
+use bool_encoder::{BoolEncoder, put_literal};
+use prob_contexts::{CoefProbs, TxProbs};
+use std::alloc::AllocError;
+use vp9_tables::biggest_tx_size;
+use vp9_types::{TxMode, TxSize};
+
+#[tactic(auto, unfolding(compressed_header::specs::Transforms::tx_mode_probs), using(bool_encoder::proofs::Binds::writes_bind))]
+fn put_tx_mode_probs(
+    encoder: &mut BoolEncoder,
+    before: &TxProbs,
+    after: &TxProbs,
+) -> Result<(), AllocError>
+    ensures { IfOk result (λ _. Puts (tx_mode_probs (tx_lists before.now)) encoder.old (tx_lists after.now) encoder.new) }
+{
+    put_updates(encoder, &before.of_8x8, &after.of_8x8)?;
+    put_updates(encoder, &before.of_16x16, &after.of_16x16)?;
+    put_updates(encoder, &before.of_32x32, &after.of_32x32)
+}
+
+/// Puts those of transform sizes, where blocks say which size they have.
+#[tactic(auto, unfolding(compressed_header::specs::Transforms::tx_probs_of))]
+pub fn put_tx_probs(
+    encoder: &mut BoolEncoder,
+    mode: TxMode,
+    before: &TxProbs,
+    after: &TxProbs,
+) -> Result<(), AllocError>
+    requires { AreTxUpdates mode (tx_lists before.now) (tx_lists after.now) }
+    ensures { IfOk result (λ _. Puts (tx_probs_of mode (tx_lists before.now)) encoder.old (tx_lists after.now) encoder.new) }
+{
+    if mode == TxMode::Selected {
+        return put_tx_mode_probs(encoder, before, after);
+    }
+    Ok(())
+}
+
+fn allows(mode: TxMode, size: TxSize) -> bool
+    ensures { result ≡ allows mode size }
+{
+    size as u8 <= biggest_tx_size(mode) as u8
+}
+
+/// Whether there is a change.
+fn changes(before: &[u8], after: &[u8]) -> bool
+    ensures { result ≡ false → after.now ≡ before.now }
+{
+    before != after
+}
+
+#[tactic(auto, unfolding(compressed_header::specs::Transforms::size_coef_probs), using(bool_encoder::proofs::Binds::writes_bind))]
+fn put_size(
+    encoder: &mut BoolEncoder,
+    allowed: bool,
+    before: &[u8],
+    after: &[u8],
+) -> Result<(), AllocError>
+    requires size { length before.now ≡ length after.now }
+    requires old { All (λ p. 1 ≤ p) before.now }
+    requires new { All (λ p. 1 ≤ p) after.now }
+    requires kept { allowed ≡ false → after.now ≡ before.now }
+    ensures { IfOk result (λ _. Puts (size_coef_probs allowed before.now) encoder.old after.now encoder.new) }
+{
+    if !allowed {
+        return Ok(());
+    }
+    let update = changes(before, after);
+    put_literal(encoder, 1, u32::from(update))?;
+    put_updates_if(encoder, update, before, after)
+}
+
+/// Puts `read_coef_probs` (6.3.7 of the standard). A size without a change has no updates.
+#[tactic(auto, unfolding(compressed_header::specs::Transforms::read_coef_probs), using(bool_encoder::proofs::Binds::writes_bind))]
+pub fn put_coefficients(
+    encoder: &mut BoolEncoder,
+    mode: TxMode,
+    before: &CoefProbs,
+    after: &CoefProbs,
+) -> Result<(), AllocError>
+    requires { AreCoefUpdates mode (coef_lists before.now) (coef_lists after.now) }
+    ensures { IfOk result (λ _. Puts (read_coef_probs mode (coef_lists before.now)) encoder.old (coef_lists after.now) encoder.new) }
+{
+    put_size(
+        encoder,
+        allows(mode, TxSize::T4x4),
+        &before.of_4x4,
+        &after.of_4x4,
+    )?;
+    put_size(
+        encoder,
+        allows(mode, TxSize::T8x8),
+        &before.of_8x8,
+        &after.of_8x8,
+    )?;
+    put_size(
+        encoder,
+        allows(mode, TxSize::T16x16),
+        &before.of_16x16,
+        &after.of_16x16,
+    )?;
+    put_size(
+        encoder,
+        allows(mode, TxSize::T32x32),
+        &before.of_32x32,
+        &after.of_32x32,
+    )
+}
