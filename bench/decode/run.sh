@@ -22,7 +22,9 @@ def commands(file):
     if VPXDEC:
         yield "vpxdec", [VPXDEC, "--rawvideo", "--threads=1", "-o", "-", file]
     if FFMPEG:
-        yield "ffmpeg", [FFMPEG, "-v", "error", "-threads", "1", "-i", file, "-f", "rawvideo", "-fps_mode", "passthrough", "-"]
+        rest = ["-threads", "1", "-i", file, "-f", "rawvideo", "-fps_mode", "passthrough", "-"]
+        yield "ffmpeg", [FFMPEG, "-v", "error", *rest]
+        yield "ffmpeg without assembler", [FFMPEG, "-v", "error", "-cpuflags", "0", *rest]
 
 
 def frames_in(file):
