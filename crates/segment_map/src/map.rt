@@ -1,6 +1,6 @@
 //! The map.
 
-ghost use Rattle.std.specs.Prelude.{◌≡◌, ◌*◌, ◌<◌, ◌≤◌, IfOk, length};
+ghost use Rattle.std.specs.Prelude.{◌≡◌, ◌*◌, ◌<◌, ◌≤◌, IfOk, IsOk, OnErr, OnOk, length};
 ghost use Rattle.vp9_types.specs.Maps.{with_block};
 ghost use Rattle.block_geometry.specs.Parts.{part_inside};
 ghost use Rattle.block_geometry.specs.declared.transform_blocks.FramePlaces.{FramePlaces};
@@ -39,6 +39,24 @@ impl SegmentMap {
             frame: FramePlaces { rows, cols },
             ids,
         })
+    }
+
+    /// Makes this the map of a frame of so many rows and columns, with the id 0 everywhere. It takes no memory where it has as
+    /// many places, and if there is not enough it stays as it was.
+    pub fn renew(&mut self, alloc: Global, rows: u32, cols: u32) -> Result<(), AllocError>
+        ensures rows { OnOk result (self.new.rows ≡ rows) }
+        ensures cols { OnOk result (self.new.cols ≡ cols) }
+        ensures zero { OnOk result (id_map self.new ≡ (λ _ _. 0)) }
+        ensures kept { OnErr result (self.new ≡ self.old) }
+        ensures again { rows * cols ≡ self.old.rows * self.old.cols → IsOk result }
+    {
+        if self.ids.len() != rows as usize * cols as usize {
+            *self = SegmentMap::new(alloc, rows, cols)?;
+            return Ok(());
+        }
+        self.ids.fill(0);
+        self.frame = FramePlaces { rows, cols };
+        Ok(())
     }
 
     /// The least id over the part of a block inside the map. The block starts there.

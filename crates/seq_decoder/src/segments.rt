@@ -39,7 +39,10 @@ pub fn begin_segments(
     if loses_past(header) || !has_size(header.size, last) {
         let rows = header.size.height.div_ceil(8);
         let cols = header.size.width.div_ceil(8);
-        *map = Some(SegmentMap::new(alloc, rows, cols)?);
+        match map {
+            Some(map) => map.renew(alloc, rows, cols)?,
+            None => *map = Some(SegmentMap::new(alloc, rows, cols)?),
+        }
     }
     Ok(())
 }
