@@ -222,6 +222,7 @@ fn second_in_range(
 }
 
 /// The references, if the frame can be predicted from them: else `BlockScale`.
+#[inline(always)]
 pub fn in_range_or_rule(
     size: &FrameSize,
     frame: &frame_headers::References,

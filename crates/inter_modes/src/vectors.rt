@@ -64,6 +64,7 @@ pub(crate) fn read_inter_mode<const COUNTS: bool>(
 }
 
 /// The nearest and the near vector of a block.
+#[inline(always)]
 fn near_of_block<N: Neighbours, Q: Neighbours>(
     src: &Sources<'_, N, Q>,
     reference: ReferenceFrame,
@@ -78,6 +79,7 @@ fn near_of_block<N: Neighbours, Q: Neighbours>(
 }
 
 /// Those of a quarter.
+#[inline(always)]
 fn near_of_quarter<N: Neighbours, Q: Neighbours>(
     src: &Sources<'_, N, Q>,
     reference: ReferenceFrame,
@@ -96,6 +98,7 @@ fn near_of_quarter<N: Neighbours, Q: Neighbours>(
 }
 
 /// The nearest vector of a quarter: of the first one alone it is a candidate.
+#[inline(always)]
 #[tactic(auto, unfolding(mv_prediction::specs::SubBlocks::sub_block_vectors))]
 fn nearest_of_quarter<N: Neighbours, Q: Neighbours>(
     src: &Sources<'_, N, Q>,
@@ -117,6 +120,7 @@ fn nearest_of_quarter<N: Neighbours, Q: Neighbours>(
 }
 
 /// A block's vector of a reference.
+#[inline(always)]
 #[tactic(auto, unfolding(crate::specs::Vectors::block_vector, crate::specs::Vectors::vector_of_mode), using(counting_reader::proofs::CountingRuns::run_settle))]
 fn read_block_vector<N: Neighbours, Q: Neighbours, const COUNTS: bool>(
     reader: &mut CountingReader<COUNTS>,

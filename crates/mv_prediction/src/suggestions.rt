@@ -353,6 +353,7 @@ pub fn candidates<N: Neighbours, Q: Neighbours>(
 }
 
 /// The context of a block's inter mode, 0 to 6.
+#[inline(always)]
 #[tactic(auto, unfolding(crate::specs::Candidates::mode_context))]
 pub fn mode_context<N: Neighbours>(search: &MvSearch, earlier: &N) -> u8
     requires held { (r c : ℕ) → r < search.now.places.rows → search.now.at.tile_from ≤ c → c < search.now.at.tile_to → N.holds earlier.now r c }

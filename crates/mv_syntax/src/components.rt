@@ -14,6 +14,7 @@ use prob_contexts::{ProbKind, VectorProbs};
 use vp9_tables::{Component, mv_class_tree, mv_fr_tree};
 
 /// The bit of high precision.
+#[inline(always)]
 #[tactic(auto, unfolding(crate::specs::Components::high_bit), using(counting_reader::proofs::CountingRuns::counting_bind, counting_reader::proofs::CountingRuns::run_settle))]
 fn read_high<const COUNTS: bool>(
     reader: &mut CountingReader<COUNTS>,

@@ -11,6 +11,7 @@ use counting_reader::CountingReader;
 use prob_contexts::{ProbKind, VectorProbs};
 use vp9_tables::{Component, mv_joint_tree};
 
+#[inline(always)]
 #[tactic(auto, unfolding(crate::specs::Differences::component_if), using(counting_reader::proofs::CountingRuns::run_settle))]
 fn read_component_if<const COUNTS: bool>(
     reader: &mut CountingReader<COUNTS>,
