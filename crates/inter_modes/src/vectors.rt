@@ -193,6 +193,7 @@ fn of_list(list: usize, rows: &[[Mv; 2]; 3]) -> [Mv; 3]
 }
 
 /// A quarter's vector of a reference, of the first list or the second.
+#[inline(always)]
 #[tactic(auto, unfolding(crate::specs::Vectors::quarter_vector, crate::specs::Vectors::vector_of_mode), using(counting_reader::proofs::CountingRuns::run_settle))]
 fn read_quarter_vector<N: Neighbours, Q: Neighbours, const COUNTS: bool>(
     reader: &mut CountingReader<COUNTS>,
