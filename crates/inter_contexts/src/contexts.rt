@@ -2,11 +2,11 @@
 
 ghost use Rattle.std.specs.Prelude.{◌≡◌, ◌<◌, ◌≤◌};
 ghost use Rattle.std.specs.Option.{option_copied};
-ghost use Rattle.inter_contexts.specs.Contexts.{is_intra, both_intra, is_inter_context, single_kind, compound_kind, variable_of, kind_of_references, kind_in, kind_of, reference_context, filter_in, filter_beside, filter_of_both, filter_context, predicted_beside, predicted_context};
+ghost use Rattle.inter_contexts.specs.Contexts.{is_intra, both_intra, is_inter_context, single_kind, compound_kind, variable_of, kind_of_references, kind_in, kind_of, filter_in, filter_beside, filter_of_both, filter_context, predicted_beside, predicted_context};
 ghost use Rattle.mv_prediction.specs.Candidates.{is_reference};
 
 use block_plan::{BlockInfo, Prediction};
-use vp9_tables::{NeighbourKind, ReferenceBool, ref_context};
+use vp9_tables::NeighbourKind;
 use vp9_types::ReferenceFrame;
 
 fn is_intra(block: &BlockInfo) -> bool
@@ -79,7 +79,7 @@ fn variable_of(
 }
 
 /// What a neighbour refers to.
-fn kind_of(fixed: ReferenceFrame, block: Option<&BlockInfo>) -> NeighbourKind
+pub(crate) fn kind_of(fixed: ReferenceFrame, block: Option<&BlockInfo>) -> NeighbourKind
     ensures { result ≡ kind_of fixed (option_copied block.entry) }
 {
     match block {
@@ -92,20 +92,6 @@ fn kind_of(fixed: ReferenceFrame, block: Option<&BlockInfo>) -> NeighbourKind
             },
         },
     }
-}
-
-/// The context of a bool of the references, 0 to 4.
-#[tactic(auto, unfolding(crate::specs::Contexts::reference_context))]
-pub(crate) fn reference_context(
-    which: ReferenceBool,
-    fixed: ReferenceFrame,
-    above: Option<&BlockInfo>,
-    left: Option<&BlockInfo>,
-) -> u8
-    ensures is { result ≡ reference_context which fixed (option_copied above.entry) (option_copied left.entry) }
-    ensures most { result ≤ 4 }
-{
-    ref_context(which, fixed, kind_of(fixed, above), kind_of(fixed, left))
 }
 
 fn filter_beside(block: Option<&BlockInfo>) -> u8

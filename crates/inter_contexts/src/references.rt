@@ -7,13 +7,13 @@ ghost use Rattle.counting_reader.specs.Code.{Reads};
 ghost use Rattle.frame_headers.specs.References.{is_in_range};
 ghost use Rattle.inter_contexts.specs.References.{fixed_of, variable_by, with_fixed, single, is_compound, compound_references, golden_or_altref, single_reference, coded_references, of_feature, ref_frames, reference_in, second_in_range, in_range_or_rule};
 
-use crate::contexts::reference_context;
+use crate::contexts::kind_of;
 use block_plan::{BlockInfo, References};
 use counting_reader::CountingReader;
 use frame_headers::{FeatureReference, FrameSize};
 use mv_prediction::SignBiases;
 use prob_contexts::{InterProbs, ProbKind};
-use vp9_tables::ReferenceBool;
+use vp9_tables::{ReferenceBool, ref_context};
 use vp9_types::{ReferenceFrame, ReferenceMode, Rule};
 
 /// The reference that all compound blocks of a frame have.
@@ -144,7 +144,7 @@ fn read_single<const COUNTS: bool>(
     }
 }
 
-#[tactic(auto, unfolding(crate::specs::References::coded_references), using(counting_reader::proofs::CountingRuns::counting_bind, counting_reader::proofs::CountingRuns::run_settle))]
+#[tactic(auto, unfolding(crate::specs::References::coded_references, crate::specs::Contexts::reference_context), using(counting_reader::proofs::CountingRuns::counting_bind, counting_reader::proofs::CountingRuns::run_settle))]
 fn read_coded<const COUNTS: bool>(
     reader: &mut CountingReader<COUNTS>,
     mode: ReferenceMode,
@@ -156,13 +156,15 @@ fn read_coded<const COUNTS: bool>(
     ensures { Reads (coded_references mode (inter_lists probs.now) biases.now (option_copied above.entry) (option_copied left.entry)) reader.old result reader.new }
 {
     let fixed = fixed_of(biases);
-    let context = reference_context(ReferenceBool::IsCompound, fixed, above, left);
+    let above = kind_of(fixed, above);
+    let left = kind_of(fixed, left);
+    let context = ref_context(ReferenceBool::IsCompound, fixed, above, left);
     if read_is_compound(reader, mode, &probs.compound_flag, context) {
-        let context = reference_context(ReferenceBool::CompoundVariable, fixed, above, left);
+        let context = ref_context(ReferenceBool::CompoundVariable, fixed, above, left);
         return read_compound(reader, &probs.compound_references, biases, context);
     }
-    let first = reference_context(ReferenceBool::SingleFirst, fixed, above, left);
-    let second = reference_context(ReferenceBool::SingleSecond, fixed, above, left);
+    let first = ref_context(ReferenceBool::SingleFirst, fixed, above, left);
+    let second = ref_context(ReferenceBool::SingleSecond, fixed, above, left);
     read_single(reader, &probs.single_references, first, second)
 }
 
@@ -222,6 +224,7 @@ fn second_in_range(
 }
 
 /// The references, if the frame can be predicted from them: else `BlockScale`.
+#[inline(always)]
 pub fn in_range_or_rule(
     size: &FrameSize,
     frame: &frame_headers::References,

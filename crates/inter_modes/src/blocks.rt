@@ -9,7 +9,7 @@ ghost use Rattle.counting_reader.specs.Code.{Reads};
 ghost use Rattle.mv_prediction.specs.Code.{AreSmall, PredictsSmall, IsSite, blocks_of};
 ghost use Rattle.mv_prediction.specs.Candidates.{mode_context};
 ghost use Rattle.inter_modes.specs.Code.{MaySearch, AreSmallQuarters};
-ghost use Rattle.inter_modes.specs.ModeInfo.{filter_of, interp_filter, whole_prediction, quarters_prediction, of_each, block_mode, whole_block, block_of_quarters, inter_prediction};
+ghost use Rattle.inter_modes.specs.ModeInfo.{interp_filter, whole_prediction, quarters_prediction, of_each, block_mode, whole_block, block_of_quarters, inter_prediction};
 
 use crate::intra_blocks::nodes_from;
 use crate::quarters::{Quarter, read_quarters};
@@ -19,21 +19,9 @@ use block_plan::{InterPrediction, Mv, Neighbours, References};
 use counting_reader::CountingReader;
 use frame_headers::FrameFilter;
 use prob_contexts::ProbKind;
-use vp9_tables::filter_tree;
 use vp9_types::{InterMode, InterpFilter, Rule};
 
-/// The filter of a number, 0 to 2.
-fn filter_of(number: u8) -> InterpFilter
-    ensures { result ≡ filter_of number }
-{
-    match number {
-        0 => InterpFilter::Regular,
-        1 => InterpFilter::Smooth,
-        _ => InterpFilter::Sharp,
-    }
-}
-
-#[tactic(auto, unfolding(crate::specs::ModeInfo::interp_filter), using(counting_reader::proofs::CountingRuns::counting_bind, counting_reader::proofs::CountingRuns::run_settle))]
+#[tactic(auto, unfolding(crate::specs::ModeInfo::interp_filter, counting_reader::specs::Symbols::counted_tree), using(counting_reader::proofs::CountingRuns::counting_bind, counting_reader::proofs::CountingRuns::run_settle))]
 fn read_filter<const COUNTS: bool>(
     reader: &mut CountingReader<COUNTS>,
     filter: FrameFilter,
@@ -48,7 +36,13 @@ fn read_filter<const COUNTS: bool>(
         FrameFilter::Switchable => {
             let first = 2 * u16::from(context);
             let nodes = nodes_from(probs, first);
-            filter_of(reader.counted_tree(ProbKind::Filter, first, filter_tree(), nodes))
+            if !reader.counted_bit(ProbKind::Filter, first, nodes[0]) {
+                InterpFilter::Regular
+            } else if reader.counted_bit(ProbKind::Filter, first + 1, nodes[1]) {
+                InterpFilter::Sharp
+            } else {
+                InterpFilter::Smooth
+            }
         }
     }
 }

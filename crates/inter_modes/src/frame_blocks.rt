@@ -35,8 +35,8 @@ struct Frame<'a> {
     fields: &'a InterFields,
 }
 
-fn block_with(at: BlockAt, start: &BlockStart, prediction: Prediction) -> BlockInfo
-    ensures { result ≡ block_with at start.now prediction }
+fn block_with(at: &BlockAt, start: &BlockStart, prediction: Prediction) -> BlockInfo
+    ensures { result ≡ block_with at.now start.now prediction }
 {
     BlockInfo {
         row: at.row,
@@ -55,13 +55,13 @@ fn block_with(at: BlockAt, start: &BlockStart, prediction: Prediction) -> BlockI
 fn read_intra_block<const COUNTS: bool>(
     reader: &mut CountingReader<COUNTS>,
     frame: &Frame<'_>,
-    at: BlockAt,
+    at: &BlockAt,
     start: &BlockStart,
 ) -> Result<BlockInfo, Rule>
     requires segment { start.now.segment.id ≤ 7 }
-    requires fits { tx_number start.now.tx ≤ greatest_of at.size }
-    ensures read { Reads (intra_block (frame_in frame.now) at start.now) reader.old result reader.new }
-    ensures block { IfOk result (IsBlockAt at) }
+    requires fits { tx_number start.now.tx ≤ greatest_of at.now.size }
+    ensures read { Reads (intra_block (frame_in frame.now) at.now start.now) reader.old result reader.new }
+    ensures block { IfOk result (IsBlockAt at.now) }
     ensures in_range { IfOk result (λ b. PredictsInRange frame.now.setting.now.header.size frame.now.fields.now.references b.prediction) }
 {
     let contexts = &frame.setting.contexts;
@@ -130,7 +130,7 @@ fn read_inter_block<N: Neighbours, Q: Neighbours, const COUNTS: bool>(
     let skips = skips_segment(&setting.header.params.segmentation, segment);
     let filter = (frame.fields.filter, filter_context(above, left));
     let prediction = read_inter_prediction(reader, src, filters, skips, filter, references)?;
-    Ok(block_with(src.search.at, start, Prediction::Inter(prediction)))
+    Ok(block_with(&src.search.at, start, Prediction::Inter(prediction)))
 }
 
 /// A block of an inter frame, from the blocks above it and at its left, and the map before its frame.
@@ -153,7 +153,7 @@ fn read_beside<N: Neighbours, Q: Neighbours, const COUNTS: bool>(
     ensures block { IfOk result (IsBlockAt src.now.search.at) }
     ensures in_range { IfOk result (λ b. PredictsInRange frame.now.setting.now.header.size frame.now.fields.now.references b.prediction) }
 {
-    let at = src.search.at;
+    let at = &src.search.at;
     let start = read_block_start(reader, frame.setting, above, left, at, map);
     if start.is_inter {
         read_inter_block(reader, src, frame, above, left, &start)

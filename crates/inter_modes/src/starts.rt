@@ -212,19 +212,19 @@ pub(crate) fn read_block_start<const COUNTS: bool>(
     setting: &FrameSetting,
     above: Option<&BlockInfo>,
     left: Option<&BlockInfo>,
-    at: BlockAt,
+    at: &BlockAt,
     map: &SegmentMap,
 ) -> BlockStart
-    requires row { at.row < map.now.rows }
-    requires col { at.col < map.now.cols }
-    ensures read { Reads (block_start setting.now.header.params.segmentation setting.now.modes.tx_mode (lists_of setting.now.contexts) (option_copied above.entry) (option_copied left.entry) at.size (least_of map.now at)) reader.old result reader.new }
+    requires row { at.now.row < map.now.rows }
+    requires col { at.now.col < map.now.cols }
+    ensures read { Reads (block_start setting.now.header.params.segmentation setting.now.modes.tx_mode (lists_of setting.now.contexts) (option_copied above.entry) (option_copied left.entry) at.now.size (least_of map.now at.now)) reader.old result reader.new }
     ensures segment { result.segment.id ≤ 7 }
-    ensures fits { tx_number result.tx ≤ greatest_of at.size }
+    ensures fits { tx_number result.tx ≤ greatest_of at.now.size }
 {
     let segmentation = &setting.header.params.segmentation;
     let contexts = &setting.contexts;
     let context = predicted_context(above, left);
-    let segment = read_inter_segment_id(reader, segmentation, context, map, at);
+    let segment = read_inter_segment_id(reader, segmentation, context, map, *at);
     let context = skip_context(above, left);
     let skip = read_skip(reader, segmentation, &contexts.skip, context, segment.id);
     let context = is_inter_context(above, left);

@@ -7,7 +7,7 @@ ghost use Rattle.counting_reader.specs.Code.{Reads};
 ghost use Rattle.mv_prediction.specs.Code.{AreSmall, blocks_of};
 ghost use Rattle.mv_prediction.specs.Vectors.{IsSmallVector};
 ghost use Rattle.inter_modes.specs.Code.{MaySearch, AreSmallBefore};
-ghost use Rattle.inter_modes.specs.Vectors.{inter_of, inter_mode, vector_of_mode, near_of_block, near_of_quarter, block_vector, block_vectors, second_best, best_vectors, of_list, quarter_vector, quarter_vectors, quarter};
+ghost use Rattle.inter_modes.specs.Vectors.{inter_mode, vector_of_mode, near_of_block, near_of_quarter, block_vector, block_vectors, second_best, best_vectors, of_list, quarter_vector, quarter_vectors, quarter};
 
 use crate::intra_blocks::nodes_from;
 use crate::quarters::{Quarter, QuartersBefore};
@@ -16,7 +16,6 @@ use counting_reader::CountingReader;
 use mv_prediction::{MvSearch, NearVectors, candidates, near_vectors, sub_block_vectors};
 use mv_syntax::read_new_vector;
 use prob_contexts::{ProbKind, VectorProbs};
-use vp9_tables::inter_mode_tree;
 use vp9_types::{InterMode, ReferenceFrame, Rule};
 
 const NO_VECTOR: Mv = Mv { row: 0, column: 0 };
@@ -37,19 +36,8 @@ pub(crate) struct Sources<'a, N, Q> {
     pub before: Option<&'a Q>,
 }
 
-/// The mode of a number, 0 to 3.
-fn inter_of(number: u8) -> InterMode
-    ensures { result ≡ inter_of number }
-{
-    match number {
-        0 => InterMode::Nearest,
-        1 => InterMode::Near,
-        2 => InterMode::Zero,
-        _ => InterMode::New,
-    }
-}
-
-#[tactic(auto, unfolding(crate::specs::Vectors::inter_mode), using(counting_reader::proofs::CountingRuns::counting_bind, counting_reader::proofs::CountingRuns::run_settle))]
+/// A block's mode, bool by bool: a loop over so small a tree costs more.
+#[tactic(auto, unfolding(crate::specs::Vectors::inter_mode, counting_reader::specs::Symbols::counted_tree), using(counting_reader::proofs::CountingRuns::counting_bind, counting_reader::proofs::CountingRuns::run_settle))]
 pub(crate) fn read_inter_mode<const COUNTS: bool>(
     reader: &mut CountingReader<COUNTS>,
     probs: &[u8; 21],
@@ -60,10 +48,21 @@ pub(crate) fn read_inter_mode<const COUNTS: bool>(
 {
     let first = 3 * u16::from(context);
     let nodes = nodes_from(probs, first);
-    inter_of(reader.counted_tree(ProbKind::InterMode, first, inter_mode_tree(), nodes))
+    if !reader.counted_bit(ProbKind::InterMode, first, nodes[0]) {
+        return InterMode::Zero;
+    }
+    if !reader.counted_bit(ProbKind::InterMode, first + 1, nodes[1]) {
+        return InterMode::Nearest;
+    }
+    if reader.counted_bit(ProbKind::InterMode, first + 2, nodes[2]) {
+        InterMode::New
+    } else {
+        InterMode::Near
+    }
 }
 
 /// The nearest and the near vector of a block.
+#[inline(always)]
 fn near_of_block<N: Neighbours, Q: Neighbours>(
     src: &Sources<'_, N, Q>,
     reference: ReferenceFrame,
@@ -78,6 +77,7 @@ fn near_of_block<N: Neighbours, Q: Neighbours>(
 }
 
 /// Those of a quarter.
+#[inline(always)]
 fn near_of_quarter<N: Neighbours, Q: Neighbours>(
     src: &Sources<'_, N, Q>,
     reference: ReferenceFrame,
@@ -96,6 +96,7 @@ fn near_of_quarter<N: Neighbours, Q: Neighbours>(
 }
 
 /// The nearest vector of a quarter: of the first one alone it is a candidate.
+#[inline(always)]
 #[tactic(auto, unfolding(mv_prediction::specs::SubBlocks::sub_block_vectors))]
 fn nearest_of_quarter<N: Neighbours, Q: Neighbours>(
     src: &Sources<'_, N, Q>,
@@ -117,6 +118,7 @@ fn nearest_of_quarter<N: Neighbours, Q: Neighbours>(
 }
 
 /// A block's vector of a reference.
+#[inline(always)]
 #[tactic(auto, unfolding(crate::specs::Vectors::block_vector, crate::specs::Vectors::vector_of_mode), using(counting_reader::proofs::CountingRuns::run_settle))]
 fn read_block_vector<N: Neighbours, Q: Neighbours, const COUNTS: bool>(
     reader: &mut CountingReader<COUNTS>,
@@ -189,6 +191,7 @@ fn of_list(list: usize, rows: &[[Mv; 2]; 3]) -> [Mv; 3]
 }
 
 /// A quarter's vector of a reference, of the first list or the second.
+#[inline(always)]
 #[tactic(auto, unfolding(crate::specs::Vectors::quarter_vector, crate::specs::Vectors::vector_of_mode), using(counting_reader::proofs::CountingRuns::run_settle))]
 fn read_quarter_vector<N: Neighbours, Q: Neighbours, const COUNTS: bool>(
     reader: &mut CountingReader<COUNTS>,

@@ -1,15 +1,13 @@
 -- What is suggested for a block depends on the blocks of its tile's columns alone.
-use Rattle.std.proofs.Common.{◌≡◌, ℕ, ◌+◌, ◌*◌, ◌<◌, ◌≤◌, ◌++◌, ◌∷◌, [], ◌∙◌, ℤ, pos, Bool, true, false, ◌&&◌, List, refl, ap, arith, Option, Some, None, if◌then◌else◌, map}
+use Rattle.std.proofs.Common.{◌≡◌, ℕ, ◌+◌, ◌<◌, ◌≤◌, ◌++◌, [], ℤ, pos, Bool, true, false, ◌&&◌, List, refl, ap, arith, Option, Some, None, if◌then◌else◌, map}
 use Rattle.std.specs.Prelude.{◌+ℤ◌, int_le, int_lt, unsigned_abs, slice_index, slice_index_or}
 use Rattle.std.specs.List.{flat_map, range_with_len}
-use Rattle.std.proofs.Math.Path.{fun_ext}
-use Rattle.std.proofs.lemmas.Bool.{and_parts}
 use Rattle.std.proofs.lemmas.Int.{ints}
 use Rattle.vp9_types.specs.declared.block.ReferenceFrame.{ReferenceFrame}
 use Rattle.vp9_tables.specs.declared.data.motion.TheConstants.{COUNTER_TO_CONTEXT}
 use Rattle.block_plan.specs.Blocks.{covering}
 use Rattle.block_plan.specs.declared.block.BlockInfo.{BlockInfo}
-use Rattle.mv_prediction.specs.Candidates.{moved, at_both, neighbour, offset_of, own_at, own_of, others_at, others_of, counter_of, candidate_vectors, candidates, first_two, mode_context}
+use Rattle.mv_prediction.specs.Candidates.{moved, at_both, neighbour, offset_of, own_of, others_of, counter_of, candidate_vectors, candidates, first_two, mode_context}
 use Rattle.mv_prediction.specs.Laws.{SameIn}
 use Rattle.mv_prediction.specs.Vectors.{clamped}
 use Rattle.mv_prediction.specs.declared.search.MvSearch.{MvSearch}

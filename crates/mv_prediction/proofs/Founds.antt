@@ -1,6 +1,6 @@
 -- The first two vectors of a list that differ, part by part.
-use Rattle.std.proofs.Common.{◌≡◌, ℕ, ◌+◌, ◌++◌, ◌∷◌, [], ◌∙◌, Bool, true, false, List, refl, sym, ap, arith, append-nil, map}
-use Rattle.std.specs.List.{fold, flat_map, range_with_len}
+use Rattle.std.proofs.Common.{◌≡◌, ℕ, ◌+◌, ◌++◌, ◌∷◌, [], ◌∙◌, Bool, true, false, List, refl, sym, ap, arith, append-nil, zero, suc}
+use Rattle.std.specs.List.{flat_map, range_with_len}
 use Rattle.std.proofs.lemmas.Grind.{flat_map-append}
 use Rattle.std.proofs.lemmas.List.Sums.{fold-append}
 use Rattle.std.proofs.lemmas.List.Folds.{fold_stays}
@@ -66,6 +66,15 @@ full_is_all Nothing vs full = cc
 full_is_all (One u) vs full = cc
 full_is_all (Two u w) vs full = sym (full_stays u w vs)
 
+-- where two are found, further places change nothing
+pub full_places : (f : ℕ → List Mv) (found all : Found) (from n m k : ℕ) → n + k ≡ m → all ≡ with_places f found from n → is_full all ≡ true
+    → all ≡ with_places f found from m
+full_places f found all from n m zero more is full = let end : n ≡ m = omega arith in is ∙ ap (λ (x : ℕ). with_places f found from x) end
+full_places f found all from n m (suc k) more is full =
+    let next : all ≡ with_places f found from (n + 1) =
+    full_is_all all (f (from + n)) full ∙ (ap (λ g. with_vectors g (f (from + n))) is ∙ places_more f found from n (from + n) (n + 1) refl refl) in
+    full_places f found all from (n + 1) m k (omega arith) next full
+
 -- parts of a list, one after another
 pub part_more : (start found next : Found) (xs ys : List Mv) → found ≡ with_vectors start xs → next ≡ with_vectors found ys → next ≡ with_vectors start (xs ++ ys)
 part_more start found next xs ys is more = more ∙ (ap (λ f. with_vectors f ys) is ∙ both_parts start xs ys)
@@ -82,11 +91,15 @@ pub all_parts : (a b c d e : List Mv) (f0 f1 f2 f3 f4 : Found) → f0 ≡ with_v
 all_parts a b c d e f0 f1 f2 f3 f4 i0 i1 i2 i3 i4 =
     part_more Nothing f3 f4 (a ++ b ++ c ++ d) e (part_more Nothing f2 f3 (a ++ b ++ c) d (three_parts a b c f0 f1 f2 i0 i1 i2) i3) i4
 
--- where two are found after three parts, or after one
+-- where two are found after three parts, after two or after one
 pub three_parts_full : (a b c d e : List Mv) (f0 f1 f2 : Found) → f0 ≡ with_vectors Nothing a → f1 ≡ with_vectors f0 b → f2 ≡ with_vectors f1 c → is_full f2 ≡ true
     → f2 ≡ with_vectors Nothing (a ++ b ++ c ++ d ++ e)
 three_parts_full a b c d e f0 f1 f2 i0 i1 i2 full =
     part_full Nothing f2 (a ++ b ++ c ++ d) e (part_full Nothing f2 (a ++ b ++ c) d (three_parts a b c f0 f1 f2 i0 i1 i2) full) full
+
+pub two_parts_full : (a b c d e : List Mv) (f0 f1 : Found) → f0 ≡ with_vectors Nothing a → f1 ≡ with_vectors f0 b → is_full f1 ≡ true
+    → f1 ≡ with_vectors Nothing (a ++ b ++ c ++ d ++ e)
+two_parts_full a b c d e f0 f1 i0 i1 full = three_parts_full a b c d e f0 f1 f1 i0 i1 (full_is_all f1 c full) full
 
 pub one_part_full : (a b c d e : List Mv) (f0 : Found) → f0 ≡ with_vectors Nothing a → is_full f0 ≡ true → f0 ≡ with_vectors Nothing (a ++ b ++ c ++ d ++ e)
 one_part_full a b c d e f0 i0 full = three_parts_full a b c d e f0 f0 f0 i0 (full_is_all f0 b full) (full_is_all f0 c full) full

@@ -1,5 +1,5 @@
 -- Blocks whose vectors are small.
-use Rattle.std.proofs.Common.{◌≡◌, ℕ, ◌<◌, ◌∷◌, [], Bool, true, false, List, refl, arith, All, Option, Some, None, if◌then◌else◌}
+use Rattle.std.proofs.Common.{ℕ, ◌∷◌, [], Bool, true, false, List, arith, All, Option, Some, None, if◌then◌else◌}
 use Rattle.std.specs.Prelude.{IfSome}
 use Rattle.std.proofs.lemmas.List.Elements.{All-head, All-tail}
 use Rattle.block_plan.specs.Blocks.{covering, covers, or_else}

@@ -1,13 +1,12 @@
 -- The vectors that other blocks suggest for a block (6.5 of the standard: find_mv_refs), as one list.
-use Rattle.std.specs.Prelude.{ℕ, ◌+◌, ◌*◌, ℤ, pos, ◌+ℤ◌, Bool, true, false, ◌&&◌, ◌||◌, List, [], ◌∷◌, ◌++◌, Option, Some, None, map, get_or, slice_index, slice_index_or, unsigned_abs, int_lt, int_le, nat_eq, if◌then◌else◌}
+use Rattle.std.specs.Prelude.{ℕ, ◌+◌, ◌*◌, ℤ, pos, ◌+ℤ◌, Bool, false, ◌&&◌, ◌||◌, List, [], ◌∷◌, ◌++◌, Option, Some, None, map, get_or, slice_index, slice_index_or, unsigned_abs, int_lt, int_le, nat_eq, if◌then◌else◌}
 use Rattle.std.specs.List.{flat_map, range_with_len}
 use Rattle.std.specs.Ordering.{int_eq}
 use Rattle.vp9_types.specs.declared.block.BlockSize.{BlockSize}
-use Rattle.vp9_types.specs.declared.block.InterMode.{InterMode}
 use Rattle.vp9_types.specs.declared.block.InterMode.TheVariants.{Zero}
 use Rattle.vp9_types.specs.declared.block.ReferenceFrame.{ReferenceFrame}
 use Rattle.vp9_types.specs.declared.block.ReferenceFrame.TheVariants.{Last, Golden, Altref}
-use Rattle.vp9_tables.specs.Numbers.{block_number, flag_number, inter_number, intra_number, reference_number}
+use Rattle.vp9_tables.specs.Numbers.{block_number, flag_number, inter_number, reference_number}
 use Rattle.vp9_tables.specs.declared.data.motion.TheConstants.{COUNTER_TO_CONTEXT, MODE_COUNTERS, MV_REF_OFFSETS, SUBBLOCK_OF_NEIGHBOUR}
 use Rattle.frame_headers.specs.References.{same_bit}
 use Rattle.frame_headers.specs.declared.header.References.{References}

@@ -1,6 +1,6 @@
 -- The nearest and the near vector of a block, and of the quarters of one below 8x8 (6.5 of the standard: find_best_ref_mvs,
 -- append_sub8x8_mvs).
-use Rattle.std.specs.Prelude.{ℕ, List, [], ◌∷◌, Bool, slice_index_or, nat_eq, nat_lt, if◌then◌else◌}
+use Rattle.std.specs.Prelude.{ℕ, List, ◌∷◌, Bool, slice_index_or, nat_eq, nat_lt, if◌then◌else◌}
 use Rattle.block_plan.specs.declared.block.Mv.{Mv}
 use Rattle.mv_prediction.specs.Candidates.{other_than}
 use Rattle.mv_prediction.specs.Vectors.{no_vector, rounded}

@@ -151,7 +151,7 @@ fn with_others(
 
 /// With the vector that the neighbour at an offset has of the wanted reference.
 #[inline(always)]
-#[tactic(auto, using(crate::proofs::Founds::full_is_all, crate::proofs::Founds::with_none))]
+#[tactic(auto, using(crate::proofs::Founds::with_none))]
 fn with_own_at<N: Neighbours>(
     found: Found,
     earlier: &N,
@@ -167,9 +167,6 @@ fn with_own_at<N: Neighbours>(
     ensures is { result ≡ with_vectors found (own_at (N.blocks earlier.now) search.now wanted.reference wanted.sub k) }
     ensures small { IsSmallFound result }
 {
-    if found.is_full() {
-        return found;
-    }
     match neighbour(earlier, search, k) {
         Some(block) => {
             let offset = mv_ref_offset(search.at.size, k);
@@ -182,7 +179,7 @@ fn with_own_at<N: Neighbours>(
 
 /// With those that it has of other references.
 #[inline(always)]
-#[tactic(auto, using(crate::proofs::Founds::full_is_all, crate::proofs::Founds::with_none))]
+#[tactic(auto, using(crate::proofs::Founds::with_none))]
 fn with_others_at<N: Neighbours>(
     found: Found,
     earlier: &N,
@@ -197,9 +194,6 @@ fn with_others_at<N: Neighbours>(
     ensures is { result ≡ with_vectors found (others_at (N.blocks earlier.now) search.now wanted k) }
     ensures small { IsSmallFound result }
 {
-    if found.is_full() {
-        return found;
-    }
     match neighbour(earlier, search, k) {
         Some(block) => with_others(found, &search.biases, wanted, &block.prediction),
         None => found,
@@ -239,6 +233,9 @@ fn with_other_six<N: Neighbours>(
     let mut all = found;
     for k in 2..8u8 {
         all = with_own_at(all, earlier, search, wanted, k);
+        if all.is_full() {
+            return all;
+        }
     }
     all
 }
@@ -259,6 +256,9 @@ fn with_turned<N: Neighbours>(
     let mut all = found;
     for k in 0..8u8 {
         all = with_others_at(all, earlier, search, wanted, k);
+        if all.is_full() {
+            return all;
+        }
     }
     all
 }
@@ -317,6 +317,9 @@ fn search_all<N: Neighbours, Q: Neighbours>(
         return found;
     }
     let found = with_other_six(found, earlier, search, reference);
+    if found.is_full() {
+        return found;
+    }
     let block = block_before(before, search);
     let found = with_own_before(found, block, reference);
     if found.is_full() {
@@ -350,6 +353,7 @@ pub fn candidates<N: Neighbours, Q: Neighbours>(
 }
 
 /// The context of a block's inter mode, 0 to 6.
+#[inline(always)]
 #[tactic(auto, unfolding(crate::specs::Candidates::mode_context))]
 pub fn mode_context<N: Neighbours>(search: &MvSearch, earlier: &N) -> u8
     requires held { (r c : ℕ) → r < search.now.places.rows → search.now.at.tile_from ≤ c → c < search.now.at.tile_to → N.holds earlier.now r c }

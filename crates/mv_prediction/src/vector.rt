@@ -72,6 +72,7 @@ fn held_back(x: i16, at: u32, side: u8, end: u32) -> i16
 }
 
 /// A candidate that leads no further than 128 beyond the frame.
+#[inline(always)]
 #[tactic(auto, unfolding(crate::specs::Vectors::clamped))]
 pub(crate) fn clamped(search: &MvSearch, v: Mv) -> Mv
     requires small { IsSmallVector v }

@@ -2,18 +2,21 @@
 
 ghost use Rattle.std.specs.Prelude.{◌≡◌, ◌+◌, ◌*◌, ◌^◌, ◌<◌, ◌≤◌, ℕ, drop, length, unsigned_abs};
 ghost use Rattle.vp9_tables.specs.Numbers.{component_number};
+ghost use Rattle.vp9_tables.specs.Trees.{mv_fr_tree};
 ghost use Rattle.prob_contexts.specs.Kinds.{kind_size};
 ghost use Rattle.prob_contexts.specs.Lists.{vector_lists};
 ghost use Rattle.counting_reader.specs.Counting.{through};
+ghost use Rattle.counting_reader.specs.Symbols.{counted_tree};
 ghost use Rattle.counting_reader.specs.Code.{Reads};
 ghost use Rattle.std.specs.List.{range_with_len};
 ghost use Rattle.mv_syntax.specs.Components.{high_bit, small_magnitude, next_bit, large_magnitude, magnitude, read_mv_component};
 
 use counting_reader::CountingReader;
 use prob_contexts::{ProbKind, VectorProbs};
-use vp9_tables::{Component, mv_class_tree, mv_fr_tree};
+use vp9_tables::{Component, mv_class_tree};
 
 /// The bit of high precision.
+#[inline(always)]
 #[tactic(auto, unfolding(crate::specs::Components::high_bit), using(counting_reader::proofs::CountingRuns::counting_bind, counting_reader::proofs::CountingRuns::run_settle))]
 fn read_high<const COUNTS: bool>(
     reader: &mut CountingReader<COUNTS>,
@@ -41,6 +44,34 @@ fn nodes_from(probs: &[u8], first: u16) -> &[u8]
     &probs[first as usize..]
 }
 
+/// A number by how many ones come before a zero, three at most: the tree of fractions, which is that of joints too. Bool by
+/// bool, since a loop over so small a tree costs more.
+#[inline(always)]
+#[tactic(auto, unfolding(counting_reader::specs::Symbols::counted_tree), using(counting_reader::proofs::CountingRuns::counting_bind, counting_reader::proofs::CountingRuns::run_settle))]
+pub(crate) fn read_ones<const COUNTS: bool>(
+    reader: &mut CountingReader<COUNTS>,
+    kind: ProbKind,
+    first: u16,
+    nodes: &[u8],
+) -> u8
+    requires enough { 3 ≤ length nodes.now }
+    requires inside { first + 3 ≤ kind_size kind }
+    ensures read { Reads (counted_tree kind first mv_fr_tree nodes.now) reader.old result reader.new }
+    ensures most { result ≤ 3 }
+{
+    if !reader.counted_bit(kind, first, nodes[0]) {
+        return 0;
+    }
+    if !reader.counted_bit(kind, first + 1, nodes[1]) {
+        return 1;
+    }
+    if reader.counted_bit(kind, first + 2, nodes[2]) {
+        3
+    } else {
+        2
+    }
+}
+
 /// A component of class 0.
 #[tactic(auto, unfolding(crate::specs::Components::small_magnitude), using(counting_reader::proofs::CountingRuns::counting_bind, counting_reader::proofs::CountingRuns::run_settle))]
 fn read_small<const COUNTS: bool>(
@@ -56,7 +87,7 @@ fn read_small<const COUNTS: bool>(
     let whole = reader.counted_bit(ProbKind::VectorClass0, c, probs.class0[c as usize]);
     let first = 6 * c + 3 * u16::from(whole);
     let nodes = nodes_from(&probs.class0_fractions, first);
-    let fraction = reader.counted_tree(ProbKind::VectorClass0Fraction, first, mv_fr_tree(), nodes);
+    let fraction = read_ones(reader, ProbKind::VectorClass0Fraction, first, nodes);
     let p = probs.class0_high[c as usize];
     let high = read_high(reader, precise, ProbKind::VectorClass0High, c, p);
     8 * u16::from(whole) + 2 * u16::from(fraction) + u16::from(high) + 1
@@ -137,7 +168,7 @@ fn read_large<const COUNTS: bool>(
 {
     let bits = read_bits(reader, probs, c, n);
     let nodes = nodes_from(&probs.fractions, 3 * c);
-    let fraction = reader.counted_tree(ProbKind::VectorFraction, 3 * c, mv_fr_tree(), nodes);
+    let fraction = read_ones(reader, ProbKind::VectorFraction, 3 * c, nodes);
     let high = read_high(
         reader,
         precise,

@@ -5,12 +5,13 @@ ghost use Rattle.prob_contexts.specs.Lists.{vector_lists};
 ghost use Rattle.counting_reader.specs.Code.{Reads};
 ghost use Rattle.mv_syntax.specs.Differences.{component_if, read_mv};
 
-use crate::components::read_component;
+use crate::components::{read_component, read_ones};
 use block_plan::Mv;
 use counting_reader::CountingReader;
 use prob_contexts::{ProbKind, VectorProbs};
-use vp9_tables::{Component, mv_joint_tree};
+use vp9_tables::Component;
 
+#[inline(always)]
 #[tactic(auto, unfolding(crate::specs::Differences::component_if), using(counting_reader::proofs::CountingRuns::run_settle))]
 fn read_component_if<const COUNTS: bool>(
     reader: &mut CountingReader<COUNTS>,
@@ -40,7 +41,7 @@ pub fn read_mv<const COUNTS: bool>(
     ensures row { unsigned_abs result.row ≤ 16384 }
     ensures column { unsigned_abs result.column ≤ 16384 }
 {
-    let joint = reader.counted_tree(ProbKind::VectorJoint, 0, mv_joint_tree(), &probs.joints);
+    let joint = read_ones(reader, ProbKind::VectorJoint, 0, &probs.joints);
     let row = read_component_if(reader, joint >= 2, probs, Component::Row, precise);
     let has_column = joint == 1 || joint == 3;
     let column = read_component_if(reader, has_column, probs, Component::Column, precise);

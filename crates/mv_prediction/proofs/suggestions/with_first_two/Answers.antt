@@ -1,4 +1,4 @@
-use Rattle.std.proofs.Common.{◌≡◌, ◌∙◌, ap}
+use Rattle.std.proofs.Common.{◌∙◌, ap}
 use Rattle.mv_prediction.specs.Candidates.{own_at}
 use Rattle.mv_prediction.specs.Code.{with_vectors}
 use Rattle.mv_prediction.proofs.Founds.{two_places}

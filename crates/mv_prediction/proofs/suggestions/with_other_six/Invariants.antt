@@ -1,4 +1,4 @@
-use Rattle.std.proofs.Common.{◌≡◌, ◌≤◌, ◌-◌, None}
+use Rattle.std.proofs.Common.{◌≡◌, ◌-◌, None}
 use Rattle.mv_prediction.specs.Candidates.{own_at}
 use Rattle.mv_prediction.specs.Code.{with_places, IsSmallFound}
 use Rattle.mv_prediction.proofs.suggestions.with_other_six.Given as goal

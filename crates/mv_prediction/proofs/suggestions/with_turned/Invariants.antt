@@ -1,4 +1,4 @@
-use Rattle.std.proofs.Common.{◌≡◌, ◌≤◌}
+use Rattle.std.proofs.Common.{◌≡◌}
 use Rattle.mv_prediction.specs.Candidates.{others_at}
 use Rattle.mv_prediction.specs.Code.{with_places, IsSmallFound}
 use Rattle.mv_prediction.proofs.suggestions.with_turned.Given as goal
