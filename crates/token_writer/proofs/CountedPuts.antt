@@ -1,5 +1,5 @@
 -- One counting syntax, and then another, without what they count.
-use Rattle.std.proofs.Common.{◌≡◌, ℕ, List, refl}
+use Rattle.std.proofs.Common.{◌≡◌, ℕ, List, refl, ap}
 use Rattle.vp9_types.specs.Syntax.{Syntax, done, broken, ask, ◌>>=◌}
 use Rattle.vp9_types.specs.declared.rule.Rule.{Rule}
 use Rattle.prob_contexts.specs.declared.kind.CountedBool.{CountedBool}
@@ -38,3 +38,15 @@ unfolding in_order valued
 valued_in_order (done x) f = valued_behind x.counted (f x.value)
 valued_in_order (broken e) f = refl
 valued_in_order (ask p k) f = same_after p (λ v. valued (in_order (k v) f)) (λ v. valued (k v) >>= λ x. valued (f x)) (λ v. valued_in_order (k v) f)
+
+settled_by : {A : Type 0} → A → List CountedBool → Settled A
+settled_by x bools = record { value = x; counted = bools }
+
+-- what is counted is there all the same
+pub value_counts : {A : Type 0} (s : Syntax ℕ Rule (Settled A)) (old new : Part) (x : A) → PutsValue s old x new → PutsCounting s old x new
+unfolding valued
+value_counts (done y) old new x h = (y.counted, (ap (λ v. settled_by v y.counted) h.0, h.1))
+value_counts (broken e) old new x h = absurd h
+value_counts (ask p k) old new x h =
+    let rest = value_counts (k h.0) (after_put p h.0 old) new x h.2 in
+    (rest.0, (h.0, h.1, rest.1))

@@ -1,9 +1,10 @@
 -- How tokens are chosen, and what the code has put so far.
-use Rattle.std.specs.Prelude.{◌≡◌, ℕ, ◌<◌, ◌≤◌, ◌-◌, ◌^◌, Bool, ℤ, List, length, slice_index}
+use Rattle.std.specs.Prelude.{◌≡◌, ℕ, ◌<◌, ◌≤◌, ◌+◌, ◌-◌, ◌^◌, Bool, ℤ, List, length, slice_index}
 use Rattle.vp9_types.specs.declared.shape.Depth.{Depth}
 use Rattle.vp9_tables.specs.Coefficients.{category_of}
 use Rattle.bool_encoder.specs.Part.{Part}
 use Rattle.coef_tokens.specs.Symbols.{category_base, class_of}
+use Rattle.coef_tokens.specs.Places.{Tables}
 use Rattle.coef_tokens.specs.Steps.{step}
 use Rattle.coef_tokens.specs.declared.step.Step.{Step}
 use Rattle.token_writer.specs.Counted.{PutsValue}
@@ -20,3 +21,9 @@ pub record IsTokenOf (depth : Depth) (token m : ℕ) : Type 0 where
 abbrev pub PutsStep : Depth → Bool → List ℕ → Part → Step → Part → Type 0
 PutsStep depth check probs old s new =
     (node : ℕ) → PutsValue (step depth check node (slice_index probs 0) (slice_index probs 1) (slice_index probs 2)) old s new
+
+-- the probabilities of a row
+pub record AreThree (t : Tables) (row : ℕ) (probs : List ℕ) : Type 0 where
+  pub first : slice_index probs 0 ≡ slice_index t.probs row
+  pub second : slice_index probs 1 ≡ slice_index t.probs (row + 1)
+  pub third : slice_index probs 2 ≡ slice_index t.probs (row + 2)

@@ -3,13 +3,12 @@
 ghost use Rattle.std.specs.Prelude.{◌≡◌, ◌+◌, ◌≤◌, ◌<◌, ℕ, List, IfOk, length, slice_index};
 ghost use Rattle.std.specs.List.{All};
 ghost use Rattle.prob_contexts.specs.Lists.{ContextLists, lists_of};
-ghost use Rattle.vp9_types.specs.Shapes.{is_chroma};
-ghost use Rattle.vp9_tables.specs.Numbers.{flag_number};
 ghost use Rattle.vp9_tables.specs.Scans.{area};
-ghost use Rattle.coef_tokens.specs.Blocks.{block_tables, kind_probs};
+ghost use Rattle.coef_tokens.specs.Blocks.{block_tables};
 ghost use Rattle.coef_tokens.specs.Places.{Read, context_at, row_at};
 ghost use Rattle.coef_tokens.specs.Code.{HoldsClasses};
 ghost use Rattle.token_writer.specs.Fits.{CanPut, PutsLevels};
+ghost use Rattle.token_writer.specs.Code.{AreThree};
 
 use crate::step::{put_end, put_some, put_zero};
 use bool_encoder::BoolEncoder;
@@ -54,11 +53,10 @@ fn row_of(at: TokenKind, first: u8, cache: &[u8], place: usize) -> usize
 }
 
 /// The three probabilities of a row.
+#[tactic(auto, unfolding(coef_tokens::specs::Blocks::block_tables))]
 fn probs_at(contexts: &Contexts, at: TokenKind, row: usize) -> [u8; 3]
     requires { row + 2 < 99 }
-    ensures first { slice_index result 0 ≡ slice_index (kind_probs (lists_of contexts.now) at) row }
-    ensures second { slice_index result 1 ≡ slice_index (kind_probs (lists_of contexts.now) at) (row + 1) }
-    ensures third { slice_index result 2 ≡ slice_index (kind_probs (lists_of contexts.now) at) (row + 2) }
+    ensures are { AreThree (block_tables (lists_of contexts.now) at) row result }
     ensures some { 1 ≤ slice_index result 2 }
 {
     let chroma = at.plane != Plane::Y;
@@ -98,9 +96,10 @@ pub fn put_tokens(
         }
     }
     let end = count as usize;
-    if end < scan.len() {
-        let probs = probs_at(contexts, at, row_of(at, first, &cache, end));
-        put_end(encoder, probs)?;
+    if end == scan.len() {
+        return Ok(());
     }
+    let probs = probs_at(contexts, at, row_of(at, first, &cache, end));
+    put_end(encoder, probs)?;
     Ok(())
 }
