@@ -39,7 +39,7 @@ valued_in_order (done x) f = valued_behind x.counted (f x.value)
 valued_in_order (broken e) f = refl
 valued_in_order (ask p k) f = same_after p (λ v. valued (in_order (k v) f)) (λ v. valued (k v) >>= λ x. valued (f x)) (λ v. valued_in_order (k v) f)
 
-settled_by : {A : Type 0} → A → List CountedBool → Settled A
+abbrev settled_by : {A : Type 0} → A → List CountedBool → Settled A
 settled_by x bools = record { value = x; counted = bools }
 
 -- what is counted is there all the same

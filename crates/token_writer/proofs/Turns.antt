@@ -1,19 +1,38 @@
 -- The places of a block, turn by turn.
-use Rattle.std.proofs.Common.{◌≡◌, ◌≢◌, ◌⊎◌, ◌<◌, ◌≤◌, ◌+◌, ◌-◌, inl, inr, ℕ, Bool, true, false, refl, sym, subst, ◌∙◌, ap, arith, List, [], ◌∷◌, length, get_or, set, drop, ℤ, pos}
+use Rattle.std.proofs.Common.{◌≡◌, ◌≢◌, ◌⊎◌, ◌<◌, ◌≤◌, ◌+◌, ◌-◌, inl, inr, ℕ, Bool, true, false, refl, sym, subst, ◌∙◌, ap, arith, List, [], ◌∷◌, length, get_or, set, drop, ℤ, pos, unsigned_abs, ◌^◌, w32}
+use mir.Val.{to_z, of_z}
 use Rattle.std.specs.Prelude.{slice_index}
 use Rattle.std.proofs.lemmas.Bool.{cases_eq, eq-eqb, ne_eqb}
 use Rattle.std.proofs.lemmas.List.{get_or-set_same, get_or-set_other, drop_more, drop_all}
+use Rattle.vp9_types.specs.Syntax.{Syntax}
+use Rattle.vp9_types.specs.declared.rule.Rule.{Rule}
+use Rattle.vp9_types.specs.declared.shape.Depth.{Depth}
+use Rattle.vp9_types.specs.declared.shape.Depth.TheVariants.{Eight, Ten, Twelve}
+use Rattle.counting_reader.specs.Counting.{Settled}
 use Rattle.bool_encoder.specs.Part.{Part, after_put}
 use Rattle.bool_encoder.specs.Bools.{Puts, can_put}
 use Rattle.bool_encoder.proofs.Binds.{writes_bind}
+use Rattle.coef_tokens.proofs.Turns.{kept}
 use Rattle.coef_tokens.specs.declared.step.Step.{Step}
 use Rattle.coef_tokens.specs.declared.step.Step.TheVariants.{End, Zero, Level}
 use Rattle.coef_tokens.specs.Places.{Tables, Tokens, Read, no_tokens, block_tokens, tokens_from, step_by, row_at, with_zero, with_level, goes_on, level_at}
 use Rattle.coef_tokens.specs.Code.{HoldsClasses, HoldsLevels}
 use Rattle.token_writer.specs.Counted.{valued, PutsValue}
-use Rattle.token_writer.specs.Fits.{CanPut, PutsLevels, level_of}
+use Rattle.token_writer.specs.Fits.{CanPut, IsCoded, PutsLevels, level_of}
 use Rattle.token_writer.specs.Code.{PutsStep, AreThree}
 use Rattle.token_writer.proofs.CountedPuts.{valued_in_order, valued_settle, value_counts}
+
+coded_small : (depth : Depth) (m : ℕ) → IsCoded depth m → m < 2 ^ 19
+coded_small Eight m h = omega arith
+coded_small Ten m h = omega arith
+coded_small Twelve m h = omega arith
+
+-- a level's bits are those of a word
+pub kept_level : (depth : Depth) (z : ℤ) → IsCoded depth (unsigned_abs z) → to_z w32 (of_z w32 z) ≡ z
+kept_level depth z h = kept z (coded_small depth (unsigned_abs z) h)
+
+pub true_is : {A : Type 0} → true ≡ false → A
+true_is e = let no : ⊥ = cc in absurd no
 
 -- the levels at the first places of the scan, and 0 elsewhere
 abbrev pub HoldsFirst : List ℕ → ℕ → List ℤ → List Read → Type 0
@@ -49,9 +68,9 @@ turn : (t : Tables) (first place row : ℕ) (check : Bool) (probs : List ℕ) (p
 unfolding tokens_from
 turn t first place row check probs p old now next s low at is three put left q new rest =
     let here : row ≡ row_at t first p.count p.reads = is ∙ ap (λ c. row_at t first c p.reads) (sym at) in
-    let go = λ s. goes_on p (slice_index t.scan place) s (λ check' p'. tokens_from t first (drop (place + 1) t.scan) check' p') in
+    let go : Step → Syntax ℕ Rule (Settled Tokens) = λ s. goes_on p (slice_index t.scan place) s (λ check' p'. tokens_from t first (drop (place + 1) t.scan) check' p') in
     let one : PutsValue (step_by t (row_at t first p.count p.reads) check) now s next = rw here at (by_row t row check probs now next s three put) in
-    left q new (rw (drop_more t.scan place 0 low) (subst (λ s. Puts s now q new) (sym (valued_in_order (step_by t (row_at t first p.count p.reads) check) go))
+    left q new (rw (drop_more t.scan place 0 low) (subst (λ (u : Syntax ℕ Rule Tokens). Puts u now q new) (sym (valued_in_order (step_by t (row_at t first p.count p.reads) check) go))
     (writes_bind can_put after_put (valued (step_by t (row_at t first p.count p.reads) check)) (λ s. valued (go s)) now next new s q one rest)))
 
 -- a place more
