@@ -8,6 +8,9 @@ use Rattle.vp9_types.specs.Syntax.{Syntax}
 use Rattle.vp9_types.specs.declared.rule.Rule.{Rule}
 use Rattle.vp9_types.specs.declared.shape.Depth.{Depth}
 use Rattle.vp9_types.specs.declared.shape.Depth.TheVariants.{Eight, Ten, Twelve}
+use Rattle.vp9_types.specs.declared.block.TxSize.{TxSize}
+use Rattle.vp9_types.specs.declared.block.TxSize.TheVariants.{T4x4, T8x8, T16x16, T32x32}
+use Rattle.vp9_tables.specs.Scans.{area}
 use Rattle.counting_reader.specs.Counting.{Settled}
 use Rattle.bool_encoder.specs.Part.{Part, after_put}
 use Rattle.bool_encoder.specs.Bools.{Puts, can_put}
@@ -30,6 +33,24 @@ coded_small Twelve m h = omega arith
 -- a level's bits are those of a word
 pub kept_level : (depth : Depth) (z : ℤ) → IsCoded depth (unsigned_abs z) → to_z w32 (of_z w32 z) ≡ z
 kept_level depth z h = kept z (coded_small depth (unsigned_abs z) h)
+
+pub none_at : (depth : Depth) (z : ℤ) → IsCoded depth (unsigned_abs z) → of_z w32 z ≡ 0 → z ≡ pos 0
+none_at depth z h none = sym (kept_level depth z h) ∙ ap (to_z w32) none
+
+pub area_most : (size : TxSize) → area size ≤ 1024
+area_most T4x4 = omega arith
+area_most T8x8 = omega arith
+area_most T16x16 = omega arith
+area_most T32x32 = omega arith
+
+pub back : (n : ℕ) → n + 1 - 1 ≡ n
+back n = omega arith
+
+-- behind a zero that isn't the scan's last place a level is coded
+pub asks : (t : Tables) (levels : List ℤ) (count : ℕ) (check : Bool) → CanPut t levels count
+    → (check ≡ false → (0 < count) × (level_of levels (slice_index t.scan (count - 1)) ≡ pos 0)) → count < length t.scan → check ≡ true
+asks t levels count true can zero low = refl
+asks t levels count false can zero low = let z = zero refl in absurd (can.last z.0 low z.1)
 
 pub true_is : {A : Type 0} → true ≡ false → A
 true_is e = let no : ⊥ = cc in absurd no

@@ -5,7 +5,7 @@ use Rattle.prob_contexts.specs.Lists.{lists_of}
 use Rattle.coef_tokens.specs.Blocks.{block_tables}
 use Rattle.coef_tokens.proofs.Turns.{zeros_at, no_classes}
 use Rattle.token_writer.specs.Fits.{level_of}
-use Rattle.token_writer.proofs.Turns.{begins, zero_turn, level_turn, ends_at_last, ends_here, kept_level, true_is}
+use Rattle.token_writer.proofs.Turns.{begins, zero_turn, level_turn, ends_at_last, ends_here, kept_level, none_at, area_most, asks, back, true_is}
 use Rattle.token_writer.proofs.places.put_tokens.Goals as goal
 use Rattle.token_writer.proofs.places.put_tokens.Goals.{then-level-eq0+in_ok-put_zero, else-level-eq0+in_ok-cache}
 
@@ -37,17 +37,45 @@ put_some-requires-clause-coded c =
 
 pub loop-place-preserved : goal.loop-place-preserved
 unfolding block_tables
-loop-place-preserved c = elim c.if-level-eq0.branch [
-  | then-level-eq0+in_ok-put_zero w ↦ let is = w.if-level-eq0.true in let put = w.in_ok-put_zero.ensures in ?
-  | else-level-eq0+in_ok-cache w ↦ let is = w.if-level-eq0.false in let put = w.in_ok-cache.ensures in ?
-]
+loop-place-preserved c =
+    let t = block_tables (lists_of c.args.contexts.now) c.args.at in
+    let old = c.loop-place.invariant in
+    let can = c.requires.can in
+    let most = can.most in
+    let position = slice_index t.scan c.loop-place.place in
+    let low : c.loop-place.place < length t.scan = omega (arith, most, c.loop-place-test.true) in
+    let coded = can.coded position in
+    elim c.if-level-eq0.branch [
+      | then-level-eq0+in_ok-put_zero w ↦
+          let none : level_of c.args.levels.now position ≡ pos 0 =
+          none_at c.args.at.depth (level_of c.args.levels.now position) coded (rw c.scan-scan.ensures.table at w.if-level-eq0.true) in
+          rw (w.cache-is, w.check-is, w.encoder-is) record {
+            low = old.low;
+            zero = λ _. rw (back c.loop-place.place) (omega arith, none);
+            stands = zero_turn t c.args.first c.args.encoder.now c.loop-place.place c.row_of.result c.loop-place.check c.probs_at-probs.result c.loop-place.cache c.args.levels.now
+                c.loop-place.encoder w.put_zero.new.encoder old.stands low (c.row_of.ensures.value (lists_of c.args.contexts.now)) c.probs_at-probs.ensures.are none
+                (w.in_ok-put_zero.ensures c.args.at.depth);
+          }
+      | else-level-eq0+in_ok-cache w ↦
+          let inside : position < length c.loop-place.cache =
+          rw c.scan-scan.ensures.table at (let within = c.scan-scan.ensures.within c.loop-place.place 0 ? in let most = area_most c.args.at.tx in omega arith) in
+          let put = rw (c.scan-scan.ensures.table, kept_level c.args.at.depth (level_of c.args.levels.now position) coded) at w.in_ok-cache.ensures.put in
+          rw (w.cache-is, w.check-is, w.encoder-is, c.scan-scan.ensures.table) record {
+            low = All-set (λ class. class ≤ 5) c.loop-place.cache position w.in_ok-cache.field-0 w.in_ok-cache.ensures.low old.low;
+            zero = λ e. true_is e;
+            stands = level_turn t c.args.first c.args.encoder.now c.loop-place.place c.row_of.result c.loop-place.check c.probs_at-probs.result c.loop-place.cache c.args.levels.now
+                w.in_ok-cache.field-0 c.loop-place.encoder w.put_some.new.encoder old.stands low (c.row_of.ensures.value (lists_of c.args.contexts.now))
+                c.probs_at-probs.ensures.are inside put;
+          }
+    ]
 
 pub returns-then-end-scan : goal.returns-then-end-scan
 unfolding block_tables
 returns-then-end-scan c =
     let t = block_tables (lists_of c.args.contexts.now) c.args.at in
-    let last : c.loop-place.place ≡ length t.scan = ? in
-    ?
+    let all : c.loop-place.place ≡ c.args.count = omega (arith, c.loop-place-test.false, c.loop-place.auto.place-end) in
+    ends_at_last t c.args.first c.args.encoder.now c.args.count c.loop-place.check c.loop-place.cache c.args.levels.now c.loop-place.encoder
+    c.requires.can (rw all at c.loop-place.invariant.stands) (c.if-end-scan.true ∙ ap length c.scan-scan.ensures.table)
 
 pub row_of-requires-2-clause-place : goal.row_of-requires-2-clause-place
 unfolding block_tables
@@ -56,4 +84,13 @@ row_of-requires-2-clause-place c =
     omega (arith, most, c.scan-scan.ensures.count, c.if-end-scan.false)
 
 pub returns : goal.returns
-returns c = ?
+unfolding block_tables
+returns c =
+    let t = block_tables (lists_of c.args.contexts.now) c.args.at in
+    let all : c.loop-place.place ≡ c.args.count = omega (arith, c.loop-place-test.false, c.loop-place.auto.place-end) in
+    let most = c.requires.can.most in
+    let low : c.args.count < length t.scan = rw c.scan-scan.ensures.table at (let other = c.if-end-scan.false in ?) in
+    let check : c.loop-place.check ≡ true = asks t c.args.levels.now c.args.count c.loop-place.check c.requires.can (rw all at c.loop-place.invariant.zero) low in
+    ends_here t c.args.first c.args.encoder.now c.args.count c.row_of-2.result c.probs_at-probs-2.result c.loop-place.cache c.args.levels.now
+    c.loop-place.encoder c.put_end.new.encoder c.requires.can (rw (all, check) at c.loop-place.invariant.stands) low
+    (c.row_of-2.ensures.value (lists_of c.args.contexts.now)) c.probs_at-probs-2.ensures.are (c.in_ok-put_end.ensures c.args.at.depth)
