@@ -57,8 +57,11 @@ loop-place-preserved c =
                 (w.in_ok-put_zero.ensures c.args.at.depth);
           }
       | else-level-eq0+in_ok-cache w ↦
-          let inside : position < length c.loop-place.cache =
-          rw c.scan-scan.ensures.table at (let within = c.scan-scan.ensures.within c.loop-place.place 0 ? in let most = area_most c.args.at.tx in omega arith) in
+          let there : c.loop-place.place < length c.scan-scan.result.now = rw c.scan-scan.ensures.table low in
+          let within = c.scan-scan.ensures.within c.loop-place.place 0 there in
+          let long = area_most c.args.at.tx in
+          let room : slice_index c.scan-scan.result.now c.loop-place.place < length c.loop-place.cache = omega (arith, within, long) in
+          let inside : position < length c.loop-place.cache = rw c.scan-scan.ensures.table at room in
           let put = rw (c.scan-scan.ensures.table, kept_level c.args.at.depth (level_of c.args.levels.now position) coded) at w.in_ok-cache.ensures.put in
           rw (w.cache-is, w.check-is, w.encoder-is, c.scan-scan.ensures.table) record {
             low = All-set (λ class. class ≤ 5) c.loop-place.cache position w.in_ok-cache.field-0 w.in_ok-cache.ensures.low old.low;
@@ -89,7 +92,9 @@ returns c =
     let t = block_tables (lists_of c.args.contexts.now) c.args.at in
     let all : c.loop-place.place ≡ c.args.count = omega (arith, c.loop-place-test.false, c.loop-place.auto.place-end) in
     let most = c.requires.can.most in
-    let low : c.args.count < length t.scan = rw c.scan-scan.ensures.table at (let other = c.if-end-scan.false in ?) in
+    let least : c.args.count ≤ length c.scan-scan.result.now = rw c.scan-scan.ensures.table most in
+    let there : c.args.count < length c.scan-scan.result.now = omega (arith, least, c.if-end-scan.false) in
+    let low : c.args.count < length t.scan = rw c.scan-scan.ensures.table at there in
     let check : c.loop-place.check ≡ true = asks t c.args.levels.now c.args.count c.loop-place.check c.requires.can (rw all at c.loop-place.invariant.zero) low in
     ends_here t c.args.first c.args.encoder.now c.args.count c.row_of-2.result c.probs_at-probs-2.result c.loop-place.cache c.args.levels.now
     c.loop-place.encoder c.put_end.new.encoder c.requires.can (rw (all, check) at c.loop-place.invariant.stands) low
