@@ -1,9 +1,9 @@
 -- The places of a block, turn by turn.
-use Rattle.std.proofs.Common.{◌≡◌, ◌≢◌, ◌⊎◌, ◌<◌, ◌≤◌, ◌+◌, ◌-◌, inl, inr, ℕ, Bool, true, false, refl, sym, subst, ◌∙◌, ap, arith, List, [], ◌∷◌, length, get_or, set, drop, ℤ, pos, unsigned_abs, ◌^◌, w32}
+use Rattle.std.proofs.Common.{◌≡◌, ◌≢◌, ◌⊎◌, ◌<◌, ◌≤◌, ◌+◌, ◌-◌, inl, inr, ℕ, Bool, true, false, refl, sym, subst, ◌∙◌, ap, arith, List, [], ◌∷◌, length, get_or, set, drop, ℤ, pos, unsigned_abs, ◌^◌, w32, All}
 use mir.Val.{to_z, of_z}
 use Rattle.std.specs.Prelude.{slice_index}
-use Rattle.std.proofs.lemmas.Bool.{cases_eq, eq-eqb, ne_eqb}
-use Rattle.std.proofs.lemmas.List.{get_or-set_same, get_or-set_other, drop_more, drop_all}
+use Rattle.std.proofs.lemmas.Bool.{cases_eq, cases_lt, eq-eqb, ne_eqb}
+use Rattle.std.proofs.lemmas.List.{get_or-set_same, get_or-set_other, get_or_past, drop_more, drop_all}
 use Rattle.vp9_types.specs.Syntax.{Syntax}
 use Rattle.vp9_types.specs.declared.rule.Rule.{Rule}
 use Rattle.vp9_types.specs.declared.shape.Depth.{Depth}
@@ -33,6 +33,12 @@ coded_small Twelve m h = omega arith
 -- a level's bits are those of a word
 pub kept_level : (depth : Depth) (z : ℤ) → IsCoded depth (unsigned_abs z) → to_z w32 (of_z w32 z) ≡ z
 kept_level depth z h = kept z (coded_small depth (unsigned_abs z) h)
+
+pub coded_at : (depth : Depth) (levels : List ℤ) (position : ℕ) → All (λ level. IsCoded depth (unsigned_abs level)) levels → IsCoded depth (unsigned_abs (level_of levels position))
+coded_at depth levels position coded = elim (cases_lt position (length levels)) [
+  | inl low ↦ coded position (pos 0) low
+  | inr past ↦ rw (get_or_past levels position (pos 0) past) (omega arith)
+]
 
 pub none_at : (depth : Depth) (z : ℤ) → IsCoded depth (unsigned_abs z) → of_z w32 z ≡ 0 → z ≡ pos 0
 none_at depth z h none = sym (kept_level depth z h) ∙ ap (to_z w32) none
@@ -101,10 +107,13 @@ first_more scan place levels reads none holds = λ p. elim (holds p) [
   | inl same ↦ inl same
   | inr other ↦ elim (cases_eq (slice_index scan place) p) [
     | inl here ↦ inl (ap (level_of levels) (sym here) ∙ none ∙ sym other.0)
-    | inr there ↦ inr (other.0, λ k low. elim (cases_eq k place) [
-      | inl last ↦ rw last there
-      | inr before ↦ other.1 k (omega arith)
-    ])
+    | inr there ↦ inr (
+      other.0,
+      λ k low. elim (cases_eq k place) [
+        | inl last ↦ rw last there
+        | inr before ↦ other.1 k (omega arith)
+      ],
+    )
   ]
 ]
 
@@ -114,10 +123,13 @@ first_set scan place class levels reads holds = λ p. elim (cases_eq p (slice_in
   | inl same ↦ inl (rw (eq-eqb p (slice_index scan place) same) (ap (level_of levels) same))
   | inr other ↦ rw (ne_eqb p (slice_index scan place) other) (elim (holds p) [
     | inl same ↦ inl same
-    | inr none ↦ inr (none.0, λ k low. elim (cases_eq k place) [
-      | inl last ↦ rw last (λ e. other (sym e))
-      | inr before ↦ none.1 k (omega arith)
-    ])
+    | inr none ↦ inr (
+      none.0,
+      λ k low. elim (cases_eq k place) [
+        | inl last ↦ rw last (λ e. other (sym e))
+        | inr before ↦ none.1 k (omega arith)
+      ],
+    )
   ])
 ]
 

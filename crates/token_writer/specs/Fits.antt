@@ -1,5 +1,6 @@
 -- Levels that tokens can code (6.4.24 of the standard).
 use Rattle.std.specs.Prelude.{◌≡◌, ◌≢◌, ℕ, ◌<◌, ◌≤◌, ◌+◌, ◌-◌, ◌^◌, ℤ, pos, unsigned_abs, List, length, slice_index, slice_index_or}
+use Rattle.std.specs.List.{All}
 use Rattle.vp9_types.specs.declared.shape.Depth.{Depth}
 use Rattle.vp9_tables.specs.Coefficients.{category_of}
 use Rattle.bool_encoder.specs.Part.{Part}
@@ -19,7 +20,7 @@ level_of levels position = slice_index_or levels position (pos 0)
 -- so the last place that is coded has a level, unless it is the scan's last.
 pub record CanPut (t : Tables) (levels : List ℤ) (count : ℕ) : Type 0 where
   pub most : count ≤ length t.scan
-  pub coded : (position : ℕ) → IsCoded t.depth (unsigned_abs (level_of levels position))
+  pub coded : All (λ level. IsCoded t.depth (unsigned_abs level)) levels
   pub others : (position : ℕ) → ((k : ℕ) → k < count → slice_index t.scan k ≢ position) → level_of levels position ≡ pos 0
   pub last : 0 < count → count < length t.scan → level_of levels (slice_index t.scan (count - 1)) ≢ pos 0
 

@@ -1,0 +1,174 @@
+//! Bytes of the standard's arithmetic over exact fractions, for blocks whose first places of the scan hold drawn levels.
+
+ghost use Rattle.std.specs.Prelude.{ℕ, ◌≡◌, ◌≢◌, ◌≤◌, ◌<◌, [], pos, length, slice_index, unsigned_abs};
+ghost use Rattle.std.specs.List.{All};
+ghost use Rattle.vp9_tables.specs.Scans.{area, scan_of};
+ghost use Rattle.coef_tokens.specs.Code.{HoldsLevels};
+ghost use Rattle.token_writer.specs.Fits.{level_of};
+
+use crate::put_tokens;
+use bool_encoder::BoolEncoder;
+use coef_tokens::{TokenKind, TokenTables, tokens};
+use counting_reader::CountingReader;
+use prob_contexts::{Counts, default_contexts};
+use std::alloc::Global;
+use std::process::Abort;
+use std::test::Fail;
+use vp9_tables::scan;
+use vp9_types::{Depth, Plane, TxSize, TxType};
+
+/// A block, the context of its first place, the levels of the places that are coded, and its bytes.
+struct Row {
+    at: TokenKind,
+    first: u8,
+    coded: &'static [i32],
+    bytes: &'static [u8],
+}
+
+static ROWS: [Row; 4] = [
+    Row {
+        at: TokenKind {
+            tx: TxSize::T4x4,
+            kind: TxType::AdstDct,
+            plane: Plane::Y,
+            inter: false,
+            depth: Depth::Eight,
+        },
+        first: 2,
+        coded: &[16450, 0, -66, 0, 1, 0, -118, -132, -3, 2, 2, -35, -3],
+        bytes: &[
+            127, 255, 255, 255, 255, 255, 255, 255, 139, 255, 255, 213, 174, 255, 227, 75, 255,
+            255, 231, 113, 114, 235, 255, 255, 10, 115, 0,
+        ],
+    },
+    Row {
+        at: TokenKind {
+            tx: TxSize::T4x4,
+            kind: TxType::DctAdst,
+            plane: Plane::Y,
+            inter: true,
+            depth: Depth::Eight,
+        },
+        first: 1,
+        coded: &[0, 2, 0, 2, -246, -3, 13, 38, -3, 20, 2, 38, 0, 12829, -1, 0],
+        bytes: &[
+            69, 54, 55, 255, 255, 254, 216, 70, 246, 171, 255, 152, 40, 124, 162, 50, 191, 255,
+            255, 255, 252, 183, 185, 112, 0,
+        ],
+    },
+    Row {
+        at: TokenKind {
+            tx: TxSize::T8x8,
+            kind: TxType::DctDct,
+            plane: Plane::U,
+            inter: true,
+            depth: Depth::Ten,
+        },
+        first: 0,
+        coded: &[
+            2, -3, 10, 1, 12292, 6041, 0, 0, 0, -1, 30, 16063, 1, 4771, -235, 4, 1, -1, -1, 1,
+        ],
+        bytes: &[
+            126, 253, 191, 137, 207, 255, 255, 159, 127, 255, 250, 221, 191, 255, 253, 125, 255,
+            166, 7, 107, 230, 207, 255, 253, 255, 255, 255, 215, 176, 191, 255, 94, 32, 155, 255,
+            109, 4, 116, 126, 0, 0,
+        ],
+    },
+    Row {
+        at: TokenKind {
+            tx: TxSize::T32x32,
+            kind: TxType::DctDct,
+            plane: Plane::Y,
+            inter: true,
+            depth: Depth::Twelve,
+        },
+        first: 1,
+        coded: &[
+            2, 1, 11, -95, -29, 4, -3, 4, 0, 0, 23, 0, 1, -1, 2, 13328, 4, 2, 11696, -1, 4, 11296,
+            2, 0, -1, -75, -153, 4, 19, -3,
+        ],
+        bytes: &[
+            59, 198, 111, 233, 81, 255, 255, 208, 33, 134, 221, 255, 255, 120, 225, 38, 135, 255,
+            255, 255, 254, 191, 249, 254, 117, 85, 223, 255, 255, 255, 253, 125, 255, 177, 170, 59,
+            255, 255, 255, 255, 253, 125, 247, 254, 89, 121, 63, 255, 255, 254, 75, 255, 255, 255,
+            255, 177, 201, 1, 255, 214, 39, 245, 32,
+        ],
+    },
+];
+
+/// A level that each depth can code.
+fn coded_level(level: i32) -> i32
+    ensures { unsigned_abs result < 16451 }
+{
+    if level.unsigned_abs() < 16451 {
+        level
+    } else {
+        0
+    }
+}
+
+/// Puts levels at the first places of the scan, where all are 0.
+fn place_levels(at: TokenKind, coded: &[i32], levels: &mut [i32])
+    requires room { length coded.now ≤ area at.tx }
+    requires long { length levels.old ≡ area at.tx }
+    requires clear { HoldsLevels levels.old [] }
+    ensures small { All (λ level. unsigned_abs level < 16451) levels.new }
+    ensures others { (position : ℕ) → ((k : ℕ) → k < length coded.now → slice_index (scan_of at.tx at.kind) k ≢ position)
+        → level_of levels.new position ≡ pos 0 }
+{
+    let scan = scan(at.tx, at.kind);
+    for place in 0..coded.len() {
+        levels[scan[place] as usize] = coded_level(coded[place]);
+    }
+}
+
+fn writes(
+    rt: &impl Abort,
+    alloc: Global,
+    row: &Row,
+    levels: &mut [i32],
+    read: &mut [i32],
+) -> Result<(), Fail>
+    requires long { length levels.old ≡ area row.now.at.tx }
+    requires read { length read.old ≡ area row.now.at.tx }
+    requires clear { HoldsLevels levels.old [] }
+    requires read_clear { HoldsLevels read.old [] }
+{
+    let contexts = default_contexts();
+    let count = row.coded.len();
+    assert!(rt; row.first <= 2 && count <= levels.len());
+    place_levels(row.at, row.coded, levels);
+    if 0 < count && count < levels.len() {
+        assert!(rt; levels[scan(row.at.tx, row.at.kind)[count - 1] as usize] != 0);
+    }
+    let mut encoder = BoolEncoder::new(alloc);
+    put_tokens(
+        &mut encoder,
+        &contexts,
+        row.at,
+        row.first,
+        levels,
+        count as u32,
+    )?;
+    let bytes = encoder.finish()?;
+    assert_eq!(rt; bytes.as_slice(), row.bytes);
+    let mut reader = CountingReader::<false>::start(&bytes, Counts::new())?;
+    let tables = TokenTables::new(&contexts, row.at);
+    assert_eq!(rt; tokens(&mut reader, &tables, row.first, read), count as u32);
+    assert!(rt; *read == *levels);
+    Ok(())
+}
+
+#[test]
+fn drawn_blocks(rt: HostRuntime) -> Result<(), Fail> {
+    for row in &ROWS {
+        let alloc = rt.alloc();
+        match row.at.tx {
+            TxSize::T4x4 => writes(&rt, alloc, row, &mut [0; 16], &mut [0; 16])?,
+            TxSize::T8x8 => writes(&rt, alloc, row, &mut [0; 64], &mut [0; 64])?,
+            TxSize::T16x16 => writes(&rt, alloc, row, &mut [0; 256], &mut [0; 256])?,
+            TxSize::T32x32 => writes(&rt, alloc, row, &mut [0; 1024], &mut [0; 1024])?,
+        }
+    }
+    Ok(())
+}

@@ -5,7 +5,7 @@ use Rattle.prob_contexts.specs.Lists.{lists_of}
 use Rattle.coef_tokens.specs.Blocks.{block_tables}
 use Rattle.coef_tokens.proofs.Turns.{zeros_at, no_classes}
 use Rattle.token_writer.specs.Fits.{level_of}
-use Rattle.token_writer.proofs.Turns.{begins, zero_turn, level_turn, ends_at_last, ends_here, kept_level, none_at, area_most, asks, back, true_is}
+use Rattle.token_writer.proofs.Turns.{begins, zero_turn, level_turn, ends_at_last, ends_here, coded_at, kept_level, none_at, area_most, asks, back, true_is}
 use Rattle.token_writer.proofs.places.put_tokens.Goals as goal
 use Rattle.token_writer.proofs.places.put_tokens.Goals.{then-level-eq0+in_ok-put_zero, else-level-eq0+in_ok-cache}
 
@@ -32,7 +32,7 @@ pub put_some-requires-clause-coded : goal.put_some-requires-clause-coded
 unfolding block_tables
 put_some-requires-clause-coded c =
     let position = get_or c.scan-scan.result.now c.loop-place.place 0 in
-    let coded = c.requires.can.coded position in
+    let coded = coded_at c.args.at.depth c.args.levels.now position c.requires.can.coded in
     rw (kept_level c.args.at.depth (level_of c.args.levels.now position) coded) coded
 
 pub loop-place-preserved : goal.loop-place-preserved
@@ -44,7 +44,7 @@ loop-place-preserved c =
     let most = can.most in
     let position = slice_index t.scan c.loop-place.place in
     let low : c.loop-place.place < length t.scan = omega (arith, most, c.loop-place-test.true) in
-    let coded = can.coded position in
+    let coded = coded_at c.args.at.depth c.args.levels.now position can.coded in
     elim c.if-level-eq0.branch [
       | then-level-eq0+in_ok-put_zero w ↦
           let none : level_of c.args.levels.now position ≡ pos 0 =
