@@ -10,7 +10,10 @@ use Rattle.vp9_types.specs.declared.shape.Depth.{Depth}
 use Rattle.vp9_types.specs.declared.shape.Depth.TheVariants.{Eight, Ten, Twelve}
 use Rattle.vp9_types.specs.declared.block.TxSize.{TxSize}
 use Rattle.vp9_types.specs.declared.block.TxSize.TheVariants.{T4x4, T8x8, T16x16, T32x32}
-use Rattle.vp9_tables.specs.Scans.{area}
+use Rattle.vp9_tables.specs.Scans.{area, scan_of}
+use Rattle.prob_contexts.specs.Lists.{ContextLists}
+use Rattle.coef_tokens.specs.Blocks.{block_tables}
+use Rattle.coef_tokens.specs.declared.tables.TokenKind.{TokenKind}
 use Rattle.counting_reader.specs.Counting.{Settled}
 use Rattle.bool_encoder.specs.Part.{Part, after_put}
 use Rattle.bool_encoder.specs.Bools.{Puts, can_put}
@@ -189,3 +192,29 @@ ends_here t first old count row probs cache levels now next can st low is three 
     let whole : PutsValue (block_tokens t first) old p next =
     turn t first count row true probs p old now next End low st.1 (is p.reads st.2) three put st.4 p next (rw (valued_settle p) (refl, refl)) in
     (p, value_counts (block_tokens t first) old next p whole, st.1, all_held t levels count p.reads can st.3)
+
+-- where no place so far has a position, its level is 0
+abbrev pub AreOthers : List ℕ → ℕ → List ℤ → Type 0
+AreOthers scan place levels = (position : ℕ) → ((k : ℕ) → k < place → slice_index scan k ≢ position) → level_of levels position ≡ pos 0
+
+pub others_set : (scan : List ℕ) (place : ℕ) (level : ℤ) (levels : List ℤ) → AreOthers scan place levels
+    → AreOthers scan (place + 1) (set levels (slice_index scan place) level)
+others_set scan place level levels others = λ position none.
+    get_or-set_other levels (slice_index scan place) position level (pos 0) (λ e. none place (omega arith) (sym e))
+    ∙ others position (λ k low. none k (omega arith))
+
+coded_below : (depth : Depth) (m : ℕ) → m < 16451 → IsCoded depth m
+coded_below Eight m h = omega arith
+coded_below Ten m h = omega arith
+coded_below Twelve m h = omega arith
+
+pub can_by : (contexts : ContextLists) (at : TokenKind) (levels : List ℤ) (count : ℕ) → length (scan_of at.tx at.kind) ≡ area at.tx → count ≤ area at.tx
+    → All (λ level. unsigned_abs level < 16451) levels → AreOthers (scan_of at.tx at.kind) count levels
+    → (0 < count → count < area at.tx → level_of levels (slice_index (scan_of at.tx at.kind) (count - 1)) ≢ pos 0) → CanPut (block_tables contexts at) levels count
+unfolding block_tables
+can_by contexts at levels count size most small others last = record {
+  most = rw size most;
+  coded = λ k d low. coded_below at.depth (unsigned_abs (get_or levels k d)) (small k d low);
+  others = others;
+  last = λ some more. last some (rw size at more);
+}

@@ -1,6 +1,6 @@
 //! Bytes of the standard's arithmetic over exact fractions, for blocks whose first places of the scan hold drawn levels.
 
-ghost use Rattle.std.specs.Prelude.{ℕ, ◌≡◌, ◌≢◌, ◌≤◌, ◌<◌, [], pos, length, slice_index, unsigned_abs};
+ghost use Rattle.std.specs.Prelude.{ℕ, true, ◌-◌, ◌≡◌, ◌≢◌, ◌≤◌, ◌<◌, [], pos, length, slice_index, unsigned_abs};
 ghost use Rattle.std.specs.List.{All};
 ghost use Rattle.vp9_tables.specs.Scans.{area, scan_of};
 ghost use Rattle.coef_tokens.specs.Code.{HoldsLevels};
@@ -111,6 +111,7 @@ fn place_levels(at: TokenKind, coded: &[i32], levels: &mut [i32])
     requires room { length coded.now ≤ area at.tx }
     requires long { length levels.old ≡ area at.tx }
     requires clear { HoldsLevels levels.old [] }
+    ensures size { length (scan_of at.tx at.kind) ≡ area at.tx }
     ensures small { All (λ level. unsigned_abs level < 16451) levels.new }
     ensures others { (position : ℕ) → ((k : ℕ) → k < length coded.now → slice_index (scan_of at.tx at.kind) k ≢ position)
         → level_of levels.new position ≡ pos 0 }
@@ -119,6 +120,19 @@ fn place_levels(at: TokenKind, coded: &[i32], levels: &mut [i32])
     for place in 0..coded.len() {
         levels[scan[place] as usize] = coded_level(coded[place]);
     }
+}
+
+/// Whether the last place that is coded has a level, unless it is the scan's last.
+fn ends_in_a_level(at: TokenKind, levels: &[i32], count: usize) -> bool
+    requires long { length levels.now ≡ area at.tx }
+    requires room { count ≤ area at.tx }
+    ensures { result ≡ true → 0 < count → count < area at.tx → level_of levels.now (slice_index (scan_of at.tx at.kind) (count - 1)) ≢ pos 0 }
+{
+    if count == 0 || count == levels.len() {
+        return true;
+    }
+    let level = levels[scan(at.tx, at.kind)[count - 1] as usize];
+    level != 0
 }
 
 fn writes(
@@ -135,11 +149,10 @@ fn writes(
 {
     let contexts = default_contexts();
     let count = row.coded.len();
-    assert!(rt; row.first <= 2 && count <= levels.len());
+    assert!(rt; row.first <= 2);
+    assert!(rt; count <= levels.len());
     place_levels(row.at, row.coded, levels);
-    if 0 < count && count < levels.len() {
-        assert!(rt; levels[scan(row.at.tx, row.at.kind)[count - 1] as usize] != 0);
-    }
+    assert!(rt; ends_in_a_level(row.at, levels, count));
     let mut encoder = BoolEncoder::new(alloc);
     put_tokens(
         &mut encoder,
@@ -158,16 +171,19 @@ fn writes(
     Ok(())
 }
 
+fn agrees(rt: &impl Abort, alloc: Global, row: &Row) -> Result<(), Fail> {
+    match row.at.tx {
+        TxSize::T4x4 => writes(rt, alloc, row, &mut [0; 16], &mut [0; 16]),
+        TxSize::T8x8 => writes(rt, alloc, row, &mut [0; 64], &mut [0; 64]),
+        TxSize::T16x16 => writes(rt, alloc, row, &mut [0; 256], &mut [0; 256]),
+        TxSize::T32x32 => writes(rt, alloc, row, &mut [0; 1024], &mut [0; 1024]),
+    }
+}
+
 #[test]
 fn drawn_blocks(rt: HostRuntime) -> Result<(), Fail> {
     for row in &ROWS {
-        let alloc = rt.alloc();
-        match row.at.tx {
-            TxSize::T4x4 => writes(&rt, alloc, row, &mut [0; 16], &mut [0; 16])?,
-            TxSize::T8x8 => writes(&rt, alloc, row, &mut [0; 64], &mut [0; 64])?,
-            TxSize::T16x16 => writes(&rt, alloc, row, &mut [0; 256], &mut [0; 256])?,
-            TxSize::T32x32 => writes(&rt, alloc, row, &mut [0; 1024], &mut [0; 1024])?,
-        }
+        agrees(&rt, rt.alloc(), row)?;
     }
     Ok(())
 }
