@@ -1,14 +1,17 @@
 -- One counting syntax, and then another, without what they count.
-use Rattle.std.proofs.Common.{◌≡◌, ℕ, List, refl, ap}
+use Rattle.std.proofs.Common.{◌≡◌, ℕ, List, true, refl, ap, sym, subst}
 use Rattle.vp9_types.specs.Syntax.{Syntax, done, broken, ask, ◌>>=◌}
 use Rattle.vp9_types.specs.declared.rule.Rule.{Rule}
 use Rattle.prob_contexts.specs.declared.kind.CountedBool.{CountedBool}
 use Rattle.prob_contexts.specs.declared.kind.ProbKind.{ProbKind}
-use Rattle.counting_reader.specs.Counting.{Settled, settle, uncounted, behind, in_order}
+use Rattle.counting_reader.specs.Counting.{Settled, settle, uncounted, behind, in_order, run_counting, with_counts, counted_if}
 use Rattle.counting_reader.specs.Symbols.{counted_flag}
 use Rattle.bool_decoder.specs.Bools.{flag}
-use Rattle.bool_encoder.specs.Part.{Part, after_put}
-use Rattle.token_writer.specs.Counted.{valued, PutsValue, PutsCounting}
+use Rattle.bool_encoder.specs.Part.{Part, after_put, marked, Finishes}
+use Rattle.bool_encoder.specs.Bools.{Puts, can_put}
+use Rattle.bool_encoder.proofs.Binds.{writes_bind}
+use Rattle.bool_encoder.proofs.Starts.{written_is_read_from}
+use Rattle.token_writer.specs.Counted.{valued, PutsValue, PutsCounting, IsReadFrom}
 
 pub valued_settle : {A : Type 0} (x : A) → valued (settle x) ≡ done x
 unfolding settle valued
@@ -50,3 +53,26 @@ value_counts (broken e) old new x h = absurd h
 value_counts (ask p k) old new x h =
     let rest = value_counts (k h.0) (after_put p h.0 old) new x h.2 in
     (rest.0, (h.0, h.1, rest.1))
+
+value_by : {A : Type 0} (s : Syntax ℕ Rule (Settled A)) (old new : Part) (x : A) (counted : List CountedBool) → Puts s old (settled_by x counted) new → PutsValue s old x new
+unfolding valued
+value_by (done y) old new x counted h = (ap (λ z. z.value) h.0, h.1)
+value_by (broken e) old new x counted h = absurd h
+value_by (ask p k) old new x counted h = (h.0, h.1, value_by (k h.0) (after_put p h.0 old) new x counted h.2)
+
+pub counting_puts : {A B : Type 0} (s : Syntax ℕ Rule (Settled A)) (f : A → Syntax ℕ Rule (Settled B)) (old mid new : Part) (x : A) (y : B)
+    → PutsCounting s old x mid → PutsCounting (f x) mid y new → PutsCounting (in_order s f) old y new
+counting_puts {B = B} s f old mid new x y h g =
+    value_counts (in_order s f) old new y (subst (λ (u : Syntax ℕ Rule B). Puts u old y new) (sym (valued_in_order s f))
+    (writes_bind can_put after_put (valued s) (λ x. valued (f x)) old mid new x y (value_by s old mid x h.0 h.1) (value_by (f x) mid new y g.0 g.1)))
+
+pub counting_read : {A : Type 0} (s : Syntax ℕ Rule (Settled A)) (x : A) (new : Part) (bytes : List ℕ) → PutsCounting s marked x new → Finishes new bytes → IsReadFrom s bytes x
+unfolding run_counting
+counting_read s x new bytes h ends =
+    let r = written_is_read_from s (settled_by x h.0) new bytes h.1 ends in
+    record {
+      start = r.start;
+      last = r.last;
+      starts = r.starts;
+      read = λ counts. (counted_if true counts h.0, ap (λ z. with_counts z counts true) r.read);
+    }

@@ -1,9 +1,10 @@
 -- What is written for a syntax that counts: the bools that lead it to a value, whatever is counted for it.
-use Rattle.std.specs.Prelude.{ℕ, List}
+use Rattle.std.specs.Prelude.{◌≡◌, ℕ, List, Ok}
 use Rattle.vp9_types.specs.Syntax.{Syntax, done, broken, ask}
 use Rattle.vp9_types.specs.declared.rule.Rule.{Rule}
 use Rattle.prob_contexts.specs.declared.kind.CountedBool.{CountedBool}
-use Rattle.counting_reader.specs.Counting.{Settled}
+use Rattle.bool_decoder.specs.Window.{Window, started}
+use Rattle.counting_reader.specs.Counting.{Settled, ReadsCounting}
 use Rattle.bool_encoder.specs.Part.{Part}
 use Rattle.bool_encoder.specs.Bools.{Puts}
 
@@ -19,3 +20,10 @@ valued (ask p k) = ask p (λ v. valued (k v))
 
 abbrev pub PutsValue : {A : Type 0} → Syntax ℕ Rule (Settled A) → Part → A → Part → Type 0
 PutsValue s old x new = Puts (valued s) old x new
+
+-- a reader that starts on the bytes reads the value, whatever it has counted before
+pub record IsReadFrom {A : Type 0} (s : Syntax ℕ Rule (Settled A)) (bytes : List ℕ) (x : A) : Type 0 where
+  pub start : Window
+  pub last : Window
+  pub starts : started bytes ≡ Ok start
+  pub read : (counts : List ℕ) → (after : List ℕ) × ReadsCounting s start counts x last after
