@@ -1,9 +1,9 @@
 -- Which way a question about one bool goes on.
-use Rattle.std.proofs.Common.{◌≡◌, ◌≤◌, ◌<◌, ℕ, suc, Bool, true, false, inl, inr, refl, sym, arith}
+use Rattle.std.proofs.Common.{◌≤◌, ℕ, suc, Bool, inl, inr, refl, sym, arith}
 use Rattle.std.specs.Prelude.{nat_eq, if◌then◌else◌}
 use Rattle.std.proofs.lemmas.Bool.{cases_eq, eq-eqb, ne_eqb}
 use Rattle.vp9_types.specs.declared.rule.Rule.{Rule}
-use Rattle.vp9_types.specs.Syntax.{Syntax, done, ask, ◌>>=◌}
+use Rattle.vp9_types.specs.Syntax.{Syntax, done, ask}
 use Rattle.bool_decoder.specs.Bools.{flag}
 use Rattle.bool_encoder.specs.Part.{Part, after_put}
 use Rattle.bool_encoder.specs.Bools.{Puts, can_put}

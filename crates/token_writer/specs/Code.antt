@@ -1,9 +1,9 @@
 -- How tokens are chosen, and what the code has put so far.
-use Rattle.std.specs.Prelude.{◌≡◌, ℕ, ◌<◌, ◌≤◌, ◌+◌, ◌-◌, ◌^◌, Bool, ℤ, List, length, slice_index}
+use Rattle.std.specs.Prelude.{◌≡◌, ℕ, ◌<◌, ◌≤◌, ◌+◌, ◌-◌, ◌^◌, Bool, List, length, slice_index}
 use Rattle.vp9_types.specs.declared.shape.Depth.{Depth}
 use Rattle.vp9_tables.specs.Coefficients.{category_of}
 use Rattle.bool_encoder.specs.Part.{Part}
-use Rattle.coef_tokens.specs.Symbols.{category_base, class_of}
+use Rattle.coef_tokens.specs.Symbols.{category_base}
 use Rattle.coef_tokens.specs.Places.{Tables}
 use Rattle.coef_tokens.specs.Steps.{step}
 use Rattle.coef_tokens.specs.declared.step.Step.{Step}

@@ -1,6 +1,6 @@
 use Rattle.coef_tokens.specs.Symbols.{tail_token}
 use Rattle.vp9_types.specs.Trees.{tree_symbol}
-use Rattle.std.proofs.Common.{true, false, refl, sym, arith}
+use Rattle.std.proofs.Common.{true, false, arith}
 use Rattle.token_writer.proofs.Tails.{way, last_way}
 use Rattle.token_writer.proofs.tail.put_large.Goals as goal
 
