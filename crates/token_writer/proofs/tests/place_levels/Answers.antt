@@ -1,4 +1,4 @@
-use Rattle.std.proofs.Common.{rules, ◌<◌, ◌^◌, ◌∙◌, arith, unsigned_abs, get_or}
+use Rattle.std.proofs.Common.{◌<◌, ◌^◌, ◌∙◌, arith, unsigned_abs, get_or}
 use Rattle.std.proofs.lemmas.List.{length-set}
 use Rattle.std.proofs.lemmas.List.Elements.{All-set}
 use Rattle.vp9_tables.specs.Scans.{scan_of}
