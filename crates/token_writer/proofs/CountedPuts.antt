@@ -1,0 +1,78 @@
+-- One counting syntax, and then another, without what they count.
+use Rattle.std.proofs.Common.{◌≡◌, ℕ, List, true, refl, ap, sym, subst}
+use Rattle.vp9_types.specs.Syntax.{Syntax, done, broken, ask, ◌>>=◌}
+use Rattle.vp9_types.specs.declared.rule.Rule.{Rule}
+use Rattle.prob_contexts.specs.declared.kind.CountedBool.{CountedBool}
+use Rattle.prob_contexts.specs.declared.kind.ProbKind.{ProbKind}
+use Rattle.counting_reader.specs.Counting.{Settled, settle, uncounted, behind, in_order, run_counting, with_counts, counted_if}
+use Rattle.counting_reader.specs.Symbols.{counted_flag}
+use Rattle.bool_decoder.specs.Bools.{flag}
+use Rattle.bool_encoder.specs.Part.{Part, after_put, marked, Finishes}
+use Rattle.bool_encoder.specs.Bools.{Puts, can_put}
+use Rattle.bool_encoder.proofs.Binds.{writes_bind}
+use Rattle.bool_encoder.proofs.Starts.{written_is_read_from}
+use Rattle.token_writer.specs.Counted.{valued, PutsValue, PutsCounting, IsReadFrom}
+
+pub valued_settle : {A : Type 0} (x : A) → valued (settle x) ≡ done x
+unfolding settle valued
+valued_settle x = refl
+
+pub valued_flag : (kind : ProbKind) (place p : ℕ) → valued (counted_flag kind place p) ≡ flag p
+unfolding counted_flag flag valued
+valued_flag kind place p = refl
+
+same_after : {A : Type 0} (p : ℕ) (k l : ℕ → Syntax ℕ Rule A) → ((v : ℕ) → k v ≡ l v) → ◌≡◌ {A = Syntax ℕ Rule A} (ask p k) (ask p l)
+same_after p k l h = λ i. ask p (λ v. h v i)
+
+pub valued_uncounted : {A : Type 0} (s : Syntax ℕ Rule A) → valued (uncounted s) ≡ s
+unfolding uncounted valued
+valued_uncounted (done x) = refl
+valued_uncounted (broken e) = refl
+valued_uncounted (ask p k) = same_after p (λ v. valued (uncounted (k v))) k (λ v. valued_uncounted (k v))
+
+valued_behind : {A : Type 0} (bools : List CountedBool) (s : Syntax ℕ Rule (Settled A)) → valued (behind bools s) ≡ valued s
+unfolding behind valued
+valued_behind bools (done x) = refl
+valued_behind bools (broken e) = refl
+valued_behind bools (ask p k) = same_after p (λ v. valued (behind bools (k v))) (λ v. valued (k v)) (λ v. valued_behind bools (k v))
+
+pub valued_in_order : {A B : Type 0} (s : Syntax ℕ Rule (Settled A)) (f : A → Syntax ℕ Rule (Settled B)) → valued (in_order s f) ≡ (valued s >>= λ x. valued (f x))
+unfolding in_order valued
+valued_in_order (done x) f = valued_behind x.counted (f x.value)
+valued_in_order (broken e) f = refl
+valued_in_order (ask p k) f = same_after p (λ v. valued (in_order (k v) f)) (λ v. valued (k v) >>= λ x. valued (f x)) (λ v. valued_in_order (k v) f)
+
+abbrev settled_by : {A : Type 0} → A → List CountedBool → Settled A
+settled_by x bools = record { value = x; counted = bools }
+
+-- what is counted is there all the same
+pub value_counts : {A : Type 0} (s : Syntax ℕ Rule (Settled A)) (old new : Part) (x : A) → PutsValue s old x new → PutsCounting s old x new
+unfolding valued
+value_counts (done y) old new x h = (y.counted, (ap (λ v. settled_by v y.counted) h.0, h.1))
+value_counts (broken e) old new x h = absurd h
+value_counts (ask p k) old new x h =
+    let rest = value_counts (k h.0) (after_put p h.0 old) new x h.2 in
+    (rest.0, (h.0, h.1, rest.1))
+
+value_by : {A : Type 0} (s : Syntax ℕ Rule (Settled A)) (old new : Part) (x : A) (counted : List CountedBool) → Puts s old (settled_by x counted) new → PutsValue s old x new
+unfolding valued
+value_by (done y) old new x counted h = (ap (λ z. z.value) h.0, h.1)
+value_by (broken e) old new x counted h = absurd h
+value_by (ask p k) old new x counted h = (h.0, h.1, value_by (k h.0) (after_put p h.0 old) new x counted h.2)
+
+pub counting_puts : {A B : Type 0} (s : Syntax ℕ Rule (Settled A)) (f : A → Syntax ℕ Rule (Settled B)) (old mid new : Part) (x : A) (y : B)
+    → PutsCounting s old x mid → PutsCounting (f x) mid y new → PutsCounting (in_order s f) old y new
+counting_puts {B = B} s f old mid new x y h g =
+    value_counts (in_order s f) old new y (subst (λ (u : Syntax ℕ Rule B). Puts u old y new) (sym (valued_in_order s f))
+    (writes_bind can_put after_put (valued s) (λ x. valued (f x)) old mid new x y (value_by s old mid x h.0 h.1) (value_by (f x) mid new y g.0 g.1)))
+
+pub counting_read : {A : Type 0} (s : Syntax ℕ Rule (Settled A)) (x : A) (new : Part) (bytes : List ℕ) → PutsCounting s marked x new → Finishes new bytes → IsReadFrom s bytes x
+unfolding run_counting
+counting_read s x new bytes h ends =
+    let r = written_is_read_from s (settled_by x h.0) new bytes h.1 ends in
+    record {
+      start = r.start;
+      last = r.last;
+      starts = r.starts;
+      read = λ counts. (counted_if true counts h.0, ap (λ z. with_counts z counts true) r.read);
+    }

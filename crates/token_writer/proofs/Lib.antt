@@ -1,0 +1,4 @@
+pub mod CountedPuts
+pub mod Tails
+pub mod Bits
+pub mod Turns

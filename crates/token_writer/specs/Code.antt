@@ -1,0 +1,29 @@
+-- How tokens are chosen, and what the code has put so far.
+use Rattle.std.specs.Prelude.{◌≡◌, ℕ, ◌<◌, ◌≤◌, ◌+◌, ◌-◌, ◌^◌, Bool, List, length, slice_index}
+use Rattle.vp9_types.specs.declared.shape.Depth.{Depth}
+use Rattle.vp9_tables.specs.Coefficients.{category_of}
+use Rattle.bool_encoder.specs.Part.{Part}
+use Rattle.coef_tokens.specs.Symbols.{category_base}
+use Rattle.coef_tokens.specs.Places.{Tables}
+use Rattle.coef_tokens.specs.Steps.{step}
+use Rattle.coef_tokens.specs.declared.step.Step.{Step}
+use Rattle.token_writer.specs.Counted.{PutsValue}
+
+-- a token from one on stands for the magnitude, or its bits can say it
+pub record IsTokenOf (depth : Depth) (token m : ℕ) : Type 0 where
+  pub least : 1 ≤ token
+  pub most : token ≤ 10
+  pub itself : token < 5 → m ≡ token
+  pub base : 5 ≤ token → category_base (token - 4) ≤ m
+  pub fits : 5 ≤ token → m - category_base (token - 4) < 2 ^ length (category_of (token - 4) depth)
+
+-- a step was put at a place by its three probabilities, whichever nodes count it
+abbrev pub PutsStep : Depth → Bool → List ℕ → Part → Step → Part → Type 0
+PutsStep depth check probs old s new =
+    (node : ℕ) → PutsValue (step depth check node (slice_index probs 0) (slice_index probs 1) (slice_index probs 2)) old s new
+
+-- the probabilities of a row
+pub record AreThree (t : Tables) (row : ℕ) (probs : List ℕ) : Type 0 where
+  pub first : slice_index probs 0 ≡ slice_index t.probs row
+  pub second : slice_index probs 1 ≡ slice_index t.probs (row + 1)
+  pub third : slice_index probs 2 ≡ slice_index t.probs (row + 2)

@@ -1,0 +1,29 @@
+-- What is written for a syntax that counts: the bools that lead it to a value, whatever is counted for it.
+use Rattle.std.specs.Prelude.{◌≡◌, ℕ, List, Ok}
+use Rattle.vp9_types.specs.Syntax.{Syntax, done, broken, ask}
+use Rattle.vp9_types.specs.declared.rule.Rule.{Rule}
+use Rattle.prob_contexts.specs.declared.kind.CountedBool.{CountedBool}
+use Rattle.bool_decoder.specs.Window.{Window, started}
+use Rattle.counting_reader.specs.Counting.{Settled, ReadsCounting}
+use Rattle.bool_encoder.specs.Part.{Part}
+use Rattle.bool_encoder.specs.Bools.{Puts}
+
+-- bools that lead the syntax to the value were put
+abbrev pub PutsCounting : {A : Type 0} → Syntax ℕ Rule (Settled A) → Part → A → Part → Type 0
+PutsCounting s old x new = (counted : List CountedBool) × Puts s old (record { value = x; counted = counted }) new
+
+-- the same syntax, which doesn't say what is counted
+unfoldable pub valued : {A : Type 0} → Syntax ℕ Rule (Settled A) → Syntax ℕ Rule A
+valued (done s) = done s.value
+valued (broken e) = broken e
+valued (ask p k) = ask p (λ v. valued (k v))
+
+abbrev pub PutsValue : {A : Type 0} → Syntax ℕ Rule (Settled A) → Part → A → Part → Type 0
+PutsValue s old x new = Puts (valued s) old x new
+
+-- a reader that starts on the bytes reads the value, whatever it has counted before
+pub record IsReadFrom {A : Type 0} (s : Syntax ℕ Rule (Settled A)) (bytes : List ℕ) (x : A) : Type 0 where
+  pub start : Window
+  pub last : Window
+  pub starts : started bytes ≡ Ok start
+  pub read : (counts : List ℕ) → (after : List ℕ) × ReadsCounting s start counts x last after
