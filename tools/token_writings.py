@@ -8,7 +8,7 @@ DATA = sys.argv[1] + "/crates/vp9_tables/src/data/"
 def table(file, name):
     text = re.search(r"pub static " + name + r": [^=]*= (\[.*?\]);", open(DATA + file).read(), re.S).group(1)
     return [int(w) for w in re.findall(r"-?\d+", text)]
-PROBS, PARETO = table("defaults.rs" if False else "defaults.rt", "PROB_COEF"), table("coefficients.rt", "PARETO")
+PROBS, PARETO = table("defaults.rt", "PROB_COEF"), table("coefficients.rt", "PARETO")
 CATS = [table("coefficients.rt", f"CAT{i}_PROB") for i in range(1, 7)]
 BASES = [5, 7, 11, 19, 35, 67]
 BANDS = {4: table("coefficients.rt", "COEF_BAND_4X4")}
