@@ -1,4 +1,3 @@
-pub mod Binds
 pub mod Numbers
 pub mod Parts
 pub mod Puts

@@ -6,7 +6,7 @@ use Rattle.vp9_types.specs.Syntax.{Syntax, done, broken, ask, ◌>>=◌}
 use Rattle.vp9_types.specs.Reading.{after, run}
 use Rattle.bool_decoder.specs.Coder.{after_bool}
 use Rattle.bool_decoder.specs.Bools.{run_coder, coder_answer}
-use Rattle.bool_encoder.proofs.Binds as binds
+use Rattle.vp9_types.proofs.Binds as binds
 use Rattle.bool_encoder.specs.Part.{Part, after_put}
 use Rattle.bool_encoder.specs.Laws.{Lies, coder_at}
 use Rattle.bool_encoder.specs.Bools.{WritesBools, LeadsBools, can_put}

@@ -2,7 +2,7 @@
 use Rattle.std.specs.Prelude.{ℕ, ◌<◌}
 use Rattle.vp9_types.specs.Syntax.{Syntax}
 use Rattle.vp9_types.specs.declared.rule.Rule.{Rule}
-use Rattle.bool_encoder.specs.Writing.{Writes, Leads}
+use Rattle.vp9_types.specs.Writing.{Writes, Leads}
 use Rattle.bool_encoder.specs.Part.{Part, after_put}
 
 -- a bool at a probability out of 256

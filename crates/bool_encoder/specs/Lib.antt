@@ -1,5 +1,4 @@
 pub mod Part
-pub mod Writing
 pub mod Bools
 pub mod Entries
 pub mod Code

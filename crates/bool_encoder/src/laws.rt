@@ -5,7 +5,7 @@ ghost use Rattle.vp9_types.specs.Syntax.{Syntax};
 ghost use Rattle.bool_encoder.specs.Bools.{WritesBools};
 ghost use Rattle.bool_encoder.specs.Laws.{AreBools, IsLedBy, ReadsFrom, ReadsBools, after_all, after_bools};
 ghost use Rattle.bool_encoder.specs.Part.{Part, Finishes, marked};
-ghost use Rattle.bool_encoder.specs.Writing.{followed};
+ghost use Rattle.vp9_types.specs.Writing.{followed};
 
 /// What is written for one syntax and then for another is written for both. What is written for a syntax behind the
 /// marker is read from the bytes. `E` is the type of faults, and `A` and `B` what syntaxes settle on.

@@ -33,7 +33,7 @@ pub fn put_literal(encoder: &mut BoolEncoder, n: u32, value: u32) -> Result<(), 
 }
 
 /// Puts the difference of a probability.
-#[tactic(auto, unfolding(bool_decoder::specs::Bools::difference, bool_decoder::specs::Bools::wide_difference), using(crate::proofs::Binds::writes_bind))]
+#[tactic(auto, unfolding(bool_decoder::specs::Bools::difference, bool_decoder::specs::Bools::wide_difference), using(vp9_types::proofs::Binds::writes_bind))]
 pub fn put_difference(encoder: &mut BoolEncoder, number: u8) -> Result<(), AllocError>
     requires { number ≤ 254 }
     ensures { IfOk result (λ _. Puts difference encoder.old number encoder.new) }

@@ -13,4 +13,7 @@ mod tests;
 
 pub use block::tokens;
 pub use flags::{first_context, mark};
+pub use places::next_row;
+pub use step::category_base;
 pub use tables::{TokenKind, TokenTables};
+pub use tail::tail_prob;

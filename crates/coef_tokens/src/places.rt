@@ -15,7 +15,7 @@ use counting_reader::CountingReader;
 /// The context of a place behind the first, by the classes of what was read before it.
 #[inline(always)]
 fn context_of(tables: &TokenTables, cache: &[u8], place: usize) -> u8
-    requires long { length cache.now ≡ area tables.now.tx }
+    requires long { area tables.now.tx ≤ length cache.now }
     requires later { 1 ≤ place }
     requires place { place < length tables.now.scan.now }
     requires low { All (λ class. class ≤ 5) cache.now }
@@ -30,7 +30,7 @@ fn context_of(tables: &TokenTables, cache: &[u8], place: usize) -> u8
 /// The row of probabilities of a place behind the first.
 #[inline(always)]
 fn row_of(tables: &TokenTables, cache: &[u8], place: usize) -> usize
-    requires long { length cache.now ≡ area tables.now.tx }
+    requires long { area tables.now.tx ≤ length cache.now }
     requires later { 1 ≤ place }
     requires place { place < length tables.now.scan.now }
     requires low { All (λ class. class ≤ 5) cache.now }
@@ -42,10 +42,10 @@ fn row_of(tables: &TokenTables, cache: &[u8], place: usize) -> usize
     3 * (6 * band + context - 3)
 }
 
-/// The row of the next place, if there is one.
+/// Where the probabilities of the next place stand, if there is one: by the classes of the tokens before it, by position.
 #[inline(always)]
-fn next_row(tables: &TokenTables, cache: &[u8], place: usize) -> usize
-    requires long { length cache.now ≡ area tables.now.tx }
+pub fn next_row(tables: &TokenTables, cache: &[u8], place: usize) -> usize
+    requires long { area tables.now.tx ≤ length cache.now }
     requires later { 1 ≤ place }
     requires low { All (λ class. class ≤ 5) cache.now }
     ensures value { place < length tables.now.scan.now → (first : ℕ) → StandsAt (tables_of tables.now) first place cache.now result }

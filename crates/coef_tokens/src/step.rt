@@ -37,9 +37,9 @@ fn read_bits(decoder: &mut BoolDecoder, probs: &[u8]) -> u32
     value
 }
 
-/// Where a category from 1 to 6 begins.
+/// The least magnitude of a category from 1 to 6.
 #[inline(always)]
-fn base_of(category: u8) -> u32
+pub fn category_base(category: u8) -> u32
     requires least { 1 ≤ category }
     requires most { category ≤ 6 }
     ensures value { result ≡ category_base category }
@@ -67,7 +67,7 @@ fn read_magnitude(decoder: &mut BoolDecoder, depth: Depth, token: u8) -> u32
         return u32::from(token);
     }
     let bits = read_bits(decoder, category_probs(token - 4, depth));
-    base_of(token - 4) + bits
+    category_base(token - 4) + bits
 }
 
 /// A level, by its token from one on.

@@ -26,13 +26,13 @@ pub struct TokenKind {
 /// The tables that transform blocks of one kind are read by. They are chosen once for a plane of a block.
 #[derive(Clone, Copy)]
 pub struct TokenTables<'a> {
-    pub(crate) tx: TxSize,
-    pub(crate) scan: &'a [u16],
-    pub(crate) neighbours: &'a [u16],
-    pub(crate) bands: &'a [u8],
-    pub(crate) probs: &'a [u8],
-    pub(crate) base: u16,
-    pub(crate) depth: Depth,
+    pub tx: TxSize,
+    pub scan: &'a [u16],
+    pub neighbours: &'a [u16],
+    pub bands: &'a [u8],
+    pub probs: &'a [u8],
+    pub base: u16,
+    pub depth: Depth,
     ghost fit: { FitTables (tables_by scan.now neighbours.now bands.now probs.now base depth) (area tx) },
     ghost bands_start: { StartsBands bands.now (area tx) },
 }

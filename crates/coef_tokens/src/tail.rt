@@ -8,9 +8,9 @@ ghost use Rattle.coef_tokens.specs.Symbols.{tail_prob, tail_token};
 use crate::tails::TAILS;
 use bool_decoder::BoolDecoder;
 
-/// The probability of a node of the tail.
+/// The probability of a node of a token's tail, by the probability `q` of its third node.
 #[inline(always)]
-fn tail_prob(q: u8, node: u8) -> u8
+pub fn tail_prob(q: u8, node: u8) -> u8
     requires least { 1 ≤ q }
     requires node { node < 8 }
     ensures { result ≡ tail_prob q node }

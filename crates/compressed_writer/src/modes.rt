@@ -11,7 +11,7 @@ use std::alloc::AllocError;
 use vp9_types::{ReferenceMode, TxMode};
 
 /// Puts `read_tx_mode` (6.3.1 of the standard).
-#[tactic(auto, unfolding(compressed_header::specs::Modes::read_tx_mode), using(bool_encoder::proofs::Binds::writes_bind))]
+#[tactic(auto, unfolding(compressed_header::specs::Modes::read_tx_mode), using(vp9_types::proofs::Binds::writes_bind))]
 pub fn put_tx_mode(
     encoder: &mut BoolEncoder,
     lossless: bool,
@@ -46,7 +46,7 @@ pub fn is_compound_allowed(references: &References) -> bool
 }
 
 /// Puts `frame_reference_mode` (6.3.12 of the standard).
-#[tactic(auto, unfolding(compressed_header::specs::Modes::frame_reference_mode), using(bool_encoder::proofs::Binds::writes_bind))]
+#[tactic(auto, unfolding(compressed_header::specs::Modes::frame_reference_mode), using(vp9_types::proofs::Binds::writes_bind))]
 pub fn put_reference_mode(
     encoder: &mut BoolEncoder,
     allowed: bool,

@@ -24,7 +24,7 @@ fn is_switchable(filter: FrameFilter) -> bool
     }
 }
 
-#[tactic(auto, unfolding(compressed_header::specs::References::frame_reference_mode_probs), using(bool_encoder::proofs::Binds::writes_bind))]
+#[tactic(auto, unfolding(compressed_header::specs::References::frame_reference_mode_probs), using(vp9_types::proofs::Binds::writes_bind))]
 fn put_reference_probs(
     encoder: &mut BoolEncoder,
     mode: ReferenceMode,
@@ -56,7 +56,7 @@ fn put_reference_probs(
 }
 
 /// Puts those of references and modes, with the frame's reference mode among them.
-#[tactic(auto, unfolding(compressed_header::specs::References::inter_probs, compressed_header::specs::References::read_inter_mode_probs, compressed_header::specs::References::read_interp_filter_probs, compressed_header::specs::References::read_is_inter_probs, compressed_header::specs::References::read_y_mode_probs), using(bool_encoder::proofs::Binds::writes_bind))]
+#[tactic(auto, unfolding(compressed_header::specs::References::inter_probs, compressed_header::specs::References::read_inter_mode_probs, compressed_header::specs::References::read_interp_filter_probs, compressed_header::specs::References::read_is_inter_probs, compressed_header::specs::References::read_y_mode_probs), using(vp9_types::proofs::Binds::writes_bind))]
 pub fn put_inter_probs(
     encoder: &mut BoolEncoder,
     fields: &InterFields,

@@ -14,7 +14,7 @@ use std::alloc::AllocError;
 use vp9_tables::biggest_tx_size;
 use vp9_types::{TxMode, TxSize};
 
-#[tactic(auto, unfolding(compressed_header::specs::Transforms::tx_mode_probs), using(bool_encoder::proofs::Binds::writes_bind))]
+#[tactic(auto, unfolding(compressed_header::specs::Transforms::tx_mode_probs), using(vp9_types::proofs::Binds::writes_bind))]
 fn put_tx_mode_probs(
     encoder: &mut BoolEncoder,
     before: &TxProbs,
@@ -57,7 +57,7 @@ fn changes(before: &[u8], after: &[u8]) -> bool
     before != after
 }
 
-#[tactic(auto, unfolding(compressed_header::specs::Transforms::size_coef_probs), using(bool_encoder::proofs::Binds::writes_bind))]
+#[tactic(auto, unfolding(compressed_header::specs::Transforms::size_coef_probs), using(vp9_types::proofs::Binds::writes_bind))]
 fn put_size(
     encoder: &mut BoolEncoder,
     allowed: bool,
@@ -79,7 +79,7 @@ fn put_size(
 }
 
 /// Puts `read_coef_probs` (6.3.7 of the standard). A size without a change has no updates.
-#[tactic(auto, unfolding(compressed_header::specs::Transforms::read_coef_probs), using(bool_encoder::proofs::Binds::writes_bind))]
+#[tactic(auto, unfolding(compressed_header::specs::Transforms::read_coef_probs), using(vp9_types::proofs::Binds::writes_bind))]
 pub fn put_coefficients(
     encoder: &mut BoolEncoder,
     mode: TxMode,

@@ -15,7 +15,7 @@ use std::alloc::AllocError;
 /// The probability that one isn't updated.
 const STAYS: u8 = 252;
 
-#[tactic(auto, unfolding(compressed_header::specs::Updates::diff_update_prob), using(bool_encoder::proofs::Binds::writes_bind))]
+#[tactic(auto, unfolding(compressed_header::specs::Updates::diff_update_prob), using(vp9_types::proofs::Binds::writes_bind))]
 fn put_update(encoder: &mut BoolEncoder, old: u8, new: u8) -> Result<(), AllocError>
     requires old { 1 ≤ old }
     requires new { 1 ≤ new }
@@ -28,7 +28,7 @@ fn put_update(encoder: &mut BoolEncoder, old: u8, new: u8) -> Result<(), AllocEr
     put_difference(encoder, difference_to(new, old))
 }
 
-#[tactic(auto, unfolding(compressed_header::specs::Updates::update_mv_prob), using(bool_encoder::proofs::Binds::writes_bind))]
+#[tactic(auto, unfolding(compressed_header::specs::Updates::update_mv_prob), using(vp9_types::proofs::Binds::writes_bind))]
 fn put_vector_update(encoder: &mut BoolEncoder, old: u8, new: u8) -> Result<(), AllocError>
     requires { IsOddUpdate old new }
     ensures { IfOk result (λ _. Puts (update_mv_prob old) encoder.old new encoder.new) }

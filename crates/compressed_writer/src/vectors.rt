@@ -12,7 +12,7 @@ use bool_encoder::BoolEncoder;
 use prob_contexts::VectorProbs;
 use std::alloc::AllocError;
 
-#[tactic(auto, unfolding(compressed_header::specs::Vectors::joint_probs), using(bool_encoder::proofs::Binds::writes_bind))]
+#[tactic(auto, unfolding(compressed_header::specs::Vectors::joint_probs), using(vp9_types::proofs::Binds::writes_bind))]
 fn put_joints(
     encoder: &mut BoolEncoder,
     before: &VectorProbs,
@@ -25,7 +25,7 @@ fn put_joints(
     put_vector_updates(encoder, &before.joints, &after.joints)
 }
 
-#[tactic(auto, unfolding(compressed_header::specs::Vectors::component_probs), using(bool_encoder::proofs::Binds::writes_bind))]
+#[tactic(auto, unfolding(compressed_header::specs::Vectors::component_probs), using(vp9_types::proofs::Binds::writes_bind))]
 fn put_component(
     encoder: &mut BoolEncoder,
     i: usize,
@@ -43,7 +43,7 @@ fn put_component(
     put_component_updates(encoder, i, 10 * i, 10, &before.bits, &after.bits)
 }
 
-#[tactic(auto, unfolding(compressed_header::specs::Vectors::fraction_probs), using(bool_encoder::proofs::Binds::writes_bind))]
+#[tactic(auto, unfolding(compressed_header::specs::Vectors::fraction_probs), using(vp9_types::proofs::Binds::writes_bind))]
 fn put_fractions(
     encoder: &mut BoolEncoder,
     i: usize,
@@ -66,7 +66,7 @@ fn put_fractions(
     put_component_updates(encoder, i, 3 * i, 3, &before.fractions, &after.fractions)
 }
 
-#[tactic(auto, unfolding(compressed_header::specs::Vectors::high_precision_probs), using(bool_encoder::proofs::Binds::writes_bind))]
+#[tactic(auto, unfolding(compressed_header::specs::Vectors::high_precision_probs), using(vp9_types::proofs::Binds::writes_bind))]
 fn put_high_precision(
     encoder: &mut BoolEncoder,
     i: usize,
@@ -82,7 +82,7 @@ fn put_high_precision(
     put_component_updates(encoder, i, i, 1, &before.high, &after.high)
 }
 
-#[tactic(auto, unfolding(compressed_header::specs::Vectors::precise_probs), using(bool_encoder::proofs::Binds::writes_bind))]
+#[tactic(auto, unfolding(compressed_header::specs::Vectors::precise_probs), using(vp9_types::proofs::Binds::writes_bind))]
 fn put_precise(
     encoder: &mut BoolEncoder,
     precise: bool,
@@ -101,7 +101,7 @@ fn put_precise(
 }
 
 /// Puts `mv_probs` (6.3.16 of the standard).
-#[tactic(auto, unfolding(compressed_header::specs::Vectors::mv_probs), using(bool_encoder::proofs::Binds::writes_bind))]
+#[tactic(auto, unfolding(compressed_header::specs::Vectors::mv_probs), using(vp9_types::proofs::Binds::writes_bind))]
 pub fn put_vectors(
     encoder: &mut BoolEncoder,
     precise: bool,

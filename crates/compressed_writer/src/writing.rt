@@ -19,7 +19,7 @@ use prob_contexts::Contexts;
 use std::alloc::{AllocError, Global};
 use vp9_types::{Modes, ReferenceMode};
 
-#[tactic(auto, unfolding(compressed_header::specs::Header::inter_part, compressed_header::specs::References::read_partition_probs), using(bool_encoder::proofs::Binds::writes_bind))]
+#[tactic(auto, unfolding(compressed_header::specs::Header::inter_part, compressed_header::specs::References::read_partition_probs), using(vp9_types::proofs::Binds::writes_bind))]
 fn put_inter_part(
     encoder: &mut BoolEncoder,
     fields: &InterFields,
@@ -60,7 +60,7 @@ fn put_kind_part(
     }
 }
 
-#[tactic(auto, unfolding(compressed_header::specs::Header::compressed_header, compressed_header::specs::Transforms::read_skip_prob), using(bool_encoder::proofs::Binds::writes_bind))]
+#[tactic(auto, unfolding(compressed_header::specs::Header::compressed_header, compressed_header::specs::Transforms::read_skip_prob), using(vp9_types::proofs::Binds::writes_bind))]
 fn put_compressed(
     encoder: &mut BoolEncoder,
     header: &Header,

@@ -4,7 +4,7 @@ use Rattle.std.proofs.Math.Seq.{drop-cons}
 use Rattle.std.proofs.lemmas.List.{append-nil, take_more, take_all, drop_all}
 use Rattle.vp9_types.specs.Syntax.{done, ◌>>=◌}
 use Rattle.vp9_types.specs.Each.{each}
-use Rattle.bool_encoder.proofs.Binds.{writes_bind}
+use Rattle.vp9_types.proofs.Binds.{writes_bind}
 use Rattle.frame_headers.specs.Fields.{Table}
 use Rattle.header_writer.specs.Fields.{Puts, fits_field, with_field}
 use Rattle.header_writer.specs.Code.{EachLeft}

@@ -1,7 +1,7 @@
 -- What the code has put so far, and the parts in which it takes a header.
 use Rattle.std.specs.Prelude.{ℕ, List, ◌++◌, Bool, true, false}
 use Rattle.vp9_types.specs.Each.{each}
-use Rattle.bool_encoder.specs.Writing.{Leads}
+use Rattle.vp9_types.specs.Writing.{Leads}
 use Rattle.frame_headers.specs.declared.header.FrameFields.{FrameFields}
 use Rattle.frame_headers.specs.declared.header.FrameKind.{FrameKind}
 use Rattle.frame_headers.specs.declared.header.FrameKind.TheVariants.{Key, IntraOnly, Inter}

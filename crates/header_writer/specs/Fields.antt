@@ -2,7 +2,7 @@
 use Rattle.std.specs.Prelude.{◌≡◌, ℕ, ◌<◌, ◌^◌, ◌++◌, List}
 use Rattle.vp9_types.specs.Bits.{bits_of, spelled}
 use Rattle.vp9_types.specs.Reading.{Field}
-use Rattle.bool_encoder.specs.Writing.{Writes}
+use Rattle.vp9_types.specs.Writing.{Writes}
 use Rattle.frame_headers.specs.declared.field.FieldName.{FieldName}
 use Rattle.frame_headers.specs.Fields.{Table}
 

@@ -84,7 +84,7 @@ impl BitWriter {
     }
 
     /// Puts a field of one bit.
-    #[tactic(auto, unfolding(frame_headers::specs::Fields::flag), using(bool_encoder::proofs::Binds::writes_bind))]
+    #[tactic(auto, unfolding(frame_headers::specs::Fields::flag), using(vp9_types::proofs::Binds::writes_bind))]
     pub fn flag(&mut self, name: FieldName, value: bool) -> Result<(), AllocError>
         ensures { IfOk result (λ _. Puts (flag name) self.old value self.new) }
     {
@@ -92,7 +92,7 @@ impl BitWriter {
     }
 
     /// Puts a number of at most 8 bits, and its sign.
-    #[tactic(auto, unfolding(frame_headers::specs::Fields::su), using(bool_encoder::proofs::Binds::writes_bind))]
+    #[tactic(auto, unfolding(frame_headers::specs::Fields::su), using(vp9_types::proofs::Binds::writes_bind))]
     pub fn signed(&mut self, name: FieldName, width: u8, value: i16) -> Result<(), AllocError>
         requires width { width ≤ 8 }
         requires fits { IsSigned width value }

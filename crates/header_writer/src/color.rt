@@ -33,7 +33,7 @@ fn space_code(space: ColorSpace) -> u8
     }
 }
 
-#[tactic(auto, unfolding(frame_headers::specs::Color::bit_depth), using(bool_encoder::proofs::Binds::writes_bind))]
+#[tactic(auto, unfolding(frame_headers::specs::Color::bit_depth), using(vp9_types::proofs::Binds::writes_bind))]
 fn put_bit_depth(bits: &mut BitWriter, profile: u8, depth: Depth) -> Result<(), AllocError>
     requires eight { profile < 2 → depth ≡ depths.Eight }
     requires more { 2 ≤ profile → depth ≢ depths.Eight }
@@ -48,14 +48,14 @@ fn put_bit_depth(bits: &mut BitWriter, profile: u8, depth: Depth) -> Result<(), 
     }
 }
 
-#[tactic(auto, unfolding(frame_headers::specs::Color::reserved_zero), using(bool_encoder::proofs::Binds::writes_bind))]
+#[tactic(auto, unfolding(frame_headers::specs::Color::reserved_zero), using(vp9_types::proofs::Binds::writes_bind))]
 pub fn put_reserved_zero(bits: &mut BitWriter) -> Result<(), AllocError>
     ensures { IfOk result (λ u. Puts reserved_zero bits.old u bits.new) }
 {
     bits.flag(FieldName::ReservedZero, false)
 }
 
-#[tactic(auto, unfolding(frame_headers::specs::Color::subsampling, frame_headers::specs::Color::coded_subsampling), using(bool_encoder::proofs::Binds::writes_bind))]
+#[tactic(auto, unfolding(frame_headers::specs::Color::subsampling, frame_headers::specs::Color::coded_subsampling), using(vp9_types::proofs::Binds::writes_bind))]
 fn put_subsampling(
     bits: &mut BitWriter,
     profile: u8,
@@ -75,7 +75,7 @@ fn put_subsampling(
 }
 
 /// What isn't RGB.
-#[tactic(auto, unfolding(frame_headers::specs::Color::yuv_config), using(bool_encoder::proofs::Binds::writes_bind))]
+#[tactic(auto, unfolding(frame_headers::specs::Color::yuv_config), using(vp9_types::proofs::Binds::writes_bind))]
 fn put_yuv_config(
     bits: &mut BitWriter,
     profile: u8,
@@ -92,7 +92,7 @@ fn put_yuv_config(
 }
 
 /// RGB, which odd profiles have.
-#[tactic(auto, unfolding(frame_headers::specs::Color::rgb_config), using(bool_encoder::proofs::Binds::writes_bind))]
+#[tactic(auto, unfolding(frame_headers::specs::Color::rgb_config), using(vp9_types::proofs::Binds::writes_bind))]
 fn put_rgb_config(bits: &mut BitWriter, profile: u8, color: ColorConfig) -> Result<(), AllocError>
     requires odd { is_odd_profile profile ≡ true }
     requires rgb { color ≡ record { depth = color.depth; space = spaces.Rgb; full_range = true; ss_x = false; ss_y = false } }
@@ -101,7 +101,7 @@ fn put_rgb_config(bits: &mut BitWriter, profile: u8, color: ColorConfig) -> Resu
     put_reserved_zero(bits)
 }
 
-#[tactic(auto, unfolding(frame_headers::specs::Color::color_config), using(bool_encoder::proofs::Binds::writes_bind))]
+#[tactic(auto, unfolding(frame_headers::specs::Color::color_config), using(vp9_types::proofs::Binds::writes_bind))]
 pub fn put_color_config(
     bits: &mut BitWriter,
     profile: u8,
@@ -121,7 +121,7 @@ pub fn put_color_config(
 }
 
 /// The colours of an intra-only frame, which codes none in profile 0.
-#[tactic(auto, unfolding(frame_headers::specs::Color::intra_only_color), using(bool_encoder::proofs::Binds::writes_bind))]
+#[tactic(auto, unfolding(frame_headers::specs::Color::intra_only_color), using(vp9_types::proofs::Binds::writes_bind))]
 pub fn put_intra_only_color(
     bits: &mut BitWriter,
     profile: u8,

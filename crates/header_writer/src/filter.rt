@@ -10,7 +10,7 @@ use crate::bits::BitWriter;
 use frame_headers::{FieldName, LoopDeltas, LoopFilter};
 use std::alloc::AllocError;
 
-#[tactic(auto, unfolding(frame_headers::specs::Filter::coded_delta), using(bool_encoder::proofs::Binds::writes_bind))]
+#[tactic(auto, unfolding(frame_headers::specs::Filter::coded_delta), using(vp9_types::proofs::Binds::writes_bind))]
 fn put_delta(
     bits: &mut BitWriter,
     update: FieldName,
@@ -47,7 +47,7 @@ fn put_deltas(
     Ok(())
 }
 
-#[tactic(auto, unfolding(frame_headers::specs::Filter::coded_deltas), using(bool_encoder::proofs::Binds::writes_bind))]
+#[tactic(auto, unfolding(frame_headers::specs::Filter::coded_deltas), using(vp9_types::proofs::Binds::writes_bind))]
 fn put_coded_deltas(
     bits: &mut BitWriter,
     old: LoopDeltas,
@@ -74,7 +74,7 @@ fn put_coded_deltas(
 }
 
 /// Deltas that aren't coded are as they were.
-#[tactic(auto, unfolding(frame_headers::specs::Filter::delta_changes), using(bool_encoder::proofs::Binds::writes_bind))]
+#[tactic(auto, unfolding(frame_headers::specs::Filter::delta_changes), using(vp9_types::proofs::Binds::writes_bind))]
 fn put_delta_changes(
     bits: &mut BitWriter,
     old: LoopDeltas,
@@ -94,7 +94,7 @@ fn put_delta_changes(
 }
 
 /// Puts `loop_filter_params` (6.2.8 of the standard) over the deltas so far.
-#[tactic(auto, unfolding(frame_headers::specs::Filter::loop_filter_params), using(bool_encoder::proofs::Binds::writes_bind))]
+#[tactic(auto, unfolding(frame_headers::specs::Filter::loop_filter_params), using(vp9_types::proofs::Binds::writes_bind))]
 pub fn put_loop_filter(
     bits: &mut BitWriter,
     old: LoopDeltas,

@@ -9,7 +9,7 @@ use crate::bits::BitWriter;
 use frame_headers::{FieldName, Quantizer};
 use std::alloc::AllocError;
 
-#[tactic(auto, unfolding(frame_headers::specs::Quantizer::delta_q), using(bool_encoder::proofs::Binds::writes_bind))]
+#[tactic(auto, unfolding(frame_headers::specs::Quantizer::delta_q), using(vp9_types::proofs::Binds::writes_bind))]
 fn put_delta_q(bits: &mut BitWriter, delta: i16) -> Result<(), AllocError>
     requires { IsSigned 4 delta }
     ensures { IfOk result (λ _. Puts delta_q bits.old delta bits.new) }
@@ -22,7 +22,7 @@ fn put_delta_q(bits: &mut BitWriter, delta: i16) -> Result<(), AllocError>
 }
 
 /// Puts `quantization_params` (6.2.9 of the standard).
-#[tactic(auto, unfolding(frame_headers::specs::Quantizer::quantization_params), using(bool_encoder::proofs::Binds::writes_bind))]
+#[tactic(auto, unfolding(frame_headers::specs::Quantizer::quantization_params), using(vp9_types::proofs::Binds::writes_bind))]
 pub fn put_quantizer(bits: &mut BitWriter, quantizer: Quantizer) -> Result<(), AllocError>
     requires { IsQuantizer quantizer }
     ensures { IfOk result (λ _. Puts quantization_params bits.old quantizer bits.new) }

@@ -40,7 +40,7 @@ fn put_reference(
     bits.flag(FieldName::RefFrameSignBias, coded)
 }
 
-#[tactic(auto, unfolding(frame_headers::specs::References::references), using(bool_encoder::proofs::Binds::writes_bind))]
+#[tactic(auto, unfolding(frame_headers::specs::References::references), using(vp9_types::proofs::Binds::writes_bind))]
 fn put_references(
     bits: &mut BitWriter,
     before: &Persist,
@@ -59,7 +59,7 @@ fn put_references(
 }
 
 /// Puts that no reference is found to have the size, and the size.
-#[tactic(auto, unfolding(frame_headers::specs::References::found_size), using(bool_encoder::proofs::Binds::writes_bind))]
+#[tactic(auto, unfolding(frame_headers::specs::References::found_size), using(vp9_types::proofs::Binds::writes_bind))]
 fn put_own_size(bits: &mut BitWriter, refs: &References, size: FrameSize) -> Result<(), AllocError>
     requires { IsFrameSize size }
     ensures { IfOk result (λ _. Puts (found_size refs.now) bits.old size bits.new) }
@@ -71,7 +71,7 @@ fn put_own_size(bits: &mut BitWriter, refs: &References, size: FrameSize) -> Res
 }
 
 /// Puts that the size is the first reference's that has it, or the size itself (6.2.5 of the standard).
-#[tactic(auto, unfolding(frame_headers::specs::References::found_size), using(bool_encoder::proofs::Binds::writes_bind))]
+#[tactic(auto, unfolding(frame_headers::specs::References::found_size), using(vp9_types::proofs::Binds::writes_bind))]
 fn put_found_size(
     bits: &mut BitWriter,
     refs: &References,
@@ -111,7 +111,7 @@ fn filter_code(filter: InterpFilter) -> u8
     }
 }
 
-#[tactic(auto, unfolding(frame_headers::specs::References::interpolation_filter), using(bool_encoder::proofs::Binds::writes_bind))]
+#[tactic(auto, unfolding(frame_headers::specs::References::interpolation_filter), using(vp9_types::proofs::Binds::writes_bind))]
 fn put_interpolation_filter(bits: &mut BitWriter, filter: FrameFilter) -> Result<(), AllocError>
     ensures { IfOk result (λ _. Puts interpolation_filter bits.old filter bits.new) }
 {
@@ -126,7 +126,7 @@ fn put_interpolation_filter(bits: &mut BitWriter, filter: FrameFilter) -> Result
 }
 
 /// Puts what an inter frame codes from its refreshed slots on.
-#[tactic(auto, unfolding(frame_headers::specs::References::inter_fields), using(bool_encoder::proofs::Binds::writes_bind))]
+#[tactic(auto, unfolding(frame_headers::specs::References::inter_fields), using(vp9_types::proofs::Binds::writes_bind))]
 pub fn put_inter_fields(
     bits: &mut BitWriter,
     before: &Persist,

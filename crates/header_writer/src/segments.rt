@@ -12,7 +12,7 @@ use frame_headers::{
 };
 use std::alloc::AllocError;
 
-#[tactic(auto, unfolding(frame_headers::specs::Segments::probability), using(bool_encoder::proofs::Binds::writes_bind))]
+#[tactic(auto, unfolding(frame_headers::specs::Segments::probability), using(vp9_types::proofs::Binds::writes_bind))]
 fn put_probability(bits: &mut BitWriter, value: u8) -> Result<(), AllocError>
     ensures { IfOk result (λ _. Puts probability bits.old value bits.new) }
 {
@@ -32,7 +32,7 @@ fn put_probabilities(bits: &mut BitWriter, values: &[u8]) -> Result<(), AllocErr
     Ok(())
 }
 
-#[tactic(auto, unfolding(frame_headers::specs::Segments::prediction_probabilities), using(bool_encoder::proofs::Binds::writes_bind))]
+#[tactic(auto, unfolding(frame_headers::specs::Segments::prediction_probabilities), using(vp9_types::proofs::Binds::writes_bind))]
 fn put_prediction(
     bits: &mut BitWriter,
     temporal: bool,
@@ -47,7 +47,7 @@ fn put_prediction(
     Ok(())
 }
 
-#[tactic(auto, unfolding(frame_headers::specs::Segments::update_map), using(bool_encoder::proofs::Binds::writes_bind))]
+#[tactic(auto, unfolding(frame_headers::specs::Segments::update_map), using(vp9_types::proofs::Binds::writes_bind))]
 fn put_map_update(bits: &mut BitWriter, map: MapUpdate) -> Result<(), AllocError>
     requires { IsMapUpdate map }
     ensures { IfOk result (λ _. Puts update_map bits.old map bits.new) }
@@ -57,7 +57,7 @@ fn put_map_update(bits: &mut BitWriter, map: MapUpdate) -> Result<(), AllocError
     put_prediction(bits, map.temporal, map.prediction)
 }
 
-#[tactic(auto, unfolding(frame_headers::specs::Segments::signed_feature), using(bool_encoder::proofs::Binds::writes_bind))]
+#[tactic(auto, unfolding(frame_headers::specs::Segments::signed_feature), using(vp9_types::proofs::Binds::writes_bind))]
 fn put_signed_feature(
     bits: &mut BitWriter,
     width: u8,
@@ -86,7 +86,7 @@ fn reference_code(reference: FeatureReference) -> u8
     }
 }
 
-#[tactic(auto, unfolding(frame_headers::specs::Segments::reference_feature), using(bool_encoder::proofs::Binds::writes_bind))]
+#[tactic(auto, unfolding(frame_headers::specs::Segments::reference_feature), using(vp9_types::proofs::Binds::writes_bind))]
 fn put_reference_feature(
     bits: &mut BitWriter,
     feature: Option<FeatureReference>,
@@ -101,7 +101,7 @@ fn put_reference_feature(
     bits.byte(FieldName::FeatureValue, 2, code)
 }
 
-#[tactic(auto, unfolding(frame_headers::specs::Segments::segment_features), using(bool_encoder::proofs::Binds::writes_bind))]
+#[tactic(auto, unfolding(frame_headers::specs::Segments::segment_features), using(vp9_types::proofs::Binds::writes_bind))]
 fn put_segment_features(bits: &mut BitWriter, features: SegmentFeatures) -> Result<(), AllocError>
     requires { AreSegmentFeatures features }
     ensures { IfOk result (λ _. Puts segment_features bits.old features bits.new) }
@@ -123,7 +123,7 @@ fn put_all_features(bits: &mut BitWriter, segments: &[SegmentFeatures]) -> Resul
     Ok(())
 }
 
-#[tactic(auto, unfolding(frame_headers::specs::Segments::update_features), using(bool_encoder::proofs::Binds::writes_bind))]
+#[tactic(auto, unfolding(frame_headers::specs::Segments::update_features), using(vp9_types::proofs::Binds::writes_bind))]
 fn put_features(bits: &mut BitWriter, features: &Features) -> Result<(), AllocError>
     requires { All AreSegmentFeatures features.now.segments }
     ensures { IfOk result (λ _. Puts update_features bits.old features.now bits.new) }
@@ -132,7 +132,7 @@ fn put_features(bits: &mut BitWriter, features: &Features) -> Result<(), AllocEr
     put_all_features(bits, &features.segments)
 }
 
-#[tactic(auto, unfolding(frame_headers::specs::Segments::map_or_none), using(bool_encoder::proofs::Binds::writes_bind))]
+#[tactic(auto, unfolding(frame_headers::specs::Segments::map_or_none), using(vp9_types::proofs::Binds::writes_bind))]
 fn put_map(bits: &mut BitWriter, map: Option<MapUpdate>) -> Result<(), AllocError>
     requires { IfSome map IsMapUpdate }
     ensures { IfOk result (λ _. Puts (map_or_none (is_some map)) bits.old map bits.new) }
@@ -144,7 +144,7 @@ fn put_map(bits: &mut BitWriter, map: Option<MapUpdate>) -> Result<(), AllocErro
 }
 
 /// Features that aren't coded are as they were.
-#[tactic(auto, unfolding(frame_headers::specs::Segments::enabled_params, frame_headers::specs::Segments::features_or_old), using(bool_encoder::proofs::Binds::writes_bind))]
+#[tactic(auto, unfolding(frame_headers::specs::Segments::enabled_params, frame_headers::specs::Segments::features_or_old), using(vp9_types::proofs::Binds::writes_bind))]
 fn put_enabled(
     bits: &mut BitWriter,
     old: &Features,
@@ -166,7 +166,7 @@ fn put_enabled(
 }
 
 /// Puts `segmentation_params` (6.2.11 of the standard) over the features so far.
-#[tactic(auto, unfolding(frame_headers::specs::Segments::segmentation_params), using(bool_encoder::proofs::Binds::writes_bind))]
+#[tactic(auto, unfolding(frame_headers::specs::Segments::segmentation_params), using(vp9_types::proofs::Binds::writes_bind))]
 pub fn put_segmentation(
     bits: &mut BitWriter,
     old: &Features,

@@ -8,7 +8,7 @@ use crate::bits::BitWriter;
 use frame_headers::{FieldName, FrameSize};
 use std::alloc::AllocError;
 
-#[tactic(auto, unfolding(frame_headers::specs::Sizes::frame_size), using(bool_encoder::proofs::Binds::writes_bind))]
+#[tactic(auto, unfolding(frame_headers::specs::Sizes::frame_size), using(vp9_types::proofs::Binds::writes_bind))]
 pub fn put_frame_size(bits: &mut BitWriter, size: FrameSize) -> Result<(), AllocError>
     requires { IsFrameSize size }
     ensures { IfOk result (λ _. Puts frame_size bits.old size bits.new) }
@@ -18,7 +18,7 @@ pub fn put_frame_size(bits: &mut BitWriter, size: FrameSize) -> Result<(), Alloc
 }
 
 /// The size to show the frame at is its own.
-#[tactic(auto, unfolding(frame_headers::specs::Sizes::render_size), using(bool_encoder::proofs::Binds::writes_bind))]
+#[tactic(auto, unfolding(frame_headers::specs::Sizes::render_size), using(vp9_types::proofs::Binds::writes_bind))]
 pub fn put_render_size(bits: &mut BitWriter) -> Result<(), AllocError>
     ensures { IfOk result (λ u. Puts render_size bits.old u bits.new) }
 {

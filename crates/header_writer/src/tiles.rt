@@ -63,7 +63,7 @@ fn put_more_columns(
     Ok(())
 }
 
-#[tactic(auto, unfolding(frame_headers::specs::Tiles::tile_rows_log2), using(bool_encoder::proofs::Binds::writes_bind))]
+#[tactic(auto, unfolding(frame_headers::specs::Tiles::tile_rows_log2), using(vp9_types::proofs::Binds::writes_bind))]
 fn put_rows_log2(bits: &mut BitWriter, log2: u8) -> Result<(), AllocError>
     requires { log2 ≤ 2 }
     ensures { IfOk result (λ _. Puts tile_rows_log2 bits.old log2 bits.new) }
@@ -79,7 +79,7 @@ fn put_rows_log2(bits: &mut BitWriter, log2: u8) -> Result<(), AllocError>
 }
 
 /// Puts `tile_info` (6.2.13 of the standard) of a frame of this width.
-#[tactic(auto, unfolding(frame_headers::specs::Tiles::tile_info, frame_headers::specs::Tiles::tile_columns_log2), using(bool_encoder::proofs::Binds::writes_bind))]
+#[tactic(auto, unfolding(frame_headers::specs::Tiles::tile_info, frame_headers::specs::Tiles::tile_columns_log2), using(vp9_types::proofs::Binds::writes_bind))]
 pub fn put_tile_info(bits: &mut BitWriter, width: u32, tiles: TileInfo) -> Result<(), AllocError>
     requires { IsTileInfo width tiles }
     ensures { IfOk result (λ _. Puts (tile_info width) bits.old tiles bits.new) }

@@ -28,7 +28,7 @@ use std::alloc::{AllocError, Global};
 /// The bits of the frame marker.
 const FRAME_MARKER: u8 = 2;
 
-#[tactic(auto, unfolding(frame_headers::specs::Header::coded_profile), using(bool_encoder::proofs::Binds::writes_bind))]
+#[tactic(auto, unfolding(frame_headers::specs::Header::coded_profile), using(vp9_types::proofs::Binds::writes_bind))]
 fn put_coded_profile(bits: &mut BitWriter, profile: u8) -> Result<(), AllocError>
     requires { profile < 4 }
     ensures { IfOk result (λ _. Puts coded_profile bits.old profile bits.new) }
@@ -37,7 +37,7 @@ fn put_coded_profile(bits: &mut BitWriter, profile: u8) -> Result<(), AllocError
     bits.byte(FieldName::ProfileHighBit, 1, profile / 2)
 }
 
-#[tactic(auto, unfolding(frame_headers::specs::Header::frame_profile), using(bool_encoder::proofs::Binds::writes_bind))]
+#[tactic(auto, unfolding(frame_headers::specs::Header::frame_profile), using(vp9_types::proofs::Binds::writes_bind))]
 fn put_frame_profile(bits: &mut BitWriter, profile: u8) -> Result<(), AllocError>
     requires { profile < 4 }
     ensures { IfOk result (λ _. Puts frame_profile bits.old profile bits.new) }
@@ -50,7 +50,7 @@ fn put_frame_profile(bits: &mut BitWriter, profile: u8) -> Result<(), AllocError
     Ok(())
 }
 
-#[tactic(auto, unfolding(frame_headers::specs::Header::frame_sync_code), using(bool_encoder::proofs::Binds::writes_bind))]
+#[tactic(auto, unfolding(frame_headers::specs::Header::frame_sync_code), using(vp9_types::proofs::Binds::writes_bind))]
 fn put_frame_sync_code(bits: &mut BitWriter) -> Result<(), AllocError>
     ensures { IfOk result (λ u. Puts frame_sync_code bits.old u bits.new) }
 {
@@ -59,7 +59,7 @@ fn put_frame_sync_code(bits: &mut BitWriter) -> Result<(), AllocError>
     bits.byte(FieldName::FrameSyncByte2, 8, 0x42)
 }
 
-#[tactic(auto, unfolding(frame_headers::specs::Header::frame_contexts), using(bool_encoder::proofs::Binds::writes_bind))]
+#[tactic(auto, unfolding(frame_headers::specs::Header::frame_contexts), using(vp9_types::proofs::Binds::writes_bind))]
 fn put_frame_contexts(
     bits: &mut BitWriter,
     error_resilient: bool,
@@ -76,7 +76,7 @@ fn put_frame_contexts(
     bits.byte(FieldName::FrameContextIdx, 2, contexts.index)
 }
 
-#[tactic(auto, unfolding(frame_headers::specs::Header::frame_params), using(bool_encoder::proofs::Binds::writes_bind))]
+#[tactic(auto, unfolding(frame_headers::specs::Header::frame_params), using(vp9_types::proofs::Binds::writes_bind))]
 fn put_frame_params(
     bits: &mut BitWriter,
     deltas: LoopDeltas,
@@ -96,7 +96,7 @@ fn put_frame_params(
     bits.field(FieldName::HeaderSizeInBytes, 16, params.compressed_size)
 }
 
-#[tactic(auto, unfolding(frame_headers::specs::Header::key_fields), using(bool_encoder::proofs::Binds::writes_bind))]
+#[tactic(auto, unfolding(frame_headers::specs::Header::key_fields), using(vp9_types::proofs::Binds::writes_bind))]
 fn put_key_fields(bits: &mut BitWriter, profile: u8, fields: &FrameFields) -> Result<(), AllocError>
     requires size { IsFrameSize fields.now.size }
     requires color { IsColor profile fields.now.color }
@@ -111,7 +111,7 @@ fn put_key_fields(bits: &mut BitWriter, profile: u8, fields: &FrameFields) -> Re
     put_render_size(bits)
 }
 
-#[tactic(auto, unfolding(frame_headers::specs::Header::intra_only_fields), using(bool_encoder::proofs::Binds::writes_bind))]
+#[tactic(auto, unfolding(frame_headers::specs::Header::intra_only_fields), using(vp9_types::proofs::Binds::writes_bind))]
 fn put_intra_only_fields(
     bits: &mut BitWriter,
     profile: u8,
@@ -130,7 +130,7 @@ fn put_intra_only_fields(
 }
 
 /// Puts whether a frame that is no key frame is intra only, which a shown one isn't, and which contexts it resets.
-#[tactic(auto, unfolding(frame_headers::specs::Header::intra_and_reset), using(bool_encoder::proofs::Binds::writes_bind))]
+#[tactic(auto, unfolding(frame_headers::specs::Header::intra_and_reset), using(vp9_types::proofs::Binds::writes_bind))]
 fn put_intra_and_reset(
     bits: &mut BitWriter,
     show_frame: bool,
@@ -151,7 +151,7 @@ fn put_intra_and_reset(
     Ok(())
 }
 
-#[tactic(auto, unfolding(frame_headers::specs::Header::frame_start), using(bool_encoder::proofs::Binds::writes_bind))]
+#[tactic(auto, unfolding(frame_headers::specs::Header::frame_start), using(vp9_types::proofs::Binds::writes_bind))]
 fn put_frame_start(bits: &mut BitWriter, start: FrameStart) -> Result<(), AllocError>
     ensures { IfOk result (λ _. Puts frame_start bits.old start bits.new) }
 {
@@ -182,7 +182,7 @@ fn fields_of(header: &Header) -> FrameFields
     }
 }
 
-#[tactic(auto, unfolding(frame_headers::specs::Header::frame_fields, frame_headers::specs::Header::other_fields), using(bool_encoder::proofs::Binds::writes_bind))]
+#[tactic(auto, unfolding(frame_headers::specs::Header::frame_fields, frame_headers::specs::Header::other_fields), using(vp9_types::proofs::Binds::writes_bind))]
 fn put_frame_fields(
     bits: &mut BitWriter,
     before: &Persist,
@@ -235,7 +235,7 @@ fn kept_by(before: &Persist, header: &Header) -> (LoopDeltas, Features)
 }
 
 /// Puts the header of a coded frame from its frame type on.
-#[tactic(auto, unfolding(frame_headers::specs::Header::coded_frame), using(bool_encoder::proofs::Binds::writes_bind))]
+#[tactic(auto, unfolding(frame_headers::specs::Header::coded_frame), using(vp9_types::proofs::Binds::writes_bind))]
 fn put_coded_frame(
     bits: &mut BitWriter,
     before: &Persist,
@@ -253,7 +253,7 @@ fn put_coded_frame(
     put_frame_params(bits, deltas, &features, header, choices)
 }
 
-#[tactic(auto, unfolding(frame_headers::specs::Header::uncompressed_header), using(bool_encoder::proofs::Binds::writes_bind))]
+#[tactic(auto, unfolding(frame_headers::specs::Header::uncompressed_header), using(vp9_types::proofs::Binds::writes_bind))]
 fn put_uncompressed(
     bits: &mut BitWriter,
     before: &Persist,

@@ -7,7 +7,7 @@ use Rattle.std.proofs.lemmas.List.{drop_more, drop_all}
 use Rattle.vp9_types.specs.declared.rule.Rule.{Rule}
 use Rattle.bool_encoder.specs.Part.{Part, after_put, bool_number}
 use Rattle.bool_encoder.specs.Bools.{LeadsBools, Puts, can_put}
-use Rattle.bool_encoder.proofs.Binds.{leads_on, leads_end, leads_here}
+use Rattle.vp9_types.proofs.Binds.{leads_on, leads_end, leads_here}
 use Rattle.bool_encoder.proofs.Literals.{odd_number}
 use Rattle.coef_tokens.specs.Symbols.{bits_from}
 

@@ -1,4 +1,3 @@
-pub mod CountedPuts
 pub mod Tails
 pub mod Bits
 pub mod Turns

@@ -7,7 +7,7 @@ use Rattle.vp9_types.specs.Syntax.{Syntax, done, ask}
 use Rattle.bool_decoder.specs.Bools.{flag}
 use Rattle.bool_encoder.specs.Part.{Part, after_put}
 use Rattle.bool_encoder.specs.Bools.{Puts, can_put}
-use Rattle.bool_encoder.proofs.Binds.{writes_bind}
+use Rattle.vp9_types.proofs.Binds.{writes_bind}
 
 pub way : (zeros ones : Syntax ℕ Rule ℕ) (p : ℕ) (b : Bool) (old mid new : Part) (x : ℕ)
     → Puts (flag p) old b mid → Puts (if b then ones else zeros) mid x new → Puts (ask p (λ v. if nat_eq v 1 then ones else zeros)) old x new

@@ -61,7 +61,7 @@ fn put_bits(encoder: &mut BoolEncoder, probs: &[u8], value: u32) -> Result<(), A
     Ok(())
 }
 
-#[tactic(auto, unfolding(coef_tokens::specs::Symbols::magnitude), using(bool_encoder::proofs::Binds::writes_bind))]
+#[tactic(auto, unfolding(coef_tokens::specs::Symbols::magnitude), using(vp9_types::proofs::Binds::writes_bind))]
 fn put_magnitude(
     encoder: &mut BoolEncoder,
     depth: Depth,
@@ -78,7 +78,7 @@ fn put_magnitude(
     put_bits(encoder, category_probs(token - 4, depth), bits)
 }
 
-#[tactic(auto, unfolding(coef_tokens::specs::Symbols::level), using(bool_encoder::proofs::Binds::writes_bind))]
+#[tactic(auto, unfolding(coef_tokens::specs::Symbols::level), using(vp9_types::proofs::Binds::writes_bind))]
 pub(crate) fn put_level(
     encoder: &mut BoolEncoder,
     depth: Depth,

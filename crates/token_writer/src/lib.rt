@@ -1,7 +1,6 @@
 //! Writes the tokens of transform blocks (6.4.24 and 9.3 of the VP9 standard): the levels that are read back.
 #![tactic(auto)]
 
-mod laws;
 mod level;
 mod places;
 mod step;
@@ -9,5 +8,4 @@ mod tail;
 #[cfg(test)]
 mod tests;
 
-pub use laws::what_is_put_is_counted;
 pub use places::put_tokens;

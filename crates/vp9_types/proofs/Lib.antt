@@ -4,3 +4,4 @@ pub mod Spells
 pub mod EntryLaws
 pub mod TreeTests
 pub mod StoredTrees
+pub mod Binds

@@ -9,3 +9,4 @@ pub mod Reading
 pub mod Entries
 pub mod Each
 pub mod Trees
+pub mod Writing

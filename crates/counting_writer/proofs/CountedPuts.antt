@@ -1,17 +1,19 @@
 -- One counting syntax, and then another, without what they count.
-use Rattle.std.proofs.Common.{◌≡◌, ℕ, List, true, refl, ap, sym, subst}
+use Rattle.std.proofs.Common.{◌≡◌, ℕ, ◌+◌, List, [], ◌∷◌, Bool, true, false, refl, ap, sym, subst, ◌∙◌}
+use Rattle.std.specs.Prelude.{nat_eq, slice_index, if◌then◌else◌}
 use Rattle.vp9_types.specs.Syntax.{Syntax, done, broken, ask, ◌>>=◌}
+use Rattle.vp9_types.specs.Trees.{Tree, leaf, node, tree_symbol}
 use Rattle.vp9_types.specs.declared.rule.Rule.{Rule}
 use Rattle.prob_contexts.specs.declared.kind.CountedBool.{CountedBool}
 use Rattle.prob_contexts.specs.declared.kind.ProbKind.{ProbKind}
-use Rattle.counting_reader.specs.Counting.{Settled, settle, uncounted, behind, in_order, run_counting, with_counts, counted_if}
-use Rattle.counting_reader.specs.Symbols.{counted_flag}
+use Rattle.counting_reader.specs.Counting.{Settled, settle, count, uncounted, behind, in_order, run_counting, with_counts, counted_if}
+use Rattle.counting_reader.specs.Symbols.{counted_flag, counted_tree}
 use Rattle.bool_decoder.specs.Bools.{flag}
 use Rattle.bool_encoder.specs.Part.{Part, after_put, marked, Finishes}
 use Rattle.bool_encoder.specs.Bools.{Puts, can_put}
-use Rattle.bool_encoder.proofs.Binds.{writes_bind}
+use Rattle.vp9_types.proofs.Binds.{writes_bind}
 use Rattle.bool_encoder.proofs.Starts.{written_is_read_from}
-use Rattle.token_writer.specs.Counted.{valued, PutsValue, PutsCounting, IsReadFrom}
+use Rattle.counting_writer.specs.Counted.{valued, PutsValue, PutsCounting, IsReadFrom}
 
 pub valued_settle : {A : Type 0} (x : A) → valued (settle x) ≡ done x
 unfolding settle valued
@@ -20,6 +22,10 @@ valued_settle x = refl
 pub valued_flag : (kind : ProbKind) (place p : ℕ) → valued (counted_flag kind place p) ≡ flag p
 unfolding counted_flag flag valued
 valued_flag kind place p = refl
+
+pub valued_count : (bools : List CountedBool) → valued (count bools) ≡ done tt
+unfolding count valued
+valued_count bools = refl
 
 same_after : {A : Type 0} (p : ℕ) (k l : ℕ → Syntax ℕ Rule A) → ((v : ℕ) → k v ≡ l v) → ◌≡◌ {A = Syntax ℕ Rule A} (ask p k) (ask p l)
 same_after p k l h = λ i. ask p (λ v. h v i)
@@ -41,6 +47,25 @@ unfolding in_order valued
 valued_in_order (done x) f = valued_behind x.counted (f x.value)
 valued_in_order (broken e) f = refl
 valued_in_order (ask p k) f = same_after p (λ v. valued (in_order (k v) f)) (λ v. valued (k v) >>= λ x. valued (f x)) (λ v. valued_in_order (k v) f)
+
+branch : {A : Type 0} (b : Bool) (bools : List CountedBool) (s t : Syntax ℕ Rule (Settled A)) (u w : Syntax ℕ Rule A) → valued s ≡ u → valued t ≡ w
+    → valued (behind bools (if b then s else t)) ≡ (if b then u else w)
+branch true bools s t u w h g = valued_behind bools s ∙ h
+branch false bools s t u w h g = valued_behind bools t ∙ g
+
+abbrev counted_as : ProbKind → ℕ → ℕ → List CountedBool
+counted_as kind place v = record { kind = kind; place = place; one = nat_eq v 1 } ∷ []
+
+-- the same bools lead to a tree-coded symbol, counted or not
+pub valued_tree : (kind : ProbKind) (first : ℕ) (tree : Tree) (probs : List ℕ) → valued (counted_tree kind first tree probs) ≡ tree_symbol tree probs
+unfolding counted_tree tree_symbol counted_flag in_order settle valued
+valued_tree kind first (leaf x) probs = refl
+valued_tree kind first (node k zeros ones) probs =
+    same_after (slice_index probs k)
+    (λ v. valued (behind (counted_as kind (first + k) v) (if nat_eq v 1 then counted_tree kind first ones probs else counted_tree kind first zeros probs)))
+    (λ v. if nat_eq v 1 then tree_symbol ones probs else tree_symbol zeros probs)
+    (λ v. branch (nat_eq v 1) (counted_as kind (first + k) v) (counted_tree kind first ones probs) (counted_tree kind first zeros probs)
+        (tree_symbol ones probs) (tree_symbol zeros probs) (valued_tree kind first ones probs) (valued_tree kind first zeros probs))
 
 abbrev settled_by : {A : Type 0} → A → List CountedBool → Settled A
 settled_by x bools = record { value = x; counted = bools }

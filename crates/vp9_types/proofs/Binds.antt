@@ -1,7 +1,7 @@
 -- Writing one syntax and then another.
 use Rattle.std.proofs.Common.{ℕ, refl, sym, subst}
 use Rattle.vp9_types.specs.Syntax.{Syntax, done, broken, ask, ◌>>=◌}
-use Rattle.bool_encoder.specs.Writing.{Writes, Leads}
+use Rattle.vp9_types.specs.Writing.{Writes, Leads}
 
 pub writes_bind : {Q E A B M : Type 0} (can : Q → ℕ → Type 0) (put : Q → ℕ → M → M) (s : Syntax Q E A) (f : A → Syntax Q E B)
     (old mid new : M) (x : A) (y : B) → Writes can put s old x mid → Writes can put (f x) mid y new → Writes can put (s >>= f) old y new

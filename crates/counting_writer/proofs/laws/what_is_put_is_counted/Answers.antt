@@ -1,5 +1,5 @@
-use Rattle.token_writer.proofs.CountedPuts.{counting_puts, counting_read}
-use Rattle.token_writer.proofs.laws.what_is_put_is_counted.Goals as goal
+use Rattle.counting_writer.proofs.CountedPuts.{counting_puts, counting_read}
+use Rattle.counting_writer.proofs.laws.what_is_put_is_counted.Goals as goal
 
 pub returns-clause-bind : goal.returns-clause-bind
 returns-clause-bind g c = counting_puts

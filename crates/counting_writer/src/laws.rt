@@ -5,7 +5,7 @@ ghost use Rattle.vp9_types.specs.Syntax.{Syntax};
 ghost use Rattle.vp9_types.specs.declared.rule.Rule.{Rule};
 ghost use Rattle.counting_reader.specs.Counting.{Settled, in_order};
 ghost use Rattle.bool_encoder.specs.Part.{Part, Finishes, marked};
-ghost use Rattle.token_writer.specs.Counted.{PutsCounting, IsReadFrom};
+ghost use Rattle.counting_writer.specs.Counted.{PutsCounting, IsReadFrom};
 
 /// What is put for one counting syntax and then for another is put for both. What is put for one behind the marker is read
 /// from the bytes, and counted. `A` and `B` are what syntaxes settle on.
