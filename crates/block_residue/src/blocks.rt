@@ -43,7 +43,7 @@ fn read_plane<const COUNTS: bool>(
 }
 
 /// A block as it is listed, by whether any of its transform blocks has coefficients.
-fn listed(block: &BlockInfo, any: bool) -> BlockInfo
+pub fn listed(block: &BlockInfo, any: bool) -> BlockInfo
     ensures { result ≡ listed block.now any }
 {
     let is_inter = matches!(block.prediction, Prediction::Inter(_));

@@ -51,7 +51,7 @@ fn types_by(lossless: bool, plane: Plane, tx: TxSize, prediction: &Prediction) -
 
 impl BlockInPlane {
     /// A block of a frame in a plane.
-    pub(crate) fn of(header: &Header, block: &BlockInfo, plane: Plane) -> BlockInPlane
+    pub fn of(header: &Header, block: &BlockInfo, plane: Plane) -> BlockInPlane
         requires segment { block.now.segment ≤ 7 }
         requires fits { tx_number block.now.tx ≤ greatest_of block.now.size }
         ensures { result ≡ block_in header.now block.now plane }
@@ -68,7 +68,7 @@ impl BlockInPlane {
     }
 
     /// What decides how the tokens of the transform block at row `y` and column `x`, in 4s, are read.
-    pub(crate) fn token_kind(&self, y: usize, x: usize) -> TokenKind
+    pub fn token_kind(&self, y: usize, x: usize) -> TokenKind
         requires y { y < 16 }
         requires x { x < 16 }
         ensures { result ≡ token_kind self.now y x }

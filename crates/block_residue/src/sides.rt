@@ -79,7 +79,7 @@ impl Sides {
     }
 
     /// How many sides of the transform block at row `y` and column `x`, in 4s, have coefficients.
-    pub(crate) fn first_context(&self, block: &PlaneBlock, y: usize, x: usize) -> u8
+    pub fn first_context(&self, block: &PlaneBlock, y: usize, x: usize) -> u8
         requires y { y < 16 }
         requires x { x < 16 }
         requires beside { IsBeside block.now y x self.now }
@@ -96,7 +96,7 @@ impl Sides {
     }
 
     /// Says whether the transform block at row `y` and column `x`, in 4s, has coefficients.
-    pub(crate) fn mark(&mut self, block: &PlaneBlock, y: usize, x: usize, some: bool)
+    pub fn mark(&mut self, block: &PlaneBlock, y: usize, x: usize, some: bool)
         requires y { y < 16 }
         requires x { x < 16 }
         requires beside { IsBeside block.now y x self.old }
@@ -109,7 +109,7 @@ impl Sides {
     }
 
     /// Says that a block has no coefficients.
-    pub(crate) fn mark_skipped(&mut self, block: &PlaneBlock)
+    pub fn mark_skipped(&mut self, block: &PlaneBlock)
         requires beside { IsBeside block.now 0 0 self.old }
         ensures value { self.new ≡ skipped_sides block.now self.old }
         ensures long { KeepsLengths self.old self.new }

@@ -9,3 +9,4 @@ mod tree;
 pub use counting::count_unary;
 pub use laws::counting_syntaxes_compose;
 pub use reader::CountingReader;
+pub use tree::nodes_from;

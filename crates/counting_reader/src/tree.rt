@@ -1,6 +1,6 @@
 //! Entries of a tree's array.
 
-ghost use Rattle.std.specs.Prelude.{◌≡◌, ◌<◌, length};
+ghost use Rattle.std.specs.Prelude.{◌≡◌, ◌+◌, ◌<◌, ◌≤◌, drop, length};
 ghost use Rattle.vp9_types.specs.Trees.{entry_at};
 ghost use Rattle.counting_reader.specs.Code.{branch_of};
 
@@ -24,4 +24,14 @@ pub(crate) fn branch_at(tree: &[i8], place: usize) -> Branch
     } else {
         Branch::Leaf(entry.unsigned_abs())
     }
+}
+
+/// The probabilities of a tree's nodes, from a place on.
+#[inline(always)]
+pub fn nodes_from(probs: &[u8], first: u16) -> &[u8]
+    requires { first ≤ length probs.now }
+    ensures list { result.now ≡ drop first probs.now }
+    ensures long { first + length result.now ≡ length probs.now }
+{
+    &probs[first as usize..]
 }

@@ -79,7 +79,7 @@ fn variable_of(
 }
 
 /// What a neighbour refers to.
-pub(crate) fn kind_of(fixed: ReferenceFrame, block: Option<&BlockInfo>) -> NeighbourKind
+pub fn kind_of(fixed: ReferenceFrame, block: Option<&BlockInfo>) -> NeighbourKind
     ensures { result ≡ kind_of fixed (option_copied block.entry) }
 {
     match block {

@@ -17,7 +17,7 @@ use vp9_tables::{ReferenceBool, ref_context};
 use vp9_types::{ReferenceFrame, ReferenceMode, Rule};
 
 /// The reference that all compound blocks of a frame have.
-fn fixed_of(biases: &SignBiases) -> ReferenceFrame
+pub fn fixed_of(biases: &SignBiases) -> ReferenceFrame
     ensures { result ≡ fixed_of biases.now }
 {
     if biases.last == biases.golden {
@@ -30,7 +30,7 @@ fn fixed_of(biases: &SignBiases) -> ReferenceFrame
 }
 
 /// Which of the two others a compound block has.
-fn variable_by(fixed: ReferenceFrame, one: bool) -> ReferenceFrame
+pub fn variable_by(fixed: ReferenceFrame, one: bool) -> ReferenceFrame
     ensures { result ≡ variable_by fixed one }
 {
     match (fixed, one) {
@@ -43,7 +43,8 @@ fn variable_by(fixed: ReferenceFrame, one: bool) -> ReferenceFrame
     }
 }
 
-fn with_fixed(biases: &SignBiases, fixed: ReferenceFrame, other: ReferenceFrame) -> References
+/// The references of a compound block, by the one that all have and the other.
+pub fn with_fixed(biases: &SignBiases, fixed: ReferenceFrame, other: ReferenceFrame) -> References
     ensures { result ≡ with_fixed biases.now fixed other }
 {
     if biases.bias_of(fixed) {
@@ -59,7 +60,8 @@ fn with_fixed(biases: &SignBiases, fixed: ReferenceFrame, other: ReferenceFrame)
     }
 }
 
-fn single(reference: ReferenceFrame) -> References
+/// The references of a block that has one.
+pub fn single(reference: ReferenceFrame) -> References
     ensures { result ≡ single reference }
 {
     References {
@@ -168,7 +170,8 @@ fn read_coded<const COUNTS: bool>(
     read_single(reader, &probs.single_references, first, second)
 }
 
-fn of_feature(reference: FeatureReference) -> ReferenceFrame
+/// The reference that a segment's blocks take.
+pub fn of_feature(reference: FeatureReference) -> ReferenceFrame
     ensures { result ≡ of_feature reference }
 {
     match reference {

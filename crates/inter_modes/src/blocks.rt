@@ -11,12 +11,11 @@ ghost use Rattle.mv_prediction.specs.Candidates.{mode_context};
 ghost use Rattle.inter_modes.specs.Code.{MaySearch, AreSmallQuarters};
 ghost use Rattle.inter_modes.specs.ModeInfo.{interp_filter, whole_prediction, quarters_prediction, of_each, block_mode, whole_block, block_of_quarters, inter_prediction};
 
-use crate::intra_blocks::nodes_from;
 use crate::quarters::{Quarter, read_quarters};
 use crate::vectors::{Sources, read_block_vectors, read_inter_mode};
 use block_geometry::is_below_8x8;
 use block_plan::{InterPrediction, Mv, Neighbours, References};
-use counting_reader::CountingReader;
+use counting_reader::{CountingReader, nodes_from};
 use frame_headers::FrameFilter;
 use prob_contexts::ProbKind;
 use vp9_types::{InterMode, InterpFilter, Rule};
@@ -47,8 +46,9 @@ fn read_filter<const COUNTS: bool>(
     }
 }
 
+/// The prediction of a block that has one mode, and one vector of each reference.
 #[tactic(auto, using(crate::proofs::Rows::four_rows))]
-fn whole_prediction(
+pub fn whole_prediction(
     references: References,
     filter: InterpFilter,
     mode: InterMode,
@@ -89,7 +89,8 @@ fn vectors_of(quarters: &[Quarter; 4]) -> [[Mv; 2]; 4]
     [first, second, third, fourth]
 }
 
-fn quarters_prediction(
+/// The prediction of a block of four quarters.
+pub fn quarters_prediction(
     references: References,
     filter: InterpFilter,
     quarters: &[Quarter; 4],

@@ -30,12 +30,13 @@ use vp9_types::Rule;
 
 /// An inter frame.
 #[derive(Drop)]
-struct Frame<'a> {
-    setting: &'a FrameSetting,
-    fields: &'a InterFields,
+pub struct Frame<'a> {
+    pub setting: &'a FrameSetting,
+    pub fields: &'a InterFields,
 }
 
-fn block_with(at: &BlockAt, start: &BlockStart, prediction: Prediction) -> BlockInfo
+/// The block of its start and its prediction.
+pub fn block_with(at: &BlockAt, start: &BlockStart, prediction: Prediction) -> BlockInfo
     ensures { result ≡ block_with at.now start.now prediction }
 {
     BlockInfo {

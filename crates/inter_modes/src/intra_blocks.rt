@@ -5,20 +5,11 @@ ghost use Rattle.counting_reader.specs.Code.{Reads};
 ghost use Rattle.inter_modes.specs.IntraBlocks.{intra_mode, uv_mode, one_mode, two_rows, two_columns, four_modes, luma_modes, intra_block_mode_info};
 
 use block_plan::IntraPrediction;
-use counting_reader::CountingReader;
+use counting_reader::{CountingReader, nodes_from};
 use mode_syntax::intra_of;
 use prob_contexts::ProbKind;
 use vp9_tables::{intra_mode_tree, size_group};
 use vp9_types::{BlockSize, IntraMode};
-
-/// The probabilities from a place on.
-pub(crate) fn nodes_from(probs: &[u8], first: u16) -> &[u8]
-    requires { first ≤ length probs.now }
-    ensures list { result.now ≡ drop first probs.now }
-    ensures long { first + length result.now ≡ length probs.now }
-{
-    &probs[first as usize..]
-}
 
 #[tactic(auto, unfolding(crate::specs::IntraBlocks::intra_mode), using(counting_reader::proofs::CountingRuns::counting_bind, counting_reader::proofs::CountingRuns::run_settle))]
 fn read_mode<const COUNTS: bool>(

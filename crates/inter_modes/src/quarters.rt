@@ -16,7 +16,7 @@ use vp9_types::{BlockSize, InterMode, Rule};
 
 /// The mode of a quarter, and its vectors, of the first and the second reference.
 #[derive(Clone, Copy, Debug, PartialEq, Eq)]
-pub(crate) struct Quarter {
+pub struct Quarter {
     pub mode: InterMode,
     pub vectors: [Mv; 2],
 }
@@ -24,12 +24,13 @@ pub(crate) struct Quarter {
 /// What a quarter's vectors go by: the best ones of its block, and those of the three quarters before the last, as far as
 /// they are read.
 #[derive(Clone, Copy, Debug, PartialEq, Eq)]
-pub(crate) struct QuartersBefore {
+pub struct QuartersBefore {
     pub best: [Mv; 2],
     pub rows: [[Mv; 2]; 3],
 }
 
-fn before_of(best: [Mv; 2], q: [Mv; 2], r: [Mv; 2], t: [Mv; 2]) -> QuartersBefore
+/// The quarters before one: none, the first, the first two or the first three, and no vectors for the others.
+pub fn before_of(best: [Mv; 2], q: [Mv; 2], r: [Mv; 2], t: [Mv; 2]) -> QuartersBefore
     requires best { AreSmall best }
     requires first { AreSmall q }
     requires second { AreSmall r }

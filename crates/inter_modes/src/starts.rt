@@ -25,14 +25,14 @@ use vp9_types::{BlockSize, TxMode, TxSize};
 
 /// A block's segment, and whether it is predicted from the map before its frame.
 #[derive(Clone, Copy, Debug, PartialEq, Eq)]
-pub(crate) struct SegmentOf {
+pub struct SegmentOf {
     pub id: u8,
     pub predicted: bool,
 }
 
 /// What a block of an inter frame says before its modes.
 #[derive(Clone, Copy, Debug, PartialEq, Eq)]
-pub(crate) struct BlockStart {
+pub struct BlockStart {
     pub segment: SegmentOf,
     pub skip: bool,
     pub is_inter: bool,
@@ -55,7 +55,7 @@ fn read_coded_segment<const COUNTS: bool>(
 }
 
 /// The least id of the map before the frame over a block.
-fn least_id(map: &SegmentMap, at: BlockAt) -> u8
+pub fn least_id(map: &SegmentMap, at: BlockAt) -> u8
     requires row { at.row < map.now.rows }
     requires col { at.col < map.now.cols }
     ensures is { result ≡ least_of map.now at }
@@ -139,10 +139,7 @@ fn read_inter_segment_id<const COUNTS: bool>(
 }
 
 /// The reference that the blocks of a segment take.
-pub(crate) fn segment_reference(
-    segmentation: &Segmentation,
-    segment: u8,
-) -> Option<FeatureReference>
+pub fn segment_reference(segmentation: &Segmentation, segment: u8) -> Option<FeatureReference>
     requires { segment ≤ 7 }
     ensures { result ≡ segment_reference segmentation.now segment }
 {
@@ -153,7 +150,8 @@ pub(crate) fn segment_reference(
     }
 }
 
-fn is_inter_feature(reference: FeatureReference) -> bool
+/// Whether the blocks of a segment that takes a reference are inter.
+pub fn is_inter_feature(reference: FeatureReference) -> bool
     ensures { result ≡ is_inter_feature reference }
 {
     match reference {

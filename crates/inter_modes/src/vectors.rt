@@ -9,24 +9,24 @@ ghost use Rattle.mv_prediction.specs.Vectors.{IsSmallVector};
 ghost use Rattle.inter_modes.specs.Code.{MaySearch, AreSmallBefore};
 ghost use Rattle.inter_modes.specs.Vectors.{inter_mode, vector_of_mode, near_of_block, near_of_quarter, block_vector, block_vectors, second_best, best_vectors, of_list, quarter_vector, quarter_vectors, quarter};
 
-use crate::intra_blocks::nodes_from;
 use crate::quarters::{Quarter, QuartersBefore};
 use block_plan::{Mv, Neighbours, References};
-use counting_reader::CountingReader;
+use counting_reader::{CountingReader, nodes_from};
 use mv_prediction::{MvSearch, NearVectors, candidates, near_vectors, sub_block_vectors};
 use mv_syntax::read_new_vector;
 use prob_contexts::{ProbKind, VectorProbs};
 use vp9_types::{InterMode, ReferenceFrame, Rule};
 
-const NO_VECTOR: Mv = Mv { row: 0, column: 0 };
+/// The vector that is zero.
+pub const NO_VECTOR: Mv = Mv { row: 0, column: 0 };
 
 /// Those of a quarter that isn't read.
-pub(crate) const NO_VECTORS: [Mv; 2] = [NO_VECTOR; 2];
+pub const NO_VECTORS: [Mv; 2] = [NO_VECTOR; 2];
 
 /// What the vectors of a block are read by: probabilities, of vectors and of modes with their context, whether its frame
 /// allows high precision, the block, the blocks before it, and those of the frame before.
 #[derive(Drop)]
-pub(crate) struct Sources<'a, N, Q> {
+pub struct Sources<'a, N, Q> {
     pub probs: &'a VectorProbs,
     pub modes: &'a [u8; 21],
     pub context: u8,
@@ -63,7 +63,7 @@ pub(crate) fn read_inter_mode<const COUNTS: bool>(
 
 /// The nearest and the near vector of a block.
 #[inline(always)]
-fn near_of_block<N: Neighbours, Q: Neighbours>(
+pub fn near_of_block<N: Neighbours, Q: Neighbours>(
     src: &Sources<'_, N, Q>,
     reference: ReferenceFrame,
 ) -> NearVectors
@@ -78,7 +78,7 @@ fn near_of_block<N: Neighbours, Q: Neighbours>(
 
 /// Those of a quarter.
 #[inline(always)]
-fn near_of_quarter<N: Neighbours, Q: Neighbours>(
+pub fn near_of_quarter<N: Neighbours, Q: Neighbours>(
     src: &Sources<'_, N, Q>,
     reference: ReferenceFrame,
     k: u8,
@@ -98,7 +98,7 @@ fn near_of_quarter<N: Neighbours, Q: Neighbours>(
 /// The nearest vector of a quarter: of the first one alone it is a candidate.
 #[inline(always)]
 #[tactic(auto, unfolding(mv_prediction::specs::SubBlocks::sub_block_vectors))]
-fn nearest_of_quarter<N: Neighbours, Q: Neighbours>(
+pub fn nearest_of_quarter<N: Neighbours, Q: Neighbours>(
     src: &Sources<'_, N, Q>,
     reference: ReferenceFrame,
     k: u8,
@@ -167,7 +167,7 @@ pub(crate) fn read_block_vectors<N: Neighbours, Q: Neighbours, const COUNTS: boo
 }
 
 /// The best vectors of a block below 8x8.
-pub(crate) fn best_vectors<N: Neighbours, Q: Neighbours>(
+pub fn best_vectors<N: Neighbours, Q: Neighbours>(
     src: &Sources<'_, N, Q>,
     references: References,
 ) -> [Mv; 2]
@@ -183,7 +183,7 @@ pub(crate) fn best_vectors<N: Neighbours, Q: Neighbours>(
 }
 
 /// The vectors of a list of the quarters before one.
-fn of_list(list: usize, rows: &[[Mv; 2]; 3]) -> [Mv; 3]
+pub fn of_list(list: usize, rows: &[[Mv; 2]; 3]) -> [Mv; 3]
     requires { list < 2 }
     ensures { result ≡ of_list list rows.now }
 {

@@ -14,7 +14,7 @@ use Rattle.block_plan.specs.declared.block.BlockAt.{BlockAt}
 use Rattle.block_plan.specs.declared.block.BlockInfo.{BlockInfo}
 use Rattle.mode_syntax.specs.declared.square_at.SquareAt.{SquareAt}
 use Rattle.mode_syntax.specs.ModeInfo.{intra_frame_mode_info, mode_info_beside}
-use Rattle.mode_syntax.specs.Partitions.{partition, half_of, partition_probs, width_beside, height_beside, widths_above, heights_left, context_of, partition_at}
+use Rattle.mode_syntax.specs.Partitions.{partition, half_of, partition_probs, width_beside, height_beside, widths_above, heights_left, square_context, partition_at}
 use Rattle.mode_syntax.specs.Laws.{SameIn, reaches_into, in_columns}
 
 other_none : {A : Type 0} (x : Option A) → or_else x None ≡ x
@@ -66,8 +66,8 @@ same_heights from to xs ys same row col n high =
     (λ k a b. ap height_beside (same_left from to xs ys same (row + k) col high))
 
 same_context : (frame : FramePlaces) (at : SquareAt) (xs ys : List BlockInfo) → SameIn at.tile_from at.tile_to xs ys → at.tile_from ≤ at.col → at.col < at.tile_to
-    → context_of xs frame at ≡ context_of ys frame at
-unfolding context_of
+    → square_context xs frame at ≡ square_context ys frame at
+unfolding square_context
 same_context frame at xs ys same low high =
     ap (λ w. partition_context (square at.level) w (heights_left xs at.tile_from at.row at.col (min (2 ^ at.level) (frame.rows - at.row))))
     (same_widths at.tile_from at.tile_to xs ys same at.row at.col (min (2 ^ at.level) (at.tile_to - at.col)) low (omega arith))

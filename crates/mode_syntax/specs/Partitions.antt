@@ -75,8 +75,8 @@ unfoldable pub heights_left : List BlockInfo → ℕ → ℕ → ℕ → ℕ →
 heights_left earlier tile_from row col n = map (λ k. height_beside (left_place earlier tile_from (row + k) col)) (range_with_len 0 n)
 
 -- along the part of the square that lies inside the frame and its tile
-unfoldable pub context_of : List BlockInfo → FramePlaces → SquareAt → ℕ
-context_of earlier frame at =
+unfoldable pub square_context : List BlockInfo → FramePlaces → SquareAt → ℕ
+square_context earlier frame at =
     partition_context (square at.level)
     (widths_above earlier at.row at.col (min (2 ^ at.level) (at.tile_to - at.col)))
     (heights_left earlier at.tile_from at.row at.col (min (2 ^ at.level) (frame.rows - at.row)))
@@ -84,6 +84,6 @@ context_of earlier frame at =
 -- the partition of a square, from the blocks before it
 unfoldable pub partition_at : Bool → List ℕ → List BlockInfo → FramePlaces → SquareAt → Syntax ℕ Rule (Settled Partition)
 partition_at intra probs earlier frame at =
-    let context = context_of earlier frame at in
+    let context = square_context earlier frame at in
     partition (nat_lt (at.row + half_of at.level) frame.rows) (nat_lt (at.col + half_of at.level) frame.cols)
     (partition_probs intra probs context) context

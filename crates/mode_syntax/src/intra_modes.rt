@@ -13,7 +13,7 @@ use vp9_types::{BlockSize, IntraMode};
 
 /// The modes of the two 4x4 places above a block's corner and of the two at its left.
 #[derive(Clone, Copy, Debug, PartialEq, Eq)]
-pub(crate) struct EdgeModes {
+pub struct EdgeModes {
     pub above_first: IntraMode,
     pub above_second: IntraMode,
     pub left_first: IntraMode,
@@ -80,7 +80,8 @@ fn mode_beside(block: Option<&BlockInfo>, quarter: usize) -> IntraMode
     }
 }
 
-pub(crate) fn edge_modes(above: Option<&BlockInfo>, left: Option<&BlockInfo>) -> EdgeModes
+/// The modes beside a block, by the blocks above it and at its left.
+pub fn edge_modes(above: Option<&BlockInfo>, left: Option<&BlockInfo>) -> EdgeModes
     ensures { result ≡ edge_modes (option_copied above.entry) (option_copied left.entry) }
 {
     EdgeModes {

@@ -6,7 +6,7 @@ ghost use Rattle.counting_reader.specs.Counting.{count};
 ghost use Rattle.counting_reader.specs.Code.{Reads};
 ghost use Rattle.counting_reader.specs.Symbols.{counted_symbol};
 ghost use Rattle.prob_contexts.specs.Lists.{lists_of};
-ghost use Rattle.mode_syntax.specs.Partitions.{partition_of, split_or, whole_symbol, edge_symbol, partition_value, partition, half_of, partition_probs, width_beside, height_beside, widths_above, heights_left, context_of, partition_at};
+ghost use Rattle.mode_syntax.specs.Partitions.{partition_of, split_or, whole_symbol, edge_symbol, partition_value, partition, half_of, partition_probs, width_beside, height_beside, widths_above, heights_left, square_context, partition_at};
 ghost use Rattle.prob_contexts.specs.declared.kind.ProbKind.TheVariants as kind;
 ghost use Rattle.vp9_tables.specs.Numbers.{partition_number};
 ghost use Rattle.vp9_tables.specs.Trees.{partition_tree};
@@ -80,7 +80,8 @@ fn read_value<const COUNTS: bool>(
     Partition::Split
 }
 
-fn number_of(partition: Partition) -> u16
+/// The number of a partition, 0 to 3.
+pub fn partition_number(partition: Partition) -> u16
     ensures is { result ≡ partition_number partition }
     ensures most { result ≤ 3 }
 {
@@ -100,7 +101,7 @@ fn count_partition<const COUNTS: bool>(
     requires context { context < 16 }
     ensures { Reads (count (counted_symbol kind.Partition (3 * context) partition_tree (partition_number partition))) reader.old tt reader.new }
 {
-    let symbol = number_of(partition);
+    let symbol = partition_number(partition);
     reader.count_unary(ProbKind::Partition, 3 * u16::from(context), 3, symbol);
 }
 
@@ -177,14 +178,15 @@ pub fn side_of(level: u8) -> u32
     }
 }
 
-#[tactic(auto, unfolding(crate::specs::Partitions::context_of))]
-fn context_of<N: Neighbours>(earlier: &N, frame: FramePlaces, at: SquareAt) -> u8
+/// The context of a square's partition, by the blocks above it and at its left: 0 to 15.
+#[tactic(auto, unfolding(crate::specs::Partitions::square_context))]
+pub fn square_context<N: Neighbours>(earlier: &N, frame: FramePlaces, at: SquareAt) -> u8
     requires level { at.level ≤ 3 }
     requires row { at.row < frame.rows }
     requires col { at.col < at.tile_to }
     requires held { (r c : ℕ) → r < frame.rows → at.tile_from ≤ c → c < at.tile_to → N.holds earlier.now r c }
     requires first { at.tile_from ≤ at.col }
-    ensures is { result ≡ context_of (N.blocks earlier.now) frame at }
+    ensures is { result ≡ square_context (N.blocks earlier.now) frame at }
     ensures most { result < 16 }
 {
     let side = side_of(at.level);
@@ -199,7 +201,8 @@ fn context_of<N: Neighbours>(earlier: &N, frame: FramePlaces, at: SquareAt) -> u
     partition_context(square(at.level), above, left)
 }
 
-fn partition_probs(intra: bool, probs: &[u8; 48], context: u8) -> &[u8]
+/// The probabilities of a partition, of an intra frame or by those that the frame has.
+pub fn partition_probs(intra: bool, probs: &[u8; 48], context: u8) -> &[u8]
     requires { context < 16 }
     ensures is { result.now ≡ partition_probs intra probs.now context }
     ensures long { length result.now ≡ 3 }
@@ -230,7 +233,7 @@ pub fn read_partition<N: Neighbours, const COUNTS: bool>(
     ensures { Reads (partition_at intra (lists_of setting.now.contexts).partitions (N.blocks earlier.now) setting.now.places at) reader.old result reader.new }
 {
     let frame = setting.places;
-    let context = context_of(earlier, frame, at);
+    let context = square_context(earlier, frame, at);
     let probs = partition_probs(intra, &setting.contexts.partitions, context);
     let half = side_of(at.level) / 2;
     let has_rows = half < frame.rows - at.row;

@@ -12,7 +12,7 @@ ghost use Rattle.mode_syntax.specs.Elements.{tx_beside, tx_sum, tx_context, tx_s
 
 use block_geometry::{greatest_tx, is_below_8x8};
 use block_plan::BlockInfo;
-use counting_reader::CountingReader;
+use counting_reader::{CountingReader, nodes_from};
 use prob_contexts::{ProbKind, TxProbs};
 use vp9_tables::{max_tx_size, tx8_tree, tx16_tree, tx32_tree};
 use vp9_types::{BlockSize, TxMode, TxSize};
@@ -77,15 +77,6 @@ pub fn tx_context(size: BlockSize, above: Option<&BlockInfo>, left: Option<&Bloc
     u8::from(greatest < tx_sum(greatest, above, left))
 }
 
-/// The probabilities from a place on.
-fn nodes_from(probs: &[u8], first: usize) -> &[u8]
-    requires { first ≤ length probs.now }
-    ensures list { result.now ≡ drop first probs.now }
-    ensures long { first + length result.now ≡ length probs.now }
-{
-    &probs[first..]
-}
-
 /// A coded transform size up to 8x8.
 #[tactic(auto, unfolding(crate::specs::Elements::tx_symbol), using(counting_reader::proofs::CountingRuns::counting_bind, counting_reader::proofs::CountingRuns::run_settle, crate::proofs::TxSizes::one_of))]
 fn read_up_to_8x8<const COUNTS: bool>(
@@ -97,8 +88,9 @@ fn read_up_to_8x8<const COUNTS: bool>(
     ensures read { Reads (tx_symbol (tx_lists probs.now) size.T8x8 context) reader.old result reader.new }
     ensures fits { tx_number result ≤ 1 }
 {
-    let probs = nodes_from(&probs.of_8x8, context as usize);
-    let number = reader.counted_tree(ProbKind::Tx8x8, u16::from(context), tx8_tree(), probs);
+    let first = u16::from(context);
+    let probs = nodes_from(&probs.of_8x8, first);
+    let number = reader.counted_tree(ProbKind::Tx8x8, first, tx8_tree(), probs);
     tx_of(number)
 }
 
@@ -113,9 +105,9 @@ fn read_up_to_16x16<const COUNTS: bool>(
     ensures read { Reads (tx_symbol (tx_lists probs.now) size.T16x16 context) reader.old result reader.new }
     ensures fits { tx_number result ≤ 2 }
 {
-    let first = 2 * context;
-    let probs = nodes_from(&probs.of_16x16, first as usize);
-    let number = reader.counted_tree(ProbKind::Tx16x16, u16::from(first), tx16_tree(), probs);
+    let first = 2 * u16::from(context);
+    let probs = nodes_from(&probs.of_16x16, first);
+    let number = reader.counted_tree(ProbKind::Tx16x16, first, tx16_tree(), probs);
     tx_of(number)
 }
 
@@ -130,9 +122,9 @@ fn read_up_to_32x32<const COUNTS: bool>(
     ensures read { Reads (tx_symbol (tx_lists probs.now) size.T32x32 context) reader.old result reader.new }
     ensures fits { tx_number result ≤ 3 }
 {
-    let first = 3 * context;
-    let probs = nodes_from(&probs.of_32x32, first as usize);
-    let number = reader.counted_tree(ProbKind::Tx32x32, u16::from(first), tx32_tree(), probs);
+    let first = 3 * u16::from(context);
+    let probs = nodes_from(&probs.of_32x32, first);
+    let number = reader.counted_tree(ProbKind::Tx32x32, first, tx32_tree(), probs);
     tx_of(number)
 }
 

@@ -11,7 +11,7 @@ ghost use Rattle.counting_reader.specs.Code.{Reads};
 ghost use Rattle.std.specs.List.{range_with_len};
 ghost use Rattle.mv_syntax.specs.Components.{high_bit, small_magnitude, next_bit, large_magnitude, magnitude, read_mv_component};
 
-use counting_reader::CountingReader;
+use counting_reader::{CountingReader, nodes_from};
 use prob_contexts::{ProbKind, VectorProbs};
 use vp9_tables::{Component, mv_class_tree};
 
@@ -33,15 +33,6 @@ fn read_high<const COUNTS: bool>(
     }
     reader.count(kind, place, true);
     true
-}
-
-/// The probabilities from a place on.
-fn nodes_from(probs: &[u8], first: u16) -> &[u8]
-    requires { first ≤ length probs.now }
-    ensures list { result.now ≡ drop first probs.now }
-    ensures long { first + length result.now ≡ length probs.now }
-{
-    &probs[first as usize..]
 }
 
 /// A number by how many ones come before a zero, three at most: the tree of fractions, which is that of joints too. Bool by
@@ -93,7 +84,8 @@ fn read_small<const COUNTS: bool>(
     8 * u16::from(whole) + 2 * u16::from(fraction) + u16::from(high) + 1
 }
 
-fn power_of_two(n: u16) -> u16
+/// The power of two of a class.
+pub fn power_of_two(n: u16) -> u16
     requires { n ≤ 10 }
     ensures is { result ≡ 2 ^ n }
     ensures most { result ≤ 1024 }

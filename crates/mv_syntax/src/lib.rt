@@ -6,8 +6,9 @@ mod components;
 mod differences;
 mod new_vectors;
 
+pub use components::power_of_two;
 pub use differences::read_mv;
-pub use new_vectors::read_new_vector;
+pub use new_vectors::{added, in_range_or_rule, read_new_vector};
 
 #[cfg(test)]
 mod tests;

@@ -13,7 +13,8 @@ use mv_prediction::is_precise;
 use prob_contexts::VectorProbs;
 use vp9_types::Rule;
 
-fn added(best: Mv, difference: Mv) -> Mv
+/// The best vector and a difference from it.
+pub fn added(best: Mv, difference: Mv) -> Mv
     requires small { IsSmallVector best }
     requires row { unsigned_abs difference.row ≤ 16384 }
     requires column { unsigned_abs difference.column ≤ 16384 }
@@ -25,7 +26,8 @@ fn added(best: Mv, difference: Mv) -> Mv
     }
 }
 
-fn in_range_or_rule(v: Mv) -> Result<Mv, Rule>
+/// A vector whose components lie between -16384 and 16384: else `MvRange`.
+pub fn in_range_or_rule(v: Mv) -> Result<Mv, Rule>
     ensures is { result ≡ in_range_or_rule v }
     ensures small { IfOk result IsSmallVector }
 {

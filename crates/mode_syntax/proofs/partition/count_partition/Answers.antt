@@ -9,7 +9,7 @@ use Rattle.mode_syntax.proofs.partition.count_partition.Goals as goal
 
 pub returns : goal.returns
 returns g c =
-    let few : partition_number c.args.partition ≤ 3 = omega (arith, c.number_of-symbol.ensures.is, c.number_of-symbol.ensures.most) in
+    let few : partition_number c.args.partition ≤ 3 = omega (arith, c.partition_number-symbol.ensures.is, c.partition_number-symbol.ensures.most) in
     let counts : Reads (count (unary_bools Partition (3 * c.args.context) 3 (partition_number c.args.partition))) c.args.reader.now tt c.count_unary.new.self =
-    rw (c.from.ensures, c.number_of-symbol.ensures.is) at c.count_unary.ensures in
+    rw (c.from.ensures, c.partition_number-symbol.ensures.is) at c.count_unary.ensures in
     rw (partition_counts Partition (3 * c.args.context) (partition_number c.args.partition) few) at counts
