@@ -1,0 +1,45 @@
+//! The superblocks of a tile.
+
+ghost use Rattle.std.specs.Prelude.{◌≡◌, ◌+◌, ◌-◌, ◌*◌, ◌<◌, ◌≤◌};
+ghost use Rattle.vp9_types.specs.Sizes.{superblocks_along};
+ghost use Rattle.mode_syntax.specs.Walk.{decode_row, decode_tile};
+ghost use Rattle.tile_writer.specs.Said.{said_row, said_tile};
+ghost use Rattle.tile_writer.specs.Code.{EndsTile};
+
+use crate::squares::{TileWriter, put_square};
+use crate::unwritten::Unwritten;
+use frame_decoder::TilePlaces;
+use mode_syntax::SquareAt;
+
+/// Places of 8x8 along a superblock.
+const SIDE: u32 = 8;
+/// The level of a superblock.
+const SUPERBLOCK: u8 = 3;
+
+/// A row of so many superblocks, from the first one on.
+fn put_row<W: TileWriter>(
+    writer: &mut W,
+    first: SquareAt,
+    count: u32,
+) -> Result<(), Unwritten>
+    requires begin { first.col ≡ first.tile_from }
+    requires level { first.level ≡ 3 }
+    requires from { first.tile_from ≡ (W.tile writer.old).walk.tile_from }
+    requires to { first.tile_to ≡ (W.tile writer.old).walk.tile_to }
+    requires few { count ≤ 8192 }
+    requires near { first.tile_from ≤ 65536 }
+    requires wide { first.tile_from + 8 * count ≤ (W.tile writer.old).limit }
+    requires room { 64 * count ≤ (W.tile writer.old).room }
+    ensures { EndsTile (decode_row (W.tile writer.old).walk first.row first.tile_from count (W.tile writer.old).state)
+        (said_row (W.tile writer.old).walk (W.tile writer.old).teller first.row first.tile_from count ((W.tile writer.old).state, (W.tile writer.old).told))
+        (64 * count) (W.tile writer.old) result (W.tile writer.new) }
+{
+    for i in 0..count {
+        let at = SquareAt {
+            col: first.col + SIDE * i,
+            ..first
+        };
+        put_square(writer, at)?;
+    }
+    Ok(())
+}

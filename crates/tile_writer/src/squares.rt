@@ -1,0 +1,182 @@
+//! The squares of a tile.
+
+ghost use Rattle.std.specs.Prelude.{◌≡◌, ◌+◌, ◌-◌, ◌^◌, ◌<◌, ◌≤◌, nat_lt};
+ghost use Rattle.mode_syntax.specs.Partitions.{half_of};
+ghost use Rattle.mode_syntax.specs.Walk.{block_inside, parts, decode_partition};
+ghost use Rattle.counting_reader.specs.Counting.{in_order};
+ghost use Rattle.vp9_types.specs.Results.{◌>>=◌};
+ghost use Rattle.vp9_types.specs.declared.block.Partition.TheVariants as partition;
+ghost use Rattle.tile_writer.specs.Said.{said_inside, said_parts, said_square};
+ghost use Rattle.tile_writer.specs.Code.{Tile, EndsTile, GivesPartition, StandsIn, IsSquareOf};
+
+use crate::unwritten::Unwritten;
+use block_geometry::{FramePlaces, part_size};
+use block_plan::BlockAt;
+use frame_decoder::{block_of, quarter_of};
+use mode_syntax::{SquareAt, side_of};
+use vp9_types::Partition;
+
+/// What puts the partitions and the blocks of a tile, as it is told them.
+pub trait TileWriter {
+    /// What reading keeps between blocks, and what is told.
+    ghost State: { Type 0 };
+    ghost Told: { Type 0 };
+
+    /// Where the tile stands.
+    ghost tile: { Self → Tile State Told };
+
+    fn frame(&self) -> FramePlaces
+        ensures is { result ≡ (tile self.now).walk.frame }
+        ensures few_rows { result.rows ≤ 2 ^ 16 }
+        ensures few_cols { result.cols ≤ 2 ^ 16 };
+
+    /// Puts the partition of a square that starts inside the frame, by whether its lower and its right half begin inside.
+    fn put_partition(
+        &mut self,
+        at: SquareAt,
+        has_rows: bool,
+        has_cols: bool,
+    ) -> Result<Partition, Unwritten>
+        requires level { at.level ≤ 3 }
+        requires row { at.row < (tile self.old).walk.frame.rows }
+        requires col { at.col < (tile self.old).walk.frame.cols }
+        requires within { IsSquareOf (tile self.old) at }
+        requires rows { has_rows ≡ nat_lt (at.row + half_of at.level) (tile self.old).walk.frame.rows }
+        requires cols { has_cols ≡ nat_lt (at.col + half_of at.level) (tile self.old).walk.frame.cols }
+        ensures { GivesPartition at has_rows has_cols (tile self.old) result (tile self.new) };
+
+    /// Puts a block that starts inside the frame.
+    fn put_block(&mut self, at: BlockAt) -> Result<(), Unwritten>
+        requires row { at.row < (tile self.old).walk.frame.rows }
+        requires col { at.col < (tile self.old).walk.frame.cols }
+        requires stands { StandsIn (tile self.old) at }
+        requires room { 1 ≤ (tile self.old).room }
+        ensures { EndsTile ((tile self.old).walk.block at (tile self.old).state) ((tile self.old).teller.block at (tile self.old).state (tile self.old).told) 1 (tile self.old) result (tile self.new) };
+}
+
+/// A block, unless it starts outside the frame.
+fn put_inside<W: TileWriter>(writer: &mut W, at: BlockAt) -> Result<(), Unwritten>
+    requires stands { StandsIn (W.tile writer.old) at }
+    requires room { 1 ≤ (W.tile writer.old).room }
+    ensures { EndsTile (block_inside (W.tile writer.old).walk at.row at.col at.size (W.tile writer.old).state)
+        (said_inside (W.tile writer.old).walk (W.tile writer.old).teller at.row at.col at.size ((W.tile writer.old).state, (W.tile writer.old).told))
+        1 (W.tile writer.old) result (W.tile writer.new) }
+{
+    let frame = writer.frame();
+    if at.row >= frame.rows || at.col >= frame.cols {
+        return Ok(());
+    }
+    writer.put_block(at)
+}
+
+/// Two halves of a square that starts inside the frame. The second one may start outside.
+fn put_halves<W: TileWriter>(
+    writer: &mut W,
+    first: BlockAt,
+    second: BlockAt,
+) -> Result<(), Unwritten>
+    requires row { first.row < (W.tile writer.old).walk.frame.rows }
+    requires col { first.col < (W.tile writer.old).walk.frame.cols }
+    requires stands { StandsIn (W.tile writer.old) first }
+    requires stands_second { StandsIn (W.tile writer.old) second }
+    requires room { 2 ≤ (W.tile writer.old).room }
+    ensures { EndsTile (in_order ((W.tile writer.old).walk.block first (W.tile writer.old).state) (block_inside (W.tile writer.old).walk second.row second.col second.size))
+        ((W.tile writer.old).teller.block first (W.tile writer.old).state (W.tile writer.old).told >>= said_inside (W.tile writer.old).walk (W.tile writer.old).teller second.row second.col second.size)
+        2 (W.tile writer.old) result (W.tile writer.new) }
+{
+    writer.put_block(first)?;
+    put_inside(writer, second)
+}
+
+/// The parts of a square that starts inside the frame, of a level above the least.
+#[cycle(squares)]
+fn put_parts<W: TileWriter>(
+    writer: &mut W,
+    at: SquareAt,
+    partition: Partition,
+) -> Result<(), Unwritten>
+    requires least { 1 ≤ at.level }
+    requires most { at.level ≤ 3 }
+    requires row { at.row < (W.tile writer.old).walk.frame.rows }
+    requires col { at.col < (W.tile writer.old).walk.frame.cols }
+    requires few_rows { (W.tile writer.old).walk.frame.rows ≤ 2 ^ 16 }
+    requires few_cols { (W.tile writer.old).walk.frame.cols ≤ 2 ^ 16 }
+    requires within { IsSquareOf (W.tile writer.old) at }
+    ensures { EndsTile (parts (W.tile writer.old).walk (decode_partition (W.tile writer.old).walk (at.level - 1)) (at.level - 1) at.row at.col (W.tile writer.old).state partition)
+        (said_parts (W.tile writer.old).walk (W.tile writer.old).teller (said_square (W.tile writer.old).walk (W.tile writer.old).teller (at.level - 1)) (at.level - 1) at.row at.col partition ((W.tile writer.old).state, (W.tile writer.old).told))
+        (4 ^ at.level) (W.tile writer.old) result (W.tile writer.new) }
+{
+    let size = part_size(partition, at.level);
+    let half = side_of(at.level - 1);
+    let first = block_of(at, at.row, at.col, size);
+    match partition {
+        Partition::Whole => writer.put_block(first),
+        Partition::Horizontal => {
+            put_halves(writer, first, block_of(at, at.row + half, at.col, size))
+        }
+        Partition::Vertical => {
+            put_halves(writer, first, block_of(at, at.row, at.col + half, size))
+        }
+        Partition::Split => put_quarters(writer, at),
+    }
+}
+
+/// The quarters of a square that starts inside the frame, of a level above the least.
+#[cycle(squares)]
+fn put_quarters<W: TileWriter>(writer: &mut W, at: SquareAt) -> Result<(), Unwritten>
+    requires least { 1 ≤ at.level }
+    requires most { at.level ≤ 3 }
+    requires row { at.row < (W.tile writer.old).walk.frame.rows }
+    requires col { at.col < (W.tile writer.old).walk.frame.cols }
+    requires few_rows { (W.tile writer.old).walk.frame.rows ≤ 2 ^ 16 }
+    requires few_cols { (W.tile writer.old).walk.frame.cols ≤ 2 ^ 16 }
+    requires within { IsSquareOf (W.tile writer.old) at }
+    ensures { EndsTile (parts (W.tile writer.old).walk (decode_partition (W.tile writer.old).walk (at.level - 1)) (at.level - 1) at.row at.col (W.tile writer.old).state partition.Split)
+        (said_parts (W.tile writer.old).walk (W.tile writer.old).teller (said_square (W.tile writer.old).walk (W.tile writer.old).teller (at.level - 1)) (at.level - 1) at.row at.col partition.Split ((W.tile writer.old).state, (W.tile writer.old).told))
+        (4 ^ at.level) (W.tile writer.old) result (W.tile writer.new) }
+{
+    put_square(writer, quarter_of(at, 0))?;
+    put_square(writer, quarter_of(at, 1))?;
+    put_square(writer, quarter_of(at, 2))?;
+    put_square(writer, quarter_of(at, 3))
+}
+
+/// Puts the partition of a square that starts inside the frame.
+fn put_partition<W: TileWriter>(
+    writer: &mut W,
+    frame: FramePlaces,
+    at: SquareAt,
+) -> Result<Partition, Unwritten>
+    requires level { at.level ≤ 3 }
+    requires frame { frame ≡ (W.tile writer.old).walk.frame }
+    requires row { at.row < frame.rows }
+    requires col { at.col < frame.cols }
+    requires within { IsSquareOf (W.tile writer.old) at }
+    ensures { GivesPartition at (nat_lt (at.row + half_of at.level) (W.tile writer.old).walk.frame.rows) (nat_lt (at.col + half_of at.level) (W.tile writer.old).walk.frame.cols)
+        (W.tile writer.old) result (W.tile writer.new) }
+{
+    let half = side_of(at.level) / 2;
+    let has_rows = half < frame.rows - at.row;
+    let has_cols = half < frame.cols - at.col;
+    writer.put_partition(at, has_rows, has_cols)
+}
+
+/// A square, unless it starts outside the frame.
+#[cycle(squares)]
+pub fn put_square<W: TileWriter>(writer: &mut W, at: SquareAt) -> Result<(), Unwritten>
+    requires level { at.level ≤ 3 }
+    requires within { IsSquareOf (W.tile writer.old) at }
+    ensures { EndsTile (decode_partition (W.tile writer.old).walk at.level at.row at.col (W.tile writer.old).state)
+        (said_square (W.tile writer.old).walk (W.tile writer.old).teller at.level at.row at.col ((W.tile writer.old).state, (W.tile writer.old).told))
+        (4 ^ at.level) (W.tile writer.old) result (W.tile writer.new) }
+{
+    let frame = writer.frame();
+    if at.row >= frame.rows || at.col >= frame.cols {
+        return Ok(());
+    }
+    let partition = put_partition(writer, frame, at)?;
+    if at.level == 0 {
+        return writer.put_block(block_of(at, at.row, at.col, part_size(partition, 0)));
+    }
+    put_parts(writer, at, partition)
+}
