@@ -14,10 +14,10 @@ use Rattle.counting_reader.specs.Code.{Reads, standing_of}
 use Rattle.counting_reader.specs.Counting.{Settled, Standing, settle, run_counting, in_order}
 use Rattle.counting_reader.specs.declared.reader.CountingReader.{CountingReader}
 use Rattle.mode_syntax.specs.Partitions.{partition_at}
-use Rattle.mode_syntax.specs.Walk.{Walk, square_at, parts, decode_partition}
+use Rattle.mode_syntax.specs.Walk.{Walk, square_at, parts, decode_partition, quarter}
 use Rattle.mode_syntax.specs.declared.square_at.SquareAt.{SquareAt}
 use Rattle.planes.specs.declared.frame_planes.FramePlanes.{FramePlanes}
-use Rattle.frame_decoder.specs.Code.{PlainTile, GivesUnsplit, IsSplit, IsSquareIn, SameColumns, quarter, tile_of, walk_of}
+use Rattle.frame_decoder.specs.Code.{PlainTile, GivesUnsplit, IsSplit, IsSquareIn, SameColumns, tile_of, walk_of}
 use Rattle.frame_decoder.specs.declared.columns.TileColumn.{TileColumn}
 use Rattle.frame_decoder.specs.declared.sources.FrameSources.{FrameSources}
 use Rattle.counting_reader.proofs.CountingRuns.{counting_bind, run_settle}

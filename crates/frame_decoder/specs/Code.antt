@@ -123,16 +123,6 @@ pub record IsSquareIn (c : TileColumn) (at : SquareAt) : Type 0 where
   pub to : at.tile_to ≡ c.grid.to
   pub room : 4 ^ at.level ≤ c.grid.room
 
--- its i-th quarter, row by row
-abbrev pub quarter : SquareAt → ℕ → SquareAt
-quarter at i = record {
-  row = at.row + 2 ^ (at.level - 1) * (i / 2);
-  col = at.col + 2 ^ (at.level - 1) * (i % 2);
-  level = at.level - 1;
-  tile_from = at.tile_from;
-  tile_to = at.tile_to;
-}
-
 -- a square that starts inside the frame is split, and nothing but that is read of it
 pub record IsSplit (by : code.FrameSources) (at : SquareAt) (before : TileColumn) (planes_before : FramePlanes) (old new : Standing) (c : TileColumn) (planes : FramePlanes) : Type 0 where
   pub least : 1 ≤ at.level

@@ -7,7 +7,7 @@ ghost use Rattle.block_geometry.specs.Sizes.{width_8};
 ghost use Rattle.mode_syntax.specs.Walk.{block_inside, decode_partition};
 ghost use Rattle.frame_decoder.specs.Columns.{limit_of};
 ghost use Rattle.frame_decoder.specs.Past.{IsPastOf};
-ghost use Rattle.frame_decoder.specs.Code.{plain_block, quarter, sources_of, tile_of, walk_of, IsReady, IsSquareIn, SameColumns, GivesTile, GivesUnsplit};
+ghost use Rattle.frame_decoder.specs.Code.{plain_block, sources_of, tile_of, walk_of, IsReady, IsSquareIn, SameColumns, GivesTile, GivesUnsplit};
 
 use crate::columns::{BlockRoom, TileColumn};
 use crate::sources::{FrameSources, frame_is_intra};
@@ -17,7 +17,7 @@ use block_rebuild::put_block;
 use block_residue::read_block;
 use counting_reader::CountingReader;
 use inter_modes::mode_info;
-use mode_syntax::{SquareAt, read_partition, side_of};
+use mode_syntax::{SquareAt, block_of, quarter_of, read_partition, side_of};
 use planes::FramePlanes;
 use vp9_types::{BlockSize, Partition, Rule};
 
@@ -131,19 +131,6 @@ fn decode_halves<const COUNTS: bool>(
     decode_inside(by, reader, column, planes, room, second)
 }
 
-/// A block of a square's tile.
-fn block_of(at: SquareAt, row: u32, col: u32, size: BlockSize) -> BlockAt
-    ensures { result ≡ record { row = row; col = col; size = size; tile_from = at.tile_from; tile_to = at.tile_to } }
-{
-    BlockAt {
-        row,
-        col,
-        size,
-        tile_from: at.tile_from,
-        tile_to: at.tile_to,
-    }
-}
-
 /// A square, unless it is split: then its quarters are still to be decoded, and the answer is true. It has no block if it
 /// starts outside the frame.
 fn decode_unsplit<const COUNTS: bool>(
@@ -191,24 +178,6 @@ fn decode_unsplit<const COUNTS: bool>(
             Ok(false)
         }
         Partition::Split => Ok(true),
-    }
-}
-
-/// The `i`-th quarter of a square, row by row.
-fn quarter_of(at: SquareAt, i: u32) -> SquareAt
-    requires least { 1 ≤ at.level }
-    requires most { at.level ≤ 3 }
-    requires row { at.row < 65536 }
-    requires col { at.col < 65536 }
-    requires below { i < 4 }
-    ensures { result ≡ quarter at i }
-{
-    let half = side_of(at.level - 1);
-    SquareAt {
-        row: at.row + half * (i / 2),
-        col: at.col + half * (i % 2),
-        level: at.level - 1,
-        ..at
     }
 }
 

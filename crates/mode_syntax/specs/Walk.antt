@@ -1,6 +1,6 @@
 -- How the blocks of a tile are read (6.4.2 and 6.4.3 of the standard: decode_tile, decode_partition), whatever a block
 -- reads. S is what reading keeps, with the blocks so far.
-use Rattle.std.specs.Prelude.{ℕ, zero, suc, ◌+◌, ◌^◌, Bool, ◌&&◌, List, nat_lt, if◌then◌else◌}
+use Rattle.std.specs.Prelude.{ℕ, zero, suc, ◌+◌, ◌-◌, ◌*◌, ◌/◌, ◌%◌, ◌^◌, Bool, ◌&&◌, List, nat_lt, if◌then◌else◌}
 use Rattle.vp9_types.specs.Syntax.{Syntax}
 use Rattle.vp9_types.specs.declared.block.BlockSize.{BlockSize}
 use Rattle.vp9_types.specs.declared.block.Partition.{Partition}
@@ -75,3 +75,13 @@ decode_row walk r c (suc n) s = in_order (decode_partition walk 3 r c s) (decode
 unfoldable pub decode_tile : {S : Type 0} → Walk S → ℕ → ℕ → ℕ → ℕ → S → Syntax ℕ Rule (Settled S)
 decode_tile walk columns r c zero s = settle s
 decode_tile walk columns r c (suc n) s = in_order (decode_row walk r c columns s) (decode_tile walk columns (r + 8) c n)
+
+-- the i-th quarter of a square, row by row
+abbrev pub quarter : SquareAt → ℕ → SquareAt
+quarter at i = record {
+  row = at.row + 2 ^ (at.level - 1) * (i / 2);
+  col = at.col + 2 ^ (at.level - 1) * (i % 2);
+  level = at.level - 1;
+  tile_from = at.tile_from;
+  tile_to = at.tile_to;
+}
