@@ -21,6 +21,10 @@ pub record Teller (S T : Type 0) : Type 0 where
 abbrev pub Said : Type 0 → Type 0 → Type 0
 Said S T = Result (S × T) Unwritten
 
+-- one after another
+abbrev pub then_said : {S T : Type 0} → Said S T → (S × T → Said S T) → Said S T
+then_said said f = said >>= f
+
 abbrev pub told_partition : {S T : Type 0} → Walk S → Teller S T → ℕ → ℕ → ℕ → T → Option (Partition × T)
 told_partition walk teller level r c t =
     teller.partition (nat_lt (r + half_of level) walk.frame.rows) (nat_lt (c + half_of level) walk.frame.cols) t
@@ -32,8 +36,8 @@ told_block walk teller r c size p = teller.block (block_at walk r c size) p.0 p.
 unfoldable pub said_inside : {S T : Type 0} → Walk S → Teller S T → ℕ → ℕ → BlockSize → S × T → Said S T
 said_inside walk teller r c size p = if starts_inside walk r c then told_block walk teller r c size p else Ok p
 
--- what a square says behind its partition, if there was one to tell
-abbrev pub behind : {S T : Type 0} → S → Option (Partition × T) → (Partition → S × T → Said S T) → Said S T
+-- what is said behind a symbol, if there was one to tell
+abbrev pub behind : {S T P : Type 0} → S → Option (P × T) → (P → S × T → Said S T) → Said S T
 behind s None f = Err Unsaid
 behind s (Some q) f = f q.0 (s, q.1)
 

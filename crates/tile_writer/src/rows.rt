@@ -8,7 +8,6 @@ ghost use Rattle.tile_writer.specs.Code.{EndsTile};
 
 use crate::squares::{TileWriter, put_square};
 use crate::unwritten::Unwritten;
-use frame_decoder::TilePlaces;
 use mode_syntax::SquareAt;
 
 /// Places of 8x8 along a superblock.
@@ -40,6 +39,37 @@ fn put_row<W: TileWriter>(
             ..first
         };
         put_square(writer, at)?;
+    }
+    Ok(())
+}
+
+/// So many rows of superblocks of a tile, each of so many columns, from the first one on.
+fn put_rows<W: TileWriter>(
+    writer: &mut W,
+    first: SquareAt,
+    columns: u32,
+    rows: u32,
+) -> Result<(), Unwritten>
+    requires begin { first.col ≡ first.tile_from }
+    requires level { first.level ≡ 3 }
+    requires from { first.tile_from ≡ (W.tile writer.old).walk.tile_from }
+    requires to { first.tile_to ≡ (W.tile writer.old).walk.tile_to }
+    requires few { columns ≤ 8192 }
+    requires few_rows { rows ≤ 8192 }
+    requires near { first.tile_from ≤ 65536 }
+    requires near_row { first.row ≤ 65536 }
+    requires wide { first.tile_from + 8 * columns ≤ (W.tile writer.old).limit }
+    requires room { 64 * (columns * rows) ≤ (W.tile writer.old).room }
+    ensures { EndsTile (decode_tile (W.tile writer.old).walk columns first.row first.tile_from rows (W.tile writer.old).state)
+        (said_tile (W.tile writer.old).walk (W.tile writer.old).teller columns first.row first.tile_from rows ((W.tile writer.old).state, (W.tile writer.old).told))
+        (64 * (columns * rows)) (W.tile writer.old) result (W.tile writer.new) }
+{
+    for i in 0..rows {
+        let at = SquareAt {
+            row: first.row + SIDE * i,
+            ..first
+        };
+        put_row(writer, at, columns)?;
     }
     Ok(())
 }

@@ -4,16 +4,14 @@ ghost use Rattle.std.specs.Prelude.{◌≡◌, ◌+◌, ◌-◌, ◌^◌, ◌<�
 ghost use Rattle.mode_syntax.specs.Partitions.{half_of};
 ghost use Rattle.mode_syntax.specs.Walk.{block_inside, parts, decode_partition};
 ghost use Rattle.counting_reader.specs.Counting.{in_order};
-ghost use Rattle.vp9_types.specs.Results.{◌>>=◌};
 ghost use Rattle.vp9_types.specs.declared.block.Partition.TheVariants as partition;
-ghost use Rattle.tile_writer.specs.Said.{said_inside, said_parts, said_square};
+ghost use Rattle.tile_writer.specs.Said.{said_inside, said_parts, said_square, then_said};
 ghost use Rattle.tile_writer.specs.Code.{Tile, EndsTile, GivesPartition, StandsIn, IsSquareOf};
 
 use crate::unwritten::Unwritten;
 use block_geometry::{FramePlaces, part_size};
 use block_plan::BlockAt;
-use frame_decoder::{block_of, quarter_of};
-use mode_syntax::{SquareAt, side_of};
+use mode_syntax::{SquareAt, block_of, quarter_of, side_of};
 use vp9_types::Partition;
 
 /// What puts the partitions and the blocks of a tile, as it is told them.
@@ -81,7 +79,7 @@ fn put_halves<W: TileWriter>(
     requires stands_second { StandsIn (W.tile writer.old) second }
     requires room { 2 ≤ (W.tile writer.old).room }
     ensures { EndsTile (in_order ((W.tile writer.old).walk.block first (W.tile writer.old).state) (block_inside (W.tile writer.old).walk second.row second.col second.size))
-        ((W.tile writer.old).teller.block first (W.tile writer.old).state (W.tile writer.old).told >>= said_inside (W.tile writer.old).walk (W.tile writer.old).teller second.row second.col second.size)
+        (then_said ((W.tile writer.old).teller.block first (W.tile writer.old).state (W.tile writer.old).told) (said_inside (W.tile writer.old).walk (W.tile writer.old).teller second.row second.col second.size))
         2 (W.tile writer.old) result (W.tile writer.new) }
 {
     writer.put_block(first)?;

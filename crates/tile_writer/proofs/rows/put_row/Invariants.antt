@@ -1,0 +1,5 @@
+use Rattle.tile_writer.proofs.RowEnds.{IsLeft, row_rest}
+use Rattle.tile_writer.proofs.rows.put_row.Given as goal
+
+abbrev pub invariant-loop-i : goal.invariant-loop-i
+invariant-loop-i g l = IsLeft (row_rest l.first.row) l.first.tile_from l.count 64 l.i (g.W.TileWriter.tile l.initial.writer) (g.W.TileWriter.tile l.writer)
