@@ -1,9 +1,7 @@
 -- What is put one after another in a tile, to its end or to what stops it.
-use Rattle.std.proofs.Common.{◌≡◌, ◌∙◌, ℕ, zero, suc, ◌+◌, ◌^◌, ◌<◌, ◌≤◌, refl, sym, subst, ap, arith, true, false, rules, Bool}
-use Rattle.std.specs.Prelude.{Result, Ok, Err, Option, Some, None, nat_lt}
-use Rattle.vp9_types.specs.Syntax.{Syntax, ◌>>=◌}
-use Rattle.vp9_types.specs.declared.block.BlockSize.{BlockSize}
-use Rattle.vp9_types.specs.declared.block.Partition.{Partition}
+use Rattle.std.proofs.Common.{◌≡◌, ◌∙◌, ℕ, ◌+◌, ◌≤◌, refl, sym, subst, ap, arith}
+use Rattle.std.specs.Prelude.{Result, Ok, Err, Option, Some}
+use Rattle.vp9_types.specs.Syntax.{Syntax}
 use Rattle.vp9_types.specs.declared.rule.Rule.{Rule}
 use Rattle.vp9_types.specs.Writing.{WritesTo}
 use Rattle.vp9_types.proofs.Binds.{writes_bind, writes_on, writes_to_fault}
@@ -12,16 +10,18 @@ use Rattle.bool_encoder.specs.Bools.{Puts, can_put}
 use Rattle.counting_reader.specs.Counting.{Settled, in_order, settle}
 use Rattle.counting_writer.specs.Counted.{valued, PutsValue, PutsTo}
 use Rattle.counting_writer.proofs.CountedPuts.{valued_in_order, valued_settle}
-use Rattle.tile_writer.specs.Said.{Said, behind, then_said}
-use Rattle.tile_writer.specs.Code.{Tile, SameTile, EndsTile}
+use Rattle.tile_writer.specs.Said.{Said, behind}
+use Rattle.tile_writer.specs.Code.{Tile, SameTile, Rest, IsNext, EndsTile, then_rest}
 use Rattle.tile_writer.specs.declared.unwritten.Unwritten.{Unwritten}
 use Rattle.tile_writer.specs.declared.unwritten.Unwritten.TheVariants.{Broken, Unsaid, NoMemory}
 
-pub same_here : {S T : Type 0} (t : Tile S T) → SameTile t t
-same_here t = record { walk = refl; teller = refl; limit = refl }
+pub same_here : {S H T : Type 0} (t : Tile S H T) → SameTile t t
+same_here t = record { walk = refl; teller = refl; view = refl; limit = refl }
 
-pub same_on : {S T : Type 0} (a b c : Tile S T) → SameTile a b → SameTile b c → SameTile a c
-same_on a b c h g = record { walk = g.walk ∙ h.walk; teller = g.teller ∙ h.teller; limit = g.limit ∙ h.limit }
+pub same_on : {S H T : Type 0} (a b c : Tile S H T) → SameTile a b → SameTile b c → SameTile a c
+same_on a b c h g = record { walk = g.walk ∙ h.walk; teller = g.teller ∙ h.teller; view = g.view ∙ h.view; limit = g.limit ∙ h.limit }
+
+---- Bools of syntaxes that count ----
 
 counting_bind : {S T : Type 0} (x : Syntax ℕ Rule (Settled S)) (f : S → Syntax ℕ Rule (Settled T)) (old mid new : Part) (s : S) (t : T)
     → PutsValue x old s mid → PutsValue (f s) mid t new → PutsValue (in_order x f) old t new
@@ -41,55 +41,128 @@ counting_to_fault {T = T} x f old new rule h =
     subst (λ (u : Syntax ℕ Rule T). WritesTo can_put after_put u old (Err rule) new) (sym (valued_in_order x f))
     (writes_to_fault can_put after_put (valued x) (λ y. valued (f y)) old new rule h)
 
+---- What is put of a tile ----
+
 -- nothing is put
-pub ends_here : {S T : Type 0} (s : Syntax ℕ Rule (Settled S)) (said : Said S T) (n : ℕ) (t : Tile S T) → s ≡ settle t.state → said ≡ Ok (t.state, t.told)
-    → EndsTile s said n t (Ok tt) t
-ends_here s said n t is says =
-    (subst (λ u. PutsValue u t.part t.state t.part) (sym is) (rw (valued_settle t.state) (refl, refl)), says, same_here t, omega arith)
+pub ends_here : {S H T : Type 0} (rest : Rest S T) (n : ℕ) (t : Tile S H T) → ((s : S) → rest.syntax s ≡ settle s) → ((p : S × T) → rest.said p ≡ Ok p) → EndsTile rest n t (Ok tt) t
+ends_here {S = S} rest n t is says = (
+  λ s holds. record {
+    next = s;
+    held = holds;
+    put = subst (λ (u : Syntax ℕ Rule (Settled S)). PutsValue u t.part s t.part) (sym (is s)) (rw (valued_settle s) (refl, refl));
+    said = says (s, t.told);
+  },
+  same_here t,
+  omega arith,
+)
+
+-- the same is put
+pub as_rest : {S H T : Type 0} (a b : Rest S T) (n : ℕ) (old new : Tile S H T) (result : Result (Unit {0}) Unwritten) → ((s : S) → a.syntax s ≡ b.syntax s) → ((p : S × T) → a.said p ≡ b.said p)
+    → EndsTile a n old result new → EndsTile b n old result new
+as_rest {S = S} a b n old new (Ok u) is says h = (
+  λ s holds.
+      let m = h.0 s holds in record {
+        next = m.next;
+        held = m.held;
+        put = subst (λ (u : Syntax ℕ Rule (Settled S)). PutsValue u old.part m.next new.part) (is s) m.put;
+        said = sym (says (s, old.told)) ∙ m.said;
+      },
+  h.1,
+  h.2,
+)
+as_rest {S = S} a b n old new (Err (Broken rule)) is says h = (
+  λ s holds.
+      let m = h.0 s holds in
+      (subst (λ (u : Syntax ℕ Rule (Settled S)). PutsTo u old.part (Err rule) new.part) (is s) m.0, sym (says (s, old.told)) ∙ m.1),
+  h.1,
+)
+as_rest a b n old new (Err Unsaid) is says h = λ s holds. sym (says (s, old.told)) ∙ h s holds
+as_rest a b n old new (Err NoMemory) is says h = tt
 
 -- one, and then another from there
-pub then_ends : {S T : Type 0} (x : Syntax ℕ Rule (Settled S)) (f : S → Syntax ℕ Rule (Settled S)) (a : Said S T) (g : S × T → Said S T) (n m : ℕ)
-    (old mid new : Tile S T) (result : Result (Unit {0}) Unwritten)
-    → EndsTile x a n old (Ok tt) mid → EndsTile (f mid.state) (g (mid.state, mid.told)) m mid result new → EndsTile (in_order x f) (then_said a g) (n + m) old result new
-then_ends x f a g n m old mid new (Ok u) h k =
-    let room = h.3 in
-    let more = k.3 in
-    (counting_bind x f old.part mid.part new.part mid.state new.state h.0 k.0, rw h.1 k.1, same_on old mid new h.2 k.2, omega arith)
-then_ends x f a g n m old mid new (Err (Broken rule)) h k =
-    (counting_on x f old.part mid.part new.part mid.state (Err rule) h.0 k.0, rw h.1 k.1, same_on old mid new h.2 k.2)
-then_ends x f a g n m old mid new (Err Unsaid) h k = rw h.1 k
-then_ends x f a g n m old mid new (Err NoMemory) h k = tt
+pub then_ends : {S H T : Type 0} (a b : Rest S T) (n m : ℕ) (old mid new : Tile S H T) (result : Result (Unit {0}) Unwritten)
+    → EndsTile a n old (Ok tt) mid → EndsTile b m mid result new → EndsTile (then_rest a b) (n + m) old result new
+then_ends a b n m old mid new (Ok u) h k =
+    let room = h.2 in
+    let more = k.2 in
+    let same = h.1 in (
+      λ s holds.
+          let x = h.0 s holds in
+          let y = k.0 x.next (rw (same.view) x.held) in record {
+            next = y.next;
+            held = rw (same.view) at y.held;
+            put = counting_bind (a.syntax s) b.syntax old.part mid.part new.part x.next y.next x.put y.put;
+            said = rw x.said y.said;
+          },
+      same_on old mid new h.1 k.1,
+      omega arith,
+    )
+then_ends a b n m old mid new (Err (Broken rule)) h k =
+    let same = h.1 in (
+      λ s holds.
+          let x = h.0 s holds in
+          let y = k.0 x.next (rw (same.view) x.held) in
+          (counting_on (a.syntax s) b.syntax old.part mid.part new.part x.next (Err rule) x.put y.0, rw x.said y.1),
+      same_on old mid new h.1 k.1,
+    )
+then_ends a b n m old mid new (Err Unsaid) h k =
+    let same = h.1 in
+    λ s holds.
+    let x = h.0 s holds in
+    rw x.said (k x.next (rw (same.view) x.held))
+then_ends a b n m old mid new (Err NoMemory) h k = tt
 
 -- what stops one stops both
-pub then_stops : {S T : Type 0} (x : Syntax ℕ Rule (Settled S)) (f : S → Syntax ℕ Rule (Settled S)) (a : Said S T) (g : S × T → Said S T) (n m : ℕ)
-    (old new : Tile S T) (e : Unwritten) → EndsTile x a n old (Err e) new → EndsTile (in_order x f) (then_said a g) m old (Err e) new
-then_stops x f a g n m old new (Broken rule) h = (counting_to_fault x f old.part new.part rule h.0, rw h.1 refl, h.2)
-then_stops x f a g n m old new Unsaid h = rw h refl
-then_stops x f a g n m old new NoMemory h = tt
+pub then_stops : {S H T : Type 0} (a b : Rest S T) (n m : ℕ) (old new : Tile S H T) (e : Unwritten) → EndsTile a n old (Err e) new → EndsTile (then_rest a b) m old (Err e) new
+then_stops a b n m old new (Broken rule) h = (
+  λ s holds.
+      let x = h.0 s holds in
+      (counting_to_fault (a.syntax s) b.syntax old.part new.part rule x.0, rw x.1 refl),
+  h.1,
+)
+then_stops a b n m old new Unsaid h = λ s holds. rw (h s holds) refl
+then_stops a b n m old new NoMemory h = tt
 
 -- what stops doesn't tell how many blocks there were
-pub stops_any : {S T : Type 0} (s : Syntax ℕ Rule (Settled S)) (said : Said S T) (n m : ℕ) (old new : Tile S T) (e : Unwritten) → EndsTile s said n old (Err e) new → EndsTile s said m old (Err e) new
-stops_any s said n m old new (Broken rule) h = h
-stops_any s said n m old new Unsaid h = h
-stops_any s said n m old new NoMemory h = h
+pub stops_any : {S H T : Type 0} (rest : Rest S T) (n m : ℕ) (old new : Tile S H T) (e : Unwritten) → EndsTile rest n old (Err e) new → EndsTile rest m old (Err e) new
+stops_any rest n m old new (Broken rule) h = h
+stops_any rest n m old new Unsaid h = h
+stops_any rest n m old new NoMemory h = h
 
 -- fewer blocks are also at most so many
-pub ends_more : {S T : Type 0} (s : Syntax ℕ Rule (Settled S)) (said : Said S T) (n m : ℕ) (old new : Tile S T) (result : Result (Unit {0}) Unwritten) → n ≤ m
-    → EndsTile s said n old result new → EndsTile s said m old result new
-ends_more s said n m old new (Ok u) more h = let room = h.3 in (h.0, h.1, h.2, omega arith)
-ends_more s said n m old new (Err (Broken rule)) more h = h
-ends_more s said n m old new (Err Unsaid) more h = h
-ends_more s said n m old new (Err NoMemory) more h = h
+pub ends_more : {S H T : Type 0} (rest : Rest S T) (n m : ℕ) (old new : Tile S H T) (result : Result (Unit {0}) Unwritten) → n ≤ m → EndsTile rest n old result new → EndsTile rest m old result new
+ends_more rest n m old new (Ok u) more h = let room = h.2 in (h.0, h.1, omega arith)
+ends_more rest n m old new (Err e) more h = stops_any rest n m old new e h
 
--- a symbol that is told, and what stands behind it
-pub opened_ends : {S T P : Type 0} (old mid new : Tile S T) (x : Syntax ℕ Rule (Settled P)) (told : Option (P × T)) (p : P) (f : P → S → Syntax ℕ Rule (Settled S)) (g : P → S × T → Said S T)
-    (n : ℕ) (result : Result (Unit {0}) Unwritten) → PutsValue x old.part p mid.part → told ≡ Some (p, mid.told) → mid.room ≡ old.room → SameTile old mid
-    → EndsTile (f p old.state) (g p (old.state, mid.told)) n mid result new
-    → EndsTile (in_order x (λ p. f p old.state)) (behind old.state told g) n old result new
-opened_ends old mid new x told p f g n (Ok u) put said room same h =
-    let more = h.3 in
-    (counting_bind x (λ p. f p old.state) old.part mid.part new.part p new.state put h.0, rw said h.1, same_on old mid new same h.2, omega arith)
-opened_ends old mid new x told p f g n (Err (Broken rule)) put said room same h =
-    (counting_on x (λ p. f p old.state) old.part mid.part new.part p (Err rule) put h.0, rw said h.1, same_on old mid new same h.2)
-opened_ends old mid new x told p f g n (Err Unsaid) put said room same h = rw said h
-opened_ends old mid new x told p f g n (Err NoMemory) put said room same h = tt
+---- A symbol that is told ----
+
+-- it is put, and what stands behind it: of a state that it doesn't change
+abbrev pub symbol_rest : {S T P : Type 0} → (S → Syntax ℕ Rule (Settled P)) → (T → Option (P × T)) → (P → Rest S T) → Rest S T
+symbol_rest x told f = record {
+  syntax = λ s. in_order (x s) (λ p. (f p).syntax s);
+  said = λ q. behind q.0 (told q.1) (λ p. (f p).said);
+}
+
+pub symbol_ends : {S H T P : Type 0} (old mid new : Tile S H T) (x : S → Syntax ℕ Rule (Settled P)) (told : T → Option (P × T)) (p : P) (f : P → Rest S T)
+    (n : ℕ) (result : Result (Unit {0}) Unwritten) → ((s : S) → old.view s ≡ old.held → PutsValue (x s) old.part p mid.part) → told old.told ≡ Some (p, mid.told)
+    → mid.held ≡ old.held → mid.room ≡ old.room → SameTile old mid → EndsTile (f p) n mid result new → EndsTile (symbol_rest x told f) n old result new
+symbol_ends old mid new x told p f n (Ok u) put said held room same h =
+    let more = h.2 in (
+      λ s holds.
+          let y = h.0 s (rw (same.view, held) holds) in record {
+            next = y.next;
+            held = rw (same.view) at y.held;
+            put = counting_bind (x s) (λ p. (f p).syntax s) old.part mid.part new.part p y.next (put s holds) y.put;
+            said = rw said y.said;
+          },
+      same_on old mid new same h.1,
+      omega arith,
+    )
+symbol_ends old mid new x told p f n (Err (Broken rule)) put said held room same h = (
+  λ s holds.
+      let y = h.0 s (rw (same.view, held) holds) in
+      (counting_on (x s) (λ p. (f p).syntax s) old.part mid.part new.part p (Err rule) (put s holds) y.0, rw said y.1),
+  same_on old mid new same h.1,
+)
+symbol_ends old mid new x told p f n (Err Unsaid) put said held room same h = λ s holds. rw said (h s (rw (same.view, held) holds))
+symbol_ends old mid new x told p f n (Err NoMemory) put said held room same h = tt

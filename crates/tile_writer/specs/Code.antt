@@ -1,71 +1,114 @@
 -- What a tile's writer keeps, and what its calls answer.
 use Rattle.std.specs.Prelude.{◌≡◌, ℕ, ◌+◌, ◌^◌, ◌≤◌, Bool, Option, Some, None, Result, Ok, Err}
 use Rattle.vp9_types.specs.Syntax.{Syntax}
+use Rattle.vp9_types.specs.declared.block.BlockSize.{BlockSize}
 use Rattle.vp9_types.specs.declared.block.Partition.{Partition}
 use Rattle.vp9_types.specs.declared.rule.Rule.{Rule}
 use Rattle.bool_encoder.specs.Part.{Part}
 use Rattle.block_geometry.specs.Sizes.{width_8}
 use Rattle.block_plan.specs.declared.block.BlockAt.{BlockAt}
-use Rattle.counting_reader.specs.Counting.{Settled}
+use Rattle.counting_reader.specs.Counting.{Settled, in_order}
 use Rattle.counting_writer.specs.Counted.{PutsValue, PutsTo}
 use Rattle.mode_syntax.specs.Partitions.{partition_at}
-use Rattle.mode_syntax.specs.Walk.{Walk}
+use Rattle.mode_syntax.specs.Walk.{Walk, block_inside, parts, decode_partition, decode_row, decode_tile}
 use Rattle.mode_syntax.specs.declared.square_at.SquareAt.{SquareAt}
-use Rattle.tile_writer.specs.Said.{Teller, Said}
+use Rattle.tile_writer.specs.Said.{Teller, Said, then_said, said_inside, said_parts, said_square, said_row, said_tile}
 use Rattle.tile_writer.specs.declared.unwritten.Unwritten.{Unwritten}
 use Rattle.tile_writer.specs.declared.unwritten.Unwritten.TheVariants.{Broken, Unsaid, NoMemory}
 
--- how a tile is read, and who tells it what it says; the end of its columns of superblocks and the room for blocks; what
--- reading keeps so far, what is still to be told, and the bools that were put
-pub record Tile (S T : Type 0) : Type 0 where
+-- How a tile is read, and who tells it what it says; the end of its columns of superblocks and the room for blocks. Of what
+-- reading keeps the code holds H, as `view` says; and what is still to be told, and the bools that were put.
+pub record Tile (S H T : Type 0) : Type 0 where
   pub walk : Walk S
   pub teller : Teller S T
+  pub view : S → H
   pub limit : ℕ
   pub room : ℕ
-  pub state : S
+  pub held : H
   pub told : T
   pub part : Part
 
 -- the same tile, further on
-pub record SameTile {S T : Type 0} (old new : Tile S T) : Type 0 where
+pub record SameTile {S H T : Type 0} (old new : Tile S H T) : Type 0 where
   pub walk : new.walk ≡ old.walk
   pub teller : new.teller ≡ old.teller
+  pub view : new.view ≡ old.view
   pub limit : new.limit ≡ old.limit
 
--- a syntax was written to its end, with at most n blocks: to what is said, or to the rule that it breaks; or what is to be said
--- isn't there. Want of memory has no cause
-abbrev pub EndsTile : {S T : Type 0} → Syntax ℕ Rule (Settled S) → Said S T → ℕ → Tile S T → Result (Unit {0}) Unwritten → Tile S T → Type 0
-EndsTile s said n old (Ok u) new =
-    PutsValue s old.part new.state new.part × (said ≡ Ok (new.state, new.told)) × SameTile old new × (old.room ≤ new.room + n)
-EndsTile s said n old (Err (Broken rule)) new = PutsTo s old.part (Err rule) new.part × (said ≡ Err (Broken rule)) × SameTile old new
-EndsTile s said n old (Err Unsaid) new = said ≡ Err Unsaid
-EndsTile s said n old (Err NoMemory) new = Unit {0}
+-- what is to be put of a tile, from what reading keeps on, and what that says
+pub record Rest (S T : Type 0) : Type 0 where
+  pub syntax : S → Syntax ℕ Rule (Settled S)
+  pub said : S × T → Said S T
+
+-- what reading keeps next: bools that lead to it were put, and it is what is said
+pub record IsNext {S H T : Type 0} (rest : Rest S T) (old new : Tile S H T) (s : S) : Type 0 where
+  pub next : S
+  pub held : old.view next ≡ new.held
+  pub put : PutsValue (rest.syntax s) old.part next new.part
+  pub said : rest.said (s, old.told) ≡ Ok (next, new.told)
+
+-- It was written to its end, with at most n blocks: to what is said, or to the rule that it breaks; or what is to be said isn't
+-- there. Want of memory has no cause.
+abbrev pub EndsTile : {S H T : Type 0} → Rest S T → ℕ → Tile S H T → Result (Unit {0}) Unwritten → Tile S H T → Type 0
+EndsTile {S = S} rest n old (Ok u) new = ((s : S) → old.view s ≡ old.held → IsNext rest old new s) × SameTile old new × (old.room ≤ new.room + n)
+EndsTile {S = S} rest n old (Err (Broken rule)) new =
+    ((s : S) → old.view s ≡ old.held → PutsTo (rest.syntax s) old.part (Err rule) new.part × (rest.said (s, old.told) ≡ Err (Broken rule))) × SameTile old new
+EndsTile {S = S} rest n old (Err Unsaid) new = (s : S) → old.view s ≡ old.held → rest.said (s, old.told) ≡ Err Unsaid
+EndsTile rest n old (Err NoMemory) new = Unit {0}
+
+-- a block
+abbrev pub block_rest : {S T : Type 0} → Walk S → Teller S T → BlockAt → Rest S T
+block_rest walk teller at = record { syntax = walk.block at; said = λ p. teller.block at p.0 p.1 }
 
 -- a partition was put that was told, and nothing else changes
-pub record TellsPartition {S T : Type 0} (at : SquareAt) (has_rows has_cols : Bool) (old new : Tile S T) (p : Partition) : Type 0 where
-  pub put : PutsValue (partition_at old.walk.intra old.walk.probs (old.walk.blocks old.state) old.walk.frame at) old.part p new.part
+pub record TellsPartition {S H T : Type 0} (at : SquareAt) (has_rows has_cols : Bool) (old new : Tile S H T) (p : Partition) : Type 0 where
+  pub put : (s : S) → old.view s ≡ old.held → PutsValue (partition_at old.walk.intra old.walk.probs (old.walk.blocks s) old.walk.frame at) old.part p new.part
   pub said : old.teller.partition has_rows has_cols old.told ≡ Some (p, new.told)
-  pub state : new.state ≡ old.state
+  pub held : new.held ≡ old.held
   pub room : new.room ≡ old.room
   pub same : SameTile old new
 
-abbrev pub GivesPartition : {S T : Type 0} → SquareAt → Bool → Bool → Tile S T → Result Partition Unwritten → Tile S T → Type 0
+abbrev pub GivesPartition : {S H T : Type 0} → SquareAt → Bool → Bool → Tile S H T → Result Partition Unwritten → Tile S H T → Type 0
 GivesPartition at has_rows has_cols old (Ok p) new = TellsPartition at has_rows has_cols old new p
 GivesPartition at has_rows has_cols old (Err (Broken rule)) new = ⊥
 GivesPartition at has_rows has_cols old (Err Unsaid) new = old.teller.partition has_rows has_cols old.told ≡ None
 GivesPartition at has_rows has_cols old (Err NoMemory) new = Unit {0}
 
 -- a block stands in the columns of the tile
-pub record StandsIn {S T : Type 0} (t : Tile S T) (at : BlockAt) : Type 0 where
+pub record StandsIn {S H T : Type 0} (t : Tile S H T) (at : BlockAt) : Type 0 where
   pub from : at.tile_from ≡ t.walk.tile_from
   pub to : at.tile_to ≡ t.walk.tile_to
   pub first : at.tile_from ≤ at.col
   pub wide : at.col + width_8 at.size ≤ t.limit
 
 -- a square does, and there is room for all of its blocks
-pub record IsSquareOf {S T : Type 0} (t : Tile S T) (at : SquareAt) : Type 0 where
+pub record IsSquareOf {S H T : Type 0} (t : Tile S H T) (at : SquareAt) : Type 0 where
   pub from : at.tile_from ≡ t.walk.tile_from
   pub to : at.tile_to ≡ t.walk.tile_to
   pub first : at.tile_from ≤ at.col
   pub within : at.col + 2 ^ at.level ≤ t.limit
   pub room : 4 ^ at.level ≤ t.room
+
+---- What is put of a tile ----
+
+abbrev pub inside_rest : {S T : Type 0} → Walk S → Teller S T → ℕ → ℕ → BlockSize → Rest S T
+inside_rest walk teller r c size = record { syntax = block_inside walk r c size; said = said_inside walk teller r c size }
+
+abbrev pub then_rest : {S T : Type 0} → Rest S T → Rest S T → Rest S T
+then_rest a b = record { syntax = λ s. in_order (a.syntax s) b.syntax; said = λ p. then_said (a.said p) b.said }
+
+abbrev pub square_rest : {S T : Type 0} → Walk S → Teller S T → ℕ → ℕ → ℕ → Rest S T
+square_rest walk teller level r c = record { syntax = decode_partition walk level r c; said = said_square walk teller level r c }
+
+-- the parts of a square whose quarters have a level
+abbrev pub parts_rest : {S T : Type 0} → Walk S → Teller S T → ℕ → ℕ → ℕ → Partition → Rest S T
+parts_rest walk teller k r c partition = record {
+  syntax = λ s. parts walk (decode_partition walk k) k r c s partition;
+  said = said_parts walk teller (said_square walk teller k) k r c partition;
+}
+
+abbrev pub row_rest : {S T : Type 0} → ℕ → Walk S → Teller S T → ℕ → ℕ → Rest S T
+row_rest r walk teller c n = record { syntax = decode_row walk r c n; said = said_row walk teller r c n }
+
+abbrev pub tile_rest : {S T : Type 0} → ℕ → ℕ → Walk S → Teller S T → ℕ → ℕ → Rest S T
+tile_rest columns c walk teller r n = record { syntax = decode_tile walk columns r c n; said = said_tile walk teller columns r c n }

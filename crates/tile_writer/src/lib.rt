@@ -5,6 +5,6 @@ mod rows;
 mod squares;
 mod unwritten;
 
-
+pub use rows::put_rows;
 pub use squares::{TileWriter, put_square};
 pub use unwritten::Unwritten;

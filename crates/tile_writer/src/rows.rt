@@ -1,10 +1,7 @@
 //! The superblocks of a tile.
 
-ghost use Rattle.std.specs.Prelude.{◌≡◌, ◌+◌, ◌-◌, ◌*◌, ◌<◌, ◌≤◌};
-ghost use Rattle.vp9_types.specs.Sizes.{superblocks_along};
-ghost use Rattle.mode_syntax.specs.Walk.{decode_row, decode_tile};
-ghost use Rattle.tile_writer.specs.Said.{said_row, said_tile};
-ghost use Rattle.tile_writer.specs.Code.{EndsTile};
+ghost use Rattle.std.specs.Prelude.{◌≡◌, ◌+◌, ◌*◌, ◌≤◌};
+ghost use Rattle.tile_writer.specs.Code.{EndsTile, row_rest, tile_rest};
 
 use crate::squares::{TileWriter, put_square};
 use crate::unwritten::Unwritten;
@@ -16,11 +13,7 @@ const SIDE: u32 = 8;
 const SUPERBLOCK: u8 = 3;
 
 /// A row of so many superblocks, from the first one on.
-fn put_row<W: TileWriter>(
-    writer: &mut W,
-    first: SquareAt,
-    count: u32,
-) -> Result<(), Unwritten>
+fn put_row<W: TileWriter>(writer: &mut W, first: SquareAt, count: u32) -> Result<(), Unwritten>
     requires begin { first.col ≡ first.tile_from }
     requires level { first.level ≡ 3 }
     requires from { first.tile_from ≡ (W.tile writer.old).walk.tile_from }
@@ -29,9 +22,7 @@ fn put_row<W: TileWriter>(
     requires near { first.tile_from ≤ 65536 }
     requires wide { first.tile_from + 8 * count ≤ (W.tile writer.old).limit }
     requires room { 64 * count ≤ (W.tile writer.old).room }
-    ensures { EndsTile (decode_row (W.tile writer.old).walk first.row first.tile_from count (W.tile writer.old).state)
-        (said_row (W.tile writer.old).walk (W.tile writer.old).teller first.row first.tile_from count ((W.tile writer.old).state, (W.tile writer.old).told))
-        (64 * count) (W.tile writer.old) result (W.tile writer.new) }
+    ensures { EndsTile (row_rest first.row (W.tile writer.old).walk (W.tile writer.old).teller first.tile_from count) (64 * count) (W.tile writer.old) result (W.tile writer.new) }
 {
     for i in 0..count {
         let at = SquareAt {
@@ -44,7 +35,7 @@ fn put_row<W: TileWriter>(
 }
 
 /// So many rows of superblocks of a tile, each of so many columns, from the first one on.
-fn put_rows<W: TileWriter>(
+pub fn put_rows<W: TileWriter>(
     writer: &mut W,
     first: SquareAt,
     columns: u32,
@@ -60,9 +51,7 @@ fn put_rows<W: TileWriter>(
     requires near_row { first.row ≤ 65536 }
     requires wide { first.tile_from + 8 * columns ≤ (W.tile writer.old).limit }
     requires room { 64 * (columns * rows) ≤ (W.tile writer.old).room }
-    ensures { EndsTile (decode_tile (W.tile writer.old).walk columns first.row first.tile_from rows (W.tile writer.old).state)
-        (said_tile (W.tile writer.old).walk (W.tile writer.old).teller columns first.row first.tile_from rows ((W.tile writer.old).state, (W.tile writer.old).told))
-        (64 * (columns * rows)) (W.tile writer.old) result (W.tile writer.new) }
+    ensures { EndsTile (tile_rest columns first.tile_from (W.tile writer.old).walk (W.tile writer.old).teller first.row rows) (64 * (columns * rows)) (W.tile writer.old) result (W.tile writer.new) }
 {
     for i in 0..rows {
         let at = SquareAt {

@@ -2,11 +2,8 @@
 
 ghost use Rattle.std.specs.Prelude.{◌≡◌, ◌+◌, ◌-◌, ◌^◌, ◌<◌, ◌≤◌, nat_lt};
 ghost use Rattle.mode_syntax.specs.Partitions.{half_of};
-ghost use Rattle.mode_syntax.specs.Walk.{block_inside, parts, decode_partition};
-ghost use Rattle.counting_reader.specs.Counting.{in_order};
 ghost use Rattle.vp9_types.specs.declared.block.Partition.TheVariants as partition;
-ghost use Rattle.tile_writer.specs.Said.{said_inside, said_parts, said_square, then_said};
-ghost use Rattle.tile_writer.specs.Code.{Tile, EndsTile, GivesPartition, StandsIn, IsSquareOf};
+ghost use Rattle.tile_writer.specs.Code.{Tile, EndsTile, GivesPartition, StandsIn, IsSquareOf, block_rest, inside_rest, then_rest, parts_rest, square_rest};
 
 use crate::unwritten::Unwritten;
 use block_geometry::{FramePlaces, part_size};
@@ -16,12 +13,15 @@ use vp9_types::Partition;
 
 /// What puts the partitions and the blocks of a tile, as it is told them.
 pub trait TileWriter {
-    /// What reading keeps between blocks, and what is told.
+    /// What reading keeps between blocks, what the code holds of it, and what is told.
     ghost State: { Type 0 };
+
+    ghost Held: { Type 0 };
+
     ghost Told: { Type 0 };
 
     /// Where the tile stands.
-    ghost tile: { Self → Tile State Told };
+    ghost tile: { Self → Tile State Held Told };
 
     fn frame(&self) -> FramePlaces
         ensures is { result ≡ (tile self.now).walk.frame }
@@ -49,16 +49,14 @@ pub trait TileWriter {
         requires col { at.col < (tile self.old).walk.frame.cols }
         requires stands { StandsIn (tile self.old) at }
         requires room { 1 ≤ (tile self.old).room }
-        ensures { EndsTile ((tile self.old).walk.block at (tile self.old).state) ((tile self.old).teller.block at (tile self.old).state (tile self.old).told) 1 (tile self.old) result (tile self.new) };
+        ensures { EndsTile (block_rest (tile self.old).walk (tile self.old).teller at) 1 (tile self.old) result (tile self.new) };
 }
 
 /// A block, unless it starts outside the frame.
 fn put_inside<W: TileWriter>(writer: &mut W, at: BlockAt) -> Result<(), Unwritten>
     requires stands { StandsIn (W.tile writer.old) at }
     requires room { 1 ≤ (W.tile writer.old).room }
-    ensures { EndsTile (block_inside (W.tile writer.old).walk at.row at.col at.size (W.tile writer.old).state)
-        (said_inside (W.tile writer.old).walk (W.tile writer.old).teller at.row at.col at.size ((W.tile writer.old).state, (W.tile writer.old).told))
-        1 (W.tile writer.old) result (W.tile writer.new) }
+    ensures { EndsTile (inside_rest (W.tile writer.old).walk (W.tile writer.old).teller at.row at.col at.size) 1 (W.tile writer.old) result (W.tile writer.new) }
 {
     let frame = writer.frame();
     if at.row >= frame.rows || at.col >= frame.cols {
@@ -78,8 +76,7 @@ fn put_halves<W: TileWriter>(
     requires stands { StandsIn (W.tile writer.old) first }
     requires stands_second { StandsIn (W.tile writer.old) second }
     requires room { 2 ≤ (W.tile writer.old).room }
-    ensures { EndsTile (in_order ((W.tile writer.old).walk.block first (W.tile writer.old).state) (block_inside (W.tile writer.old).walk second.row second.col second.size))
-        (then_said ((W.tile writer.old).teller.block first (W.tile writer.old).state (W.tile writer.old).told) (said_inside (W.tile writer.old).walk (W.tile writer.old).teller second.row second.col second.size))
+    ensures { EndsTile (then_rest (block_rest (W.tile writer.old).walk (W.tile writer.old).teller first) (inside_rest (W.tile writer.old).walk (W.tile writer.old).teller second.row second.col second.size))
         2 (W.tile writer.old) result (W.tile writer.new) }
 {
     writer.put_block(first)?;
@@ -100,9 +97,7 @@ fn put_parts<W: TileWriter>(
     requires few_rows { (W.tile writer.old).walk.frame.rows ≤ 2 ^ 16 }
     requires few_cols { (W.tile writer.old).walk.frame.cols ≤ 2 ^ 16 }
     requires within { IsSquareOf (W.tile writer.old) at }
-    ensures { EndsTile (parts (W.tile writer.old).walk (decode_partition (W.tile writer.old).walk (at.level - 1)) (at.level - 1) at.row at.col (W.tile writer.old).state partition)
-        (said_parts (W.tile writer.old).walk (W.tile writer.old).teller (said_square (W.tile writer.old).walk (W.tile writer.old).teller (at.level - 1)) (at.level - 1) at.row at.col partition ((W.tile writer.old).state, (W.tile writer.old).told))
-        (4 ^ at.level) (W.tile writer.old) result (W.tile writer.new) }
+    ensures { EndsTile (parts_rest (W.tile writer.old).walk (W.tile writer.old).teller (at.level - 1) at.row at.col partition) (4 ^ at.level) (W.tile writer.old) result (W.tile writer.new) }
 {
     let size = part_size(partition, at.level);
     let half = side_of(at.level - 1);
@@ -129,9 +124,7 @@ fn put_quarters<W: TileWriter>(writer: &mut W, at: SquareAt) -> Result<(), Unwri
     requires few_rows { (W.tile writer.old).walk.frame.rows ≤ 2 ^ 16 }
     requires few_cols { (W.tile writer.old).walk.frame.cols ≤ 2 ^ 16 }
     requires within { IsSquareOf (W.tile writer.old) at }
-    ensures { EndsTile (parts (W.tile writer.old).walk (decode_partition (W.tile writer.old).walk (at.level - 1)) (at.level - 1) at.row at.col (W.tile writer.old).state partition.Split)
-        (said_parts (W.tile writer.old).walk (W.tile writer.old).teller (said_square (W.tile writer.old).walk (W.tile writer.old).teller (at.level - 1)) (at.level - 1) at.row at.col partition.Split ((W.tile writer.old).state, (W.tile writer.old).told))
-        (4 ^ at.level) (W.tile writer.old) result (W.tile writer.new) }
+    ensures { EndsTile (parts_rest (W.tile writer.old).walk (W.tile writer.old).teller (at.level - 1) at.row at.col partition.Split) (4 ^ at.level) (W.tile writer.old) result (W.tile writer.new) }
 {
     put_square(writer, quarter_of(at, 0))?;
     put_square(writer, quarter_of(at, 1))?;
@@ -164,9 +157,7 @@ fn put_partition<W: TileWriter>(
 pub fn put_square<W: TileWriter>(writer: &mut W, at: SquareAt) -> Result<(), Unwritten>
     requires level { at.level ≤ 3 }
     requires within { IsSquareOf (W.tile writer.old) at }
-    ensures { EndsTile (decode_partition (W.tile writer.old).walk at.level at.row at.col (W.tile writer.old).state)
-        (said_square (W.tile writer.old).walk (W.tile writer.old).teller at.level at.row at.col ((W.tile writer.old).state, (W.tile writer.old).told))
-        (4 ^ at.level) (W.tile writer.old) result (W.tile writer.new) }
+    ensures { EndsTile (square_rest (W.tile writer.old).walk (W.tile writer.old).teller at.level at.row at.col) (4 ^ at.level) (W.tile writer.old) result (W.tile writer.new) }
 {
     let frame = writer.frame();
     if at.row >= frame.rows || at.col >= frame.cols {

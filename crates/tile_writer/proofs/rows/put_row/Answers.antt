@@ -1,7 +1,8 @@
 use Rattle.std.proofs.Common.{◌≡◌, ◌<◌, ◌≤◌, ◌+◌, ◌*◌, ◌^◌, ap, arith}
 use Rattle.std.specs.Prelude.{Ok, Err}
 use Rattle.std.proofs.lemmas.Result.{err_from_is_err_and}
-use Rattle.tile_writer.proofs.RowEnds.{row_rest, square_turn, row_turns, row_end, begins, goes_on, stops, ends, row_turn_of}
+use Rattle.tile_writer.specs.Code.{row_rest}
+use Rattle.tile_writer.proofs.RowEnds.{square_turn, row_turns, row_end, goes_on, stops, ends, row_turn_of}
 use Rattle.tile_writer.proofs.rows.put_row.Goals as goal
 
 pub returns-in_err-put_square : goal.returns-in_err-put_square

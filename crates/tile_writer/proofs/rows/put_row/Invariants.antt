@@ -1,4 +1,5 @@
-use Rattle.tile_writer.proofs.RowEnds.{IsLeft, row_rest}
+use Rattle.tile_writer.proofs.RowEnds.{IsLeft}
+use Rattle.tile_writer.specs.Code.{row_rest}
 use Rattle.tile_writer.proofs.rows.put_row.Given as goal
 
 abbrev pub invariant-loop-i : goal.invariant-loop-i

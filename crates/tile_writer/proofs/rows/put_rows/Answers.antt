@@ -1,7 +1,8 @@
 use Rattle.std.proofs.Common.{◌≡◌, ◌<◌, ◌≤◌, ◌+◌, ◌*◌, ap, arith}
 use Rattle.std.specs.Prelude.{Ok, Err}
 use Rattle.std.proofs.lemmas.Result.{err_from_is_err_and}
-use Rattle.tile_writer.proofs.RowEnds.{tile_rest, row_turn, tile_turns, tile_end, begins, goes_on, stops, ends, counted_to}
+use Rattle.tile_writer.specs.Code.{tile_rest}
+use Rattle.tile_writer.proofs.RowEnds.{row_turn, tile_turns, tile_end, goes_on, stops, ends, counted_to}
 use Rattle.tile_writer.proofs.rows.put_rows.Goals as goal
 
 pub returns-in_err-put_row : goal.returns-in_err-put_row

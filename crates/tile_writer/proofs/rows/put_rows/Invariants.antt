@@ -1,5 +1,6 @@
 use Rattle.std.proofs.Common.{◌*◌}
-use Rattle.tile_writer.proofs.RowEnds.{IsLeft, tile_rest}
+use Rattle.tile_writer.proofs.RowEnds.{IsLeft}
+use Rattle.tile_writer.specs.Code.{tile_rest}
 use Rattle.tile_writer.proofs.rows.put_rows.Given as goal
 
 abbrev pub invariant-loop-i : goal.invariant-loop-i
