@@ -1,6 +1,6 @@
 //! The superblocks of a tile.
 
-ghost use Rattle.std.specs.Prelude.{◌≡◌, ◌+◌, ◌*◌, ◌≤◌};
+ghost use Rattle.std.specs.Prelude.{◌≡◌, ◌+◌, ◌*◌, ◌≤◌, OnOk};
 ghost use Rattle.tile_writer.specs.Code.{EndsTile, row_rest, tile_rest};
 
 use crate::squares::{TileWriter, put_square};
@@ -14,6 +14,7 @@ const SUPERBLOCK: u8 = 3;
 
 /// A row of so many superblocks, from the first one on.
 fn put_row<W: TileWriter>(writer: &mut W, first: SquareAt, count: u32) -> Result<(), Unwritten>
+    requires ready { W.ready writer.old }
     requires begin { first.col ≡ first.tile_from }
     requires level { first.level ≡ 3 }
     requires from { first.tile_from ≡ (W.tile writer.old).walk.tile_from }
@@ -22,7 +23,8 @@ fn put_row<W: TileWriter>(writer: &mut W, first: SquareAt, count: u32) -> Result
     requires near { first.tile_from ≤ 65536 }
     requires wide { first.tile_from + 8 * count ≤ (W.tile writer.old).limit }
     requires room { 64 * count ≤ (W.tile writer.old).room }
-    ensures { EndsTile (row_rest first.row (W.tile writer.old).walk (W.tile writer.old).teller first.tile_from count) (64 * count) (W.tile writer.old) result (W.tile writer.new) }
+    ensures ends { EndsTile (row_rest first.row (W.tile writer.old).walk (W.tile writer.old).teller first.tile_from count) (64 * count) (W.tile writer.old) result (W.tile writer.new) }
+    ensures ready { OnOk result (W.ready writer.new) }
 {
     for i in 0..count {
         let at = SquareAt {
@@ -41,6 +43,7 @@ pub fn put_rows<W: TileWriter>(
     columns: u32,
     rows: u32,
 ) -> Result<(), Unwritten>
+    requires ready { W.ready writer.old }
     requires begin { first.col ≡ first.tile_from }
     requires level { first.level ≡ 3 }
     requires from { first.tile_from ≡ (W.tile writer.old).walk.tile_from }
@@ -51,7 +54,8 @@ pub fn put_rows<W: TileWriter>(
     requires near_row { first.row ≤ 65536 }
     requires wide { first.tile_from + 8 * columns ≤ (W.tile writer.old).limit }
     requires room { 64 * (columns * rows) ≤ (W.tile writer.old).room }
-    ensures { EndsTile (tile_rest columns first.tile_from (W.tile writer.old).walk (W.tile writer.old).teller first.row rows) (64 * (columns * rows)) (W.tile writer.old) result (W.tile writer.new) }
+    ensures ends { EndsTile (tile_rest columns first.tile_from (W.tile writer.old).walk (W.tile writer.old).teller first.row rows) (64 * (columns * rows)) (W.tile writer.old) result (W.tile writer.new) }
+    ensures ready { OnOk result (W.ready writer.new) }
 {
     for i in 0..rows {
         let at = SquareAt {

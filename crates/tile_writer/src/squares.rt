@@ -1,6 +1,6 @@
 //! The squares of a tile.
 
-ghost use Rattle.std.specs.Prelude.{◌≡◌, ◌+◌, ◌-◌, ◌^◌, ◌<◌, ◌≤◌, nat_lt};
+ghost use Rattle.std.specs.Prelude.{◌≡◌, ◌+◌, ◌-◌, ◌^◌, ◌<◌, ◌≤◌, nat_lt, OnOk};
 ghost use Rattle.mode_syntax.specs.Partitions.{half_of};
 ghost use Rattle.vp9_types.specs.declared.block.Partition.TheVariants as partition;
 ghost use Rattle.tile_writer.specs.Code.{Tile, EndsTile, GivesPartition, StandsIn, IsSquareOf, block_rest, inside_rest, then_rest, parts_rest, square_rest};
@@ -20,8 +20,10 @@ pub trait TileWriter {
 
     ghost Told: { Type 0 };
 
-    /// Where the tile stands.
+    /// Where the tile stands, and what its writer asks for from block to block.
     ghost tile: { Self → Tile State Held Told };
+
+    ghost ready: { Self → Type 0 };
 
     fn frame(&self) -> FramePlaces
         ensures is { result ≡ (tile self.now).walk.frame }
@@ -35,28 +37,34 @@ pub trait TileWriter {
         has_rows: bool,
         has_cols: bool,
     ) -> Result<Partition, Unwritten>
+        requires ready { ready self.old }
         requires level { at.level ≤ 3 }
         requires row { at.row < (tile self.old).walk.frame.rows }
         requires col { at.col < (tile self.old).walk.frame.cols }
         requires within { IsSquareOf (tile self.old) at }
         requires rows { has_rows ≡ nat_lt (at.row + half_of at.level) (tile self.old).walk.frame.rows }
         requires cols { has_cols ≡ nat_lt (at.col + half_of at.level) (tile self.old).walk.frame.cols }
-        ensures { GivesPartition at has_rows has_cols (tile self.old) result (tile self.new) };
+        ensures gives { GivesPartition at has_rows has_cols (tile self.old) result (tile self.new) }
+        ensures ready { OnOk result (ready self.new) };
 
     /// Puts a block that starts inside the frame.
     fn put_block(&mut self, at: BlockAt) -> Result<(), Unwritten>
+        requires ready { ready self.old }
         requires row { at.row < (tile self.old).walk.frame.rows }
         requires col { at.col < (tile self.old).walk.frame.cols }
         requires stands { StandsIn (tile self.old) at }
         requires room { 1 ≤ (tile self.old).room }
-        ensures { EndsTile (block_rest (tile self.old).walk (tile self.old).teller at) 1 (tile self.old) result (tile self.new) };
+        ensures ends { EndsTile (block_rest (tile self.old).walk (tile self.old).teller at) 1 (tile self.old) result (tile self.new) }
+        ensures ready { OnOk result (ready self.new) };
 }
 
 /// A block, unless it starts outside the frame.
 fn put_inside<W: TileWriter>(writer: &mut W, at: BlockAt) -> Result<(), Unwritten>
+    requires ready { W.ready writer.old }
     requires stands { StandsIn (W.tile writer.old) at }
     requires room { 1 ≤ (W.tile writer.old).room }
-    ensures { EndsTile (inside_rest (W.tile writer.old).walk (W.tile writer.old).teller at.row at.col at.size) 1 (W.tile writer.old) result (W.tile writer.new) }
+    ensures ends { EndsTile (inside_rest (W.tile writer.old).walk (W.tile writer.old).teller at.row at.col at.size) 1 (W.tile writer.old) result (W.tile writer.new) }
+    ensures ready { OnOk result (W.ready writer.new) }
 {
     let frame = writer.frame();
     if at.row >= frame.rows || at.col >= frame.cols {
@@ -71,13 +79,15 @@ fn put_halves<W: TileWriter>(
     first: BlockAt,
     second: BlockAt,
 ) -> Result<(), Unwritten>
+    requires ready { W.ready writer.old }
     requires row { first.row < (W.tile writer.old).walk.frame.rows }
     requires col { first.col < (W.tile writer.old).walk.frame.cols }
     requires stands { StandsIn (W.tile writer.old) first }
     requires stands_second { StandsIn (W.tile writer.old) second }
     requires room { 2 ≤ (W.tile writer.old).room }
-    ensures { EndsTile (then_rest (block_rest (W.tile writer.old).walk (W.tile writer.old).teller first) (inside_rest (W.tile writer.old).walk (W.tile writer.old).teller second.row second.col second.size))
+    ensures ends { EndsTile (then_rest (block_rest (W.tile writer.old).walk (W.tile writer.old).teller first) (inside_rest (W.tile writer.old).walk (W.tile writer.old).teller second.row second.col second.size))
         2 (W.tile writer.old) result (W.tile writer.new) }
+    ensures ready { OnOk result (W.ready writer.new) }
 {
     writer.put_block(first)?;
     put_inside(writer, second)
@@ -90,6 +100,7 @@ fn put_parts<W: TileWriter>(
     at: SquareAt,
     partition: Partition,
 ) -> Result<(), Unwritten>
+    requires ready { W.ready writer.old }
     requires least { 1 ≤ at.level }
     requires most { at.level ≤ 3 }
     requires row { at.row < (W.tile writer.old).walk.frame.rows }
@@ -97,7 +108,8 @@ fn put_parts<W: TileWriter>(
     requires few_rows { (W.tile writer.old).walk.frame.rows ≤ 2 ^ 16 }
     requires few_cols { (W.tile writer.old).walk.frame.cols ≤ 2 ^ 16 }
     requires within { IsSquareOf (W.tile writer.old) at }
-    ensures { EndsTile (parts_rest (W.tile writer.old).walk (W.tile writer.old).teller (at.level - 1) at.row at.col partition) (4 ^ at.level) (W.tile writer.old) result (W.tile writer.new) }
+    ensures ends { EndsTile (parts_rest (W.tile writer.old).walk (W.tile writer.old).teller (at.level - 1) at.row at.col partition) (4 ^ at.level) (W.tile writer.old) result (W.tile writer.new) }
+    ensures ready { OnOk result (W.ready writer.new) }
 {
     let size = part_size(partition, at.level);
     let half = side_of(at.level - 1);
@@ -117,6 +129,7 @@ fn put_parts<W: TileWriter>(
 /// The quarters of a square that starts inside the frame, of a level above the least.
 #[cycle(squares)]
 fn put_quarters<W: TileWriter>(writer: &mut W, at: SquareAt) -> Result<(), Unwritten>
+    requires ready { W.ready writer.old }
     requires least { 1 ≤ at.level }
     requires most { at.level ≤ 3 }
     requires row { at.row < (W.tile writer.old).walk.frame.rows }
@@ -124,7 +137,8 @@ fn put_quarters<W: TileWriter>(writer: &mut W, at: SquareAt) -> Result<(), Unwri
     requires few_rows { (W.tile writer.old).walk.frame.rows ≤ 2 ^ 16 }
     requires few_cols { (W.tile writer.old).walk.frame.cols ≤ 2 ^ 16 }
     requires within { IsSquareOf (W.tile writer.old) at }
-    ensures { EndsTile (parts_rest (W.tile writer.old).walk (W.tile writer.old).teller (at.level - 1) at.row at.col partition.Split) (4 ^ at.level) (W.tile writer.old) result (W.tile writer.new) }
+    ensures ends { EndsTile (parts_rest (W.tile writer.old).walk (W.tile writer.old).teller (at.level - 1) at.row at.col partition.Split) (4 ^ at.level) (W.tile writer.old) result (W.tile writer.new) }
+    ensures ready { OnOk result (W.ready writer.new) }
 {
     put_square(writer, quarter_of(at, 0))?;
     put_square(writer, quarter_of(at, 1))?;
@@ -138,13 +152,15 @@ fn put_partition<W: TileWriter>(
     frame: FramePlaces,
     at: SquareAt,
 ) -> Result<Partition, Unwritten>
+    requires ready { W.ready writer.old }
     requires level { at.level ≤ 3 }
     requires frame { frame ≡ (W.tile writer.old).walk.frame }
     requires row { at.row < frame.rows }
     requires col { at.col < frame.cols }
     requires within { IsSquareOf (W.tile writer.old) at }
-    ensures { GivesPartition at (nat_lt (at.row + half_of at.level) (W.tile writer.old).walk.frame.rows) (nat_lt (at.col + half_of at.level) (W.tile writer.old).walk.frame.cols)
+    ensures gives { GivesPartition at (nat_lt (at.row + half_of at.level) (W.tile writer.old).walk.frame.rows) (nat_lt (at.col + half_of at.level) (W.tile writer.old).walk.frame.cols)
         (W.tile writer.old) result (W.tile writer.new) }
+    ensures ready { OnOk result (W.ready writer.new) }
 {
     let half = side_of(at.level) / 2;
     let has_rows = half < frame.rows - at.row;
@@ -155,9 +171,11 @@ fn put_partition<W: TileWriter>(
 /// A square, unless it starts outside the frame.
 #[cycle(squares)]
 pub fn put_square<W: TileWriter>(writer: &mut W, at: SquareAt) -> Result<(), Unwritten>
+    requires ready { W.ready writer.old }
     requires level { at.level ≤ 3 }
     requires within { IsSquareOf (W.tile writer.old) at }
-    ensures { EndsTile (square_rest (W.tile writer.old).walk (W.tile writer.old).teller at.level at.row at.col) (4 ^ at.level) (W.tile writer.old) result (W.tile writer.new) }
+    ensures ends { EndsTile (square_rest (W.tile writer.old).walk (W.tile writer.old).teller at.level at.row at.col) (4 ^ at.level) (W.tile writer.old) result (W.tile writer.new) }
+    ensures ready { OnOk result (W.ready writer.new) }
 {
     let frame = writer.frame();
     if at.row >= frame.rows || at.col >= frame.cols {

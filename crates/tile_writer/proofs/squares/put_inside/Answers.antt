@@ -4,8 +4,8 @@ use Rattle.tile_writer.proofs.SquareEnds.{below, beside, inside_ends, inside_non
 use Rattle.tile_writer.proofs.squares.put_inside.Goals.{then-at-frame-via-then-at-frame, then-at-frame-via-else-at-frame+then-at-frame-2}
 use Rattle.tile_writer.proofs.squares.put_inside.Goals as goal
 
-pub returns-then-at-frame : goal.returns-then-at-frame
-returns-then-at-frame g c =
+pub returns-then-at-frame-clause-ends : goal.returns-then-at-frame-clause-ends
+returns-then-at-frame-clause-ends g c =
     let t = g.W.TileWriter.tile c.args.writer.now in
     let rows = ap (λ (f : FramePlaces). f.rows) c.frame-frame.ensures.is in
     let cols = ap (λ (f : FramePlaces). f.cols) c.frame-frame.ensures.is in
@@ -14,9 +14,9 @@ returns-then-at-frame g c =
       | then-at-frame-via-else-at-frame+then-at-frame-2 w ↦ inside_none t c.args.at.row c.args.at.col c.args.at.size 1 (beside t.walk c.args.at.row c.args.at.col (omega (arith, cols, w.if-at-frame-2.true)))
     ]
 
-pub returns : goal.returns
-returns g c =
+pub returns-clause-ends : goal.returns-clause-ends
+returns-clause-ends g c =
     let rows = ap (λ (f : FramePlaces). f.rows) c.frame-frame.ensures.is in
     let cols = ap (λ (f : FramePlaces). f.cols) c.frame-frame.ensures.is in
     inside_ends (g.W.TileWriter.tile c.args.writer.now) (g.W.TileWriter.tile c.put_block.new.self) c.args.at 1 c.put_block.result
-    (omega (arith, rows, c.if-at-frame.false)) (omega (arith, cols, c.if-at-frame-2.false)) c.requires.stands c.put_block.ensures
+    (omega (arith, rows, c.if-at-frame.false)) (omega (arith, cols, c.if-at-frame-2.false)) c.requires.stands c.put_block.ensures.ends
