@@ -1,0 +1,10 @@
+//! Writes what the blocks of inter frames say (6.4.11 to 6.4.18 of the VP9 standard).
+#![tactic(auto)]
+
+mod intra_blocks;
+mod references;
+mod starts;
+
+pub use intra_blocks::put_intra_prediction;
+pub use references::{ReferenceChoice, put_references};
+pub use starts::{put_inter_segment_id, put_is_inter};
