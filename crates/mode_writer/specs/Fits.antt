@@ -1,6 +1,9 @@
 -- What the blocks of a frame can say.
-use Rattle.std.specs.Prelude.{◌≡◌, ℕ, ◌≤◌, Bool, true, false, ◌&&◌, not, Option, Some, None}
+use Rattle.std.specs.Prelude.{◌≡◌, ℕ, ◌≤◌, Bool, true, false, ◌&&◌, not, List, Option, Some, None, slice_index_or}
 use Rattle.vp9_types.specs.declared.block.BlockSize.{BlockSize}
+use Rattle.vp9_types.specs.declared.block.BlockSize.TheVariants.{B4x4, B4x8, B8x4}
+use Rattle.vp9_types.specs.declared.block.IntraMode.{IntraMode}
+use Rattle.vp9_types.specs.declared.block.IntraMode.TheVariants.{Dc}
 use Rattle.vp9_types.specs.declared.block.TxMode.{TxMode}
 use Rattle.vp9_types.specs.declared.block.TxSize.{TxSize}
 use Rattle.vp9_tables.specs.Blocks.{greatest_of}
@@ -27,3 +30,20 @@ says_tx mode size = is_selected mode && not (is_below_8x8 size)
 -- one up to the greatest that fits the block where the block says it; else the greatest that is allowed
 abbrev pub CanTx : TxMode → BlockSize → TxSize → Type 0
 CanTx mode size tx = (says_tx mode size ≡ true → tx_number tx ≤ greatest_of size) × (says_tx mode size ≡ false → tx ≡ tx_of (greatest_allowed mode size))
+
+-- a block of 8x4 has two rows of modes, one of 4x8 two columns, one of 4x4 a mode for each quarter; another a single one
+-- (6.4.6)
+abbrev pub mode_at : List IntraMode → ℕ → IntraMode
+mode_at luma quarter = slice_index_or luma quarter Dc
+
+abbrev pub AreRows : List IntraMode → Type 0
+AreRows luma = (mode_at luma 1 ≡ mode_at luma 0) × (mode_at luma 3 ≡ mode_at luma 2)
+
+abbrev pub AreColumns : List IntraMode → Type 0
+AreColumns luma = (mode_at luma 2 ≡ mode_at luma 0) × (mode_at luma 3 ≡ mode_at luma 1)
+
+abbrev pub CanLuma : BlockSize → List IntraMode → Type 0
+CanLuma B4x4 luma = Unit
+CanLuma B4x8 luma = AreColumns luma
+CanLuma B8x4 luma = AreRows luma
+CanLuma _ luma = AreRows luma × AreColumns luma

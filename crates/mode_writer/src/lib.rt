@@ -3,6 +3,7 @@
 #![tactic(auto)]
 
 mod elements;
+mod intra_modes;
 mod tx_sizes;
 
 pub use elements::{put_intra_segment_id, put_skip};
