@@ -4,13 +4,19 @@ use Rattle.vp9_types.specs.declared.block.BlockSize.{BlockSize}
 use Rattle.vp9_types.specs.declared.block.BlockSize.TheVariants.{B4x4, B4x8, B8x4}
 use Rattle.vp9_types.specs.declared.block.IntraMode.{IntraMode}
 use Rattle.vp9_types.specs.declared.block.IntraMode.TheVariants.{Dc}
+use Rattle.vp9_types.specs.declared.block.Modes.{Modes}
 use Rattle.vp9_types.specs.declared.block.TxMode.{TxMode}
 use Rattle.vp9_types.specs.declared.block.TxSize.{TxSize}
 use Rattle.vp9_tables.specs.Blocks.{greatest_of}
 use Rattle.vp9_tables.specs.Numbers.{tx_number, tx_of}
+use Rattle.frame_headers.specs.declared.header.Header.{Header}
 use Rattle.frame_headers.specs.declared.segments.MapUpdate.{MapUpdate}
 use Rattle.frame_headers.specs.declared.segments.Segmentation.{Segmentation}
 use Rattle.block_geometry.specs.Sizes.{is_below_8x8, greatest_allowed}
+use Rattle.block_plan.specs.declared.block.BlockAt.{BlockAt}
+use Rattle.block_plan.specs.declared.block.BlockInfo.{BlockInfo}
+use Rattle.block_plan.specs.declared.block.Prediction.{Prediction}
+use Rattle.block_plan.specs.declared.block.Prediction.TheVariants.{Intra, Inter}
 use Rattle.mode_syntax.specs.Elements.{skips_segment, is_selected}
 
 -- one of eight segments where the frame has segments and codes their map; else 0 (6.4.7)
@@ -47,3 +53,19 @@ CanLuma B4x4 luma = Unit
 CanLuma B4x8 luma = AreColumns luma
 CanLuma B8x4 luma = AreRows luma
 CanLuma _ luma = AreRows luma × AreColumns luma
+
+abbrev pub CanIntra : BlockSize → Prediction → Type 0
+CanIntra size (Intra p) = CanLuma size p.luma
+CanIntra size (Inter p) = ⊥
+
+-- What a block of an intra frame can say (6.4.5): it stands at the place that is coded, its segment isn't predicted from
+-- another map, and it is predicted from its own frame, by any mode in chroma.
+pub record CanPutIntraFrame (header : Header) (modes : Modes) (at : BlockAt) (block : BlockInfo) : Type 0 where
+  pub row : block.row ≡ at.row
+  pub col : block.col ≡ at.col
+  pub size : block.size ≡ at.size
+  pub segment : CanSegment header.params.segmentation.enabled header.params.segmentation.map block.segment
+  pub unpredicted : block.segment_predicted ≡ false
+  pub skip : CanSkip header.params.segmentation block.segment block.skip
+  pub tx : CanTx modes.tx_mode at.size block.tx
+  pub intra : CanIntra at.size block.prediction
