@@ -1,12 +1,13 @@
 -- What blocks of inter frames can say.
-use Rattle.std.specs.Prelude.{◌≡◌, ℕ, ◌≤◌, Bool, true, false, List, Option, Some, None, slice_index_or}
+use Rattle.std.specs.Prelude.{◌≡◌, ℕ, ◌≤◌, Bool, true, false, ◌&&◌, not, Option, Some, None}
 use Rattle.std.specs.Option.{is_some}
 use Rattle.vp9_types.specs.declared.block.BlockSize.{BlockSize}
-use Rattle.vp9_types.specs.declared.block.BlockSize.TheVariants.{B4x4, B4x8, B8x4}
-use Rattle.vp9_types.specs.declared.block.IntraMode.{IntraMode}
-use Rattle.vp9_types.specs.declared.block.IntraMode.TheVariants.{Dc}
 use Rattle.vp9_types.specs.declared.block.ReferenceMode.{ReferenceMode}
 use Rattle.vp9_types.specs.declared.block.ReferenceMode.TheVariants.{Single, Compound, Selected}
+use Rattle.vp9_types.specs.declared.block.TxMode.{TxMode}
+use Rattle.vp9_types.specs.declared.block.TxSize.{TxSize}
+use Rattle.vp9_tables.specs.Numbers.{tx_of}
+use Rattle.block_geometry.specs.Sizes.{greatest_allowed}
 use Rattle.frame_headers.specs.declared.segments.FeatureReference.{FeatureReference}
 use Rattle.frame_headers.specs.declared.segments.MapUpdate.{MapUpdate}
 use Rattle.frame_headers.specs.declared.segments.Segmentation.{Segmentation}
@@ -15,6 +16,8 @@ use Rattle.mv_prediction.specs.declared.search.SignBiases.{SignBiases}
 use Rattle.inter_contexts.specs.References.{fixed_of, variable_by, with_fixed, single, of_feature}
 use Rattle.inter_modes.specs.Starts.{segment_of, segment_reference, is_inter_feature}
 use Rattle.inter_modes.specs.declared.starts.SegmentOf.{SegmentOf}
+use Rattle.inter_modes.specs.declared.starts.BlockStart.{BlockStart}
+use Rattle.mode_writer.specs.Fits.{CanSkip, CanTx}
 use Rattle.inter_writer.specs.declared.references.ReferenceChoice.{ReferenceChoice}
 
 ---- Segments ----
@@ -44,18 +47,19 @@ IsInterBy None is_inter = Unit {0}
 abbrev pub MayBeInter : Segmentation → ℕ → Bool → Type 0
 MayBeInter segmentation segment is_inter = IsInterBy (segment_reference segmentation segment) is_inter
 
----- Modes of intra blocks ----
+---- What a block says first ----
 
-abbrev pub mode_at : List IntraMode → ℕ → IntraMode
-mode_at luma quarter = slice_index_or luma quarter Dc
+-- a block that is inter and skipped has the greatest transform that is allowed; another says its transform size as a block of
+-- an intra frame does (6.4.11: inter_frame_mode_info)
+abbrev pub CanTxIf : Bool → TxMode → BlockSize → TxSize → Type 0
+CanTxIf true mode size tx = CanTx mode size tx
+CanTxIf false mode size tx = tx ≡ tx_of (greatest_allowed mode size)
 
--- each quarter of a 4x4 block has its own mode, each column of a 4x8 block, each row of an 8x4 block; else all have one
--- (6.4.15: intra_block_mode_info)
-abbrev pub AreLumaModes : BlockSize → List IntraMode → Type 0
-AreLumaModes B4x4 luma = Unit {0}
-AreLumaModes B4x8 luma = (mode_at luma 2 ≡ mode_at luma 0) × (mode_at luma 3 ≡ mode_at luma 1)
-AreLumaModes B8x4 luma = (mode_at luma 1 ≡ mode_at luma 0) × (mode_at luma 3 ≡ mode_at luma 2)
-AreLumaModes size luma = (mode_at luma 1 ≡ mode_at luma 0) × (mode_at luma 2 ≡ mode_at luma 0) × (mode_at luma 3 ≡ mode_at luma 0)
+pub record CanStart (segmentation : Segmentation) (mode : TxMode) (size : BlockSize) (least : ℕ) (start : BlockStart) : Type 0 where
+  pub segment : IsSegment segmentation least start.segment
+  pub skip : CanSkip segmentation start.segment.id start.skip
+  pub is_inter : MayBeInter segmentation start.segment.id start.is_inter
+  pub tx : CanTxIf (not (start.is_inter && start.skip)) mode size start.tx
 
 ---- References ----
 

@@ -3,7 +3,7 @@
 ghost use Rattle.std.specs.Prelude.{◌≡◌, ◌≤◌, ◌∷◌, [], IfOk, length};
 ghost use Rattle.counting_writer.specs.Counted.{PutsValue};
 ghost use Rattle.inter_modes.specs.IntraBlocks.{intra_mode, uv_mode, one_mode, two_rows, two_columns, four_modes, luma_modes, intra_block_mode_info};
-ghost use Rattle.inter_writer.specs.Fits.{mode_at, AreLumaModes};
+ghost use Rattle.mode_writer.specs.Fits.{CanLuma};
 
 use block_plan::IntraPrediction;
 use bool_encoder::{BoolEncoder, put_tree};
@@ -105,7 +105,7 @@ fn put_luma_modes(
     size: BlockSize,
     luma: [IntraMode; 4],
 ) -> Result<(), AllocError>
-    requires { AreLumaModes size luma }
+    requires { CanLuma size luma }
     ensures { IfOk result (λ _. PutsValue (luma_modes probs.now size) encoder.old luma encoder.new) }
 {
     match size {
@@ -125,7 +125,7 @@ pub fn put_intra_prediction(
     size: BlockSize,
     prediction: IntraPrediction,
 ) -> Result<(), AllocError>
-    requires { AreLumaModes size prediction.luma }
+    requires { CanLuma size prediction.luma }
     ensures { IfOk result (λ _. PutsValue (intra_block_mode_info y_modes.now uv_modes.now size) encoder.old prediction encoder.new) }
 {
     put_luma_modes(encoder, y_modes, size, prediction.luma)?;

@@ -7,4 +7,4 @@ mod starts;
 
 pub use intra_blocks::put_intra_prediction;
 pub use references::{ReferenceChoice, put_references};
-pub use starts::{put_inter_segment_id, put_is_inter};
+pub use starts::{put_block_start, put_inter_segment_id, put_is_inter};
