@@ -1,2 +1,3 @@
-pub mod Fits
 pub mod Code
+pub mod Fits
+pub mod Said

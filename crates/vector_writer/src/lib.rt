@@ -4,6 +4,11 @@
 mod components;
 mod differences;
 mod new_vectors;
+mod quarters;
+mod symbols;
+mod vectors;
 
 pub use differences::put_mv;
 pub use new_vectors::put_new_vector;
+pub use symbols::{InterSymbols, QuarterSymbols};
+pub use vectors::put_inter_mode;
