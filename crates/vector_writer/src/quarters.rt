@@ -1,0 +1,120 @@
+//! Quarters of blocks below 8x8.
+
+ghost use Rattle.std.specs.Prelude.{◌≡◌, ◌<◌, ◌≤◌, true, IfOk};
+ghost use Rattle.std.specs.Option.{option_copied};
+ghost use Rattle.prob_contexts.specs.Lists.{vector_lists};
+ghost use Rattle.counting_writer.specs.Counted.{PutsValue};
+ghost use Rattle.mv_prediction.specs.Code.{AreSmall, blocks_of};
+ghost use Rattle.mv_prediction.specs.SubBlocks.{vector_at};
+ghost use Rattle.mv_prediction.specs.Vectors.{IsSmallVector};
+ghost use Rattle.inter_modes.specs.Code.{MaySearch, AreSmallBefore, AreSmallQuarters};
+ghost use Rattle.inter_modes.specs.Vectors.{quarter_vector, quarter_vectors, quarter, four_quarters, two_columns, two_rows, quarters};
+ghost use Rattle.vector_writer.specs.Fits.{CanBeNew, CanSayVectors};
+ghost use Rattle.vector_writer.specs.Said.{symbols_at, quarter_vector_said, quarter_vectors_said, quarter_said, four_said, columns_said, rows_said, quarters_said};
+
+use crate::new_vectors::put_new_vector;
+use crate::symbols::{InterSymbols, QuarterSymbols, symbols_at};
+use crate::vectors::put_inter_mode;
+use block_plan::{Mv, Neighbours, References};
+use bool_encoder::BoolEncoder;
+use inter_modes::{
+    NO_VECTOR, NO_VECTORS, Quarter, QuartersBefore, Sources, before_of, near_of_quarter,
+    nearest_of_quarter, of_list,
+};
+use std::alloc::AllocError;
+use vp9_types::{InterMode, ReferenceFrame, Rule};
+
+/// A quarter's vector of a reference, of the first list or the second.
+#[tactic(auto, unfolding(inter_modes::specs::Vectors::quarter_vector, inter_modes::specs::Vectors::vector_of_mode, crate::specs::Said::quarter_vector_said, crate::specs::Said::vector_said), using(counting_writer::proofs::CountedPuts::valued_settle))]
+fn put_quarter_vector<N: Neighbours, Q: Neighbours>(
+    encoder: &mut BoolEncoder,
+    src: &Sources<'_, N, Q>,
+    said: QuarterSymbols,
+    wanted: (ReferenceFrame, usize),
+    k: u8,
+    before: &QuartersBefore,
+) -> Result<Result<Mv, Rule>, AllocError>
+    requires list { wanted.1 < 2 }
+    requires k { k < 4 }
+    requires may { MaySearch N.holds N.blocks Q.holds Q.blocks src.now.earlier.now (option_copied src.now.before) src.now.search }
+    requires small { AreSmallBefore before.now }
+    requires can { CanBeNew src.now.high_precision said.mode (vector_at before.now.best wanted.1) (vector_at said.differences wanted.1) }
+    ensures put { IfOk result (λ v. PutsValue (quarter_vector (record { lists = vector_lists src.now.probs.now; allowed = src.now.high_precision; earlier = N.blocks src.now.earlier.now; before = blocks_of Q.blocks (option_copied src.now.before); search = src.now.search }) said.mode wanted.0 wanted.1 k before.now) encoder.old v encoder.new) }
+    ensures is { IfOk result (λ v. v ≡ quarter_vector_said (record { lists = vector_lists src.now.probs.now; allowed = src.now.high_precision; earlier = N.blocks src.now.earlier.now; before = blocks_of Q.blocks (option_copied src.now.before); search = src.now.search }) said wanted.0 wanted.1 k before.now) }
+    ensures small { IfOk result (λ v. IfOk v IsSmallVector) }
+{
+    let (reference, list) = wanted;
+    let quarters = of_list(list, &before.rows);
+    match said.mode {
+        InterMode::Zero => Ok(Ok(NO_VECTOR)),
+        InterMode::Nearest => Ok(Ok(nearest_of_quarter(src, reference, k, &quarters))),
+        InterMode::Near => Ok(Ok(near_of_quarter(src, reference, k, &quarters).near)),
+        InterMode::New => {
+            let best = before.best[list];
+            let difference = said.differences[list];
+            put_new_vector(encoder, src.probs, src.high_precision, best, difference)
+        }
+    }
+}
+
+/// A quarter's vectors of its block's references.
+#[tactic(auto, unfolding(inter_modes::specs::Vectors::quarter_vectors, inter_modes::specs::Vectors::with_second, crate::specs::Said::quarter_vectors_said, crate::specs::Said::second_said), using(counting_writer::proofs::CountedPuts::valued_in_order, counting_writer::proofs::CountedPuts::valued_settle, vp9_types::proofs::Binds::writes_bind))]
+fn put_quarter_vectors<N: Neighbours, Q: Neighbours>(
+    encoder: &mut BoolEncoder,
+    src: &Sources<'_, N, Q>,
+    said: QuarterSymbols,
+    references: References,
+    k: u8,
+    before: &QuartersBefore,
+) -> Result<Result<[Mv; 2], Rule>, AllocError>
+    requires k { k < 4 }
+    requires may { MaySearch N.holds N.blocks Q.holds Q.blocks src.now.earlier.now (option_copied src.now.before) src.now.search }
+    requires small { AreSmallBefore before.now }
+    requires can { CanSayVectors src.now.high_precision before.now.best references said }
+    ensures put { IfOk result (λ v. PutsValue (quarter_vectors (record { lists = vector_lists src.now.probs.now; allowed = src.now.high_precision; earlier = N.blocks src.now.earlier.now; before = blocks_of Q.blocks (option_copied src.now.before); search = src.now.search }) said.mode references k before.now) encoder.old v encoder.new) }
+    ensures is { IfOk result (λ v. v ≡ quarter_vectors_said (record { lists = vector_lists src.now.probs.now; allowed = src.now.high_precision; earlier = N.blocks src.now.earlier.now; before = blocks_of Q.blocks (option_copied src.now.before); search = src.now.search }) said references k before.now) }
+    ensures small { IfOk result (λ v. IfOk v AreSmall) }
+{
+    let first = match put_quarter_vector(encoder, src, said, (references.first, 0), k, before)? {
+        Ok(first) => first,
+        Err(rule) => return Ok(Err(rule)),
+    };
+    match references.second {
+        None => Ok(Ok([first, NO_VECTOR])),
+        Some(reference) => {
+            match put_quarter_vector(encoder, src, said, (reference, 1), k, before)? {
+                Ok(second) => Ok(Ok([first, second])),
+                Err(rule) => Ok(Err(rule)),
+            }
+        }
+    }
+}
+
+/// A quarter's mode and vectors.
+#[tactic(auto, unfolding(inter_modes::specs::Vectors::quarter, crate::specs::Said::quarter_said), using(counting_writer::proofs::CountedPuts::valued_in_order, counting_writer::proofs::CountedPuts::valued_settle, vp9_types::proofs::Binds::writes_bind))]
+fn put_quarter<N: Neighbours, Q: Neighbours>(
+    encoder: &mut BoolEncoder,
+    src: &Sources<'_, N, Q>,
+    said: QuarterSymbols,
+    references: References,
+    k: u8,
+    before: &QuartersBefore,
+) -> Result<Result<Quarter, Rule>, AllocError>
+    requires context { src.now.context ≤ 6 }
+    requires k { k < 4 }
+    requires may { MaySearch N.holds N.blocks Q.holds Q.blocks src.now.earlier.now (option_copied src.now.before) src.now.search }
+    requires small { AreSmallBefore before.now }
+    requires can { CanSayVectors src.now.high_precision before.now.best references said }
+    ensures put { IfOk result (λ q. PutsValue (quarter (record { lists = vector_lists src.now.probs.now; allowed = src.now.high_precision; earlier = N.blocks src.now.earlier.now; before = blocks_of Q.blocks (option_copied src.now.before); search = src.now.search }) src.now.modes.now src.now.context references k before.now) encoder.old q encoder.new) }
+    ensures is { IfOk result (λ q. q ≡ quarter_said (record { lists = vector_lists src.now.probs.now; allowed = src.now.high_precision; earlier = N.blocks src.now.earlier.now; before = blocks_of Q.blocks (option_copied src.now.before); search = src.now.search }) said references k before.now) }
+    ensures small { IfOk result (λ r. IfOk r (λ q. AreSmall q.vectors)) }
+{
+    put_inter_mode(encoder, src.modes, src.context, said.mode)?;
+    match put_quarter_vectors(encoder, src, said, references, k, before)? {
+        Ok(vectors) => Ok(Ok(Quarter {
+            mode: said.mode,
+            vectors,
+        })),
+        Err(rule) => Ok(Err(rule)),
+    }
+}
