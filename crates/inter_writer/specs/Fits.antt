@@ -1,23 +1,40 @@
 -- What blocks of inter frames can say.
-use Rattle.std.specs.Prelude.{◌≡◌, ℕ, ◌≤◌, Bool, true, false, ◌&&◌, not, Option, Some, None}
+use Rattle.std.specs.Prelude.{◌≡◌, ℕ, ◌≤◌, Bool, true, false, ◌&&◌, not, List, Option, Some, None, IfOk}
 use Rattle.std.specs.Option.{is_some}
+use Rattle.vp9_types.specs.Maps.{Map}
 use Rattle.vp9_types.specs.declared.block.BlockSize.{BlockSize}
+use Rattle.vp9_types.specs.declared.block.Modes.{Modes}
 use Rattle.vp9_types.specs.declared.block.ReferenceMode.{ReferenceMode}
 use Rattle.vp9_types.specs.declared.block.ReferenceMode.TheVariants.{Single, Compound, Selected}
 use Rattle.vp9_types.specs.declared.block.TxMode.{TxMode}
 use Rattle.vp9_types.specs.declared.block.TxSize.{TxSize}
 use Rattle.vp9_tables.specs.Numbers.{tx_of}
 use Rattle.block_geometry.specs.Sizes.{greatest_allowed}
+use Rattle.frame_headers.specs.declared.header.FrameKind.{FrameKind}
+use Rattle.frame_headers.specs.declared.header.FrameKind.TheVariants as frame
+use Rattle.frame_headers.specs.declared.header.Header.{Header}
 use Rattle.frame_headers.specs.declared.segments.FeatureReference.{FeatureReference}
 use Rattle.frame_headers.specs.declared.segments.MapUpdate.{MapUpdate}
 use Rattle.frame_headers.specs.declared.segments.Segmentation.{Segmentation}
+use Rattle.prob_contexts.specs.Lists.{ContextLists}
+use Rattle.block_plan.specs.declared.block.BlockAt.{BlockAt}
+use Rattle.block_plan.specs.declared.block.BlockInfo.{BlockInfo}
+use Rattle.block_plan.specs.declared.block.Prediction.TheVariants as prediction
 use Rattle.block_plan.specs.declared.block.References.{References}
+use Rattle.mode_syntax.specs.Elements.{skips_segment}
 use Rattle.mv_prediction.specs.declared.search.SignBiases.{SignBiases}
-use Rattle.inter_contexts.specs.References.{fixed_of, variable_by, with_fixed, single, of_feature}
+use Rattle.inter_contexts.specs.References.{fixed_of, variable_by, with_fixed, single, of_feature, in_range_or_rule}
+use Rattle.inter_modes.specs.ModeInfo.{InterFrame, sources_of, block_with, least_before}
+use Rattle.inter_modes.specs.Vectors.{Sources}
 use Rattle.inter_modes.specs.Starts.{segment_of, segment_reference, is_inter_feature}
 use Rattle.inter_modes.specs.declared.starts.SegmentOf.{SegmentOf}
 use Rattle.inter_modes.specs.declared.starts.BlockStart.{BlockStart}
-use Rattle.mode_writer.specs.Fits.{CanSkip, CanTx}
+use Rattle.mode_writer.specs.Fits.{CanSkip, CanTx, CanLuma, CanPutIntraFrame}
+use Rattle.vector_writer.specs.Fits.{CanSayInter}
+use Rattle.vector_writer.specs.declared.symbols.InterSymbols.{InterSymbols}
+use Rattle.inter_writer.specs.declared.frame_blocks.BlockSymbols.{BlockSymbols}
+use Rattle.inter_writer.specs.declared.frame_blocks.PredictionSymbols.{PredictionSymbols}
+use Rattle.inter_writer.specs.declared.frame_blocks.PredictionSymbols.TheVariants.{Intra, Inter}
 use Rattle.inter_writer.specs.declared.references.ReferenceChoice.{ReferenceChoice}
 
 ---- Segments ----
@@ -55,8 +72,8 @@ abbrev pub CanTxIf : Bool → TxMode → BlockSize → TxSize → Type 0
 CanTxIf true mode size tx = CanTx mode size tx
 CanTxIf false mode size tx = tx ≡ tx_of (greatest_allowed mode size)
 
-pub record CanStart (segmentation : Segmentation) (mode : TxMode) (size : BlockSize) (least : ℕ) (start : BlockStart) : Type 0 where
-  pub segment : IsSegment segmentation least start.segment
+-- but for its segment
+pub record CanStart (segmentation : Segmentation) (mode : TxMode) (size : BlockSize) (start : BlockStart) : Type 0 where
   pub skip : CanSkip segmentation start.segment.id start.skip
   pub is_inter : MayBeInter segmentation start.segment.id start.is_inter
   pub tx : CanTxIf (not (start.is_inter && start.skip)) mode size start.tx
@@ -84,3 +101,46 @@ AreReferencesBy None mode biases refs = AreCoded mode biases refs
 
 abbrev pub AreReferences : ReferenceChoice → References → Type 0
 AreReferences c refs = AreReferencesBy c.feature c.mode c.biases refs
+
+---- Blocks ----
+
+-- what the references of a block of a segment are chosen by
+abbrev pub choice_of : InterFrame → SignBiases → ℕ → ReferenceChoice
+choice_of f biases segment = record {
+  feature = segment_reference f.header.params.segmentation segment;
+  mode = f.modes.reference_mode;
+  biases = biases;
+}
+
+-- An inter block's modes and vectors are said where its references are in range (6.4.16: inter_block_mode_info).
+pub record CanSayInterBlock (f : InterFrame) (s : Sources) (segment : ℕ) (q : InterSymbols) : Type 0 where
+  pub references : AreReferences (choice_of f s.search.biases segment) q.references
+  pub rest : IfOk (in_range_or_rule f.header.size f.fields.references q.references)
+      (λ _. CanSayInter s (skips_segment f.header.params.segmentation segment) f.fields.filter q)
+
+abbrev pub CanPredict : InterFrame → Sources → BlockStart → PredictionSymbols → Type 0
+CanPredict f s start (Intra p) = (start.is_inter ≡ false) × CanLuma s.search.at.size p.luma
+CanPredict f s start (Inter q) = (start.is_inter ≡ true) × CanSayInterBlock f s start.segment.id q
+
+-- a block of an inter frame (6.4.11), over which the map before the frame has a least id
+pub record CanPutInterFrame (f : InterFrame) (s : Sources) (least : ℕ) (start : BlockStart) (p : PredictionSymbols) : Type 0 where
+  pub segment : IsSegment f.header.params.segmentation least start.segment
+  pub first : CanStart f.header.params.segmentation f.modes.tx_mode s.search.at.size start
+  pub prediction : CanPredict f s start p
+
+-- a block of an intra frame is intra (6.4.6)
+abbrev pub CanPutIntra : Header → Modes → BlockAt → BlockStart → PredictionSymbols → Type 0
+CanPutIntra header modes at start (Intra p) =
+    (start.is_inter ≡ false) × CanPutIntraFrame header modes at (block_with at start (prediction.Intra p))
+CanPutIntra header modes at start (Inter q) = ⊥
+
+abbrev pub CanPutBy : FrameKind → Header → Modes → ContextLists → Map → List BlockInfo → List BlockInfo → BlockAt → BlockStart → PredictionSymbols → Type 0
+CanPutBy (frame.Inter fields) header modes contexts ids earlier before at start p =
+    let f : InterFrame = record { header = header; fields = fields; modes = modes; contexts = contexts } in
+    CanPutInterFrame f (sources_of f earlier before at) (least_before header ids at) start p
+CanPutBy _ header modes contexts ids earlier before at start p = CanPutIntra header modes at start p
+
+-- a block of any frame (6.4.5: mode_info), by the same as it is read by
+abbrev pub CanPut : Header → Modes → ContextLists → Map → List BlockInfo → List BlockInfo → BlockAt → BlockSymbols → Type 0
+CanPut header modes contexts ids earlier before at symbols =
+    CanPutBy header.kind header modes contexts ids earlier before at symbols.start symbols.prediction

@@ -1,10 +1,9 @@
 //! What a block of an inter frame says first.
 
-ghost use Rattle.std.specs.Prelude.{◌≡◌, ◌≤◌, ◌&&◌, not, IfOk, ℕ, true, false};
+ghost use Rattle.std.specs.Prelude.{◌≡◌, ◌≤◌, IfOk, ℕ, true, false};
 ghost use Rattle.counting_writer.specs.Counted.{PutsValue};
 ghost use Rattle.inter_modes.specs.Starts.{segment_of, coded_segment, temporal_segment, updated_segment, segment_by, inter_segment_id, is_inter_by, read_is_inter, tx_size, block_start};
-ghost use Rattle.inter_writer.specs.Fits.{IsUpdated, IsSegment, MayBeInter, CanTxIf};
-ghost use Rattle.mode_writer.specs.Fits.{CanSkip};
+ghost use Rattle.inter_writer.specs.Fits.{IsUpdated, IsSegment, MayBeInter, CanTxIf, CanStart};
 ghost use Rattle.std.specs.Option.{option_copied};
 ghost use Rattle.prob_contexts.specs.Lists.{lists_of};
 
@@ -142,9 +141,7 @@ pub fn put_block_start(
     start: &BlockStart,
 ) -> Result<(), AllocError>
     requires segment { start.now.segment.id ≤ 7 }
-    requires skip { CanSkip setting.now.header.params.segmentation start.now.segment.id start.now.skip }
-    requires is_inter { MayBeInter setting.now.header.params.segmentation start.now.segment.id start.now.is_inter }
-    requires tx { CanTxIf (not (start.now.is_inter && start.now.skip)) setting.now.modes.tx_mode size start.now.tx }
+    requires can { CanStart setting.now.header.params.segmentation setting.now.modes.tx_mode size start.now }
     ensures { IfOk result (λ _. (least : ℕ) → IsSegment setting.now.header.params.segmentation least start.now.segment →
         PutsValue (block_start setting.now.header.params.segmentation setting.now.modes.tx_mode (lists_of setting.now.contexts) (option_copied above.entry) (option_copied left.entry) size least) encoder.old start.now encoder.new) }
 {
