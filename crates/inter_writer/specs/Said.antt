@@ -31,13 +31,17 @@ abbrev pub block_said : InterFrame → Sources → BlockStart → PredictionSymb
 block_said f s start (Intra p) = Ok (block_with s.search.at start (prediction.Intra p))
 block_said f s start (Inter q) = inter_block_said f s start q
 
--- a block of any frame: those of intra frames are intra
+-- a block of an intra frame is intra
+abbrev pub IsSaidIntra : BlockAt → BlockStart → PredictionSymbols → Result BlockInfo Rule → Type 0
+IsSaidIntra at start (Intra p) r = r ≡ Ok (block_with at start (prediction.Intra p))
+IsSaidIntra at start (Inter q) r = ⊥
+
+-- a block of any frame
 abbrev pub IsSaidBy : FrameKind → Header → Modes → ContextLists → List BlockInfo → List BlockInfo → BlockAt → BlockStart → PredictionSymbols → Result BlockInfo Rule → Type 0
 IsSaidBy (frame.Inter fields) header modes contexts earlier before at start p r =
     let f : InterFrame = record { header = header; fields = fields; modes = modes; contexts = contexts } in
     r ≡ block_said f (sources_of f earlier before at) start p
-IsSaidBy _ header modes contexts earlier before at start (Intra p) r = r ≡ Ok (block_with at start (prediction.Intra p))
-IsSaidBy _ header modes contexts earlier before at start (Inter q) r = ⊥
+IsSaidBy _ header modes contexts earlier before at start p r = IsSaidIntra at start p r
 
 abbrev pub IsSaid : Header → Modes → ContextLists → List BlockInfo → List BlockInfo → BlockAt → BlockSymbols → Result BlockInfo Rule → Type 0
 IsSaid header modes contexts earlier before at symbols r = IsSaidBy header.kind header modes contexts earlier before at symbols.start symbols.prediction r

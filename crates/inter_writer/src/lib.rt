@@ -6,7 +6,7 @@ mod intra_blocks;
 mod references;
 mod starts;
 
-pub use frame_blocks::{BlockSymbols, PredictionSymbols};
+pub use frame_blocks::{BlockSymbols, FrameBlocks, PredictionSymbols, put_mode_info};
 pub use intra_blocks::put_intra_prediction;
 pub use references::{ReferenceChoice, put_references};
 pub use starts::{put_block_start, put_inter_segment_id, put_is_inter};
