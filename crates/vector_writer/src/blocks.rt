@@ -12,6 +12,7 @@ ghost use Rattle.mv_prediction.specs.Candidates.{mode_context};
 ghost use Rattle.inter_modes.specs.Code.{MaySearch};
 ghost use Rattle.inter_modes.specs.Vectors.{best_vectors};
 ghost use Rattle.inter_modes.specs.ModeInfo.{filter_of, interp_filter, block_mode, whole_block, block_of_quarters, inter_prediction};
+ghost use Rattle.vector_writer.specs.Code.{sources_of};
 ghost use Rattle.vector_writer.specs.Fits.{CanFilter, CanSayVectors, CanSayInter, quarter_saying};
 ghost use Rattle.vector_writer.specs.Said.{mode_at, symbols_at, whole_said, of_quarters_said, inter_said};
 
@@ -85,10 +86,10 @@ fn put_whole<N: Neighbours, Q: Neighbours>(
     requires may { MaySearch N.holds N.blocks Q.holds Q.blocks src.now.earlier.now (option_copied src.now.before) src.now.search }
     requires named { CanFilter filter.0 symbols.now.filter }
     requires skipped { skips ≡ true → mode_at symbols.now.modes 0 ≡ Zero }
-    requires vectors { CanSayVectors src.now.high_precision (best_vectors (record { lists = vector_lists src.now.probs.now; allowed = src.now.high_precision; earlier = N.blocks src.now.earlier.now; before = blocks_of Q.blocks (option_copied src.now.before); search = src.now.search }) symbols.now.references) symbols.now.references (symbols_at symbols.now 0) }
+    requires vectors { CanSayVectors src.now.high_precision (best_vectors (sources_of N.blocks Q.blocks src.now) symbols.now.references) symbols.now.references (symbols_at symbols.now 0) }
     ensures put { IfOk result (λ p. (lists : InterLists) → lists.modes ≡ src.now.modes.now → lists.filters ≡ filters.now →
-        PutsValue (whole_block (record { lists = vector_lists src.now.probs.now; allowed = src.now.high_precision; earlier = N.blocks src.now.earlier.now; before = blocks_of Q.blocks (option_copied src.now.before); search = src.now.search }) lists skips filter.0 filter.1 symbols.now.references) encoder.old p encoder.new) }
-    ensures is { IfOk result (λ p. p ≡ whole_said (record { lists = vector_lists src.now.probs.now; allowed = src.now.high_precision; earlier = N.blocks src.now.earlier.now; before = blocks_of Q.blocks (option_copied src.now.before); search = src.now.search }) symbols.now) }
+        PutsValue (whole_block (sources_of N.blocks Q.blocks src.now) lists skips filter.0 filter.1 symbols.now.references) encoder.old p encoder.new) }
+    ensures is { IfOk result (λ p. p ≡ whole_said (sources_of N.blocks Q.blocks src.now) symbols.now) }
     ensures small { IfOk result (λ r. IfOk r (λ p. PredictsSmall (Inter p))) }
 {
     let said = symbols_at(symbols, 0);
@@ -118,10 +119,10 @@ fn put_block_of_quarters<N: Neighbours, Q: Neighbours>(
     requires filter { filter.1 ≤ 3 }
     requires may { MaySearch N.holds N.blocks Q.holds Q.blocks src.now.earlier.now (option_copied src.now.before) src.now.search }
     requires named { CanFilter filter.0 symbols.now.filter }
-    requires vectors { (k : ℕ) → k < 4 → CanSayVectors src.now.high_precision (best_vectors (record { lists = vector_lists src.now.probs.now; allowed = src.now.high_precision; earlier = N.blocks src.now.earlier.now; before = blocks_of Q.blocks (option_copied src.now.before); search = src.now.search }) symbols.now.references) symbols.now.references (symbols_at symbols.now (quarter_saying src.now.search.at.size k)) }
+    requires vectors { (k : ℕ) → k < 4 → CanSayVectors src.now.high_precision (best_vectors (sources_of N.blocks Q.blocks src.now) symbols.now.references) symbols.now.references (symbols_at symbols.now (quarter_saying src.now.search.at.size k)) }
     ensures put { IfOk result (λ p. (lists : InterLists) → lists.modes ≡ src.now.modes.now → lists.filters ≡ filters.now →
-        PutsValue (block_of_quarters (record { lists = vector_lists src.now.probs.now; allowed = src.now.high_precision; earlier = N.blocks src.now.earlier.now; before = blocks_of Q.blocks (option_copied src.now.before); search = src.now.search }) lists filter.0 filter.1 symbols.now.references) encoder.old p encoder.new) }
-    ensures is { IfOk result (λ p. p ≡ of_quarters_said (record { lists = vector_lists src.now.probs.now; allowed = src.now.high_precision; earlier = N.blocks src.now.earlier.now; before = blocks_of Q.blocks (option_copied src.now.before); search = src.now.search }) symbols.now) }
+        PutsValue (block_of_quarters (sources_of N.blocks Q.blocks src.now) lists filter.0 filter.1 symbols.now.references) encoder.old p encoder.new) }
+    ensures is { IfOk result (λ p. p ≡ of_quarters_said (sources_of N.blocks Q.blocks src.now) symbols.now) }
     ensures small { IfOk result (λ r. IfOk r (λ p. PredictsSmall (Inter p))) }
 {
     put_filter(encoder, filter.0, filters, filter.1, symbols.filter)?;
@@ -147,10 +148,10 @@ pub fn put_inter_prediction<N: Neighbours, Q: Neighbours>(
     requires few { src.now.context ≤ 6 }
     requires filter { filter.1 ≤ 3 }
     requires may { MaySearch N.holds N.blocks Q.holds Q.blocks src.now.earlier.now (option_copied src.now.before) src.now.search }
-    requires can { CanSayInter (record { lists = vector_lists src.now.probs.now; allowed = src.now.high_precision; earlier = N.blocks src.now.earlier.now; before = blocks_of Q.blocks (option_copied src.now.before); search = src.now.search }) skips filter.0 symbols.now }
+    requires can { CanSayInter (sources_of N.blocks Q.blocks src.now) skips filter.0 symbols.now }
     ensures put { IfOk result (λ p. (lists : InterLists) → lists.modes ≡ src.now.modes.now → lists.filters ≡ filters.now →
-        PutsValue (inter_prediction (record { lists = vector_lists src.now.probs.now; allowed = src.now.high_precision; earlier = N.blocks src.now.earlier.now; before = blocks_of Q.blocks (option_copied src.now.before); search = src.now.search }) lists skips filter.0 filter.1 symbols.now.references) encoder.old p encoder.new) }
-    ensures is { IfOk result (λ p. p ≡ inter_said (record { lists = vector_lists src.now.probs.now; allowed = src.now.high_precision; earlier = N.blocks src.now.earlier.now; before = blocks_of Q.blocks (option_copied src.now.before); search = src.now.search }) symbols.now) }
+        PutsValue (inter_prediction (sources_of N.blocks Q.blocks src.now) lists skips filter.0 filter.1 symbols.now.references) encoder.old p encoder.new) }
+    ensures is { IfOk result (λ p. p ≡ inter_said (sources_of N.blocks Q.blocks src.now) symbols.now) }
     ensures small { IfOk result (λ r. IfOk r (λ p. PredictsSmall (Inter p))) }
 {
     if is_below_8x8(src.search.at.size) {

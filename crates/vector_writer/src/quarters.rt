@@ -10,6 +10,7 @@ ghost use Rattle.mv_prediction.specs.SubBlocks.{vector_at};
 ghost use Rattle.mv_prediction.specs.Vectors.{IsSmallVector};
 ghost use Rattle.inter_modes.specs.Code.{MaySearch, AreSmallBefore, AreSmallQuarters};
 ghost use Rattle.inter_modes.specs.Vectors.{best_vectors, quarter_vector, quarter_vectors, quarter, four_quarters, two_columns, two_rows, quarters};
+ghost use Rattle.vector_writer.specs.Code.{sources_of};
 ghost use Rattle.vector_writer.specs.Fits.{CanBeNew, CanSayVectors, quarter_saying};
 ghost use Rattle.vector_writer.specs.Said.{symbols_at, quarter_vector_said, quarter_vectors_said, quarter_said, four_said, columns_said, rows_said, quarters_said};
 
@@ -40,8 +41,8 @@ fn put_quarter_vector<N: Neighbours, Q: Neighbours>(
     requires may { MaySearch N.holds N.blocks Q.holds Q.blocks src.now.earlier.now (option_copied src.now.before) src.now.search }
     requires small { AreSmallBefore before.now }
     requires can { CanBeNew src.now.high_precision said.mode (vector_at before.now.best wanted.1) (vector_at said.differences wanted.1) }
-    ensures put { IfOk result (λ v. PutsValue (quarter_vector (record { lists = vector_lists src.now.probs.now; allowed = src.now.high_precision; earlier = N.blocks src.now.earlier.now; before = blocks_of Q.blocks (option_copied src.now.before); search = src.now.search }) said.mode wanted.0 wanted.1 k before.now) encoder.old v encoder.new) }
-    ensures is { IfOk result (λ v. v ≡ quarter_vector_said (record { lists = vector_lists src.now.probs.now; allowed = src.now.high_precision; earlier = N.blocks src.now.earlier.now; before = blocks_of Q.blocks (option_copied src.now.before); search = src.now.search }) said wanted.0 wanted.1 k before.now) }
+    ensures put { IfOk result (λ v. PutsValue (quarter_vector (sources_of N.blocks Q.blocks src.now) said.mode wanted.0 wanted.1 k before.now) encoder.old v encoder.new) }
+    ensures is { IfOk result (λ v. v ≡ quarter_vector_said (sources_of N.blocks Q.blocks src.now) said wanted.0 wanted.1 k before.now) }
     ensures small { IfOk result (λ v. IfOk v IsSmallVector) }
 {
     let (reference, list) = wanted;
@@ -72,8 +73,8 @@ fn put_quarter_vectors<N: Neighbours, Q: Neighbours>(
     requires may { MaySearch N.holds N.blocks Q.holds Q.blocks src.now.earlier.now (option_copied src.now.before) src.now.search }
     requires small { AreSmallBefore before.now }
     requires can { CanSayVectors src.now.high_precision before.now.best references said }
-    ensures put { IfOk result (λ v. PutsValue (quarter_vectors (record { lists = vector_lists src.now.probs.now; allowed = src.now.high_precision; earlier = N.blocks src.now.earlier.now; before = blocks_of Q.blocks (option_copied src.now.before); search = src.now.search }) said.mode references k before.now) encoder.old v encoder.new) }
-    ensures is { IfOk result (λ v. v ≡ quarter_vectors_said (record { lists = vector_lists src.now.probs.now; allowed = src.now.high_precision; earlier = N.blocks src.now.earlier.now; before = blocks_of Q.blocks (option_copied src.now.before); search = src.now.search }) said references k before.now) }
+    ensures put { IfOk result (λ v. PutsValue (quarter_vectors (sources_of N.blocks Q.blocks src.now) said.mode references k before.now) encoder.old v encoder.new) }
+    ensures is { IfOk result (λ v. v ≡ quarter_vectors_said (sources_of N.blocks Q.blocks src.now) said references k before.now) }
     ensures small { IfOk result (λ v. IfOk v AreSmall) }
 {
     let first = match put_quarter_vector(encoder, src, said, (references.first, 0), k, before)? {
@@ -106,8 +107,8 @@ fn put_quarter<N: Neighbours, Q: Neighbours>(
     requires may { MaySearch N.holds N.blocks Q.holds Q.blocks src.now.earlier.now (option_copied src.now.before) src.now.search }
     requires small { AreSmallBefore before.now }
     requires can { CanSayVectors src.now.high_precision before.now.best references said }
-    ensures put { IfOk result (λ q. PutsValue (quarter (record { lists = vector_lists src.now.probs.now; allowed = src.now.high_precision; earlier = N.blocks src.now.earlier.now; before = blocks_of Q.blocks (option_copied src.now.before); search = src.now.search }) src.now.modes.now src.now.context references k before.now) encoder.old q encoder.new) }
-    ensures is { IfOk result (λ q. q ≡ quarter_said (record { lists = vector_lists src.now.probs.now; allowed = src.now.high_precision; earlier = N.blocks src.now.earlier.now; before = blocks_of Q.blocks (option_copied src.now.before); search = src.now.search }) said references k before.now) }
+    ensures put { IfOk result (λ q. PutsValue (quarter (sources_of N.blocks Q.blocks src.now) src.now.modes.now src.now.context references k before.now) encoder.old q encoder.new) }
+    ensures is { IfOk result (λ q. q ≡ quarter_said (sources_of N.blocks Q.blocks src.now) said references k before.now) }
     ensures small { IfOk result (λ r. IfOk r (λ q. AreSmall q.vectors)) }
 {
     put_inter_mode(encoder, src.modes, src.context, said.mode)?;
@@ -135,8 +136,8 @@ fn put_four<N: Neighbours, Q: Neighbours>(
     requires second { CanSayVectors src.now.high_precision best symbols.now.references (symbols_at symbols.now 1) }
     requires third { CanSayVectors src.now.high_precision best symbols.now.references (symbols_at symbols.now 2) }
     requires fourth { CanSayVectors src.now.high_precision best symbols.now.references (symbols_at symbols.now 3) }
-    ensures put { IfOk result (λ qs. PutsValue (four_quarters (record { lists = vector_lists src.now.probs.now; allowed = src.now.high_precision; earlier = N.blocks src.now.earlier.now; before = blocks_of Q.blocks (option_copied src.now.before); search = src.now.search }) src.now.modes.now src.now.context symbols.now.references best) encoder.old qs encoder.new) }
-    ensures is { IfOk result (λ qs. qs ≡ four_said (record { lists = vector_lists src.now.probs.now; allowed = src.now.high_precision; earlier = N.blocks src.now.earlier.now; before = blocks_of Q.blocks (option_copied src.now.before); search = src.now.search }) symbols.now best) }
+    ensures put { IfOk result (λ qs. PutsValue (four_quarters (sources_of N.blocks Q.blocks src.now) src.now.modes.now src.now.context symbols.now.references best) encoder.old qs encoder.new) }
+    ensures is { IfOk result (λ qs. qs ≡ four_said (sources_of N.blocks Q.blocks src.now) symbols.now best) }
     ensures small { IfOk result (λ qs. IfOk qs AreSmallQuarters) }
 {
     let (none, references) = (NO_VECTORS, symbols.references);
@@ -176,8 +177,8 @@ fn put_two_columns<N: Neighbours, Q: Neighbours>(
     requires small { AreSmall best }
     requires left { CanSayVectors src.now.high_precision best symbols.now.references (symbols_at symbols.now 0) }
     requires right { CanSayVectors src.now.high_precision best symbols.now.references (symbols_at symbols.now 1) }
-    ensures put { IfOk result (λ qs. PutsValue (two_columns (record { lists = vector_lists src.now.probs.now; allowed = src.now.high_precision; earlier = N.blocks src.now.earlier.now; before = blocks_of Q.blocks (option_copied src.now.before); search = src.now.search }) src.now.modes.now src.now.context symbols.now.references best) encoder.old qs encoder.new) }
-    ensures is { IfOk result (λ qs. qs ≡ columns_said (record { lists = vector_lists src.now.probs.now; allowed = src.now.high_precision; earlier = N.blocks src.now.earlier.now; before = blocks_of Q.blocks (option_copied src.now.before); search = src.now.search }) symbols.now best) }
+    ensures put { IfOk result (λ qs. PutsValue (two_columns (sources_of N.blocks Q.blocks src.now) src.now.modes.now src.now.context symbols.now.references best) encoder.old qs encoder.new) }
+    ensures is { IfOk result (λ qs. qs ≡ columns_said (sources_of N.blocks Q.blocks src.now) symbols.now best) }
     ensures small { IfOk result (λ qs. IfOk qs AreSmallQuarters) }
 {
     let (none, references) = (NO_VECTORS, symbols.references);
@@ -207,8 +208,8 @@ fn put_two_rows<N: Neighbours, Q: Neighbours>(
     requires small { AreSmall best }
     requires upper { CanSayVectors src.now.high_precision best symbols.now.references (symbols_at symbols.now 0) }
     requires lower { CanSayVectors src.now.high_precision best symbols.now.references (symbols_at symbols.now 2) }
-    ensures put { IfOk result (λ qs. PutsValue (two_rows (record { lists = vector_lists src.now.probs.now; allowed = src.now.high_precision; earlier = N.blocks src.now.earlier.now; before = blocks_of Q.blocks (option_copied src.now.before); search = src.now.search }) src.now.modes.now src.now.context symbols.now.references best) encoder.old qs encoder.new) }
-    ensures is { IfOk result (λ qs. qs ≡ rows_said (record { lists = vector_lists src.now.probs.now; allowed = src.now.high_precision; earlier = N.blocks src.now.earlier.now; before = blocks_of Q.blocks (option_copied src.now.before); search = src.now.search }) symbols.now best) }
+    ensures put { IfOk result (λ qs. PutsValue (two_rows (sources_of N.blocks Q.blocks src.now) src.now.modes.now src.now.context symbols.now.references best) encoder.old qs encoder.new) }
+    ensures is { IfOk result (λ qs. qs ≡ rows_said (sources_of N.blocks Q.blocks src.now) symbols.now best) }
     ensures small { IfOk result (λ qs. IfOk qs AreSmallQuarters) }
 {
     let (none, references) = (NO_VECTORS, symbols.references);
@@ -235,9 +236,9 @@ pub(crate) fn put_quarters<N: Neighbours, Q: Neighbours>(
     requires below { is_below_8x8 src.now.search.at.size ≡ true }
     requires context { src.now.context ≤ 6 }
     requires may { MaySearch N.holds N.blocks Q.holds Q.blocks src.now.earlier.now (option_copied src.now.before) src.now.search }
-    requires can { (k : ℕ) → k < 4 → CanSayVectors src.now.high_precision (best_vectors (record { lists = vector_lists src.now.probs.now; allowed = src.now.high_precision; earlier = N.blocks src.now.earlier.now; before = blocks_of Q.blocks (option_copied src.now.before); search = src.now.search }) symbols.now.references) symbols.now.references (symbols_at symbols.now (quarter_saying src.now.search.at.size k)) }
-    ensures put { IfOk result (λ qs. PutsValue (quarters (record { lists = vector_lists src.now.probs.now; allowed = src.now.high_precision; earlier = N.blocks src.now.earlier.now; before = blocks_of Q.blocks (option_copied src.now.before); search = src.now.search }) src.now.modes.now src.now.context symbols.now.references src.now.search.at.size) encoder.old qs encoder.new) }
-    ensures is { IfOk result (λ qs. qs ≡ quarters_said (record { lists = vector_lists src.now.probs.now; allowed = src.now.high_precision; earlier = N.blocks src.now.earlier.now; before = blocks_of Q.blocks (option_copied src.now.before); search = src.now.search }) symbols.now src.now.search.at.size) }
+    requires can { (k : ℕ) → k < 4 → CanSayVectors src.now.high_precision (best_vectors (sources_of N.blocks Q.blocks src.now) symbols.now.references) symbols.now.references (symbols_at symbols.now (quarter_saying src.now.search.at.size k)) }
+    ensures put { IfOk result (λ qs. PutsValue (quarters (sources_of N.blocks Q.blocks src.now) src.now.modes.now src.now.context symbols.now.references src.now.search.at.size) encoder.old qs encoder.new) }
+    ensures is { IfOk result (λ qs. qs ≡ quarters_said (sources_of N.blocks Q.blocks src.now) symbols.now src.now.search.at.size) }
     ensures small { IfOk result (λ qs. IfOk qs AreSmallQuarters) }
 {
     let best = best_vectors(src, symbols.references);
