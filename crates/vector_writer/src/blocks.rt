@@ -14,7 +14,7 @@ ghost use Rattle.inter_modes.specs.Vectors.{best_vectors};
 ghost use Rattle.inter_modes.specs.ModeInfo.{filter_of, interp_filter, block_mode, whole_block, block_of_quarters, inter_prediction};
 ghost use Rattle.vector_writer.specs.Code.{sources_of};
 ghost use Rattle.vector_writer.specs.Fits.{CanFilter, CanSayVectors, CanSayInter, quarter_saying};
-ghost use Rattle.vector_writer.specs.Said.{mode_at, symbols_at, whole_said, of_quarters_said, inter_said};
+ghost use Rattle.vector_writer.specs.Said.{mode_at, symbols_at, whole_said, of_quarters_said, inter_said, HasSaid};
 
 use crate::quarters::put_quarters;
 use crate::symbols::{InterSymbols, symbols_at};
@@ -152,6 +152,7 @@ pub fn put_inter_prediction<N: Neighbours, Q: Neighbours>(
     ensures put { IfOk result (λ p. (lists : InterLists) → lists.modes ≡ src.now.modes.now → lists.filters ≡ filters.now →
         PutsValue (inter_prediction (sources_of N.blocks Q.blocks src.now) lists skips filter.0 filter.1 symbols.now.references) encoder.old p encoder.new) }
     ensures is { IfOk result (λ p. p ≡ inter_said (sources_of N.blocks Q.blocks src.now) symbols.now) }
+    ensures said { IfOk result (λ r. IfOk r (HasSaid symbols.now)) }
     ensures small { IfOk result (λ r. IfOk r (λ p. PredictsSmall (Inter p))) }
 {
     if is_below_8x8(src.search.at.size) {
