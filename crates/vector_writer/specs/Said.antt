@@ -1,5 +1,5 @@
 -- The prediction that an inter block's symbols say (6.4.16 and 6.4.18 of the standard: inter_block_mode_info, assign_mv).
-use Rattle.std.specs.Prelude.{ℕ, List, [], ◌∷◌, Option, Some, None, Result, Ok, Err, slice_index_or, if◌then◌else◌}
+use Rattle.std.specs.Prelude.{◌≡◌, ℕ, List, [], ◌∷◌, Option, Some, None, Result, Ok, Err, slice_index_or, if◌then◌else◌}
 use Rattle.vp9_types.specs.Results.{◌>>=◌}
 use Rattle.vp9_types.specs.declared.block.BlockSize.{BlockSize}
 use Rattle.vp9_types.specs.declared.block.BlockSize.TheVariants.{B4x8, B8x4}
@@ -108,3 +108,9 @@ of_quarters_said s symbols =
 
 unfoldable pub inter_said : Sources → InterSymbols → Result InterPrediction Rule
 inter_said s symbols = if is_below_8x8 s.search.at.size then of_quarters_said s symbols else whole_said s symbols
+
+-- a prediction has the modes, the references and the filter that were said
+pub record HasSaid (symbols : InterSymbols) (p : InterPrediction) : Type 0 where
+  pub modes : p.modes ≡ symbols.modes
+  pub references : p.references ≡ symbols.references
+  pub filter : p.filter ≡ symbols.filter

@@ -9,6 +9,7 @@ ghost use Rattle.mv_prediction.specs.SubBlocks.{vector_at};
 ghost use Rattle.mv_prediction.specs.Vectors.{IsSmallVector};
 ghost use Rattle.inter_modes.specs.Code.{MaySearch, AreSmallBefore};
 ghost use Rattle.inter_modes.specs.Vectors.{inter_of, inter_mode, near_of_block, best_vectors, block_vector, block_vectors};
+ghost use Rattle.vector_writer.specs.Code.{sources_of};
 ghost use Rattle.vector_writer.specs.Fits.{CanBeNew, CanSayVectors};
 ghost use Rattle.vector_writer.specs.Said.{block_vector_said, block_vectors_said};
 
@@ -60,9 +61,9 @@ fn put_block_vector<N: Neighbours, Q: Neighbours>(
 ) -> Result<Result<Mv, Rule>, AllocError>
     requires list { wanted.1 < 2 }
     requires may { MaySearch N.holds N.blocks Q.holds Q.blocks src.now.earlier.now (option_copied src.now.before) src.now.search }
-    requires can { CanBeNew src.now.high_precision said.mode (near_of_block (record { lists = vector_lists src.now.probs.now; allowed = src.now.high_precision; earlier = N.blocks src.now.earlier.now; before = blocks_of Q.blocks (option_copied src.now.before); search = src.now.search }) wanted.0).nearest (vector_at said.differences wanted.1) }
-    ensures put { IfOk result (λ v. PutsValue (block_vector (record { lists = vector_lists src.now.probs.now; allowed = src.now.high_precision; earlier = N.blocks src.now.earlier.now; before = blocks_of Q.blocks (option_copied src.now.before); search = src.now.search }) said.mode wanted.0) encoder.old v encoder.new) }
-    ensures is { IfOk result (λ v. v ≡ block_vector_said (record { lists = vector_lists src.now.probs.now; allowed = src.now.high_precision; earlier = N.blocks src.now.earlier.now; before = blocks_of Q.blocks (option_copied src.now.before); search = src.now.search }) said wanted.0 wanted.1) }
+    requires can { CanBeNew src.now.high_precision said.mode (near_of_block (sources_of N.blocks Q.blocks src.now) wanted.0).nearest (vector_at said.differences wanted.1) }
+    ensures put { IfOk result (λ v. PutsValue (block_vector (sources_of N.blocks Q.blocks src.now) said.mode wanted.0) encoder.old v encoder.new) }
+    ensures is { IfOk result (λ v. v ≡ block_vector_said (sources_of N.blocks Q.blocks src.now) said wanted.0 wanted.1) }
     ensures small { IfOk result (λ v. IfOk v IsSmallVector) }
 {
     let (reference, list) = wanted;
@@ -87,9 +88,9 @@ pub(crate) fn put_block_vectors<N: Neighbours, Q: Neighbours>(
     references: References,
 ) -> Result<Result<[Mv; 2], Rule>, AllocError>
     requires may { MaySearch N.holds N.blocks Q.holds Q.blocks src.now.earlier.now (option_copied src.now.before) src.now.search }
-    requires can { CanSayVectors src.now.high_precision (best_vectors (record { lists = vector_lists src.now.probs.now; allowed = src.now.high_precision; earlier = N.blocks src.now.earlier.now; before = blocks_of Q.blocks (option_copied src.now.before); search = src.now.search }) references) references said }
-    ensures put { IfOk result (λ v. PutsValue (block_vectors (record { lists = vector_lists src.now.probs.now; allowed = src.now.high_precision; earlier = N.blocks src.now.earlier.now; before = blocks_of Q.blocks (option_copied src.now.before); search = src.now.search }) said.mode references) encoder.old v encoder.new) }
-    ensures is { IfOk result (λ v. v ≡ block_vectors_said (record { lists = vector_lists src.now.probs.now; allowed = src.now.high_precision; earlier = N.blocks src.now.earlier.now; before = blocks_of Q.blocks (option_copied src.now.before); search = src.now.search }) said references) }
+    requires can { CanSayVectors src.now.high_precision (best_vectors (sources_of N.blocks Q.blocks src.now) references) references said }
+    ensures put { IfOk result (λ v. PutsValue (block_vectors (sources_of N.blocks Q.blocks src.now) said.mode references) encoder.old v encoder.new) }
+    ensures is { IfOk result (λ v. v ≡ block_vectors_said (sources_of N.blocks Q.blocks src.now) said references) }
     ensures small { IfOk result (λ v. IfOk v AreSmall) }
 {
     let first = match put_block_vector(encoder, src, said, (references.first, 0))? {
