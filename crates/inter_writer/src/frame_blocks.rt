@@ -15,7 +15,9 @@ ghost use Rattle.inter_modes.specs.Code.{MaySearch, IsBlockAt, AreInRange, Predi
 ghost use Rattle.inter_modes.specs.ModeInfo.{checked_references, inter_block, intra_block, inter_frame_block, inter_frame_mode_info, intra_frame_block, mode_info, block_with, sources_of, least_before};
 ghost use Rattle.inter_contexts.specs.References.{in_range_or_rule};
 ghost use Rattle.mode_writer.specs.Fits.{CanLuma, CanPutIntraFrame};
-ghost use Rattle.inter_writer.specs.Fits.{AreReferences, choice_of, IsSegment, CanStart, CanSayInterBlock, CanPredict, CanPutInterFrame, CanPutIntra, CanPut};
+ghost use Rattle.inter_writer.specs.Fits.{CanRefer, choice_of, IsSegment, CanStart, CanSayInterBlock, CanPredict, CanPutInterFrame, CanPutIntra, CanPut};
+ghost use Rattle.vector_writer.specs.Code.{sources_of as sources_in};
+ghost use Rattle.inter_writer.specs.Code.{inter_frame_of};
 ghost use Rattle.inter_writer.specs.Said.{inter_block_said, block_said, IsSaidIntra, IsSaid};
 
 use crate::intra_blocks::put_intra_prediction;
@@ -103,7 +105,7 @@ fn put_checked_references(
     references: References,
 ) -> Result<Result<References, Rule>, AllocError>
     requires segment { segment ≤ 7 }
-    requires can { AreReferences (choice_of (frame_in frame.now) biases segment) references }
+    requires can { CanRefer (choice_of (frame_in frame.now) biases segment) references }
     ensures put { IfOk result (λ r. PutsValue (checked_references (frame_in frame.now) biases (option_copied beside.now.above) (option_copied beside.now.left) segment) encoder.old r encoder.new) }
     ensures is { IfOk result (λ r. r ≡ in_range_or_rule frame.now.setting.now.header.size frame.now.fields.now.references references) }
     ensures same { IfOk result (λ r. IfOk r (λ refs. refs ≡ references)) }
@@ -143,9 +145,9 @@ fn put_inter_block<N: Neighbours, Q: Neighbours>(
     requires few { src.now.context ≤ 6 }
     requires modes { src.now.modes.now ≡ frame.now.setting.now.contexts.inter.modes }
     requires may { MaySearch N.holds N.blocks Q.holds Q.blocks src.now.earlier.now (option_copied src.now.before) src.now.search }
-    requires can { CanSayInterBlock (frame_in frame.now) (record { lists = vector_lists src.now.probs.now; allowed = src.now.high_precision; earlier = N.blocks src.now.earlier.now; before = blocks_of Q.blocks (option_copied src.now.before); search = src.now.search }) start.now.segment.id symbols.now }
-    ensures put { IfOk result (λ r. PutsValue (inter_block (frame_in frame.now) (record { lists = vector_lists src.now.probs.now; allowed = src.now.high_precision; earlier = N.blocks src.now.earlier.now; before = blocks_of Q.blocks (option_copied src.now.before); search = src.now.search }) (option_copied beside.now.above) (option_copied beside.now.left) start.now) encoder.old r encoder.new) }
-    ensures is { IfOk result (λ r. r ≡ inter_block_said (frame_in frame.now) (record { lists = vector_lists src.now.probs.now; allowed = src.now.high_precision; earlier = N.blocks src.now.earlier.now; before = blocks_of Q.blocks (option_copied src.now.before); search = src.now.search }) start.now symbols.now) }
+    requires can { CanSayInterBlock (frame_in frame.now) (sources_in N.blocks Q.blocks src.now) start.now.segment.id symbols.now }
+    ensures put { IfOk result (λ r. PutsValue (inter_block (frame_in frame.now) (sources_in N.blocks Q.blocks src.now) (option_copied beside.now.above) (option_copied beside.now.left) start.now) encoder.old r encoder.new) }
+    ensures is { IfOk result (λ r. r ≡ inter_block_said (frame_in frame.now) (sources_in N.blocks Q.blocks src.now) start.now symbols.now) }
     ensures block { IfOk result (λ r. IfOk r (IsBlockAt src.now.search.at)) }
     ensures in_range { IfOk result (λ r. IfOk r (λ b. PredictsInRange frame.now.setting.now.header.size frame.now.fields.now.references b.prediction)) }
 {
@@ -153,14 +155,17 @@ fn put_inter_block<N: Neighbours, Q: Neighbours>(
     let segment = start.segment.id;
     let biases = src.search.biases;
     let references = symbols.references;
-    if let Err(rule) =
-        put_checked_references(encoder, frame, biases, beside, segment, references)?
-    {
+    if let Err(rule) = put_checked_references(
+        encoder, frame, biases, beside, segment, references,
+    )? {
         return Ok(Err(rule));
     }
     let filters = &setting.contexts.inter.filters;
     let skips = skips_segment(&setting.header.params.segmentation, segment);
-    let filter = (frame.fields.filter, filter_context(beside.above, beside.left));
+    let filter = (
+        frame.fields.filter,
+        filter_context(beside.above, beside.left),
+    );
     match put_inter_prediction(encoder, src, filters, skips, filter, symbols)? {
         Ok(prediction) => {
             let prediction = Prediction::Inter(prediction);
@@ -182,20 +187,27 @@ fn put_beside<N: Neighbours, Q: Neighbours>(
 ) -> Result<Result<BlockInfo, Rule>, AllocError>
     requires segment { symbols.now.start.segment.id ≤ 7 }
     requires first { CanStart frame.now.setting.now.header.params.segmentation frame.now.setting.now.modes.tx_mode src.now.search.at.size symbols.now.start }
-    requires prediction { CanPredict (frame_in frame.now) (record { lists = vector_lists src.now.probs.now; allowed = src.now.high_precision; earlier = N.blocks src.now.earlier.now; before = blocks_of Q.blocks (option_copied src.now.before); search = src.now.search }) symbols.now.start symbols.now.prediction }
+    requires prediction { CanPredict (frame_in frame.now) (sources_in N.blocks Q.blocks src.now) symbols.now.start symbols.now.prediction }
     requires context { src.now.context ≡ mode_context (N.blocks src.now.earlier.now) src.now.search }
     requires few { src.now.context ≤ 6 }
     requires modes { src.now.modes.now ≡ frame.now.setting.now.contexts.inter.modes }
     requires may { MaySearch N.holds N.blocks Q.holds Q.blocks src.now.earlier.now (option_copied src.now.before) src.now.search }
     ensures put { IfOk result (λ r. (least : ℕ) → IsSegment frame.now.setting.now.header.params.segmentation least symbols.now.start.segment →
-        PutsValue (inter_frame_block (frame_in frame.now) (record { lists = vector_lists src.now.probs.now; allowed = src.now.high_precision; earlier = N.blocks src.now.earlier.now; before = blocks_of Q.blocks (option_copied src.now.before); search = src.now.search }) (option_copied beside.now.above) (option_copied beside.now.left) least) encoder.old r encoder.new) }
-    ensures is { IfOk result (λ r. r ≡ block_said (frame_in frame.now) (record { lists = vector_lists src.now.probs.now; allowed = src.now.high_precision; earlier = N.blocks src.now.earlier.now; before = blocks_of Q.blocks (option_copied src.now.before); search = src.now.search }) symbols.now.start symbols.now.prediction) }
+        PutsValue (inter_frame_block (frame_in frame.now) (sources_in N.blocks Q.blocks src.now) (option_copied beside.now.above) (option_copied beside.now.left) least) encoder.old r encoder.new) }
+    ensures is { IfOk result (λ r. r ≡ block_said (frame_in frame.now) (sources_in N.blocks Q.blocks src.now) symbols.now.start symbols.now.prediction) }
     ensures block { IfOk result (λ r. IfOk r (IsBlockAt src.now.search.at)) }
     ensures in_range { IfOk result (λ r. IfOk r (λ b. PredictsInRange frame.now.setting.now.header.size frame.now.fields.now.references b.prediction)) }
 {
     let at = &src.search.at;
     let start = &symbols.start;
-    put_block_start(encoder, frame.setting, beside.above, beside.left, at.size, start)?;
+    put_block_start(
+        encoder,
+        frame.setting,
+        beside.above,
+        beside.left,
+        at.size,
+        start,
+    )?;
     match &symbols.prediction {
         PredictionSymbols::Intra(prediction) => {
             Ok(Ok(put_intra_block(encoder, frame, at, start, *prediction)?))
@@ -221,10 +233,10 @@ fn put_inter_frame_mode_info<N: Neighbours, Q: Neighbours>(
     requires held_before { IfSome (option_copied blocks.now.before) (λ q. Q.holds q at.row at.col) }
     requires small { All HasSmallVectors (N.blocks blocks.now.earlier.now) }
     requires small_before { All HasSmallVectors (blocks_of Q.blocks (option_copied blocks.now.before)) }
-    requires can { CanPutInterFrame (record { header = blocks.now.setting.now.header; fields = fields.now; modes = blocks.now.setting.now.modes; contexts = lists_of blocks.now.setting.now.contexts }) (sources_of (record { header = blocks.now.setting.now.header; fields = fields.now; modes = blocks.now.setting.now.modes; contexts = lists_of blocks.now.setting.now.contexts }) (N.blocks blocks.now.earlier.now) (blocks_of Q.blocks (option_copied blocks.now.before)) at)
+    requires can { CanPutInterFrame (inter_frame_of blocks.now.setting.now fields.now) (sources_of (inter_frame_of blocks.now.setting.now fields.now) (N.blocks blocks.now.earlier.now) (blocks_of Q.blocks (option_copied blocks.now.before)) at)
         (least_before blocks.now.setting.now.header (id_map blocks.now.map.now) at) symbols.now.start symbols.now.prediction }
-    ensures put { IfOk result (λ r. PutsValue (inter_frame_mode_info (record { header = blocks.now.setting.now.header; fields = fields.now; modes = blocks.now.setting.now.modes; contexts = lists_of blocks.now.setting.now.contexts }) (id_map blocks.now.map.now) (N.blocks blocks.now.earlier.now) (blocks_of Q.blocks (option_copied blocks.now.before)) at) encoder.old r encoder.new) }
-    ensures is { IfOk result (λ r. r ≡ block_said (record { header = blocks.now.setting.now.header; fields = fields.now; modes = blocks.now.setting.now.modes; contexts = lists_of blocks.now.setting.now.contexts }) (sources_of (record { header = blocks.now.setting.now.header; fields = fields.now; modes = blocks.now.setting.now.modes; contexts = lists_of blocks.now.setting.now.contexts }) (N.blocks blocks.now.earlier.now) (blocks_of Q.blocks (option_copied blocks.now.before)) at) symbols.now.start symbols.now.prediction) }
+    ensures put { IfOk result (λ r. PutsValue (inter_frame_mode_info (inter_frame_of blocks.now.setting.now fields.now) (id_map blocks.now.map.now) (N.blocks blocks.now.earlier.now) (blocks_of Q.blocks (option_copied blocks.now.before)) at) encoder.old r encoder.new) }
+    ensures is { IfOk result (λ r. r ≡ block_said (inter_frame_of blocks.now.setting.now fields.now) (sources_of (inter_frame_of blocks.now.setting.now fields.now) (N.blocks blocks.now.earlier.now) (blocks_of Q.blocks (option_copied blocks.now.before)) at) symbols.now.start symbols.now.prediction) }
     ensures block { IfOk result (λ r. IfOk r (IsBlockAt at)) }
     ensures in_range { IfOk result (λ r. IfOk r (λ b. PredictsInRange blocks.now.setting.now.header.size fields.now.references b.prediction)) }
 {
