@@ -1,0 +1,3 @@
+pub mod Modes
+pub mod Below
+pub mod InRange

@@ -1,0 +1,250 @@
+//! Quarters of blocks below 8x8.
+
+ghost use Rattle.std.specs.Prelude.{◌≡◌, ◌<◌, ◌≤◌, ℕ, true, IfOk};
+ghost use Rattle.std.specs.Option.{option_copied};
+ghost use Rattle.prob_contexts.specs.Lists.{vector_lists};
+ghost use Rattle.block_geometry.specs.Sizes.{is_below_8x8};
+ghost use Rattle.counting_writer.specs.Counted.{PutsValue};
+ghost use Rattle.mv_prediction.specs.Code.{AreSmall, blocks_of};
+ghost use Rattle.mv_prediction.specs.SubBlocks.{vector_at};
+ghost use Rattle.mv_prediction.specs.Vectors.{IsSmallVector};
+ghost use Rattle.inter_modes.specs.Code.{MaySearch, AreSmallBefore, AreSmallQuarters};
+ghost use Rattle.inter_modes.specs.Vectors.{best_vectors, quarter_vector, quarter_vectors, quarter, four_quarters, two_columns, two_rows, quarters};
+ghost use Rattle.vector_writer.specs.Code.{sources_of};
+ghost use Rattle.vector_writer.specs.Fits.{CanBeNew, CanSayVectors, quarter_saying};
+ghost use Rattle.vector_writer.specs.Said.{symbols_at, quarter_vector_said, quarter_vectors_said, quarter_said, four_said, columns_said, rows_said, quarters_said};
+
+use crate::new_vectors::put_new_vector;
+use crate::symbols::{InterSymbols, QuarterSymbols, symbols_at};
+use crate::vectors::put_inter_mode;
+use block_plan::{Mv, Neighbours, References};
+use bool_encoder::BoolEncoder;
+use inter_modes::{
+    NO_VECTOR, NO_VECTORS, Quarter, QuartersBefore, Sources, before_of, best_vectors,
+    near_of_quarter, nearest_of_quarter, of_list,
+};
+use std::alloc::AllocError;
+use vp9_types::{BlockSize, InterMode, ReferenceFrame, Rule};
+
+/// A quarter's vector of a reference, of the first list or the second.
+#[tactic(auto, unfolding(inter_modes::specs::Vectors::quarter_vector, inter_modes::specs::Vectors::vector_of_mode, crate::specs::Said::quarter_vector_said, crate::specs::Said::vector_said), using(counting_writer::proofs::CountedPuts::valued_settle))]
+fn put_quarter_vector<N: Neighbours, Q: Neighbours>(
+    encoder: &mut BoolEncoder,
+    src: &Sources<'_, N, Q>,
+    said: QuarterSymbols,
+    wanted: (ReferenceFrame, usize),
+    k: u8,
+    before: &QuartersBefore,
+) -> Result<Result<Mv, Rule>, AllocError>
+    requires list { wanted.1 < 2 }
+    requires k { k < 4 }
+    requires may { MaySearch N.holds N.blocks Q.holds Q.blocks src.now.earlier.now (option_copied src.now.before) src.now.search }
+    requires small { AreSmallBefore before.now }
+    requires can { CanBeNew src.now.high_precision said.mode (vector_at before.now.best wanted.1) (vector_at said.differences wanted.1) }
+    ensures put { IfOk result (λ v. PutsValue (quarter_vector (sources_of N.blocks Q.blocks src.now) said.mode wanted.0 wanted.1 k before.now) encoder.old v encoder.new) }
+    ensures is { IfOk result (λ v. v ≡ quarter_vector_said (sources_of N.blocks Q.blocks src.now) said wanted.0 wanted.1 k before.now) }
+    ensures small { IfOk result (λ v. IfOk v IsSmallVector) }
+{
+    let (reference, list) = wanted;
+    let quarters = of_list(list, &before.rows);
+    match said.mode {
+        InterMode::Zero => Ok(Ok(NO_VECTOR)),
+        InterMode::Nearest => Ok(Ok(nearest_of_quarter(src, reference, k, &quarters))),
+        InterMode::Near => Ok(Ok(near_of_quarter(src, reference, k, &quarters).near)),
+        InterMode::New => {
+            let best = before.best[list];
+            let difference = said.differences[list];
+            put_new_vector(encoder, src.probs, src.high_precision, best, difference)
+        }
+    }
+}
+
+/// A quarter's vectors of its block's references.
+#[tactic(auto, unfolding(inter_modes::specs::Vectors::quarter_vectors, inter_modes::specs::Vectors::with_second, crate::specs::Said::quarter_vectors_said, crate::specs::Said::second_said), using(counting_writer::proofs::CountedPuts::valued_in_order, counting_writer::proofs::CountedPuts::valued_settle, vp9_types::proofs::Binds::writes_bind))]
+fn put_quarter_vectors<N: Neighbours, Q: Neighbours>(
+    encoder: &mut BoolEncoder,
+    src: &Sources<'_, N, Q>,
+    said: QuarterSymbols,
+    references: References,
+    k: u8,
+    before: &QuartersBefore,
+) -> Result<Result<[Mv; 2], Rule>, AllocError>
+    requires k { k < 4 }
+    requires may { MaySearch N.holds N.blocks Q.holds Q.blocks src.now.earlier.now (option_copied src.now.before) src.now.search }
+    requires small { AreSmallBefore before.now }
+    requires can { CanSayVectors src.now.high_precision before.now.best references said }
+    ensures put { IfOk result (λ v. PutsValue (quarter_vectors (sources_of N.blocks Q.blocks src.now) said.mode references k before.now) encoder.old v encoder.new) }
+    ensures is { IfOk result (λ v. v ≡ quarter_vectors_said (sources_of N.blocks Q.blocks src.now) said references k before.now) }
+    ensures small { IfOk result (λ v. IfOk v AreSmall) }
+{
+    let first = match put_quarter_vector(encoder, src, said, (references.first, 0), k, before)? {
+        Ok(first) => first,
+        Err(rule) => return Ok(Err(rule)),
+    };
+    match references.second {
+        None => Ok(Ok([first, NO_VECTOR])),
+        Some(reference) => {
+            match put_quarter_vector(encoder, src, said, (reference, 1), k, before)? {
+                Ok(second) => Ok(Ok([first, second])),
+                Err(rule) => Ok(Err(rule)),
+            }
+        }
+    }
+}
+
+/// A quarter's mode and vectors.
+#[tactic(auto, unfolding(inter_modes::specs::Vectors::quarter, crate::specs::Said::quarter_said), using(counting_writer::proofs::CountedPuts::valued_in_order, counting_writer::proofs::CountedPuts::valued_settle, vp9_types::proofs::Binds::writes_bind))]
+fn put_quarter<N: Neighbours, Q: Neighbours>(
+    encoder: &mut BoolEncoder,
+    src: &Sources<'_, N, Q>,
+    said: QuarterSymbols,
+    references: References,
+    k: u8,
+    before: &QuartersBefore,
+) -> Result<Result<Quarter, Rule>, AllocError>
+    requires context { src.now.context ≤ 6 }
+    requires k { k < 4 }
+    requires may { MaySearch N.holds N.blocks Q.holds Q.blocks src.now.earlier.now (option_copied src.now.before) src.now.search }
+    requires small { AreSmallBefore before.now }
+    requires can { CanSayVectors src.now.high_precision before.now.best references said }
+    ensures put { IfOk result (λ q. PutsValue (quarter (sources_of N.blocks Q.blocks src.now) src.now.modes.now src.now.context references k before.now) encoder.old q encoder.new) }
+    ensures is { IfOk result (λ q. q ≡ quarter_said (sources_of N.blocks Q.blocks src.now) said references k before.now) }
+    ensures small { IfOk result (λ r. IfOk r (λ q. AreSmall q.vectors)) }
+{
+    put_inter_mode(encoder, src.modes, src.context, said.mode)?;
+    match put_quarter_vectors(encoder, src, said, references, k, before)? {
+        Ok(vectors) => Ok(Ok(Quarter {
+            mode: said.mode,
+            vectors,
+        })),
+        Err(rule) => Ok(Err(rule)),
+    }
+}
+
+/// Those of a block of 4x4, one after another.
+#[tactic(auto, unfolding(inter_modes::specs::Vectors::four_quarters, crate::specs::Said::four_said), using(counting_writer::proofs::CountedPuts::valued_in_order, counting_writer::proofs::CountedPuts::valued_settle, vp9_types::proofs::Binds::writes_bind))]
+fn put_four<N: Neighbours, Q: Neighbours>(
+    encoder: &mut BoolEncoder,
+    src: &Sources<'_, N, Q>,
+    symbols: &InterSymbols,
+    best: [Mv; 2],
+) -> Result<Result<[Quarter; 4], Rule>, AllocError>
+    requires context { src.now.context ≤ 6 }
+    requires may { MaySearch N.holds N.blocks Q.holds Q.blocks src.now.earlier.now (option_copied src.now.before) src.now.search }
+    requires small { AreSmall best }
+    requires first { CanSayVectors src.now.high_precision best symbols.now.references (symbols_at symbols.now 0) }
+    requires second { CanSayVectors src.now.high_precision best symbols.now.references (symbols_at symbols.now 1) }
+    requires third { CanSayVectors src.now.high_precision best symbols.now.references (symbols_at symbols.now 2) }
+    requires fourth { CanSayVectors src.now.high_precision best symbols.now.references (symbols_at symbols.now 3) }
+    ensures put { IfOk result (λ qs. PutsValue (four_quarters (sources_of N.blocks Q.blocks src.now) src.now.modes.now src.now.context symbols.now.references best) encoder.old qs encoder.new) }
+    ensures is { IfOk result (λ qs. qs ≡ four_said (sources_of N.blocks Q.blocks src.now) symbols.now best) }
+    ensures small { IfOk result (λ qs. IfOk qs AreSmallQuarters) }
+{
+    let (none, references) = (NO_VECTORS, symbols.references);
+    let before = before_of(best, none, none, none);
+    let q = match put_quarter(encoder, src, symbols_at(symbols, 0), references, 0, &before)? {
+        Ok(quarter) => quarter,
+        Err(rule) => return Ok(Err(rule)),
+    };
+    let before = before_of(best, q.vectors, none, none);
+    let r = match put_quarter(encoder, src, symbols_at(symbols, 1), references, 1, &before)? {
+        Ok(quarter) => quarter,
+        Err(rule) => return Ok(Err(rule)),
+    };
+    let before = before_of(best, q.vectors, r.vectors, none);
+    let t = match put_quarter(encoder, src, symbols_at(symbols, 2), references, 2, &before)? {
+        Ok(quarter) => quarter,
+        Err(rule) => return Ok(Err(rule)),
+    };
+    let before = before_of(best, q.vectors, r.vectors, t.vectors);
+    let u = match put_quarter(encoder, src, symbols_at(symbols, 3), references, 3, &before)? {
+        Ok(quarter) => quarter,
+        Err(rule) => return Ok(Err(rule)),
+    };
+    Ok(Ok([q, r, t, u]))
+}
+
+/// Those of a block of 4x8: one at the left and one at the right.
+#[tactic(auto, unfolding(inter_modes::specs::Vectors::two_columns, crate::specs::Said::columns_said), using(counting_writer::proofs::CountedPuts::valued_in_order, counting_writer::proofs::CountedPuts::valued_settle, vp9_types::proofs::Binds::writes_bind))]
+fn put_two_columns<N: Neighbours, Q: Neighbours>(
+    encoder: &mut BoolEncoder,
+    src: &Sources<'_, N, Q>,
+    symbols: &InterSymbols,
+    best: [Mv; 2],
+) -> Result<Result<[Quarter; 4], Rule>, AllocError>
+    requires context { src.now.context ≤ 6 }
+    requires may { MaySearch N.holds N.blocks Q.holds Q.blocks src.now.earlier.now (option_copied src.now.before) src.now.search }
+    requires small { AreSmall best }
+    requires left { CanSayVectors src.now.high_precision best symbols.now.references (symbols_at symbols.now 0) }
+    requires right { CanSayVectors src.now.high_precision best symbols.now.references (symbols_at symbols.now 1) }
+    ensures put { IfOk result (λ qs. PutsValue (two_columns (sources_of N.blocks Q.blocks src.now) src.now.modes.now src.now.context symbols.now.references best) encoder.old qs encoder.new) }
+    ensures is { IfOk result (λ qs. qs ≡ columns_said (sources_of N.blocks Q.blocks src.now) symbols.now best) }
+    ensures small { IfOk result (λ qs. IfOk qs AreSmallQuarters) }
+{
+    let (none, references) = (NO_VECTORS, symbols.references);
+    let before = before_of(best, none, none, none);
+    let q = match put_quarter(encoder, src, symbols_at(symbols, 0), references, 0, &before)? {
+        Ok(quarter) => quarter,
+        Err(rule) => return Ok(Err(rule)),
+    };
+    let before = before_of(best, q.vectors, none, none);
+    let r = match put_quarter(encoder, src, symbols_at(symbols, 1), references, 1, &before)? {
+        Ok(quarter) => quarter,
+        Err(rule) => return Ok(Err(rule)),
+    };
+    Ok(Ok([q, r, q, r]))
+}
+
+/// Those of a block of 8x4: an upper and a lower one.
+#[tactic(auto, unfolding(inter_modes::specs::Vectors::two_rows, crate::specs::Said::rows_said), using(counting_writer::proofs::CountedPuts::valued_in_order, counting_writer::proofs::CountedPuts::valued_settle, vp9_types::proofs::Binds::writes_bind))]
+fn put_two_rows<N: Neighbours, Q: Neighbours>(
+    encoder: &mut BoolEncoder,
+    src: &Sources<'_, N, Q>,
+    symbols: &InterSymbols,
+    best: [Mv; 2],
+) -> Result<Result<[Quarter; 4], Rule>, AllocError>
+    requires context { src.now.context ≤ 6 }
+    requires may { MaySearch N.holds N.blocks Q.holds Q.blocks src.now.earlier.now (option_copied src.now.before) src.now.search }
+    requires small { AreSmall best }
+    requires upper { CanSayVectors src.now.high_precision best symbols.now.references (symbols_at symbols.now 0) }
+    requires lower { CanSayVectors src.now.high_precision best symbols.now.references (symbols_at symbols.now 2) }
+    ensures put { IfOk result (λ qs. PutsValue (two_rows (sources_of N.blocks Q.blocks src.now) src.now.modes.now src.now.context symbols.now.references best) encoder.old qs encoder.new) }
+    ensures is { IfOk result (λ qs. qs ≡ rows_said (sources_of N.blocks Q.blocks src.now) symbols.now best) }
+    ensures small { IfOk result (λ qs. IfOk qs AreSmallQuarters) }
+{
+    let (none, references) = (NO_VECTORS, symbols.references);
+    let before = before_of(best, none, none, none);
+    let q = match put_quarter(encoder, src, symbols_at(symbols, 0), references, 0, &before)? {
+        Ok(quarter) => quarter,
+        Err(rule) => return Ok(Err(rule)),
+    };
+    let before = before_of(best, q.vectors, q.vectors, none);
+    let r = match put_quarter(encoder, src, symbols_at(symbols, 2), references, 2, &before)? {
+        Ok(quarter) => quarter,
+        Err(rule) => return Ok(Err(rule)),
+    };
+    Ok(Ok([q, q, r, r]))
+}
+
+/// The quarters of a block below 8x8.
+#[tactic(auto, unfolding(inter_modes::specs::Vectors::quarters, crate::specs::Said::quarters_said))]
+pub(crate) fn put_quarters<N: Neighbours, Q: Neighbours>(
+    encoder: &mut BoolEncoder,
+    src: &Sources<'_, N, Q>,
+    symbols: &InterSymbols,
+) -> Result<Result<[Quarter; 4], Rule>, AllocError>
+    requires below { is_below_8x8 src.now.search.at.size ≡ true }
+    requires context { src.now.context ≤ 6 }
+    requires may { MaySearch N.holds N.blocks Q.holds Q.blocks src.now.earlier.now (option_copied src.now.before) src.now.search }
+    requires can { (k : ℕ) → k < 4 → CanSayVectors src.now.high_precision (best_vectors (sources_of N.blocks Q.blocks src.now) symbols.now.references) symbols.now.references (symbols_at symbols.now (quarter_saying src.now.search.at.size k)) }
+    ensures put { IfOk result (λ qs. PutsValue (quarters (sources_of N.blocks Q.blocks src.now) src.now.modes.now src.now.context symbols.now.references src.now.search.at.size) encoder.old qs encoder.new) }
+    ensures is { IfOk result (λ qs. qs ≡ quarters_said (sources_of N.blocks Q.blocks src.now) symbols.now src.now.search.at.size) }
+    ensures small { IfOk result (λ qs. IfOk qs AreSmallQuarters) }
+{
+    let best = best_vectors(src, symbols.references);
+    match src.search.at.size {
+        BlockSize::B4x8 => put_two_columns(encoder, src, symbols, best),
+        BlockSize::B8x4 => put_two_rows(encoder, src, symbols, best),
+        _ => put_four(encoder, src, symbols, best),
+    }
+}
