@@ -87,6 +87,9 @@ value_by (done y) old new x counted h = (ap (λ z. z.value) h.0, h.1)
 value_by (broken e) old new x counted h = absurd h
 value_by (ask p k) old new x counted h = (h.0, h.1, value_by (k h.0) (after_put p h.0 old) new x counted h.2)
 
+pub value_by_counting : {A : Type 0} (s : Syntax ℕ Rule (Settled A)) (old new : Part) (x : A) → PutsCounting s old x new → PutsValue s old x new
+value_by_counting s old new x h = value_by s old new x h.0 h.1
+
 pub counting_puts : {A B : Type 0} (s : Syntax ℕ Rule (Settled A)) (f : A → Syntax ℕ Rule (Settled B)) (old mid new : Part) (x : A) (y : B)
     → PutsCounting s old x mid → PutsCounting (f x) mid y new → PutsCounting (in_order s f) old y new
 counting_puts {B = B} s f old mid new x y h g =

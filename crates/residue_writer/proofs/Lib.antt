@@ -1,0 +1,2 @@
+pub mod ResiduePuts
+pub mod PlanePuts
