@@ -1,2 +1,3 @@
 pub mod ResiduePuts
 pub mod PlanePuts
+pub mod BlockPuts

@@ -1,5 +1,5 @@
 -- A block in a plane, put transform block by transform block.
-use Rattle.std.proofs.Common.{◌≡◌, ◌<◌, ◌≤◌, ◌+◌, ◌++◌, ◌∷◌, [], ◌||◌, ℕ, ◌∙◌, refl, sym, ap, Bool, false, List, length, get_or, drop}
+use Rattle.std.proofs.Common.{◌≡◌, ◌<◌, ◌≤◌, ◌+◌, ◌-◌, ◌*◌, ◌∷◌, [], ◌||◌, ℕ, ◌∙◌, refl, sym, ap, Bool, false, List, length, get_or, take, drop}
 use Rattle.std.specs.Prelude.{Result, Ok, Err, Some, None, slice_index, nat_lt}
 use Rattle.std.specs.List.{list_any}
 use Rattle.std.proofs.lemmas.List.{drop_more, drop_all}
@@ -10,7 +10,8 @@ use Rattle.vp9_tables.specs.Scans.{area}
 use Rattle.prob_contexts.specs.Lists.{ContextLists}
 use Rattle.bool_encoder.specs.Part.{Part}
 use Rattle.block_plan.specs.Planned.{Residue}
-use Rattle.counting_reader.specs.Counting.{settle, through}
+use Rattle.block_plan.proofs.Held.{one_long}
+use Rattle.counting_reader.specs.Counting.{through}
 use Rattle.counting_writer.specs.Counted.{PutsTo}
 use Rattle.counting_writer.proofs.CountedPuts.{LeftOf, puts_on, puts_broken, puts_settle, through_begins, through_goes, through_breaks, through_ends}
 use Rattle.block_residue.specs.Residues.{ReadPlane, read_residue, read_next, with_sides, is_coded}
@@ -22,7 +23,7 @@ use Rattle.residue_writer.specs.declared.levels.PlaneLevels.{PlaneLevels}
 
 ---- One transform block ----
 
--- what is said of the k-th transform block
+-- what is said of the k-th
 abbrev pub said_at : BlockInPlane → PlaneLevels → ℕ × ℕ → ℕ → Result Residue Rule
 said_at b levels at k = residue_said b at.0 at.1 (slice_index levels.counts k) (levels_at levels (area b.block.tx) k)
 
@@ -59,6 +60,18 @@ coded_one : (at : ℕ × ℕ) (r : Residue) → list_any is_coded ((at, r) ∷ [
 coded_one at None = refl
 coded_one at (Some values) = refl
 
+-- that the code holds its levels in a slice of its own
+pub put_at : (contexts : ContextLists) (b : BlockInPlane) (levels : PlaneLevels) (at : ℕ × ℕ) (k n y x : ℕ) (s : Sides) (now next : Part) → n ≡ area b.block.tx → at ≡ (y, x)
+    → PutsTo (read_residue contexts b y x s) now (map_ok (λ r. (r, with_sides b.block y x (nat_lt 0 (slice_index levels.counts k)) s))
+    (residue_said b y x (slice_index levels.counts k) (take (k * n + n - k * n) (drop (k * n) levels.values)))) next
+    → PutsAt contexts b levels at k s now next
+put_at contexts b levels at k n y x s now next is place put = rw place (rw (one_long, is) at put)
+
+pub told_at : (b : BlockInPlane) (levels : PlaneLevels) (at : ℕ × ℕ) (k n y x : ℕ) (told : Result Bool Rule) → n ≡ area b.block.tx → at ≡ (y, x)
+    → TellsAny (residue_said b y x (slice_index levels.counts k) (take (k * n + n - k * n) (drop (k * n) levels.values))) told
+    → TellsAny (said_at b levels at k) told
+told_at b levels at k n y x told is place tells = rw place (rw (one_long, is) at tells)
+
 ---- All of them ----
 
 abbrev from_sides : Sides → ReadPlane
@@ -74,21 +87,21 @@ pub passes_none : (contexts : ContextLists) (b : BlockInPlane) (levels : PlaneLe
     → Passes contexts b levels places s old 0 s false old
 passes_none contexts b levels places s old = (from_sides s, refl, refl, through_begins (read_next contexts b) places (from_sides s) old, refl)
 
-pub passes_on : (contexts : ContextLists) (b : BlockInPlane) (levels : PlaneLevels) (places : List (ℕ × ℕ)) (s sides : Sides) (old now next : Part) (k : ℕ) (any some : Bool)
+pub passes_on : (contexts : ContextLists) (b : BlockInPlane) (levels : PlaneLevels) (places : List (ℕ × ℕ)) (s sides beyond : Sides) (old now next : Part) (k : ℕ) (any some : Bool)
     → k < length places → Passes contexts b levels places s old k sides any now
     → PutsAt contexts b levels (get_or places k (0, 0)) k sides now next → TellsAny (said_at b levels (get_or places k (0, 0)) k) (Ok some)
-    → Passes contexts b levels places s old (k + 1)
-        (with_sides b.block (get_or places k (0, 0)).0 (get_or places k (0, 0)).1 (nat_lt 0 (slice_index levels.counts k)) sides) (any || some) next
-passes_on contexts b levels places s sides old now next k any some low st put tells =
+    → beyond ≡ with_sides b.block (get_or places k (0, 0)).0 (get_or places k (0, 0)).1 (nat_lt 0 (slice_index levels.counts k)) sides
+    → Passes contexts b levels places s old (k + 1) beyond (any || some) next
+passes_on contexts b levels places s sides beyond old now next k any some low st put tells marks =
     let p = st.0 in
     let at = get_or places k (0, 0) in
     let r = tells.0 in
     let here : PutsAt contexts b levels at k p.sides now next = rw st.1 put in (
       with_residue b at (slice_index levels.counts k) r p,
-      ap (λ (t : Sides). with_sides b.block at.0 at.1 (nat_lt 0 (slice_index levels.counts k)) t) st.1,
+      ap (λ (t : Sides). with_sides b.block at.0 at.1 (nat_lt 0 (slice_index levels.counts k)) t) st.1 ∙ sym marks,
       sym (list_any-append is_coded p.residues ((at, r) ∷ [])
-      ∙ (ap (λ (w : Bool). list_any is_coded p.residues || w) (coded_one at r ∙ tells.2)
-      ∙ ap (λ (w : Bool). w || some) (sym st.2))),
+          ∙ (ap (λ (w : Bool). list_any is_coded p.residues || w) (coded_one at r ∙ tells.2)
+          ∙ ap (λ (w : Bool). w || some) (sym st.2))),
       through_goes (read_next contexts b) places (from_sides s) p _ old now next k (0, 0) low st.3 (next_put contexts b levels at k p r now next here tells.1),
       st.4 ∙ said_more b levels places k p r low tells.1,
     )

@@ -1,5 +1,5 @@
 -- How the residue of a transform block is put.
-use Rattle.std.proofs.Common.{◌≡◌, ◌<◌, ℕ, ℤ, ◌∙◌, refl, sym, true, false, List, length}
+use Rattle.std.proofs.Common.{◌≡◌, ℕ, ℤ, refl, sym, true, false, List, length}
 use Rattle.std.specs.Prelude.{Some, None, Result, Ok, Err, nat_lt}
 use Rattle.std.proofs.lemmas.Bool.{eq-eqb, ne_eqb}
 use Rattle.vp9_types.specs.Results.{map_ok}
@@ -11,7 +11,7 @@ use Rattle.coef_tokens.specs.Blocks.{block_tables}
 use Rattle.coef_tokens.specs.Places.{Read}
 use Rattle.coef_tokens.specs.Code.{HoldsLevels}
 use Rattle.counting_reader.specs.Counting.{settle, lifted, in_order}
-use Rattle.counting_writer.specs.Counted.{PutsTo, PutsValue}
+use Rattle.counting_writer.specs.Counted.{PutsTo}
 use Rattle.counting_writer.proofs.CountedPuts.{puts_value, value_by_counting, puts_on, puts_broken, puts_lifted, puts_settle}
 use Rattle.token_writer.specs.Fits.{PutsLevels}
 use Rattle.residue_blocks.specs.Residue.{residue}

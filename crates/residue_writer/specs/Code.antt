@@ -1,5 +1,5 @@
 -- What the code's calls answer.
-use Rattle.std.specs.Prelude.{◌≡◌, ℕ, Bool, true, false, Result, Ok, Err, Some, None}
+use Rattle.std.specs.Prelude.{◌≡◌, Bool, Result, Ok, Err}
 use Rattle.std.specs.List.{list_any}
 use Rattle.vp9_types.specs.declared.rule.Rule.{Rule}
 use Rattle.block_plan.specs.Planned.{Residue, PlannedBlock}

@@ -43,7 +43,8 @@ fn put_plane(
         return Ok(Ok(false));
     }
     let grid = transform_grid(setting.places, b.block);
-    put_residues(encoder, &setting.contexts, sides, &b, &grid, levels)
+    let any = put_residues(encoder, &setting.contexts, sides, &b, &grid, levels)?;
+    Ok(any)
 }
 
 /// Puts the residue of a block whose modes are known, and answers the block as it is listed, or which rule is broken by the
