@@ -22,7 +22,7 @@ valued (ask p k) = ask p (λ v. valued (k v))
 abbrev pub PutsValue : {A : Type 0} → Syntax ℕ Rule (Settled A) → Part → A → Part → Type 0
 PutsValue s old x new = Puts (valued s) old x new
 
--- bools that lead the syntax to its end were put: to the value, or to the rule that is broken
+-- bools that lead the syntax to its end were put: to the value, or to the rule that is broken there
 abbrev pub PutsTo : {A : Type 0} → Syntax ℕ Rule (Settled A) → Part → Result A Rule → Part → Type 0
 PutsTo s old r new = WritesTo can_put after_put (valued s) old r new
 

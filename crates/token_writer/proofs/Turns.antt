@@ -22,7 +22,7 @@ use Rattle.coef_tokens.proofs.Turns.{kept}
 use Rattle.coef_tokens.specs.declared.step.Step.{Step}
 use Rattle.coef_tokens.specs.declared.step.Step.TheVariants.{End, Zero, Level}
 use Rattle.coef_tokens.specs.Places.{Tables, Tokens, Read, no_tokens, block_tokens, tokens_from, step_by, row_at, with_zero, with_level, goes_on, level_at}
-use Rattle.coef_tokens.specs.Code.{HoldsClasses, HoldsLevels}
+use Rattle.coef_tokens.specs.Code.{HoldsClasses, HoldsLevels, StandsAt}
 use Rattle.counting_writer.specs.Counted.{valued, PutsValue}
 use Rattle.token_writer.specs.Fits.{CanPut, IsCoded, PutsLevels, level_of}
 use Rattle.token_writer.specs.Code.{PutsStep, AreThree}
@@ -78,9 +78,6 @@ Left t first old place check p now =
 abbrev pub Stands : Tables → ℕ → Part → ℕ → Bool → List ℕ → List ℤ → Part → Type 0
 Stands t first old place check cache levels now =
     (p : Tokens) × (p.count ≡ place) × HoldsClasses cache p.reads × HoldsFirst t.scan place levels p.reads × Left t first old place check p now
-
-abbrev pub IsRow : Tables → ℕ → ℕ → List ℕ → ℕ → Type 0
-IsRow t first place cache row = (reads : List Read) → HoldsClasses cache reads → row ≡ row_at t first place reads
 
 pub begins : (t : Tables) (first : ℕ) (old : Part) (cache : List ℕ) (levels : List ℤ) → HoldsClasses cache [] → Stands t first old 0 true cache levels old
 unfolding block_tokens
@@ -144,7 +141,7 @@ classes_set cache reads position class level low holds = λ p. elim (cases_eq p 
 ]
 
 pub zero_turn : (t : Tables) (first : ℕ) (old : Part) (place row : ℕ) (check : Bool) (probs cache : List ℕ) (levels : List ℤ) (now next : Part)
-    → Stands t first old place check cache levels now → place < length t.scan → IsRow t first place cache row → AreThree t row probs
+    → Stands t first old place check cache levels now → place < length t.scan → StandsAt t first place cache row → AreThree t row probs
     → level_of levels (slice_index t.scan place) ≡ pos 0 → PutsStep t.depth check probs now Zero next → Stands t first old (place + 1) false cache levels next
 zero_turn t first old place row check probs cache levels now next st low is three none put =
     let p = st.0 in (
@@ -156,7 +153,7 @@ zero_turn t first old place row check probs cache levels now next st low is thre
     )
 
 pub level_turn : (t : Tables) (first : ℕ) (old : Part) (place row : ℕ) (check : Bool) (probs cache : List ℕ) (levels : List ℤ) (class : ℕ) (now next : Part)
-    → Stands t first old place check cache levels now → place < length t.scan → IsRow t first place cache row → AreThree t row probs
+    → Stands t first old place check cache levels now → place < length t.scan → StandsAt t first place cache row → AreThree t row probs
     → slice_index t.scan place < length cache → PutsStep t.depth check probs now (Level (level_of levels (slice_index t.scan place)) class) next
     → Stands t first old (place + 1) true (set cache (slice_index t.scan place) class) levels next
 level_turn t first old place row check probs cache levels class now next st low is three inside put =
@@ -185,7 +182,7 @@ ends_at_last t first old count check cache levels now can st all =
     (p, value_counts (block_tokens t first) old now p whole, st.1, all_held t levels count p.reads can st.3)
 
 pub ends_here : (t : Tables) (first : ℕ) (old : Part) (count row : ℕ) (probs cache : List ℕ) (levels : List ℤ) (now next : Part)
-    → CanPut t levels count → Stands t first old count true cache levels now → count < length t.scan → IsRow t first count cache row → AreThree t row probs
+    → CanPut t levels count → Stands t first old count true cache levels now → count < length t.scan → StandsAt t first count cache row → AreThree t row probs
     → PutsStep t.depth true probs now End next → PutsLevels t first old levels count next
 ends_here t first old count row probs cache levels now next can st low is three put =
     let p = st.0 in
@@ -208,11 +205,12 @@ coded_below Eight m h = omega arith
 coded_below Ten m h = omega arith
 coded_below Twelve m h = omega arith
 
-pub can_by : (contexts : ContextLists) (at : TokenKind) (levels : List ℤ) (count : ℕ) → length (scan_of at.tx at.kind) ≡ area at.tx → count ≤ area at.tx
+pub can_by : (t : Tables) (contexts : ContextLists) (at : TokenKind) (levels : List ℤ) (count : ℕ) → t ≡ block_tables contexts at
+    → length (scan_of at.tx at.kind) ≡ area at.tx → count ≤ area at.tx
     → All (λ level. unsigned_abs level < 16451) levels → AreOthers (scan_of at.tx at.kind) count levels
-    → (0 < count → count < area at.tx → level_of levels (slice_index (scan_of at.tx at.kind) (count - 1)) ≢ pos 0) → CanPut (block_tables contexts at) levels count
+    → (0 < count → count < area at.tx → level_of levels (slice_index (scan_of at.tx at.kind) (count - 1)) ≢ pos 0) → CanPut t levels count
 unfolding block_tables
-can_by contexts at levels count size most small others last = record {
+can_by t contexts at levels count are size most small others last = rw are record {
   most = rw size most;
   coded = λ k d low. coded_below at.depth (unsigned_abs (get_or levels k d)) (small k d low);
   others = others;

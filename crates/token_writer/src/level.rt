@@ -2,12 +2,13 @@
 
 ghost use Rattle.std.specs.Prelude.{◌≡◌, ◌≤◌, ◌<◌, ◌^◌, IfOk, length, unsigned_abs};
 ghost use Rattle.bool_encoder.specs.Bools.{Puts};
-ghost use Rattle.coef_tokens.specs.Symbols.{bits_from, category_base, class_of, magnitude, level};
+ghost use Rattle.coef_tokens.specs.Symbols.{bits_from, class_of, magnitude, level};
 ghost use Rattle.coef_tokens.specs.declared.step.Step.TheVariants.{Level};
 ghost use Rattle.token_writer.specs.Fits.{IsCoded};
 ghost use Rattle.token_writer.specs.Code.{IsTokenOf};
 
 use bool_encoder::{BoolEncoder, put_flag};
+use coef_tokens::category_base;
 use std::alloc::AllocError;
 use vp9_tables::category_probs;
 use vp9_types::Depth;
@@ -29,22 +30,6 @@ pub(crate) fn token_of(depth: Depth, magnitude: u32) -> u8
         19..=34 => 8,
         35..=66 => 9,
         _ => 10,
-    }
-}
-
-/// Where a category from 1 to 6 begins.
-fn base_of(category: u8) -> u32
-    requires least { 1 ≤ category }
-    requires most { category ≤ 6 }
-    ensures { result ≡ category_base category }
-{
-    match category {
-        1 => 5,
-        2 => 7,
-        3 => 11,
-        4 => 19,
-        5 => 35,
-        _ => 67,
     }
 }
 
@@ -74,7 +59,7 @@ fn put_magnitude(
     if token < 5 {
         return Ok(());
     }
-    let bits = number - base_of(token - 4);
+    let bits = number - category_base(token - 4);
     put_bits(encoder, category_probs(token - 4, depth), bits)
 }
 

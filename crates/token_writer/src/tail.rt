@@ -6,23 +6,8 @@ ghost use Rattle.bool_encoder.specs.Bools.{Puts};
 ghost use Rattle.coef_tokens.specs.Symbols.{tail_prob, tail_token};
 
 use bool_encoder::{BoolEncoder, put_flag};
+use coef_tokens::tail_prob;
 use std::alloc::AllocError;
-use vp9_tables::pareto;
-
-/// The probability of a node of the tail.
-fn tail_prob(q: u8, node: u8) -> u8
-    requires least { 1 ≤ q }
-    requires node { node < 8 }
-    ensures { result ≡ tail_prob q node }
-{
-    let row = (q - 1) / 2;
-    let here = pareto(row)[node as usize];
-    if q % 2 == 1 {
-        return here;
-    }
-    let next = pareto(row + 1)[node as usize];
-    ((u16::from(here) + u16::from(next)) / 2) as u8
-}
 
 fn put_node(encoder: &mut BoolEncoder, q: u8, node: u8, one: bool) -> Result<(), AllocError>
     requires least { 1 ≤ q }

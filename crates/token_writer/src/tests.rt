@@ -154,18 +154,11 @@ fn writes(
     place_levels(row.at, row.coded, levels);
     assert!(rt; ends_in_a_level(row.at, levels, count));
     let mut encoder = BoolEncoder::new(alloc);
-    put_tokens(
-        &mut encoder,
-        &contexts,
-        row.at,
-        row.first,
-        levels,
-        count as u32,
-    )?;
+    let tables = TokenTables::new(&contexts, row.at);
+    put_tokens(&mut encoder, &tables, row.first, levels, count as u32)?;
     let bytes = encoder.finish()?;
     assert_eq!(rt; bytes.as_slice(), row.bytes);
     let mut reader = CountingReader::<false>::start(&bytes, Counts::new())?;
-    let tables = TokenTables::new(&contexts, row.at);
     assert_eq!(rt; tokens(&mut reader, &tables, row.first, read), count as u32);
     assert!(rt; *read == *levels);
     Ok(())

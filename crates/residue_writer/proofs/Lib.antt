@@ -1,0 +1,3 @@
+pub mod ResiduePuts
+pub mod PlanePuts
+pub mod BlockPuts

@@ -1,0 +1,19 @@
+use Rattle.std.proofs.Common.{ap}
+use Rattle.prob_contexts.specs.Lists.{lists_of}
+use Rattle.coef_tokens.specs.Blocks.{block_tables}
+use Rattle.coef_tokens.specs.declared.tables.TokenKind.{TokenKind}
+use Rattle.residue_writer.proofs.ResiduePuts.{residue_put}
+use Rattle.residue_writer.proofs.transform_blocks.put_residue.Goals as goal
+
+pub residue_said-requires-clause-coded : goal.residue_said-requires-clause-coded
+unfolding block_tables
+residue_said-requires-clause-coded c = c.requires.can.coded
+
+pub returns-clause-puts : goal.returns-clause-puts
+returns-clause-puts c =
+    let a = c.args in
+    residue_put (lists_of a.contexts.now) a.b.now a.at.0 a.at.1 a.coded.now.count a.coded.now.levels.now a.sides.now _ _ c.requires.long
+    (rw (c.new-tables.ensures.are, c.token_kind-kind.ensures, c.first_context-first.ensures.value) at c.in_ok-put_tokens.ensures)
+
+pub returns-clause-tells : goal.returns-clause-tells
+returns-clause-tells c = c.residue_said.ensures c.args.at.0 c.args.at.1 (ap (λ (k : TokenKind). k.kind) c.token_kind-kind.ensures)

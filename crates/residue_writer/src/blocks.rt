@@ -1,0 +1,80 @@
+//! A block in all planes of its frame.
+
+ghost use Rattle.std.specs.Prelude.{◌≡◌, ℕ, IfOk};
+ghost use Rattle.frame_headers.specs.State.{shape_of};
+ghost use Rattle.prob_contexts.specs.Lists.{lists_of};
+ghost use Rattle.counting_writer.specs.Counted.{PutsTo};
+ghost use Rattle.block_residue.specs.Residues.{read_plane, read_block};
+ghost use Rattle.block_residue.specs.Code.{FitPlane, FitPlanes, IsInFrame};
+ghost use Rattle.residue_writer.specs.Said.{said_in_plane, block_said};
+ghost use Rattle.residue_writer.specs.Fits.{CanPutIn, CanPutBlock};
+ghost use Rattle.residue_writer.specs.Code.{TellsPlane, TellsBlock};
+
+use crate::levels::{BlockLevels, PlaneLevels};
+use crate::planes::put_residues;
+use block_geometry::transform_grid;
+use block_plan::BlockInfo;
+use block_residue::{BlockInPlane, Sides, TileSides, listed};
+use bool_encoder::BoolEncoder;
+use frame_setting::FrameSetting;
+use std::alloc::AllocError;
+use vp9_types::{Plane, Rule};
+
+/// Puts the residue of a block in a plane, and answers whether it has any.
+fn put_plane(
+    encoder: &mut BoolEncoder,
+    setting: &FrameSetting,
+    block: &BlockInfo,
+    plane: Plane,
+    sides: &mut Sides,
+    levels: &PlaneLevels,
+) -> Result<Result<bool, Rule>, AllocError>
+    requires inside { IsInFrame (shape_of setting.now.header) block.now }
+    requires fit { FitPlane (shape_of setting.now.header) plane sides.old }
+    requires can { CanPutIn setting.now.header (lists_of setting.now.contexts) block.now plane levels.now }
+    ensures puts { IfOk result (λ _. PutsTo (read_plane setting.now.header (lists_of setting.now.contexts) block.now plane sides.old) encoder.old
+        (said_in_plane setting.now.header block.now plane levels.now sides.old) encoder.new) }
+    ensures tells { IfOk result (λ told. TellsPlane (said_in_plane setting.now.header block.now plane levels.now sides.old) told sides.new) }
+    ensures fit { FitPlane (shape_of setting.now.header) plane sides.new }
+{
+    let b = BlockInPlane::of(&setting.header, block, plane);
+    if block.skip {
+        sides.mark_skipped(&b.block);
+        return Ok(Ok(false));
+    }
+    let grid = transform_grid(setting.places, b.block);
+    let any = put_residues(encoder, &setting.contexts, sides, &b, &grid, levels)?;
+    Ok(any)
+}
+
+/// Puts the residue of a block whose modes are known, and answers the block as it is listed, or which rule is broken by the
+/// levels. The sides are then of no use, and neither are they after want of memory, when some of the bools were put.
+pub fn put_block(
+    encoder: &mut BoolEncoder,
+    setting: &FrameSetting,
+    block: &BlockInfo,
+    sides: &mut TileSides,
+    levels: &BlockLevels,
+) -> Result<Result<BlockInfo, Rule>, AllocError>
+    requires inside { IsInFrame (shape_of setting.now.header) block.now }
+    requires fit { FitPlanes (shape_of setting.now.header) sides.old }
+    requires can { CanPutBlock setting.now.header (lists_of setting.now.contexts) block.now levels.now }
+    ensures puts { IfOk result (λ _. (tile_from : ℕ) → PutsTo (read_block setting.now.header (lists_of setting.now.contexts) tile_from block.now sides.old) encoder.old
+        (block_said setting.now.header tile_from block.now levels.now sides.old) encoder.new) }
+    ensures tells { IfOk result (λ told. (tile_from : ℕ) → TellsBlock (block_said setting.now.header tile_from block.now levels.now sides.old) told sides.new) }
+    ensures fit { FitPlanes (shape_of setting.now.header) sides.new }
+{
+    let luma = match put_plane(encoder, setting, block, Plane::Y, &mut sides.y, &levels.y)? {
+        Ok(any) => any,
+        Err(rule) => return Ok(Err(rule)),
+    };
+    let first = match put_plane(encoder, setting, block, Plane::U, &mut sides.u, &levels.u)? {
+        Ok(any) => any,
+        Err(rule) => return Ok(Err(rule)),
+    };
+    let second = match put_plane(encoder, setting, block, Plane::V, &mut sides.v, &levels.v)? {
+        Ok(any) => any,
+        Err(rule) => return Ok(Err(rule)),
+    };
+    Ok(Ok(listed(block, luma | first | second)))
+}

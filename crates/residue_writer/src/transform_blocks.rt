@@ -1,0 +1,71 @@
+//! A transform block: its tokens, and whether they have a residue.
+
+ghost use Rattle.std.specs.Prelude.{◌≡◌, ◌<◌, ◌≤◌, ℕ, IfOk, length, nat_lt, unsigned_abs};
+ghost use Rattle.std.specs.List.{All};
+ghost use Rattle.prob_contexts.specs.Lists.{lists_of};
+ghost use Rattle.vp9_types.specs.Results.{map_ok};
+ghost use Rattle.vp9_tables.specs.Scans.{area};
+ghost use Rattle.counting_writer.specs.Counted.{PutsTo};
+ghost use Rattle.token_writer.specs.Fits.{IsCoded};
+ghost use Rattle.block_residue.specs.BlocksInPlanes.{type_at};
+ghost use Rattle.block_residue.specs.Residues.{read_residue, with_sides};
+ghost use Rattle.block_residue.specs.Code.{IsBeside, KeepsLengths};
+ghost use Rattle.residue_writer.specs.Said.{residue_said};
+ghost use Rattle.residue_writer.specs.Fits.{CanPutAt};
+ghost use Rattle.residue_writer.specs.Code.{TellsAny};
+
+use crate::levels::Coded;
+use block_residue::{BlockInPlane, Sides};
+use bool_encoder::BoolEncoder;
+use coef_tokens::TokenTables;
+use prob_contexts::Contexts;
+use residue_blocks::residue;
+use std::alloc::AllocError;
+use token_writer::put_tokens;
+use vp9_types::{Rule, TxType};
+
+/// Whether a transform block has a residue, if no rule is broken by its levels.
+fn residue_said(b: &BlockInPlane, tx_type: TxType, coded: &Coded) -> Result<bool, Rule>
+    requires long { length coded.now.levels.now ≡ area b.now.block.tx }
+    requires coded { All (λ level. IsCoded b.now.quant.depth (unsigned_abs level)) coded.now.levels.now }
+    ensures { (y x : ℕ) → tx_type ≡ type_at b.now y x → TellsAny (residue_said b.now y x coded.now.count coded.now.levels.now) result }
+{
+    if coded.count == 0 {
+        return Ok(false);
+    }
+    let mut buffer = [0; 1024];
+    let values = &mut buffer[..coded.levels.len()];
+    values.copy_from_slice(coded.levels);
+    residue(values, b.block.tx, tx_type, b.quant)?;
+    Ok(true)
+}
+
+/// Puts the residue of the transform block at a row and column, in 4s, and answers whether it has any, or which rule is
+/// broken by it. The sides are then of no use.
+pub(crate) fn put_residue(
+    encoder: &mut BoolEncoder,
+    contexts: &Contexts,
+    sides: &mut Sides,
+    b: &BlockInPlane,
+    at: (usize, usize),
+    coded: &Coded,
+) -> Result<Result<bool, Rule>, AllocError>
+    requires y { at.0 < 16 }
+    requires x { at.1 < 16 }
+    requires beside { IsBeside b.now.block at.0 at.1 sides.old }
+    requires long { length coded.now.levels.now ≡ area b.now.block.tx }
+    requires can { CanPutAt (lists_of contexts.now) b.now at coded.now.levels.now coded.now.count }
+    ensures puts { IfOk result (λ _. PutsTo (read_residue (lists_of contexts.now) b.now at.0 at.1 sides.old) encoder.old
+        (map_ok (λ r. (r, with_sides b.now.block at.0 at.1 (nat_lt 0 coded.now.count) sides.old)) (residue_said b.now at.0 at.1 coded.now.count coded.now.levels.now)) encoder.new) }
+    ensures tells { IfOk result (λ told. TellsAny (residue_said b.now at.0 at.1 coded.now.count coded.now.levels.now) told) }
+    ensures sides { IfOk result (λ _. sides.new ≡ with_sides b.now.block at.0 at.1 (nat_lt 0 coded.now.count) sides.old) }
+    ensures lengths { KeepsLengths sides.old sides.new }
+{
+    let (y, x) = at;
+    let kind = b.token_kind(y, x);
+    let tables = TokenTables::new(contexts, kind);
+    let first = sides.first_context(&b.block, y, x);
+    put_tokens(encoder, &tables, first, coded.levels, coded.count)?;
+    sides.mark(&b.block, y, x, 0 < coded.count);
+    Ok(residue_said(b, kind.kind, coded))
+}
