@@ -13,7 +13,7 @@ use Rattle.counting_writer.proofs.CountedPuts.{valued_in_order, valued_settle}
 use Rattle.tile_writer.specs.Said.{Said, behind}
 use Rattle.tile_writer.specs.Code.{Tile, SameTile, Rest, IsNext, EndsTile, then_rest}
 use Rattle.tile_writer.specs.declared.unwritten.Unwritten.{Unwritten}
-use Rattle.tile_writer.specs.declared.unwritten.Unwritten.TheVariants.{Broken, Unsaid, NoMemory}
+use Rattle.tile_writer.specs.declared.unwritten.Unwritten.TheVariants.{Broken, Unsaid, OutOfMemory}
 
 pub same_here : {S H T : Type 0} (t : Tile S H T) → SameTile t t
 same_here t = record { walk = refl; teller = refl; view = refl; limit = refl }
@@ -77,7 +77,7 @@ as_rest {S = S} a b n old new (Err (Broken rule)) is says h = (
   h.1,
 )
 as_rest a b n old new (Err Unsaid) is says h = λ s holds. sym (says (s, old.told)) ∙ h s holds
-as_rest a b n old new (Err NoMemory) is says h = tt
+as_rest a b n old new (Err OutOfMemory) is says h = tt
 
 -- one, and then another from there
 pub then_ends : {S H T : Type 0} (a b : Rest S T) (n m : ℕ) (old mid new : Tile S H T) (result : Result (Unit {0}) Unwritten)
@@ -110,7 +110,7 @@ then_ends a b n m old mid new (Err Unsaid) h k =
     λ s holds.
     let x = h.0 s holds in
     rw x.said (k x.next (rw (same.view) x.held))
-then_ends a b n m old mid new (Err NoMemory) h k = tt
+then_ends a b n m old mid new (Err OutOfMemory) h k = tt
 
 -- what stops one stops both
 pub then_stops : {S H T : Type 0} (a b : Rest S T) (n m : ℕ) (old new : Tile S H T) (e : Unwritten) → EndsTile a n old (Err e) new → EndsTile (then_rest a b) m old (Err e) new
@@ -121,13 +121,13 @@ then_stops a b n m old new (Broken rule) h = (
   h.1,
 )
 then_stops a b n m old new Unsaid h = λ s holds. rw (h s holds) refl
-then_stops a b n m old new NoMemory h = tt
+then_stops a b n m old new OutOfMemory h = tt
 
 -- what stops doesn't tell how many blocks there were
 pub stops_any : {S H T : Type 0} (rest : Rest S T) (n m : ℕ) (old new : Tile S H T) (e : Unwritten) → EndsTile rest n old (Err e) new → EndsTile rest m old (Err e) new
 stops_any rest n m old new (Broken rule) h = h
 stops_any rest n m old new Unsaid h = h
-stops_any rest n m old new NoMemory h = h
+stops_any rest n m old new OutOfMemory h = h
 
 -- fewer blocks are also at most so many
 pub ends_more : {S H T : Type 0} (rest : Rest S T) (n m : ℕ) (old new : Tile S H T) (result : Result (Unit {0}) Unwritten) → n ≤ m → EndsTile rest n old result new → EndsTile rest m old result new
@@ -165,4 +165,4 @@ symbol_ends old mid new x told p f n (Err (Broken rule)) put said held room same
   same_on old mid new same h.1,
 )
 symbol_ends old mid new x told p f n (Err Unsaid) put said held room same h = λ s holds. rw said (h s (rw (same.view, held) holds))
-symbol_ends old mid new x told p f n (Err NoMemory) put said held room same h = tt
+symbol_ends old mid new x told p f n (Err OutOfMemory) put said held room same h = tt

@@ -17,7 +17,7 @@ use Rattle.mode_syntax.specs.declared.square_at.SquareAt.{SquareAt}
 use Rattle.tile_writer.specs.Said.{Said, Teller, said_inside, said_parts, said_square, told_partition, behind}
 use Rattle.tile_writer.specs.Code.{Tile, SameTile, Rest, EndsTile, GivesPartition, StandsIn, block_rest, inside_rest, then_rest, parts_rest, square_rest}
 use Rattle.tile_writer.specs.declared.unwritten.Unwritten.{Unwritten}
-use Rattle.tile_writer.specs.declared.unwritten.Unwritten.TheVariants.{Broken, Unsaid, NoMemory}
+use Rattle.tile_writer.specs.declared.unwritten.Unwritten.TheVariants.{Broken, Unsaid, OutOfMemory}
 use Rattle.tile_writer.proofs.Endings.{as_rest, ends_here, ends_more, symbol_rest, symbol_ends, then_ends, same_here}
 
 inside : {S : Type 0} (walk : Walk S) (r c : ℕ) → r < walk.frame.rows → c < walk.frame.cols → starts_inside walk r c ≡ true
@@ -285,7 +285,7 @@ pub square_stopped : {S H T : Type 0} (old new : Tile S H T) (at : SquareAt) (n 
     → SquareEnds old.walk old.teller at.level at.row at.col old n (Err e) new
 square_stopped old new at n (Broken rule) row col h = absurd h
 square_stopped old new at n Unsaid row col h = λ s holds. unsaid_by old.walk old.teller at.level at.row at.col (s, old.told) (inside old.walk at.row at.col row col) h
-square_stopped old new at n NoMemory row col h = tt
+square_stopped old new at n OutOfMemory row col h = tt
 
 ---- Room ----
 

@@ -14,7 +14,7 @@ use Rattle.mode_syntax.specs.Walk.{Walk, block_inside, parts, decode_partition, 
 use Rattle.mode_syntax.specs.declared.square_at.SquareAt.{SquareAt}
 use Rattle.tile_writer.specs.Said.{Teller, Said, then_said, said_inside, said_parts, said_square, said_row, said_tile}
 use Rattle.tile_writer.specs.declared.unwritten.Unwritten.{Unwritten}
-use Rattle.tile_writer.specs.declared.unwritten.Unwritten.TheVariants.{Broken, Unsaid, NoMemory}
+use Rattle.tile_writer.specs.declared.unwritten.Unwritten.TheVariants.{Broken, Unsaid, OutOfMemory}
 
 -- How a tile is read, and who tells it what it says; the end of its columns of superblocks and the room for blocks. Of what
 -- reading keeps the code holds H, as `view` says; and what is still to be told, and the bools that were put.
@@ -54,7 +54,7 @@ EndsTile {S = S} rest n old (Ok u) new = ((s : S) → old.view s ≡ old.held �
 EndsTile {S = S} rest n old (Err (Broken rule)) new =
     ((s : S) → old.view s ≡ old.held → PutsTo (rest.syntax s) old.part (Err rule) new.part × (rest.said (s, old.told) ≡ Err (Broken rule))) × SameTile old new
 EndsTile {S = S} rest n old (Err Unsaid) new = (s : S) → old.view s ≡ old.held → rest.said (s, old.told) ≡ Err Unsaid
-EndsTile rest n old (Err NoMemory) new = Unit {0}
+EndsTile rest n old (Err OutOfMemory) new = Unit {0}
 
 -- a block
 abbrev pub block_rest : {S T : Type 0} → Walk S → Teller S T → BlockAt → Rest S T
@@ -72,7 +72,7 @@ abbrev pub GivesPartition : {S H T : Type 0} → SquareAt → Bool → Bool → 
 GivesPartition at has_rows has_cols old (Ok p) new = TellsPartition at has_rows has_cols old new p
 GivesPartition at has_rows has_cols old (Err (Broken rule)) new = ⊥
 GivesPartition at has_rows has_cols old (Err Unsaid) new = old.teller.partition has_rows has_cols old.told ≡ None
-GivesPartition at has_rows has_cols old (Err NoMemory) new = Unit {0}
+GivesPartition at has_rows has_cols old (Err OutOfMemory) new = Unit {0}
 
 -- a block stands in the columns of the tile
 pub record StandsIn {S H T : Type 0} (t : Tile S H T) (at : BlockAt) : Type 0 where

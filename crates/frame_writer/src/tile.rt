@@ -1,0 +1,99 @@
+//! A tile that is written.
+
+ghost use Rattle.std.specs.Prelude.{◌≡◌, ◌≤◌};
+ghost use Rattle.frame_decoder.specs.Code.{sources_of};
+ghost use Rattle.frame_decoder.specs.Columns.{limit_of};
+ghost use Rattle.frame_decoder.specs.Past.{IsPastOf};
+ghost use Rattle.frame_decoder.specs.Reading.{TileRead, read_walk};
+ghost use Rattle.tile_writer.specs.Code.{Tile};
+ghost use Rattle.frame_writer.specs.Symbols.{teller_of};
+ghost use Rattle.frame_writer.specs.Code.{TileHeld, IsReadyFor, held_of};
+
+use crate::symbols::FrameSymbols;
+use block_geometry::FramePlaces;
+use block_plan::BlockAt;
+use bool_encoder::BoolEncoder;
+use frame_decoder::{FrameSources, TileColumn, TilePlaces};
+use frame_headers::FrameKind;
+use inter_writer::{FrameBlocks, put_mode_info};
+use mode_syntax::SquareAt;
+use mode_writer::put_partition;
+use residue_writer::{BlockLevels, put_block};
+use std::alloc::AllocError;
+use tile_writer::{TileWriter, Unwritten};
+use vp9_types::Partition;
+
+/// A tile between two of its blocks: its bools so far, its column, and who tells what is to come.
+#[derive(Drop)]
+pub struct TileInProgress<'a, S> {
+    pub encoder: BoolEncoder,
+    pub by: &'a FrameSources<'a>,
+    pub places: TilePlaces,
+    pub column: &'a mut TileColumn,
+    pub symbols: &'a mut S,
+    pub levels: BlockLevels,
+}
+
+impl<'a, S: FrameSymbols> TileWriter for TileInProgress<'a, S> {
+    ghost State = { TileRead };
+    ghost Held = { TileHeld };
+    ghost Told = { S };
+
+    ghost tile = { λ w. record {
+        walk = read_walk (sources_of w.by.now) w.by.now.setting.places w.places;
+        teller = teller_of S.speaker (sources_of w.by.now);
+        view = held_of;
+        limit = limit_of w.column.now;
+        room = w.column.now.grid.room;
+        held = record { blocks = w.column.now.grid.blocks; sides = w.column.now.sides };
+        told = w.symbols.now;
+        part = w.encoder;
+    } };
+
+    ghost ready = { λ w. IsPastOf w.by.now.setting.header w.by.now.past × IsReadyFor w.by.now.setting w.places w.column.now };
+
+    fn frame(&self) -> FramePlaces {
+        self.by.setting.places
+    }
+
+    fn put_partition(
+        &mut self,
+        at: SquareAt,
+        has_rows: bool,
+        has_cols: bool,
+    ) -> Result<Partition, Unwritten> {
+        let Some(partition) = self.symbols.partition(has_rows, has_cols) else {
+            return Err(Unwritten::Unsaid);
+        };
+        let setting = &self.by.setting;
+        let intra = !matches!(setting.header.kind, FrameKind::Inter(_));
+        put_partition(&mut self.encoder, setting, intra, &self.column.grid, at, partition)?;
+        Ok(partition)
+    }
+
+    fn put_block(&mut self, at: BlockAt) -> Result<(), Unwritten> {
+        let Some(symbols) = self.symbols.block(self.by, &self.column.grid, at) else {
+            return Err(Unwritten::Unsaid);
+        };
+        let setting = &self.by.setting;
+        let frame = FrameBlocks {
+            setting,
+            earlier: &self.column.grid,
+            map: self.by.past.segments,
+            before: self.by.past.vectors.as_ref(),
+        };
+        let block = match put_mode_info(&mut self.encoder, &frame, at, &symbols)? {
+            Ok(block) => block,
+            Err(rule) => return Err(Unwritten::Broken(rule)),
+        };
+        if !self.symbols.levels(self.by, &block, &mut self.levels) {
+            return Err(Unwritten::Unsaid);
+        }
+        let sides = &mut self.column.sides;
+        match put_block(&mut self.encoder, setting, &block, sides, &self.levels)? {
+            Ok(listed) => self.column.grid.put(listed),
+            Err(rule) => return Err(Unwritten::Broken(rule)),
+        }
+        Ok(())
+    }
+}
