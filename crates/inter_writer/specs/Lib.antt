@@ -1,3 +1,2 @@
 pub mod Fits
 pub mod Said
-pub mod Code

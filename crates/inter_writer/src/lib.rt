@@ -7,4 +7,4 @@ mod intra_blocks;
 mod references;
 mod starts;
 
-pub use frame_blocks::{BlockSymbols, FrameBlocks, PredictionSymbols, put_mode_info};
+pub use frame_blocks::{BlockSymbols, PredictionSymbols, SaidBlock, put_mode_info};
