@@ -1,12 +1,12 @@
 #!/usr/bin/env python3
-"""Bytes of vectors' differences with the default probabilities, by exact fractions: each bool narrows an interval of [0, 1) as
+"""Bytes of vectors' differences, and of a block of 4x4 quarters with no block beside it, with the default probabilities, by exact fractions: each bool narrows an interval of [0, 1) as
 9.2 of the standard splits it. Tables are read from crates/vp9_tables/src/data.
 usage: vector_writings.py REPOSITORY"""
 import re, sys
 from fractions import Fraction
 TEXT = open(sys.argv[1] + "/crates/vp9_tables/src/data/defaults.rt").read()
-def table(name):
-    numbers = re.search(r"pub static PROB_MV_" + name + r": [^=]*= (\[.*?\]);", TEXT, re.S).group(1)
+def table(name, group="MV_"):
+    numbers = re.search(r"pub static PROB_" + group + name + r": [^=]*= (\[.*?\]);", TEXT, re.S).group(1)
     return [int(w) for w in re.findall(r"\d+", numbers)]
 JOINT, SIGN, CLASS, CLASS0, BITS = (table(n) for n in ["JOINT", "SIGN", "CLASS", "CLASS0", "BITS"])
 CLASS0_FR, FR, CLASS0_HP, HP = (table(n) for n in ["CLASS0_FR", "FR", "CLASS0_HP", "HP"])
@@ -48,12 +48,13 @@ def component(out, c, precise, value):
         ones(out, FR[3 * c:], fraction)
         if precise: out.put(HP[c], high)
     assert precise or high
+def difference(out, precise, row, column):
+    ones(out, JOINT, 2 * (row != 0) + (column != 0))
+    if row: component(out, 0, precise, row)
+    if column: component(out, 1, precise, column)
 def differences(rows):
     out = Interval()
-    for precise, row, column in rows:
-        ones(out, JOINT, 2 * (row != 0) + (column != 0))
-        if row: component(out, 0, precise, row)
-        if column: component(out, 1, precise, column)
+    for row in rows: difference(out, *row)
     return out.data()
 LCG = [11]
 def draw(n):
@@ -66,3 +67,11 @@ for i in range(14):
     drawn.append((i % 2, *[v if i % 2 else 2 * (v // 2) for v in (size(), size())]))
 print(drawn)
 print(len(differences(drawn)), differences(drawn))
+# a block of 4x4 quarters: its best vectors are 0, so that differences have bits of high precision. Sharp, by the context 1;
+# modes by the context 2, of no counters: new, nearest, near, new
+block = Interval()
+for p in table("FILTER", "")[2:4]: block.put(p, 1)
+for mode, new in [(3, [(6, -20), (-4, 100)]), (1, []), (2, []), (3, [(300, 8), (2, -2)])]:
+    ones(block, table("INTER_MODE", "")[6:9], mode)
+    for row, column in new: difference(block, True, row, column)
+print(len(block.data()), block.data())
