@@ -1,3 +1,4 @@
 pub mod Bits
 pub mod Modes
+pub mod Readings
 pub mod Sayings
