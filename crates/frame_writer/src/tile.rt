@@ -15,7 +15,7 @@ use block_plan::BlockAt;
 use bool_encoder::BoolEncoder;
 use frame_decoder::{FrameSources, TileColumn, TilePlaces};
 use frame_headers::FrameKind;
-use inter_writer::{FrameBlocks, put_mode_info};
+use inter_writer::{SaidBlock, put_mode_info};
 use mode_syntax::SquareAt;
 use mode_writer::put_partition;
 use residue_writer::{BlockLevels, put_block};
@@ -76,13 +76,11 @@ impl<'a, S: FrameSymbols> TileWriter for TileInProgress<'a, S> {
             return Err(Unwritten::Unsaid);
         };
         let setting = &self.by.setting;
-        let frame = FrameBlocks {
-            setting,
-            earlier: &self.column.grid,
-            map: self.by.past.segments,
-            before: self.by.past.vectors.as_ref(),
-        };
-        let block = match put_mode_info(&mut self.encoder, &frame, at, &symbols)? {
+        let before = self.by.past.vectors.as_ref();
+        let said = SaidBlock { at, symbols };
+        let grid = &self.column.grid;
+        let map = self.by.past.segments;
+        let block = match put_mode_info(&mut self.encoder, setting, grid, map, before, &said)? {
             Ok(block) => block,
             Err(rule) => return Err(Unwritten::Broken(rule)),
         };
