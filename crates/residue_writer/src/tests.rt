@@ -78,6 +78,17 @@ const BLOCK: BlockInfo = BlockInfo {
     }),
 };
 
+/// A level that each depth can code.
+fn coded_level(level: i32) -> i32
+    ensures { unsigned_abs result < 16451 }
+{
+    if level.unsigned_abs() < 16451 {
+        level
+    } else {
+        0
+    }
+}
+
 /// How many places are coded, of which the first alone can have a level.
 fn count_of(level: i32) -> u32
     ensures { ((result ≡ 0) × (level ≡ pos 0)) ⊎ ((result ≡ 1) × (level ≢ pos 0)) }
@@ -86,13 +97,13 @@ fn count_of(level: i32) -> u32
 }
 
 /// The levels of four transform blocks of 4x4.
-fn lone(first: i32, second: i32, third: i32, fourth: i32) -> PlaneLevels
-    requires first { unsigned_abs first < 16451 }
-    requires second { unsigned_abs second < 16451 }
-    requires third { unsigned_abs third < 16451 }
-    requires fourth { unsigned_abs fourth < 16451 }
+fn lone(levels: [i32; 4]) -> PlaneLevels
     ensures { (t : Tables) → length t.scan ≡ 16 → slice_index t.scan 0 ≡ 0 → (k : ℕ) → k < 4 → CanPut t (levels_at result 16 k) (slice_index result.counts k) }
 {
+    let first = coded_level(levels[0]);
+    let second = coded_level(levels[1]);
+    let third = coded_level(levels[2]);
+    let fourth = coded_level(levels[3]);
     let mut counts = [0; 256];
     let mut values = [0; 4096];
     counts[0] = count_of(first);
@@ -106,28 +117,27 @@ fn lone(first: i32, second: i32, third: i32, fourth: i32) -> PlaneLevels
     PlaneLevels { counts, values }
 }
 
-fn setting() -> FrameSetting {
-    FrameSetting::new(
-        &KEY_FRAME,
-        Modes {
-            tx_mode: TxMode::Only4x4,
-            reference_mode: ReferenceMode::Single,
-        },
-        default_contexts(),
-    )
-}
-
 fn writes(
     rt: &impl Abort,
     alloc: Global,
-    levels: &BlockLevels,
+    luma: [i32; 4],
     told: Result<BlockInfo, Rule>,
     bytes: &[u8],
 ) -> Result<(), Fail> {
-    let setting = setting();
+    let modes = Modes {
+        tx_mode: TxMode::Only4x4,
+        reference_mode: ReferenceMode::Single,
+    };
+    let setting = FrameSetting::new(&KEY_FRAME, modes, default_contexts());
+    let levels = BlockLevels {
+        y: lone(luma),
+        u: lone([0; 4]),
+        v: lone([-2, 0, 0, 0]),
+    };
     let mut encoder = BoolEncoder::new(alloc);
     let mut sides = TileSides::new(alloc, &KEY_FRAME.shape())?;
-    assert!(rt; put_block(&mut encoder, &setting, &BLOCK, &mut sides, levels)? == told);
+    let answer = put_block(&mut encoder, &setting, &BLOCK, &mut sides, &levels)?;
+    assert!(rt; answer == told);
     let written = encoder.finish()?;
     assert_eq!(rt; written.as_slice(), bytes);
     Ok(())
@@ -135,24 +145,15 @@ fn writes(
 
 #[test]
 fn levels_of_a_block(rt: HostRuntime) -> Result<(), Fail> {
-    let levels = BlockLevels {
-        y: lone(17, 0, -70, 1),
-        u: lone(0, 0, 0, 0),
-        v: lone(-2, 0, 0, 0),
-    };
     let bytes = [127, 255, 119, 10, 127, 255, 226, 1, 60, 169, 160];
-    writes(&rt, rt.alloc(), &levels, Ok(BLOCK), &bytes)
+    writes(&rt, rt.alloc(), [17, 0, -70, 1], Ok(BLOCK), &bytes)
 }
 
 #[test]
 fn level_that_breaks_a_rule(rt: HostRuntime) -> Result<(), Fail> {
-    let levels = BlockLevels {
-        y: lone(17, 16450, 0, 0),
-        u: lone(0, 0, 0, 0),
-        v: lone(-2, 0, 0, 0),
-    };
     let bytes = [
         127, 255, 119, 31, 255, 255, 255, 255, 255, 255, 255, 255, 184, 0, 0,
     ];
-    writes(&rt, rt.alloc(), &levels, Err(Rule::CoefRange), &bytes)
+    let broken = Err(Rule::CoefRange);
+    writes(&rt, rt.alloc(), [17, 16450, 0, 0], broken, &bytes)
 }
