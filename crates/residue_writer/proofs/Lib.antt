@@ -1,3 +1,4 @@
 pub mod ResiduePuts
 pub mod PlanePuts
 pub mod BlockPuts
+pub mod Lone
