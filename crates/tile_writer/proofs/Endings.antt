@@ -3,13 +3,10 @@ use Rattle.std.proofs.Common.{◌≡◌, ◌∙◌, ℕ, ◌+◌, ◌≤◌, ref
 use Rattle.std.specs.Prelude.{Result, Ok, Err, Option, Some}
 use Rattle.vp9_types.specs.Syntax.{Syntax}
 use Rattle.vp9_types.specs.declared.rule.Rule.{Rule}
-use Rattle.vp9_types.specs.Writing.{WritesTo}
-use Rattle.vp9_types.proofs.Binds.{writes_bind, writes_on, writes_to_fault}
-use Rattle.bool_encoder.specs.Part.{Part, after_put}
-use Rattle.bool_encoder.specs.Bools.{Puts, can_put}
+use Rattle.bool_encoder.specs.Part.{Part}
 use Rattle.counting_reader.specs.Counting.{Settled, in_order, settle}
-use Rattle.counting_writer.specs.Counted.{valued, PutsValue, PutsTo}
-use Rattle.counting_writer.proofs.CountedPuts.{valued_in_order, valued_settle}
+use Rattle.counting_writer.specs.Counted.{PutsValue, PutsTo}
+use Rattle.counting_writer.proofs.CountedPuts.{puts_broken, puts_on, puts_value, value_put, valued_settle}
 use Rattle.tile_writer.specs.Said.{Said, behind}
 use Rattle.tile_writer.specs.Code.{Tile, SameTile, Rest, IsNext, EndsTile, then_rest}
 use Rattle.tile_writer.specs.declared.unwritten.Unwritten.{Unwritten}
@@ -23,23 +20,13 @@ same_on a b c h g = record { walk = g.walk ∙ h.walk; teller = g.teller ∙ h.t
 
 ---- Bools of syntaxes that count ----
 
-counting_bind : {S T : Type 0} (x : Syntax ℕ Rule (Settled S)) (f : S → Syntax ℕ Rule (Settled T)) (old mid new : Part) (s : S) (t : T)
-    → PutsValue x old s mid → PutsValue (f s) mid t new → PutsValue (in_order x f) old t new
-counting_bind {T = T} x f old mid new s t h g =
-    subst (λ (u : Syntax ℕ Rule T). Puts u old t new) (sym (valued_in_order x f))
-    (writes_bind can_put after_put (valued x) (λ y. valued (f y)) old mid new s t h g)
-
 counting_on : {S T : Type 0} (x : Syntax ℕ Rule (Settled S)) (f : S → Syntax ℕ Rule (Settled T)) (old mid new : Part) (s : S) (r : Result T Rule)
     → PutsValue x old s mid → PutsTo (f s) mid r new → PutsTo (in_order x f) old r new
-counting_on {T = T} x f old mid new s r h g =
-    subst (λ (u : Syntax ℕ Rule T). WritesTo can_put after_put u old r new) (sym (valued_in_order x f))
-    (writes_on can_put after_put (valued x) (λ y. valued (f y)) old mid new s r h g)
+counting_on x f old mid new s r h g = puts_on x f old mid new s r (puts_value x old mid s h) g
 
-counting_to_fault : {S T : Type 0} (x : Syntax ℕ Rule (Settled S)) (f : S → Syntax ℕ Rule (Settled T)) (old new : Part) (rule : Rule)
-    → PutsTo x old (Err rule) new → PutsTo (in_order x f) old (Err rule) new
-counting_to_fault {T = T} x f old new rule h =
-    subst (λ (u : Syntax ℕ Rule T). WritesTo can_put after_put u old (Err rule) new) (sym (valued_in_order x f))
-    (writes_to_fault can_put after_put (valued x) (λ y. valued (f y)) old new rule h)
+counting_bind : {S T : Type 0} (x : Syntax ℕ Rule (Settled S)) (f : S → Syntax ℕ Rule (Settled T)) (old mid new : Part) (s : S) (t : T)
+    → PutsValue x old s mid → PutsValue (f s) mid t new → PutsValue (in_order x f) old t new
+counting_bind x f old mid new s t h g = value_put (in_order x f) old new t (counting_on x f old mid new s (Ok t) h (puts_value (f s) mid new t g))
 
 ---- What is put of a tile ----
 
@@ -117,7 +104,7 @@ pub then_stops : {S H T : Type 0} (a b : Rest S T) (n m : ℕ) (old new : Tile S
 then_stops a b n m old new (Broken rule) h = (
   λ s holds.
       let x = h.0 s holds in
-      (counting_to_fault (a.syntax s) b.syntax old.part new.part rule x.0, rw x.1 refl),
+      (puts_broken (a.syntax s) b.syntax old.part new.part rule x.0, rw x.1 refl),
   h.1,
 )
 then_stops a b n m old new Unsaid h = λ s holds. rw (h s holds) refl
