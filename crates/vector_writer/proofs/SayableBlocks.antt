@@ -1,5 +1,5 @@
 -- Whole blocks that are read can be put.
-use Rattle.std.proofs.Common.{◌≡◌, ℕ, inl, inr, zero, suc, ◌<◌, ◌≤◌, ◌∷◌, [], Bool, true, false, List, refl, sym, ◌∙◌, ap, arith}
+use Rattle.std.proofs.Common.{◌≡◌, ℕ, inl, inr, zero, suc, ◌<◌, ◌≤◌, ◌∷◌, [], Bool, true, false, List, length, refl, sym, ◌∙◌, ap, arith}
 use Rattle.std.specs.Prelude.{◌≢◌, Option, Some, None, IfSome, Result, Ok, Err, nat_eq, if◌then◌else◌}
 use Rattle.std.proofs.lemmas.Bool.{cases_Bool}
 use Rattle.vp9_types.specs.declared.block.BlockSize.{BlockSize}
@@ -18,7 +18,8 @@ use Rattle.block_plan.specs.declared.block.References.{References}
 use Rattle.counting_reader.specs.Counting.{Yields}
 use Rattle.counting_reader.proofs.Yields.{yields_bind, yields_all, yields_map}
 use Rattle.mv_prediction.specs.Candidates.{mode_context}
-use Rattle.inter_modes.specs.Vectors.{Sources, inter_mode, block_vectors, best_vectors, quarter, nothing_before, before_of, four_quarters, two_columns, two_rows, quarters}
+use Rattle.mv_prediction.specs.Vectors.{no_vector}
+use Rattle.inter_modes.specs.Vectors.{Sources, row_at, inter_mode, block_vectors, best_vectors, quarter, nothing_before, before_of, four_quarters, two_columns, two_rows, quarters}
 use Rattle.inter_modes.specs.ModeInfo.{filter_of, interp_filter, block_mode, whole_block, block_of_quarters, inter_prediction}
 use Rattle.vector_writer.specs.Fits.{CanFilter, CanSayVectors, CanSayInter, quarter_saying}
 use Rattle.vector_writer.specs.Said.{mode_at, symbols_at, quarter_said, four_said, columns_said, rows_said, quarters_said, block_vectors_said, whole_said, of_quarters_said, inter_said}
@@ -27,7 +28,7 @@ use Rattle.vector_writer.specs.declared.symbols.InterSymbols.{InterSymbols}
 use Rattle.vector_writer.specs.declared.symbols.QuarterSymbols.{QuarterSymbols}
 use Rattle.vector_writer.proofs.Modes.{from_8x8}
 use Rattle.vector_writer.proofs.Readings.{Any, yields_settle}
-use Rattle.vector_writer.proofs.Sayables.{Said, OfMode, yields_then, no_difference, block_vectors_yield, quarter_yield}
+use Rattle.vector_writer.proofs.Sayables.{Said, OfMode, CanQuarter, yields_then, no_difference, block_vectors_yield, quarter_yield}
 
 pub record Four : Type 0 where
   pub a : QuarterSymbols
@@ -44,14 +45,14 @@ symbols_of refs filter f = record {
 }
 
 abbrev idle : QuarterSymbols
-idle = record { mode = Zero; differences = [] }
+idle = record { mode = Zero; differences = no_vector ∷ no_vector ∷ [] }
 
 for_some : {A : Type 0} (o : Option A) (P : A → Type 0) → ((x : A) → P x) → IfSome o P
 for_some None P h = tt
 for_some (Some x) P h = h x
 
-idle_can : (allowed : Bool) (best : List Mv) (refs : References) → CanSayVectors allowed best refs idle
-idle_can allowed best refs = record { first = λ same. no_difference _; second = for_some refs.second _ (λ reference same. no_difference _) }
+idle_can : (allowed : Bool) (best : List Mv) (refs : References) → CanQuarter allowed best refs idle
+idle_can allowed best refs = (record { first = λ same. no_difference _; second = for_some refs.second _ (λ reference same. no_difference _) }, refl)
 
 below_four : (P : ℕ → Type 0) → P 0 → P 1 → P 2 → P 3 → (k : ℕ) → k < 4 → P k
 below_four P x y z w zero low = x
@@ -64,31 +65,35 @@ below_four P x y z w (suc (suc (suc (suc k)))) low = absurd (omega arith)
 pub record FourCan (s : Sources) (refs : References) (filter : InterpFilter) (size : BlockSize) (f : Four) : Type 0 where
   pub same : (k : ℕ) → k < 4 → mode_at (symbols_of refs filter f).modes k ≡ mode_at (symbols_of refs filter f).modes (quarter_saying size k)
   pub vectors : (k : ℕ) → k < 4 → CanSayVectors s.allowed (best_vectors s refs) refs (symbols_at (symbols_of refs filter f) (quarter_saying size k))
+  pub pairs : (k : ℕ) → k < 4 → length (row_at (symbols_of refs filter f).differences k) ≡ 2
 
 ---- Quarters ----
 
 abbrev Say : Sources → References → QuarterSymbols → Type 0
-Say s refs said = CanSayVectors s.allowed (best_vectors s refs) refs said
+Say s refs said = CanQuarter s.allowed (best_vectors s refs) refs said
 
 four_can : (s : Sources) (refs : References) (filter : InterpFilter) (a b c d : QuarterSymbols) → Say s refs a → Say s refs b → Say s refs c → Say s refs d
     → FourCan s refs filter B4x4 (record { a = a; b = b; c = c; d = d })
 four_can s refs filter a b c d ca cb cd ce = record {
   same = λ k low. refl;
-  vectors = below_four (λ k. Say s refs (symbols_at (symbols_of refs filter (record { a = a; b = b; c = c; d = d })) k)) ca cb cd ce;
+  vectors = below_four (λ k. CanSayVectors s.allowed (best_vectors s refs) refs (symbols_at (symbols_of refs filter (record { a = a; b = b; c = c; d = d })) k)) ca.0 cb.0 cd.0 ce.0;
+  pairs = below_four (λ k. length (row_at (a.differences ∷ b.differences ∷ c.differences ∷ d.differences ∷ []) k) ≡ 2) ca.1 cb.1 cd.1 ce.1;
 }
 
 columns_can : (s : Sources) (refs : References) (filter : InterpFilter) (a b : QuarterSymbols) → Say s refs a → Say s refs b
     → FourCan s refs filter B4x8 (record { a = a; b = b; c = a; d = b })
 columns_can s refs filter a b ca cb = record {
   same = below_four (λ k. mode_at (a.mode ∷ b.mode ∷ a.mode ∷ b.mode ∷ []) k ≡ mode_at (a.mode ∷ b.mode ∷ a.mode ∷ b.mode ∷ []) (quarter_saying B4x8 k)) refl refl refl refl;
-  vectors = below_four (λ k. Say s refs (symbols_at (symbols_of refs filter (record { a = a; b = b; c = a; d = b })) (quarter_saying B4x8 k))) ca cb ca cb;
+  vectors = below_four (λ k. CanSayVectors s.allowed (best_vectors s refs) refs (symbols_at (symbols_of refs filter (record { a = a; b = b; c = a; d = b })) (quarter_saying B4x8 k))) ca.0 cb.0 ca.0 cb.0;
+  pairs = below_four (λ k. length (row_at (a.differences ∷ b.differences ∷ a.differences ∷ b.differences ∷ []) k) ≡ 2) ca.1 cb.1 ca.1 cb.1;
 }
 
 rows_can : (s : Sources) (refs : References) (filter : InterpFilter) (a c : QuarterSymbols) → Say s refs a → Say s refs c
     → FourCan s refs filter B8x4 (record { a = a; b = a; c = c; d = c })
 rows_can s refs filter a c ca cd = record {
   same = below_four (λ k. mode_at (a.mode ∷ a.mode ∷ c.mode ∷ c.mode ∷ []) k ≡ mode_at (a.mode ∷ a.mode ∷ c.mode ∷ c.mode ∷ []) (quarter_saying B8x4 k)) refl refl refl refl;
-  vectors = below_four (λ k. Say s refs (symbols_at (symbols_of refs filter (record { a = a; b = a; c = c; d = c })) (quarter_saying B8x4 k))) ca ca cd cd;
+  vectors = below_four (λ k. CanSayVectors s.allowed (best_vectors s refs) refs (symbols_at (symbols_of refs filter (record { a = a; b = a; c = c; d = c })) (quarter_saying B8x4 k))) ca.0 ca.0 cd.0 cd.0;
+  pairs = below_four (λ k. length (row_at (a.differences ∷ a.differences ∷ c.differences ∷ c.differences ∷ []) k) ≡ 2) ca.1 ca.1 cd.1 cd.1;
 }
 
 four_yield : (s : Sources) (probs : List ℕ) (context : ℕ) (refs : References) (filter : InterpFilter)
@@ -96,7 +101,7 @@ four_yield : (s : Sources) (probs : List ℕ) (context : ℕ) (refs : References
 unfolding four_quarters four_said
 four_yield s probs context refs filter =
     let best = best_vectors s refs in
-    let say = CanSayVectors s.allowed best refs in
+    let say = CanQuarter s.allowed best refs in
     let none = idle_can s.allowed best refs in
     let can = four_can s refs filter in
     yields_then _ _ say (λ a. quarter_said s a refs 0 (before_of best nothing_before nothing_before nothing_before)) _ (quarter_yield s probs context refs 0 (before_of best nothing_before nothing_before nothing_before))
@@ -114,7 +119,7 @@ columns_yield : (s : Sources) (probs : List ℕ) (context : ℕ) (refs : Referen
 unfolding two_columns columns_said
 columns_yield s probs context refs filter =
     let best = best_vectors s refs in
-    let say = CanSayVectors s.allowed best refs in
+    let say = CanQuarter s.allowed best refs in
     let none = idle_can s.allowed best refs in
     let can = columns_can s refs filter in
     yields_then _ _ say (λ a. quarter_said s a refs 0 (before_of best nothing_before nothing_before nothing_before)) _ (quarter_yield s probs context refs 0 (before_of best nothing_before nothing_before nothing_before))
@@ -128,7 +133,7 @@ rows_yield : (s : Sources) (probs : List ℕ) (context : ℕ) (refs : References
 unfolding two_rows rows_said
 rows_yield s probs context refs filter =
     let best = best_vectors s refs in
-    let say = CanSayVectors s.allowed best refs in
+    let say = CanQuarter s.allowed best refs in
     let none = idle_can s.allowed best refs in
     let can = rows_can s refs filter in
     yields_then _ _ say (λ a. quarter_said s a refs 0 (before_of best nothing_before nothing_before nothing_before)) _ (quarter_yield s probs context refs 0 (before_of best nothing_before nothing_before nothing_before))
@@ -190,12 +195,18 @@ of_quarters_yield s lists skips frame context refs below =
     (λ f qs can is. yields_settle _ (IsSaid s skips frame refs) (record {
       symbols = symbols_of refs filter f;
       references = refl;
+      modes = refl;
+      rows = refl;
+      pairs = can.pairs;
       can = record { named = fits; same = can.same; skipped = λ from. absurd (no (sym from ∙ below)); vectors = can.vectors };
       said = rw below (rw is refl);
     }))
     (λ f rule can is. record {
       symbols = symbols_of refs filter f;
       references = refl;
+      modes = refl;
+      rows = refl;
+      pairs = can.pairs;
       can = record { named = fits; same = can.same; skipped = λ from. absurd (no (sym from ∙ below)); vectors = can.vectors };
       said = rw below (rw is refl);
     }))
@@ -204,7 +215,7 @@ abbrev four_times : QuarterSymbols → Four
 four_times said = record { a = said; b = said; c = said; d = said }
 
 whole_can : (s : Sources) (skips : Bool) (frame : FrameFilter) (refs : References) (filter : InterpFilter) (said : QuarterSymbols) → is_below_8x8 s.search.at.size ≡ false
-    → CanFilter frame filter → CanSkip skips said.mode → Say s refs said → CanSayInter s skips frame (symbols_of refs filter (four_times said))
+    → CanFilter frame filter → CanSkip skips said.mode → CanSayVectors s.allowed (best_vectors s refs) refs said → CanSayInter s skips frame (symbols_of refs filter (four_times said))
 whole_can s skips frame refs filter said from fits skip can = record {
   named = fits;
   same = λ k low. rw (from_8x8 s.search.at.size k from) (below_four (λ k. mode_at (said.mode ∷ said.mode ∷ said.mode ∷ said.mode ∷ []) k ≡ said.mode) refl refl refl refl k low);
@@ -223,12 +234,18 @@ whole_yield s lists skips frame context refs from =
     (λ said vectors can is. yields_settle _ (IsSaid s skips frame refs) (record {
       symbols = symbols_of refs filter (four_times said);
       references = refl;
+      modes = refl;
+      rows = refl;
+      pairs = below_four (λ k. length (row_at (said.differences ∷ said.differences ∷ said.differences ∷ said.differences ∷ []) k) ≡ 2) can.2 can.2 can.2 can.2;
       can = whole_can s skips frame refs filter said from fits (λ skipped. can.0 ∙ skip skipped) can.1;
       said = rw from (rw is (rw can.0 refl));
     }))
     (λ said rule can is. record {
       symbols = symbols_of refs filter (four_times said);
       references = refl;
+      modes = refl;
+      rows = refl;
+      pairs = below_four (λ k. length (row_at (said.differences ∷ said.differences ∷ said.differences ∷ said.differences ∷ []) k) ≡ 2) can.2 can.2 can.2 can.2;
       can = whole_can s skips frame refs filter said from fits (λ skipped. can.0 ∙ skip skipped) can.1;
       said = rw from (rw is refl);
     })))

@@ -1,5 +1,5 @@
 -- What inter blocks read can be put.
-use Rattle.std.proofs.Common.{◌≡◌, ℕ, zero, suc, ◌<◌, ◌≤◌, ◌∷◌, [], Bool, true, false, List, refl, sym, ◌∙◌, ap, arith}
+use Rattle.std.proofs.Common.{◌≡◌, ℕ, zero, suc, ◌<◌, ◌≤◌, ◌∷◌, [], Bool, true, false, List, length, refl, sym, ◌∙◌, ap, arith}
 use Rattle.std.specs.Prelude.{◌≢◌, ◌&&◌, Option, Some, None, IfSome, Result, Ok, Err, pos, nat_eq, if◌then◌else◌}
 use Rattle.std.proofs.lemmas.Bool.{cases_Bool}
 use Rattle.vp9_types.specs.Syntax.{Syntax}
@@ -92,7 +92,11 @@ second_can s mode e (Some reference) h = h
 ---- Blocks of 8x8 or more ----
 
 abbrev pub OfMode : Bool → List Mv → References → InterMode → QuarterSymbols → Type 0
-OfMode allowed best refs mode said = (said.mode ≡ mode) × CanSayVectors allowed best refs said
+OfMode allowed best refs mode said = (said.mode ≡ mode) × CanSayVectors allowed best refs said × (length said.differences ≡ 2)
+
+-- a quarter's vectors, of which there are two
+abbrev pub CanQuarter : Bool → List Mv → References → QuarterSymbols → Type 0
+CanQuarter allowed best refs said = CanSayVectors allowed best refs said × (length said.differences ≡ 2)
 
 pub block_vectors_yield : (s : Sources) (mode : InterMode) (refs : References)
     → Yields (block_vectors s mode refs) (Said (OfMode s.allowed (best_vectors s refs) refs mode) (λ said. block_vectors_said s said refs))
@@ -106,7 +110,7 @@ block_vectors_yield s mode refs =
     (vector_said mode (best refs.first) (near_of_block s refs.first)) (λ reference. vector_said mode (best reference) (near_of_block s reference))
     (λ reference same. no_difference _) (vector_yields s mode (best refs.first) (near_of_block s refs.first))
     (λ reference. vector_yields s mode (best reference) (near_of_block s reference)))
-    (λ r g. (both_of mode g.0.0 g.0.1, (refl, record { first = g.1.0; second = second_can s mode g.0.1 refs.second g.1.1 }), g.2))
+    (λ r g. (both_of mode g.0.0 g.0.1, (refl, record { first = g.1.0; second = second_can s mode g.0.1 refs.second g.1.1 }, refl), g.2))
 
 ---- Quarters ----
 
@@ -123,14 +127,14 @@ quarter_vectors_yield s mode refs k before =
     (vector_said mode (best 0) (near refs.first 0)) (λ reference. vector_said mode (best 1) (near reference 1))
     (λ reference same. no_difference _) (vector_yields s mode (best 0) (near refs.first 0))
     (λ reference. vector_yields s mode (best 1) (near reference 1)))
-    (λ r g. (both_of mode g.0.0 g.0.1, (refl, record { first = g.1.0; second = g.1.1 }), g.2))
+    (λ r g. (both_of mode g.0.0 g.0.1, (refl, record { first = g.1.0; second = g.1.1 }, refl), g.2))
 
 pub quarter_yield : (s : Sources) (probs : List ℕ) (context : ℕ) (refs : References) (k : ℕ) (before : QuartersBefore)
-    → Yields (quarter s probs context refs k before) (Said (CanSayVectors s.allowed before.best refs) (λ said. quarter_said s said refs k before))
+    → Yields (quarter s probs context refs k before) (Said (CanQuarter s.allowed before.best refs) (λ said. quarter_said s said refs k before))
 unfolding quarter quarter_said
 quarter_yield s probs context refs k before =
     yields_bind (inter_mode probs context) _ Any _ (yields_all (inter_mode probs context))
     (λ mode any. yields_then (quarter_vectors s mode refs k before) _ (OfMode s.allowed before.best refs mode) (λ said. quarter_vectors_said s said refs k before) _
     (quarter_vectors_yield s mode refs k before)
-    (λ said vectors fits is. yields_settle _ _ (said, fits.1, rw is (rw fits.0 refl)))
-    (λ said rule fits is. (said, fits.1, rw is refl)))
+    (λ said vectors fits is. yields_settle _ _ (said, (fits.1, fits.2), rw is (rw fits.0 refl)))
+    (λ said rule fits is. (said, (fits.1, fits.2), rw is refl)))
