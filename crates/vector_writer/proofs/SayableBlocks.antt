@@ -1,6 +1,6 @@
 -- Whole blocks that are read can be put.
-use Rattle.std.proofs.Common.{◌≡◌, ℕ, inl, inr, zero, suc, ◌<◌, ◌≤◌, ◌∷◌, [], Bool, true, false, List, length, refl, sym, ◌∙◌, ap, arith}
-use Rattle.std.specs.Prelude.{◌≢◌, Option, Some, None, IfSome, Result, Ok, Err, nat_eq, if◌then◌else◌}
+use Rattle.std.proofs.Common.{◌≡◌, ℕ, inl, inr, zero, suc, ◌<◌, ◌∷◌, [], Bool, true, false, List, length, refl, sym, ◌∙◌, arith}
+use Rattle.std.specs.Prelude.{◌≢◌, Option, Some, None, IfSome, nat_eq, if◌then◌else◌}
 use Rattle.std.proofs.lemmas.Bool.{cases_Bool}
 use Rattle.vp9_types.specs.declared.block.BlockSize.{BlockSize}
 use Rattle.vp9_types.specs.declared.block.BlockSize.TheVariants.{B4x4, B4x8, B8x4, B8x8, B8x16, B16x8, B16x16, B16x32, B32x16, B32x32, B32x64, B64x32, B64x64}
@@ -8,7 +8,6 @@ use Rattle.vp9_types.specs.declared.block.InterMode.{InterMode}
 use Rattle.vp9_types.specs.declared.block.InterMode.TheVariants.{Zero}
 use Rattle.vp9_types.specs.declared.block.InterpFilter.{InterpFilter}
 use Rattle.vp9_types.specs.declared.block.InterpFilter.TheVariants.{Regular, Smooth, Sharp, Bilinear}
-use Rattle.vp9_types.specs.declared.rule.Rule.{Rule}
 use Rattle.prob_contexts.specs.Lists.{InterLists}
 use Rattle.frame_headers.specs.declared.header.FrameFilter.{FrameFilter}
 use Rattle.frame_headers.specs.declared.header.FrameFilter.TheVariants.{Fixed, Switchable}
@@ -19,7 +18,7 @@ use Rattle.counting_reader.specs.Counting.{Yields}
 use Rattle.counting_reader.proofs.Yields.{yields_bind, yields_all, yields_map}
 use Rattle.mv_prediction.specs.Candidates.{mode_context}
 use Rattle.mv_prediction.specs.Vectors.{no_vector}
-use Rattle.inter_modes.specs.Vectors.{Sources, row_at, inter_mode, block_vectors, best_vectors, quarter, nothing_before, before_of, four_quarters, two_columns, two_rows, quarters}
+use Rattle.inter_modes.specs.Vectors.{Sources, row_at, inter_mode, block_vectors, best_vectors, nothing_before, before_of, four_quarters, two_columns, two_rows, quarters}
 use Rattle.inter_modes.specs.ModeInfo.{filter_of, interp_filter, block_mode, whole_block, block_of_quarters, inter_prediction}
 use Rattle.vector_writer.specs.Fits.{CanFilter, CanSayVectors, CanSayInter, quarter_saying}
 use Rattle.vector_writer.specs.Said.{mode_at, symbols_at, quarter_said, four_said, columns_said, rows_said, quarters_said, block_vectors_said, whole_said, of_quarters_said, inter_said}

@@ -1,7 +1,6 @@
 -- What inter blocks read can be put.
-use Rattle.std.proofs.Common.{◌≡◌, ℕ, zero, suc, ◌<◌, ◌≤◌, ◌∷◌, [], Bool, true, false, List, length, refl, sym, ◌∙◌, ap, arith}
-use Rattle.std.specs.Prelude.{◌≢◌, ◌&&◌, Option, Some, None, IfSome, Result, Ok, Err, pos, nat_eq, if◌then◌else◌}
-use Rattle.std.proofs.lemmas.Bool.{cases_Bool}
+use Rattle.std.proofs.Common.{◌≡◌, ℕ, ◌∷◌, [], Bool, List, length, refl, sym, arith}
+use Rattle.std.specs.Prelude.{◌&&◌, Option, Some, None, IfSome, Result, Ok, Err}
 use Rattle.vp9_types.specs.Syntax.{Syntax}
 use Rattle.vp9_types.specs.Results.{◌>>=◌}
 use Rattle.vp9_types.specs.declared.block.InterMode.{InterMode}
@@ -10,14 +9,13 @@ use Rattle.vp9_types.specs.declared.block.ReferenceFrame.{ReferenceFrame}
 use Rattle.vp9_types.specs.declared.rule.Rule.{Rule}
 use Rattle.block_plan.specs.declared.block.Mv.{Mv}
 use Rattle.block_plan.specs.declared.block.References.{References}
-use Rattle.counting_reader.specs.Counting.{Settled, settle, Yields, in_order}
+use Rattle.counting_reader.specs.Counting.{Settled, Yields}
 use Rattle.counting_reader.proofs.Yields.{yields_bind, yields_all, yields_map}
 use Rattle.mv_prediction.specs.SubBlocks.{vector_at}
 use Rattle.mv_prediction.specs.Vectors.{no_vector, is_precise}
 use Rattle.mv_prediction.specs.declared.sub_blocks.NearVectors.{NearVectors}
 use Rattle.mv_syntax.specs.Differences.{read_mv, new_vector}
 use Rattle.inter_modes.specs.Vectors.{Sources, carried, ◌>>?◌, inter_mode, vector_of_mode, near_of_block, near_of_quarter, block_vector, with_second, block_vectors, best_vectors, second_best, of_list, quarter_vector, quarter_vectors, quarter}
-use Rattle.inter_modes.specs.declared.quarters.Quarter.{Quarter}
 use Rattle.inter_modes.specs.declared.quarters.QuartersBefore.{QuartersBefore}
 use Rattle.vector_writer.specs.Fits.{CanBeNew, CanDiffer, CanSayVectors}
 use Rattle.vector_writer.specs.Said.{vector_said, second_said, block_vector_said, block_vectors_said, quarter_vector_said, quarter_vectors_said, quarter_said}
