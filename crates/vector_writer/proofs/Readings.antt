@@ -21,10 +21,10 @@ use Rattle.mv_syntax.specs.Differences.{component_if, read_mv}
 use Rattle.vector_writer.specs.Code.{CanBeHigh}
 use Rattle.vector_writer.specs.Fits.{IsDifference, CanDiffer}
 
-abbrev Any : {A : Type 0} → A → Type 0
+abbrev pub Any : {A : Type 0} → A → Type 0
 Any x = Unit {0}
 
-yields_settle : {A : Type 0} (x : A) (P : A → Type 0) → P x → Yields (settle x) P
+pub yields_settle : {A : Type 0} (x : A) (P : A → Type 0) → P x → Yields (settle x) P
 unfolding settle
 yields_settle x P h = h
 
