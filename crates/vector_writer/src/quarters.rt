@@ -140,18 +140,17 @@ fn put_four<N: Neighbours, Q: Neighbours>(
     ensures is { IfOk result (λ qs. qs ≡ four_said (sources_of N.blocks Q.blocks src.now) symbols.now best) }
     ensures small { IfOk result (λ qs. IfOk qs AreSmallQuarters) }
 {
-    let none = NO_VECTORS;
-    let before = before_of(best, none, none, none);
+    let before = before_of(best, NO_VECTORS, NO_VECTORS, NO_VECTORS);
     let q = match put_quarter(encoder, src, symbols, 0, &before)? {
         Ok(quarter) => quarter,
         Err(rule) => return Ok(Err(rule)),
     };
-    let before = before_of(best, q.vectors, none, none);
+    let before = before_of(best, q.vectors, NO_VECTORS, NO_VECTORS);
     let r = match put_quarter(encoder, src, symbols, 1, &before)? {
         Ok(quarter) => quarter,
         Err(rule) => return Ok(Err(rule)),
     };
-    let before = before_of(best, q.vectors, r.vectors, none);
+    let before = before_of(best, q.vectors, r.vectors, NO_VECTORS);
     let t = match put_quarter(encoder, src, symbols, 2, &before)? {
         Ok(quarter) => quarter,
         Err(rule) => return Ok(Err(rule)),
