@@ -97,8 +97,7 @@ fn put_quarter_vectors<N: Neighbours, Q: Neighbours>(
 fn put_quarter<N: Neighbours, Q: Neighbours>(
     encoder: &mut BoolEncoder,
     src: &Sources<'_, N, Q>,
-    said: QuarterSymbols,
-    references: References,
+    symbols: &InterSymbols,
     k: u8,
     before: &QuartersBefore,
 ) -> Result<Result<Quarter, Rule>, AllocError>
@@ -106,13 +105,14 @@ fn put_quarter<N: Neighbours, Q: Neighbours>(
     requires k { k < 4 }
     requires may { MaySearch N.holds N.blocks Q.holds Q.blocks src.now.earlier.now (option_copied src.now.before) src.now.search }
     requires small { AreSmallBefore before.now }
-    requires can { CanSayVectors src.now.high_precision before.now.best references said }
-    ensures put { IfOk result (λ q. PutsValue (quarter (sources_of N.blocks Q.blocks src.now) src.now.modes.now src.now.context references k before.now) encoder.old q encoder.new) }
-    ensures is { IfOk result (λ q. q ≡ quarter_said (sources_of N.blocks Q.blocks src.now) said references k before.now) }
+    requires can { CanSayVectors src.now.high_precision before.now.best symbols.now.references (symbols_at symbols.now k) }
+    ensures put { IfOk result (λ q. PutsValue (quarter (sources_of N.blocks Q.blocks src.now) src.now.modes.now src.now.context symbols.now.references k before.now) encoder.old q encoder.new) }
+    ensures is { IfOk result (λ q. q ≡ quarter_said (sources_of N.blocks Q.blocks src.now) (symbols_at symbols.now k) symbols.now.references k before.now) }
     ensures small { IfOk result (λ r. IfOk r (λ q. AreSmall q.vectors)) }
 {
+    let said = symbols_at(symbols, usize::from(k));
     put_inter_mode(encoder, src.modes, src.context, said.mode)?;
-    match put_quarter_vectors(encoder, src, said, references, k, before)? {
+    match put_quarter_vectors(encoder, src, said, symbols.references, k, before)? {
         Ok(vectors) => Ok(Ok(Quarter {
             mode: said.mode,
             vectors,
@@ -140,24 +140,23 @@ fn put_four<N: Neighbours, Q: Neighbours>(
     ensures is { IfOk result (λ qs. qs ≡ four_said (sources_of N.blocks Q.blocks src.now) symbols.now best) }
     ensures small { IfOk result (λ qs. IfOk qs AreSmallQuarters) }
 {
-    let (none, references) = (NO_VECTORS, symbols.references);
-    let before = before_of(best, none, none, none);
-    let q = match put_quarter(encoder, src, symbols_at(symbols, 0), references, 0, &before)? {
+    let before = before_of(best, NO_VECTORS, NO_VECTORS, NO_VECTORS);
+    let q = match put_quarter(encoder, src, symbols, 0, &before)? {
         Ok(quarter) => quarter,
         Err(rule) => return Ok(Err(rule)),
     };
-    let before = before_of(best, q.vectors, none, none);
-    let r = match put_quarter(encoder, src, symbols_at(symbols, 1), references, 1, &before)? {
+    let before = before_of(best, q.vectors, NO_VECTORS, NO_VECTORS);
+    let r = match put_quarter(encoder, src, symbols, 1, &before)? {
         Ok(quarter) => quarter,
         Err(rule) => return Ok(Err(rule)),
     };
-    let before = before_of(best, q.vectors, r.vectors, none);
-    let t = match put_quarter(encoder, src, symbols_at(symbols, 2), references, 2, &before)? {
+    let before = before_of(best, q.vectors, r.vectors, NO_VECTORS);
+    let t = match put_quarter(encoder, src, symbols, 2, &before)? {
         Ok(quarter) => quarter,
         Err(rule) => return Ok(Err(rule)),
     };
     let before = before_of(best, q.vectors, r.vectors, t.vectors);
-    let u = match put_quarter(encoder, src, symbols_at(symbols, 3), references, 3, &before)? {
+    let u = match put_quarter(encoder, src, symbols, 3, &before)? {
         Ok(quarter) => quarter,
         Err(rule) => return Ok(Err(rule)),
     };
@@ -181,14 +180,14 @@ fn put_two_columns<N: Neighbours, Q: Neighbours>(
     ensures is { IfOk result (λ qs. qs ≡ columns_said (sources_of N.blocks Q.blocks src.now) symbols.now best) }
     ensures small { IfOk result (λ qs. IfOk qs AreSmallQuarters) }
 {
-    let (none, references) = (NO_VECTORS, symbols.references);
+    let none = NO_VECTORS;
     let before = before_of(best, none, none, none);
-    let q = match put_quarter(encoder, src, symbols_at(symbols, 0), references, 0, &before)? {
+    let q = match put_quarter(encoder, src, symbols, 0, &before)? {
         Ok(quarter) => quarter,
         Err(rule) => return Ok(Err(rule)),
     };
     let before = before_of(best, q.vectors, none, none);
-    let r = match put_quarter(encoder, src, symbols_at(symbols, 1), references, 1, &before)? {
+    let r = match put_quarter(encoder, src, symbols, 1, &before)? {
         Ok(quarter) => quarter,
         Err(rule) => return Ok(Err(rule)),
     };
@@ -212,14 +211,14 @@ fn put_two_rows<N: Neighbours, Q: Neighbours>(
     ensures is { IfOk result (λ qs. qs ≡ rows_said (sources_of N.blocks Q.blocks src.now) symbols.now best) }
     ensures small { IfOk result (λ qs. IfOk qs AreSmallQuarters) }
 {
-    let (none, references) = (NO_VECTORS, symbols.references);
+    let none = NO_VECTORS;
     let before = before_of(best, none, none, none);
-    let q = match put_quarter(encoder, src, symbols_at(symbols, 0), references, 0, &before)? {
+    let q = match put_quarter(encoder, src, symbols, 0, &before)? {
         Ok(quarter) => quarter,
         Err(rule) => return Ok(Err(rule)),
     };
     let before = before_of(best, q.vectors, q.vectors, none);
-    let r = match put_quarter(encoder, src, symbols_at(symbols, 2), references, 2, &before)? {
+    let r = match put_quarter(encoder, src, symbols, 2, &before)? {
         Ok(quarter) => quarter,
         Err(rule) => return Ok(Err(rule)),
     };
