@@ -2,6 +2,7 @@
 use Rattle.std.proofs.Common.{◌≡◌, ◌<◌, ◌≤◌, ◌+◌, ◌-◌, ◌*◌, ◌∷◌, [], ◌||◌, ℕ, ◌∙◌, refl, sym, ap, Bool, false, List, length, get_or, take, drop}
 use Rattle.std.specs.Prelude.{Result, Ok, Err, Some, None, slice_index, nat_lt}
 use Rattle.std.specs.List.{list_any}
+use Rattle.std.specs.Option.{is_some}
 use Rattle.std.proofs.lemmas.List.{drop_more, drop_all}
 use Rattle.std.proofs.lemmas.List.Folds.{list_any-append}
 use Rattle.vp9_types.specs.Results.{map_ok}
@@ -56,7 +57,7 @@ said_broken : (b : BlockInPlane) (levels : PlaneLevels) (places : List (ℕ × �
 unfolding residues_said
 said_broken b levels places k p rule low said = rw (drop_more places k (0, 0) low, said) refl
 
-coded_one : (at : ℕ × ℕ) (r : Residue) → list_any is_coded ((at, r) ∷ []) ≡ is_coded ((0, 0), r)
+coded_one : (at : ℕ × ℕ) (r : Residue) → list_any is_coded ((at, r) ∷ []) ≡ is_some r
 coded_one at None = refl
 coded_one at (Some values) = refl
 

@@ -1,6 +1,7 @@
 -- What the code's calls answer.
 use Rattle.std.specs.Prelude.{◌≡◌, Bool, Result, Ok, Err}
 use Rattle.std.specs.List.{list_any}
+use Rattle.std.specs.Option.{is_some}
 use Rattle.vp9_types.specs.declared.rule.Rule.{Rule}
 use Rattle.block_plan.specs.Planned.{Residue, PlannedBlock}
 use Rattle.block_plan.specs.declared.block.BlockInfo.{BlockInfo}
@@ -10,7 +11,7 @@ use Rattle.block_residue.specs.declared.sides.TileSides.{TileSides}
 
 -- whether there is a residue, or the rule
 abbrev pub TellsAny : Result Residue Rule → Result Bool Rule → Type 0
-TellsAny said (Ok some) = (r : Residue) × (said ≡ Ok r) × (is_coded ((0, 0), r) ≡ some)
+TellsAny said (Ok some) = (r : Residue) × (said ≡ Ok r) × (is_some r ≡ some)
 TellsAny said (Err rule) = said ≡ Err rule
 
 -- whether a block has any in a plane, with the sides behind it, or the rule

@@ -20,7 +20,7 @@ use frame_setting::FrameSetting;
 use std::alloc::AllocError;
 use vp9_types::{Plane, Rule};
 
-/// Puts the residue of a block in a plane, and answers whether it has any.
+/// Puts the residue of a block in a plane, and answers whether it has any, or which rule is broken by its levels.
 fn put_plane(
     encoder: &mut BoolEncoder,
     setting: &FrameSetting,
@@ -47,8 +47,9 @@ fn put_plane(
     Ok(any)
 }
 
-/// Puts the residue of a block whose modes are known, and answers the block as it is listed, or which rule is broken by the
-/// levels. The sides are then of no use, and neither are they after want of memory, when some of the bools were put.
+/// Puts the residue of a block whose modes are known, and answers the block as it is listed, or which rule is broken by its
+/// levels: what stands behind the transform block that breaks it isn't put, and the sides are then of no use. After want of
+/// memory some of the bools were put, and the tile is given up as a whole.
 pub fn put_block(
     encoder: &mut BoolEncoder,
     setting: &FrameSetting,

@@ -23,7 +23,8 @@ use std::alloc::AllocError;
 use vp9_tables::area_of;
 use vp9_types::Rule;
 
-/// Puts the residues of a block that isn't skipped, and answers whether it has any.
+/// Puts the residues of a block that isn't skipped, and answers whether it has any, or which rule is broken by its levels:
+/// what stands behind the transform block that breaks it isn't put.
 pub(crate) fn put_residues(
     encoder: &mut BoolEncoder,
     contexts: &Contexts,
