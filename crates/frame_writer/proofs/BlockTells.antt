@@ -1,5 +1,5 @@
 -- A block that is put as it is told, and what reading keeps of it.
-use Rattle.std.proofs.Common.{◌≡◌, ◌∙◌, refl, sym, ap, List, [], ◌∷◌, ◌++◌, subst}
+use Rattle.std.proofs.Common.{◌≡◌, ◌∙◌, ℕ, refl, sym, ap, List, [], ◌∷◌, ◌++◌, subst}
 use Rattle.std.specs.Prelude.{map, Option, Some, None, Result, Ok, Err}
 use Rattle.std.proofs.lemmas.List.{append_assoc, map-append}
 use Rattle.vp9_types.specs.Syntax.{Syntax}
@@ -33,7 +33,7 @@ use Rattle.frame_writer.specs.Code.{held_of}
 abbrev pub before_it : TileRead → List BlockInfo
 before_it s = infos (s.earlier ++ s.blocks)
 
-abbrev modes_of : FrameSources → BlockAt → TileRead → Syntax _ Rule (Settled (Result BlockInfo Rule))
+abbrev modes_of : FrameSources → BlockAt → TileRead → Syntax ℕ Rule (Settled (Result BlockInfo Rule))
 modes_of by at s = mode_info by.header by.modes by.contexts by.past.segments (before_it s) by.past.vectors at
 
 -- ---- what is put

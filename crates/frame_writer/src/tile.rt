@@ -65,26 +65,28 @@ impl<'a, S: FrameSymbols> TileWriter for TileInProgress<'a, S> {
         let Some(partition) = self.symbols.partition(has_rows, has_cols) else {
             return Err(Unwritten::Unsaid);
         };
-        let setting = &self.by.setting;
+        let by = self.by;
+        let setting = &by.setting;
         let intra = !matches!(setting.header.kind, FrameKind::Inter(_));
         put_partition(&mut self.encoder, setting, intra, &self.column.grid, at, partition)?;
         Ok(partition)
     }
 
     fn put_block(&mut self, at: BlockAt) -> Result<(), Unwritten> {
-        let Some(symbols) = self.symbols.block(self.by, &self.column.grid, at) else {
+        let by = self.by;
+        let Some(symbols) = self.symbols.block(by, &self.column.grid, at) else {
             return Err(Unwritten::Unsaid);
         };
-        let setting = &self.by.setting;
-        let before = self.by.past.vectors.as_ref();
+        let setting = &by.setting;
+        let map = by.past.segments;
+        let before = by.past.vectors.as_ref();
         let said = SaidBlock { at, symbols };
         let grid = &self.column.grid;
-        let map = self.by.past.segments;
         let block = match put_mode_info(&mut self.encoder, setting, grid, map, before, &said)? {
             Ok(block) => block,
             Err(rule) => return Err(Unwritten::Broken(rule)),
         };
-        if !self.symbols.levels(self.by, &block, &mut self.levels) {
+        if !self.symbols.levels(by, &block, &mut self.levels) {
             return Err(Unwritten::Unsaid);
         }
         let sides = &mut self.column.sides;
