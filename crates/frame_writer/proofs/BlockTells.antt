@@ -1,21 +1,26 @@
 -- A block that is put as it is told, and what reading keeps of it.
-use Rattle.std.proofs.Common.{◌≡◌, ◌∙◌, ℕ, refl, sym, ap, List, [], ◌∷◌, ◌++◌, subst}
+use Rattle.std.proofs.Common.{◌≡◌, ◌≤◌, ◌∙◌, ◌+◌, ◌-◌, ℕ, arith, refl, sym, ap, Bool, List, [], ◌∷◌, ◌++◌, subst}
 use Rattle.std.specs.Prelude.{map, Option, Some, None, Result, Ok, Err}
 use Rattle.std.proofs.lemmas.List.{append_assoc, map-append}
+use Rattle.vp9_types.specs.Results.{◌>>=◌}
 use Rattle.vp9_types.specs.Syntax.{Syntax}
 use Rattle.vp9_types.specs.declared.rule.Rule.{Rule}
+use Rattle.vp9_types.specs.declared.shape.Plane.TheVariants.{Y, U, V}
 use Rattle.bool_encoder.specs.Part.{Part}
 use Rattle.counting_reader.specs.Counting.{Settled, lifted, settle}
 use Rattle.counting_writer.specs.Counted.{PutsTo, PutsValue}
 use Rattle.counting_writer.proofs.CountedPuts.{puts_broken, puts_lifted, puts_on, puts_settle, puts_value, value_put}
 use Rattle.frame_headers.specs.declared.header.FrameKind.{FrameKind}
 use Rattle.frame_headers.specs.declared.header.FrameKind.TheVariants.{Key, IntraOnly, Inter as InterFrame}
+use Rattle.block_plan.specs.Grid.{GridOf}
 use Rattle.block_plan.specs.Planned.{PlannedBlock}
 use Rattle.block_plan.specs.declared.block.BlockAt.{BlockAt}
 use Rattle.block_plan.specs.declared.block.BlockInfo.{BlockInfo}
+use Rattle.block_residue.specs.Residues.{ReadPlane, any_coded, listed, planned}
 use Rattle.block_residue.specs.Residues as residues
 use Rattle.block_residue.specs.declared.sides.TileSides.{TileSides}
 use Rattle.inter_modes.specs.ModeInfo.{mode_info}
+use Rattle.frame_decoder.specs.Columns.{limit_of}
 use Rattle.frame_decoder.specs.Reading.{TileRead, infos, read_block}
 use Rattle.frame_decoder.specs.Sources.{FrameSources}
 use Rattle.inter_writer.specs.Said.{IsSaid, IsSaidBy}
@@ -28,7 +33,7 @@ use Rattle.residue_writer.specs.declared.levels.BlockLevels.{BlockLevels}
 use Rattle.tile_writer.specs.declared.unwritten.Unwritten.{Unwritten}
 use Rattle.tile_writer.specs.declared.unwritten.Unwritten.TheVariants.{Broken, Unsaid}
 use Rattle.frame_writer.specs.Symbols.{Speaker, as_said, block_told, modes_by, modes_said, with_block}
-use Rattle.frame_writer.specs.Code.{held_of}
+use Rattle.frame_writer.specs.Code.{TileHeld, held_of}
 
 abbrev pub before_it : TileRead → List BlockInfo
 before_it s = infos (s.earlier ++ s.blocks)
@@ -83,3 +88,136 @@ held_with s b sides = λ i. record { blocks = both i; sides = sides }
   where
     both : infos (s.earlier ++ (s.blocks ++ b ∷ [])) ≡ infos (s.earlier ++ s.blocks) ++ b.info ∷ []
     both = ap infos (sym (append_assoc s.earlier s.blocks (b ∷ []))) ∙ map-append (λ (b : PlannedBlock). b.info) (s.earlier ++ s.blocks) (b ∷ [])
+
+pub blocks_held : (s : TileRead) (h : TileHeld) → held_of s ≡ h → before_it s ≡ h.blocks
+blocks_held s h holds = ap (λ (h : TileHeld). h.blocks) holds
+
+pub sides_held : (s : TileRead) (h : TileHeld) → held_of s ≡ h → s.sides ≡ h.sides
+sides_held s h holds = ap (λ (h : TileHeld). h.sides) holds
+
+-- the same, of what the code holds
+abbrev pub modes_by_blocks : FrameSources → BlockAt → List BlockInfo → Syntax ℕ Rule (Settled (Result BlockInfo Rule))
+modes_by_blocks by at blocks = mode_info by.header by.modes by.contexts by.past.segments blocks by.past.vectors at
+
+abbrev pub residue_by_sides : FrameSources → BlockAt → BlockInfo → TileSides → Syntax ℕ Rule (Settled (PlannedBlock × TileSides))
+residue_by_sides by at info sides = residues.read_block by.header by.contexts at.tile_from info sides
+
+modes_from : (by : FrameSources) (at : BlockAt) (s : TileRead) (h : TileHeld) (old mid : Part) (r : Result BlockInfo Rule) → held_of s ≡ h
+    → PutsValue (modes_by_blocks by at h.blocks) old r mid → PutsValue (modes_of by at s) old r mid
+modes_from by at s h old mid r holds put = subst (λ blocks. PutsValue (modes_by_blocks by at blocks) old r mid) (sym (blocks_held s h holds)) put
+
+residue_from : (by : FrameSources) (at : BlockAt) (s : TileRead) (h : TileHeld) (mid new : Part) (info : BlockInfo) (r : Result (PlannedBlock × TileSides) Rule) → held_of s ≡ h
+    → PutsTo (residue_by_sides by at info h.sides) mid r new → PutsTo (residue_by_sides by at info s.sides) mid r new
+residue_from by at s h mid new info r holds put = subst (λ sides. PutsTo (residue_by_sides by at info sides) mid r new) (sym (sides_held s h holds)) put
+
+said_from : {T : Type 0} (speaker : Speaker T) (by : FrameSources) (at : BlockAt) (s : TileRead) (h : TileHeld) (t : T) (p : Option (BlockSymbols × T)) → held_of s ≡ h
+    → speaker.block by h.blocks at t ≡ p → speaker.block by (before_it s) at t ≡ p
+said_from speaker by at s h t p holds said = ap (λ blocks. speaker.block by blocks at t) (blocks_held s h holds) ∙ said
+
+---- What stops a block, and what doesn't ----
+
+pub nothing_told : {T : Type 0} (speaker : Speaker T) (by : FrameSources) (at : BlockAt) (s : TileRead) (h : TileHeld) (t : T) → held_of s ≡ h
+    → speaker.block by h.blocks at t ≡ None → block_told speaker by at s t ≡ Err Unsaid
+unfolding block_told
+nothing_told speaker by at s h t holds none = rw (said_from speaker by at s h t None holds none) refl
+
+-- a block's symbols, and the block or the rule
+pub record HasModes {T : Type 0} (speaker : Speaker T) (by : FrameSources) (at : BlockAt) (h : TileHeld) (t : T) (r : Result BlockInfo Rule) (next : T) (old mid : Part) : Type 0 where
+  pub symbols : BlockSymbols
+  pub told : speaker.block by h.blocks at t ≡ Some (symbols, next)
+  pub are : IsSaid by.header by.modes by.contexts h.blocks by.past.vectors at symbols r
+  pub put : PutsValue (modes_by_blocks by at h.blocks) old r mid
+
+modes_of_state : {T : Type 0} (speaker : Speaker T) (by : FrameSources) (at : BlockAt) (s : TileRead) (h : TileHeld) (t next : T) (r : Result BlockInfo Rule) (old mid : Part) → held_of s ≡ h
+    → (m : HasModes speaker by at h t r next old mid) → modes_said by (before_it s) at m.symbols ≡ as_said r
+modes_of_state speaker by at s h t next r old mid holds m =
+    ap (λ blocks. modes_said by blocks at m.symbols) (blocks_held s h holds) ∙ modes_are_said by h.blocks at m.symbols r m.are
+
+pub modes_stop : {T : Type 0} (speaker : Speaker T) (by : FrameSources) (at : BlockAt) (s : TileRead) (h : TileHeld) (t next : T) (rule : Rule) (old mid : Part) → held_of s ≡ h
+    → HasModes speaker by at h t (Err rule) next old mid → PutsTo (read_block by at s) old (Err rule) mid × (block_told speaker by at s t ≡ Err (Broken rule))
+unfolding block_told
+modes_stop speaker by at s h t next rule old mid holds m = (
+  modes_break by at s old mid rule (modes_from by at s h old mid (Err rule) holds m.put),
+  rw (said_from speaker by at s h t (Some (m.symbols, next)) holds m.told) (rw (modes_of_state speaker by at s h t next (Err rule) old mid holds m) refl),
+)
+
+pub levels_untold : {T : Type 0} (speaker : Speaker T) (by : FrameSources) (at : BlockAt) (s : TileRead) (h : TileHeld) (t next : T) (info : BlockInfo) (old mid : Part) → held_of s ≡ h
+    → HasModes speaker by at h t (Ok info) next old mid → speaker.levels by info next ≡ None → block_told speaker by at s t ≡ Err Unsaid
+unfolding block_told
+levels_untold speaker by at s h t next info old mid holds m none =
+    rw (said_from speaker by at s h t (Some (m.symbols, next)) holds m.told) (rw (modes_of_state speaker by at s h t next (Ok info) old mid holds m) (rw none refl))
+
+-- its levels, and its residue or the rule
+pub record HasResidue {T : Type 0} (speaker : Speaker T) (by : FrameSources) (at : BlockAt) (h : TileHeld) (info : BlockInfo) (t last : T) (r : Result (PlannedBlock × TileSides) Rule) (mid new : Part) : Type 0 where
+  pub levels : BlockLevels
+  pub told : speaker.levels by info t ≡ Some (levels, last)
+  pub are : residue.block_said by.header at.tile_from info levels h.sides ≡ r
+  pub put : PutsTo (residue_by_sides by at info h.sides) mid r new
+
+residue_of_state : {T : Type 0} (speaker : Speaker T) (by : FrameSources) (at : BlockAt) (s : TileRead) (h : TileHeld) (info : BlockInfo) (t last : T) (r : Result (PlannedBlock × TileSides) Rule) (mid new : Part) → held_of s ≡ h
+    → (m : HasResidue speaker by at h info t last r mid new) → residue.block_said by.header at.tile_from info m.levels s.sides ≡ r
+residue_of_state speaker by at s h info t last r mid new holds m = ap (λ sides. residue.block_said by.header at.tile_from info m.levels sides) (sides_held s h holds) ∙ m.are
+
+pub residue_stops : {T : Type 0} (speaker : Speaker T) (by : FrameSources) (at : BlockAt) (s : TileRead) (h : TileHeld) (t next last : T) (info : BlockInfo) (rule : Rule) (old mid new : Part) → held_of s ≡ h
+    → HasModes speaker by at h t (Ok info) next old mid → HasResidue speaker by at h info next last (Err rule) mid new
+    → PutsTo (read_block by at s) old (Err rule) new × (block_told speaker by at s t ≡ Err (Broken rule))
+unfolding block_told
+residue_stops speaker by at s h t next last info rule old mid new holds m r = (
+  residue_breaks by at s old mid new info rule (modes_from by at s h old mid (Ok info) holds m.put) (residue_from by at s h mid new info (Err rule) holds r.put),
+  rw (said_from speaker by at s h t (Some (m.symbols, next)) holds m.told) (rw (modes_of_state speaker by at s h t next (Ok info) old mid holds m)
+      (rw r.told (rw (residue_of_state speaker by at s h info next last (Err rule) mid new holds r) refl))),
+)
+
+pub block_said_so : {T : Type 0} (speaker : Speaker T) (by : FrameSources) (at : BlockAt) (s : TileRead) (h : TileHeld) (t next last : T) (info : BlockInfo) (read : PlannedBlock × TileSides) (old mid new : Part) → held_of s ≡ h
+    → HasModes speaker by at h t (Ok info) next old mid → HasResidue speaker by at h info next last (Ok read) mid new
+    → PutsValue (read_block by at s) old (with_block s read) new × (block_told speaker by at s t ≡ Ok (with_block s read, last))
+unfolding block_told
+block_said_so speaker by at s h t next last info read old mid new holds m r = (
+  block_puts by at s old mid new info read (modes_from by at s h old mid (Ok info) holds m.put) (residue_from by at s h mid new info (Ok read) holds r.put),
+  rw (said_from speaker by at s h t (Some (m.symbols, next)) holds m.told) (rw (modes_of_state speaker by at s h t next (Ok info) old mid holds m)
+      (rw r.told (rw (residue_of_state speaker by at s h info next last (Ok read) mid new holds r) refl))),
+)
+
+pub held_more : (s : TileRead) (h : TileHeld) (b : PlannedBlock) (sides : TileSides) (info : BlockInfo) (blocks : List BlockInfo) → held_of s ≡ h → b.info ≡ info → blocks ≡ h.blocks ++ info ∷ []
+    → held_of (with_block s (b, sides)) ≡ record { blocks = blocks; sides = sides }
+held_more s h b sides info blocks holds is more =
+    held_with s b sides ∙ (λ i. record { blocks = so i; sides = sides })
+  where
+    so : before_it s ++ b.info ∷ [] ≡ blocks
+    so = ap (λ xs. xs ++ b.info ∷ []) (blocks_held s h holds) ∙ (ap (λ x. h.blocks ++ x ∷ []) is ∙ sym more)
+
+---- The block as it is listed ----
+
+abbrev all_said : Result ReadPlane Rule → Result ReadPlane Rule → Result ReadPlane Rule → ℕ → BlockInfo → Result (PlannedBlock × TileSides) Rule
+all_said y u v tile_from info = do
+  y ← y
+  u ← u
+  v ← v
+  Ok (planned tile_from info y u v, record { y = y.sides; u = u.sides; v = v.sides })
+
+abbrev info_or : BlockInfo → Result (PlannedBlock × TileSides) Rule → BlockInfo
+info_or info (Ok p) = p.0.info
+info_or info (Err rule) = info
+
+listed_by : (y u v : Result ReadPlane Rule) (tile_from : ℕ) (info : BlockInfo) (b : PlannedBlock) (sides : TileSides)
+    → all_said y u v tile_from info ≡ Ok (b, sides) → (any : Bool) × (b.info ≡ listed info any)
+listed_by (Ok y) (Ok u) (Ok v) tile_from info b sides is = (any_coded y.residues u.residues v.residues, sym (ap (info_or info) is))
+listed_by (Ok y) (Ok u) (Err rule) tile_from info b sides is = cc
+listed_by (Ok y) (Err rule) v tile_from info b sides is = cc
+listed_by (Err rule) u v tile_from info b sides is = cc
+
+pub is_listed : (by : FrameSources) (tile_from : ℕ) (info listed_as : BlockInfo) (levels : BlockLevels) (s sides : TileSides) (b : PlannedBlock)
+    → residue.block_said by.header tile_from info levels s ≡ Ok (b, sides) → b.info ≡ listed_as → (any : Bool) × (listed_as ≡ listed info any)
+unfolding residue.block_said
+is_listed by tile_from info listed_as levels s sides b said is =
+    let so = listed_by (residue.said_in_plane by.header info Y levels.y s.y) (residue.said_in_plane by.header info U levels.u s.u) (residue.said_in_plane by.header info V levels.v s.v) tile_from info b sides said in
+    (so.0, sym is ∙ so.1)
+
+---- The column ----
+
+pub limit_same : (old new : GridOf) (before after : TileSides) → new.from ≡ old.from → new.to ≡ old.to
+    → limit_of (record { grid = new; sides = after }) ≡ limit_of (record { grid = old; sides = before })
+limit_same old new before after from to = rw (from, to) refl
+
+pub room_less : (old new : ℕ) → new ≡ old - 1 → old ≤ new + 1
+room_less old new is = omega (arith, is)

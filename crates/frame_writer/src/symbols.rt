@@ -34,7 +34,12 @@ pub trait FrameSymbols {
         ensures can { IfSome result (CanPartition has_rows has_cols) };
 
     /// What a block says that starts inside the frame and its tile. `grid` has the blocks of its tile column before it.
-    fn block(&mut self, by: &FrameSources<'_>, grid: &BlockGrid, at: BlockAt) -> Option<BlockSymbols>
+    fn block(
+        &mut self,
+        by: &FrameSources<'_>,
+        grid: &BlockGrid,
+        at: BlockAt,
+    ) -> Option<BlockSymbols>
         requires past { IsPastOf by.now.setting.header by.now.past }
         requires row { at.row < by.now.setting.places.rows }
         requires first { at.tile_from ≤ at.col }

@@ -36,18 +36,20 @@ pub struct TileInProgress<'a, S> {
 
 impl<'a, S: FrameSymbols> TileWriter for TileInProgress<'a, S> {
     ghost State = { TileRead };
+
     ghost Held = { TileHeld };
+
     ghost Told = { S };
 
     ghost tile = { λ w. record {
-        walk = read_walk (sources_of w.by.now) w.by.now.setting.places w.places;
-        teller = teller_of S.speaker (sources_of w.by.now);
-        view = held_of;
-        limit = limit_of w.column.now;
-        room = w.column.now.grid.room;
-        held = record { blocks = w.column.now.grid.blocks; sides = w.column.now.sides };
-        told = w.symbols.now;
-        part = w.encoder;
+      walk = read_walk (sources_of w.by.now) w.by.now.setting.places w.places;
+      teller = teller_of S.speaker (sources_of w.by.now);
+      view = held_of;
+      limit = limit_of w.column.now;
+      room = w.column.now.grid.room;
+      held = record { blocks = w.column.now.grid.blocks; sides = w.column.now.sides };
+      told = w.symbols.now;
+      part = w.encoder;
     } };
 
     ghost ready = { λ w. IsPastOf w.by.now.setting.header w.by.now.past × IsReadyFor w.by.now.setting w.places w.column.now };
@@ -68,7 +70,14 @@ impl<'a, S: FrameSymbols> TileWriter for TileInProgress<'a, S> {
         let by = self.by;
         let setting = &by.setting;
         let intra = !matches!(setting.header.kind, FrameKind::Inter(_));
-        put_partition(&mut self.encoder, setting, intra, &self.column.grid, at, partition)?;
+        put_partition(
+            &mut self.encoder,
+            setting,
+            intra,
+            &self.column.grid,
+            at,
+            partition,
+        )?;
         Ok(partition)
     }
 
