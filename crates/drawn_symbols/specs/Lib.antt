@@ -1,1 +1,7 @@
+pub mod Blocks
 pub mod Draws
+pub mod Frames
+pub mod Intra
+pub mod Inter
+pub mod Starts
+pub mod Vectors

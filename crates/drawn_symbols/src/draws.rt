@@ -1,9 +1,7 @@
 //! The numbers that are drawn.
 
 ghost use Rattle.std.specs.Prelude.{◌≡◌, ◌<◌, ◌≤◌};
-ghost use Rattle.vp9_tables.specs.Trees.{intra_mode_tree, mv_fr_tree, mv_joint_tree, segment_tree};
-ghost use Rattle.mode_syntax.specs.IntraModes.{intra_of};
-ghost use Rattle.drawn_symbols.specs.Draws.{next, draw, draw_flag, draw_leaf, IsDrawn};
+ghost use Rattle.drawn_symbols.specs.Draws.{next, draw, draw_flag, IsDrawn};
 
 /// The number that the next draws come from.
 #[derive(Clone, Copy, Debug, PartialEq, Eq)]
@@ -16,7 +14,8 @@ pub struct Draws {
 fn next(x: u64) -> u64
     ensures { result ≡ next x }
 {
-    x.wrapping_mul(6364136223846793005).wrapping_add(1442695040888963407)
+    x.wrapping_mul(6364136223846793005)
+        .wrapping_add(1442695040888963407)
 }
 
 impl Draws {

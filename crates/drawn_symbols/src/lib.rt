@@ -3,5 +3,9 @@
 #![tactic(auto)]
 
 mod draws;
+mod intra;
+mod starts;
 
 pub use draws::Draws;
+pub use intra::{draw_intra, draw_partition};
+pub use starts::{draw_inter_start, draw_intra_start};
