@@ -4,8 +4,12 @@
 
 mod draws;
 mod intra;
+mod references;
 mod starts;
+mod vectors;
 
 pub use draws::Draws;
 pub use intra::{draw_intra, draw_partition};
+pub use references::draw_references;
 pub use starts::{draw_inter_start, draw_intra_start};
+pub use vectors::draw_difference;
