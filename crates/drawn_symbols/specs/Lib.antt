@@ -1,4 +1,5 @@
 pub mod Blocks
+pub mod Code
 pub mod Draws
 pub mod Frames
 pub mod Intra

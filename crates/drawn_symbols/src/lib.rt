@@ -2,13 +2,18 @@
 //! written down, so that others can draw the same.
 #![tactic(auto)]
 
+mod blocks;
 mod draws;
+mod inter;
 mod intra;
+mod quarters;
 mod references;
 mod starts;
 mod vectors;
 
+pub use blocks::draw_block;
 pub use draws::Draws;
+pub use inter::draw_inter;
 pub use intra::{draw_intra, draw_partition};
 pub use references::draw_references;
 pub use starts::{draw_inter_start, draw_intra_start};
