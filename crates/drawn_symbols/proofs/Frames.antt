@@ -1,17 +1,15 @@
 -- What is drawn for blocks of the frames that are drawn for can be said.
-use Rattle.std.proofs.Common.{◌≡◌, ℕ, Bool, true, false, ◌&&◌, List, refl, sym}
-use Rattle.std.specs.Prelude.{◌≢◌, Option, Some, None, Result, Ok, Err, IfOk, slice_index_or}
+use Rattle.std.proofs.Common.{◌≡◌, ℕ, Bool, true, false, ◌&&◌, refl, sym}
+use Rattle.std.specs.Prelude.{◌≢◌, Option, None, Result, Ok, Err, IfOk, slice_index_or}
 use Rattle.vp9_types.specs.declared.block.InterpFilter.{InterpFilter}
 use Rattle.vp9_types.specs.declared.block.InterpFilter.TheVariants.{Bilinear}
 use Rattle.vp9_types.specs.declared.block.ReferenceMode.{ReferenceMode}
 use Rattle.vp9_types.specs.declared.rule.Rule.{Rule}
 use Rattle.frame_headers.specs.Segments.{no_segment_features}
 use Rattle.frame_headers.specs.declared.header.FrameFilter.{FrameFilter}
-use Rattle.frame_headers.specs.declared.header.FrameFilter.TheVariants.{Fixed, Switchable}
+use Rattle.frame_headers.specs.declared.header.FrameFilter.TheVariants.{Switchable}
 use Rattle.frame_headers.specs.declared.segments.FeatureReference.{FeatureReference}
-use Rattle.frame_headers.specs.declared.segments.Features.{Features}
 use Rattle.frame_headers.specs.declared.segments.SegmentFeatures.{SegmentFeatures}
-use Rattle.frame_headers.specs.declared.segments.MapUpdate.{MapUpdate}
 use Rattle.frame_headers.specs.declared.segments.Segmentation.{Segmentation}
 use Rattle.block_plan.specs.declared.block.References.{References}
 use Rattle.mode_syntax.specs.Elements.{skips_segment}
@@ -105,13 +103,16 @@ pub intra_can : (header : Header) (modes : Modes) (at : BlockAt) (start : BlockS
     → CanSegment header.params.segmentation.enabled header.params.segmentation.map start.segment.id → start.segment.predicted ≡ false
     → CanSkip header.params.segmentation start.segment.id start.skip → CanTx modes.tx_mode at.size start.tx → CanLuma at.size p.luma
     → CanPutIntra header modes at start (Intra p)
-intra_can header modes at start p intra segment unpredicted skip tx luma = (intra, record {
-  row = refl;
-  col = refl;
-  size = refl;
-  segment = segment;
-  unpredicted = unpredicted;
-  skip = skip;
-  tx = tx;
-  intra = luma;
-})
+intra_can header modes at start p intra segment unpredicted skip tx luma = (
+  intra,
+  record {
+    row = refl;
+    col = refl;
+    size = refl;
+    segment = segment;
+    unpredicted = unpredicted;
+    skip = skip;
+    tx = tx;
+    intra = luma;
+  },
+)

@@ -1,12 +1,12 @@
 -- What is drawn of the quarters of a block can be said.
-use Rattle.std.proofs.Common.{◌≡◌, ℕ, zero, suc, ◌<◌, Bool, true, false, refl, arith}
+use Rattle.std.proofs.Common.{◌≡◌, ℕ, zero, suc, ◌<◌, true, false, refl, arith}
 use Rattle.std.specs.Prelude.{◌≢◌}
 use Rattle.vp9_types.specs.declared.block.BlockSize.{BlockSize}
 use Rattle.vp9_types.specs.declared.block.BlockSize.TheVariants.{B4x4, B4x8, B8x4, B8x8, B8x16, B16x8, B16x16, B16x32, B32x16, B32x32, B32x64, B64x32, B64x64}
 use Rattle.vp9_types.specs.declared.block.InterpFilter.{InterpFilter}
 use Rattle.vp9_types.specs.declared.block.InterpFilter.TheVariants.{Bilinear}
 use Rattle.block_geometry.specs.Sizes.{is_below_8x8}
-use Rattle.vector_writer.specs.Fits.{CanSayVectors, quarter_saying}
+use Rattle.vector_writer.specs.Fits.{quarter_saying}
 use Rattle.vector_writer.specs.Said.{mode_at, symbols_at}
 use Rattle.vector_writer.specs.declared.symbols.QuarterSymbols.{QuarterSymbols}
 use Rattle.drawn_symbols.specs.Code.{CanBeQuarter, CanBeSymbols}
@@ -74,6 +74,6 @@ whole_can b size filter q below named cq = record {
   references = refl;
   named = named;
   same = each_four (λ k. mode_at (symbols_of b.references filter q q q q).modes k ≡ mode_at (symbols_of b.references filter q q q q).modes (quarter_saying size k))
-    (rw (says_first size below 0) refl) (rw (says_first size below 1) refl) (rw (says_first size below 2) refl) (rw (says_first size below 3) refl);
+      (rw (says_first size below 0) refl) (rw (says_first size below 1) refl) (rw (says_first size below 2) refl) (rw (says_first size below 3) refl);
   vectors = λ k low. rw (says_first size below k) (quarter b q cq);
 }

@@ -1,5 +1,5 @@
 -- The frames that blocks are drawn for.
-use Rattle.std.specs.Prelude.{◌≡◌, ℕ, Bool, true, false, Option, Some, None, slice_index_or}
+use Rattle.std.specs.Prelude.{◌≡◌, ℕ, true, false, Option, Some, None, slice_index_or}
 use Rattle.frame_headers.specs.Segments.{no_segment_features}
 use Rattle.frame_headers.specs.declared.header.FrameFilter.TheVariants.{Switchable}
 use Rattle.frame_headers.specs.declared.header.FrameKind.{FrameKind}

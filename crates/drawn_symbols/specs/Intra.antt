@@ -1,6 +1,6 @@
 -- Partitions and the modes of intra blocks, as they are drawn (6.4.3, 6.4.6 and 6.4.15 of the standard: decode_partition,
 -- intra_frame_mode_info, intra_block_mode_info).
-use Rattle.std.specs.Prelude.{ℕ, Bool, true, false, List, [], ◌∷◌}
+use Rattle.std.specs.Prelude.{Bool, true, false, List, [], ◌∷◌}
 use Rattle.vp9_types.specs.declared.block.BlockSize.{BlockSize}
 use Rattle.vp9_types.specs.declared.block.BlockSize.TheVariants.{B4x4, B4x8, B8x4}
 use Rattle.vp9_types.specs.declared.block.IntraMode.{IntraMode}

@@ -40,11 +40,7 @@ fn draw_intra_prediction(draws: &mut Draws, size: BlockSize) -> IntraPrediction
 
 /// A block of an intra frame.
 #[tactic(auto, unfolding(crate::specs::Blocks::draw_intra_frame_block), using(crate::proofs::Frames::intra_can))]
-fn draw_intra_frame_block(
-    draws: &mut Draws,
-    setting: &FrameSetting,
-    at: &BlockAt,
-) -> BlockSymbols
+fn draw_intra_frame_block(draws: &mut Draws, setting: &FrameSetting, at: &BlockAt) -> BlockSymbols
     requires segments { AreDrawnSegments setting.now.header.params.segmentation }
     ensures drawn { IsDrawn (draw_intra_frame_block setting.now.header setting.now.modes at.now.size) draws.old result draws.new }
     ensures can { CanPutIntra setting.now.header setting.now.modes at.now result.start result.prediction }

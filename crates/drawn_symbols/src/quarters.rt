@@ -112,10 +112,22 @@ pub(crate) fn symbols_of(
 ) -> InterSymbols
     ensures { result ≡ symbols_of references filter q r t u }
 {
-    let QuarterSymbols { mode: first, differences: a } = q;
-    let QuarterSymbols { mode: second, differences: b } = r;
-    let QuarterSymbols { mode: third, differences: c } = t;
-    let QuarterSymbols { mode: fourth, differences: d } = u;
+    let QuarterSymbols {
+        mode: first,
+        differences: a,
+    } = q;
+    let QuarterSymbols {
+        mode: second,
+        differences: b,
+    } = r;
+    let QuarterSymbols {
+        mode: third,
+        differences: c,
+    } = t;
+    let QuarterSymbols {
+        mode: fourth,
+        differences: d,
+    } = u;
     InterSymbols {
         references,
         filter,

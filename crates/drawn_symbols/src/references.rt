@@ -41,7 +41,11 @@ fn draw_golden_or_altref(draws: &mut Draws) -> References
     ensures drawn { IsDrawn draw_golden_or_altref draws.old result draws.new }
     ensures second { is_some result.second ≡ false }
 {
-    if draws.flag() { single(ReferenceFrame::Altref) } else { single(ReferenceFrame::Golden) }
+    if draws.flag() {
+        single(ReferenceFrame::Altref)
+    } else {
+        single(ReferenceFrame::Golden)
+    }
 }
 
 #[tactic(auto, unfolding(crate::specs::Inter::draw_single))]
@@ -49,16 +53,16 @@ fn draw_single(draws: &mut Draws) -> References
     ensures drawn { IsDrawn draw_single draws.old result draws.new }
     ensures second { is_some result.second ≡ false }
 {
-    if draws.flag() { draw_golden_or_altref(draws) } else { single(ReferenceFrame::Last) }
+    if draws.flag() {
+        draw_golden_or_altref(draws)
+    } else {
+        single(ReferenceFrame::Last)
+    }
 }
 
 /// The references of a block of a frame that has them by a mode.
 #[tactic(auto, unfolding(crate::specs::Inter::draw_references))]
-pub fn draw_references(
-    draws: &mut Draws,
-    mode: ReferenceMode,
-    biases: &SignBiases,
-) -> References
+pub fn draw_references(draws: &mut Draws, mode: ReferenceMode, biases: &SignBiases) -> References
     ensures drawn { IsDrawn (draw_references mode biases.now) draws.old result draws.new }
     ensures can { AreCoded mode biases.now result }
 {

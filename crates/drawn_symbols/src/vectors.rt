@@ -104,7 +104,11 @@ fn draw_component_if(draws: &mut Draws, coded: bool, precise: bool) -> i16
     ensures drawn { IsDrawn (draw_component_if coded precise) draws.old result draws.new }
     ensures can { IsDifference precise result }
 {
-    if coded { draw_component(draws, precise) } else { 0 }
+    if coded {
+        draw_component(draws, precise)
+    } else {
+        0
+    }
 }
 
 /// A new vector's difference from the best one, with bits of high precision or without.
