@@ -1,5 +1,5 @@
 -- Segments and transform sizes that can be said.
-use Rattle.std.proofs.Common.{◌≡◌, ℕ, zero, suc, ◌≤◌, Bool, true, false, Option, Some, None, refl, ap, arith}
+use Rattle.std.proofs.Common.{◌≡◌, ℕ, zero, suc, ◌≤◌, Bool, true, false, Option, Some, None, refl, arith}
 use Rattle.vp9_types.specs.Maps.{Map}
 use Rattle.vp9_types.specs.declared.block.BlockSize.{BlockSize}
 use Rattle.vp9_types.specs.declared.block.TxMode.{TxMode}
@@ -12,7 +12,6 @@ use Rattle.frame_headers.specs.declared.segments.Segmentation.{Segmentation}
 use Rattle.block_geometry.specs.Sizes.{greatest_allowed}
 use Rattle.block_geometry.specs.declared.parts.Part.{Part}
 use Rattle.segment_map.specs.Segments.{least_id}
-use Rattle.inter_modes.specs.Starts.{segment_of}
 use Rattle.inter_modes.specs.declared.starts.SegmentOf.{SegmentOf}
 use Rattle.inter_modes.proofs.Least.{least_below}
 use Rattle.mode_writer.specs.Fits.{CanSegment, CanTx, says_tx}

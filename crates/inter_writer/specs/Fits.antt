@@ -57,12 +57,12 @@ IsSegment segmentation least s = IsSegmentBy segmentation.enabled segmentation.m
 ---- Is it inter ----
 
 -- a block of a segment that takes a reference is inter, or intra where that is what the segment takes (6.4.13: is_inter)
-abbrev pub IsInterBy : Option FeatureReference → Bool → Type 0
-IsInterBy (Some reference) is_inter = is_inter ≡ is_inter_feature reference
-IsInterBy None is_inter = Unit {0}
+abbrev pub CanBeInterBy : Option FeatureReference → Bool → Type 0
+CanBeInterBy (Some reference) is_inter = is_inter ≡ is_inter_feature reference
+CanBeInterBy None is_inter = Unit {0}
 
-abbrev pub MayBeInter : Segmentation → ℕ → Bool → Type 0
-MayBeInter segmentation segment is_inter = IsInterBy (segment_reference segmentation segment) is_inter
+abbrev pub CanBeInter : Segmentation → ℕ → Bool → Type 0
+CanBeInter segmentation segment is_inter = CanBeInterBy (segment_reference segmentation segment) is_inter
 
 ---- What a block says first ----
 
@@ -75,32 +75,32 @@ CanTxIf false mode size tx = tx ≡ tx_of (greatest_allowed mode size)
 -- but for its segment
 pub record CanStart (segmentation : Segmentation) (mode : TxMode) (size : BlockSize) (start : BlockStart) : Type 0 where
   pub skip : CanSkip segmentation start.segment.id start.skip
-  pub is_inter : MayBeInter segmentation start.segment.id start.is_inter
+  pub is_inter : CanBeInter segmentation start.segment.id start.is_inter
   pub tx : CanTxIf (not (start.is_inter && start.skip)) mode size start.tx
 
 ---- References ----
 
 -- all blocks of a frame have one reference, or all have two, or each says how many (6.4.17: comp_mode)
-abbrev pub MayBeCompound : ReferenceMode → Bool → Type 0
-MayBeCompound Single compound = compound ≡ false
-MayBeCompound Compound compound = compound ≡ true
-MayBeCompound Selected compound = Unit {0}
+abbrev pub CanBeCompound : ReferenceMode → Bool → Type 0
+CanBeCompound Single compound = compound ≡ false
+CanBeCompound Compound compound = compound ≡ true
+CanBeCompound Selected compound = Unit {0}
 
 -- a compound block has the frame's fixed reference, and one of the two others (comp_ref)
 abbrev pub AreCompound : SignBiases → References → Type 0
 AreCompound biases refs = (one : Bool) × (refs ≡ with_fixed biases (fixed_of biases) (variable_by (fixed_of biases) one))
 
-pub record AreCoded (mode : ReferenceMode) (biases : SignBiases) (refs : References) : Type 0 where
-  pub chosen : MayBeCompound mode (is_some refs.second)
+pub record CanCodeReferences (mode : ReferenceMode) (biases : SignBiases) (refs : References) : Type 0 where
+  pub chosen : CanBeCompound mode (is_some refs.second)
   pub compound : is_some refs.second ≡ true → AreCompound biases refs
 
 -- an inter block refers to what its segment takes, or says its references (6.4.17: ref_frames)
-abbrev pub AreReferencesBy : Option FeatureReference → ReferenceMode → SignBiases → References → Type 0
-AreReferencesBy (Some reference) mode biases refs = refs ≡ single (of_feature reference)
-AreReferencesBy None mode biases refs = AreCoded mode biases refs
+abbrev pub CanReferBy : Option FeatureReference → ReferenceMode → SignBiases → References → Type 0
+CanReferBy (Some reference) mode biases refs = refs ≡ single (of_feature reference)
+CanReferBy None mode biases refs = CanCodeReferences mode biases refs
 
-abbrev pub AreReferences : ReferenceChoice → References → Type 0
-AreReferences c refs = AreReferencesBy c.feature c.mode c.biases refs
+abbrev pub CanRefer : ReferenceChoice → References → Type 0
+CanRefer c refs = CanReferBy c.feature c.mode c.biases refs
 
 ---- Blocks ----
 
@@ -114,7 +114,7 @@ choice_of f biases segment = record {
 
 -- An inter block's modes and vectors are said where its references are in range (6.4.16: inter_block_mode_info).
 pub record CanSayInterBlock (f : InterFrame) (s : Sources) (segment : ℕ) (q : InterSymbols) : Type 0 where
-  pub references : AreReferences (choice_of f s.search.biases segment) q.references
+  pub references : CanRefer (choice_of f s.search.biases segment) q.references
   pub rest : IfOk (in_range_or_rule f.header.size f.fields.references q.references)
       (λ _. CanSayInter s (skips_segment f.header.params.segmentation segment) f.fields.filter q)
 

@@ -15,7 +15,8 @@ ghost use Rattle.inter_modes.specs.Code.{MaySearch, IsBlockAt, AreInRange, Predi
 ghost use Rattle.inter_modes.specs.ModeInfo.{checked_references, inter_block, intra_block, inter_frame_block, inter_frame_mode_info, intra_frame_block, mode_info, block_with, sources_of, least_before};
 ghost use Rattle.inter_contexts.specs.References.{in_range_or_rule};
 ghost use Rattle.mode_writer.specs.Fits.{CanLuma, CanPutIntraFrame};
-ghost use Rattle.inter_writer.specs.Fits.{AreReferences, choice_of, IsSegment, CanStart, CanSayInterBlock, CanPredict, CanPutInterFrame, CanPutIntra, CanPut};
+ghost use Rattle.inter_writer.specs.Fits.{CanRefer, choice_of, IsSegment, CanStart, CanSayInterBlock, CanPredict, CanPutInterFrame, CanPutIntra, CanPut};
+ghost use Rattle.vector_writer.specs.Code.{sources_of as sources_in};
 ghost use Rattle.inter_writer.specs.Said.{inter_block_said, block_said, IsSaidIntra, IsSaid};
 
 use crate::intra_blocks::put_intra_prediction;
@@ -26,7 +27,7 @@ use block_plan::{
     left_place,
 };
 use bool_encoder::BoolEncoder;
-use frame_headers::{FrameKind, InterFields};
+use frame_headers::FrameKind;
 use frame_setting::FrameSetting;
 use inter_contexts::{filter_context, in_range_or_rule};
 use inter_modes::{BlockStart, Frame, Sources, block_with, segment_reference};
@@ -52,14 +53,11 @@ pub enum PredictionSymbols {
     Inter(InterSymbols),
 }
 
-/// The frame of a block: what is fixed for it, its blocks before the block, the segments before the frame, and the blocks of
-/// the frame before, where its vectors are used.
-#[derive(Drop)]
-pub struct FrameBlocks<'a, N, Q> {
-    pub setting: &'a FrameSetting,
-    pub earlier: &'a N,
-    pub map: &'a SegmentMap,
-    pub before: Option<&'a Q>,
+/// A block that is to be put: where it stands, and what it says.
+#[derive(Clone, Copy, Debug, PartialEq, Eq)]
+pub struct SaidBlock {
+    pub at: BlockAt,
+    pub symbols: BlockSymbols,
 }
 
 /// The blocks above a block and at its left, where they are.
@@ -103,7 +101,7 @@ fn put_checked_references(
     references: References,
 ) -> Result<Result<References, Rule>, AllocError>
     requires segment { segment ≤ 7 }
-    requires can { AreReferences (choice_of (frame_in frame.now) biases segment) references }
+    requires can { CanRefer (choice_of (frame_in frame.now) biases segment) references }
     ensures put { IfOk result (λ r. PutsValue (checked_references (frame_in frame.now) biases (option_copied beside.now.above) (option_copied beside.now.left) segment) encoder.old r encoder.new) }
     ensures is { IfOk result (λ r. r ≡ in_range_or_rule frame.now.setting.now.header.size frame.now.fields.now.references references) }
     ensures same { IfOk result (λ r. IfOk r (λ refs. refs ≡ references)) }
@@ -143,9 +141,9 @@ fn put_inter_block<N: Neighbours, Q: Neighbours>(
     requires few { src.now.context ≤ 6 }
     requires modes { src.now.modes.now ≡ frame.now.setting.now.contexts.inter.modes }
     requires may { MaySearch N.holds N.blocks Q.holds Q.blocks src.now.earlier.now (option_copied src.now.before) src.now.search }
-    requires can { CanSayInterBlock (frame_in frame.now) (record { lists = vector_lists src.now.probs.now; allowed = src.now.high_precision; earlier = N.blocks src.now.earlier.now; before = blocks_of Q.blocks (option_copied src.now.before); search = src.now.search }) start.now.segment.id symbols.now }
-    ensures put { IfOk result (λ r. PutsValue (inter_block (frame_in frame.now) (record { lists = vector_lists src.now.probs.now; allowed = src.now.high_precision; earlier = N.blocks src.now.earlier.now; before = blocks_of Q.blocks (option_copied src.now.before); search = src.now.search }) (option_copied beside.now.above) (option_copied beside.now.left) start.now) encoder.old r encoder.new) }
-    ensures is { IfOk result (λ r. r ≡ inter_block_said (frame_in frame.now) (record { lists = vector_lists src.now.probs.now; allowed = src.now.high_precision; earlier = N.blocks src.now.earlier.now; before = blocks_of Q.blocks (option_copied src.now.before); search = src.now.search }) start.now symbols.now) }
+    requires can { CanSayInterBlock (frame_in frame.now) (sources_in N.blocks Q.blocks src.now) start.now.segment.id symbols.now }
+    ensures put { IfOk result (λ r. PutsValue (inter_block (frame_in frame.now) (sources_in N.blocks Q.blocks src.now) (option_copied beside.now.above) (option_copied beside.now.left) start.now) encoder.old r encoder.new) }
+    ensures is { IfOk result (λ r. r ≡ inter_block_said (frame_in frame.now) (sources_in N.blocks Q.blocks src.now) start.now symbols.now) }
     ensures block { IfOk result (λ r. IfOk r (IsBlockAt src.now.search.at)) }
     ensures in_range { IfOk result (λ r. IfOk r (λ b. PredictsInRange frame.now.setting.now.header.size frame.now.fields.now.references b.prediction)) }
 {
@@ -153,14 +151,17 @@ fn put_inter_block<N: Neighbours, Q: Neighbours>(
     let segment = start.segment.id;
     let biases = src.search.biases;
     let references = symbols.references;
-    if let Err(rule) =
-        put_checked_references(encoder, frame, biases, beside, segment, references)?
-    {
+    if let Err(rule) = put_checked_references(
+        encoder, frame, biases, beside, segment, references,
+    )? {
         return Ok(Err(rule));
     }
     let filters = &setting.contexts.inter.filters;
     let skips = skips_segment(&setting.header.params.segmentation, segment);
-    let filter = (frame.fields.filter, filter_context(beside.above, beside.left));
+    let filter = (
+        frame.fields.filter,
+        filter_context(beside.above, beside.left),
+    );
     match put_inter_prediction(encoder, src, filters, skips, filter, symbols)? {
         Ok(prediction) => {
             let prediction = Prediction::Inter(prediction);
@@ -182,20 +183,27 @@ fn put_beside<N: Neighbours, Q: Neighbours>(
 ) -> Result<Result<BlockInfo, Rule>, AllocError>
     requires segment { symbols.now.start.segment.id ≤ 7 }
     requires first { CanStart frame.now.setting.now.header.params.segmentation frame.now.setting.now.modes.tx_mode src.now.search.at.size symbols.now.start }
-    requires prediction { CanPredict (frame_in frame.now) (record { lists = vector_lists src.now.probs.now; allowed = src.now.high_precision; earlier = N.blocks src.now.earlier.now; before = blocks_of Q.blocks (option_copied src.now.before); search = src.now.search }) symbols.now.start symbols.now.prediction }
+    requires prediction { CanPredict (frame_in frame.now) (sources_in N.blocks Q.blocks src.now) symbols.now.start symbols.now.prediction }
     requires context { src.now.context ≡ mode_context (N.blocks src.now.earlier.now) src.now.search }
     requires few { src.now.context ≤ 6 }
     requires modes { src.now.modes.now ≡ frame.now.setting.now.contexts.inter.modes }
     requires may { MaySearch N.holds N.blocks Q.holds Q.blocks src.now.earlier.now (option_copied src.now.before) src.now.search }
     ensures put { IfOk result (λ r. (least : ℕ) → IsSegment frame.now.setting.now.header.params.segmentation least symbols.now.start.segment →
-        PutsValue (inter_frame_block (frame_in frame.now) (record { lists = vector_lists src.now.probs.now; allowed = src.now.high_precision; earlier = N.blocks src.now.earlier.now; before = blocks_of Q.blocks (option_copied src.now.before); search = src.now.search }) (option_copied beside.now.above) (option_copied beside.now.left) least) encoder.old r encoder.new) }
-    ensures is { IfOk result (λ r. r ≡ block_said (frame_in frame.now) (record { lists = vector_lists src.now.probs.now; allowed = src.now.high_precision; earlier = N.blocks src.now.earlier.now; before = blocks_of Q.blocks (option_copied src.now.before); search = src.now.search }) symbols.now.start symbols.now.prediction) }
+        PutsValue (inter_frame_block (frame_in frame.now) (sources_in N.blocks Q.blocks src.now) (option_copied beside.now.above) (option_copied beside.now.left) least) encoder.old r encoder.new) }
+    ensures is { IfOk result (λ r. r ≡ block_said (frame_in frame.now) (sources_in N.blocks Q.blocks src.now) symbols.now.start symbols.now.prediction) }
     ensures block { IfOk result (λ r. IfOk r (IsBlockAt src.now.search.at)) }
     ensures in_range { IfOk result (λ r. IfOk r (λ b. PredictsInRange frame.now.setting.now.header.size frame.now.fields.now.references b.prediction)) }
 {
     let at = &src.search.at;
     let start = &symbols.start;
-    put_block_start(encoder, frame.setting, beside.above, beside.left, at.size, start)?;
+    put_block_start(
+        encoder,
+        frame.setting,
+        beside.above,
+        beside.left,
+        at.size,
+        start,
+    )?;
     match &symbols.prediction {
         PredictionSymbols::Intra(prediction) => {
             Ok(Ok(put_intra_block(encoder, frame, at, start, *prediction)?))
@@ -210,46 +218,47 @@ fn put_beside<N: Neighbours, Q: Neighbours>(
 #[tactic(auto, unfolding(inter_modes::specs::ModeInfo::inter_frame_mode_info), using(crate::proofs::Below::segment_below))]
 fn put_inter_frame_mode_info<N: Neighbours, Q: Neighbours>(
     encoder: &mut BoolEncoder,
-    blocks: &FrameBlocks<'_, N, Q>,
-    fields: &InterFields,
-    at: BlockAt,
-    symbols: &BlockSymbols,
+    frame: &Frame<'_>,
+    earlier: &N,
+    map: &SegmentMap,
+    before: Option<&Q>,
+    block: &SaidBlock,
 ) -> Result<Result<BlockInfo, Rule>, AllocError>
-    requires site { IsSite (record { places = blocks.now.setting.now.places; biases = sign_biases fields.now.references; at = at }) }
-    requires map { (blocks.now.map.now.rows ≡ blocks.now.setting.now.places.rows) × (blocks.now.map.now.cols ≡ blocks.now.setting.now.places.cols) }
-    requires held { (r c : ℕ) → r < blocks.now.setting.now.places.rows → at.tile_from ≤ c → c < at.tile_to → N.holds blocks.now.earlier.now r c }
-    requires held_before { IfSome (option_copied blocks.now.before) (λ q. Q.holds q at.row at.col) }
-    requires small { All HasSmallVectors (N.blocks blocks.now.earlier.now) }
-    requires small_before { All HasSmallVectors (blocks_of Q.blocks (option_copied blocks.now.before)) }
-    requires can { CanPutInterFrame (record { header = blocks.now.setting.now.header; fields = fields.now; modes = blocks.now.setting.now.modes; contexts = lists_of blocks.now.setting.now.contexts }) (sources_of (record { header = blocks.now.setting.now.header; fields = fields.now; modes = blocks.now.setting.now.modes; contexts = lists_of blocks.now.setting.now.contexts }) (N.blocks blocks.now.earlier.now) (blocks_of Q.blocks (option_copied blocks.now.before)) at)
-        (least_before blocks.now.setting.now.header (id_map blocks.now.map.now) at) symbols.now.start symbols.now.prediction }
-    ensures put { IfOk result (λ r. PutsValue (inter_frame_mode_info (record { header = blocks.now.setting.now.header; fields = fields.now; modes = blocks.now.setting.now.modes; contexts = lists_of blocks.now.setting.now.contexts }) (id_map blocks.now.map.now) (N.blocks blocks.now.earlier.now) (blocks_of Q.blocks (option_copied blocks.now.before)) at) encoder.old r encoder.new) }
-    ensures is { IfOk result (λ r. r ≡ block_said (record { header = blocks.now.setting.now.header; fields = fields.now; modes = blocks.now.setting.now.modes; contexts = lists_of blocks.now.setting.now.contexts }) (sources_of (record { header = blocks.now.setting.now.header; fields = fields.now; modes = blocks.now.setting.now.modes; contexts = lists_of blocks.now.setting.now.contexts }) (N.blocks blocks.now.earlier.now) (blocks_of Q.blocks (option_copied blocks.now.before)) at) symbols.now.start symbols.now.prediction) }
-    ensures block { IfOk result (λ r. IfOk r (IsBlockAt at)) }
-    ensures in_range { IfOk result (λ r. IfOk r (λ b. PredictsInRange blocks.now.setting.now.header.size fields.now.references b.prediction)) }
+    requires site { IsSite (record { places = frame.now.setting.now.places; biases = sign_biases frame.now.fields.now.references; at = block.now.at }) }
+    requires map { (map.now.rows ≡ frame.now.setting.now.places.rows) × (map.now.cols ≡ frame.now.setting.now.places.cols) }
+    requires held { (r c : ℕ) → r < frame.now.setting.now.places.rows → block.now.at.tile_from ≤ c → c < block.now.at.tile_to → N.holds earlier.now r c }
+    requires held_before { IfSome (option_copied before) (λ q. Q.holds q block.now.at.row block.now.at.col) }
+    requires small { All HasSmallVectors (N.blocks earlier.now) }
+    requires small_before { All HasSmallVectors (blocks_of Q.blocks (option_copied before)) }
+    requires can { CanPutInterFrame (frame_in frame.now) (sources_of (frame_in frame.now) (N.blocks earlier.now) (blocks_of Q.blocks (option_copied before)) block.now.at)
+        (least_before frame.now.setting.now.header (id_map map.now) block.now.at) block.now.symbols.start block.now.symbols.prediction }
+    ensures put { IfOk result (λ r. PutsValue (inter_frame_mode_info (frame_in frame.now) (id_map map.now) (N.blocks earlier.now) (blocks_of Q.blocks (option_copied before.entry)) block.now.at) encoder.old r encoder.new) }
+    ensures is { IfOk result (λ r. r ≡ block_said (frame_in frame.now) (sources_of (frame_in frame.now) (N.blocks earlier.now) (blocks_of Q.blocks (option_copied before.entry)) block.now.at) block.now.symbols.start block.now.symbols.prediction) }
+    ensures block { IfOk result (λ r. IfOk r (IsBlockAt block.now.at)) }
+    ensures in_range { IfOk result (λ r. IfOk r (λ b. PredictsInRange frame.now.setting.now.header.size frame.now.fields.now.references b.prediction)) }
 {
-    let setting = blocks.setting;
-    let earlier = blocks.earlier;
+    let setting = frame.setting;
     let contexts = &setting.contexts;
+    let at = block.at;
     let search = MvSearch {
         places: setting.places,
-        biases: SignBiases::of(&fields.references),
+        biases: SignBiases::of(&frame.fields.references),
         at,
     };
     let src = Sources {
         probs: &contexts.vectors,
         modes: &contexts.inter.modes,
         context: mode_context(&search, earlier),
-        high_precision: fields.high_precision,
+        high_precision: frame.fields.high_precision,
         search,
         earlier,
-        before: blocks.before,
+        before,
     };
     let beside = Beside {
         above: above_place(earlier, at.row, at.col),
         left: left_place(earlier, at.tile_from, at.row, at.col),
     };
-    put_beside(encoder, &src, &Frame { setting, fields }, &beside, symbols)
+    put_beside(encoder, &src, frame, &beside, &block.symbols)
 }
 
 /// A block of an intra frame.
@@ -258,21 +267,21 @@ fn put_intra_frame_block<N: Neighbours>(
     encoder: &mut BoolEncoder,
     setting: &FrameSetting,
     earlier: &N,
-    at: BlockAt,
-    symbols: &BlockSymbols,
+    said: &SaidBlock,
 ) -> Result<BlockInfo, AllocError>
-    requires above { 0 < at.row → N.holds earlier.now (at.row - 1) at.col }
-    requires left { at.tile_from < at.col → N.holds earlier.now at.row (at.col - 1) }
-    requires can { CanPutIntra setting.now.header setting.now.modes at symbols.now.start symbols.now.prediction }
-    ensures put { IfOk result (λ b. PutsValue (intra_frame_block setting.now.header setting.now.modes (lists_of setting.now.contexts) (N.blocks earlier.now) at) encoder.old (Ok b) encoder.new) }
-    ensures is { IfOk result (λ b. IsSaidIntra at symbols.now.start symbols.now.prediction (Ok b)) }
-    ensures block { IfOk result (IsBlockAt at) }
+    requires above { 0 < said.now.at.row → N.holds earlier.now (said.now.at.row - 1) said.now.at.col }
+    requires left { said.now.at.tile_from < said.now.at.col → N.holds earlier.now said.now.at.row (said.now.at.col - 1) }
+    requires can { CanPutIntra setting.now.header setting.now.modes said.now.at said.now.symbols.start said.now.symbols.prediction }
+    ensures put { IfOk result (λ b. PutsValue (intra_frame_block setting.now.header setting.now.modes (lists_of setting.now.contexts) (N.blocks earlier.now) said.now.at) encoder.old (Ok b) encoder.new) }
+    ensures is { IfOk result (λ b. IsSaidIntra said.now.at said.now.symbols.start said.now.symbols.prediction (Ok b)) }
+    ensures block { IfOk result (IsBlockAt said.now.at) }
     ensures in_range { IfOk result (λ b. RefersInRange setting.now.header b.prediction) }
 {
-    let PredictionSymbols::Intra(prediction) = symbols.prediction else {
+    let PredictionSymbols::Intra(prediction) = said.symbols.prediction else {
         unreachable!()
     };
-    let block = block_with(&at, &symbols.start, Prediction::Intra(prediction));
+    let at = said.at;
+    let block = block_with(&at, &said.symbols.start, Prediction::Intra(prediction));
     put_intra_frame_mode_info(encoder, setting, earlier, at, &block)?;
     Ok(block)
 }
@@ -283,30 +292,34 @@ fn put_intra_frame_block<N: Neighbours>(
 #[tactic(auto, unfolding(inter_modes::specs::ModeInfo::mode_info), using(inter_modes::proofs::InRange::refers_in_range))]
 pub fn put_mode_info<N: Neighbours, Q: Neighbours>(
     encoder: &mut BoolEncoder,
-    blocks: &FrameBlocks<'_, N, Q>,
-    at: BlockAt,
-    symbols: &BlockSymbols,
+    setting: &FrameSetting,
+    earlier: &N,
+    map: &SegmentMap,
+    before: Option<&Q>,
+    block: &SaidBlock,
 ) -> Result<Result<BlockInfo, Rule>, AllocError>
-    requires row { at.row < blocks.now.setting.now.places.rows }
-    requires first { at.tile_from ≤ at.col }
-    requires last { at.col < at.tile_to }
-    requires tile { at.tile_to ≤ blocks.now.setting.now.places.cols }
-    requires map { (blocks.now.map.now.rows ≡ blocks.now.setting.now.places.rows) × (blocks.now.map.now.cols ≡ blocks.now.setting.now.places.cols) }
-    requires held { (r c : ℕ) → r < blocks.now.setting.now.places.rows → at.tile_from ≤ c → c < at.tile_to → N.holds blocks.now.earlier.now r c }
-    requires held_before { IfSome (option_copied blocks.now.before) (λ q. Q.holds q at.row at.col) }
-    requires small { All HasSmallVectors (N.blocks blocks.now.earlier.now) }
-    requires small_before { All HasSmallVectors (blocks_of Q.blocks (option_copied blocks.now.before)) }
-    requires can { CanPut blocks.now.setting.now.header blocks.now.setting.now.modes (lists_of blocks.now.setting.now.contexts) (id_map blocks.now.map.now) (N.blocks blocks.now.earlier.now) (blocks_of Q.blocks (option_copied blocks.now.before)) at symbols.now }
-    ensures put { IfOk result (λ r. PutsValue (mode_info blocks.now.setting.now.header blocks.now.setting.now.modes (lists_of blocks.now.setting.now.contexts) (id_map blocks.now.map.now) (N.blocks blocks.now.earlier.now) (blocks_of Q.blocks (option_copied blocks.now.before)) at) encoder.old r encoder.new) }
-    ensures is { IfOk result (λ r. IsSaid blocks.now.setting.now.header blocks.now.setting.now.modes (lists_of blocks.now.setting.now.contexts) (N.blocks blocks.now.earlier.now) (blocks_of Q.blocks (option_copied blocks.now.before)) at symbols.now r) }
-    ensures block { IfOk result (λ r. IfOk r (IsBlockAt at)) }
-    ensures in_range { IfOk result (λ r. IfOk r (λ b. RefersInRange blocks.now.setting.now.header b.prediction)) }
+    requires row { block.now.at.row < setting.now.places.rows }
+    requires first { block.now.at.tile_from ≤ block.now.at.col }
+    requires last { block.now.at.col < block.now.at.tile_to }
+    requires tile { block.now.at.tile_to ≤ setting.now.places.cols }
+    requires map { (map.now.rows ≡ setting.now.places.rows) × (map.now.cols ≡ setting.now.places.cols) }
+    requires held { (r c : ℕ) → r < setting.now.places.rows → block.now.at.tile_from ≤ c → c < block.now.at.tile_to → N.holds earlier.now r c }
+    requires held_before { IfSome (option_copied before) (λ q. Q.holds q block.now.at.row block.now.at.col) }
+    requires small { All HasSmallVectors (N.blocks earlier.now) }
+    requires small_before { All HasSmallVectors (blocks_of Q.blocks (option_copied before)) }
+    requires can { CanPut setting.now.header setting.now.modes (lists_of setting.now.contexts) (id_map map.now) (N.blocks earlier.now) (blocks_of Q.blocks (option_copied before)) block.now.at block.now.symbols }
+    ensures put { IfOk result (λ r. PutsValue (mode_info setting.now.header setting.now.modes (lists_of setting.now.contexts) (id_map map.now) (N.blocks earlier.now) (blocks_of Q.blocks (option_copied before.entry)) block.now.at) encoder.old r encoder.new) }
+    ensures is { IfOk result (λ r. IsSaid setting.now.header setting.now.modes (lists_of setting.now.contexts) (N.blocks earlier.now) (blocks_of Q.blocks (option_copied before.entry)) block.now.at block.now.symbols r) }
+    ensures block { IfOk result (λ r. IfOk r (IsBlockAt block.now.at)) }
+    ensures in_range { IfOk result (λ r. IfOk r (λ b. RefersInRange setting.now.header b.prediction)) }
 {
-    let setting = blocks.setting;
     match &setting.header.kind {
-        FrameKind::Inter(fields) => put_inter_frame_mode_info(encoder, blocks, fields, at, symbols),
+        FrameKind::Inter(fields) => {
+            let frame = Frame { setting, fields };
+            put_inter_frame_mode_info(encoder, &frame, earlier, map, before, block)
+        }
         FrameKind::Key | FrameKind::IntraOnly => {
-            let block = put_intra_frame_block(encoder, setting, blocks.earlier, at, symbols)?;
+            let block = put_intra_frame_block(encoder, setting, earlier, block)?;
             Ok(Ok(block))
         }
     }

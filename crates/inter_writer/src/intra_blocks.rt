@@ -118,7 +118,7 @@ fn put_luma_modes(
 
 /// Puts the modes of an intra block of an inter frame.
 #[tactic(auto, unfolding(inter_modes::specs::IntraBlocks::intra_block_mode_info), using(counting_writer::proofs::CountedPuts::valued_in_order, counting_writer::proofs::CountedPuts::valued_settle, vp9_types::proofs::Binds::writes_bind))]
-pub fn put_intra_prediction(
+pub(crate) fn put_intra_prediction(
     encoder: &mut BoolEncoder,
     y_modes: &[u8; 36],
     uv_modes: &[u8; 90],

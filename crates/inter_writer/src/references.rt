@@ -7,7 +7,7 @@ ghost use Rattle.std.specs.Option.{option_copied};
 ghost use Rattle.prob_contexts.specs.Lists.{inter_lists};
 ghost use Rattle.counting_writer.specs.Counted.{PutsValue};
 ghost use Rattle.inter_contexts.specs.References.{variable_by, with_fixed, single, is_compound, compound_references, golden_or_altref, single_reference, coded_references, ref_frames};
-ghost use Rattle.inter_writer.specs.Fits.{MayBeCompound, AreCompound, AreCoded, AreReferences};
+ghost use Rattle.inter_writer.specs.Fits.{CanBeCompound, AreCompound, CanCodeReferences, CanRefer};
 
 use block_plan::{BlockInfo, References};
 use bool_encoder::{BoolEncoder, put_flag};
@@ -37,7 +37,7 @@ fn put_is_compound(
     compound: bool,
 ) -> Result<(), AllocError>
     requires context { context ≤ 4 }
-    requires may { MayBeCompound mode compound }
+    requires may { CanBeCompound mode compound }
     ensures { IfOk result (λ _. PutsValue (is_compound mode probs.now context) encoder.old compound encoder.new) }
 {
     match mode {
@@ -132,7 +132,7 @@ fn put_coded(
     left: Option<&BlockInfo>,
     references: References,
 ) -> Result<(), AllocError>
-    requires { AreCoded choice.now.mode choice.now.biases references }
+    requires { CanCodeReferences choice.now.mode choice.now.biases references }
     ensures { IfOk result (λ _. PutsValue (coded_references choice.now.mode (inter_lists probs.now) choice.now.biases (option_copied above.entry) (option_copied left.entry)) encoder.old references encoder.new) }
 {
     let mode = choice.mode;
@@ -155,7 +155,7 @@ fn put_coded(
 
 /// Puts the references of an inter block, where its segment takes none.
 #[tactic(auto, unfolding(inter_contexts::specs::References::ref_frames), using(counting_writer::proofs::CountedPuts::valued_settle))]
-pub fn put_references(
+pub(crate) fn put_references(
     encoder: &mut BoolEncoder,
     choice: &ReferenceChoice,
     probs: &InterProbs,
@@ -163,7 +163,7 @@ pub fn put_references(
     left: Option<&BlockInfo>,
     references: References,
 ) -> Result<(), AllocError>
-    requires { AreReferences choice.now references }
+    requires { CanRefer choice.now references }
     ensures { IfOk result (λ _. PutsValue (ref_frames choice.now.feature choice.now.mode (inter_lists probs.now) choice.now.biases (option_copied above.entry) (option_copied left.entry)) encoder.old references encoder.new) }
 {
     match choice.feature {

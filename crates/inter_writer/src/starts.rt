@@ -3,7 +3,7 @@
 ghost use Rattle.std.specs.Prelude.{◌≡◌, ◌≤◌, IfOk, ℕ, true, false};
 ghost use Rattle.counting_writer.specs.Counted.{PutsValue};
 ghost use Rattle.inter_modes.specs.Starts.{segment_of, coded_segment, temporal_segment, updated_segment, segment_by, inter_segment_id, is_inter_by, read_is_inter, tx_size, block_start};
-ghost use Rattle.inter_writer.specs.Fits.{IsUpdated, IsSegment, MayBeInter, CanTxIf, CanStart};
+ghost use Rattle.inter_writer.specs.Fits.{IsUpdated, IsSegment, CanBeInter, CanTxIf, CanStart};
 ghost use Rattle.std.specs.Option.{option_copied};
 ghost use Rattle.prob_contexts.specs.Lists.{lists_of};
 
@@ -68,7 +68,7 @@ fn put_updated_segment(
 
 /// Puts the segment of a block of an inter frame.
 #[tactic(auto, unfolding(inter_modes::specs::Starts::inter_segment_id, inter_modes::specs::Starts::segment_by), using(counting_writer::proofs::CountedPuts::valued_settle))]
-pub fn put_inter_segment_id(
+fn put_inter_segment_id(
     encoder: &mut BoolEncoder,
     segmentation: &Segmentation,
     context: u8,
@@ -90,7 +90,7 @@ pub fn put_inter_segment_id(
 
 /// Puts whether a block is inter, where its segment takes no reference.
 #[tactic(auto, unfolding(inter_modes::specs::Starts::read_is_inter, inter_modes::specs::Starts::is_inter_by), using(counting_writer::proofs::CountedPuts::valued_settle, counting_writer::proofs::CountedPuts::valued_flag))]
-pub fn put_is_inter(
+fn put_is_inter(
     encoder: &mut BoolEncoder,
     segmentation: &Segmentation,
     probs: &[u8; 4],
@@ -100,7 +100,7 @@ pub fn put_is_inter(
 ) -> Result<(), AllocError>
     requires segment { segment ≤ 7 }
     requires context { context ≤ 3 }
-    requires may { MayBeInter segmentation.now segment is_inter }
+    requires may { CanBeInter segmentation.now segment is_inter }
     ensures { IfOk result (λ _. PutsValue (read_is_inter segmentation.now probs.now context segment) encoder.old is_inter encoder.new) }
 {
     match segment_reference(segmentation, segment) {
@@ -132,7 +132,7 @@ fn put_tx(
 /// Puts what a block of an inter frame says before its modes, by the blocks above it and at its left, whatever the least id is
 /// that the map before the frame has over it.
 #[tactic(auto, unfolding(inter_modes::specs::Starts::block_start), using(counting_writer::proofs::CountedPuts::valued_in_order, counting_writer::proofs::CountedPuts::valued_settle, vp9_types::proofs::Binds::writes_bind))]
-pub fn put_block_start(
+pub(crate) fn put_block_start(
     encoder: &mut BoolEncoder,
     setting: &FrameSetting,
     above: Option<&BlockInfo>,

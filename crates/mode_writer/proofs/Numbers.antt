@@ -4,17 +4,9 @@ use Rattle.vp9_types.specs.declared.block.IntraMode.{IntraMode}
 use Rattle.vp9_types.specs.declared.block.IntraMode.TheVariants.{Dc, V, H, D45, D135, D117, D153, D207, D63, Tm}
 use Rattle.vp9_types.specs.declared.block.Partition.{Partition}
 use Rattle.vp9_types.specs.declared.block.Partition.TheVariants.{Whole, Horizontal, Vertical, Split}
-use Rattle.vp9_types.specs.declared.block.TxSize.{TxSize}
-use Rattle.vp9_types.specs.declared.block.TxSize.TheVariants.{T4x4, T8x8, T16x16, T32x32}
-use Rattle.vp9_tables.specs.Numbers.{intra_number, partition_number, tx_number, tx_of}
+use Rattle.vp9_tables.specs.Numbers.{intra_number, partition_number}
 use Rattle.mode_syntax.specs.IntraModes.{intra_of}
 use Rattle.mode_syntax.specs.Partitions.{partition_of}
-
-pub tx_of_its_number : (tx : TxSize) → tx_of (tx_number tx) ≡ tx
-tx_of_its_number T4x4 = refl
-tx_of_its_number T8x8 = refl
-tx_of_its_number T16x16 = refl
-tx_of_its_number T32x32 = refl
 
 pub intra_of_its_number : (mode : IntraMode) → intra_of (intra_number mode) ≡ mode
 intra_of_its_number Dc = refl

@@ -40,10 +40,10 @@ says_tx mode size = is_selected mode && not (is_below_8x8 size)
 
 -- one up to the greatest that fits the block where the block says it; else the greatest that is allowed
 abbrev pub CanTx : TxMode → BlockSize → TxSize → Type 0
-CanTx mode size tx = (says_tx mode size ≡ true → tx_number tx ≤ greatest_of size) × (says_tx mode size ≡ false → tx ≡ tx_of (greatest_allowed mode size))
+CanTx mode size tx =
+    (says_tx mode size ≡ true → tx_number tx ≤ greatest_of size) × (says_tx mode size ≡ false → tx ≡ tx_of (greatest_allowed mode size))
 
--- a block of 8x4 has two rows of modes, one of 4x8 two columns, one of 4x4 a mode for each quarter; another a single one
--- (6.4.6)
+-- the mode of a quarter, in raster order
 abbrev pub mode_at : List IntraMode → ℕ → IntraMode
 mode_at luma quarter = slice_index_or luma quarter Dc
 
@@ -53,18 +53,20 @@ AreRows luma = (mode_at luma 1 ≡ mode_at luma 0) × (mode_at luma 3 ≡ mode_a
 abbrev pub AreColumns : List IntraMode → Type 0
 AreColumns luma = (mode_at luma 2 ≡ mode_at luma 0) × (mode_at luma 3 ≡ mode_at luma 1)
 
+-- a block of 4x4 says a mode for each quarter, one of 4x8 two columns, one of 8x4 two rows, any other a single mode (6.4.6)
 abbrev pub CanLuma : BlockSize → List IntraMode → Type 0
 CanLuma B4x4 luma = Unit
 CanLuma B4x8 luma = AreColumns luma
 CanLuma B8x4 luma = AreRows luma
 CanLuma _ luma = AreRows luma × AreColumns luma
 
+-- any mode in chroma
 abbrev pub CanIntra : BlockSize → Prediction → Type 0
 CanIntra size (Intra p) = CanLuma size p.luma
 CanIntra size (Inter p) = ⊥
 
 -- What a block of an intra frame can say (6.4.6): it stands at the place that is coded, its segment isn't predicted from
--- another map, and it is predicted from its own frame, by any mode in chroma.
+-- another map, and it is predicted from its own frame.
 pub record CanPutIntraFrame (header : Header) (modes : Modes) (at : BlockAt) (block : BlockInfo) : Type 0 where
   pub row : block.row ≡ at.row
   pub col : block.col ≡ at.col
@@ -75,8 +77,8 @@ pub record CanPutIntraFrame (header : Header) (modes : Modes) (at : BlockAt) (bl
   pub tx : CanTx modes.tx_mode at.size block.tx
   pub intra : CanIntra at.size block.prediction
 
--- how a square can be partitioned whose lower half begins inside the frame, or doesn't, and its right half (6.4.3): one half
--- alone outside is left out, or split; both are split
+-- how a square can be partitioned, by whether its lower half begins inside the frame, and its right half (6.4.3): a half that
+-- begins outside is left out, or the square is split; it is split where both do
 abbrev pub CanPartition : Bool → Bool → Partition → Type 0
 CanPartition true true partition = Unit
 CanPartition false true partition = (partition ≡ Horizontal) ⊎ (partition ≡ Split)

@@ -4,11 +4,15 @@
 
 mod elements;
 mod intra_modes;
+mod laws;
 mod mode_info;
 mod partition;
+#[cfg(test)]
+mod tests;
 mod tx_sizes;
 
 pub use elements::{put_intra_segment_id, put_skip};
+pub use laws::what_is_read_can_be_put;
 pub use mode_info::put_intra_frame_mode_info;
 pub use partition::put_partition;
 pub use tx_sizes::put_tx_size;

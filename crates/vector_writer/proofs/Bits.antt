@@ -1,5 +1,5 @@
 -- The bits of a class, one by one.
-use Rattle.std.proofs.Common.{◌≡◌, ℕ, zero, suc, ◌+◌, ◌-◌, ◌*◌, ◌/◌, ◌%◌, ◌^◌, ◌<◌, ◌≤◌, ◌∷◌, Bool, ap, sym, subst, ◌∙◌, refl, arith}
+use Rattle.std.proofs.Common.{◌≡◌, ℕ, zero, suc, ◌+◌, ◌-◌, ◌*◌, ◌/◌, ◌%◌, ◌^◌, ◌<◌, ◌≤◌, ap, sym, subst, ◌∙◌, refl, arith}
 use Rattle.std.specs.Prelude.{nat_eq}
 use Rattle.std.proofs.Math.Nat.{mod-eq_of_lt}
 use Rattle.std.proofs.lemmas.Nat.{mod-pow-add}
@@ -10,11 +10,9 @@ use Rattle.vp9_tables.specs.Numbers.{flag_number}
 use Rattle.bool_encoder.specs.Part.{Part, after_put}
 use Rattle.bool_encoder.specs.Bools.{LeadsBools, Puts, can_put}
 use Rattle.vp9_types.proofs.Binds.{writes_bind, leads_here}
-use Rattle.counting_reader.specs.Counting.{Settled, through, settle}
+use Rattle.counting_reader.specs.Counting.{Settled, through}
 use Rattle.counting_writer.specs.Counted.{valued, PutsValue}
 use Rattle.counting_writer.proofs.CountedPuts.{valued_in_order, valued_settle}
-use Rattle.prob_contexts.specs.Lists.{VectorLists}
-use Rattle.mv_syntax.specs.Components.{next_bit}
 
 abbrev Step : Type 0
 Step = ℕ → ℕ → Syntax ℕ Rule (Settled ℕ)

@@ -1,5 +1,5 @@
 -- Predictions have the modes that were said.
-use Rattle.std.proofs.Common.{◌≡◌, ℕ, ◌<◌, ◌∷◌, [], List, Bool, true, false, refl, sym, ◌∙◌, ap, arith, length}
+use Rattle.std.proofs.Common.{◌≡◌, ℕ, ◌∷◌, [], List, Bool, true, false, refl, sym, ◌∙◌, ap, arith, length}
 use Rattle.std.specs.Prelude.{Result, Ok, Err, IfOk}
 use Rattle.vp9_types.specs.Results.{◌>>=◌}
 use Rattle.vp9_types.specs.declared.block.BlockSize.{BlockSize}
@@ -115,7 +115,7 @@ are_said s skips filter symbols can long =
     all_four symbols.modes long
     ∙ four_same _ _ _ _ _ _ _ _ (can.same 0 (omega arith)) (can.same 1 (omega arith)) (can.same 2 (omega arith)) (can.same 3 (omega arith))
 
-from_8x8 : (size : BlockSize) (k : ℕ) → is_below_8x8 size ≡ false → quarter_saying size k ≡ 0
+pub from_8x8 : (size : BlockSize) (k : ℕ) → is_below_8x8 size ≡ false → quarter_saying size k ≡ 0
 from_8x8 B4x4 k from = absurd (no (sym from))
 from_8x8 B4x8 k from = absurd (no (sym from))
 from_8x8 B8x4 k from = absurd (no (sym from))

@@ -1,3 +1,4 @@
 pub mod Code
 pub mod Fits
+pub mod Laws
 pub mod Said

@@ -1,5 +1,5 @@
 -- The prediction that an inter block's symbols say (6.4.16 and 6.4.18 of the standard: inter_block_mode_info, assign_mv).
-use Rattle.std.specs.Prelude.{◌≡◌, ℕ, List, [], ◌∷◌, Option, Some, None, Result, Ok, Err, slice_index_or, if◌then◌else◌}
+use Rattle.std.specs.Prelude.{◌≡◌, ℕ, List, [], ◌∷◌, Option, Some, None, Result, Ok, slice_index_or, if◌then◌else◌}
 use Rattle.vp9_types.specs.Results.{◌>>=◌}
 use Rattle.vp9_types.specs.declared.block.BlockSize.{BlockSize}
 use Rattle.vp9_types.specs.declared.block.BlockSize.TheVariants.{B4x8, B8x4}

@@ -4,6 +4,7 @@
 mod blocks;
 mod components;
 mod differences;
+mod laws;
 mod new_vectors;
 mod quarters;
 mod symbols;
@@ -11,6 +12,10 @@ mod vectors;
 
 pub use blocks::{put_filter, put_inter_prediction};
 pub use differences::put_mv;
+pub use laws::what_is_read_can_be_put;
 pub use new_vectors::put_new_vector;
 pub use symbols::{InterSymbols, QuarterSymbols};
 pub use vectors::put_inter_mode;
+
+#[cfg(test)]
+mod tests;

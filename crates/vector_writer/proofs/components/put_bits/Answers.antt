@@ -1,4 +1,4 @@
-use Rattle.std.proofs.Common.{◌≤◌, arith}
+use Rattle.std.proofs.Common.{arith}
 use Rattle.prob_contexts.specs.Lists.{vector_lists}
 use Rattle.mv_syntax.specs.Components.{next_bit}
 use Rattle.vector_writer.proofs.Bits.{bits_begin, bits_go, bits_end}

@@ -1,0 +1,20 @@
+-- What inter blocks read, as what their symbols say.
+use Rattle.std.specs.Prelude.{◌≡◌, ℕ, ◌<◌, Bool, Result, length}
+use Rattle.vp9_types.specs.declared.rule.Rule.{Rule}
+use Rattle.frame_headers.specs.declared.header.FrameFilter.{FrameFilter}
+use Rattle.block_plan.specs.declared.block.InterPrediction.{InterPrediction}
+use Rattle.block_plan.specs.declared.block.References.{References}
+use Rattle.inter_modes.specs.Vectors.{Sources, row_at}
+use Rattle.vector_writer.specs.Fits.{CanSayInter}
+use Rattle.vector_writer.specs.Said.{inter_said}
+use Rattle.vector_writer.specs.declared.symbols.InterSymbols.{InterSymbols}
+
+-- a prediction, or a rule, is what symbols say that can be put, of four quarters and two lists
+pub record IsSaid (s : Sources) (skips : Bool) (filter : FrameFilter) (refs : References) (r : Result InterPrediction Rule) : Type 0 where
+  pub symbols : InterSymbols
+  pub references : symbols.references ≡ refs
+  pub modes : length symbols.modes ≡ 4
+  pub rows : length symbols.differences ≡ 4
+  pub pairs : (k : ℕ) → k < 4 → length (row_at symbols.differences k) ≡ 2
+  pub can : CanSayInter s skips filter symbols
+  pub said : r ≡ inter_said s symbols
