@@ -24,7 +24,7 @@ use Rattle.frame_headers.specs.declared.header.Header.{Header}
 use Rattle.vp9_types.specs.declared.block.Modes.{Modes}
 use Rattle.inter_modes.specs.declared.starts.BlockStart.{BlockStart}
 use Rattle.mode_writer.specs.Fits.{CanSegment, CanSkip, CanTx, CanLuma}
-use Rattle.inter_writer.specs.Fits.{AreCoded, AreReferencesBy, CanSayInterBlock, CanPutIntra}
+use Rattle.inter_writer.specs.Fits.{CanCodeReferences, CanReferBy, CanSayInterBlock, CanPutIntra}
 use Rattle.inter_writer.specs.declared.frame_blocks.PredictionSymbols.TheVariants.{Intra}
 use Rattle.drawn_symbols.specs.Inter.{references_alone}
 use Rattle.vector_writer.specs.Fits.{CanFilter, CanSayInter}
@@ -50,7 +50,7 @@ skips_none s drawn segment =
     no_skip s.enabled (slice_index_or s.features.segments segment no_segment_features) (λ on. drawn.plain on segment)
 
 references_can : (feature : Option FeatureReference) (mode : ReferenceMode) (biases : SignBiases) (refs : References)
-    → feature ≡ None → AreCoded mode biases refs → AreReferencesBy feature mode biases refs
+    → feature ≡ None → CanCodeReferences mode biases refs → CanReferBy feature mode biases refs
 references_can feature mode biases refs none coded = rw none coded
 
 no : false ≡ true → ⊥
@@ -80,7 +80,7 @@ if_none r e P is = rw is tt
 
 -- of references in range
 pub inter_can : (f : InterFrame) (s : Sources) (refs : References) (q : InterSymbols) → AreDrawnSegments f.header.params.segmentation → f.fields.filter ≡ Switchable
-    → AreCoded f.modes.reference_mode s.search.biases refs → CanBeSymbols (best_of s refs) s.search.at.size q
+    → CanCodeReferences f.modes.reference_mode s.search.biases refs → CanBeSymbols (best_of s refs) s.search.at.size q
     → (segment : ℕ) → CanSayInterBlock f s segment q
 inter_can f s refs q segments filter coded can segment = record {
   references = rw can.references (references_can _ _ _ refs (takes_none f.header.params.segmentation segments segment) coded);
@@ -90,7 +90,7 @@ inter_can f s refs q segments filter coded can segment = record {
 
 -- of references out of range
 pub references_alone_can : (f : InterFrame) (s : Sources) (refs : References) (rule : Rule) → AreDrawnSegments f.header.params.segmentation
-    → AreCoded f.modes.reference_mode s.search.biases refs → in_range_or_rule f.header.size f.fields.references refs ≡ Err rule
+    → CanCodeReferences f.modes.reference_mode s.search.biases refs → in_range_or_rule f.header.size f.fields.references refs ≡ Err rule
     → (segment : ℕ) → CanSayInterBlock f s segment (references_alone refs)
 references_alone_can f s refs rule segments coded out segment = record {
   references = references_can _ _ _ refs (takes_none f.header.params.segmentation segments segment) coded;

@@ -7,7 +7,7 @@ ghost use Rattle.frame_headers.specs.declared.header.FrameFilter.TheVariants.{Sw
 ghost use Rattle.prob_contexts.specs.Lists.{lists_of};
 ghost use Rattle.mv_prediction.specs.Candidates.{sign_biases};
 ghost use Rattle.mv_prediction.specs.Code.{HasSmallVectors, IsSite, blocks_of};
-ghost use Rattle.segment_map.specs.Segments.{id_map};
+ghost use Rattle.vp9_types.specs.Maps.{Map};
 ghost use Rattle.inter_modes.specs.Code.{MaySearch, frame_in};
 ghost use Rattle.inter_modes.specs.ModeInfo.{sources_of};
 ghost use Rattle.mode_writer.specs.Fits.{CanLuma};
@@ -23,10 +23,10 @@ use crate::inter::draw_inter;
 use crate::intra::draw_intra;
 use crate::starts::{draw_inter_start, draw_intra_start};
 use block_plan::{BlockAt, IntraPrediction, Neighbours};
-use frame_headers::{FrameKind, InterFields};
+use frame_headers::FrameKind;
 use frame_setting::FrameSetting;
 use inter_modes::{BlockStart, Frame, Sources};
-use inter_writer::{BlockSymbols, FrameBlocks, PredictionSymbols};
+use inter_writer::{BlockSymbols, PredictionSymbols};
 use mv_prediction::{MvSearch, SignBiases, mode_context};
 use vp9_types::BlockSize;
 
@@ -99,63 +99,68 @@ fn draw_from<N: Neighbours, Q: Neighbours>(
 /// A block of an inter frame.
 fn draw_inter_frame_block<N: Neighbours, Q: Neighbours>(
     draws: &mut Draws,
-    blocks: &FrameBlocks<'_, N, Q>,
-    fields: &InterFields,
+    frame: &Frame<'_>,
     at: BlockAt,
+    earlier: &N,
+    before: Option<&Q>,
 ) -> BlockSymbols
-    requires site { IsSite (record { places = blocks.now.setting.now.places; biases = sign_biases fields.now.references; at = at }) }
-    requires held { (r c : ℕ) → r < blocks.now.setting.now.places.rows → at.tile_from ≤ c → c < at.tile_to → N.holds blocks.now.earlier.now r c }
-    requires held_before { IfSome (option_copied blocks.now.before) (λ q. Q.holds q at.row at.col) }
-    requires small { All HasSmallVectors (N.blocks blocks.now.earlier.now) }
-    requires small_before { All HasSmallVectors (blocks_of Q.blocks (option_copied blocks.now.before)) }
-    requires segments { AreDrawnSegments blocks.now.setting.now.header.params.segmentation }
-    requires filter { fields.now.filter ≡ Switchable }
-    ensures drawn { IsDrawn (draw_inter_frame_block (record { header = blocks.now.setting.now.header; fields = fields.now; modes = blocks.now.setting.now.modes; contexts = lists_of blocks.now.setting.now.contexts }) (sources_of (record { header = blocks.now.setting.now.header; fields = fields.now; modes = blocks.now.setting.now.modes; contexts = lists_of blocks.now.setting.now.contexts }) (N.blocks blocks.now.earlier.now) (blocks_of Q.blocks (option_copied blocks.now.before)) at)) draws.old result draws.new }
-    ensures can { (least : ℕ) → CanPutInterFrame (record { header = blocks.now.setting.now.header; fields = fields.now; modes = blocks.now.setting.now.modes; contexts = lists_of blocks.now.setting.now.contexts }) (sources_of (record { header = blocks.now.setting.now.header; fields = fields.now; modes = blocks.now.setting.now.modes; contexts = lists_of blocks.now.setting.now.contexts }) (N.blocks blocks.now.earlier.now) (blocks_of Q.blocks (option_copied blocks.now.before)) at) least result.start result.prediction }
+    requires segments { AreDrawnSegments frame.now.setting.now.header.params.segmentation }
+    requires filter { frame.now.fields.now.filter ≡ Switchable }
+    requires site { IsSite (record { places = frame.now.setting.now.places; biases = sign_biases frame.now.fields.now.references; at = at }) }
+    requires held { (r c : ℕ) → r < frame.now.setting.now.places.rows → at.tile_from ≤ c → c < at.tile_to → N.holds earlier.now r c }
+    requires held_before { IfSome (option_copied before) (λ q. Q.holds q at.row at.col) }
+    requires small { All HasSmallVectors (N.blocks earlier.now) }
+    requires small_before { All HasSmallVectors (blocks_of Q.blocks (option_copied before)) }
+    ensures drawn { IsDrawn (draw_inter_frame_block (frame_in frame.now) (sources_of (frame_in frame.now) (N.blocks earlier.now) (blocks_of Q.blocks (option_copied before.entry)) at)) draws.old result draws.new }
+    ensures can { (least : ℕ) → CanPutInterFrame (frame_in frame.now) (sources_of (frame_in frame.now) (N.blocks earlier.now) (blocks_of Q.blocks (option_copied before.entry)) at) least result.start result.prediction }
 {
-    let setting = blocks.setting;
-    let earlier = blocks.earlier;
+    let setting = frame.setting;
     let contexts = &setting.contexts;
     let search = MvSearch {
         places: setting.places,
-        biases: SignBiases::of(&fields.references),
+        biases: SignBiases::of(&frame.fields.references),
         at,
     };
     let src = Sources {
         probs: &contexts.vectors,
         modes: &contexts.inter.modes,
         context: mode_context(&search, earlier),
-        high_precision: fields.high_precision,
+        high_precision: frame.fields.high_precision,
         search,
         earlier,
-        before: blocks.before,
+        before,
     };
-    draw_from(draws, &src, &Frame { setting, fields })
+    draw_from(draws, &src, frame)
 }
 
-/// Draws what a block says, which starts inside the frame and its tile: such can be put by `inter_writer::put_mode_info`. A
-/// block whose references are out of range says nothing behind them.
+/// Draws what a block says, which starts inside the frame and its tile: such can be put by `inter_writer::put_mode_info`,
+/// whatever the segments before the frame. A block whose references are out of range says nothing behind them. `earlier` has
+/// the frame's blocks before it, and `before` those of the frame before, where its vectors are used.
 #[tactic(auto, unfolding(crate::specs::Blocks::draw_block))]
 pub fn draw_block<N: Neighbours, Q: Neighbours>(
     draws: &mut Draws,
-    blocks: &FrameBlocks<'_, N, Q>,
+    setting: &FrameSetting,
     at: BlockAt,
+    earlier: &N,
+    before: Option<&Q>,
 ) -> BlockSymbols
-    requires frame { IsDrawnFrame blocks.now.setting.now.header }
-    requires row { at.row < blocks.now.setting.now.places.rows }
+    requires frame { IsDrawnFrame setting.now.header }
+    requires row { at.row < setting.now.places.rows }
     requires first { at.tile_from ≤ at.col }
     requires last { at.col < at.tile_to }
-    requires tile { at.tile_to ≤ blocks.now.setting.now.places.cols }
-    requires held { (r c : ℕ) → r < blocks.now.setting.now.places.rows → at.tile_from ≤ c → c < at.tile_to → N.holds blocks.now.earlier.now r c }
-    requires held_before { IfSome (option_copied blocks.now.before) (λ q. Q.holds q at.row at.col) }
-    requires small { All HasSmallVectors (N.blocks blocks.now.earlier.now) }
-    requires small_before { All HasSmallVectors (blocks_of Q.blocks (option_copied blocks.now.before)) }
-    ensures drawn { IsDrawn (draw_block blocks.now.setting.now.header blocks.now.setting.now.modes (lists_of blocks.now.setting.now.contexts) (N.blocks blocks.now.earlier.now) (blocks_of Q.blocks (option_copied blocks.now.before)) at) draws.old result draws.new }
-    ensures can { CanPut blocks.now.setting.now.header blocks.now.setting.now.modes (lists_of blocks.now.setting.now.contexts) (id_map blocks.now.map.now) (N.blocks blocks.now.earlier.now) (blocks_of Q.blocks (option_copied blocks.now.before)) at result }
+    requires tile { at.tile_to ≤ setting.now.places.cols }
+    requires held { (r c : ℕ) → r < setting.now.places.rows → at.tile_from ≤ c → c < at.tile_to → N.holds earlier.now r c }
+    requires held_before { IfSome (option_copied before) (λ q. Q.holds q at.row at.col) }
+    requires small { All HasSmallVectors (N.blocks earlier.now) }
+    requires small_before { All HasSmallVectors (blocks_of Q.blocks (option_copied before)) }
+    ensures drawn { IsDrawn (draw_block setting.now.header setting.now.modes (lists_of setting.now.contexts) (N.blocks earlier.now) (blocks_of Q.blocks (option_copied before.entry)) at) draws.old result draws.new }
+    ensures can { (ids : Map) → CanPut setting.now.header setting.now.modes (lists_of setting.now.contexts) ids (N.blocks earlier.now) (blocks_of Q.blocks (option_copied before.entry)) at result }
 {
-    let setting = blocks.setting;
     match &setting.header.kind {
-        FrameKind::Inter(fields) => draw_inter_frame_block(draws, blocks, fields, at),
+        FrameKind::Inter(fields) => {
+            let frame = Frame { setting, fields };
+            draw_inter_frame_block(draws, &frame, at, earlier, before)
+        }
         FrameKind::Key | FrameKind::IntraOnly => draw_intra_frame_block(draws, setting, &at),
     }
 }

@@ -2,7 +2,7 @@
 
 ghost use Rattle.std.specs.Prelude.{◌≡◌, false, true};
 ghost use Rattle.std.specs.Option.{is_some};
-ghost use Rattle.inter_writer.specs.Fits.{AreCoded, AreCompound, MayBeCompound};
+ghost use Rattle.inter_writer.specs.Fits.{CanCodeReferences, AreCompound, CanBeCompound};
 ghost use Rattle.drawn_symbols.specs.Draws.{IsDrawn};
 ghost use Rattle.drawn_symbols.specs.Inter.{draw_is_compound, draw_compound, draw_golden_or_altref, draw_single, draw_references};
 
@@ -15,7 +15,7 @@ use vp9_types::{ReferenceFrame, ReferenceMode};
 #[tactic(auto, unfolding(crate::specs::Inter::draw_is_compound))]
 fn draw_is_compound(draws: &mut Draws, mode: ReferenceMode) -> bool
     ensures drawn { IsDrawn (draw_is_compound mode) draws.old result draws.new }
-    ensures may { MayBeCompound mode result }
+    ensures may { CanBeCompound mode result }
 {
     match mode {
         ReferenceMode::Single => false,
@@ -64,7 +64,7 @@ fn draw_single(draws: &mut Draws) -> References
 #[tactic(auto, unfolding(crate::specs::Inter::draw_references))]
 pub fn draw_references(draws: &mut Draws, mode: ReferenceMode, biases: &SignBiases) -> References
     ensures drawn { IsDrawn (draw_references mode biases.now) draws.old result draws.new }
-    ensures can { AreCoded mode biases.now result }
+    ensures can { CanCodeReferences mode biases.now result }
 {
     if draw_is_compound(draws, mode) {
         draw_compound(draws, biases)
