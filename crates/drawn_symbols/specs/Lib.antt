@@ -4,5 +4,6 @@ pub mod Draws
 pub mod Frames
 pub mod Intra
 pub mod Inter
+pub mod Levels
 pub mod Starts
 pub mod Vectors
