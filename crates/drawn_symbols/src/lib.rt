@@ -4,6 +4,7 @@
 
 mod blocks;
 mod draws;
+mod in_plane;
 mod inter;
 mod intra;
 mod levels;
@@ -14,6 +15,7 @@ mod vectors;
 
 pub use blocks::draw_block;
 pub use draws::Draws;
+pub use in_plane::draw_levels_at;
 pub use inter::draw_inter;
 pub use intra::{draw_intra, draw_partition};
 pub use levels::{Levels, draw_levels};
