@@ -32,7 +32,7 @@ fn references_alone(references: References) -> InterSymbols
 
 /// What an inter block of an inter frame says.
 #[tactic(auto, unfolding(crate::specs::Inter::draw_inter), using(crate::proofs::Frames::inter_can, crate::proofs::Frames::references_alone_can))]
-pub fn draw_inter<N: Neighbours, Q: Neighbours>(
+pub(crate) fn draw_inter<N: Neighbours, Q: Neighbours>(
     draws: &mut Draws,
     src: &Sources<'_, N, Q>,
     frame: &Frame<'_>,

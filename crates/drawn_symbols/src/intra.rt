@@ -121,7 +121,7 @@ fn draw_luma(draws: &mut Draws, size: BlockSize) -> [IntraMode; 4]
 
 /// The modes of an intra block.
 #[tactic(auto, unfolding(crate::specs::Intra::draw_intra))]
-pub fn draw_intra(draws: &mut Draws, size: BlockSize) -> IntraPrediction
+pub(crate) fn draw_intra(draws: &mut Draws, size: BlockSize) -> IntraPrediction
     ensures drawn { IsDrawn (draw_intra size) draws.old result draws.new }
     ensures can { CanLuma size result.luma }
 {

@@ -105,7 +105,7 @@ fn place_levels(values: &mut [i32], scan: &[u16], levels: &Levels)
 
 /// Draws the levels of a transform block that begins inside its frame and isn't skipped, by position, and how many places of
 /// its scan are coded. Its values are zeros before.
-pub fn draw_levels(draws: &mut Draws, scan: &[u16], values: &mut [i32]) -> u32
+pub(crate) fn draw_levels(draws: &mut Draws, scan: &[u16], values: &mut [i32]) -> u32
     requires long { 3 < length scan.now }
     requires within { All (λ p. p < length values.old) scan.now }
     requires zeros { All (λ v. v ≡ pos 0) values.old }

@@ -62,7 +62,11 @@ fn draw_single(draws: &mut Draws) -> References
 
 /// The references of a block of a frame that has them by a mode.
 #[tactic(auto, unfolding(crate::specs::Inter::draw_references))]
-pub fn draw_references(draws: &mut Draws, mode: ReferenceMode, biases: &SignBiases) -> References
+pub(crate) fn draw_references(
+    draws: &mut Draws,
+    mode: ReferenceMode,
+    biases: &SignBiases,
+) -> References
     ensures drawn { IsDrawn (draw_references mode biases.now) draws.old result draws.new }
     ensures can { CanCodeReferences mode biases.now result }
 {

@@ -88,7 +88,7 @@ fn draw_tx_if(draws: &mut Draws, coded: bool, mode: TxMode, size: BlockSize) -> 
 
 /// What a block of an intra frame says first.
 #[tactic(auto, unfolding(crate::specs::Starts::draw_intra_start))]
-pub fn draw_intra_start(
+pub(crate) fn draw_intra_start(
     draws: &mut Draws,
     segmentation: &Segmentation,
     mode: TxMode,
@@ -118,7 +118,7 @@ pub fn draw_intra_start(
 
 /// What a block of an inter frame says first.
 #[tactic(auto, unfolding(crate::specs::Starts::draw_inter_start))]
-pub fn draw_inter_start(
+pub(crate) fn draw_inter_start(
     draws: &mut Draws,
     segmentation: &Segmentation,
     mode: TxMode,

@@ -113,7 +113,7 @@ fn draw_component_if(draws: &mut Draws, coded: bool, precise: bool) -> i16
 
 /// A new vector's difference from the best one, with bits of high precision or without.
 #[tactic(auto, unfolding(crate::specs::Vectors::draw_difference))]
-pub fn draw_difference(draws: &mut Draws, precise: bool) -> Mv
+pub(crate) fn draw_difference(draws: &mut Draws, precise: bool) -> Mv
     ensures drawn { IsDrawn (draw_difference precise) draws.old result draws.new }
     ensures can { CanDiffer precise result }
 {
