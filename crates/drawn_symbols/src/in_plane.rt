@@ -1,0 +1,34 @@
+//! The levels of the transform blocks of a block in a plane.
+
+ghost use Rattle.std.specs.Prelude.{◌≡◌, ◌<◌, ℤ, pos, List, length};
+ghost use Rattle.std.specs.List.{All};
+ghost use Rattle.vp9_tables.specs.Scans.{area, scan_of};
+ghost use Rattle.prob_contexts.specs.Lists.{ContextLists};
+ghost use Rattle.coef_tokens.specs.Blocks.{block_tables};
+ghost use Rattle.token_writer.specs.Fits.{CanPut};
+ghost use Rattle.block_residue.specs.BlocksInPlanes.{token_kind, type_at};
+ghost use Rattle.drawn_symbols.specs.Levels.{draw_levels, placed_from};
+
+use crate::draws::Draws;
+use crate::levels::draw_levels;
+use block_residue::BlockInPlane;
+use vp9_tables::scan;
+
+/// Draws the levels of the transform block at a row and column, in 4s, by position, and how many places of its scan are coded.
+/// It begins inside its frame and isn't skipped, and its values are zeros before.
+pub fn draw_levels_at(
+    draws: &mut Draws,
+    b: &BlockInPlane,
+    at: (usize, usize),
+    values: &mut [i32],
+) -> u32
+    requires y { at.0 < 16 }
+    requires x { at.1 < 16 }
+    requires long { length values.old ≡ area b.now.block.tx }
+    requires zeros { All (λ v. v ≡ pos 0) values.old }
+    ensures drawn { (levels : List ℤ) × (draw_levels draws.old.x ≡ (levels, draws.new.x)) × (values.new ≡ placed_from 0 (scan_of b.now.block.tx (type_at b.now at.0 at.1)) levels values.old) × (result ≡ length levels) }
+    ensures can { (contexts : ContextLists) → CanPut (block_tables contexts (token_kind b.now at.0 at.1)) values.new result }
+{
+    let kind = b.token_kind(at.0, at.1);
+    draw_levels(draws, scan(kind.tx, kind.kind), values)
+}
