@@ -67,7 +67,7 @@ valued_tree kind first (node k zeros ones) probs =
     (λ v. valued (behind (counted_as kind (first + k) v) (if nat_eq v 1 then counted_tree kind first ones probs else counted_tree kind first zeros probs)))
     (λ v. if nat_eq v 1 then tree_symbol ones probs else tree_symbol zeros probs)
     (λ v. branch (nat_eq v 1) (counted_as kind (first + k) v) (counted_tree kind first ones probs) (counted_tree kind first zeros probs)
-        (tree_symbol ones probs) (tree_symbol zeros probs) (valued_tree kind first ones probs) (valued_tree kind first zeros probs))
+    (tree_symbol ones probs) (tree_symbol zeros probs) (valued_tree kind first ones probs) (valued_tree kind first zeros probs))
 
 abbrev settled_by : {A : Type 0} → A → List CountedBool → Settled A
 settled_by x bools = record { value = x; counted = bools }
