@@ -26,7 +26,7 @@ impl TileColumn {
     ghost use Rattle.frame_decoder.specs.Reading.{no_column};
 
     /// The `k`-th tile column of a frame, of which nothing is read.
-    fn new(alloc: Global, setting: &FrameSetting, k: u32) -> Result<TileColumn, AllocError>
+    pub fn new(alloc: Global, setting: &FrameSetting, k: u32) -> Result<TileColumn, AllocError>
         requires few { AreFewTiles setting.now.header.params.tiles }
         requires below { k < 2 ^ setting.now.header.params.tiles.columns_log2 }
         ensures is { IfOk result (λ c. IsTileColumn setting.now.header 0 k c) }
@@ -41,7 +41,7 @@ impl TileColumn {
     }
 
     /// Makes this the `k`-th tile column of a frame, as `new` does, in its memory where that is enough.
-    fn renew(&mut self, alloc: Global, setting: &FrameSetting, k: u32) -> Result<(), AllocError>
+    pub fn renew(&mut self, alloc: Global, setting: &FrameSetting, k: u32) -> Result<(), AllocError>
         requires few { AreFewTiles setting.now.header.params.tiles }
         requires below { k < 2 ^ setting.now.header.params.tiles.columns_log2 }
         ensures is { OnOk result (IsTileColumn setting.now.header 0 k self.new) }
@@ -87,7 +87,7 @@ impl TileColumn {
     }
 
     /// All tile columns of a frame, of which nothing is read, in the memory of those of an earlier frame if it had as many.
-    pub(crate) fn all(
+    pub fn all(
         before: Vec<TileColumn>,
         setting: &FrameSetting,
     ) -> Result<Vec<TileColumn>, AllocError>

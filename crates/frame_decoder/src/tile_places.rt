@@ -44,7 +44,7 @@ pub(crate) fn tile_at(places: u32, log2: u8, place: u32) -> u32
 impl TilePlaces {
     /// The `n`-th tile of a frame of such a size.
     #[tactic(auto, unfolding(crate::specs::Tiles::tile_places))]
-    pub(crate) fn new(frame: FramePlaces, tiles: TileInfo, n: u32) -> TilePlaces
+    pub fn new(frame: FramePlaces, tiles: TileInfo, n: u32) -> TilePlaces
         requires rows { frame.rows ≤ 8192 }
         requires cols { frame.cols ≤ 8192 }
         requires few { AreFewTiles tiles }

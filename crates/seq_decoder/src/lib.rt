@@ -13,5 +13,10 @@ mod showing;
 #[cfg(test)]
 mod tests;
 
+pub use decoder::Decoder;
+pub use last::LastFrame;
 pub use laws::headers_read_what_persists;
+pub use past::{pictures_for, vectors_before};
 pub use plain::decode_plain;
+pub use saved::{SavedContexts, loses_past, place_of};
+pub use segments::{has_size, segments_of};

@@ -16,7 +16,8 @@ use inter_modes::update_segments;
 use segment_map::SegmentMap;
 use std::alloc::{AllocError, Global};
 
-fn has_size(size: FrameSize, other: Option<FrameSize>) -> bool
+/// Whether a frame of a size has that of another frame, which there may not be.
+pub fn has_size(size: FrameSize, other: Option<FrameSize>) -> bool
     ensures { result ≡ has_size size other }
 {
     match other {
