@@ -33,7 +33,10 @@ use Rattle.residue_writer.specs.declared.levels.BlockLevels.{BlockLevels}
 use Rattle.tile_writer.specs.declared.unwritten.Unwritten.{Unwritten}
 use Rattle.tile_writer.specs.declared.unwritten.Unwritten.TheVariants.{Broken, Unsaid}
 use Rattle.frame_writer.specs.Symbols.{Speaker, as_said, block_told, modes_by, modes_said, with_block}
-use Rattle.frame_writer.specs.Code.{TileHeld, held_of}
+use Rattle.frame_writer.specs.Code.{TileHeld, TileHere, held_of, here_of}
+use Rattle.frame_decoder.specs.declared.columns.TileColumn.{TileColumn}
+use Rattle.frame_decoder.specs.declared.sources.FrameSources as code
+use Rattle.frame_decoder.specs.declared.tile_places.TilePlaces.{TilePlaces}
 
 abbrev pub before_it : TileRead → List BlockInfo
 before_it s = infos (s.earlier ++ s.blocks)
@@ -221,3 +224,12 @@ limit_same old new before after from to = rw (from, to) refl
 
 pub room_less : (old new : ℕ) → new ≡ old - 1 → old ≤ new + 1
 room_less old new is = omega (arith, is)
+
+---- With what stays the same for a tile ----
+
+pub of_here : (by : code.FrameSources) (places : TilePlaces) (columns : List TileColumn) (s : TileRead) (h : TileHere) → here_of by places columns s ≡ h → held_of s ≡ h.held
+of_here by places columns s h is = ap (λ (h : TileHere). h.held) is
+
+pub to_here : (by : code.FrameSources) (places : TilePlaces) (columns : List TileColumn) (s : TileRead) (h : TileHeld) → held_of s ≡ h
+    → here_of by places columns s ≡ record { held = h; by = by; places = places; columns = columns }
+to_here by places columns s h is = λ i. record { held = is i; by = by; places = places; columns = columns }

@@ -1,1 +1,7 @@
 pub mod BlockTells
+pub mod WrittenReads
+pub mod TileWrites
+pub mod SpansRead
+pub mod TilesSoFar
+pub mod FrameGiven
+pub mod ColumnEnds

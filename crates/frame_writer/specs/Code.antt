@@ -1,16 +1,43 @@
 -- What a frame's writer keeps, and what its calls answer.
-use Rattle.std.specs.Prelude.{◌≡◌, ◌≤◌, ◌<◌, ℕ, Bool, true, false, List, ◌++◌, Option, Some, None, min}
+use Rattle.std.specs.Prelude.{◌≡◌, ◌≤◌, ◌<◌, ◌⊎◌, ℕ, ◌+◌, ◌-◌, ◌^◌, Bool, true, false, List, [], ◌∷◌, ◌++◌, map, length, Option, Some, None, Result, Ok, Err, min}
+use Rattle.std.specs.List.{flat_map, All}
+use Rattle.vp9_types.specs.declared.rule.Rule.{Rule}
+use Rattle.frame_headers.specs.Header.{head_of}
+use Rattle.frame_headers.specs.Spans.{tile_count}
 use Rattle.frame_headers.specs.State.{shape_of}
+use Rattle.bool_encoder.specs.Part.{Part, Finishes}
+use Rattle.frame_headers.specs.declared.header.FrameHead.TheVariants.{Coded}
 use Rattle.frame_headers.specs.declared.header.Header.{Header}
+use Rattle.frame_headers.specs.declared.persist.Persist.{Persist}
+use Rattle.frame_headers.specs.declared.header.Uncompressed.TheVariants as uncompressed
+use Rattle.compressed_header.specs.Header.{IsForward}
+use Rattle.header_writer.specs.Reads.{HoldsHeader}
+use Rattle.prob_contexts.specs.Lists.{lists_of}
+use Rattle.prob_contexts.specs.declared.contexts.Contexts.{Contexts}
+use Rattle.vp9_types.specs.declared.job.Span.{Span}
 use Rattle.block_geometry.specs.declared.transform_blocks.FramePlaces.{FramePlaces}
 use Rattle.block_plan.specs.declared.block.BlockInfo.{BlockInfo}
 use Rattle.block_residue.specs.Code.{FitPlanes}
 use Rattle.block_residue.specs.declared.sides.TileSides.{TileSides}
 use Rattle.frame_setting.specs.declared.setting.FrameSetting.{FrameSetting}
-use Rattle.frame_decoder.specs.Columns.{AllFit, AllLie, AllSmall, AllStart, limit_of}
-use Rattle.frame_decoder.specs.Reading.{TileRead, infos}
+use Rattle.frame_decoder.specs.Columns.{AllFit, AllLie, AllSmall, AllStart, IsTileColumn, limit_of}
+use Rattle.frame_decoder.specs.Code.{column_as_listed, column_of_code}
+use Rattle.frame_decoder.specs.Frames.{FrameInput, read_frame}
+use Rattle.frame_decoder.specs.Reading.{FrameRead, TileRead, infos, nothing_read, read_tile_of}
+use Rattle.frame_decoder.specs.Sources.{FramePast, FrameSources}
 use Rattle.frame_decoder.specs.declared.columns.TileColumn.{TileColumn}
+use Rattle.frame_decoder.specs.declared.sources.FrameSources as code
 use Rattle.frame_decoder.specs.declared.tile_places.TilePlaces.{TilePlaces}
+use Rattle.tile_writer.specs.declared.unwritten.Unwritten.{Unwritten}
+use Rattle.tile_writer.specs.declared.unwritten.Unwritten.TheVariants as unwritten
+use Rattle.frame_writer.specs.Bytes.{HasSize, IsWritten, read_each, sized, tile_bytes, with_size, without_index}
+use Rattle.frame_writer.specs.Frames.{FrameSaid, frame_told, nth_told, said_of, tile_syntax, tile_told, tiles_told}
+use Rattle.frame_writer.specs.Symbols.{Speaker}
+use Rattle.frame_writer.specs.declared.frame.FrameHeaders.{FrameHeaders}
+use Rattle.frame_writer.specs.declared.frame.FrameToWrite.{FrameToWrite}
+use Rattle.frame_writer.specs.declared.written.NotWritten.{NotWritten}
+use Rattle.frame_writer.specs.declared.written.NotWritten.TheVariants.{Unsaid, TooLong, OutOfMemory}
+use Rattle.frame_writer.specs.declared.written.Written.{Written}
 
 -- what the code holds of a tile while it is read: the blocks of its column, as they are listed, and the sides
 pub record TileHeld : Type 0 where
@@ -19,6 +46,16 @@ pub record TileHeld : Type 0 where
 
 abbrev pub held_of : TileRead → TileHeld
 held_of s = record { blocks = infos (s.earlier ++ s.blocks); sides = s.sides }
+
+-- with what stays the same for all of the tile: what its frame is read by, its places, and the other tile columns
+pub record TileHere : Type 0 where
+  pub held : TileHeld
+  pub by : code.FrameSources
+  pub places : TilePlaces
+  pub columns : List TileColumn
+
+abbrev pub here_of : code.FrameSources → TilePlaces → List TileColumn → TileRead → TileHere
+here_of by places columns s = record { held = held_of s; by = by; places = places; columns = columns }
 
 -- something is told, or there is nothing to tell
 abbrev pub Tells : {A T : Type 0} → Option (A × T) → Option A → T → Type 0
@@ -42,3 +79,155 @@ pub record IsReadyFor (setting : FrameSetting) (tile : TilePlaces) (c : TileColu
   pub lie : AllLie c.grid.from (limit_of c) c.grid.blocks
   pub starts : AllStart setting.places.rows setting.places.cols c.grid.blocks
   pub small : AllSmall c.grid.blocks
+
+abbrev pub held_by : TileColumn → TileHeld
+held_by c = record { blocks = c.grid.blocks; sides = c.sides }
+
+-- the code's tile columns hold what is read
+abbrev pub HoldsColumns : List TileColumn → FrameRead → Type 0
+HoldsColumns columns read = map column_of_code columns ≡ map column_as_listed read.columns
+
+---- What the calls answer ----
+
+-- how a tile ends: with a rule that is broken, or without one
+abbrev pub ending_of : Result (Unit {0}) Unwritten → Result (Option Rule) NotWritten
+ending_of (Ok u) = Ok None
+ending_of (Err (unwritten.Broken rule)) = Ok (Some rule)
+ending_of (Err unwritten.Unsaid) = Err Unsaid
+ending_of (Err unwritten.OutOfMemory) = Err OutOfMemory
+
+-- the rule that is broken first
+abbrev pub first_broken : Option Rule → Option Rule → Option Rule
+first_broken (Some rule) tile = Some rule
+first_broken None tile = tile
+
+-- the bytes of the bools that were put, or why there are none. A tile of 2 ^ 32 bytes is too long, and want of memory has no cause
+abbrev pub GivesBytes : Result (Unit {0}) Unwritten → Part → Result Written NotWritten → Type 0
+GivesBytes ended part (Ok w) = (ending_of ended ≡ Ok w.broken) × Finishes part w.bytes.items × HasSize w.bytes.items
+GivesBytes ended part (Err Unsaid) = ending_of ended ≡ Err Unsaid
+GivesBytes ended part (Err TooLong) = (broken : Option Rule) × (bytes : List ℕ) × (ending_of ended ≡ Ok broken) × Finishes part bytes × (2 ^ 32 ≤ length bytes)
+GivesBytes ended part (Err OutOfMemory) = Unit {0}
+
+-- a column stays, or begins anew
+abbrev pub EndsColumn : Header → ℕ → Option Rule → TileColumn → TileColumn → Type 0
+EndsColumn header k None old new = new ≡ old
+EndsColumn header k (Some rule) old new = IsTileColumn header 0 k new
+
+-- a tile's bytes lead its syntax to what it is told, or to the rule that this breaks
+abbrev pub GivesTileTo : {T : Type 0} → Speaker T → FrameSources → FramePlaces → TilePlaces → TileRead → T → List ℕ → Option Rule → TileColumn → T → Type 0
+GivesTileTo speaker by frame tile s t bytes None column new =
+    (next : TileRead) × IsWritten (tile_syntax by frame tile s) (Ok next) bytes × (held_of next ≡ held_by column) × (tile_told speaker by frame tile (s, t) ≡ Ok (next, new))
+GivesTileTo speaker by frame tile s t bytes (Some rule) column new =
+    IsWritten (tile_syntax by frame tile s) (Err rule) bytes × (tile_told speaker by frame tile (s, t) ≡ Err (unwritten.Broken rule))
+
+abbrev pub GivesTile : {T : Type 0} → Speaker T → FrameSources → FramePlaces → TilePlaces → TileRead → T → Result Written NotWritten → TileColumn → T → Type 0
+GivesTile speaker by frame tile s t (Ok w) column new = GivesTileTo speaker by frame tile s t w.bytes.items w.broken column new
+GivesTile speaker by frame tile s t (Err Unsaid) column new = tile_told speaker by frame tile (s, t) ≡ Err unwritten.Unsaid
+GivesTile speaker by frame tile s t (Err TooLong) column new =
+    (r : Result TileRead Rule) × (bytes : List ℕ) × IsWritten (tile_syntax by frame tile s) r bytes × (2 ^ 32 ≤ length bytes)
+GivesTile speaker by frame tile s t (Err OutOfMemory) column new = Unit {0}
+
+-- the n-th tile's bytes are read as that, whatever stands behind them
+abbrev pub GivesNthTo : {T : Type 0} → Speaker T → FrameSources → ℕ → FrameRead → T → List ℕ → Option Rule → List TileColumn → T → Type 0
+GivesNthTo speaker by n read t bytes None columns new =
+    (next : FrameRead) × ((tail : List ℕ) → read_tile_of by n (bytes ++ tail) read ≡ Ok next) × HoldsColumns columns next × (nth_told speaker by n (said_of read, t) ≡ Ok (said_of next, new))
+GivesNthTo speaker by n read t bytes (Some rule) columns new =
+    ((tail : List ℕ) → read_tile_of by n (bytes ++ tail) read ≡ Err rule) × (nth_told speaker by n (said_of read, t) ≡ Err (unwritten.Broken rule))
+
+abbrev pub GivesNth : {T : Type 0} → Speaker T → FrameSources → ℕ → FrameRead → T → Result Written NotWritten → List TileColumn → T → Type 0
+GivesNth speaker by n read t (Ok w) columns new = GivesNthTo speaker by n read t w.bytes.items w.broken columns new
+GivesNth speaker by n read t (Err Unsaid) columns new = nth_told speaker by n (said_of read, t) ≡ Err unwritten.Unsaid
+GivesNth speaker by n read t (Err TooLong) columns new = Unit {0}
+GivesNth speaker by n read t (Err OutOfMemory) columns new = Unit {0}
+
+---- All tiles of a frame ----
+
+-- their bytes stand behind what was there, and are read so, whatever stands behind the last
+pub record AreTiles (by : FrameSources) (front out : List ℕ) (r : Result FrameRead Rule) : Type 0 where
+  pub tiles : List (List ℕ)
+  pub last : List ℕ
+  pub many : length tiles + 1 ≡ tile_count by.header
+  pub sizes : All HasSize tiles
+  pub some : 1 ≤ length last
+  pub put : out ≡ front ++ tile_bytes tiles last
+  pub read : (tail : List ℕ) → read_each by 0 (tiles ++ (last ++ tail) ∷ []) (nothing_read by.header) ≡ r
+
+-- all are told, or they break a rule
+abbrev pub GivesAll : {T : Type 0} → Speaker T → FrameSources → T → List ℕ → Option Rule → List ℕ → T → Type 0
+GivesAll speaker by t front None out new = (read : FrameRead) × AreTiles by front out (Ok read) × (frame_told speaker by t ≡ Ok (said_of read, new))
+GivesAll speaker by t front (Some rule) out new = AreTiles by front out (Err rule) × (frame_told speaker by t ≡ Err (unwritten.Broken rule))
+
+-- something isn't told, be it behind a tile that breaks a rule
+abbrev pub IsUntold : {T : Type 0} → Speaker T → FrameSources → T → Type 0
+IsUntold speaker by t = (frame_told speaker by t ≡ Err unwritten.Unsaid) ⊎ ((rule : Rule) × (frame_told speaker by t ≡ Err (unwritten.Broken rule)))
+
+abbrev pub GivesTiles : {T : Type 0} → Speaker T → FrameSources → T → List ℕ → Result (Option Rule) NotWritten → List ℕ → T → Type 0
+GivesTiles speaker by t front (Ok broken) out new = GivesAll speaker by t front broken out new
+GivesTiles speaker by t front (Err Unsaid) out new = IsUntold speaker by t
+GivesTiles speaker by t front (Err TooLong) out new = Unit {0}
+GivesTiles speaker by t front (Err OutOfMemory) out new = Unit {0}
+
+-- with the end of the frame behind them
+abbrev pub GivesRest : {T : Type 0} → Speaker T → FrameSources → T → List ℕ → Result Written NotWritten → T → Type 0
+GivesRest speaker by t front (Ok w) new = (out : List ℕ) × (w.bytes.items ≡ without_index out) × GivesAll speaker by t front w.broken out new
+GivesRest speaker by t front (Err Unsaid) new = IsUntold speaker by t
+GivesRest speaker by t front (Err TooLong) new = Unit {0}
+GivesRest speaker by t front (Err OutOfMemory) new = Unit {0}
+
+-- so many tiles were written
+abbrev pub StandsAt : {T : Type 0} → Speaker T → FrameSources → T → List (List ℕ) → ℕ → Option Rule → List TileColumn → T → Type 0
+StandsAt speaker by t tiles n None columns now =
+    (read : FrameRead) × ((more : List (List ℕ)) → read_each by 0 (tiles ++ more) (nothing_read by.header) ≡ read_each by n more read) × HoldsColumns columns read
+    × (frame_told speaker by t ≡ tiles_told speaker by n (tile_count by.header - n) (said_of read, now))
+StandsAt speaker by t tiles n (Some rule) columns now =
+    ((more : List (List ℕ)) → read_each by 0 (tiles ++ more) (nothing_read by.header) ≡ Err rule) × (frame_told speaker by t ≡ Err (unwritten.Broken rule))
+
+pub record AreSoFar {T : Type 0} (speaker : Speaker T) (by : FrameSources) (t : T) (front : List ℕ) (n : ℕ) (broken : Option Rule) (columns : List TileColumn) (out : List ℕ) (now : T) : Type 0 where
+  pub tiles : List (List ℕ)
+  pub many : length tiles ≡ n
+  pub sizes : All HasSize tiles
+  pub put : out ≡ front ++ flat_map sized tiles
+  pub stands : StandsAt speaker by t tiles n broken columns now
+
+---- A frame ----
+
+-- its headers, of which the compressed one makes its contexts of those before
+pub record AreHeaders (before : Persist) (frame : FrameToWrite) (old : Contexts) (header : Header) (bytes : List ℕ) : Type 0 where
+  pub front : List ℕ
+  pub compressed : List ℕ
+  pub put : bytes ≡ front ++ compressed
+  pub size : header ≡ with_size frame.header (length compressed)
+  pub makes : IsForward frame.header old compressed (Ok (frame.contexts, frame.modes))
+  pub holds : HoldsHeader before (uncompressed.Coded header) front
+
+-- a compressed header of 2 ^ 16 bytes is too long
+abbrev pub GivesHeaders : Persist → FrameToWrite → Contexts → Result FrameHeaders NotWritten → Type 0
+GivesHeaders before frame old (Ok h) = AreHeaders before frame old h.header h.bytes.items
+GivesHeaders before frame old (Err Unsaid) = ⊥
+GivesHeaders before frame old (Err TooLong) = (bytes : List ℕ) × IsForward frame.header old bytes (Ok (frame.contexts, frame.modes)) × (2 ^ 16 ≤ length bytes)
+GivesHeaders before frame old (Err OutOfMemory) = Unit {0}
+
+-- what its blocks are read by, with a compressed header of so many bytes
+abbrev pub sources_with : FrameToWrite → FramePast → ℕ → FrameSources
+sources_with frame past size = record { header = with_size frame.header size; modes = frame.modes; contexts = lists_of frame.contexts; past = past }
+
+-- what it is read from
+abbrev pub input_with : FrameToWrite → FramePast → ℕ → Span → List ℕ → FrameInput
+input_with frame past size compressed bytes = record { header = with_size frame.header size; compressed = compressed; bytes = bytes; past = past }
+
+-- what is read of it is what is told, or it breaks the rule that this breaks first
+abbrev pub ReadsFrame : {T : Type 0} → Speaker T → FrameInput → FrameSources → T → Option Rule → T → Type 0
+ReadsFrame speaker f by t None new = (read : FrameRead) × (read_frame f ≡ Ok (read, by)) × (frame_told speaker by t ≡ Ok (said_of read, new))
+ReadsFrame speaker f by t (Some rule) new = (read_frame f ≡ Err rule) × (frame_told speaker by t ≡ Err (unwritten.Broken rule))
+
+pub record IsFrame {T : Type 0} (speaker : Speaker T) (before : Persist) (frame : FrameToWrite) (past : FramePast) (t : T) (bytes : List ℕ) (broken : Option Rule) (new : T) : Type 0 where
+  pub size : ℕ
+  pub compressed : Span
+  pub head : head_of before bytes ≡ Ok (Coded (with_size frame.header size) compressed)
+  pub read : ReadsFrame speaker (input_with frame past size compressed bytes) (sources_with frame past size) t broken new
+
+abbrev pub GivesFrame : {T : Type 0} → Speaker T → Persist → FrameToWrite → FramePast → T → Result Written NotWritten → T → Type 0
+GivesFrame speaker before frame past t (Ok w) new = IsFrame speaker before frame past t w.bytes.items w.broken new
+GivesFrame speaker before frame past t (Err Unsaid) new = (size : ℕ) × IsUntold speaker (sources_with frame past size) t
+GivesFrame speaker before frame past t (Err TooLong) new = Unit {0}
+GivesFrame speaker before frame past t (Err OutOfMemory) new = Unit {0}

@@ -1,2 +1,4 @@
 pub mod Symbols
+pub mod Frames
+pub mod Bytes
 pub mod Code

@@ -1,4 +1,4 @@
-//! A tile that is written.
+//! A frame that is written, tile by tile.
 
 ghost use Rattle.std.specs.Prelude.{◌≡◌, ◌≤◌};
 ghost use Rattle.frame_decoder.specs.Code.{sources_of};
@@ -7,7 +7,7 @@ ghost use Rattle.frame_decoder.specs.Past.{IsPastOf};
 ghost use Rattle.frame_decoder.specs.Reading.{TileRead, read_walk};
 ghost use Rattle.tile_writer.specs.Code.{Tile};
 ghost use Rattle.frame_writer.specs.Symbols.{teller_of};
-ghost use Rattle.frame_writer.specs.Code.{TileHeld, IsReadyFor, held_of};
+ghost use Rattle.frame_writer.specs.Code.{TileHere, IsReadyFor, here_of};
 
 use crate::symbols::FrameSymbols;
 use block_geometry::FramePlaces;
@@ -23,36 +23,43 @@ use std::alloc::AllocError;
 use tile_writer::{TileWriter, Unwritten};
 use vp9_types::Partition;
 
-/// A tile between two of its blocks: its bools so far, its column, and who tells what is to come.
+/// A frame between two blocks of a tile: the tile columns, of which the tile's own is at hand and a spare one stands in its
+/// place; who tells what is to come; and the tile's bools so far.
 #[derive(Drop)]
-pub struct TileInProgress<'a, S> {
-    pub encoder: BoolEncoder,
+pub(crate) struct FrameInProgress<'a, S> {
     pub by: &'a FrameSources<'a>,
+    pub columns: Vec<TileColumn>,
+    pub column: TileColumn,
     pub places: TilePlaces,
-    pub column: &'a mut TileColumn,
-    pub symbols: &'a mut S,
+    pub encoder: BoolEncoder,
+    pub symbols: S,
     pub levels: BlockLevels,
 }
 
-impl<'a, S: FrameSymbols> TileWriter for TileInProgress<'a, S> {
+impl<'a, S: FrameSymbols> TileWriter for FrameInProgress<'a, S> {
     ghost State = { TileRead };
 
-    ghost Held = { TileHeld };
+    ghost Held = { TileHere };
 
     ghost Told = { S };
 
     ghost tile = { λ w. record {
       walk = read_walk (sources_of w.by.now) w.by.now.setting.places w.places;
       teller = teller_of S.speaker (sources_of w.by.now);
-      view = held_of;
-      limit = limit_of w.column.now;
-      room = w.column.now.grid.room;
-      held = record { blocks = w.column.now.grid.blocks; sides = w.column.now.sides };
-      told = w.symbols.now;
+      view = here_of w.by.now w.places w.columns.items;
+      limit = limit_of w.column;
+      room = w.column.grid.room;
+      held = record {
+        held = record { blocks = w.column.grid.blocks; sides = w.column.sides };
+        by = w.by.now;
+        places = w.places;
+        columns = w.columns.items;
+      };
+      told = w.symbols;
       part = w.encoder;
     } };
 
-    ghost ready = { λ w. IsPastOf w.by.now.setting.header w.by.now.past × IsReadyFor w.by.now.setting w.places w.column.now };
+    ghost ready = { λ w. IsPastOf w.by.now.setting.header w.by.now.past × IsReadyFor w.by.now.setting w.places w.column };
 
     fn frame(&self) -> FramePlaces {
         self.by.setting.places

@@ -1,0 +1,187 @@
+-- How a tile ends in its column: what its bytes are then, and what the column is left as.
+use Rattle.std.proofs.Common.{◌≡◌, ◌∙◌, ℕ, ◌+◌, ◌-◌, ◌*◌, ◌≤◌, List, [], refl, sym, ap, subst, arith}
+use Rattle.std.specs.Prelude.{IfOk, OnOk, Option, Some, None, Result, Ok, Err, min}
+use Rattle.vp9_types.specs.Sizes.{superblocks_along}
+use Rattle.vp9_types.specs.declared.rule.Rule.{Rule}
+use Rattle.bool_encoder.specs.Part.{Part, Finishes, marked}
+use Rattle.counting_writer.proofs.CountedPuts.{puts_value}
+use Rattle.frame_headers.specs.State.{shape_of}
+use Rattle.block_geometry.specs.declared.transform_blocks.FramePlaces.{FramePlaces}
+use Rattle.block_residue.specs.Code.{FitPlanes}
+use Rattle.frame_setting.specs.declared.setting.FrameSetting.{FrameSetting}
+use Rattle.frame_decoder.specs.Columns.{AllStart, limit_of}
+use Rattle.frame_decoder.specs.Reading.{TileRead, read_walk}
+use Rattle.frame_decoder.specs.Code.{sources_of}
+use Rattle.frame_decoder.specs.Sources.{FrameSources}
+use Rattle.frame_decoder.specs.declared.sources.FrameSources as code
+use Rattle.frame_decoder.specs.declared.columns.TileColumn.{TileColumn}
+use Rattle.frame_decoder.specs.declared.tile_places.TilePlaces.{TilePlaces}
+use Rattle.tile_writer.specs.Code.{EndsTile, Tile, tile_rest}
+use Rattle.tile_writer.specs.declared.unwritten.Unwritten.{Unwritten}
+use Rattle.tile_writer.specs.declared.unwritten.Unwritten.TheVariants as unwritten
+use Rattle.frame_writer.specs.Bytes.{IsWritten}
+use Rattle.frame_writer.specs.Code.{GivesBytes, GivesTile, GivesTileTo, IsReadyFor, TileHeld, TileHere, ending_of, held_by, held_of, here_of}
+use Rattle.frame_writer.specs.Frames.{tile_syntax, tile_told}
+use Rattle.frame_writer.specs.Symbols.{Speaker, teller_of}
+use Rattle.frame_writer.specs.declared.written.NotWritten.{NotWritten}
+use Rattle.frame_writer.specs.declared.written.NotWritten.TheVariants.{Unsaid, TooLong, OutOfMemory}
+use Rattle.frame_writer.specs.declared.written.Written.{Written}
+use Rattle.frame_writer.proofs.BlockTells.{of_here, to_here}
+
+-- where a tile stands
+abbrev pub tile_at_work : {T : Type 0} → Speaker T → code.FrameSources → TilePlaces → List TileColumn → TileColumn → T → Part → Tile TileRead TileHere T
+tile_at_work speaker by places columns column told part = record {
+  walk = read_walk (sources_of by) by.setting.places places;
+  teller = teller_of speaker (sources_of by);
+  view = here_of by places columns;
+  limit = limit_of column;
+  room = column.grid.room;
+  held = record { held = held_by column; by = by; places = places; columns = columns };
+  told = told;
+  part = part;
+}
+
+-- how the writing of its superblocks ends
+abbrev pub Ends : {T : Type 0} → Speaker T → code.FrameSources → TilePlaces → List TileColumn → ℕ → ℕ → TileColumn → T → Part → Result (Unit {0}) Unwritten → Tile TileRead TileHere T → Type 0
+Ends speaker by places columns across down column told first r new =
+    EndsTile (tile_rest across places.col_from (read_walk (sources_of by) by.setting.places places) (teller_of speaker (sources_of by)) places.row_from down) (64 * (across * down))
+    (tile_at_work speaker by places columns column told first) r new
+
+-- so many superblocks
+pub record AreAll (places : TilePlaces) (across down : ℕ) : Type 0 where
+  pub wide : across ≡ superblocks_along (places.col_to - places.col_from)
+  pub high : down ≡ superblocks_along (places.row_to - places.row_from)
+
+-- two ways to end
+well_or_not : (broken : Option Rule) → ◌≡◌ {A = Result (Option Rule) NotWritten} (Ok None) (Ok broken) → broken ≡ None
+well_or_not broken is = cc
+
+broken_by : (rule : Rule) (broken : Option Rule) → ◌≡◌ {A = Result (Option Rule) NotWritten} (Ok (Some rule)) (Ok broken) → broken ≡ Some rule
+broken_by rule broken is = cc
+
+not_ended : {A : Type 0} (why : NotWritten) (broken : Option Rule) → ◌≡◌ {A = Result (Option Rule) NotWritten} (Err why) (Ok broken) → A
+not_ended why broken is = let no : ⊥ = cc in absurd no
+
+gives_by : {T : Type 0} (speaker : Speaker T) (by : code.FrameSources) (places : TilePlaces) (columns : List TileColumn) (across down : ℕ) (column : TileColumn) (told : T) (r : Result (Unit {0}) Unwritten)
+    (broken : Option Rule) (bytes : List ℕ) (walk_by : code.FrameSources) (at : TilePlaces) (others : List TileColumn) (new : TileColumn) (last : T) (part : Part)
+    → AreAll places across down → Ends speaker by places columns across down column told marked r (tile_at_work speaker walk_by at others new last part) → ending_of r ≡ Ok broken → Finishes part bytes
+    → (s : TileRead) → held_of s ≡ held_by column → GivesTileTo speaker (sources_of by) by.setting.places places s told bytes broken new last
+gives_by speaker by places columns across down column told (Ok u) broken bytes walk_by at others new last part all ends so finishes s holds =
+    let next = rw (all.wide, all.high) at (ends.0 s (to_here by places columns s (held_by column) holds)) in
+    rw (well_or_not broken so) (
+      next.next,
+      record { part = part; put = puts_value (tile_syntax (sources_of by) by.setting.places places s) marked part next.next next.put; ends = finishes },
+      of_here by places columns next.next _ next.held,
+      next.said,
+    )
+gives_by speaker by places columns across down column told (Err (unwritten.Broken rule)) broken bytes walk_by at others new last part all ends so finishes s holds =
+    let here = rw (all.wide, all.high) at (ends.0 s (to_here by places columns s (held_by column) holds)) in
+    rw (broken_by rule broken so) (record { part = part; put = here.0; ends = finishes }, here.1)
+gives_by speaker by places columns across down column told (Err unwritten.Unsaid) broken bytes walk_by at others new last part all ends so finishes s holds = not_ended Unsaid broken so
+gives_by speaker by places columns across down column told (Err unwritten.OutOfMemory) broken bytes walk_by at others new last part all ends so finishes s holds = not_ended OutOfMemory broken so
+
+untold_by : {T : Type 0} (speaker : Speaker T) (by : code.FrameSources) (places : TilePlaces) (columns : List TileColumn) (across down : ℕ) (column : TileColumn) (told : T) (r : Result (Unit {0}) Unwritten)
+    (new : Tile TileRead TileHere T) → AreAll places across down → Ends speaker by places columns across down column told marked r new → ending_of r ≡ Err Unsaid
+    → (s : TileRead) → held_of s ≡ held_by column → tile_told speaker (sources_of by) by.setting.places places (s, told) ≡ Err unwritten.Unsaid
+untold_by speaker by places columns across down column told (Ok u) new all ends so s holds = let no : ⊥ = cc in absurd no
+untold_by speaker by places columns across down column told (Err (unwritten.Broken rule)) new all ends so s holds = let no : ⊥ = cc in absurd no
+untold_by speaker by places columns across down column told (Err unwritten.Unsaid) new all ends so s holds = rw (all.wide, all.high) at (ends s (to_here by places columns s (held_by column) holds))
+untold_by speaker by places columns across down column told (Err unwritten.OutOfMemory) new all ends so s holds = let no : ⊥ = cc in absurd no
+
+-- the bytes of a tile are written, whether it breaks a rule or not
+bytes_written : {T : Type 0} (speaker : Speaker T) (by : FrameSources) (frame : FramePlaces) (places : TilePlaces) (s : TileRead) (told last : T) (bytes : List ℕ) (broken : Option Rule) (column : TileColumn)
+    → GivesTileTo speaker by frame places s told bytes broken column last → (r : Result TileRead Rule) × IsWritten (tile_syntax by frame places s) r bytes
+bytes_written speaker by frame places s told last bytes None column gives = (Ok gives.0, gives.1)
+bytes_written speaker by frame places s told last bytes (Some rule) column gives = (Err rule, gives.0)
+
+by_bytes : {T : Type 0} (speaker : Speaker T) (by : code.FrameSources) (places : TilePlaces) (columns : List TileColumn) (across down : ℕ) (column : TileColumn) (told : T) (r : Result (Unit {0}) Unwritten)
+    (walk_by : code.FrameSources) (at : TilePlaces) (others : List TileColumn) (new : TileColumn) (last : T) (part : Part) (result : Result Written NotWritten)
+    → AreAll places across down → Ends speaker by places columns across down column told marked r (tile_at_work speaker walk_by at others new last part) → GivesBytes r part result
+    → (s : TileRead) → held_of s ≡ held_by column → GivesTile speaker (sources_of by) by.setting.places places s told result new last
+by_bytes speaker by places columns across down column told r walk_by at others new last part (Ok w) all ends gives s holds =
+    gives_by speaker by places columns across down column told r w.broken w.bytes.items walk_by at others new last part all ends gives.0 gives.1 s holds
+by_bytes speaker by places columns across down column told r walk_by at others new last part (Err Unsaid) all ends gives s holds =
+    untold_by speaker by places columns across down column told r _ all ends gives s holds
+by_bytes speaker by places columns across down column told r walk_by at others new last part (Err TooLong) all ends gives s holds =
+    let to = gives_by speaker by places columns across down column told r gives.0 gives.1 walk_by at others new last part all ends gives.2 gives.3 s holds in
+    let written = bytes_written speaker (sources_of by) by.setting.places places s told last gives.1 gives.0 new to in
+    (written.0, gives.1, written.1, gives.4)
+by_bytes speaker by places columns across down column told r walk_by at others new last part (Err OutOfMemory) all ends gives s holds = tt
+
+-- from the part that a new encoder has
+pub gives_tile : {T : Type 0} (speaker : Speaker T) (by : code.FrameSources) (places : TilePlaces) (columns : List TileColumn) (across down : ℕ) (column : TileColumn) (told : T) (first : Part)
+    (r : Result (Unit {0}) Unwritten) (walk_by : code.FrameSources) (at : TilePlaces) (others : List TileColumn) (new : TileColumn) (last : T) (part : Part) (result : Result Written NotWritten)
+    → first ≡ marked → AreAll places across down → Ends speaker by places columns across down column told first r (tile_at_work speaker walk_by at others new last part) → GivesBytes r part result
+    → (s : TileRead) → held_of s ≡ held_by column → GivesTile speaker (sources_of by) by.setting.places places s told result new last
+gives_tile speaker by places columns across down column told first r walk_by at others new last part result begins all ends gives s holds =
+    by_bytes speaker by places columns across down column told r walk_by at others new last part result all
+    (subst (λ first. Ends speaker by places columns across down column told first r (tile_at_work speaker walk_by at others new last part)) begins ends) gives s holds
+
+---- What stays the same, and what is left of the column ----
+
+-- what reading could keep where the code's column has no blocks
+abbrev some_state : TileColumn → TileRead
+some_state column = record { earlier = []; blocks = []; sides = column.sides }
+
+-- where bytes were written
+abbrev pub IsSame : code.FrameSources → TilePlaces → List TileColumn → code.FrameSources → TilePlaces → List TileColumn → TileColumn → Type 0
+IsSame by places columns walk_by at others column = here_of walk_by at others (some_state column) ≡ here_of by places columns (some_state column)
+
+same_by : {T : Type 0} (speaker : Speaker T) (by : code.FrameSources) (places : TilePlaces) (columns : List TileColumn) (across down : ℕ) (column : TileColumn) (told : T) (first : Part)
+    (r : Result (Unit {0}) Unwritten) (walk_by : code.FrameSources) (at : TilePlaces) (others : List TileColumn) (new : TileColumn) (last : T) (part : Part) (broken : Option Rule)
+    → Ends speaker by places columns across down column told first r (tile_at_work speaker walk_by at others new last part) → ending_of r ≡ Ok broken → IsSame by places columns walk_by at others column
+same_by speaker by places columns across down column told first (Ok u) walk_by at others new last part broken ends so = ap (λ view. view (some_state column)) ends.1.view
+same_by speaker by places columns across down column told first (Err (unwritten.Broken rule)) walk_by at others new last part broken ends so = ap (λ view. view (some_state column)) ends.1.view
+same_by speaker by places columns across down column told first (Err unwritten.Unsaid) walk_by at others new last part broken ends so = not_ended Unsaid broken so
+same_by speaker by places columns across down column told first (Err unwritten.OutOfMemory) walk_by at others new last part broken ends so = not_ended OutOfMemory broken so
+
+pub still_same : {T : Type 0} (speaker : Speaker T) (by : code.FrameSources) (places : TilePlaces) (columns : List TileColumn) (across down : ℕ) (column : TileColumn) (told : T) (first : Part)
+    (r : Result (Unit {0}) Unwritten) (walk_by : code.FrameSources) (at : TilePlaces) (others : List TileColumn) (new : TileColumn) (last : T) (part : Part) (result : Result Written NotWritten)
+    → Ends speaker by places columns across down column told first r (tile_at_work speaker walk_by at others new last part) → GivesBytes r part result
+    → OnOk result (IsSame by places columns walk_by at others column)
+still_same speaker by places columns across down column told first r walk_by at others new last part (Ok w) ends gives =
+    same_by speaker by places columns across down column told first r walk_by at others new last part w.broken ends gives.0
+still_same speaker by places columns across down column told first r walk_by at others new last part (Err why) ends gives = tt
+
+pub same_sources : (result : Result Written NotWritten) (by walk_by : code.FrameSources) (places at : TilePlaces) (columns others : List TileColumn) (column : TileColumn)
+    → OnOk result (IsSame by places columns walk_by at others column) → OnOk result (walk_by ≡ by)
+same_sources (Ok w) by walk_by places at columns others column same = ap (λ (h : TileHere). h.by) same
+same_sources (Err why) by walk_by places at columns others column same = tt
+
+pub same_columns : (result : Result Written NotWritten) (by walk_by : code.FrameSources) (places at : TilePlaces) (columns others : List TileColumn) (column : TileColumn)
+    → OnOk result (IsSame by places columns walk_by at others column) → OnOk result (others ≡ columns)
+same_columns (Ok w) by walk_by places at columns others column same = ap (λ (h : TileHere). h.columns) same
+same_columns (Err why) by walk_by places at columns others column same = tt
+
+ended_well : {P : Type 0} (r : Result (Unit {0}) Unwritten) (broken : Option Rule) → ending_of r ≡ Ok broken → broken ≡ None → OnOk r P → P
+ended_well (Ok u) broken so none holds = holds
+ended_well (Err (unwritten.Broken rule)) broken so none holds = let some : broken ≡ Some rule = broken_by rule broken so in let no : ⊥ = cc in absurd no
+ended_well (Err unwritten.Unsaid) broken so none holds = not_ended Unsaid broken so
+ended_well (Err unwritten.OutOfMemory) broken so none holds = not_ended OutOfMemory broken so
+
+pub still_ready : (P : Type 0) {T : Type 0} (speaker : Speaker T) (by : code.FrameSources) (places : TilePlaces) (columns : List TileColumn) (across down : ℕ) (column : TileColumn) (told : T) (first : Part)
+    (r : Result (Unit {0}) Unwritten) (walk_by : code.FrameSources) (at : TilePlaces) (others : List TileColumn) (new : TileColumn) (last : T) (part : Part) (result : Result Written NotWritten)
+    → Ends speaker by places columns across down column told first r (tile_at_work speaker walk_by at others new last part) → GivesBytes r part result
+    → OnOk r (P × IsReadyFor walk_by.setting at new) → IfOk result (λ w. w.broken ≡ None → IsReadyFor by.setting places new)
+still_ready P speaker by places columns across down column told first r walk_by at others new last part (Ok w) ends gives ready = λ none.
+    let same = same_by speaker by places columns across down column told first r walk_by at others new last part w.broken ends gives.0 in
+    subst (λ (h : TileHere). IsReadyFor h.by.setting h.places new) same (ended_well r w.broken gives.0 none ready).1
+still_ready P speaker by places columns across down column told first r walk_by at others new last part (Err why) ends gives ready = tt
+
+room_by : {T : Type 0} (speaker : Speaker T) (by : code.FrameSources) (places : TilePlaces) (columns : List TileColumn) (across down : ℕ) (column : TileColumn) (told : T) (first : Part)
+    (r : Result (Unit {0}) Unwritten) (walk_by : code.FrameSources) (at : TilePlaces) (others : List TileColumn) (new : TileColumn) (last : T) (part : Part) (broken : Option Rule)
+    → Ends speaker by places columns across down column told first r (tile_at_work speaker walk_by at others new last part) → ending_of r ≡ Ok broken → broken ≡ None
+    → column.grid.room ≤ new.grid.room + 64 * (across * down)
+room_by speaker by places columns across down column told first (Ok u) walk_by at others new last part broken ends so none = ends.2
+room_by speaker by places columns across down column told first (Err (unwritten.Broken rule)) walk_by at others new last part broken ends so none =
+    let some : broken ≡ Some rule = broken_by rule broken so in let no : ⊥ = cc in absurd no
+room_by speaker by places columns across down column told first (Err unwritten.Unsaid) walk_by at others new last part broken ends so none = not_ended Unsaid broken so
+room_by speaker by places columns across down column told first (Err unwritten.OutOfMemory) walk_by at others new last part broken ends so none = not_ended OutOfMemory broken so
+
+pub room_left : {T : Type 0} (speaker : Speaker T) (by : code.FrameSources) (places : TilePlaces) (columns : List TileColumn) (across down : ℕ) (column : TileColumn) (told : T) (first : Part)
+    (r : Result (Unit {0}) Unwritten) (walk_by : code.FrameSources) (at : TilePlaces) (others : List TileColumn) (new : TileColumn) (last : T) (part : Part) (result : Result Written NotWritten)
+    → AreAll places across down → Ends speaker by places columns across down column told first r (tile_at_work speaker walk_by at others new last part) → GivesBytes r part result
+    → IfOk result (λ w. w.broken ≡ None → column.grid.room ≤ new.grid.room + 64 * (superblocks_along (places.col_to - places.col_from) * superblocks_along (places.row_to - places.row_from)))
+room_left speaker by places columns across down column told first r walk_by at others new last part (Ok w) all ends gives = λ none.
+    rw (all.wide, all.high) at (room_by speaker by places columns across down column told first r walk_by at others new last part w.broken ends gives.0 none)
+room_left speaker by places columns across down column told first r walk_by at others new last part (Err why) all ends gives = tt

@@ -1,0 +1,159 @@
+-- A frame's bytes are read back as its header and its tiles.
+use Rattle.std.proofs.Common.{◌≡◌, ◌∙◌, ℕ, zero, suc, ◌+◌, ◌-◌, ◌*◌, ◌/◌, ◌^◌, ◌<◌, ◌≤◌, List, [], ◌∷◌, ◌++◌, Bool, true, false, length, refl, sym, ap, subst, append_assoc, arith}
+use Rattle.std.specs.Prelude.{Option, Some, None, Result, Ok, Err, ◌==◌, nat_le, nat_lt, slice_index, slice_range, if◌then◌else◌}
+use Rattle.std.proofs.lemmas.Bool.{le-ltb}
+use Rattle.std.proofs.lemmas.List.{append-nil, length-append}
+use Rattle.vp9_types.specs.declared.block.Modes.{Modes}
+use Rattle.vp9_types.specs.declared.job.Span.{Span}
+use Rattle.vp9_types.specs.declared.rule.Rule.{Rule}
+use Rattle.compressed_header.specs.Header.{IsForward, compressed_header, forward}
+use Rattle.frame_headers.specs.Header.{head_of}
+use Rattle.frame_headers.specs.Tiles.{AreFewTiles, least, max_log2, min_log2, superblocks}
+use Rattle.frame_headers.specs.declared.header.FrameHead.TheVariants as head
+use Rattle.frame_headers.specs.declared.header.Header.{Header}
+use Rattle.frame_headers.specs.declared.header.Uncompressed.TheVariants as uncompressed
+use Rattle.frame_headers.specs.declared.persist.Persist.{Persist}
+use Rattle.header_writer.specs.Reads.{HoldsHeader}
+use Rattle.header_writer.specs.WellFormed.{IsWellFormed}
+use Rattle.prob_contexts.specs.Lists.{ContextLists, lists_of}
+use Rattle.prob_contexts.specs.declared.contexts.Contexts.{Contexts}
+use Rattle.frame_decoder.specs.Frames.{FrameInput, read_all_tiles, read_frame, sources}
+use Rattle.frame_decoder.specs.Reading.{FrameRead}
+use Rattle.frame_decoder.specs.Sources.{FramePast, FrameSources}
+use Rattle.frame_writer.specs.Bytes.{with_size, without_index}
+use Rattle.frame_writer.specs.Code.{AreHeaders, AreTiles, GivesAll, GivesFrame, GivesRest, IsFrame, IsUntold, ReadsFrame, input_with, sources_with}
+use Rattle.frame_writer.specs.Symbols.{Speaker}
+use Rattle.frame_writer.specs.declared.frame.FrameToWrite.{FrameToWrite}
+use Rattle.frame_writer.specs.declared.written.NotWritten.{NotWritten}
+use Rattle.frame_writer.specs.declared.written.NotWritten.TheVariants.{Unsaid, TooLong, OutOfMemory}
+use Rattle.frame_writer.specs.declared.written.Written.{Written}
+use Rattle.frame_writer.proofs.SpansRead.{all_read, in_middle}
+
+-- the size isn't read with the rest of the compressed header
+same_forward : (header : Header) (size : ℕ) (before : ContextLists) (bytes : List ℕ) → forward (with_size header size) before bytes ≡ forward header before bytes
+unfolding forward compressed_header
+same_forward header size before bytes = refl
+
+ends_so : (bytes : List ℕ) → (tail : List ℕ) × (without_index bytes ≡ bytes ++ tail)
+unfolding without_index
+ends_so bytes = by_test (slice_index bytes (length bytes - 1) / 32 == 6)
+  where
+    by_test : (b : Bool) → (tail : List ℕ) × ((if b then bytes ++ 0 ∷ [] else bytes) ≡ bytes ++ tail)
+    by_test true = (0 ∷ [], refl)
+    by_test false = ([], sym (append-nil bytes))
+
+-- where the compressed header lies
+abbrev span_at : List ℕ → List ℕ → Span
+span_at front compressed = record { from = length front; to = length front + length compressed }
+
+frame_reads : (f : FrameInput) (updated : ContextLists × Modes) (r : Result FrameRead Rule) → forward f.header f.past.contexts (slice_range f.bytes f.compressed.from f.compressed.to) ≡ Ok updated
+    → read_all_tiles (sources f updated) f.bytes f.compressed ≡ r → (read : FrameRead) → r ≡ Ok read → read_frame f ≡ Ok (read, sources f updated)
+unfolding read_frame
+frame_reads f updated r made reads read is = rw made (rw (reads ∙ is) refl)
+
+frame_breaks : (f : FrameInput) (updated : ContextLists × Modes) (rule : Rule) → forward f.header f.past.contexts (slice_range f.bytes f.compressed.from f.compressed.to) ≡ Ok updated
+    → read_all_tiles (sources f updated) f.bytes f.compressed ≡ Err rule → read_frame f ≡ Err rule
+unfolding read_frame
+frame_breaks f updated rule made reads = rw made (rw reads refl)
+
+reads_so : {T : Type 0} (speaker : Speaker T) (frame : FrameToWrite) (past : FramePast) (t new : T) (front compressed out tail bytes : List ℕ) (broken : Option Rule)
+    → bytes ≡ out ++ tail → forward (with_size frame.header (length compressed)) past.contexts (slice_range bytes (length front) (length front + length compressed)) ≡ Ok (lists_of frame.contexts, frame.modes)
+    → GivesAll speaker (sources_with frame past (length compressed)) t (front ++ compressed) broken out new
+    → ReadsFrame speaker (input_with frame past (length compressed) (span_at front compressed) bytes) (sources_with frame past (length compressed)) t broken new
+reads_so speaker frame past t new front compressed out tail bytes None is made gives =
+    let by = sources_with frame past (length compressed) in
+    let f = input_with frame past (length compressed) (span_at front compressed) bytes in
+    let all = all_read by (front ++ compressed) out tail (span_at front compressed) (Ok gives.0) (sym (length-append front compressed)) gives.1 in (
+      gives.0,
+      frame_reads f (lists_of frame.contexts, frame.modes) (Ok gives.0) made (ap (λ bytes. read_all_tiles by bytes (span_at front compressed)) is ∙ all) gives.0 refl,
+      gives.2,
+    )
+reads_so speaker frame past t new front compressed out tail bytes (Some rule) is made gives =
+    let by = sources_with frame past (length compressed) in
+    let f = input_with frame past (length compressed) (span_at front compressed) bytes in
+    let all = all_read by (front ++ compressed) out tail (span_at front compressed) (Err rule) (sym (length-append front compressed)) gives.0 in (
+      frame_breaks f (lists_of frame.contexts, frame.modes) rule made (ap (λ bytes. read_all_tiles by bytes (span_at front compressed)) is ∙ all),
+      gives.1,
+    )
+
+-- what stands behind the headers
+behind : {T : Type 0} (speaker : Speaker T) (by : FrameSources) (t new : T) (front out : List ℕ) (broken : Option Rule) → GivesAll speaker by t front broken out new
+    → (rest : List ℕ) × (out ≡ front ++ rest)
+behind speaker by t new front out None gives = (_, gives.1.put)
+behind speaker by t new front out (Some rule) gives = (_, gives.0.put)
+
+frame_is : {T : Type 0} (speaker : Speaker T) (before : Persist) (frame : FrameToWrite) (past : FramePast) (t new : T) (front compressed out : List ℕ) (broken : Option Rule) (old : Contexts)
+    → past.contexts ≡ lists_of old → IsForward frame.header old compressed (Ok (frame.contexts, frame.modes))
+    → HoldsHeader before (uncompressed.Coded (with_size frame.header (length compressed))) front
+    → GivesAll speaker (sources_with frame past (length compressed)) t (front ++ compressed) broken out new
+    → IsFrame speaker before frame past t (without_index out) broken new
+frame_is speaker before frame past t new front compressed out broken old from made holds gives =
+    let end = ends_so out in
+    let rest = behind speaker (sources_with frame past (length compressed)) t new (front ++ compressed) out broken gives in
+    let bytes = without_index out in
+    let more = compressed ++ (rest.0 ++ end.0) in
+    let whole : bytes ≡ front ++ more =
+    end.1 ∙ ap (λ l. l ++ end.0) rest.1 ∙ append_assoc (front ++ compressed) rest.0 end.0 ∙ append_assoc front compressed (rest.0 ++ end.0) in
+    let size = length compressed in
+    let enough : nat_lt (length more) size ≡ false = le-ltb (length more) size (omega (arith, length-append compressed (rest.0 ++ end.0))) in
+    let here : slice_range bytes (length front) (length front + size) ≡ compressed = in_middle bytes front compressed (rest.0 ++ end.0) (length front) (length front + size) whole refl refl in
+    record {
+      size = size;
+      compressed = span_at front compressed;
+      head = ap (head_of before) whole ∙ holds.head more ∙ (rw enough refl);
+      read = reads_so speaker frame past t new front compressed out end.0 bytes broken end.1
+          (same_forward frame.header size past.contexts _ ∙ (λ i. forward frame.header (from i) (here i)) ∙ made) gives;
+    }
+
+abbrev sources_by : Header → FrameToWrite → FramePast → FrameSources
+sources_by header frame past = record { header = header; modes = frame.modes; contexts = lists_of frame.contexts; past = past }
+
+sources_are : (before : Persist) (frame : FrameToWrite) (past : FramePast) (old : Contexts) (header : Header) (bytes : List ℕ) (h : AreHeaders before frame old header bytes)
+    → sources_by header frame past ≡ sources_with frame past (length h.compressed)
+sources_are before frame past old header bytes h = ap (λ header. sources_by header frame past) h.size
+
+frame_by : {T : Type 0} (speaker : Speaker T) (before : Persist) (frame : FrameToWrite) (past : FramePast) (t new : T) (old : Contexts) (header : Header) (bytes : List ℕ) (result : Result Written NotWritten)
+    → past.contexts ≡ lists_of old → AreHeaders before frame old header bytes → GivesRest speaker (sources_by header frame past) t bytes result new
+    → GivesFrame speaker before frame past t result new
+frame_by speaker before frame past t new old header bytes (Ok w) from h gives =
+    let holds = rw h.size at h.holds in
+    let all = subst (λ by. GivesAll speaker by t bytes w.broken gives.0 new) (sources_are before frame past old header bytes h) gives.2 in
+    rw gives.1 (frame_is speaker before frame past t new h.front h.compressed gives.0 w.broken old from h.makes holds (rw h.put at all))
+frame_by speaker before frame past t new old header bytes (Err Unsaid) from h gives =
+    (length h.compressed, subst (λ by. IsUntold speaker by t) (sources_are before frame past old header bytes h) gives)
+frame_by speaker before frame past t new old header bytes (Err TooLong) from h gives = tt
+frame_by speaker before frame past t new old header bytes (Err OutOfMemory) from h gives = tt
+
+pub frame_given : {T : Type 0} (speaker : Speaker T) (before : Persist) (frame : FrameToWrite) (past : FramePast) (by : FrameSources) (t new : T) (old : Contexts) (header : Header) (bytes : List ℕ) (result : Result Written NotWritten)
+    → past.contexts ≡ lists_of old → AreHeaders before frame old header bytes → by ≡ sources_by header frame past → GivesRest speaker by t bytes result new
+    → GivesFrame speaker before frame past t result new
+frame_given speaker before frame past by t new old header bytes result from h is gives =
+    frame_by speaker before frame past t new old header bytes result from h (subst (λ by. GivesRest speaker by t bytes result new) is gives)
+
+-- a header of any size of its compressed header is one that can be written
+pub sized_well : (before : Persist) (header : Header) (size : ℕ) → 1 ≤ size → IsWellFormed before (uncompressed.Coded header) → IsWellFormed before (uncompressed.Coded (with_size header size))
+sized_well before header size some h = record {
+  profile = h.profile;
+  size = h.size;
+  kind = h.kind;
+  contexts = h.contexts;
+  params = record { loop_filter = h.params.loop_filter; quantizer = h.params.quantizer; segmentation = h.params.segmentation; tiles = h.params.tiles; some = some };
+}
+
+least_low : (test : ℕ → Bool) (k n : ℕ) → least test k n ≤ n + k
+least_low test zero n = omega arith
+least_low test (suc k) n = by_test (test n) (least_low test k (n + 1))
+  where
+    by_test : (b : Bool) → least test k (n + 1) ≤ n + 1 + k → (if b then n else least test k (n + 1)) ≤ n + suc k
+    by_test true low = omega arith
+    by_test false low = omega (arith, low)
+
+-- it has few tiles
+pub few_tiles : (before : Persist) (header : Header) → IsWellFormed before (uncompressed.Coded header) → AreFewTiles header.params.tiles
+unfolding min_log2 max_log2
+few_tiles before header h =
+    let columns = superblocks header.size.width in
+    let low : min_log2 columns ≤ 8 = least_low (λ n. nat_le columns (64 * 2 ^ n)) 8 0 in
+    let high : max_log2 columns ≤ 8 = least_low (λ n. nat_lt (columns / 2 ^ (n + 1)) 4) 8 0 in
+    let most = h.params.tiles.most in
+    (omega (arith, low, high, most), h.params.tiles.rows)

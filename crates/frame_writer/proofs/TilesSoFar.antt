@@ -1,0 +1,195 @@
+-- The tiles of a frame, as they are written one after another.
+use Rattle.std.proofs.Common.{◌≡◌, ◌∙◌, ◌⊎◌, ℕ, zero, suc, ◌+◌, ◌-◌, ◌<◌, ◌≤◌, List, [], ◌∷◌, ◌++◌, length, refl, sym, ap, subst, inl, inr, append_assoc, arith}
+use Rattle.std.specs.Prelude.{Option, Some, None, Result, Ok, Err}
+use Rattle.std.specs.List.{flat_map, All}
+use Rattle.std.proofs.lemmas.Grind.{flat_map-append}
+use Rattle.std.proofs.lemmas.List.{append-nil, length-append}
+use Rattle.std.proofs.lemmas.List.Elements.{All-append}
+use Rattle.vp9_types.specs.Results.{◌>>=◌}
+use Rattle.vp9_types.specs.declared.rule.Rule.{Rule}
+use Rattle.frame_headers.specs.Spans.{tile_count}
+use Rattle.frame_decoder.specs.Reading.{FrameRead, nothing_read, read_tile_of}
+use Rattle.frame_decoder.specs.Code.{sources_of}
+use Rattle.frame_decoder.specs.Sources.{FrameSources}
+use Rattle.frame_decoder.specs.declared.sources.FrameSources as code
+use Rattle.frame_decoder.specs.declared.columns.TileColumn.{TileColumn}
+use Rattle.tile_writer.specs.declared.unwritten.Unwritten.{Unwritten}
+use Rattle.tile_writer.specs.declared.unwritten.Unwritten.TheVariants as unwritten
+use Rattle.frame_writer.specs.Bytes.{HasSize, read_each, sized, tile_bytes}
+use Rattle.frame_writer.specs.Code.{AreSoFar, AreTiles, GivesAll, GivesNth, GivesNthTo, GivesTiles, HoldsColumns, IsUntold, StandsAt, first_broken}
+use Rattle.frame_writer.specs.Frames.{frame_told, nth_told, said_of, tiles_told}
+use Rattle.frame_writer.specs.Symbols.{Speaker}
+use Rattle.frame_writer.specs.declared.written.NotWritten.{NotWritten}
+use Rattle.frame_writer.specs.declared.written.NotWritten.TheVariants.{Unsaid, TooLong, OutOfMemory}
+use Rattle.frame_writer.specs.declared.written.Written.{Written}
+
+none_less : (n : ℕ) → n ≡ n - 0
+none_less n = omega arith
+
+pub none_so_far : {T : Type 0} (speaker : Speaker T) (by : FrameSources) (t : T) (front : List ℕ) (columns : List TileColumn) → HoldsColumns columns (nothing_read by.header)
+    → AreSoFar speaker by t front 0 None columns front t
+none_so_far speaker by t front columns holds = record {
+  tiles = [];
+  many = refl;
+  sizes = λ i d low. absurd (omega (arith, low));
+  put = sym (append-nil front);
+  stands = (nothing_read by.header, λ more. refl, holds, ap (λ n. tiles_told speaker by 0 n (said_of (nothing_read by.header), t)) (none_less (tile_count by.header)));
+}
+
+-- the tiles from the n-th on, of which there is one more at least
+told_next : {T : Type 0} (speaker : Speaker T) (by : FrameSources) (n count : ℕ) (read next : FrameRead) (now then_it : T) → n < count
+    → nth_told speaker by n (said_of read, now) ≡ Ok (said_of next, then_it)
+    → tiles_told speaker by n (count - n) (said_of read, now) ≡ tiles_told speaker by (n + 1) (count - (n + 1)) (said_of next, then_it)
+unfolding tiles_told
+told_next speaker by n count read next now then_it below is =
+    let more : count - n ≡ suc (count - (n + 1)) = omega (arith, below) in
+    rw more (rw is refl)
+
+told_ends : {T : Type 0} (speaker : Speaker T) (by : FrameSources) (n count : ℕ) (read : FrameRead) (now : T) (why : Unwritten) → n < count
+    → nth_told speaker by n (said_of read, now) ≡ Err why → tiles_told speaker by n (count - n) (said_of read, now) ≡ Err why
+unfolding tiles_told
+told_ends speaker by n count read now why below is =
+    let more : count - n ≡ suc (count - (n + 1)) = omega (arith, below) in
+    rw more (rw is refl)
+
+told_all : {T : Type 0} (speaker : Speaker T) (by : FrameSources) (n count : ℕ) (read : FrameRead) (now : T) → count ≤ n → tiles_told speaker by n (count - n) (said_of read, now) ≡ Ok (said_of read, now)
+unfolding tiles_told
+told_all speaker by n count read now all =
+    let none : count - n ≡ 0 = omega (arith, all) in
+    rw none refl
+
+each_next : (by : FrameSources) (n : ℕ) (tile : List ℕ) (more : List (List ℕ)) (read : FrameRead) (r : Result FrameRead Rule) → read_tile_of by n tile read ≡ r
+    → read_each by n (tile ∷ more) read ≡ (r >>= read_each by (n + 1) more)
+unfolding read_each
+each_next by n tile more read r is = ap (λ r. r >>= read_each by (n + 1) more) is
+
+-- a tile more
+stands_more : {T : Type 0} (speaker : Speaker T) (by : FrameSources) (t : T) (tiles : List (List ℕ)) (n : ℕ) (before broken : Option Rule) (columns others : List TileColumn) (bytes : List ℕ) (now then_it : T)
+    → n < tile_count by.header → StandsAt speaker by t tiles n before columns now
+    → ((read : FrameRead) → HoldsColumns columns read → GivesNthTo speaker by n read now bytes broken others then_it)
+    → StandsAt speaker by t (tiles ++ bytes ∷ []) (n + 1) (first_broken before broken) others then_it
+stands_more speaker by t tiles n (Some rule) broken columns others bytes now then_it below stands gives = (
+  λ more. ap (λ l. read_each by 0 l (nothing_read by.header)) (append_assoc tiles (bytes ∷ []) more) ∙ stands.0 (bytes ∷ more),
+  stands.1,
+)
+stands_more speaker by t tiles n None None columns others bytes now then_it below stands gives =
+    let g = gives stands.0 stands.2 in
+    let here : read_tile_of by n bytes stands.0 ≡ Ok g.0 = rw (append-nil bytes) at (g.1 []) in (
+      g.0,
+      λ more.
+          ap (λ l. read_each by 0 l (nothing_read by.header)) (append_assoc tiles (bytes ∷ []) more) ∙ stands.1 (bytes ∷ more)
+          ∙ each_next by n bytes more stands.0 (Ok g.0) here,
+      g.2,
+      stands.3 ∙ told_next speaker by n (tile_count by.header) stands.0 g.0 now then_it below g.3,
+    )
+stands_more speaker by t tiles n None (Some rule) columns others bytes now then_it below stands gives =
+    let g = gives stands.0 stands.2 in
+    let here : read_tile_of by n bytes stands.0 ≡ Err rule = rw (append-nil bytes) at (g.0 []) in (
+      λ more.
+          ap (λ l. read_each by 0 l (nothing_read by.header)) (append_assoc tiles (bytes ∷ []) more) ∙ stands.1 (bytes ∷ more)
+          ∙ each_next by n bytes more stands.0 (Err rule) here,
+      stands.3 ∙ told_ends speaker by n (tile_count by.header) stands.0 now (unwritten.Broken rule) below g.1,
+    )
+
+one_sized : (tile : List ℕ) → HasSize tile → All HasSize (tile ∷ [])
+one_sized tile h zero d low = h
+one_sized tile h (suc i) d low = absurd (omega (arith, low))
+
+pub one_more : {T : Type 0} (speaker : Speaker T) (by : FrameSources) (t : T) (front out more : List ℕ) (n : ℕ) (broken : Option Rule) (columns others : List TileColumn) (w : Written) (now then_it : T)
+    → n < tile_count by.header → HasSize w.bytes.items → more ≡ out ++ sized w.bytes.items → AreSoFar speaker by t front n broken columns out now
+    → ((read : FrameRead) → HoldsColumns columns read → GivesNth speaker by n read now (Ok w) others then_it)
+    → AreSoFar speaker by t front (n + 1) (first_broken broken w.broken) others more then_it
+one_more speaker by t front out more n broken columns others w now then_it below some put far gives = record {
+  tiles = far.tiles ++ w.bytes.items ∷ [];
+  many = length-append far.tiles (w.bytes.items ∷ []) ∙ ap (λ n. n + 1) far.many;
+  sizes = All-append HasSize far.tiles (w.bytes.items ∷ []) far.sizes (one_sized w.bytes.items some);
+  put = put ∙ ap (λ l. l ++ sized w.bytes.items) far.put ∙ append_assoc front (flat_map sized far.tiles) (sized w.bytes.items)
+      ∙ ap (λ l. front ++ l) (ap (λ l. flat_map sized far.tiles ++ l) (sym (append-nil (sized w.bytes.items))) ∙ sym (flat_map-append sized far.tiles (w.bytes.items ∷ [])));
+  stands = stands_more speaker by t far.tiles n broken w.broken columns others w.bytes.items now then_it below far.stands gives;
+}
+
+-- nothing more is told
+untold_at : {T : Type 0} (speaker : Speaker T) (by : FrameSources) (t : T) (tiles : List (List ℕ)) (n : ℕ) (broken : Option Rule) (columns others : List TileColumn) (now then_it : T)
+    → n < tile_count by.header → StandsAt speaker by t tiles n broken columns now
+    → ((read : FrameRead) → HoldsColumns columns read → GivesNth speaker by n read now (Err Unsaid) others then_it) → IsUntold speaker by t
+untold_at speaker by t tiles n (Some rule) columns others now then_it below stands gives = inr (rule, stands.1)
+untold_at speaker by t tiles n None columns others now then_it below stands gives =
+    inl (stands.3 ∙ told_ends speaker by n (tile_count by.header) stands.0 now unwritten.Unsaid below (gives stands.0 stands.2))
+
+pub refused_at : {T : Type 0} (speaker : Speaker T) (by : FrameSources) (t : T) (front out ending : List ℕ) (n : ℕ) (broken : Option Rule) (columns others : List TileColumn) (why : NotWritten) (now then_it : T)
+    → n < tile_count by.header → AreSoFar speaker by t front n broken columns out now
+    → ((read : FrameRead) → HoldsColumns columns read → GivesNth speaker by n read now (Err why) others then_it) → GivesTiles speaker by t front (Err why) ending then_it
+refused_at speaker by t front out ending n broken columns others Unsaid now then_it below far gives = untold_at speaker by t far.tiles n broken columns others now then_it below far.stands gives
+refused_at speaker by t front out ending n broken columns others TooLong now then_it below far gives = tt
+refused_at speaker by t front out ending n broken columns others OutOfMemory now then_it below far gives = tt
+
+---- The last tile ----
+
+none_left : (by : FrameSources) (n : ℕ) (f : FrameRead) → read_each by n [] f ≡ Ok f
+unfolding read_each
+none_left by n f = refl
+
+last_given : {T : Type 0} (speaker : Speaker T) (by : FrameSources) (t : T) (front out : List ℕ) (n : ℕ) (before broken : Option Rule) (columns others : List TileColumn) (bytes : List ℕ) (now then_it : T)
+    → n + 1 ≡ tile_count by.header → 1 ≤ length bytes → (far : AreSoFar speaker by t front n before columns out now)
+    → ((read : FrameRead) → HoldsColumns columns read → GivesNthTo speaker by n read now bytes broken others then_it)
+    → GivesAll speaker by t front (first_broken before broken) (out ++ bytes) then_it
+last_given speaker by t front out n (Some rule) broken columns others bytes now then_it last some far gives = (
+  record {
+    tiles = far.tiles;
+    last = bytes;
+    many = ap (λ n. n + 1) far.many ∙ last;
+    sizes = far.sizes;
+    some = some;
+    put = ap (λ l. l ++ bytes) far.put ∙ append_assoc front (flat_map sized far.tiles) bytes;
+    read = λ tail. far.stands.0 ((bytes ++ tail) ∷ []);
+  },
+  far.stands.1,
+)
+last_given speaker by t front out n None None columns others bytes now then_it last some far gives =
+    let stands = far.stands in
+    let g = gives stands.0 stands.2 in
+    let count = tile_count by.header in (
+      g.0,
+      record {
+        tiles = far.tiles;
+        last = bytes;
+        many = ap (λ n. n + 1) far.many ∙ last;
+        sizes = far.sizes;
+        some = some;
+        put = ap (λ l. l ++ bytes) far.put ∙ append_assoc front (flat_map sized far.tiles) bytes;
+        read = λ tail. stands.1 ((bytes ++ tail) ∷ []) ∙ each_next by n (bytes ++ tail) [] stands.0 (Ok g.0) (g.1 tail) ∙ none_left by (n + 1) g.0;
+      },
+      stands.3 ∙ told_next speaker by n count stands.0 g.0 now then_it (omega (arith, last)) g.3 ∙ told_all speaker by (n + 1) count g.0 then_it (omega (arith, last)),
+    )
+last_given speaker by t front out n None (Some rule) columns others bytes now then_it last some far gives =
+    let stands = far.stands in
+    let g = gives stands.0 stands.2 in (
+      record {
+        tiles = far.tiles;
+        last = bytes;
+        many = ap (λ n. n + 1) far.many ∙ last;
+        sizes = far.sizes;
+        some = some;
+        put = ap (λ l. l ++ bytes) far.put ∙ append_assoc front (flat_map sized far.tiles) bytes;
+        read = λ tail. stands.1 ((bytes ++ tail) ∷ []) ∙ each_next by n (bytes ++ tail) [] stands.0 (Err rule) (g.0 tail);
+      },
+      stands.3 ∙ told_ends speaker by n (tile_count by.header) stands.0 now (unwritten.Broken rule) (omega (arith, last)) g.1,
+    )
+
+pub all_given : {T : Type 0} (speaker : Speaker T) (by : FrameSources) (t : T) (front out ending : List ℕ) (n : ℕ) (broken : Option Rule) (columns others : List TileColumn) (w : Written) (now then_it : T)
+    → n + 1 ≡ tile_count by.header → HasSize w.bytes.items → ending ≡ out ++ w.bytes.items → AreSoFar speaker by t front n broken columns out now
+    → ((read : FrameRead) → HoldsColumns columns read → GivesNth speaker by n read now (Ok w) others then_it)
+    → GivesAll speaker by t front (first_broken broken w.broken) ending then_it
+all_given speaker by t front out ending n broken columns others w now then_it last some put far gives =
+    rw put (last_given speaker by t front out n broken w.broken columns others w.bytes.items now then_it last some.0 far gives)
+
+-- by what is the same as before the tiles
+pub by_sources : {T : Type 0} (speaker : Speaker T) (by others : code.FrameSources) (n : ℕ) (columns : List TileColumn) (result : Result Written NotWritten) (now : T) (after_it : List TileColumn) (last : T)
+    → others ≡ by → ((read : FrameRead) → HoldsColumns columns read → GivesNth speaker (sources_of others) n read now result after_it last)
+    → (read : FrameRead) → HoldsColumns columns read → GivesNth speaker (sources_of by) n read now result after_it last
+by_sources speaker by others n columns result now after_it last same gives =
+    subst (λ (by : code.FrameSources). (read : FrameRead) → HoldsColumns columns read → GivesNth speaker (sources_of by) n read now result after_it last) same gives
+
+pub so_far_at : {T : Type 0} (speaker : Speaker T) (by : FrameSources) (t : T) (front : List ℕ) (n m : ℕ) (broken : Option Rule) (columns : List TileColumn) (out : List ℕ) (now : T) → n ≡ m
+    → AreSoFar speaker by t front n broken columns out now → AreSoFar speaker by t front m broken columns out now
+so_far_at speaker by t front n m broken columns out now is far = subst (λ n. AreSoFar speaker by t front n broken columns out now) is far
