@@ -1,5 +1,5 @@
 -- The modes that a frame's compressed header says (6.3.1 and 6.3.12 of the standard), as they are drawn.
-use Rattle.std.specs.Prelude.{Bool, true, false, if◌then◌else◌}
+use Rattle.std.specs.Prelude.{Bool, if◌then◌else◌}
 use Rattle.vp9_types.specs.declared.block.Modes.{Modes}
 use Rattle.vp9_types.specs.declared.block.ReferenceMode.{ReferenceMode}
 use Rattle.vp9_types.specs.declared.block.ReferenceMode.TheVariants as mode

@@ -98,11 +98,9 @@ fn draw_later(draws: &mut Draws, before: &Persist) -> DrawnHead
 
 #[tactic(auto, unfolding(crate::specs::Heads::draw_head))]
 fn draw_any(draws: &mut Draws, first: bool, before: &Persist) -> DrawnHead
-    requires made { first ≡ false → IsMade before.now }
-    requires eight { length before.now.slots ≡ 8 }
+    requires { first ≡ false → IsMade before.now }
     ensures drawn { IsDrawn (draw_head first before.now) draws.old result draws.new }
     ensures made { IsMadeHead before.now result.header }
-    ensures next { IfCoded result.header (λ header. IsMade (next_persist header before.now)) }
 {
     if first {
         draw_coded(draws, &key_start())
