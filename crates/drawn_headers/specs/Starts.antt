@@ -16,7 +16,7 @@ use Rattle.drawn_symbols.specs.Draws.{Drawn, stay, ◌>>=◌, draw, draw_flag}
 use Rattle.drawn_headers.specs.Made.{whole_size, small_size, key_color, made_shape}
 use Rattle.drawn_headers.specs.declared.starts.Start.{Start}
 
--- true once in n draws
+-- one chance of n
 unfoldable pub draw_chance : ℕ → Drawn Bool
 draw_chance n = draw n >>= λ v. stay (nat_eq v 0)
 

@@ -121,7 +121,7 @@ pub fn draw_head(draws: &mut Draws, first: bool, before: &Persist) -> DrawnHead
     ensures drawn { IsDrawn (draw_head first before.now) draws.old result draws.new }
     ensures well { (bytes : ℕ) → 1 ≤ bytes → IsWellFormed before.now (with_size bytes result.header) }
     ensures can { (bytes : ℕ) → CanChoose before.now result.choices (with_size bytes result.header) }
-    ensures frame { IfCoded result.header IsDrawnFrame }
+    ensures frame { (bytes : ℕ) → IfCoded (with_size bytes result.header) IsDrawnFrame }
     ensures size { IfCoded result.header (λ header. IsFrameSize header.size) }
     ensures tiles { IfCoded result.header (λ header. AreFewTiles header.params.tiles) }
     ensures next { IfCoded result.header (λ header. IsMade (next_persist header before.now)) }
