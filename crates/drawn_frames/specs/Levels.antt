@@ -19,9 +19,6 @@ use Rattle.drawn_symbols.specs.Levels.{draw_levels, placed_from}
 abbrev pub no_plane : PlaneLevels
 no_plane = record { counts = replicate 256 0; values = replicate 4096 (pos 0) }
 
-abbrev pub no_block : BlockLevels
-no_block = record { y = no_plane; u = no_plane; v = no_plane }
-
 ---- A transform block ----
 
 -- the levels of the one at a row and column, by position: they stand in the first places of its scan, and the others are 0
@@ -46,17 +43,15 @@ unfoldable pub draw_from : BlockInPlane → List (ℕ × ℕ) → ℕ → PlaneL
 draw_from b [] k p = stay p
 draw_from b (at ∷ places) k p = draw_levels >>= λ levels. draw_from b places (k + 1) (with_levels b at k levels p)
 
--- in a plane
+-- in a plane; a skipped block has none
 unfoldable pub draw_plane : Header → BlockInfo → Plane → Drawn PlaneLevels
-draw_plane header b p = draw_from (block_in header b p) (places_in (shape_of header) b p) 0 no_plane
+draw_plane header b p =
+    if b.skip then stay no_plane else draw_from (block_in header b p) (places_in (shape_of header) b p) 0 no_plane
 
-unfoldable pub draw_planes : Header → BlockInfo → Drawn BlockLevels
-draw_planes header b = do
+-- plane by plane
+unfoldable pub draw_block_levels : Header → BlockInfo → Drawn BlockLevels
+draw_block_levels header b = do
   y ← draw_plane header b Y
   u ← draw_plane header b U
   v ← draw_plane header b V
   stay (record { y = y; u = u; v = v })
-
--- a skipped block has none
-unfoldable pub draw_block_levels : Header → BlockInfo → Drawn BlockLevels
-draw_block_levels header b = if b.skip then stay no_block else draw_planes header b

@@ -4,9 +4,9 @@ ghost use Rattle.std.specs.Prelude.{◌≡◌};
 ghost use Rattle.std.specs.Bool.{OnTrue};
 ghost use Rattle.std.specs.List.{list_all};
 ghost use Rattle.drawn_symbols.specs.Frames.{IsDrawnFrame};
-ghost use Rattle.drawn_frames.specs.Frames.{draws_segments, is_drawn_frame, is_plain, is_updated_anew, names_filters};
+ghost use Rattle.drawn_frames.specs.Frames.{draws_segments, is_drawn_frame, is_plain, names_filters};
 
-use frame_headers::{FrameFilter, FrameKind, Header, MapUpdate, SegmentFeatures, Segmentation};
+use frame_headers::{FrameFilter, FrameKind, Header, SegmentFeatures, Segmentation};
 
 fn is_plain(features: &SegmentFeatures) -> bool
     ensures { result ≡ is_plain features.now }
@@ -23,20 +23,16 @@ fn are_plain(segments: &[SegmentFeatures]) -> bool
     segments.iter().all(is_plain)
 }
 
-fn is_updated_anew(map: &Option<MapUpdate>) -> bool
-    ensures { result ≡ is_updated_anew map.now }
-{
-    match map {
-        Some(update) => !update.temporal,
-        None => false,
-    }
-}
-
 fn draws_segments(segmentation: &Segmentation) -> bool
     ensures { result ≡ draws_segments segmentation.now }
 {
-    !segmentation.enabled
-        || (is_updated_anew(&segmentation.map) && are_plain(&segmentation.features.segments))
+    if !segmentation.enabled {
+        return true;
+    }
+    match segmentation.map {
+        Some(update) => !update.temporal && are_plain(&segmentation.features.segments),
+        None => false,
+    }
 }
 
 fn names_filters(kind: &FrameKind) -> bool

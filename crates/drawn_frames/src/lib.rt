@@ -7,5 +7,4 @@ mod levels;
 mod symbols;
 
 pub use frames::is_drawn_frame;
-pub use levels::draw_block_levels;
 pub use symbols::DrawnSymbols;
