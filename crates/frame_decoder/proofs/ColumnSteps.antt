@@ -29,7 +29,7 @@ use Rattle.frame_setting.specs.declared.setting.FrameSetting.{FrameSetting}
 use Rattle.mode_syntax.specs.Walk.{decode_tile}
 use Rattle.planes.specs.Pictures.{samples_of}
 use Rattle.planes.specs.declared.frame_planes.FramePlanes.{FramePlanes}
-use Rattle.frame_decoder.specs.Columns.{AllStart, AreTileColumns, IsTileColumn, blocks_of}
+use Rattle.frame_decoder.specs.Columns.{AllFit, AllLie, AllSmall, AllStart, AreTileColumns, IsTileColumn, blocks_of, limit_of}
 use Rattle.frame_decoder.specs.Code.{PlainTile, ArePlanes, GivesRead, GivesWhole, HoldsRead, IsReady, SameColumns, column_as_listed, column_of_code, counts_if, plain_walk, read_whole, sources_of, tile_of, walk_of}
 use Rattle.frame_decoder.specs.Reading.{Column, FrameRead, begun, column_at, infos, no_column, read_tile_of, sides_below}
 use Rattle.frame_decoder.specs.Sources.{FrameSources, rebuilding}
@@ -152,6 +152,40 @@ next_row columns n r q k at later = elim (cases_lt q r) [
   | inr more ↦ let low : r * columns ≤ q * columns = mul-le-mul_right columns more in absurd (omega (arith, at, later, low))
 ]
 
+-- it is left so, with less room
+pub record IsLeftSo (setting : FrameSetting) (c new : TileColumn) (t : TilePlaces) : Type 0 where
+  pub rows : new.grid.rows ≡ setting.places.rows
+  pub from : new.grid.from ≡ c.grid.from
+  pub to : new.grid.to ≡ c.grid.to
+  pub fit : FitPlanes (shape_of setting.header) new.sides
+  pub fit_blocks : AllFit new.grid.blocks
+  pub lie : AllLie new.grid.from (limit_of new) new.grid.blocks
+  pub starts : AllStart setting.places.rows setting.places.cols new.grid.blocks
+  pub small : AllSmall new.grid.blocks
+  pub room : c.grid.room ≤ new.grid.room + 64 * (superblocks_along (c.grid.to - c.grid.from) * superblocks_along (t.row_to - t.row_from))
+
+pub column_left : (setting : FrameSetting) (n k : ℕ) (c new : TileColumn) (t : TilePlaces)
+    → n < 2 ^ setting.header.params.tiles.columns_log2 * 2 ^ setting.header.params.tiles.rows_log2
+    → k ≡ column_of setting.header.params.tiles n → t ≡ tile_places setting.places setting.header.params.tiles n → IsTileColumn setting.header n k c
+    → IsLeftSo setting c new t → IsTileColumn setting.header (n + 1) k new
+column_left setting n k c new t below at is h left =
+    let tiles = setting.header.params.tiles in
+    let tall = is_tall setting n t below is in
+    let place = raster tiles n in record {
+      rows = left.rows ∙ ap (λ (p : FramePlaces). p.rows) setting.whole;
+      from = left.from ∙ h.from;
+      to = left.to ∙ h.to;
+      fit = left.fit;
+      room = λ r later. rw (left.from, left.to) (room_left (superblocks_along (c.grid.to - c.grid.from)) (superblocks_along (t.row_to - t.row_from)) (superblocks_along (mi_rows (shape_of setting.header))) _ _
+          (superblocks_before (mi_rows (shape_of setting.header)) tiles.rows_log2 r) c.grid.room new.grid.room tall.low tall.order tall.within
+          (before_grows (mi_rows (shape_of setting.header)) tiles.rows_log2 (row_of tiles n + 1) r (next_row (2 ^ tiles.columns_log2) n r (row_of tiles n) k (place ∙ ap (λ k. row_of tiles n * 2 ^ tiles.columns_log2 + k) (sym at)) later))
+          (room_there setting.header n k c at h) left.room);
+      fit_blocks = left.fit_blocks;
+      lie = left.lie;
+      starts = subst (λ (p : FramePlaces). AllStart p.rows p.cols new.grid.blocks) setting.whole left.starts;
+      small = left.small;
+    }
+
 column_after : (setting : FrameSetting) (n k : ℕ) (c new : TileColumn) (sides : TileSides) (planes : FramePlanes) (t : TilePlaces)
     → n < 2 ^ setting.header.params.tiles.columns_log2 * 2 ^ setting.header.params.tiles.rows_log2
     → k ≡ column_of setting.header.params.tiles n → t ≡ tile_places setting.places setting.header.params.tiles n → IsTileColumn setting.header n k c
@@ -159,24 +193,19 @@ column_after : (setting : FrameSetting) (n k : ℕ) (c new : TileColumn) (sides 
     → c.grid.room ≤ new.grid.room + 64 * (superblocks_along (c.grid.to - c.grid.from) * superblocks_along (t.row_to - t.row_from))
     → IsTileColumn setting.header (n + 1) k new
 column_after setting n k c new sides planes t below at is h ready same left =
-    let tiles = setting.header.params.tiles in
-    let tall = is_tall setting n t below is in
-    let place = raster tiles n in record {
-      rows = ready.rows ∙ ap (λ (p : FramePlaces). p.rows) setting.whole;
-      from = same.from ∙ h.from;
-      to = same.to ∙ h.to;
+    column_left setting n k c new t below at is h (record {
+      rows = ready.rows;
+      from = same.from;
+      to = same.to;
       fit = ready.fit;
-      room = λ r later. rw (same.from, same.to) (room_left (superblocks_along (c.grid.to - c.grid.from)) (superblocks_along (t.row_to - t.row_from)) (superblocks_along (mi_rows (shape_of setting.header))) _ _
-          (superblocks_before (mi_rows (shape_of setting.header)) tiles.rows_log2 r) c.grid.room new.grid.room tall.low tall.order tall.within
-          (before_grows (mi_rows (shape_of setting.header)) tiles.rows_log2 (row_of tiles n + 1) r (next_row (2 ^ tiles.columns_log2) n r (row_of tiles n) k (place ∙ ap (λ k. row_of tiles n * 2 ^ tiles.columns_log2 + k) (sym at)) later))
-          (room_there setting.header n k c at h) left);
       fit_blocks = ready.fit_blocks;
       lie = ready.lie;
-      starts = subst (λ (p : FramePlaces). AllStart p.rows p.cols new.grid.blocks) setting.whole ready.starts;
+      starts = ready.starts;
       small = ready.small;
-    }
+      room = left;
+    })
 
-later_is : (header : Header) (n k : ℕ) (c : TileColumn) → IsTileColumn header n k c → IsTileColumn header (n + 1) k c
+pub later_is : (header : Header) (n k : ℕ) (c : TileColumn) → IsTileColumn header n k c → IsTileColumn header (n + 1) k c
 later_is header n k c h = record {
   rows = h.rows;
   from = h.from;
@@ -189,7 +218,7 @@ later_is header n k c h = record {
   small = h.small;
 }
 
-columns_with : (setting : FrameSetting) (n k : ℕ) (columns : List TileColumn) (new : TileColumn) → k < length columns
+pub columns_with : (setting : FrameSetting) (n k : ℕ) (columns : List TileColumn) (new : TileColumn) → k < length columns
     → AreTileColumns setting.header n columns → IsTileColumn setting.header (n + 1) k new → AreTileColumns setting.header (n + 1) (slice_set columns k new)
 columns_with setting n k columns new low h is = record {
   many = length-set columns k new ∙ h.many;
@@ -215,15 +244,15 @@ columns_after setting n k columns x new sides planes t (Err rule) below low at i
 
 ---- What is read ----
 
-column_told : (by : FrameSources) (columns : List TileColumn) (planes : FramePlanes) (read : FrameRead) (k : ℕ) (x : TileColumn) → k < length columns → HoldsRead by columns planes read
-    → column_of_code (slice_index_or columns k x) ≡ column_as_listed (column_at by.header read k)
-column_told by columns planes read k x low holds =
-    let none = no_column (shape_of by.header) in
+pub column_told : (header : Header) (columns : List TileColumn) (read : FrameRead) (k : ℕ) (x : TileColumn) → k < length columns → map column_of_code columns ≡ map column_as_listed read.columns
+    → column_of_code (slice_index_or columns k x) ≡ column_as_listed (column_at header read k)
+column_told header columns read k x low held =
+    let none = no_column (shape_of header) in
     sym (get_or-map column_of_code columns k x (column_as_listed none) low)
-    ∙ ap (λ told. get_or told k (column_as_listed none)) holds.columns_held
+    ∙ ap (λ told. get_or told k (column_as_listed none)) held
     ∙ map_at column_as_listed read.columns k none
 
-sides_told : (shape : Shape) (p : Plane) (s : Sides) (above : List Bool) → s.above ≡ above → FitPlane shape p s → nothing_left s ≡ sides_below shape p above
+pub sides_told : (shape : Shape) (p : Plane) (s : Sides) (above : List Bool) → s.above ≡ above → FitPlane shape p s → nothing_left s ≡ sides_below shape p above
 sides_told shape p s above is fit = λ i. record { above = is i; left = replicate (fit.left i) false }
 
 -- the plain decoder begins the tile with what is read before it
@@ -234,7 +263,7 @@ state_told by n k columns planes read x at low h holds =
     let c = slice_index_or columns k x in
     let shape = shape_of by.header in
     let d = column_at by.header read k in
-    let told = column_told by columns planes read k x low holds in
+    let told = column_told by.header columns read k x low holds.columns_held in
     let now : tile_of (with_sides c (cleared c.sides)) planes ≡ view (rebuilding by) (samples_of planes) (begun shape d) = λ i. record {
       blocks = (ap (λ z. z.0) told ∙ ap infos (sym (append-nil d.blocks))) i;
       sides = record {
