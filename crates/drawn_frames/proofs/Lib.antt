@@ -1,4 +1,3 @@
 pub mod DrawnKinds
 pub mod LevelDraws
 pub mod Rooms
-pub mod Tellings
