@@ -1,5 +1,5 @@
 -- The levels of a block in a plane, drawn transform block by transform block.
-use Rattle.std.proofs.Common.{below_more, ◌≡◌, ◌<◌, ◌≤◌, ◌+◌, ◌*◌, ◌-◌, ◌++◌, [], ◌∷◌, ℕ, zero, suc, ℤ, pos, ◌∙◌, refl, sym, subst, ap, arith, List, length, take, drop, replicate, get_or}
+use Rattle.std.proofs.Common.{below_more, ◌≡◌, ◌<◌, ◌≤◌, ◌+◌, ◌*◌, ◌-◌, [], ◌∷◌, ℕ, suc, ℤ, pos, ◌∙◌, refl, sym, subst, ap, arith, List, length, take, drop, replicate, get_or}
 use borrow.Rule.Slice.PartMut.{put_mid}
 use Rattle.std.specs.Prelude.{slice_index, slice_set}
 use Rattle.std.proofs.lemmas.List.{drop_more, drop_all, length-set, length-replicate, get_or-set_same, get_or-set_other}

@@ -39,7 +39,12 @@ impl FrameSymbols for DrawnSymbols {
         Some(draw_block(&mut self.draws, setting, at, grid, before))
     }
 
-    fn levels(&mut self, by: &FrameSources<'_>, block: &BlockInfo, levels: &mut BlockLevels) -> bool {
+    fn levels(
+        &mut self,
+        by: &FrameSources<'_>,
+        block: &BlockInfo,
+        levels: &mut BlockLevels,
+    ) -> bool {
         draw_block_levels(&mut self.draws, &by.setting, block, levels);
         true
     }
