@@ -40,6 +40,13 @@ fn draw_transform_blocks(
     }
 }
 
+fn clear(levels: &mut PlaneLevels)
+    ensures { levels.new ≡ no_plane }
+{
+    levels.counts.fill(0);
+    levels.values.fill(0);
+}
+
 /// Draws those of a block in a plane, in place of those of the block before it.
 #[tactic(auto, unfolding(crate::specs::Levels::draw_plane))]
 fn draw_plane(
@@ -53,8 +60,7 @@ fn draw_plane(
     ensures drawn { IsDrawn (draw_plane setting.now.header block.now plane) draws.old levels.new draws.new }
     ensures can { (contexts : ContextLists) → CanPutIn setting.now.header contexts block.now plane levels.new }
 {
-    levels.counts = [0; 256];
-    levels.values = [0; 4096];
+    clear(levels);
     if block.skip {
         return;
     }

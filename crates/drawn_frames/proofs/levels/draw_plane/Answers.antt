@@ -1,13 +1,9 @@
-use Rattle.std.proofs.Common.{◌≡◌, ◌∙◌, sym, refl}
+use Rattle.std.proofs.Common.{◌≡◌, ◌∙◌, sym}
 use Rattle.frame_headers.specs.State.{shape_of}
 use Rattle.block_geometry.specs.TransformBlocks.{transform_blocks, grid_blocks}
 use Rattle.block_plan.specs.InPlanes.{places_in}
 use Rattle.drawn_frames.specs.Levels.{draw_plane}
 use Rattle.drawn_frames.proofs.levels.draw_plane.Goals as goal
-
-pub returns-then-block-clause-drawn : goal.returns-then-block-clause-drawn
-unfolding draw_plane
-returns-then-block-clause-drawn c = rw c.if-block.true refl
 
 pub returns-clause-drawn : goal.returns-clause-drawn
 unfolding draw_plane
