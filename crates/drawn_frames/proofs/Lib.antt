@@ -1,0 +1,3 @@
+pub mod DrawnKinds
+pub mod LevelDraws
+pub mod Rooms

@@ -1,0 +1,25 @@
+use Rattle.std.proofs.Common.{◌≡◌, ap, sym, arith}
+use Rattle.vp9_types.specs.Shapes.{mi_cols, mi_rows}
+use Rattle.frame_headers.specs.State.{shape_of}
+use Rattle.block_geometry.specs.declared.transform_blocks.FramePlaces.{FramePlaces}
+use Rattle.segment_map.specs.Segments.{id_map}
+use Rattle.frame_decoder.proofs.BlockSteps.{all_have_small, vectors_held, vectors_small}
+use Rattle.drawn_frames.proofs.symbols.DrawnSymbolsFrameSymbols.block.Goals as goal
+
+pub draw_block-requires-clause-held_before : goal.draw_block-requires-clause-held_before
+draw_block-requires-clause-held_before c =
+    let setting = c.args.by.now.setting in
+    let rows : setting.places.rows ≡ mi_rows (shape_of setting.header) = ap (λ (p : FramePlaces). p.rows) setting.whole in
+    let cols : setting.places.cols ≡ mi_cols (shape_of setting.header) = ap (λ (p : FramePlaces). p.cols) setting.whole in
+    rw c.as_ref-before.ensures.value
+    (vectors_held setting.header c.args.by.now.past.vectors c.args.at.row c.args.at.col c.requires.past.vectors (rw (sym rows) c.requires.row) (omega (arith, c.requires.last, c.requires.tile, cols)))
+
+pub draw_block-requires-clause-small : goal.draw_block-requires-clause-small
+draw_block-requires-clause-small c = all_have_small _ c.requires.small
+
+pub draw_block-requires-clause-small_before : goal.draw_block-requires-clause-small_before
+draw_block-requires-clause-small_before c =
+    rw c.as_ref-before.ensures.value (vectors_small c.args.by.now.setting.header c.args.by.now.past.vectors c.requires.past.vectors)
+
+pub returns-clause-can : goal.returns-clause-can
+returns-clause-can c = rw c.as_ref-before.ensures.value at (c.draw_block.ensures.can (id_map c.args.by.now.past.segments.now))
