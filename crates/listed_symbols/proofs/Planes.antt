@@ -117,7 +117,7 @@ SaysAt contexts b places s k = CanPutAt contexts b (get_or places k (0, 0)) (lev
 
 here_can : (contexts : ContextLists) (b : BlockInPlane) (places : List (ℕ × ℕ)) (levels : List ℤ) (s : PlaneLevels) (k : ℕ) → k < length s.counts → k * area b.block.tx ≤ length s.values
     → CanPut (block_tables contexts (token_kind b (get_or places k (0, 0)).0 (get_or places k (0, 0)).1))
-        (by_position (area b.block.tx) (scan_of b.block.tx (type_at b (get_or places k (0, 0)).0 (get_or places k (0, 0)).1)) levels) (length levels)
+    (by_position (area b.block.tx) (scan_of b.block.tx (type_at b (get_or places k (0, 0)).0 (get_or places k (0, 0)).1)) levels) (length levels)
     → SaysAt contexts b places (with_levels b (get_or places k (0, 0)) k levels s) k
 unfolding with_levels
 here_can contexts b places levels s k low long can =
@@ -133,7 +133,7 @@ other_can contexts b places at levels s j k other long can =
 
 pub can_more : (contexts : ContextLists) (b : BlockInPlane) (places : List (ℕ × ℕ)) (levels : List ℤ) (s : PlaneLevels) (k : ℕ) → k < length s.counts → k * area b.block.tx ≤ length s.values
     → CanPut (block_tables contexts (token_kind b (get_or places k (0, 0)).0 (get_or places k (0, 0)).1))
-        (by_position (area b.block.tx) (scan_of b.block.tx (type_at b (get_or places k (0, 0)).0 (get_or places k (0, 0)).1)) levels) (length levels)
+    (by_position (area b.block.tx) (scan_of b.block.tx (type_at b (get_or places k (0, 0)).0 (get_or places k (0, 0)).1)) levels) (length levels)
     → CanPutAll contexts b places s → CanPutAll contexts b places (with_levels b (get_or places k (0, 0)) k levels s)
 can_more contexts b places levels s k low long can all j within =
     elim (cases_Bool (nat_eq j k)) [

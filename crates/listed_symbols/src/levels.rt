@@ -43,9 +43,7 @@ pub(crate) fn can_levels(depth: Depth, places: usize, levels: &[i32]) -> bool
     ensures is { result ≡ can_levels depth places levels.now }
     ensures few { result ≡ true → length levels.now ≤ places }
 {
-    levels.len() <= places
-        && are_coded(depth, levels)
-        && (levels.len() == places || ends(levels))
+    levels.len() <= places && are_coded(depth, levels) && (levels.len() == places || ends(levels))
 }
 
 /// Puts levels in the first places of a scan, and zeros in the others.

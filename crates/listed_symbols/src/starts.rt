@@ -46,6 +46,7 @@ fn can_tx(mode: TxMode, size: BlockSize, tx: TxSize) -> bool
 }
 
 /// Whether a block of an intra frame can say this first.
+#[tactic(auto, unfolding(crate::specs::Starts::can_start_intra))]
 pub(crate) fn can_start_intra(
     segmentation: &Segmentation,
     mode: TxMode,
@@ -56,9 +57,14 @@ pub(crate) fn can_start_intra(
     ensures can { result ≡ true → CanStartIntra segmentation.now mode size start.now }
 {
     let segment = start.segment;
-    !start.is_inter
-        && !segment.predicted
-        && can_segment(segmentation, segment.id)
-        && can_skip(segmentation, segment.id, start.skip)
-        && can_tx(mode, size, start.tx)
+    if start.is_inter || segment.predicted {
+        return false;
+    }
+    if !can_segment(segmentation, segment.id) {
+        return false;
+    }
+    if !can_skip(segmentation, segment.id, start.skip) {
+        return false;
+    }
+    can_tx(mode, size, start.tx)
 }

@@ -28,12 +28,8 @@ fn can_put_intra(setting: &FrameSetting, at: &BlockAt, symbols: &BlockSymbols) -
         return false;
     };
     let segmentation = &setting.header.params.segmentation;
-    can_start_intra(
-        segmentation,
-        setting.modes.tx_mode,
-        at.size,
-        &symbols.start,
-    ) && can_luma(at.size, prediction.luma)
+    can_start_intra(segmentation, setting.modes.tx_mode, at.size, &symbols.start)
+        && can_luma(at.size, prediction.luma)
 }
 
 impl<'a> FrameSymbols for ListedSymbols<'a> {
