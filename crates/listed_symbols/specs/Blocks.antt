@@ -13,6 +13,7 @@ use Rattle.block_plan.specs.InPlanes.{places_in}
 use Rattle.block_plan.specs.declared.block.BlockAt.{BlockAt}
 use Rattle.block_plan.specs.declared.block.BlockInfo.{BlockInfo}
 use Rattle.block_residue.specs.BlocksInPlanes.{block_in}
+use Rattle.inter_modes.specs.ModeInfo.{InterFrame, sources_of, least_before}
 use Rattle.inter_modes.specs.declared.starts.BlockStart.{BlockStart}
 use Rattle.inter_writer.specs.declared.frame_blocks.BlockSymbols.{BlockSymbols}
 use Rattle.inter_writer.specs.declared.frame_blocks.PredictionSymbols.{PredictionSymbols}
@@ -21,10 +22,10 @@ use Rattle.residue_writer.specs.declared.levels.BlockLevels.{BlockLevels}
 use Rattle.residue_writer.specs.declared.levels.PlaneLevels.{PlaneLevels}
 use Rattle.frame_decoder.specs.Sources.{FrameSources}
 use Rattle.frame_writer.specs.Symbols.{Speaker}
+use Rattle.listed_symbols.specs.Inter.{can_put_inter}
 use Rattle.listed_symbols.specs.Intra.{can_partition, can_luma}
 use Rattle.listed_symbols.specs.Levels.{no_levels, with_each}
 use Rattle.listed_symbols.specs.Starts.{can_start_intra}
-use Rattle.listed_symbols.specs.declared.lists.ListedBlock.{ListedBlock}
 use Rattle.listed_symbols.specs.declared.lists.ListedLevels.{ListedLevels}
 use Rattle.listed_symbols.specs.declared.lists.ListedSymbols.{ListedSymbols}
 
@@ -50,9 +51,10 @@ abbrev pub can_put_intra : Header → Modes → BlockAt → BlockStart → Predi
 can_put_intra header modes at start (Intra p) = can_start_intra header.params.segmentation modes.tx_mode at.size start && can_luma at.size p.luma
 can_put_intra header modes at start (Inter q) = false
 
--- blocks of inter frames aren't listed yet
 abbrev pub can_put_by : FrameKind → FrameSources → List BlockInfo → BlockAt → BlockStart → PredictionSymbols → Bool
-can_put_by (frame.Inter fields) by earlier at start p = false
+can_put_by (frame.Inter fields) by earlier at start p =
+    let f : InterFrame = record { header = by.header; fields = fields; modes = by.modes; contexts = by.contexts } in
+    can_put_inter f (sources_of f earlier by.past.vectors at) (least_before by.header by.past.segments at) start p
 can_put_by _ by earlier at start p = can_put_intra by.header by.modes at start p
 
 -- a block of any frame, by the blocks before it

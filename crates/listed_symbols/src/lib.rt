@@ -3,12 +3,15 @@
 #![tactic(auto)]
 
 mod in_planes;
+mod inter;
 mod intra;
 mod levels;
 mod lists;
+mod references;
 mod starts;
 mod symbols;
 #[cfg(test)]
 mod tests;
+mod vectors;
 
 pub use lists::{ListedBlock, ListedLevels, ListedSymbols};

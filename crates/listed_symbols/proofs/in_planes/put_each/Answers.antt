@@ -1,4 +1,4 @@
-use Rattle.std.proofs.Common.{◌≡◌, ◌<◌, ◌≤◌, ◌*◌, ◌∙◌, [], refl, sym, arith, length}
+use Rattle.std.proofs.Common.{◌<◌, ◌≤◌, ◌*◌, ◌∙◌, [], refl, sym, arith, length}
 use Rattle.block_geometry.specs.TransformBlocks.{grid_blocks}
 use Rattle.block_geometry.proofs.Rasters.{length_grid}
 use Rattle.block_residue.proofs.PlaneReads.{all_fit, room_for}
