@@ -1,0 +1,4 @@
+mod Cans
+mod Numbers
+mod Placed
+mod Planes

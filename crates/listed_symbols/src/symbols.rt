@@ -1,0 +1,107 @@
+//! What stands next in the lists.
+
+ghost use Rattle.std.specs.Prelude.{◌≡◌, ◌<◌, ◌≤◌, true};
+ghost use Rattle.prob_contexts.specs.Lists.{lists_of};
+ghost use Rattle.frame_decoder.specs.Code.{sources_of};
+ghost use Rattle.frame_decoder.specs.Columns.{AllSmall};
+ghost use Rattle.frame_decoder.specs.Past.{IsPastOf};
+ghost use Rattle.inter_writer.specs.Fits.{CanPut, CanPutIntra};
+ghost use Rattle.listed_symbols.specs.Blocks.{can_put, can_put_intra};
+
+use crate::in_planes::list_levels;
+use crate::inter::can_put_inter;
+use crate::intra::{can_luma, can_partition};
+use crate::lists::ListedSymbols;
+use crate::starts::can_start_intra;
+use block_plan::{BlockAt, BlockGrid, BlockInfo};
+use frame_decoder::FrameSources;
+use frame_headers::FrameKind;
+use frame_setting::FrameSetting;
+use frame_writer::FrameSymbols;
+use inter_modes::Frame;
+use inter_writer::{BlockSymbols, PredictionSymbols};
+use residue_writer::BlockLevels;
+use vp9_types::Partition;
+
+/// Whether a block of an intra frame can say this.
+#[tactic(auto, using(crate::proofs::Cans::intra_can))]
+fn can_put_intra(setting: &FrameSetting, at: &BlockAt, symbols: &BlockSymbols) -> bool
+    ensures is { result ≡ can_put_intra setting.now.header setting.now.modes at.now symbols.now.start symbols.now.prediction }
+    ensures can { result ≡ true → CanPutIntra setting.now.header setting.now.modes at.now symbols.now.start symbols.now.prediction }
+{
+    let PredictionSymbols::Intra(prediction) = &symbols.prediction else {
+        return false;
+    };
+    let segmentation = &setting.header.params.segmentation;
+    can_start_intra(segmentation, setting.modes.tx_mode, at.size, &symbols.start)
+        && can_luma(at.size, prediction.luma)
+}
+
+/// Whether a block can say this, by the blocks of its tile column before it.
+fn can_put(by: &FrameSources<'_>, grid: &BlockGrid, at: BlockAt, symbols: &BlockSymbols) -> bool
+    requires past { IsPastOf by.now.setting.header by.now.past }
+    requires row { at.row < by.now.setting.places.rows }
+    requires first { at.tile_from ≤ at.col }
+    requires last { at.col < at.tile_to }
+    requires tile { at.tile_to ≤ by.now.setting.places.cols }
+    requires rows { grid.now.rows ≡ by.now.setting.places.rows }
+    requires from { at.tile_from ≡ grid.now.from }
+    requires to { at.tile_to ≡ grid.now.to }
+    requires small { AllSmall grid.now.blocks }
+    ensures is { result ≡ can_put (sources_of by.now) grid.now.blocks at symbols.now }
+    ensures can { result ≡ true → CanPut by.now.setting.header by.now.setting.modes (lists_of by.now.setting.contexts) (sources_of by.now).past.segments grid.now.blocks (sources_of by.now).past.vectors at symbols.now }
+{
+    let setting = &by.setting;
+    match &setting.header.kind {
+        FrameKind::Inter(fields) => {
+            let frame = Frame { setting, fields };
+            let before = by.past.vectors.as_ref();
+            can_put_inter(&frame, at, grid, by.past.segments, before, symbols)
+        }
+        FrameKind::Key | FrameKind::IntraOnly => can_put_intra(setting, &at, symbols),
+    }
+}
+
+impl<'a> FrameSymbols for ListedSymbols<'a> {
+    ghost use Rattle.listed_symbols.specs.Blocks.{listed};
+
+    ghost speaker = { listed };
+
+    fn partition(&mut self, has_rows: bool, has_cols: bool) -> Option<Partition> {
+        let partition = *self.partitions.get(self.partitions_told)?;
+        if !can_partition(has_rows, has_cols, partition) {
+            return None;
+        }
+        self.partitions_told += 1;
+        Some(partition)
+    }
+
+    fn block(
+        &mut self,
+        by: &FrameSources<'_>,
+        grid: &BlockGrid,
+        at: BlockAt,
+    ) -> Option<BlockSymbols> {
+        let block = self.blocks.get(self.blocks_told)?;
+        if !can_put(by, grid, at, &block.symbols) {
+            return None;
+        }
+        Some(block.symbols)
+    }
+
+    fn levels(
+        &mut self,
+        by: &FrameSources<'_>,
+        block: &BlockInfo,
+        levels: &mut BlockLevels,
+    ) -> bool {
+        let Some(listed) = self.blocks.get(self.blocks_told) else {
+            return false;
+        };
+        if !list_levels(levels, &by.setting, block, &listed.levels) {
+            return false;
+        }
+        self.blocks_told += 1;
+        true
+    }
+}
