@@ -1,7 +1,7 @@
 //! What is written of a frame, and why it isn't.
 
 ghost use Rattle.std.specs.Prelude.{◌≡◌};
-ghost use Rattle.frame_writer.specs.declared.written.NotWritten.TheVariants as not;
+ghost use Rattle.frame_writer.specs.declared.written.NotWritten.TheVariants as not_written;
 ghost use Rattle.frame_writer.specs.Code.{ending_of};
 
 use std::alloc::AllocError;
@@ -26,7 +26,7 @@ pub enum NotWritten {
 }
 
 impl From<AllocError> for NotWritten {
-    ghost from_gives = { λ _ e. e ≡ not.OutOfMemory };
+    ghost from_gives = { λ _ e. e ≡ not_written.OutOfMemory };
 
     fn from(_: AllocError) -> Self {
         NotWritten::OutOfMemory
