@@ -1,0 +1,10 @@
+//! Generated streams of VP9: a whole IVF file, drawn from a number by a rule that is written down, so that others can make the
+//! same.
+#![tactic(auto)]
+
+mod discard;
+mod frames;
+mod past;
+mod stream;
+
+pub use stream::make_stream;
