@@ -1,0 +1,4 @@
+pub mod Pasts
+pub mod DrawnReads
+pub mod Heads
+pub mod Streams

@@ -1,8 +1,19 @@
 //! Drawn frames.
 
+ghost use Rattle.std.specs.Prelude.{◌≡◌, None, Ok, IfOk};
+ghost use Rattle.frame_headers.specs.Header.{head_of};
+ghost use Rattle.frame_headers.specs.declared.header.FrameHead.TheVariants as head;
+ghost use Rattle.frame_headers.specs.declared.header.Uncompressed.TheVariants.{Coded, ShowExisting};
+ghost use Rattle.header_writer.specs.WellFormed.{CanChoose, IsWellFormed};
+ghost use Rattle.drawn_headers.specs.Code.{sized};
+ghost use Rattle.drawn_headers.specs.Heads.{draw_head};
+ghost use Rattle.seq_decoder.specs.Code.{MayDecode, StandsFor};
+ghost use Rattle.seq_decoder.specs.State.{State, persist_of};
+ghost use Rattle.stream_forge.specs.Code.{Gives, IsMadeAfter, MayDraw};
+
 use crate::past::{fresh_segments, segments_for};
 use drawn_frames::DrawnSymbols;
-use drawn_headers::{DrawnHead, draw_head, draw_modes};
+use drawn_headers::{draw_head, draw_modes};
 use drawn_symbols::Draws;
 use frame_decoder::FramePast;
 use frame_headers::{FrameParams, Header, Uncompressed};
@@ -12,29 +23,37 @@ use seq_decoder::{Decoder, pictures_for, place_of, vectors_before};
 use std::alloc::Global;
 
 /// The bytes of a frame that shows a slot again.
-fn write_shown(alloc: Global, decoder: &Decoder, head: &DrawnHead) -> Result<Written, NotWritten> {
+fn write_shown(
+    alloc: Global,
+    decoder: &Decoder,
+    slot: u8,
+    choices: Choices,
+) -> Result<Written, NotWritten>
+    requires { IsWellFormed decoder.now.persist (ShowExisting slot) }
+    ensures { IfOk result (λ w. (w.broken ≡ None) × (head_of decoder.now.persist w.bytes.items ≡ Ok (head.ShowExisting slot))) }
+{
     let mut bytes = Vec::new(alloc);
-    write_uncompressed_header(
-        alloc,
-        &mut bytes,
-        &decoder.persist,
-        &head.header,
-        head.choices,
-    )?;
+    let header = Uncompressed::ShowExisting { slot };
+    write_uncompressed_header(alloc, &mut bytes, &decoder.persist, &header, choices)?;
     Ok(Written {
         bytes,
         broken: None,
     })
 }
 
-/// The bytes of a coded frame of which the header is drawn: its modes and blocks are drawn, and no probability is updated.
+/// The bytes of a coded frame whose header is drawn: its modes and blocks are drawn, and no probability is updated.
 fn write_coded(
     alloc: Global,
     decoder: &Decoder,
     header: &Header,
     choices: Choices,
     draws: Draws,
-) -> (Result<Written, NotWritten>, Draws) {
+) -> (Result<Written, NotWritten>, Draws)
+    requires may { MayDecode decoder.now }
+    requires well { IsWellFormed decoder.now.persist (Coded header.now) }
+    requires can { CanChoose decoder.now.persist choices (Coded header.now) }
+    ensures { (state : State) → StandsFor decoder.now state → Gives state (Coded header.now) draws.x result.0 result.1.x }
+{
     let mut draws = draws;
     let modes = draw_modes(&mut draws, header);
     let mut saved = decoder.saved;
@@ -61,7 +80,9 @@ fn write_coded(
 }
 
 /// The same header, with a compressed header of one byte.
-fn with_a_byte(header: &Header) -> Header {
+fn with_a_byte(header: &Header) -> Header
+    ensures { result ≡ sized 1 header.now }
+{
     let params = FrameParams {
         compressed_size: 1,
         ..header.params
@@ -69,17 +90,24 @@ fn with_a_byte(header: &Header) -> Header {
     Header { params, ..*header }
 }
 
-/// Draws a frame and writes it, behind the frames that the decoder has decoded.
+/// Draws a frame and writes it, behind the frames that the decoder has decoded. The first one is a key frame.
 pub(crate) fn write_next(
     alloc: Global,
     decoder: &Decoder,
     first: bool,
     draws: Draws,
-) -> (Result<Written, NotWritten>, Draws) {
+) -> (Result<Written, NotWritten>, Draws)
+    requires may { MayDecode decoder.now }
+    requires made { MayDraw first decoder.now.persist }
+    ensures gives { (state : State) → StandsFor decoder.now state → Gives state (draw_head first (persist_of state) draws.x).0.header (draw_head first (persist_of state) draws.x).1 result.0 result.1.x }
+    ensures after { IsMadeAfter (draw_head first decoder.now.persist draws.x).0.header decoder.now.persist }
+{
     let mut draws = draws;
     let head = draw_head(&mut draws, first, &decoder.persist);
     match &head.header {
-        Uncompressed::ShowExisting { .. } => (write_shown(alloc, decoder, &head), draws),
+        Uncompressed::ShowExisting { slot } => {
+            (write_shown(alloc, decoder, *slot, head.choices), draws)
+        }
         Uncompressed::Coded(header) => {
             let header = with_a_byte(header);
             write_coded(alloc, decoder, &header, head.choices, draws)

@@ -1,10 +1,7 @@
 //! The segments that a frame finds.
 
-ghost use Rattle.std.specs.Prelude.{◌≡◌, None, Some, IfOk, IfSome};
-ghost use Rattle.segment_map.specs.Segments.{id_map};
-ghost use Rattle.seq_decoder.specs.After.{segments_before};
-ghost use Rattle.seq_decoder.specs.Code.{HasPlaces, segments_held};
-ghost use Rattle.stream_forge.specs.Code.{IsFresh};
+ghost use Rattle.std.specs.Prelude.{IfOk};
+ghost use Rattle.stream_forge.specs.Code.{HasOne, IsFresh, IsOneOf};
 
 use frame_headers::{FrameSize, Header};
 use segment_map::SegmentMap;
@@ -34,9 +31,8 @@ pub(crate) fn segments_for<'a>(
     fresh: &'a Option<SegmentMap>,
     kept: &'a Option<SegmentMap>,
 ) -> &'a SegmentMap
-    requires { fresh.now ≡ None → kept.now ≢ None }
-    ensures fresh { IfSome fresh.now (λ m. result.now ≡ m) }
-    ensures kept { fresh.now ≡ None → kept.now ≡ Some result.now }
+    requires { HasOne fresh.now kept.now }
+    ensures { IsOneOf fresh.now kept.now result.now }
 {
     match fresh {
         Some(map) => map,

@@ -1,5 +1,12 @@
 //! A whole stream.
 
+ghost use Rattle.std.specs.Prelude.{IfOk, IsOk, OnOk};
+ghost use Rattle.seq_decoder.specs.After.{step};
+ghost use Rattle.seq_decoder.specs.Code.{MayDecode, StandsFor};
+ghost use Rattle.seq_decoder.specs.State.{State};
+ghost use Rattle.stream_forge.specs.Code.{Passes};
+ghost use Rattle.stream_forge.specs.Made.{IsMade};
+
 use crate::discard::Discard;
 use crate::frames::write_next;
 use container_writer::{write_header, write_packet};
@@ -8,18 +15,28 @@ use file_frames::FileFrame;
 use frame_writer::NotWritten;
 use seq_decoder::Decoder;
 use std::alloc::Global;
+use vp9_types::Outcome;
 
-/// Decodes a frame, for what it leaves to those behind it.
-fn pass(alloc: Global, decoder: &mut Decoder, number: u64, bytes: &[u8]) -> Result<(), NotWritten> {
+/// Decodes a frame that breaks no rule, for what it leaves to those behind it.
+fn pass(alloc: Global, decoder: &mut Decoder, number: u64, bytes: &[u8]) -> Result<(), NotWritten>
+    requires may { MayDecode decoder.old }
+    requires steps { (state : State) × StandsFor decoder.old state × IsOk (step number state bytes.now) }
+    ensures passes { OnOk result (Passes number decoder.old bytes.now decoder.new) }
+    ensures may { OnOk result (MayDecode decoder.new) }
+{
     let frame = FileFrame { number, bytes };
     match decoder.decode_next(alloc, frame, &mut Discard {}) {
         Ok(()) => Ok(()),
-        Err(_) => Err(NotWritten::OutOfMemory),
+        Err(Outcome::OutOfMemory) => Err(NotWritten::OutOfMemory),
+        Err(_) => unreachable!(),
     }
 }
 
-/// The file of `frames` frames that is generated from a number. It ends before a frame whose blocks break a rule.
-pub fn make_stream(alloc: Global, number: u32, frames: u32) -> Result<Vec<u8>, NotWritten> {
+/// The file of `frames` frames that is generated from a number. It ends before a frame whose blocks, as they are drawn, break a
+/// rule.
+pub fn make_stream(alloc: Global, number: u32, frames: u32) -> Result<Vec<u8>, NotWritten>
+    ensures { IfOk result (λ file. IsMade number frames file.items) }
+{
     let mut draws = Draws {
         x: u64::from(number),
     };
@@ -28,7 +45,6 @@ pub fn make_stream(alloc: Global, number: u32, frames: u32) -> Result<Vec<u8>, N
     write_header(&mut out, 520, 136, 30, 1, frames)?;
     for n in 0..frames {
         let (written, rest) = write_next(alloc, &decoder, n == 0, draws);
-        draws = rest;
         let written = written?;
         if written.broken.is_some() {
             return Ok(out);
@@ -38,6 +54,7 @@ pub fn make_stream(alloc: Global, number: u32, frames: u32) -> Result<Vec<u8>, N
         }
         write_packet(&mut out, u64::from(n), &written.bytes)?;
         pass(alloc, &mut decoder, u64::from(n), &written.bytes)?;
+        draws = rest;
     }
     Ok(out)
 }

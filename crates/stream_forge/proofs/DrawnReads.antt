@@ -1,0 +1,153 @@
+-- A drawn frame is read as it is drawn.
+use Rattle.std.proofs.Common.{◌≡◌, ◌∙◌, ℕ, List, refl, sym, ap}
+use Rattle.std.specs.Prelude.{IsOk, Option, Some, None, Result, Ok, Err}
+use Rattle.vp9_types.specs.Results.{map_ok}
+use Rattle.vp9_types.specs.declared.job.Span.{Span}
+use Rattle.vp9_types.specs.declared.rule.Rule.{Rule}
+use Rattle.frame_headers.specs.Header.{head_of}
+use Rattle.frame_headers.specs.declared.header.FrameHead.TheVariants as head
+use Rattle.frame_headers.specs.declared.header.Header.{Header}
+use Rattle.frame_headers.specs.declared.header.Uncompressed.{Uncompressed}
+use Rattle.frame_headers.specs.declared.header.Uncompressed.TheVariants.{ShowExisting, Coded}
+use Rattle.frame_headers.specs.declared.persist.Persist.{Persist}
+use Rattle.prob_contexts.specs.Lists.{ContextLists, lists_of}
+use Rattle.frame_decoder.specs.Frames.{FrameInput, decoded, read_frame, rebuilt}
+use Rattle.frame_decoder.specs.Reading.{FrameRead}
+use Rattle.frame_decoder.specs.Sources.{FramePast, FrameSources}
+use Rattle.frame_writer.specs.Bytes.{with_size}
+use Rattle.frame_writer.specs.Frames.{frame_told}
+use Rattle.frame_writer.specs.Code.{GivesFrame, IsFrame, input_with, sources_with}
+use Rattle.frame_writer.specs.declared.frame.FrameToWrite.{FrameToWrite}
+use Rattle.frame_writer.specs.declared.written.NotWritten.{NotWritten}
+use Rattle.frame_writer.specs.declared.written.Written.{Written}
+use Rattle.drawn_frames.specs.Symbols.{drawing}
+use Rattle.drawn_frames.specs.declared.symbols.DrawnSymbols.{DrawnSymbols}
+use Rattle.drawn_headers.specs.Code.{sized}
+use Rattle.drawn_headers.specs.Modes.{draw_modes}
+use Rattle.seq_decoder.specs.After.{Stepped, after_coded, input_of, past_of, step}
+use Rattle.seq_decoder.specs.SavedContexts.{context_before, saved_before}
+use Rattle.seq_decoder.specs.State.{State, persist_of}
+use Rattle.seq_decoder.proofs.Slots.{step_is}
+use Rattle.stream_forge.specs.Code.{Gives, GivesTo}
+use Rattle.stream_forge.specs.Made.{BreaksRule, IsCodedFrame, IsFrameOf, drawn_sources, symbols_from}
+
+---- The size of the compressed header is read by no one else ----
+
+same_before : (header : Header) (size : ℕ) (saved : List ContextLists) → context_before (with_size header size) saved ≡ context_before header saved
+unfolding saved_before
+same_before header size saved = refl
+
+past_sized : (state : State) (header : Header) (size : ℕ) → past_of state header ≡ past_of state (with_size header size)
+past_sized state header size = λ i. record (past_of state header) { contexts = sym (same_before header size state.contexts) i }
+
+---- A coded frame ----
+
+-- what it was written by, as the code has it, and as the standard says it
+record IsBy (state : State) (header : Header) (frame : FrameToWrite) (past : FramePast) (x : ℕ) (symbols : DrawnSymbols) : Type 0 where
+  header_is : frame.header ≡ header
+  past_is : past ≡ past_of state header
+  contexts : lists_of frame.contexts ≡ context_before header state.contexts
+  modes : draw_modes header x ≡ (frame.modes, symbols.draws.x)
+
+input_by : (state : State) (header : Header) (frame : FrameToWrite) (past : FramePast) (x size : ℕ) (symbols : DrawnSymbols) (compressed : Span) (bytes : List ℕ) → IsBy state header frame past x symbols
+    → input_with frame past size compressed bytes ≡ input_of state bytes (with_size header size) compressed
+input_by state header frame past x size symbols compressed bytes is = λ i. record {
+  header = with_size (is.header_is i) size;
+  compressed = compressed;
+  bytes = bytes;
+  past = (is.past_is ∙ past_sized state header size) i;
+}
+
+sources_by : (state : State) (header : Header) (frame : FrameToWrite) (past : FramePast) (x size : ℕ) (symbols : DrawnSymbols) → IsBy state header frame past x symbols
+    → sources_with frame past size ≡ drawn_sources state (with_size header size) (draw_modes header x).0
+sources_by state header frame past x size symbols is = λ i. record {
+  header = with_size (is.header_is i) size;
+  modes = (ap (λ p. p.0) (sym is.modes)) i;
+  contexts = (is.contexts ∙ sym (same_before header size state.contexts)) i;
+  past = (is.past_is ∙ past_sized state header size) i;
+}
+
+symbols_by : (state : State) (header : Header) (frame : FrameToWrite) (past : FramePast) (x : ℕ) (symbols : DrawnSymbols) → IsBy state header frame past x symbols
+    → symbols ≡ symbols_from (draw_modes header x).1
+symbols_by state header frame past x symbols is = ap (λ p. symbols_from p.1) (sym is.modes)
+
+given_to : (persist : Persist) (state : State) (header : Header) (frame : FrameToWrite) (past : FramePast) (x : ℕ) (symbols last : DrawnSymbols) (bytes : List ℕ) (broken : Option Rule)
+    → persist ≡ persist_of state → IsBy state header frame past x symbols → IsFrame drawing persist frame past symbols bytes broken last → GivesTo state (Coded header) x bytes broken last.draws.x
+given_to persist state header frame past x symbols last bytes None same is f =
+    let input = input_by state header frame past x f.size symbols f.compressed bytes is in
+    let sources = sources_by state header frame past x f.size symbols is in
+    let read = f.read in record {
+      size = f.size;
+      compressed = f.compressed;
+      head = (λ i. head_of (sym same i) bytes) ∙ f.head ∙ ap (λ header. Ok (head.Coded (with_size header f.size) f.compressed)) is.header_is;
+      read = read.0;
+      reads = ap read_frame (sym input) ∙ read.1 ∙ ap (λ by. Ok (read.0, by)) sources;
+      told = (λ i. frame_told drawing (sym sources i) (sym (symbols_by state header frame past x symbols is) i)) ∙ read.2;
+    }
+given_to persist state header frame past x symbols last bytes (Some rule) same is f =
+    let sources = sources_by state header frame past x f.size symbols is in record {
+      size = f.size;
+      rule = rule;
+      breaks = (λ i. frame_told drawing (sym sources i) (sym (symbols_by state header frame past x symbols is) i)) ∙ f.read.1;
+    }
+
+pub coded_given : (persist : Persist) (state : State) (frame : FrameToWrite) (past : FramePast) (x : ℕ) (symbols last : DrawnSymbols) (result : Result Written NotWritten)
+    → persist ≡ persist_of state → past ≡ past_of state frame.header → lists_of frame.contexts ≡ context_before frame.header state.contexts → draw_modes frame.header x ≡ (frame.modes, symbols.draws.x)
+    → GivesFrame drawing persist frame past symbols result last → Gives state (Coded frame.header) x result last.draws.x
+coded_given persist state frame past x symbols last (Ok w) same past_is contexts modes gives =
+    given_to persist state frame.header frame past x symbols last w.bytes.items w.broken same (record { header_is = refl; past_is = past_is; contexts = contexts; modes = modes }) gives
+coded_given persist state frame past x symbols last (Err why) same past_is contexts modes gives = tt
+
+---- With a compressed header of one byte before it is written ----
+
+same_modes : (header : Header) (x : ℕ) → draw_modes (sized 1 header) x ≡ draw_modes header x
+unfolding draw_modes
+same_modes header x = refl
+
+frame_unsized : (state : State) (header : Header) (x : ℕ) (bytes : List ℕ) (next : ℕ) → IsCodedFrame state (sized 1 header) x bytes next → IsCodedFrame state header x bytes next
+frame_unsized state header x bytes next f = record {
+  size = f.size;
+  compressed = f.compressed;
+  head = f.head;
+  read = f.read;
+  reads = f.reads ∙ ap (λ p. Ok (f.read, drawn_sources state (with_size header f.size) p.0)) (same_modes header x);
+  told = ap (λ p. frame_told drawing (drawn_sources state (with_size header f.size) p.0) (symbols_from p.1)) (sym (same_modes header x)) ∙ f.told;
+}
+
+breaks_unsized : (state : State) (header : Header) (x : ℕ) → BreaksRule state (sized 1 header) x → BreaksRule state header x
+breaks_unsized state header x b = record {
+  size = b.size;
+  rule = b.rule;
+  breaks = ap (λ p. frame_told drawing (drawn_sources state (with_size header b.size) p.0) (symbols_from p.1)) (sym (same_modes header x)) ∙ b.breaks;
+}
+
+unsized_to : (state : State) (header : Header) (x : ℕ) (bytes : List ℕ) (broken : Option Rule) (next : ℕ) → GivesTo state (Coded (sized 1 header)) x bytes broken next → GivesTo state (Coded header) x bytes broken next
+unsized_to state header x bytes None next f = frame_unsized state header x bytes next f
+unsized_to state header x bytes (Some rule) next b = breaks_unsized state header x b
+
+pub gives_unsized : (state : State) (header : Header) (x : ℕ) (result : Result Written NotWritten) (next : ℕ) → Gives state (Coded (sized 1 header)) x result next → Gives state (Coded header) x result next
+gives_unsized state header x (Ok w) next gives = unsized_to state header x w.bytes.items w.broken next gives
+gives_unsized state header x (Err why) next gives = tt
+
+---- A frame is decoded ----
+
+decodes : (f : FrameInput) (read : FrameRead) (by : FrameSources) → read_frame f ≡ Ok (read, by) → decoded f ≡ Ok (rebuilt (read, by))
+unfolding decoded
+decodes f read by is = ap (map_ok rebuilt) is
+
+-- it steps on, whatever its number
+record Steps (number : ℕ) (state : State) (bytes : List ℕ) : Type 0 where
+  stepped : Stepped
+  steps : step number state bytes ≡ Ok stepped
+
+steps_so : (number : ℕ) (state : State) (header : Uncompressed) (x : ℕ) (bytes : List ℕ) (next : ℕ) → IsFrameOf state header x bytes next → Steps number state bytes
+steps_so number state (ShowExisting slot) x bytes next f = record { stepped = _; steps = step_is number state bytes (Ok (head.ShowExisting slot)) f.0 }
+steps_so number state (Coded header) x bytes next f =
+    let own = with_size header f.size in
+    let done = decodes (input_of state bytes own f.compressed) f.read (drawn_sources state own (draw_modes header x).0) f.reads in record {
+      stepped = _;
+      steps = step_is number state bytes (Ok (head.Coded own f.compressed)) f.head ∙ ap (after_coded number state own) done;
+    }
+
+pub frame_steps : (number : ℕ) (state : State) (header : Uncompressed) (x : ℕ) (bytes : List ℕ) (next : ℕ) → IsFrameOf state header x bytes next → IsOk (step number state bytes)
+frame_steps number state header x bytes next f = let s = steps_so number state header x bytes next f in rw s.steps refl

@@ -1,0 +1,43 @@
+-- The headers of drawn frames, and what persists behind them.
+use Rattle.std.proofs.Common.{◌≡◌, ◌∙◌, ℕ, List, [], ◌++◌, Bool, true, false, refl, sym, ap, subst}
+use Rattle.std.specs.Prelude.{Ok}
+use Rattle.std.proofs.lemmas.List.{append-nil}
+use Rattle.frame_headers.specs.Header.{head_of}
+use Rattle.frame_headers.specs.declared.header.FrameHead.TheVariants as head
+use Rattle.frame_headers.specs.declared.header.Header.{Header}
+use Rattle.frame_headers.specs.declared.header.Uncompressed.{Uncompressed}
+use Rattle.frame_headers.specs.declared.header.Uncompressed.TheVariants.{ShowExisting, Coded}
+use Rattle.frame_headers.specs.declared.persist.Persist.{Persist}
+use Rattle.header_writer.specs.Reads.{HoldsHeader}
+use Rattle.drawn_headers.specs.Heads.{draw_coded, draw_head}
+use Rattle.drawn_headers.specs.Made.{IsMade}
+use Rattle.seq_decoder.specs.After.{Stepped, step}
+use Rattle.seq_decoder.specs.State.{State, persist_of}
+use Rattle.seq_decoder.proofs.Slots.{coded_persists, shown_stays}
+use Rattle.stream_forge.specs.Code.{IsMadeAfter}
+use Rattle.stream_forge.specs.Made.{IsFrameOf}
+
+pub shown_read : (before : Persist) (slot : ℕ) (items old bytes : List ℕ) → items ≡ old ++ bytes → old ≡ [] → HoldsHeader before (ShowExisting slot) bytes → head_of before items ≡ Ok (head.ShowExisting slot)
+shown_read before slot items old bytes is none holds = ap (head_of before) (is ∙ ap (λ l. l ++ bytes) none ∙ sym (append-nil bytes)) ∙ holds.head []
+
+apart : (header : Header) (slot : ℕ) → Coded header ≡ ShowExisting slot → ⊥
+apart header slot is = cc
+
+-- the first frame isn't shown again
+not_first : (before : Persist) (x slot : ℕ) → (draw_head true before x).0.header ≡ ShowExisting slot → ⊥
+unfolding draw_head draw_coded
+not_first before x slot is = apart _ slot is
+
+pub shown_after : (first : Bool) (before : Persist) (x slot : ℕ) → (first ≡ false → IsMade before) → (draw_head first before x).0.header ≡ ShowExisting slot → IsMadeAfter (draw_head first before x).0.header before
+shown_after true before x slot made is = absurd (not_first before x slot is)
+shown_after false before x slot made is = rw is (made refl)
+
+by_head : (number : ℕ) (state : State) (header : Uncompressed) (x next : ℕ) (bytes : List ℕ) (stepped : Stepped) → IsFrameOf state header x bytes next → step number state bytes ≡ Ok stepped
+    → IsMadeAfter header (persist_of state) → IsMade (persist_of stepped.state)
+by_head number state (ShowExisting slot) x next bytes stepped f steps made = rw (shown_stays number state bytes slot stepped f.0 steps) made
+by_head number state (Coded header) x next bytes stepped f steps made = rw (coded_persists number state bytes _ f.compressed stepped f.head steps) made
+
+pub made_next : (number : ℕ) (state : State) (header : Uncompressed) (x next : ℕ) (bytes : List ℕ) (stepped : Stepped) (old new : Persist) → old ≡ persist_of state → new ≡ persist_of stepped.state
+    → IsFrameOf state header x bytes next → step number state bytes ≡ Ok stepped → IsMadeAfter header old → IsMade new
+made_next number state header x next bytes stepped old new before behind f steps made =
+    rw behind (by_head number state header x next bytes stepped f steps (subst (IsMadeAfter header) before made))

@@ -1,0 +1,105 @@
+-- A stream, as its frames are made one after another.
+use Rattle.std.proofs.Common.{◌≡◌, ◌∙◌, ℕ, suc, ◌+◌, ◌-◌, ◌<◌, ◌≤◌, List, [], ◌∷◌, ◌++◌, length, true, false, refl, sym, ap, append_assoc, arith}
+use Rattle.std.specs.Prelude.{is_some, Option, Some, None, Ok}
+use Rattle.std.proofs.lemmas.List.{append-nil, length-append}
+use Rattle.vp9_types.specs.declared.rule.Rule.{Rule}
+use Rattle.frame_headers.specs.declared.header.Uncompressed.{Uncompressed}
+use Rattle.container_writer.specs.Files.{file_header, packet_of}
+use Rattle.ivf_container.specs.Packets.{written_bytes}
+use Rattle.drawn_symbols.specs.declared.draws.Draws.{Draws}
+use Rattle.drawn_headers.specs.Made as headers
+use Rattle.frame_writer.specs.declared.written.Written.{Written}
+use Rattle.seq_decoder.specs.Code.{StandsFor}
+use Rattle.seq_decoder.specs.State.{State, start_state}
+use Rattle.seq_decoder.specs.declared.decoder.Decoder.{Decoder}
+use Rattle.stream_forge.specs.Code.{Gives, GivesTo, IsMadeAfter, IsSoFar, Passes}
+use Rattle.stream_forge.specs.Made.{AreMade, Breaks, IsFrameOf, IsMade, IsMadeFrame, behind_head, head_at, packets_from}
+use Rattle.stream_forge.proofs.Heads.{made_next}
+
+none_less : (n : ℕ) → n - 0 ≡ n
+none_less n = omega arith
+
+pub none_made : (number count : ℕ) (decoder : Decoder) (draws : Draws) (out old : List ℕ) → StandsFor decoder start_state → draws.x ≡ number → out ≡ old ++ file_header 520 136 30 1 count → old ≡ []
+    → IsSoFar number count 0 decoder draws out
+none_made number count decoder draws out old stands from put none = record {
+  state = start_state;
+  stands = stands;
+  frames = [];
+  put = put ∙ ap (λ l. l ++ file_header 520 136 30 1 count) none ∙ sym (append-nil (file_header 520 136 30 1 count));
+  many = refl;
+  rest = λ others made. rw (none_less count, from) at made;
+}
+
+packets_more : (n : ℕ) (frames : List (List ℕ)) (frame : List ℕ) → packets_from n (frames ++ frame ∷ []) ≡ packets_from n frames ++ written_bytes (packet_of (n + length frames) frame)
+packets_more n [] frame =
+    let same : n ≡ n + 0 = omega arith in
+    append-nil (written_bytes (packet_of n frame)) ∙ ap (λ n. written_bytes (packet_of n frame)) same
+packets_more n (f ∷ frames) frame =
+    let same : n + 1 + length frames ≡ n + suc (length frames) = omega arith in
+    ap (λ l. written_bytes (packet_of n f) ++ l) (packets_more (n + 1) frames frame ∙ ap (λ m. packets_from (n + 1) frames ++ written_bytes (packet_of m frame)) same)
+    ∙ sym (append_assoc (written_bytes (packet_of n f)) (packets_from (n + 1) frames) (written_bytes (packet_of (n + length (f ∷ frames)) frame)))
+
+one_left : (count n : ℕ) → n < count → count - n ≡ suc (count - (n + 1))
+one_left count n below = omega (arith, below)
+
+pub one_made : (number count n : ℕ) (decoder after_it : Decoder) (draws rest : Draws) (out more bytes : List ℕ) → n < count → (far : IsSoFar number count n decoder draws out)
+    → ((state : State) → StandsFor decoder state → IsMadeFrame n state draws.x bytes rest.x) → Passes n decoder bytes after_it → more ≡ out ++ written_bytes (packet_of n bytes)
+    → IsSoFar number count (n + 1) after_it rest more
+one_made number count n decoder after_it draws rest out more bytes below far gives passes put =
+    let p = passes far.state far.stands in
+    let header = file_header 520 136 30 1 count in
+    let at : 0 + length far.frames ≡ n = omega (arith, far.many) in record {
+      state = p.0.state;
+      stands = p.2;
+      frames = far.frames ++ bytes ∷ [];
+      put = put ∙ ap (λ l. l ++ written_bytes (packet_of n bytes)) far.put ∙ append_assoc header (packets_from 0 far.frames) (written_bytes (packet_of n bytes))
+          ∙ ap (λ l. header ++ l) (ap (λ n. packets_from 0 far.frames ++ written_bytes (packet_of n bytes)) (sym at) ∙ sym (packets_more 0 far.frames bytes));
+      many = length-append far.frames (bytes ∷ []) ∙ ap (λ n. n + 1) far.many;
+      rest = λ others made.
+          rw (append_assoc far.frames (bytes ∷ []) others) (far.rest (bytes ∷ others) (rw (one_left count n below) (rest.x, gives far.state far.stands, (p.0, p.1, made))));
+    }
+
+-- it ends before a frame that breaks a rule
+breaks_at : (number count n : ℕ) (state : State) (x : ℕ) → n < count → Breaks state (head_at n state x) (behind_head n state x) → AreMade n (count - n) state x []
+breaks_at number count n state x below breaks = rw (one_left count n below) breaks
+
+pub ends_broken : (number count n : ℕ) (decoder : Decoder) (draws : Draws) (out : List ℕ) → n < count → (far : IsSoFar number count n decoder draws out)
+    → ((state : State) → StandsFor decoder state → Breaks state (head_at n state draws.x) (behind_head n state draws.x)) → IsMade number count out
+ends_broken number count n decoder draws out below far breaks = record {
+  frames = far.frames;
+  made = rw (append-nil far.frames) at (far.rest [] (breaks_at number count n far.state draws.x below (breaks far.state far.stands)));
+  bytes = far.put;
+}
+
+none_left : (count n : ℕ) → count ≤ n → count - n ≡ 0
+none_left count n all = omega (arith, all)
+
+pub all_made : (number count n : ℕ) (decoder : Decoder) (draws : Draws) (out : List ℕ) → count ≤ n → (far : IsSoFar number count n decoder draws out) → IsMade number count out
+all_made number count n decoder draws out all far = record {
+  frames = far.frames;
+  made = rw (append-nil far.frames) at (far.rest [] (rw (none_left count n all) tt));
+  bytes = far.put;
+}
+
+---- What was written of the next one ----
+
+frame_to : (state : State) (header : Uncompressed) (x : ℕ) (bytes : List ℕ) (broken : Option Rule) (next : ℕ) → is_some broken ≡ false → GivesTo state header x bytes broken next → IsFrameOf state header x bytes next
+frame_to state header x bytes None next whole gives = gives
+frame_to state header x bytes (Some rule) next whole gives = let no : ⊥ = cc in absurd no
+
+breaks_to : (state : State) (header : Uncompressed) (x : ℕ) (bytes : List ℕ) (broken : Option Rule) (next : ℕ) → is_some broken ≡ true → GivesTo state header x bytes broken next → Breaks state header x
+breaks_to state header x bytes None next broken gives = let no : ⊥ = cc in absurd no
+breaks_to state header x bytes (Some rule) next broken gives = gives
+
+pub frame_made : (state : State) (header : Uncompressed) (x : ℕ) (w : Written) (next : ℕ) → is_some w.broken ≡ false → Gives state header x (Ok w) next → IsFrameOf state header x w.bytes.items next
+frame_made state header x w next whole gives = frame_to state header x w.bytes.items w.broken next whole gives
+
+pub frame_breaks : (state : State) (header : Uncompressed) (x : ℕ) (w : Written) (next : ℕ) → is_some w.broken ≡ true → Gives state header x (Ok w) next → Breaks state header x
+frame_breaks state header x w next broken gives = breaks_to state header x w.bytes.items w.broken next broken gives
+
+pub persists : (number count n : ℕ) (decoder after_it : Decoder) (draws rest : Draws) (out bytes : List ℕ) (far : IsSoFar number count n decoder draws out)
+    → ((state : State) → StandsFor decoder state → IsMadeFrame n state draws.x bytes rest.x) → Passes n decoder bytes after_it
+    → IsMadeAfter (head_at n far.state draws.x) decoder.persist → headers.IsMade after_it.persist
+persists number count n decoder after_it draws rest out bytes far gives passes made =
+    let p = passes far.state far.stands in
+    made_next n far.state (head_at n far.state draws.x) (behind_head n far.state draws.x) rest.x bytes p.0 decoder.persist after_it.persist far.stands.persist p.2.persist (gives far.state far.stands) p.1 made

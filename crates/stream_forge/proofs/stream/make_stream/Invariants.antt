@@ -1,0 +1,11 @@
+use Rattle.std.specs.Prelude.{nat_eq}
+use Rattle.seq_decoder.specs.Code.{MayDecode}
+use Rattle.stream_forge.specs.Code.{IsSoFar, MayDraw}
+use Rattle.stream_forge.proofs.stream.make_stream.Given as goal
+
+abbrev pub invariant-loop-n : goal.invariant-loop-n
+invariant-loop-n l = record {
+  may : MayDecode l.decoder;
+  made : MayDraw (nat_eq l.n 0) l.decoder.persist;
+  far : IsSoFar l.fn.number l.fn.frames l.n l.decoder l.draws l.out.items;
+}

@@ -1,0 +1,75 @@
+-- What the code keeps, and what its calls answer.
+use Rattle.std.specs.Prelude.{◌≡◌, ℕ, ◌+◌, ◌-◌, ◌/◌, Bool, true, false, List, ◌++◌, length, IsSome, Option, Some, None, Result, Ok, Err}
+use Rattle.vp9_types.specs.Maps.{Map}
+use Rattle.vp9_types.specs.declared.rule.Rule.{Rule}
+use Rattle.frame_headers.specs.declared.header.FrameSize.{FrameSize}
+use Rattle.frame_headers.specs.declared.header.Header.{Header}
+use Rattle.frame_headers.specs.State.{next_persist}
+use Rattle.frame_headers.specs.declared.header.Uncompressed.{Uncompressed}
+use Rattle.frame_headers.specs.declared.header.Uncompressed.TheVariants.{ShowExisting, Coded}
+use Rattle.frame_headers.specs.declared.persist.Persist.{Persist}
+use Rattle.segment_map.specs.Segments.{id_map}
+use Rattle.segment_map.specs.declared.map.SegmentMap.{SegmentMap}
+use Rattle.frame_writer.specs.declared.written.NotWritten.{NotWritten}
+use Rattle.frame_writer.specs.declared.written.Written.{Written}
+use Rattle.drawn_headers.specs.Made as headers
+use Rattle.drawn_symbols.specs.declared.draws.Draws.{Draws}
+use Rattle.seq_decoder.specs.After.{Stepped, has_size, segments_before, step}
+use Rattle.container_writer.specs.Files.{file_header}
+use Rattle.seq_decoder.specs.Code.{StandsFor}
+use Rattle.seq_decoder.specs.SavedContexts.{loses_past}
+use Rattle.seq_decoder.specs.State.{State, start_state}
+use Rattle.seq_decoder.specs.declared.decoder.Decoder.{Decoder}
+use Rattle.stream_forge.specs.Made.{AreMade, Breaks, IsFrameOf, packets_from}
+
+-- it stands for the segments that a frame starts with, and has its places
+pub record AreSegmentsOf (header : Header) (last : Option FrameSize) (before : Map) (m : SegmentMap) : Type 0 where
+  pub are : id_map m ≡ segments_before header last before
+  pub rows : m.rows ≡ (header.size.height + 7) / 8
+  pub cols : m.cols ≡ (header.size.width + 7) / 8
+
+-- a map of its own where a frame doesn't start with the one before
+abbrev pub IsFresh : Header → Option FrameSize → Option SegmentMap → Type 0
+IsFresh header last (Some m) = (before : Map) → AreSegmentsOf header last before m
+IsFresh header last None = (loses_past header ≡ false) × (has_size header.size last ≡ true)
+
+-- there is a map
+abbrev pub HasOne : Option SegmentMap → Option SegmentMap → Type 0
+HasOne (Some m) kept = Unit {0}
+HasOne None kept = IsSome kept
+
+-- its own, or the one before
+abbrev pub IsOneOf : Option SegmentMap → Option SegmentMap → SegmentMap → Type 0
+IsOneOf (Some own) kept m = m ≡ own
+IsOneOf None kept m = kept ≡ Some m
+
+-- what the frame's bytes say of a state that the decoder stands for, or the rule that its blocks break
+abbrev pub GivesTo : State → Uncompressed → ℕ → List ℕ → Option Rule → ℕ → Type 0
+GivesTo state header x bytes None next = IsFrameOf state header x bytes next
+GivesTo state header x bytes (Some rule) next = Breaks state header x
+
+abbrev pub Gives : State → Uncompressed → ℕ → Result Written NotWritten → ℕ → Type 0
+Gives state header x (Ok w) next = GivesTo state header x w.bytes.items w.broken next
+Gives state header x (Err why) next = Unit {0}
+
+-- the first frame is drawn for any state, and the others for that of a generated stream
+abbrev pub MayDraw : Bool → Persist → Type 0
+MayDraw first before = first ≡ false → headers.IsMade before
+
+-- what persists behind a frame is that of a generated stream
+abbrev pub IsMadeAfter : Uncompressed → Persist → Type 0
+IsMadeAfter (ShowExisting slot) before = headers.IsMade before
+IsMadeAfter (Coded header) before = headers.IsMade (next_persist header before)
+
+-- a frame was decoded
+abbrev pub Passes : ℕ → Decoder → List ℕ → Decoder → Type 0
+Passes number old bytes new = (state : State) → StandsFor old state → (stepped : Stepped) × (step number state bytes ≡ Ok stepped) × StandsFor new stepped.state
+
+-- so many frames were made: whatever is made of the rest completes them
+pub record IsSoFar (number count n : ℕ) (decoder : Decoder) (draws : Draws) (out : List ℕ) : Type 0 where
+  pub state : State
+  pub stands : StandsFor decoder state
+  pub frames : List (List ℕ)
+  pub put : out ≡ file_header 520 136 30 1 count ++ packets_from 0 frames
+  pub many : length frames ≡ n
+  pub rest : (others : List (List ℕ)) → AreMade n (count - n) state draws.x others → AreMade 0 count start_state number (frames ++ others)
