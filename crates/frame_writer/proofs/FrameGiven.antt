@@ -1,5 +1,5 @@
 -- A frame's bytes are read back as its header and its tiles.
-use Rattle.std.proofs.Common.{◌≡◌, ◌∙◌, ℕ, zero, suc, ◌+◌, ◌-◌, ◌*◌, ◌/◌, ◌^◌, ◌<◌, ◌≤◌, List, [], ◌∷◌, ◌++◌, Bool, true, false, length, refl, sym, ap, subst, append_assoc, arith}
+use Rattle.std.proofs.Common.{◌≡◌, ◌∙◌, ℕ, zero, suc, ◌+◌, ◌-◌, ◌*◌, ◌/◌, ◌^◌, ◌<◌, ◌≤◌, List, [], ◌∷◌, ◌++◌, Bool, true, false, length, refl, sym, ap, subst, inr, append_assoc, arith}
 use Rattle.std.specs.Prelude.{Option, Some, None, Result, Ok, Err, ◌==◌, nat_le, nat_lt, slice_index, slice_range, if◌then◌else◌}
 use Rattle.std.proofs.lemmas.Bool.{le-ltb}
 use Rattle.std.proofs.lemmas.List.{append-nil, length-append}
@@ -21,7 +21,7 @@ use Rattle.frame_decoder.specs.Frames.{FrameInput, read_all_tiles, read_frame, s
 use Rattle.frame_decoder.specs.Reading.{FrameRead}
 use Rattle.frame_decoder.specs.Sources.{FramePast, FrameSources}
 use Rattle.frame_writer.specs.Bytes.{with_size, without_index}
-use Rattle.frame_writer.specs.Code.{AreHeaders, AreTiles, GivesAll, GivesFrame, GivesRest, IsFrame, IsUntold, ReadsFrame, input_with, sources_with}
+use Rattle.frame_writer.specs.Code.{AreHeaders, AreTiles, GivesAll, GivesFrame, GivesRest, IsFrame, IsTooLong, IsUntold, ReadsFrame, input_with, sources_with}
 use Rattle.frame_writer.specs.Symbols.{Speaker}
 use Rattle.frame_writer.specs.declared.frame.FrameToWrite.{FrameToWrite}
 use Rattle.frame_writer.specs.declared.written.NotWritten.{NotWritten}
@@ -121,7 +121,8 @@ frame_by speaker before frame past t new old header bytes (Ok w) from h gives =
     rw gives.1 (frame_is speaker before frame past t new h.front h.compressed gives.0 w.broken old from h.makes holds (rw h.put at all))
 frame_by speaker before frame past t new old header bytes (Err Unsaid) from h gives =
     (length h.compressed, subst (λ by. IsUntold speaker by t) (sources_are before frame past old header bytes h) gives)
-frame_by speaker before frame past t new old header bytes (Err TooLong) from h gives = tt
+frame_by speaker before frame past t new old header bytes (Err TooLong) from h gives =
+    inr (length h.compressed, subst (λ by. IsTooLong speaker by t) (sources_are before frame past old header bytes h) gives)
 frame_by speaker before frame past t new old header bytes (Err OutOfMemory) from h gives = tt
 
 pub frame_given : {T : Type 0} (speaker : Speaker T) (before : Persist) (frame : FrameToWrite) (past : FramePast) (by : FrameSources) (t new : T) (old : Contexts) (header : Header) (bytes : List ℕ) (result : Result Written NotWritten)

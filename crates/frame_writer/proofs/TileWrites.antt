@@ -35,7 +35,7 @@ use Rattle.tile_writer.specs.declared.unwritten.Unwritten.{Unwritten}
 use Rattle.tile_writer.specs.declared.unwritten.Unwritten.TheVariants as unwritten
 use Rattle.frame_writer.specs.Bytes.{IsWritten}
 use Rattle.frame_writer.specs.Code.{EndsColumn, GivesNth, GivesNthTo, GivesTile, GivesTileTo, HoldsColumns, IsReadyFor, TileHeld, held_by, held_of}
-use Rattle.frame_writer.specs.Frames.{nth_told, said_of, tile_syntax, tile_told}
+use Rattle.frame_writer.specs.Frames.{nth_syntax, nth_told, said_of, tile_told}
 use Rattle.frame_writer.specs.Symbols.{Speaker}
 use Rattle.frame_writer.specs.declared.written.NotWritten.{NotWritten}
 use Rattle.frame_writer.specs.declared.written.NotWritten.TheVariants.{Unsaid, TooLong, OutOfMemory}
@@ -108,18 +108,15 @@ tile_breaks_from s (Ok v) k f rule is = by_run (run_bools s v) is
 abbrev pub start_of : FrameSources → ℕ → FrameRead → TileRead
 start_of by n read = begun (shape_of by.header) (column_at by.header read (column_of by.header.params.tiles n))
 
-abbrev pub syntax_of : FrameSources → ℕ → FrameRead → Syntax ℕ Rule (Settled TileRead)
-syntax_of by n read = tile_syntax by (places_of (shape_of by.header)) (tile_at by.header n) (start_of by n read)
-
-nth_from : (by : FrameSources) (n : ℕ) (bytes : List ℕ) (read : FrameRead) (x : Settled TileRead) → read_whole (syntax_of by n read) bytes ≡ Ok x
+nth_from : (by : FrameSources) (n : ℕ) (bytes : List ℕ) (read : FrameRead) (x : Settled TileRead) → read_whole (nth_syntax by n read) bytes ≡ Ok x
     → read_tile_of by n bytes read ≡ Ok (with_tile (column_of by.header.params.tiles n) read x)
 unfolding read_tile_of read_whole read_tile
-nth_from by n bytes read x is = tile_from (syntax_of by n read) (started bytes) (column_of by.header.params.tiles n) read x is
+nth_from by n bytes read x is = tile_from (nth_syntax by n read) (started bytes) (column_of by.header.params.tiles n) read x is
 
-nth_breaks_from : (by : FrameSources) (n : ℕ) (bytes : List ℕ) (read : FrameRead) (rule : Rule) → read_whole (syntax_of by n read) bytes ≡ Err rule
+nth_breaks_from : (by : FrameSources) (n : ℕ) (bytes : List ℕ) (read : FrameRead) (rule : Rule) → read_whole (nth_syntax by n read) bytes ≡ Err rule
     → read_tile_of by n bytes read ≡ Err rule
 unfolding read_tile_of read_whole read_tile
-nth_breaks_from by n bytes read rule is = tile_breaks_from (syntax_of by n read) (started bytes) (column_of by.header.params.tiles n) read rule is
+nth_breaks_from by n bytes read rule is = tile_breaks_from (nth_syntax by n read) (started bytes) (column_of by.header.params.tiles n) read rule is
 
 ---- What is told ----
 
@@ -156,14 +153,14 @@ gives_to : {T : Type 0} (speaker : Speaker T) (by : FrameSources) (n : ℕ) (col
     → GivesNthTo speaker by n read now bytes broken (slice_set columns (column_of by.header.params.tiles n) new) last
 gives_to speaker by n columns new bytes None read now last holds gives =
     let k = column_of by.header.params.tiles n in
-    let settled = settles_there (syntax_of by n read) gives.0 bytes gives.1 in (
+    let settled = settles_there (nth_syntax by n read) gives.0 bytes gives.1 in (
       with_tile k read (record { value = gives.0; counted = settled.0 }),
       λ tail. nth_from by n (bytes ++ tail) read _ (settled.1 tail),
       columns_hold columns read k new gives.0 settled.0 holds gives.2,
       told_so speaker by n read gives.0 settled.0 now last gives.3,
     )
 gives_to speaker by n columns new bytes (Some rule) read now last holds gives = (
-  λ tail. nth_breaks_from by n (bytes ++ tail) read rule (breaks_there (syntax_of by n read) rule bytes tail gives.0),
+  λ tail. nth_breaks_from by n (bytes ++ tail) read rule (breaks_there (nth_syntax by n read) rule bytes tail gives.0),
   told_no speaker by n read (unwritten.Broken rule) now gives.1,
 )
 
@@ -173,7 +170,7 @@ gives_all : {T : Type 0} (speaker : Speaker T) (by : FrameSources) (n : ℕ) (co
     → GivesNth speaker by n read now result (slice_set columns (column_of by.header.params.tiles n) new) last
 gives_all speaker by n columns new (Ok w) read now last holds gives = gives_to speaker by n columns new w.bytes.items w.broken read now last holds gives
 gives_all speaker by n columns new (Err Unsaid) read now last holds gives = told_no speaker by n read unwritten.Unsaid now gives
-gives_all speaker by n columns new (Err TooLong) read now last holds gives = tt
+gives_all speaker by n columns new (Err TooLong) read now last holds gives = record { settles = gives.0; bytes = gives.1; written = gives.2; long = gives.3 }
 gives_all speaker by n columns new (Err OutOfMemory) read now last holds gives = tt
 
 pub gives_nth : {T : Type 0} (speaker : Speaker T) (by : code.FrameSources) (n k : ℕ) (columns : List TileColumn) (x new : TileColumn) (t : TilePlaces) (result : Result Written NotWritten) (now last : T)

@@ -16,7 +16,7 @@ use Rattle.frame_decoder.specs.declared.columns.TileColumn.{TileColumn}
 use Rattle.tile_writer.specs.declared.unwritten.Unwritten.{Unwritten}
 use Rattle.tile_writer.specs.declared.unwritten.Unwritten.TheVariants as unwritten
 use Rattle.frame_writer.specs.Bytes.{HasSize, read_each, sized, tile_bytes}
-use Rattle.frame_writer.specs.Code.{AreSoFar, AreTiles, GivesAll, GivesNth, GivesNthTo, GivesTiles, HoldsColumns, IsUntold, StandsAt, first_broken}
+use Rattle.frame_writer.specs.Code.{AreSoFar, AreTiles, GivesAll, GivesNth, GivesNthTo, GivesTiles, HoldsColumns, IsTooLong, IsUntold, StandsAt, first_broken}
 use Rattle.frame_writer.specs.Frames.{frame_told, nth_told, said_of, tiles_told}
 use Rattle.frame_writer.specs.Symbols.{Speaker}
 use Rattle.frame_writer.specs.declared.written.NotWritten.{NotWritten}
@@ -116,11 +116,18 @@ untold_at speaker by t tiles n (Some rule) columns others now then_it below stan
 untold_at speaker by t tiles n None columns others now then_it below stands gives =
     inl (stands.3 ∙ told_ends speaker by n (tile_count by.header) stands.0 now unwritten.Unsaid below (gives stands.0 stands.2))
 
+-- or a tile is too long
+long_at : {T : Type 0} (speaker : Speaker T) (by : FrameSources) (t : T) (tiles : List (List ℕ)) (n : ℕ) (broken : Option Rule) (columns others : List TileColumn) (now then_it : T)
+    → StandsAt speaker by t tiles n broken columns now
+    → ((read : FrameRead) → HoldsColumns columns read → GivesNth speaker by n read now (Err TooLong) others then_it) → IsTooLong speaker by t
+long_at speaker by t tiles n (Some rule) columns others now then_it stands gives = inr (rule, stands.1)
+long_at speaker by t tiles n None columns others now then_it stands gives = inl (n, stands.0, now, stands.3, gives stands.0 stands.2)
+
 pub refused_at : {T : Type 0} (speaker : Speaker T) (by : FrameSources) (t : T) (front out ending : List ℕ) (n : ℕ) (broken : Option Rule) (columns others : List TileColumn) (why : NotWritten) (now then_it : T)
     → n < tile_count by.header → AreSoFar speaker by t front n broken columns out now
     → ((read : FrameRead) → HoldsColumns columns read → GivesNth speaker by n read now (Err why) others then_it) → GivesTiles speaker by t front (Err why) ending then_it
 refused_at speaker by t front out ending n broken columns others Unsaid now then_it below far gives = untold_at speaker by t far.tiles n broken columns others now then_it below far.stands gives
-refused_at speaker by t front out ending n broken columns others TooLong now then_it below far gives = tt
+refused_at speaker by t front out ending n broken columns others TooLong now then_it below far gives = long_at speaker by t far.tiles n broken columns others now then_it far.stands gives
 refused_at speaker by t front out ending n broken columns others OutOfMemory now then_it below far gives = tt
 
 ---- The last tile ----

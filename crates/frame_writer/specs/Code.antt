@@ -10,9 +10,9 @@ use Rattle.frame_headers.specs.declared.header.FrameHead.TheVariants.{Coded}
 use Rattle.frame_headers.specs.declared.header.Header.{Header}
 use Rattle.frame_headers.specs.declared.persist.Persist.{Persist}
 use Rattle.frame_headers.specs.declared.header.Uncompressed.TheVariants as uncompressed
-use Rattle.compressed_header.specs.Header.{IsForward}
+use Rattle.compressed_header.specs.Header.{IsForward, forward}
 use Rattle.header_writer.specs.Reads.{HoldsHeader}
-use Rattle.prob_contexts.specs.Lists.{lists_of}
+use Rattle.prob_contexts.specs.Lists.{ContextLists, lists_of}
 use Rattle.prob_contexts.specs.declared.contexts.Contexts.{Contexts}
 use Rattle.vp9_types.specs.declared.job.Span.{Span}
 use Rattle.block_geometry.specs.declared.transform_blocks.FramePlaces.{FramePlaces}
@@ -31,7 +31,7 @@ use Rattle.frame_decoder.specs.declared.tile_places.TilePlaces.{TilePlaces}
 use Rattle.tile_writer.specs.declared.unwritten.Unwritten.{Unwritten}
 use Rattle.tile_writer.specs.declared.unwritten.Unwritten.TheVariants as unwritten
 use Rattle.frame_writer.specs.Bytes.{HasSize, IsWritten, read_each, sized, tile_bytes, with_size, without_index}
-use Rattle.frame_writer.specs.Frames.{FrameSaid, frame_told, nth_told, said_of, tile_syntax, tile_told, tiles_told}
+use Rattle.frame_writer.specs.Frames.{FrameSaid, frame_told, nth_syntax, nth_told, said_of, tile_syntax, tile_told, tiles_told}
 use Rattle.frame_writer.specs.Symbols.{Speaker}
 use Rattle.frame_writer.specs.declared.frame.FrameHeaders.{FrameHeaders}
 use Rattle.frame_writer.specs.declared.frame.FrameToWrite.{FrameToWrite}
@@ -127,6 +127,13 @@ GivesTile speaker by frame tile s t (Err TooLong) column new =
     (r : Result TileRead Rule) × (bytes : List ℕ) × IsWritten (tile_syntax by frame tile s) r bytes × (2 ^ 32 ≤ length bytes)
 GivesTile speaker by frame tile s t (Err OutOfMemory) column new = Unit {0}
 
+-- the bools of the n-th tile, or those up to the rule that it breaks, take 2 ^ 32 bytes or more
+pub record IsLongTile (by : FrameSources) (n : ℕ) (read : FrameRead) : Type 0 where
+  pub settles : Result TileRead Rule
+  pub bytes : List ℕ
+  pub written : IsWritten (nth_syntax by n read) settles bytes
+  pub long : 2 ^ 32 ≤ length bytes
+
 -- the n-th tile's bytes are read as that, whatever stands behind them
 abbrev pub GivesNthTo : {T : Type 0} → Speaker T → FrameSources → ℕ → FrameRead → T → List ℕ → Option Rule → List TileColumn → T → Type 0
 GivesNthTo speaker by n read t bytes None columns new =
@@ -137,7 +144,7 @@ GivesNthTo speaker by n read t bytes (Some rule) columns new =
 abbrev pub GivesNth : {T : Type 0} → Speaker T → FrameSources → ℕ → FrameRead → T → Result Written NotWritten → List TileColumn → T → Type 0
 GivesNth speaker by n read t (Ok w) columns new = GivesNthTo speaker by n read t w.bytes.items w.broken columns new
 GivesNth speaker by n read t (Err Unsaid) columns new = nth_told speaker by n (said_of read, t) ≡ Err unwritten.Unsaid
-GivesNth speaker by n read t (Err TooLong) columns new = Unit {0}
+GivesNth speaker by n read t (Err TooLong) columns new = IsLongTile by n read
 GivesNth speaker by n read t (Err OutOfMemory) columns new = Unit {0}
 
 ---- All tiles of a frame ----
@@ -161,17 +168,23 @@ GivesAll speaker by t front (Some rule) out new = AreTiles by front out (Err rul
 abbrev pub IsUntold : {T : Type 0} → Speaker T → FrameSources → T → Type 0
 IsUntold speaker by t = (frame_told speaker by t ≡ Err unwritten.Unsaid) ⊎ ((rule : Rule) × (frame_told speaker by t ≡ Err (unwritten.Broken rule)))
 
+-- A tile is too long, be it one behind a tile that breaks a rule: that one has no reader.
+abbrev pub IsTooLong : {T : Type 0} → Speaker T → FrameSources → T → Type 0
+IsTooLong {T = T} speaker by t =
+    ((n : ℕ) × (read : FrameRead) × (now : T) × (frame_told speaker by t ≡ tiles_told speaker by n (tile_count by.header - n) (said_of read, now)) × IsLongTile by n read)
+    ⊎ ((rule : Rule) × (frame_told speaker by t ≡ Err (unwritten.Broken rule)))
+
 abbrev pub GivesTiles : {T : Type 0} → Speaker T → FrameSources → T → List ℕ → Result (Option Rule) NotWritten → List ℕ → T → Type 0
 GivesTiles speaker by t front (Ok broken) out new = GivesAll speaker by t front broken out new
 GivesTiles speaker by t front (Err Unsaid) out new = IsUntold speaker by t
-GivesTiles speaker by t front (Err TooLong) out new = Unit {0}
+GivesTiles speaker by t front (Err TooLong) out new = IsTooLong speaker by t
 GivesTiles speaker by t front (Err OutOfMemory) out new = Unit {0}
 
 -- with the end of the frame behind them
 abbrev pub GivesRest : {T : Type 0} → Speaker T → FrameSources → T → List ℕ → Result Written NotWritten → T → Type 0
 GivesRest speaker by t front (Ok w) new = (out : List ℕ) × (w.bytes.items ≡ without_index out) × GivesAll speaker by t front w.broken out new
 GivesRest speaker by t front (Err Unsaid) new = IsUntold speaker by t
-GivesRest speaker by t front (Err TooLong) new = Unit {0}
+GivesRest speaker by t front (Err TooLong) new = IsTooLong speaker by t
 GivesRest speaker by t front (Err OutOfMemory) new = Unit {0}
 
 -- so many tiles were written
@@ -201,10 +214,13 @@ pub record AreHeaders (before : Persist) (frame : FrameToWrite) (old : Contexts)
   pub holds : HoldsHeader before (uncompressed.Coded header) front
 
 -- a compressed header of 2 ^ 16 bytes is too long
+abbrev pub IsLongHeader : FrameToWrite → ContextLists → Type 0
+IsLongHeader frame before = (bytes : List ℕ) × (forward frame.header before bytes ≡ Ok (lists_of frame.contexts, frame.modes)) × (2 ^ 16 ≤ length bytes)
+
 abbrev pub GivesHeaders : Persist → FrameToWrite → Contexts → Result FrameHeaders NotWritten → Type 0
 GivesHeaders before frame old (Ok h) = AreHeaders before frame old h.header h.bytes.items
 GivesHeaders before frame old (Err Unsaid) = ⊥
-GivesHeaders before frame old (Err TooLong) = (bytes : List ℕ) × IsForward frame.header old bytes (Ok (frame.contexts, frame.modes)) × (2 ^ 16 ≤ length bytes)
+GivesHeaders before frame old (Err TooLong) = IsLongHeader frame (lists_of old)
 GivesHeaders before frame old (Err OutOfMemory) = Unit {0}
 
 -- what its blocks are read by, with a compressed header of so many bytes
@@ -229,5 +245,5 @@ pub record IsFrame {T : Type 0} (speaker : Speaker T) (before : Persist) (frame 
 abbrev pub GivesFrame : {T : Type 0} → Speaker T → Persist → FrameToWrite → FramePast → T → Result Written NotWritten → T → Type 0
 GivesFrame speaker before frame past t (Ok w) new = IsFrame speaker before frame past t w.bytes.items w.broken new
 GivesFrame speaker before frame past t (Err Unsaid) new = (size : ℕ) × IsUntold speaker (sources_with frame past size) t
-GivesFrame speaker before frame past t (Err TooLong) new = Unit {0}
+GivesFrame speaker before frame past t (Err TooLong) new = IsLongHeader frame past.contexts ⊎ ((size : ℕ) × IsTooLong speaker (sources_with frame past size) t)
 GivesFrame speaker before frame past t (Err OutOfMemory) new = Unit {0}

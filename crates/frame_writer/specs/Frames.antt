@@ -12,7 +12,7 @@ use Rattle.block_geometry.specs.Frames.{places_of}
 use Rattle.block_geometry.specs.declared.transform_blocks.FramePlaces.{FramePlaces}
 use Rattle.block_plan.specs.Planned.{PlannedBlock}
 use Rattle.mode_syntax.specs.Walk.{decode_tile}
-use Rattle.frame_decoder.specs.Reading.{Column, FrameRead, TileRead, begun, column_after, no_column, nothing_read, read_walk}
+use Rattle.frame_decoder.specs.Reading.{Column, FrameRead, TileRead, begun, column_after, column_at, no_column, nothing_read, read_walk}
 use Rattle.frame_decoder.specs.Sources.{FrameSources}
 use Rattle.frame_decoder.specs.Tiles.{column_of, tile_places}
 use Rattle.frame_decoder.specs.declared.tile_places.TilePlaces.{TilePlaces}
@@ -50,7 +50,13 @@ with_tile_said k f s = record { columns = slice_set f.columns k (column_after s)
 abbrev pub column_said : Header → FrameSaid → ℕ → Column
 column_said header f k = get_or f.columns k (no_column (shape_of header))
 
--- the n-th tile, behind what its column has
+-- how the n-th tile is read, behind what its column has
+abbrev pub nth_syntax : FrameSources → ℕ → FrameRead → Syntax ℕ Rule (Settled TileRead)
+nth_syntax by n read =
+    tile_syntax by (places_of (shape_of by.header)) (tile_places (places_of (shape_of by.header)) by.header.params.tiles n)
+    (begun (shape_of by.header) (column_at by.header read (column_of by.header.params.tiles n)))
+
+-- what it is told
 unfoldable pub nth_told : {T : Type 0} → Speaker T → FrameSources → ℕ → FrameSaid × T → Result (FrameSaid × T) Unwritten
 nth_told speaker by n p = do
   q ← tile_told speaker by (places_of (shape_of by.header)) (tile_places (places_of (shape_of by.header)) by.header.params.tiles n)

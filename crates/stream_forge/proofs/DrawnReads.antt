@@ -1,5 +1,5 @@
 -- A drawn frame is read as it is drawn.
-use Rattle.std.proofs.Common.{◌≡◌, ◌∙◌, ℕ, List, refl, sym, ap}
+use Rattle.std.proofs.Common.{◌≡◌, ◌∙◌, ℕ, List, refl, sym, ap, ◌⊎◌, inl, inr, subst}
 use Rattle.std.specs.Prelude.{IsOk, Option, Some, None, Result, Ok, Err}
 use Rattle.vp9_types.specs.Results.{map_ok}
 use Rattle.vp9_types.specs.declared.job.Span.{Span}
@@ -16,10 +16,14 @@ use Rattle.frame_decoder.specs.Reading.{FrameRead}
 use Rattle.frame_decoder.specs.Sources.{FramePast, FrameSources}
 use Rattle.frame_writer.specs.Bytes.{with_size}
 use Rattle.frame_writer.specs.Frames.{frame_told}
-use Rattle.frame_writer.specs.Code.{GivesFrame, IsFrame, input_with, sources_with}
+use Rattle.frame_writer.specs.Code.{GivesFrame, IsFrame, IsLongHeader, IsTooLong, IsUntold, input_with, sources_with}
 use Rattle.frame_writer.specs.declared.frame.FrameToWrite.{FrameToWrite}
 use Rattle.frame_writer.specs.declared.written.NotWritten.{NotWritten}
+use Rattle.frame_writer.specs.declared.written.NotWritten.TheVariants.{Unsaid, TooLong, OutOfMemory}
 use Rattle.frame_writer.specs.declared.written.Written.{Written}
+use Rattle.compressed_header.specs.Header.{compressed_header, forward}
+use Rattle.tile_writer.specs.declared.unwritten.Unwritten.{Unwritten}
+use Rattle.tile_writer.specs.declared.unwritten.Unwritten.TheVariants as unwritten
 use Rattle.drawn_frames.specs.Symbols.{drawing}
 use Rattle.drawn_frames.specs.declared.symbols.DrawnSymbols.{DrawnSymbols}
 use Rattle.drawn_headers.specs.Code.{sized}
@@ -29,7 +33,7 @@ use Rattle.seq_decoder.specs.SavedContexts.{context_before, saved_before}
 use Rattle.seq_decoder.specs.State.{State, persist_of}
 use Rattle.seq_decoder.proofs.Slots.{step_is}
 use Rattle.stream_forge.specs.Code.{Gives, GivesTo}
-use Rattle.stream_forge.specs.Made.{BreaksRule, IsCodedFrame, IsFrameOf, drawn_sources, symbols_from}
+use Rattle.stream_forge.specs.Made.{IsCodedFrame, IsFrameOf, IsNone, IsUnsaid, drawn_sources, symbols_from}
 
 ---- The size of the compressed header is read by no one else ----
 
@@ -71,6 +75,14 @@ symbols_by : (state : State) (header : Header) (frame : FrameToWrite) (past : Fr
     → symbols ≡ symbols_from (draw_modes header x).1
 symbols_by state header frame past x symbols is = ap (λ p. symbols_from p.1) (sym is.modes)
 
+unsaid_by : (state : State) (header : Header) (frame : FrameToWrite) (past : FramePast) (x size : ℕ) (symbols : DrawnSymbols) (why : Unwritten) → IsBy state header frame past x symbols
+    → frame_told drawing (sources_with frame past size) symbols ≡ Err why → IsUnsaid state header x
+unsaid_by state header frame past x size symbols why is told = record {
+  size = size;
+  why = why;
+  ends = (λ i. frame_told drawing (sym (sources_by state header frame past x size symbols is) i) (sym (symbols_by state header frame past x symbols is) i)) ∙ told;
+}
+
 given_to : (persist : Persist) (state : State) (header : Header) (frame : FrameToWrite) (past : FramePast) (x : ℕ) (symbols last : DrawnSymbols) (bytes : List ℕ) (broken : Option Rule)
     → persist ≡ persist_of state → IsBy state header frame past x symbols → IsFrame drawing persist frame past symbols bytes broken last → GivesTo state (Coded header) x bytes broken last.draws.x
 given_to persist state header frame past x symbols last bytes None same is f =
@@ -84,19 +96,36 @@ given_to persist state header frame past x symbols last bytes None same is f =
       reads = ap read_frame (sym input) ∙ read.1 ∙ ap (λ by. Ok (read.0, by)) sources;
       told = (λ i. frame_told drawing (sym sources i) (sym (symbols_by state header frame past x symbols is) i)) ∙ read.2;
     }
-given_to persist state header frame past x symbols last bytes (Some rule) same is f =
-    let sources = sources_by state header frame past x f.size symbols is in record {
-      size = f.size;
-      rule = rule;
-      breaks = (λ i. frame_told drawing (sym sources i) (sym (symbols_by state header frame past x symbols is) i)) ∙ f.read.1;
-    }
+given_to persist state header frame past x symbols last bytes (Some rule) same is f = inl (unsaid_by state header frame past x f.size symbols (unwritten.Broken rule) is f.read.1)
+
+untold_by : (state : State) (header : Header) (frame : FrameToWrite) (past : FramePast) (x size : ℕ) (symbols : DrawnSymbols) → IsBy state header frame past x symbols
+    → IsUntold drawing (sources_with frame past size) symbols → IsNone state (Coded header) x
+untold_by state header frame past x size symbols is (inl told) = inl (unsaid_by state header frame past x size symbols unwritten.Unsaid is told)
+untold_by state header frame past x size symbols is (inr told) = inl (unsaid_by state header frame past x size symbols (unwritten.Broken told.0) is told.1)
+
+long_by : (state : State) (header : Header) (frame : FrameToWrite) (past : FramePast) (x : ℕ) (symbols : DrawnSymbols) → IsBy state header frame past x symbols
+    → IsLongHeader frame past.contexts ⊎ ((size : ℕ) × IsTooLong drawing (sources_with frame past size) symbols) → IsNone state (Coded header) x
+long_by state header frame past x symbols is (inl long) = inr (inl (record {
+  bytes = long.0;
+  makes = (λ i. forward (sym is.header_is i) (sym (ap (λ (p : FramePast). p.contexts) is.past_is) i) long.0) ∙ long.1 ∙ (λ i. Ok (is.contexts i, (ap (λ p. p.0) (sym is.modes)) i));
+  long = long.2;
+}))
+long_by state header frame past x symbols is (inr long) = inr (inr (record {
+  size = long.0;
+  long = subst (λ (p : FrameSources × DrawnSymbols). IsTooLong drawing p.0 p.1)
+      (λ i. (sources_by state header frame past x long.0 symbols is i, symbols_by state header frame past x symbols is i)) long.1;
+}))
 
 pub coded_given : (persist : Persist) (state : State) (frame : FrameToWrite) (past : FramePast) (x : ℕ) (symbols last : DrawnSymbols) (result : Result Written NotWritten)
     → persist ≡ persist_of state → past ≡ past_of state frame.header → lists_of frame.contexts ≡ context_before frame.header state.contexts → draw_modes frame.header x ≡ (frame.modes, symbols.draws.x)
     → GivesFrame drawing persist frame past symbols result last → Gives state (Coded frame.header) x result last.draws.x
 coded_given persist state frame past x symbols last (Ok w) same past_is contexts modes gives =
     given_to persist state frame.header frame past x symbols last w.bytes.items w.broken same (record { header_is = refl; past_is = past_is; contexts = contexts; modes = modes }) gives
-coded_given persist state frame past x symbols last (Err why) same past_is contexts modes gives = tt
+coded_given persist state frame past x symbols last (Err Unsaid) same past_is contexts modes gives =
+    untold_by state frame.header frame past x gives.0 symbols (record { header_is = refl; past_is = past_is; contexts = contexts; modes = modes }) gives.1
+coded_given persist state frame past x symbols last (Err TooLong) same past_is contexts modes gives =
+    long_by state frame.header frame past x symbols (record { header_is = refl; past_is = past_is; contexts = contexts; modes = modes }) gives
+coded_given persist state frame past x symbols last (Err OutOfMemory) same past_is contexts modes gives = tt
 
 ---- With a compressed header of one byte before it is written ----
 
@@ -114,20 +143,45 @@ frame_unsized state header x bytes next f = record {
   told = ap (λ p. frame_told drawing (drawn_sources state (with_size header f.size) p.0) (symbols_from p.1)) (sym (same_modes header x)) ∙ f.told;
 }
 
-breaks_unsized : (state : State) (header : Header) (x : ℕ) → BreaksRule state (sized 1 header) x → BreaksRule state header x
-breaks_unsized state header x b = record {
-  size = b.size;
-  rule = b.rule;
-  breaks = ap (λ p. frame_told drawing (drawn_sources state (with_size header b.size) p.0) (symbols_from p.1)) (sym (same_modes header x)) ∙ b.breaks;
-}
+told_unsized : (state : State) (header : Header) (x size : ℕ)
+    → ◌≡◌ {A = FrameSources × DrawnSymbols} (drawn_sources state (with_size header size) (draw_modes (sized 1 header) x).0, symbols_from (draw_modes (sized 1 header) x).1)
+    (drawn_sources state (with_size header size) (draw_modes header x).0, symbols_from (draw_modes header x).1)
+told_unsized state header x size = ap (λ p. (drawn_sources state (with_size header size) p.0, symbols_from p.1)) (same_modes header x)
+
+same_contexts : (header : Header) (saved : List ContextLists) → context_before (sized 1 header) saved ≡ context_before header saved
+unfolding saved_before
+same_contexts header saved = refl
+
+same_made : (header : Header) (before : ContextLists) (bytes : List ℕ) → forward (sized 1 header) before bytes ≡ forward header before bytes
+unfolding forward compressed_header
+same_made header before bytes = refl
+
+none_unsized : (state : State) (header : Header) (x : ℕ) → IsNone state (Coded (sized 1 header)) x → IsNone state (Coded header) x
+none_unsized state header x (inl unsaid) = inl (record {
+  size = unsaid.size;
+  why = unsaid.why;
+  ends = ap (λ p. frame_told drawing p.0 p.1) (sym (told_unsized state header x unsaid.size)) ∙ unsaid.ends;
+})
+none_unsized state header x (inr (inl long)) = inr (inl (record {
+  bytes = long.bytes;
+  makes = sym (same_made header (context_before header state.contexts) long.bytes) ∙ (λ i. forward (sized 1 header) (sym (same_contexts header state.contexts) i) long.bytes) ∙ long.makes
+      ∙ (λ i. Ok (same_contexts header state.contexts i, (same_modes header x i).0));
+  long = long.long;
+}))
+none_unsized state header x (inr (inr long)) = inr (inr (record {
+  size = long.size;
+  long = subst (λ (p : FrameSources × DrawnSymbols). IsTooLong drawing p.0 p.1) (told_unsized state header x long.size) long.long;
+}))
 
 unsized_to : (state : State) (header : Header) (x : ℕ) (bytes : List ℕ) (broken : Option Rule) (next : ℕ) → GivesTo state (Coded (sized 1 header)) x bytes broken next → GivesTo state (Coded header) x bytes broken next
 unsized_to state header x bytes None next f = frame_unsized state header x bytes next f
-unsized_to state header x bytes (Some rule) next b = breaks_unsized state header x b
+unsized_to state header x bytes (Some rule) next none = none_unsized state header x none
 
 pub gives_unsized : (state : State) (header : Header) (x : ℕ) (result : Result Written NotWritten) (next : ℕ) → Gives state (Coded (sized 1 header)) x result next → Gives state (Coded header) x result next
 gives_unsized state header x (Ok w) next gives = unsized_to state header x w.bytes.items w.broken next gives
-gives_unsized state header x (Err why) next gives = tt
+gives_unsized state header x (Err Unsaid) next none = none_unsized state header x none
+gives_unsized state header x (Err TooLong) next none = none_unsized state header x none
+gives_unsized state header x (Err OutOfMemory) next gives = tt
 
 ---- A frame is decoded ----
 

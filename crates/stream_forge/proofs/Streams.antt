@@ -1,6 +1,6 @@
 -- A stream, as its frames are made one after another.
-use Rattle.std.proofs.Common.{◌≡◌, ◌∙◌, ℕ, suc, ◌+◌, ◌-◌, ◌<◌, ◌≤◌, List, [], ◌∷◌, ◌++◌, length, true, false, refl, sym, ap, append_assoc, arith}
-use Rattle.std.specs.Prelude.{is_some, Option, Some, None, Ok}
+use Rattle.std.proofs.Common.{◌≡◌, ◌∙◌, ℕ, suc, ◌+◌, ◌-◌, ◌<◌, ◌≤◌, List, [], ◌∷◌, ◌++◌, length, true, false, refl, sym, ap, append_assoc, arith, subst}
+use Rattle.std.specs.Prelude.{IfOk, is_some, Option, Some, None, Result, Ok, Err}
 use Rattle.std.proofs.lemmas.List.{append-nil, length-append}
 use Rattle.vp9_types.specs.declared.rule.Rule.{Rule}
 use Rattle.frame_headers.specs.declared.header.Uncompressed.{Uncompressed}
@@ -8,12 +8,14 @@ use Rattle.container_writer.specs.Files.{file_header, packet_of}
 use Rattle.ivf_container.specs.Packets.{written_bytes}
 use Rattle.drawn_symbols.specs.declared.draws.Draws.{Draws}
 use Rattle.drawn_headers.specs.Made as headers
+use Rattle.frame_writer.specs.declared.written.NotWritten.{NotWritten}
+use Rattle.frame_writer.specs.declared.written.NotWritten.TheVariants.{Unsaid, TooLong, OutOfMemory}
 use Rattle.frame_writer.specs.declared.written.Written.{Written}
 use Rattle.seq_decoder.specs.Code.{StandsFor}
 use Rattle.seq_decoder.specs.State.{State, start_state}
 use Rattle.seq_decoder.specs.declared.decoder.Decoder.{Decoder}
-use Rattle.stream_forge.specs.Code.{Gives, GivesTo, IsMadeAfter, IsSoFar, Passes}
-use Rattle.stream_forge.specs.Made.{AreMade, Breaks, IsFrameOf, IsMade, IsMadeFrame, behind_head, head_at, packets_from}
+use Rattle.stream_forge.specs.Code.{Gives, GivesTo, IsLost, IsMadeAfter, IsSoFar, Passes}
+use Rattle.stream_forge.specs.Made.{AreMade, EndsBefore, IsFrameOf, IsMade, IsMadeFrame, IsNone, behind_head, head_at, packets_from}
 use Rattle.stream_forge.proofs.Heads.{made_next}
 
 none_less : (n : ℕ) → n - 0 ≡ n
@@ -59,15 +61,15 @@ one_made number count n decoder after_it draws rest out more bytes below far giv
           rw (append_assoc far.frames (bytes ∷ []) others) (far.rest (bytes ∷ others) (rw (one_left count n below) (rest.x, gives far.state far.stands, (p.0, p.1, made))));
     }
 
--- it ends before a frame that breaks a rule
-breaks_at : (number count n : ℕ) (state : State) (x : ℕ) → n < count → Breaks state (head_at n state x) (behind_head n state x) → AreMade n (count - n) state x []
-breaks_at number count n state x below breaks = rw (one_left count n below) breaks
+-- it ends before a frame that there can't be
+ends_at : (count n : ℕ) (state : State) (x : ℕ) → n < count → EndsBefore n state x → AreMade n (count - n) state x []
+ends_at count n state x below ends = rw (one_left count n below) ends
 
-pub ends_broken : (number count n : ℕ) (decoder : Decoder) (draws : Draws) (out : List ℕ) → n < count → (far : IsSoFar number count n decoder draws out)
-    → ((state : State) → StandsFor decoder state → Breaks state (head_at n state draws.x) (behind_head n state draws.x)) → IsMade number count out
-ends_broken number count n decoder draws out below far breaks = record {
+pub ends_here : (number count n : ℕ) (decoder : Decoder) (draws : Draws) (out : List ℕ) → n < count → (far : IsSoFar number count n decoder draws out)
+    → ((state : State) → StandsFor decoder state → EndsBefore n state draws.x) → IsMade number count out
+ends_here number count n decoder draws out below far ends = record {
   frames = far.frames;
-  made = rw (append-nil far.frames) at (far.rest [] (breaks_at number count n far.state draws.x below (breaks far.state far.stands)));
+  made = rw (append-nil far.frames) at (far.rest [] (ends_at count n far.state draws.x below (ends far.state far.stands)));
   bytes = far.put;
 }
 
@@ -87,15 +89,28 @@ frame_to : (state : State) (header : Uncompressed) (x : ℕ) (bytes : List ℕ) 
 frame_to state header x bytes None next whole gives = gives
 frame_to state header x bytes (Some rule) next whole gives = let no : ⊥ = cc in absurd no
 
-breaks_to : (state : State) (header : Uncompressed) (x : ℕ) (bytes : List ℕ) (broken : Option Rule) (next : ℕ) → is_some broken ≡ true → GivesTo state header x bytes broken next → Breaks state header x
-breaks_to state header x bytes None next broken gives = let no : ⊥ = cc in absurd no
-breaks_to state header x bytes (Some rule) next broken gives = gives
+none_to : (state : State) (header : Uncompressed) (x : ℕ) (bytes : List ℕ) (broken : Option Rule) (next : ℕ) → is_some broken ≡ true → GivesTo state header x bytes broken next → IsNone state header x
+none_to state header x bytes None next broken gives = let no : ⊥ = cc in absurd no
+none_to state header x bytes (Some rule) next broken gives = gives
 
 pub frame_made : (state : State) (header : Uncompressed) (x : ℕ) (w : Written) (next : ℕ) → is_some w.broken ≡ false → Gives state header x (Ok w) next → IsFrameOf state header x w.bytes.items next
 frame_made state header x w next whole gives = frame_to state header x w.bytes.items w.broken next whole gives
 
-pub frame_breaks : (state : State) (header : Uncompressed) (x : ℕ) (w : Written) (next : ℕ) → is_some w.broken ≡ true → Gives state header x (Ok w) next → Breaks state header x
-frame_breaks state header x w next broken gives = breaks_to state header x w.bytes.items w.broken next broken gives
+pub frame_breaks : (state : State) (header : Uncompressed) (x : ℕ) (w : Written) (next : ℕ) → is_some w.broken ≡ true → Gives state header x (Ok w) next → IsNone state header x
+frame_breaks state header x w next broken gives = none_to state header x w.bytes.items w.broken next broken gives
+
+-- it isn't written, and that isn't for want of memory
+none_lost : (state : State) (header : Uncompressed) (x : ℕ) (why : NotWritten) (next : ℕ) → IsLost why → Gives state header x (Err why) next → IsNone state header x
+none_lost state header x Unsaid next lost gives = gives
+none_lost state header x TooLong next lost gives = gives
+none_lost state header x OutOfMemory next lost gives = absurd lost
+
+pub not_written : (state : State) (header : Uncompressed) (x : ℕ) (r : Result Written NotWritten) (why : NotWritten) (next : ℕ) → r ≡ Err why → IsLost why → Gives state header x r next → IsNone state header x
+not_written state header x r why next is lost gives = none_lost state header x why next lost (subst (λ (r : Result Written NotWritten). Gives state header x r next) is gives)
+
+pub if_ended : {A E : Type 0} (P Q : A → Type 0) (r : Result A E) → IfOk r P → ((x : A) → P x → Q x) → IfOk r Q
+if_ended P Q (Ok x) h g = g x h
+if_ended P Q (Err e) h g = tt
 
 pub persists : (number count n : ℕ) (decoder after_it : Decoder) (draws rest : Draws) (out bytes : List ℕ) (far : IsSoFar number count n decoder draws out)
     → ((state : State) → StandsFor decoder state → IsMadeFrame n state draws.x bytes rest.x) → Passes n decoder bytes after_it

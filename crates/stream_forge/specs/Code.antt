@@ -11,6 +11,7 @@ use Rattle.frame_headers.specs.declared.persist.Persist.{Persist}
 use Rattle.segment_map.specs.Segments.{id_map}
 use Rattle.segment_map.specs.declared.map.SegmentMap.{SegmentMap}
 use Rattle.frame_writer.specs.declared.written.NotWritten.{NotWritten}
+use Rattle.frame_writer.specs.declared.written.NotWritten.TheVariants.{Unsaid, TooLong, OutOfMemory}
 use Rattle.frame_writer.specs.declared.written.Written.{Written}
 use Rattle.drawn_headers.specs.Made as headers
 use Rattle.drawn_symbols.specs.declared.draws.Draws.{Draws}
@@ -20,7 +21,7 @@ use Rattle.seq_decoder.specs.Code.{StandsFor}
 use Rattle.seq_decoder.specs.SavedContexts.{loses_past}
 use Rattle.seq_decoder.specs.State.{State, start_state}
 use Rattle.seq_decoder.specs.declared.decoder.Decoder.{Decoder}
-use Rattle.stream_forge.specs.Made.{AreMade, Breaks, IsFrameOf, packets_from}
+use Rattle.stream_forge.specs.Made.{AreMade, IsFrameOf, IsNone, packets_from}
 
 -- it stands for the segments that a frame starts with, and has its places
 pub record AreSegmentsOf (header : Header) (last : Option FrameSize) (before : Map) (m : SegmentMap) : Type 0 where
@@ -43,14 +44,23 @@ abbrev pub IsOneOf : Option SegmentMap → Option SegmentMap → SegmentMap → 
 IsOneOf (Some own) kept m = m ≡ own
 IsOneOf None kept m = kept ≡ Some m
 
--- what the frame's bytes say of a state that the decoder stands for, or the rule that its blocks break
+-- what the frame's bytes say of a state that the decoder stands for, if its blocks break no rule
 abbrev pub GivesTo : State → Uncompressed → ℕ → List ℕ → Option Rule → ℕ → Type 0
 GivesTo state header x bytes None next = IsFrameOf state header x bytes next
-GivesTo state header x bytes (Some rule) next = Breaks state header x
+GivesTo state header x bytes (Some rule) next = IsNone state header x
 
+-- or why there are none. Want of memory has no cause
 abbrev pub Gives : State → Uncompressed → ℕ → Result Written NotWritten → ℕ → Type 0
 Gives state header x (Ok w) next = GivesTo state header x w.bytes.items w.broken next
-Gives state header x (Err why) next = Unit {0}
+Gives state header x (Err Unsaid) next = IsNone state header x
+Gives state header x (Err TooLong) next = IsNone state header x
+Gives state header x (Err OutOfMemory) next = Unit {0}
+
+-- there is no such frame
+abbrev pub IsLost : NotWritten → Type 0
+IsLost Unsaid = Unit {0}
+IsLost TooLong = Unit {0}
+IsLost OutOfMemory = ⊥
 
 -- the first frame is drawn for any state, and the others for that of a generated stream
 abbrev pub MayDraw : Bool → Persist → Type 0

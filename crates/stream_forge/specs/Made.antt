@@ -1,8 +1,7 @@
 -- A generated stream: frame after frame, each as it is drawn from a number, in the state that the frames before leave.
-use Rattle.std.specs.Prelude.{◌≡◌, ℕ, zero, suc, ◌+◌, nat_eq, List, [], ◌∷◌, ◌++◌, Ok, Err}
+use Rattle.std.specs.Prelude.{◌≡◌, ◌⊎◌, ◌≤◌, ◌^◌, ℕ, zero, suc, ◌+◌, nat_eq, List, [], ◌∷◌, ◌++◌, length, Ok, Err}
 use Rattle.vp9_types.specs.declared.block.Modes.{Modes}
 use Rattle.vp9_types.specs.declared.job.Span.{Span}
-use Rattle.vp9_types.specs.declared.rule.Rule.{Rule}
 use Rattle.frame_headers.specs.Header.{head_of}
 use Rattle.frame_headers.specs.declared.header.FrameHead.TheVariants as head
 use Rattle.frame_headers.specs.declared.header.Header.{Header}
@@ -13,8 +12,10 @@ use Rattle.ivf_container.specs.Packets.{written_bytes}
 use Rattle.frame_decoder.specs.Frames.{read_frame}
 use Rattle.frame_decoder.specs.Reading.{FrameRead}
 use Rattle.frame_decoder.specs.Sources.{FrameSources}
-use Rattle.tile_writer.specs.declared.unwritten.Unwritten.TheVariants.{Broken}
+use Rattle.compressed_header.specs.Header.{forward}
+use Rattle.tile_writer.specs.declared.unwritten.Unwritten.{Unwritten}
 use Rattle.frame_writer.specs.Bytes.{with_size}
+use Rattle.frame_writer.specs.Code.{IsTooLong}
 use Rattle.frame_writer.specs.Frames.{frame_told, said_of}
 use Rattle.drawn_headers.specs.Heads.{draw_head}
 use Rattle.drawn_headers.specs.Modes.{draw_modes}
@@ -44,11 +45,28 @@ pub record IsCodedFrame (state : State) (header : Header) (x : ℕ) (bytes : Lis
   pub reads : read_frame (input_of state bytes (with_size header size) compressed) ≡ Ok (read, drawn_sources state (with_size header size) (draw_modes header x).0)
   pub told : frame_told drawing (drawn_sources state (with_size header size) (draw_modes header x).0) (symbols_from (draw_modes header x).1) ≡ Ok (said_of read, symbols_from next)
 
--- its blocks, as they are drawn, break a rule
-pub record BreaksRule (state : State) (header : Header) (x : ℕ) : Type 0 where
+---- Why there is none ----
+
+-- its blocks, as they are drawn, break a rule, or can't be said where they stand
+pub record IsUnsaid (state : State) (header : Header) (x : ℕ) : Type 0 where
   pub size : ℕ
-  pub rule : Rule
-  pub breaks : frame_told drawing (drawn_sources state (with_size header size) (draw_modes header x).0) (symbols_from (draw_modes header x).1) ≡ Err (Broken rule)
+  pub why : Unwritten
+  pub ends : frame_told drawing (drawn_sources state (with_size header size) (draw_modes header x).0) (symbols_from (draw_modes header x).1) ≡ Err why
+
+-- its compressed header doesn't fit the field of its size
+pub record HasLongHeader (state : State) (header : Header) (x : ℕ) : Type 0 where
+  pub bytes : List ℕ
+  pub makes : forward header (context_before header state.contexts) bytes ≡ Ok (context_before header state.contexts, (draw_modes header x).0)
+  pub long : 2 ^ 16 ≤ length bytes
+
+-- nor does a tile
+pub record HasLongTile (state : State) (header : Header) (x : ℕ) : Type 0 where
+  pub size : ℕ
+  pub long : IsTooLong drawing (drawn_sources state (with_size header size) (draw_modes header x).0) (symbols_from (draw_modes header x).1)
+
+abbrev pub IsNone : State → Uncompressed → ℕ → Type 0
+IsNone state (ShowExisting slot) x = ⊥
+IsNone state (Coded header) x = IsUnsaid state header x ⊎ (HasLongHeader state header x ⊎ HasLongTile state header x)
 
 ---- A frame ----
 
@@ -66,17 +84,18 @@ behind_head number state x = (draw_head (nat_eq number 0) (persist_of state) x).
 abbrev pub IsMadeFrame : ℕ → State → ℕ → List ℕ → ℕ → Type 0
 IsMadeFrame number state x bytes next = IsFrameOf state (head_at number state x) (behind_head number state x) bytes next
 
-abbrev pub Breaks : State → Uncompressed → ℕ → Type 0
-Breaks state (ShowExisting slot) x = ⊥
-Breaks state (Coded header) x = BreaksRule state header x
+-- there is no such frame, or none that a packet holds
+abbrev pub EndsBefore : ℕ → State → ℕ → Type 0
+EndsBefore number state x =
+    IsNone state (head_at number state x) (behind_head number state x) ⊎ ((bytes : List ℕ) × (next : ℕ) × IsMadeFrame number state x bytes next × (2 ^ 32 ≤ length bytes))
 
 ---- All frames ----
 
--- So many frames from the n-th on, each decoded before the next one is drawn. They end before one whose blocks break a rule.
+-- So many frames from the n-th on, each decoded before the next one is drawn. They end before one that there can't be.
 abbrev pub AreMade : ℕ → ℕ → State → ℕ → List (List ℕ) → Type 0
 AreMade n zero state x [] = Unit {0}
 AreMade n zero state x (frame ∷ frames) = ⊥
-AreMade n (suc left) state x [] = Breaks state (head_at n state x) (behind_head n state x)
+AreMade n (suc left) state x [] = EndsBefore n state x
 AreMade n (suc left) state x (frame ∷ frames) =
     (next : ℕ) × IsMadeFrame n state x frame next × ((stepped : Stepped) × (step n state frame ≡ Ok stepped) × AreMade (n + 1) left stepped.state next frames)
 

@@ -20,7 +20,7 @@ use frame_headers::{FrameParams, Header, Uncompressed};
 use frame_writer::{FrameToWrite, NotWritten, Written, write_frame};
 use header_writer::{Choices, write_uncompressed_header};
 use seq_decoder::{Decoder, pictures_for, place_of, vectors_before};
-use std::alloc::Global;
+use std::alloc::{AllocError, Global};
 
 /// The bytes of a frame that shows a slot again.
 fn write_shown(
@@ -28,7 +28,7 @@ fn write_shown(
     decoder: &Decoder,
     slot: u8,
     choices: Choices,
-) -> Result<Written, NotWritten>
+) -> Result<Written, AllocError>
     requires { IsWellFormed decoder.now.persist (ShowExisting slot) }
     ensures { IfOk result (λ w. (w.broken ≡ None) × (head_of decoder.now.persist w.bytes.items ≡ Ok (head.ShowExisting slot))) }
 {
@@ -106,7 +106,10 @@ pub(crate) fn write_next(
     let head = draw_head(&mut draws, first, &decoder.persist);
     match &head.header {
         Uncompressed::ShowExisting { slot } => {
-            (write_shown(alloc, decoder, *slot, head.choices), draws)
+            match write_shown(alloc, decoder, *slot, head.choices) {
+                Ok(written) => (Ok(written), draws),
+                Err(_) => (Err(NotWritten::OutOfMemory), draws),
+            }
         }
         Uncompressed::Coded(header) => {
             let header = with_a_byte(header);

@@ -6,5 +6,7 @@ mod discard;
 mod frames;
 mod past;
 mod stream;
+#[cfg(test)]
+mod tests;
 
-pub use stream::make_stream;
+pub use stream::{NotMade, make_stream};

@@ -1,11 +1,12 @@
 //! A whole stream.
 
-ghost use Rattle.std.specs.Prelude.{IfOk, IsOk, OnOk};
+ghost use Rattle.std.specs.Prelude.{◌≡◌, IfOk, IsOk, OnOk};
 ghost use Rattle.seq_decoder.specs.After.{step};
 ghost use Rattle.seq_decoder.specs.Code.{MayDecode, StandsFor};
 ghost use Rattle.seq_decoder.specs.State.{State};
-ghost use Rattle.stream_forge.specs.Code.{Passes};
+ghost use Rattle.stream_forge.specs.Code.{IsLost, Passes};
 ghost use Rattle.stream_forge.specs.Made.{IsMade};
+ghost use Rattle.stream_forge.specs.declared.stream.NotMade.TheVariants as not_made;
 
 use crate::discard::Discard;
 use crate::frames::write_next;
@@ -14,11 +15,25 @@ use drawn_symbols::Draws;
 use file_frames::FileFrame;
 use frame_writer::NotWritten;
 use seq_decoder::Decoder;
-use std::alloc::Global;
+use std::alloc::{AllocError, Global};
 use vp9_types::Outcome;
 
+/// Why a stream isn't made.
+#[derive(Clone, Copy, Debug, PartialEq, Eq)]
+pub enum NotMade {
+    OutOfMemory,
+}
+
+impl From<AllocError> for NotMade {
+    ghost from_gives = { λ _ e. e ≡ not_made.OutOfMemory };
+
+    fn from(_: AllocError) -> Self {
+        NotMade::OutOfMemory
+    }
+}
+
 /// Decodes a frame that breaks no rule, for what it leaves to those behind it.
-fn pass(alloc: Global, decoder: &mut Decoder, number: u64, bytes: &[u8]) -> Result<(), NotWritten>
+fn pass(alloc: Global, decoder: &mut Decoder, number: u64, bytes: &[u8]) -> Result<(), NotMade>
     requires may { MayDecode decoder.old }
     requires steps { (state : State) × StandsFor decoder.old state × IsOk (step number state bytes.now) }
     ensures passes { OnOk result (Passes number decoder.old bytes.now decoder.new) }
@@ -27,14 +42,24 @@ fn pass(alloc: Global, decoder: &mut Decoder, number: u64, bytes: &[u8]) -> Resu
     let frame = FileFrame { number, bytes };
     match decoder.decode_next(alloc, frame, &mut Discard {}) {
         Ok(()) => Ok(()),
-        Err(Outcome::OutOfMemory) => Err(NotWritten::OutOfMemory),
+        Err(Outcome::OutOfMemory) => Err(NotMade::OutOfMemory),
         Err(_) => unreachable!(),
+    }
+}
+
+/// What is made before a frame that isn't written.
+fn ended(out: Vec<u8>, why: NotWritten) -> Result<Vec<u8>, NotMade>
+    ensures { IfOk result (λ file. (file.items ≡ out.items) × IsLost why) }
+{
+    match why {
+        NotWritten::OutOfMemory => Err(NotMade::OutOfMemory),
+        NotWritten::Unsaid | NotWritten::TooLong => Ok(out),
     }
 }
 
 /// The file of `frames` frames that is generated from a number. It ends before a frame whose blocks, as they are drawn, break a
 /// rule.
-pub fn make_stream(alloc: Global, number: u32, frames: u32) -> Result<Vec<u8>, NotWritten>
+pub fn make_stream(alloc: Global, number: u32, frames: u32) -> Result<Vec<u8>, NotMade>
     ensures { IfOk result (λ file. IsMade number frames file.items) }
 {
     let mut draws = Draws {
@@ -45,12 +70,15 @@ pub fn make_stream(alloc: Global, number: u32, frames: u32) -> Result<Vec<u8>, N
     write_header(&mut out, 520, 136, 30, 1, frames)?;
     for n in 0..frames {
         let (written, rest) = write_next(alloc, &decoder, n == 0, draws);
-        let written = written?;
+        let written = match written {
+            Ok(written) => written,
+            Err(why) => return ended(out, why),
+        };
         if written.broken.is_some() {
             return Ok(out);
         }
         if written.bytes.len() > u32::MAX as usize {
-            return Err(NotWritten::TooLong);
+            return Ok(out);
         }
         write_packet(&mut out, u64::from(n), &written.bytes)?;
         pass(alloc, &mut decoder, u64::from(n), &written.bytes)?;

@@ -11,10 +11,6 @@ write_coded-requires-clause-well c = rw c.with_a_byte-header.ensures (rw c.in-Co
 pub write_coded-requires-clause-can : goal.write_coded-requires-clause-can
 write_coded-requires-clause-can c = rw c.with_a_byte-header.ensures (rw c.in-Coded.is at (c.draw_head-head.ensures.can 1))
 
-pub returns-in-ShowExisting-clause-after : goal.returns-in-ShowExisting-clause-after
-returns-in-ShowExisting-clause-after c =
-    shown_after c.args.first c.args.decoder.now.persist c.args.draws.x c.in-ShowExisting.slot c.requires.made (ap (λ p. p.0.header) c.draw_head-head.ensures.drawn ∙ c.in-ShowExisting.is)
-
 pub returns-in-Coded-clause-gives : goal.returns-in-Coded-clause-gives
 returns-in-Coded-clause-gives c = λ state stands.
     let first = c.args.first in
@@ -22,3 +18,11 @@ returns-in-Coded-clause-gives c = λ state stands.
     let given = gives_unsized state c.in-Coded.header c.draw_head-head.new.draws.x c.write_coded.result.0 c.write_coded.result.1.x (rw c.with_a_byte-header.ensures at (c.write_coded.ensures state stands)) in
     subst (λ p. Gives state (draw_head first p x).0.header (draw_head first p x).1 c.write_coded.result.0 c.write_coded.result.1.x) stands.persist
     (rw c.draw_head-head.ensures.drawn (rw c.in-Coded.is given))
+
+pub returns-in-Ok-clause-after : goal.returns-in-Ok-clause-after
+returns-in-Ok-clause-after c =
+    shown_after c.args.first c.args.decoder.now.persist c.args.draws.x c.in-ShowExisting.slot c.requires.made (ap (λ p. p.0.header) c.draw_head-head.ensures.drawn ∙ c.in-ShowExisting.is)
+
+pub returns-in-Err-clause-after : goal.returns-in-Err-clause-after
+returns-in-Err-clause-after c =
+    shown_after c.args.first c.args.decoder.now.persist c.args.draws.x c.in-ShowExisting.slot c.requires.made (ap (λ p. p.0.header) c.draw_head-head.ensures.drawn ∙ c.in-ShowExisting.is)
