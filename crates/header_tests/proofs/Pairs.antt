@@ -8,17 +8,13 @@ use Rattle.std.proofs.lemmas.List.{drop_all, drop_more}
 
 ---- Two lists ----
 
-pub pair_more : {A : Type 0} (E : A → A → Bool) (xs ys : List A) (i : ℕ) (d : A) → i < length xs → i < length ys
+pair_more : {A : Type 0} (E : A → A → Bool) (xs ys : List A) (i : ℕ) (d : A) → i < length xs → i < length ys
     → pointwise E (drop i xs) (drop i ys) ≡ (E (get_or xs i d) (get_or ys i d) && pointwise E (drop (i + 1) xs) (drop (i + 1) ys))
 pair_more E xs ys i d low low_too = rw (drop_more xs i d low, drop_more ys i d low_too) refl
 
 pub pair_passes : {A : Type 0} (E : A → A → Bool) (xs ys : List A) (i : ℕ) (d : A) → i < length xs → i < length ys → E (get_or xs i d) (get_or ys i d) ≡ true
     → pointwise E (drop i xs) (drop i ys) ≡ pointwise E (drop (i + 1) xs) (drop (i + 1) ys)
 pair_passes E xs ys i d low low_too passes = rw (pair_more E xs ys i d low low_too, passes) refl
-
-pub pair_fails : {A : Type 0} (E : A → A → Bool) (xs ys : List A) (i : ℕ) (d : A) → i < length xs → i < length ys → E (get_or xs i d) (get_or ys i d) ≡ false
-    → pointwise E (drop i xs) (drop i ys) ≡ false
-pair_fails E xs ys i d low low_too fails = rw (pair_more E xs ys i d low low_too, fails) refl
 
 pub pairs_end : {A : Type 0} (E : A → A → Bool) (xs ys : List A) (i : ℕ) → length xs ≤ i → length ys ≤ i → pointwise E (drop i xs) (drop i ys) ≡ true
 pairs_end E xs ys i all all_too = rw (drop_all i xs all, drop_all i ys all_too) refl
@@ -35,9 +31,3 @@ pair_at E (x ∷ xs) (y ∷ ys) (suc i) d pass low = pair_at E xs ys i d (and_pa
 
 pub one_passes : {A : Type 0} (P : A → Bool) (xs : List A) (i : ℕ) (d : A) → i < length xs → P (get_or xs i d) ≡ true → list_all P (drop i xs) ≡ list_all P (drop (i + 1) xs)
 one_passes P xs i d low passes = rw (drop_more xs i d low, passes) refl
-
-pub one_fails : {A : Type 0} (P : A → Bool) (xs : List A) (i : ℕ) (d : A) → i < length xs → P (get_or xs i d) ≡ false → list_all P (drop i xs) ≡ false
-one_fails P xs i d low fails = rw (drop_more xs i d low, fails) refl
-
-pub all_end : {A : Type 0} (P : A → Bool) (xs : List A) (i : ℕ) → length xs ≤ i → list_all P (drop i xs) ≡ true
-all_end P xs i all = rw (drop_all i xs all) refl

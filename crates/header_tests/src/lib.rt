@@ -9,6 +9,8 @@ mod params;
 mod references;
 mod same;
 mod segments;
+#[cfg(test)]
+mod tests;
 mod tiles;
 
 pub use headers::{can_choose, is_well_formed};
