@@ -80,6 +80,10 @@ same_deltas_are deltas other same =
     ap (λ r. deltas_of r deltas.mode) ((signed_items deltas.reference other.reference).0 parts.0)
     ∙ ap (λ m. deltas_of other.reference m) ((signed_items deltas.mode other.mode).0 parts.1)
 
+pub deltas_are_same : (deltas other : LoopDeltas) → deltas ≡ other → same_deltas deltas other ≡ true
+deltas_are_same deltas other same =
+    rw (same, (signed_items other.reference other.reference).1 refl, (signed_items other.mode other.mode).1 refl) refl
+
 pub all_whole : (xs : List ℕ) → pointwise nat_eq xs (replicate 3 255) ≡ true → xs ≡ replicate 3 255
 all_whole xs same = same_text xs (replicate 3 255) (sym same)
 

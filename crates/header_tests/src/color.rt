@@ -15,6 +15,7 @@ fn is_depth(profile: u8, depth: Depth) -> bool
     ensures is { result ≡ is_depth profile depth }
     ensures eight { result ≡ true → profile < 2 → depth ≡ depths.Eight }
     ensures more { result ≡ true → 2 ≤ profile → depth ≢ depths.Eight }
+    ensures complete { (profile < 2 → depth ≡ depths.Eight) → (2 ≤ profile → depth ≢ depths.Eight) → result ≡ true }
 {
     if profile < 2 {
         matches!(depth, Depth::Eight)
@@ -26,6 +27,7 @@ fn is_depth(profile: u8, depth: Depth) -> bool
 fn is_sampling(profile: u8, color: &ColorConfig) -> bool
     ensures is { result ≡ is_sampling profile color.now }
     ensures sampling { result ≡ true → IsSampling profile color.now }
+    ensures complete { IsSampling profile color.now → result ≡ true }
 {
     let rgb = matches!(color.space, ColorSpace::Rgb);
     if profile % 2 != 1 {
@@ -42,6 +44,7 @@ fn is_sampling(profile: u8, color: &ColorConfig) -> bool
 pub(crate) fn is_color(profile: u8, color: &ColorConfig) -> bool
     ensures is { result ≡ is_color profile color.now }
     ensures color { result ≡ true → IsColor profile color.now }
+    ensures complete { IsColor profile color.now → result ≡ true }
 {
     is_depth(profile, color.depth) && is_sampling(profile, color)
 }
@@ -51,6 +54,7 @@ pub(crate) fn is_color(profile: u8, color: &ColorConfig) -> bool
 pub(crate) fn is_intra_only_color(profile: u8, color: &ColorConfig) -> bool
     ensures is { result ≡ is_intra_only_color profile color.now }
     ensures color { result ≡ true → IsIntraOnlyColor profile color.now }
+    ensures complete { IsIntraOnlyColor profile color.now → result ≡ true }
 {
     if profile == 0 {
         same_color(color, &ColorConfig::DEFAULT)

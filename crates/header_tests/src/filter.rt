@@ -12,6 +12,7 @@ use frame_headers::{LoopDeltas, LoopFilter};
 fn is_delta(old: i16, delta: i16) -> bool
     ensures is { result ≡ is_delta old delta }
     ensures signed { result ≡ true → delta ≢ old → IsSigned 6 delta }
+    ensures complete { (delta ≢ old → IsSigned 6 delta) → result ≡ true }
 {
     delta == old || delta.unsigned_abs() < 64
 }
@@ -20,6 +21,7 @@ fn are_coded(olds: &[i16], deltas: &[i16]) -> bool
     requires { length olds.now ≡ length deltas.now }
     ensures is { result ≡ pointwise is_delta olds.now deltas.now }
     ensures deltas { result ≡ true → AreDeltas olds.now deltas.now }
+    ensures complete { AreDeltas olds.now deltas.now → result ≡ true }
 {
     for i in 0..deltas.len() {
         if !is_delta(olds[i], deltas[i]) {
@@ -33,6 +35,7 @@ fn are_coded(olds: &[i16], deltas: &[i16]) -> bool
 fn are_deltas(old: &LoopDeltas, filter: &LoopFilter) -> bool
     ensures is { result ≡ are_deltas old.now filter.now }
     ensures can { result ≡ true → CanCodeDeltas old.now filter.now }
+    ensures complete { CanCodeDeltas old.now filter.now → result ≡ true }
 {
     let deltas = &filter.deltas;
     if !filter.delta_enabled && !same_deltas(deltas, old) {
@@ -46,6 +49,7 @@ fn are_deltas(old: &LoopDeltas, filter: &LoopFilter) -> bool
 pub(crate) fn is_loop_filter(old: &LoopDeltas, filter: &LoopFilter) -> bool
     ensures is { result ≡ is_loop_filter old.now filter.now }
     ensures filter { result ≡ true → IsLoopFilter old.now filter.now }
+    ensures complete { IsLoopFilter old.now filter.now → result ≡ true }
 {
     filter.level < 64 && filter.sharpness < 8 && are_deltas(old, filter)
 }

@@ -18,6 +18,7 @@ use header_writer::Choices;
 fn are_contexts(resilient: bool, contexts: FrameContexts) -> bool
     ensures is { result ≡ are_contexts resilient contexts }
     ensures contexts { result ≡ true → IsContexts resilient contexts }
+    ensures complete { IsContexts resilient contexts → result ≡ true }
 {
     contexts.index < 4 && (!resilient || !contexts.refresh && contexts.parallel)
 }
@@ -25,6 +26,7 @@ fn are_contexts(resilient: bool, contexts: FrameContexts) -> bool
 fn is_reset(resilient: bool, reset: u8) -> bool
     ensures is { result ≡ is_reset resilient reset }
     ensures reset { result ≡ true → IsReset resilient reset }
+    ensures complete { IsReset resilient reset → result ≡ true }
 {
     reset < 4 && (!resilient || reset == 0)
 }
@@ -32,6 +34,7 @@ fn is_reset(resilient: bool, reset: u8) -> bool
 fn is_frame_size(size: FrameSize) -> bool
     ensures is { result ≡ is_frame_size size }
     ensures size { result ≡ true → IsFrameSize size }
+    ensures complete { IsFrameSize size → result ≡ true }
 {
     size.width >= 1 && size.width <= 65536 && size.height >= 1 && size.height <= 65536
 }
@@ -39,6 +42,7 @@ fn is_frame_size(size: FrameSize) -> bool
 fn is_of_kind(before: &Persist, header: &Header) -> bool
     ensures is { result ≡ is_of_kind before.now header.now header.now.kind }
     ensures kind { result ≡ true → IsOfKind before.now header.now header.now.kind }
+    ensures complete { IsOfKind before.now header.now header.now.kind → result ≡ true }
 {
     let (resilient, reset) = (header.error_resilient, header.reset_context);
     match &header.kind {
@@ -84,6 +88,7 @@ fn kept_by(before: &Persist, header: &Header) -> (LoopDeltas, Features)
 fn is_header(before: &Persist, header: &Header) -> bool
     ensures is { result ≡ is_header before.now header.now }
     ensures header { result ≡ true → IsHeader before.now header.now }
+    ensures complete { IsHeader before.now header.now → result ≡ true }
 {
     if header.profile >= 4 || !is_frame_size(header.size) {
         return false;
@@ -102,6 +107,7 @@ fn is_header(before: &Persist, header: &Header) -> bool
 pub fn is_well_formed(before: &Persist, header: &Uncompressed) -> bool
     ensures is { result ≡ is_well_formed before.now header.now }
     ensures well { result ≡ true → IsWellFormed before.now header.now }
+    ensures complete { IsWellFormed before.now header.now → result ≡ true }
 {
     match header {
         Uncompressed::ShowExisting { slot } => {
@@ -116,6 +122,7 @@ pub fn is_well_formed(before: &Persist, header: &Uncompressed) -> bool
 pub fn can_choose(before: &Persist, choices: Choices, header: &Uncompressed) -> bool
     ensures is { result ≡ can_choose before.now choices header.now }
     ensures can { result ≡ true → CanChoose before.now choices header.now }
+    ensures complete { CanChoose before.now choices header.now → result ≡ true }
 {
     match header {
         Uncompressed::ShowExisting { .. } => true,

@@ -12,6 +12,7 @@ use vp9_types::{Modes, ReferenceMode, TxMode};
 fn can_say_tx(lossless: bool, mode: TxMode) -> bool
     ensures is { result ≡ can_say_tx lossless mode }
     ensures can { result ≡ true → IsTxMode lossless mode }
+    ensures complete { IsTxMode lossless mode → result ≡ true }
 {
     match mode {
         TxMode::Only4x4 => true,
@@ -29,6 +30,7 @@ fn is_compound_allowed(references: &References) -> bool
 fn can_say_references(kind: &FrameKind, mode: ReferenceMode) -> bool
     ensures is { result ≡ can_say_references kind.now mode }
     ensures can { result ≡ true → (lists : ContextLists) → IsKindUpdate kind.now mode lists lists }
+    ensures complete { (lists : ContextLists) → IsKindUpdate kind.now mode lists lists → result ≡ true }
 {
     if matches!(mode, ReferenceMode::Single) {
         return true;
@@ -44,6 +46,7 @@ fn can_say_references(kind: &FrameKind, mode: ReferenceMode) -> bool
 pub fn can_say_modes(header: &Header, modes: Modes) -> bool
     ensures is { result ≡ can_say_modes header.now modes }
     ensures can { result ≡ true → (lists : ContextLists) → CanForward header.now lists lists modes }
+    ensures complete { (lists : ContextLists) → CanForward header.now lists lists modes → result ≡ true }
 {
     can_say_tx(header.params.quantizer.lossless(), modes.tx_mode)
         && can_say_references(&header.kind, modes.reference_mode)

@@ -12,6 +12,7 @@ use frame_headers::{Features, FrameParams, LoopDeltas, Quantizer};
 fn is_quantizer(quantizer: &Quantizer) -> bool
     ensures is { result ≡ is_quantizer quantizer.now }
     ensures quantizer { result ≡ true → IsQuantizer quantizer.now }
+    ensures complete { IsQuantizer quantizer.now → result ≡ true }
 {
     quantizer.y_dc_delta.unsigned_abs() < 16
         && quantizer.uv_dc_delta.unsigned_abs() < 16
@@ -28,6 +29,7 @@ pub(crate) fn are_params(
 ) -> bool
     ensures is { result ≡ are_params deltas.now features.now width params.now }
     ensures params { result ≡ true → IsParams deltas.now features.now width params.now }
+    ensures complete { IsParams deltas.now features.now width params.now → result ≡ true }
 {
     is_loop_filter(deltas, &params.loop_filter)
         && is_quantizer(&params.quantizer)

@@ -12,6 +12,7 @@ use frame_headers::{FrameSize, Persist, Reference, References};
 fn is_reference(before: &Persist, resilient: bool, reference: &Reference) -> bool
     ensures is { result ≡ is_reference before.now resilient reference.now }
     ensures reference { result ≡ true → IsReference before.now resilient reference.now }
+    ensures complete { IsReference before.now resilient reference.now → result ≡ true }
 {
     let slot = reference.slot;
     if slot >= 8 {
@@ -30,6 +31,7 @@ pub(crate) fn are_references(
 ) -> bool
     ensures is { result ≡ are_references before.now resilient size.now references.now }
     ensures references { result ≡ true → AreReferences before.now resilient size.now references.now }
+    ensures complete { AreReferences before.now resilient size.now references.now → result ≡ true }
 {
     is_reference(before, resilient, &references.last)
         && is_reference(before, resilient, &references.golden)

@@ -11,6 +11,7 @@ use vp9_types::Shape;
 pub(crate) fn same_color(color: &ColorConfig, other: &ColorConfig) -> bool
     ensures is { result ≡ same_color color.now other.now }
     ensures same { result ≡ true → color.now ≡ other.now }
+    ensures complete { color.now ≡ other.now → result ≡ true }
 {
     color.depth.bits() == other.depth.bits()
         && color.space as u8 == other.space as u8
@@ -24,6 +25,7 @@ pub(crate) fn same_color(color: &ColorConfig, other: &ColorConfig) -> bool
 pub(crate) fn holds(slot: Option<Shape>, shape: &Shape) -> bool
     ensures is { result ≡ holds slot shape.now }
     ensures same { result ≡ true → slot ≡ Some shape.now }
+    ensures complete { slot ≡ Some shape.now → result ≡ true }
 {
     match slot {
         Some(held) => {
@@ -37,10 +39,11 @@ pub(crate) fn holds(slot: Option<Shape>, shape: &Shape) -> bool
     }
 }
 
-#[tactic(auto, using(crate::proofs::Numbers::same_deltas_are))]
+#[tactic(auto, using(crate::proofs::Numbers::same_deltas_are, crate::proofs::Numbers::deltas_are_same))]
 pub(crate) fn same_deltas(deltas: &LoopDeltas, other: &LoopDeltas) -> bool
     ensures is { result ≡ same_deltas deltas.now other.now }
     ensures same { result ≡ true → deltas.now ≡ other.now }
+    ensures complete { deltas.now ≡ other.now → result ≡ true }
 {
     deltas == other
 }
@@ -49,6 +52,7 @@ pub(crate) fn same_deltas(deltas: &LoopDeltas, other: &LoopDeltas) -> bool
 fn same_reference(reference: Option<FeatureReference>, other: Option<FeatureReference>) -> bool
     ensures is { result ≡ same_reference reference other }
     ensures same { result ≡ true → reference ≡ other }
+    ensures complete { reference ≡ other → result ≡ true }
 {
     match (reference, other) {
         (Some(r), Some(s)) => r as u8 == s as u8,
@@ -61,6 +65,7 @@ fn same_reference(reference: Option<FeatureReference>, other: Option<FeatureRefe
 fn same_segment(features: &SegmentFeatures, other: &SegmentFeatures) -> bool
     ensures is { result ≡ same_segment features.now other.now }
     ensures same { result ≡ true → features.now ≡ other.now }
+    ensures complete { features.now ≡ other.now → result ≡ true }
 {
     features.quantizer == other.quantizer
         && features.level == other.level
@@ -72,6 +77,7 @@ fn same_segments(segments: &[SegmentFeatures], others: &[SegmentFeatures]) -> bo
     requires { length segments.now ≡ length others.now }
     ensures is { result ≡ pointwise same_segment segments.now others.now }
     ensures same { result ≡ true → segments.now ≡ others.now }
+    ensures complete { segments.now ≡ others.now → result ≡ true }
 {
     for i in 0..segments.len() {
         if !same_segment(&segments[i], &others[i]) {
@@ -85,6 +91,7 @@ fn same_segments(segments: &[SegmentFeatures], others: &[SegmentFeatures]) -> bo
 pub(crate) fn same_features(features: &Features, other: &Features) -> bool
     ensures is { result ≡ same_features features.now other.now }
     ensures same { result ≡ true → features.now ≡ other.now }
+    ensures complete { features.now ≡ other.now → result ≡ true }
 {
     features.absolute == other.absolute && same_segments(&features.segments, &other.segments)
 }

@@ -12,6 +12,7 @@ use frame_headers::{Features, MapUpdate, SegmentFeatures, Segmentation};
 fn is_below(limit: u16, value: Option<i16>) -> bool
     ensures is { result ≡ is_below limit value }
     ensures below { result ≡ true → IfSome value (λ v. unsigned_abs v < limit) }
+    ensures complete { IfSome value (λ v. unsigned_abs v < limit) → result ≡ true }
 {
     match value {
         Some(value) => value.unsigned_abs() < limit,
@@ -22,6 +23,7 @@ fn is_below(limit: u16, value: Option<i16>) -> bool
 fn are_features(features: &SegmentFeatures) -> bool
     ensures is { result ≡ are_features features.now }
     ensures features { result ≡ true → AreSegmentFeatures features.now }
+    ensures complete { AreSegmentFeatures features.now → result ≡ true }
 {
     is_below(256, features.quantizer) && is_below(64, features.level)
 }
@@ -29,6 +31,7 @@ fn are_features(features: &SegmentFeatures) -> bool
 fn are_all_features(segments: &[SegmentFeatures]) -> bool
     ensures is { result ≡ list_all are_features segments.now }
     ensures features { result ≡ true → All AreSegmentFeatures segments.now }
+    ensures complete { All AreSegmentFeatures segments.now → result ≡ true }
 {
     for i in 0..segments.len() {
         if !are_features(&segments[i]) {
@@ -42,6 +45,7 @@ fn are_all_features(segments: &[SegmentFeatures]) -> bool
 fn is_map(map: &Option<MapUpdate>) -> bool
     ensures is { result ≡ is_map map.now }
     ensures map { result ≡ true → IfSome map.now IsMapUpdate }
+    ensures complete { IfSome map.now IsMapUpdate → result ≡ true }
 {
     match map {
         Some(map) => map.temporal || map.prediction == [255; 3],
@@ -53,6 +57,7 @@ fn is_map(map: &Option<MapUpdate>) -> bool
 fn is_coded(old: &Features, segmentation: &Segmentation) -> bool
     ensures is { result ≡ is_coded old.now segmentation.now }
     ensures coded { result ≡ true → IsCoded old.now segmentation.now }
+    ensures complete { IsCoded old.now segmentation.now → result ≡ true }
 {
     segmentation.enabled || segmentation.map.is_none() && same_features(&segmentation.features, old)
 }
@@ -62,6 +67,7 @@ fn is_coded(old: &Features, segmentation: &Segmentation) -> bool
 pub(crate) fn is_segmentation(old: &Features, segmentation: &Segmentation) -> bool
     ensures is { result ≡ is_segmentation old.now segmentation.now }
     ensures segmentation { result ≡ true → IsSegmentation old.now segmentation.now }
+    ensures complete { IsSegmentation old.now segmentation.now → result ≡ true }
 {
     is_coded(old, segmentation)
         && is_map(&segmentation.map)

@@ -41,6 +41,7 @@ fn greatest_log2(columns: u32) -> u8
 pub(crate) fn is_tile_info(width: u32, tiles: TileInfo) -> bool
     ensures is { result ≡ is_tile_info width tiles }
     ensures tiles { result ≡ true → IsTileInfo width tiles }
+    ensures complete { IsTileInfo width tiles → result ≡ true }
 {
     let columns = superblocks_of(width);
     let least = least_log2(columns);
