@@ -1,0 +1,6 @@
+pub mod Same
+pub mod Color
+pub mod Params
+pub mod Headers
+pub mod Modes
+pub mod Code

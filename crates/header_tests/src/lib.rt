@@ -1,0 +1,17 @@
+//! Tests at run time whether a header can be written (6.2 and 6.3 of the VP9 standard).
+#![tactic(auto)]
+
+mod color;
+mod filter;
+mod headers;
+mod modes;
+mod params;
+mod references;
+mod same;
+mod segments;
+#[cfg(test)]
+mod tests;
+mod tiles;
+
+pub use headers::{can_choose, is_well_formed};
+pub use modes::can_say_modes;
