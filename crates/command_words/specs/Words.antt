@@ -1,8 +1,11 @@
 -- What the words of the command line ask for, by clap's own account of a parse.
 use Rattle.std.specs.Prelude.{List, [], ◌∷◌, Option, Some, None, Result, Ok, Err, ℕ, pos, Bool, true, false, codes}
-use Rattle.std.specs.Prelude.{if◌then◌else◌, option_and_then}
+use Rattle.std.specs.Prelude.{if◌then◌else◌, option_and_then, length, nat_lt, ◌&&◌, ◌^◌}
+use Rattle.std.specs.Char.{digit_value}
+use Rattle.std.specs.List.{list_all}
 use Rattle.std.specs.Option.{option_map_or}
 use Rattle.std.specs.Str.{bytes_eq}
+use Rattle.std.specs.Str.Parse.{digits_value, without_leading_plus}
 use Rattle.std.specs.Allocator.{alloc_error}
 use Rattle.std.specs.declared.alloc.AllocError.{AllocError}
 use Rattle.clap.specs.Simple.{on_top}
@@ -18,6 +21,7 @@ use Rattle.clap.specs.declared.parser.matches.ArgMatches.{ArgMatches}
 use Rattle.command_words.specs.declared.command.Command.{Command}
 use Rattle.command_words.specs.declared.command.Command.TheVariants as command
 use Rattle.command_words.specs.declared.command.DecodeOptions.{DecodeOptions}
+use Rattle.command_words.specs.declared.command.MadeStream.{MadeStream}
 
 -- the command `list`, with no option and no argument
 abbrev pub list_app : App
@@ -42,11 +46,19 @@ decode_app =
     (number_rule (codes "workers") 1 64 (codes "4")))
     (number_rule (codes "window") 2 16 (codes "4"))
 
+-- a word that has to be given: a number from low to high
+abbrev pub given_rule : Text → ℕ → ℕ → Rule
+given_rule name low high = record (new_rule name) { required = true; parser = Some (value.Signed (pos low) (pos high)) }
+
+-- the command `make NUMBER FRAMES`
+abbrev pub make_app : App
+make_app = with_rule (with_rule (new_app (codes "make")) (given_rule (codes "number") 0 4294967295)) (given_rule (codes "frames") 1 1000)
+
 -- the program, which has to be given one of its commands
 abbrev pub vp9dec_app : App
 vp9dec_app =
-    with_subcommand (with_subcommand (on_top (λ program. record program { subcommand_required = true }) (new_app (codes "vp9dec"))) list_app.top)
-    decode_app.top
+    with_subcommand (with_subcommand (with_subcommand (on_top (λ program. record program { subcommand_required = true }) (new_app (codes "vp9dec")))
+    list_app.top) decode_app.top) make_app.top
 
 -- what was found of an option without a value, and of a number, which each has in its range or by its default
 abbrev pub is_set : Text → List Row → Bool
@@ -54,6 +66,18 @@ is_set id rows = option_map_or (λ text. bytes_eq text (codes "true")) (one_of i
 
 abbrev pub number_at : Text → List Row → ℕ
 number_at id rows = option_map_or byte_or_zero (one_of id rows) 0
+
+-- the number below 2 ^ 32 that a text writes, and 0 where it writes none
+abbrev pub number_or_zero : Text → ℕ
+number_or_zero text =
+    let digits = without_leading_plus text in
+    if nat_lt 0 (length digits) && list_all (λ d. nat_lt (digit_value d) 10) digits && nat_lt (digits_value 10 digits) (2 ^ 32) then digits_value 10 digits else 0
+
+abbrev pub given_at : Text → List Row → ℕ
+given_at id rows = option_map_or number_or_zero (one_of id rows) 0
+
+abbrev pub stream_of : List Row → MadeStream
+stream_of rows = record { number = given_at (codes "number") rows; frames = given_at (codes "frames") rows }
 
 abbrev pub options_of : List Row → DecodeOptions
 options_of rows = record {
@@ -66,7 +90,8 @@ options_of rows = record {
 abbrev pub named : Text × List Row → Option Command
 named used =
     if bytes_eq used.0 (codes "list") then Some command.List
-    else (if bytes_eq used.0 (codes "decode") then Some (command.Decode (options_of used.1)) else None)
+    else (if bytes_eq used.0 (codes "decode") then Some (command.Decode (options_of used.1))
+    else (if bytes_eq used.0 (codes "make") then Some (command.Make (stream_of used.1)) else None))
 
 -- none where a parse has a fault, and else what it found
 abbrev pub unless_fault : Kinds → Option Command → Option Command
@@ -81,6 +106,10 @@ command_of words = unless_fault (fault_of vp9dec_app words) (option_and_then nam
 -- the command `decode` with these options
 abbrev pub decode_by : Bool → ℕ → ℕ → Option Command
 decode_by plain workers window = Some (command.Decode (record { plain = plain; workers = workers; window = window }))
+
+-- the command `make` with these numbers
+abbrev pub make_of : ℕ → ℕ → Option Command
+make_of number frames = Some (command.Make (record { number = number; frames = frames }))
 
 -- what the code makes of a parse
 

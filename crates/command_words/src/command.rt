@@ -5,6 +5,8 @@ pub enum Command {
     List,
     /// The frames that are shown.
     Decode(DecodeOptions),
+    /// A generated stream.
+    Make(MadeStream),
 }
 
 /// How a file is decoded, which changes nothing of what is written.
@@ -16,4 +18,13 @@ pub struct DecodeOptions {
     pub workers: u8,
     /// How many frames may be under way at once, 2 to 16.
     pub window: u8,
+}
+
+/// Which stream is generated.
+#[derive(Clone, Copy, Debug, PartialEq, Eq)]
+pub struct MadeStream {
+    /// The number that all of it is drawn from.
+    pub number: u32,
+    /// How many frames it has, 1 to 1000.
+    pub frames: u32,
 }

@@ -1,7 +1,7 @@
 //! Laws of the definitions, as contracts of functions that do nothing.
 
 ghost use Rattle.std.specs.Prelude.{◌≡◌, ◌∷◌, [], List, ℕ, Some, None, codes, false, true};
-ghost use Rattle.command_words.specs.Words.{command_of, decode_by};
+ghost use Rattle.command_words.specs.Words.{command_of, decode_by, make_of};
 
 use crate::Command;
 
@@ -41,4 +41,15 @@ pub fn worked_rows()
     ensures a_file { (name : List ℕ) → command_of (name ∷ codes "decode" ∷ codes "x" ∷ []) ≡ None }
     ensures option_before { (name : List ℕ) → command_of (name ∷ codes "--plain" ∷ codes "decode" ∷ []) ≡ None }
     ensures help_of_decode { (name : List ℕ) → command_of (name ∷ codes "decode" ∷ codes "--help" ∷ []) ≡ None }
+    ensures make { (name : List ℕ) → command_of (name ∷ codes "make" ∷ codes "7" ∷ codes "40" ∷ []) ≡ make_of 7 40 }
+    ensures greatest_make { (name : List ℕ) → command_of (name ∷ codes "make" ∷ codes "4294967295" ∷ codes "1000" ∷ []) ≡ make_of 4294967295 1000 }
+    ensures make_with_plus { (name : List ℕ) → command_of (name ∷ codes "make" ∷ codes "+0" ∷ codes "1" ∷ []) ≡ make_of 0 1 }
+    ensures large_number { (name : List ℕ) → command_of (name ∷ codes "make" ∷ codes "4294967296" ∷ codes "1" ∷ []) ≡ None }
+    ensures no_frames { (name : List ℕ) → command_of (name ∷ codes "make" ∷ codes "7" ∷ codes "0" ∷ []) ≡ None }
+    ensures many_frames { (name : List ℕ) → command_of (name ∷ codes "make" ∷ codes "7" ∷ codes "1001" ∷ []) ≡ None }
+    ensures number_alone { (name : List ℕ) → command_of (name ∷ codes "make" ∷ codes "7" ∷ []) ≡ None }
+    ensures make_alone { (name : List ℕ) → command_of (name ∷ codes "make" ∷ []) ≡ None }
+    ensures three_numbers { (name : List ℕ) → command_of (name ∷ codes "make" ∷ codes "7" ∷ codes "1" ∷ codes "1" ∷ []) ≡ None }
+    ensures less_than_0 { (name : List ℕ) → command_of (name ∷ codes "make" ∷ codes "-1" ∷ codes "1" ∷ []) ≡ None }
+    ensures make_no_number { (name : List ℕ) → command_of (name ∷ codes "make" ∷ codes "x" ∷ codes "1" ∷ []) ≡ None }
 {}

@@ -5,7 +5,7 @@ mod command;
 mod laws;
 mod reading;
 
-pub use command::{Command, DecodeOptions};
+pub use command::{Command, DecodeOptions, MadeStream};
 pub use laws::worked_rows;
 pub use reading::read_words;
 

@@ -1,9 +1,9 @@
 ghost use Rattle.std.specs.Prelude.{◌≡◌, IfOk, codes, false, map, option_and_then, string_bytes};
 ghost use Rattle.clap.specs.Words.{app_of, found_of, rows_of, rule_of, subcommand_rows_of};
-ghost use Rattle.command_words.specs.Words.{answer_of, command_of, flag_rule, is_set, named};
-ghost use Rattle.command_words.specs.Words.{number_at, number_rule, options_of, vp9dec_app};
+ghost use Rattle.command_words.specs.Words.{answer_of, command_of, flag_rule, given_at, given_rule, is_set, named};
+ghost use Rattle.command_words.specs.Words.{number_at, number_rule, options_of, stream_of, vp9dec_app};
 
-use crate::{Command, DecodeOptions};
+use crate::{Command, DecodeOptions, MadeStream};
 use clap::error::ErrorKind;
 use clap::{Arg, ArgAction, ArgMatches, Error, value_parser};
 use std::alloc::{AllocError, Global};
@@ -44,6 +44,25 @@ fn window_option<'a>(alloc: Global) -> Arg<'a>
         .default_value(USUAL_WINDOW)
 }
 
+fn number_word<'a>(alloc: Global) -> Arg<'a>
+    ensures rule { rule_of result ≡ given_rule (codes "number") 0 4294967295 }
+    ensures own { result.global ≡ false }
+{
+    Arg::new(alloc, "number")
+        .required(true)
+        .value_parser(value_parser!(u32))
+}
+
+fn frames_word<'a>(alloc: Global) -> Arg<'a>
+    ensures rule { rule_of result ≡ given_rule (codes "frames") 1 1000 }
+    ensures own { result.global ≡ false }
+{
+    let frames = value_parser!(u32).range(1..=1000);
+    Arg::new(alloc, "frames")
+        .required(true)
+        .value_parser(frames)
+}
+
 /// The program and its commands, as the parser is told of them.
 fn vp9dec<'a>(alloc: Global) -> Result<clap::Command<'a>, AllocError>
     ensures { IfOk result (λ program. app_of program ≡ vp9dec_app) }
@@ -53,10 +72,14 @@ fn vp9dec<'a>(alloc: Global) -> Result<clap::Command<'a>, AllocError>
         .arg(plain_option(alloc))?
         .arg(workers_option(alloc))?
         .arg(window_option(alloc))?;
+    let make = clap::Command::new(alloc, "make")
+        .arg(number_word(alloc))?
+        .arg(frames_word(alloc))?;
     clap::Command::new(alloc, "vp9dec")
         .subcommand_required(true)
         .subcommand(list)?
-        .subcommand(decode)
+        .subcommand(decode)?
+        .subcommand(make)
 }
 
 fn flag(matches: &ArgMatches<'_>, id: &str) -> bool
@@ -71,6 +94,12 @@ fn number(matches: &ArgMatches<'_>, id: &str) -> u8
     matches.get_one::<u8>(id).unwrap_or(0)
 }
 
+fn given(matches: &ArgMatches<'_>, id: &str) -> u32
+    ensures { result ≡ given_at id.now (rows_of (found_of matches.now)) }
+{
+    matches.get_one::<u32>(id).unwrap_or(0)
+}
+
 fn options_in(matches: &ArgMatches<'_>) -> DecodeOptions
     ensures { result ≡ options_of (rows_of (found_of matches.now)) }
 {
@@ -81,6 +110,15 @@ fn options_in(matches: &ArgMatches<'_>) -> DecodeOptions
     }
 }
 
+fn stream_in(matches: &ArgMatches<'_>) -> MadeStream
+    ensures { result ≡ stream_of (rows_of (found_of matches.now)) }
+{
+    MadeStream {
+        number: given(matches, "number"),
+        frames: given(matches, "frames"),
+    }
+}
+
 /// The command that a parse entered.
 fn command_in(matches: &ArgMatches<'_>) -> Option<Command>
     ensures { result ≡ option_and_then named (subcommand_rows_of matches.now) }
@@ -88,6 +126,7 @@ fn command_in(matches: &ArgMatches<'_>) -> Option<Command>
     match matches.subcommand() {
         Some(("list", _)) => Some(Command::List),
         Some(("decode", options)) => Some(Command::Decode(options_in(options))),
+        Some(("make", words)) => Some(Command::Make(stream_in(words))),
         _ => None,
     }
 }

@@ -46,6 +46,22 @@ fn decodes(rt: HostRuntime) -> Result<(), Fail> {
 }
 
 #[test]
+fn makes(rt: HostRuntime) -> Result<(), Fail> {
+    let cases = [
+        ("vp9dec make 7 40", 7, 40),
+        ("vp9dec make 0 1", 0, 1),
+        ("vp9dec make 4294967295 1000", 4_294_967_295, 1000),
+    ];
+    for (line, number, frames) in cases {
+        let words = words_of(rt.alloc(), line)?;
+        let command = read_words(rt.alloc(), words.as_slice())?;
+        let stream = MadeStream { number, frames };
+        assert_eq!(rt; command, Some(Command::Make(stream)), "at {line}");
+    }
+    Ok(())
+}
+
+#[test]
 fn other_words_are_no_command(rt: HostRuntime) -> Result<(), Fail> {
     let lines = [
         "",
@@ -77,6 +93,14 @@ fn other_words_are_no_command(rt: HostRuntime) -> Result<(), Fail> {
         "vp9dec decode x",
         "vp9dec decode list",
         "vp9dec --plain decode",
+        "vp9dec make",
+        "vp9dec make 7",
+        "vp9dec make 7 0",
+        "vp9dec make 7 1001",
+        "vp9dec make 4294967296 1",
+        "vp9dec make -1 1",
+        "vp9dec make 7 1 1",
+        "vp9dec make seven 1",
     ];
     for line in lines {
         let words = words_of(rt.alloc(), line)?;

@@ -138,3 +138,47 @@ returns-clause-option_before c = λ name. refl
 pub returns-clause-help_of_decode : goal.returns-clause-help_of_decode
 unfolding command_of clap_on_literals
 returns-clause-help_of_decode c = λ name. refl
+
+pub returns-clause-make : goal.returns-clause-make
+unfolding command_of clap_on_literals
+returns-clause-make c = λ name. refl
+
+pub returns-clause-greatest_make : goal.returns-clause-greatest_make
+unfolding command_of clap_on_literals
+returns-clause-greatest_make c = λ name. refl
+
+pub returns-clause-make_with_plus : goal.returns-clause-make_with_plus
+unfolding command_of clap_on_literals
+returns-clause-make_with_plus c = λ name. refl
+
+pub returns-clause-large_number : goal.returns-clause-large_number
+unfolding command_of clap_on_literals
+returns-clause-large_number c = λ name. refl
+
+pub returns-clause-no_frames : goal.returns-clause-no_frames
+unfolding command_of clap_on_literals
+returns-clause-no_frames c = λ name. refl
+
+pub returns-clause-many_frames : goal.returns-clause-many_frames
+unfolding command_of clap_on_literals
+returns-clause-many_frames c = λ name. refl
+
+pub returns-clause-number_alone : goal.returns-clause-number_alone
+unfolding command_of clap_on_literals
+returns-clause-number_alone c = λ name. refl
+
+pub returns-clause-make_alone : goal.returns-clause-make_alone
+unfolding command_of clap_on_literals
+returns-clause-make_alone c = λ name. refl
+
+pub returns-clause-three_numbers : goal.returns-clause-three_numbers
+unfolding command_of clap_on_literals
+returns-clause-three_numbers c = λ name. refl
+
+pub returns-clause-less_than_0 : goal.returns-clause-less_than_0
+unfolding command_of clap_on_literals
+returns-clause-less_than_0 c = λ name. refl
+
+pub returns-clause-make_no_number : goal.returns-clause-make_no_number
+unfolding command_of clap_on_literals
+returns-clause-make_no_number c = λ name. refl
