@@ -1,102 +1,177 @@
 -- From how the work ended and what the note took to the cause of the answer.
-use Rattle.std.proofs.Common.{◌≡◌, ℕ, ◌<◌, length, refl, ap, sym, subst, ◌∙◌, inl, inr, arith}
+use Rattle.std.proofs.Common.{◌≡◌, ℕ, ◌<◌, List, length, refl, ap, sym, subst, ◌∙◌, inl, inr, arith}
 use Rattle.std.specs.Prelude.{◌⊎◌, Option, Some, None}
 use Rattle.std.proofs.lemmas.List.{take_all, append-nil}
 use Rattle.edge_io.specs.Filling.{WhereTold}
 use Rattle.edge_io.specs.Putting.{Takes}
 use Rattle.command_words.specs.declared.command.Command.{Command}
+use Rattle.command_words.specs.declared.command.Command.TheVariants as command
+use Rattle.command_words.specs.declared.command.MadeStream.{MadeStream}
 use Rattle.vp9_app.specs.declared.status.Status.{Status}
 use Rattle.vp9_app.specs.declared.status.Status.TheVariants as status
 use Rattle.vp9_app.specs.Notes.{note_line}
-use Rattle.vp9_app.specs.Answers.{OfSource, OfSink, SinkQuiet, Completes, output_of, WritesFront, Works, Untouched, without_memory, Reports, Runs}
+use Rattle.vp9_app.specs.Answers.{OfSource, OfSink, Output, SinkQuiet, SourceQuiet, Completes, WritesFront, Reads, Unread, Makes, WritesMade, WritesFrontOfMade, Works, Untouched, without_memory, Reports, Runs, listed, decoded}
 use Rattle.vp9_app.specs.Code.{MayLackMemory}
-use Rattle.vp9_app.specs.Laws.{AllQuiet, HasCause, IsComplete}
+use Rattle.vp9_app.specs.Laws.{AllQuiet, EndsAs, HasCause, IsComplete, IsDone}
+
+---- Want of memory in place of a rule's line ----
 
 -- a whole output is a front of it
-completes_front : (c : Command) (s : OfSource) (o : OfSink) (st : Status) → Completes c s o st → WritesFront c s o
-completes_front c s o st h = λ bytes told.
-    let text = (output_of c bytes).text in
+completes_front : (output : List ℕ → Output) (s : OfSource) (o : OfSink) (st : Status) → Completes output s o st → WritesFront output s o
+completes_front output s o st h = λ bytes told.
+    let text = (output bytes).text in
     (length text, subst (λ t. Takes o.before o.after t) (sym (take_all (length text) text (omega arith))) (h.told bytes told).1)
 
-lacks : (c : Command) (s : OfSource) (o : OfSink) (st : Status) → Completes c s o st → Works (Some c) s o status.OutOfMemory
-lacks c s o st h = (h.source, h.out, completes_front c s o st h)
+lacks : (output : List ℕ → Output) (s : OfSource) (o : OfSink) (st : Status) → Completes output s o st → Reads output s o status.OutOfMemory
+lacks output s o st h = (h.source, h.out, completes_front output s o st h)
+
+reads_told : (output : List ℕ → Output) (s : OfSource) (o : OfSink) (first told : Status) → Reads output s o first → MayLackMemory first told → Reads output s o told
+reads_told output s o (status.Broken stop) told h (inl e) = subst (λ st. Reads output s o st) (sym e) h
+reads_told output s o (status.Broken stop) told h (inr e) = subst (λ st. Reads output s o st) (sym e) (lacks output s o (status.Broken stop) h)
+reads_told output s o status.Done told h e = subst (λ st. Reads output s o st) (sym e) h
+reads_told output s o status.Usage told h e = absurd h
+reads_told output s o status.ReadFault told h e = subst (λ st. Reads output s o st) (sym e) h
+reads_told output s o status.WriteFault told h e = subst (λ st. Reads output s o st) (sym e) h
+reads_told output s o status.OutOfMemory told h e = subst (λ st. Reads output s o st) (sym e) h
+
+makes_told : (stream : MadeStream) (o : OfSink) (first told : Status) → Makes stream o first → MayLackMemory first told → Makes stream o told
+makes_told stream o status.Done told h e = subst (λ st. Makes stream o st) (sym e) h
+makes_told stream o status.WriteFault told h e = subst (λ st. Makes stream o st) (sym e) h
+makes_told stream o status.OutOfMemory told h e = subst (λ st. Makes stream o st) (sym e) h
+makes_told stream o status.Usage told h e = absurd h
+makes_told stream o status.ReadFault told h e = absurd h
+makes_told stream o (status.Broken stop) told h e = absurd h
+
+none_told : (s : OfSource) (o : OfSink) (first told : Status) → Works None s o first → MayLackMemory first told → Works None s o told
+none_told s o status.Usage told h e = subst (λ st. Works None s o st) (sym e) h
+none_told s o status.Done told h e = absurd h
+none_told s o (status.Broken stop) told h e = absurd h
+none_told s o status.ReadFault told h e = absurd h
+none_told s o status.WriteFault told h e = absurd h
+none_told s o status.OutOfMemory told h e = subst (λ st. Works None s o st) (sym e) h
 
 pub works_told : (c : Option Command) (s : OfSource) (o : OfSink) (first told : Status) → Works c s o first → MayLackMemory first told → Works c s o told
-works_told (Some c) s o (status.Broken stop) told h (inl e) = subst (λ st. Works (Some c) s o st) (sym e) h
-works_told (Some c) s o (status.Broken stop) told h (inr e) = subst (λ st. Works (Some c) s o st) (sym e) (lacks c s o (status.Broken stop) h)
-works_told (Some c) s o status.Done told h e = subst (λ st. Works (Some c) s o st) (sym e) h
-works_told (Some c) s o status.Usage told h e = absurd h
-works_told (Some c) s o status.ReadFault told h e = subst (λ st. Works (Some c) s o st) (sym e) h
-works_told (Some c) s o status.WriteFault told h e = subst (λ st. Works (Some c) s o st) (sym e) h
-works_told (Some c) s o status.OutOfMemory told h e = subst (λ st. Works (Some c) s o st) (sym e) h
-works_told None s o status.Usage told h e = subst (λ st. Works None s o st) (sym e) h
-works_told None s o status.Done told h e = absurd h
-works_told None s o (status.Broken stop) told h e = absurd h
-works_told None s o status.ReadFault told h e = absurd h
-works_told None s o status.WriteFault told h e = absurd h
-works_told None s o status.OutOfMemory told h e = subst (λ st. Works None s o st) (sym e) h
+works_told None = none_told
+works_told (Some command.List) = reads_told listed
+works_told (Some (command.Decode options)) = reads_told decoded
+works_told (Some (command.Make stream)) = λ s o first told h m. (h.0, makes_told stream o first told h.1 m)
 
--- the cause where the note took the line
+---- Causes ----
+
+-- the cause where the note took the line, of a command that reads its source
+cause_read : (c : Command) (output : List ℕ → Output) (s : OfSource) (o n : OfSink) (told : Status) → ((st : Status) → Completes output s o st → IsDone c s o st)
+    → Reads output s o told → SinkQuiet n → Takes n.before n.after (note_line told) → HasCause (Some c) s o n told
+cause_read c output s o n status.Done done h q t = (c, refl, record { source = h.source; out = h.out; note = q }, done status.Done h, t)
+cause_read c output s o n (status.Broken stop) done h q t = (c, refl, record { source = h.source; out = h.out; note = q }, done (status.Broken stop) h, t)
+cause_read c output s o n status.ReadFault done h q t = (c, refl, h.0, h.1, q, h.2, t)
+cause_read c output s o n status.WriteFault done h q t = inl h.1
+cause_read c output s o n status.OutOfMemory done h q t = (h.1, q)
+cause_read c output s o n status.Usage done h q t = absurd h
+
+cause_made : (stream : MadeStream) (s : OfSource) (o n : OfSink) (told : Status) → Unread s → Makes stream o told → SinkQuiet n → Takes n.before n.after (note_line told)
+    → HasCause (Some (command.Make stream)) s o n told
+cause_made stream s o n status.Done u h q t = (command.Make stream, refl, record { source = u.0; out = h.0; note = q }, (u, h.1, refl), t)
+cause_made stream s o n (status.Broken stop) u h q t = absurd h
+cause_made stream s o n status.ReadFault u h q t = absurd h
+cause_made stream s o n status.WriteFault u h q t = inl h.0
+cause_made stream s o n status.OutOfMemory u h q t = (h.0, q)
+cause_made stream s o n status.Usage u h q t = absurd h
+
+cause_none : (s : OfSource) (o n : OfSink) (told : Status) → Works None s o told → SinkQuiet n → Takes n.before n.after (note_line told) → HasCause None s o n told
+cause_none s o n status.Usage h q t = (refl, record { source = h.0; out = h.1; note = q }, t)
+cause_none s o n status.Done h q t = absurd h
+cause_none s o n (status.Broken stop) h q t = absurd h
+cause_none s o n status.ReadFault h q t = absurd h
+cause_none s o n status.WriteFault h q t = absurd h
+cause_none s o n status.OutOfMemory h q t = (h.1, q)
+
 cause_told : (c : Option Command) (s : OfSource) (o n : OfSink) (told : Status) → Works c s o told → SinkQuiet n → Takes n.before n.after (note_line told) → HasCause c s o n told
-cause_told (Some c) s o n status.Done h q t = (c, refl, record { source = h.source; out = h.out; note = q }, h, t)
-cause_told (Some c) s o n (status.Broken stop) h q t = (c, refl, record { source = h.source; out = h.out; note = q }, h, t)
-cause_told (Some c) s o n status.ReadFault h q t = (c, refl, h.0, h.1, q, h.2, t)
-cause_told (Some c) s o n status.WriteFault h q t = inl h.1
-cause_told (Some c) s o n status.OutOfMemory h q t = (h.1, q)
-cause_told (Some c) s o n status.Usage h q t = absurd h
-cause_told None s o n status.Usage h q t = (refl, record { source = h.0; out = h.1; note = q }, t)
-cause_told None s o n status.Done h q t = absurd h
-cause_told None s o n (status.Broken stop) h q t = absurd h
-cause_told None s o n status.ReadFault h q t = absurd h
-cause_told None s o n status.WriteFault h q t = absurd h
-cause_told None s o n status.OutOfMemory h q t = (h.1, q)
+cause_told None s o n told h q t = cause_none s o n told h q t
+cause_told (Some command.List) s o n told h q t = cause_read command.List listed s o n told (λ st d. d) h q t
+cause_told (Some (command.Decode options)) s o n told h q t = cause_read (command.Decode options) decoded s o n told (λ st d. d) h q t
+cause_told (Some (command.Make stream)) s o n told h q t = cause_made stream s o n told h.0 h.1 q t
 
 -- the cause where the note wanted memory
+lacking_read : (c : Option Command) (output : List ℕ → Output) (s : OfSource) (o n : OfSink) (told : Status) → Reads output s o told → SinkQuiet n → HasCause c s o n (without_memory told)
+lacking_read c output s o n status.Done h q = (h.out, q)
+lacking_read c output s o n (status.Broken stop) h q = (h.out, q)
+lacking_read c output s o n status.ReadFault h q = (h.1, q)
+lacking_read c output s o n status.WriteFault h q = inl h.1
+lacking_read c output s o n status.OutOfMemory h q = (h.1, q)
+lacking_read c output s o n status.Usage h q = absurd h
+
+lacking_made : (c : Option Command) (stream : MadeStream) (s : OfSource) (o n : OfSink) (told : Status) → Makes stream o told → SinkQuiet n → HasCause c s o n (without_memory told)
+lacking_made c stream s o n status.Done h q = (h.0, q)
+lacking_made c stream s o n (status.Broken stop) h q = absurd h
+lacking_made c stream s o n status.ReadFault h q = absurd h
+lacking_made c stream s o n status.WriteFault h q = inl h.0
+lacking_made c stream s o n status.OutOfMemory h q = (h.0, q)
+lacking_made c stream s o n status.Usage h q = absurd h
+
+lacking_none : (s : OfSource) (o n : OfSink) (told : Status) → Works None s o told → SinkQuiet n → HasCause None s o n (without_memory told)
+lacking_none s o n status.Usage h q = (h.1, q)
+lacking_none s o n status.Done h q = absurd h
+lacking_none s o n (status.Broken stop) h q = absurd h
+lacking_none s o n status.ReadFault h q = absurd h
+lacking_none s o n status.WriteFault h q = absurd h
+lacking_none s o n status.OutOfMemory h q = (h.1, q)
+
 cause_lacking : (c : Option Command) (s : OfSource) (o n : OfSink) (told : Status) → Works c s o told → SinkQuiet n → HasCause c s o n (without_memory told)
-cause_lacking (Some c) s o n status.Done h q = (h.out, q)
-cause_lacking (Some c) s o n (status.Broken stop) h q = (h.out, q)
-cause_lacking (Some c) s o n status.ReadFault h q = (h.1, q)
-cause_lacking (Some c) s o n status.WriteFault h q = inl h.1
-cause_lacking (Some c) s o n status.OutOfMemory h q = (h.1, q)
-cause_lacking (Some c) s o n status.Usage h q = absurd h
-cause_lacking None s o n status.Usage h q = (h.1, q)
-cause_lacking None s o n status.Done h q = absurd h
-cause_lacking None s o n (status.Broken stop) h q = absurd h
-cause_lacking None s o n status.ReadFault h q = absurd h
-cause_lacking None s o n status.WriteFault h q = absurd h
-cause_lacking None s o n status.OutOfMemory h q = (h.1, q)
+cause_lacking None s o n told h q = lacking_none s o n told h q
+cause_lacking (Some command.List) s o n told h q = lacking_read (Some command.List) listed s o n told h q
+cause_lacking (Some (command.Decode options)) s o n told h q = lacking_read (Some (command.Decode options)) decoded s o n told h q
+cause_lacking (Some (command.Make stream)) s o n told h q = lacking_made (Some (command.Make stream)) stream s o n told h.1 q
 
 pub cause_of : (c : Option Command) (s : OfSource) (o n : OfSink) (told last : Status) → Works c s o told → Reports n told last → HasCause c s o n last
 cause_of c s o n told last h (inl r) = subst (λ st. HasCause c s o n st) (sym r.1) (cause_told c s o n told h r.0 r.2)
 cause_of c s o n told last h (inr (inl r)) = subst (λ st. HasCause c s o n st) (sym r.1) (inr r.0)
 cause_of c s o n told last h (inr (inr r)) = subst (λ st. HasCause c s o n st) (sym r.2) (cause_lacking c s o n told h r.0)
 
+---- Complete answers ----
+
 clash : (before now : ℕ) → before < now → now ≡ before → ⊥
 clash before now rose same = omega (arith, rose, same)
 
 -- where no count rose, the output's status or want of memory is told
-told_by_output : (c : Command) (s : OfSource) (o n : OfSink) (told : Status) → Works (Some c) s o told → AllQuiet s o n
-    → WhereTold s.rest (λ bytes. (told ≡ (output_of c bytes).status) ⊎ (told ≡ status.OutOfMemory))
-told_by_output c s o n status.Done h a = λ bytes t. inl (sym (h.told bytes t).0)
-told_by_output c s o n (status.Broken stop) h a = λ bytes t. inl (sym (h.told bytes t).0)
-told_by_output c s o n status.ReadFault h a = λ bytes t. absurd (clash s.faults s.faults_now h.0 a.source)
-told_by_output c s o n status.WriteFault h a = λ bytes t. absurd (clash o.faults o.faults_now h.1 a.out)
-told_by_output c s o n status.OutOfMemory h a = λ bytes t. inr refl
-told_by_output c s o n status.Usage h a = absurd h
+read_by_output : (output : List ℕ → Output) (s : OfSource) (o n : OfSink) (told : Status) → Reads output s o told → AllQuiet s o n → EndsAs output s told
+read_by_output output s o n status.Done h a = λ bytes t. inl (sym (h.told bytes t).0)
+read_by_output output s o n (status.Broken stop) h a = λ bytes t. inl (sym (h.told bytes t).0)
+read_by_output output s o n status.ReadFault h a = λ bytes t. absurd (clash s.faults s.faults_now h.0 a.source)
+read_by_output output s o n status.WriteFault h a = λ bytes t. absurd (clash o.faults o.faults_now h.1 a.out)
+read_by_output output s o n status.OutOfMemory h a = λ bytes t. inr refl
+read_by_output output s o n status.Usage h a = absurd h
 
 -- a write fault aside, a note that wants memory leaves that answer
-lacking : (c : Command) (s : OfSource) (o n : OfSink) (told : Status) → Works (Some c) s o told → AllQuiet s o n → without_memory told ≡ status.OutOfMemory
-lacking c s o n status.Done h a = refl
-lacking c s o n (status.Broken stop) h a = refl
-lacking c s o n status.ReadFault h a = refl
-lacking c s o n status.WriteFault h a = absurd (clash o.faults o.faults_now h.1 a.out)
-lacking c s o n status.OutOfMemory h a = refl
-lacking c s o n status.Usage h a = absurd h
+read_lacking : (output : List ℕ → Output) (s : OfSource) (o n : OfSink) (told : Status) → Reads output s o told → AllQuiet s o n → without_memory told ≡ status.OutOfMemory
+read_lacking output s o n status.Done h a = refl
+read_lacking output s o n (status.Broken stop) h a = refl
+read_lacking output s o n status.ReadFault h a = refl
+read_lacking output s o n status.WriteFault h a = absurd (clash o.faults o.faults_now h.1 a.out)
+read_lacking output s o n status.OutOfMemory h a = refl
+read_lacking output s o n status.Usage h a = absurd h
 
-complete_some : (c : Command) (s : OfSource) (o n : OfSink) (told last : Status) → Works (Some c) s o told → Reports n told last → IsComplete (Some c) s o n last
-complete_some c s o n told last h (inl r) = λ a. subst (λ st. WhereTold s.rest (λ bytes. (st ≡ (output_of c bytes).status) ⊎ (st ≡ status.OutOfMemory))) (sym r.1) (told_by_output c s o n told h a)
-complete_some c s o n told last h (inr (inl r)) = λ a. absurd (clash n.faults n.faults_now r.0 a.note)
-complete_some c s o n told last h (inr (inr r)) = λ a bytes t. inr (r.2 ∙ lacking c s o n told h a)
+complete_read : (output : List ℕ → Output) (s : OfSource) (o n : OfSink) (told last : Status) → Reads output s o told → Reports n told last → AllQuiet s o n → EndsAs output s last
+complete_read output s o n told last h (inl r) = λ a. subst (λ st. EndsAs output s st) (sym r.1) (read_by_output output s o n told h a)
+complete_read output s o n told last h (inr (inl r)) = λ a. absurd (clash n.faults n.faults_now r.0 a.note)
+complete_read output s o n told last h (inr (inr r)) = λ a bytes t. inr (r.2 ∙ read_lacking output s o n told h a)
+
+-- a stream is made, or there is no memory for it
+made_by_output : (stream : MadeStream) (s : OfSource) (o n : OfSink) (told : Status) → Makes stream o told → AllQuiet s o n → (told ≡ status.Done) ⊎ (told ≡ status.OutOfMemory)
+made_by_output stream s o n status.Done h a = inl refl
+made_by_output stream s o n (status.Broken stop) h a = absurd h
+made_by_output stream s o n status.ReadFault h a = absurd h
+made_by_output stream s o n status.WriteFault h a = absurd (clash o.faults o.faults_now h.0 a.out)
+made_by_output stream s o n status.OutOfMemory h a = inr refl
+made_by_output stream s o n status.Usage h a = absurd h
+
+lacks_for_file : (told : Status) → (told ≡ status.Done) ⊎ (told ≡ status.OutOfMemory) → without_memory told ≡ status.OutOfMemory
+lacks_for_file told (inl e) = ap without_memory e
+lacks_for_file told (inr e) = ap without_memory e
+
+complete_made : (stream : MadeStream) (s : OfSource) (o n : OfSink) (told last : Status) → Makes stream o told → Reports n told last → IsComplete (Some (command.Make stream)) s o n last
+complete_made stream s o n told last h (inl r) = λ a. subst (λ st. (st ≡ status.Done) ⊎ (st ≡ status.OutOfMemory)) (sym r.1) (made_by_output stream s o n told h a)
+complete_made stream s o n told last h (inr (inl r)) = λ a. absurd (clash n.faults n.faults_now r.0 a.note)
+complete_made stream s o n told last h (inr (inr r)) = λ a. inr (r.2 ∙ lacks_for_file told (made_by_output stream s o n told h a))
 
 -- words that are no command leave the usage line, or want of memory
 no_command : (s : OfSource) (o : OfSink) (told : Status) → Works None s o told → (told ≡ status.Usage) ⊎ (told ≡ status.OutOfMemory)
@@ -117,13 +192,20 @@ complete_none s o n told last h (inr (inl r)) = λ a. absurd (clash n.faults n.f
 complete_none s o n told last h (inr (inr r)) = λ a. inr (r.2 ∙ lacks_memory told (no_command s o told h))
 
 pub complete_of : (c : Option Command) (s : OfSource) (o n : OfSink) (told last : Status) → Works c s o told → Reports n told last → IsComplete c s o n last
-complete_of (Some c) = complete_some c
 complete_of None = complete_none
+complete_of (Some command.List) = λ s o n told last h r. complete_read listed s o n told last h r
+complete_of (Some (command.Decode options)) = λ s o n told last h r. complete_read decoded s o n told last h r
+complete_of (Some (command.Make stream)) = λ s o n told last h r. complete_made stream s o n told last h.1 r
 
 pub runs : (c : Option Command) (s : OfSource) (o n : OfSink) (first told last : Status) → Works c s o first → MayLackMemory first told → Reports n told last → Runs c s o n last
 runs c s o n first told last h m r = record { first = told; work = works_told c s o first told h m; note = r }
 
 -- where nothing was read or written, want of memory may be the answer to any words
+nothing_of : (output : List ℕ → Output) (s : OfSource) (o : OfSink) → Untouched s o → Reads output s o status.OutOfMemory
+nothing_of output s o h = (h.0, h.1, λ bytes told. (0, λ taken is. h.3 ∙ is ∙ ap Some (sym (append-nil taken))))
+
 pub no_work : (c : Option Command) (s : OfSource) (o : OfSink) → Untouched s o → Works c s o status.OutOfMemory
-no_work (Some c) s o h = (h.0, h.1, λ bytes told. (0, λ taken is. h.3 ∙ is ∙ ap Some (sym (append-nil taken))))
 no_work None s o h = h
+no_work (Some command.List) s o h = nothing_of listed s o h
+no_work (Some (command.Decode options)) s o h = nothing_of decoded s o h
+no_work (Some (command.Make stream)) s o h = ((h.0, h.2), (h.1, inl h.3))

@@ -7,6 +7,8 @@ use Rattle.command_words.specs.declared.command.Command.TheVariants as command
 use Rattle.vp9_app.specs.declared.status.Status.{Status}
 use Rattle.vp9_app.specs.declared.status.Status.TheVariants as status
 use Rattle.seq_decoder.specs.Runs.{out_text, run_of}
+use Rattle.stream_forge.specs.Made.{IsMade}
+use Rattle.command_words.specs.declared.command.MadeStream.{MadeStream}
 use Rattle.vp9_app.specs.Listing.{listing}
 use Rattle.vp9_app.specs.Notes.{note_line}
 use Rattle.vp9_app.specs.Statuses.{ended}
@@ -51,21 +53,57 @@ pub record Output : Type 0 where
   pub text : List ℕ
   pub status : Status
 
--- The listing; or the shown frames of the sequential decoding process, in order, to the end of the bytes or up to the
--- first frame that breaks a rule. How a file is decoded changes nothing of it.
-abbrev pub output_of : Command → List ℕ → Output
-output_of command.List bytes = record { text = (listing bytes).adds; status = ended (listing bytes).ending }
-output_of (command.Decode options) bytes = record { text = out_text (run_of bytes); status = ended (run_of bytes).ending }
+-- the listing
+abbrev pub listed : List ℕ → Output
+listed bytes = record { text = (listing bytes).adds; status = ended (listing bytes).ending }
+
+-- The shown frames of the sequential decoding process, in order, to the end of the bytes or up to the first frame that
+-- breaks a rule. How a file is decoded changes nothing of it.
+abbrev pub decoded : List ℕ → Output
+decoded bytes = record { text = out_text (run_of bytes); status = ended (run_of bytes).ending }
+
+---- A command that reads its source ----
 
 -- the source was read to its end, the whole output of its bytes is written, and it ends so
-pub record Completes (c : Command) (s : OfSource) (o : OfSink) (status : Status) : Type 0 where
+pub record Completes (output : List ℕ → Output) (s : OfSource) (o : OfSink) (status : Status) : Type 0 where
   pub source : SourceQuiet s
   pub out : SinkQuiet o
-  pub told : WhereTold s.rest (λ bytes. ((output_of c bytes).status ≡ status) × Takes o.before o.after (output_of c bytes).text × (s.left ≡ Some []))
+  pub told : WhereTold s.rest (λ bytes. ((output bytes).status ≡ status) × Takes o.before o.after (output bytes).text × (s.left ≡ Some []))
 
 -- a front of the output is written
-abbrev pub WritesFront : Command → OfSource → OfSink → Type 0
-WritesFront c s o = WhereTold s.rest (λ bytes. (n : ℕ) × Takes o.before o.after (take n (output_of c bytes).text))
+abbrev pub WritesFront : (List ℕ → Output) → OfSource → OfSink → Type 0
+WritesFront output s o = WhereTold s.rest (λ bytes. (n : ℕ) × Takes o.before o.after (take n (output bytes).text))
+
+-- how its work may end
+abbrev pub Reads : (List ℕ → Output) → OfSource → OfSink → Status → Type 0
+Reads output s o status.Done = Completes output s o status.Done
+Reads output s o (status.Broken stop) = Completes output s o (status.Broken stop)
+Reads output s o status.ReadFault = SourceFailed s × SinkQuiet o × (o.after ≡ o.before)
+Reads output s o status.WriteFault = SourceQuiet s × SinkFailed o × WritesFront output s o
+Reads output s o status.OutOfMemory = SourceQuiet s × SinkQuiet o × WritesFront output s o
+Reads output s o status.Usage = ⊥
+
+---- The command that makes a stream ----
+
+-- nothing was read
+abbrev pub Unread : OfSource → Type 0
+Unread s = SourceQuiet s × (s.left ≡ s.rest)
+
+-- a file that is generated from the number was written, and one of which a front was, which may be empty
+abbrev pub WritesMade : MadeStream → OfSink → Type 0
+WritesMade stream o = (file : List ℕ) × IsMade stream.number stream.frames file × Takes o.before o.after file
+
+abbrev pub WritesFrontOfMade : MadeStream → OfSink → Type 0
+WritesFrontOfMade stream o = (file : List ℕ) × (n : ℕ) × IsMade stream.number stream.frames file × Takes o.before o.after (take n file)
+
+-- How its work may end. Without memory for the whole file nothing is written.
+abbrev pub Makes : MadeStream → OfSink → Status → Type 0
+Makes stream o status.Done = SinkQuiet o × WritesMade stream o
+Makes stream o status.WriteFault = SinkFailed o × WritesFrontOfMade stream o
+Makes stream o status.OutOfMemory = SinkQuiet o × ((o.after ≡ o.before) ⊎ WritesFrontOfMade stream o)
+Makes stream o status = ⊥
+
+---- All commands ----
 
 -- nothing was read or written
 abbrev pub Untouched : OfSource → OfSink → Type 0
@@ -76,12 +114,9 @@ abbrev pub Works : Option Command → OfSource → OfSink → Status → Type 0
 Works None s o status.Usage = Untouched s o
 Works None s o status.OutOfMemory = Untouched s o
 Works None s o status = ⊥
-Works (Some c) s o status.Done = Completes c s o status.Done
-Works (Some c) s o (status.Broken stop) = Completes c s o (status.Broken stop)
-Works (Some c) s o status.ReadFault = SourceFailed s × SinkQuiet o × (o.after ≡ o.before)
-Works (Some c) s o status.WriteFault = SourceQuiet s × SinkFailed o × WritesFront c s o
-Works (Some c) s o status.OutOfMemory = SourceQuiet s × SinkQuiet o × WritesFront c s o
-Works (Some c) s o status.Usage = ⊥
+Works (Some command.List) s o status = Reads listed s o status
+Works (Some (command.Decode options)) s o status = Reads decoded s o status
+Works (Some (command.Make stream)) s o status = Unread s × Makes stream o status
 
 -- the status where the note wants memory: a write fault goes first
 abbrev pub without_memory : Status → Status

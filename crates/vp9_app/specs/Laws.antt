@@ -1,11 +1,12 @@
 -- The causes of the answers of a run, and where it is complete.
-use Rattle.std.specs.Prelude.{◌≡◌, ◌⊎◌, [], Option, Some, None}
+use Rattle.std.specs.Prelude.{◌≡◌, ◌⊎◌, ℕ, List, [], Option, Some, None}
 use Rattle.edge_io.specs.Filling.{WhereTold}
 use Rattle.edge_io.specs.Putting.{Takes}
 use Rattle.command_words.specs.declared.command.Command.{Command}
+use Rattle.command_words.specs.declared.command.Command.TheVariants as command
 use Rattle.vp9_app.specs.declared.status.Status.{Status}
 use Rattle.vp9_app.specs.declared.status.Status.TheVariants as status
-use Rattle.vp9_app.specs.Answers.{OfSource, OfSink, SourceQuiet, SourceFailed, SinkQuiet, SinkFailed, output_of, Completes}
+use Rattle.vp9_app.specs.Answers.{OfSource, OfSink, Output, SourceQuiet, SourceFailed, SinkQuiet, SinkFailed, Completes, Unread, WritesMade, listed, decoded}
 use Rattle.vp9_app.specs.Notes.{note_line}
 
 -- no count rose
@@ -14,18 +15,30 @@ pub record AllQuiet (s : OfSource) (o n : OfSink) : Type 0 where
   pub out : SinkQuiet o
   pub note : SinkQuiet n
 
+-- all of its work is done: what it reads is read, and its whole output is written
+abbrev pub IsDone : Command → OfSource → OfSink → Status → Type 0
+IsDone command.List s o last = Completes listed s o last
+IsDone (command.Decode options) s o last = Completes decoded s o last
+IsDone (command.Make stream) s o last = Unread s × WritesMade stream o × (last ≡ status.Done)
+
 -- the cause of each answer
 abbrev pub HasCause : Option Command → OfSource → OfSink → OfSink → Status → Type 0
-HasCause c s o n status.Done = (used : Command) × (c ≡ Some used) × AllQuiet s o n × Completes used s o status.Done × Takes n.before n.after []
+HasCause c s o n status.Done = (used : Command) × (c ≡ Some used) × AllQuiet s o n × IsDone used s o status.Done × Takes n.before n.after []
 HasCause c s o n (status.Broken stop) =
-    (used : Command) × (c ≡ Some used) × AllQuiet s o n × Completes used s o (status.Broken stop) × Takes n.before n.after (note_line (status.Broken stop))
+    (used : Command) × (c ≡ Some used) × AllQuiet s o n × IsDone used s o (status.Broken stop) × Takes n.before n.after (note_line (status.Broken stop))
 HasCause c s o n status.Usage = (c ≡ None) × AllQuiet s o n × Takes n.before n.after (note_line status.Usage)
 HasCause c s o n status.ReadFault =
     (used : Command) × (c ≡ Some used) × SourceFailed s × SinkQuiet o × SinkQuiet n × (o.after ≡ o.before) × Takes n.before n.after (note_line status.ReadFault)
 HasCause c s o n status.WriteFault = SinkFailed o ⊎ SinkFailed n
 HasCause c s o n status.OutOfMemory = SinkQuiet o × SinkQuiet n
 
--- where no count rises and the source tells its bytes, the answer is that of the words and the output, or want of memory
+-- a command that reads its source ends as the output of its bytes, where the source tells them
+abbrev pub EndsAs : (List ℕ → Output) → OfSource → Status → Type 0
+EndsAs output s last = WhereTold s.rest (λ bytes. (last ≡ (output bytes).status) ⊎ (last ≡ status.OutOfMemory))
+
+-- where no count rises, the answer is that of the words and the output, or want of memory
 abbrev pub IsComplete : Option Command → OfSource → OfSink → OfSink → Status → Type 0
 IsComplete None s o n last = AllQuiet s o n → (last ≡ status.Usage) ⊎ (last ≡ status.OutOfMemory)
-IsComplete (Some c) s o n last = AllQuiet s o n → WhereTold s.rest (λ bytes. (last ≡ (output_of c bytes).status) ⊎ (last ≡ status.OutOfMemory))
+IsComplete (Some command.List) s o n last = AllQuiet s o n → EndsAs listed s last
+IsComplete (Some (command.Decode options)) s o n last = AllQuiet s o n → EndsAs decoded s last
+IsComplete (Some (command.Make stream)) s o n last = AllQuiet s o n → (last ≡ status.Done) ⊎ (last ≡ status.OutOfMemory)

@@ -1,16 +1,19 @@
 ghost use Rattle.std.specs.Prelude.{◌≡◌, Some, None, map, string_bytes};
-ghost use Rattle.vp9_app.specs.Answers.{source_seen, sink_seen, Works, Runs};
+ghost use Rattle.vp9_app.specs.Answers.{source_seen, sink_seen, Makes, Works, Runs};
+ghost use Rattle.command_words.specs.declared.command.Command.TheVariants as command;
+ghost use Rattle.command_words.specs.declared.command.MadeStream.{MadeStream};
 ghost use Rattle.command_words.specs.Words.{command_of};
 
 use crate::listing::list_file;
 use crate::note::report;
 use crate::status::{Status, listing_status};
-use command_words::{Command, DecodeOptions, read_words};
+use command_words::{Command, DecodeOptions, MadeStream, read_words};
 use edge_io::{Gate, PutFault, ReadError, Sink, Source, put_all, read_all};
 use seq_decoder::decode_plain;
 use std::alloc::Global;
 use std::sync::Wait;
 use std::thread::Threads;
+use stream_forge::{NotMade, make_stream};
 
 /// What is left of a run: how it ended, and the objects that it was given.
 #[derive(Drop)]
@@ -70,6 +73,24 @@ fn decode<S: Source, K: Sink>(
     }
 }
 
+/// Writes a generated stream.
+fn make<K: Sink>(alloc: Global, stream: MadeStream, out: &mut K) -> Status
+    requires { K.can_put out.old }
+    ensures work { Makes stream (sink_seen (K.grows out.old) (K.taken out.old) (K.taken out.new) (K.faults out.old) (K.faults out.new)) result }
+    ensures grows { K.grows out.new ≡ K.grows out.old }
+    ensures out_again { K.faults out.new ≡ K.faults out.old → K.can_put out.new }
+{
+    let file = match make_stream(alloc, stream.number, stream.frames) {
+        Ok(file) => file,
+        Err(NotMade::OutOfMemory) => return Status::OutOfMemory,
+    };
+    match put_all(out, file.as_slice()) {
+        Ok(()) => Status::Done,
+        Err(PutFault::Failed) => Status::WriteFault,
+        Err(PutFault::OutOfMemory) => Status::OutOfMemory,
+    }
+}
+
 /// Does what the words ask for.
 fn work<S: Source, K: Sink>(alloc: Global, words: &[String], source: &mut S, out: &mut K) -> Status
     requires source { S.can_fill source.old }
@@ -78,6 +99,7 @@ fn work<S: Source, K: Sink>(alloc: Global, words: &[String], source: &mut S, out
         (source_seen (S.rest source.old) (S.rest source.new) (S.faults source.old) (S.faults source.new))
         (sink_seen (K.grows out.old) (K.taken out.old) (K.taken out.new) (K.faults out.old) (K.faults out.new)) result }
     ensures untouched { command_of (map string_bytes words.now) ≡ None → (source.new ≡ source.old) × (out.new ≡ out.old) }
+    ensures unread { (stream : MadeStream) → command_of (map string_bytes words.now) ≡ Some (command.Make stream) → source.new ≡ source.old }
     ensures source_again { S.faults source.new ≡ S.faults source.old → S.can_fill source.new }
     ensures grows { K.grows out.new ≡ K.grows out.old }
     ensures out_again { K.faults out.new ≡ K.faults out.old → K.can_put out.new }
@@ -85,6 +107,7 @@ fn work<S: Source, K: Sink>(alloc: Global, words: &[String], source: &mut S, out
     match read_words(alloc, words) {
         Ok(Some(Command::List)) => list(alloc, source, out),
         Ok(Some(Command::Decode(options))) => decode(alloc, options, source, out),
+        Ok(Some(Command::Make(stream))) => make(alloc, stream, out),
         Ok(None) => Status::Usage,
         Err(_) => Status::OutOfMemory,
     }
@@ -121,6 +144,9 @@ pub fn run<
 
     // Words that are no command touch neither source nor out.
     ensures untouched { command_of (map string_bytes words.now) ≡ None → (result.source ≡ source) × (result.out ≡ out) }
+
+    // A generated stream needs no source.
+    ensures unread { (stream : MadeStream) → command_of (map string_bytes words.now) ≡ Some (command.Make stream) → result.source ≡ source }
 
     // What didn't fail may be used on.
     ensures source_again { S.faults result.source ≡ S.faults source → S.can_fill result.source }

@@ -3,6 +3,7 @@ mod sizes;
 
 use super::*;
 use edge_io::{MemSink, MemSource, OpenGate};
+use md5::{Digest, Md5};
 use rows::{Row, drawn_streams, inter_decode, intra_decode, list, long_runs, overflow_frames};
 use std::alloc::{AllocError, Global};
 use std::sync::Wait;
@@ -216,6 +217,34 @@ fn a_read_fault_leaves_no_frame(rt: HostRuntime) -> Result<(), Fail> {
     let ran = run_row(&rt, rt.alloc(), row, &failing)?;
     assert_eq!(rt; ran.status.code(), 4);
     assert_eq!(rt; ran.note.bytes(), b"read fault\n".as_slice());
+    assert_eq!(rt; ran.out.bytes().len(), 0);
+    Ok(())
+}
+
+// The digest of another generator's file.
+const THREE_FRAMES: [u8; 16] = [
+    0x97, 0x89, 0x89, 0xf5, 0x86, 0xe0, 0x33, 0x6d, 0x93, 0x32, 0x68, 0xc7, 0x1c, 0xa6, 0xda, 0x4c,
+];
+
+#[test]
+fn a_stream_is_made_without_a_source(rt: HostRuntime) -> Result<(), Fail> {
+    let failing = Fails {
+        source: &[1],
+        ..NONE
+    };
+    let ran = run_words(&rt, rt.alloc(), &["make", "7", "3"], &[], &failing)?;
+    assert_eq!(rt; ran.status.code(), 0);
+    assert_eq!(rt; ran.note.bytes(), b"".as_slice());
+    assert!(rt; Md5::digest(ran.out.bytes()) == THREE_FRAMES);
+    Ok(())
+}
+
+#[test]
+fn a_write_fault_ends_a_stream(rt: HostRuntime) -> Result<(), Fail> {
+    let failing = Fails { out: &[1], ..NONE };
+    let ran = run_words(&rt, rt.alloc(), &["make", "7", "1"], &[], &failing)?;
+    assert_eq!(rt; ran.status.code(), 5);
+    assert_eq!(rt; ran.note.bytes(), b"write fault\n".as_slice());
     assert_eq!(rt; ran.out.bytes().len(), 0);
     Ok(())
 }
