@@ -40,7 +40,7 @@ unfoldable pub read_each : FrameSources → ℕ → List (List ℕ) → FrameRea
 read_each by n [] f = Ok f
 read_each by n (tile ∷ tiles) f = read_tile_of by n tile f >>= read_each by (n + 1) tiles
 
--- the n-th tile's bytes are those of its bools, which lead its syntax, behind the tiles before it, to its value or to a broken rule
+-- the n-th tile's bytes are those of its bools: of some that lead its syntax, behind the tiles before it, to a value or a broken rule
 abbrev pub HasItsBools : FrameSources → ℕ → FrameRead → List ℕ → Type 0
 HasItsBools by n read tile = (settles : Result TileRead Rule) × IsWritten (nth_syntax by n read) settles tile
 
@@ -59,8 +59,8 @@ with_size header size = record header { params = record header.params { compress
 unfoldable pub without_index : List ℕ → List ℕ
 without_index bytes = if slice_index bytes (length bytes - 1) / 32 == 6 then bytes ++ 0 ∷ [] else bytes
 
--- The bytes of a frame that starts behind what persists: its uncompressed header, the compressed one of the size that this
--- tells, and the tiles, each but the last with its size before it. Each tile ends with its bools.
+-- How the bytes of a frame are laid out, behind what persists (6.1, 6.4): its uncompressed header; the compressed one, of the size
+-- that this tells; and the tiles, each but the last with its size before it, and each of them as long as its bools.
 pub record IsLaidOut (before : Persist) (by : FrameSources) (bytes : List ℕ) : Type 0 where
   pub front : List ℕ
   pub compressed : List ℕ

@@ -149,7 +149,7 @@ GivesNth speaker by n read t (Err OutOfMemory) columns new = Unit {0}
 
 ---- All tiles of a frame ----
 
--- their bytes stand behind what was there, and are read so, whatever stands behind the last
+-- their bytes, which are those of their bools, stand behind what was there, and are read so, whatever stands behind the last
 pub record AreTiles (by : FrameSources) (front out : List ℕ) (r : Result FrameRead Rule) : Type 0 where
   pub tiles : List (List ℕ)
   pub last : List ℕ
