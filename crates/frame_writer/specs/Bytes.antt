@@ -60,7 +60,7 @@ unfoldable pub without_index : List ℕ → List ℕ
 without_index bytes = if slice_index bytes (length bytes - 1) / 32 == 6 then bytes ++ 0 ∷ [] else bytes
 
 -- How the bytes of a frame are laid out, behind what persists (6.1, 6.4): its uncompressed header; the compressed one, of the size
--- that this tells; and the tiles, each but the last with its size before it, and each of them as long as its bools.
+-- that this tells; and the tiles, each but the last with its size before it, and each of them the bytes of its bools and no more.
 pub record IsLaidOut (before : Persist) (by : FrameSources) (bytes : List ℕ) : Type 0 where
   pub front : List ℕ
   pub compressed : List ℕ
