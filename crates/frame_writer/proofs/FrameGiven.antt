@@ -7,6 +7,7 @@ use Rattle.vp9_types.specs.declared.block.Modes.{Modes}
 use Rattle.vp9_types.specs.declared.job.Span.{Span}
 use Rattle.vp9_types.specs.declared.rule.Rule.{Rule}
 use Rattle.compressed_header.specs.Header.{IsForward, compressed_header, forward}
+use Rattle.compressed_writer.specs.Bytes.{IsWrittenHeader}
 use Rattle.frame_headers.specs.Header.{head_of}
 use Rattle.frame_headers.specs.Tiles.{AreFewTiles, least, max_log2, min_log2, superblocks}
 use Rattle.frame_headers.specs.declared.header.FrameHead.TheVariants as head
@@ -33,6 +34,12 @@ use Rattle.frame_writer.proofs.SpansRead.{all_read, in_middle}
 same_forward : (header : Header) (size : ℕ) (before : ContextLists) (bytes : List ℕ) → forward (with_size header size) before bytes ≡ forward header before bytes
 unfolding forward compressed_header
 same_forward header size before bytes = refl
+
+-- nor are its bools others
+same_updates : (header : Header) (size : ℕ) (before after : ContextLists) (modes : Modes) (bytes : List ℕ) → IsWrittenHeader header before after modes bytes
+    → IsWrittenHeader (with_size header size) before after modes bytes
+unfolding compressed_header
+same_updates header size before after modes bytes h = record { part = h.part; put = h.put; ends = h.ends }
 
 ends_so : (bytes : List ℕ) → (tail : List ℕ) × (without_index bytes ≡ bytes ++ tail)
 unfolding without_index
@@ -84,10 +91,11 @@ tiles_in speaker by t new front out (Some rule) gives = (Err rule, gives.0)
 
 frame_is : {T : Type 0} (speaker : Speaker T) (before : Persist) (frame : FrameToWrite) (past : FramePast) (t new : T) (front compressed out : List ℕ) (broken : Option Rule) (old : Contexts)
     → past.contexts ≡ lists_of old → IsForward frame.header old compressed (Ok (frame.contexts, frame.modes))
+    → IsWrittenHeader frame.header (lists_of old) (lists_of frame.contexts) frame.modes compressed
     → HoldsHeader before (uncompressed.Coded (with_size frame.header (length compressed))) front
     → GivesAll speaker (sources_with frame past (length compressed)) t (front ++ compressed) broken out new
     → IsFrame speaker before frame past t (without_index out) broken new
-frame_is speaker before frame past t new front compressed out broken old from made holds gives =
+frame_is speaker before frame past t new front compressed out broken old from made updates holds gives =
     let end = ends_so out in
     let are = (tiles_in speaker (sources_with frame past (length compressed)) t new (front ++ compressed) out broken gives).1 in
     let rest = tile_bytes are.tiles are.last in
@@ -112,6 +120,8 @@ frame_is speaker before frame past t new front compressed out broken old from ma
         put = ap without_index are.put;
         holds = holds;
         size = refl;
+        updates = same_updates frame.header size past.contexts _ _ compressed
+            (subst (λ before. IsWrittenHeader frame.header before (lists_of frame.contexts) frame.modes compressed) (sym from) updates);
         many = are.many;
         sizes = are.sizes;
         bools = are.bools;
@@ -131,7 +141,7 @@ frame_by : {T : Type 0} (speaker : Speaker T) (before : Persist) (frame : FrameT
 frame_by speaker before frame past t new old header bytes (Ok w) from h gives =
     let holds = rw h.size at h.holds in
     let all = subst (λ by. GivesAll speaker by t bytes w.broken gives.0 new) (sources_are before frame past old header bytes h) gives.2 in
-    rw gives.1 (frame_is speaker before frame past t new h.front h.compressed gives.0 w.broken old from h.makes holds (rw h.put at all))
+    rw gives.1 (frame_is speaker before frame past t new h.front h.compressed gives.0 w.broken old from h.makes h.bools holds (rw h.put at all))
 frame_by speaker before frame past t new old header bytes (Err Unsaid) from h gives =
     (length h.compressed, subst (λ by. IsUntold speaker by t) (sources_are before frame past old header bytes h) gives)
 frame_by speaker before frame past t new old header bytes (Err TooLong) from h gives =

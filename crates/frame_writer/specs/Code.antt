@@ -11,6 +11,7 @@ use Rattle.frame_headers.specs.declared.header.Header.{Header}
 use Rattle.frame_headers.specs.declared.persist.Persist.{Persist}
 use Rattle.frame_headers.specs.declared.header.Uncompressed.TheVariants as uncompressed
 use Rattle.compressed_header.specs.Header.{IsForward, forward}
+use Rattle.compressed_writer.specs.Bytes.{IsWrittenHeader}
 use Rattle.header_writer.specs.Reads.{HoldsHeader}
 use Rattle.prob_contexts.specs.Lists.{ContextLists, lists_of}
 use Rattle.prob_contexts.specs.declared.contexts.Contexts.{Contexts}
@@ -213,6 +214,7 @@ pub record AreHeaders (before : Persist) (frame : FrameToWrite) (old : Contexts)
   pub put : bytes ≡ front ++ compressed
   pub size : header ≡ with_size frame.header (length compressed)
   pub makes : IsForward frame.header old compressed (Ok (frame.contexts, frame.modes))
+  pub bools : IsWrittenHeader frame.header (lists_of old) (lists_of frame.contexts) frame.modes compressed
   pub holds : HoldsHeader before (uncompressed.Coded header) front
 
 -- a compressed header of 2 ^ 16 bytes is too long

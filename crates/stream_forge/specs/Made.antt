@@ -36,7 +36,7 @@ abbrev pub symbols_from : ℕ → DrawnSymbols
 symbols_from x = record { draws = record { x = x } }
 
 -- The bytes are read as the header, as the modes that are drawn, and as the blocks that are drawn, up to the number from which
--- the next frame is drawn. The compressed header has its size, and each tile the bytes of its bools.
+-- the next frame is drawn. The compressed header has its size; it and the tiles are the bytes of their bools.
 pub record IsCodedFrame (state : State) (header : Header) (x : ℕ) (bytes : List ℕ) (next : ℕ) : Type 0 where
   pub size : ℕ
   pub compressed : Span
