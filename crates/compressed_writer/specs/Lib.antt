@@ -1,2 +1,3 @@
 pub mod Updates
+pub mod Bytes
 pub mod Code

@@ -5,6 +5,7 @@ ghost use Rattle.vp9_types.specs.declared.block.Modes.{Modes};
 ghost use Rattle.bool_encoder.specs.Bools.{Puts};
 ghost use Rattle.prob_contexts.specs.Lists.{lists_of};
 ghost use Rattle.compressed_header.specs.Header.{inter_part, kind_part, compressed_header, IsForward};
+ghost use Rattle.compressed_writer.specs.Bytes.{IsWrittenHeader};
 ghost use Rattle.compressed_writer.specs.Code.{before_kind};
 ghost use Rattle.compressed_writer.specs.Updates.{AreInterUpdates, AreVectorUpdates, IsKindUpdate, CanForward};
 
@@ -91,6 +92,7 @@ pub fn write_compressed_header(
     requires { CanForward header.now (lists_of before.now) (lists_of after.now) modes }
     ensures read { IfOk result (λ bytes. IsForward header.now before.now bytes.items (Ok (after.now, modes))) }
     ensures some { IfOk result (λ bytes. 1 ≤ length bytes.items) }
+    ensures written { IfOk result (λ bytes. IsWrittenHeader header.now (lists_of before.now) (lists_of after.now) modes bytes.items) }
 {
     let mut encoder = BoolEncoder::new(alloc);
     put_compressed(&mut encoder, header, before, after, modes)?;

@@ -7,6 +7,7 @@ use Rattle.vp9_types.specs.declared.block.Modes.{Modes}
 use Rattle.vp9_types.specs.declared.job.Span.{Span}
 use Rattle.vp9_types.specs.declared.rule.Rule.{Rule}
 use Rattle.compressed_header.specs.Header.{IsForward, compressed_header, forward}
+use Rattle.compressed_writer.specs.Bytes.{IsWrittenHeader}
 use Rattle.frame_headers.specs.Header.{head_of}
 use Rattle.frame_headers.specs.Tiles.{AreFewTiles, least, max_log2, min_log2, superblocks}
 use Rattle.frame_headers.specs.declared.header.FrameHead.TheVariants as head
@@ -20,7 +21,7 @@ use Rattle.prob_contexts.specs.declared.contexts.Contexts.{Contexts}
 use Rattle.frame_decoder.specs.Frames.{FrameInput, read_all_tiles, read_frame, sources}
 use Rattle.frame_decoder.specs.Reading.{FrameRead}
 use Rattle.frame_decoder.specs.Sources.{FramePast, FrameSources}
-use Rattle.frame_writer.specs.Bytes.{with_size, without_index}
+use Rattle.frame_writer.specs.Bytes.{tile_bytes, with_size, without_index}
 use Rattle.frame_writer.specs.Code.{AreHeaders, AreTiles, GivesAll, GivesFrame, GivesRest, IsFrame, IsTooLong, IsUntold, ReadsFrame, input_with, sources_with}
 use Rattle.frame_writer.specs.Symbols.{Speaker}
 use Rattle.frame_writer.specs.declared.frame.FrameToWrite.{FrameToWrite}
@@ -33,6 +34,12 @@ use Rattle.frame_writer.proofs.SpansRead.{all_read, in_middle}
 same_forward : (header : Header) (size : ℕ) (before : ContextLists) (bytes : List ℕ) → forward (with_size header size) before bytes ≡ forward header before bytes
 unfolding forward compressed_header
 same_forward header size before bytes = refl
+
+-- nor are its bools others
+same_updates : (header : Header) (size : ℕ) (before after : ContextLists) (modes : Modes) (bytes : List ℕ) → IsWrittenHeader header before after modes bytes
+    → IsWrittenHeader (with_size header size) before after modes bytes
+unfolding compressed_header
+same_updates header size before after modes bytes h = record { part = h.part; put = h.put; ends = h.ends }
 
 ends_so : (bytes : List ℕ) → (tail : List ℕ) × (without_index bytes ≡ bytes ++ tail)
 unfolding without_index
@@ -76,33 +83,49 @@ reads_so speaker frame past t new front compressed out tail bytes (Some rule) is
       gives.1,
     )
 
--- what stands behind the headers
-behind : {T : Type 0} (speaker : Speaker T) (by : FrameSources) (t new : T) (front out : List ℕ) (broken : Option Rule) → GivesAll speaker by t front broken out new
-    → (rest : List ℕ) × (out ≡ front ++ rest)
-behind speaker by t new front out None gives = (_, gives.1.put)
-behind speaker by t new front out (Some rule) gives = (_, gives.0.put)
+-- its tiles, whatever is read of them
+tiles_in : {T : Type 0} (speaker : Speaker T) (by : FrameSources) (t new : T) (front out : List ℕ) (broken : Option Rule) → GivesAll speaker by t front broken out new
+    → (r : Result FrameRead Rule) × AreTiles by front out r
+tiles_in speaker by t new front out None gives = (Ok gives.0, gives.1)
+tiles_in speaker by t new front out (Some rule) gives = (Err rule, gives.0)
 
 frame_is : {T : Type 0} (speaker : Speaker T) (before : Persist) (frame : FrameToWrite) (past : FramePast) (t new : T) (front compressed out : List ℕ) (broken : Option Rule) (old : Contexts)
     → past.contexts ≡ lists_of old → IsForward frame.header old compressed (Ok (frame.contexts, frame.modes))
+    → IsWrittenHeader frame.header (lists_of old) (lists_of frame.contexts) frame.modes compressed
     → HoldsHeader before (uncompressed.Coded (with_size frame.header (length compressed))) front
     → GivesAll speaker (sources_with frame past (length compressed)) t (front ++ compressed) broken out new
     → IsFrame speaker before frame past t (without_index out) broken new
-frame_is speaker before frame past t new front compressed out broken old from made holds gives =
+frame_is speaker before frame past t new front compressed out broken old from made updates holds gives =
     let end = ends_so out in
-    let rest = behind speaker (sources_with frame past (length compressed)) t new (front ++ compressed) out broken gives in
+    let are = (tiles_in speaker (sources_with frame past (length compressed)) t new (front ++ compressed) out broken gives).1 in
+    let rest = tile_bytes are.tiles are.last in
     let bytes = without_index out in
-    let more = compressed ++ (rest.0 ++ end.0) in
+    let more = compressed ++ (rest ++ end.0) in
     let whole : bytes ≡ front ++ more =
-    end.1 ∙ ap (λ l. l ++ end.0) rest.1 ∙ append_assoc (front ++ compressed) rest.0 end.0 ∙ append_assoc front compressed (rest.0 ++ end.0) in
+    end.1 ∙ ap (λ l. l ++ end.0) are.put ∙ append_assoc (front ++ compressed) rest end.0 ∙ append_assoc front compressed (rest ++ end.0) in
     let size = length compressed in
-    let enough : nat_lt (length more) size ≡ false = le-ltb (length more) size (omega (arith, length-append compressed (rest.0 ++ end.0))) in
-    let here : slice_range bytes (length front) (length front + size) ≡ compressed = in_middle bytes front compressed (rest.0 ++ end.0) (length front) (length front + size) whole refl refl in
+    let enough : nat_lt (length more) size ≡ false = le-ltb (length more) size (omega (arith, length-append compressed (rest ++ end.0))) in
+    let here : slice_range bytes (length front) (length front + size) ≡ compressed = in_middle bytes front compressed (rest ++ end.0) (length front) (length front + size) whole refl refl in
     record {
       size = size;
       compressed = span_at front compressed;
       head = ap (head_of before) whole ∙ holds.head more ∙ (rw enough refl);
       read = reads_so speaker frame past t new front compressed out end.0 bytes broken end.1
           (same_forward frame.header size past.contexts _ ∙ (λ i. forward frame.header (from i) (here i)) ∙ made) gives;
+      laid = record {
+        front = front;
+        compressed = compressed;
+        tiles = are.tiles;
+        last = are.last;
+        put = ap without_index are.put;
+        holds = holds;
+        size = refl;
+        updates = same_updates frame.header size past.contexts _ _ compressed
+            (subst (λ before. IsWrittenHeader frame.header before (lists_of frame.contexts) frame.modes compressed) (sym from) updates);
+        many = are.many;
+        sizes = are.sizes;
+        bools = are.bools;
+      };
     }
 
 abbrev sources_by : Header → FrameToWrite → FramePast → FrameSources
@@ -118,7 +141,7 @@ frame_by : {T : Type 0} (speaker : Speaker T) (before : Persist) (frame : FrameT
 frame_by speaker before frame past t new old header bytes (Ok w) from h gives =
     let holds = rw h.size at h.holds in
     let all = subst (λ by. GivesAll speaker by t bytes w.broken gives.0 new) (sources_are before frame past old header bytes h) gives.2 in
-    rw gives.1 (frame_is speaker before frame past t new h.front h.compressed gives.0 w.broken old from h.makes holds (rw h.put at all))
+    rw gives.1 (frame_is speaker before frame past t new h.front h.compressed gives.0 w.broken old from h.makes h.bools holds (rw h.put at all))
 frame_by speaker before frame past t new old header bytes (Err Unsaid) from h gives =
     (length h.compressed, subst (λ by. IsUntold speaker by t) (sources_are before frame past old header bytes h) gives)
 frame_by speaker before frame past t new old header bytes (Err TooLong) from h gives =

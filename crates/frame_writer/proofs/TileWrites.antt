@@ -158,10 +158,12 @@ gives_to speaker by n columns new bytes None read now last holds gives =
       λ tail. nth_from by n (bytes ++ tail) read _ (settled.1 tail),
       columns_hold columns read k new gives.0 settled.0 holds gives.2,
       told_so speaker by n read gives.0 settled.0 now last gives.3,
+      (Ok gives.0, gives.1),
     )
 gives_to speaker by n columns new bytes (Some rule) read now last holds gives = (
   λ tail. nth_breaks_from by n (bytes ++ tail) read rule (breaks_there (nth_syntax by n read) rule bytes tail gives.0),
   told_no speaker by n read (unwritten.Broken rule) now gives.1,
+  (Err rule, gives.0),
 )
 
 gives_all : {T : Type 0} (speaker : Speaker T) (by : FrameSources) (n : ℕ) (columns : List TileColumn) (new : TileColumn) (result : Result Written NotWritten) (read : FrameRead) (now last : T)

@@ -15,7 +15,7 @@ use Rattle.frame_decoder.specs.declared.sources.FrameSources as code
 use Rattle.frame_decoder.specs.declared.columns.TileColumn.{TileColumn}
 use Rattle.tile_writer.specs.declared.unwritten.Unwritten.{Unwritten}
 use Rattle.tile_writer.specs.declared.unwritten.Unwritten.TheVariants as unwritten
-use Rattle.frame_writer.specs.Bytes.{HasSize, read_each, sized, tile_bytes}
+use Rattle.frame_writer.specs.Bytes.{HasItsBools, HasSize, HaveTheirBools, read_each, sized, tile_bytes}
 use Rattle.frame_writer.specs.Code.{AreSoFar, AreTiles, GivesAll, GivesNth, GivesNthTo, GivesTiles, HoldsColumns, IsTooLong, IsUntold, StandsAt, first_broken}
 use Rattle.frame_writer.specs.Frames.{frame_told, nth_told, said_of, tiles_told}
 use Rattle.frame_writer.specs.Symbols.{Speaker}
@@ -33,6 +33,7 @@ none_so_far speaker by t front columns holds = record {
   many = refl;
   sizes = λ i d low. absurd (omega (arith, low));
   put = sym (append-nil front);
+  bools = tt;
   stands = (nothing_read by.header, λ more. refl, holds, ap (λ n. tiles_told speaker by 0 n (said_of (nothing_read by.header), t)) (none_less (tile_count by.header)));
 }
 
@@ -63,6 +64,10 @@ each_next : (by : FrameSources) (n : ℕ) (tile : List ℕ) (more : List (List �
 unfolding read_each
 each_next by n tile more read r is = ap (λ r. r >>= read_each by (n + 1) more) is
 
+none_left : (by : FrameSources) (n : ℕ) (f : FrameRead) → read_each by n [] f ≡ Ok f
+unfolding read_each
+none_left by n f = refl
+
 -- a tile more
 stands_more : {T : Type 0} (speaker : Speaker T) (by : FrameSources) (t : T) (tiles : List (List ℕ)) (n : ℕ) (before broken : Option Rule) (columns others : List TileColumn) (bytes : List ℕ) (now then_it : T)
     → n < tile_count by.header → StandsAt speaker by t tiles n before columns now
@@ -91,6 +96,49 @@ stands_more speaker by t tiles n None (Some rule) columns others bytes now then_
       stands.3 ∙ told_ends speaker by n (tile_count by.header) stands.0 now (unwritten.Broken rule) below g.1,
     )
 
+---- The bools of each tile ----
+
+-- a tile more, behind what is read of those before
+bools_more : (by : FrameSources) (n m : ℕ) (f : FrameRead) (tiles : List (List ℕ)) (bytes : List ℕ) → m ≡ n + length tiles → HaveTheirBools by n f tiles
+    → ((read : FrameRead) → read_each by n tiles f ≡ Ok read → HasItsBools by m read bytes) → HaveTheirBools by n f (tiles ++ bytes ∷ [])
+unfolding read_each
+bools_more by n m f [] bytes at bools last =
+    let here : m ≡ n = omega (arith, at) in
+    (subst (λ m. HasItsBools by m f bytes) here (last f refl), λ next is. tt)
+bools_more by n m f (tile ∷ tiles) bytes at bools last = (
+  bools.0,
+  λ next is. bools_more by (n + 1) m next tiles bytes (omega (arith, at)) (bools.1 next is) (λ read each. last read (ap (λ r. r >>= read_each by (n + 1) tiles) is ∙ each)),
+)
+
+same_read : (x y : FrameRead) → ◌≡◌ {A = Result FrameRead Rule} (Ok x) (Ok y) → x ≡ y
+same_read x y h = cc
+
+not_both : (x : FrameRead) (rule : Rule) → ◌≡◌ {A = Result FrameRead Rule} (Ok x) (Err rule) → ⊥
+not_both x rule h = cc
+
+bools_in : {T : Type 0} (speaker : Speaker T) (by : FrameSources) (n : ℕ) (read : FrameRead) (broken : Option Rule) (columns : List TileColumn) (bytes : List ℕ) (now last : T)
+    → GivesNthTo speaker by n read now bytes broken columns last → HasItsBools by n read bytes
+bools_in speaker by n read None columns bytes now last gives = gives.4
+bools_in speaker by n read (Some rule) columns bytes now last gives = gives.2
+
+-- behind those so far: the tile's own, or any behind a broken rule
+its_bools : {T : Type 0} (speaker : Speaker T) (by : FrameSources) (t : T) (tiles : List (List ℕ)) (n : ℕ) (before broken : Option Rule) (columns others : List TileColumn) (bytes : List ℕ) (now then_it : T)
+    → StandsAt speaker by t tiles n before columns now → ((read : FrameRead) → HoldsColumns columns read → GivesNthTo speaker by n read now bytes broken others then_it)
+    → (read : FrameRead) → read_each by 0 tiles (nothing_read by.header) ≡ Ok read → HasItsBools by n read bytes
+its_bools speaker by t tiles n (Some rule) broken columns others bytes now then_it stands gives read each =
+    absurd (not_both read rule (sym each ∙ ap (λ l. read_each by 0 l (nothing_read by.header)) (sym (append-nil tiles)) ∙ stands.0 []))
+its_bools speaker by t tiles n None broken columns others bytes now then_it stands gives read each =
+    let same = same_read stands.0 read
+    (sym (ap (λ l. read_each by 0 l (nothing_read by.header)) (sym (append-nil tiles)) ∙ stands.1 [] ∙ none_left by n stands.0) ∙ each) in
+    subst (λ read. HasItsBools by n read bytes) same (bools_in speaker by n stands.0 broken others bytes now then_it (gives stands.0 stands.2))
+
+with_bools : {T : Type 0} (speaker : Speaker T) (by : FrameSources) (t : T) (front out : List ℕ) (n : ℕ) (before broken : Option Rule) (columns others : List TileColumn) (bytes : List ℕ) (now then_it : T)
+    → (far : AreSoFar speaker by t front n before columns out now) → ((read : FrameRead) → HoldsColumns columns read → GivesNthTo speaker by n read now bytes broken others then_it)
+    → HaveTheirBools by 0 (nothing_read by.header) (far.tiles ++ bytes ∷ [])
+with_bools speaker by t front out n before broken columns others bytes now then_it far gives =
+    bools_more by 0 n (nothing_read by.header) far.tiles bytes (omega (arith, far.many)) far.bools
+    (its_bools speaker by t far.tiles n before broken columns others bytes now then_it far.stands gives)
+
 one_sized : (tile : List ℕ) → HasSize tile → All HasSize (tile ∷ [])
 one_sized tile h zero d low = h
 one_sized tile h (suc i) d low = absurd (omega (arith, low))
@@ -105,6 +153,7 @@ one_more speaker by t front out more n broken columns others w now then_it below
   sizes = All-append HasSize far.tiles (w.bytes.items ∷ []) far.sizes (one_sized w.bytes.items some);
   put = put ∙ ap (λ l. l ++ sized w.bytes.items) far.put ∙ append_assoc front (flat_map sized far.tiles) (sized w.bytes.items)
       ∙ ap (λ l. front ++ l) (ap (λ l. flat_map sized far.tiles ++ l) (sym (append-nil (sized w.bytes.items))) ∙ sym (flat_map-append sized far.tiles (w.bytes.items ∷ [])));
+  bools = with_bools speaker by t front out n broken w.broken columns others w.bytes.items now then_it far gives;
   stands = stands_more speaker by t far.tiles n broken w.broken columns others w.bytes.items now then_it below far.stands gives;
 }
 
@@ -132,10 +181,6 @@ refused_at speaker by t front out ending n broken columns others OutOfMemory now
 
 ---- The last tile ----
 
-none_left : (by : FrameSources) (n : ℕ) (f : FrameRead) → read_each by n [] f ≡ Ok f
-unfolding read_each
-none_left by n f = refl
-
 last_given : {T : Type 0} (speaker : Speaker T) (by : FrameSources) (t : T) (front out : List ℕ) (n : ℕ) (before broken : Option Rule) (columns others : List TileColumn) (bytes : List ℕ) (now then_it : T)
     → n + 1 ≡ tile_count by.header → 1 ≤ length bytes → (far : AreSoFar speaker by t front n before columns out now)
     → ((read : FrameRead) → HoldsColumns columns read → GivesNthTo speaker by n read now bytes broken others then_it)
@@ -148,6 +193,7 @@ last_given speaker by t front out n (Some rule) broken columns others bytes now 
     sizes = far.sizes;
     some = some;
     put = ap (λ l. l ++ bytes) far.put ∙ append_assoc front (flat_map sized far.tiles) bytes;
+    bools = with_bools speaker by t front out n (Some rule) broken columns others bytes now then_it far gives;
     read = λ tail. far.stands.0 ((bytes ++ tail) ∷ []);
   },
   far.stands.1,
@@ -164,6 +210,7 @@ last_given speaker by t front out n None None columns others bytes now then_it l
         sizes = far.sizes;
         some = some;
         put = ap (λ l. l ++ bytes) far.put ∙ append_assoc front (flat_map sized far.tiles) bytes;
+        bools = with_bools speaker by t front out n None None columns others bytes now then_it far gives;
         read = λ tail. stands.1 ((bytes ++ tail) ∷ []) ∙ each_next by n (bytes ++ tail) [] stands.0 (Ok g.0) (g.1 tail) ∙ none_left by (n + 1) g.0;
       },
       stands.3 ∙ told_next speaker by n count stands.0 g.0 now then_it (omega (arith, last)) g.3 ∙ told_all speaker by (n + 1) count g.0 then_it (omega (arith, last)),
@@ -178,6 +225,7 @@ last_given speaker by t front out n None (Some rule) columns others bytes now th
         sizes = far.sizes;
         some = some;
         put = ap (λ l. l ++ bytes) far.put ∙ append_assoc front (flat_map sized far.tiles) bytes;
+        bools = with_bools speaker by t front out n None (Some rule) columns others bytes now then_it far gives;
         read = λ tail. stands.1 ((bytes ++ tail) ∷ []) ∙ each_next by n (bytes ++ tail) [] stands.0 (Err rule) (g.0 tail);
       },
       stands.3 ∙ told_ends speaker by n (tile_count by.header) stands.0 now (unwritten.Broken rule) (omega (arith, last)) g.1,

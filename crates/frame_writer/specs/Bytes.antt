@@ -8,9 +8,15 @@ use Rattle.vp9_types.specs.declared.rule.Rule.{Rule}
 use Rattle.bool_encoder.specs.Part.{Part, Finishes, marked}
 use Rattle.counting_reader.specs.Counting.{Settled}
 use Rattle.counting_writer.specs.Counted.{PutsTo}
+use Rattle.frame_headers.specs.Spans.{tile_count}
 use Rattle.frame_headers.specs.declared.header.Header.{Header}
-use Rattle.frame_decoder.specs.Reading.{FrameRead, read_tile_of}
+use Rattle.frame_headers.specs.declared.header.Uncompressed.TheVariants.{Coded}
+use Rattle.frame_headers.specs.declared.persist.Persist.{Persist}
+use Rattle.compressed_writer.specs.Bytes.{IsWrittenHeader}
+use Rattle.header_writer.specs.Reads.{HoldsHeader}
+use Rattle.frame_decoder.specs.Reading.{FrameRead, TileRead, nothing_read, read_tile_of}
 use Rattle.frame_decoder.specs.Sources.{FrameSources}
+use Rattle.frame_writer.specs.Frames.{nth_syntax}
 
 -- the bytes of bools that lead a syntax from the marker on to its end: to the value, or to the rule that is broken there
 pub record IsWritten {A : Type 0} (s : Syntax ℕ Rule (Settled A)) (r : Result A Rule) (bytes : List ℕ) : Type 0 where
@@ -35,6 +41,15 @@ unfoldable pub read_each : FrameSources → ℕ → List (List ℕ) → FrameRea
 read_each by n [] f = Ok f
 read_each by n (tile ∷ tiles) f = read_tile_of by n tile f >>= read_each by (n + 1) tiles
 
+-- the n-th tile's bytes are those of its bools: of some that lead its syntax, behind the tiles before it, to a value or a broken rule
+abbrev pub HasItsBools : FrameSources → ℕ → FrameRead → List ℕ → Type 0
+HasItsBools by n read tile = (settles : Result TileRead Rule) × IsWritten (nth_syntax by n read) settles tile
+
+-- so are those of the tiles from the n-th on, each behind what is read of those before; behind a broken rule none is read
+abbrev pub HaveTheirBools : FrameSources → ℕ → FrameRead → List (List ℕ) → Type 0
+HaveTheirBools by n read [] = Unit {0}
+HaveTheirBools by n read (tile ∷ tiles) = HasItsBools by n read tile × ((next : FrameRead) → read_tile_of by n tile read ≡ Ok next → HaveTheirBools by (n + 1) next tiles)
+
 ---- A frame ----
 
 -- a header with the size of the compressed header
@@ -44,3 +59,18 @@ with_size header size = record header { params = record header.params { compress
 -- a byte 0 stands behind a frame whose last byte would be taken for that of a superframe index (annex B)
 unfoldable pub without_index : List ℕ → List ℕ
 without_index bytes = if slice_index bytes (length bytes - 1) / 32 == 6 then bytes ++ 0 ∷ [] else bytes
+
+-- How the bytes of a frame are laid out, behind what persists (6.1, 6.4): its uncompressed header; the compressed one, of the size
+-- that this tells; and the tiles, each but the last with its size before it. The last two are the bytes of their bools and no more.
+pub record IsLaidOut (before : Persist) (by : FrameSources) (bytes : List ℕ) : Type 0 where
+  pub front : List ℕ
+  pub compressed : List ℕ
+  pub tiles : List (List ℕ)
+  pub last : List ℕ
+  pub put : bytes ≡ without_index (front ++ compressed ++ tile_bytes tiles last)
+  pub holds : HoldsHeader before (Coded by.header) front
+  pub size : length compressed ≡ by.header.params.compressed_size
+  pub updates : IsWrittenHeader by.header by.past.contexts by.contexts by.modes compressed
+  pub many : length tiles + 1 ≡ tile_count by.header
+  pub sizes : All HasSize tiles
+  pub bools : HaveTheirBools by 0 (nothing_read by.header) (tiles ++ last ∷ [])

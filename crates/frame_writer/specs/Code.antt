@@ -11,6 +11,7 @@ use Rattle.frame_headers.specs.declared.header.Header.{Header}
 use Rattle.frame_headers.specs.declared.persist.Persist.{Persist}
 use Rattle.frame_headers.specs.declared.header.Uncompressed.TheVariants as uncompressed
 use Rattle.compressed_header.specs.Header.{IsForward, forward}
+use Rattle.compressed_writer.specs.Bytes.{IsWrittenHeader}
 use Rattle.header_writer.specs.Reads.{HoldsHeader}
 use Rattle.prob_contexts.specs.Lists.{ContextLists, lists_of}
 use Rattle.prob_contexts.specs.declared.contexts.Contexts.{Contexts}
@@ -30,7 +31,7 @@ use Rattle.frame_decoder.specs.declared.sources.FrameSources as code
 use Rattle.frame_decoder.specs.declared.tile_places.TilePlaces.{TilePlaces}
 use Rattle.tile_writer.specs.declared.unwritten.Unwritten.{Unwritten}
 use Rattle.tile_writer.specs.declared.unwritten.Unwritten.TheVariants as unwritten
-use Rattle.frame_writer.specs.Bytes.{HasSize, IsWritten, read_each, sized, tile_bytes, with_size, without_index}
+use Rattle.frame_writer.specs.Bytes.{HasItsBools, HasSize, HaveTheirBools, IsLaidOut, IsWritten, read_each, sized, tile_bytes, with_size, without_index}
 use Rattle.frame_writer.specs.Frames.{FrameSaid, frame_told, nth_syntax, nth_told, said_of, tile_syntax, tile_told, tiles_told}
 use Rattle.frame_writer.specs.Symbols.{Speaker}
 use Rattle.frame_writer.specs.declared.frame.FrameHeaders.{FrameHeaders}
@@ -134,12 +135,12 @@ pub record IsLongTile (by : FrameSources) (n : ℕ) (read : FrameRead) : Type 0 
   pub written : IsWritten (nth_syntax by n read) settles bytes
   pub long : 2 ^ 32 ≤ length bytes
 
--- the n-th tile's bytes are read as that, whatever stands behind them
+-- the n-th tile's bytes are those of its bools, and are read as that, whatever stands behind them
 abbrev pub GivesNthTo : {T : Type 0} → Speaker T → FrameSources → ℕ → FrameRead → T → List ℕ → Option Rule → List TileColumn → T → Type 0
 GivesNthTo speaker by n read t bytes None columns new =
-    (next : FrameRead) × ((tail : List ℕ) → read_tile_of by n (bytes ++ tail) read ≡ Ok next) × HoldsColumns columns next × (nth_told speaker by n (said_of read, t) ≡ Ok (said_of next, new))
+    (next : FrameRead) × ((tail : List ℕ) → read_tile_of by n (bytes ++ tail) read ≡ Ok next) × HoldsColumns columns next × (nth_told speaker by n (said_of read, t) ≡ Ok (said_of next, new)) × HasItsBools by n read bytes
 GivesNthTo speaker by n read t bytes (Some rule) columns new =
-    ((tail : List ℕ) → read_tile_of by n (bytes ++ tail) read ≡ Err rule) × (nth_told speaker by n (said_of read, t) ≡ Err (unwritten.Broken rule))
+    ((tail : List ℕ) → read_tile_of by n (bytes ++ tail) read ≡ Err rule) × (nth_told speaker by n (said_of read, t) ≡ Err (unwritten.Broken rule)) × HasItsBools by n read bytes
 
 abbrev pub GivesNth : {T : Type 0} → Speaker T → FrameSources → ℕ → FrameRead → T → Result Written NotWritten → List TileColumn → T → Type 0
 GivesNth speaker by n read t (Ok w) columns new = GivesNthTo speaker by n read t w.bytes.items w.broken columns new
@@ -149,7 +150,7 @@ GivesNth speaker by n read t (Err OutOfMemory) columns new = Unit {0}
 
 ---- All tiles of a frame ----
 
--- their bytes stand behind what was there, and are read so, whatever stands behind the last
+-- their bytes, which are those of their bools, stand behind what was there, and are read so, whatever stands behind the last
 pub record AreTiles (by : FrameSources) (front out : List ℕ) (r : Result FrameRead Rule) : Type 0 where
   pub tiles : List (List ℕ)
   pub last : List ℕ
@@ -157,6 +158,7 @@ pub record AreTiles (by : FrameSources) (front out : List ℕ) (r : Result Frame
   pub sizes : All HasSize tiles
   pub some : 1 ≤ length last
   pub put : out ≡ front ++ tile_bytes tiles last
+  pub bools : HaveTheirBools by 0 (nothing_read by.header) (tiles ++ last ∷ [])
   pub read : (tail : List ℕ) → read_each by 0 (tiles ++ (last ++ tail) ∷ []) (nothing_read by.header) ≡ r
 
 -- all are told, or they break a rule
@@ -200,6 +202,7 @@ pub record AreSoFar {T : Type 0} (speaker : Speaker T) (by : FrameSources) (t : 
   pub many : length tiles ≡ n
   pub sizes : All HasSize tiles
   pub put : out ≡ front ++ flat_map sized tiles
+  pub bools : HaveTheirBools by 0 (nothing_read by.header) tiles
   pub stands : StandsAt speaker by t tiles n broken columns now
 
 ---- A frame ----
@@ -211,6 +214,7 @@ pub record AreHeaders (before : Persist) (frame : FrameToWrite) (old : Contexts)
   pub put : bytes ≡ front ++ compressed
   pub size : header ≡ with_size frame.header (length compressed)
   pub makes : IsForward frame.header old compressed (Ok (frame.contexts, frame.modes))
+  pub bools : IsWrittenHeader frame.header (lists_of old) (lists_of frame.contexts) frame.modes compressed
   pub holds : HoldsHeader before (uncompressed.Coded header) front
 
 -- a compressed header of 2 ^ 16 bytes is too long
@@ -241,6 +245,7 @@ pub record IsFrame {T : Type 0} (speaker : Speaker T) (before : Persist) (frame 
   pub compressed : Span
   pub head : head_of before bytes ≡ Ok (Coded (with_size frame.header size) compressed)
   pub read : ReadsFrame speaker (input_with frame past size compressed bytes) (sources_with frame past size) t broken new
+  pub laid : IsLaidOut before (sources_with frame past size) bytes
 
 abbrev pub GivesFrame : {T : Type 0} → Speaker T → Persist → FrameToWrite → FramePast → T → Result Written NotWritten → T → Type 0
 GivesFrame speaker before frame past t (Ok w) new = IsFrame speaker before frame past t w.bytes.items w.broken new

@@ -2,6 +2,7 @@
 use Rattle.std.proofs.Common.{◌≡◌, ◌∙◌, ℕ, List, refl, sym, ap, ◌⊎◌, inl, inr, subst}
 use Rattle.std.specs.Prelude.{IsOk, Option, Some, None, Result, Ok, Err}
 use Rattle.vp9_types.specs.Results.{map_ok}
+use Rattle.vp9_types.specs.declared.block.Modes.{Modes}
 use Rattle.vp9_types.specs.declared.job.Span.{Span}
 use Rattle.vp9_types.specs.declared.rule.Rule.{Rule}
 use Rattle.frame_headers.specs.Header.{head_of}
@@ -14,7 +15,7 @@ use Rattle.prob_contexts.specs.Lists.{ContextLists, lists_of}
 use Rattle.frame_decoder.specs.Frames.{FrameInput, decoded, read_frame, rebuilt}
 use Rattle.frame_decoder.specs.Reading.{FrameRead}
 use Rattle.frame_decoder.specs.Sources.{FramePast, FrameSources}
-use Rattle.frame_writer.specs.Bytes.{with_size}
+use Rattle.frame_writer.specs.Bytes.{IsLaidOut, with_size}
 use Rattle.frame_writer.specs.Frames.{frame_told}
 use Rattle.frame_writer.specs.Code.{GivesFrame, IsFrame, IsLongHeader, IsTooLong, IsUntold, input_with, sources_with}
 use Rattle.frame_writer.specs.declared.frame.FrameToWrite.{FrameToWrite}
@@ -95,6 +96,7 @@ given_to persist state header frame past x symbols last bytes None same is f =
       read = read.0;
       reads = ap read_frame (sym input) ∙ read.1 ∙ ap (λ by. Ok (read.0, by)) sources;
       told = (λ i. frame_told drawing (sym sources i) (sym (symbols_by state header frame past x symbols is) i)) ∙ read.2;
+      laid = subst (λ (p : Persist × FrameSources). IsLaidOut p.0 p.1 bytes) (λ i. (same i, sources i)) f.laid;
     }
 given_to persist state header frame past x symbols last bytes (Some rule) same is f = inl (unsaid_by state header frame past x f.size symbols (unwritten.Broken rule) is f.read.1)
 
@@ -141,6 +143,7 @@ frame_unsized state header x bytes next f = record {
   read = f.read;
   reads = f.reads ∙ ap (λ p. Ok (f.read, drawn_sources state (with_size header f.size) p.0)) (same_modes header x);
   told = ap (λ p. frame_told drawing (drawn_sources state (with_size header f.size) p.0) (symbols_from p.1)) (sym (same_modes header x)) ∙ f.told;
+  laid = subst (λ (p : Modes × ℕ). IsLaidOut (persist_of state) (drawn_sources state (with_size header f.size) p.0) bytes) (same_modes header x) f.laid;
 }
 
 told_unsized : (state : State) (header : Header) (x size : ℕ)

@@ -14,7 +14,7 @@ use Rattle.frame_decoder.specs.Reading.{FrameRead}
 use Rattle.frame_decoder.specs.Sources.{FrameSources}
 use Rattle.compressed_header.specs.Header.{forward}
 use Rattle.tile_writer.specs.declared.unwritten.Unwritten.{Unwritten}
-use Rattle.frame_writer.specs.Bytes.{with_size}
+use Rattle.frame_writer.specs.Bytes.{IsLaidOut, with_size}
 use Rattle.frame_writer.specs.Code.{IsTooLong}
 use Rattle.frame_writer.specs.Frames.{frame_told, said_of}
 use Rattle.drawn_headers.specs.Heads.{draw_head}
@@ -36,7 +36,7 @@ abbrev pub symbols_from : ℕ → DrawnSymbols
 symbols_from x = record { draws = record { x = x } }
 
 -- The bytes are read as the header, as the modes that are drawn, and as the blocks that are drawn, up to the number from which
--- the next frame is drawn. The compressed header has its size.
+-- the next frame is drawn. The compressed header has its size; it and the tiles are the bytes of their bools.
 pub record IsCodedFrame (state : State) (header : Header) (x : ℕ) (bytes : List ℕ) (next : ℕ) : Type 0 where
   pub size : ℕ
   pub compressed : Span
@@ -44,6 +44,7 @@ pub record IsCodedFrame (state : State) (header : Header) (x : ℕ) (bytes : Lis
   pub read : FrameRead
   pub reads : read_frame (input_of state bytes (with_size header size) compressed) ≡ Ok (read, drawn_sources state (with_size header size) (draw_modes header x).0)
   pub told : frame_told drawing (drawn_sources state (with_size header size) (draw_modes header x).0) (symbols_from (draw_modes header x).1) ≡ Ok (said_of read, symbols_from next)
+  pub laid : IsLaidOut (persist_of state) (drawn_sources state (with_size header size) (draw_modes header x).0) bytes
 
 ---- Why there is none ----
 
