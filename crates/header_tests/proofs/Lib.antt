@@ -1,2 +1,4 @@
 mod Numbers
 mod Pairs
+mod Readings
+mod ReadParams
