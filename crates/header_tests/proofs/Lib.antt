@@ -1,4 +1,7 @@
 mod Numbers
 mod Pairs
 mod Readings
+mod ReadColors
+mod ReadHeaders
 mod ReadParams
+mod ReadReferences

@@ -14,7 +14,7 @@ use Rattle.frame_headers.specs.Quantizer.{delta_q, quantization_params}
 use Rattle.frame_headers.specs.Segments.{probability_for, prediction_probabilities, update_map, map_or_none, signed_feature, reference_feature, segment_features, features_for, no_segment_features, update_features, features_or_old, enabled_params, segmentation_params}
 use Rattle.frame_headers.specs.Tiles.{superblocks, min_log2, max_log2, more_columns, tile_columns_log2, tile_rows_log2, tile_info}
 use Rattle.header_writer.specs.WellFormed.{IsSigned, AreDeltas, IsLoopFilter, IsQuantizer, AreSegmentFeatures, IsMapUpdate, IsSegmentation, IsTileInfo}
-use Rattle.header_tests.proofs.Readings.{Yields, IsEach, yields_bind, yields_all, yields_map, yields_after, field_yields, each_yields, each_all}
+use Rattle.header_tests.proofs.Readings.{Yields, IsEach, yields_bind, yields_all, yields_map, yields_after, field_yields, each_yields, each_all, no_false}
 
 ---- Numbers with a sign ----
 
@@ -62,11 +62,6 @@ record AreAllowed (enabled : Bool) (old deltas : LoopDeltas) : Type 0 where
 
 old_deltas : (old : LoopDeltas) → AreCoded old old
 old_deltas old = (λ i low other. absurd (other refl), λ i low other. absurd (other refl))
-
-no_false : {P : Type 0} → true ≡ false → P
-no_false h =
-    let no : ⊥ = cc in
-    absurd no
 
 changes_yield : (update : Bool) (old : LoopDeltas) → Yields (if update then coded_deltas old else done old) (AreAllowed true old)
 changes_yield true old =

@@ -32,6 +32,16 @@ read_has s P bits rest x h are read =
     let found = reads_entries past s bits x rest are read in
     read_as s P found.0 x h found.1
 
+pub no_false : {P : Type 0} → true ≡ false → P
+no_false h =
+    let no : ⊥ = cc in
+    absurd no
+
+pub no_true : {P : Type 0} → false ≡ true → P
+no_true h =
+    let no : ⊥ = cc in
+    absurd no
+
 ---- One and then another ----
 
 pub yields_bind : {A B : Type 0} (s : Table A) (t : A → Table B) (P : A → Type 0) (Q : B → Type 0) → Yields s P → ((x : A) → P x → Yields (t x) Q) → Yields (s >>= t) Q
