@@ -1,19 +1,17 @@
 -- Colours that are read (6.2.2 of the standard) can be written.
-use Rattle.std.proofs.Common.{◌≡◌, ℕ, zero, suc, ◌≤◌, ◌<◌, Bool, true, false, ◌⊎◌, inl, inr, refl, arith}
+use Rattle.std.proofs.Common.{◌≡◌, ℕ, zero, suc, ◌≤◌, ◌<◌, Bool, true, false, refl, arith}
 use Rattle.std.specs.Prelude.{◌≢◌, not, ◌&&◌, ◌==◌, nat_lt, if◌then◌else◌}
 use Rattle.std.proofs.lemmas.Bool.{eqb-true, eqb-false, ltb-true, ltb-false}
-use Rattle.vp9_types.specs.declared.rule.Rule.TheVariants.{ColourConfig, ReservedBit}
+use Rattle.vp9_types.specs.declared.rule.Rule.TheVariants.{ColourConfig}
 use Rattle.vp9_types.specs.declared.shape.Depth.{Depth}
 use Rattle.vp9_types.specs.declared.shape.Depth.TheVariants.{Eight, Ten, Twelve}
 use Rattle.vp9_types.specs.Syntax.{done, broken, check, ◌>>=◌, ◌>>◌}
-use Rattle.frame_headers.specs.declared.color.ColorConfig.{ColorConfig}
-use Rattle.frame_headers.specs.declared.color.ColorSpace.{ColorSpace as Space}
 use Rattle.frame_headers.specs.declared.color.ColorSpace.TheVariants.{Rgb}
 use Rattle.frame_headers.specs.declared.field.FieldName.TheVariants as name
 use Rattle.frame_headers.specs.Color.{color_space_of, is_odd_profile, bit_depth, reserved_zero, coded_subsampling, subsampling, yuv_config, rgb_config, color_config, default_color, intra_only_color}
-use Rattle.frame_headers.specs.Fields.{Table, f, flag}
+use Rattle.frame_headers.specs.Fields.{f, flag}
 use Rattle.header_writer.specs.WellFormed.{IsColor, IsIntraOnlyColor}
-use Rattle.header_tests.proofs.Readings.{Yields, yields_bind, yields_map, yields_after, yields_check, field_yields, no_false, no_true}
+use Rattle.header_tests.proofs.Readings.{Yields, yields_bind, yields_map, yields_after, yields_check, field_yields, no_true}
 
 ---- Depths ----
 

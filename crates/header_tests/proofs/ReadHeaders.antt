@@ -1,6 +1,6 @@
 -- Headers that are read (6.2 of the standard) can be written.
-use Rattle.std.proofs.Common.{◌≡◌, ℕ, zero, suc, ◌+◌, ◌*◌, ◌<◌, ◌≤◌, Bool, true, false, refl, arith}
-use Rattle.std.specs.Prelude.{All, not, ◌==◌, if◌then◌else◌}
+use Rattle.std.proofs.Common.{◌≡◌, ℕ, zero, suc, ◌<◌, ◌≤◌, Bool, true, false, refl, arith}
+use Rattle.std.specs.Prelude.{not, ◌==◌, if◌then◌else◌}
 use Rattle.std.proofs.lemmas.List.Elements.{All-replicate}
 use Rattle.vp9_types.specs.declared.rule.Rule.TheVariants as rule
 use Rattle.vp9_types.specs.Syntax.{done, check, ◌>>=◌, ◌>>◌}
@@ -8,7 +8,6 @@ use Rattle.frame_headers.specs.declared.field.FieldName.TheVariants as name
 use Rattle.frame_headers.specs.declared.filter.LoopDeltas.{LoopDeltas}
 use Rattle.frame_headers.specs.declared.header.FrameContexts.{FrameContexts}
 use Rattle.frame_headers.specs.declared.header.FrameFields.{FrameFields}
-use Rattle.frame_headers.specs.declared.header.FrameKind.{FrameKind}
 use Rattle.frame_headers.specs.declared.header.FrameParams.{FrameParams}
 use Rattle.frame_headers.specs.declared.header.FrameStart.{FrameStart}
 use Rattle.frame_headers.specs.declared.header.Header.{Header}
@@ -16,7 +15,7 @@ use Rattle.frame_headers.specs.declared.header.Uncompressed.TheVariants as uncom
 use Rattle.frame_headers.specs.declared.persist.Persist.{Persist}
 use Rattle.frame_headers.specs.declared.segments.Features.{Features}
 use Rattle.frame_headers.specs.Color.{color_config, intra_only_color, reserved_zero}
-use Rattle.frame_headers.specs.Fields.{Table, f, flag}
+use Rattle.frame_headers.specs.Fields.{f, flag}
 use Rattle.frame_headers.specs.Filter.{loop_filter_params}
 use Rattle.frame_headers.specs.Header.{coded_profile, frame_profile, frame_sync_code, frame_contexts, frame_params, key_fields, intra_only_fields, intra_only_flag, reset_frame_context, intra_and_reset, other_fields, frame_fields, frame_start, forgets, kept_deltas, kept_features, coded_frame, uncompressed_header}
 use Rattle.frame_headers.specs.Quantizer.{quantization_params}
@@ -192,12 +191,12 @@ coded_yields before profile left low =
     (λ start. yields_bind (frame_fields before profile start) _ (AreFields before profile start) (IsHeader before) (fields_yield before profile start left.sizes)
     (λ fields are. yields_bind (frame_contexts start.error_resilient) _ (IsContexts start.error_resilient) (IsHeader before) (contexts_yield start.error_resilient)
     (λ contexts are_contexts.
-        let forgotten = forgets fields.kind start.error_resilient in
-        let deltas = kept_deltas before forgotten in
-        let features = kept_features before forgotten in
-        yields_bind (frame_params deltas features fields.size.width) _ (IsParams deltas features fields.size.width) (IsHeader before)
-        (params_yield deltas features fields.size.width (kept_fit before forgotten left.features))
-        (λ params are_params. record { profile = low; size = are.size; kind = are.kind contexts params; contexts = are_contexts; params = are_params }))))
+    let forgotten = forgets fields.kind start.error_resilient in
+    let deltas = kept_deltas before forgotten in
+    let features = kept_features before forgotten in
+    yields_bind (frame_params deltas features fields.size.width) _ (IsParams deltas features fields.size.width) (IsHeader before)
+    (params_yield deltas features fields.size.width (kept_fit before forgotten left.features))
+    (λ params are_params. record { profile = low; size = are.size; kind = are.kind contexts params; contexts = are_contexts; params = are_params }))))
 
 profile_if : (three : Bool) (profile : ℕ) → profile < 4 → Yields (if three then (reserved_zero >> done profile) else done profile) (λ p. p < 4)
 profile_if true profile low = yields_after reserved_zero _ (λ p. p < 4) (λ u. low)

@@ -1,6 +1,6 @@
 -- What is read of the parameters that end a header (6.2.8 to 6.2.14 of the standard) can be written.
-use Rattle.std.proofs.Common.{◌≡◌, ℕ, zero, suc, ◌+◌, ◌-◌, ◌*◌, ◌^◌, ◌<◌, ◌≤◌, Bool, true, false, List, ℤ, ◌⊎◌, inl, inr, refl, sym, subst, arith, lit<, replicate}
-use Rattle.std.specs.Prelude.{◌≢◌, All, IfSome, Option, Some, None, max, pos, negsuc, unsigned_abs, ◌-ℤ◌, not, ◌==◌, if◌then◌else◌}
+use Rattle.std.proofs.Common.{◌≡◌, ℕ, zero, suc, ◌+◌, ◌-◌, ◌^◌, ◌<◌, ◌≤◌, Bool, true, false, ℤ, refl, sym, subst, arith, lit<, replicate}
+use Rattle.std.specs.Prelude.{◌≢◌, All, IfSome, Some, None, pos, negsuc, unsigned_abs, ◌-ℤ◌, if◌then◌else◌}
 use Rattle.std.proofs.lemmas.Int.{ints}
 use Rattle.vp9_types.specs.Each.{each}
 use Rattle.vp9_types.specs.Syntax.{done, ◌>>=◌}
@@ -8,7 +8,7 @@ use Rattle.frame_headers.specs.declared.field.FieldName.{FieldName}
 use Rattle.frame_headers.specs.declared.field.FieldName.TheVariants as name
 use Rattle.frame_headers.specs.declared.filter.LoopDeltas.{LoopDeltas}
 use Rattle.frame_headers.specs.declared.segments.Features.{Features}
-use Rattle.frame_headers.specs.Fields.{Table, f, flag, su}
+use Rattle.frame_headers.specs.Fields.{f, flag, su}
 use Rattle.frame_headers.specs.Filter.{coded_delta, coded_deltas, delta_changes, loop_filter_params}
 use Rattle.frame_headers.specs.Quantizer.{delta_q, quantization_params}
 use Rattle.frame_headers.specs.Segments.{probability_for, prediction_probabilities, update_map, map_or_none, signed_feature, reference_feature, segment_features, features_for, no_segment_features, update_features, features_or_old, enabled_params, segmentation_params}

@@ -1,10 +1,10 @@
 -- Sizes and references that are read (6.2.3 to 6.2.5 of the standard) can be written.
-use Rattle.std.proofs.Common.{◌≡◌, ℕ, ◌+◌, ◌<◌, ◌≤◌, Bool, true, false, refl, arith}
+use Rattle.std.proofs.Common.{◌≡◌, ℕ, ◌<◌, Bool, true, false, refl, arith}
 use Rattle.std.specs.Prelude.{Option, Some, None, not, ◌&&◌, slice_index_or, if◌then◌else◌}
 use Rattle.vp9_types.specs.declared.rule.Rule.{Rule}
 use Rattle.vp9_types.specs.declared.rule.Rule.TheVariants as rule
 use Rattle.vp9_types.specs.declared.shape.Shape.{Shape}
-use Rattle.vp9_types.specs.Syntax.{done, ◌>>=◌}
+use Rattle.vp9_types.specs.Syntax.{done}
 use Rattle.frame_headers.specs.declared.field.FieldName.{FieldName}
 use Rattle.frame_headers.specs.declared.field.FieldName.TheVariants as name
 use Rattle.frame_headers.specs.declared.header.FrameSize.{FrameSize}
@@ -85,6 +85,7 @@ found_in refs have =
 
 pub found_yields : (before : Persist) (resilient : Bool) (refs : References) → SlotsHaveSizes before → AreAllReferences before resilient refs → Yields (found_size refs) IsFrameSize
 found_yields before resilient refs sizes are = found_in refs (
-    slot_has_size before refs.last.slot refs.last.shape are.last.held sizes,
-    slot_has_size before refs.golden.slot refs.golden.shape are.golden.held sizes,
-    slot_has_size before refs.altref.slot refs.altref.shape are.altref.held sizes)
+  slot_has_size before refs.last.slot refs.last.shape are.last.held sizes,
+  slot_has_size before refs.golden.slot refs.golden.shape are.golden.held sizes,
+  slot_has_size before refs.altref.slot refs.altref.shape are.altref.held sizes,
+)

@@ -1,16 +1,16 @@
 -- What tables of a header yield, part by part.
 use Rattle.std.proofs.Common.{◌≡◌, ℕ, zero, suc, ◌^◌, ◌<◌, Bool, true, false, List, [], ◌∷◌, length, get_or, refl, ap, subst, arith}
-use Rattle.std.specs.Prelude.{All, Ok, if◌then◌else◌, ◌==◌}
+use Rattle.std.specs.Prelude.{All, Ok}
 use Rattle.std.proofs.lemmas.List.Elements.{All-nil, All-cons}
 use Rattle.vp9_types.specs.Bits.{AreBits}
 use Rattle.vp9_types.specs.Each.{each}
 use Rattle.vp9_types.specs.Entries.{Entry, IsReadAs}
-use Rattle.vp9_types.specs.Reading.{Field, read_bits}
-use Rattle.vp9_types.specs.Syntax.{Syntax, done, broken, ask, ◌>>=◌, check}
+use Rattle.vp9_types.specs.Reading.{read_bits}
+use Rattle.vp9_types.specs.Syntax.{done, broken, ask, ◌>>=◌, check}
 use Rattle.vp9_types.specs.declared.rule.Rule.{Rule}
 use Rattle.vp9_types.proofs.EntryLaws.{reads_entries}
 use Rattle.frame_headers.specs.declared.field.FieldName.{FieldName}
-use Rattle.frame_headers.specs.Fields.{Table, past, f, flag}
+use Rattle.frame_headers.specs.Fields.{Table, past, f}
 
 -- whatever numbers of their widths the fields have, what the table settles on has a property
 abbrev pub Yields : {A : Type 0} → Table A → (A → Type 0) → Type 0

@@ -1,4 +1,3 @@
-use Rattle.std.specs.Prelude.{◌≡◌}
 use Rattle.frame_headers.specs.Header.{uncompressed_header}
 use Rattle.header_writer.specs.WellFormed.{IsWellFormed}
 use Rattle.header_tests.proofs.Readings.{read_has}
