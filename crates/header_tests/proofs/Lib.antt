@@ -4,4 +4,3 @@ mod Readings
 mod ReadColors
 mod ReadHeaders
 mod ReadParams
-mod ReadReferences
