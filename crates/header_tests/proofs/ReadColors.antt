@@ -1,16 +1,17 @@
 -- Colours that are read (6.2.2 of the standard) can be written.
-use Rattle.std.proofs.Common.{◌≡◌, ℕ, zero, suc, ◌≤◌, ◌<◌, Bool, true, false, refl, arith}
+use Rattle.std.proofs.Common.{◌≡◌, ◌∙◌, ℕ, ◌≤◌, ◌<◌, Bool, true, false, refl, sym, ap, arith}
 use Rattle.std.specs.Prelude.{◌≢◌, not, ◌&&◌, ◌==◌, nat_lt, if◌then◌else◌}
-use Rattle.std.proofs.lemmas.Bool.{eqb-true, eqb-false, ltb-true, ltb-false}
+use Rattle.std.proofs.lemmas.Bool.{agree_below_at, eqb-true, eqb-false, ltb-true, ltb-false}
 use Rattle.vp9_types.specs.declared.rule.Rule.TheVariants.{ColourConfig}
 use Rattle.vp9_types.specs.declared.shape.Depth.{Depth}
 use Rattle.vp9_types.specs.declared.shape.Depth.TheVariants.{Eight, Ten, Twelve}
-use Rattle.vp9_types.specs.Syntax.{done, broken, check, ◌>>=◌, ◌>>◌}
+use Rattle.vp9_types.specs.Syntax.{check}
 use Rattle.frame_headers.specs.declared.color.ColorSpace.TheVariants.{Rgb}
 use Rattle.frame_headers.specs.declared.field.FieldName.TheVariants as name
-use Rattle.frame_headers.specs.Color.{color_space_of, is_odd_profile, bit_depth, reserved_zero, coded_subsampling, subsampling, yuv_config, rgb_config, color_config, default_color, intra_only_color}
+use Rattle.frame_headers.specs.Color.{color_space_of, is_odd_profile, bit_depth, reserved_zero, coded_subsampling, subsampling, yuv_config, rgb_config, color_config, intra_only_color}
 use Rattle.frame_headers.specs.Fields.{f, flag}
 use Rattle.header_writer.specs.WellFormed.{IsColor, IsIntraOnlyColor}
+use Rattle.header_tests.specs.Color.{is_rgb}
 use Rattle.header_tests.proofs.Readings.{Yields, yields_bind, yields_map, yields_after, yields_if, yields_check, field_yields, no_true}
 
 ---- Depths ----
@@ -36,39 +37,24 @@ record IsSampling (profile : ℕ) (sampling : Bool × Bool) : Type 0 where
   even : is_odd_profile profile ≡ false → (sampling.0 ≡ true) × (sampling.1 ≡ true)
   odd : is_odd_profile profile ≡ true → sampling.0 ≡ true → sampling.1 ≡ false
 
-abbrev AreNotBoth : Bool × Bool → Type 0
-AreNotBoth sampling = sampling.0 ≡ true → sampling.1 ≡ false
-
 not_both : (ss_x ss_y : Bool) → not (ss_x && ss_y) ≡ true → ss_x ≡ true → ss_y ≡ false
 not_both true true is horizontal = no_true is
 not_both true false is horizontal = refl
 not_both false ss_y is horizontal = no_true horizontal
 
-coded_yields : Yields coded_subsampling AreNotBoth
-unfolding coded_subsampling
-coded_yields =
-    yields_after (flag name.SubsamplingX) _ AreNotBoth
-    (λ ss_x. yields_after (flag name.SubsamplingY) _ AreNotBoth
-    (λ ss_y. yields_bind (check (not (ss_x && ss_y)) ColourConfig) _ (λ u. not (ss_x && ss_y) ≡ true) AreNotBoth (yields_check (not (ss_x && ss_y)) ColourConfig)
-    (λ u is. yields_after reserved_zero _ AreNotBoth (λ reserved. not_both ss_x ss_y is))))
-
 sampling_yields : (profile : ℕ) → Yields (subsampling profile) (IsSampling profile)
-unfolding subsampling
+unfolding subsampling coded_subsampling
 sampling_yields profile = yields_if (is_odd_profile profile) _ _ (IsSampling profile)
-    (λ is. yields_map coded_subsampling AreNotBoth (IsSampling profile) coded_yields (λ sampling other. record { even = λ no. absurd cc; odd = λ yes. other }))
+    (λ is. yields_after (flag name.SubsamplingX) _ (IsSampling profile) (λ ss_x. yields_after (flag name.SubsamplingY) _ (IsSampling profile)
+    (λ ss_y. let one = not (ss_x && ss_y) in
+    yields_bind (check one ColourConfig) _ (λ u. one ≡ true) (IsSampling profile) (yields_check one ColourConfig)
+    (λ u is_one. yields_after reserved_zero _ (IsSampling profile) (λ v. record { even = λ no. absurd cc; odd = λ yes. not_both ss_x ss_y is_one })))))
     (λ is. record { even = λ no. (refl, refl); odd = λ yes. absurd cc })
 
 ---- Colours ----
 
 not_rgb : (space : ℕ) → space < 7 → color_space_of space ≢ Rgb
-not_rgb zero low is = cc
-not_rgb (suc zero) low is = cc
-not_rgb (suc (suc zero)) low is = cc
-not_rgb (suc (suc (suc zero))) low is = cc
-not_rgb (suc (suc (suc (suc zero)))) low is = cc
-not_rgb (suc (suc (suc (suc (suc zero))))) low is = cc
-not_rgb (suc (suc (suc (suc (suc (suc zero)))))) low is = cc
-not_rgb (suc (suc (suc (suc (suc (suc (suc n))))))) low is = absurd (omega (arith, low))
+not_rgb space low is = no_true (sym (agree_below_at (λ code. is_rgb (color_space_of code)) (λ code. false) 7 space refl low) ∙ ap is_rgb is)
 
 yuv_yields : (profile : ℕ) (depth : Depth) (space : ℕ) → IsDepth profile depth → space < 7 → Yields (yuv_config profile depth space) (IsColor profile)
 unfolding yuv_config

@@ -1,11 +1,11 @@
 -- Headers that are read (6.2 of the standard) can be written.
-use Rattle.std.proofs.Common.{◌≡◌, ℕ, ◌+◌, ◌*◌, ◌<◌, ◌≤◌, Bool, true, false, List, refl, arith}
-use Rattle.std.specs.Prelude.{Option, Some, None, Ok, Err, not, ◌&&◌, ◌==◌, slice_index_or, if◌then◌else◌}
+use Rattle.std.proofs.Common.{◌≡◌, ℕ, ◌<◌, Bool, true, false, refl, arith}
+use Rattle.std.specs.Prelude.{Option, Some, None, not, ◌&&◌, ◌==◌, slice_index_or}
 use Rattle.std.proofs.lemmas.List.Elements.{All-replicate}
 use Rattle.vp9_types.specs.declared.rule.Rule.{Rule}
 use Rattle.vp9_types.specs.declared.rule.Rule.TheVariants as rule
 use Rattle.vp9_types.specs.declared.shape.Shape.{Shape}
-use Rattle.vp9_types.specs.Syntax.{done, check, ◌>>=◌}
+use Rattle.vp9_types.specs.Syntax.{check}
 use Rattle.frame_headers.specs.declared.field.FieldName.{FieldName}
 use Rattle.frame_headers.specs.declared.field.FieldName.TheVariants as name
 use Rattle.frame_headers.specs.declared.header.FrameContexts.{FrameContexts}
@@ -13,6 +13,7 @@ use Rattle.frame_headers.specs.declared.header.FrameFields.{FrameFields}
 use Rattle.frame_headers.specs.declared.header.FrameParams.{FrameParams}
 use Rattle.frame_headers.specs.declared.header.FrameStart.{FrameStart}
 use Rattle.frame_headers.specs.declared.header.Header.{Header}
+use Rattle.frame_headers.specs.declared.header.Reference.{Reference}
 use Rattle.frame_headers.specs.declared.header.References.{References}
 use Rattle.frame_headers.specs.declared.persist.Persist.{Persist}
 use Rattle.frame_headers.specs.Color.{color_config, intra_only_color, reserved_zero}
@@ -20,7 +21,7 @@ use Rattle.frame_headers.specs.Fields.{f, flag}
 use Rattle.frame_headers.specs.Header.{coded_profile, frame_profile, frame_sync_code, frame_contexts, frame_params, key_fields, intra_only_fields, intra_only_flag, reset_frame_context, intra_and_reset, other_fields, frame_fields, frame_start, forgets, kept_deltas, kept_features, coded_frame, uncompressed_header}
 use Rattle.frame_headers.specs.References.{held_by, slot_shape, reference, references, has_format, is_in_range, all_of, some_of, HaveFrameSizes, found_size, interpolation_filter, inter_fields}
 use Rattle.frame_headers.specs.Segments.{no_segment_features}
-use Rattle.frame_headers.specs.Sizes.{frame_size, render_size, IsFrameSize}
+use Rattle.frame_headers.specs.Sizes.{frame_size, render_size, IsFrameSize, HasFrameSize}
 use Rattle.frame_headers.specs.State.{SlotsHaveSizes, next_persist, start_persist}
 use Rattle.frame_headers.proofs.SizeLemmas.{next_has_sizes, slot_has_size, start_has_sizes}
 use Rattle.header_writer.specs.WellFormed.{AreSegmentFeatures, IsColor, IsContexts, IsHeader, IsIntraOnlyColor, IsOfKind, IsParams, IsReference, IsReset, IsWellFormed}
@@ -86,13 +87,6 @@ found_yields refs have =
     yields_either name.FoundRef _ _ IsFrameSize have.0
     (yields_either name.FoundRef _ _ IsFrameSize have.1 (yields_either name.FoundRef _ _ IsFrameSize have.2 size_yields))
 
-have_sizes : (before : Persist) (resilient : Bool) (refs : References) → SlotsHaveSizes before → AreRead before resilient refs → HaveFrameSizes refs
-have_sizes before resilient refs sizes are = (
-  slot_has_size before refs.last.slot refs.last.shape are.last.held sizes,
-  slot_has_size before refs.golden.slot refs.golden.shape are.golden.held sizes,
-  slot_has_size before refs.altref.slot refs.altref.shape are.altref.held sizes,
-)
-
 ---- The fields of a frame, up to its size ----
 
 -- a header of these fields
@@ -119,8 +113,7 @@ key_yields : (before : Persist) (profile : ℕ) (start : FrameStart) → Yields 
 unfolding key_fields
 key_yields before profile start =
     let Are = AreFields before profile start in
-    yields_after frame_sync_code _ Are
-    (λ u. yields_bind (color_config profile) _ (IsColor profile) Are (color_yields profile)
+    yields_after frame_sync_code _ Are (λ u. yields_bind (color_config profile) _ (IsColor profile) Are (color_yields profile)
     (λ color is_color. yields_bind frame_size _ IsFrameSize Are size_yields
     (λ size is_size. yields_after render_size _ Are (λ v. record { size = is_size; kind = λ contexts params. (refl, refl, is_color) }))))
 
@@ -129,8 +122,7 @@ intra_yields : (before : Persist) (profile reset : ℕ) (start : FrameStart) →
 unfolding intra_only_fields
 intra_yields before profile reset start hidden is_reset =
     let Are = AreFields before profile start in
-    yields_after frame_sync_code _ Are
-    (λ u. yields_bind (intra_only_color profile) _ (IsIntraOnlyColor profile) Are (intra_color_yields profile)
+    yields_after frame_sync_code _ Are (λ u. yields_bind (intra_only_color profile) _ (IsIntraOnlyColor profile) Are (intra_color_yields profile)
     (λ color is_color. yields_after (f name.RefreshFrameFlags 8) _ Are
     (λ refresh. yields_bind frame_size _ IsFrameSize Are size_yields
     (λ size is_size. yields_after render_size _ Are (λ v. record { size = is_size; kind = λ contexts params. (hidden, is_reset, is_color) })))))
@@ -141,18 +133,17 @@ unfolding inter_fields
 inter_yields before profile reset start sizes is_reset =
     let Are = AreFields before profile start in
     let resilient = start.error_resilient in
+    let held_size : (r : Reference) → IsReference before resilient r → HasFrameSize r.shape = λ r is. slot_has_size before r.slot r.shape is.held sizes in
     yields_after (f name.RefreshFrameFlags 8) _ Are
     (λ refresh. yields_bind (references before resilient) _ (AreRead before resilient) Are (references_yield before resilient)
     (λ refs are.
     let format = all_of (has_format before.color) refs in
     yields_bind (check format rule.RefFormat) _ (λ u. format ≡ true) Are (yields_check format rule.RefFormat)
-    (λ u is_format. yields_bind (found_size refs) _ IsFrameSize Are (found_yields refs (have_sizes before resilient refs sizes are))
+    (λ u is_format. yields_bind (found_size refs) _ IsFrameSize Are (found_yields refs (held_size refs.last are.last, held_size refs.golden are.golden, held_size refs.altref are.altref))
     (λ size is_size.
     let range = some_of (is_in_range size) refs in
     yields_bind (check range rule.RefScale) _ (λ v. range ≡ true) Are (yields_check range rule.RefScale)
-    (λ v is_range. yields_after render_size _ Are
-    (λ w. yields_after (flag name.AllowHighPrecisionMv) _ Are
-    (λ precise. yields_after interpolation_filter _ Are
+    (λ v is_range. yields_after render_size _ Are (λ w. yields_after (flag name.AllowHighPrecisionMv) _ Are (λ precise. yields_after interpolation_filter _ Are
     (λ filter. record {
       size = is_size;
       kind = λ contexts params. (is_reset, refl, record { last = are.last; golden = are.golden; altref = are.altref; format = is_format; range = is_range });
@@ -197,8 +188,7 @@ contexts_yield true =
     yields_bind (f name.FrameContextIdx 2) _ (λ v. v < 4) (IsContexts true) (field_yields name.FrameContextIdx 2)
     (λ index low. record { index = low; fixed = λ is. (refl, refl) })
 contexts_yield false =
-    yields_after (flag name.RefreshFrameContext) _ (IsContexts false)
-    (λ refresh. yields_after (flag name.FrameParallelDecodingMode) _ (IsContexts false)
+    yields_after (flag name.RefreshFrameContext) _ (IsContexts false) (λ refresh. yields_after (flag name.FrameParallelDecodingMode) _ (IsContexts false)
     (λ parallel. yields_bind (f name.FrameContextIdx 2) _ (λ v. v < 4) (IsContexts false) (field_yields name.FrameContextIdx 2)
     (λ index low. record { index = low; fixed = λ is. no_true is })))
 
@@ -226,8 +216,7 @@ IsProfile profile = profile < 4
 profile_yields : Yields frame_profile IsProfile
 unfolding frame_profile coded_profile
 profile_yields =
-    yields_after (f name.FrameMarker 2) _ IsProfile
-    (λ marker. yields_after (check (marker == 2) rule.FrameMarker) _ IsProfile
+    yields_after (f name.FrameMarker 2) _ IsProfile (λ marker. yields_after (check (marker == 2) rule.FrameMarker) _ IsProfile
     (λ u. yields_bind coded_profile _ IsProfile IsProfile
     (yields_bind (f name.ProfileLowBit 1) _ (λ v. v < 2) IsProfile (field_yields name.ProfileLowBit 1)
     (λ low is_low. yields_bind (f name.ProfileHighBit 1) _ (λ v. v < 2) IsProfile (field_yields name.ProfileHighBit 1)

@@ -1,11 +1,10 @@
 -- What is read of the parameters that end a header (6.2.8 to 6.2.14 of the standard) can be written.
-use Rattle.std.proofs.Common.{◌≡◌, ℕ, zero, suc, ◌+◌, ◌-◌, ◌*◌, ◌^◌, ◌<◌, ◌≤◌, Bool, true, false, List, ℤ, refl, sym, subst, arith, lit<, replicate}
-use Rattle.std.specs.Prelude.{◌≢◌, All, IfSome, max, pos, negsuc, unsigned_abs, ◌-ℤ◌, not, ◌==◌, if◌then◌else◌}
+use Rattle.std.proofs.Common.{◌≡◌, ℕ, zero, suc, ◌+◌, ◌-◌, ◌^◌, ◌<◌, ◌≤◌, Bool, true, false, List, ℤ, refl, sym, subst, arith, lit<, replicate}
+use Rattle.std.specs.Prelude.{◌≢◌, All, IfSome, pos, negsuc, unsigned_abs, ◌-ℤ◌, not, ◌==◌, if◌then◌else◌}
 use Rattle.std.proofs.lemmas.Int.{ints}
-use Rattle.std.proofs.lemmas.List.Elements.{All-replicate}
 use Rattle.vp9_types.specs.Each.{each}
 use Rattle.vp9_types.specs.declared.rule.Rule.TheVariants.{HeaderSizeZero}
-use Rattle.vp9_types.specs.Syntax.{done, check, ◌>>=◌}
+use Rattle.vp9_types.specs.Syntax.{done, check}
 use Rattle.frame_headers.specs.declared.field.FieldName.{FieldName}
 use Rattle.frame_headers.specs.declared.field.FieldName.TheVariants as name
 use Rattle.frame_headers.specs.declared.filter.LoopDeltas.{LoopDeltas}
@@ -17,7 +16,7 @@ use Rattle.frame_headers.specs.Quantizer.{delta_q, quantization_params}
 use Rattle.frame_headers.specs.Segments.{probability_for, prediction_probabilities, update_map, map_or_none, signed_feature, reference_feature, segment_features, features_for, no_segment_features, update_features, features_or_old, enabled_params, segmentation_params}
 use Rattle.frame_headers.specs.Tiles.{superblocks, min_log2, max_log2, more_columns, tile_columns_log2, tile_rows_log2, tile_info}
 use Rattle.header_writer.specs.WellFormed.{IsSigned, AreDeltas, IsLoopFilter, IsQuantizer, AreSegmentFeatures, IsMapUpdate, IsSegmentation, IsTileInfo, IsParams}
-use Rattle.header_tests.proofs.Readings.{Yields, AreFor, yields_bind, yields_all, yields_map, yields_after, yields_either, yields_check, field_yields, each_yields, each_all, no_false, no_true}
+use Rattle.header_tests.proofs.Readings.{Yields, AreFor, yields_bind, yields_all, yields_map, yields_after, yields_if, yields_either, yields_check, field_yields, each_yields, each_all, no_false, no_true}
 
 ---- Numbers with a sign ----
 
@@ -66,20 +65,17 @@ record AreAllowed (enabled : Bool) (old deltas : LoopDeltas) : Type 0 where
 old_deltas : (enabled : Bool) (old : LoopDeltas) → AreAllowed enabled old old
 old_deltas enabled old = record { disabled = λ is. refl; coded = (λ i low other. absurd (other refl), λ i low other. absurd (other refl)) }
 
-allowed_yields : (enabled : Bool) (old : LoopDeltas) → Yields (if enabled then delta_changes old else done old) (AreAllowed enabled old)
-unfolding delta_changes
-allowed_yields true old = yields_either name.LoopFilterDeltaUpdate _ _ (AreAllowed true old)
-    (yields_map (coded_deltas old) (AreCoded old) (AreAllowed true old) (deltas_yield old) (λ deltas are. record { disabled = λ is. no_false is; coded = are }))
-    (old_deltas true old)
-allowed_yields false old = old_deltas false old
-
 filter_yields : (old : LoopDeltas) → Yields (loop_filter_params old) (IsLoopFilter old)
-unfolding loop_filter_params
+unfolding loop_filter_params delta_changes
 filter_yields old =
     yields_bind (f name.LoopFilterLevel 6) _ (λ v. v < 64) (IsLoopFilter old) (field_yields name.LoopFilterLevel 6)
     (λ level is_level. yields_bind (f name.LoopFilterSharpness 3) _ (λ v. v < 8) (IsLoopFilter old) (field_yields name.LoopFilterSharpness 3)
     (λ sharpness is_sharpness. yields_after (flag name.LoopFilterDeltaEnabled) _ (IsLoopFilter old)
-    (λ enabled. yields_bind (if enabled then delta_changes old else done old) _ (AreAllowed enabled old) (IsLoopFilter old) (allowed_yields enabled old)
+    (λ enabled. yields_bind (if enabled then delta_changes old else done old) _ (AreAllowed enabled old) (IsLoopFilter old)
+    (yields_if enabled _ _ (AreAllowed enabled old)
+    (λ yes. yields_either name.LoopFilterDeltaUpdate _ _ (AreAllowed enabled old)
+    (yields_map (coded_deltas old) (AreCoded old) (AreAllowed enabled old) (deltas_yield old) (λ deltas are. record { disabled = λ is. absurd cc; coded = are }))
+    (old_deltas enabled old)) (λ no. old_deltas enabled old))
     (λ deltas are. record { level = is_level; sharpness = is_sharpness; disabled = are.disabled; reference = are.coded.0; mode = are.coded.1 }))))
 
 ---- The quantizer ----
@@ -112,8 +108,7 @@ prediction_yields false = λ is. refl
 map_yields : Yields update_map IsMapUpdate
 unfolding update_map
 map_yields =
-    yields_after (each probability_for (replicate 7 255)) _ IsMapUpdate
-    (λ tree. yields_after (flag name.SegmentationTemporalUpdate) _ IsMapUpdate
+    yields_after (each probability_for (replicate 7 255)) _ IsMapUpdate (λ tree. yields_after (flag name.SegmentationTemporalUpdate) _ IsMapUpdate
     (λ temporal. yields_bind (prediction_probabilities temporal) _ (IsPrediction temporal) IsMapUpdate (prediction_yields temporal) (λ prediction is. is)))
 
 map_or_none_yields : (updates : Bool) → Yields (map_or_none updates) (λ map. IfSome map IsMapUpdate)
@@ -131,8 +126,7 @@ unfolding segment_features
 segment_yields =
     yields_bind (signed_feature 8) _ (λ feature. IfSome feature (IsSigned 8)) AreSegmentFeatures (feature_yields 8)
     (λ quantizer is_quantizer. yields_bind (signed_feature 6) _ (λ feature. IfSome feature (IsSigned 6)) AreSegmentFeatures (feature_yields 6)
-    (λ level is_level. yields_after reference_feature _ AreSegmentFeatures
-    (λ reference. yields_after (flag name.FeatureEnabled) _ AreSegmentFeatures (λ skip. (is_quantizer, is_level)))))
+    (λ level is_level. yields_after reference_feature _ AreSegmentFeatures (λ reference. yields_after (flag name.FeatureEnabled) _ AreSegmentFeatures (λ skip. (is_quantizer, is_level)))))
 
 abbrev pub FitFields : Features → Type 0
 FitFields features = All AreSegmentFeatures features.segments
@@ -145,19 +139,15 @@ features_yield true old fit =
     (each_all features_for AreSegmentFeatures (replicate 8 no_segment_features) (λ before. segment_yields)) (λ segments are. are))
 features_yield false old fit = fit
 
-enabled_yields : (old : Features) → FitFields old → Yields (enabled_params old) (IsSegmentation old)
-unfolding enabled_params
-enabled_yields old fit =
-    yields_after (flag name.SegmentationUpdateMap) _ (IsSegmentation old)
+segmentation_yields : (old : Features) → FitFields old → Yields (segmentation_params old) (IsSegmentation old)
+unfolding segmentation_params enabled_params
+segmentation_yields old fit = yields_either name.SegmentationEnabled _ _ (IsSegmentation old)
+    (yields_after (flag name.SegmentationUpdateMap) _ (IsSegmentation old)
     (λ updates_map. yields_bind (map_or_none updates_map) _ (λ map. IfSome map IsMapUpdate) (IsSegmentation old) (map_or_none_yields updates_map)
     (λ map is_map. yields_after (flag name.SegmentationUpdateData) _ (IsSegmentation old)
     (λ updates. yields_bind (features_or_old updates old) _ FitFields (IsSegmentation old) (features_yield updates old fit)
-    (λ features are. record { disabled = λ is. no_false is; map = is_map; features = are }))))
-
-segmentation_yields : (old : Features) → FitFields old → Yields (segmentation_params old) (IsSegmentation old)
-unfolding segmentation_params
-segmentation_yields old fit = yields_either name.SegmentationEnabled _ _ (IsSegmentation old)
-    (enabled_yields old fit) (record { disabled = λ is. (refl, refl); map = tt; features = fit })
+    (λ features are. record { disabled = λ is. no_false is; map = is_map; features = are })))))
+    (record { disabled = λ is. (refl, refl); map = tt; features = fit })
 
 ---- Tiles ----
 

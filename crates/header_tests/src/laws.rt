@@ -13,13 +13,14 @@ ghost use Rattle.header_writer.specs.WellFormed.{CanChoose, IsHeader, IsWellForm
 ghost use Rattle.header_writer.specs.declared.choices.Choices.{Choices};
 ghost use Rattle.header_tests.specs.Laws.{IsLeftByFrames};
 
-/// Whatever header is read behind frames can be written, with choices that code all.
+/// Each header that is read behind frames can be written.
 pub fn what_is_read_can_be_written()
     ensures well { (before : Persist) (bits rest : List ℕ) (x : Uncompressed) → IsLeftByFrames before → AreBits bits →
         read_bits past (uncompressed_header before) bits ≡ Ok (x, rest) → IsWellFormed before x }
+    // Any choices that code the deltas and the features will do.
     ensures chosen { (before : Persist) (choices : Choices) (x : Uncompressed) →
         choices.deltas ≡ true → choices.features ≡ true → CanChoose before choices x }
-    // Before the first frame, and then behind each whose header was read.
+    // What persists before the first frame, and then behind each frame whose header was read, is left by frames.
     ensures first { IsLeftByFrames start_persist }
     ensures next { (before : Persist) (header : Header) → IsLeftByFrames before → IsHeader before header → IsLeftByFrames (next_persist header before) }
 {}
