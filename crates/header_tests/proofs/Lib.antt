@@ -1,2 +1,6 @@
 mod Numbers
 mod Pairs
+mod Readings
+mod ReadColors
+mod ReadHeaders
+mod ReadParams

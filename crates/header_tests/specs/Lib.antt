@@ -4,3 +4,4 @@ pub mod Params
 pub mod Headers
 pub mod Modes
 pub mod Code
+pub mod Laws

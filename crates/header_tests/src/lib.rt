@@ -4,6 +4,7 @@
 mod color;
 mod filter;
 mod headers;
+mod laws;
 mod modes;
 mod params;
 mod references;
@@ -14,4 +15,5 @@ mod tests;
 mod tiles;
 
 pub use headers::{can_choose, is_well_formed};
+pub use laws::what_is_read_can_be_written;
 pub use modes::can_say_modes;
