@@ -2,3 +2,4 @@ pub mod Fields
 pub mod WellFormed
 pub mod Reads
 pub mod Code
+pub mod Spelling
