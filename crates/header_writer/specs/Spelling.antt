@@ -1,6 +1,6 @@
 -- How a header is spelled (6.2 of the standard): its fields one behind another, each so many bits wide and with its value. What
 -- can be spelled in several ways is as it is chosen.
-use Rattle.std.specs.Prelude.{◌≡◌, ℕ, ◌+◌, ◌-◌, ◌/◌, ◌%◌, ◌==◌, nat_lt, nat_le, ℤ, pos, unsigned_abs, int_lt, Bool, true, false, not, ◌&&◌, List, [], ◌∷◌, ◌++◌, flat_map, zip, replicate, slice_index_or, Option, Some, None, is_some, if◌then◌else◌}
+use Rattle.std.specs.Prelude.{◌≡◌, ℕ, ◌-◌, ◌/◌, ◌%◌, ◌==◌, nat_lt, nat_le, ℤ, pos, unsigned_abs, int_lt, Bool, true, false, not, ◌&&◌, List, [], ◌∷◌, ◌++◌, flat_map, zip, replicate, slice_index_or, Option, Some, None, is_some, if◌then◌else◌}
 use Rattle.std.specs.Ordering.{int_eq}
 use Rattle.vp9_types.specs.Bits.{spelled}
 use Rattle.vp9_types.specs.declared.block.InterpFilter.{InterpFilter}
