@@ -6,7 +6,8 @@ use Rattle.std.proofs.lemmas.List.Concat.{flat_map-append}
 use Rattle.std.proofs.lemmas.Slice.Zip.{length-zip, get_or-zip}
 use Rattle.std.proofs.lemmas.Bool.{le-leb, lt-leb}
 use Rattle.vp9_types.specs.Bits.{spelled}
-use Rattle.header_writer.specs.Spelling.{FieldList, HasPut, bits_put, number, bit, spelled_delta, spelled_deltas, spelled_columns}
+use Rattle.header_writer.specs.Code.{HasPut}
+use Rattle.header_writer.specs.Spelling.{FieldList, bits_put, number, bit, spelled_delta, spelled_deltas, spelled_columns}
 
 pub spells_on : (old mid new : List ℕ) (first more : FieldList) → HasPut mid more new → HasPut old first mid → HasPut old (first ++ more) new
 unfolding HasPut bits_put

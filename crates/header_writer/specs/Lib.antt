@@ -1,5 +1,5 @@
 pub mod Fields
 pub mod WellFormed
 pub mod Reads
-pub mod Code
 pub mod Spelling
+pub mod Code

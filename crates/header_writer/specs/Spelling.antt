@@ -1,12 +1,12 @@
--- How a header is spelled (6.2 of the standard): its fields one behind another, each so many bits wide and with its value. What
--- can be spelled in several ways is as it is chosen.
-use Rattle.std.specs.Prelude.{◌≡◌, ℕ, ◌-◌, ◌/◌, ◌%◌, ◌==◌, nat_lt, nat_le, ℤ, pos, unsigned_abs, int_lt, Bool, true, false, not, ◌&&◌, List, [], ◌∷◌, ◌++◌, flat_map, zip, replicate, slice_index_or, Option, Some, None, is_some, if◌then◌else◌}
+-- How a header is spelled (6.2 of the standard): its fields one behind another. What can be spelled in several ways is as it is
+-- chosen, and all else is spelled in the shortest way.
+use Rattle.std.specs.Prelude.{ℕ, ◌-◌, ◌/◌, ◌%◌, ◌==◌, nat_lt, nat_le, ℤ, pos, unsigned_abs, int_lt, Bool, true, false, not, ◌&&◌, List, [], ◌∷◌, ◌++◌, flat_map, zip, replicate, slice_index_or, Option, Some, None, is_some, if◌then◌else◌}
 use Rattle.std.specs.Ordering.{int_eq}
 use Rattle.vp9_types.specs.Bits.{spelled}
 use Rattle.vp9_types.specs.declared.block.InterpFilter.{InterpFilter}
 use Rattle.vp9_types.specs.declared.block.InterpFilter.TheVariants.{Regular, Smooth, Sharp, Bilinear}
 use Rattle.vp9_types.specs.declared.shape.Depth.{Depth}
-use Rattle.vp9_types.specs.declared.shape.Depth.TheVariants.{Eight, Ten, Twelve}
+use Rattle.vp9_types.specs.Shapes.{depth_bits}
 use Rattle.frame_headers.specs.declared.color.ColorConfig.{ColorConfig}
 use Rattle.frame_headers.specs.declared.color.ColorSpace.{ColorSpace as Space}
 use Rattle.frame_headers.specs.declared.color.ColorSpace.TheVariants.{Unknown, Bt601, Bt709, Smpte170, Smpte240, Bt2020, Reserved, Rgb}
@@ -19,7 +19,6 @@ use Rattle.frame_headers.specs.declared.header.FrameKind.{FrameKind}
 use Rattle.frame_headers.specs.declared.header.FrameKind.TheVariants as kind
 use Rattle.frame_headers.specs.declared.header.FrameParams.{FrameParams}
 use Rattle.frame_headers.specs.declared.header.FrameSize.{FrameSize}
-use Rattle.frame_headers.specs.declared.header.FrameStart.{FrameStart}
 use Rattle.frame_headers.specs.declared.header.Header.{Header}
 use Rattle.frame_headers.specs.declared.header.InterFields.{InterFields}
 use Rattle.frame_headers.specs.declared.header.Reference.{Reference}
@@ -39,20 +38,15 @@ use Rattle.frame_headers.specs.Color.{is_odd_profile}
 use Rattle.frame_headers.specs.Header.{forgets, kept_deltas}
 use Rattle.frame_headers.specs.Tiles.{superblocks, min_log2, max_log2}
 use Rattle.header_writer.specs.declared.choices.Choices.{Choices}
-use Rattle.header_writer.specs.Code.{start_of}
 use Rattle.header_writer.specs.Fields.{IsPadded}
 
--- widths and values
+-- fields, each by its width and its value
 abbrev pub FieldList : Type 0
 FieldList = List (ℕ × ℕ)
 
--- their bits
+-- their bits, one behind another
 unfoldable pub bits_put : FieldList → List ℕ
 bits_put fields = flat_map (λ (field : ℕ × ℕ). spelled field.0 field.1) fields
-
--- they were put behind the bits
-unfoldable pub HasPut : List ℕ → FieldList → List ℕ → Type 0
-HasPut old fields new = new ≡ old ++ bits_put fields
 
 -- f(n)
 unfoldable pub number : ℕ → ℕ → FieldList
@@ -91,19 +85,15 @@ space_code Bt2020 = 5
 space_code Reserved = 6
 space_code Rgb = 7
 
-abbrev pub is_twelve : Depth → Bool
-is_twelve Eight = false
-is_twelve Ten = false
-is_twelve Twelve = true
-
+-- 8 bits of the profiles below 2 aren't told, and of the others whether they are 12
 unfoldable pub spelled_depth : ℕ → Depth → FieldList
-spelled_depth profile depth = if nat_lt profile 2 then [] else bit (is_twelve depth)
+spelled_depth profile depth = if nat_lt profile 2 then [] else bit (depth_bits depth == 12)
 
--- and a reserved bit
+-- odd profiles have both flags, and a reserved bit
 unfoldable pub spelled_subsampling : ℕ → Bool → Bool → FieldList
 spelled_subsampling profile ss_x ss_y = if is_odd_profile profile then (bit ss_x ++ bit ss_y ++ bit false) else []
 
--- RGB has a reserved bit alone
+-- RGB has a reserved bit alone, all else its range and its subsampling
 unfoldable pub spelled_color : ℕ → ColorConfig → FieldList
 spelled_color profile color =
     spelled_depth profile color.depth ++ number 3 (space_code color.space)
@@ -202,13 +192,10 @@ spelled_quantizer q = number 8 q.base ++ spelled_delta_q q.y_dc_delta ++ spelled
 unfoldable pub spelled_probability : ℕ → FieldList
 spelled_probability value = if value == 255 then bit false else (bit true ++ number 8 value)
 
-unfoldable pub spelled_probabilities : List ℕ → FieldList
-spelled_probabilities values = flat_map spelled_probability values
-
 unfoldable pub spelled_map : Option MapUpdate → FieldList
 spelled_map None = []
 spelled_map (Some map) =
-    spelled_probabilities map.tree ++ bit map.temporal ++ (if map.temporal then spelled_probabilities map.prediction else [])
+    flat_map spelled_probability map.tree ++ bit map.temporal ++ (if map.temporal then flat_map spelled_probability map.prediction else [])
 
 unfoldable pub spelled_signed_feature : ℕ → Option ℤ → FieldList
 spelled_signed_feature width None = bit false
@@ -228,11 +215,8 @@ unfoldable pub spelled_segment_features : SegmentFeatures → FieldList
 spelled_segment_features features =
     spelled_signed_feature 8 features.quantizer ++ spelled_signed_feature 6 features.level ++ spelled_reference_feature features.reference ++ bit features.skip
 
-unfoldable pub spelled_all_features : List SegmentFeatures → FieldList
-spelled_all_features segments = flat_map spelled_segment_features segments
-
 unfoldable pub spelled_features : Features → FieldList
-spelled_features features = bit features.absolute ++ spelled_all_features features.segments
+spelled_features features = bit features.absolute ++ flat_map spelled_segment_features features.segments
 
 unfoldable pub spelled_enabled : Bool → Segmentation → FieldList
 spelled_enabled update segmentation =
@@ -243,7 +227,7 @@ spelled_segmentation update segmentation = if segmentation.enabled then (bit tru
 
 ---- 6.2.13: tiles ----
 
--- a bit 1 for each doubling from the least number of columns on, and a 0 behind them unless there can't be more
+-- a bit 1 for each doubling of the least number of columns, and a 0 behind them unless there can't be more
 unfoldable pub spelled_columns : ℕ → ℕ → ℕ → FieldList
 spelled_columns least greatest log2 = flat_map bit (replicate (log2 - least) true) ++ (if nat_le greatest log2 then [] else bit false)
 
@@ -256,8 +240,13 @@ spelled_tiles width tiles =
 
 ---- 6.2: headers ----
 
-unfoldable pub spelled_start : FrameStart → FieldList
-spelled_start start = bit (not start.is_key) ++ bit start.show_frame ++ bit start.error_resilient
+abbrev pub is_key : FrameKind → Bool
+is_key kind.Key = true
+is_key kind.IntraOnly = false
+is_key (kind.Inter fields) = false
+
+unfoldable pub spelled_start : Bool → Bool → Bool → FieldList
+spelled_start key show resilient = bit (not key) ++ bit show ++ bit resilient
 
 -- a shown frame isn't intra only, and an error-resilient one resets all contexts
 unfoldable pub spelled_intra_and_reset : Bool → Bool → Bool → ℕ → FieldList
@@ -291,7 +280,8 @@ spelled_params choices old width params =
 -- a coded frame from its frame type on
 unfoldable pub spelled_coded_frame : Persist → Choices → Header → FieldList
 spelled_coded_frame before choices header =
-    spelled_start (start_of header) ++ spelled_fields choices header header.kind ++ spelled_contexts header.error_resilient header.contexts
+    spelled_start (is_key header.kind) header.show_frame header.error_resilient ++ spelled_fields choices header header.kind
+    ++ spelled_contexts header.error_resilient header.contexts
     ++ spelled_params choices (kept_deltas before (forgets header.kind header.error_resilient)) header.size.width header.params
 
 unfoldable pub spelled_header : Persist → Choices → Uncompressed → FieldList

@@ -4,8 +4,9 @@ ghost use Rattle.std.specs.Prelude.{◌≡◌, ◌≢◌, ◌<◌, ◌≤◌, �
 ghost use Rattle.frame_headers.specs.Color.{color_space_of, is_odd_profile, bit_depth, reserved_zero, subsampling, yuv_config, rgb_config, color_config, intra_only_color};
 ghost use Rattle.frame_headers.specs.declared.color.ColorSpace.TheVariants as spaces;
 ghost use Rattle.vp9_types.specs.declared.shape.Depth.TheVariants as depths;
+ghost use Rattle.header_writer.specs.Code.{HasPut};
 ghost use Rattle.header_writer.specs.Fields.{Puts};
-ghost use Rattle.header_writer.specs.Spelling.{HasPut, bit, space_code, spelled_color, spelled_depth, spelled_intra_only_color, spelled_subsampling};
+ghost use Rattle.header_writer.specs.Spelling.{bit, space_code, spelled_color, spelled_depth, spelled_intra_only_color, spelled_subsampling};
 ghost use Rattle.header_writer.specs.WellFormed.{IsColor, IsIntraOnlyColor};
 
 use crate::bits::BitWriter;

@@ -1,10 +1,11 @@
 //! Segmentation.
 
-ghost use Rattle.std.specs.Prelude.{◌≡◌, ◌<◌, ◌≤◌, [], Some, IfOk, IfSome, All, replicate, length, is_some, true, false, if◌then◌else◌};
+ghost use Rattle.std.specs.Prelude.{◌≡◌, ◌<◌, ◌≤◌, [], Some, IfOk, IfSome, All, replicate, flat_map, length, is_some, true, false, if◌then◌else◌};
 ghost use Rattle.vp9_types.specs.Each.{each};
 ghost use Rattle.frame_headers.specs.Segments.{probability, probability_for, prediction_probabilities, update_map, signed_feature, reference_of, reference_feature, segment_features, features_for, no_segment_features, update_features, map_or_none, features_or_old, enabled_params, segmentation_params};
+ghost use Rattle.header_writer.specs.Code.{HasPut};
 ghost use Rattle.header_writer.specs.Fields.{Puts};
-ghost use Rattle.header_writer.specs.Spelling.{HasPut, reference_code, spelled_all_features, spelled_enabled, spelled_features, spelled_map, spelled_probabilities, spelled_probability, spelled_reference_feature, spelled_segment_features, spelled_segmentation, spelled_signed_feature};
+ghost use Rattle.header_writer.specs.Spelling.{reference_code, spelled_enabled, spelled_features, spelled_map, spelled_probability, spelled_reference_feature, spelled_segment_features, spelled_segmentation, spelled_signed_feature};
 ghost use Rattle.header_writer.specs.WellFormed.{IsSigned, AreSegmentFeatures, IsMapUpdate, IsSegmentation};
 
 use crate::bits::BitWriter;
@@ -27,7 +28,7 @@ fn put_probability(bits: &mut BitWriter, value: u8) -> Result<(), AllocError>
 
 fn put_probabilities(bits: &mut BitWriter, values: &[u8]) -> Result<(), AllocError>
     ensures puts { IfOk result (λ _. Puts (each probability_for (replicate (length values.now) 255)) bits.old values.now bits.new) }
-    ensures spells { IfOk result (λ _. HasPut bits.old (spelled_probabilities values.now) bits.new) }
+    ensures spells { IfOk result (λ _. HasPut bits.old (flat_map spelled_probability values.now) bits.new) }
 {
     for i in 0..values.len() {
         put_probability(bits, values[i])?;
@@ -43,7 +44,7 @@ fn put_prediction(
 ) -> Result<(), AllocError>
     requires { temporal ≡ false → prediction ≡ replicate 3 255 }
     ensures puts { IfOk result (λ _. Puts (prediction_probabilities temporal) bits.old prediction bits.new) }
-    ensures spells { IfOk result (λ _. HasPut bits.old (if temporal then spelled_probabilities prediction else []) bits.new) }
+    ensures spells { IfOk result (λ _. HasPut bits.old (if temporal then flat_map spelled_probability prediction else []) bits.new) }
 {
     if temporal {
         put_probabilities(bits, &prediction)?;
@@ -124,7 +125,7 @@ fn put_segment_features(bits: &mut BitWriter, features: SegmentFeatures) -> Resu
 fn put_all_features(bits: &mut BitWriter, segments: &[SegmentFeatures]) -> Result<(), AllocError>
     requires { All AreSegmentFeatures segments.now }
     ensures puts { IfOk result (λ _. Puts (each features_for (replicate (length segments.now) no_segment_features)) bits.old segments.now bits.new) }
-    ensures spells { IfOk result (λ _. HasPut bits.old (spelled_all_features segments.now) bits.new) }
+    ensures spells { IfOk result (λ _. HasPut bits.old (flat_map spelled_segment_features segments.now) bits.new) }
 {
     for i in 0..segments.len() {
         let features = segments[i];

@@ -2,8 +2,9 @@
 
 ghost use Rattle.std.specs.Prelude.{IfOk};
 ghost use Rattle.frame_headers.specs.Sizes.{frame_size, render_size, IsFrameSize};
+ghost use Rattle.header_writer.specs.Code.{HasPut};
 ghost use Rattle.header_writer.specs.Fields.{Puts};
-ghost use Rattle.header_writer.specs.Spelling.{HasPut, spelled_render_size, spelled_size};
+ghost use Rattle.header_writer.specs.Spelling.{spelled_render_size, spelled_size};
 
 use crate::bits::BitWriter;
 use frame_headers::{FieldName, FrameSize};

@@ -5,10 +5,10 @@ ghost use Rattle.frame_headers.specs.Header.{coded_profile, frame_profile, frame
 ghost use Rattle.frame_headers.specs.declared.header.FrameKind.TheVariants as kinds;
 ghost use Rattle.frame_headers.specs.declared.header.Uncompressed.TheVariants as headers;
 ghost use Rattle.frame_headers.specs.Sizes.{IsFrameSize};
-ghost use Rattle.header_writer.specs.Code.{fields_of, start_of};
+ghost use Rattle.header_writer.specs.Code.{HasPut, fields_of, start_of};
 ghost use Rattle.header_writer.specs.Fields.{Puts};
 ghost use Rattle.header_writer.specs.Reads.{HoldsHeader};
-ghost use Rattle.header_writer.specs.Spelling.{HasPut, IsSpelled, spelled_coded_frame, spelled_coded_profile, spelled_contexts, spelled_fields, spelled_header, spelled_intra_and_reset, spelled_intra_only_fields, spelled_key_fields, spelled_params, spelled_profile, spelled_start, spelled_sync_code};
+ghost use Rattle.header_writer.specs.Spelling.{IsSpelled, spelled_coded_frame, spelled_coded_profile, spelled_contexts, spelled_fields, spelled_header, spelled_intra_and_reset, spelled_intra_only_fields, spelled_key_fields, spelled_params, spelled_profile, spelled_start, spelled_sync_code};
 ghost use Rattle.header_writer.specs.WellFormed.{IsColor, IsIntraOnlyColor, IsReset, IsContexts, IsParams, IsOfKind, IsHeader, IsWellFormed, AreKept, CanChoose};
 
 use crate::bits::BitWriter;
@@ -163,7 +163,7 @@ fn put_intra_and_reset(
 #[tactic(auto, unfolding(frame_headers::specs::Header::frame_start, crate::specs::Spelling::spelled_start), using(vp9_types::proofs::Binds::writes_bind, crate::proofs::Spells::spells_on))]
 fn put_frame_start(bits: &mut BitWriter, start: FrameStart) -> Result<(), AllocError>
     ensures puts { IfOk result (λ _. Puts frame_start bits.old start bits.new) }
-    ensures spells { IfOk result (λ _. HasPut bits.old (spelled_start start) bits.new) }
+    ensures spells { IfOk result (λ _. HasPut bits.old (spelled_start start.is_key start.show_frame start.error_resilient) bits.new) }
 {
     bits.flag(FieldName::FrameType, !start.is_key)?;
     bits.flag(FieldName::ShowFrame, start.show_frame)?;

@@ -38,7 +38,8 @@ abbrev pub symbols_from : ℕ → DrawnSymbols
 symbols_from x = record { draws = record { x = x } }
 
 -- The bytes are read as the header, as the modes that are drawn, and as the blocks that are drawn, up to the number from which
--- the next frame is drawn. The compressed header has its size; it and the tiles are the bytes of their bools.
+-- the next frame is drawn. The header is spelled as it is chosen; the compressed header has its size; it and the tiles are the
+-- bytes of their bools.
 pub record IsCodedFrame (state : State) (choices : Choices) (header : Header) (x : ℕ) (bytes : List ℕ) (next : ℕ) : Type 0 where
   pub size : ℕ
   pub compressed : Span
@@ -73,7 +74,7 @@ IsNone state (Coded header) x = IsUnsaid state header x ⊎ (HasLongHeader state
 
 ---- A frame ----
 
--- the frame of a number, in a state, and the number from which the next one is drawn. Its header is spelled as it is chosen
+-- the frame of a number, in a state, and the number from which the next one is drawn; its header is spelled as it is chosen
 abbrev pub IsFrameOf : State → Choices → Uncompressed → ℕ → List ℕ → ℕ → Type 0
 IsFrameOf state choices (ShowExisting slot) x bytes next =
     (head_of (persist_of state) bytes ≡ Ok (head.ShowExisting slot)) × (next ≡ x) × IsSpelled (persist_of state) choices (ShowExisting slot) bytes

@@ -1,8 +1,7 @@
 use Rattle.std.proofs.Common.{take, drop}
 use Rattle.frame_headers.specs.Filter.{coded_delta}
 use Rattle.std.specs.Prelude.{flat_map, zip}
-use Rattle.header_writer.specs.Code.{EachLeft}
-use Rattle.header_writer.specs.Spelling.{HasPut}
+use Rattle.header_writer.specs.Code.{EachLeft, HasPut}
 use Rattle.header_writer.proofs.Spells.{spelled_pair}
 use Rattle.header_writer.proofs.filter.put_deltas.Given as goal
 

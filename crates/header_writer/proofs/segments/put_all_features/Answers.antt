@@ -1,7 +1,7 @@
 use Rattle.std.proofs.Common.{◌<◌, ◌≤◌, length, replicate, arith}
 use Rattle.std.proofs.lemmas.List.{length-replicate}
 use Rattle.frame_headers.specs.Segments.{features_for, no_segment_features}
-use Rattle.header_writer.specs.Spelling.{spelled_all_features, spelled_segment_features}
+use Rattle.header_writer.specs.Spelling.{spelled_segment_features}
 use Rattle.header_writer.proofs.Spells.{each_spelled, each_spelled_all, each_spelled_none}
 use Rattle.header_writer.proofs.EachPuts.{each_begins, each_on, each_all}
 use Rattle.header_writer.proofs.segments.put_all_features.Goals as goal
@@ -27,5 +27,4 @@ returns-clause-puts c =
     (omega (arith, size, there)) there c.loop-i.invariant.puts
 
 pub returns-clause-spells : goal.returns-clause-spells
-unfolding spelled_all_features
 returns-clause-spells c = each_spelled_all spelled_segment_features c.args.segments.now c.loop-i.i c.args.bits.now c.loop-i.bits c.loop-i-test.false c.loop-i.invariant.spells

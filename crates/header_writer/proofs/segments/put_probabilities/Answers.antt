@@ -1,7 +1,7 @@
 use Rattle.std.proofs.Common.{◌<◌, ◌≤◌, ℕ, length, replicate, arith}
 use Rattle.std.proofs.lemmas.List.{length-replicate}
 use Rattle.frame_headers.specs.Segments.{probability_for}
-use Rattle.header_writer.specs.Spelling.{spelled_probabilities, spelled_probability}
+use Rattle.header_writer.specs.Spelling.{spelled_probability}
 use Rattle.header_writer.proofs.Spells.{each_spelled, each_spelled_all, each_spelled_none}
 use Rattle.header_writer.proofs.EachPuts.{each_begins, each_on, each_all}
 use Rattle.header_writer.proofs.segments.put_probabilities.Goals as goal
@@ -26,5 +26,4 @@ returns-clause-puts c =
     each_all probability_for (replicate (length c.args.values.now) 255) c.args.bits.now c.args.values.now c.loop-i.i c.loop-i.bits (omega (arith, size, there)) there c.loop-i.invariant.puts
 
 pub returns-clause-spells : goal.returns-clause-spells
-unfolding spelled_probabilities
 returns-clause-spells c = each_spelled_all spelled_probability c.args.values.now c.loop-i.i c.args.bits.now c.loop-i.bits c.loop-i-test.false c.loop-i.invariant.spells

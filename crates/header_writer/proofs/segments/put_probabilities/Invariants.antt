@@ -1,8 +1,8 @@
 use Rattle.std.proofs.Common.{take, drop, replicate, length}
 use Rattle.frame_headers.specs.Segments.{probability_for}
 use Rattle.std.specs.Prelude.{flat_map}
-use Rattle.header_writer.specs.Code.{EachLeft}
-use Rattle.header_writer.specs.Spelling.{HasPut, spelled_probability}
+use Rattle.header_writer.specs.Code.{EachLeft, HasPut}
+use Rattle.header_writer.specs.Spelling.{spelled_probability}
 use Rattle.header_writer.proofs.segments.put_probabilities.Given as goal
 
 abbrev pub invariant-loop-i : goal.invariant-loop-i

@@ -1,6 +1,7 @@
 use Rattle.std.proofs.Common.{◌-◌, ◌≤◌}
 use Rattle.std.specs.Prelude.{flat_map, replicate, true}
-use Rattle.header_writer.specs.Spelling.{HasPut, bit}
+use Rattle.header_writer.specs.Code.{HasPut}
+use Rattle.header_writer.specs.Spelling.{bit}
 use Rattle.header_writer.proofs.TilePuts.{ColumnsLeft}
 use Rattle.header_writer.proofs.tiles.put_more_columns.Given as goal
 
