@@ -292,7 +292,7 @@ fn put_uncompressed(
     }
 }
 
-/// Puts a header behind what is there, in whole bytes. After want of memory all is as it was.
+/// Puts a header, spelled as it is chosen, behind what is there, in whole bytes. After want of memory all is as it was.
 pub fn write_uncompressed_header(
     alloc: Global,
     out: &mut Vec<u8>,
