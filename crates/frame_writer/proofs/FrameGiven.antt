@@ -15,6 +15,7 @@ use Rattle.frame_headers.specs.declared.header.Header.{Header}
 use Rattle.frame_headers.specs.declared.header.Uncompressed.TheVariants as uncompressed
 use Rattle.frame_headers.specs.declared.persist.Persist.{Persist}
 use Rattle.header_writer.specs.Reads.{HoldsHeader}
+use Rattle.header_writer.specs.Spelling.{IsSpelled}
 use Rattle.header_writer.specs.WellFormed.{IsWellFormed}
 use Rattle.prob_contexts.specs.Lists.{ContextLists, lists_of}
 use Rattle.prob_contexts.specs.declared.contexts.Contexts.{Contexts}
@@ -93,9 +94,10 @@ frame_is : {T : Type 0} (speaker : Speaker T) (before : Persist) (frame : FrameT
     → past.contexts ≡ lists_of old → IsForward frame.header old compressed (Ok (frame.contexts, frame.modes))
     → IsWrittenHeader frame.header (lists_of old) (lists_of frame.contexts) frame.modes compressed
     → HoldsHeader before (uncompressed.Coded (with_size frame.header (length compressed))) front
+    → IsSpelled before frame.choices (uncompressed.Coded (with_size frame.header (length compressed))) front
     → GivesAll speaker (sources_with frame past (length compressed)) t (front ++ compressed) broken out new
     → IsFrame speaker before frame past t (without_index out) broken new
-frame_is speaker before frame past t new front compressed out broken old from made updates holds gives =
+frame_is speaker before frame past t new front compressed out broken old from made updates holds spelled gives =
     let end = ends_so out in
     let are = (tiles_in speaker (sources_with frame past (length compressed)) t new (front ++ compressed) out broken gives).1 in
     let rest = tile_bytes are.tiles are.last in
@@ -119,6 +121,7 @@ frame_is speaker before frame past t new front compressed out broken old from ma
         last = are.last;
         put = ap without_index are.put;
         holds = holds;
+        spelled = spelled;
         size = refl;
         updates = same_updates frame.header size past.contexts _ _ compressed
             (subst (λ before. IsWrittenHeader frame.header before (lists_of frame.contexts) frame.modes compressed) (sym from) updates);
@@ -140,8 +143,9 @@ frame_by : {T : Type 0} (speaker : Speaker T) (before : Persist) (frame : FrameT
     → GivesFrame speaker before frame past t result new
 frame_by speaker before frame past t new old header bytes (Ok w) from h gives =
     let holds = rw h.size at h.holds in
+    let spelled = rw h.size at h.spelled in
     let all = subst (λ by. GivesAll speaker by t bytes w.broken gives.0 new) (sources_are before frame past old header bytes h) gives.2 in
-    rw gives.1 (frame_is speaker before frame past t new h.front h.compressed gives.0 w.broken old from h.makes h.bools holds (rw h.put at all))
+    rw gives.1 (frame_is speaker before frame past t new h.front h.compressed gives.0 w.broken old from h.makes h.bools holds spelled (rw h.put at all))
 frame_by speaker before frame past t new old header bytes (Err Unsaid) from h gives =
     (length h.compressed, subst (λ by. IsUntold speaker by t) (sources_are before frame past old header bytes h) gives)
 frame_by speaker before frame past t new old header bytes (Err TooLong) from h gives =

@@ -14,6 +14,8 @@ use Rattle.frame_headers.specs.declared.header.Uncompressed.TheVariants.{Coded}
 use Rattle.frame_headers.specs.declared.persist.Persist.{Persist}
 use Rattle.compressed_writer.specs.Bytes.{IsWrittenHeader}
 use Rattle.header_writer.specs.Reads.{HoldsHeader}
+use Rattle.header_writer.specs.Spelling.{IsSpelled}
+use Rattle.header_writer.specs.declared.choices.Choices.{Choices}
 use Rattle.frame_decoder.specs.Reading.{FrameRead, TileRead, nothing_read, read_tile_of}
 use Rattle.frame_decoder.specs.Sources.{FrameSources}
 use Rattle.frame_writer.specs.Frames.{nth_syntax}
@@ -60,15 +62,17 @@ with_size header size = record header { params = record header.params { compress
 unfoldable pub without_index : List ℕ → List ℕ
 without_index bytes = if slice_index bytes (length bytes - 1) / 32 == 6 then bytes ++ 0 ∷ [] else bytes
 
--- How the bytes of a frame are laid out, behind what persists (6.1, 6.4): its uncompressed header; the compressed one, of the size
--- that this tells; and the tiles, each but the last with its size before it. The last two are the bytes of their bools and no more.
-pub record IsLaidOut (before : Persist) (by : FrameSources) (bytes : List ℕ) : Type 0 where
+-- How the bytes of a frame are laid out, behind what persists (6.1, 6.4): its uncompressed header, spelled as it is chosen; the
+-- compressed one, of the size that this tells; and the tiles, each but the last with its size before it. The last two are the bytes
+-- of their bools and no more.
+pub record IsLaidOut (before : Persist) (choices : Choices) (by : FrameSources) (bytes : List ℕ) : Type 0 where
   pub front : List ℕ
   pub compressed : List ℕ
   pub tiles : List (List ℕ)
   pub last : List ℕ
   pub put : bytes ≡ without_index (front ++ compressed ++ tile_bytes tiles last)
   pub holds : HoldsHeader before (Coded by.header) front
+  pub spelled : IsSpelled before choices (Coded by.header) front
   pub size : length compressed ≡ by.header.params.compressed_size
   pub updates : IsWrittenHeader by.header by.past.contexts by.contexts by.modes compressed
   pub many : length tiles + 1 ≡ tile_count by.header

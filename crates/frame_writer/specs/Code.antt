@@ -13,6 +13,7 @@ use Rattle.frame_headers.specs.declared.header.Uncompressed.TheVariants as uncom
 use Rattle.compressed_header.specs.Header.{IsForward, forward}
 use Rattle.compressed_writer.specs.Bytes.{IsWrittenHeader}
 use Rattle.header_writer.specs.Reads.{HoldsHeader}
+use Rattle.header_writer.specs.Spelling.{IsSpelled}
 use Rattle.prob_contexts.specs.Lists.{ContextLists, lists_of}
 use Rattle.prob_contexts.specs.declared.contexts.Contexts.{Contexts}
 use Rattle.vp9_types.specs.declared.job.Span.{Span}
@@ -216,6 +217,7 @@ pub record AreHeaders (before : Persist) (frame : FrameToWrite) (old : Contexts)
   pub makes : IsForward frame.header old compressed (Ok (frame.contexts, frame.modes))
   pub bools : IsWrittenHeader frame.header (lists_of old) (lists_of frame.contexts) frame.modes compressed
   pub holds : HoldsHeader before (uncompressed.Coded header) front
+  pub spelled : IsSpelled before frame.choices (uncompressed.Coded header) front
 
 -- a compressed header of 2 ^ 16 bytes is too long
 abbrev pub IsLongHeader : FrameToWrite → ContextLists → Type 0
@@ -245,7 +247,7 @@ pub record IsFrame {T : Type 0} (speaker : Speaker T) (before : Persist) (frame 
   pub compressed : Span
   pub head : head_of before bytes ≡ Ok (Coded (with_size frame.header size) compressed)
   pub read : ReadsFrame speaker (input_with frame past size compressed bytes) (sources_with frame past size) t broken new
-  pub laid : IsLaidOut before (sources_with frame past size) bytes
+  pub laid : IsLaidOut before frame.choices (sources_with frame past size) bytes
 
 abbrev pub GivesFrame : {T : Type 0} → Speaker T → Persist → FrameToWrite → FramePast → T → Result Written NotWritten → T → Type 0
 GivesFrame speaker before frame past t (Ok w) new = IsFrame speaker before frame past t w.bytes.items w.broken new

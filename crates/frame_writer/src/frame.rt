@@ -5,6 +5,7 @@ ghost use Rattle.frame_headers.specs.declared.header.Uncompressed.TheVariants.{C
 ghost use Rattle.prob_contexts.specs.Lists.{lists_of};
 ghost use Rattle.compressed_writer.specs.Updates.{CanForward};
 ghost use Rattle.header_writer.specs.Reads.{HoldsHeader};
+ghost use Rattle.header_writer.specs.Spelling.{IsSpelled};
 ghost use Rattle.header_writer.specs.WellFormed.{CanChoose, IsWellFormed};
 ghost use Rattle.frame_headers.specs.Tiles.{AreFewTiles};
 ghost use Rattle.frame_decoder.specs.Code.{sources_of};
@@ -69,7 +70,7 @@ fn put_headers(
     requires some { 1 ≤ length compressed.now }
     requires short { length compressed.now < 2 ^ 16 }
     ensures { IfOk result (λ h. (h.header ≡ with_size frame.now.header (length compressed.now))
-        × (front : List ℕ) × (h.bytes.items ≡ front ++ compressed.now) × HoldsHeader persist.now (Coded h.header) front) }
+        × (front : List ℕ) × (h.bytes.items ≡ front ++ compressed.now) × HoldsHeader persist.now (Coded h.header) front × IsSpelled persist.now frame.now.choices (Coded h.header) front) }
 {
     let header = with_size(&frame.header, compressed.len() as u16);
     let mut bytes = Vec::new(alloc);

@@ -1,5 +1,5 @@
 -- A header that was put is read from its bytes.
-use Rattle.std.proofs.Common.{◌≡◌, ℕ, ◌+◌, ◌-◌, ◌/◌, List, [], ◌++◌, length, refl, ap, ◌∙◌, arith, append_assoc}
+use Rattle.std.proofs.Common.{◌≡◌, ℕ, ◌+◌, ◌-◌, ◌/◌, List, [], ◌++◌, length, refl, ap, ◌∙◌, subst, arith, append_assoc}
 use Rattle.std.specs.Prelude.{Ok}
 use Rattle.std.proofs.lemmas.List.{length-append}
 use Rattle.vp9_types.specs.Bits.{bits_of, spelled}
@@ -12,7 +12,10 @@ use Rattle.frame_headers.specs.Fields.{past}
 use Rattle.frame_headers.specs.Header.{uncompressed_header, placed}
 use Rattle.frame_headers.proofs.BitLemmas.{length-bits_of}
 use Rattle.frame_headers.proofs.HeadLemmas.{head_read}
+use Rattle.header_writer.specs.Code.{HasPut}
 use Rattle.header_writer.specs.Fields.{Puts, IsPadded}
+use Rattle.header_writer.specs.declared.choices.Choices.{Choices}
+use Rattle.header_writer.specs.Spelling.{IsSpelled, spelled_header}
 use Rattle.header_writer.specs.Reads.{HoldsHeader, head_before}
 use Rattle.header_writer.proofs.FieldLaws.{fields_read}
 use Rattle.header_writer.proofs.BitsPut.{bits_append}
@@ -48,3 +51,7 @@ holds_header before x new bytes h padded = record {
       head_read before (bytes ++ more) x rest (header_read before x new bytes more h padded)
       ∙ placed_behind x (length bytes) (length more) (length (bytes ++ more)) rest left (length-append bytes more);
 }
+
+pub is_spelled : (before : Persist) (choices : Choices) (x : Uncompressed) (new bytes : List ℕ) → HasPut [] (spelled_header before choices x) new → IsPadded new bytes → IsSpelled before choices x bytes
+unfolding HasPut IsSpelled
+is_spelled before choices x new bytes h padded = subst (λ bits. IsPadded bits bytes) h padded

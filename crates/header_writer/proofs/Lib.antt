@@ -4,3 +4,4 @@ pub mod BitsPut
 pub mod TilePuts
 pub mod HeaderReads
 pub mod SlotPuts
+pub mod Spells

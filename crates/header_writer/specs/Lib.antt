@@ -1,4 +1,5 @@
 pub mod Fields
 pub mod WellFormed
 pub mod Reads
+pub mod Spelling
 pub mod Code

@@ -28,7 +28,9 @@ impl BitWriter {
     ghost use Rattle.std.specs.Prelude.{◌≡◌, ◌<◌, ◌≤◌, ◌^◌, ◌++◌, ◌∷◌, [], IfOk, if◌then◌else◌};
     ghost use Rattle.std.specs.Result.{is_ok};
     ghost use Rattle.frame_headers.specs.Fields.{f, flag, su};
+    ghost use Rattle.header_writer.specs.Code.{HasPut};
     ghost use Rattle.header_writer.specs.Fields.{Puts, IsPadded};
+    ghost use Rattle.header_writer.specs.Spelling.{number, bit, signed};
     ghost use Rattle.header_writer.specs.WellFormed.{IsSigned};
 
     /// A writer without bits.
@@ -64,7 +66,8 @@ impl BitWriter {
     pub fn field(&mut self, name: FieldName, width: u8, value: u16) -> Result<(), AllocError>
         requires width { width ≤ 16 }
         requires fits { value < 2 ^ width }
-        ensures { IfOk result (λ _. Puts (f name width) self.old value self.new) }
+        ensures puts { IfOk result (λ _. Puts (f name width) self.old value self.new) }
+        ensures spells { IfOk result (λ _. HasPut self.old (number width value) self.new) }
     {
         let mut left = width;
         while 0 < left {
@@ -78,25 +81,28 @@ impl BitWriter {
     pub fn byte(&mut self, name: FieldName, width: u8, value: u8) -> Result<(), AllocError>
         requires width { width ≤ 8 }
         requires fits { value < 2 ^ width }
-        ensures { IfOk result (λ _. Puts (f name width) self.old value self.new) }
+        ensures puts { IfOk result (λ _. Puts (f name width) self.old value self.new) }
+        ensures spells { IfOk result (λ _. HasPut self.old (number width value) self.new) }
     {
         self.field(name, width, u16::from(value))
     }
 
     /// Puts a field of one bit.
-    #[tactic(auto, unfolding(frame_headers::specs::Fields::flag), using(vp9_types::proofs::Binds::writes_bind))]
+    #[tactic(auto, unfolding(frame_headers::specs::Fields::flag, crate::specs::Spelling::bit), using(vp9_types::proofs::Binds::writes_bind))]
     pub fn flag(&mut self, name: FieldName, value: bool) -> Result<(), AllocError>
-        ensures { IfOk result (λ _. Puts (flag name) self.old value self.new) }
+        ensures puts { IfOk result (λ _. Puts (flag name) self.old value self.new) }
+        ensures spells { IfOk result (λ _. HasPut self.old (bit value) self.new) }
     {
         self.field(name, 1, u16::from(value))
     }
 
     /// Puts a number of at most 8 bits, and its sign.
-    #[tactic(auto, unfolding(frame_headers::specs::Fields::su), using(vp9_types::proofs::Binds::writes_bind))]
+    #[tactic(auto, unfolding(frame_headers::specs::Fields::su, crate::specs::Spelling::signed), using(vp9_types::proofs::Binds::writes_bind, crate::proofs::Spells::spells_on))]
     pub fn signed(&mut self, name: FieldName, width: u8, value: i16) -> Result<(), AllocError>
         requires width { width ≤ 8 }
         requires fits { IsSigned width value }
-        ensures { IfOk result (λ _. Puts (su name width) self.old value self.new) }
+        ensures puts { IfOk result (λ _. Puts (su name width) self.old value self.new) }
+        ensures spells { IfOk result (λ _. HasPut self.old (signed width value) self.new) }
     {
         self.field(name, width, value.unsigned_abs())?;
         self.flag(FieldName::Sign, value < 0)

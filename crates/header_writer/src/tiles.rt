@@ -2,7 +2,9 @@
 
 ghost use Rattle.std.specs.Prelude.{◌≡◌, ◌≤◌, ◌-◌, max, IfOk};
 ghost use Rattle.frame_headers.specs.Tiles.{superblocks, min_log2, max_log2, more_columns, tile_columns_log2, tile_rows_log2, tile_info};
+ghost use Rattle.header_writer.specs.Code.{HasPut};
 ghost use Rattle.header_writer.specs.Fields.{Puts};
+ghost use Rattle.header_writer.specs.Spelling.{spelled_columns, spelled_rows, spelled_tiles};
 ghost use Rattle.header_writer.specs.WellFormed.{IsTileInfo};
 
 use crate::bits::BitWriter;
@@ -49,7 +51,8 @@ fn put_more_columns(
 ) -> Result<(), AllocError>
     requires least { least ≤ log2 }
     requires most { log2 ≤ max least greatest }
-    ensures { IfOk result (λ _. Puts (more_columns (greatest - least) least) bits.old log2 bits.new) }
+    ensures puts { IfOk result (λ _. Puts (more_columns (greatest - least) least) bits.old log2 bits.new) }
+    ensures spells { IfOk result (λ _. HasPut bits.old (spelled_columns least greatest log2) bits.new) }
 {
     let mut now = least;
     while now < log2 {
@@ -63,10 +66,11 @@ fn put_more_columns(
     Ok(())
 }
 
-#[tactic(auto, unfolding(frame_headers::specs::Tiles::tile_rows_log2), using(vp9_types::proofs::Binds::writes_bind))]
+#[tactic(auto, unfolding(frame_headers::specs::Tiles::tile_rows_log2, crate::specs::Spelling::spelled_rows), using(vp9_types::proofs::Binds::writes_bind, crate::proofs::Spells::spells_on))]
 fn put_rows_log2(bits: &mut BitWriter, log2: u8) -> Result<(), AllocError>
     requires { log2 ≤ 2 }
-    ensures { IfOk result (λ _. Puts tile_rows_log2 bits.old log2 bits.new) }
+    ensures puts { IfOk result (λ _. Puts tile_rows_log2 bits.old log2 bits.new) }
+    ensures spells { IfOk result (λ _. HasPut bits.old (spelled_rows log2) bits.new) }
 {
     if log2 == 0 {
         return bits.flag(FieldName::TileRowsLog2, false);
@@ -79,10 +83,11 @@ fn put_rows_log2(bits: &mut BitWriter, log2: u8) -> Result<(), AllocError>
 }
 
 /// Puts `tile_info` (6.2.13 of the standard) of a frame of this width.
-#[tactic(auto, unfolding(frame_headers::specs::Tiles::tile_info, frame_headers::specs::Tiles::tile_columns_log2), using(vp9_types::proofs::Binds::writes_bind))]
+#[tactic(auto, unfolding(frame_headers::specs::Tiles::tile_info, frame_headers::specs::Tiles::tile_columns_log2, crate::specs::Spelling::spelled_tiles), using(vp9_types::proofs::Binds::writes_bind, crate::proofs::Spells::spells_on))]
 pub fn put_tile_info(bits: &mut BitWriter, width: u32, tiles: TileInfo) -> Result<(), AllocError>
     requires { IsTileInfo width tiles }
-    ensures { IfOk result (λ _. Puts (tile_info width) bits.old tiles bits.new) }
+    ensures puts { IfOk result (λ _. Puts (tile_info width) bits.old tiles bits.new) }
+    ensures spells { IfOk result (λ _. HasPut bits.old (spelled_tiles width tiles) bits.new) }
 {
     let columns = superblocks_of(width);
     let least = least_log2(columns);

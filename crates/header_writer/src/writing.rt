@@ -5,9 +5,10 @@ ghost use Rattle.frame_headers.specs.Header.{coded_profile, frame_profile, frame
 ghost use Rattle.frame_headers.specs.declared.header.FrameKind.TheVariants as kinds;
 ghost use Rattle.frame_headers.specs.declared.header.Uncompressed.TheVariants as headers;
 ghost use Rattle.frame_headers.specs.Sizes.{IsFrameSize};
-ghost use Rattle.header_writer.specs.Code.{fields_of, start_of};
+ghost use Rattle.header_writer.specs.Code.{HasPut, fields_of, start_of};
 ghost use Rattle.header_writer.specs.Fields.{Puts};
 ghost use Rattle.header_writer.specs.Reads.{HoldsHeader};
+ghost use Rattle.header_writer.specs.Spelling.{IsSpelled, spelled_coded_frame, spelled_coded_profile, spelled_contexts, spelled_fields, spelled_header, spelled_intra_and_reset, spelled_intra_only_fields, spelled_key_fields, spelled_params, spelled_profile, spelled_start, spelled_sync_code};
 ghost use Rattle.header_writer.specs.WellFormed.{IsColor, IsIntraOnlyColor, IsReset, IsContexts, IsParams, IsOfKind, IsHeader, IsWellFormed, AreKept, CanChoose};
 
 use crate::bits::BitWriter;
@@ -28,19 +29,21 @@ use std::alloc::{AllocError, Global};
 /// The bits of the frame marker.
 const FRAME_MARKER: u8 = 2;
 
-#[tactic(auto, unfolding(frame_headers::specs::Header::coded_profile), using(vp9_types::proofs::Binds::writes_bind))]
+#[tactic(auto, unfolding(frame_headers::specs::Header::coded_profile, crate::specs::Spelling::spelled_coded_profile), using(vp9_types::proofs::Binds::writes_bind, crate::proofs::Spells::spells_on))]
 fn put_coded_profile(bits: &mut BitWriter, profile: u8) -> Result<(), AllocError>
     requires { profile < 4 }
-    ensures { IfOk result (λ _. Puts coded_profile bits.old profile bits.new) }
+    ensures puts { IfOk result (λ _. Puts coded_profile bits.old profile bits.new) }
+    ensures spells { IfOk result (λ _. HasPut bits.old (spelled_coded_profile profile) bits.new) }
 {
     bits.byte(FieldName::ProfileLowBit, 1, profile % 2)?;
     bits.byte(FieldName::ProfileHighBit, 1, profile / 2)
 }
 
-#[tactic(auto, unfolding(frame_headers::specs::Header::frame_profile), using(vp9_types::proofs::Binds::writes_bind))]
+#[tactic(auto, unfolding(frame_headers::specs::Header::frame_profile, crate::specs::Spelling::spelled_profile), using(vp9_types::proofs::Binds::writes_bind, crate::proofs::Spells::spells_on, crate::proofs::Spells::spells_same))]
 fn put_frame_profile(bits: &mut BitWriter, profile: u8) -> Result<(), AllocError>
     requires { profile < 4 }
-    ensures { IfOk result (λ _. Puts frame_profile bits.old profile bits.new) }
+    ensures puts { IfOk result (λ _. Puts frame_profile bits.old profile bits.new) }
+    ensures spells { IfOk result (λ _. HasPut bits.old (spelled_profile profile) bits.new) }
 {
     bits.byte(FieldName::FrameMarker, 2, FRAME_MARKER)?;
     put_coded_profile(bits, profile)?;
@@ -50,23 +53,25 @@ fn put_frame_profile(bits: &mut BitWriter, profile: u8) -> Result<(), AllocError
     Ok(())
 }
 
-#[tactic(auto, unfolding(frame_headers::specs::Header::frame_sync_code), using(vp9_types::proofs::Binds::writes_bind))]
+#[tactic(auto, unfolding(frame_headers::specs::Header::frame_sync_code, crate::specs::Spelling::spelled_sync_code), using(vp9_types::proofs::Binds::writes_bind, crate::proofs::Spells::spells_on))]
 fn put_frame_sync_code(bits: &mut BitWriter) -> Result<(), AllocError>
-    ensures { IfOk result (λ u. Puts frame_sync_code bits.old u bits.new) }
+    ensures puts { IfOk result (λ u. Puts frame_sync_code bits.old u bits.new) }
+    ensures spells { IfOk result (λ _. HasPut bits.old spelled_sync_code bits.new) }
 {
     bits.byte(FieldName::FrameSyncByte0, 8, 0x49)?;
     bits.byte(FieldName::FrameSyncByte1, 8, 0x83)?;
     bits.byte(FieldName::FrameSyncByte2, 8, 0x42)
 }
 
-#[tactic(auto, unfolding(frame_headers::specs::Header::frame_contexts), using(vp9_types::proofs::Binds::writes_bind))]
+#[tactic(auto, unfolding(frame_headers::specs::Header::frame_contexts, crate::specs::Spelling::spelled_contexts), using(vp9_types::proofs::Binds::writes_bind, crate::proofs::Spells::spells_on))]
 fn put_frame_contexts(
     bits: &mut BitWriter,
     error_resilient: bool,
     contexts: FrameContexts,
 ) -> Result<(), AllocError>
     requires { IsContexts error_resilient contexts }
-    ensures { IfOk result (λ _. Puts (frame_contexts error_resilient) bits.old contexts bits.new) }
+    ensures puts { IfOk result (λ _. Puts (frame_contexts error_resilient) bits.old contexts bits.new) }
+    ensures spells { IfOk result (λ _. HasPut bits.old (spelled_contexts error_resilient contexts) bits.new) }
 {
     if error_resilient {
         return bits.byte(FieldName::FrameContextIdx, 2, contexts.index);
@@ -76,7 +81,7 @@ fn put_frame_contexts(
     bits.byte(FieldName::FrameContextIdx, 2, contexts.index)
 }
 
-#[tactic(auto, unfolding(frame_headers::specs::Header::frame_params), using(vp9_types::proofs::Binds::writes_bind))]
+#[tactic(auto, unfolding(frame_headers::specs::Header::frame_params, crate::specs::Spelling::spelled_params), using(vp9_types::proofs::Binds::writes_bind, crate::proofs::Spells::spells_on))]
 fn put_frame_params(
     bits: &mut BitWriter,
     deltas: LoopDeltas,
@@ -86,7 +91,8 @@ fn put_frame_params(
 ) -> Result<(), AllocError>
     requires are { IsParams deltas features.now header.now.size.width header.now.params }
     requires kept { AreKept deltas features.now choices header.now.params }
-    ensures { IfOk result (λ _. Puts (frame_params deltas features.now header.now.size.width) bits.old header.now.params bits.new) }
+    ensures puts { IfOk result (λ _. Puts (frame_params deltas features.now header.now.size.width) bits.old header.now.params bits.new) }
+    ensures spells { IfOk result (λ _. HasPut bits.old (spelled_params choices deltas header.now.size.width header.now.params) bits.new) }
 {
     let params = &header.params;
     put_loop_filter(bits, deltas, params.loop_filter, choices.deltas)?;
@@ -96,14 +102,15 @@ fn put_frame_params(
     bits.field(FieldName::HeaderSizeInBytes, 16, params.compressed_size)
 }
 
-#[tactic(auto, unfolding(frame_headers::specs::Header::key_fields), using(vp9_types::proofs::Binds::writes_bind))]
+#[tactic(auto, unfolding(frame_headers::specs::Header::key_fields, crate::specs::Spelling::spelled_key_fields), using(vp9_types::proofs::Binds::writes_bind, crate::proofs::Spells::spells_on))]
 fn put_key_fields(bits: &mut BitWriter, profile: u8, fields: &FrameFields) -> Result<(), AllocError>
     requires size { IsFrameSize fields.now.size }
     requires color { IsColor profile fields.now.color }
     requires kind { fields.now.kind ≡ kinds.Key }
     requires reset { fields.now.reset_context ≡ 0 }
     requires refresh { fields.now.refresh ≡ 255 }
-    ensures { IfOk result (λ _. Puts (key_fields profile) bits.old fields.now bits.new) }
+    ensures puts { IfOk result (λ _. Puts (key_fields profile) bits.old fields.now bits.new) }
+    ensures spells { IfOk result (λ _. HasPut bits.old (spelled_key_fields profile fields.now.color fields.now.size) bits.new) }
 {
     put_frame_sync_code(bits)?;
     put_color_config(bits, profile, fields.color)?;
@@ -111,7 +118,7 @@ fn put_key_fields(bits: &mut BitWriter, profile: u8, fields: &FrameFields) -> Re
     put_render_size(bits)
 }
 
-#[tactic(auto, unfolding(frame_headers::specs::Header::intra_only_fields), using(vp9_types::proofs::Binds::writes_bind))]
+#[tactic(auto, unfolding(frame_headers::specs::Header::intra_only_fields, crate::specs::Spelling::spelled_intra_only_fields), using(vp9_types::proofs::Binds::writes_bind, crate::proofs::Spells::spells_on))]
 fn put_intra_only_fields(
     bits: &mut BitWriter,
     profile: u8,
@@ -120,7 +127,8 @@ fn put_intra_only_fields(
     requires size { IsFrameSize fields.now.size }
     requires color { IsIntraOnlyColor profile fields.now.color }
     requires kind { fields.now.kind ≡ kinds.IntraOnly }
-    ensures { IfOk result (λ _. Puts (intra_only_fields profile fields.now.reset_context) bits.old fields.now bits.new) }
+    ensures puts { IfOk result (λ _. Puts (intra_only_fields profile fields.now.reset_context) bits.old fields.now bits.new) }
+    ensures spells { IfOk result (λ _. HasPut bits.old (spelled_intra_only_fields profile fields.now.color fields.now.refresh fields.now.size) bits.new) }
 {
     put_frame_sync_code(bits)?;
     put_intra_only_color(bits, profile, fields.color)?;
@@ -130,7 +138,7 @@ fn put_intra_only_fields(
 }
 
 /// Puts whether a frame that is no key frame is intra only, which a shown one isn't, and which contexts it resets.
-#[tactic(auto, unfolding(frame_headers::specs::Header::intra_and_reset), using(vp9_types::proofs::Binds::writes_bind))]
+#[tactic(auto, unfolding(frame_headers::specs::Header::intra_and_reset, crate::specs::Spelling::spelled_intra_and_reset), using(vp9_types::proofs::Binds::writes_bind, crate::proofs::Spells::spells_on, crate::proofs::Spells::spells_same, crate::proofs::Spells::spells_none))]
 fn put_intra_and_reset(
     bits: &mut BitWriter,
     show_frame: bool,
@@ -140,7 +148,8 @@ fn put_intra_and_reset(
 ) -> Result<(), AllocError>
     requires hidden { show_frame ≡ true → intra_only ≡ false }
     requires reset { IsReset error_resilient reset_context }
-    ensures { IfOk result (λ _. Puts (intra_and_reset show_frame error_resilient) bits.old (intra_only, reset_context) bits.new) }
+    ensures puts { IfOk result (λ _. Puts (intra_and_reset show_frame error_resilient) bits.old (intra_only, reset_context) bits.new) }
+    ensures spells { IfOk result (λ _. HasPut bits.old (spelled_intra_and_reset show_frame error_resilient intra_only reset_context) bits.new) }
 {
     if !show_frame {
         bits.flag(FieldName::IntraOnly, intra_only)?;
@@ -151,9 +160,10 @@ fn put_intra_and_reset(
     Ok(())
 }
 
-#[tactic(auto, unfolding(frame_headers::specs::Header::frame_start), using(vp9_types::proofs::Binds::writes_bind))]
+#[tactic(auto, unfolding(frame_headers::specs::Header::frame_start, crate::specs::Spelling::spelled_start), using(vp9_types::proofs::Binds::writes_bind, crate::proofs::Spells::spells_on))]
 fn put_frame_start(bits: &mut BitWriter, start: FrameStart) -> Result<(), AllocError>
-    ensures { IfOk result (λ _. Puts frame_start bits.old start bits.new) }
+    ensures puts { IfOk result (λ _. Puts frame_start bits.old start bits.new) }
+    ensures spells { IfOk result (λ _. HasPut bits.old (spelled_start start.is_key start.show_frame start.error_resilient) bits.new) }
 {
     bits.flag(FieldName::FrameType, !start.is_key)?;
     bits.flag(FieldName::ShowFrame, start.show_frame)?;
@@ -182,7 +192,7 @@ fn fields_of(header: &Header) -> FrameFields
     }
 }
 
-#[tactic(auto, unfolding(frame_headers::specs::Header::frame_fields, frame_headers::specs::Header::other_fields), using(vp9_types::proofs::Binds::writes_bind))]
+#[tactic(auto, unfolding(frame_headers::specs::Header::frame_fields, frame_headers::specs::Header::other_fields, crate::specs::Spelling::spelled_fields), using(vp9_types::proofs::Binds::writes_bind, crate::proofs::Spells::spells_on))]
 fn put_frame_fields(
     bits: &mut BitWriter,
     before: &Persist,
@@ -191,7 +201,8 @@ fn put_frame_fields(
 ) -> Result<(), AllocError>
     requires size { IsFrameSize header.now.size }
     requires kind { IsOfKind before.now header.now header.now.kind }
-    ensures { IfOk result (λ _. Puts (frame_fields before.now header.now.profile (start_of header.now)) bits.old (fields_of header.now) bits.new) }
+    ensures puts { IfOk result (λ _. Puts (frame_fields before.now header.now.profile (start_of header.now)) bits.old (fields_of header.now) bits.new) }
+    ensures spells { IfOk result (λ _. HasPut bits.old (spelled_fields choices header.now header.now.kind) bits.new) }
 {
     let fields = fields_of(header);
     let (show, resilient, reset) = (
@@ -235,7 +246,7 @@ fn kept_by(before: &Persist, header: &Header) -> (LoopDeltas, Features)
 }
 
 /// Puts the header of a coded frame from its frame type on.
-#[tactic(auto, unfolding(frame_headers::specs::Header::coded_frame), using(vp9_types::proofs::Binds::writes_bind))]
+#[tactic(auto, unfolding(frame_headers::specs::Header::coded_frame, crate::specs::Spelling::spelled_coded_frame), using(vp9_types::proofs::Binds::writes_bind, crate::proofs::Spells::spells_on))]
 fn put_coded_frame(
     bits: &mut BitWriter,
     before: &Persist,
@@ -244,7 +255,8 @@ fn put_coded_frame(
 ) -> Result<(), AllocError>
     requires is { IsHeader before.now header.now }
     requires can { CanChoose before.now choices (headers.Coded header.now) }
-    ensures { IfOk result (λ _. Puts (coded_frame before.now header.now.profile) bits.old header.now bits.new) }
+    ensures puts { IfOk result (λ _. Puts (coded_frame before.now header.now.profile) bits.old header.now bits.new) }
+    ensures spells { IfOk result (λ _. HasPut bits.old (spelled_coded_frame before.now choices header.now) bits.new) }
 {
     put_frame_start(bits, start_of(header))?;
     put_frame_fields(bits, before, header, choices)?;
@@ -253,7 +265,7 @@ fn put_coded_frame(
     put_frame_params(bits, deltas, &features, header, choices)
 }
 
-#[tactic(auto, unfolding(frame_headers::specs::Header::uncompressed_header), using(vp9_types::proofs::Binds::writes_bind))]
+#[tactic(auto, unfolding(frame_headers::specs::Header::uncompressed_header, crate::specs::Spelling::spelled_header), using(vp9_types::proofs::Binds::writes_bind, crate::proofs::Spells::spells_on))]
 fn put_uncompressed(
     bits: &mut BitWriter,
     before: &Persist,
@@ -262,7 +274,8 @@ fn put_uncompressed(
 ) -> Result<(), AllocError>
     requires is { IsWellFormed before.now header.now }
     requires can { CanChoose before.now choices header.now }
-    ensures { IfOk result (λ _. Puts (uncompressed_header before.now) bits.old header.now bits.new) }
+    ensures puts { IfOk result (λ _. Puts (uncompressed_header before.now) bits.old header.now bits.new) }
+    ensures spells { IfOk result (λ _. HasPut bits.old (spelled_header before.now choices header.now) bits.new) }
 {
     match header {
         Uncompressed::ShowExisting { slot } => {
@@ -279,7 +292,7 @@ fn put_uncompressed(
     }
 }
 
-/// Puts a header behind what is there, in whole bytes. After want of memory all is as it was.
+/// Puts a header, spelled as it is chosen, behind what is there, in whole bytes. After want of memory all is as it was.
 pub fn write_uncompressed_header(
     alloc: Global,
     out: &mut Vec<u8>,
@@ -289,7 +302,7 @@ pub fn write_uncompressed_header(
 ) -> Result<(), AllocError>
     requires is { IsWellFormed before.now header.now }
     requires can { CanChoose before.now choices header.now }
-    ensures put { IfOk result (λ _. (bytes : List ℕ) × (out.new.items ≡ out.old.items ++ bytes) × HoldsHeader before.now header.now bytes) }
+    ensures put { IfOk result (λ _. (bytes : List ℕ) × (out.new.items ≡ out.old.items ++ bytes) × HoldsHeader before.now header.now bytes × IsSpelled before.now choices header.now bytes) }
     ensures same { OnErr result (out.new.items ≡ out.old.items) }
 {
     let mut bits = BitWriter::new(alloc);

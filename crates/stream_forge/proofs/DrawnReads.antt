@@ -34,6 +34,7 @@ use Rattle.seq_decoder.specs.SavedContexts.{context_before, saved_before}
 use Rattle.seq_decoder.specs.State.{State, persist_of}
 use Rattle.seq_decoder.proofs.Slots.{step_is}
 use Rattle.stream_forge.specs.Code.{Gives, GivesTo}
+use Rattle.header_writer.specs.declared.choices.Choices.{Choices}
 use Rattle.stream_forge.specs.Made.{IsCodedFrame, IsFrameOf, IsNone, IsUnsaid, drawn_sources, symbols_from}
 
 ---- The size of the compressed header is read by no one else ----
@@ -85,7 +86,7 @@ unsaid_by state header frame past x size symbols why is told = record {
 }
 
 given_to : (persist : Persist) (state : State) (header : Header) (frame : FrameToWrite) (past : FramePast) (x : ℕ) (symbols last : DrawnSymbols) (bytes : List ℕ) (broken : Option Rule)
-    → persist ≡ persist_of state → IsBy state header frame past x symbols → IsFrame drawing persist frame past symbols bytes broken last → GivesTo state (Coded header) x bytes broken last.draws.x
+    → persist ≡ persist_of state → IsBy state header frame past x symbols → IsFrame drawing persist frame past symbols bytes broken last → GivesTo state frame.choices (Coded header) x bytes broken last.draws.x
 given_to persist state header frame past x symbols last bytes None same is f =
     let input = input_by state header frame past x f.size symbols f.compressed bytes is in
     let sources = sources_by state header frame past x f.size symbols is in
@@ -96,7 +97,7 @@ given_to persist state header frame past x symbols last bytes None same is f =
       read = read.0;
       reads = ap read_frame (sym input) ∙ read.1 ∙ ap (λ by. Ok (read.0, by)) sources;
       told = (λ i. frame_told drawing (sym sources i) (sym (symbols_by state header frame past x symbols is) i)) ∙ read.2;
-      laid = subst (λ (p : Persist × FrameSources). IsLaidOut p.0 p.1 bytes) (λ i. (same i, sources i)) f.laid;
+      laid = subst (λ (p : Persist × FrameSources). IsLaidOut p.0 frame.choices p.1 bytes) (λ i. (same i, sources i)) f.laid;
     }
 given_to persist state header frame past x symbols last bytes (Some rule) same is f = inl (unsaid_by state header frame past x f.size symbols (unwritten.Broken rule) is f.read.1)
 
@@ -120,7 +121,7 @@ long_by state header frame past x symbols is (inr long) = inr (inr (record {
 
 pub coded_given : (persist : Persist) (state : State) (frame : FrameToWrite) (past : FramePast) (x : ℕ) (symbols last : DrawnSymbols) (result : Result Written NotWritten)
     → persist ≡ persist_of state → past ≡ past_of state frame.header → lists_of frame.contexts ≡ context_before frame.header state.contexts → draw_modes frame.header x ≡ (frame.modes, symbols.draws.x)
-    → GivesFrame drawing persist frame past symbols result last → Gives state (Coded frame.header) x result last.draws.x
+    → GivesFrame drawing persist frame past symbols result last → Gives state frame.choices (Coded frame.header) x result last.draws.x
 coded_given persist state frame past x symbols last (Ok w) same past_is contexts modes gives =
     given_to persist state frame.header frame past x symbols last w.bytes.items w.broken same (record { header_is = refl; past_is = past_is; contexts = contexts; modes = modes }) gives
 coded_given persist state frame past x symbols last (Err Unsaid) same past_is contexts modes gives =
@@ -135,15 +136,15 @@ same_modes : (header : Header) (x : ℕ) → draw_modes (sized 1 header) x ≡ d
 unfolding draw_modes
 same_modes header x = refl
 
-frame_unsized : (state : State) (header : Header) (x : ℕ) (bytes : List ℕ) (next : ℕ) → IsCodedFrame state (sized 1 header) x bytes next → IsCodedFrame state header x bytes next
-frame_unsized state header x bytes next f = record {
+frame_unsized : (state : State) (choices : Choices) (header : Header) (x : ℕ) (bytes : List ℕ) (next : ℕ) → IsCodedFrame state choices (sized 1 header) x bytes next → IsCodedFrame state choices header x bytes next
+frame_unsized state choices header x bytes next f = record {
   size = f.size;
   compressed = f.compressed;
   head = f.head;
   read = f.read;
   reads = f.reads ∙ ap (λ p. Ok (f.read, drawn_sources state (with_size header f.size) p.0)) (same_modes header x);
   told = ap (λ p. frame_told drawing (drawn_sources state (with_size header f.size) p.0) (symbols_from p.1)) (sym (same_modes header x)) ∙ f.told;
-  laid = subst (λ (p : Modes × ℕ). IsLaidOut (persist_of state) (drawn_sources state (with_size header f.size) p.0) bytes) (same_modes header x) f.laid;
+  laid = subst (λ (p : Modes × ℕ). IsLaidOut (persist_of state) choices (drawn_sources state (with_size header f.size) p.0) bytes) (same_modes header x) f.laid;
 }
 
 told_unsized : (state : State) (header : Header) (x size : ℕ)
@@ -176,15 +177,15 @@ none_unsized state header x (inr (inr long)) = inr (inr (record {
   long = subst (λ (p : FrameSources × DrawnSymbols). IsTooLong drawing p.0 p.1) (told_unsized state header x long.size) long.long;
 }))
 
-unsized_to : (state : State) (header : Header) (x : ℕ) (bytes : List ℕ) (broken : Option Rule) (next : ℕ) → GivesTo state (Coded (sized 1 header)) x bytes broken next → GivesTo state (Coded header) x bytes broken next
-unsized_to state header x bytes None next f = frame_unsized state header x bytes next f
-unsized_to state header x bytes (Some rule) next none = none_unsized state header x none
+unsized_to : (state : State) (choices : Choices) (header : Header) (x : ℕ) (bytes : List ℕ) (broken : Option Rule) (next : ℕ) → GivesTo state choices (Coded (sized 1 header)) x bytes broken next → GivesTo state choices (Coded header) x bytes broken next
+unsized_to state choices header x bytes None next f = frame_unsized state choices header x bytes next f
+unsized_to state choices header x bytes (Some rule) next none = none_unsized state header x none
 
-pub gives_unsized : (state : State) (header : Header) (x : ℕ) (result : Result Written NotWritten) (next : ℕ) → Gives state (Coded (sized 1 header)) x result next → Gives state (Coded header) x result next
-gives_unsized state header x (Ok w) next gives = unsized_to state header x w.bytes.items w.broken next gives
-gives_unsized state header x (Err Unsaid) next none = none_unsized state header x none
-gives_unsized state header x (Err TooLong) next none = none_unsized state header x none
-gives_unsized state header x (Err OutOfMemory) next gives = tt
+pub gives_unsized : (state : State) (choices : Choices) (header : Header) (x : ℕ) (result : Result Written NotWritten) (next : ℕ) → Gives state choices (Coded (sized 1 header)) x result next → Gives state choices (Coded header) x result next
+gives_unsized state choices header x (Ok w) next gives = unsized_to state choices header x w.bytes.items w.broken next gives
+gives_unsized state choices header x (Err Unsaid) next none = none_unsized state header x none
+gives_unsized state choices header x (Err TooLong) next none = none_unsized state header x none
+gives_unsized state choices header x (Err OutOfMemory) next gives = tt
 
 ---- A frame is decoded ----
 
@@ -197,14 +198,14 @@ record Steps (number : ℕ) (state : State) (bytes : List ℕ) : Type 0 where
   stepped : Stepped
   steps : step number state bytes ≡ Ok stepped
 
-steps_so : (number : ℕ) (state : State) (header : Uncompressed) (x : ℕ) (bytes : List ℕ) (next : ℕ) → IsFrameOf state header x bytes next → Steps number state bytes
-steps_so number state (ShowExisting slot) x bytes next f = record { stepped = _; steps = step_is number state bytes (Ok (head.ShowExisting slot)) f.0 }
-steps_so number state (Coded header) x bytes next f =
+steps_so : (number : ℕ) (state : State) (choices : Choices) (header : Uncompressed) (x : ℕ) (bytes : List ℕ) (next : ℕ) → IsFrameOf state choices header x bytes next → Steps number state bytes
+steps_so number state choices (ShowExisting slot) x bytes next f = record { stepped = _; steps = step_is number state bytes (Ok (head.ShowExisting slot)) f.0 }
+steps_so number state choices (Coded header) x bytes next f =
     let own = with_size header f.size in
     let done = decodes (input_of state bytes own f.compressed) f.read (drawn_sources state own (draw_modes header x).0) f.reads in record {
       stepped = _;
       steps = step_is number state bytes (Ok (head.Coded own f.compressed)) f.head ∙ ap (after_coded number state own) done;
     }
 
-pub frame_steps : (number : ℕ) (state : State) (header : Uncompressed) (x : ℕ) (bytes : List ℕ) (next : ℕ) → IsFrameOf state header x bytes next → IsOk (step number state bytes)
-frame_steps number state header x bytes next f = let s = steps_so number state header x bytes next f in rw s.steps refl
+pub frame_steps : (number : ℕ) (state : State) (choices : Choices) (header : Uncompressed) (x : ℕ) (bytes : List ℕ) (next : ℕ) → IsFrameOf state choices header x bytes next → IsOk (step number state bytes)
+frame_steps number state choices header x bytes next f = let s = steps_so number state choices header x bytes next f in rw s.steps refl

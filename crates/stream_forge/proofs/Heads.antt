@@ -9,6 +9,8 @@ use Rattle.frame_headers.specs.declared.header.Uncompressed.{Uncompressed}
 use Rattle.frame_headers.specs.declared.header.Uncompressed.TheVariants.{ShowExisting, Coded}
 use Rattle.frame_headers.specs.declared.persist.Persist.{Persist}
 use Rattle.header_writer.specs.Reads.{HoldsHeader}
+use Rattle.header_writer.specs.Spelling.{IsSpelled}
+use Rattle.header_writer.specs.declared.choices.Choices.{Choices}
 use Rattle.drawn_headers.specs.Heads.{draw_coded, draw_head}
 use Rattle.drawn_headers.specs.Made.{IsMade}
 use Rattle.seq_decoder.specs.After.{Stepped, step}
@@ -17,8 +19,15 @@ use Rattle.seq_decoder.proofs.Slots.{coded_persists, shown_stays}
 use Rattle.stream_forge.specs.Code.{IsMadeAfter}
 use Rattle.stream_forge.specs.Made.{IsFrameOf}
 
+shown_alone : (items old bytes : List ℕ) → items ≡ old ++ bytes → old ≡ [] → items ≡ bytes
+shown_alone items old bytes is none = is ∙ ap (λ l. l ++ bytes) none
+
 pub shown_read : (before : Persist) (slot : ℕ) (items old bytes : List ℕ) → items ≡ old ++ bytes → old ≡ [] → HoldsHeader before (ShowExisting slot) bytes → head_of before items ≡ Ok (head.ShowExisting slot)
-shown_read before slot items old bytes is none holds = ap (head_of before) (is ∙ ap (λ l. l ++ bytes) none ∙ sym (append-nil bytes)) ∙ holds.head []
+shown_read before slot items old bytes is none holds = ap (head_of before) (shown_alone items old bytes is none ∙ sym (append-nil bytes)) ∙ holds.head []
+
+pub shown_spelled : (before : Persist) (choices : Choices) (slot : ℕ) (items old bytes : List ℕ) → items ≡ old ++ bytes → old ≡ [] → IsSpelled before choices (ShowExisting slot) bytes
+    → IsSpelled before choices (ShowExisting slot) items
+shown_spelled before choices slot items old bytes is none spelled = rw (shown_alone items old bytes is none) spelled
 
 apart : (header : Header) (slot : ℕ) → Coded header ≡ ShowExisting slot → ⊥
 apart header slot is = cc
@@ -32,12 +41,12 @@ pub shown_after : (first : Bool) (before : Persist) (x slot : ℕ) → (first �
 shown_after true before x slot made is = absurd (not_first before x slot is)
 shown_after false before x slot made is = rw is (made refl)
 
-by_head : (number : ℕ) (state : State) (header : Uncompressed) (x next : ℕ) (bytes : List ℕ) (stepped : Stepped) → IsFrameOf state header x bytes next → step number state bytes ≡ Ok stepped
+by_head : (number : ℕ) (state : State) (choices : Choices) (header : Uncompressed) (x next : ℕ) (bytes : List ℕ) (stepped : Stepped) → IsFrameOf state choices header x bytes next → step number state bytes ≡ Ok stepped
     → IsMadeAfter header (persist_of state) → IsMade (persist_of stepped.state)
-by_head number state (ShowExisting slot) x next bytes stepped f steps made = rw (shown_stays number state bytes slot stepped f.0 steps) made
-by_head number state (Coded header) x next bytes stepped f steps made = rw (coded_persists number state bytes _ f.compressed stepped f.head steps) made
+by_head number state choices (ShowExisting slot) x next bytes stepped f steps made = rw (shown_stays number state bytes slot stepped f.0 steps) made
+by_head number state choices (Coded header) x next bytes stepped f steps made = rw (coded_persists number state bytes _ f.compressed stepped f.head steps) made
 
-pub made_next : (number : ℕ) (state : State) (header : Uncompressed) (x next : ℕ) (bytes : List ℕ) (stepped : Stepped) (old new : Persist) → old ≡ persist_of state → new ≡ persist_of stepped.state
-    → IsFrameOf state header x bytes next → step number state bytes ≡ Ok stepped → IsMadeAfter header old → IsMade new
-made_next number state header x next bytes stepped old new before behind f steps made =
-    rw behind (by_head number state header x next bytes stepped f steps (subst (IsMadeAfter header) before made))
+pub made_next : (number : ℕ) (state : State) (choices : Choices) (header : Uncompressed) (x next : ℕ) (bytes : List ℕ) (stepped : Stepped) (old new : Persist) → old ≡ persist_of state → new ≡ persist_of stepped.state
+    → IsFrameOf state choices header x bytes next → step number state bytes ≡ Ok stepped → IsMadeAfter header old → IsMade new
+made_next number state choices header x next bytes stepped old new before behind f steps made =
+    rw behind (by_head number state choices header x next bytes stepped f steps (subst (IsMadeAfter header) before made))

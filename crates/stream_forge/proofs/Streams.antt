@@ -4,6 +4,7 @@ use Rattle.std.specs.Prelude.{IfOk, is_some, Option, Some, None, Result, Ok, Err
 use Rattle.std.proofs.lemmas.List.{append-nil, length-append}
 use Rattle.vp9_types.specs.declared.rule.Rule.{Rule}
 use Rattle.frame_headers.specs.declared.header.Uncompressed.{Uncompressed}
+use Rattle.header_writer.specs.declared.choices.Choices.{Choices}
 use Rattle.container_writer.specs.Files.{file_header, packet_of}
 use Rattle.ivf_container.specs.Packets.{written_bytes}
 use Rattle.drawn_symbols.specs.declared.draws.Draws.{Draws}
@@ -15,7 +16,7 @@ use Rattle.seq_decoder.specs.Code.{StandsFor}
 use Rattle.seq_decoder.specs.State.{State, start_state}
 use Rattle.seq_decoder.specs.declared.decoder.Decoder.{Decoder}
 use Rattle.stream_forge.specs.Code.{Gives, GivesTo, IsLost, IsMadeAfter, IsSoFar, Passes}
-use Rattle.stream_forge.specs.Made.{AreMade, EndsBefore, IsFrameOf, IsMade, IsMadeFrame, IsNone, behind_head, head_at, packets_from}
+use Rattle.stream_forge.specs.Made.{AreMade, EndsBefore, IsFrameOf, IsMade, IsMadeFrame, IsNone, behind_head, choices_at, head_at, packets_from}
 use Rattle.stream_forge.proofs.Heads.{made_next}
 
 none_less : (n : ℕ) → n - 0 ≡ n
@@ -85,28 +86,28 @@ all_made number count n decoder draws out all far = record {
 
 ---- What was written of the next one ----
 
-frame_to : (state : State) (header : Uncompressed) (x : ℕ) (bytes : List ℕ) (broken : Option Rule) (next : ℕ) → is_some broken ≡ false → GivesTo state header x bytes broken next → IsFrameOf state header x bytes next
-frame_to state header x bytes None next whole gives = gives
-frame_to state header x bytes (Some rule) next whole gives = let no : ⊥ = cc in absurd no
+frame_to : (state : State) (choices : Choices) (header : Uncompressed) (x : ℕ) (bytes : List ℕ) (broken : Option Rule) (next : ℕ) → is_some broken ≡ false → GivesTo state choices header x bytes broken next → IsFrameOf state choices header x bytes next
+frame_to state choices header x bytes None next whole gives = gives
+frame_to state choices header x bytes (Some rule) next whole gives = let no : ⊥ = cc in absurd no
 
-none_to : (state : State) (header : Uncompressed) (x : ℕ) (bytes : List ℕ) (broken : Option Rule) (next : ℕ) → is_some broken ≡ true → GivesTo state header x bytes broken next → IsNone state header x
-none_to state header x bytes None next broken gives = let no : ⊥ = cc in absurd no
-none_to state header x bytes (Some rule) next broken gives = gives
+none_to : (state : State) (choices : Choices) (header : Uncompressed) (x : ℕ) (bytes : List ℕ) (broken : Option Rule) (next : ℕ) → is_some broken ≡ true → GivesTo state choices header x bytes broken next → IsNone state header x
+none_to state choices header x bytes None next broken gives = let no : ⊥ = cc in absurd no
+none_to state choices header x bytes (Some rule) next broken gives = gives
 
-pub frame_made : (state : State) (header : Uncompressed) (x : ℕ) (w : Written) (next : ℕ) → is_some w.broken ≡ false → Gives state header x (Ok w) next → IsFrameOf state header x w.bytes.items next
-frame_made state header x w next whole gives = frame_to state header x w.bytes.items w.broken next whole gives
+pub frame_made : (state : State) (choices : Choices) (header : Uncompressed) (x : ℕ) (w : Written) (next : ℕ) → is_some w.broken ≡ false → Gives state choices header x (Ok w) next → IsFrameOf state choices header x w.bytes.items next
+frame_made state choices header x w next whole gives = frame_to state choices header x w.bytes.items w.broken next whole gives
 
-pub frame_breaks : (state : State) (header : Uncompressed) (x : ℕ) (w : Written) (next : ℕ) → is_some w.broken ≡ true → Gives state header x (Ok w) next → IsNone state header x
-frame_breaks state header x w next broken gives = none_to state header x w.bytes.items w.broken next broken gives
+pub frame_breaks : (state : State) (choices : Choices) (header : Uncompressed) (x : ℕ) (w : Written) (next : ℕ) → is_some w.broken ≡ true → Gives state choices header x (Ok w) next → IsNone state header x
+frame_breaks state choices header x w next broken gives = none_to state choices header x w.bytes.items w.broken next broken gives
 
 -- it isn't written, and that isn't for want of memory
-none_lost : (state : State) (header : Uncompressed) (x : ℕ) (why : NotWritten) (next : ℕ) → IsLost why → Gives state header x (Err why) next → IsNone state header x
-none_lost state header x Unsaid next lost gives = gives
-none_lost state header x TooLong next lost gives = gives
-none_lost state header x OutOfMemory next lost gives = absurd lost
+none_lost : (state : State) (choices : Choices) (header : Uncompressed) (x : ℕ) (why : NotWritten) (next : ℕ) → IsLost why → Gives state choices header x (Err why) next → IsNone state header x
+none_lost state choices header x Unsaid next lost gives = gives
+none_lost state choices header x TooLong next lost gives = gives
+none_lost state choices header x OutOfMemory next lost gives = absurd lost
 
-pub not_written : (state : State) (header : Uncompressed) (x : ℕ) (r : Result Written NotWritten) (why : NotWritten) (next : ℕ) → r ≡ Err why → IsLost why → Gives state header x r next → IsNone state header x
-not_written state header x r why next is lost gives = none_lost state header x why next lost (subst (λ (r : Result Written NotWritten). Gives state header x r next) is gives)
+pub not_written : (state : State) (choices : Choices) (header : Uncompressed) (x : ℕ) (r : Result Written NotWritten) (why : NotWritten) (next : ℕ) → r ≡ Err why → IsLost why → Gives state choices header x r next → IsNone state header x
+not_written state choices header x r why next is lost gives = none_lost state choices header x why next lost (subst (λ (r : Result Written NotWritten). Gives state choices header x r next) is gives)
 
 pub if_ended : {A E : Type 0} (P Q : A → Type 0) (r : Result A E) → IfOk r P → ((x : A) → P x → Q x) → IfOk r Q
 if_ended P Q (Ok x) h g = g x h
@@ -117,4 +118,4 @@ pub persists : (number count n : ℕ) (decoder after_it : Decoder) (draws rest :
     → IsMadeAfter (head_at n far.state draws.x) decoder.persist → headers.IsMade after_it.persist
 persists number count n decoder after_it draws rest out bytes far gives passes made =
     let p = passes far.state far.stands in
-    made_next n far.state (head_at n far.state draws.x) (behind_head n far.state draws.x) rest.x bytes p.0 decoder.persist after_it.persist far.stands.persist p.2.persist (gives far.state far.stands) p.1 made
+    made_next n far.state (choices_at n far.state draws.x) (head_at n far.state draws.x) (behind_head n far.state draws.x) rest.x bytes p.0 decoder.persist after_it.persist far.stands.persist p.2.persist (gives far.state far.stands) p.1 made

@@ -13,6 +13,7 @@ use Rattle.segment_map.specs.declared.map.SegmentMap.{SegmentMap}
 use Rattle.frame_writer.specs.declared.written.NotWritten.{NotWritten}
 use Rattle.frame_writer.specs.declared.written.NotWritten.TheVariants.{Unsaid, TooLong, OutOfMemory}
 use Rattle.frame_writer.specs.declared.written.Written.{Written}
+use Rattle.header_writer.specs.declared.choices.Choices.{Choices}
 use Rattle.drawn_headers.specs.Made as headers
 use Rattle.drawn_symbols.specs.declared.draws.Draws.{Draws}
 use Rattle.seq_decoder.specs.After.{Stepped, has_size, segments_before, step}
@@ -45,16 +46,16 @@ IsOneOf (Some own) kept m = m ≡ own
 IsOneOf None kept m = kept ≡ Some m
 
 -- what the frame's bytes say of a state that the decoder stands for, if its blocks break no rule
-abbrev pub GivesTo : State → Uncompressed → ℕ → List ℕ → Option Rule → ℕ → Type 0
-GivesTo state header x bytes None next = IsFrameOf state header x bytes next
-GivesTo state header x bytes (Some rule) next = IsNone state header x
+abbrev pub GivesTo : State → Choices → Uncompressed → ℕ → List ℕ → Option Rule → ℕ → Type 0
+GivesTo state choices header x bytes None next = IsFrameOf state choices header x bytes next
+GivesTo state choices header x bytes (Some rule) next = IsNone state header x
 
 -- or why there are none. Want of memory has no cause
-abbrev pub Gives : State → Uncompressed → ℕ → Result Written NotWritten → ℕ → Type 0
-Gives state header x (Ok w) next = GivesTo state header x w.bytes.items w.broken next
-Gives state header x (Err Unsaid) next = IsNone state header x
-Gives state header x (Err TooLong) next = IsNone state header x
-Gives state header x (Err OutOfMemory) next = Unit {0}
+abbrev pub Gives : State → Choices → Uncompressed → ℕ → Result Written NotWritten → ℕ → Type 0
+Gives state choices header x (Ok w) next = GivesTo state choices header x w.bytes.items w.broken next
+Gives state choices header x (Err Unsaid) next = IsNone state header x
+Gives state choices header x (Err TooLong) next = IsNone state header x
+Gives state choices header x (Err OutOfMemory) next = Unit {0}
 
 -- there is no such frame
 abbrev pub IsLost : NotWritten → Type 0

@@ -8,6 +8,8 @@ use Rattle.frame_headers.specs.declared.header.Header.{Header}
 use Rattle.frame_headers.specs.declared.header.Uncompressed.{Uncompressed}
 use Rattle.frame_headers.specs.declared.header.Uncompressed.TheVariants.{ShowExisting, Coded}
 use Rattle.container_writer.specs.Files.{file_header, packet_of}
+use Rattle.header_writer.specs.Spelling.{IsSpelled}
+use Rattle.header_writer.specs.declared.choices.Choices.{Choices}
 use Rattle.ivf_container.specs.Packets.{written_bytes}
 use Rattle.frame_decoder.specs.Frames.{read_frame}
 use Rattle.frame_decoder.specs.Reading.{FrameRead}
@@ -36,15 +38,16 @@ abbrev pub symbols_from : ℕ → DrawnSymbols
 symbols_from x = record { draws = record { x = x } }
 
 -- The bytes are read as the header, as the modes that are drawn, and as the blocks that are drawn, up to the number from which
--- the next frame is drawn. The compressed header has its size; it and the tiles are the bytes of their bools.
-pub record IsCodedFrame (state : State) (header : Header) (x : ℕ) (bytes : List ℕ) (next : ℕ) : Type 0 where
+-- the next frame is drawn. The header is spelled as it is chosen; the compressed header has its size; it and the tiles are the
+-- bytes of their bools.
+pub record IsCodedFrame (state : State) (choices : Choices) (header : Header) (x : ℕ) (bytes : List ℕ) (next : ℕ) : Type 0 where
   pub size : ℕ
   pub compressed : Span
   pub head : head_of (persist_of state) bytes ≡ Ok (head.Coded (with_size header size) compressed)
   pub read : FrameRead
   pub reads : read_frame (input_of state bytes (with_size header size) compressed) ≡ Ok (read, drawn_sources state (with_size header size) (draw_modes header x).0)
   pub told : frame_told drawing (drawn_sources state (with_size header size) (draw_modes header x).0) (symbols_from (draw_modes header x).1) ≡ Ok (said_of read, symbols_from next)
-  pub laid : IsLaidOut (persist_of state) (drawn_sources state (with_size header size) (draw_modes header x).0) bytes
+  pub laid : IsLaidOut (persist_of state) choices (drawn_sources state (with_size header size) (draw_modes header x).0) bytes
 
 ---- Why there is none ----
 
@@ -71,19 +74,23 @@ IsNone state (Coded header) x = IsUnsaid state header x ⊎ (HasLongHeader state
 
 ---- A frame ----
 
--- the frame of a number, in a state, and the number from which the next one is drawn
-abbrev pub IsFrameOf : State → Uncompressed → ℕ → List ℕ → ℕ → Type 0
-IsFrameOf state (ShowExisting slot) x bytes next = (head_of (persist_of state) bytes ≡ Ok (head.ShowExisting slot)) × (next ≡ x)
-IsFrameOf state (Coded header) x bytes next = IsCodedFrame state header x bytes next
+-- the frame of a number, in a state, and the number from which the next one is drawn; its header is spelled as it is chosen
+abbrev pub IsFrameOf : State → Choices → Uncompressed → ℕ → List ℕ → ℕ → Type 0
+IsFrameOf state choices (ShowExisting slot) x bytes next =
+    (head_of (persist_of state) bytes ≡ Ok (head.ShowExisting slot)) × (next ≡ x) × IsSpelled (persist_of state) choices (ShowExisting slot) bytes
+IsFrameOf state choices (Coded header) x bytes next = IsCodedFrame state choices header x bytes next
 
 abbrev pub head_at : ℕ → State → ℕ → Uncompressed
 head_at number state x = (draw_head (nat_eq number 0) (persist_of state) x).0.header
+
+abbrev pub choices_at : ℕ → State → ℕ → Choices
+choices_at number state x = (draw_head (nat_eq number 0) (persist_of state) x).0.choices
 
 abbrev pub behind_head : ℕ → State → ℕ → ℕ
 behind_head number state x = (draw_head (nat_eq number 0) (persist_of state) x).1
 
 abbrev pub IsMadeFrame : ℕ → State → ℕ → List ℕ → ℕ → Type 0
-IsMadeFrame number state x bytes next = IsFrameOf state (head_at number state x) (behind_head number state x) bytes next
+IsMadeFrame number state x bytes next = IsFrameOf state (choices_at number state x) (head_at number state x) (behind_head number state x) bytes next
 
 -- there is no such frame, or none that a packet holds
 abbrev pub EndsBefore : ℕ → State → ℕ → Type 0

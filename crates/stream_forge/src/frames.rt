@@ -4,6 +4,7 @@ ghost use Rattle.std.specs.Prelude.{◌≡◌, None, Ok, IfOk};
 ghost use Rattle.frame_headers.specs.Header.{head_of};
 ghost use Rattle.frame_headers.specs.declared.header.FrameHead.TheVariants as head;
 ghost use Rattle.frame_headers.specs.declared.header.Uncompressed.TheVariants.{Coded, ShowExisting};
+ghost use Rattle.header_writer.specs.Spelling.{IsSpelled};
 ghost use Rattle.header_writer.specs.WellFormed.{CanChoose, IsWellFormed};
 ghost use Rattle.drawn_headers.specs.Code.{sized};
 ghost use Rattle.drawn_headers.specs.Heads.{draw_head};
@@ -30,7 +31,8 @@ fn write_shown(
     choices: Choices,
 ) -> Result<Written, AllocError>
     requires { IsWellFormed decoder.now.persist (ShowExisting slot) }
-    ensures { IfOk result (λ w. (w.broken ≡ None) × (head_of decoder.now.persist w.bytes.items ≡ Ok (head.ShowExisting slot))) }
+    ensures { IfOk result (λ w. (w.broken ≡ None) × (head_of decoder.now.persist w.bytes.items ≡ Ok (head.ShowExisting slot))
+        × IsSpelled decoder.now.persist choices (ShowExisting slot) w.bytes.items) }
 {
     let mut bytes = Vec::new(alloc);
     let header = Uncompressed::ShowExisting { slot };
@@ -52,7 +54,7 @@ fn write_coded(
     requires may { MayDecode decoder.now }
     requires well { IsWellFormed decoder.now.persist (Coded header.now) }
     requires can { CanChoose decoder.now.persist choices (Coded header.now) }
-    ensures { (state : State) → StandsFor decoder.now state → Gives state (Coded header.now) draws.x result.0 result.1.x }
+    ensures { (state : State) → StandsFor decoder.now state → Gives state choices (Coded header.now) draws.x result.0 result.1.x }
 {
     let mut draws = draws;
     let modes = draw_modes(&mut draws, header);
@@ -99,7 +101,7 @@ pub(crate) fn write_next(
 ) -> (Result<Written, NotWritten>, Draws)
     requires may { MayDecode decoder.now }
     requires made { MayDraw first decoder.now.persist }
-    ensures gives { (state : State) → StandsFor decoder.now state → Gives state (draw_head first (persist_of state) draws.x).0.header (draw_head first (persist_of state) draws.x).1 result.0 result.1.x }
+    ensures gives { (state : State) → StandsFor decoder.now state → Gives state (draw_head first (persist_of state) draws.x).0.choices (draw_head first (persist_of state) draws.x).0.header (draw_head first (persist_of state) draws.x).1 result.0 result.1.x }
     ensures after { IsMadeAfter (draw_head first decoder.now.persist draws.x).0.header decoder.now.persist }
 {
     let mut draws = draws;

@@ -19,15 +19,15 @@ loop-n-init c = record {
 pub pass-requires-clause-steps : goal.pass-requires-clause-steps
 pass-requires-clause-steps c =
     let far = c.loop-n.invariant.far in
-    let made = frame_made far.state _ _ c.in-Ok.written c.write_next-written.result.1.x (sym c.is_some.ensures ∙ c.if-is_some.false) (rw c.in-Ok.is at (c.write_next-written.ensures.gives far.state far.stands)) in
-    (far.state, far.stands, rw (c.from-in-loop-n-2.ensures, c.deref-in-loop-n.ensures.value) (frame_steps c.loop-n.n far.state _ _ c.in-Ok.written.bytes.items c.write_next-written.result.1.x made))
+    let made = frame_made far.state _ _ _ c.in-Ok.written c.write_next-written.result.1.x (sym c.is_some.ensures ∙ c.if-is_some.false) (rw c.in-Ok.is at (c.write_next-written.ensures.gives far.state far.stands)) in
+    (far.state, far.stands, rw (c.from-in-loop-n-2.ensures, c.deref-in-loop-n.ensures.value) (frame_steps c.loop-n.n far.state _ _ _ c.in-Ok.written.bytes.items c.write_next-written.result.1.x made))
 
 pub loop-n-preserved : goal.loop-n-preserved
 loop-n-preserved c =
     let bytes = c.in-Ok.written.bytes.items in
     let rest = c.write_next-written.result.1 in
     let gives : (state : State) → StandsFor c.loop-n.decoder state → IsMadeFrame c.loop-n.n state c.loop-n.draws.x bytes rest.x =
-    λ state stands. frame_made state _ _ c.in-Ok.written rest.x (sym c.is_some.ensures ∙ c.if-is_some.false) (rw c.in-Ok.is at (c.write_next-written.ensures.gives state stands)) in
+    λ state stands. frame_made state _ _ _ c.in-Ok.written rest.x (sym c.is_some.ensures ∙ c.if-is_some.false) (rw c.in-Ok.is at (c.write_next-written.ensures.gives state stands)) in
     let passes : Passes c.loop-n.n c.loop-n.decoder bytes c.pass.new.decoder = rw (c.from-in-loop-n-2.ensures, c.deref-in-loop-n.ensures.value) at c.in_ok-pass.ensures.passes in
     let far = c.loop-n.invariant.far in
     let after = subst (λ p. IsMadeAfter (draw_head (nat_eq c.loop-n.n 0) p c.loop-n.draws.x).0.header c.loop-n.decoder.persist) far.stands.persist c.write_next-written.ensures.after in
@@ -45,7 +45,7 @@ returns c =
 pub returns-then-is_some : goal.returns-then-is_some
 returns-then-is_some c =
     ends_here c.args.number c.args.frames c.loop-n.n c.loop-n.decoder c.loop-n.draws c.loop-n.out.items c.loop-n-test.true c.loop-n.invariant.far
-    (λ state stands. inl (frame_breaks state _ _ c.in-Ok.written c.write_next-written.result.1.x (sym c.is_some.ensures ∙ c.if-is_some.true) (rw c.in-Ok.is at (c.write_next-written.ensures.gives state stands))))
+    (λ state stands. inl (frame_breaks state _ _ _ c.in-Ok.written c.write_next-written.result.1.x (sym c.is_some.ensures ∙ c.if-is_some.true) (rw c.in-Ok.is at (c.write_next-written.ensures.gives state stands))))
 
 pub returns-then-len : goal.returns-then-len
 returns-then-len c =
@@ -53,7 +53,7 @@ returns-then-len c =
     (λ state stands. inr (
       c.in-Ok.written.bytes.items,
       c.write_next-written.result.1.x,
-      frame_made state _ _ c.in-Ok.written c.write_next-written.result.1.x (sym c.is_some.ensures ∙ c.if-is_some.false) (rw c.in-Ok.is at (c.write_next-written.ensures.gives state stands)),
+      frame_made state _ _ _ c.in-Ok.written c.write_next-written.result.1.x (sym c.is_some.ensures ∙ c.if-is_some.false) (rw c.in-Ok.is at (c.write_next-written.ensures.gives state stands)),
       omega (arith, c.if-len.true),
     ))
 
@@ -61,4 +61,4 @@ pub returns-in-Err : goal.returns-in-Err
 returns-in-Err c =
     if_ended _ _ c.ended.result c.ended.ensures
     (λ file ends. rw ends.0 (ends_here c.args.number c.args.frames c.loop-n.n c.loop-n.decoder c.loop-n.draws c.loop-n.out.items c.loop-n-test.true c.loop-n.invariant.far
-    (λ state stands. inl (not_written state _ _ c.write_next-written.result.0 c.in-Err.why c.write_next-written.result.1.x c.in-Err.is ends.1 (c.write_next-written.ensures.gives state stands)))))
+    (λ state stands. inl (not_written state _ _ _ c.write_next-written.result.0 c.in-Err.why c.write_next-written.result.1.x c.in-Err.is ends.1 (c.write_next-written.ensures.gives state stands)))))
