@@ -9,7 +9,7 @@ ghost use Rattle.block_residue.specs.Code.{FitPlane, FitPlanes, IsInFrame, Gives
 ghost use Rattle.block_plan.specs.Code.{AreSmall, HoldsSmall, held_in, planned_with};
 
 use crate::in_plane::BlockInPlane;
-use crate::planes::{read_residues, skip_residues};
+use crate::planes::{read_coded, skip_residues};
 use crate::sides::{Sides, TileSides};
 use block_geometry::{is_below_8x8, transform_grid};
 use block_plan::{BlockInfo, BlockResidues, PlaneResidues, Prediction};
@@ -39,7 +39,7 @@ fn read_plane<const COUNTS: bool>(
         skip_residues(sides, &b, &grid, residues);
         return Ok(false);
     }
-    read_residues(reader, &setting.contexts, sides, &b, &grid, residues)
+    read_coded(reader, &setting.contexts, sides, &b, &grid, residues)
 }
 
 /// A block as it is listed, by whether any of its transform blocks has coefficients.

@@ -68,6 +68,7 @@ impl BlockInPlane {
     }
 
     /// What decides how the tokens of the transform block at row `y` and column `x`, in 4s, are read.
+    #[inline(always)]
     pub fn token_kind(&self, y: usize, x: usize) -> TokenKind
         requires y { y < 16 }
         requires x { x < 16 }
@@ -83,6 +84,7 @@ impl BlockInPlane {
     }
 
     /// The type of the transform block at row `y` and column `x`, in 4s.
+    #[inline(always)]
     fn type_at(&self, y: usize, x: usize) -> TxType
         requires y { y < 16 }
         requires x { x < 16 }
@@ -100,6 +102,7 @@ impl BlockInPlane {
 }
 
 /// Where a row of a block's transform blocks stands in the flags at the left.
+#[inline(always)]
 pub(crate) fn flag_row(block: &PlaneBlock, y: usize) -> usize
     requires near { y < 16 }
     ensures { result ≡ flag_row block.now y }
@@ -108,6 +111,7 @@ pub(crate) fn flag_row(block: &PlaneBlock, y: usize) -> usize
 }
 
 /// Where a column of them stands in the flags above.
+#[inline(always)]
 pub(crate) fn flag_column(block: &PlaneBlock, x: usize) -> usize
     requires near { x < 16 }
     ensures { result ≡ flag_column block.now x }

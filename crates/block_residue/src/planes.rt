@@ -14,15 +14,16 @@ ghost use Rattle.block_residue.specs.Code.{IsBeside, KeepsLengths, GivesPlane};
 use crate::in_plane::BlockInPlane;
 use crate::sides::Sides;
 use crate::transform_blocks::read_residue;
-use block_geometry::TransformGrid;
+use block_geometry::{PlaneBlock, TransformGrid};
 use block_plan::PlaneResidues;
 use counting_reader::CountingReader;
 use prob_contexts::Contexts;
 use vp9_tables::area_of;
-use vp9_types::Rule;
+use vp9_types::{Rule, TxSize};
 
 /// Reads the residues of a block that isn't skipped, and answers whether it has any.
-pub(crate) fn read_residues<const COUNTS: bool>(
+#[inline(always)]
+fn read_residues<const COUNTS: bool>(
     reader: &mut CountingReader<COUNTS>,
     contexts: &Contexts,
     sides: &mut Sides,
@@ -48,6 +49,56 @@ pub(crate) fn read_residues<const COUNTS: bool>(
         any |= some;
     }
     Ok(any)
+}
+
+/// The same block, by the size of its transform blocks.
+#[inline(always)]
+fn of_size(b: &BlockInPlane, tx: TxSize) -> BlockInPlane
+    requires { tx ≡ b.now.block.tx }
+    ensures { result ≡ b.now }
+{
+    BlockInPlane {
+        block: PlaneBlock { tx, ..b.block },
+        ..*b
+    }
+}
+
+/// Reads the residues of a block that isn't skipped, and answers whether it has any. The size of its transform blocks is
+/// looked at once, so that it is known in all that is done for each of them.
+pub(crate) fn read_coded<const COUNTS: bool>(
+    reader: &mut CountingReader<COUNTS>,
+    contexts: &Contexts,
+    sides: &mut Sides,
+    b: &BlockInPlane,
+    grid: &TransformGrid,
+    residues: &mut PlaneResidues,
+) -> Result<bool, Rule>
+    requires small { IsSmallGrid grid.now }
+    requires step { grid.now.step ≡ tx_step b.now.block.tx }
+    requires beside { All (λ at. IsBeside b.now.block at.0 at.1 sides.old) (grid_blocks grid.now) }
+    ensures gives { GivesPlane (through (read_next (lists_of contexts.now) b.now) (grid_blocks grid.now) (record { residues = []; sides = sides.old }))
+        reader.old result (held (grid_blocks grid.now) (area b.now.block.tx) residues.new) sides.new reader.new }
+    ensures lengths { KeepsLengths sides.old sides.new }
+    ensures small { OnOk result (AreSmall (held (grid_blocks grid.now) (area b.now.block.tx) residues.new)) }
+{
+    match b.block.tx {
+        TxSize::T4x4 => {
+            let b = of_size(b, TxSize::T4x4);
+            read_residues(reader, contexts, sides, &b, grid, residues)
+        }
+        TxSize::T8x8 => {
+            let b = of_size(b, TxSize::T8x8);
+            read_residues(reader, contexts, sides, &b, grid, residues)
+        }
+        TxSize::T16x16 => {
+            let b = of_size(b, TxSize::T16x16);
+            read_residues(reader, contexts, sides, &b, grid, residues)
+        }
+        TxSize::T32x32 => {
+            let b = of_size(b, TxSize::T32x32);
+            read_residues(reader, contexts, sides, &b, grid, residues)
+        }
+    }
 }
 
 fn clear_flags(flags: &mut [bool])

@@ -79,6 +79,7 @@ impl Sides {
     }
 
     /// How many sides of the transform block at row `y` and column `x`, in 4s, have coefficients.
+    #[inline(always)]
     pub fn first_context(&self, block: &PlaneBlock, y: usize, x: usize) -> u8
         requires y { y < 16 }
         requires x { x < 16 }
@@ -96,6 +97,7 @@ impl Sides {
     }
 
     /// Says whether the transform block at row `y` and column `x`, in 4s, has coefficients.
+    #[inline(always)]
     pub fn mark(&mut self, block: &PlaneBlock, y: usize, x: usize, some: bool)
         requires y { y < 16 }
         requires x { x < 16 }
@@ -177,6 +179,7 @@ fn flags_along(shape: &Shape, plane: Plane) -> (usize, usize)
     }
 }
 
+#[inline(always)]
 fn side_in_4s(tx: TxSize) -> usize
     ensures is { result ≡ flags_of tx }
     ensures most { result ≤ 8 }

@@ -19,6 +19,7 @@ use residue_blocks::residue;
 use vp9_types::{Rule, TxType};
 
 /// Makes levels of zeros.
+#[inline(always)]
 fn clear(values: &mut [i32])
     ensures clear { HoldsLevels values.new [] }
     ensures long { length values.new ≡ length values.old }
@@ -27,6 +28,7 @@ fn clear(values: &mut [i32])
 }
 
 /// Makes the residue of levels, of which so many places are coded, and answers whether there is any.
+#[inline(always)]
 fn residue_of(
     b: &BlockInPlane,
     tx_type: TxType,
@@ -48,6 +50,7 @@ fn residue_of(
 }
 
 /// Reads the residue of the transform block at a row and column, in 4s, and answers whether it has any.
+#[inline(always)]
 pub(crate) fn read_residue<const COUNTS: bool>(
     reader: &mut CountingReader<COUNTS>,
     contexts: &Contexts,

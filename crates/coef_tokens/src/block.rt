@@ -105,6 +105,7 @@ fn read_32x32<const COUNTS: bool>(
 /// Reads the tokens of a transform block: its levels, by position, into `levels`, which has one for each coefficient, all
 /// of them 0. `first` is the context of its first place: how many of the sides above and on the left have a coefficient,
 /// 0 to 2. It answers how many places of the scan are coded. The bools of a place's three nodes are counted.
+#[inline(always)]
 pub fn tokens<const COUNTS: bool>(
     reader: &mut CountingReader<COUNTS>,
     tables: &TokenTables,

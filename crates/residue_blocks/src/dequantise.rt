@@ -65,6 +65,7 @@ fn coefficient(level: i32, place: usize, tx: TxSize, quant: Quant) -> Result<i32
 }
 
 /// The coefficients of any levels, in their places.
+#[inline(never)]
 fn dequantise_any(block: &mut [i32], tx: TxSize, quant: Quant) -> Result<(), Rule>
     requires { All IsLevel block.old }
     ensures { Dequantises quant tx block.old result block.new }
@@ -76,6 +77,7 @@ fn dequantise_any(block: &mut [i32], tx: TxSize, quant: Quant) -> Result<(), Rul
 }
 
 /// The coefficients of short levels: all are multiplied as those behind the first are, which is put in afterwards.
+#[inline(always)]
 fn dequantise_short(block: &mut [i32], tx: TxSize, quant: Quant) -> Result<(), Rule>
     requires some { 0 < length block.old }
     requires short { All IsShort block.old }
@@ -91,6 +93,7 @@ fn dequantise_short(block: &mut [i32], tx: TxSize, quant: Quant) -> Result<(), R
 }
 
 /// The coefficients of levels, in their places.
+#[inline(always)]
 pub fn dequantise(block: &mut [i32], tx: TxSize, quant: Quant) -> Result<(), Rule>
     requires some { 0 < length block.old }
     requires levels { All IsLevel block.old }

@@ -116,6 +116,7 @@ pub fn store(to: &mut [i32], t: &[Lanes], first: usize, bits: u8)
 }
 
 /// Puts the first four lanes of rows into a block of 4x4, rounded.
+#[inline(always)]
 pub fn store_four(to: &mut [i32], t: &[Lanes; 4], bits: u8)
     requires size { length to.old ≡ 16 }
     requires bits { bits ≤ 6 }

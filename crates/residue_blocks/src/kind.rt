@@ -21,6 +21,7 @@ pub enum Kind {
     LiftsOfColumns,
 }
 
+#[inline(always)]
 pub fn kind_of_rows(lossless: bool, tx: TxSize, kind: TxType) -> Kind
     ensures value { result ≡ kind_of_rows lossless tx kind }
     ensures size { IsTrue (has_size result (log2_of tx)) }
@@ -33,6 +34,7 @@ pub fn kind_of_rows(lossless: bool, tx: TxSize, kind: TxType) -> Kind
     }
 }
 
+#[inline(always)]
 pub fn kind_of_columns(lossless: bool, tx: TxSize, kind: TxType) -> Kind
     ensures value { result ≡ kind_of_columns lossless tx kind }
     ensures size { IsTrue (has_size result (log2_of tx)) }
@@ -46,6 +48,7 @@ pub fn kind_of_columns(lossless: bool, tx: TxSize, kind: TxType) -> Kind
 }
 
 /// By how many bits the residue is rounded.
+#[inline(always)]
 pub fn rounding_bits(lossless: bool, tx: TxSize) -> u8
     ensures value { result ≡ rounding_bits lossless tx }
     ensures most { result ≤ 6 }
@@ -58,6 +61,7 @@ pub fn rounding_bits(lossless: bool, tx: TxSize) -> u8
     }
 }
 
+#[inline(always)]
 pub fn log2_of(tx: TxSize) -> u8
     ensures value { result ≡ log2_of tx }
     ensures side { 2 ^ result ≡ side tx }
@@ -89,6 +93,7 @@ fn is_zero(t: &[Lanes]) -> bool
 
 /// The transforms of eight columns.
 #[tactic(auto, unfolding(crate::specs::Residue::transform))]
+#[inline(always)]
 pub fn transform_columns(kind: Kind, log2: u8, t: &mut [Lanes], depth: Depth) -> Result<(), Rule>
     requires kind { IsTrue (has_size kind log2) }
     requires size { length t.old ≡ 2 ^ log2 }

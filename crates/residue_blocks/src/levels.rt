@@ -13,6 +13,7 @@ use crate::quant::Quant;
 use crate::turn::{Pass, turn_rows};
 use vp9_types::{Rule, TxSize, TxType};
 
+#[inline(always)]
 fn pass_of_rows(tx: TxSize, kind: TxType, quant: Quant) -> Pass
     ensures kind { result.kind ≡ kind_of_rows quant.lossless tx kind }
     ensures log2 { result.log2 ≡ log2_of tx }
@@ -32,6 +33,7 @@ fn pass_of_rows(tx: TxSize, kind: TxType, quant: Quant) -> Pass
     }
 }
 
+#[inline(always)]
 fn pass_of_columns(tx: TxSize, kind: TxType, quant: Quant) -> Pass
     ensures kind { result.kind ≡ kind_of_columns quant.lossless tx kind }
     ensures log2 { result.log2 ≡ log2_of tx }
@@ -52,6 +54,7 @@ fn pass_of_columns(tx: TxSize, kind: TxType, quant: Quant) -> Pass
 }
 
 /// Rows, then columns, by way of a block of the same size.
+#[inline(always)]
 fn turn_twice(
     block: &mut [i32],
     middle: &mut [i32],
@@ -68,6 +71,7 @@ fn turn_twice(
     turn_rows(middle, block, pass_of_columns(tx, kind, quant))
 }
 
+#[inline(always)]
 fn reconstruct(block: &mut [i32], tx: TxSize, kind: TxType, quant: Quant) -> Result<(), Rule>
     requires size { length block.old ≡ area tx }
     requires values { All IsSmall block.old }
@@ -81,10 +85,9 @@ fn reconstruct(block: &mut [i32], tx: TxSize, kind: TxType, quant: Quant) -> Res
     }
 }
 
-/// Makes the residue of a block's levels, both row by row. A value that doesn't fit before the transforms is
-/// `CoefRange`, and one in them `TransformRange`; the block is then of no use.
+#[inline(always)]
 #[tactic(auto, unfolding(crate::specs::Residue::residue))]
-pub fn residue(block: &mut [i32], tx: TxSize, kind: TxType, quant: Quant) -> Result<(), Rule>
+fn residue_of(block: &mut [i32], tx: TxSize, kind: TxType, quant: Quant) -> Result<(), Rule>
     requires size { length block.old ≡ area tx }
     requires levels { All IsLevel block.old }
     ensures gives { Gives (residue quant tx kind block.old) result block.new }
@@ -92,4 +95,31 @@ pub fn residue(block: &mut [i32], tx: TxSize, kind: TxType, quant: Quant) -> Res
 {
     dequantise(block, tx, quant)?;
     reconstruct(block, tx, kind, quant)
+}
+
+/// The same, away from the caller.
+#[inline(never)]
+fn large_residue(block: &mut [i32], tx: TxSize, kind: TxType, quant: Quant) -> Result<(), Rule>
+    requires size { length block.old ≡ area tx }
+    requires levels { All IsLevel block.old }
+    ensures gives { Gives (residue quant tx kind block.old) result block.new }
+    ensures small { OnOk result (All (λ x. unsigned_abs x < 2 ^ 24) block.new) }
+{
+    residue_of(block, tx, kind, quant)
+}
+
+/// Makes the residue of a block's levels, both row by row. A value that doesn't fit before the transforms is
+/// `CoefRange`, and one in them `TransformRange`; the block is then of no use.
+#[inline(always)]
+pub fn residue(block: &mut [i32], tx: TxSize, kind: TxType, quant: Quant) -> Result<(), Rule>
+    requires size { length block.old ≡ area tx }
+    requires levels { All IsLevel block.old }
+    ensures gives { Gives (residue quant tx kind block.old) result block.new }
+    ensures small { OnOk result (All (λ x. unsigned_abs x < 2 ^ 24) block.new) }
+{
+    // Most blocks are the smallest, and their loops are of known length where the caller knows the size.
+    match tx {
+        TxSize::T4x4 => residue_of(block, tx, kind, quant),
+        TxSize::T8x8 | TxSize::T16x16 | TxSize::T32x32 => large_residue(block, tx, kind, quant),
+    }
 }

@@ -17,6 +17,7 @@ fn is_short(x: i32) -> bool
     (-16384 <= x) & (x <= 16384)
 }
 
+#[inline(always)]
 pub fn are_short(levels: &[i32]) -> bool
     ensures { OnTrue result (All IsShort levels.now) }
 {
@@ -50,6 +51,7 @@ fn scaled(x: i32, tx: TxSize) -> i32
 }
 
 /// Multiplies short levels by one step, and tells whether all fit.
+#[inline(always)]
 pub fn scale(block: &mut [i32], step: u16, tx: TxSize, limit: u32) -> bool
     requires limit { limit ≤ 2 ^ 24 }
     requires short { All IsShort block.old }

@@ -49,6 +49,7 @@ fn turn_by(
 }
 
 /// Turns a block of 4x4.
+#[inline(always)]
 fn turn_four(from: &[i32], to: &mut [i32], pass: Pass) -> Result<(), Rule>
     requires kind { IsTrue (has_size pass.kind pass.log2) }
     requires side { 4 ≡ 2 ^ pass.log2 }
@@ -66,6 +67,7 @@ fn turn_four(from: &[i32], to: &mut [i32], pass: Pass) -> Result<(), Rule>
 }
 
 /// Turns a block of 8x8.
+#[inline(never)]
 fn turn_eight(from: &[i32], to: &mut [i32], pass: Pass) -> Result<(), Rule>
     requires kind { IsTrue (has_size pass.kind pass.log2) }
     requires side { 8 ≡ 2 ^ pass.log2 }
@@ -134,6 +136,7 @@ fn large_side(log2: u8) -> usize
 }
 
 /// Turns a block of 16x16 or 32x32, in groups of eight rows.
+#[inline(never)]
 fn turn_large(from: &[i32], to: &mut [i32], pass: Pass) -> Result<(), Rule>
     requires kind { IsTrue (has_size pass.kind pass.log2) }
     requires least { 4 ≤ pass.log2 }
@@ -152,6 +155,7 @@ fn turn_large(from: &[i32], to: &mut [i32], pass: Pass) -> Result<(), Rule>
 }
 
 /// What is made of each row of `from` becomes a column of `to`.
+#[inline(always)]
 pub fn turn_rows(from: &[i32], to: &mut [i32], pass: Pass) -> Result<(), Rule>
     requires kind { IsTrue (has_size pass.kind pass.log2) }
     requires least { 2 ≤ pass.log2 }

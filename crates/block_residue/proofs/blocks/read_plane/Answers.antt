@@ -20,8 +20,8 @@ returns-then-block-clause-gives g c =
       sym none,
     )
 
-pub read_residues-requires : goal.read_residues-requires
-read_residues-requires g c =
+pub read_coded-requires : goal.read_coded-requires
+read_coded-requires g c =
     let shape = shape_of c.args.setting.now.header in
     let is = c.of-b.ensures in
     let same : grid_blocks c.transform_grid-grid.result ≡ places_in shape c.args.block.now c.args.plane =
@@ -43,7 +43,7 @@ returns-clause-gives g c =
     let same : grid_blocks c.transform_grid-grid.result ≡ places_in shape c.args.block.now c.args.plane =
     sym c.transform_grid-grid.ensures.blocks ∙ (λ i. transform_blocks (c.args.setting.now.whole i) (is i).block) in
     plane_coded (lists_of c.args.setting.now.contexts) c.args.block.now.skip (block_in c.args.setting.now.header c.args.block.now c.args.plane) (places_in shape c.args.block.now c.args.plane)
-    c.args.sides.now _ _ _ _ _ c.if-block.false (rw (is, same) at c.read_residues.ensures.gives)
+    c.args.sides.now _ _ _ _ _ c.if-block.false (rw (is, same) at c.read_coded.ensures.gives)
 
 pub returns-clause-small : goal.returns-clause-small
 returns-clause-small g c =
@@ -51,4 +51,4 @@ returns-clause-small g c =
     let is = c.of-b.ensures in
     let same : grid_blocks c.transform_grid-grid.result ≡ places_in shape c.args.block.now c.args.plane =
     sym c.transform_grid-grid.ensures.blocks ∙ (λ i. transform_blocks (c.args.setting.now.whole i) (is i).block) in
-    rw (is, same) at c.read_residues.ensures.small
+    rw (is, same) at c.read_coded.ensures.small
