@@ -122,6 +122,25 @@ impl<'a> BoolDecoder<'a> {
         one
     }
 
+    /// One bool, read on a path of its own for each of its values: it costs less than `bit` where the caller goes one way
+    /// for a 0 and another for a 1.
+    #[inline(always)]
+    pub fn branch(&mut self, p: u8) -> bool
+        ensures value { result ≡ nat_eq (bit_of p (window_of self.old)) 1 }
+        ensures moves { window_of self.new ≡ after_bit p (window_of self.old) }
+    {
+        let ready = self.supplied();
+        let split = split_of(ready.range, p);
+        let border = u64::from(split) << 56;
+        if border <= ready.window {
+            let (window, range) = (ready.window - border, ready.range - split);
+            *self = Self::doubled(window, ready.count, range, ready.rest);
+            return true;
+        }
+        *self = Self::doubled(ready.window, ready.count, split, ready.rest);
+        false
+    }
+
     /// `n` bools at one half as a number, most significant first.
     pub fn literal(&mut self, n: u32) -> u32
         requires { n ≤ 32 }

@@ -102,7 +102,7 @@ fn read_from_one<const COUNTS: bool>(
     ensures read { ReadsAway (token_from_one node third) reader.old decoder.old result reader.new decoder.new }
     ensures most { result ≤ 10 }
 {
-    if reader.counted_bit_of(decoder, ProbKind::Coef, node + 2, third) {
+    if reader.counted_branch_of(decoder, ProbKind::Coef, node + 2, third) {
         read_tail(decoder, third)
     } else {
         1
@@ -124,7 +124,7 @@ fn read_token<const COUNTS: bool>(
     ensures read { ReadsAway (token depth node (slice_index probs 1) (slice_index probs 2)) reader.old decoder.old result reader.new decoder.new }
     ensures small { IsSmallStep result }
 {
-    if !reader.counted_bit_of(decoder, ProbKind::Coef, node + 1, probs[1]) {
+    if !reader.counted_branch_of(decoder, ProbKind::Coef, node + 1, probs[1]) {
         return Step::Zero;
     }
     let token = read_from_one(decoder, reader, node, probs[2]);
@@ -145,7 +145,7 @@ fn read_more<const COUNTS: bool>(
     ensures { ReadsAway (more_coefs check node first) reader.old decoder.old result reader.new decoder.new }
 {
     if check {
-        reader.counted_bit_of(decoder, ProbKind::Coef, node, first)
+        reader.counted_branch_of(decoder, ProbKind::Coef, node, first)
     } else {
         true
     }

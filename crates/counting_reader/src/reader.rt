@@ -118,6 +118,27 @@ impl<'a, const COUNTS: bool> CountingReader<'a, COUNTS> {
         one
     }
 
+    /// The same, for a caller who goes one way for a 0 and another for a 1: it is read and counted on a path of its own
+    /// for each.
+    #[inline(always)]
+    pub fn counted_branch_of(
+        &mut self,
+        decoder: &mut BoolDecoder<'_>,
+        kind: ProbKind,
+        place: u16,
+        p: u8,
+    ) -> bool
+        requires { place < kind_size kind }
+        ensures { ReadsAway (counted_flag kind place p) self.old decoder.old result self.new decoder.new }
+    {
+        if decoder.branch(p) {
+            self.count(kind, place, true);
+            return true;
+        }
+        self.count(kind, place, false);
+        false
+    }
+
     /// A tree-coded symbol whose bools are counted: its nodes have places of a kind, from the first on.
     pub fn counted_tree(&mut self, kind: ProbKind, first: u16, tree: &[i8], probs: &[u8]) -> u8
         requires stored { IsTrue (is_tree tree.now) }
