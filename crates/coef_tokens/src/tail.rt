@@ -27,16 +27,16 @@ pub(crate) fn read_tail(decoder: &mut BoolDecoder, q: u8) -> u8
     ensures least { 2 ≤ result }
     ensures most { result ≤ 10 }
 {
-    if !decoder.bit(tail_prob(q, 0)) {
-        if !decoder.bit(tail_prob(q, 1)) {
+    if !decoder.branch(tail_prob(q, 0)) {
+        if !decoder.branch(tail_prob(q, 1)) {
             return 2;
         }
         return if decoder.bit(tail_prob(q, 2)) { 4 } else { 3 };
     }
-    if !decoder.bit(tail_prob(q, 3)) {
+    if !decoder.branch(tail_prob(q, 3)) {
         return if decoder.bit(tail_prob(q, 4)) { 6 } else { 5 };
     }
-    if !decoder.bit(tail_prob(q, 5)) {
+    if !decoder.branch(tail_prob(q, 5)) {
         return if decoder.bit(tail_prob(q, 6)) { 8 } else { 7 };
     }
     if decoder.bit(tail_prob(q, 7)) { 10 } else { 9 }
