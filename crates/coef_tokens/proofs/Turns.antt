@@ -1,9 +1,9 @@
 -- The places of a block, turn by turn.
-use Rattle.std.proofs.Common.{◌≡◌, ◌<◌, ◌≤◌, ◌+◌, ◌-◌, ◌*◌, ◌/◌, ◌^◌, inl, inr, ℕ, Bool, true, false, refl, sym, ◌∙◌, ap, arith, List, [], ◌∷◌, length, get_or, set, drop, All, unsigned_abs, ℤ, pos, rules, w32}
+use Rattle.std.proofs.Common.{◌≡◌, ◌<◌, ◌≤◌, ◌+◌, ◌-◌, ◌*◌, ◌/◌, ◌^◌, inl, inr, ℕ, Bool, true, false, refl, sym, ◌∙◌, ap, arith, List, [], ◌∷◌, length, get_or, set, take, drop, All, unsigned_abs, ℤ, pos, rules, w32}
 use mir.Val.{to_z, of_z}
 use Rattle.std.specs.Prelude.{slice_index, replicate, Ok}
 use Rattle.std.proofs.lemmas.Bool.{cases_eq, cases_lt, eq-eqb, ne_eqb}
-use Rattle.std.proofs.lemmas.List.{get_or-set_same, get_or-set_other, get_or_default, get_or-replicate, get_or_past, length-replicate, drop_more, drop_all}
+use Rattle.std.proofs.lemmas.List.{get_or-set_same, get_or-set_other, get_or_default, get_or-replicate, get_or_past, length-replicate, drop_more, drop_all, get_or-drop, take_rest}
 use Rattle.vp9_types.specs.declared.block.TxSize.{TxSize}
 use Rattle.vp9_tables.specs.Numbers.{flag_number, tx_number}
 use Rattle.vp9_tables.specs.Coefficients.{coef_place}
@@ -12,6 +12,7 @@ use Rattle.counting_reader.proofs.CountingRuns.{counting_bind, run_settle}
 use Rattle.coef_tokens.specs.declared.step.Step.{Step}
 use Rattle.coef_tokens.specs.declared.step.Step.TheVariants.{End, Zero, Level}
 use Rattle.coef_tokens.specs.Places.{Tables, Tokens, Read, no_tokens, block_tokens, tokens_from, step_by, row_at, context_at, with_zero, with_level, goes_on}
+use Rattle.coef_tokens.specs.Steps.{step}
 use Rattle.coef_tokens.specs.Code.{HoldsClasses, HoldsLevels, StandsAt}
 
 pub later_place : (t : Tables) (first c : ℕ) (reads : List Read) (cache : List ℕ) → 1 ≤ c → HoldsClasses cache reads
@@ -38,6 +39,19 @@ Stands t first start place check cache levels m =
 -- what the code read, with the row that the code found
 abbrev pub Steps : Tables → ℕ → Bool → Standing → Step → Standing → Type 0
 Steps t row check m s next = run_counting (step_by t row check) m ≡ Ok (s, next)
+
+prob_in : (probs : List ℕ) (row k : ℕ) → slice_index (take (length probs - row) (drop row probs)) k ≡ slice_index probs (row + k)
+prob_in probs row k = ap (λ (ps : List ℕ). slice_index ps k) (take_rest probs row) ∙ get_or-drop row probs k 0
+
+-- by the probabilities from a row on
+pub steps_from : (t : Tables) (row : ℕ) (check : Bool) (m next : Standing) (s : Step)
+    → run_counting (step t.depth check (t.base + row) (slice_index (take (length t.probs - row) (drop row t.probs)) 0)
+    (slice_index (take (length t.probs - row) (drop row t.probs)) 1) (slice_index (take (length t.probs - row) (drop row t.probs)) 2)) m ≡ Ok (s, next)
+    → Steps t row check m s next
+steps_from t row check m next s read =
+    let first : slice_index (take (length t.probs - row) (drop row t.probs)) 0 ≡ slice_index t.probs row =
+    prob_in t.probs row 0 ∙ ap (λ (k : ℕ). slice_index t.probs k) (omega arith) in
+    rw (first, prob_in t.probs row 1, prob_in t.probs row 2) at read
 
 abbrev pub Ends : Tables → ℕ → Standing → ℕ → List ℤ → Standing → Type 0
 Ends t first start count levels m =

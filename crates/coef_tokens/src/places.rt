@@ -82,14 +82,13 @@ pub(crate) fn read_places<const COUNTS: bool>(
     let mut check = true;
     let mut row = 3 * first as usize;
     for place in 0..tables.scan.len() {
-        let position = tables.scan[place] as usize;
         let node = tables.base + row as u16;
-        let third = tables.probs[row + 2];
-        let probs = [tables.probs[row], tables.probs[row + 1], third];
+        let probs = &tables.probs[row..];
         match read_step(decoder, reader, tables.depth, check, node, probs) {
             Step::End => return place as u32,
             Step::Zero => check = false,
             Step::Level { level, class } => {
+                let position = tables.scan[place] as usize;
                 levels[position] = level;
                 cache[position] = class;
                 check = true;

@@ -117,11 +117,12 @@ fn read_token<const COUNTS: bool>(
     reader: &mut CountingReader<COUNTS>,
     depth: Depth,
     node: u16,
-    probs: [u8; 3],
+    probs: &[u8],
 ) -> Step
     requires node { node + 2 < 1584 }
-    requires some { 1 ≤ slice_index probs 2 }
-    ensures read { ReadsAway (token depth node (slice_index probs 1) (slice_index probs 2)) reader.old decoder.old result reader.new decoder.new }
+    requires three { 3 ≤ length probs.now }
+    requires some { 1 ≤ slice_index probs.now 2 }
+    ensures read { ReadsAway (token depth node (slice_index probs.now 1) (slice_index probs.now 2)) reader.old decoder.old result reader.new decoder.new }
     ensures small { IsSmallStep result }
 {
     if !reader.counted_branch_of(decoder, ProbKind::Coef, node + 1, probs[1]) {
@@ -160,11 +161,12 @@ pub(crate) fn read_step<const COUNTS: bool>(
     depth: Depth,
     check: bool,
     node: u16,
-    probs: [u8; 3],
+    probs: &[u8],
 ) -> Step
     requires node { node + 2 < 1584 }
-    requires some { 1 ≤ slice_index probs 2 }
-    ensures read { ReadsAway (step depth check node (slice_index probs 0) (slice_index probs 1) (slice_index probs 2)) reader.old decoder.old result reader.new decoder.new }
+    requires three { 3 ≤ length probs.now }
+    requires some { 1 ≤ slice_index probs.now 2 }
+    ensures read { ReadsAway (step depth check node (slice_index probs.now 0) (slice_index probs.now 1) (slice_index probs.now 2)) reader.old decoder.old result reader.new decoder.new }
     ensures small { IsSmallStep result }
 {
     if !read_more(decoder, reader, check, node, probs[0]) {

@@ -2,7 +2,7 @@ use Rattle.std.proofs.Common.{◌≡◌, ◌≤◌, ◌<◌, ◌^◌, refl, arit
 use Rattle.std.proofs.lemmas.List.Elements.{All-set}
 use Rattle.counting_reader.specs.Code.{standing_with}
 use Rattle.coef_tokens.specs.Code.{tables_of}
-use Rattle.coef_tokens.proofs.Turns.{no_turn, begins, ends_here, ends_at_last, zero_turn, level_turn, no_classes, no_levels, kept, first_row}
+use Rattle.coef_tokens.proofs.Turns.{no_turn, begins, ends_here, ends_at_last, zero_turn, level_turn, no_classes, no_levels, kept, first_row, steps_from}
 use Rattle.coef_tokens.proofs.places.read_places.Goals as goal
 use Rattle.coef_tokens.proofs.places.read_places.Goals.{in-Zero, in-Level}
 
@@ -20,7 +20,7 @@ pub returns-in-End-clause-read : goal.returns-in-End-clause-read
 returns-in-End-clause-read g c =
     let e = ends_here (tables_of c.args.tables.now) c.args.first _ c.loop-place.place c.loop-place.row c.loop-place.check c.loop-place.cache c.loop-place.levels
     (standing_with c.loop-place.reader c.loop-place.decoder) (standing_with c.read_step.new.reader c.read_step.new.decoder)
-    c.loop-place.invariant.stands c.loop-place-test.true (c.loop-place.invariant.rows c.loop-place-test.true) c.in-End.ensures.read in
+    c.loop-place.invariant.stands c.loop-place-test.true (c.loop-place.invariant.rows c.loop-place-test.true) (steps_from (tables_of c.args.tables.now) c.loop-place.row c.loop-place.check _ _ _ c.in-End.ensures.read) in
     (e.0, e.1, e.2, e.3)
 
 pub next_row-row-requires-clause-low : goal.next_row-row-requires-clause-low
@@ -44,7 +44,7 @@ loop-place-preserved g c =
         rows = λ low. rw w.cache-is at (c.next_row-row.ensures.value low c.args.first);
         fresh = λ e. absurd (no_turn c.loop-place.place e);
         stands = zero_turn t c.args.first _ c.loop-place.place c.loop-place.row c.loop-place.check c.loop-place.cache c.loop-place.levels
-            m next old.stands c.loop-place-test.true (c.loop-place.invariant.rows c.loop-place-test.true) w.in-Zero.ensures.read;
+            m next old.stands c.loop-place-test.true (c.loop-place.invariant.rows c.loop-place-test.true) (steps_from t c.loop-place.row c.loop-place.check m next _ w.in-Zero.ensures.read);
       }
       | in-Level w ↦
           let position : get_or t.scan c.loop-place.place 0 < length c.args.cache.now =
@@ -58,7 +58,7 @@ loop-place-preserved g c =
             rows = λ low. rw w.cache-is at (c.next_row-row.ensures.value low c.args.first);
             fresh = λ e. absurd (no_turn c.loop-place.place e);
             stands = level_turn t c.args.first _ c.loop-place.place c.loop-place.row c.loop-place.check c.loop-place.cache c.loop-place.levels
-                m next w.in-Level.level w.in-Level.class old.stands c.loop-place-test.true (c.loop-place.invariant.rows c.loop-place-test.true) w.in-Level.ensures.read inside within;
+                m next w.in-Level.level w.in-Level.class old.stands c.loop-place-test.true (c.loop-place.invariant.rows c.loop-place-test.true) (steps_from t c.loop-place.row c.loop-place.check m next _ w.in-Level.ensures.read) inside within;
           }
     ]
 
