@@ -23,7 +23,7 @@ pub struct TokenKind {
     pub depth: Depth,
 }
 
-/// The tables that transform blocks of one kind are read by. They are chosen once for a plane of a block.
+/// The tables that transform blocks of one kind are read by.
 #[derive(Clone, Copy)]
 pub struct TokenTables<'a> {
     pub tx: TxSize,
