@@ -36,7 +36,7 @@ fn read_4x4<const COUNTS: bool>(
     read_places(decoder, reader, tables, first, &mut cache, levels)
 }
 
-#[inline(always)]
+#[inline(never)]
 fn read_8x8<const COUNTS: bool>(
     decoder: &mut BoolDecoder,
     reader: &mut CountingReader<COUNTS>,
@@ -58,7 +58,7 @@ fn read_8x8<const COUNTS: bool>(
     read_places(decoder, reader, tables, first, &mut cache, levels)
 }
 
-#[inline(always)]
+#[inline(never)]
 fn read_16x16<const COUNTS: bool>(
     decoder: &mut BoolDecoder,
     reader: &mut CountingReader<COUNTS>,
@@ -80,7 +80,7 @@ fn read_16x16<const COUNTS: bool>(
     read_places(decoder, reader, tables, first, &mut cache, levels)
 }
 
-#[inline(always)]
+#[inline(never)]
 fn read_32x32<const COUNTS: bool>(
     decoder: &mut BoolDecoder,
     reader: &mut CountingReader<COUNTS>,
