@@ -12,7 +12,7 @@ use crate::in_plane::BlockInPlane;
 use crate::planes::{read_coded, skip_residues};
 use crate::sides::{Sides, TileSides};
 use block_geometry::{is_below_8x8, transform_grid};
-use block_plan::{BlockInfo, BlockResidues, PlaneResidues, Prediction};
+use block_plan::{BlockInfo, BlockResidues, PlaneResidues, Prediction, plane_block};
 use counting_reader::CountingReader;
 use frame_setting::FrameSetting;
 use vp9_types::{Plane, Rule};
@@ -33,12 +33,13 @@ fn read_plane<const COUNTS: bool>(
     ensures fit { FitPlane (shape_of setting.now.header) plane sides.new }
     ensures small { OnOk result (AreSmall (held_in (shape_of setting.now.header) block.now plane residues.new)) }
 {
-    let b = BlockInPlane::of(&setting.header, block, plane);
-    let grid = transform_grid(setting.places, b.block);
     if block.skip {
-        skip_residues(sides, &b, &grid, residues);
+        let in_plane = plane_block(&setting.header.shape(), block, plane);
+        skip_residues(sides, &in_plane, residues);
         return Ok(false);
     }
+    let b = BlockInPlane::of(&setting.header, block, plane);
+    let grid = transform_grid(setting.places, b.block);
     read_coded(reader, &setting.contexts, sides, &b, &grid, residues)
 }
 

@@ -1,6 +1,6 @@
 //! A block in a plane: all of its transform blocks.
 
-ghost use Rattle.std.specs.Prelude.{◌≡◌, ◌<◌, ◌≤◌, ◌*◌, ℕ, OnOk, [], false, get_or};
+ghost use Rattle.std.specs.Prelude.{◌≡◌, ◌<◌, ◌≤◌, ◌*◌, ℕ, OnOk, List, [], false, get_or};
 ghost use Rattle.std.specs.List.{All, list_any};
 ghost use Rattle.block_geometry.specs.Code.{IsSmallGrid};
 ghost use Rattle.block_geometry.specs.TransformBlocks.{grid_blocks, tx_step};
@@ -10,6 +10,7 @@ ghost use Rattle.prob_contexts.specs.Lists.{lists_of};
 ghost use Rattle.vp9_tables.specs.Scans.{area};
 ghost use Rattle.block_residue.specs.Residues.{read_next, read_skipped, is_coded};
 ghost use Rattle.block_residue.specs.Code.{IsBeside, KeepsLengths, GivesPlane};
+ghost use Rattle.block_residue.specs.declared.in_plane.BlockInPlane.{BlockInPlane};
 
 use crate::in_plane::BlockInPlane;
 use crate::sides::Sides;
@@ -94,20 +95,15 @@ fn clear_flags(flags: &mut [bool])
     flags.fill(false);
 }
 
-/// Says of a skipped block that it has none.
-pub(crate) fn skip_residues(
-    sides: &mut Sides,
-    b: &BlockInPlane,
-    grid: &TransformGrid,
-    residues: &mut PlaneResidues,
-)
-    requires small { IsSmallGrid grid.now }
-    requires beside { IsBeside b.now.block 0 0 sides.old }
-    ensures read { read_skipped b.now (grid_blocks grid.now) sides.old ≡ record { residues = held (grid_blocks grid.now) (area b.now.block.tx) residues.new; sides = sides.new } }
-    ensures none { list_any is_coded (held (grid_blocks grid.now) (area b.now.block.tx) residues.new) ≡ false }
+/// Says of a skipped block that it has none, wherever its transform blocks lie.
+pub(crate) fn skip_residues(sides: &mut Sides, block: &PlaneBlock, residues: &mut PlaneResidues)
+    requires beside { IsBeside block.now 0 0 sides.old }
+    ensures read { (b : BlockInPlane) (places : List (ℕ × ℕ)) → b.block ≡ block.now →
+        read_skipped b places sides.old ≡ record { residues = held places (area b.block.tx) residues.new; sides = sides.new } }
+    ensures none { (places : List (ℕ × ℕ)) (n : ℕ) → list_any is_coded (held places n residues.new) ≡ false }
     ensures lengths { KeepsLengths sides.old sides.new }
-    ensures small { AreSmall (held (grid_blocks grid.now) (area b.now.block.tx) residues.new) }
+    ensures small { (places : List (ℕ × ℕ)) (n : ℕ) → AreSmall (held places n residues.new) }
 {
     clear_flags(&mut residues.some);
-    sides.mark_skipped(&b.block);
+    sides.mark_skipped(block);
 }
