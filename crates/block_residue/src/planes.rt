@@ -64,8 +64,8 @@ fn of_size(b: &BlockInPlane, tx: TxSize) -> BlockInPlane
     }
 }
 
-/// Reads the residues of a block that isn't skipped, and answers whether it has any. Whether its transform blocks are the
-/// smallest is looked at once, so that their size is known in all that is done for each of them.
+/// Reads the residues of a block that isn't skipped, and answers whether it has any. The size of its transform blocks is
+/// looked at once, so that it is known in all that is done for each of them.
 pub(crate) fn read_coded<const COUNTS: bool>(
     reader: &mut CountingReader<COUNTS>,
     contexts: &Contexts,
@@ -82,11 +82,24 @@ pub(crate) fn read_coded<const COUNTS: bool>(
     ensures lengths { KeepsLengths sides.old sides.new }
     ensures small { OnOk result (AreSmall (held (grid_blocks grid.now) (area b.now.block.tx) residues.new)) }
 {
-    if b.block.tx == TxSize::T4x4 {
-        let b = of_size(b, TxSize::T4x4);
-        return read_residues(reader, contexts, sides, &b, grid, residues);
+    match b.block.tx {
+        TxSize::T4x4 => {
+            let b = of_size(b, TxSize::T4x4);
+            read_residues(reader, contexts, sides, &b, grid, residues)
+        }
+        TxSize::T8x8 => {
+            let b = of_size(b, TxSize::T8x8);
+            read_residues(reader, contexts, sides, &b, grid, residues)
+        }
+        TxSize::T16x16 => {
+            let b = of_size(b, TxSize::T16x16);
+            read_residues(reader, contexts, sides, &b, grid, residues)
+        }
+        TxSize::T32x32 => {
+            let b = of_size(b, TxSize::T32x32);
+            read_residues(reader, contexts, sides, &b, grid, residues)
+        }
     }
-    read_residues(reader, contexts, sides, b, grid, residues)
 }
 
 fn clear_flags(flags: &mut [bool])

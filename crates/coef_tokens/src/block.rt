@@ -36,7 +36,7 @@ fn read_4x4<const COUNTS: bool>(
     read_places(decoder, reader, tables, first, &mut cache, levels)
 }
 
-#[inline(never)]
+#[inline(always)]
 fn read_8x8<const COUNTS: bool>(
     decoder: &mut BoolDecoder,
     reader: &mut CountingReader<COUNTS>,
@@ -58,7 +58,7 @@ fn read_8x8<const COUNTS: bool>(
     read_places(decoder, reader, tables, first, &mut cache, levels)
 }
 
-#[inline(never)]
+#[inline(always)]
 fn read_16x16<const COUNTS: bool>(
     decoder: &mut BoolDecoder,
     reader: &mut CountingReader<COUNTS>,
@@ -80,7 +80,7 @@ fn read_16x16<const COUNTS: bool>(
     read_places(decoder, reader, tables, first, &mut cache, levels)
 }
 
-#[inline(never)]
+#[inline(always)]
 fn read_32x32<const COUNTS: bool>(
     decoder: &mut BoolDecoder,
     reader: &mut CountingReader<COUNTS>,
@@ -105,7 +105,7 @@ fn read_32x32<const COUNTS: bool>(
 /// Reads the tokens of a transform block: its levels, by position, into `levels`, which has one for each coefficient, all
 /// of them 0. `first` is the context of its first place: how many of the sides above and on the left have a coefficient,
 /// 0 to 2. It answers how many places of the scan are coded. The bools of a place's three nodes are counted.
-#[inline(always)]
+#[inline(never)]
 pub fn tokens<const COUNTS: bool>(
     reader: &mut CountingReader<COUNTS>,
     tables: &TokenTables,

@@ -71,23 +71,6 @@ fn turn_twice(
     turn_rows(middle, block, pass_of_columns(tx, kind, quant))
 }
 
-/// The same in a function of its own. Most blocks are the smallest, and theirs becomes a part of the caller.
-#[inline(never)]
-fn turn_apart(
-    block: &mut [i32],
-    middle: &mut [i32],
-    tx: TxSize,
-    kind: TxType,
-    quant: Quant,
-) -> Result<(), Rule>
-    requires size { length block.old ≡ area tx }
-    requires middle { length middle.old ≡ area tx }
-    requires values { All IsSmall block.old }
-    ensures { Gives (reconstructed quant tx kind block.old) result block.new }
-{
-    turn_twice(block, middle, tx, kind, quant)
-}
-
 #[inline(always)]
 fn reconstruct(block: &mut [i32], tx: TxSize, kind: TxType, quant: Quant) -> Result<(), Rule>
     requires size { length block.old ≡ area tx }
@@ -96,17 +79,15 @@ fn reconstruct(block: &mut [i32], tx: TxSize, kind: TxType, quant: Quant) -> Res
 {
     match tx {
         TxSize::T4x4 => turn_twice(block, &mut [0; 16], tx, kind, quant),
-        TxSize::T8x8 => turn_apart(block, &mut [0; 64], tx, kind, quant),
-        TxSize::T16x16 => turn_apart(block, &mut [0; 256], tx, kind, quant),
-        TxSize::T32x32 => turn_apart(block, &mut [0; 1024], tx, kind, quant),
+        TxSize::T8x8 => turn_twice(block, &mut [0; 64], tx, kind, quant),
+        TxSize::T16x16 => turn_twice(block, &mut [0; 256], tx, kind, quant),
+        TxSize::T32x32 => turn_twice(block, &mut [0; 1024], tx, kind, quant),
     }
 }
 
-/// Makes the residue of a block's levels, both row by row. A value that doesn't fit before the transforms is
-/// `CoefRange`, and one in them `TransformRange`; the block is then of no use.
 #[inline(always)]
 #[tactic(auto, unfolding(crate::specs::Residue::residue))]
-pub fn residue(block: &mut [i32], tx: TxSize, kind: TxType, quant: Quant) -> Result<(), Rule>
+fn residue_of(block: &mut [i32], tx: TxSize, kind: TxType, quant: Quant) -> Result<(), Rule>
     requires size { length block.old ≡ area tx }
     requires levels { All IsLevel block.old }
     ensures gives { Gives (residue quant tx kind block.old) result block.new }
@@ -114,4 +95,31 @@ pub fn residue(block: &mut [i32], tx: TxSize, kind: TxType, quant: Quant) -> Res
 {
     dequantise(block, tx, quant)?;
     reconstruct(block, tx, kind, quant)
+}
+
+/// The same, away from the caller.
+#[inline(never)]
+fn large_residue(block: &mut [i32], tx: TxSize, kind: TxType, quant: Quant) -> Result<(), Rule>
+    requires size { length block.old ≡ area tx }
+    requires levels { All IsLevel block.old }
+    ensures gives { Gives (residue quant tx kind block.old) result block.new }
+    ensures small { OnOk result (All (λ x. unsigned_abs x < 2 ^ 24) block.new) }
+{
+    residue_of(block, tx, kind, quant)
+}
+
+/// Makes the residue of a block's levels, both row by row. A value that doesn't fit before the transforms is
+/// `CoefRange`, and one in them `TransformRange`; the block is then of no use.
+#[inline(always)]
+pub fn residue(block: &mut [i32], tx: TxSize, kind: TxType, quant: Quant) -> Result<(), Rule>
+    requires size { length block.old ≡ area tx }
+    requires levels { All IsLevel block.old }
+    ensures gives { Gives (residue quant tx kind block.old) result block.new }
+    ensures small { OnOk result (All (λ x. unsigned_abs x < 2 ^ 24) block.new) }
+{
+    // Most blocks are the smallest, and their loops are of known length where the caller knows the size.
+    match tx {
+        TxSize::T4x4 => residue_of(block, tx, kind, quant),
+        TxSize::T8x8 | TxSize::T16x16 | TxSize::T32x32 => large_residue(block, tx, kind, quant),
+    }
 }

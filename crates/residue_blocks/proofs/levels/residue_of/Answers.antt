@@ -3,7 +3,7 @@ use Rattle.std.specs.List.{list_all}
 use Rattle.inverse_transforms.specs.Ranges.{IsSmall, fits, limit_of}
 use Rattle.residue_blocks.specs.Residue.{coefficients}
 use Rattle.residue_blocks.proofs.Twice.{fitting_small, residue_small}
-use Rattle.residue_blocks.proofs.levels.residue.Goals as goal
+use Rattle.residue_blocks.proofs.levels.residue_of.Goals as goal
 
 pub reconstruct-requires-clause-values : goal.reconstruct-requires-clause-values
 reconstruct-requires-clause-values c =
