@@ -3,6 +3,8 @@
 ghost use Rattle.std.specs.Prelude.{◌≡◌, ℕ, ◌+◌, ◌-◌, ◌*◌, ◌/◌, ◌%◌, ◌<◌, ◌≤◌, ◌∷◌, length, min, slice_index, nat_eq, if◌then◌else◌};
 ghost use Rattle.intra_predict.specs.Modes.{mean2, mean3, mean2_at, mean3_at};
 
+use std::simd::Simd;
+
 fn mean_of_two(x: u16, y: u16) -> u16
     requires x { x ≤ 4095 }
     requires y { y ≤ 4095 }
@@ -20,6 +22,33 @@ fn mean_of_three(x: u16, y: u16, z: u16) -> u16
     (x + 2 * y + z + 2) >> 2
 }
 
+/// N samples copied as one vector, since what is read by reference might be what is written.
+#[inline(always)]
+fn copy_lanes<const N: usize>(to: &mut [u16], from: &[u16])
+    requires few { N ≤ 64 }
+    requires room { length to.old ≡ N }
+    requires enough { length from.now ≡ N }
+    ensures { to.new ≡ from.now }
+{
+    let samples: Simd<u16, N> = Simd::from_slice(from);
+    samples.copy_to_slice(to);
+}
+
+/// As many samples copied as there is room for.
+#[inline(always)]
+pub(crate) fn copy_all(to: &mut [u16], from: &[u16])
+    requires { length to.old ≡ length from.now }
+    ensures { to.new ≡ from.now }
+{
+    match from.len() {
+        4 => copy_lanes::<4>(to, from),
+        8 => copy_lanes::<8>(to, from),
+        16 => copy_lanes::<16>(to, from),
+        32 => copy_lanes::<32>(to, from),
+        _ => to.copy_from_slice(from),
+    }
+}
+
 /// The front of a line, whose last sample is then repeated up to n samples.
 #[inline(always)]
 pub(crate) fn extend(line: &mut [u16], n: usize, front: &[u16])
@@ -29,7 +58,7 @@ pub(crate) fn extend(line: &mut [u16], n: usize, front: &[u16])
     ensures { (k : ℕ) → k < n → slice_index line.new k ≡ slice_index front.now (min k (length front.now - 1)) }
 {
     let count = front.len();
-    line[..count].copy_from_slice(front);
+    copy_all(&mut line[..count], front);
     fill_from(line, count, n, front[count - 1]);
 }
 
@@ -60,7 +89,7 @@ pub(crate) fn join(line: &mut [u16], size: usize, left: &[u16], corner: u16, abo
     ensures up { (k : ℕ) → k ≤ size → slice_index line.new (size + k) ≡ slice_index (corner ∷ above.now) k }
 {
     line[size] = corner;
-    line[size + 1..size + 1 + size].copy_from_slice(&above[..size]);
+    copy_all(&mut line[size + 1..size + 1 + size], &above[..size]);
     reverse_into(line, size, left);
 }
 

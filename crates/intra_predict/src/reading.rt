@@ -69,7 +69,7 @@ fn read_above(above: &mut [u16], plane: &SamplePlane, place: &Place, size: usize
     // The numbers of samples that are frequent are then known where this is compiled.
     if count == size {
         extend(above, 2 * size, plane.row(row, place.column, size));
-    } else if count == 2 * size {
+    } else if across >= 2 * size {
         extend(above, 2 * size, plane.row(row, place.column, 2 * size));
     } else {
         extend(above, 2 * size, plane.row(row, place.column, count));

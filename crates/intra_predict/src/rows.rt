@@ -3,6 +3,8 @@
 ghost use Rattle.std.specs.Prelude.{◌≡◌, ℕ, ◌+◌, ◌-◌, ◌*◌, ◌/◌, ◌%◌, ◌<◌, ◌≤◌, length, slice_index, nat_eq, if◌then◌else◌};
 ghost use Rattle.vp9_types.specs.Maps.{Holds};
 
+use crate::lines::copy_all;
+
 /// Row i of the block is the part of the line from place `from` on.
 #[inline(always)]
 fn put_row(block: &mut [u16], size: usize, i: usize, line: &[u16], from: usize)
@@ -12,7 +14,7 @@ fn put_row(block: &mut [u16], size: usize, i: usize, line: &[u16], from: usize)
     ensures before { (k : ℕ) → k < i * size → slice_index block.new k ≡ slice_index block.old k }
 {
     let at = i * size;
-    block[at..at + size].copy_from_slice(&line[from..from + size]);
+    copy_all(&mut block[at..at + size], &line[from..from + size]);
 }
 
 /// Each row begins `step` further on than the one before it.

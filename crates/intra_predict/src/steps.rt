@@ -34,7 +34,7 @@ pub fn put_predicted(
     ensures small { IsAtMost (greatest depth) (plane_map plane.new) }
 {
     match block.size {
-        TxSize::T4x4 => put_sized::<4>(plane, block, depth, None, scratch),
+        TxSize::T4x4 => put_four(plane, block, depth, None, scratch),
         TxSize::T8x8 => put_sized::<8>(plane, block, depth, None, scratch),
         TxSize::T16x16 => put_sized::<16>(plane, block, depth, None, scratch),
         TxSize::T32x32 => put_sized::<32>(plane, block, depth, None, scratch),
@@ -58,10 +58,41 @@ pub fn put_rebuilt(
     ensures small { IsAtMost (greatest depth) (plane_map plane.new) }
 {
     match block.size {
-        TxSize::T4x4 => put_sized::<4>(plane, block, depth, Some(residue), scratch),
+        TxSize::T4x4 => put_four(plane, block, depth, Some(residue), scratch),
         TxSize::T8x8 => put_sized::<8>(plane, block, depth, Some(residue), scratch),
         TxSize::T16x16 => put_sized::<16>(plane, block, depth, Some(residue), scratch),
         TxSize::T32x32 => put_sized::<32>(plane, block, depth, Some(residue), scratch),
+    }
+}
+
+/// A 4x4 block. Far enough from the plane's ends its samples go by way of nothing that is kept, which costs less.
+#[inline(never)]
+fn put_four(
+    plane: &mut SamplePlane,
+    block: &IntraBlock,
+    depth: Depth,
+    residue: Option<&[i32]>,
+    scratch: &mut Scratch,
+)
+    requires size { side block.now.size ≡ 4 }
+    requires inside { LiesIn plane.old.area block.now.place }
+    requires small { IsAtMost (greatest depth) (plane_map plane.old) }
+    requires residue { ForSome (option_copied residue) (IsResidue (16)) }
+    ensures area { plane.new.area ≡ plane.old.area }
+    ensures map { plane_map plane.new ≡ with_square (right_end plane.old.area) (lower_end plane.old.area) (plane_map plane.old)
+        block.now.place.row block.now.place.column 4 (with_any_residue depth 4
+        (prediction (right_end plane.old.area) (lower_end plane.old.area) depth block.now (plane_map plane.old)) (option_copied residue.entry)) }
+    ensures small { IsAtMost (greatest depth) (plane_map plane.new) }
+{
+    let area = plane.area();
+    let rows = area.lower_end() - block.place.row;
+    let columns = area.right_end() - block.place.column;
+    if rows >= 4 && columns >= 8 {
+        let mut edges = Edges::new();
+        let mut buffer = [0; 16];
+        put_by::<4>(plane, block, depth, residue, &mut edges, &mut buffer);
+    } else {
+        put_sized::<4>(plane, block, depth, residue, scratch);
     }
 }
 
@@ -85,17 +116,36 @@ fn put_sized<const N: usize>(
         (prediction (right_end plane.old.area) (lower_end plane.old.area) depth block.now (plane_map plane.old)) (option_copied residue.entry)) }
     ensures small { IsAtMost (greatest depth) (plane_map plane.new) }
 {
+    let edges = &mut scratch.edges;
+    put_by::<N>(plane, block, depth, residue, edges, &mut scratch.block);
+}
+
+/// By way of edges and a buffer, whatever they hold.
+#[inline(always)]
+fn put_by<const N: usize>(
+    plane: &mut SamplePlane,
+    block: &IntraBlock,
+    depth: Depth,
+    residue: Option<&[i32]>,
+    edges: &mut Edges,
+    buffer: &mut [u16],
+)
+    requires size { side block.now.size ≡ N }
+    requires sixteens { N * N ≡ N * N / 16 * 16 }
+    requires inside { LiesIn plane.old.area block.now.place }
+    requires small { IsAtMost (greatest depth) (plane_map plane.old) }
+    requires residue { ForSome (option_copied residue) (IsResidue (N * N)) }
+    requires room { N * N ≤ length buffer.old }
+    ensures area { plane.new.area ≡ plane.old.area }
+    ensures map { plane_map plane.new ≡ with_square (right_end plane.old.area) (lower_end plane.old.area) (plane_map plane.old)
+        block.now.place.row block.now.place.column N (with_any_residue depth N
+        (prediction (right_end plane.old.area) (lower_end plane.old.area) depth block.now (plane_map plane.old)) (option_copied residue.entry)) }
+    ensures small { IsAtMost (greatest depth) (plane_map plane.new) }
+{
     let place = &block.place;
-    read_sized(&mut scratch.edges, plane, place, N, depth);
-    rebuild(
-        block.mode,
-        &scratch.edges,
-        N,
-        depth,
-        residue,
-        &mut scratch.block,
-    );
-    plane.put_square::<N>(place.row, place.column, &scratch.block);
+    read_sized(edges, plane, place, N, depth);
+    rebuild(block.mode, edges, N, depth, residue, buffer);
+    plane.put_square::<N>(place.row, place.column, buffer);
 }
 
 /// Predicts a block, and adds its residue if it has some. What is behind it in the buffer stays.
