@@ -90,7 +90,10 @@ fn put_four(
     if rows >= 4 && columns >= 8 {
         let mut edges = Edges::new();
         let mut buffer = [0; 16];
-        put_by::<4>(plane, block, depth, residue, &mut edges, &mut buffer);
+        let place = &block.place;
+        read_sized::<4>(&mut edges, plane, place, depth);
+        rebuild::<4>(block.mode, &edges, depth, residue, &mut buffer);
+        plane.put_square::<4>(place.row, place.column, &buffer);
     } else {
         put_sized::<4>(plane, block, depth, residue, scratch);
     }
@@ -116,61 +119,35 @@ fn put_sized<const N: usize>(
         (prediction (right_end plane.old.area) (lower_end plane.old.area) depth block.now (plane_map plane.old)) (option_copied residue.entry)) }
     ensures small { IsAtMost (greatest depth) (plane_map plane.new) }
 {
-    let edges = &mut scratch.edges;
-    put_by::<N>(plane, block, depth, residue, edges, &mut scratch.block);
-}
-
-/// By way of edges and a buffer, whatever they hold.
-#[inline(always)]
-fn put_by<const N: usize>(
-    plane: &mut SamplePlane,
-    block: &IntraBlock,
-    depth: Depth,
-    residue: Option<&[i32]>,
-    edges: &mut Edges,
-    buffer: &mut [u16],
-)
-    requires size { side block.now.size ≡ N }
-    requires sixteens { N * N ≡ N * N / 16 * 16 }
-    requires inside { LiesIn plane.old.area block.now.place }
-    requires small { IsAtMost (greatest depth) (plane_map plane.old) }
-    requires residue { ForSome (option_copied residue) (IsResidue (N * N)) }
-    requires room { N * N ≤ length buffer.old }
-    ensures area { plane.new.area ≡ plane.old.area }
-    ensures map { plane_map plane.new ≡ with_square (right_end plane.old.area) (lower_end plane.old.area) (plane_map plane.old)
-        block.now.place.row block.now.place.column N (with_any_residue depth N
-        (prediction (right_end plane.old.area) (lower_end plane.old.area) depth block.now (plane_map plane.old)) (option_copied residue.entry)) }
-    ensures small { IsAtMost (greatest depth) (plane_map plane.new) }
-{
     let place = &block.place;
-    read_sized(edges, plane, place, N, depth);
-    rebuild(block.mode, edges, N, depth, residue, buffer);
+    let buffer = &mut scratch.block;
+    read_sized::<N>(&mut scratch.edges, plane, place, depth);
+    rebuild::<N>(block.mode, &scratch.edges, depth, residue, buffer);
     plane.put_square::<N>(place.row, place.column, buffer);
 }
 
 /// Predicts a block, and adds its residue if it has some. What is behind it in the buffer stays.
 #[inline(always)]
-fn rebuild(
+fn rebuild<const N: usize>(
     mode: IntraMode,
     edges: &Edges,
-    size: usize,
     depth: Depth,
     residue: Option<&[i32]>,
     buffer: &mut [u16],
 )
-    requires some { 4 ≤ size }
-    requires few { size ≤ 32 }
-    requires twos { size ≡ 2 * (size / 2) }
-    requires sixteens { size * size ≡ size * size / 16 * 16 }
-    requires small { IsUpTo (greatest depth) (samples_of size edges.now) }
-    requires residue { ForSome (option_copied residue) (IsResidue (size * size)) }
-    requires room { size * size ≤ length buffer.old }
-    ensures values { Holds buffer.new size (with_any_residue depth size (predicted mode size depth (samples_of size edges.now)) (option_copied residue.entry)) }
-    ensures behind { (k : ℕ) → size * size ≤ k → slice_index buffer.new k ≡ slice_index buffer.old k }
+    requires some { 4 ≤ N }
+    requires few { N ≤ 32 }
+    requires twos { N ≡ 2 * (N / 2) }
+    requires sixteens { N * N ≡ N * N / 16 * 16 }
+    requires small { IsUpTo (greatest depth) (samples_of N edges.now) }
+    requires residue { ForSome (option_copied residue) (IsResidue (N * N)) }
+    requires room { N * N ≤ length buffer.old }
+    ensures values { Holds buffer.new N (with_any_residue depth N (predicted mode N depth (samples_of N edges.now)) (option_copied residue.entry)) }
+    ensures behind { (k : ℕ) → N * N ≤ k → slice_index buffer.new k ≡ slice_index buffer.old k }
 {
-    let samples = &mut buffer[..size * size];
-    predict_sized(mode, edges, size, depth, samples);
+    let samples = &mut buffer[..N * N];
+    predict_sized::<N>(mode, edges, depth, samples);
     if let Some(residue) = residue {
-        add_clipped(samples, residue, size * size, depth.greatest());
+        add_clipped(samples, residue, N * N, depth.greatest());
     }
 }

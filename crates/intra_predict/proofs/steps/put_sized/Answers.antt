@@ -4,7 +4,7 @@ use Rattle.planes.specs.Planes.{lower_end, right_end, plane_map}
 use Rattle.intra_predict.specs.Steps.{prediction, with_any_residue}
 use Rattle.intra_predict.proofs.Bounds.{edges_small}
 use Rattle.intra_predict.proofs.StepLemmas.{any_residue_small, prediction_small, square_put, square_small}
-use Rattle.intra_predict.proofs.steps.put_by.Goals as goal
+use Rattle.intra_predict.proofs.steps.put_sized.Goals as goal
 
 pub rebuild-requires-clause-small : goal.rebuild-requires-clause-small
 rebuild-requires-clause-small g c = let a = c.args in let p = a.plane.now in
