@@ -84,16 +84,16 @@ fn put_four(
         (prediction (right_end plane.old.area) (lower_end plane.old.area) depth block.now (plane_map plane.old)) (option_copied residue.entry)) }
     ensures small { IsAtMost (greatest depth) (plane_map plane.new) }
 {
+    let place = block.place;
     let area = plane.area();
-    let rows = area.lower_end() - block.place.row;
-    let columns = area.right_end() - block.place.column;
+    let rows = area.lower_end() - place.row;
+    let columns = area.right_end() - place.column;
     if rows >= 4 && columns >= 8 {
         let mut edges = Edges::new();
         let mut buffer = [0; 16];
-        let place = &block.place;
-        read_sized::<4>(&mut edges, plane, place, depth);
+        read_sized::<4>(&mut edges, plane, &place, depth);
         rebuild::<4>(block.mode, &edges, depth, residue, &mut buffer);
-        plane.put_square::<4>(place.row, place.column, &buffer);
+        plane.put_inside::<4>(place.row, place.column, 4, &buffer);
     } else {
         put_sized::<4>(plane, block, depth, residue, scratch);
     }

@@ -14,7 +14,7 @@ pub returns-then-columns-ge8-clause-map : goal.returns-then-columns-ge8-clause-m
 unfolding prediction
 returns-then-columns-ge8-clause-map c = let a = c.args in let b = a.block.now in let p = a.plane.now in
     let f = with_any_residue a.depth 4 (prediction (right_end p.area) (lower_end p.area) a.depth b (plane_map p)) (option_copied a.residue) in
-    c.put_square.ensures.map
+    c.put_inside.ensures.map
     ∙ square_put (right_end p.area) (lower_end p.area) (plane_map p) b.place.row b.place.column 4 c.rebuild.new.buffer f
     (rw (c.requires.size, ← c.read_sized.ensures) c.rebuild.ensures.values)
 
