@@ -33,12 +33,7 @@ pub fn put_predicted(
         ≡ with_predicted (right_end plane.old.area) (lower_end plane.old.area) depth block.now (plane_map plane.old) }
     ensures small { IsAtMost (greatest depth) (plane_map plane.new) }
 {
-    match block.size {
-        TxSize::T4x4 => put_four(plane, block, depth, None, scratch),
-        TxSize::T8x8 => put_sized::<8>(plane, block, depth, None, scratch),
-        TxSize::T16x16 => put_sized::<16>(plane, block, depth, None, scratch),
-        TxSize::T32x32 => put_sized::<32>(plane, block, depth, None, scratch),
-    }
+    put_transform_block(plane, block, depth, None, scratch);
 }
 
 /// Puts a block with its residue, row after row, into its plane.
@@ -57,16 +52,36 @@ pub fn put_rebuilt(
         ≡ with_rebuilt (right_end plane.old.area) (lower_end plane.old.area) depth block.now residue.now (plane_map plane.old) }
     ensures small { IsAtMost (greatest depth) (plane_map plane.new) }
 {
+    put_transform_block(plane, block, depth, Some(residue), scratch);
+}
+
+/// Puts a block, with its residue if it has some, into its plane.
+#[inline(always)]
+pub fn put_transform_block(
+    plane: &mut SamplePlane,
+    block: &IntraBlock,
+    depth: Depth,
+    residue: Option<&[i32]>,
+    scratch: &mut Scratch,
+)
+    requires inside { LiesIn plane.old.area block.now.place }
+    requires small { IsAtMost (greatest depth) (plane_map plane.old) }
+    requires residue { ForSome (option_copied residue) (IsResidue (side block.now.size * side block.now.size)) }
+    ensures area { plane.new.area ≡ plane.old.area }
+    ensures map { plane_map plane.new ≡ with_square (right_end plane.old.area) (lower_end plane.old.area) (plane_map plane.old)
+        block.now.place.row block.now.place.column (side block.now.size) (with_any_residue depth (side block.now.size)
+        (prediction (right_end plane.old.area) (lower_end plane.old.area) depth block.now (plane_map plane.old)) (option_copied residue.entry)) }
+    ensures small { IsAtMost (greatest depth) (plane_map plane.new) }
+{
     match block.size {
-        TxSize::T4x4 => put_four(plane, block, depth, Some(residue), scratch),
-        TxSize::T8x8 => put_sized::<8>(plane, block, depth, Some(residue), scratch),
-        TxSize::T16x16 => put_sized::<16>(plane, block, depth, Some(residue), scratch),
-        TxSize::T32x32 => put_sized::<32>(plane, block, depth, Some(residue), scratch),
+        TxSize::T4x4 => put_four(plane, block, depth, residue, scratch),
+        TxSize::T8x8 => put_sized::<8>(plane, block, depth, residue, scratch),
+        TxSize::T16x16 => put_sized::<16>(plane, block, depth, residue, scratch),
+        TxSize::T32x32 => put_sized::<32>(plane, block, depth, residue, scratch),
     }
 }
 
 /// A 4x4 block. Far enough from the plane's ends its samples go by way of nothing that is kept, which costs less.
-#[inline(never)]
 fn put_four(
     plane: &mut SamplePlane,
     block: &IntraBlock,
