@@ -19,18 +19,18 @@ ghost use Rattle.block_rebuild.specs.Code.{IsPlaced, IsPlaneOf, block_at, put_mo
 
 use block_geometry::{FramePlaces, PlaneBlock, TransformGrid, transform_grid, width_8};
 use block_plan::{BlockInfo, IntraPrediction, PlaneResidues, mode_at, plane_block};
-use intra_predict::{CodedBlock, IntraBlock, Scratch, place_of, put_predicted, put_rebuilt};
+use intra_predict::{CodedBlock, IntraBlock, Scratch, place_of, put_transform_block};
 use planes::SamplePlane;
 use vp9_tables::area_of;
 use vp9_types::{BlockSize, Depth, Plane, Shape, TxSize};
 
 /// An intra block of a frame of this shape, in a tile whose columns begin at `tile_from`.
-#[derive(Clone, Copy, Debug, PartialEq, Eq)]
-pub(crate) struct IntraCoded {
-    pub shape: Shape,
+#[derive(Clone, Copy)]
+pub(crate) struct IntraCoded<'a> {
+    pub shape: &'a Shape,
     pub tile_from: u32,
-    pub block: BlockInfo,
-    pub modes: IntraPrediction,
+    pub block: &'a BlockInfo,
+    pub modes: &'a IntraPrediction,
 }
 
 /// An intra block in a plane: what its transform blocks share.
@@ -104,11 +104,8 @@ fn put_residue(
     ensures area { samples.new.area ≡ samples.old.area }
     ensures range { IsAtMost (greatest depth) (plane_map samples.new) }
 {
-    if some {
-        put_rebuilt(samples, block, depth, values, scratch);
-    } else {
-        put_predicted(samples, block, depth, scratch);
-    }
+    let residue = if some { Some(values) } else { None };
+    put_transform_block(samples, block, depth, residue, scratch);
 }
 
 /// Puts all transform blocks of a block into its plane.
@@ -150,27 +147,27 @@ fn put_residues(
 /// Puts an intra block into a plane.
 pub(crate) fn put_in_plane(
     samples: &mut SamplePlane,
-    b: &IntraCoded,
+    b: &IntraCoded<'_>,
     plane: Plane,
     residues: &PlaneResidues,
     scratch: &mut Scratch,
 )
-    requires size { HasFrameSize b.now.shape }
-    requires placed { IsPlaced b.now.shape b.now.tile_from b.now.block }
-    requires is { IsPlaneOf b.now.shape plane samples.old }
-    requires small { AreSmall (held_in b.now.shape b.now.block plane residues.now) }
-    ensures map { plane_map samples.new ≡ put_intra b.now.shape b.now.tile_from b.now.block b.now.modes plane (held_in b.now.shape b.now.block plane residues.now) (plane_map samples.old) }
-    ensures is { IsPlaneOf b.now.shape plane samples.new }
+    requires size { HasFrameSize b.now.shape.now }
+    requires placed { IsPlaced b.now.shape.now b.now.tile_from b.now.block.now }
+    requires is { IsPlaneOf b.now.shape.now plane samples.old }
+    requires small { AreSmall (held_in b.now.shape.now b.now.block.now plane residues.now) }
+    ensures map { plane_map samples.new ≡ put_intra b.now.shape.now b.now.tile_from b.now.block.now b.now.modes.now plane (held_in b.now.shape.now b.now.block.now plane residues.now) (plane_map samples.old) }
+    ensures is { IsPlaneOf b.now.shape.now plane samples.new }
 {
-    let block = plane_block(&b.shape, &b.block, plane);
-    let grid = transform_grid(places_of(&b.shape), block);
+    let block = plane_block(b.shape, b.block, plane);
+    let grid = transform_grid(places_of(b.shape), block);
     let in_plane = IntraInPlane {
         plane,
         depth: b.shape.depth,
         size: b.block.size,
         tx: block.tx,
         coded: coded_block(b.tile_from, &block),
-        modes: b.modes,
+        modes: *b.modes,
     };
     put_residues(samples, &in_plane, &grid, residues, scratch);
 }
