@@ -34,6 +34,18 @@ pub(crate) fn copy_lanes<const N: usize>(to: &mut [u16], from: &[u16])
     samples.copy_to_slice(to);
 }
 
+/// Twice N samples copied to the front of a line.
+#[inline(always)]
+pub(crate) fn copy_twice<const N: usize>(line: &mut [u16], from: &[u16])
+    requires few { N ≤ 64 }
+    requires long { length from.now ≡ 2 * N }
+    requires room { 2 * N ≤ length line.old }
+    ensures { (k : ℕ) → k < 2 * N → slice_index line.new k ≡ slice_index from.now k }
+{
+    copy_lanes::<N>(&mut line[..N], &from[..N]);
+    copy_lanes::<N>(&mut line[N..2 * N], &from[N..]);
+}
+
 /// The front of a line, whose last sample is then repeated up to n samples.
 #[inline(always)]
 pub(crate) fn extend(line: &mut [u16], n: usize, front: &[u16])

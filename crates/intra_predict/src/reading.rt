@@ -7,7 +7,7 @@ ghost use Rattle.planes.specs.Planes.{lower_end, right_end, plane_map};
 ghost use Rattle.intra_predict.specs.Edges.{LiesIn, samples_of, edges_in, above_sample, left_sample, corner_sample, reads_right, IsUpTo};
 
 use crate::edges::Edges;
-use crate::lines::{copy_lanes, extend, extend_lanes, fill_from};
+use crate::lines::{copy_twice, extend, extend_lanes, fill_from};
 use crate::place::Place;
 use crate::sizes::middle_of;
 use planes::SamplePlane;
@@ -64,16 +64,17 @@ fn read_above<const N: usize>(above: &mut [u16], plane: &SamplePlane, place: &Pl
     }
     let across = plane.area().right_end() - place.column;
     let count = wanted(place, N).min(across);
-    let row = place.row - 1;
     // The numbers of samples that are frequent are then known where this is compiled.
     if count == N {
-        extend_lanes::<N>(above, 2 * N, plane.row(row, place.column, N));
+        extend_lanes::<N>(above, 2 * N, plane.row_above(place.row, place.column, N));
     } else if across >= 2 * N {
-        let line = plane.row(row, place.column, 2 * N);
-        copy_lanes::<N>(&mut above[..N], &line[..N]);
-        copy_lanes::<N>(&mut above[N..2 * N], &line[N..2 * N]);
+        copy_twice::<N>(above, plane.row_above(place.row, place.column, 2 * N));
     } else {
-        extend(above, 2 * N, plane.row(row, place.column, count));
+        extend(
+            above,
+            2 * N,
+            plane.row_above(place.row, place.column, count),
+        );
     }
 }
 
@@ -125,5 +126,5 @@ fn read_corner(plane: &SamplePlane, place: &Place, depth: Depth) -> u16
     if place.column <= place.tile_from {
         return middle_of(depth) + 1;
     }
-    plane.sample(place.row - 1, place.column - 1)
+    plane.row_above(place.row, place.column - 1, 1)[0]
 }

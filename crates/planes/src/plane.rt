@@ -76,6 +76,19 @@ impl SamplePlane {
         &self.samples[at..at + count]
     }
 
+    /// As `row`, of the row above.
+    #[inline(always)]
+    #[tactic(auto, using(crate::proofs::PlaneLemmas::row_fits, crate::proofs::PlaneLemmas::row_is))]
+    pub fn row_above(&self, row: usize, column: usize, count: usize) -> &[u16]
+        requires some { 0 < row }
+        requires inside { HasRow self.now.area (row - 1) column count }
+        ensures long { length result.now ≡ count }
+        ensures samples { (j : ℕ) → j < count → slice_index result.now j ≡ plane_map self.now (row - 1) (column + j) }
+    {
+        let from = self.area.place_above(row, column);
+        &self.samples[from..from + count]
+    }
+
     /// The sample at a row and column.
     #[inline(always)]
     #[tactic(auto, using(crate::proofs::PlaneLemmas::row_fits, crate::proofs::PlaneLemmas::sample_is))]
