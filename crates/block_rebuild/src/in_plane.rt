@@ -34,14 +34,14 @@ pub(crate) struct IntraCoded<'a> {
 }
 
 /// An intra block in a plane: what its transform blocks share.
-#[derive(Clone, Copy, Debug, PartialEq, Eq)]
-pub struct IntraInPlane {
+#[derive(Clone, Copy)]
+pub struct IntraInPlane<'a> {
     pub plane: Plane,
     pub depth: Depth,
     pub size: BlockSize,
     pub tx: TxSize,
     pub coded: CodedBlock,
-    pub modes: IntraPrediction,
+    pub modes: &'a IntraPrediction,
 }
 
 fn coded_block(tile_from: u32, block: &PlaneBlock) -> CodedBlock
@@ -58,7 +58,7 @@ fn coded_block(tile_from: u32, block: &PlaneBlock) -> CodedBlock
 }
 
 /// The transform block at a row and column, in 4s.
-fn block_at(b: &IntraInPlane, at: (usize, usize)) -> IntraBlock
+fn block_at(b: &IntraInPlane<'_>, at: (usize, usize)) -> IntraBlock
     requires low { b.now.coded.row ≤ 8192 }
     requires near { b.now.coded.column + b.now.coded.columns ≤ 65536 }
     requires tile { b.now.coded.tile_column ≤ b.now.coded.column }
@@ -70,7 +70,7 @@ fn block_at(b: &IntraInPlane, at: (usize, usize)) -> IntraBlock
     IntraBlock {
         place: place_of(&b.coded, y, x),
         size: b.tx,
-        mode: mode_at(&b.modes, b.size, b.plane, y, x),
+        mode: mode_at(b.modes, b.size, b.plane, y, x),
     }
 }
 
@@ -111,7 +111,7 @@ fn put_residue(
 /// Puts all transform blocks of a block into its plane.
 fn put_residues(
     samples: &mut SamplePlane,
-    b: &IntraInPlane,
+    b: &IntraInPlane<'_>,
     grid: &TransformGrid,
     residues: &PlaneResidues,
     scratch: &mut Scratch,
@@ -167,7 +167,7 @@ pub(crate) fn put_in_plane(
         size: b.block.size,
         tx: block.tx,
         coded: coded_block(b.tile_from, &block),
-        modes: *b.modes,
+        modes: b.modes,
     };
     put_residues(samples, &in_plane, &grid, residues, scratch);
 }

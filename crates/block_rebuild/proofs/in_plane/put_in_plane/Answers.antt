@@ -23,5 +23,5 @@ returns-clause-map c =
     let b = c.args.b.now in
     let same : grid_blocks c.transform_grid-grid.result ≡ places_in b.shape.now b.block.now c.args.plane =
     sym c.transform_grid-grid.ensures.blocks ∙ (λ i. transform_blocks (c.places_of.ensures.is i) (c.plane_block-block.ensures i)) in
-    put_is b.shape.now b.tile_from b.block.now b.modes.now c.args.plane c.args.samples.now.area c.plane_block-block.result c.coded_block.result (grid_blocks c.transform_grid-grid.result)
+    put_is b.shape.now b.tile_from b.block.now b.modes c.args.plane c.args.samples.now.area c.plane_block-block.result c.coded_block.result (grid_blocks c.transform_grid-grid.result)
     c.args.residues.now _ _ c.requires.is.area c.plane_block-block.ensures c.coded_block.ensures same c.put_residues.ensures.map
