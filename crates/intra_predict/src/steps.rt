@@ -92,7 +92,7 @@ fn put_four(
     requires size { side block.now.size ≡ 4 }
     requires inside { LiesIn plane.old.area block.now.place }
     requires small { IsAtMost (greatest depth) (plane_map plane.old) }
-    requires residue { ForSome (option_copied residue) (IsResidue (16)) }
+    requires residue { ForSome (option_copied residue) (IsResidue 16) }
     ensures area { plane.new.area ≡ plane.old.area }
     ensures map { plane_map plane.new ≡ with_square (right_end plane.old.area) (lower_end plane.old.area) (plane_map plane.old)
         block.now.place.row block.now.place.column 4 (with_any_residue depth 4
