@@ -1,5 +1,5 @@
 -- Transform blocks put in one after another.
-use Rattle.std.proofs.Common.{◌≡◌, ◌<◌, ◌+◌, ◌*◌, ◌∷◌, [], ℕ, ℤ, ◌∙◌, sym, ap, arith, Bool, false, List, get_or, take, drop}
+use Rattle.std.proofs.Common.{◌≡◌, ◌<◌, ◌+◌, ◌*◌, ◌∷◌, [], ℕ, ℤ, ◌∙◌, sym, ap, arith, Bool, false, List, get_or, take, drop, Bor}
 use Rattle.std.specs.List.{All, fold}
 use Rattle.std.proofs.lemmas.List.Sums.{fold-append}
 use Rattle.vp9_types.specs.Maps.{Map}
@@ -67,19 +67,19 @@ all_lie shape tile_from b p = λ k d low. lies shape tile_from b p _ (all_inside
 zero_plus : (n : ℕ) → 0 + n ≡ n
 zero_plus n = omega arith
 
-abbrev in_plane : Shape → BlockInfo → IntraPrediction → Plane → TxSize → CodedBlock → IntraInPlane
+abbrev in_plane : Shape → BlockInfo → Bor IntraPrediction → Plane → TxSize → CodedBlock → IntraInPlane
 in_plane shape b modes p tx coded = record { plane = p; depth = shape.depth; size = b.size; tx = tx; coded = coded; modes = modes }
 
 -- in a whole plane
-next_is : (shape : Shape) (tile_from : ℕ) (b : BlockInfo) (modes : IntraPrediction) (p : Plane)
-    → put_more (coded_area shape p) (in_plane shape b modes p (tx_in shape b p) (coded_block tile_from (plane_block shape b p))) ≡ put_next shape tile_from b modes p
+next_is : (shape : Shape) (tile_from : ℕ) (b : BlockInfo) (modes : Bor IntraPrediction) (p : Plane)
+    → put_more (coded_area shape p) (in_plane shape b modes p (tx_in shape b p) (coded_block tile_from (plane_block shape b p))) ≡ put_next shape tile_from b modes.now p
 next_is shape tile_from b modes p = λ i m r.
-    put_residue (zero_plus (coded_width shape p) i) (zero_plus (coded_height shape p) i) shape.depth (intra_at shape tile_from b modes p r.0) r.1 m
+    put_residue (zero_plus (coded_width shape p) i) (zero_plus (coded_height shape p) i) shape.depth (intra_at shape tile_from b modes.now p r.0) r.1 m
 
-pub put_is : (shape : Shape) (tile_from : ℕ) (b : BlockInfo) (modes : IntraPrediction) (p : Plane) (a : Area) (cb : PlaneBlock) (coded : CodedBlock) (ats : List (ℕ × ℕ))
+pub put_is : (shape : Shape) (tile_from : ℕ) (b : BlockInfo) (modes : Bor IntraPrediction) (p : Plane) (a : Area) (cb : PlaneBlock) (coded : CodedBlock) (ats : List (ℕ × ℕ))
     (r : PlaneResidues) (old new : Map) → a ≡ coded_area shape p → cb ≡ plane_block shape b p → coded ≡ coded_block tile_from cb → ats ≡ places_in shape b p
     → new ≡ fold (put_more a (in_plane shape b modes p cb.tx coded)) old (held ats (area cb.tx) r)
-    → new ≡ put_intra shape tile_from b modes p (held_in shape b p r) old
+    → new ≡ put_intra shape tile_from b modes.now p (held_in shape b p r) old
 unfolding put_intra
 put_is shape tile_from b modes p a cb coded ats r old new whole is at places put =
     let coded_is : coded ≡ coded_block tile_from (plane_block shape b p) = at ∙ ap (λ (c : PlaneBlock). coded_block tile_from c) is in

@@ -44,7 +44,7 @@ pub record IsPlaneOf (shape : Shape) (p : Plane) (s : PlaneSamples) : Type 0 whe
 
 -- the transform block at a row and column of an intra block in a plane
 abbrev pub block_at : IntraInPlane → ℕ × ℕ → IntraBlock
-block_at b at = record { place = place_in b.coded at.0 at.1; size = b.tx; mode = mode_at b.modes b.size b.plane at.0 at.1 }
+block_at b at = record { place = place_in b.coded at.0 at.1; size = b.tx; mode = mode_at b.modes.now b.size b.plane at.0 at.1 }
 
 -- one more is put into an area
 abbrev pub put_more : Area → IntraInPlane → Map → (ℕ × ℕ) × Residue → Map

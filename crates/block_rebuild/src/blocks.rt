@@ -39,10 +39,10 @@ pub fn put_block<S: Samples>(
     match block.prediction {
         Prediction::Intra(modes) => {
             let b = IntraCoded {
-                shape: by.shape,
+                shape: &by.shape,
                 tile_from,
-                block: *block,
-                modes,
+                block,
+                modes: &modes,
             };
             put_in_plane(&mut planes.y, &b, Plane::Y, &residues.y, &mut room.intra);
             put_in_plane(&mut planes.u, &b, Plane::U, &residues.u, &mut room.intra);

@@ -19,29 +19,29 @@ ghost use Rattle.block_rebuild.specs.Code.{IsPlaced, IsPlaneOf, block_at, put_mo
 
 use block_geometry::{FramePlaces, PlaneBlock, TransformGrid, transform_grid, width_8};
 use block_plan::{BlockInfo, IntraPrediction, PlaneResidues, mode_at, plane_block};
-use intra_predict::{CodedBlock, IntraBlock, Scratch, place_of, put_predicted, put_rebuilt};
+use intra_predict::{CodedBlock, IntraBlock, Scratch, place_of, put_transform_block};
 use planes::SamplePlane;
 use vp9_tables::area_of;
 use vp9_types::{BlockSize, Depth, Plane, Shape, TxSize};
 
 /// An intra block of a frame of this shape, in a tile whose columns begin at `tile_from`.
-#[derive(Clone, Copy, Debug, PartialEq, Eq)]
-pub(crate) struct IntraCoded {
-    pub shape: Shape,
+#[derive(Clone, Copy)]
+pub(crate) struct IntraCoded<'a> {
+    pub shape: &'a Shape,
     pub tile_from: u32,
-    pub block: BlockInfo,
-    pub modes: IntraPrediction,
+    pub block: &'a BlockInfo,
+    pub modes: &'a IntraPrediction,
 }
 
 /// An intra block in a plane: what its transform blocks share.
-#[derive(Clone, Copy, Debug, PartialEq, Eq)]
-pub struct IntraInPlane {
+#[derive(Clone, Copy)]
+pub struct IntraInPlane<'a> {
     pub plane: Plane,
     pub depth: Depth,
     pub size: BlockSize,
     pub tx: TxSize,
     pub coded: CodedBlock,
-    pub modes: IntraPrediction,
+    pub modes: &'a IntraPrediction,
 }
 
 fn coded_block(tile_from: u32, block: &PlaneBlock) -> CodedBlock
@@ -58,7 +58,7 @@ fn coded_block(tile_from: u32, block: &PlaneBlock) -> CodedBlock
 }
 
 /// The transform block at a row and column, in 4s.
-fn block_at(b: &IntraInPlane, at: (usize, usize)) -> IntraBlock
+fn block_at(b: &IntraInPlane<'_>, at: (usize, usize)) -> IntraBlock
     requires low { b.now.coded.row ≤ 8192 }
     requires near { b.now.coded.column + b.now.coded.columns ≤ 65536 }
     requires tile { b.now.coded.tile_column ≤ b.now.coded.column }
@@ -70,7 +70,7 @@ fn block_at(b: &IntraInPlane, at: (usize, usize)) -> IntraBlock
     IntraBlock {
         place: place_of(&b.coded, y, x),
         size: b.tx,
-        mode: mode_at(&b.modes, b.size, b.plane, y, x),
+        mode: mode_at(b.modes, b.size, b.plane, y, x),
     }
 }
 
@@ -104,17 +104,14 @@ fn put_residue(
     ensures area { samples.new.area ≡ samples.old.area }
     ensures range { IsAtMost (greatest depth) (plane_map samples.new) }
 {
-    if some {
-        put_rebuilt(samples, block, depth, values, scratch);
-    } else {
-        put_predicted(samples, block, depth, scratch);
-    }
+    let residue = if some { Some(values) } else { None };
+    put_transform_block(samples, block, depth, residue, scratch);
 }
 
 /// Puts all transform blocks of a block into its plane.
 fn put_residues(
     samples: &mut SamplePlane,
-    b: &IntraInPlane,
+    b: &IntraInPlane<'_>,
     grid: &TransformGrid,
     residues: &PlaneResidues,
     scratch: &mut Scratch,
@@ -150,20 +147,20 @@ fn put_residues(
 /// Puts an intra block into a plane.
 pub(crate) fn put_in_plane(
     samples: &mut SamplePlane,
-    b: &IntraCoded,
+    b: &IntraCoded<'_>,
     plane: Plane,
     residues: &PlaneResidues,
     scratch: &mut Scratch,
 )
-    requires size { HasFrameSize b.now.shape }
-    requires placed { IsPlaced b.now.shape b.now.tile_from b.now.block }
-    requires is { IsPlaneOf b.now.shape plane samples.old }
-    requires small { AreSmall (held_in b.now.shape b.now.block plane residues.now) }
-    ensures map { plane_map samples.new ≡ put_intra b.now.shape b.now.tile_from b.now.block b.now.modes plane (held_in b.now.shape b.now.block plane residues.now) (plane_map samples.old) }
-    ensures is { IsPlaneOf b.now.shape plane samples.new }
+    requires size { HasFrameSize b.now.shape.now }
+    requires placed { IsPlaced b.now.shape.now b.now.tile_from b.now.block.now }
+    requires is { IsPlaneOf b.now.shape.now plane samples.old }
+    requires small { AreSmall (held_in b.now.shape.now b.now.block.now plane residues.now) }
+    ensures map { plane_map samples.new ≡ put_intra b.now.shape.now b.now.tile_from b.now.block.now b.now.modes.now plane (held_in b.now.shape.now b.now.block.now plane residues.now) (plane_map samples.old) }
+    ensures is { IsPlaneOf b.now.shape.now plane samples.new }
 {
-    let block = plane_block(&b.shape, &b.block, plane);
-    let grid = transform_grid(places_of(&b.shape), block);
+    let block = plane_block(b.shape, b.block, plane);
+    let grid = transform_grid(places_of(b.shape), block);
     let in_plane = IntraInPlane {
         plane,
         depth: b.shape.depth,

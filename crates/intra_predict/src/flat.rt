@@ -4,7 +4,7 @@ ghost use Rattle.std.specs.Prelude.{◌≡◌, ℕ, ◌+◌, ◌-◌, ◌*◌, �
 ghost use Rattle.vp9_types.specs.Maps.{Holds};
 ghost use Rattle.intra_predict.specs.Modes.{vertical, horizontal, true_motion, rounded_mean};
 
-use crate::lines::{extend, fill_from};
+use crate::lines::{copy_lanes, fill_from};
 use crate::rows::rows_forward;
 
 /// One value at each place.
@@ -18,13 +18,13 @@ pub(crate) fn predict_value(block: &mut [u16], size: usize, value: u16)
 }
 
 #[inline(always)]
-pub(crate) fn predict_v(block: &mut [u16], size: usize, above: &[u16])
-    requires few { size ≤ 32 }
-    requires room { length block.old ≡ size * size }
-    requires enough { size ≤ length above.now }
-    ensures { Holds block.new size (vertical above.now) }
+pub(crate) fn predict_v<const N: usize>(block: &mut [u16], above: &[u16])
+    requires few { N ≤ 32 }
+    requires room { length block.old ≡ N * N }
+    requires enough { N ≤ length above.now }
+    ensures { Holds block.new N (vertical above.now) }
 {
-    rows_forward(block, size, above, 0);
+    rows_forward::<N>(block, above, 0);
 }
 
 #[inline(always)]
@@ -41,28 +41,27 @@ pub(crate) fn predict_h(block: &mut [u16], size: usize, left: &[u16])
 }
 
 #[inline(always)]
-pub(crate) fn predict_tm(
+pub(crate) fn predict_tm<const N: usize>(
     block: &mut [u16],
-    size: usize,
     most: u16,
     above: &[u16],
     left: &[u16],
     corner: u16,
 )
-    requires some { 1 ≤ size }
-    requires few { size ≤ 32 }
-    requires room { length block.old ≡ size * size }
-    requires above { size ≤ length above.now }
-    requires left { size ≤ length left.now }
+    requires some { 1 ≤ N }
+    requires few { N ≤ 32 }
+    requires room { length block.old ≡ N * N }
+    requires above { N ≤ length above.now }
+    requires left { N ≤ length left.now }
     requires small_above { (k : ℕ) → slice_index above.now k ≤ 4095 }
     requires small_left { (k : ℕ) → slice_index left.now k ≤ 4095 }
-    ensures { Holds block.new size (true_motion most above.now left.now corner) }
+    ensures { Holds block.new N (true_motion most above.now left.now corner) }
 {
     // A copy, since what is read by reference might be what is written.
     let mut line = [0; 32];
-    extend(&mut line, size, &above[..size]);
-    for i in 0..size {
-        true_motion_row(block, i * size, size, most, &line, left[i], corner);
+    copy_lanes::<N>(&mut line[..N], &above[..N]);
+    for i in 0..N {
+        true_motion_row(block, i * N, N, most, &line, left[i], corner);
     }
 }
 

@@ -31,4 +31,4 @@ pub use put::{add_residue, put_block};
 pub use reading::read_edges;
 pub use scratch::Scratch;
 pub use sizes::side_of;
-pub use steps::{put_predicted, put_rebuilt};
+pub use steps::{put_predicted, put_rebuilt, put_transform_block};

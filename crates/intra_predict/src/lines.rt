@@ -3,6 +3,8 @@
 ghost use Rattle.std.specs.Prelude.{◌≡◌, ℕ, ◌+◌, ◌-◌, ◌*◌, ◌/◌, ◌%◌, ◌<◌, ◌≤◌, ◌∷◌, length, min, slice_index, nat_eq, if◌then◌else◌};
 ghost use Rattle.intra_predict.specs.Modes.{mean2, mean3, mean2_at, mean3_at};
 
+use std::simd::Simd;
+
 fn mean_of_two(x: u16, y: u16) -> u16
     requires x { x ≤ 4095 }
     requires y { y ≤ 4095 }
@@ -20,6 +22,30 @@ fn mean_of_three(x: u16, y: u16, z: u16) -> u16
     (x + 2 * y + z + 2) >> 2
 }
 
+/// N samples copied as one vector, since what is read by reference might be what is written.
+#[inline(always)]
+pub(crate) fn copy_lanes<const N: usize>(to: &mut [u16], from: &[u16])
+    requires few { N ≤ 64 }
+    requires room { length to.old ≡ N }
+    requires enough { length from.now ≡ N }
+    ensures { to.new ≡ from.now }
+{
+    let samples: Simd<u16, N> = Simd::from_slice(from);
+    samples.copy_to_slice(to);
+}
+
+/// Twice N samples copied to the front of a line.
+#[inline(always)]
+pub(crate) fn copy_twice<const N: usize>(line: &mut [u16], from: &[u16])
+    requires few { N ≤ 64 }
+    requires long { length from.now ≡ 2 * N }
+    requires room { 2 * N ≤ length line.old }
+    ensures { (k : ℕ) → k < 2 * N → slice_index line.new k ≡ slice_index from.now k }
+{
+    copy_lanes::<N>(&mut line[..N], &from[..N]);
+    copy_lanes::<N>(&mut line[N..2 * N], &from[N..]);
+}
+
 /// The front of a line, whose last sample is then repeated up to n samples.
 #[inline(always)]
 pub(crate) fn extend(line: &mut [u16], n: usize, front: &[u16])
@@ -31,6 +57,20 @@ pub(crate) fn extend(line: &mut [u16], n: usize, front: &[u16])
     let count = front.len();
     line[..count].copy_from_slice(front);
     fill_from(line, count, n, front[count - 1]);
+}
+
+/// As `extend`, where N samples are in front.
+#[inline(always)]
+pub(crate) fn extend_lanes<const N: usize>(line: &mut [u16], n: usize, front: &[u16])
+    requires some { 0 < N }
+    requires few { N ≤ 64 }
+    requires long { length front.now ≡ N }
+    requires fits { N ≤ n }
+    requires room { n ≤ length line.old }
+    ensures { (k : ℕ) → k < n → slice_index line.new k ≡ slice_index front.now (min k (N - 1)) }
+{
+    copy_lanes::<N>(&mut line[..N], front);
+    fill_from(line, N, n, front[N - 1]);
 }
 
 /// One value from place `from` up to `to`.
@@ -48,20 +88,21 @@ pub(crate) fn fill_from(line: &mut [u16], from: usize, to: usize, value: u16)
 
 /// The left samples from below upwards, the corner, and the samples above.
 #[inline(always)]
-pub(crate) fn join(line: &mut [u16], size: usize, left: &[u16], corner: u16, above: &[u16])
-    requires room { 2 * size < length line.old }
-    requires left { size ≤ length left.now }
-    requires above { size ≤ length above.now }
+pub(crate) fn join<const N: usize>(line: &mut [u16], left: &[u16], corner: u16, above: &[u16])
+    requires few { N ≤ 64 }
+    requires room { 2 * N < length line.old }
+    requires left { N ≤ length left.now }
+    requires above { N ≤ length above.now }
     requires small_left { (k : ℕ) → slice_index left.now k ≤ 4095 }
     requires small_corner { corner ≤ 4095 }
     requires small_above { (k : ℕ) → slice_index above.now k ≤ 4095 }
-    ensures small { (k : ℕ) → k < 2 * size + 1 → slice_index line.new k ≤ 4095 }
-    ensures down { (k : ℕ) → k ≤ size → slice_index line.new (size - k) ≡ slice_index (corner ∷ left.now) k }
-    ensures up { (k : ℕ) → k ≤ size → slice_index line.new (size + k) ≡ slice_index (corner ∷ above.now) k }
+    ensures small { (k : ℕ) → k < 2 * N + 1 → slice_index line.new k ≤ 4095 }
+    ensures down { (k : ℕ) → k ≤ N → slice_index line.new (N - k) ≡ slice_index (corner ∷ left.now) k }
+    ensures up { (k : ℕ) → k ≤ N → slice_index line.new (N + k) ≡ slice_index (corner ∷ above.now) k }
 {
-    line[size] = corner;
-    line[size + 1..size + 1 + size].copy_from_slice(&above[..size]);
-    reverse_into(line, size, left);
+    line[N] = corner;
+    copy_lanes::<N>(&mut line[N + 1..N + 1 + N], &above[..N]);
+    reverse_into(line, N, left);
 }
 
 /// The first n samples of a line, backwards.

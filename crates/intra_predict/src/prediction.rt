@@ -21,43 +21,42 @@ pub fn predict(mode: IntraMode, edges: &Edges, size: TxSize, depth: Depth, block
 {
     // A call for each size, so that the loops have numbers of steps that are known.
     match size {
-        TxSize::T4x4 => predict_sized(mode, edges, 4, depth, block),
-        TxSize::T8x8 => predict_sized(mode, edges, 8, depth, block),
-        TxSize::T16x16 => predict_sized(mode, edges, 16, depth, block),
-        TxSize::T32x32 => predict_sized(mode, edges, 32, depth, block),
+        TxSize::T4x4 => predict_sized::<4>(mode, edges, depth, block),
+        TxSize::T8x8 => predict_sized::<8>(mode, edges, depth, block),
+        TxSize::T16x16 => predict_sized::<16>(mode, edges, depth, block),
+        TxSize::T32x32 => predict_sized::<32>(mode, edges, depth, block),
     }
 }
 
 #[inline(always)]
 #[tactic(auto, unfolding(crate::specs::Modes::predicted))]
-pub(crate) fn predict_sized(
+pub(crate) fn predict_sized<const N: usize>(
     mode: IntraMode,
     edges: &Edges,
-    size: usize,
     depth: Depth,
     block: &mut [u16],
 )
-    requires some { 4 ≤ size }
-    requires few { size ≤ 32 }
-    requires twos { size ≡ 2 * (size / 2) }
-    requires small { IsUpTo (greatest depth) (samples_of size edges.now) }
-    requires room { length block.old ≡ size * size }
-    ensures { Holds block.new size (predicted mode size depth (samples_of size edges.now)) }
+    requires some { 4 ≤ N }
+    requires few { N ≤ 32 }
+    requires twos { N ≡ 2 * (N / 2) }
+    requires small { IsUpTo (greatest depth) (samples_of N edges.now) }
+    requires room { length block.old ≡ N * N }
+    ensures { Holds block.new N (predicted mode N depth (samples_of N edges.now)) }
 {
-    let above = &edges.above[..2 * size];
-    let left = &edges.left[..size];
+    let above = &edges.above[..2 * N];
+    let left = &edges.left[..N];
     let corner = edges.corner;
     match mode {
-        IntraMode::Dc => predict_value(block, size, mean_of_edges(edges, size, depth)),
-        IntraMode::V => predict_v(block, size, above),
-        IntraMode::H => predict_h(block, size, left),
-        IntraMode::D45 => predict_d45(block, size, above),
-        IntraMode::D135 => predict_d135(block, size, above, left, corner),
-        IntraMode::D117 => predict_d117(block, size, above, left, corner),
-        IntraMode::D153 => predict_d153(block, size, above, left, corner),
-        IntraMode::D207 => predict_d207(block, size, left),
-        IntraMode::D63 => predict_d63(block, size, above),
-        IntraMode::Tm => predict_tm(block, size, depth.greatest(), above, left, corner),
+        IntraMode::Dc => predict_value(block, N, mean_of_edges(edges, N, depth)),
+        IntraMode::V => predict_v::<N>(block, above),
+        IntraMode::H => predict_h(block, N, left),
+        IntraMode::D45 => predict_d45::<N>(block, above),
+        IntraMode::D135 => predict_d135::<N>(block, above, left, corner),
+        IntraMode::D117 => predict_d117::<N>(block, above, left, corner),
+        IntraMode::D153 => predict_d153::<N>(block, above, left, corner),
+        IntraMode::D207 => predict_d207::<N>(block, left),
+        IntraMode::D63 => predict_d63::<N>(block, above),
+        IntraMode::Tm => predict_tm::<N>(block, depth.greatest(), above, left, corner),
     }
 }
 

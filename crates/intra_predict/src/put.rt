@@ -69,13 +69,7 @@ fn sum_up(sums: &mut [u16], samples: &[u16], residue: &[i32], most: u16)
 fn clipped(sum: i32, most: u16) -> u16
     ensures { result ≡ clip most sum }
 {
-    if sum < 0 {
-        0
-    } else if sum > i32::from(most) {
-        most
-    } else {
-        sum as u16
-    }
+    sum.max(0).min(i32::from(most)) as u16
 }
 
 /// Puts a block at a row and column of a plane. What lies below or right of the plane is left out.

@@ -7,7 +7,7 @@ ghost use Rattle.planes.specs.Planes.{lower_end, right_end, plane_map};
 ghost use Rattle.intra_predict.specs.Edges.{LiesIn, samples_of, edges_in, above_sample, left_sample, corner_sample, reads_right, IsUpTo};
 
 use crate::edges::Edges;
-use crate::lines::{extend, fill_from};
+use crate::lines::{copy_twice, extend, extend_lanes, fill_from};
 use crate::place::Place;
 use crate::sizes::middle_of;
 use planes::SamplePlane;
@@ -22,57 +22,59 @@ pub fn read_edges(edges: &mut Edges, plane: &SamplePlane, place: &Place, size: T
     ensures small { IsAtMost (greatest depth) (plane_map plane.now) → IsUpTo (greatest depth) (samples_of (side size) edges.new) }
 {
     match size {
-        TxSize::T4x4 => read_sized(edges, plane, place, 4, depth),
-        TxSize::T8x8 => read_sized(edges, plane, place, 8, depth),
-        TxSize::T16x16 => read_sized(edges, plane, place, 16, depth),
-        TxSize::T32x32 => read_sized(edges, plane, place, 32, depth),
+        TxSize::T4x4 => read_sized::<4>(edges, plane, place, depth),
+        TxSize::T8x8 => read_sized::<8>(edges, plane, place, depth),
+        TxSize::T16x16 => read_sized::<16>(edges, plane, place, depth),
+        TxSize::T32x32 => read_sized::<32>(edges, plane, place, depth),
     }
 }
 
 #[inline(always)]
-pub(crate) fn read_sized(
+pub(crate) fn read_sized<const N: usize>(
     edges: &mut Edges,
     plane: &SamplePlane,
     place: &Place,
-    size: usize,
     depth: Depth,
 )
-    requires some { 4 ≤ size }
-    requires few { size ≤ 32 }
+    requires some { 4 ≤ N }
+    requires few { N ≤ 32 }
     requires inside { LiesIn plane.now.area place.now }
-    ensures { samples_of size edges.new
-        ≡ edges_in (right_end plane.now.area) (lower_end plane.now.area) depth size place.now (plane_map plane.now) }
+    ensures { samples_of N edges.new
+        ≡ edges_in (right_end plane.now.area) (lower_end plane.now.area) depth N place.now (plane_map plane.now) }
 {
-    read_above(&mut edges.above, plane, place, size, depth);
-    read_left(&mut edges.left, plane, place, size, depth);
+    read_above::<N>(&mut edges.above, plane, place, depth);
+    read_left(&mut edges.left, plane, place, N, depth);
     edges.corner = read_corner(plane, place, depth);
     edges.has_above = place.row > 0;
     edges.has_left = place.column > place.tile_from;
 }
 
 #[inline(always)]
-fn read_above(above: &mut [u16], plane: &SamplePlane, place: &Place, size: usize, depth: Depth)
-    requires some { 4 ≤ size }
-    requires few { size ≤ 32 }
-    requires room { 2 * size ≤ length above.old }
+fn read_above<const N: usize>(above: &mut [u16], plane: &SamplePlane, place: &Place, depth: Depth)
+    requires some { 4 ≤ N }
+    requires few { N ≤ 32 }
+    requires room { 2 * N ≤ length above.old }
     requires inside { LiesIn plane.now.area place.now }
-    ensures { (j : ℕ) → j < 2 * size →
-        slice_index above.new j ≡ above_sample (right_end plane.now.area) depth size place.now (plane_map plane.now) j }
+    ensures { (j : ℕ) → j < 2 * N →
+        slice_index above.new j ≡ above_sample (right_end plane.now.area) depth N place.now (plane_map plane.now) j }
 {
     if place.row == 0 {
-        fill_from(above, 0, 2 * size, middle_of(depth) - 1);
+        fill_from(above, 0, 2 * N, middle_of(depth) - 1);
         return;
     }
     let across = plane.area().right_end() - place.column;
-    let count = wanted(place, size).min(across);
-    let row = place.row - 1;
+    let count = wanted(place, N).min(across);
     // The numbers of samples that are frequent are then known where this is compiled.
-    if count == size {
-        extend(above, 2 * size, plane.row(row, place.column, size));
-    } else if count == 2 * size {
-        extend(above, 2 * size, plane.row(row, place.column, 2 * size));
+    if count == N {
+        extend_lanes::<N>(above, 2 * N, plane.row_above(place.row, place.column, N));
+    } else if across >= 2 * N {
+        copy_twice::<N>(above, plane.row_above(place.row, place.column, 2 * N));
     } else {
-        extend(above, 2 * size, plane.row(row, place.column, count));
+        extend(
+            above,
+            2 * N,
+            plane.row_above(place.row, place.column, count),
+        );
     }
 }
 
@@ -124,5 +126,5 @@ fn read_corner(plane: &SamplePlane, place: &Place, depth: Depth) -> u16
     if place.column <= place.tile_from {
         return middle_of(depth) + 1;
     }
-    plane.sample(place.row - 1, place.column - 1)
+    plane.row_above(place.row, place.column - 1, 1)[0]
 }

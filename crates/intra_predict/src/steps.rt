@@ -33,12 +33,7 @@ pub fn put_predicted(
         ≡ with_predicted (right_end plane.old.area) (lower_end plane.old.area) depth block.now (plane_map plane.old) }
     ensures small { IsAtMost (greatest depth) (plane_map plane.new) }
 {
-    match block.size {
-        TxSize::T4x4 => put_sized::<4>(plane, block, depth, None, scratch),
-        TxSize::T8x8 => put_sized::<8>(plane, block, depth, None, scratch),
-        TxSize::T16x16 => put_sized::<16>(plane, block, depth, None, scratch),
-        TxSize::T32x32 => put_sized::<32>(plane, block, depth, None, scratch),
-    }
+    put_transform_block(plane, block, depth, None, scratch);
 }
 
 /// Puts a block with its residue, row after row, into its plane.
@@ -57,11 +52,65 @@ pub fn put_rebuilt(
         ≡ with_rebuilt (right_end plane.old.area) (lower_end plane.old.area) depth block.now residue.now (plane_map plane.old) }
     ensures small { IsAtMost (greatest depth) (plane_map plane.new) }
 {
+    put_transform_block(plane, block, depth, Some(residue), scratch);
+}
+
+/// Puts a block, with its residue if it has some, into its plane.
+#[inline(always)]
+pub fn put_transform_block(
+    plane: &mut SamplePlane,
+    block: &IntraBlock,
+    depth: Depth,
+    residue: Option<&[i32]>,
+    scratch: &mut Scratch,
+)
+    requires inside { LiesIn plane.old.area block.now.place }
+    requires small { IsAtMost (greatest depth) (plane_map plane.old) }
+    requires residue { ForSome (option_copied residue) (IsResidue (side block.now.size * side block.now.size)) }
+    ensures area { plane.new.area ≡ plane.old.area }
+    ensures map { plane_map plane.new ≡ with_square (right_end plane.old.area) (lower_end plane.old.area) (plane_map plane.old)
+        block.now.place.row block.now.place.column (side block.now.size) (with_any_residue depth (side block.now.size)
+        (prediction (right_end plane.old.area) (lower_end plane.old.area) depth block.now (plane_map plane.old)) (option_copied residue.entry)) }
+    ensures small { IsAtMost (greatest depth) (plane_map plane.new) }
+{
     match block.size {
-        TxSize::T4x4 => put_sized::<4>(plane, block, depth, Some(residue), scratch),
-        TxSize::T8x8 => put_sized::<8>(plane, block, depth, Some(residue), scratch),
-        TxSize::T16x16 => put_sized::<16>(plane, block, depth, Some(residue), scratch),
-        TxSize::T32x32 => put_sized::<32>(plane, block, depth, Some(residue), scratch),
+        TxSize::T4x4 => put_four(plane, block, depth, residue, scratch),
+        TxSize::T8x8 => put_sized::<8>(plane, block, depth, residue, scratch),
+        TxSize::T16x16 => put_sized::<16>(plane, block, depth, residue, scratch),
+        TxSize::T32x32 => put_sized::<32>(plane, block, depth, residue, scratch),
+    }
+}
+
+/// A 4x4 block. Far enough from the plane's ends its samples go by way of nothing that is kept, which costs less.
+fn put_four(
+    plane: &mut SamplePlane,
+    block: &IntraBlock,
+    depth: Depth,
+    residue: Option<&[i32]>,
+    scratch: &mut Scratch,
+)
+    requires size { side block.now.size ≡ 4 }
+    requires inside { LiesIn plane.old.area block.now.place }
+    requires small { IsAtMost (greatest depth) (plane_map plane.old) }
+    requires residue { ForSome (option_copied residue) (IsResidue 16) }
+    ensures area { plane.new.area ≡ plane.old.area }
+    ensures map { plane_map plane.new ≡ with_square (right_end plane.old.area) (lower_end plane.old.area) (plane_map plane.old)
+        block.now.place.row block.now.place.column 4 (with_any_residue depth 4
+        (prediction (right_end plane.old.area) (lower_end plane.old.area) depth block.now (plane_map plane.old)) (option_copied residue.entry)) }
+    ensures small { IsAtMost (greatest depth) (plane_map plane.new) }
+{
+    let place = block.place;
+    let area = plane.area();
+    let rows = area.lower_end() - place.row;
+    let columns = area.right_end() - place.column;
+    if rows >= 4 && columns >= 8 {
+        let mut edges = Edges::new();
+        let mut buffer = [0; 16];
+        read_sized::<4>(&mut edges, plane, &place, depth);
+        rebuild::<4>(block.mode, &edges, depth, residue, &mut buffer);
+        plane.put_inside::<4>(place.row, place.column, 4, &buffer);
+    } else {
+        put_sized::<4>(plane, block, depth, residue, scratch);
     }
 }
 
@@ -86,41 +135,34 @@ fn put_sized<const N: usize>(
     ensures small { IsAtMost (greatest depth) (plane_map plane.new) }
 {
     let place = &block.place;
-    read_sized(&mut scratch.edges, plane, place, N, depth);
-    rebuild(
-        block.mode,
-        &scratch.edges,
-        N,
-        depth,
-        residue,
-        &mut scratch.block,
-    );
-    plane.put_square::<N>(place.row, place.column, &scratch.block);
+    let buffer = &mut scratch.block;
+    read_sized::<N>(&mut scratch.edges, plane, place, depth);
+    rebuild::<N>(block.mode, &scratch.edges, depth, residue, buffer);
+    plane.put_square::<N>(place.row, place.column, buffer);
 }
 
 /// Predicts a block, and adds its residue if it has some. What is behind it in the buffer stays.
 #[inline(always)]
-fn rebuild(
+fn rebuild<const N: usize>(
     mode: IntraMode,
     edges: &Edges,
-    size: usize,
     depth: Depth,
     residue: Option<&[i32]>,
     buffer: &mut [u16],
 )
-    requires some { 4 ≤ size }
-    requires few { size ≤ 32 }
-    requires twos { size ≡ 2 * (size / 2) }
-    requires sixteens { size * size ≡ size * size / 16 * 16 }
-    requires small { IsUpTo (greatest depth) (samples_of size edges.now) }
-    requires residue { ForSome (option_copied residue) (IsResidue (size * size)) }
-    requires room { size * size ≤ length buffer.old }
-    ensures values { Holds buffer.new size (with_any_residue depth size (predicted mode size depth (samples_of size edges.now)) (option_copied residue.entry)) }
-    ensures behind { (k : ℕ) → size * size ≤ k → slice_index buffer.new k ≡ slice_index buffer.old k }
+    requires some { 4 ≤ N }
+    requires few { N ≤ 32 }
+    requires twos { N ≡ 2 * (N / 2) }
+    requires sixteens { N * N ≡ N * N / 16 * 16 }
+    requires small { IsUpTo (greatest depth) (samples_of N edges.now) }
+    requires residue { ForSome (option_copied residue) (IsResidue (N * N)) }
+    requires room { N * N ≤ length buffer.old }
+    ensures values { Holds buffer.new N (with_any_residue depth N (predicted mode N depth (samples_of N edges.now)) (option_copied residue.entry)) }
+    ensures behind { (k : ℕ) → N * N ≤ k → slice_index buffer.new k ≡ slice_index buffer.old k }
 {
-    let samples = &mut buffer[..size * size];
-    predict_sized(mode, edges, size, depth, samples);
+    let samples = &mut buffer[..N * N];
+    predict_sized::<N>(mode, edges, depth, samples);
     if let Some(residue) = residue {
-        add_clipped(samples, residue, size * size, depth.greatest());
+        add_clipped(samples, residue, N * N, depth.greatest());
     }
 }

@@ -51,6 +51,13 @@ row_fits a row column n long inside whole =
     let high = next a.columns (row - a.first_row) a.rows (omega (arith, inside.above, inside.below)) in
     omega (arith, inside.left, inside.right)
 
+-- a row further up
+pub some_row : (a : Area) (row column : ℕ) → a.first_row < row → a.columns ≤ place_in a row column
+some_row a row column below = let more : row - a.first_row ≡ (row - 1 - a.first_row) + 1 = omega (arith, below) in rw more (omega arith)
+
+pub row_up : (a : Area) (row column : ℕ) → a.first_row < row → place_in a row column - a.columns ≡ place_in a (row - 1) column
+row_up a row column below = let more : row - a.first_row ≡ (row - 1 - a.first_row) + 1 = omega (arith, below) in rw more (omega arith)
+
 part_at : (at n : ℕ) (xs : List ℕ) (k : ℕ) → k < n → get_or (take (at + n - at) (drop at xs)) k 0 ≡ get_or xs (at + k) 0
 part_at at n xs k low = rw (add-sub_left, get_or-take, get_or-drop) refl
 

@@ -1,4 +1,4 @@
-ghost use Rattle.std.specs.Prelude.{◌≡◌};
+ghost use Rattle.std.specs.Prelude.{◌≡◌, ◌<◌, ◌-◌};
 
 /// Rows and columns of a frame's plane, counted in its samples.
 #[derive(Clone, Copy, Debug, PartialEq, Eq)]
@@ -51,5 +51,17 @@ impl Area {
         ensures { result ≡ place_in self.now row column }
     {
         (row - self.first_row) * self.columns + (column - self.first_column)
+    }
+
+    /// As `place_of`, in the row above. It takes the same product, so that both need it once.
+    #[inline(always)]
+    #[tactic(auto, using(crate::proofs::PlaneLemmas::row_up, crate::proofs::PlaneLemmas::some_row))]
+    pub(crate) fn place_above(&self, row: usize, column: usize) -> usize
+        requires area { IsArea self.now }
+        requires inside { StartsIn self.now row column }
+        requires below { self.now.first_row < row }
+        ensures { result ≡ place_in self.now (row - 1) column }
+    {
+        self.place_of(row, column) - self.columns
     }
 }

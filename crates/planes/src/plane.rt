@@ -76,6 +76,19 @@ impl SamplePlane {
         &self.samples[at..at + count]
     }
 
+    /// As `row`, of the row above.
+    #[inline(always)]
+    #[tactic(auto, using(crate::proofs::PlaneLemmas::row_fits, crate::proofs::PlaneLemmas::row_is))]
+    pub fn row_above(&self, row: usize, column: usize, count: usize) -> &[u16]
+        requires some { 0 < row }
+        requires inside { HasRow self.now.area (row - 1) column count }
+        ensures long { length result.now ≡ count }
+        ensures samples { (j : ℕ) → j < count → slice_index result.now j ≡ plane_map self.now (row - 1) (column + j) }
+    {
+        let from = self.area.place_above(row, column);
+        &self.samples[from..from + count]
+    }
+
     /// The sample at a row and column.
     #[inline(always)]
     #[tactic(auto, using(crate::proofs::PlaneLemmas::row_fits, crate::proofs::PlaneLemmas::sample_is))]
@@ -126,6 +139,35 @@ impl SamplePlane {
         copy_rows(&mut self.samples, area.columns, &to, block, columns);
     }
 
+    /// Puts rows of N samples at a row and column, all of them inside of the plane.
+    #[inline(always)]
+    pub fn put_inside<const N: usize>(
+        &mut self,
+        row: usize,
+        column: usize,
+        rows: usize,
+        block: &[u16],
+    )
+        requires inside { StartsIn self.old.area row column }
+        requires few { N ≤ 64 }
+        requires low { rows ≤ 64 }
+        requires below { row + rows ≤ lower_end self.old.area }
+        requires right { column + N ≤ right_end self.old.area }
+        requires whole { rows * N ≤ length block.now }
+        ensures area { self.new.area ≡ self.old.area }
+        ensures map { plane_map self.new ≡ with_part self.old.area (plane_map self.old) row column rows N (rows_of N block.now) }
+    {
+        let area = self.area;
+        copy_columns::<N>(
+            &mut self.samples,
+            area.columns,
+            row - area.first_row,
+            column - area.first_column,
+            rows,
+            block,
+        );
+    }
+
     /// Puts rows of N samples at a row and column, as `put_block` does.
     #[inline(always)]
     pub fn put_columns<const N: usize>(
@@ -144,14 +186,7 @@ impl SamplePlane {
     {
         let area = self.area;
         if rows <= area.lower_end() - row && N <= area.right_end() - column {
-            copy_columns::<N>(
-                &mut self.samples,
-                area.columns,
-                row - area.first_row,
-                column - area.first_column,
-                rows,
-                block,
-            );
+            self.put_inside::<N>(row, column, rows, block);
         } else {
             self.put_block(row, column, rows, N, block);
         }

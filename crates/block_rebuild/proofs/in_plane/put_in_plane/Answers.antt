@@ -7,21 +7,21 @@ use Rattle.block_rebuild.proofs.in_plane.put_in_plane.Goals as goal
 pub put_residues-requires-clause-inside : goal.put_residues-requires-clause-inside
 put_residues-requires-clause-inside c =
     let b = c.args.b.now in
-    let same : grid_blocks c.transform_grid-grid.result ≡ places_in b.shape b.block c.args.plane =
+    let same : grid_blocks c.transform_grid-grid.result ≡ places_in b.shape.now b.block.now c.args.plane =
     sym c.transform_grid-grid.ensures.blocks ∙ (λ i. transform_blocks (c.places_of.ensures.is i) (c.plane_block-block.ensures i)) in
-    rw (same, c.requires.is.area, c.coded_block.ensures, c.plane_block-block.ensures) (all_lie b.shape b.tile_from b.block c.args.plane)
+    rw (same, c.requires.is.area, c.coded_block.ensures, c.plane_block-block.ensures) (all_lie b.shape.now b.tile_from b.block.now c.args.plane)
 
 pub put_residues-requires-clause-small : goal.put_residues-requires-clause-small
 put_residues-requires-clause-small c =
     let b = c.args.b.now in
-    let same : grid_blocks c.transform_grid-grid.result ≡ places_in b.shape b.block c.args.plane =
+    let same : grid_blocks c.transform_grid-grid.result ≡ places_in b.shape.now b.block.now c.args.plane =
     sym c.transform_grid-grid.ensures.blocks ∙ (λ i. transform_blocks (c.places_of.ensures.is i) (c.plane_block-block.ensures i)) in
     rw (same, c.plane_block-block.ensures) c.requires.small
 
 pub returns-clause-map : goal.returns-clause-map
 returns-clause-map c =
     let b = c.args.b.now in
-    let same : grid_blocks c.transform_grid-grid.result ≡ places_in b.shape b.block c.args.plane =
+    let same : grid_blocks c.transform_grid-grid.result ≡ places_in b.shape.now b.block.now c.args.plane =
     sym c.transform_grid-grid.ensures.blocks ∙ (λ i. transform_blocks (c.places_of.ensures.is i) (c.plane_block-block.ensures i)) in
-    put_is b.shape b.tile_from b.block b.modes c.args.plane c.args.samples.now.area c.plane_block-block.result c.coded_block.result (grid_blocks c.transform_grid-grid.result)
+    put_is b.shape.now b.tile_from b.block.now b.modes c.args.plane c.args.samples.now.area c.plane_block-block.result c.coded_block.result (grid_blocks c.transform_grid-grid.result)
     c.args.residues.now _ _ c.requires.is.area c.plane_block-block.ensures c.coded_block.ensures same c.put_residues.ensures.map

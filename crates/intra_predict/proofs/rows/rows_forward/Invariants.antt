@@ -3,4 +3,4 @@ use Rattle.vp9_types.specs.Maps.{HoldsRows}
 use Rattle.intra_predict.proofs.rows.rows_forward.Given as goal
 
 abbrev pub invariant-loop-i : goal.invariant-loop-i
-invariant-loop-i l = HoldsRows l.block l.size l.i (λ i j. get_or l.line (l.step * i + j) 0)
+invariant-loop-i g l = HoldsRows l.block g.row.N l.i (λ i j. get_or l.line (l.step * i + j) 0)
