@@ -183,6 +183,7 @@ def tail(bits, head):
         bits.f(1)
     head.tiled = log2 > 0 or rows > 0
     head.columns_log2, head.has_tile_rows = log2, rows > 0
+    head.length_at = bits.at
     length = bits.f(16)
     start = (bits.at + 7) >> 3
     head.compressed = bits.data[start : start + length]
@@ -202,7 +203,7 @@ def header(frame, slots):
     head = Head()
     head.kind = "Key"
     head.profile = profile
-    head.switchable = head.precise = False
+    head.switchable = head.precise = head.own_size = False
     head.colour = None
     head.biases = [0, 0, 0]
     not_key, head.shown, head.resilient = bits.f(1), bits.f(1), bits.f(1)
@@ -237,6 +238,7 @@ def header(frame, slots):
                     head.size = slots[k]
                     break
             else:
+                head.own_size = True
                 head.size = size(bits)
             render(bits)
             head.precise = bool(bits.f(1))
@@ -313,9 +315,9 @@ def updated_vector(coder, prob):
     return (coder.number(7) << 1) | 1 if coder.bool(252) else prob
 
 
-def read(head, lists):
+def read(head, lists, coder=None):
     """The transform mode, the reference mode, and the lists after the header."""
-    coder = Coder(head.compressed)
+    coder = coder or Coder(head.compressed)
     lists = [list(entries) for entries in lists]
 
     def update(name, at=0, count=None, how=updated):

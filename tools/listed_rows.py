@@ -1,6 +1,6 @@
 #!/usr/bin/env python3
-"""Writes what the tiles of worked rows say, block by block, for the tests of listed_streams, and prints a table of the tiles.
-`rt fmt` lays the two files out.
+"""Writes what the tiles of worked rows say, block by block, and the bytes that a writer makes of that, for the tests of
+listed_frames, and prints a table of the tiles. `rt fmt` lays the two files out.
 
 usage: tools/listed_rows.py FOLDER_OF_PLAIN_TABLES decode.tsv
 
@@ -8,7 +8,8 @@ Tiles are read by section 6.4 of the standard: modes by mode_rows.py and inter_r
 of token_vectors.py. Whether a level breaks rule 22 or 23, which ends its tile, is asked of residue_vectors.py. The bools of each
 tile are encoded again by token_vectors.py: its bytes are the least ones of a part of all numbers, and those of the row have to be the
 fewest that lie in it, with the byte of 0 that overflow_frames.py puts behind some. So a row's tile is the writer's, rounded up to so
-many bytes.
+many bytes. A frame is written with the header of the row, but for the size of its compressed header, and with as many bytes of each
+part as its bools take.
 """
 import csv
 import pathlib
@@ -17,7 +18,7 @@ import sys
 import candidate_rows
 import inter_rows
 import mode_rows
-from compressed_headers import frames, header, packets
+from compressed_headers import Coder, defaults, frames, header, packets, read
 from inter_rows import Broken
 from make_rows import byte_string, text
 from mode_rows import SIZES
@@ -25,7 +26,7 @@ from overflow_frames import ended
 from residue_vectors import Refused, residue
 from token_vectors import BANDS, CATEGORIES, PROBS, SCANS, TAIL, Encoder, class_of, neighbours, table, tail_prob
 
-FOLDER = pathlib.Path(__file__).resolve().parent.parent / "crates/listed_streams/src/tests"
+FOLDER = pathlib.Path(__file__).resolve().parent.parent / "crates/listed_frames/src/tests"
 NAMES = [
     "one key frame of 1x1",
     "one key frame of 8x8",
@@ -77,6 +78,21 @@ class Bools(mode_rows.Bools):
         for p, one in self.pairs[1:]:
             encoder.bool(p, one)
         return encoder
+
+
+class KeptCoder(Coder):
+    """Bools of a compressed header, encoded again. The marker comes first, and is the encoder's own."""
+
+    def __init__(self, data):
+        self.encoder = None
+        super().__init__(data)
+        self.encoder = Encoder()
+
+    def bool(self, p):
+        one = super().bool(p)
+        if self.encoder:
+            self.encoder.bool(p, one)
+        return one
 
 
 class Modes(inter_rows.Tile):
@@ -272,13 +288,24 @@ def comparison(given, encoder):
     return "the writer's, rounded up"
 
 
+def written_frame(data, head, written):
+    """A frame as a writer makes it: the header of `data`, and the bytes of the tiles."""
+    coder = KeptCoder(head.compressed)
+    read(head, defaults(sys.argv[1]), coder)
+    compressed = bytes(coder.encoder.finish())
+    length = len(data) - len(head.compressed) - len(head.tiles)
+    front = int.from_bytes(data[:length], "big") + (len(compressed) - len(head.compressed) << 8 * length - head.length_at - 16)
+    sized = b"".join(len(tile).to_bytes(4, "big") + tile for tile in written[:-1])
+    return ended(front.to_bytes(length, "big") + compressed + sized + written[-1])
+
+
 def read_row(row):
-    """The frames of a row: their bytes, and the partitions and blocks of their tiles."""
+    """The frames of a row: their bytes, those that a writer makes, whether the size is coded, and the partitions and blocks."""
     slots, colour = [None] * 8, None
     for number, data in enumerate(f for packet in packets(bytes.fromhex(row["input"])) for f in frames(packet)):
         head = header(data, slots)
         colour = head.colour or colour
-        partitions, blocks = [], []
+        partitions, blocks, written = [], [], []
         for place, (given, tile) in enumerate(tiles(head, colour)):
             encoder = tile.d.encoded()
             line = [row["name"], number, place, len(tile.d.pairs), len(given), len(encoder.finish()), comparison(given, encoder),
@@ -286,7 +313,8 @@ def read_row(row):
             print("|", " | ".join(map(str, line)), "|")
             partitions += tile.partitions
             blocks += tile.told
-        yield data, partitions, blocks
+            written.append(bytes(encoder.finish()))
+        yield data, written_frame(data, head, written), head.own_size, partitions, blocks
 
 
 def array(items):
@@ -339,7 +367,7 @@ class Source:
 
     def frame(self, frame, name):
         """A frame, of which a name's constants have the lists."""
-        data, partitions, blocks = frame
+        data, written, own_size, partitions, blocks = frame
         lists = [("Partition", "partitions", list(map(self.partition, partitions))), ("Told", "blocks", list(map(self.block, blocks)))]
         fields = []
         for kind, field, items in lists:
@@ -347,7 +375,8 @@ class Source:
             if name:
                 value = self.named(f"{name}_{field.upper()}", f"[{kind}; {len(items)}]", value)
             fields.append(f"{field}: &{value}")
-        return f"Frame {{ bytes: {byte_string(data)}, {', '.join(fields)} }}"
+        own = str(own_size).lower()
+        return f"Frame {{ bytes: {byte_string(data)}, written: {byte_string(written)}, own_size: {own}, {', '.join(fields)} }}"
 
     def row(self, name, frames, named):
         texts = [self.frame(frame, ORDINALS[number] if named else None) for number, frame in enumerate(frames)]

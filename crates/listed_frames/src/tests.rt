@@ -4,6 +4,7 @@ ghost use Rattle.std.specs.Prelude.{◌≡◌, None, Ok};
 ghost use Rattle.seq_decoder.specs.Code.{MayDecode};
 
 mod rows;
+mod rows_of_vectors;
 
 use crate::write_listed;
 use block_plan::{IntraPrediction, Mv, References};
@@ -16,6 +17,7 @@ use inter_modes::{BlockStart, SegmentOf};
 use inter_writer::{BlockSymbols, PredictionSymbols};
 use listed_symbols::{ListedBlock, ListedLevels, ListedSymbols};
 use rows::ROWS;
+use rows_of_vectors::ROWS_OF_VECTORS;
 use seq_decoder::Decoder;
 use std::alloc::{AllocError, Global};
 use std::test::Fail;
@@ -23,7 +25,7 @@ use stream_forge::CodedFrame;
 use vector_writer::InterSymbols;
 use vp9_types::{
     InterMode, InterpFilter, IntraMode, Modes, Outcome, Partition, ReferenceFrame, ReferenceMode,
-    Rule, Stop, TxMode, TxSize,
+    Rule, TxMode, TxSize,
 };
 
 /// A worked file: its coded frames, in order.
@@ -42,24 +44,21 @@ pub struct Frame {
     pub blocks: &'static [Told],
 }
 
-/// The levels of transform blocks in a plane.
-pub type PlaneLevels = &'static [&'static [i32]];
-
-/// What a block says. Differences are of the rows and columns of new vectors.
+/// What a block says: levels by plane and transform block; the row and the column of each difference.
 #[derive(Clone, Copy)]
 pub enum Told {
     Intra {
         skip: bool,
         luma: [IntraMode; 4],
         chroma: IntraMode,
-        levels: [PlaneLevels; 3],
+        levels: &'static [&'static [&'static [i32]]],
     },
     Inter {
         skip: bool,
         reference: ReferenceFrame,
         filter: InterpFilter,
         modes: [InterMode; 4],
-        differences: [(i16, i16); 4],
+        differences: [[i16; 2]; 4],
     },
 }
 
@@ -80,11 +79,48 @@ fn start(skip: bool, is_inter: bool) -> BlockStart {
     }
 }
 
-fn differences(rows_and_columns: [(i16, i16); 4]) -> [[Mv; 2]; 4] {
-    let none = Mv { row: 0, column: 0 };
-    let [first, second, third, fourth] = rows_and_columns;
-    let of = |pair: (i16, i16)| [Mv { row: pair.0, column: pair.1 }, none];
-    [of(first), of(second), of(third), of(fourth)]
+fn difference(row_and_column: [i16; 2]) -> [Mv; 2] {
+    let [row, column] = row_and_column;
+    [Mv { row, column }, Mv { row: 0, column: 0 }]
+}
+
+fn levels_of(levels: &'static [&'static [&'static [i32]]]) -> ListedLevels<'static> {
+    let of = |plane: usize| match levels.get(plane) {
+        Some(blocks) => *blocks,
+        None => &[],
+    };
+    ListedLevels {
+        y: of(0),
+        u: of(1),
+        v: of(2),
+    }
+}
+
+fn intra(luma: [IntraMode; 4], chroma: IntraMode) -> PredictionSymbols {
+    PredictionSymbols::Intra(IntraPrediction { luma, chroma })
+}
+
+fn inter(
+    first: ReferenceFrame,
+    filter: InterpFilter,
+    modes: [InterMode; 4],
+    differences: [[i16; 2]; 4],
+) -> PredictionSymbols {
+    let [upper_left, upper_right, lower_left, lower_right] = differences;
+    PredictionSymbols::Inter(InterSymbols {
+        references: References {
+            first,
+            second: None,
+        },
+        filter,
+        modes,
+        differences: [
+            difference(upper_left),
+            difference(upper_right),
+            difference(lower_left),
+            difference(lower_right),
+        ],
+    })
 }
 
 fn block_of(told: &Told) -> ListedBlock<'static> {
@@ -94,40 +130,26 @@ fn block_of(told: &Told) -> ListedBlock<'static> {
             luma,
             chroma,
             levels,
-        } => {
-            let [y, u, v] = levels;
-            ListedBlock {
-                symbols: BlockSymbols {
-                    start: start(skip, false),
-                    prediction: PredictionSymbols::Intra(IntraPrediction { luma, chroma }),
-                },
-                levels: ListedLevels { y, u, v },
-            }
-        }
+        } => ListedBlock {
+            symbols: BlockSymbols {
+                start: start(skip, false),
+                prediction: intra(luma, chroma),
+            },
+            levels: levels_of(levels),
+        },
         Told::Inter {
             skip,
             reference,
             filter,
             modes,
-            differences: rows_and_columns,
-        } => {
-            let references = References {
-                first: reference,
-                second: None,
-            };
-            ListedBlock {
-                symbols: BlockSymbols {
-                    start: start(skip, true),
-                    prediction: PredictionSymbols::Inter(InterSymbols {
-                        references,
-                        filter,
-                        modes,
-                        differences: differences(rows_and_columns),
-                    }),
-                },
-                levels: ListedLevels::NONE,
-            }
-        }
+            differences,
+        } => ListedBlock {
+            symbols: BlockSymbols {
+                start: start(skip, true),
+                prediction: inter(reference, filter, modes, differences),
+            },
+            levels: ListedLevels::NONE,
+        },
     }
 }
 
@@ -140,7 +162,11 @@ fn header_of(decoder: &Decoder, bytes: &[u8]) -> Option<Header> {
 }
 
 // What comes of a frame: whether its bytes come out as they are to and all of its lists is told, and the rule that it breaks.
-fn written_of(alloc: Global, decoder: &Decoder, frame: &Frame) -> Result<(bool, Option<Rule>), AllocError>
+fn written_of(
+    alloc: Global,
+    decoder: &Decoder,
+    frame: &Frame,
+) -> Result<(bool, Option<Rule>), AllocError>
     requires { MayDecode decoder.now }
 {
     let Some(header) = header_of(decoder, frame.bytes) else {
@@ -162,7 +188,8 @@ fn written_of(alloc: Global, decoder: &Decoder, frame: &Frame) -> Result<(bool, 
     }
     let symbols = ListedSymbols::new(frame.partitions, &blocks);
     let (written, symbols) = write_listed(alloc, decoder, &coded, symbols);
-    let is_told = symbols.partitions_told == frame.partitions.len() && symbols.blocks_told == blocks.len();
+    let is_told = symbols.partitions_told == frame.partitions.len()
+        && symbols.blocks_told == blocks.len();
     match written {
         Ok(Written { bytes, broken }) => Ok((is_told && bytes.as_slice() == frame.written, broken)),
         Err(_) => Ok((false, None)),
@@ -170,7 +197,12 @@ fn written_of(alloc: Global, decoder: &Decoder, frame: &Frame) -> Result<(bool, 
 }
 
 // Decodes a frame of the file, and answers the rule that it breaks.
-fn pass(alloc: Global, decoder: &mut Decoder, number: u64, bytes: &[u8]) -> Result<Option<Rule>, Fail>
+fn pass(
+    alloc: Global,
+    decoder: &mut Decoder,
+    number: u64,
+    bytes: &[u8],
+) -> Result<Option<Rule>, Fail>
     requires { MayDecode decoder.old }
     ensures { result ≡ Ok None → MayDecode decoder.new }
 {
@@ -200,10 +232,24 @@ fn first_other(alloc: Global, row: &Row) -> Result<Option<u64>, Fail> {
     Ok(None)
 }
 
+// The first file of which a frame does.
+fn first_wrong(alloc: Global, rows: &[Row]) -> Result<Option<(&'static str, u64)>, Fail> {
+    for row in rows {
+        if let Some(number) = first_other(alloc, row)? {
+            return Ok(Some((row.name, number)));
+        }
+    }
+    Ok(None)
+}
+
 #[test]
 fn files_come_out_as_they_are(rt: HostRuntime) -> Result<(), Fail> {
-    for row in &ROWS {
-        assert_eq!(rt; (row.name, first_other(rt.alloc(), row)?), (row.name, None));
-    }
+    assert_eq!(rt; first_wrong(rt.alloc(), &ROWS)?, None);
+    Ok(())
+}
+
+#[test]
+fn vectors_past_all_edges(rt: HostRuntime) -> Result<(), Fail> {
+    assert_eq!(rt; first_wrong(rt.alloc(), &ROWS_OF_VECTORS)?, None);
     Ok(())
 }
