@@ -113,18 +113,20 @@ class Bits:
 
 
 class Head:
-    """What the compressed header needs of an uncompressed one, and what decides which parts a frame uses."""
+    """What the compressed header and the tiles need of an uncompressed one, and what decides which parts a frame uses."""
 
 
 def colour(bits, profile):
-    if profile >= 2:
+    """The depth, and whether chroma is halved across and down."""
+    depth = 10 + 2 * bits.f(1) if profile >= 2 else 8
+    if bits.f(3) == 7:
         bits.f(1)
-    if bits.f(3) != 7:
-        bits.f(1)
-        if profile & 1:
-            bits.f(3)
-    else:
-        bits.f(1)
+        return depth, 0, 0
+    bits.f(1)
+    if not profile & 1:
+        return depth, 1, 1
+    across, down, _ = bits.f(1), bits.f(1), bits.f(1)
+    return depth, across, down
 
 
 def size(bits):
@@ -147,9 +149,9 @@ def tail(bits, head):
     if bits.f(1) and bits.f(1):
         for _ in range(6):
             bits.delta(6)
-    base = bits.f(8)
-    deltas = [bits.delta(4) for _ in range(3)]
-    head.lossless = base == 0 and deltas == [0, 0, 0]
+    head.base = bits.f(8)
+    head.deltas = [bits.delta(4) for _ in range(3)]
+    head.lossless = head.base == 0 and head.deltas == [0, 0, 0]
     head.segmented = bool(bits.f(1))
     if head.segmented:
         if bits.f(1):
@@ -180,9 +182,12 @@ def tail(bits, head):
     if rows:
         bits.f(1)
     head.tiled = log2 > 0 or rows > 0
+    head.columns_log2, head.has_tile_rows = log2, rows > 0
+    head.length_at = bits.at
     length = bits.f(16)
     start = (bits.at + 7) >> 3
     head.compressed = bits.data[start : start + length]
+    head.tiles = bits.data[start + length :]
     assert len(head.compressed) == length > 0
 
 
@@ -198,12 +203,13 @@ def header(frame, slots):
     head = Head()
     head.kind = "Key"
     head.profile = profile
-    head.switchable = head.precise = False
+    head.switchable = head.precise = head.own_size = False
+    head.colour = None
     head.biases = [0, 0, 0]
     not_key, head.shown, head.resilient = bits.f(1), bits.f(1), bits.f(1)
     if not not_key:
         assert bits.f(24) == 0x498342
-        colour(bits, profile)
+        head.colour = colour(bits, profile)
         head.size = size(bits)
         render(bits)
         refresh = 255
@@ -214,8 +220,7 @@ def header(frame, slots):
         if intra_only:
             head.kind = "IntraOnly"
             assert bits.f(24) == 0x498342
-            if profile > 0:
-                colour(bits, profile)
+            head.colour = colour(bits, profile) if profile > 0 else (8, 1, 1)
             refresh = bits.f(8)
             head.size = size(bits)
             render(bits)
@@ -227,17 +232,19 @@ def header(frame, slots):
                 references.append(bits.f(3))
                 bias = bits.f(1)
                 head.biases[k] = 0 if head.resilient else bias
+            head.reference_sizes = [slots[k] for k in references]
             for k in references:
                 if bits.f(1):
                     head.size = slots[k]
                     break
             else:
+                head.own_size = True
                 head.size = size(bits)
             render(bits)
             head.precise = bool(bits.f(1))
             head.switchable = bool(bits.f(1))
             if not head.switchable:
-                bits.f(2)
+                head.filter_code = bits.f(2)
     tail(bits, head)
     for k in range(8):
         if refresh >> k & 1:
@@ -308,9 +315,9 @@ def updated_vector(coder, prob):
     return (coder.number(7) << 1) | 1 if coder.bool(252) else prob
 
 
-def read(head, lists):
+def read(head, lists, coder=None):
     """The transform mode, the reference mode, and the lists after the header."""
-    coder = Coder(head.compressed)
+    coder = coder or Coder(head.compressed)
     lists = [list(entries) for entries in lists]
 
     def update(name, at=0, count=None, how=updated):

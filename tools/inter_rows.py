@@ -136,11 +136,15 @@ class Tile:
         size = least + (whole << 3 | part << 1 | bit) + 1
         return -size if sign else size
 
-    def new(self, best):
-        high = self.case["high"] and abs(best[0]) < 64 and abs(best[1]) < 64
+    def difference(self, high):
         joint = self.tree(THREE, "joint", 0, probs("MV_JOINT"))
         row = self.component(0, high) if joint in (2, 3) else 0
         column = self.component(1, high) if joint in (1, 3) else 0
+        return row, column
+
+    def new(self, best):
+        high = self.case["high"] and abs(best[0]) < 64 and abs(best[1]) < 64
+        row, column = self.difference(high)
         v = (best[0] + row, best[1] + column)
         if max(abs(v[0]), abs(v[1])) >= 16384:
             raise Broken(21)

@@ -69,8 +69,9 @@ class Tile:
         self.d = Bools(data)
         self.rows, self.cols, self.tile_from, self.tile_to = rows, cols, tile_from, tile_to
         self.segments, self.selected = segments, selected
+        self.of_partition = KF_PARTITION
         self.map = {}
-        self.blocks = []
+        self.partitions, self.blocks = [], []
 
     def above(self, y, x):
         return self.map.get((y - 1, x)) if y > 0 else None
@@ -138,7 +139,7 @@ class Tile:
         has_rows, has_cols = r + half < self.rows, c + half < self.cols
         above = any(n and n["w"] < 2 * side for n in (self.above(2 * r, 2 * c + k) for k in range(2 * side)))
         left = any(n and n["h"] < 2 * side for n in (self.left(2 * r + k, 2 * c) for k in range(2 * side)))
-        probs = KF_PARTITION[4 * level + 2 * left + above]
+        probs = self.of_partition[4 * level + 2 * left + above]
         if has_rows and has_cols:
             kind = 0
             while kind < 3 and self.d.bool(probs[kind]):
@@ -149,6 +150,7 @@ class Tile:
             kind = 3 if self.d.bool(probs[2]) else 2
         else:
             kind = 3
+        self.partitions.append(kind)
         full, part = 2 * side, side
         if kind == 0:
             self.block(r, c, full, full)

@@ -1,5 +1,5 @@
 -- What stands next in the lists, if it can be said in its place.
-use Rattle.std.specs.Prelude.{Bool, false, ◌&&◌, ◌+◌, ℤ, List, map, Option, Some, None, slice_get, if◌then◌else◌}
+use Rattle.std.specs.Prelude.{Bool, false, ◌&&◌, ◌==◌, ◌+◌, ◌-◌, ℤ, List, map, Option, Some, None, slice_get, if◌then◌else◌}
 use Rattle.std.specs.Borrow.{Bor}
 use Rattle.vp9_types.specs.declared.block.Modes.{Modes}
 use Rattle.vp9_types.specs.declared.block.Partition.{Partition}
@@ -26,6 +26,7 @@ use Rattle.listed_symbols.specs.Inter.{can_put_inter}
 use Rattle.listed_symbols.specs.Intra.{can_partition, can_luma}
 use Rattle.listed_symbols.specs.Levels.{no_levels, with_each}
 use Rattle.listed_symbols.specs.Starts.{can_start_intra}
+use Rattle.listed_symbols.specs.declared.lists.ListedBlock.{ListedBlock}
 use Rattle.listed_symbols.specs.declared.lists.ListedLevels.{ListedLevels}
 use Rattle.listed_symbols.specs.declared.lists.ListedSymbols.{ListedSymbols}
 
@@ -61,11 +62,11 @@ can_put_by _ by earlier at start p = can_put_intra by.header by.modes at start p
 abbrev pub can_put : FrameSources → List BlockInfo → BlockAt → BlockSymbols → Bool
 can_put by earlier at symbols = can_put_by by.header.kind by earlier at symbols.start symbols.prediction
 
--- the place in the list is moved on behind the block's levels
+-- the place in the list is moved on, whether or not the block then breaks a rule
 abbrev pub block_told : FrameSources → List BlockInfo → BlockAt → ListedSymbols → Option (BlockSymbols × ListedSymbols)
 block_told by earlier at t = do
   block ← slice_get t.blocks.now t.blocks_told
-  some_if (can_put by earlier at block.symbols) (block.symbols, t)
+  some_if (can_put by earlier at block.symbols) (block.symbols, record t { blocks_told = t.blocks_told + 1 })
 
 ---- Levels ----
 
@@ -83,11 +84,15 @@ listed_levels header b listed = do
   v ← plane_told header b V (lists_in listed.v)
   Some (record { y = y; u = u; v = v })
 
+-- the block that was told last
+abbrev pub last_told : ListedSymbols → Option ListedBlock
+last_told t = if t.blocks_told == 0 then None else slice_get t.blocks.now (t.blocks_told - 1)
+
 abbrev pub levels_told : FrameSources → BlockInfo → ListedSymbols → Option (BlockLevels × ListedSymbols)
 levels_told by b t = do
-  block ← slice_get t.blocks.now t.blocks_told
+  block ← last_told t
   levels ← listed_levels by.header b block.levels
-  Some (levels, record t { blocks_told = t.blocks_told + 1 })
+  Some (levels, t)
 
 ---- All of it ----
 

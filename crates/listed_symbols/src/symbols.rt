@@ -6,12 +6,12 @@ ghost use Rattle.frame_decoder.specs.Code.{sources_of};
 ghost use Rattle.frame_decoder.specs.Columns.{AllSmall};
 ghost use Rattle.frame_decoder.specs.Past.{IsPastOf};
 ghost use Rattle.inter_writer.specs.Fits.{CanPut, CanPutIntra};
-ghost use Rattle.listed_symbols.specs.Blocks.{can_put, can_put_intra};
+ghost use Rattle.listed_symbols.specs.Blocks.{can_put, can_put_intra, last_told};
 
 use crate::in_planes::list_levels;
 use crate::inter::can_put_inter;
 use crate::intra::{can_luma, can_partition};
-use crate::lists::ListedSymbols;
+use crate::lists::{ListedBlock, ListedSymbols};
 use crate::starts::can_start_intra;
 use block_plan::{BlockAt, BlockGrid, BlockInfo};
 use frame_decoder::FrameSources;
@@ -62,6 +62,16 @@ fn can_put(by: &FrameSources<'_>, grid: &BlockGrid, at: BlockAt, symbols: &Block
     }
 }
 
+/// The block that was told last.
+fn last_told<'a>(symbols: &ListedSymbols<'a>) -> Option<ListedBlock<'a>>
+    ensures { result ≡ last_told symbols.now }
+{
+    if symbols.blocks_told == 0 {
+        return None;
+    }
+    symbols.blocks.get(symbols.blocks_told - 1).copied()
+}
+
 impl<'a> FrameSymbols for ListedSymbols<'a> {
     ghost use Rattle.listed_symbols.specs.Blocks.{listed};
 
@@ -86,6 +96,7 @@ impl<'a> FrameSymbols for ListedSymbols<'a> {
         if !can_put(by, grid, at, &block.symbols) {
             return None;
         }
+        self.blocks_told += 1;
         Some(block.symbols)
     }
 
@@ -95,13 +106,9 @@ impl<'a> FrameSymbols for ListedSymbols<'a> {
         block: &BlockInfo,
         levels: &mut BlockLevels,
     ) -> bool {
-        let Some(listed) = self.blocks.get(self.blocks_told) else {
+        let Some(listed) = last_told(self) else {
             return false;
         };
-        if !list_levels(levels, &by.setting, block, &listed.levels) {
-            return false;
-        }
-        self.blocks_told += 1;
-        true
+        list_levels(levels, &by.setting, block, &listed.levels)
     }
 }

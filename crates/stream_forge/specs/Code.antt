@@ -10,18 +10,24 @@ use Rattle.frame_headers.specs.declared.header.Uncompressed.TheVariants.{ShowExi
 use Rattle.frame_headers.specs.declared.persist.Persist.{Persist}
 use Rattle.segment_map.specs.Segments.{id_map}
 use Rattle.segment_map.specs.declared.map.SegmentMap.{SegmentMap}
+use Rattle.frame_writer.specs.Code.{GivesFrame}
+use Rattle.frame_writer.specs.Symbols.{Speaker}
+use Rattle.frame_writer.specs.declared.frame.FrameToWrite.{FrameToWrite}
 use Rattle.frame_writer.specs.declared.written.NotWritten.{NotWritten}
 use Rattle.frame_writer.specs.declared.written.NotWritten.TheVariants.{Unsaid, TooLong, OutOfMemory}
 use Rattle.frame_writer.specs.declared.written.Written.{Written}
 use Rattle.header_writer.specs.declared.choices.Choices.{Choices}
 use Rattle.drawn_headers.specs.Made as headers
 use Rattle.drawn_symbols.specs.declared.draws.Draws.{Draws}
-use Rattle.seq_decoder.specs.After.{Stepped, has_size, segments_before, step}
+use Rattle.prob_contexts.specs.Lists.{lists_of}
+use Rattle.prob_contexts.specs.declared.contexts.Contexts.{Contexts}
+use Rattle.seq_decoder.specs.After.{Stepped, has_size, past_of, segments_before, step}
 use Rattle.container_writer.specs.Files.{file_header}
 use Rattle.seq_decoder.specs.Code.{StandsFor}
-use Rattle.seq_decoder.specs.SavedContexts.{loses_past}
-use Rattle.seq_decoder.specs.State.{State, start_state}
+use Rattle.seq_decoder.specs.SavedContexts.{context_before, loses_past}
+use Rattle.seq_decoder.specs.State.{State, persist_of, start_state}
 use Rattle.seq_decoder.specs.declared.decoder.Decoder.{Decoder}
+use Rattle.stream_forge.specs.declared.coded.CodedFrame.{CodedFrame}
 use Rattle.stream_forge.specs.Made.{AreMade, IsFrameOf, IsNone, packets_from}
 
 -- it stands for the segments that a frame starts with, and has its places
@@ -44,6 +50,16 @@ HasOne None kept = IsSome kept
 abbrev pub IsOneOf : Option SegmentMap → Option SegmentMap → SegmentMap → Type 0
 IsOneOf (Some own) kept m = m ≡ own
 IsOneOf None kept m = kept ≡ Some m
+
+-- a frame with the probabilities that its blocks are read by
+abbrev pub frame_with : CodedFrame → Contexts → FrameToWrite
+frame_with frame contexts = record { header = frame.header; choices = frame.choices; modes = frame.modes; contexts = contexts }
+
+-- what is written of a frame behind those that left a state. It updates no probability
+abbrev pub GivesBehind : {T : Type 0} → Speaker T → State → CodedFrame → T → Result Written NotWritten → T → Type 0
+GivesBehind speaker state frame t result new =
+    (contexts : Contexts) × (lists_of contexts ≡ context_before frame.header state.contexts)
+    × GivesFrame speaker (persist_of state) (frame_with frame contexts) (past_of state frame.header) t result new
 
 -- what the frame's bytes say of a state that the decoder stands for, if its blocks break no rule
 abbrev pub GivesTo : State → Choices → Uncompressed → ℕ → List ℕ → Option Rule → ℕ → Type 0

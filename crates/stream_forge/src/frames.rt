@@ -12,15 +12,14 @@ ghost use Rattle.seq_decoder.specs.Code.{MayDecode, StandsFor};
 ghost use Rattle.seq_decoder.specs.State.{State, persist_of};
 ghost use Rattle.stream_forge.specs.Code.{Gives, IsMadeAfter, MayDraw};
 
-use crate::past::{fresh_segments, segments_for};
+use crate::coded::{CodedFrame, write_coded};
 use drawn_frames::DrawnSymbols;
 use drawn_headers::{draw_head, draw_modes};
 use drawn_symbols::Draws;
-use frame_decoder::FramePast;
 use frame_headers::{FrameParams, Header, Uncompressed};
-use frame_writer::{FrameToWrite, NotWritten, Written, write_frame};
+use frame_writer::{NotWritten, Written};
 use header_writer::{Choices, write_uncompressed_header};
-use seq_decoder::{Decoder, pictures_for, place_of, vectors_before};
+use seq_decoder::Decoder;
 use std::alloc::{AllocError, Global};
 
 /// The bytes of a frame that shows a slot again.
@@ -44,7 +43,7 @@ fn write_shown(
 }
 
 /// The bytes of a coded frame whose header is drawn: its modes and blocks are drawn, and no probability is updated.
-fn write_coded(
+fn write_drawn(
     alloc: Global,
     decoder: &Decoder,
     header: &Header,
@@ -58,26 +57,12 @@ fn write_coded(
 {
     let mut draws = draws;
     let modes = draw_modes(&mut draws, header);
-    let mut saved = decoder.saved;
-    saved.reset(header);
-    let contexts = saved.at(place_of(header));
-    let Ok(fresh) = fresh_segments(alloc, header, decoder.persist.size) else {
-        return (Err(NotWritten::OutOfMemory), draws);
-    };
-    let past = FramePast {
-        contexts: &contexts,
-        segments: segments_for(&fresh, &decoder.segments),
-        vectors: vectors_before(header, &decoder.last),
-        pictures: pictures_for(header, &decoder.table),
-    };
-    let frame = FrameToWrite {
+    let frame = CodedFrame {
         header: *header,
         choices,
         modes,
-        contexts,
     };
-    let symbols = DrawnSymbols { draws };
-    let (written, symbols) = write_frame(alloc, &decoder.persist, &frame, past, symbols);
+    let (written, symbols) = write_coded(alloc, decoder, &frame, DrawnSymbols { draws });
     (written, symbols.draws)
 }
 
@@ -115,7 +100,7 @@ pub(crate) fn write_next(
         }
         Uncompressed::Coded(header) => {
             let header = with_a_byte(header);
-            write_coded(alloc, decoder, &header, head.choices, draws)
+            write_drawn(alloc, decoder, &header, head.choices, draws)
         }
     }
 }

@@ -2,6 +2,7 @@
 //! same.
 #![tactic(auto)]
 
+mod coded;
 mod discard;
 mod frames;
 mod past;
@@ -9,4 +10,5 @@ mod stream;
 #[cfg(test)]
 mod tests;
 
+pub use coded::{CodedFrame, write_coded};
 pub use stream::{NotMade, make_stream};
