@@ -38,7 +38,9 @@ returns g c = λ state stands.
       segments = (segments.are ∙ (λ i. segments_before header (stands.persist i).size (stands.segments i))) i;
       vectors = (c.vectors_before.ensures.blocks ∙ ap (vectors_before header) stands.last) i;
       references = c.pictures_for.ensures.pictures state.slots stands.slots i;
-    }) in
-    (c.at-contexts.result, contexts,
+    }) in (
+      c.at-contexts.result,
+      contexts,
       subst (λ (p : Persist × FramePast). GivesFrame g.S.FrameSymbols.speaker p.0 (frame_with c.args.frame.now c.at-contexts.result) p.1 c.args.symbols c.write_frame.result.0 c.write_frame.result.1)
-      (λ i. (stands.persist i, past i)) c.write_frame.ensures)
+          (λ i. (stands.persist i, past i)) c.write_frame.ensures,
+    )
