@@ -1,4 +1,5 @@
 pub mod Pasts
 pub mod DrawnReads
+pub mod Behind
 pub mod Heads
 pub mod Streams

@@ -1,11 +1,8 @@
-use Rattle.std.proofs.Common.{◌≡◌, ◌∙◌, ap, subst}
-use Rattle.frame_decoder.specs.Sources.{FramePast}
-use Rattle.frame_headers.specs.declared.persist.Persist.{Persist}
-use Rattle.frame_writer.specs.Code.{GivesFrame}
+use Rattle.std.proofs.Common.{◌≡◌, ◌∙◌, ap}
 use Rattle.prob_contexts.specs.Lists.{lists_of}
-use Rattle.seq_decoder.specs.After.{past_of, segments_before, vectors_before}
+use Rattle.seq_decoder.specs.After.{segments_before, vectors_before}
 use Rattle.seq_decoder.specs.SavedContexts.{context_at, context_before, place_of, saved_before}
-use Rattle.stream_forge.specs.Code.{frame_with}
+use Rattle.stream_forge.proofs.Behind.{behind_given}
 use Rattle.stream_forge.proofs.Pasts.{names_by, segments_are}
 use Rattle.stream_forge.proofs.coded.write_coded.Goals as goal
 
@@ -33,14 +30,11 @@ returns g c = λ state stands.
     let segments = segments_are header d.persist.size c.in-Ok.fresh d.segments c.segments_for.result.now c.in-Ok.ensures c.requires.may.places c.segments_for.ensures in
     let contexts : lists_of c.at-contexts.result ≡ context_before header state.contexts =
     c.at-contexts.ensures ∙ (λ i. context_at (c.reset.ensures i) (c.place_of.ensures i)) ∙ ap (λ saved. context_at (saved_before header saved) (place_of header)) stands.contexts in
-    let past : ◌≡◌ {A = FramePast} _ (past_of state header) = (λ i. record {
+    behind_given g.S.FrameSymbols.speaker d.persist state c.args.frame.now c.at-contexts.result _ c.args.symbols c.write_frame.result.1 c.write_frame.result.0 stands.persist
+    (λ i. record {
       contexts = contexts i;
       segments = (segments.are ∙ (λ i. segments_before header (stands.persist i).size (stands.segments i))) i;
       vectors = (c.vectors_before.ensures.blocks ∙ ap (vectors_before header) stands.last) i;
       references = c.pictures_for.ensures.pictures state.slots stands.slots i;
-    }) in (
-      c.at-contexts.result,
-      contexts,
-      subst (λ (p : Persist × FramePast). GivesFrame g.S.FrameSymbols.speaker p.0 (frame_with c.args.frame.now c.at-contexts.result) p.1 c.args.symbols c.write_frame.result.0 c.write_frame.result.1)
-          (λ i. (stands.persist i, past i)) c.write_frame.ensures,
-    )
+    })
+    contexts c.write_frame.ensures
