@@ -23,6 +23,13 @@ write_frame-requires-clause-past g c =
       pictures = c.pictures_for.ensures.has;
     }
 
+pub returns-in_default : goal.returns-in_default
+returns-in_default g c = λ state stands.
+    let header = c.args.frame.now.header in
+    let contexts : lists_of c.at-contexts.result ≡ context_before header state.contexts =
+    c.at-contexts.ensures ∙ (λ i. context_at (c.reset.ensures i) (c.place_of.ensures i)) ∙ ap (λ saved. context_at (saved_before header saved) (place_of header)) stands.contexts in
+    (c.at-contexts.result, contexts, tt)
+
 pub returns : goal.returns
 returns g c = λ state stands.
     let d = c.args.decoder.now in
