@@ -41,7 +41,7 @@ pub fn write_listed<'a>(
     symbols: ListedSymbols<'a>,
 ) -> (Result<Written, NotWritten>, ListedSymbols<'a>)
     requires { MayDecode decoder.now }
-    ensures { (state : State) → StandsFor decoder.now state → GivesListed (can_say decoder.now.persist frame.now) state frame.now symbols result.0 result.1 }
+    ensures { (state : State) → StandsFor decoder.now state → GivesListed (can_say decoder.now.persist frame.now) state frame.now symbols.entry result.0 result.1 }
 {
     if !can_say(&decoder.persist, frame) {
         return (Err(NotWritten::Unsaid), symbols);

@@ -84,16 +84,14 @@ fn difference(row_and_column: [i16; 2]) -> [Mv; 2] {
     [Mv { row, column }, Mv { row: 0, column: 0 }]
 }
 
-fn levels_of(levels: &'static [&'static [&'static [i32]]]) -> ListedLevels<'static> {
-    let of = |plane: usize| match levels.get(plane) {
-        Some(blocks) => *blocks,
-        None => &[],
-    };
-    ListedLevels {
-        y: of(0),
-        u: of(1),
-        v: of(2),
+fn plane_of(
+    levels: &'static [&'static [&'static [i32]]],
+    plane: usize,
+) -> &'static [&'static [i32]] {
+    if plane < levels.len() {
+        return levels[plane];
     }
+    &[]
 }
 
 fn intra(luma: [IntraMode; 4], chroma: IntraMode) -> PredictionSymbols {
@@ -135,7 +133,11 @@ fn block_of(told: &Told) -> ListedBlock<'static> {
                 start: start(skip, false),
                 prediction: intra(luma, chroma),
             },
-            levels: levels_of(levels),
+            levels: ListedLevels {
+                y: plane_of(levels, 0),
+                u: plane_of(levels, 1),
+                v: plane_of(levels, 2),
+            },
         },
         Told::Inter {
             skip,
