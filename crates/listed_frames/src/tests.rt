@@ -199,46 +199,39 @@ fn written_of(
 }
 
 // Decodes a frame of the file, and answers the rule that it breaks.
-fn pass(
-    alloc: Global,
-    decoder: &mut Decoder,
-    number: u64,
-    bytes: &[u8],
-) -> Result<Option<Rule>, Fail>
+fn pass(alloc: Global, decoder: &mut Decoder, bytes: &[u8]) -> Result<Option<Rule>, Fail>
     requires { MayDecode decoder.old }
     ensures { result ≡ Ok None → MayDecode decoder.new }
 {
     let mut sink = MemSink::new(alloc, &[])?;
-    match decoder.decode_next(alloc, FileFrame { number, bytes }, &mut sink) {
+    match decoder.decode_next(alloc, FileFrame { number: 0, bytes }, &mut sink) {
         Ok(()) => Ok(None),
         Err(Outcome::Broken(stop)) => Ok(Some(stop.rule)),
         Err(_) => Err(Fail::new("no memory")),
     }
 }
 
-// The first frame of a file that comes out otherwise than it is to.
-fn first_other(alloc: Global, row: &Row) -> Result<Option<u64>, Fail> {
+// Whether all frames of a file come out as they are to, up to one that breaks a rule.
+fn comes_out(alloc: Global, row: &Row) -> Result<bool, Fail> {
     let mut decoder = Decoder::new(alloc);
-    let mut number = 0;
     for frame in row.frames {
         let (is_right, broken) = written_of(alloc, &decoder, frame)?;
-        let breaks = pass(alloc, &mut decoder, number, frame.bytes)?;
+        let breaks = pass(alloc, &mut decoder, frame.bytes)?;
         if !is_right || broken != breaks {
-            return Ok(Some(number));
+            return Ok(false);
         }
         if breaks.is_some() {
-            return Ok(None);
+            return Ok(true);
         }
-        number += 1;
     }
-    Ok(None)
+    Ok(true)
 }
 
-// The first file of which a frame does.
-fn first_wrong(alloc: Global, rows: &[Row]) -> Result<Option<(&'static str, u64)>, Fail> {
+// The first file that doesn't.
+fn first_wrong(alloc: Global, rows: &[Row]) -> Result<Option<&'static str>, Fail> {
     for row in rows {
-        if let Some(number) = first_other(alloc, row)? {
-            return Ok(Some((row.name, number)));
+        if !comes_out(alloc, row)? {
+            return Ok(Some(row.name));
         }
     }
     Ok(None)
