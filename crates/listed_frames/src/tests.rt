@@ -34,8 +34,8 @@ pub struct Row {
     pub frames: &'static [Frame],
 }
 
-/// A coded frame of it, whose bytes break off where only zeros follow in a part, and the bytes that an encoder of bools makes of
-/// it; whether its size is coded; and what its blocks say.
+/// A coded frame of it, whose tiles have the fewest bytes that are read so, and the bytes that an encoder of bools makes of it;
+/// whether its size is coded; and what its blocks say.
 pub struct Frame {
     pub bytes: &'static [u8],
     pub written: &'static [u8],
