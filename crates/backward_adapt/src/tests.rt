@@ -8,6 +8,7 @@ mod rows;
 use crate::merge::merge_prob;
 use crate::{AdaptKind, InterKind, Rate, adapt, contexts_have_coef_sizes};
 use prob_contexts::{Contexts, Counts, ProbKind, default_contexts};
+use std::alloc::{AllocError, Global};
 use std::process::Abort;
 
 pub struct Row {
@@ -76,8 +77,8 @@ const NONE: Coded = Coded {
     ..FEW
 };
 
-fn drawn_counts(seed: u32, coded: Coded) -> Counts {
-    let mut counts = Counts::new();
+fn drawn_counts(alloc: Global, seed: u32, coded: Coded) -> Result<Counts, AllocError> {
+    let mut counts = Counts::new(alloc)?;
     let any = coded.anything;
     let state = fill(&mut counts, ProbKind::Tx8x8, 2, coded.sizes, seed);
     let state = fill(&mut counts, ProbKind::Tx16x16, 4, coded.sizes, state);
@@ -114,7 +115,7 @@ fn drawn_counts(seed: u32, coded: Coded) -> Counts {
     let state = fill(&mut counts, ProbKind::VectorFraction, 6, any, state);
     let state = fill(&mut counts, ProbKind::VectorClass0High, 2, any, state);
     fill(&mut counts, ProbKind::VectorHigh, 2, any, state);
-    counts
+    Ok(counts)
 }
 
 fn mark(probs: &[u8]) -> u32 {
@@ -164,42 +165,42 @@ fn inter(after_key: bool, high_precision: bool) -> AdaptKind {
 }
 
 /// Contexts that aren't the saved ones, as a compressed header leaves them.
-fn forward_contexts() -> Contexts {
+fn forward_contexts(alloc: Global) -> Result<Contexts, AllocError> {
     let saved = default_contexts();
-    adapt(&saved, &saved, &drawn_counts(1, ALL), &inter(true, true))
+    let counts = drawn_counts(alloc, 1, ALL)?;
+    Ok(adapt(&saved, &saved, &counts, &inter(true, true)))
 }
 
 #[test]
-fn whole_frames(rt: HostRuntime) {
+fn whole_frames(rt: HostRuntime) -> Result<(), AllocError> {
     let saved = default_contexts();
-    let forward = forward_contexts();
+    let forward = forward_contexts(rt.alloc())?;
     contexts_have_coef_sizes(forward);
     assert!(rt; marks(&forward) == rows::FORWARD);
-    let counts = drawn_counts(2, ALL);
+    let counts = drawn_counts(rt.alloc(), 2, ALL)?;
     let intra = adapt(&saved, &forward, &counts, &AdaptKind::Intra);
     assert!(rt; marks(&intra) == rows::INTRA);
     let after_key = adapt(&saved, &forward, &counts, &inter(true, false));
     assert!(rt; marks(&after_key) == rows::AFTER_KEY);
     let later = adapt(&saved, &forward, &counts, &inter(false, true));
     assert!(rt; marks(&later) == rows::LATER);
+    Ok(())
 }
 
 #[test]
-fn what_is_not_coded(rt: HostRuntime) {
+fn what_is_not_coded(rt: HostRuntime) -> Result<(), AllocError> {
     let saved = default_contexts();
-    let forward = forward_contexts();
+    let forward = forward_contexts(rt.alloc())?;
     let mut changed = forward;
     changed.tx = saved.tx;
     changed.inter.filters = saved.inter.filters;
     changed.inter.compound_flag = saved.inter.compound_flag;
     changed.inter.compound_references = saved.inter.compound_references;
-    let few = adapt(&saved, &changed, &drawn_counts(3, FEW), &inter(false, true));
+    let counts = drawn_counts(rt.alloc(), 3, FEW)?;
+    let few = adapt(&saved, &changed, &counts, &inter(false, true));
     assert!(rt; marks(&few) == rows::FEW_CODED);
-    let none = adapt(
-        &saved,
-        &forward,
-        &drawn_counts(4, NONE),
-        &inter(true, false),
-    );
+    let counts = drawn_counts(rt.alloc(), 4, NONE)?;
+    let none = adapt(&saved, &forward, &counts, &inter(true, false));
     assert!(rt; marks(&none) == rows::NOTHING_COUNTED);
+    Ok(())
 }

@@ -4,6 +4,7 @@ ghost use Rattle.std.specs.Prelude.{◌≤◌};
 ghost use Rattle.prob_contexts.specs.Kinds.{kind_size};
 
 use prob_contexts::{Counts, ProbKind};
+use std::alloc::{AllocError, Global};
 
 /// The next state of a linear congruential generator, whose highest byte is what it draws.
 fn drawn(state: u32) -> u32 {
@@ -26,8 +27,8 @@ fn fill(counts: &mut Counts, kind: ProbKind, size: u16, state: u32) -> u32
     state
 }
 
-pub fn drawn_counts() -> Counts {
-    let mut counts = Counts::new();
+pub fn drawn_counts(alloc: Global) -> Result<Counts, AllocError> {
+    let mut counts = Counts::new(alloc)?;
     let state = fill(&mut counts, ProbKind::Tx8x8, 2, 1);
     let state = fill(&mut counts, ProbKind::Tx16x16, 4, state);
     let state = fill(&mut counts, ProbKind::Tx32x32, 6, state);
@@ -51,5 +52,5 @@ pub fn drawn_counts() -> Counts {
     let state = fill(&mut counts, ProbKind::VectorFraction, 6, state);
     let state = fill(&mut counts, ProbKind::VectorClass0High, 2, state);
     fill(&mut counts, ProbKind::VectorHigh, 2, state);
-    counts
+    Ok(counts)
 }

@@ -8,7 +8,7 @@ mod rounds;
 use std::io;
 
 fn main(rt: HostRuntime) -> io::Result<()> {
-    let counts = counted::drawn_counts();
+    let counts = counted::drawn_counts(rt.alloc())?;
     for line in rt.lines(rt.alloc()) {
         let line = line?;
         let text = rounds::describe(rt.alloc(), &counts, line.as_str())?;

@@ -56,7 +56,8 @@ fn read_frames<const COUNTS: bool>(
     requires { (setting.now.places.rows ≡ 135) × (setting.now.places.cols ≡ 240) }
 {
     let map = SegmentMap::new(alloc, ROWS, COLS)?;
-    let Ok(mut reader) = CountingReader::<COUNTS>::start(bytes, Counts::new()) else {
+    let counts = Counts::new(alloc)?;
+    let Ok(mut reader) = CountingReader::<COUNTS>::start(bytes, counts) else {
         return Err(AllocError);
     };
     let mut frame = Frame::new(alloc)?;

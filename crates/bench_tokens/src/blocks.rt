@@ -107,13 +107,18 @@ fn read_small<const COUNTS: bool>(
 }
 
 /// The checksum of so many rounds.
-fn checksum<const COUNTS: bool>(bytes: &[u8], small: bool, rounds: u64) -> Result<u64, Rule> {
+fn checksum<const COUNTS: bool>(
+    bytes: &[u8],
+    counts: Counts,
+    small: bool,
+    rounds: u64,
+) -> Result<u64, Rule> {
     let contexts = default_contexts();
-    let mut reader = CountingReader::<COUNTS>::start(bytes, Counts::new())?;
+    let mut reader = CountingReader::<COUNTS>::start(bytes, counts)?;
     let mut sum: u64 = 0;
     for round in 0..rounds {
         if round % ROUNDS == 0 {
-            reader = CountingReader::<COUNTS>::start(bytes, Counts::new())?;
+            reader = CountingReader::<COUNTS>::start(bytes, reader.into_counts())?;
         }
         sum = if small {
             read_small(&mut reader, &contexts, round, sum)
@@ -138,10 +143,11 @@ pub fn describe(alloc: Global, bytes: &[u8], line: &str) -> Result<String, Alloc
     let Ok(rounds) = rest.parse::<u64>() else {
         return format!(in alloc; "{line}: not a number");
     };
+    let counts = Counts::new(alloc)?;
     let sum = if silent {
-        checksum::<false>(bytes, small, rounds)
+        checksum::<false>(bytes, counts, small, rounds)
     } else {
-        checksum::<true>(bytes, small, rounds)
+        checksum::<true>(bytes, counts, small, rounds)
     };
     match sum {
         Ok(sum) => format!(in alloc; "{line}: {sum}"),

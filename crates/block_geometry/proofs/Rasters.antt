@@ -139,12 +139,3 @@ pub length_grid : (grid : TransformGrid) → length (grid_blocks grid) ≡ grid.
 length_grid grid =
     length_raster (multiples grid.step grid.rows) (multiples grid.step grid.columns)
     ∙ (rw (length-map-range_with_len (λ n. grid.step * n) 0 grid.rows, length-map-range_with_len (λ n. grid.step * n) 0 grid.columns) refl)
-
--- the k-th block of a grid starts inside
-pub grid_inside : (frame : FramePlaces) (b : PlaneBlock) (grid : TransformGrid) (k y x : ℕ) → transform_blocks frame b ≡ grid_blocks grid
-    → k < grid.rows * grid.columns → get_or (grid_blocks grid) k (0, 0) ≡ (y, x)
-    → (halved b.ss_y (8 * b.row) + 4 * y < halved b.ss_y (8 * frame.rows)) × (halved b.ss_x (8 * b.col) + 4 * x < halved b.ss_x (8 * frame.cols))
-grid_inside frame b grid k y x same low at =
-    let all = rw same at (all_inside frame b) in
-    let inside : k < length (grid_blocks grid) = rw (length_grid grid) low in
-    rw at at (all k (0, 0) inside)

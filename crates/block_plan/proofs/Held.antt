@@ -84,9 +84,3 @@ length_held ats area some values n = length-map-range_with_len (held_at ats area
 pub held_is : (ats : List (ℕ × ℕ)) (area : ℕ) (some : List Bool) (values : List ℤ) (n k : ℕ) (d : (ℕ × ℕ) × Residue) → k < n → get_or (residues_held ats area some values n) k d ≡ held_at ats area some values k
 unfolding residues_held
 held_is ats area some values n k d low = get_or-map-range_with_len (held_at ats area some values) 0 n k k d low (omega arith)
-
--- the first n of a buffer are those of its first n values
-pub held_within : (ats : List (ℕ × ℕ)) (area : ℕ) (some more : List Bool) (values others : List ℤ) (n : ℕ)
-    → ((k : ℕ) → k < n → held_at ats area some values k ≡ held_at ats area more others k) → residues_held ats area some values n ≡ residues_held ats area more others n
-unfolding residues_held
-held_within ats area some more values others n same = mapped_range (held_at ats area some values) (held_at ats area more others) 0 n (λ k low high. same k (omega (arith, high)))

@@ -5,7 +5,6 @@ use Rattle.std.specs.List.{fold, range_with_len}
 use Rattle.std.proofs.lemmas.List.FromFn.{map-range_with_len_more}
 use Rattle.std.proofs.lemmas.List.Sums.{fold-append}
 use Rattle.std.proofs.lemmas.Option.{same_Some}
-use Rattle.std.proofs.Math.Nat.{mul-le-mul_right}
 use Rattle.vp9_types.specs.Maps.{Map, FrameMap, HoldsRows, IsAtMost, rows_of, with_block}
 use Rattle.vp9_types.specs.Shapes.{plane_width, plane_height}
 use Rattle.vp9_types.specs.Sizes.{greatest}
@@ -183,10 +182,6 @@ pub part_small : (by : Rebuilding) (b : BlockInfo) (modes : InterPrediction) (p 
     → new ≡ put_part by b modes p m n → IsAtMost (greatest by.shape.depth) new
 part_small by b modes p n m new small is =
     rw is (with_block_small (greatest by.shape.depth) m _ _ _ _ (predicted_part by b modes p n) small (predicted_part_small by b modes p n))
-
--- so many samples have room in a block
-pub few_samples : (rows columns : ℕ) → rows ≤ 64 → columns ≤ 64 → rows * columns ≤ 4096
-few_samples rows columns low narrow = let most = mul-le-mul_right columns low in omega (arith, most, narrow)
 
 ---- One after another ----
 

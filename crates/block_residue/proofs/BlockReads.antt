@@ -17,7 +17,7 @@ use Rattle.counting_reader.specs.declared.reader.CountingReader.{CountingReader}
 use Rattle.counting_reader.proofs.CountingRuns.{counting_bind, run_settle}
 use Rattle.frame_headers.specs.declared.header.Header.{Header}
 use Rattle.prob_contexts.specs.Lists.{ContextLists}
-use Rattle.block_residue.specs.Code.{IsBeside, KeepsLengths, FitPlane, IsInFrame, GivesPlane}
+use Rattle.block_residue.specs.Code.{IsBeside, FitPlane, GivesPlane}
 use Rattle.block_residue.specs.Residues.{ReadPlane, read_next, read_skipped, read_in_plane, read_plane, read_block, listed, is_coded}
 use Rattle.block_residue.specs.Sides.{Sides}
 use Rattle.block_residue.specs.declared.in_plane.BlockInPlane.{BlockInPlane}
@@ -55,14 +55,6 @@ beside shape b V y x s fit inside = record {
 pub all_beside : (shape : Shape) (b : BlockInfo) (p : Plane) (s : Sides) → FitPlane shape p s
     → All (λ (at : ℕ × ℕ). IsBeside (plane_block shape b p) at.0 at.1 s) (places_in shape b p)
 all_beside shape b p s fit = λ k d low. beside shape b p _ _ s fit (all_inside (places_of shape) (plane_block shape b p) k d low)
-
-pub corner_beside : (shape : Shape) (b : BlockInfo) (p : Plane) (s : Sides) → FitPlane shape p s → IsInFrame shape b → IsBeside (plane_block shape b p) 0 0 s
-corner_beside shape b p s fit inside =
-    let c = plane_block shape b p in
-    beside shape b p 0 0 s fit (starts_in c.ss_y b.row (mi_rows shape) inside.row, starts_in c.ss_x b.col (mi_cols shape) inside.column)
-
-pub still_fit : (shape : Shape) (p : Plane) (s t : Sides) → FitPlane shape p s → KeepsLengths s t → FitPlane shape p t
-still_fit shape p s t fit keeps = record { above = keeps.above ∙ fit.above; left = keeps.left ∙ fit.left }
 
 ---- A plane ----
 

@@ -1,8 +1,7 @@
 -- Literals, bool by bool.
-use Rattle.std.proofs.Common.{◌≡◌, ℕ, suc, ◌+◌, ◌-◌, ◌*◌, ◌^◌, ◌<◌, ◌≤◌, refl, sym, arith}
+use Rattle.std.proofs.Common.{◌≡◌, ℕ, suc, ◌+◌, ◌-◌, ◌*◌, ◌^◌, ◌<◌, refl, sym, arith}
 use Rattle.std.specs.Prelude.{Ok}
 use Rattle.std.proofs.lemmas.Nat.{pow-add}
-use Rattle.std.proofs.Math.Nat.{pow-le-pow_right}
 use Rattle.vp9_types.specs.declared.rule.Rule.{Rule}
 use Rattle.bool_decoder.specs.Bools.{run_bools, literal, literal_from}
 use Rattle.bool_decoder.specs.Window.{Window, bit_of, after_bit}
@@ -26,11 +25,3 @@ literal_ends n i value w start all same = let e : n - i ≡ 0 = omega arith in s
 
 pub literal_small : (i value bit : ℕ) → value < 2 ^ i → bit < 2 → 2 * value + bit < 2 ^ (i + 1)
 literal_small i value bit small low = let e = pow-add 2 i 1 in omega arith
-
-pub literal_fits : (n i value bit : ℕ) → n ≤ 32 → i < n → value < 2 ^ i → bit < 2 → 2 * value + bit < 2 ^ 32
-literal_fits n i value bit most more small low =
-    let e = literal_small i value bit small low in
-    let two : 0 < 2 = omega arith in
-    let far : i + 1 ≤ 32 = omega arith in
-    let wide = pow-le-pow_right two far in
-    omega arith

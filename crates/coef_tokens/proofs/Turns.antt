@@ -4,9 +4,6 @@ use mir.Val.{to_z, of_z}
 use Rattle.std.specs.Prelude.{slice_index, replicate, Ok}
 use Rattle.std.proofs.lemmas.Bool.{cases_eq, cases_lt, eq-eqb, ne_eqb}
 use Rattle.std.proofs.lemmas.List.{get_or-set_same, get_or-set_other, get_or_default, get_or-replicate, get_or_past, length-replicate, drop_more, drop_all, get_or-drop, take_rest}
-use Rattle.vp9_types.specs.declared.block.TxSize.{TxSize}
-use Rattle.vp9_tables.specs.Numbers.{flag_number, tx_number}
-use Rattle.vp9_tables.specs.Coefficients.{coef_place}
 use Rattle.counting_reader.specs.Counting.{Standing, run_counting}
 use Rattle.counting_reader.proofs.CountingRuns.{counting_bind, run_settle}
 use Rattle.coef_tokens.specs.declared.step.Step.{Step}
@@ -134,9 +131,6 @@ kept z small = search rules
 
 pub part : (a : ℕ) → a + 99 - a ≡ 99
 part a = omega arith
-
-pub base_is : (size : TxSize) (chroma inter : Bool) → 99 * (4 * tx_number size + (2 * flag_number chroma + flag_number inter)) ≡ 3 * coef_place size chroma inter 0 0
-base_is size chroma inter = omega arith
 
 pub zeros_at : (n : ℕ) → HoldsClasses (replicate n 0) []
 zeros_at n p = elim (cases_lt p n) [

@@ -10,7 +10,9 @@ use counting_reader::CountingReader;
 use large_rows::LARGE_ROWS;
 use prob_contexts::{Contexts, Counts, default_contexts};
 use small_rows::SMALL_ROWS;
-use vp9_types::{Rule, TxSize};
+use std::alloc::Global;
+use std::test::Fail;
+use vp9_types::TxSize;
 
 /// A block, the context of its first place, its bytes, how many places of its scan are coded, and its levels that aren't 0, by position.
 pub struct Row {
@@ -38,11 +40,11 @@ fn are_those(levels: &[i32], expected: &[(u16, i32)]) -> bool {
     left.is_empty()
 }
 
-fn reads(contexts: &Contexts, row: &Row, levels: &mut [i32]) -> Result<bool, Rule>
+fn reads(alloc: Global, contexts: &Contexts, row: &Row, levels: &mut [i32]) -> Result<bool, Fail>
     requires size { length levels.old ≡ area row.now.at.tx }
     requires clear { HoldsLevels levels.old [] }
 {
-    let mut reader = CountingReader::<true>::start(row.bytes, Counts::new())?;
+    let mut reader = CountingReader::<true>::start(row.bytes, Counts::new(alloc)?)?;
     if row.first > 2 {
         return Ok(false);
     }
@@ -51,29 +53,29 @@ fn reads(contexts: &Contexts, row: &Row, levels: &mut [i32]) -> Result<bool, Rul
     Ok(count == row.count && are_those(levels, row.levels))
 }
 
-fn agrees(contexts: &Contexts, row: &Row) -> Result<bool, Rule> {
+fn agrees(alloc: Global, contexts: &Contexts, row: &Row) -> Result<bool, Fail> {
     match row.at.tx {
-        TxSize::T4x4 => reads(contexts, row, &mut [0; 16]),
-        TxSize::T8x8 => reads(contexts, row, &mut [0; 64]),
-        TxSize::T16x16 => reads(contexts, row, &mut [0; 256]),
-        TxSize::T32x32 => reads(contexts, row, &mut [0; 1024]),
+        TxSize::T4x4 => reads(alloc, contexts, row, &mut [0; 16]),
+        TxSize::T8x8 => reads(alloc, contexts, row, &mut [0; 64]),
+        TxSize::T16x16 => reads(alloc, contexts, row, &mut [0; 256]),
+        TxSize::T32x32 => reads(alloc, contexts, row, &mut [0; 1024]),
     }
 }
 
 #[test]
-fn small_blocks(rt: HostRuntime) -> Result<(), Rule> {
+fn small_blocks(rt: HostRuntime) -> Result<(), Fail> {
     let contexts = default_contexts();
     for row in &SMALL_ROWS {
-        assert!(rt; agrees(&contexts, row)?);
+        assert!(rt; agrees(rt.alloc(), &contexts, row)?);
     }
     Ok(())
 }
 
 #[test]
-fn large_blocks(rt: HostRuntime) -> Result<(), Rule> {
+fn large_blocks(rt: HostRuntime) -> Result<(), Fail> {
     let contexts = default_contexts();
     for row in &LARGE_ROWS {
-        assert!(rt; agrees(&contexts, row)?);
+        assert!(rt; agrees(rt.alloc(), &contexts, row)?);
     }
     Ok(())
 }

@@ -11,10 +11,6 @@ use Rattle.counting_reader.proofs.CountingRuns.{counting_bind, run_settle}
 abbrev Read : Type 0 → Type 0
 Read S = Result (S × Standing) Rule
 
-after_alone : {S : Type 0} (r : Result (S × Standing) Rule) → after r (λ s m. Ok (s, m)) ≡ r
-after_alone (Ok p) = refl
-after_alone (Err e) = refl
-
 after_after : {S : Type 0} (r : Result (S × Standing) Rule) (f g : S → Standing → Result (S × Standing) Rule)
     → after (after r f) g ≡ after r (λ s m. after (f s m) g)
 after_after (Ok p) f g = refl

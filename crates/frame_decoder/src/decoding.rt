@@ -6,6 +6,7 @@ ghost use Rattle.frame_headers.specs.Spans.{tile_count, tile_spans};
 ghost use Rattle.frame_headers.specs.State.{shape_of};
 ghost use Rattle.frame_headers.specs.Tiles.{AreFewTiles};
 ghost use Rattle.planes.specs.Pictures.{IsBlank};
+ghost use Rattle.prob_contexts.specs.Counted.{no_counts};
 ghost use Rattle.prob_contexts.specs.Lists.{lists_of};
 ghost use Rattle.frame_decoder.specs.Columns.{AreTileColumns};
 ghost use Rattle.frame_decoder.specs.Past.{IsPastOf, past_of};
@@ -44,6 +45,7 @@ fn decode_counted(
     compressed: Span,
     columns: &mut [TileColumn],
     planes: &mut FramePlanes,
+    none: Counts,
 ) -> Result<Counts, Rule>
     requires past { IsPastOf by.now.setting.header by.now.past }
     requires few { AreFewTiles by.now.setting.header.params.tiles }
@@ -52,15 +54,16 @@ fn decode_counted(
     requires columns { AreTileColumns by.now.setting.header 0 columns.old }
     requires planes { ArePlanes (shape_of by.now.setting.header) planes.old }
     requires start { HoldsRead (sources_of by.now) columns.old planes.old (nothing_read by.now.setting.header) }
+    requires none { none ≡ no_counts }
     ensures gives { GivesRead (sources_of by.now) (adapts by.now.setting.header)
         (read_all_tiles (sources_of by.now) bytes.now compressed) result columns.new planes.new }
     ensures columns { OnOk result (AreTileColumns by.now.setting.header (tile_count by.now.setting.header) columns.new) }
     ensures planes { OnOk result (ArePlanes (shape_of by.now.setting.header) planes.new) }
 {
     if adapts(&by.setting.header) {
-        decode_tiles::<true>(bytes, by, compressed, columns, planes)
+        decode_tiles::<true>(bytes, by, compressed, columns, planes, none)
     } else {
-        decode_tiles::<false>(bytes, by, compressed, columns, planes)
+        decode_tiles::<false>(bytes, by, compressed, columns, planes, none)
     }
 }
 
@@ -99,11 +102,12 @@ pub fn decode_frame(
     requires blank { IsBlank (shape_of setting.header) picture.old }
     ensures { IsDecoded (record { header = setting.header; compressed = compressed; bytes = bytes.now; past = past_of past.entry }) picture.new result }
 {
+    let none = Counts::new(*before.allocator())?;
     let by = FrameSources { setting, past };
     let header = &by.setting.header;
     let mut columns = TileColumn::all(before, &by.setting)?;
     let planes = picture.planes_mut();
-    let counts = decode_counted(bytes, &by, compressed, &mut columns, planes)?;
+    let counts = decode_counted(bytes, &by, compressed, &mut columns, planes, none)?;
     let blocks = FrameBlocks::new(header, &columns);
     filter_frame(picture.planes_mut(), &EdgeSetting::new(header), &blocks);
     Ok(Decoded {

@@ -5,6 +5,7 @@ ghost use Rattle.frame_headers.specs.Spans.{tile_count, tile_spans};
 ghost use Rattle.frame_headers.specs.State.{shape_of};
 ghost use Rattle.frame_headers.specs.Tiles.{AreFewTiles};
 ghost use Rattle.vp9_types.specs.Sizes.{superblocks_along};
+ghost use Rattle.prob_contexts.specs.Counted.{no_counts};
 ghost use Rattle.mode_syntax.specs.Walk.{decode_row, decode_tile};
 ghost use Rattle.frame_decoder.specs.Columns.{AreTileColumns};
 ghost use Rattle.frame_decoder.specs.Past.{IsPastOf};
@@ -163,13 +164,14 @@ fn decode_nth<const COUNTS: bool>(
 }
 
 /// All tiles of a frame in order, whose compressed header lies at `compressed`. Their sizes are tested. Answers the counts of
-/// all of them, if counting is on.
+/// all of them, from `none` on, if counting is on.
 pub(crate) fn decode_tiles<const COUNTS: bool>(
     bytes: &[u8],
     by: &FrameSources<'_>,
     compressed: Span,
     columns: &mut [TileColumn],
     planes: &mut FramePlanes,
+    none: Counts,
 ) -> Result<Counts, Rule>
     requires past { IsPastOf by.now.setting.header by.now.past }
     requires few { AreFewTiles by.now.setting.header.params.tiles }
@@ -178,12 +180,13 @@ pub(crate) fn decode_tiles<const COUNTS: bool>(
     requires columns { AreTileColumns by.now.setting.header 0 columns.old }
     requires planes { ArePlanes (shape_of by.now.setting.header) planes.old }
     requires start { HoldsRead (sources_of by.now) columns.old planes.old (nothing_read by.now.setting.header) }
+    requires none { none ≡ no_counts }
     ensures gives { GivesRead (sources_of by.now) COUNTS (read_all_tiles (sources_of by.now) bytes.now compressed)
         result columns.new planes.new }
     ensures columns { OnOk result (AreTileColumns by.now.setting.header (tile_count by.now.setting.header) columns.new) }
     ensures planes { OnOk result (ArePlanes (shape_of by.now.setting.header) planes.new) }
 {
-    let mut counts = Counts::new();
+    let mut counts = none;
     for n in 0..by.setting.header.params.tiles.count() {
         let span = tile_span(bytes, &by.setting.header, compressed, n);
         let tile = &bytes[span.from..span.to];

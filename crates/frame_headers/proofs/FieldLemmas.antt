@@ -1,5 +1,5 @@
 -- A field is read bit by bit.
-use Rattle.std.proofs.Common.{◌≡◌, ℕ, suc, ◌+◌, ◌*◌, ◌^◌, ◌<◌, ◌≤◌, List, [], ◌∷◌, ◌++◌, length, get_or, take, drop, refl, ap, sym, ◌∙◌, arith, lit<}
+use Rattle.std.proofs.Common.{◌≡◌, ℕ, suc, ◌+◌, ◌*◌, ◌^◌, ◌<◌, ◌≤◌, List, [], ◌∷◌, ◌++◌, length, get_or, take, drop, ap, sym, ◌∙◌, arith, lit<}
 use Rattle.std.specs.Prelude.{Ok, Err}
 use Rattle.std.proofs.Math.Seq.{drop-cons, take-suc}
 use Rattle.std.proofs.Math.Nat.{two-pow-succ}
@@ -17,9 +17,6 @@ pub record HasRead (bits : List ℕ) (n value : ℕ) (rest : List ℕ) : Type 0 
   pub spells : number_of (take n bits) ≡ value
   pub left : drop n bits ≡ rest
   pub small : value < 2 ^ n
-
-pub none_read : (bits : List ℕ) → HasRead bits 0 0 bits
-none_read bits = record { there = omega arith; spells = refl; left = refl; small = lit< tt }
 
 pub one_read : (bits : List ℕ) (n value b : ℕ) (rest : List ℕ) → HasRead bits n value (b ∷ rest) → b < 2 → HasRead bits (n + 1) (2 * value + b) rest
 one_read bits n value b rest h low =

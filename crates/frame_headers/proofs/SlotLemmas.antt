@@ -12,9 +12,6 @@ pub record IsRefreshed {A : Type 0} (refresh : ℕ) (frame : A) (before : List (
   pub front : take i slots ++ refreshed flags frame (drop i before) ≡ refreshed refresh frame before
   pub back : drop i slots ≡ drop i before
 
-pub none_refreshed : {A : Type 0} (refresh : ℕ) (frame : A) (before : List (Option A)) → IsRefreshed refresh frame before 0 refresh before
-none_refreshed refresh frame before = record { front = refl; back = refl }
-
 pub slot_refreshed : {A : Type 0} (refresh : ℕ) (frame : A) (before : List (Option A)) (i flags : ℕ) (slots : List (Option A)) (old : Option A)
     → i < length slots → length slots ≡ length before
     → IsRefreshed refresh frame before i flags slots

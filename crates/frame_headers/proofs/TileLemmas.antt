@@ -13,14 +13,8 @@ use Rattle.frame_headers.specs.Tiles.{least, more_columns}
 one_more_left : (m n : ℕ) → n < m → m - n ≡ suc (m - (n + 1))
 one_more_left m n h = omega arith
 
-pub least_here : (test : ℕ → Bool) (m n : ℕ) → n < m → test n ≡ true → least test (m - n) n ≡ n
-least_here test m n h passes = rw (one_more_left m n h, passes) refl
-
 pub least_later : (test : ℕ → Bool) (m n : ℕ) → n < m → test n ≡ false → least test (m - n) n ≡ least test (m - (n + 1)) (n + 1)
 least_later test m n h fails = rw (one_more_left m n h, fails) refl
-
-pub least_none : (test : ℕ → Bool) (m n : ℕ) → m ≤ n → least test (m - n) n ≡ n
-least_none test m n h = let e : m - n ≡ 0 = omega arith in rw e refl
 
 pub columns_more : (greatest log2 : ℕ) (bits rest : List ℕ) → log2 < greatest → read_bits past (flag name.IncrementTileColsLog2) bits ≡ Ok (true, rest)
     → read_bits past (more_columns (greatest - log2) log2) bits ≡ read_bits past (more_columns (greatest - (log2 + 1)) (log2 + 1)) rest

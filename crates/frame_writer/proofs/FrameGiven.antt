@@ -1,5 +1,5 @@
 -- A frame's bytes are read back as its header and its tiles.
-use Rattle.std.proofs.Common.{◌≡◌, ◌∙◌, ℕ, zero, suc, ◌+◌, ◌-◌, ◌*◌, ◌/◌, ◌^◌, ◌<◌, ◌≤◌, List, [], ◌∷◌, ◌++◌, Bool, true, false, length, refl, sym, ap, subst, inr, append_assoc, arith}
+use Rattle.std.proofs.Common.{◌≡◌, ◌∙◌, ℕ, zero, suc, ◌+◌, ◌-◌, ◌*◌, ◌/◌, ◌^◌, ◌≤◌, List, [], ◌∷◌, ◌++◌, Bool, true, false, length, refl, sym, ap, subst, inr, append_assoc, arith}
 use Rattle.std.specs.Prelude.{Option, Some, None, Result, Ok, Err, ◌==◌, nat_le, nat_lt, slice_index, slice_range, if◌then◌else◌}
 use Rattle.std.proofs.lemmas.Bool.{le-ltb}
 use Rattle.std.proofs.lemmas.List.{append-nil, length-append}
@@ -157,16 +157,6 @@ pub frame_given : {T : Type 0} (speaker : Speaker T) (before : Persist) (frame :
     → GivesFrame speaker before frame past t result new
 frame_given speaker before frame past by t new old header bytes result from h is gives =
     frame_by speaker before frame past t new old header bytes result from h (subst (λ by. GivesRest speaker by t bytes result new) is gives)
-
--- a header of any size of its compressed header is one that can be written
-pub sized_well : (before : Persist) (header : Header) (size : ℕ) → 1 ≤ size → IsWellFormed before (uncompressed.Coded header) → IsWellFormed before (uncompressed.Coded (with_size header size))
-sized_well before header size some h = record {
-  profile = h.profile;
-  size = h.size;
-  kind = h.kind;
-  contexts = h.contexts;
-  params = record { loop_filter = h.params.loop_filter; quantizer = h.params.quantizer; segmentation = h.params.segmentation; tiles = h.params.tiles; some = some };
-}
 
 least_low : (test : ℕ → Bool) (k n : ℕ) → least test k n ≤ n + k
 least_low test zero n = omega arith

@@ -477,7 +477,7 @@ fn read(
     draw_map(&mut map, &mut draws);
     let mut bytes = [0; 3000];
     draw_bytes(&mut bytes, &mut draws, ones);
-    let mut reader: CountingReader<'_, true> = CountingReader::start(&bytes, Counts::new())?;
+    let mut reader: CountingReader<'_, true> = CountingReader::start(&bytes, Counts::new(alloc)?)?;
     let mut grid = BlockGrid::new(alloc, ROWS, FROM, TO, 60)?;
     let (count, rule, blocks) = if uses_before {
         read_blocks(

@@ -20,11 +20,6 @@ pub weighted_same : (taps : List ℤ) (f g : ℕ → ℕ) → ((k : ℕ) → k <
 unfolding weighted
 weighted_same taps f g same = rw (same 0 (omega arith), same 1 (omega arith), same 2 (omega arith), same 3 (omega arith), same 4 (omega arith), same 5 (omega arith), same 6 (omega arith), same 7 (omega arith)) refl
 
--- what lies further on is clamped no earlier
-clamped_next : (size : ℕ) (u : ℤ) → clamped size u ≤ clamped size (u +ℤ pos 1)
-clamped_next size (pos a) = omega arith
-clamped_next size (negsuc a) = omega arith
-
 clamped_more : (size : ℕ) (x : ℤ) (a d : ℕ) → clamped size ((x +ℤ pos a) -ℤ pos 3) ≤ clamped size ((x +ℤ pos (a + d)) -ℤ pos 3)
 clamped_more size (pos x) a d = grind arith
 clamped_more size (negsuc x) a d = grind arith

@@ -255,12 +255,6 @@ pub gathered_small : (t : List (List ℤ)) (order : List ℕ) → All (All IsSma
 gathered_small t order small = All-map (All IsSmall) (λ place. get_or t place []) (take (length t) order)
     (λ k d low. row_small t (get_or (take (length t) order) k d) small)
 
--- what two maps give alike
-pub gives_same : (f g : List ℤ → Result (List ℤ) Rule) (r : Result (Unit {0}) Rule) (old new : List (List ℤ)) → ((xs : List ℤ) → f xs ≡ g xs) →
-    GivesColumns f r old new → GivesColumns g r old new
-gives_same f g (Ok _) old new same gives = λ j low. sym (same (column j old)) ∙ gives j low
-gives_same f g (Err rule) old new same gives = (gives.0, gives.1, sym (same (column gives.0 old)) ∙ gives.2)
-
 -- rows that are a transform of lists as long as the columns
 pub gives_of_size : (n : ℕ) (f g : List ℤ → Result (List ℤ) Rule) (r : Result (Unit {0}) Rule) (old new : List (List ℤ)) → length old ≡ n →
     ((xs : List ℤ) → length xs ≡ n → f xs ≡ g xs) → GivesColumns f r old new → GivesColumns g r old new

@@ -20,11 +20,11 @@ use Rattle.block_plan.specs.Blocks.{covering, covers, or_else}
 use Rattle.block_plan.specs.declared.block.BlockInfo.{BlockInfo}
 use Rattle.line_filter.specs.Edges.{with_edge}
 use Rattle.line_filter.specs.declared.edge.Edge.{Edge}
-use Rattle.loop_edges.specs.Cells.{sub_x, sub_y}
+use Rattle.loop_edges.specs.Cells.{sub_y}
 use Rattle.line_filter.specs.declared.edge.Pass.{Pass}
 use Rattle.loop_edges.specs.Edges.{step_of, edges_of, cell_edges, row_edges, with_row, superblock_edges}
 use Rattle.loop_edges.specs.declared.setting.EdgeSetting.{EdgeSetting}
-use Rattle.loop_filter.specs.Code.{IsCellIn, IsRowIn, HasFilterRows, AllFit}
+use Rattle.loop_filter.specs.Code.{IsRowIn, HasFilterRows, AllFit}
 
 flat_map_push : (g : ℕ → List Edge) (xs : List ℕ) (x : ℕ) → flat_map g (xs ++ x ∷ []) ≡ flat_map g xs ++ g x
 flat_map_push g xs x = rw (flat_map-append, append-nil) refl
@@ -61,32 +61,10 @@ covering_fits (x ∷ blocks) r c b fit is =
     chosen_fits (covering blocks r c) (covers x r c) x b (λ y here. covering_fits blocks r c y (λ i d low. fit (suc i) d (omega (arith, low))) here)
     (fit zero x (omega arith)) is
 
--- a cell of a row of cells
-pub cell_in : (shape : Shape) (plane : Plane) (a : Area) (r sc j : ℕ) → IsRowIn shape plane a r → 8 * sc + step_of (sub_x shape plane) * j < mi_cols shape
-    → IsCellIn shape plane a r (8 * sc + step_of (sub_x shape plane) * j)
-cell_in shape plane a r sc j so low = record {
-  row = so.row;
-  column = low;
-  above = so.above;
-  above_all = so.above_all;
-  below = so.below;
-  left = so.left;
-  right = so.right;
-  left_all = right_of (sub_x shape plane) sc j;
-}
-  where
-    right_of : (sub : Bool) (sc j : ℕ) → 0 < 8 * sc + step_of sub * j → 8 ≤ halved sub (8 * (8 * sc + step_of sub * j))
-    right_of true sc j some = omega (arith, some)
-    right_of false sc j some = omega (arith, some)
-
 -- where the i-th row of cells of a row of superblocks begins
 row_at : (sub : Bool) (sr i : ℕ) → halved sub (8 * (8 * sr + step_of sub * i)) ≡ halved sub (64 * sr) + 8 * i
 row_at true sr i = omega arith
 row_at false sr i = omega arith
-
-first_past : (sub : Bool) (sr : ℕ) → 0 < sr → 32 ≤ halved sub (64 * sr)
-first_past true sr some = omega (arith, some)
-first_past false sr some = omega (arith, some)
 
 whole_row : (sub : Bool) (sr i : ℕ) → step_of sub * i < 8 → halved sub (64 * sr) + 8 * i + 8 ≤ halved sub (64 * (sr + 1))
 whole_row true sr i low = omega (arith, low)

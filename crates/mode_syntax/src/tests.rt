@@ -312,7 +312,7 @@ fn read_tile(
         return Err(Fail::from(AllocError));
     }
     let mut tile = Tile {
-        reader: CountingReader::start(bytes, Counts::new())?,
+        reader: CountingReader::start(bytes, Counts::new(alloc)?)?,
         setting,
         grid: BlockGrid::new(alloc, frame.rows, columns.0, columns.1, 100)?,
         room: 100,
@@ -427,7 +427,7 @@ fn counts(rt: HostRuntime) -> Result<(), Fail> {
     let setting = FrameSetting::new(&header, modes(TxMode::Only4x4), default_contexts());
     assert_eq!(rt; setting.places, one);
     let grid = BlockGrid::new(rt.alloc(), 1, 0, 1, 0)?;
-    let mut reader: CountingReader<true> = CountingReader::start(&[0], Counts::new())?;
+    let mut reader: CountingReader<true> = CountingReader::start(&[0], Counts::new(rt.alloc())?)?;
     let at = SquareAt {
         row: 0,
         col: 0,

@@ -7,6 +7,7 @@ use super::*;
 use block_plan::Mv;
 use counting_reader::CountingReader;
 use prob_contexts::{Counts, ProbKind, default_contexts};
+use std::alloc::Global;
 use std::test::Fail;
 use vp9_types::Rule;
 
@@ -85,11 +86,11 @@ fn digest_counts(counts: &Counts) -> u32 {
 }
 
 /// Digests of forty vectors and of their counts.
-fn read(seed: u32, ones: u8, high_precision: bool) -> Result<(u32, u32), Rule> {
+fn read(alloc: Global, seed: u32, ones: u8, high_precision: bool) -> Result<(u32, u32), Fail> {
     let mut draws = Draws { x: seed };
     let mut bytes = [0; 3000];
     draw_bytes(&mut bytes, &mut draws, ones);
-    let mut reader: CountingReader<'_, true> = CountingReader::start(&bytes, Counts::new())?;
+    let mut reader: CountingReader<'_, true> = CountingReader::start(&bytes, Counts::new(alloc)?)?;
     let contexts = default_contexts();
     let mut digest = Digest { sum: 0 };
     for i in 0..40u8 {
@@ -108,7 +109,7 @@ fn read(seed: u32, ones: u8, high_precision: bool) -> Result<(u32, u32), Rule> {
 
 #[test]
 fn new_vectors(rt: HostRuntime) -> Result<(), Fail> {
-    assert_eq!(rt; read(31, 0, true)?, (2978193822, 4119833382));
-    assert_eq!(rt; read(32, 240, false)?, (516232506, 1939732278));
+    assert_eq!(rt; read(rt.alloc(), 31, 0, true)?, (2978193822, 4119833382));
+    assert_eq!(rt; read(rt.alloc(), 32, 240, false)?, (516232506, 1939732278));
     Ok(())
 }

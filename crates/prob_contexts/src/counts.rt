@@ -1,12 +1,13 @@
-ghost use Rattle.std.specs.Prelude.{◌≡◌, ◌+◌, ◌*◌, ◌<◌, ◌≤◌, ◌^◌, ℕ, List, length};
+ghost use Rattle.std.specs.Prelude.{◌≡◌, ◌+◌, ◌*◌, ◌<◌, ◌≤◌, ◌^◌, ℕ, List, length, IfOk};
 
 use crate::kind::ProbKind;
+use std::alloc::{AllocError, Global};
 use std::marker::Model;
 
 /// How often each node of the probabilities was left by a 0 and by a 1.
 #[derive(Drop)]
 pub struct Counts {
-    counters: [u64; 3790],
+    counters: Box<[u64; 3790]>,
 }
 
 impl Model for Counts {
@@ -14,7 +15,7 @@ impl Model for Counts {
 
     ghost Value = { List ℕ };
 
-    ghost view = { λ c. c.counters };
+    ghost view = { λ c. c.counters.value };
 }
 
 impl Counts {
@@ -22,12 +23,12 @@ impl Counts {
     ghost use Rattle.prob_contexts.specs.Kinds.{kind_size};
 
     /// Nothing is counted.
-    pub fn new() -> Self
-        ensures { result ≡ no_counts }
+    pub fn new(alloc: Global) -> Result<Self, AllocError>
+        ensures { IfOk result (λ counts. counts ≡ no_counts) }
     {
-        Counts {
-            counters: [0; 3790],
-        }
+        Ok(Counts {
+            counters: Box::new(alloc, [0; 3790])?,
+        })
     }
 
     /// Counts a bool that left the node at a place of its kind. A counter stands still at its type's end.
@@ -37,14 +38,15 @@ impl Counts {
         ensures { self.new ≡ with_bool self.old (record { kind = kind; place = place; one = one }) }
     {
         let at = counter_at(kind, place, one);
-        self.counters[at] = self.counters[at].saturating_add(1);
+        let counters = &mut *self.counters;
+        counters[at] = counters[at].saturating_add(1);
     }
 
     /// Adds the counts of another part of the frame. A counter stands still at its type's end.
     pub fn add(&mut self, other: &Self)
         ensures { self.new ≡ joined_counts self.old other.now }
     {
-        add_each(&mut self.counters, &other.counters);
+        add_each(&mut *self.counters, &*other.counters);
     }
 
     /// How often the node at a place of its kind was left by a 0 or by a 1.
@@ -52,7 +54,8 @@ impl Counts {
         requires { place < kind_size kind }
         ensures { result ≡ counter_of self.now (record { kind = kind; place = place; one = one }) }
     {
-        self.counters[counter_at(kind, place, one)]
+        let counters = &*self.counters;
+        counters[counter_at(kind, place, one)]
     }
 }
 

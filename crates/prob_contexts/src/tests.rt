@@ -1,4 +1,5 @@
 use crate::{Counts, ProbKind, default_contexts};
+use std::alloc::AllocError;
 use vp9_types::TxSize;
 
 #[test]
@@ -13,22 +14,24 @@ fn starts_with_the_tables(rt: HostRuntime) {
 }
 
 #[test]
-fn counts_a_bool(rt: HostRuntime) {
-    let mut counts = Counts::new();
+fn counts_a_bool(rt: HostRuntime) -> Result<(), AllocError> {
+    let mut counts = Counts::new(rt.alloc())?;
     counts.count(ProbKind::Skip, 2, true);
     assert_eq!(rt; counts.counter(ProbKind::Skip, 2, true), 1);
     assert_eq!(rt; counts.counter(ProbKind::Skip, 2, false), 0);
+    Ok(())
 }
 
 #[test]
-fn adds_counts_up(rt: HostRuntime) {
-    let mut counts = Counts::new();
+fn adds_counts_up(rt: HostRuntime) -> Result<(), AllocError> {
+    let mut counts = Counts::new(rt.alloc())?;
     counts.count(ProbKind::Skip, 2, true);
-    let mut others = Counts::new();
+    let mut others = Counts::new(rt.alloc())?;
     others.count(ProbKind::Skip, 2, true);
     others.count(ProbKind::VectorHigh, 1, false);
     counts.add(&others);
     assert_eq!(rt; counts.counter(ProbKind::Skip, 2, true), 2);
     assert_eq!(rt; counts.counter(ProbKind::VectorHigh, 1, false), 1);
     assert_eq!(rt; counts.counter(ProbKind::Skip, 2, false), 0);
+    Ok(())
 }

@@ -1,8 +1,7 @@
 -- What is done to lanes is done to the rows that stand in them.
-use Rattle.std.proofs.Common.{◌≡◌, ℕ, add-one, ◌+◌, ◌*◌, ◌-◌, ◌<◌, ◌≤◌, ◌^◌, ℤ, true, false, inl, inr, List, map, length, refl, sym, ◌∙◌, ap, subst, arith, nat_lt, nat_le, if◌then◌else◌, Result, Ok, Err}
+use Rattle.std.proofs.Common.{◌≡◌, ℕ, ◌+◌, ◌*◌, ◌-◌, ◌<◌, ◌≤◌, ◌^◌, ℤ, true, false, inl, inr, List, map, length, refl, sym, ◌∙◌, ap, subst, arith, nat_lt, nat_le, if◌then◌else◌, Result, Ok, Err}
 use Rattle.std.proofs.lemmas.Bool.{cases_lt, and_parts, leb-true, ltb-true}
 use Rattle.std.proofs.lemmas.Bool.Decides.{nat_tests}
-use Rattle.std.proofs.Math.Nat.{suc-mul}
 use Rattle.vp9_types.specs.declared.rule.Rule.{Rule}
 use Rattle.vp9_types.specs.declared.shape.Depth.{Depth}
 use Rattle.vp9_types.specs.Maps.{is_within}
@@ -69,21 +68,9 @@ not_within first width j before = grind (arith, nat_tests)
 within_is : (first width j : ℕ) → first ≤ j → j < first + width → is_within first width j ≡ true
 within_is first width j least below = grind (arith, nat_tests)
 
-one_more_group : (g width : ℕ) → (g + 1) * width ≡ g * width + width
-one_more_group g width = ap (λ z. z * width) (add-one g) ∙ suc-mul g width
-
 -- the columns below m are done
 pub record TurnSoFar (f : List ℤ → Result (List ℤ) Rule) (n : ℕ) (xs now : List ℤ) (m : ℕ) : Type 0 where
   pub done : (j : ℕ) → j < n → j < m → f (row n j xs) ≡ Ok (col n j now)
-
-pub next_group : (f : List ℤ → Result (List ℤ) Rule) (n g width count : ℕ) (xs now next : List ℤ) → TurnSoFar f n xs now (g * width) →
-    GroupDone f n (g * width) width xs now next → TurnSoFar f n xs next ((g + 1) * width)
-next_group f n g width count xs now next so_far group = record {
-  done = λ j low below. elim (cases_lt j (g * width)) [
-    | inl before ↦ so_far.done j low before ∙ ap Ok (sym (group.others j low (not_within (g * width) width j before)))
-    | inr behind ↦ group.done j low (within_is (g * width) width j behind (subst (λ z. j < z) (one_more_group g width) below))
-  ];
-}
 
 pub turn_done : (f : List ℤ → Result (List ℤ) Rule) (n side m : ℕ) (xs now : List ℤ) → side ≡ n → side ≤ m → length now ≡ n * n →
     TurnSoFar f side xs now m → turned f n xs ≡ Ok now

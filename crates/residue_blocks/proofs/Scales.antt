@@ -1,5 +1,5 @@
 -- Short levels are scaled one place after another.
-use Rattle.std.proofs.Common.{◌≡◌, ℕ, ◌+◌, ◌<◌, ◌≤◌, ℤ, pos, ◌*ℤ◌, Bool, true, false, ◌&&◌, List, length, set, refl, sym, ◌∙◌, ap, subst, arith, inl, inr, nat_eq, Ok, below_more, length-set, All, to_z, of_z}
+use Rattle.std.proofs.Common.{◌≡◌, ℕ, ◌+◌, ◌<◌, ◌≤◌, ℤ, pos, ◌*ℤ◌, Bool, true, false, ◌&&◌, List, length, set, refl, sym, ◌∙◌, ap, subst, arith, inl, inr, nat_eq, Ok, length-set, All, to_z, of_z}
 use mir.Syntax.{w32}
 use mir.Val.{SFits}
 use Rattle.std.specs.Bool.{OnTrue}
@@ -21,12 +21,6 @@ use Rattle.inverse_transforms.proofs.LaneLemmas.{hold_more, place_more, kept}
 use Rattle.residue_blocks.specs.Residue.{IsShort, Fitting, scaled, quantiser, coefficient, coefficients}
 use Rattle.residue_blocks.specs.declared.quant.Quant.{Quant}
 use Rattle.residue_blocks.proofs.Coefs.{misfit_at, all_done}
-
-pub short_more : (levels : List ℤ) (n : ℕ) (all here : Bool) → OnTrue here (IsShort (at levels n)) →
-    OnTrue all ((k : ℕ) → k < n → IsShort (at levels k)) → OnTrue (all && here) ((k : ℕ) → k < n + 1 → IsShort (at levels k))
-short_more levels n true true is so_far = below_more (λ k. IsShort (at levels k)) n so_far is
-short_more levels n true false is so_far = tt
-short_more levels n false here is so_far = tt
 
 pub all_short : (levels : List ℤ) (n : ℕ) (all : Bool) → length levels ≤ n → OnTrue all ((k : ℕ) → k < n → IsShort (at levels k)) → OnTrue all (All IsShort levels)
 all_short levels n true past so_far = λ k d low. rw (get_or_default levels k d (pos 0) low) (so_far k (omega arith))

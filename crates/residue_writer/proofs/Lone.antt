@@ -1,15 +1,11 @@
 -- Levels at the first places of transform blocks of 4x4, for tests.
-use Rattle.std.proofs.Common.{◌≡◌, ◌≢◌, ◌⊎◌, ◌<◌, ◌≤◌, ◌-◌, ◌*◌, inl, inr, zero, suc, ℕ, ℤ, pos, refl, arith, unsigned_abs, w32, ◌∷◌, length, set, take, drop}
+use Rattle.std.proofs.Common.{◌≡◌, ◌≢◌, ◌⊎◌, ◌<◌, ◌≤◌, ◌-◌, ◌*◌, inl, inr, zero, suc, ℕ, ℤ, pos, arith, unsigned_abs, w32, ◌∷◌, length, set, take, drop}
 use mir.Val.{to_z, of_z}
 use Rattle.std.specs.Prelude.{slice_index, replicate}
 use Rattle.std.specs.List.{All}
 use Rattle.std.proofs.lemmas.List.{get_or-replicate}
 use Rattle.vp9_types.specs.declared.shape.Depth.{Depth}
 use Rattle.vp9_types.specs.declared.shape.Depth.TheVariants.{Eight, Ten, Twelve}
-use Rattle.vp9_types.specs.declared.block.TxSize.TheVariants.{T4x4}
-use Rattle.vp9_types.specs.declared.block.TxType.{TxType}
-use Rattle.vp9_types.specs.declared.block.TxType.TheVariants.{DctDct, AdstDct, DctAdst, AdstAdst}
-use Rattle.vp9_tables.specs.Scans.{scan_of}
 use Rattle.coef_tokens.specs.Places.{Tables}
 use Rattle.coef_tokens.proofs.Turns.{clear_at, kept}
 use Rattle.token_writer.specs.Fits.{CanPut, IsCoded, level_of}
@@ -28,12 +24,6 @@ four P a b c d (suc zero) low = b
 four P a b c d (suc (suc zero)) low = c
 four P a b c d (suc (suc (suc zero))) low = d
 four P a b c d (suc (suc (suc (suc k)))) low = absurd (omega arith)
-
-pub scan_4x4 : (kind : TxType) → (length (scan_of T4x4 kind) ≡ 16) × (slice_index (scan_of T4x4 kind) 0 ≡ 0)
-scan_4x4 DctDct = (refl, refl)
-scan_4x4 AdstDct = (refl, refl)
-scan_4x4 DctAdst = (refl, refl)
-scan_4x4 AdstAdst = (refl, refl)
 
 others_of : (t : Tables) (z : ℤ) (count : ℕ) → slice_index t.scan 0 ≡ 0 → IsCountOf count z → (p : ℕ) → ((k : ℕ) → k < count → slice_index t.scan k ≢ p)
     → level_of (z ∷ replicate 15 (pos 0)) p ≡ pos 0

@@ -188,10 +188,6 @@ has_pictures header fields slots by kind shape size names h = λ others referenc
     (subst (λ (f : InterFields). is_in_range header.size (reference_in f.references reference) ≡ true) same range)
     (told_as slots fields by h reference) (from_as slots fields by h reference)
 
--- an intra frame refers to none
-pub no_pictures : (header : Header) (kind : FrameKind) (by : code.Rebuilding planes.Picture) → header.kind ≡ kind → ((fields : InterFields) → kind ≡ Inter fields → ⊥) → HasPictures header by
-no_pictures header kind by is none = λ fields reference inter range. absurd (none fields (sym is ∙ inter))
-
 picture_told : (x : Option (code_picture.ReferencePicture planes.Picture)) (y : Option Picture) → told_of x ≡ shown_of y → picture_of map_of x ≡ picture_in y
 picture_told None None same = refl
 picture_told None (Some p) same = absurd cc

@@ -5,20 +5,20 @@ use Rattle.std.specs.List.{flat_map}
 use Rattle.std.proofs.lemmas.List.{append-nil}
 use Rattle.std.proofs.lemmas.Grind.{flat_map-append}
 use Rattle.edge_io.specs.Putting.{Takes, TakesFront}
-use Rattle.edge_io.proofs.Fronts.{takes_none, takes_both, front_of}
+use Rattle.edge_io.proofs.Fronts.{takes_both, front_of}
 use Rattle.vp9_types.specs.declared.rule.Rule.{Rule}
 use Rattle.vp9_types.specs.declared.outcome.Outcome.{Outcome}
 use Rattle.vp9_types.specs.declared.outcome.Outcome.TheVariants as outcome
 use Rattle.vp9_types.specs.declared.outcome.Stop.{Stop}
-use Rattle.file_frames.specs.Code.{Ahead, all_ahead, walk_ahead, IsOnWay}
+use Rattle.file_frames.specs.Code.{Ahead, walk_ahead, IsOnWay}
 use Rattle.file_frames.specs.FileFrames.{frames_of_file}
 use Rattle.file_frames.specs.Walks.{walk}
-use Rattle.file_frames.proofs.Walks.{sets_out, goes_by, ends_at, arrives, breaks}
+use Rattle.file_frames.proofs.Walks.{goes_by, ends_at, arrives, breaks}
 use Rattle.seq_decoder.specs.After.{Stepped, step}
 use Rattle.seq_decoder.specs.Code.{shown_text, step_text, Breaks, Halts}
 use Rattle.seq_decoder.specs.Outcomes.{Completes, WritesFront, Decodes}
 use Rattle.seq_decoder.specs.Runs.{shown_list, added, decoding, run_of, picture_text, out_text}
-use Rattle.seq_decoder.specs.State.{Picture, State, start_state}
+use Rattle.seq_decoder.specs.State.{Picture, State}
 
 -- These frames were shown and written, and this state and these frames are left.
 pub record HasWritten (bytes : List ℕ) (state : State) (a : Ahead) (old new : Option (List ℕ)) (faults now : ℕ) : Type 0 where
@@ -26,10 +26,6 @@ pub record HasWritten (bytes : List ℕ) (state : State) (a : Ahead) (old new : 
   pub way : IsOnWay decoding bytes shown state a
   pub takes : Takes old new (flat_map picture_text shown)
   pub quiet : now ≡ faults
-
--- before the first frame
-pub none_written : (bytes : List ℕ) (a : Ahead) (old : Option (List ℕ)) (faults : ℕ) → a ≡ all_ahead bytes → HasWritten bytes start_state a old old faults faults
-none_written bytes a old faults is = record { shown = []; way = sets_out decoding bytes a is; takes = takes_none old; quiet = refl }
 
 -- the next frame, as the cursor gives it
 abbrev pub IsFrame : Ahead → ℕ → List ℕ → Ahead → Type 0

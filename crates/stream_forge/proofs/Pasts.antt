@@ -24,7 +24,7 @@ use Rattle.segment_map.specs.declared.map.SegmentMap.{SegmentMap}
 use Rattle.seq_decoder.specs.After.{has_size}
 use Rattle.seq_decoder.specs.Code.{HasPlaces, IsHeld, NamesHeld, NamesHeldBy, segments_held, shape_told}
 use Rattle.seq_decoder.specs.SavedContexts.{loses_past}
-use Rattle.stream_forge.specs.Code.{AreSegmentsOf, HasOne, IsFresh, IsOneOf}
+use Rattle.stream_forge.specs.Code.{AreSegmentsOf, IsFresh, IsOneOf}
 
 ---- Segments ----
 
@@ -33,12 +33,6 @@ same_size size other is = let both = and_parts (size.width == other.width) (size
 
 no_size : (size : FrameSize) → has_size size None ≡ true → ⊥
 no_size size is = cc
-
-pub has_one : (header : Header) (last : Option FrameSize) (fresh kept : Option SegmentMap) → IsFresh header last fresh → HasPlaces last kept → HasOne fresh kept
-has_one header last (Some m) kept is places = tt
-has_one header None None kept is places = absurd (no_size header.size is.1)
-has_one header (Some other) None None is places = absurd places
-has_one header (Some other) None (Some m) is places = refl
 
 kept_segments : (header : Header) (other : FrameSize) (m : SegmentMap) → loses_past header ≡ false → has_size header.size (Some other) ≡ true → HasPlaces (Some other) (Some m)
     → AreSegmentsOf header (Some other) (segments_held (Some m)) m

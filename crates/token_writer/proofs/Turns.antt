@@ -8,8 +8,6 @@ use Rattle.vp9_types.specs.Syntax.{Syntax}
 use Rattle.vp9_types.specs.declared.rule.Rule.{Rule}
 use Rattle.vp9_types.specs.declared.shape.Depth.{Depth}
 use Rattle.vp9_types.specs.declared.shape.Depth.TheVariants.{Eight, Ten, Twelve}
-use Rattle.vp9_types.specs.declared.block.TxSize.{TxSize}
-use Rattle.vp9_types.specs.declared.block.TxSize.TheVariants.{T4x4, T8x8, T16x16, T32x32}
 use Rattle.vp9_tables.specs.Scans.{area, scan_of}
 use Rattle.prob_contexts.specs.Lists.{ContextLists}
 use Rattle.coef_tokens.specs.Blocks.{block_tables}
@@ -45,12 +43,6 @@ coded_at depth levels position coded = elim (cases_lt position (length levels)) 
 
 pub none_at : (depth : Depth) (z : ℤ) → IsCoded depth (unsigned_abs z) → of_z w32 z ≡ 0 → z ≡ pos 0
 none_at depth z h none = sym (kept_level depth z h) ∙ ap (to_z w32) none
-
-pub area_most : (size : TxSize) → area size ≤ 1024
-area_most T4x4 = omega arith
-area_most T8x8 = omega arith
-area_most T16x16 = omega arith
-area_most T32x32 = omega arith
 
 pub back : (n : ℕ) → n + 1 - 1 ≡ n
 back n = omega arith

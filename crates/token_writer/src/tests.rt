@@ -158,7 +158,7 @@ fn writes(
     put_tokens(&mut encoder, &tables, row.first, levels, count as u32)?;
     let bytes = encoder.finish()?;
     assert_eq!(rt; bytes.as_slice(), row.bytes);
-    let mut reader = CountingReader::<false>::start(&bytes, Counts::new())?;
+    let mut reader = CountingReader::<false>::start(&bytes, Counts::new(alloc)?)?;
     assert_eq!(rt; tokens(&mut reader, &tables, row.first, read), count as u32);
     assert!(rt; *read == *levels);
     Ok(())

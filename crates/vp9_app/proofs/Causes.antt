@@ -1,8 +1,7 @@
 -- From how the work ended and what the note took to the cause of the answer.
 use Rattle.std.proofs.Common.{◌≡◌, ℕ, ◌<◌, List, length, refl, ap, sym, subst, ◌∙◌, inl, inr, arith}
 use Rattle.std.specs.Prelude.{◌⊎◌, Option, Some, None}
-use Rattle.std.proofs.lemmas.List.{take_all, append-nil}
-use Rattle.edge_io.specs.Filling.{WhereTold}
+use Rattle.std.proofs.lemmas.List.{take_all}
 use Rattle.edge_io.specs.Putting.{Takes}
 use Rattle.command_words.specs.declared.command.Command.{Command}
 use Rattle.command_words.specs.declared.command.Command.TheVariants as command
@@ -10,7 +9,7 @@ use Rattle.command_words.specs.declared.command.MadeStream.{MadeStream}
 use Rattle.vp9_app.specs.declared.status.Status.{Status}
 use Rattle.vp9_app.specs.declared.status.Status.TheVariants as status
 use Rattle.vp9_app.specs.Notes.{note_line}
-use Rattle.vp9_app.specs.Answers.{OfSource, OfSink, Output, SinkQuiet, SourceQuiet, Completes, WritesFront, Reads, Unread, Makes, WritesMade, WritesFrontOfMade, Works, Untouched, without_memory, Reports, Runs, listed, decoded}
+use Rattle.vp9_app.specs.Answers.{OfSource, OfSink, Output, SinkQuiet, Completes, WritesFront, Reads, Unread, Makes, Works, without_memory, Reports, Runs, listed, decoded}
 use Rattle.vp9_app.specs.Code.{MayLackMemory}
 use Rattle.vp9_app.specs.Laws.{AllQuiet, EndsAs, HasCause, IsComplete, IsDone}
 
@@ -199,13 +198,3 @@ complete_of (Some (command.Make stream)) = λ s o n told last h r. complete_made
 
 pub runs : (c : Option Command) (s : OfSource) (o n : OfSink) (first told last : Status) → Works c s o first → MayLackMemory first told → Reports n told last → Runs c s o n last
 runs c s o n first told last h m r = record { first = told; work = works_told c s o first told h m; note = r }
-
--- where nothing was read or written, want of memory may be the answer to any words
-nothing_of : (output : List ℕ → Output) (s : OfSource) (o : OfSink) → Untouched s o → Reads output s o status.OutOfMemory
-nothing_of output s o h = (h.0, h.1, λ bytes told. (0, λ taken is. h.3 ∙ is ∙ ap Some (sym (append-nil taken))))
-
-pub no_work : (c : Option Command) (s : OfSource) (o : OfSink) → Untouched s o → Works c s o status.OutOfMemory
-no_work None s o h = h
-no_work (Some command.List) s o h = nothing_of listed s o h
-no_work (Some (command.Decode options)) s o h = nothing_of decoded s o h
-no_work (Some (command.Make stream)) s o h = ((h.0, h.2), (h.1, inl h.3))

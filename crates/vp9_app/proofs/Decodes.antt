@@ -1,16 +1,14 @@
 -- From how the decoder ended to how the work of `decode` did.
 use Rattle.std.proofs.Common.{◌≡◌, ◌∙◌, ℕ, List, [], ap, sym, subst}
-use Rattle.std.specs.Prelude.{Option, Some, None, take}
+use Rattle.std.specs.Prelude.{Option, Some, take}
 use Rattle.vp9_types.specs.declared.rule.Rule.{Rule}
 use Rattle.edge_io.specs.Filling.{WhereTold}
 use Rattle.edge_io.specs.Putting.{Takes}
-use Rattle.vp9_types.specs.declared.outcome.Outcome.{Outcome}
 use Rattle.vp9_types.specs.declared.outcome.Outcome.TheVariants as outcome
 use Rattle.seq_decoder.specs.Runs.{out_text, run_of}
-use Rattle.seq_decoder.specs.Outcomes.{Decodes}
 use Rattle.seq_decoder.specs.Outcomes as of_run
-use Rattle.vp9_app.specs.Statuses.{ended, decode_ended}
-use Rattle.vp9_app.specs.Answers.{OfSource, OfSink, SourceQuiet, Completes, WritesFront, Reads, decoded}
+use Rattle.vp9_app.specs.Statuses.{ended}
+use Rattle.vp9_app.specs.Answers.{OfSource, OfSink, SourceQuiet, Completes, WritesFront, decoded}
 
 -- these bytes are all that the source had, and none is left
 abbrev pub WasRead : OfSource → List ℕ → Type 0
@@ -32,11 +30,3 @@ completes s o bytes e quiet read d = record {
 front : (s : OfSource) (o : OfSink) (bytes : List ℕ) → WasRead s bytes
     → of_run.WritesFront (run_of bytes) o.before o.after → WritesFront decoded s o
 front s o bytes read d = λ all told. (d.0, subst (λ b. Takes o.before o.after (take d.0 (out_text (run_of b)))) (read all told).0 d.1)
-
-pub decode_works : (s : OfSource) (o : OfSink) (bytes : List ℕ) (result : Outcome) → SourceQuiet s → WasRead s bytes
-    → Decodes (run_of bytes) o.before o.after o.faults o.faults_now result → Reads decoded s o (decode_ended result)
-decode_works s o bytes outcome.Done quiet read d = completes s o bytes None quiet read d
-decode_works s o bytes (outcome.Broken stop) quiet read d = completes s o bytes (Some (stop.frame, stop.rule)) quiet read d
-decode_works s o bytes outcome.WriteFault quiet read d = (quiet, d.0, front s o bytes read d.1)
-decode_works s o bytes outcome.OutOfMemory quiet read d = (quiet, d.0, front s o bytes read d.1)
-decode_works s o bytes outcome.ReadFault quiet read d = absurd d

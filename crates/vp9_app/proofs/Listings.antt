@@ -1,12 +1,11 @@
 -- The listing so far, and what the next frame adds.
-use Rattle.std.proofs.Common.{◌≡◌, ℕ, ◌+◌, List, [], ◌∷◌, ap, sym, subst, ◌∙◌}
-use Rattle.std.specs.Prelude.{Some, None, Ok, Err}
+use Rattle.std.proofs.Common.{◌≡◌, ℕ, ◌+◌, List, [], ◌∷◌, ap, sym, ◌∙◌}
+use Rattle.std.specs.Prelude.{Some, None, Err}
 use Rattle.vp9_types.specs.declared.outcome.Stop.{Stop}
 use Rattle.vp9_types.specs.declared.rule.Rule.{Rule}
-use Rattle.file_frames.specs.Code.{Ahead, all_ahead, IsOnWay}
-use Rattle.file_frames.proofs.Walks.{sets_out, goes_by, ends_at, arrives, breaks}
+use Rattle.file_frames.specs.Code.{Ahead, IsOnWay}
+use Rattle.file_frames.proofs.Walks.{ends_at, arrives, breaks}
 use Rattle.frame_headers.specs.declared.persist.Persist.{Persist}
-use Rattle.frame_headers.specs.State.{start_persist}
 use Rattle.vp9_app.specs.Code.{AddsLine}
 use Rattle.vp9_app.specs.Listing.{list_step, lining, listing}
 
@@ -17,16 +16,6 @@ HasListed bytes text persist a = IsOnWay lining bytes text persist a
 -- the next frame, as the cursor gives it
 abbrev pub IsFrame : Ahead → ℕ → List ℕ → Ahead → Type 0
 IsFrame a number frame next = (a ≡ record { number = number; frames = frame ∷ next.frames; ending = next.ending }) × (next.number ≡ number + 1)
-
--- before the first frame
-pub none_listed : (bytes text : List ℕ) (a : Ahead) → text ≡ [] → a ≡ all_ahead bytes → HasListed bytes text start_persist a
-none_listed bytes text a none is = subst (λ t. HasListed bytes t start_persist a) (sym none) (sets_out lining bytes a is)
-
--- one frame more
-pub frame_listed : (bytes frame : List ℕ) (number : ℕ) (persist next : Persist) (a rest : Ahead) (text new : List ℕ)
-    → HasListed bytes text persist a → IsFrame a number frame rest → AddsLine text (list_step number persist frame) (Ok next) new → HasListed bytes new next rest
-frame_listed bytes frame number persist next a rest text new h is adds =
-    subst (λ t. HasListed bytes t next rest) (sym adds.2) (goes_by lining bytes text persist a rest number frame (record { state = next; adds = adds.0 }) h is adds.1)
 
 -- at a frame that breaks a rule
 pub frame_breaks : (bytes frame : List ℕ) (number : ℕ) (persist : Persist) (a rest : Ahead) (text new : List ℕ) (rule : Rule)

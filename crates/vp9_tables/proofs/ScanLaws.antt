@@ -1,5 +1,5 @@
 -- The laws of the scans, computed over each.
-use Rattle.std.proofs.Common.{◌≡◌, ◌<◌, ◌*◌, refl, true, length, nat_lt, slice_index, take, drop, All, [], ◌∷◌}
+use Rattle.std.proofs.Common.{◌≡◌, ◌<◌, ◌*◌, refl, true, length, nat_lt, take, drop, All, [], ◌∷◌}
 use Rattle.std.specs.List.{list_all, flat_map}
 use Rattle.vp9_types.specs.declared.block.TxSize.{TxSize}
 use Rattle.vp9_types.specs.declared.block.TxSize.TheVariants.{T4x4, T8x8, T16x16, T32x32}
@@ -62,24 +62,6 @@ scan_new T32x32 DctDct = refl
 scan_new T32x32 AdstDct = refl
 scan_new T32x32 DctAdst = refl
 scan_new T32x32 AdstAdst = refl
-
-pub scan_first : (size : TxSize) (kind : TxType) → slice_index (scan_of size kind) 0 ≡ 0
-scan_first T4x4 DctDct = refl
-scan_first T4x4 AdstDct = refl
-scan_first T4x4 DctAdst = refl
-scan_first T4x4 AdstAdst = refl
-scan_first T8x8 DctDct = refl
-scan_first T8x8 AdstDct = refl
-scan_first T8x8 DctAdst = refl
-scan_first T8x8 AdstAdst = refl
-scan_first T16x16 DctDct = refl
-scan_first T16x16 AdstDct = refl
-scan_first T16x16 DctAdst = refl
-scan_first T16x16 AdstAdst = refl
-scan_first T32x32 DctDct = refl
-scan_first T32x32 AdstDct = refl
-scan_first T32x32 DctAdst = refl
-scan_first T32x32 AdstAdst = refl
 
 pub pair_count : (size : TxSize) (kind : TxType) → length (neighbours_of size kind) ≡ 2 * area size
 pair_count T4x4 DctDct = refl

@@ -1,7 +1,6 @@
 use Rattle.std.proofs.Common.{◌≡◌, ◌∙◌, ap, sym, subst, refl, arith}
 use Rattle.std.proofs.lemmas.Result.{err_from_is_err_and}
 use Rattle.frame_headers.specs.Spans.{tile_count}
-use Rattle.frame_headers.specs.State.{shape_of}
 use Rattle.prob_contexts.specs.Lists.{lists_of}
 use Rattle.loop_edges.specs.Cells.{setting_of}
 use Rattle.loop_edges.specs.Edges.{filtered_frame}
@@ -34,7 +33,7 @@ new-blocks-requires c =
     rw (c.deref.ensures.value, back) (record { size = c.args.setting.size; few = c.requires.few; are = c.in_ok-counts.ensures.columns })
 
 pub filter_frame-requires-clause-sizes : goal.filter_frame-requires-clause-sizes
-filter_frame-requires-clause-sizes c = rw (c.new.ensures, c.planes_mut.ensures.value) c.in_ok-counts.ensures.planes.sizes
+filter_frame-requires-clause-sizes c = rw (c.new-2.ensures, c.planes_mut.ensures.value) c.in_ok-counts.ensures.planes.sizes
 
 pub filter_frame-requires-clause-fit : goal.filter_frame-requires-clause-fit
 filter_frame-requires-clause-fit c =
@@ -46,7 +45,7 @@ filter_frame-requires-clause-fit c =
     c.in_ok-counts.ensures.columns))
 
 pub filter_frame-requires-clause-range : goal.filter_frame-requires-clause-range
-filter_frame-requires-clause-range c = rw (c.new.ensures, c.planes_mut.ensures.value) c.in_ok-counts.ensures.planes.range
+filter_frame-requires-clause-range c = rw (c.new-2.ensures, c.planes_mut.ensures.value) c.in_ok-counts.ensures.planes.range
 
 pub returns : goal.returns
 returns c =
@@ -61,15 +60,15 @@ returns c =
     let columns : c.new-blocks.result.columns.now ≡ c.decode_counted.new.columns = c.new-blocks.ensures.columns ∙ c.deref.ensures.value ∙ back in
     let are = c.in_ok-counts.ensures.columns in
     let m : samples_of c.filter_frame.new.planes ≡ filtered_frame (setting_of header) (all_blocks (blocks_read read)) (samples_of planes) =
-    c.filter_frame.ensures.map ∙ (λ i. filtered_frame (c.new.ensures i) (all_blocks (blocks_of (columns i))) (samples_of (c.planes_mut.ensures.value i)))
+    c.filter_frame.ensures.map ∙ (λ i. filtered_frame (c.new-2.ensures i) (all_blocks (blocks_of (columns i))) (samples_of (c.planes_mut.ensures.value i)))
     ∙ ap (λ blocks. filtered_frame (setting_of header) (all_blocks blocks) (samples_of planes)) blocks in (
       record { blocks = blocks_read read; map = filtered_frame (setting_of header) (all_blocks (blocks_read read)) (samples_of planes); counted = read.counted; contexts = lists_of setting.contexts },
       frame_done input (lists_of setting.contexts, setting.modes) read (samples_of planes) c.requires.begun.1 gives.1 gives.2.map_held,
       record {
         map = m;
         shape = c.requires.blank.same;
-        sizes = subst (λ (f : EdgeSetting). HasSizes f.shape c.filter_frame.new.planes) c.new.ensures c.filter_frame.ensures.sizes;
-        range = subst (λ (f : EdgeSetting). IsInRange f.shape.depth c.filter_frame.new.planes) c.new.ensures c.filter_frame.ensures.range;
+        sizes = subst (λ (f : EdgeSetting). HasSizes f.shape c.filter_frame.new.planes) c.new-2.ensures c.filter_frame.ensures.sizes;
+        range = subst (λ (f : EdgeSetting). IsInRange f.shape.depth c.filter_frame.new.planes) c.new-2.ensures c.filter_frame.ensures.range;
         contexts = refl;
         blocks = ap blocks_of back ∙ blocks;
         starts = rw back (starts_of header (tile_count header) c.decode_counted.new.columns are);

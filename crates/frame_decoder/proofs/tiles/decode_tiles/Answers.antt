@@ -11,7 +11,7 @@ pub loop-n-init : goal.loop-n-init
 loop-n-init g c = record {
   columns = c.requires.columns;
   planes = c.requires.planes;
-  read = (nothing_read c.args.by.now.setting.header, all_left _ _ _ c.requires.tested, c.requires.start, none_counted _ _ c.new-counts.ensures);
+  read = (nothing_read c.args.by.now.setting.header, all_left _ _ _ c.requires.tested, c.requires.start, none_counted _ _ c.requires.none);
 }
 
 pub returns-in_err-counts-clause-gives : goal.returns-in_err-counts-clause-gives
