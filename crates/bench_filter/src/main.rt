@@ -15,3 +15,6 @@ fn main(rt: HostRuntime) -> io::Result<()> {
     }
     Ok(())
 }
+
+#[cfg(test)]
+mod tests;

@@ -15,3 +15,8 @@ fn main(rt: HostRuntime) -> io::Result<()> {
     }
     Ok(())
 }
+
+#[cfg(test)]
+mod block_tests;
+#[cfg(test)]
+mod place_tests;

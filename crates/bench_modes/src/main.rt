@@ -18,3 +18,10 @@ fn main(rt: HostRuntime) -> io::Result<()> {
     }
     Ok(())
 }
+
+#[cfg(test)]
+mod inter_tests;
+#[cfg(test)]
+mod tile_tests;
+#[cfg(test)]
+mod vector_tests;

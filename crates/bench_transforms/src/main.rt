@@ -15,3 +15,8 @@ fn main(rt: HostRuntime) -> io::Result<()> {
     }
     Ok(())
 }
+
+#[cfg(test)]
+mod residue_tests;
+#[cfg(test)]
+mod transform_tests;

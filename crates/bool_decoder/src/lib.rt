@@ -5,8 +5,6 @@ mod decoder;
 mod laws;
 mod refill;
 mod split;
-#[cfg(test)]
-mod tests;
 mod tree;
 
 pub use decoder::BoolDecoder;

@@ -8,8 +8,6 @@ mod step;
 mod tables;
 mod tail;
 mod tails;
-#[cfg(test)]
-mod tests;
 
 pub use block::tokens;
 pub use flags::{first_context, mark};

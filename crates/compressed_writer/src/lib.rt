@@ -5,8 +5,6 @@ mod differences;
 mod laws;
 mod modes;
 mod references;
-#[cfg(test)]
-mod tests;
 mod transforms;
 mod update;
 mod vectors;

@@ -9,8 +9,6 @@ mod quantizer;
 mod references;
 mod segments;
 mod size;
-#[cfg(test)]
-mod tests;
 mod tiles;
 mod writing;
 

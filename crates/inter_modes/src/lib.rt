@@ -20,6 +20,3 @@ pub use vectors::{
     NO_VECTOR, NO_VECTORS, Sources, best_vectors, near_of_block, near_of_quarter,
     nearest_of_quarter, of_list,
 };
-
-#[cfg(test)]
-mod tests;

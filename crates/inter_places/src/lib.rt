@@ -7,8 +7,6 @@ mod part;
 mod places;
 mod scaling;
 mod span;
-#[cfg(test)]
-mod tests;
 
 pub use axis::{Axis, Place};
 pub use part::{BlockPart, Direction};

@@ -10,8 +10,6 @@ mod places;
 mod prediction;
 mod rows;
 mod scaled;
-#[cfg(test)]
-mod tests;
 
 pub use laws::{phase_zero_copies, rows_suffice, samples_stay_in_range};
 pub use means::average;

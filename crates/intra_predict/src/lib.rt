@@ -17,8 +17,6 @@ mod rows;
 mod scratch;
 mod sizes;
 mod steps;
-#[cfg(test)]
-mod tests;
 
 pub use block::IntraBlock;
 pub use coded::CodedBlock;

@@ -13,8 +13,6 @@ mod quads;
 mod renamed;
 mod rows;
 mod steps;
-#[cfg(test)]
-mod tests;
 mod transforms;
 mod turn;
 pub mod values;

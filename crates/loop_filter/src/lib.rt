@@ -5,8 +5,6 @@ mod blocks;
 mod cells;
 mod laws;
 mod rows;
-#[cfg(test)]
-mod tests;
 mod way;
 
 pub use laws::rows_follow_one_another;

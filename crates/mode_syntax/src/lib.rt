@@ -21,6 +21,3 @@ pub use mode_info::intra_frame_mode_info;
 pub use partition::{partition_number, partition_probs, read_partition, side_of, square_context};
 pub use square_at::{SquareAt, block_of, quarter_of};
 pub use tx_sizes::{greatest_allowed, read_tx_size, tx_context};
-
-#[cfg(test)]
-mod tests;

@@ -7,8 +7,6 @@ mod intra_modes;
 mod laws;
 mod mode_info;
 mod partition;
-#[cfg(test)]
-mod tests;
 mod tx_sizes;
 
 pub use elements::{put_intra_segment_id, put_skip};

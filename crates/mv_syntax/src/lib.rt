@@ -9,6 +9,3 @@ mod new_vectors;
 pub use components::power_of_two;
 pub use differences::read_mv;
 pub use new_vectors::{added, in_range_or_rule, read_new_vector};
-
-#[cfg(test)]
-mod tests;

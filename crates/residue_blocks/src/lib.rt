@@ -10,8 +10,6 @@ mod levels;
 mod quant;
 mod repeats;
 mod scale;
-#[cfg(test)]
-mod tests;
 mod turn;
 
 pub use kind::Kind;

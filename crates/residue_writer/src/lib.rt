@@ -5,8 +5,6 @@
 mod blocks;
 mod levels;
 mod planes;
-#[cfg(test)]
-mod tests;
 mod transform_blocks;
 
 pub use blocks::put_block;

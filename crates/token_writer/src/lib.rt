@@ -5,7 +5,5 @@ mod level;
 mod places;
 mod step;
 mod tail;
-#[cfg(test)]
-mod tests;
 
 pub use places::put_tokens;

@@ -16,6 +16,3 @@ pub use laws::what_is_read_can_be_put;
 pub use new_vectors::put_new_vector;
 pub use symbols::{InterSymbols, QuarterSymbols};
 pub use vectors::put_inter_mode;
-
-#[cfg(test)]
-mod tests;

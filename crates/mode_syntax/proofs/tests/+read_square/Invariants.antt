@@ -1,4 +1,0 @@
-use Rattle.mode_syntax.proofs.tests.+read_square.Given as goal
-
-abbrev pub decreases-read_square : goal.decreases-read_square
-decreases-read_square l = l.level
