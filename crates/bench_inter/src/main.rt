@@ -1,5 +1,6 @@
 //! Times inter prediction: each line of the input, as `both 64 1000`, names the phases that aren't 0, a size and how many
 //! blocks to predict from a plane of 512x512 samples. It prints a checksum of the predicted samples.
+//! The tests here are those of `inter_places` and `inter_scaled`, by values from outside.
 #![tactic(auto)]
 
 mod blocks;

@@ -1,5 +1,6 @@
 //! Times intra prediction: each line of the input, as `dc 8 1000`, names a mode, a size and how many blocks to predict
 //! and put into a plane of 1920x1080 samples, in raster order. It prints a checksum of the plane.
+//! The tests here are those of `intra_predict`, by values from outside.
 #![tactic(auto)]
 
 mod blocks;

@@ -1,5 +1,6 @@
 //! Times the reading of the modes of inter frames: each line of the input names how many frames of 1920x1080 to read of
 //! pseudo-random bytes, with drawn partitions or such as are read too. It prints checksums of the last one's blocks and of what was counted.
+//! The tests here are those of `inter_modes`, `mode_syntax` and `mv_syntax`, by values from outside.
 #![tactic(auto)]
 
 mod checksums;

@@ -1,5 +1,6 @@
 //! Times the reading of tokens: each line of the input names how many rounds of blocks to read of pseudo-random bytes,
 //! one block of each size in a round. It prints a checksum of them.
+//! The tests here are those of `coef_tokens`, by values from outside.
 #![tactic(auto)]
 
 mod blocks;
