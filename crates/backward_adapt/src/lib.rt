@@ -6,8 +6,6 @@ mod kind;
 mod laws;
 mod lists;
 mod merge;
-#[cfg(test)]
-mod tests;
 
 pub use adapting::adapt;
 pub use kind::{AdaptKind, InterKind};

@@ -17,5 +17,3 @@ pub use rows::BandRows;
 pub use samples::{BandName, BandSamples};
 pub use store::Store;
 
-#[cfg(test)]
-mod tests;

@@ -14,5 +14,3 @@ pub use in_planes::{mode_at, plane_block};
 pub use neighbours::{Neighbours, above_place, left_place};
 pub use residues::{BlockResidues, PlaneResidues};
 
-#[cfg(test)]
-mod tests;

@@ -6,8 +6,6 @@ mod encoder;
 mod laws;
 mod split;
 mod symbols;
-#[cfg(test)]
-mod tests;
 mod tree;
 
 pub use encoder::BoolEncoder;

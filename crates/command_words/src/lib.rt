@@ -9,5 +9,3 @@ pub use command::{Command, DecodeOptions, MadeStream};
 pub use laws::worked_rows;
 pub use reading::read_words;
 
-#[cfg(test)]
-mod tests;

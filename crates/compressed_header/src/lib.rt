@@ -10,5 +10,3 @@ mod vectors;
 
 pub use reading::read;
 
-#[cfg(test)]
-mod tests;

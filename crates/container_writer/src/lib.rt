@@ -4,8 +4,6 @@
 mod file;
 mod index;
 mod laws;
-#[cfg(test)]
-mod tests;
 
 pub use file::{write_header, write_packet};
 pub use index::write_index;

@@ -18,5 +18,3 @@ pub use source::{Failed, Source};
 pub use system::{StdSink, StdSource};
 pub use write::put_all;
 
-#[cfg(test)]
-mod tests;

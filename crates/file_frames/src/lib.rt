@@ -3,8 +3,6 @@
 
 mod cursor;
 mod laws;
-#[cfg(test)]
-mod tests;
 
 pub use cursor::{FileFrame, FrameCursor};
 pub use laws::{file_has_these_frames, walks_go_on};

@@ -3,7 +3,5 @@
 
 mod frame;
 mod rows;
-#[cfg(test)]
-mod tests;
 
 pub use frame::render;

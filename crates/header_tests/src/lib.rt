@@ -10,8 +10,6 @@ mod params;
 mod references;
 mod same;
 mod segments;
-#[cfg(test)]
-mod tests;
 mod tiles;
 
 pub use headers::{can_choose, is_well_formed};

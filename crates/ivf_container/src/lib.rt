@@ -3,8 +3,6 @@
 
 mod laws;
 mod packet;
-#[cfg(test)]
-mod tests;
 
 pub use laws::file_has_these_packets;
 pub use packet::{Packet, next_packet, read_header};

@@ -7,17 +7,3 @@ mod listed;
 
 pub use listed::write_listed;
 
-#[cfg(test)]
-mod compressed_tests;
-#[cfg(test)]
-mod mode_tests;
-#[cfg(test)]
-mod residue_tests;
-#[cfg(test)]
-mod tests;
-#[cfg(test)]
-mod token_tests;
-#[cfg(test)]
-mod uncompressed_tests;
-#[cfg(test)]
-mod vector_tests;

@@ -10,8 +10,6 @@ mod lists;
 mod references;
 mod starts;
 mod symbols;
-#[cfg(test)]
-mod tests;
 mod vectors;
 
 pub use lists::{ListedBlock, ListedLevels, ListedSymbols};

@@ -15,5 +15,3 @@ pub use sub_blocks::{NearVectors, near_vectors, sub_block_vectors};
 pub use suggestions::{candidates, mode_context};
 pub use vector::{is_precise, rounded};
 
-#[cfg(test)]
-mod tests;

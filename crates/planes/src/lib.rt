@@ -6,8 +6,6 @@ mod copies;
 mod frame_planes;
 mod picture;
 mod plane;
-#[cfg(test)]
-mod tests;
 
 pub use area::Area;
 pub use frame_planes::{FramePlanes, coded_area};

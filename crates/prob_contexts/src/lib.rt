@@ -7,8 +7,6 @@ mod defaults;
 mod groups;
 mod kind;
 mod laws;
-#[cfg(test)]
-mod tests;
 
 pub use contexts::Contexts;
 pub use counts::Counts;

@@ -13,5 +13,3 @@ pub use seat::Seat;
 pub use slot::InSlot;
 pub use view::View;
 
-#[cfg(test)]
-mod tests;

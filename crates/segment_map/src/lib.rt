@@ -6,5 +6,3 @@ mod map;
 
 pub use map::SegmentMap;
 
-#[cfg(test)]
-mod tests;

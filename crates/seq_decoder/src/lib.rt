@@ -10,8 +10,6 @@ mod plain;
 mod saved;
 mod segments;
 mod showing;
-#[cfg(test)]
-mod tests;
 
 pub use decoder::Decoder;
 pub use last::LastFrame;

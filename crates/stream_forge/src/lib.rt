@@ -7,8 +7,6 @@ mod discard;
 mod frames;
 mod past;
 mod stream;
-#[cfg(test)]
-mod tests;
 
 pub use coded::{CodedFrame, write_coded};
 pub use stream::{NotMade, make_stream};

@@ -4,8 +4,6 @@
 mod index;
 mod laws;
 mod splitting;
-#[cfg(test)]
-mod tests;
 
 pub use laws::payload_has_these_frames;
 pub use splitting::{Parts, split};

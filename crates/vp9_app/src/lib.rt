@@ -7,8 +7,6 @@ mod listing;
 mod note;
 mod program;
 mod status;
-#[cfg(test)]
-mod tests;
 
 pub use laws::answers_have_their_causes;
 pub use listing::{Listed, list_file};

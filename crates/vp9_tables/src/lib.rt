@@ -48,5 +48,3 @@ pub use trees::{
     tx32_tree,
 };
 
-#[cfg(test)]
-mod tests;

@@ -1,5 +1,0 @@
-use Rattle.std.proofs.Common.{◌≡◌}
-use Rattle.progress_board.proofs.tests.draw_all.Given as goal
-
-abbrev pub invariant-loop-place : goal.invariant-loop-place
-invariant-loop-place l = (l.seat.board ≡ l.board.board) × (l.seat.view.has ≡ l.fn.seat.view.has)
