@@ -16,4 +16,3 @@ pub use meaning::Meaning;
 pub use rows::BandRows;
 pub use samples::{BandName, BandSamples};
 pub use store::Store;
-

@@ -10,4 +10,3 @@ pub use partitions::{part_size, partition_context, square};
 pub use parts::{Part, fill_part, part_inside};
 pub use sizes::{chroma_tx, greatest_tx, height_4, height_8, is_below_8x8, width_4, width_8};
 pub use transform_blocks::{FramePlaces, PlaneBlock, TransformGrid, transform_grid};
-

@@ -13,4 +13,3 @@ pub use grid::BlockGrid;
 pub use in_planes::{mode_at, plane_block};
 pub use neighbours::{Neighbours, above_place, left_place};
 pub use residues::{BlockResidues, PlaneResidues};
-

@@ -8,4 +8,3 @@ mod reading;
 pub use command::{Command, DecodeOptions, MadeStream};
 pub use laws::worked_rows;
 pub use reading::read_words;
-

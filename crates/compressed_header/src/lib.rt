@@ -9,4 +9,3 @@ mod update;
 mod vectors;
 
 pub use reading::read;
-

@@ -17,4 +17,3 @@ pub use sink::{PutFault, Sink};
 pub use source::{Failed, Source};
 pub use system::{StdSink, StdSource};
 pub use write::put_all;
-

@@ -1,9 +1,7 @@
 //! Writes the frames of VP9 from lists of what their blocks say (6.1 to 6.4 of the VP9 standard), each behind the frames that a
 //! decoder has decoded.
-//! The tests here are also those of the crates that write headers, modes, vectors, tokens and residues.
 #![tactic(auto)]
 
 mod listed;
 
 pub use listed::write_listed;
-

@@ -14,4 +14,3 @@ pub use search::{MvSearch, SignBiases};
 pub use sub_blocks::{NearVectors, near_vectors, sub_block_vectors};
 pub use suggestions::{candidates, mode_context};
 pub use vector::{is_precise, rounded};
-

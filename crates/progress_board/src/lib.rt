@@ -12,4 +12,3 @@ pub use board::{Board, Refused};
 pub use seat::Seat;
 pub use slot::InSlot;
 pub use view::View;
-

@@ -5,4 +5,3 @@ mod ids;
 mod map;
 
 pub use map::SegmentMap;
-

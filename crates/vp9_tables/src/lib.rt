@@ -47,4 +47,3 @@ pub use trees::{
     mv_class0_tree, mv_fr_tree, mv_joint_tree, partition_tree, segment_tree, tx8_tree, tx16_tree,
     tx32_tree,
 };
-
