@@ -1,0 +1,128 @@
+#!/usr/bin/env python3
+"""Tries the wrong bodies of wrong/CRATE/*.edit: the prover has to refuse each.
+
+    tools/try_wrong.py [CRATE..]     those of these crates, or all
+    tools/try_wrong.py --changed     those of each crate that changed since they were refused, and what was never tried
+    tools/try_wrong.py --stale       tries nothing: tells these, by its status too
+
+It puts them into must-fail/ in a clone of what is committed, and runs the kit's gate there for these crates alone: their proofs, and those of the
+crates below, are taken from earlier runs of the gate on this machine where they stand. What was refused is kept in wrong/REFUSED.tsv, with the
+sum of the crate's src/, specs/ and proofs/ and of the edit.
+"""
+import datetime
+import hashlib
+import os
+import re
+import shutil
+import subprocess
+import sys
+import tempfile
+import time
+
+TOP = os.path.dirname(os.path.dirname(os.path.abspath(__file__)))
+REFUSED = f"{TOP}/wrong/REFUSED.tsv"
+SAID = re.compile(r"must-fail (\w+)/(\S+)\.edit: (refused|BAD EDIT|NOT REFUSED|NOT TRIED)(.*)")
+
+
+def sum_of(*paths):
+    """Returns a sum of files and of all files below folders, by name and content."""
+    found = hashlib.sha256()
+    for path in paths:
+        files = [path] if os.path.isfile(path) else sorted(f"{at}/{name}" for at, _, names in os.walk(path) for name in names)
+        for file in files:
+            with open(file, "rb") as it:
+                found.update(repr((os.path.basename(file) if file == path else os.path.relpath(file, path), it.read())).encode())
+    return found.hexdigest()[:16]
+
+
+def crate_sum(name):
+    return sum_of(*(f"{TOP}/crates/{name}/{part}" for part in ("src", "specs", "proofs") if os.path.isdir(f"{TOP}/crates/{name}/{part}")))
+
+
+def edits():
+    """Returns the wrong bodies by crate and name, each with its sum."""
+    found = {}
+    for crate in sorted(os.listdir(f"{TOP}/wrong")):
+        if os.path.isdir(f"{TOP}/wrong/{crate}"):
+            for file in sorted(os.listdir(f"{TOP}/wrong/{crate}")):
+                if file.endswith(".edit"):
+                    found[crate, file[:-5]] = sum_of(f"{TOP}/wrong/{crate}/{file}")
+    return found
+
+
+def refused():
+    """Returns what was refused: the sums and the day, by crate and name."""
+    if not os.path.isfile(REFUSED):
+        return {}
+    with open(REFUSED, encoding="utf-8") as it:
+        rows = [line.rstrip("\n").split("\t") for line in it][1:]
+    return {(crate, name): (of_crate, of_edit, day) for crate, name, of_crate, of_edit, day in rows}
+
+
+def write_refused(known):
+    with open(REFUSED, "w", encoding="utf-8") as out:
+        print("crate", "edit", "sum of the crate", "sum of the edit", "refused on", sep="\t", file=out)
+        for key, row in sorted(known.items()):
+            print(*key, *row, sep="\t", file=out)
+
+
+def tried(some):
+    """Puts these wrong bodies into a clone, runs the gate for their crates, and returns what it said of each."""
+    crates = sorted({crate for crate, _ in some})
+    with tempfile.TemporaryDirectory(prefix="vp9dec-wrong-") as room:
+        subprocess.run(["git", "clone", "-q", TOP, f"{room}/clone"], check=True)
+        for crate, name in some:
+            os.makedirs(f"{room}/clone/crates/{crate}/must-fail", exist_ok=True)
+            shutil.copy(f"{TOP}/wrong/{crate}/{name}.edit", f"{room}/clone/crates/{crate}/must-fail")
+        ran = subprocess.Popen(["nice", "rt", "ci", *crates], cwd=f"{room}/clone", stdout=subprocess.PIPE, stderr=subprocess.STDOUT, text=True, errors="replace")
+        found = {}
+        for line in ran.stdout:
+            told = SAID.search(line)
+            if told and (told[1], told[2]) in some:
+                found[told[1], told[2]] = told[3], told[4]
+                if told[3] != "refused" or "only because a proof file names" in told[4]:
+                    print(line.rstrip()[:300], flush=True)
+            elif line.startswith("rt:") and re.search(r"NOT PROVED|passed,|cannot", line):
+                print(line.rstrip()[:300], flush=True)
+        ran.wait()
+    return found
+
+
+def main():
+    words = sys.argv[1:]
+    flags, names = [it for it in words if it.startswith("-")], [it for it in words if not it.startswith("-")]
+    every, known = edits(), refused()
+    if [it for it in flags if it not in ("--changed", "--stale")] or [it for it in names if not any(crate == it for crate, _ in every)]:
+        sys.exit(__doc__)
+    sums = {crate: crate_sum(crate) for crate, _ in every}
+    stale = [key for key, own in every.items() if known.get(key, ("", ""))[:2] != (sums[key[0]], own)]
+    gone = [key for key in known if key not in every]
+    if "--stale" in flags:
+        for crate, name in stale:
+            print(f"{crate}/{name}: {'changed since it was refused' if (crate, name) in known else 'never tried'}")
+        sys.exit(1 if stale else 0)
+    some = [key for key in (stale if "--changed" in flags else every) if not names or key[0] in names]
+    if not some:
+        print("nothing to try: each was refused as it stands")
+        return
+    changed = subprocess.run(["git", "status", "--porcelain", "crates", "crates.txt"], cwd=TOP, capture_output=True, text=True).stdout
+    if changed:
+        sys.exit("crates/ has changes that aren't committed, and the clone would not have them: commit them first")
+    begun, today = time.time(), datetime.date.today().isoformat()
+    found = tried(set(some))
+    for key in gone:
+        del known[key]
+    for key, (what, _) in found.items():
+        if what == "refused":
+            known[key] = sums[key[0]], every[key], today
+        else:
+            known.pop(key, None)
+    write_refused(known)
+    failed = [key for key in some if found.get(key, ("", ""))[0] != "refused"]
+    for crate, name in failed:
+        print(f"{crate}/{name}: {found.get((crate, name), ('no word of it',))[0]}")
+    print(f"{len(some) - len(failed)} of {len(some)} wrong bodies refused, {(time.time() - begun) / 60:.1f} minutes")
+    sys.exit(1 if failed else 0)
+
+
+main()
