@@ -110,8 +110,10 @@ def main():
         sys.exit("crates/ has changes that aren't committed, and the clone would not have them: commit them first")
     begun, today = time.time(), datetime.date.today().isoformat()
     found = tried(set(some))
+    # (another run may have written it meanwhile)
+    known = refused()
     for key in gone:
-        del known[key]
+        known.pop(key, None)
     for key, (what, _) in found.items():
         if what == "refused":
             known[key] = sums[key[0]], every[key], today
