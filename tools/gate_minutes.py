@@ -16,6 +16,8 @@ import time
 
 TICKS = os.sysconf("SC_CLK_TCK")
 KINDS = ("proof", "tests", "edits", "other")
+# What no process says a crate of.
+OTHER = ("-", "other")
 
 
 def text_of(path):
@@ -35,12 +37,21 @@ def work_of(pid, words):
     except OSError:
         return None
     if not named:
-        at = re.search(r"/crates/([^/]+)", room)
-        return (at[1] if at else "-", "other")
+        return None
     if "rt-edit-" in room or "/rt-plant" in room:
         return named[1], "edits"
     is_test = re.search(r"\0--tests?(\0|$)", words) or named[1].endswith("_tests") and "\0--extern\0" + named[1] not in words and "/out/" in words
     return named[1], "tests" if is_test else "proof"
+
+
+def work_behind(pid, top, parents):
+    """Returns what a process works on, which may be said by the one that started it."""
+    while pid != top:
+        found = work_of(pid, text_of(f"/proc/{pid}/cmdline"))
+        if found:
+            return found
+        pid = parents.get(pid, top)
+    return OTHER
 
 
 def looked(top, seen):
@@ -58,10 +69,8 @@ def looked(top, seen):
         if at != top or pid == top:
             continue
         key = (pid, start)
-        if key not in seen or seen[key][0] == ("-", "other"):
-            seen[key] = (work_of(pid, text_of(f"/proc/{pid}/cmdline")) or ("-", "other"), ticks)
-        else:
-            seen[key] = (seen[key][0], ticks)
+        known = seen.get(key, (OTHER, 0))[0]
+        seen[key] = (work_behind(pid, top, parents) if known == OTHER else known, ticks)
 
 
 def main():
