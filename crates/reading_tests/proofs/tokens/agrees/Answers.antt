@@ -1,5 +1,5 @@
 use Rattle.coef_tokens.proofs.Turns.{clear_at}
-use Rattle.bench_tokens.proofs.tests.agrees.Goals as goal
+use Rattle.reading_tests.proofs.tokens.agrees.Goals as goal
 
 pub reads-requires-in-T8x8-clause-clear : goal.reads-requires-in-T8x8-clause-clear
 reads-requires-in-T8x8-clause-clear c = clear_at 64

@@ -15,6 +15,7 @@ use mode_syntax::{SquareAt, intra_frame_mode_info, read_partition};
 use prob_contexts::{Counts, ProbKind, default_contexts};
 use std::alloc::{AllocError, Global};
 use std::test::Fail;
+use test_draws::Digest;
 use vp9_types::{BlockSize, IntraMode, Modes, Partition, ReferenceMode, TxMode, TxSize};
 
 static VARIED: [u8; 400] = [
@@ -177,7 +178,7 @@ struct Tile<'a> {
     room: usize,
     from: u32,
     to: u32,
-    digest: u64,
+    digest: Digest,
     ghost few: { (setting.places.rows ≤ 100) × (setting.places.cols ≤ 100) × (to ≤ setting.places.cols) },
     ghost grid_rows: { grid.rows ≡ setting.places.rows },
     ghost grid_from: { grid.from ≡ from },
@@ -185,26 +186,19 @@ struct Tile<'a> {
     ghost grid_room: { grid.room ≡ room },
 }
 
-fn digest_of(digest: u64, block: &BlockInfo) -> u64 {
-    let fields = [
-        u64::from(block.row),
-        u64::from(block.col),
-        block.size as u64,
-        u64::from(block.skip),
-        u64::from(block.segment),
-        block.tx as u64,
-    ];
-    let mut digest = digest;
-    for field in fields {
-        digest = digest.wrapping_mul(31).wrapping_add(field);
-    }
+fn add_block(digest: &mut Digest, block: &BlockInfo) {
+    digest.add(u64::from(block.row));
+    digest.add(u64::from(block.col));
+    digest.add(block.size as u64);
+    digest.add(u64::from(block.skip));
+    digest.add(u64::from(block.segment));
+    digest.add(block.tx as u64);
     if let Prediction::Intra(intra) = block.prediction {
         for mode in intra.luma {
-            digest = digest.wrapping_mul(31).wrapping_add(mode as u64);
+            digest.add(mode as u64);
         }
-        digest = digest.wrapping_mul(31).wrapping_add(intra.chroma as u64);
+        digest.add(intra.chroma as u64);
     }
-    digest
 }
 
 fn read_block(tile: &mut Tile<'_>, row: u32, col: u32, size: BlockSize) -> Result<(), AllocError>
@@ -227,7 +221,7 @@ fn read_block(tile: &mut Tile<'_>, row: u32, col: u32, size: BlockSize) -> Resul
         tile_to: tile.to,
     };
     let info = intra_frame_mode_info(&mut tile.reader, &tile.setting, &tile.grid, at);
-    tile.digest = digest_of(tile.digest, &info);
+    add_block(&mut tile.digest, &info);
     tile.grid.put(info);
     tile.room -= 1;
     Ok(())
@@ -318,14 +312,14 @@ fn read_tile(
         room: 100,
         from: columns.0,
         to: columns.1,
-        digest: 0,
+        digest: Digest::new(),
     };
     for i in 0..SUPERBLOCKS {
         for j in 0..SUPERBLOCKS {
             read_square(&mut tile, 8 * i, columns.0 + 8 * j, 3)?;
         }
     }
-    Ok((tile.grid.blocks().len(), tile.digest))
+    Ok((tile.grid.blocks().len(), tile.digest.sum()))
 }
 
 /// A block of bools 0.
@@ -346,11 +340,11 @@ fn dc_block(row: u32, col: u32, size: BlockSize) -> BlockInfo {
 }
 
 fn summary_of(blocks: &[BlockInfo]) -> (usize, u64) {
-    let mut digest = 0;
+    let mut digest = Digest::new();
     for block in blocks {
-        digest = digest_of(digest, block);
+        add_block(&mut digest, block);
     }
-    (blocks.len(), digest)
+    (blocks.len(), digest.sum())
 }
 
 /// Of 72x72 the last places of 8x8 stand alone at the edges; K8 has one place.

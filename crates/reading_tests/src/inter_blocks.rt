@@ -1,16 +1,14 @@
 //! Blocks of inter frames without residue, as tools/inter_rows.py reads them.
 
-ghost use Rattle.std.specs.Prelude.{◌≡◌, ◌<◌, ◌≤◌, ◌+◌, [], length, IfSome, unsigned_abs};
+ghost use Rattle.std.specs.Prelude.{◌≡◌, ◌<◌, ◌≤◌, ◌+◌, [], IfSome};
 ghost use Rattle.std.specs.List.{All};
 ghost use Rattle.std.specs.Option.{option_copied};
 ghost use Rattle.frame_headers.specs.Sizes.{IsFrameSize};
-ghost use Rattle.prob_contexts.specs.Kinds.{kind_size};
-ghost use Rattle.mv_prediction.specs.Vectors.{IsSmallVector};
-ghost use Rattle.mv_prediction.specs.Code.{HasSmallVectors, PredictsSmall, blocks_of};
+ghost use Rattle.mv_prediction.specs.Code.{HasSmallVectors, blocks_of};
 
-use block_plan::{
-    BlockAt, BlockGrid, BlockInfo, InterPrediction, IntraPrediction, Mv, Prediction, References,
-};
+use crate::counted::{add_counts, add_vector_counts};
+use crate::drawn_blocks::{FROM, ROWS, TO, add_blocks, drawn_size};
+use block_plan::{BlockAt, BlockGrid, BlockInfo, InterPrediction, IntraPrediction, Prediction};
 use counting_reader::CountingReader;
 use frame_headers::{
     ColorConfig, FeatureReference, Features, FrameContexts, FrameFilter, FrameKind, FrameParams,
@@ -21,259 +19,69 @@ use frame_setting::FrameSetting;
 use inter_modes::mode_info;
 use prob_contexts::{Counts, ProbKind, default_contexts};
 use segment_map::SegmentMap;
-use std::alloc::{AllocError, Global};
+use std::alloc::Global;
 use std::test::Fail;
-use vp9_types::{
-    BlockSize, InterMode, InterpFilter, IntraMode, Modes, ReferenceFrame, ReferenceMode, Rule,
-    TxMode, TxSize,
-};
-
-const ROWS: u32 = 20;
+use test_draws::{Digest, Draws};
+use vp9_types::{InterpFilter, Modes, ReferenceMode, Rule, TxMode};
 
 const COLS: u32 = 30;
 
-const FROM: u32 = 8;
-
-const TO: u32 = 24;
-
-#[derive(Drop)]
-struct Draws {
-    x: u32,
-}
-
-impl Draws {
-    fn below(&mut self, n: u32) -> u32
-        requires { 0 < n }
-        ensures { result < n }
-    {
-        self.x = self.x.wrapping_mul(1664525).wrapping_add(1013904223);
-        (self.x >> 16) % n
-    }
-
-    fn component(&mut self) -> i16
-        ensures { unsigned_abs result < 16384 }
-    {
-        let k = self.below(3);
-        let far = self.below(4) == 0;
-        let size = if far { 333 } else { 37 };
-        match k {
-            0 => -size,
-            1 => 0,
-            _ => size,
-        }
-    }
-
-    fn vector(&mut self) -> Mv
-        ensures { IsSmallVector result }
-    {
-        let row = self.component();
-        let column = self.component();
-        Mv { row, column }
-    }
-
-    fn size(&mut self) -> BlockSize {
-        match self.below(13) {
-            0 => BlockSize::B4x4,
-            1 => BlockSize::B4x8,
-            2 => BlockSize::B8x4,
-            3 => BlockSize::B8x8,
-            4 => BlockSize::B8x16,
-            5 => BlockSize::B16x8,
-            6 => BlockSize::B16x16,
-            7 => BlockSize::B16x32,
-            8 => BlockSize::B32x16,
-            9 => BlockSize::B32x32,
-            10 => BlockSize::B32x64,
-            11 => BlockSize::B64x32,
-            _ => BlockSize::B64x64,
-        }
-    }
-
-    fn mode(&mut self) -> InterMode {
-        match self.below(4) {
-            0 => InterMode::Nearest,
-            1 => InterMode::Near,
-            2 => InterMode::Zero,
-            _ => InterMode::New,
-        }
-    }
-
-    fn references(&mut self) -> References {
-        let first = self.below(3);
-        let second = if self.below(2) == 1 {
-            Some(reference_of((first + 1 + self.below(2)) % 3))
-        } else {
-            None
-        };
-        References {
-            first: reference_of(first),
-            second,
-        }
-    }
-
-    #[tactic(auto, using(mv_prediction::proofs::Small::small_rows))]
-    fn prediction(&mut self) -> Prediction
-        ensures { PredictsSmall result }
-    {
-        if self.below(4) == 0 {
-            return Prediction::Intra(IntraPrediction {
-                luma: [IntraMode::Dc; 4],
-                chroma: IntraMode::Dc,
-            });
-        }
-        let references = self.references();
-        let modes = [self.mode(), self.mode(), self.mode(), self.mode()];
-        let vectors = [
-            [self.vector(), self.vector()],
-            [self.vector(), self.vector()],
-            [self.vector(), self.vector()],
-            [self.vector(), self.vector()],
-        ];
-        Prediction::Inter(InterPrediction {
-            modes,
-            references,
-            filter: InterpFilter::Regular,
-            vectors,
-        })
-    }
-
-    fn block(&mut self) -> BlockInfo
-        ensures row { result.row < 20 }
-        ensures from { 8 ≤ result.col }
-        ensures to { result.col < 24 }
-        ensures small { HasSmallVectors result }
-    {
-        let row = self.below(ROWS);
-        let col = FROM + self.below(TO - FROM);
-        let size = self.size();
-        let prediction = self.prediction();
-        BlockInfo {
-            row,
-            col,
-            size,
-            skip: false,
-            segment: 0,
-            segment_predicted: false,
-            tx: TxSize::T4x4,
-            prediction,
-        }
+fn add_block(digest: &mut Digest, block: &BlockInfo) {
+    digest.add_shifted(u64::from(block.row));
+    digest.add_shifted(u64::from(block.col));
+    digest.add_shifted(block.size as u64);
+    digest.add_shifted(u64::from(block.segment));
+    digest.add_shifted(u64::from(block.segment_predicted));
+    digest.add_shifted(u64::from(block.skip));
+    digest.add_shifted(block.tx as u64);
+    match &block.prediction {
+        Prediction::Inter(p) => add_inter(digest, p),
+        Prediction::Intra(p) => add_intra(digest, p),
     }
 }
 
-fn reference_of(number: u32) -> ReferenceFrame {
-    match number {
-        0 => ReferenceFrame::Last,
-        1 => ReferenceFrame::Golden,
-        _ => ReferenceFrame::Altref,
+fn add_intra(digest: &mut Digest, p: &IntraPrediction) {
+    for mode in p.luma {
+        digest.add_shifted(mode as u64);
     }
+    digest.add_shifted(p.chroma as u64);
 }
 
-/// So many drawn blocks of the tile, one over another.
-fn add_blocks(grid: &mut BlockGrid, draws: &mut Draws, count: usize)
-    requires room { count ≤ grid.old.room }
-    requires tile { (grid.old.rows ≡ 20) × (grid.old.from ≡ 8) × (grid.old.to ≡ 24) }
-    requires small { All HasSmallVectors grid.old.blocks }
-    ensures room { grid.new.room + count ≡ grid.old.room }
-    ensures tile { (grid.new.rows ≡ 20) × (grid.new.from ≡ 8) × (grid.new.to ≡ 24) }
-    ensures small { All HasSmallVectors grid.new.blocks }
-{
-    for i in 0..count {
-        grid.put(draws.block());
-        prove!(i < count);
+fn add_inter(digest: &mut Digest, p: &InterPrediction) {
+    for mode in p.modes {
+        digest.add_shifted(mode as u64);
     }
-}
-
-#[derive(Drop)]
-struct Digest {
-    sum: u32,
-}
-
-impl Digest {
-    fn add(&mut self, number: u32) {
-        let shifted = number.wrapping_add(65536);
-        self.sum = self.sum.wrapping_mul(31).wrapping_add(shifted);
+    digest.add_shifted(p.references.first as u64);
+    match p.references.second {
+        Some(reference) => digest.add_shifted(reference as u64),
+        None => digest.add_shifted(3),
     }
-
-    fn add_number(&mut self, number: i16) {
-        let shifted = (i32::from(number) + 65536) as u32;
-        self.sum = self.sum.wrapping_mul(31).wrapping_add(shifted);
-    }
-
-    fn add_block(&mut self, block: &BlockInfo) {
-        self.add(block.row);
-        self.add(block.col);
-        self.add(block.size as u32);
-        self.add(u32::from(block.segment));
-        self.add(u32::from(block.segment_predicted));
-        self.add(u32::from(block.skip));
-        self.add(block.tx as u32);
-        match &block.prediction {
-            Prediction::Inter(p) => self.add_inter(p),
-            Prediction::Intra(p) => self.add_intra(p),
-        }
-    }
-
-    fn add_intra(&mut self, p: &IntraPrediction) {
-        for mode in p.luma {
-            self.add(mode as u32);
-        }
-        self.add(p.chroma as u32);
-    }
-
-    fn add_inter(&mut self, p: &InterPrediction) {
-        for mode in p.modes {
-            self.add(mode as u32);
-        }
-        self.add(p.references.first as u32);
-        match p.references.second {
-            Some(reference) => self.add(reference as u32),
-            None => self.add(3),
-        }
-        self.add(p.filter as u32);
-        for quarter in p.vectors {
-            for v in quarter {
-                self.add_number(v.row);
-                self.add_number(v.column);
-            }
-        }
-    }
-
-    /// The counters of a kind, of which there are so many.
-    fn add_counts(&mut self, counts: &Counts, kind: ProbKind, size: u16)
-        requires { size ≤ kind_size kind }
-    {
-        for place in 0..size {
-            self.add(counts.counter(kind, place, false).min(65535) as u32);
-            self.add(counts.counter(kind, place, true).min(65535) as u32);
+    digest.add_shifted(p.filter as u64);
+    for quarter in p.vectors {
+        for v in quarter {
+            digest.add_signed(v.row);
+            digest.add_signed(v.column);
         }
     }
 }
 
 /// The counters of all kinds but coefficients and partitions.
 fn digest_counts(counts: &Counts) -> u32 {
-    let mut digest = Digest { sum: 0 };
-    digest.add_counts(counts, ProbKind::Tx8x8, 2);
-    digest.add_counts(counts, ProbKind::Tx16x16, 4);
-    digest.add_counts(counts, ProbKind::Tx32x32, 6);
-    digest.add_counts(counts, ProbKind::Skip, 3);
-    digest.add_counts(counts, ProbKind::InterMode, 21);
-    digest.add_counts(counts, ProbKind::Filter, 8);
-    digest.add_counts(counts, ProbKind::IsInter, 4);
-    digest.add_counts(counts, ProbKind::CompoundFlag, 5);
-    digest.add_counts(counts, ProbKind::SingleReference, 10);
-    digest.add_counts(counts, ProbKind::CompoundReference, 5);
-    digest.add_counts(counts, ProbKind::YMode, 36);
-    digest.add_counts(counts, ProbKind::UvMode, 90);
-    digest.add_counts(counts, ProbKind::VectorJoint, 3);
-    digest.add_counts(counts, ProbKind::VectorSign, 2);
-    digest.add_counts(counts, ProbKind::VectorClass, 20);
-    digest.add_counts(counts, ProbKind::VectorClass0, 2);
-    digest.add_counts(counts, ProbKind::VectorBit, 20);
-    digest.add_counts(counts, ProbKind::VectorClass0Fraction, 12);
-    digest.add_counts(counts, ProbKind::VectorFraction, 6);
-    digest.add_counts(counts, ProbKind::VectorClass0High, 2);
-    digest.add_counts(counts, ProbKind::VectorHigh, 2);
-    digest.sum
+    let mut digest = Digest::new();
+    add_counts(&mut digest, counts, ProbKind::Tx8x8, 2);
+    add_counts(&mut digest, counts, ProbKind::Tx16x16, 4);
+    add_counts(&mut digest, counts, ProbKind::Tx32x32, 6);
+    add_counts(&mut digest, counts, ProbKind::Skip, 3);
+    add_counts(&mut digest, counts, ProbKind::InterMode, 21);
+    add_counts(&mut digest, counts, ProbKind::Filter, 8);
+    add_counts(&mut digest, counts, ProbKind::IsInter, 4);
+    add_counts(&mut digest, counts, ProbKind::CompoundFlag, 5);
+    add_counts(&mut digest, counts, ProbKind::SingleReference, 10);
+    add_counts(&mut digest, counts, ProbKind::CompoundReference, 5);
+    add_counts(&mut digest, counts, ProbKind::YMode, 36);
+    add_counts(&mut digest, counts, ProbKind::UvMode, 90);
+    add_vector_counts(&mut digest, counts);
+    digest.sum_32()
 }
 
 const NO_SEGMENTS: Segmentation = Segmentation {
@@ -405,18 +213,10 @@ fn draw_map(map: &mut SegmentMap, draws: &mut Draws)
     for i in 0..20u8 {
         let row = draws.below(ROWS);
         let col = draws.below(COLS);
-        let size = draws.size();
+        let size = drawn_size(draws);
         let id = draws.below(8) as u8;
         map.set(row, col, size, id);
         prove!(i < 20);
-    }
-}
-
-/// Bytes that are drawn, with some bits always set; the first bit is 0.
-fn draw_bytes(bytes: &mut [u8], draws: &mut Draws, ones: u8) {
-    for i in 0..bytes.len() {
-        let byte = draws.below(256) as u8 | ones;
-        bytes[i] = if i == 0 { byte & 127 } else { byte };
     }
 }
 
@@ -437,24 +237,24 @@ fn read_blocks(
     requires small { All HasSmallVectors grid.old.blocks }
     requires small_before { All HasSmallVectors (blocks_of (λ g. g.blocks) (option_copied before)) }
 {
-    let mut digest = Digest { sum: 0 };
+    let mut digest = Digest::new();
     for i in 0..60u32 {
         let at = BlockAt {
             row: draws.below(ROWS),
             col: FROM + draws.below(TO - FROM),
-            size: draws.size(),
+            size: drawn_size(draws),
             tile_from: FROM,
             tile_to: TO,
         };
         match mode_info(reader, setting, at, grid, map, before) {
             Ok(block) => {
-                digest.add_block(&block);
+                add_block(&mut digest, &block);
                 grid.put(block);
             }
-            Err(rule) => return (i, Some(rule), digest.sum),
+            Err(rule) => return (i, Some(rule), digest.sum_32()),
         }
     }
-    (60, None, digest.sum)
+    (60, None, digest.sum_32())
 }
 
 /// The blocks of a tile of drawn bytes: how many, the rule that ended them, and digests of the blocks and of the counts.
@@ -470,13 +270,13 @@ fn read(
     requires high { header.now.size.height ≡ 160 }
 {
     let setting = FrameSetting::new(header, modes, default_contexts());
-    let mut draws = Draws { x: seed };
+    let mut draws = Draws::new(seed);
     let mut before = BlockGrid::new(alloc, ROWS, FROM, TO, 12)?;
     add_blocks(&mut before, &mut draws, 12);
     let mut map = SegmentMap::new(alloc, ROWS, COLS)?;
     draw_map(&mut map, &mut draws);
     let mut bytes = [0; 3000];
-    draw_bytes(&mut bytes, &mut draws, ones);
+    draws.fill_bytes(&mut bytes, ones);
     let mut reader: CountingReader<'_, true> = CountingReader::start(&bytes, Counts::new(alloc)?)?;
     let mut grid = BlockGrid::new(alloc, ROWS, FROM, TO, 60)?;
     let (count, rule, blocks) = if uses_before {
