@@ -22,6 +22,7 @@ use loop_filter::filter_frame;
 use planes::{FramePlanes, SamplePlane};
 use std::alloc::{AllocError, Global};
 use std::test::Fail;
+use test_draws::{Digest, Draws};
 use vp9_tables::max_tx_size;
 use vp9_types::{
     BlockSize, Depth, InterMode, InterpFilter, IntraMode, Plane, ReferenceFrame, Shape, TxSize,
@@ -229,26 +230,19 @@ fn grid_of(alloc: Global, shape: &Shape, numbers: &[[u8; 8]]) -> Result<BlockGri
     Ok(grid)
 }
 
-fn next(state: u32) -> u32 {
-    state.wrapping_mul(1664525).wrapping_add(1013904223)
-}
-
-/// Draws a row of samples, and gives the state after the last.
-fn draw_row(line: &mut [u16], y: usize, one: u32, most: u16, first: u32) -> u32
+/// Draws a row of samples.
+fn draw_row(line: &mut [u16], y: usize, one: u32, most: u16, draws: &mut Draws)
     requires one { one ≤ 16 }
     requires y { y ≤ 65536 }
     ensures small { (k : ℕ) → slice_index line.new k ≤ most }
     ensures long { length line.new ≡ length line.old }
 {
-    let mut state = first;
     for x in 0..line.len() {
-        state = next(state);
         let spread = (SPREADS[(y / 16 + 3 * (x / 16)) % 8] * one).max(1);
         let base = 100 * one + ((x / 8 * 5 + y / 8 * 3) % 11) as u32 * one / 2;
-        let sample = base + (state >> 16) % spread;
+        let sample = base + draws.below(spread);
         line[x] = (sample as u16).min(most);
     }
-    state
 }
 
 fn fill(plane: &mut SamplePlane, one: u32, most: u16, seed: u32)
@@ -259,24 +253,22 @@ fn fill(plane: &mut SamplePlane, one: u32, most: u16, seed: u32)
 {
     let area = plane.area();
     let mut line = [0; 1024];
-    let mut state = seed;
+    let mut draws = Draws::new(seed);
     let columns = area.columns.min(1024);
     for y in 0..area.rows {
         let part = &mut line[..columns];
-        state = draw_row(part, y, one, most, state);
+        draw_row(part, y, one, most, &mut draws);
         plane.put_block(area.first_row + y, area.first_column, 1, columns, part);
     }
 }
 
 fn checksum(plane: &SamplePlane) -> u64 {
     let area = plane.area();
-    let mut sum = 0u64;
+    let mut digest = Digest::new();
     for y in 0..area.rows {
-        for sample in plane.row(area.first_row + y, area.first_column, area.columns) {
-            sum = sum.wrapping_mul(31).wrapping_add(u64::from(*sample));
-        }
+        digest.add_samples(plane.row(area.first_row + y, area.first_column, area.columns));
     }
-    sum
+    digest.sum()
 }
 
 fn sums_of(planes: &FramePlanes) -> [u64; 3] {

@@ -14,6 +14,7 @@ use planes::{Area, SamplePlane};
 use rows::{BlockRow, DEPTH_8, DEPTH_10, DEPTH_12, Line};
 use std::alloc::{AllocError, Global};
 use std::test::Fail;
+use test_draws::{Digest, Draws};
 use vp9_types::{InterpFilter, Plane, Samples};
 
 const ROWS: usize = 80;
@@ -40,20 +41,6 @@ impl Samples for Luma {
     }
 }
 
-fn drawn(state: u32) -> u32 {
-    state.wrapping_mul(1664525).wrapping_add(1013904223)
-}
-
-fn draw(samples: &mut [u16], seed: u32, most: u16)
-    ensures { (k : ℕ) → slice_index samples.new k ≤ most }
-{
-    let mut state = seed;
-    for sample in samples.iter_mut() {
-        state = drawn(state);
-        *sample = ((state >> 16) % (u32::from(most) + 1)) as u16;
-    }
-}
-
 fn fill(plane: &mut SamplePlane, seed: u32, most: u16)
     requires whole { plane.old.area ≡ whole_area ROWS COLUMNS }
     requires small { IsAtMost most (plane_map plane.old) }
@@ -61,7 +48,7 @@ fn fill(plane: &mut SamplePlane, seed: u32, most: u16)
     ensures small { IsAtMost most (plane_map plane.new) }
 {
     let mut samples = [0; SAMPLES];
-    draw(&mut samples, seed, most);
+    Draws::new(seed).fill(&mut samples, most);
     plane.put_block(0, 0, ROWS, COLUMNS, &samples);
 }
 
@@ -106,14 +93,6 @@ fn kind_of(number: u8) -> InterpFilter {
     }
 }
 
-fn checksum(samples: &[u16]) -> u32 {
-    let mut sum = 0u32;
-    for sample in samples {
-        sum = sum.wrapping_mul(31).wrapping_add(u32::from(*sample));
-    }
-    sum
-}
-
 /// The checksum of a block.
 fn sum_of(luma: &Luma, place: &Place, kind: InterpFilter, most: u16) -> u32
     requires whole { luma.now.plane.area ≡ whole_area ROWS COLUMNS }
@@ -127,7 +106,9 @@ fn sum_of(luma: &Luma, place: &Place, kind: InterpFilter, most: u16) -> u32
     let mut lines = [0; LINES];
     let mut out = [0; 4096];
     predict(luma, place, kind, most, &mut lines, &mut out);
-    checksum(&out[..place.rows * place.columns])
+    let mut digest = Digest::new();
+    digest.add_samples(&out[..place.rows * place.columns]);
+    digest.sum_32()
 }
 
 fn place_in(rows: usize, columns: usize, down: Line, across: Line) -> Place

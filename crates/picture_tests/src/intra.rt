@@ -18,6 +18,7 @@ use intra_predict::{
 use planes::{Area, SamplePlane};
 use rows::{STEPS, Step, Summed, WHOLE};
 use std::test::Fail;
+use test_draws::{Digest, Draws};
 use vp9_types::{Depth, IntraMode, TxSize};
 
 const WIDTH: usize = 40;
@@ -26,60 +27,41 @@ const HEIGHT: usize = 24;
 
 const SAMPLES: usize = WIDTH * HEIGHT;
 
-fn drawn(state: u32) -> u32 {
-    state.wrapping_mul(1664525).wrapping_add(1013904223)
-}
-
-/// A sample that a state stands for.
-fn sample_of(state: u32, most: u16, extreme: bool) -> u16
-    ensures { result ≤ most }
-{
-    if extreme {
-        return if state >= 1 << 31 { most } else { 0 };
-    }
-    ((state >> 16) % (u32::from(most) + 1)) as u16
-}
-
-/// Draws each sample, and gives the state after the last.
-fn draw(samples: &mut [u16], first: u32, most: u16, extreme: bool) -> u32
+fn fill(draws: &mut Draws, samples: &mut [u16], most: u16, extreme: bool)
     ensures { (k : ℕ) → slice_index samples.new k ≤ most }
 {
-    let mut state = first;
-    for sample in samples.iter_mut() {
-        state = drawn(state);
-        *sample = sample_of(state, most, extreme);
+    if extreme {
+        draws.fill_extreme(samples, most);
+    } else {
+        draws.fill(samples, most);
     }
-    state
 }
 
 fn drawn_edges(seed: u32, most: u16, extreme: bool, has_above: bool, has_left: bool) -> Edges
     ensures { (size : ℕ) → IsUpTo most (samples_of size result) }
 {
     let mut edges = Edges::new();
-    let state = draw(&mut edges.above, seed, most, extreme);
-    let state = draw(&mut edges.left, state, most, extreme);
-    edges.corner = sample_of(drawn(state), most, extreme);
+    let mut draws = Draws::new(seed);
+    fill(&mut draws, &mut edges.above, most, extreme);
+    fill(&mut draws, &mut edges.left, most, extreme);
+    edges.corner = if extreme {
+        draws.extreme(most)
+    } else {
+        draws.sample(most)
+    };
     edges.has_above = has_above;
     edges.has_left = has_left;
     edges
 }
 
-fn add_up(sum: u64, samples: &[u16]) -> u64 {
-    let mut sum = sum;
-    for sample in samples {
-        sum = sum.wrapping_mul(31).wrapping_add(u64::from(*sample));
-    }
-    sum
-}
-
 fn checksum(plane: &SamplePlane) -> u64
     requires { plane.now.area ≡ whole_area HEIGHT WIDTH }
 {
-    let mut sum = 0;
+    let mut digest = Digest::new();
     for row in 0..HEIGHT {
-        sum = add_up(sum, plane.row(row, 0, WIDTH));
+        digest.add_samples(plane.row(row, 0, WIDTH));
     }
-    sum
+    digest.sum()
 }
 
 fn sum_of(row: &Summed) -> u64 {
@@ -94,7 +76,9 @@ fn sum_of(row: &Summed) -> u64 {
         row.depth,
         &mut block[..side * side],
     );
-    add_up(0, &block[..side * side])
+    let mut digest = Digest::new();
+    digest.add_samples(&block[..side * side]);
+    digest.sum()
 }
 
 #[test]
@@ -125,10 +109,9 @@ fn extreme_blocks(rt: HostRuntime) {
 fn draw_residue(residue: &mut [i32], seed: u32)
     ensures { (k : ℕ) → unsigned_abs (slice_index_or residue.new k (pos 0)) < 2 ^ 24 }
 {
-    let mut state = seed;
+    let mut draws = Draws::new(seed);
     for change in residue.iter_mut() {
-        state = drawn(state);
-        *change = ((state >> 16) % 1024) as i32 - 512;
+        *change = draws.below(1024) as i32 - 512;
     }
 }
 
@@ -160,21 +143,21 @@ fn take_step(plane: &mut SamplePlane, step: &Step, scratch: &mut Scratch)
     }
 }
 
-fn fill(plane: &mut SamplePlane)
+fn fill_plane(plane: &mut SamplePlane)
     requires whole { plane.old.area ≡ whole_area HEIGHT WIDTH }
     requires small { IsAtMost 1023 (plane_map plane.old) }
     ensures whole { plane.new.area ≡ whole_area HEIGHT WIDTH }
     ensures small { IsAtMost 1023 (plane_map plane.new) }
 {
     let mut samples = [0; SAMPLES];
-    draw(&mut samples, 7, 1023, false);
+    Draws::new(7).fill(&mut samples, 1023);
     plane.put_block(0, 0, HEIGHT, WIDTH, &samples);
 }
 
 #[test]
 fn planes(rt: HostRuntime) -> Result<(), Fail> {
     let mut plane = SamplePlane::new(rt.alloc(), Area::whole(HEIGHT, WIDTH))?;
-    fill(&mut plane);
+    fill_plane(&mut plane);
     let mut scratch = Scratch::new();
     for step in STEPS.iter() {
         assert!(rt; step.row < HEIGHT && step.column < WIDTH);

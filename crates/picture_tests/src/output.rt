@@ -1,7 +1,9 @@
+//! Texts of frames, written out by hand.
+
 ghost use Rattle.std.specs.Prelude.{◌≡◌, ◌+◌, ◌*◌, ◌<◌, ℕ, IsTrue, length, slice_index};
 
-use crate::render;
 use edge_io::{MemSink, PutFault};
+use frame_output::render;
 use std::test::Fail;
 use vp9_types::{Depth, Plane, Samples, Shape};
 

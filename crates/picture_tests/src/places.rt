@@ -10,6 +10,7 @@ mod rows;
 use block_plan::{BlockInfo, InterPrediction, IntraPrediction, Mv, Prediction, References};
 use inter_places::{Axis, BlockPart, part_count, place};
 use rows::{Line, PLACES, PlaceRow};
+use test_draws::Draws;
 use vp9_types::{
     BlockSize, Depth, InterMode, InterpFilter, IntraMode, Plane, ReferenceFrame, Shape, TxSize,
 };
@@ -30,15 +31,11 @@ const SIZES: [BlockSize; 13] = [
     BlockSize::B64x64,
 ];
 
-fn drawn(state: u32) -> u32 {
-    state.wrapping_mul(1664525).wrapping_add(1013904223)
-}
-
-/// A component that a state stands for.
-fn component_of(state: u32, most: u32) -> i16
+/// A drawn component.
+fn component(draws: &mut Draws, most: u32) -> i16
     requires { most ≤ 16384 }
 {
-    let above_least = ((state >> 16) % (2 * most + 1)) as i32;
+    let above_least = draws.below(2 * most + 1) as i32;
     (above_least - most as i32) as i16
 }
 
@@ -46,14 +43,12 @@ fn component_of(state: u32, most: u32) -> i16
 fn vectors_of(seed: u32, most: u32) -> [[Mv; 2]; 4]
     requires { most ≤ 16384 }
 {
-    let mut state = seed;
+    let mut draws = Draws::new(seed);
     let mut vectors = [[Mv { row: 0, column: 0 }; 2]; 4];
     for quarter in vectors.iter_mut() {
         for vector in quarter.iter_mut() {
-            let first = drawn(state);
-            state = drawn(first);
-            vector.row = component_of(first, most);
-            vector.column = component_of(state, most);
+            vector.row = component(&mut draws, most);
+            vector.column = component(&mut draws, most);
         }
     }
     vectors

@@ -1,5 +1,5 @@
 use Rattle.std.proofs.Common.{◌≡◌, ◌≤◌, ◌<◌, ℕ, get_or, length}
-use Rattle.bench_filter.proofs.tests.draw_row.Given as goal
+use Rattle.picture_tests.proofs.filter.draw_row.Given as goal
 
 abbrev pub invariant-loop-x : goal.invariant-loop-x
 invariant-loop-x l = record {

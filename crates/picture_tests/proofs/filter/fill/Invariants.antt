@@ -1,7 +1,7 @@
 use Rattle.std.proofs.Common.{◌≡◌}
 use Rattle.vp9_types.specs.Maps.{IsAtMost}
 use Rattle.planes.specs.Planes.{plane_map}
-use Rattle.bench_filter.proofs.tests.fill.Given as goal
+use Rattle.picture_tests.proofs.filter.fill.Given as goal
 
 abbrev pub invariant-loop-y : goal.invariant-loop-y
 invariant-loop-y l = record {

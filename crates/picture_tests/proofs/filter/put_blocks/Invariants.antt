@@ -1,6 +1,6 @@
 use Rattle.std.proofs.Common.{◌≡◌, ◌≤◌, ◌+◌, ℕ, length}
 use Rattle.loop_filter.specs.Code.{AllFit}
-use Rattle.bench_filter.proofs.tests.put_blocks.Given as goal
+use Rattle.picture_tests.proofs.filter.put_blocks.Given as goal
 
 abbrev pub invariant-loop-k : goal.invariant-loop-k
 invariant-loop-k l = record {

@@ -1,6 +1,6 @@
 use Rattle.std.proofs.Common.{◌-◌, arith}
 use Rattle.inter_scaled.proofs.Agree.{place_below}
-use Rattle.bench_inter.proofs.block_tests.sum_of.Goals as goal
+use Rattle.picture_tests.proofs.inter.sum_of.Goals as goal
 
 pub predict-requires-clause-held : goal.predict-requires-clause-held
 predict-requires-clause-held c = λ r first last. let p = c.args.place.now in

@@ -1,7 +1,7 @@
 use Rattle.std.proofs.Common.{◌≡◌}
 use Rattle.vp9_types.specs.Maps.{IsAtMost}
 use Rattle.planes.specs.Planes.{plane_map, whole_area}
-use Rattle.bench_intra.proofs.tests.planes.Given as goal
+use Rattle.picture_tests.proofs.intra.planes.Given as goal
 
 abbrev pub invariant-loop-step : goal.invariant-loop-step
 invariant-loop-step g l = record {

@@ -1,5 +1,5 @@
 use Rattle.vp9_types.specs.Sizes.{side}
-use Rattle.bench_intra.proofs.tests.sum_of.Goals as goal
+use Rattle.picture_tests.proofs.intra.sum_of.Goals as goal
 
 pub predict-requires-clause-small : goal.predict-requires-clause-small
 predict-requires-clause-small c =
