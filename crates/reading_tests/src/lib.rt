@@ -1,4 +1,4 @@
-//! Tests of the layers that read: containers, headers, bools, tokens, modes, vectors, and what is adapted to them.
+//! Tests of the layers that read containers, headers, bools and tokens, and of what adaptation makes of counts.
 #![tactic(auto)]
 
 #[cfg(test)]
@@ -6,21 +6,11 @@ mod adaptation;
 #[cfg(test)]
 mod bools;
 #[cfg(test)]
-mod candidates;
-#[cfg(test)]
 mod compressed;
-#[cfg(test)]
-mod counted;
-#[cfg(test)]
-mod drawn_blocks;
 #[cfg(test)]
 mod frames;
 #[cfg(test)]
 mod geometry;
-#[cfg(test)]
-mod inter_blocks;
-#[cfg(test)]
-mod modes;
 #[cfg(test)]
 mod packets;
 #[cfg(test)]
@@ -29,5 +19,3 @@ mod superframes;
 mod tables;
 #[cfg(test)]
 mod tokens;
-#[cfg(test)]
-mod vectors;

@@ -1,6 +1,6 @@
 use Rattle.std.proofs.Common.{◌≡◌, ◌+◌, All}
 use Rattle.mv_prediction.specs.Code.{HasSmallVectors}
-use Rattle.reading_tests.proofs.drawn_blocks.add_blocks.Given as goal
+use Rattle.mode_tests.proofs.inter_blocks.read_blocks.Given as goal
 
 abbrev pub invariant-loop-i : goal.invariant-loop-i
 invariant-loop-i l = record {

@@ -1,5 +1,5 @@
 use Rattle.std.proofs.Common.{◌≡◌}
-use Rattle.reading_tests.proofs.modes.read_tile.Given as goal
+use Rattle.mode_tests.proofs.modes.read_tile.Given as goal
 
 abbrev pub invariant-loop-i : goal.invariant-loop-i
 invariant-loop-i l = l.tile.from ≡ l.columns.0
