@@ -1,4 +1,4 @@
-use super::*;
+use command_words::{Command, DecodeOptions, MadeStream, read_words};
 use std::alloc::{AllocError, Global};
 use std::test::Fail;
 

@@ -1,4 +1,4 @@
-use super::*;
+use seq_decoder::decode_plain;
 use edge_io::MemSink;
 use std::test::Fail;
 use vp9_types::Outcome;

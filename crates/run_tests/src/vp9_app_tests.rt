@@ -1,7 +1,7 @@
 mod rows;
 mod sizes;
 
-use super::*;
+use vp9_app::{Ran, Status, run};
 use edge_io::{MemSink, MemSource, OpenGate};
 use md5::{Digest, Md5};
 use rows::{Row, drawn_streams, inter_decode, intra_decode, list, long_runs, overflow_frames};

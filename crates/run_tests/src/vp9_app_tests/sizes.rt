@@ -1,7 +1,7 @@
 // Files of real sizes, and of many frames: want of memory is never their answer.
 
 use super::{MemRan, NONE, run_words};
-use crate::Status;
+use vp9_app::Status;
 use std::alloc::{AllocError, Global};
 use std::sync::Wait;
 use std::test::Fail;
