@@ -1,6 +1,6 @@
 //! Bytes of the standard's arithmetic over numbers without bound, as tools/bool_encodings.py prints them.
 
-use crate::{BoolEncoder, put_difference, put_literal, put_tree};
+use bool_encoder::{BoolEncoder, put_difference, put_literal, put_tree};
 use std::alloc::Global;
 use std::process::Abort;
 use std::test::Fail;

@@ -1,6 +1,6 @@
 //! Bytes that others wrote: of a file's definition and of real streams.
 
-use crate::{write_header, write_index, write_packet};
+use container_writer::{write_header, write_index, write_packet};
 use std::test::Fail;
 
 // The header of a real stream, and packets by the definition of the container.

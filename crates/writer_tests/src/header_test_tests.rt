@@ -1,6 +1,6 @@
 //! Headers that can be written, and headers that can't.
 
-use super::*;
+use header_tests::{can_choose, can_say_modes, is_well_formed};
 use frame_headers::{
     ColorConfig, ColorSpace, Features, FrameContexts, FrameFilter, FrameKind, FrameParams,
     FrameSize, Header, InterFields, LoopDeltas, LoopFilter, Persist, Quantizer, Reference,

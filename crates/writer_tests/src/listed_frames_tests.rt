@@ -6,7 +6,7 @@ ghost use Rattle.seq_decoder.specs.Code.{MayDecode};
 mod rows;
 mod rows_of_vectors;
 
-use crate::write_listed;
+use listed_frames::write_listed;
 use block_plan::{IntraPrediction, Mv, References};
 use edge_io::MemSink;
 use file_frames::FileFrame;

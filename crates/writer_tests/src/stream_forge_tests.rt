@@ -1,6 +1,6 @@
 //! Files that were made by another decoder's generator from the same rule: their digests.
 
-use crate::make_stream;
+use stream_forge::make_stream;
 use md5::{Digest, Md5};
 use std::alloc::Global;
 use std::test::Fail;

@@ -1,5 +1,5 @@
 use Rattle.residue_writer.proofs.Lone.{four_can, kept_small}
-use Rattle.listed_frames.proofs.residue_tests.lone.Goals as goal
+use Rattle.writer_tests.proofs.residue_tests.lone.Goals as goal
 
 pub returns : goal.returns
 returns c = λ t size start.

@@ -1,5 +1,5 @@
 use Rattle.coef_tokens.proofs.Turns.{clear_at}
-use Rattle.listed_frames.proofs.token_tests.agrees.Goals as goal
+use Rattle.writer_tests.proofs.token_tests.agrees.Goals as goal
 
 pub writes-requires-in-T8x8-clause-clear : goal.writes-requires-in-T8x8-clause-clear
 writes-requires-in-T8x8-clause-clear g c = clear_at 64

@@ -4,7 +4,7 @@ use Rattle.std.proofs.lemmas.List.Elements.{All-set}
 use Rattle.vp9_tables.specs.Scans.{scan_of}
 use Rattle.coef_tokens.proofs.Turns.{kept}
 use Rattle.token_writer.proofs.Turns.{others_set}
-use Rattle.listed_frames.proofs.token_tests.place_levels.Goals as goal
+use Rattle.writer_tests.proofs.token_tests.place_levels.Goals as goal
 
 pub loop-place-preserved : goal.loop-place-preserved
 loop-place-preserved c =

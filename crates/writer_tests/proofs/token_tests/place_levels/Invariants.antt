@@ -1,7 +1,7 @@
 use Rattle.std.proofs.Common.{◌≡◌, ◌<◌, length, unsigned_abs, All}
 use Rattle.vp9_tables.specs.Scans.{area, scan_of}
 use Rattle.token_writer.proofs.Turns.{AreOthers}
-use Rattle.listed_frames.proofs.token_tests.place_levels.Given as goal
+use Rattle.writer_tests.proofs.token_tests.place_levels.Given as goal
 
 abbrev pub invariant-loop-place : goal.invariant-loop-place
 invariant-loop-place l = record {

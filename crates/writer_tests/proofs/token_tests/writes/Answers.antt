@@ -2,7 +2,7 @@ use Rattle.std.proofs.Common.{◌≡◌, ◌≤◌, true, length, rules}
 use Rattle.vp9_tables.specs.Scans.{area}
 use Rattle.prob_contexts.specs.Lists.{lists_of}
 use Rattle.token_writer.proofs.Turns.{can_by}
-use Rattle.listed_frames.proofs.token_tests.writes.Goals as goal
+use Rattle.writer_tests.proofs.token_tests.writes.Goals as goal
 
 pub put_tokens-requires-clause-can : goal.put_tokens-requires-clause-can
 put_tokens-requires-clause-can g c =

@@ -2,7 +2,7 @@ use Rattle.std.proofs.Common.{◌≡◌, ◌≤◌, ◌<◌, ◌^◌, max, refl,
 use Rattle.std.proofs.lemmas.List.{get_or-replicate}
 use Rattle.frame_headers.specs.Segments.{no_segment_features}
 use Rattle.frame_headers.specs.Tiles.{superblocks, min_log2, max_log2}
-use Rattle.listed_frames.proofs.uncompressed_tests.key_frame.Goals as goal
+use Rattle.writer_tests.proofs.uncompressed_tests.key_frame.Goals as goal
 
 pub returns-clause-formed : goal.returns-clause-formed
 unfolding min_log2 max_log2

@@ -1,4 +1,4 @@
-use Rattle.listed_frames.proofs.uncompressed_tests.writes.Goals as goal
+use Rattle.writer_tests.proofs.uncompressed_tests.writes.Goals as goal
 
 pub write_uncompressed_header-requires-clause-can :
     goal.write_uncompressed_header-requires-clause-can
