@@ -109,3 +109,26 @@ fn other_words_are_no_command(rt: HostRuntime) -> Result<(), Fail> {
     }
     Ok(())
 }
+
+// A program's name of 7,777 bytes, and 79 words.
+#[test]
+fn words_of_odd_lengths(rt: HostRuntime) -> Result<(), Fail> {
+    let alloc = rt.alloc();
+    let mut words = Vec::new(alloc);
+    let mut name = String::new(alloc);
+    for _ in 0..1111u32 {
+        name.push_str("vp9dec/")?;
+    }
+    assert_eq!(rt; name.len(), 7777);
+    words.push(name)?;
+    words.push(String::from_str(alloc, "list")?)?;
+    assert_eq!(rt;
+        read_words(alloc, words.as_slice())?,
+        Some(Command::List)
+    );
+    for _ in 0..77u32 {
+        words.push(String::from_str(alloc, "list")?)?;
+    }
+    assert_eq!(rt; read_words(alloc, words.as_slice())?, None);
+    Ok(())
+}

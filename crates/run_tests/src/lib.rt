@@ -6,6 +6,4 @@ mod command_words_tests;
 #[cfg(test)]
 mod edge_io_tests;
 #[cfg(test)]
-mod seq_decoder_tests;
-#[cfg(test)]
 mod vp9_app_tests;

@@ -1,3 +1,4 @@
+mod odd_values;
 mod rows;
 mod sizes;
 
@@ -54,6 +55,12 @@ fn run_row<R: Threads + Wait + Sync>(
     run_words(rt, alloc, row.words, row.input, fails)
 }
 
+fn ends_as(ran: &MemRan, row: &Row) -> bool {
+    ran.status.code() == row.status
+        && ran.out.bytes() == row.output
+        && ran.note.bytes() == row.note.as_bytes()
+}
+
 // The first row that ends otherwise than it is to.
 fn first_other<R: Threads + Wait + Sync>(
     rt: &R,
@@ -63,10 +70,25 @@ fn first_other<R: Threads + Wait + Sync>(
     for table in tables {
         for row in *table {
             let ran = run_row(rt, alloc, row, &NONE)?;
-            let ends = ran.status.code() == row.status;
-            let writes = ran.out.bytes() == row.output;
-            let tells = ran.note.bytes() == row.note.as_bytes();
-            if !(ends && writes && tells) {
+            if !ends_as(&ran, row) {
+                return Ok(Some(row.name));
+            }
+        }
+    }
+    Ok(None)
+}
+
+// The first row that ends otherwise with these words.
+fn first_other_as<R: Threads + Wait + Sync>(
+    rt: &R,
+    alloc: Global,
+    words: &[&'static str],
+    tables: &[&'static [Row]],
+) -> Result<Option<&'static str>, AllocError> {
+    for table in tables {
+        for row in *table {
+            let ran = run_words(rt, alloc, words, row.input, &NONE)?;
+            if !ends_as(&ran, row) {
                 return Ok(Some(row.name));
             }
         }

@@ -5,3 +5,5 @@
 mod band_cells_tests;
 #[cfg(test)]
 mod progress_board_tests;
+#[cfg(test)]
+mod tall_frame_tests;

@@ -232,3 +232,31 @@ fn threads_draw_each_ticket_once(rt: HostRuntime) -> Result<(), Fail> {
     }
     Ok(())
 }
+
+// A board of so many lanes; those with these numbers are raised, the last one twice.
+fn raises(alloc: Global, lanes: u8, lower: u8) -> Option<(u64, u64, u64)>
+    requires lower { (0 < lower) × (lower + 1 < lanes) }
+{
+    let source = Held { slot: 0, taken: 7 };
+    let outlet = Held { slot: 1, taken: 0 };
+    let Ok((board, mut first)) = Board::new(alloc, lanes, source, outlet) else {
+        return None;
+    };
+    board.raise(&mut first, lower);
+    board.raise(&mut first, lanes - 1);
+    board.raise(&mut first, lanes - 1);
+    let seen = (
+        board.seen(&mut first, 0),
+        board.seen(&mut first, lower),
+        board.seen(&mut first, lanes - 1),
+    );
+    board.close(first);
+    Some(seen)
+}
+
+#[test]
+fn boards_of_many_lanes(rt: HostRuntime) {
+    assert_eq!(rt; raises(rt.alloc(), 101, 78), Some((0, 1, 2)));
+    assert_eq!(rt; raises(rt.alloc(), 211, 128), Some((0, 1, 2)));
+    assert_eq!(rt; raises(rt.alloc(), 255, 253), Some((0, 1, 2)));
+}

@@ -8,7 +8,7 @@ use std::test::Fail;
 use std::thread::Threads;
 
 // Key frames whose every bool is 0, so that each sample is grey: by tools/grey_frames.py.
-const GREY_1_BY_1: &[u8] = b"\x83I\x83B\0\0\0\0\0\0\0\0\0\x04\0\0";
+pub const GREY_1_BY_1: &[u8] = b"\x83I\x83B\0\0\0\0\0\0\0\0\0\x04\0\0";
 
 const GREY_352_BY_288: &[u8] = b"\x83I\x83B\0\x15\xf0\x11\xf0\0\0\0\0\x04\0\0";
 
@@ -21,20 +21,25 @@ const GREY_65536_BY_1: &[u8] =
 \x01\0\0\0\0\x01\0\0\0\0\x01\0\0\0\0\x01\0\0\0\0\x01\0\0\0\0\x01\0\0\0\0\x01\0\0\0\0\x01\0\0\0\0\
 \x01\0\0\0\0\x01\0\0\0\0\x01\0\0";
 
-// A packet for each frame.
-fn file_of(alloc: Global, frame: &[u8], count: u32) -> Result<Vec<u8>, AllocError> {
-    let mut file = Vec::new(alloc);
-    file.extend_from_slice(b"DKIF\0\0 \0VP90")?;
-    file.extend_from_slice(&[0; 20])?;
+// Puts a packet behind a file for each frame.
+pub fn put_packets(file: &mut Vec<u8>, frame: &[u8], count: u32) -> Result<(), AllocError> {
     for _ in 0..count {
         file.extend_from_slice(&(frame.len() as u64).to_le_bytes()[..4])?;
         file.extend_from_slice(&[0; 8])?;
         file.extend_from_slice(frame)?;
     }
+    Ok(())
+}
+
+pub fn file_of(alloc: Global, frame: &[u8], count: u32) -> Result<Vec<u8>, AllocError> {
+    let mut file = Vec::new(alloc);
+    file.extend_from_slice(b"DKIF\0\0 \0VP90")?;
+    file.extend_from_slice(&[0; 20])?;
+    put_packets(&mut file, frame, count)?;
     Ok(file)
 }
 
-fn run_frames<R: Threads + Wait + Sync>(
+pub fn run_frames<R: Threads + Wait + Sync>(
     rt: &R,
     alloc: Global,
     word: &'static str,
@@ -46,7 +51,7 @@ fn run_frames<R: Threads + Wait + Sync>(
 }
 
 // Whether so many of such frames are decoded, to so many grey samples.
-fn decodes_to_grey<R: Threads + Wait + Sync>(
+pub fn decodes_to_grey<R: Threads + Wait + Sync>(
     rt: &R,
     alloc: Global,
     frame: &[u8],
