@@ -1,10 +1,12 @@
 #!/usr/bin/env python3
-"""Prints the tables of crates/bool_encoder/src/tests.rt.
+"""Prints the tables of crates/writer_tests/src/bool_encoder_tests.rt, and the digest of many bools that odd_values_tests.rt has.
 
 The bytes come from the arithmetic of section 9.2 of the standard over numbers without bound, and not from the encoder:
 `low` and `range` name the part of the numbers of 8 + n bits that the bools so far leave. The bytes are the 8 + n bits of
 low, then 0 bits. The coder of bool_vectors.py reads them.
 """
+
+import hashlib
 
 from bool_vectors import INTRA_MODES, Coder, const, draws
 
@@ -118,6 +120,10 @@ def main():
     const("LEAVES", "u8", leaves)
     const("DIFFERENCES", "u8", differences)
     const("SYMBOL_BYTES", "u8", data)
+    part = Part()
+    for k in range(77_777):
+        part.bool(1 + k % 255, int(k % 7 == 0))
+    const("MANY_BOOLS", "u8", list(hashlib.md5(bytes(part.bytes())).digest()))
 
 
 main()

@@ -1,5 +1,5 @@
 #!/usr/bin/env python3
-"""Prints the bytes of crates/compressed_writer/src/tests.rt: compressed headers that make some changes to the default
+"""Prints the bytes of crates/writer_tests/src/compressed_tests.rt: compressed headers that make some changes to the default
 probabilities.
 
     tools/compressed_writings.py TABLES

@@ -1,14 +1,14 @@
 #!/usr/bin/env python3
 """Prints key frames whose every bool is 0, so that each sample of each plane is grey, 80 in hex, as Rattle constants for
-`crates/vp9_app/src/tests/sizes.rt`. With a folder as argument, it writes them there as files of two frames instead, padded
-with zero bytes so that decoders which refuse a frame that ends too early take them: both `vpxdec` (up to 16384 samples
-a side) and `ffmpeg` decode these to grey frames.
+`sizes.rt` and `odd_values.rt` of `crates/run_tests/src/vp9_app_tests`. With a folder as argument, it writes them there as files
+of two frames instead, padded with zero bytes so that decoders which refuse a frame that ends too early take them: both `vpxdec`
+(up to 16384 samples a side) and `ffmpeg` decode these to grey frames.
 """
 import pathlib
 import struct
 import sys
 
-SIZES = [(1, 1), (352, 288), (130, 132), (1, 65536), (65536, 1)]
+SIZES = [(1, 1), (352, 288), (130, 132), (1, 65536), (65536, 1), (4099, 3), (60001, 1)]
 
 
 def field(width, value):

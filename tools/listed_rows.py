@@ -26,7 +26,7 @@ from overflow_frames import ended
 from residue_vectors import Refused, residue
 from token_vectors import BANDS, CATEGORIES, PROBS, SCANS, TAIL, Encoder, class_of, neighbours, table, tail_prob
 
-FOLDER = pathlib.Path(__file__).resolve().parent.parent / "crates/listed_frames/src/tests"
+FOLDER = pathlib.Path(__file__).resolve().parent.parent / "crates/writer_tests/src/listed_frames_tests"
 NAMES = [
     "one key frame of 1x1",
     "one key frame of 8x8",

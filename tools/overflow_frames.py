@@ -1,6 +1,6 @@
 #!/usr/bin/env python3
 """Writes worked runs of `vp9dec decode`: lossless key frames of 8x8 whose levels lie at the bounds of what fits before
-the transforms, and beyond them (rule 22). They are the table that crates/vp9_app/src/tests/rows/overflow_frames.rt is
+the transforms, and beyond them (rule 22). They are the table that crates/run_tests/src/vp9_app_tests/rows/overflow_frames.rt is
 made of, by tools/make_rows.py.
 
 usage: tools/overflow_frames.py FOLDER_OF_PLAIN_TABLES overflow_frames.tsv [FOLDER]

@@ -16,6 +16,8 @@ mod listed_symbols_tests;
 #[cfg(test)]
 mod mode_tests;
 #[cfg(test)]
+mod odd_values_tests;
+#[cfg(test)]
 mod residue_tests;
 #[cfg(test)]
 mod stream_forge_tests;

@@ -44,8 +44,7 @@ const KEY_440: &[u8] = b"DKIF\0\0 \0VP90e\x011\0\x1e\0\0\0\x01\0\0\0\x01\0\0\0\0
 \x8f\xc6~@\x0c\xbf\xd7\x0br\xc7>\xdc\0\0\x1b`\x1cK\xfb\xfa4\xe0\x8b_\x0b\xe7\x8f]e\x80\0";
 
 const KEY_440_SHOWN: [u8; 16] = [
-    0x3c, 0xd4, 0xa0, 0x0f, 0x3c, 0x79, 0xbc, 0x6b, 0x3b, 0xdc, 0x6f, 0x85, 0x01, 0xed,
-    0xf1, 0x76,
+    0x3c, 0xd4, 0xa0, 0x0f, 0x3c, 0x79, 0xbc, 0x6b, 0x3b, 0xdc, 0x6f, 0x85, 0x01, 0xed, 0xf1, 0x76,
 ];
 
 #[test]
@@ -176,15 +175,9 @@ fn a_frame_of_440_is_decoded(rt: HostRuntime) -> Result<(), Fail> {
     Ok(())
 }
 
-// The digests of the file that another generator makes of 40 frames, of 22,346 bytes, and of what vpxdec writes of one of 79.
+// The digest of the file that another generator makes of 40 frames, of 22,346 bytes.
 const FORTY_FRAMES: [u8; 16] = [
-    0x7b, 0x8a, 0x3e, 0xd6, 0xd1, 0x8d, 0x86, 0x41, 0x35, 0xd1, 0x2c, 0x04, 0x19, 0x4d,
-    0xd4, 0x5c,
-];
-
-const SHOWN_OF_79: [u8; 16] = [
-    0x96, 0x41, 0xca, 0xa4, 0x50, 0x2b, 0x55, 0xf7, 0x33, 0x6e, 0x12, 0xc5, 0xfc, 0x50,
-    0x7e, 0x72,
+    0x7b, 0x8a, 0x3e, 0xd6, 0xd1, 0x8d, 0x86, 0x41, 0x35, 0xd1, 0x2c, 0x04, 0x19, 0x4d, 0xd4, 0x5c,
 ];
 
 // Bytes of a file with another count of frames in its header.
@@ -207,8 +200,5 @@ fn a_stream_of_79_frames_is_made(rt: HostRuntime) -> Result<(), Fail> {
     assert!(rt; 22_346 <= file.len());
     let first = with_count(rt.alloc(), file, 40, 22_346)?;
     assert!(rt; Md5::digest(first.as_slice()) == FORTY_FRAMES);
-    let shown = run_words(&rt, rt.alloc(), &["decode"], file, &NONE)?;
-    assert_eq!(rt; shown.status, Status::Done);
-    assert!(rt; Md5::digest(shown.out.bytes()) == SHOWN_OF_79);
     Ok(())
 }
