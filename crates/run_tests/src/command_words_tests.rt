@@ -122,10 +122,7 @@ fn words_of_odd_lengths(rt: HostRuntime) -> Result<(), Fail> {
     assert_eq!(rt; name.len(), 7777);
     words.push(name)?;
     words.push(String::from_str(alloc, "list")?)?;
-    assert_eq!(rt;
-        read_words(alloc, words.as_slice())?,
-        Some(Command::List)
-    );
+    assert_eq!(rt; read_words(alloc, words.as_slice())?, Some(Command::List));
     for _ in 0..77u32 {
         words.push(String::from_str(alloc, "list")?)?;
     }

@@ -1,6 +1,8 @@
 ghost use Rattle.std.specs.Prelude.{◌≡◌, ◌++◌, OnOk, Some, List, ℕ};
 
-use edge_io::{MemSink, MemSource, PutFault, ReadError, Sink, Source, StdSink, StdSource, put_all, read_all};
+use edge_io::{
+    MemSink, MemSource, PutFault, ReadError, Sink, Source, StdSink, StdSource, put_all, read_all,
+};
 use std::alloc::Global;
 use std::io;
 use std::io::{ErrorKind, Read, Write};

@@ -2,7 +2,6 @@ mod odd_values;
 mod rows;
 mod sizes;
 
-use vp9_app::{Ran, Status, run};
 use edge_io::{MemSink, MemSource, OpenGate};
 use md5::{Digest, Md5};
 use rows::{Row, drawn_streams, inter_decode, intra_decode, list, long_runs, overflow_frames};
@@ -10,6 +9,7 @@ use std::alloc::{AllocError, Global};
 use std::sync::Wait;
 use std::test::Fail;
 use std::thread::Threads;
+use vp9_app::{Ran, Status, run};
 
 type MemRan = Ran<MemSource, MemSink, MemSink>;
 

@@ -1,11 +1,11 @@
 //! Headers that can be written, and headers that can't.
 
-use header_tests::{can_choose, can_say_modes, is_well_formed};
 use frame_headers::{
     ColorConfig, ColorSpace, Features, FrameContexts, FrameFilter, FrameKind, FrameParams,
     FrameSize, Header, InterFields, LoopDeltas, LoopFilter, Persist, Quantizer, Reference,
     References, Segmentation, TileInfo, Uncompressed,
 };
+use header_tests::{can_choose, can_say_modes, is_well_formed};
 use header_writer::Choices;
 use std::process::Abort;
 use vp9_types::{Depth, Modes, ReferenceMode, Shape, TxMode};

@@ -6,7 +6,6 @@ ghost use Rattle.seq_decoder.specs.Code.{MayDecode};
 mod rows;
 mod rows_of_vectors;
 
-use listed_frames::write_listed;
 use block_plan::{IntraPrediction, Mv, References};
 use edge_io::MemSink;
 use file_frames::FileFrame;
@@ -15,6 +14,7 @@ use frame_writer::Written;
 use header_writer::Choices;
 use inter_modes::{BlockStart, SegmentOf};
 use inter_writer::{BlockSymbols, PredictionSymbols};
+use listed_frames::write_listed;
 use listed_symbols::{ListedBlock, ListedLevels, ListedSymbols};
 use rows::ROWS;
 use rows_of_vectors::ROWS_OF_VECTORS;

@@ -1,11 +1,11 @@
 // Files of real sizes, and of many frames: want of memory is never their answer.
 
 use super::{MemRan, NONE, run_words};
-use vp9_app::Status;
 use std::alloc::{AllocError, Global};
 use std::sync::Wait;
 use std::test::Fail;
 use std::thread::Threads;
+use vp9_app::Status;
 
 // Key frames whose every bool is 0, so that each sample is grey: by tools/grey_frames.py.
 pub const GREY_1_BY_1: &[u8] = b"\x83I\x83B\0\0\0\0\0\0\0\0\0\x04\0\0";
