@@ -22,7 +22,7 @@ CRATES = pathlib.Path(__file__).resolve().parent.parent / "crates"
 WHOLE, PARTS = True, False
 LAYERS = {
     "bools": [(bools.reading, "reading_tests/src/bools.rt", PARTS)],
-    "bool_writings": [(bools.writing, "writer_tests/src/bool_encoder_tests.rt", PARTS)],
+    "bool_writings": [(bools.writing, "writer_tests/src/bool_encoder_tests.rt", PARTS), (bools.many, "writer_tests/src/odd_values_tests.rt", PARTS)],
     "tokens": [(tokens.small, "reading_tests/src/tokens/small_rows.rt", WHOLE), (tokens.large, "reading_tests/src/tokens/large_rows.rt", WHOLE)],
     "token_writings": [(tokens.writings, "writer_tests/src/token_tests.rt", PARTS)],
     "residue_writings": [(tokens.residue_writings, "writer_tests/src/residue_tests.rt", PARTS)],
@@ -30,9 +30,9 @@ LAYERS = {
     "compressed_writings": [(headers.writings, "writer_tests/src/compressed_tests.rt", PARTS)],
     "adaptation": [(adaptation.rows, "reading_tests/src/adaptation/rows.rt", WHOLE)],
     "grids": [(blocks.grids, "reading_tests/src/geometry.rt", PARTS)],
-    "candidates": [(blocks.candidates, "reading_tests/src/candidates.rt", PARTS)],
-    "intra_modes": [(modes.intra_tiles, "reading_tests/src/modes.rt", PARTS)],
-    "inter_modes": [(modes.inter_blocks, "reading_tests/src/inter_blocks.rt", PARTS), (modes.vectors, "reading_tests/src/vectors.rt", PARTS)],
+    "candidates": [(blocks.candidates, "mode_tests/src/candidates.rt", PARTS)],
+    "intra_modes": [(modes.intra_tiles, "mode_tests/src/modes.rt", PARTS)],
+    "inter_modes": [(modes.inter_blocks, "mode_tests/src/inter_blocks.rt", PARTS), (modes.vectors, "mode_tests/src/vectors.rt", PARTS)],
     "mode_writings": [(modes.mode_writings, "writer_tests/src/mode_tests.rt", PARTS)],
     "vector_writings": [(modes.vector_writings, "writer_tests/src/vector_tests.rt", PARTS)],
     "transforms": [(transforms.lists, "picture_tests/src/transforms/vectors.rt", WHOLE)],
@@ -46,7 +46,7 @@ LAYERS = {
              (runs.inter_decode, "run_tests/src/vp9_app_tests/rows/inter_decode.rt", PARTS),
              (runs.long_runs, "run_tests/src/vp9_app_tests/rows/long_runs.rt", WHOLE)],
     "overflow": [(runs.overflow, "run_tests/src/vp9_app_tests/rows/overflow_frames.rt", WHOLE)],
-    "grey": [(runs.grey, "run_tests/src/vp9_app_tests/sizes.rt", PARTS)],
+    "grey": [(runs.grey, "run_tests/src/vp9_app_tests/sizes.rt", PARTS), (runs.odd_grey, "run_tests/src/vp9_app_tests/odd_values.rt", PARTS)],
     "tables": [(make, f"vp9_tables/src/data/{module}.rt", WHOLE) for module, make in tables.MODULES.items()],
     "tails": [(tables.tails, "coef_tokens/src/tails.rt", WHOLE)],
 }

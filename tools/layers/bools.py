@@ -1,4 +1,6 @@
 """Bools: what `bool_decoder` reads, and what `bool_encoder` writes."""
+import hashlib
+
 from vp9model.bools import Reader, Writer
 from vp9model.draws import Draws
 from vp9model.tables import table
@@ -93,6 +95,15 @@ def symbols():
     assert reader.literal(11) == 1234 and reader.literal(32) == 2**32 - 2
     return [const("TREE", "i8", TREE), const("TREE_PROBS", "u8", probs(5, 9)), const("LEAVES", "u8", leaves),
             const("DIFFERENCES", "u8", differences), const("SYMBOL_BYTES", "u8", writer.bytes())]
+
+
+def many():
+    """The digest of so many bools that no one would choose."""
+    writer = Writer()
+    for k in range(77_777):
+        writer.bool(1 + k % 255, int(k % 7 == 0))
+    digest = hashlib.md5(writer.bytes()).digest()
+    return [const("MANY_BOOLS", "u8", (f"0x{byte:02x}" for byte in digest))]
 
 
 def writing():

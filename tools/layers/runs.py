@@ -298,6 +298,7 @@ def overflow_files():
 
 
 GREY_SIZES = [(1, 1), (352, 288), (130, 132), (1, 65536), (65536, 1)]
+ODD_SIZES = [(4099, 3), (60001, 1)]
 
 
 def grey_frame(width, height, padding=0):
@@ -307,11 +308,19 @@ def grey_frame(width, height, padding=0):
     return key_frame_header(width, height, 1 + padding) + bytes(1 + padding) + before_last + of_tile
 
 
-def grey():
+def grey_items(sizes):
     return [Item(f"GREY_{width}_BY_{height}", f"const GREY_{width}_BY_{height}: &[u8] = {byte_string(grey_frame(width, height))};")
-            for width, height in GREY_SIZES]
+            for width, height in sizes]
+
+
+def grey():
+    return grey_items(GREY_SIZES)
+
+
+def odd_grey():
+    return grey_items(ODD_SIZES)
 
 
 def grey_files():
-    for width, height in GREY_SIZES:
+    for width, height in GREY_SIZES + ODD_SIZES:
         yield f"grey-{width}x{height}.ivf", ivf([grey_frame(width, height, 64)] * 2, 0, 0)
