@@ -1,4 +1,4 @@
-//! Candidates of drawn blocks, as tools/candidate_rows.py lists them.
+//! Candidates of drawn blocks, as tools/vectors.py candidates lists them.
 
 ghost use Rattle.std.specs.Prelude.{◌≡◌, ◌<◌, ◌≤◌, ◌+◌, [], IfSome};
 ghost use Rattle.std.specs.List.{All};

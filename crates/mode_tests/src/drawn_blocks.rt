@@ -1,4 +1,4 @@
-//! Blocks that are drawn as tools/candidate_rows.py and tools/inter_rows.py draw them, in a tile of a frame.
+//! Blocks that are drawn as tools/vectors.py candidates and inter_modes draw them, in a tile of a frame.
 
 ghost use Rattle.std.specs.Prelude.{◌≡◌, ◌<◌, ◌≤◌, ◌+◌, unsigned_abs};
 ghost use Rattle.std.specs.List.{All};

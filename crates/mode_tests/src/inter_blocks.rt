@@ -1,4 +1,4 @@
-//! Blocks of inter frames without residue, as tools/inter_rows.py reads them.
+//! Blocks of inter frames without residue, as tools/vectors.py inter_modes reads them.
 
 ghost use Rattle.std.specs.Prelude.{◌≡◌, ◌<◌, ◌≤◌, ◌+◌, [], IfSome};
 ghost use Rattle.std.specs.List.{All};

@@ -1,4 +1,4 @@
-//! Tiles of intra frames without residue, as tools/mode_rows.py reads them.
+//! Tiles of intra frames without residue, as tools/vectors.py intra_modes reads them.
 
 ghost use Rattle.std.specs.Prelude.{◌≡◌, ◌<◌, ◌≤◌, ◌^◌};
 ghost use Rattle.frame_headers.specs.Sizes.{IsFrameSize};

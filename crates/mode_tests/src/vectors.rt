@@ -1,4 +1,4 @@
-//! New vectors, as tools/inter_rows.py reads them.
+//! New vectors, as tools/vectors.py inter_modes reads them.
 
 ghost use Rattle.std.specs.Prelude.{◌<◌, ◌≤◌};
 

@@ -1,4 +1,4 @@
-//! Drawn pictures with drawn blocks, filtered, beside what tools/filter_rows.py makes of them line by line.
+//! Drawn pictures with drawn blocks, filtered, beside what tools/vectors.py filter makes of them line by line.
 
 ghost use Rattle.std.specs.Prelude.{◌≡◌, ◌+◌, ℕ, ◌≤◌, ◌<◌, slice_index, length, IfOk};
 ghost use Rattle.vp9_types.specs.Maps.{IsAtMost};

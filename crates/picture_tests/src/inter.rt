@@ -1,4 +1,4 @@
-//! Blocks that tools/inter_blocks.py computes by itself.
+//! Blocks that tools/vectors.py inter computes.
 
 ghost use Rattle.std.specs.Prelude.{◌≡◌, ℕ, ◌*◌, ◌/◌, ◌<◌, ◌≤◌, ◌^◌, ◌-◌, IfOk, slice_index};
 ghost use Rattle.std.specs.Bool.{OnTrue};

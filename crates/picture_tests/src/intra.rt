@@ -1,4 +1,4 @@
-//! Blocks and planes that tools/intra_blocks.py computes by itself, and the first block of a frame.
+//! Blocks and planes that tools/vectors.py intra computes, and the first block of a frame.
 
 ghost use Rattle.std.specs.Prelude.{◌≡◌, ℕ, pos, ◌*◌, ◌^◌, ◌<◌, ◌≤◌, length, slice_index, slice_index_or, unsigned_abs};
 ghost use Rattle.vp9_types.specs.Maps.{IsAtMost};

@@ -1,4 +1,4 @@
-//! Places that tools/inter_blocks.py computes by itself.
+//! Places that tools/vectors.py inter computes.
 
 ghost use Rattle.std.specs.Prelude.{◌≡◌, ◌<◌, ◌≤◌};
 ghost use Rattle.std.specs.Bool.{OnTrue};

@@ -1,4 +1,4 @@
-//! Blocks from outside, as tools/residue_vectors.py prints them. Among them: a first level alone gives one residue
+//! Blocks from outside, as tools/vectors.py residue writes them. Among them: a first level alone gives one residue
 //! everywhere; the WHT of a first level 4 gives ones; at the largest quantisers a first level of 24 fits, 25 doesn't, and
 //! 24 with 17 at the next place of the scan fits before the transforms alone.
 

@@ -1,4 +1,4 @@
-//! Values from outside, as tools/transform_vectors.py prints them: what each transform makes of one list, and of the
+//! Values from outside, as tools/vectors.py transforms writes them: what each transform makes of one list, and of the
 //! same list among eight columns.
 
 ghost use Rattle.std.specs.Prelude.{◌≡◌, ◌^◌, ◌≤◌, ◌<◌, length, All};

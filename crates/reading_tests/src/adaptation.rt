@@ -1,4 +1,4 @@
-//! Values that tools/adapt_vectors.py works out.
+//! Values that tools/vectors.py adaptation works out.
 
 ghost use Rattle.std.specs.Prelude.{◌≤◌};
 ghost use Rattle.prob_contexts.specs.Kinds.{kind_size};

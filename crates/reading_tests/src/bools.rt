@@ -1,4 +1,4 @@
-//! Bools of the standard's arithmetic over numbers without bound, as tools/bool_vectors.py prints them.
+//! Bools of the standard's arithmetic over numbers without bound, as tools/vectors.py bools reads them.
 
 use bool_decoder::BoolDecoder;
 use std::process::Abort;

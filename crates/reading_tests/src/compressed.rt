@@ -1,4 +1,4 @@
-//! Compressed headers of real streams and made ones, over the default probabilities, as tools/compressed_headers.py
+//! Compressed headers of real streams and made ones, over the default probabilities, as tools/vectors.py
 //! reads them.
 
 mod made;

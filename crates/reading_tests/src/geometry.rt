@@ -1,4 +1,4 @@
-//! Grids of transform blocks as tools/block_rows.py prints them, and contexts of partitions written out by hand.
+//! Grids of transform blocks as tools/vectors.py grids has them, and contexts of partitions written out by hand.
 
 use block_geometry::{
     FramePlaces, PlaneBlock, greatest_tx, height_4, height_8, is_below_8x8, part_size,

@@ -1,4 +1,4 @@
-//! Bytes of the standard's arithmetic over numbers without bound, as tools/bool_encodings.py prints them.
+//! Bytes of the standard's arithmetic over numbers without bound, as tools/vectors.py bool_writings has them.
 
 use bool_encoder::{BoolEncoder, put_difference, put_literal, put_tree};
 use std::alloc::Global;

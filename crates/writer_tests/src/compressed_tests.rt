@@ -1,5 +1,5 @@
-//! Bytes of the standard's arithmetic over numbers without bound. They hold headers that make some changes to the default
-//! probabilities.
+//! Bytes of the standard's arithmetic over numbers without bound, by tools/vectors.py compressed_writings.
+//! They hold headers that make some changes to the default probabilities.
 
 ghost use Rattle.std.specs.Prelude.{◌≡◌, ◌<◌, ◌≤◌, ◌%◌, length, true, false};
 ghost use Rattle.std.specs.List.{All};

@@ -1,4 +1,4 @@
-//! Tiles of intra frames without residue, drawn with their bytes by tools/mode_writings.py.
+//! Tiles of intra frames without residue, drawn with their bytes by tools/vectors.py mode_writings.
 
 ghost use Rattle.std.specs.Prelude.{◌≡◌, ◌*◌, ◌<◌, ◌≤◌, true};
 ghost use Rattle.frame_headers.specs.Sizes.{IsFrameSize};

@@ -5,7 +5,7 @@ use container_writer::{write_header, write_packet};
 use md5::{Digest, Md5};
 use std::test::Fail;
 
-// The digest of 13,777 bytes, as tools/bool_encodings.py prints it.
+// The digest of 13,777 bytes, as tools/vectors.py bool_writings has it.
 const MANY_BOOLS: [u8; 16] = [
     0xe8, 0x47, 0x12, 0xa7, 0x8c, 0xde, 0x60, 0xc2, 0xae, 0x4f, 0x85, 0xbb, 0x30, 0x30, 0xdf, 0x31,
 ];

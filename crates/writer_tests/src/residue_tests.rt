@@ -1,4 +1,4 @@
-//! Bytes of tools/residue_writings.py: an intra block of 8x8 with transforms of 4x4, which have a level at their first place
+//! Bytes of tools/vectors.py residue_writings: an intra block of 8x8 with transforms of 4x4, which have a level at their first place
 //! or none.
 
 ghost use Rattle.std.specs.Prelude.{◌≡◌, ◌≢◌, ◌<◌, ◌⊎◌, ℕ, pos, length, slice_index, unsigned_abs};

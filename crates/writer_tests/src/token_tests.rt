@@ -1,4 +1,5 @@
-//! Bytes of the standard's arithmetic over exact fractions, for blocks whose first places of the scan hold drawn levels.
+//! Bytes of the standard's arithmetic over numbers without bound, by tools/vectors.py token_writings,
+//! for blocks whose first places of the scan hold drawn levels.
 
 ghost use Rattle.std.specs.Prelude.{ℕ, true, ◌-◌, ◌≡◌, ◌≢◌, ◌≤◌, ◌<◌, [], pos, length, slice_index, unsigned_abs};
 ghost use Rattle.std.specs.List.{All};

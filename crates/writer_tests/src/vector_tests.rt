@@ -1,4 +1,4 @@
-//! Bytes of the standard's arithmetic over exact fractions, as tools/vector_writings.py prints them.
+//! Bytes of the standard's arithmetic over numbers without bound, as tools/vectors.py vector_writings has them.
 
 ghost use Rattle.std.specs.Prelude.{◌≡◌, ℕ, true, false, None};
 ghost use Rattle.std.specs.List.{All};

@@ -1,4 +1,4 @@
-//! Drawn pictures, and the checksums of their planes once they are filtered, printed by tools/filter_rows.py.
+//! Drawn pictures, and the checksums of their planes once they are filtered, by tools/vectors.py filter.
 //! Blocks are row, column, size, skip, segment, transform, kind (intra, last, golden, altref) and mode (zero, another).
 
 use super::Case;

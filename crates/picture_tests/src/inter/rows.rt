@@ -1,4 +1,4 @@
-// Written by tools/inter_blocks.py.
+// Written by tools/vectors.py inter.
 
 /// Start, step and size.
 pub type Line = (i32, u8, u32);

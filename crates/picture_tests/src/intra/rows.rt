@@ -1,4 +1,4 @@
-// Written by tools/intra_blocks.py.
+// Written by tools/vectors.py intra.
 
 use vp9_types::{Depth, IntraMode, TxSize};
 

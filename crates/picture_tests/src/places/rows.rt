@@ -1,4 +1,4 @@
-// Written by tools/inter_blocks.py.
+// Written by tools/vectors.py inter.
 
 /// First sample and length in the plane; start, step and size in the reference.
 pub type Line = (usize, usize, i32, u8, u32);

@@ -1,4 +1,4 @@
-//! Written by tools/residue_vectors.py: for each size some blocks, with their levels by position, and the residue that
+//! Written by tools/vectors.py residue: for each size some blocks, with their levels by position, and the residue that
 //! they give, one after another. Where a rule comes of it, zeros stand for the residue.
 
 use residue_blocks::Quant;

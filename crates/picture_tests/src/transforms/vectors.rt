@@ -1,4 +1,4 @@
-//! Written by tools/transform_vectors.py: for each transform, seven lists at each depth with what they give, one after
+//! Written by tools/vectors.py transforms: for each transform, seven lists at each depth with what they give, one after
 //! another, and whether all fits. Where it doesn't, zeros stand for what they give.
 
 pub static DCT_4: [i32; 168] = [

@@ -1,4 +1,4 @@
-//! Probabilities after their counts, as tools/adapt_vectors.py works them out.
+//! Probabilities after their counts, as tools/vectors.py adaptation works them out.
 use super::Row;
 use backward_adapt::Rate;
 

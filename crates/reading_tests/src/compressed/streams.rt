@@ -1,4 +1,4 @@
-//! What tools/compressed_headers.py prints.
+//! Written by tools/vectors.py compressed_headers.
 
 use super::{Case, Kind};
 use vp9_types::{ReferenceMode, TxMode};

@@ -1,4 +1,4 @@
-//! Blocks encoded by tools/token_vectors.py, which prints this file.
+//! Blocks encoded by tools/vectors.py tokens, which writes this file.
 
 use super::Row;
 use coef_tokens::TokenKind;

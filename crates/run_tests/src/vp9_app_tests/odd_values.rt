@@ -13,7 +13,7 @@ use std::test::Fail;
 use std::thread::Threads;
 use vp9_app::Status;
 
-// Key frames whose every bool is 0, so that each sample is grey: by tools/grey_frames.py.
+// Key frames whose every bool is 0, so that each sample is grey: by tools/vectors.py grey.
 const GREY_4099_BY_3: &[u8] = b"\x83I\x83B\x01\0 \0 \0\0\0\0\x02\0\0\0\0\x01\0\0";
 
 const GREY_60001_BY_1: &[u8] =

@@ -7,7 +7,7 @@ use std::test::Fail;
 use std::thread::Threads;
 use vp9_app::Status;
 
-// Key frames whose every bool is 0, so that each sample is grey: by tools/grey_frames.py.
+// Key frames whose every bool is 0, so that each sample is grey: by tools/vectors.py grey.
 pub const GREY_1_BY_1: &[u8] = b"\x83I\x83B\0\0\0\0\0\0\0\0\0\x04\0\0";
 
 const GREY_352_BY_288: &[u8] = b"\x83I\x83B\0\x15\xf0\x11\xf0\0\0\0\0\x04\0\0";

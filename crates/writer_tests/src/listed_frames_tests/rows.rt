@@ -1,4 +1,4 @@
-//! Written by tools/listed_rows.py from decode.tsv.
+//! Written by tools/vectors.py listed, from samples/rows/decode.tsv.
 
 use super::{Frame, Row, Told};
 use vp9_types::{InterMode, InterpFilter, IntraMode, Partition, ReferenceFrame};

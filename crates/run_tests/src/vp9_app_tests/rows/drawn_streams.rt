@@ -1,4 +1,4 @@
-// Written by tools/make_rows.py from drawn_streams.tsv.
+// Drawn streams, of which vpxdec writes the same.
 
 use super::Row;
 

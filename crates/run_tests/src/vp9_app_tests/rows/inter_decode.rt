@@ -1,4 +1,4 @@
-// Written by tools/make_rows.py from inter_decode.tsv.
+// Runs of samples/rows/decode.tsv, which tools/vectors.py runs compares with it, and drawn streams, of which vpxdec writes the same.
 
 use super::Row;
 

@@ -1,4 +1,4 @@
-// Written by tools/make_rows.py from intra_decode.tsv.
+// Runs of samples/rows/decode.tsv and more_decode.tsv, which tools/vectors.py runs compares with them.
 
 use super::Row;
 

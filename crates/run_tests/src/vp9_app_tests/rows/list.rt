@@ -1,4 +1,4 @@
-// Written by tools/make_rows.py from list.tsv.
+// Written by tools/vectors.py runs, from samples/rows/list.tsv.
 
 use super::Row;
 

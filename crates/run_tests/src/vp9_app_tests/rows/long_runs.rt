@@ -1,5 +1,5 @@
 // Rows whose outputs are long runs of one sample, so that each is told as runs: a count and a byte. Their inputs and outputs are
-// those of the table of worked runs.
+// those of samples/rows/decode.tsv, by tools/vectors.py runs.
 
 pub struct LongRow {
     pub name: &'static str,

@@ -1,4 +1,4 @@
-// Written by tools/make_rows.py from overflow_frames.tsv.
+// Written by tools/vectors.py overflow.
 
 use super::Row;
 
