@@ -18,39 +18,48 @@ from layers import adaptation, blocks, bools, filter, headers, items, listed, mo
 
 CRATES = pathlib.Path(__file__).resolve().parent.parent / "crates"
 
-# Where the parts of each layer stand: what makes them, the file, and whether all of the file's constants are of it.
+# Where the data of each layer stands: what makes it, the file, and whether all constants of the file are of it.
 WHOLE, PARTS = True, False
-LAYERS = {
-    "bools": [(bools.reading, "reading_tests/src/bools.rt", PARTS)],
-    "bool_writings": [(bools.writing, "writer_tests/src/bool_encoder_tests.rt", PARTS), (bools.many, "writer_tests/src/odd_values_tests.rt", PARTS)],
-    "tokens": [(tokens.small, "reading_tests/src/tokens/small_rows.rt", WHOLE), (tokens.large, "reading_tests/src/tokens/large_rows.rt", WHOLE)],
-    "token_writings": [(tokens.writings, "writer_tests/src/token_tests.rt", PARTS)],
-    "residue_writings": [(tokens.residue_writings, "writer_tests/src/residue_tests.rt", PARTS)],
-    "compressed_headers": [(headers.of_streams, "reading_tests/src/compressed/streams.rt", WHOLE), (headers.made, "reading_tests/src/compressed/made.rt", WHOLE)],
-    "compressed_writings": [(headers.writings, "writer_tests/src/compressed_tests.rt", PARTS)],
-    "adaptation": [(adaptation.rows, "reading_tests/src/adaptation/rows.rt", WHOLE)],
-    "grids": [(blocks.grids, "reading_tests/src/geometry.rt", PARTS)],
-    "candidates": [(blocks.candidates, "mode_tests/src/candidates.rt", PARTS)],
-    "intra_modes": [(modes.intra_tiles, "mode_tests/src/modes.rt", PARTS)],
-    "inter_modes": [(modes.inter_blocks, "mode_tests/src/inter_blocks.rt", PARTS), (modes.vectors, "mode_tests/src/vectors.rt", PARTS)],
-    "mode_writings": [(modes.mode_writings, "writer_tests/src/mode_tests.rt", PARTS)],
-    "vector_writings": [(modes.vector_writings, "writer_tests/src/vector_tests.rt", PARTS)],
-    "transforms": [(transforms.lists, "picture_tests/src/transforms/vectors.rt", WHOLE)],
-    "residue": [(transforms.residues, "picture_tests/src/residues/vectors.rt", WHOLE)],
-    "intra": [(prediction.intra_rows, "picture_tests/src/intra/rows.rt", WHOLE), (prediction.intra_extreme, "picture_tests/src/intra/extreme_rows.rt", WHOLE),
-              (prediction.intra_drawn, "picture_tests/src/intra/drawn_rows.rt", WHOLE)],
-    "inter": [(prediction.places, "picture_tests/src/places/rows.rt", WHOLE), (prediction.inter_blocks, "picture_tests/src/inter/rows.rt", WHOLE)],
-    "filter": [(filter.pictures, "picture_tests/src/filter/rows.rt", WHOLE)],
-    "listed": [(listed.rows, "writer_tests/src/listed_frames_tests/rows.rt", WHOLE), (listed.rows_of_vectors, "writer_tests/src/listed_frames_tests/rows_of_vectors.rt", WHOLE)],
-    "runs": [(runs.listings, "run_tests/src/vp9_app_tests/rows/list.rt", WHOLE), (runs.intra_decode, "run_tests/src/vp9_app_tests/rows/intra_decode.rt", PARTS),
-             (runs.inter_decode, "run_tests/src/vp9_app_tests/rows/inter_decode.rt", PARTS),
-             (runs.long_runs, "run_tests/src/vp9_app_tests/rows/long_runs.rt", WHOLE)],
-    "overflow": [(runs.overflow, "run_tests/src/vp9_app_tests/rows/overflow_frames.rt", WHOLE)],
-    "grey": [(runs.grey, "run_tests/src/vp9_app_tests/sizes.rt", PARTS), (runs.odd_grey, "run_tests/src/vp9_app_tests/odd_values.rt", PARTS)],
-    "tables": [(make, f"vp9_tables/src/data/{module}.rt", WHOLE) for module, make in tables.MODULES.items()],
-    "tails": [(tables.tails, "coef_tokens/src/tails.rt", WHOLE)],
-}
+TABLE = [
+    ("bools", bools.reading, "reading_tests/src/bools.rt", PARTS),
+    ("bool_writings", bools.writing, "writer_tests/src/bool_encoder_tests.rt", PARTS),
+    ("bool_writings", bools.many, "writer_tests/src/odd_values_tests.rt", PARTS),
+    ("tokens", tokens.small, "reading_tests/src/tokens/small_rows.rt", WHOLE),
+    ("tokens", tokens.large, "reading_tests/src/tokens/large_rows.rt", WHOLE),
+    ("token_writings", tokens.writings, "writer_tests/src/token_tests.rt", PARTS),
+    ("residue_writings", tokens.residue_writings, "writer_tests/src/residue_tests.rt", PARTS),
+    ("compressed_headers", headers.of_streams, "reading_tests/src/compressed/streams.rt", WHOLE),
+    ("compressed_headers", headers.made, "reading_tests/src/compressed/made.rt", WHOLE),
+    ("compressed_writings", headers.writings, "writer_tests/src/compressed_tests.rt", PARTS),
+    ("adaptation", adaptation.rows, "reading_tests/src/adaptation/rows.rt", WHOLE),
+    ("grids", blocks.grids, "reading_tests/src/geometry.rt", PARTS),
+    ("candidates", blocks.candidates, "mode_tests/src/candidates.rt", PARTS),
+    ("intra_modes", modes.intra_tiles, "mode_tests/src/modes.rt", PARTS),
+    ("inter_modes", modes.inter_blocks, "mode_tests/src/inter_blocks.rt", PARTS),
+    ("inter_modes", modes.vectors, "mode_tests/src/vectors.rt", PARTS),
+    ("mode_writings", modes.mode_writings, "writer_tests/src/mode_tests.rt", PARTS),
+    ("vector_writings", modes.vector_writings, "writer_tests/src/vector_tests.rt", PARTS),
+    ("transforms", transforms.lists, "picture_tests/src/transforms/vectors.rt", WHOLE),
+    ("residue", transforms.residues, "picture_tests/src/residues/vectors.rt", WHOLE),
+    ("intra", prediction.intra_rows, "picture_tests/src/intra/rows.rt", WHOLE),
+    ("intra", prediction.intra_extreme, "picture_tests/src/intra/extreme_rows.rt", WHOLE),
+    ("intra", prediction.intra_drawn, "picture_tests/src/intra/drawn_rows.rt", WHOLE),
+    ("inter", prediction.places, "picture_tests/src/places/rows.rt", WHOLE),
+    ("inter", prediction.inter_blocks, "picture_tests/src/inter/rows.rt", WHOLE),
+    ("filter", filter.pictures, "picture_tests/src/filter/rows.rt", WHOLE),
+    ("listed", listed.rows, "writer_tests/src/listed_frames_tests/rows.rt", WHOLE),
+    ("listed", listed.rows_of_vectors, "writer_tests/src/listed_frames_tests/rows_of_vectors.rt", WHOLE),
+    ("runs", runs.listings, "run_tests/src/vp9_app_tests/rows/list.rt", WHOLE),
+    ("runs", runs.intra_decode, "run_tests/src/vp9_app_tests/rows/intra_decode.rt", PARTS),
+    ("runs", runs.inter_decode, "run_tests/src/vp9_app_tests/rows/inter_decode.rt", PARTS),
+    ("runs", runs.long_runs, "run_tests/src/vp9_app_tests/rows/long_runs.rt", WHOLE),
+    ("overflow", runs.overflow, "run_tests/src/vp9_app_tests/rows/overflow_frames.rt", WHOLE),
+    ("grey", runs.grey, "run_tests/src/vp9_app_tests/sizes.rt", PARTS),
+    ("grey", runs.odd_grey, "run_tests/src/vp9_app_tests/odd_values.rt", PARTS),
+    ("tails", tables.tails, "coef_tokens/src/tails.rt", WHOLE),
+] + [("tables", make, f"vp9_tables/src/data/{module}.rt", WHOLE) for module, make in tables.MODULES.items()]
 FILES = {"overflow": runs.overflow_files, "grey": runs.grey_files}
+LAYERS = {layer: [row[1:] for row in TABLE if row[0] == layer] for layer, *_ in TABLE}
 
 
 def check(layer):

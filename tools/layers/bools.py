@@ -60,7 +60,8 @@ def written(name, pairs):
         writer.bool(p, value)
     reader = Reader(writer.bytes())
     assert [reader.bool(p) for p, _ in pairs] == [value for _, value in pairs]
-    return [const(f"{name}_PROBS", "u8", [p for p, _ in pairs]), spelled(name, [value for _, value in pairs]), const(f"{name}_BYTES", "u8", writer.bytes())]
+    return [const(f"{name}_PROBS", "u8", [p for p, _ in pairs]), spelled(name, [value for _, value in pairs]),
+            const(f"{name}_BYTES", "u8", writer.bytes())]
 
 
 def carrying(of_probs):

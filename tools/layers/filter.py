@@ -9,54 +9,45 @@ from .items import Item, flag, item, listed, struct
 SPREADS = [1, 2, 3, 5, 9, 30, 120, 2]
 
 
-def drawn_blocks(case):
-    """Leaves of the partition trees, as (row, col, size, skip, segment, tx, kind, mode): kind 0 is intra, 1 to 3 are the
-    references; mode 0 is the zero vector. Blocks that start outside of the frame are left out."""
-    draws = Draws(case["seed"])
-    rows, cols = (case["h"] + 7) // 8, (case["w"] + 7) // 8
-    blocks = []
+class Partitions:
+    """Leaves of the partition trees of drawn superblocks, as (row, col, size, skip, segment, tx, kind, mode): kind 0 is intra, 1 to 3 are
+    the references; mode 0 is the zero vector. Blocks that start outside of the frame are left out."""
 
-    def leaf(r, c, w, h):
-        if r >= rows or c >= cols:
+    def __init__(self, case):
+        self.draws, self.blocks = Draws(case["seed"]), []
+        self.rows, self.cols = (case["h"] + 7) // 8, (case["w"] + 7) // 8
+        for r in range(0, self.rows, 8):
+            for c in range(0, self.cols, 8):
+                self.square(r, c, 64)
+
+    def leaf(self, r, c, w, h):
+        if r >= self.rows or c >= self.cols:
             return
-        greatest = GREATEST_TX[min(w, h)]
-        tx = min(greatest, draws.below(5))
+        draws = self.draws
+        tx = min(GREATEST_TX[min(w, h)], draws.below(5))
         kind = max(0, draws.below(6) - 2)
         mode = draws.below(2)
         skip = draws.below(3) > 0
-        blocks.append((r, c, size_of(w, h), int(skip), draws.below(8), tx, kind, mode))
+        self.blocks.append((r, c, size_of(w, h), int(skip), draws.below(8), tx, kind, mode))
 
-    def square(r, c, side):
-        if r >= rows or c >= cols:
+    def square(self, r, c, side):
+        if r >= self.rows or c >= self.cols:
             return
         half = side // 16
-        how = draws.below(6)
+        how = self.draws.below(6)
         if side == 8:
-            if how == 0:
-                leaf(r, c, 4, 4)
-            elif how == 1:
-                leaf(r, c, 8, 4)
-            elif how == 2:
-                leaf(r, c, 4, 8)
-            else:
-                leaf(r, c, 8, 8)
+            self.leaf(r, c, *[(4, 4), (8, 4), (4, 8), (8, 8)][min(how, 3)])
         elif how == 0 and side < 64:
-            leaf(r, c, side, side)
+            self.leaf(r, c, side, side)
         elif how == 1:
-            leaf(r, c, side, side // 2)
-            leaf(r + half, c, side, side // 2)
+            self.leaf(r, c, side, side // 2)
+            self.leaf(r + half, c, side, side // 2)
         elif how == 2:
-            leaf(r, c, side // 2, side)
-            leaf(r, c + half, side // 2, side)
+            self.leaf(r, c, side // 2, side)
+            self.leaf(r, c + half, side // 2, side)
         else:
-            for y in (r, r + half):
-                for x in (c, c + half):
-                    square(y, x, side // 2)
-
-    for r in range(0, rows, 8):
-        for c in range(0, cols, 8):
-            square(r, c, 64)
-    return blocks
+            for y, x in ((r, c), (r, c + half), (r + half, c), (r + half, c + half)):
+                self.square(y, x, side // 2)
 
 
 def drawn_plane(case, plane, width, height):
@@ -115,7 +106,7 @@ def case_item(number, case, before, after):
 def pictures():
     items = []
     for number, case in enumerate(CASES):
-        blocks, planes = drawn_blocks(case), planes_of(case)
+        blocks, planes = Partitions(case).blocks, planes_of(case)
         before = [checksum(plane) for plane in planes]
         filtered(case, blocks, planes)
         after = [checksum(plane) for plane in planes]

@@ -6,7 +6,7 @@ from vp9model.modes import COUNTED, TREES, VECTOR_KINDS, Broken, InterModes, Til
 from vp9model.prediction import INTRA_MODES
 
 from .blocks import TILE, Digest, drawn_places
-from .items import BLOCK_SIZES, PARTITIONS, Value, array, flag, item, tx_name
+from .items import BLOCK_SIZES, PARTITIONS, Value, array, flag, item, struct, tx_name
 
 SEGMENTS = {"tree": [128, 100, 150, 60, 200, 90, 170], "skips": {5}}
 
@@ -70,7 +70,8 @@ class Told(Tile):
         super().block(r, c, w, h)
         _, _, size, skip, segment, tx, *luma, chroma = self.blocks[-1]
         modes = array(INTRA_MODES[mode] for mode in luma)
-        self.steps.append(f"block(&rt, t, ({r}, {c}, {BLOCK_SIZES[size]}), ({flag(skip)}, {segment}, {tx_name(4 << tx)}), {modes}, {INTRA_MODES[chroma]})?;")
+        place, said = f"({r}, {c}, {BLOCK_SIZES[size]})", f"({flag(skip)}, {segment}, {tx_name(4 << tx)})"
+        self.steps.append(f"block(&rt, t, {place}, {said}, {modes}, {INTRA_MODES[chroma]})?;")
 
 
 def drawn_tile(seed, row_count, cols, tile_from, segments):
@@ -82,8 +83,10 @@ def drawn_tile(seed, row_count, cols, tile_from, segments):
 
 def mode_writings():
     (second, second_bytes), (edges, edges_bytes) = drawn_tile(1270, 4, 8, 4, SEGMENTS), drawn_tile(3, 3, 2, 0, None)
-    return [Value("second_tile", "let t = &mut tile;", "let bytes", f"\n    {second}\n    "), Value("second_tile", "let bytes = ", ";", second_bytes),
-            Value("edges", "let t = &mut tile;", "assert!", f"\n    {edges}\n    "), Value("edges", "ends_as(&tile, &", ")?", edges_bytes)]
+    return [Value("second_tile", "let t = &mut tile;", "let bytes", f"\n    {second}\n    "),
+            Value("second_tile", "let bytes = ", ";", second_bytes),
+            Value("edges", "let t = &mut tile;", "assert!", f"\n    {edges}\n    "),
+            Value("edges", "ends_as(&tile, &", ")?", edges_bytes)]
 
 
 # ---- blocks of inter frames
@@ -106,10 +109,15 @@ def inter_case(seed, biases, mode, segments=None, high=True, filter=None, tx=Non
 # by what stands before the numbers in the test
 CASES = {
     "compound_and_single": [("read, ", inter_case(11, (0, 0, 1), "selected"))],
-    "temporal_segments": [("read, ", inter_case(12, (0, 0, 0), "single", ["update", "temporal"], high=False, filter=1, tx=2, before=False))],
+    "temporal_segments": [
+        ("read, ", inter_case(12, (0, 0, 0), "single", ["update", "temporal"], high=False, filter=1, tx=2, before=False)),
+    ],
     "segments_of_the_map_before": [("read, ", inter_case(13, (1, 0, 0), "compound", ["kept"]))],
     "coded_segments": [("read, ", inter_case(14, (0, 1, 0), "selected", ["update"], tx=0))],
-    "rules": [("scale, ", inter_case(15, (0, 0, 1), "selected", bad=(1,))), ("range, ", inter_case(24, (0, 0, 0), "single", filter=0, ones=254))],
+    "rules": [
+        ("scale, ", inter_case(15, (0, 0, 1), "selected", bad=(1,))),
+        ("range, ", inter_case(24, (0, 0, 0), "single", filter=0, ones=254)),
+    ],
 }
 RULES = {0: "None", 20: "Some(Rule::BlockScale)", 21: "Some(Rule::MvRange)"}
 
@@ -237,6 +245,8 @@ def vector_writings():
     differences, writer = drawn_differences(), Writer()
     for one in differences:
         put_difference(writer, *one)
-    both = [item("const", name, "Mv", [f"Mv {{ row: {row}, column: {column} }}" for row, column in pair]) for name, pair in (("FIRST", first), ("LAST", last))]
-    return [item("static", "DIFFERENCES", "(bool, i16, i16)", [f"({flag(precise)}, {row}, {column})" for precise, row, column in differences]),
+    both = [item("const", name, "Mv", [struct("Mv", row=row, column=column) for row, column in pair])
+            for name, pair in (("FIRST", first), ("LAST", last))]
+    said = [f"({flag(precise)}, {row}, {column})" for precise, row, column in differences]
+    return [item("static", "DIFFERENCES", "(bool, i16, i16)", said),
             item("static", "BYTES", "u8", writer.bytes()), *both, item("static", "QUARTERS", "u8", quarters_bytes(first, last))]

@@ -75,7 +75,8 @@ def plane_steps():
 
 
 def intra_rows():
-    whole = [struct("Whole", mode=f"IntraMode::{mode}", samples=listed(drawn_block(mode, 4, 8, 9, False, True, True))) for mode in INTRA_MODES]
+    whole = [struct("Whole", mode=f"IntraMode::{mode}", samples=listed(drawn_block(mode, 4, 8, 9, False, True, True)))
+             for mode in INTRA_MODES]
     return [item("pub static", "WHOLE", "Whole", whole), item("pub static", "STEPS", "Step", plane_steps())]
 
 

@@ -10,22 +10,16 @@ PARTITION = "[context: 4 * (0 for 8x8 .. 3 for 64x64) + 2 * left + above][node: 
 COMPONENT = "[component: 0 row, 1 column]"
 SCANS_OF = {"default": "DctDct and AdstAdst", "row": "AdstDct", "column": "DctAdst"}
 SIZES = {"default": [4, 8, 16, 32], "row": [4, 8, 16], "column": [4, 8, 16]}
-
 KINDS_OF_TRANSFORM = "DctDct AdstDct DctAdst AdstAdst".split()
 
 
-
-def with_meaning(name, kind, words, meaning):
-    plain = item("pub static", name, kind, words)
+def flat(name, kind, values, meaning):
+    plain = item("pub static", name, kind, values)
     return Item(name, f"/// {meaning}\n{plain.text}")
 
 
-def flat(name, kind, values, meaning):
-    return with_meaning(name, kind, values, meaning)
-
-
 def nested(name, kind, values, width, meaning):
-    return with_meaning(name, f"[{kind}; {width}]", [values[at:at + width] for at in range(0, len(values), width)], meaning)
+    return flat(name, f"[{kind}; {width}]", [values[at:at + width] for at in range(0, len(values), width)], meaning)
 
 
 def scan_module():
@@ -155,7 +149,8 @@ def flow_row(word, values):
 
 
 def flow_module():
-    return [flat(f"FLOW_{kind}_{size}", "FlowRow", [flow_row(*row) for row in rows], f"The {kind} of {size}.") for (kind, size), rows in flows().items()]
+    return [flat(f"FLOW_{kind}_{size}", "FlowRow", [flow_row(*row) for row in rows], f"The {kind} of {size}.")
+            for (kind, size), rows in flows().items()]
 
 
 def block_module():
@@ -204,4 +199,5 @@ MODULES = {
 
 def tails():
     rows = [[tail_prob(q, node) for node in range(8)] for q in range(1, 256)]
-    return [flat("TAILS", "[u8; 8]", rows, "The probabilities of the eight nodes of a token's tail, by the probability q of its third node, from 1 on.")]
+    return [flat("TAILS", "[u8; 8]", rows,
+                 "The probabilities of the eight nodes of a token's tail, by the probability q of its third node, from 1 on.")]

@@ -29,41 +29,29 @@ def chroma_tx(block, ss_x, ss_y):
     return min(block[5], GREATEST_TX[min(w, h)])
 
 
-def filter_line(get, put, width, level, case):
-    """get(i) and put(i, x): sample i, where -1 is p0 and 0 is q0."""
-    d, sharp = case["depth"], case["sharpness"]
-    unit = d - 8
-    shift = 2 if sharp > 4 else 1 if sharp > 0 else 0
+def limits(level, sharpness, depth):
+    """The limit of neighbouring samples, of the edge itself, and the threshold of high variance."""
+    shift = 2 if sharpness > 4 else 1 if sharpness > 0 else 0
     limit = level >> shift
-    if sharp > 0:
-        limit = min(limit, 9 - sharp)
+    if sharpness > 0:
+        limit = min(limit, 9 - sharpness)
     limit = max(limit, 1)
-    blimit = 2 * (level + 2) + limit
-    thresh = level >> 4
-    limit, blimit, thresh = limit << unit, blimit << unit, thresh << unit
-    p = [get(-1 - i) for i in range(8 if width == 16 else 4)]
-    q = [get(i) for i in range(8 if width == 16 else 4)]
-    for side in (p, q):
-        for i in range(3):
-            if abs(side[i + 1] - side[i]) > limit:
-                return
-    if abs(p[0] - q[0]) * 2 + abs(p[1] - q[1]) // 2 > blimit:
-        return
-    hev = abs(p[1] - p[0]) > thresh or abs(q[1] - q[0]) > thresh
+    return tuple(number << depth - 8 for number in (limit, 2 * (level + 2) + limit, level >> 4))
 
-    def near(first, last):
-        return all(abs(side[i] - side[0]) <= 1 << unit for side in (p, q) for i in range(first, last + 1))
 
-    if width >= 8 and near(1, 3):
-        n, bits = (7, 4) if width == 16 and near(4, 7) else (3, 3)
-        new = []
-        for i in range(-n, n):
-            total = sum(get(clip3(-n - 1, n, i + j)) for j in range(-n, n + 1)) + get(i)
-            new.append((total + (1 << (bits - 1))) >> bits)
-        for i in range(-n, n):
-            put(i, new[i + n])
-        return
-    half = 1 << (d - 1)
+def filter_wide(get, put, n, bits):
+    """The means of n samples on each side."""
+    new = []
+    for i in range(-n, n):
+        total = sum(get(clip3(-n - 1, n, i + j)) for j in range(-n, n + 1)) + get(i)
+        new.append((total + (1 << (bits - 1))) >> bits)
+    for i in range(-n, n):
+        put(i, new[i + n])
+
+
+def filter_narrow(p, q, put, hev, depth):
+    """Two samples on each side, or one where the variance is high."""
+    half = 1 << (depth - 1)
 
     def c(x):
         return clip3(-half, half - 1, x)
@@ -79,6 +67,26 @@ def filter_line(get, put, width, level, case):
         g = (a + 1) >> 1
         put(1, c(q1 - g) + half)
         put(-2, c(p1 + g) + half)
+
+
+def filter_line(get, put, width, level, case):
+    """get(i) and put(i, x): sample i, where -1 is p0 and 0 is q0."""
+    limit, blimit, thresh = limits(level, case["sharpness"], case["depth"])
+    p = [get(-1 - i) for i in range(8 if width == 16 else 4)]
+    q = [get(i) for i in range(8 if width == 16 else 4)]
+    if any(abs(side[i + 1] - side[i]) > limit for side in (p, q) for i in range(3)):
+        return
+    if abs(p[0] - q[0]) * 2 + abs(p[1] - q[1]) // 2 > blimit:
+        return
+
+    def near(first, last):
+        return all(abs(side[i] - side[0]) <= 1 << case["depth"] - 8 for side in (p, q) for i in range(first, last + 1))
+
+    if width >= 8 and near(1, 3):
+        filter_wide(get, put, *((7, 4) if width == 16 and near(4, 7) else (3, 3)))
+    else:
+        hev = abs(p[1] - p[0]) > thresh or abs(q[1] - q[0]) > thresh
+        filter_narrow(p, q, put, hev, case["depth"])
 
 
 def edges_of(case, at, block, ss_x, ss_y, vertical, chroma):

@@ -1,5 +1,5 @@
 """Prediction: intra (8.5.1), by its formulas as they stand there, and inter (8.5.2), sample by sample."""
-from .blocks import SIZES
+from .blocks import is_small, places_of
 from .tables import rows
 
 INTRA_MODES = ["Dc", "V", "H", "D45", "D135", "D117", "D153", "D207", "D63", "Tm"]
@@ -18,68 +18,72 @@ def mean3(x, y, z):
     return (x + 2 * y + z + 2) >> 2
 
 
+def dc(s, depth, A, L, has_above, has_left):
+    there = [A[k] for k in range(s)] * has_above + [L[k] for k in range(s)] * has_left
+    return (sum(there) + len(there) // 2) // len(there) if there else 1 << (depth - 1)
+
+
+def d45(s, A, L, pred, i, j):
+    return mean3(A[i + j], A[i + j + 1], A[i + j + 2]) if i + j + 2 < 2 * s else A[2 * s - 1]
+
+
+def d63(s, A, L, pred, i, j):
+    k = i // 2
+    return mean2(A[k + j], A[k + j + 1]) if i % 2 == 0 else mean3(A[k + j], A[k + j + 1], A[k + j + 2])
+
+
+def d117(s, A, L, pred, i, j):
+    if i == 0:
+        return mean2(A[j - 1], A[j])
+    if i == 1:
+        return mean3(L[0], A[-1], A[0]) if j == 0 else mean3(A[j - 2], A[j - 1], A[j])
+    if j == 0:
+        return mean3(A[-1], L[0], L[1]) if i == 2 else mean3(L[i - 3], L[i - 2], L[i - 1])
+    return pred[i - 2, j - 1]
+
+
+def d135(s, A, L, pred, i, j):
+    if i == 0:
+        return mean3(L[0], A[-1], A[0]) if j == 0 else mean3(A[j - 2], A[j - 1], A[j])
+    if j == 0:
+        return mean3(A[-1], L[0], L[1]) if i == 1 else mean3(L[i - 2], L[i - 1], L[i])
+    return pred[i - 1, j - 1]
+
+
+def d153(s, A, L, pred, i, j):
+    if j == 0:
+        return mean2(L[0], A[-1]) if i == 0 else mean2(L[i - 1], L[i])
+    if j == 1:
+        if i == 0:
+            return mean3(L[0], A[-1], A[0])
+        return mean3(A[-1], L[0], L[1]) if i == 1 else mean3(L[i - 2], L[i - 1], L[i])
+    return mean3(A[j - 3], A[j - 2], A[j - 1]) if i == 0 else pred[i - 1, j - 2]
+
+
+def d207(s, A, L, pred, i, j):
+    """From the last row upwards."""
+    if i == s - 1:
+        return L[s - 1]
+    if j == 0:
+        return mean2(L[i], L[i + 1])
+    if j == 1:
+        return mean3(L[i], L[i + 1], L[i + 2]) if i < s - 2 else mean3(L[s - 2], L[s - 1], L[s - 1])
+    return pred[i + 1, j - 2]
+
+
+DIRECTED = {"D45": d45, "D63": d63, "D117": d117, "D135": d135, "D153": d153, "D207": d207}
+
+
 def intra_predicted(mode, s, depth, A, L, has_above, has_left):
     """A has A[-1] under the key -1."""
-    pred = {}
-    most = (1 << depth) - 1
-    if mode == "Dc":
-        there = [A[k] for k in range(s)] * has_above + [L[k] for k in range(s)] * has_left
-        value = (sum(there) + len(there) // 2) // len(there) if there else 1 << (depth - 1)
+    pred, most = {}, (1 << depth) - 1
+    of_dc = dc(s, depth, A, L, has_above, has_left)
     for i in reversed(range(s)) if mode == "D207" else range(s):
         for j in range(s):
-            if mode == "Dc":
-                x = value
-            elif mode == "V":
-                x = A[j]
-            elif mode == "H":
-                x = L[i]
-            elif mode == "Tm":
-                x = max(0, min(most, L[i] + A[j] - A[-1]))
-            elif mode == "D45":
-                x = mean3(A[i + j], A[i + j + 1], A[i + j + 2]) if i + j + 2 < 2 * s else A[2 * s - 1]
-            elif mode == "D63":
-                k = i // 2
-                x = mean2(A[k + j], A[k + j + 1]) if i % 2 == 0 else mean3(A[k + j], A[k + j + 1], A[k + j + 2])
-            elif mode == "D117":
-                if i == 0:
-                    x = mean2(A[j - 1], A[j])
-                elif i == 1:
-                    x = mean3(L[0], A[-1], A[0]) if j == 0 else mean3(A[j - 2], A[j - 1], A[j])
-                elif j == 0:
-                    x = mean3(A[-1], L[0], L[1]) if i == 2 else mean3(L[i - 3], L[i - 2], L[i - 1])
-                else:
-                    x = pred[i - 2, j - 1]
-            elif mode == "D135":
-                if i == 0 and j == 0:
-                    x = mean3(L[0], A[-1], A[0])
-                elif i == 0:
-                    x = mean3(A[j - 2], A[j - 1], A[j])
-                elif j == 0:
-                    x = mean3(A[-1], L[0], L[1]) if i == 1 else mean3(L[i - 2], L[i - 1], L[i])
-                else:
-                    x = pred[i - 1, j - 1]
-            elif mode == "D153":
-                if j == 0:
-                    x = mean2(L[0], A[-1]) if i == 0 else mean2(L[i - 1], L[i])
-                elif j == 1:
-                    if i == 0:
-                        x = mean3(L[0], A[-1], A[0])
-                    elif i == 1:
-                        x = mean3(A[-1], L[0], L[1])
-                    else:
-                        x = mean3(L[i - 2], L[i - 1], L[i])
-                elif i == 0:
-                    x = mean3(A[j - 3], A[j - 2], A[j - 1])
-                else:
-                    x = pred[i - 1, j - 2]
-            elif i == s - 1:  # D207, from its last row upwards
-                x = L[s - 1]
-            elif j == 0:
-                x = mean2(L[i], L[i + 1])
-            elif j == 1:
-                x = mean3(L[i], L[i + 1], L[i + 2]) if i < s - 2 else mean3(L[s - 2], L[s - 1], L[s - 1])
+            if mode in DIRECTED:
+                x = DIRECTED[mode](s, A, L, pred, i, j)
             else:
-                x = pred[i + 1, j - 2]
+                x = {"Dc": of_dc, "V": A[j], "H": L[i], "Tm": max(0, min(most, L[i] + A[j] - A[-1]))}[mode]
             pred[i, j] = x
     return [pred[i, j] for i in range(s) for j in range(s)]
 
@@ -121,47 +125,47 @@ def half_away(total, n):
     return sign * ((abs(total) + n // 2) // n)
 
 
+def vector_along(take, ss, small, number):
+    """A component of the vector of a part of a block, by those of its quarters: they are averaged where chroma is halved."""
+    if not small:
+        return take[0]
+    if ss == (0, 0):
+        return take[number]
+    if ss == (0, 1):
+        return half_away(take[number] + take[number + 1], 2)
+    if ss == (1, 0):
+        return half_away(take[number] + take[number + 2], 2)
+    return half_away(sum(take), 4)
+
+
+def clamped(mv, halved, first, count, all_places):
+    """In sixteenths, at most so far past the edges."""
+    w = (8 * count) >> halved
+    edge0, edge1 = -64 * first, 64 * (all_places - count - first)
+    low = (2 * edge0 >> halved) - 16 * (4 + w)
+    high = (2 * edge1 >> halved) + 16 * (4 + w) - 16
+    return max(low, min(high, (2 * mv) >> halved))
+
+
 def place_in(shape, reference, block, vectors, plane, number, vector_list):
     """One direction after the other: (start in the plane, length, start in the reference, step, size)."""
     width, height, ss_x, ss_y = shape
     row, col, size = block
     ss = (ss_y, ss_x) if plane else (0, 0)
-    small = min(SIZES[size]) < 8
+    small = is_small(size)
+    per_line = 2 >> ss[1]
     result = []
     for along in (0, 1):  # rows, then columns
-        own, ref = (height, width)[along], (reference[1], reference[0])[along]
-        first = (row, col)[along]
-        count = max(1, (SIZES[size][1], SIZES[size][0])[along] // 8)
-        all_places = (own + 7) // 8
-        per_line = 2 >> ss[1]
-        number_along = (number // per_line, number % per_line)[along]
-        offset = 4 * number_along
-        # the vector
-        take = [vectors[quarter][vector_list][along] for quarter in range(4)]
-        if not small:
-            mv = take[0]
-        elif ss == (0, 0):
-            mv = take[number]
-        elif ss == (0, 1):
-            mv = half_away(take[number] + take[number + 1], 2)
-        elif ss == (1, 0):
-            mv = half_away(take[number] + take[number + 2], 2)
-        else:
-            mv = half_away(sum(take), 4)
-        mv = (2 * mv) >> ss[along]
-        w = (8 * count) >> ss[along]
-        edge0 = -64 * first
-        edge1 = 64 * (all_places - count - first)
-        low = (2 * edge0 >> ss[along]) - 16 * (4 + w)
-        high = (2 * edge1 >> ss[along]) + 16 * (4 + w) - 16
-        mv = max(low, min(high, mv))
-        # the scale
+        own, ref, first = (height, width)[along], (reference[1], reference[0])[along], (row, col)[along]
+        count, all_places = places_of(size)[1 - along], (own + 7) // 8
+        offset = 4 * (number // per_line, number % per_line)[along]
+        mv = vector_along([vectors[quarter][vector_list][along] for quarter in range(4)], ss, small, number)
+        mv = clamped(mv, ss[along], first, count, all_places)
         scale = (ref << 14) // own
         x = (8 * first >> ss[along]) + offset
         luma = 8 * first + offset
         start = (((x * scale) >> 14) << 4) + ((mv * scale) >> 14) + (((16 * luma * scale) >> 14) & 15)
-        coded = 8 * all_places >> ss[along]
-        length = min(4 if small else w, coded - x)
+        length = min(4 if small else (8 * count) >> ss[along], (8 * all_places >> ss[along]) - x)
         result.append((x, length, start, (16 * scale) >> 14, (ref + ss[along]) >> ss[along]))
     return result
 
