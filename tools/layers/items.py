@@ -114,21 +114,28 @@ def differences(file, parts, whole):
 
 
 def updated(file, parts, whole):
-    """The file with the parts in it. Where the file is generated as a whole, what isn't wanted goes, and what is missing comes."""
+    """The file with the parts in it; what is current stays as it is. Where the file is generated as a whole, what isn't wanted goes, and
+    what is missing comes."""
     if whole:
         for name in DECLARED.findall(file):
             if name not in {part.name for part in parts}:
                 start, end = Item(name, "///").span(file)
                 file = file[:start] + file[end:].lstrip("\n")
+    behind = len(file)
     for part in parts:
         try:
             start, end = part.span(file)
         except Missing:
             if not whole:
                 raise
-            file = file.rstrip("\n") + "\n\n" + part.text + "\n"
+            start = end = behind
+            file = file[:start] + "\n\n" + part.text + file[end:]
+            behind = end + len(part.text) + 2
             continue
-        file = file[:start] + as_visible(part.text, file[start:end]) + file[end:]
+        if plain(file[start:end]) != plain(part.text):
+            new = as_visible(part.text, file[start:end])
+            file, end = file[:start] + new + file[end:], start + len(new)
+        behind = end
     return file
 
 

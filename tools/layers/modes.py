@@ -5,7 +5,7 @@ from vp9model.draws import Draws, LongDraws, ShortDraws, digest
 from vp9model.modes import COUNTED, TREES, VECTOR_KINDS, Broken, InterModes, Tile, Vectors, intra_tile, probs
 from vp9model.prediction import INTRA_MODES
 
-from .blocks import TILE, Digest, drawn_places
+from .blocks import Digest, drawn_places
 from .items import BLOCK_SIZES, PARTITIONS, Value, array, flag, item, struct, tx_name
 
 SEGMENTS = {"tree": [128, 100, 150, 60, 200, 90, 170], "skips": {5}}
