@@ -1,17 +1,19 @@
-# What bench/*/run.sh share. Each begins with `. "$(dirname "$0")/../lib.sh"`, which puts it at the top of the repository, with a folder
-# $work for what it builds. $work goes at the end.
+# What bench/*/run.sh share, but for that of decode. Each begins with `. "$(dirname "$0")/../lib.sh"`, which puts it at the top of the
+# repository, with a folder $work for what it builds. $work goes at the end.
 # shellcheck shell=bash
 set -eu
-cd "$(dirname "${BASH_SOURCE[0]}")/.."
 layer=$(basename "$(cd "$(dirname "${BASH_SOURCE[1]}")" && pwd)")
+if [ -n "${BENCH_PROGRAM:-}" ]; then BENCH_PROGRAM=$(realpath "$BENCH_PROGRAM"); fi
+cd "$(dirname "${BASH_SOURCE[0]}")/.."
 work=$(mktemp -d)
 trap 'rm -rf "$work"' EXIT
-# turns.py is found here, and says by these how a program is run
-export PYTHONPATH="$PWD/bench" PYTHONDONTWRITEBYTECODE=1 BENCH_WORK="$work" BENCH_PREFIX
 
-# The crate of the program that is timed, and what each line of its input begins with.
+# The crate of the program that is timed, and what each line of its input begins with. One program of all layers is named here, with
+# the layer's name and a space.
 program="bench_$layer"
 BENCH_PREFIX=
+# turns.py is found here, and says by these how a program is run
+export PYTHONPATH="$PWD/bench" PYTHONDONTWRITEBYTECODE=1 BENCH_WORK="$work" BENCH_PREFIX
 
 # usage TEXT ARGUMENT..: ends with the usage where an argument is no number.
 usage() {
