@@ -47,7 +47,9 @@ fn after(alloc: Global, row: &Row) -> Result<u8, AllocError> {
         let adapted = adapt(&contexts, &contexts, &counts, &inter(false, true));
         return Ok(adapted.skip[0]);
     }
-    contexts.coef.of_4x4[0] = before;
+    let mut coefs = contexts.coef;
+    coefs.of_4x4[0] = before;
+    contexts.coef = coefs;
     let counts = counts_of(alloc, ProbKind::Coef, row.zeros, row.ones)?;
     let after_key = row.rate == Rate::CoefsAfterKey;
     let adapted = adapt(&contexts, &contexts, &counts, &inter(after_key, true));
