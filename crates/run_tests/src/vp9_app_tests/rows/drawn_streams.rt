@@ -1,4 +1,4 @@
-// Drawn streams, of which vpxdec writes the same.
+// Drawn streams, of which vpxdec writes the same: tools/check_drawn_rows.py compares them.
 
 use super::Row;
 

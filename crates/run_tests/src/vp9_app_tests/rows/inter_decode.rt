@@ -1,4 +1,4 @@
-// Runs of samples/rows/decode.tsv, which tools/vectors.py runs compares with it, and drawn streams, of which vpxdec writes the same.
+// Runs of samples/rows/decode.tsv, which tools/vectors.py runs compares with it, and drawn streams, which tools/check_drawn_rows.py does.
 
 use super::Row;
 
