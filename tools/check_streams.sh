@@ -1,12 +1,15 @@
 #!/bin/sh
-# Runs vp9dec on each FILE.ivf of a folder (the argument, or ../shared/streams beside the repository). What `list` writes is
-# compared with FILE.list, byte by byte, where that is there; how `decode` and `decode --plain` end, how much they write and
-# what they tell, with tools/decode_endings.py; and what they write with FILE.md5 or FILE.ivf.md5. Where the folder has a LIST.tsv, the sums and the notes of files that break a rule are those of its lines. The
-# status is 0 where something was checked and nothing differs.
+# Runs vp9dec on each FILE.ivf of a folder. What `list` writes is compared with FILE.list, byte by byte, where that is there; how `decode`
+# and `decode --plain` end, how much they write and what they tell, with tools/decode_endings.py; and what they write with FILE.md5 or
+# FILE.ivf.md5. Where the folder has a LIST.tsv, the sums and the notes of files that break a rule are those of its lines.
+#
+# usage: tools/check_streams.sh [FOLDER]       (samples/streams)
+#
+# VP9DEC names another program than the launcher's. The status is 0 where something was checked and nothing differs.
 set -u
 top=$(dirname -- "$(dirname -- "$(readlink -f -- "$0")")")
 program=${VP9DEC:-$top/vp9dec}
-folder=${1:-$top/../shared/streams}
+folder=${1:-$top/samples/streams}
 out=$(mktemp -d) || exit 1
 trap 'rm -rf "$out"' EXIT
 trap 'exit 1' HUP INT TERM

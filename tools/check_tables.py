@@ -1,8 +1,8 @@
 #!/usr/bin/env python3
-"""Compares the tables in crates/vp9_tables/src/data with the folder of tables beside the repository, entry by entry.
+"""Compares the tables in crates/vp9_tables/src/data with those of samples/tables, entry by entry.
 
-usage: tools/check_tables.py [FOLDER]       (FOLDER: ../shared/tables)
-It shares nothing with make_tables.py, and reads the numbers of modes and sizes from crates/vp9_types.
+usage: tools/check_tables.py
+It shares nothing with `vectors.py tables`, which writes them, and reads the numbers of modes and sizes from crates/vp9_types.
 """
 import math
 import pathlib
@@ -10,17 +10,13 @@ import re
 import sys
 
 ROOT = pathlib.Path(__file__).resolve().parent.parent
-FOLDER = pathlib.Path(sys.argv[1]) if len(sys.argv) > 1 else ROOT.parent / "shared" / "tables"
+FOLDER = ROOT / "samples" / "tables"
 DATA = ROOT / "crates" / "vp9_tables" / "src" / "data"
 
 # what no static of the crate holds, and why
 LEFT_OUT = {
     "cat6_prob": "the last 14 of CAT6_PROB",
-    "mode_lf_lut": "a rule of the loop filter: zero mode or another",
     "pareto_full": "its even rows are the means of PARETO's",
-    "partition_context": "marks of one library; the rule compares sizes",
-    "seg_feature_max": "in the header's syntax",
-    "seg_feature_signed": "in the header's syntax",
 }
 RENAMED = {
     "mode_2_counter": "MODE_COUNTERS",
@@ -68,13 +64,17 @@ def shape(kind):
     return math.prod(int(number) for number in re.findall(r";\s*(\d+)\]", kind))
 
 
-def source(name):
-    lines = (FOLDER / f"{name}.txt").read_text().splitlines()
-    return [int(word) for line in lines[1:] for word in line.split()]
+def sources():
+    """The numbers of each plain table, by its name, which its first line begins with."""
+    pieces = re.split(r"^# (\w+) .*\n", (FOLDER / "tables.txt").read_text(), flags=re.M)
+    return {name: [int(word) for word in body.split()] for name, body in zip(pieces[1::2], pieces[2::2], strict=True)}
+
+
+SOURCES = sources()
 
 
 def wanted(name):
-    values = source(name)
+    values = SOURCES[name]
     if name.startswith("scan_neighbours_"):
         return values[:-2]
     if name == "prob_coef":
@@ -127,9 +127,6 @@ def flow_entries(name, body):
 
 
 def main():
-    if not FOLDER.is_dir():
-        print(f"{FOLDER} isn't there: nothing compared")
-        return 0
     found = statics()
     tables = agreed = total = 0
     bad = []
@@ -144,13 +141,10 @@ def main():
         if ours != theirs:
             bad.append(name)
 
-    for file in sorted(FOLDER.glob("*.txt")):
-        name = file.stem
-        if name in LEFT_OUT or name == "flows" or not file.read_text().startswith("# "):
-            continue
+    for name in sorted(set(SOURCES) - set(LEFT_OUT)):
         static = static_of(name)
         if static not in found:
-            sys.exit(f"no static {static} for {file.name}")
+            sys.exit(f"no static {static} for {name}")
         kind, body = found[static]
         ours = entries(body)
         if len(ours) != shape(kind):
@@ -171,9 +165,9 @@ def main():
     sines = [round(16384 * 2 * math.sqrt(2) / 3 * math.sin(k * math.pi / 9)) for k in range(1, 5)]
     if entries(found["SINPI"][1]) != sines:
         bad.append("SINPI against the sine")
-    if source("cat6_prob") != entries(found["CAT6_PROB"][1])[4:]:
+    if SOURCES["cat6_prob"] != entries(found["CAT6_PROB"][1])[4:]:
         bad.append("cat6_prob")
-    full = source("pareto_full")
+    full = SOURCES["pareto_full"]
     if [full[16 * row:16 * row + 8] for row in range(128)] != [entries(row) for row in re.findall(r"\[([\d, \n]+)\]", found["PARETO"][1][1:])]:
         bad.append("PARETO against its full table")
 

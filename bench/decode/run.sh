@@ -1,13 +1,15 @@
 #!/usr/bin/env bash
 # Times `vp9dec decode` on files, side by side with vpxdec and ffmpeg on one thread where they are installed. Usage:
-# run.sh FILE.. [-- WORDS of decode, as --plain]. RUNS (5) is how often each is run, in turn. The least time of each
-# counts, and the greatest peak; a peak below 20 MB can't be told from what Python had before it started the program.
+# run.sh FILE.. [-- WORDS of decode, as --plain]. RUNS (5) is how often each is run, in turn, VP9DEC names a built program instead of the
+# repository's. The least time of each counts, and the greatest peak; a peak below 20 MB can't be told from what Python had before it
+# started the program.
 set -eu
 top=$(cd "$(dirname "$0")/../.." && pwd)
 [ $# -gt 0 ] || { echo "usage: run.sh FILE.. [-- WORDS]" >&2; exit 2; }
-"$top/vp9dec" list <"$top/samples/lossless-err-1x1.ivf" >/dev/null # builds the program where that is needed
+# the launcher builds the program where that is needed
+[ -n "${VP9DEC:-}" ] || "$top/vp9dec" list <"$top/samples/lossless-err-1x1.ivf" >/dev/null
 
-python3 - "$top/crates/vp9dec/out/vp9dec" "${RUNS:-5}" "$@" <<'PY'
+python3 - "${VP9DEC:-$top/crates/vp9dec/out/vp9dec}" "${RUNS:-5}" "$@" <<'PY'
 import hashlib, os, shutil, struct, subprocess, sys, time
 
 program, runs, given = sys.argv[1], int(sys.argv[2]), sys.argv[3:]

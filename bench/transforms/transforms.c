@@ -14,7 +14,7 @@ static const int32_t COS64[33] = {16384, 16364, 16305, 16207, 16069, 15893, 1567
     : (k) <= 96 ? -COS64[(k) > 64 && (k) <= 96 ? (k) - 64 : 0] : COS64[(k) > 96 ? 128 - (k) : 0])
 #define MISFIT(v) ((v) < -limit | (v) >= limit)
 
-#include "flows.h"
+#include "tables.h"
 
 static uint32_t drawn(uint32_t state) { return state * 1664525u + 1013904223u; }
 

@@ -1,6 +1,5 @@
 //! Times the bool decoder: each line of the input, as `fixed 1000` or `varied 1000`, names how many bools to read of
 //! pseudo-random bytes, at one probability or at 256 in turn. It prints a checksum of them.
-//! The tests here are those of `bool_decoder`, by values from outside.
 #![tactic(auto)]
 
 mod reads;
@@ -16,6 +15,3 @@ fn main(rt: HostRuntime) -> io::Result<()> {
     }
     Ok(())
 }
-
-#[cfg(test)]
-mod tests;

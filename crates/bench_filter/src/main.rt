@@ -1,6 +1,5 @@
 //! Times the loop filter: each line of the input, as `32 10`, names a level and how many frames of 1920x1080 samples to
 //! draw and to filter. Their blocks are of mixed sizes. It prints a checksum of the last frame.
-//! The tests here are those of `loop_filter`, by values from outside.
 #![tactic(auto)]
 
 mod blocks;
@@ -16,6 +15,3 @@ fn main(rt: HostRuntime) -> io::Result<()> {
     }
     Ok(())
 }
-
-#[cfg(test)]
-mod tests;

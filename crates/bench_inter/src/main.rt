@@ -1,6 +1,5 @@
 //! Times inter prediction: each line of the input, as `both 64 1000`, names the phases that aren't 0, a size and how many
 //! blocks to predict from a plane of 512x512 samples. It prints a checksum of the predicted samples.
-//! The tests here are those of `inter_places` and `inter_scaled`, by values from outside.
 #![tactic(auto)]
 
 mod blocks;
@@ -16,8 +15,3 @@ fn main(rt: HostRuntime) -> io::Result<()> {
     }
     Ok(())
 }
-
-#[cfg(test)]
-mod block_tests;
-#[cfg(test)]
-mod place_tests;

@@ -1,6 +1,5 @@
 //! Times intra prediction: each line of the input, as `dc 8 1000`, names a mode, a size and how many blocks to predict
 //! and put into a plane of 1920x1080 samples, in raster order. It prints a checksum of the plane.
-//! The tests here are those of `intra_predict`, by values from outside.
 #![tactic(auto)]
 
 mod blocks;
@@ -15,6 +14,3 @@ fn main(rt: HostRuntime) -> io::Result<()> {
     }
     Ok(())
 }
-
-#[cfg(test)]
-mod tests;

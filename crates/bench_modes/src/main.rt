@@ -1,6 +1,5 @@
 //! Times the reading of the modes of inter frames: each line of the input names how many frames of 1920x1080 to read of
 //! pseudo-random bytes, with drawn partitions or such as are read too. It prints checksums of the last one's blocks and of what was counted.
-//! The tests here are those of `inter_modes`, `mode_syntax` and `mv_syntax`, by values from outside.
 #![tactic(auto)]
 
 mod checksums;
@@ -19,10 +18,3 @@ fn main(rt: HostRuntime) -> io::Result<()> {
     }
     Ok(())
 }
-
-#[cfg(test)]
-mod inter_tests;
-#[cfg(test)]
-mod tile_tests;
-#[cfg(test)]
-mod vector_tests;

@@ -1,6 +1,5 @@
 //! Times the reading of tokens: each line of the input names how many rounds of blocks to read of pseudo-random bytes,
 //! one block of each size in a round. It prints a checksum of them.
-//! The tests here are those of `coef_tokens`, by values from outside.
 #![tactic(auto)]
 
 mod blocks;
@@ -16,6 +15,3 @@ fn main(rt: HostRuntime) -> io::Result<()> {
     }
     Ok(())
 }
-
-#[cfg(test)]
-mod tests;

@@ -1,7 +1,6 @@
 //! Times the transforms: each line of the input, as `columns 1000`, `residue 1000` or `one-level 1000`, names how often to
 //! make the DCT of eight columns of 32 values, the residue of a full block of 8x8, or that of a block of 32x32 with one
 //! level. It prints a checksum of them.
-//! The tests here are those of `inverse_transforms` and `residue_blocks`, by values from outside.
 #![tactic(auto)]
 
 mod makes;
@@ -16,8 +15,3 @@ fn main(rt: HostRuntime) -> io::Result<()> {
     }
     Ok(())
 }
-
-#[cfg(test)]
-mod residue_tests;
-#[cfg(test)]
-mod transform_tests;

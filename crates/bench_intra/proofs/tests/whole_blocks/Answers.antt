@@ -1,4 +1,0 @@
-use Rattle.bench_intra.proofs.tests.whole_blocks.Goals as goal
-
-pub predict-requires-clause-small : goal.predict-requires-clause-small
-predict-requires-clause-small g c = c.drawn_edges-edges.ensures 4

@@ -1,5 +1,0 @@
-use Rattle.std.proofs.Common.{◌≡◌}
-use Rattle.bench_modes.proofs.inter_tests.draw_map.Given as goal
-
-abbrev pub invariant-loop-i : goal.invariant-loop-i
-invariant-loop-i l = record { rows : l.map.rows ≡ 20; cols : l.map.cols ≡ 30 }

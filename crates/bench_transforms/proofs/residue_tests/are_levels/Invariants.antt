@@ -1,6 +1,0 @@
-use Rattle.std.proofs.Common.{ℕ, ◌<◌, ℤ, get_or}
-use Rattle.residue_blocks.specs.Residue.{IsLevel}
-use Rattle.bench_transforms.proofs.residue_tests.are_levels.Given as goal
-
-abbrev pub invariant-loop-x : goal.invariant-loop-x
-invariant-loop-x l = (k : ℕ) (d : ℤ) → k < l.x-index → IsLevel (get_or l.xs k d)

@@ -1,0 +1,272 @@
+mod odd_values;
+mod rows;
+mod sizes;
+
+use edge_io::{MemSink, MemSource, OpenGate};
+use md5::{Digest, Md5};
+use rows::{Row, drawn_streams, inter_decode, intra_decode, list, long_runs, overflow_frames};
+use std::alloc::{AllocError, Global};
+use std::sync::Wait;
+use std::test::Fail;
+use std::thread::Threads;
+use vp9_app::{Ran, Status, run};
+
+type MemRan = Ran<MemSource, MemSink, MemSink>;
+
+// The numbers of the calls that are to fail, from 1.
+#[derive(Clone, Copy)]
+struct Fails {
+    source: &'static [u64],
+    out: &'static [u64],
+    note: &'static [u64],
+}
+
+const NONE: Fails = Fails {
+    source: &[],
+    out: &[],
+    note: &[],
+};
+
+// The program's name, and these words.
+fn run_words<R: Threads + Wait + Sync>(
+    rt: &R,
+    alloc: Global,
+    given: &[&'static str],
+    input: &[u8],
+    fails: &Fails,
+) -> Result<MemRan, AllocError> {
+    let mut words = Vec::new(alloc);
+    words.push(String::from_str(alloc, "vp9dec")?)?;
+    for word in given {
+        words.push(String::from_str(alloc, word)?)?;
+    }
+    let source = MemSource::new(alloc, input, fails.source)?;
+    let out = MemSink::new(alloc, fails.out)?;
+    let note = MemSink::new(alloc, fails.note)?;
+    Ok(run(rt, alloc, words.as_slice(), source, out, note, &OpenGate))
+}
+
+fn run_row<R: Threads + Wait + Sync>(
+    rt: &R,
+    alloc: Global,
+    row: &Row,
+    fails: &Fails,
+) -> Result<MemRan, AllocError> {
+    run_words(rt, alloc, row.words, row.input, fails)
+}
+
+fn ends_as(ran: &MemRan, row: &Row) -> bool {
+    ran.status.code() == row.status
+        && ran.out.bytes() == row.output
+        && ran.note.bytes() == row.note.as_bytes()
+}
+
+// The first row that ends otherwise than it is to.
+fn first_other<R: Threads + Wait + Sync>(
+    rt: &R,
+    alloc: Global,
+    tables: &[&'static [Row]],
+) -> Result<Option<&'static str>, AllocError> {
+    for table in tables {
+        for row in *table {
+            let ran = run_row(rt, alloc, row, &NONE)?;
+            if !ends_as(&ran, row) {
+                return Ok(Some(row.name));
+            }
+        }
+    }
+    Ok(None)
+}
+
+// The first row that ends otherwise with these words.
+fn first_other_as<R: Threads + Wait + Sync>(
+    rt: &R,
+    alloc: Global,
+    words: &[&'static str],
+    tables: &[&'static [Row]],
+) -> Result<Option<&'static str>, AllocError> {
+    for table in tables {
+        for row in *table {
+            let ran = run_words(rt, alloc, words, row.input, &NONE)?;
+            if !ends_as(&ran, row) {
+                return Ok(Some(row.name));
+            }
+        }
+    }
+    Ok(None)
+}
+
+fn row_named(tables: &[&'static [Row]], name: &str) -> Option<&'static Row> {
+    for table in tables {
+        for row in *table {
+            if row.name == name {
+                return Some(row);
+            }
+        }
+    }
+    None
+}
+
+#[test]
+fn listings_end_as_they_are_to(rt: HostRuntime) -> Result<(), Fail> {
+    assert_eq!(rt;
+        first_other(&rt, rt.alloc(), list::TABLES.as_slice())?,
+        None
+    );
+    Ok(())
+}
+
+#[test]
+fn decodes_end_as_they_are_to(rt: HostRuntime) -> Result<(), Fail> {
+    assert_eq!(rt;
+        first_other(&rt, rt.alloc(), intra_decode::TABLES.as_slice())?,
+        None
+    );
+    Ok(())
+}
+
+#[test]
+fn inter_frames_end_as_they_are_to(rt: HostRuntime) -> Result<(), Fail> {
+    assert_eq!(rt;
+        first_other(&rt, rt.alloc(), inter_decode::TABLES.as_slice())?,
+        None
+    );
+    Ok(())
+}
+
+// Whether bytes are so many of each of these, one run after another.
+fn are_runs(bytes: &[u8], runs: &[(usize, u8)]) -> bool {
+    let mut left = bytes;
+    for (count, byte) in runs {
+        if left.len() < *count {
+            return false;
+        }
+        let (run, rest) = left.split_at(*count);
+        if run.iter().any(|b| *b != *byte) {
+            return false;
+        }
+        left = rest;
+    }
+    left.is_empty()
+}
+
+#[test]
+fn long_runs_end_as_they_are_to(rt: HostRuntime) -> Result<(), Fail> {
+    for row in &long_runs::LONG {
+        let ran = run_words(&rt, rt.alloc(), &["decode"], row.input, &NONE)?;
+        assert_eq!(rt; (row.name, ran.status.code()), (row.name, row.status));
+        assert_eq!(rt;
+            (row.name, are_runs(ran.out.bytes(), row.runs)),
+            (row.name, true)
+        );
+        assert_eq!(rt;
+            (row.name, ran.note.bytes()),
+            (row.name, row.note.as_bytes())
+        );
+    }
+    Ok(())
+}
+
+// What vpxdec writes of them.
+#[test]
+fn drawn_streams_are_decoded(rt: HostRuntime) -> Result<(), Fail> {
+    assert_eq!(rt;
+        first_other(&rt, rt.alloc(), drawn_streams::TABLES.as_slice())?,
+        None
+    );
+    Ok(())
+}
+
+#[test]
+fn levels_that_do_not_fit_end_a_decode(rt: HostRuntime) -> Result<(), Fail> {
+    assert_eq!(rt;
+        first_other(&rt, rt.alloc(), overflow_frames::TABLES.as_slice())?,
+        None
+    );
+    Ok(())
+}
+
+#[test]
+fn faults_end_a_listing(rt: HostRuntime) -> Result<(), Fail> {
+    let cases: [(&str, Fails, u8, &[u8]); 3] = [
+        (
+            "one key frame",
+            Fails {
+                source: &[1],
+                ..NONE
+            },
+            4,
+            b"read fault\n",
+        ),
+        (
+            "one key frame",
+            Fails { out: &[1], ..NONE },
+            5,
+            b"write fault\n",
+        ),
+        ("wrong signature", Fails { note: &[1], ..NONE }, 5, b""),
+    ];
+    for (name, fails, status, note) in cases {
+        let row = row_named(list::TABLES.as_slice(), name).ok_or("no such row")?;
+        let ran = run_row(&rt, rt.alloc(), row, &fails)?;
+        assert_eq!(rt; ran.status.code(), status, "{name}");
+        assert_eq!(rt; ran.out.bytes().len(), 0, "{name}");
+        assert_eq!(rt; ran.note.bytes(), note, "{name}");
+    }
+    Ok(())
+}
+
+// The second put is that of the next plane or of the next frame, as the writer cuts them.
+#[test]
+fn a_write_fault_leaves_a_front(rt: HostRuntime) -> Result<(), Fail> {
+    let row = row_named(intra_decode::TABLES.as_slice(), "two key frames").ok_or("no such row")?;
+    let failing = Fails { out: &[2], ..NONE };
+    let ran = run_row(&rt, rt.alloc(), row, &failing)?;
+    assert_eq!(rt; ran.status.code(), 5);
+    assert_eq!(rt; ran.note.bytes(), b"write fault\n".as_slice());
+    assert!(rt; !ran.out.bytes().is_empty() && ran.out.bytes().len() < row.output.len());
+    assert!(rt; row.output.starts_with(ran.out.bytes()));
+    Ok(())
+}
+
+#[test]
+fn a_read_fault_leaves_no_frame(rt: HostRuntime) -> Result<(), Fail> {
+    let row = row_named(intra_decode::TABLES.as_slice(), "two key frames").ok_or("no such row")?;
+    let failing = Fails {
+        source: &[1],
+        ..NONE
+    };
+    let ran = run_row(&rt, rt.alloc(), row, &failing)?;
+    assert_eq!(rt; ran.status.code(), 4);
+    assert_eq!(rt; ran.note.bytes(), b"read fault\n".as_slice());
+    assert_eq!(rt; ran.out.bytes().len(), 0);
+    Ok(())
+}
+
+// The digest of another generator's file.
+const THREE_FRAMES: [u8; 16] = [
+    0x97, 0x89, 0x89, 0xf5, 0x86, 0xe0, 0x33, 0x6d, 0x93, 0x32, 0x68, 0xc7, 0x1c, 0xa6, 0xda, 0x4c,
+];
+
+#[test]
+fn a_stream_is_made_without_a_source(rt: HostRuntime) -> Result<(), Fail> {
+    let failing = Fails {
+        source: &[1],
+        ..NONE
+    };
+    let ran = run_words(&rt, rt.alloc(), &["make", "7", "3"], &[], &failing)?;
+    assert_eq!(rt; ran.status.code(), 0);
+    assert_eq!(rt; ran.note.bytes(), b"".as_slice());
+    assert!(rt; Md5::digest(ran.out.bytes()) == THREE_FRAMES);
+    Ok(())
+}
+
+#[test]
+fn a_write_fault_ends_a_stream(rt: HostRuntime) -> Result<(), Fail> {
+    let failing = Fails { out: &[1], ..NONE };
+    let ran = run_words(&rt, rt.alloc(), &["make", "7", "1"], &[], &failing)?;
+    assert_eq!(rt; ran.status.code(), 5);
+    assert_eq!(rt; ran.note.bytes(), b"write fault\n".as_slice());
+    assert_eq!(rt; ran.out.bytes().len(), 0);
+    Ok(())
+}

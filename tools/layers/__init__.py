@@ -1,0 +1,1 @@
+"""What stands in the tests: for each layer the cases, and the items of Rattle that hold them."""
