@@ -7,7 +7,7 @@
 
 It puts them into must-fail/ in a clone of what is committed, and runs the kit's gate there for these crates alone: their proofs, and those of the
 crates below, are taken from earlier runs of the gate on this machine where they stand. What was refused is kept in wrong/REFUSED.tsv, with the
-sum of the crate's src/, specs/ and proofs/ and of the edit.
+sum of the crate's src/, specs/ and proofs/, comments apart, and of the edit.
 """
 import datetime
 import hashlib
@@ -24,19 +24,19 @@ REFUSED = f"{TOP}/wrong/REFUSED.tsv"
 SAID = re.compile(r"must-fail (\w+)/(\S+)\.edit: (refused|BAD EDIT|NOT REFUSED|NOT TRIED)(.*)")
 
 
-def sum_of(*paths):
-    """Returns a sum of files and of all files below folders, by name and content."""
+def sum_of(*files):
+    """Returns a sum of files, by name and content, without lines that are comments alone."""
     found = hashlib.sha256()
-    for path in paths:
-        files = [path] if os.path.isfile(path) else sorted(f"{at}/{name}" for at, _, names in os.walk(path) for name in names)
-        for file in files:
-            with open(file, "rb") as it:
-                found.update(repr((os.path.basename(file) if file == path else os.path.relpath(file, path), it.read())).encode())
+    for file in files:
+        with open(file, "rb") as it:
+            lines = [line for line in it.read().split(b"\n") if not line.strip().startswith((b"//", b"--"))]
+        found.update(repr((os.path.relpath(file, TOP), lines)).encode())
     return found.hexdigest()[:16]
 
 
 def crate_sum(name):
-    return sum_of(*(f"{TOP}/crates/{name}/{part}" for part in ("src", "specs", "proofs") if os.path.isdir(f"{TOP}/crates/{name}/{part}")))
+    parts = [f"{TOP}/crates/{name}/{part}" for part in ("src", "specs", "proofs")]
+    return sum_of(*sorted(f"{at}/{file}" for part in parts for at, _, files in os.walk(part) for file in files))
 
 
 def edits():

@@ -1,4 +1,4 @@
-//! Written by tools/tail_table.py.
+//! Written by tools/vectors.py tails.
 
 /// The probabilities of the eight nodes of a token's tail, by the probability q of its third node, from 1 on.
 pub static TAILS: [[u8; 8]; 255] = [

@@ -1,4 +1,4 @@
-//! The tables, as tools/make_tables.py writes them.
+//! The tables, as tools/vectors.py tables writes them.
 
 pub mod blocks;
 pub mod coefficients;
