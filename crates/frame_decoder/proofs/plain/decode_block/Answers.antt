@@ -10,7 +10,7 @@ use Rattle.planes.specs.Pictures.{map_of, samples_of}
 use Rattle.frame_decoder.specs.Code.{sources_of}
 use Rattle.frame_decoder.specs.Sources.{rebuilding}
 use Rattle.frame_decoder.proofs.BlockSteps.{all_have_small, block_read, block_broken, fits_more, has_references, lies_more, modes_broken, put_listed, small_more, starts_more, vectors_held, vectors_small}
-use Rattle.frame_decoder.proofs.squares.decode_block.Goals as goal
+use Rattle.frame_decoder.proofs.plain.decode_block.Goals as goal
 
 pub mode_info-requires : goal.mode_info-requires
 mode_info-requires g c =
