@@ -132,7 +132,7 @@ many_from : (frame : List ℕ) (n at : ℕ) (spans : List Span) → tiles_from f
 many_from frame zero at spans is = let same : [] ≡ spans = cc in ap length (sym same)
 many_from frame (suc n) at spans is = behind_first (tile_at_place frame n at) (λ span. tiles_from frame n span.to) n spans (λ span rest so. many_from frame n span.to rest so) is
 
-many_spans : (frame : List ℕ) (header : Header) (compressed : Span) (spans : List Span) → tile_spans frame header compressed ≡ Ok spans → length spans ≡ tile_count header
+pub many_spans : (frame : List ℕ) (header : Header) (compressed : Span) (spans : List Span) → tile_spans frame header compressed ≡ Ok spans → length spans ≡ tile_count header
 unfolding tile_spans
 many_spans frame header compressed spans is = many_from frame (tile_count header) compressed.to spans is
 

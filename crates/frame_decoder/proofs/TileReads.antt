@@ -1,6 +1,6 @@
 -- A tile that is read, and whose blocks are put in as they are read.
-use Rattle.std.proofs.Common.{◌≡◌, ◌∙◌, ◌++◌, ◌∷◌, [], ℕ, zero, suc, rules, Bool, refl, sym, ap, List, append_assoc}
-use Rattle.std.specs.Prelude.{not, nat_eq, Ok, Err, Result}
+use Rattle.std.proofs.Common.{◌≡◌, ◌∙◌, ◌++◌, ◌∷◌, [], ℕ, zero, suc, rules, Bool, refl, sym, subst, ap, List, append_assoc}
+use Rattle.std.specs.Prelude.{not, nat_eq, Ok, Err, Option, Some, Result}
 use Rattle.std.specs.List.{fold}
 use Rattle.std.proofs.lemmas.List.{map-append}
 use Rattle.std.proofs.lemmas.List.Sums.{fold-append}
@@ -24,8 +24,9 @@ use Rattle.block_residue.specs.Residues as residues
 use Rattle.block_residue.specs.declared.sides.TileSides.{TileSides}
 use Rattle.mode_syntax.proofs.Mapped.{tile_everywhere}
 use Rattle.inter_modes.specs.ModeInfo.{mode_info}
-use Rattle.mode_syntax.specs.Walk.{decode_tile}
-use Rattle.frame_decoder.specs.Code.{PlainTile, plain_block, plain_walk, settled_of, tile_of, read_whole, GivesWhole}
+use Rattle.mode_syntax.specs.Walk.{Walk, decode_tile}
+use Rattle.tile_reader.specs.Code.{Breaks, EndsTile, Rest, Tile}
+use Rattle.frame_decoder.specs.Code.{PlainTile, plain_block, plain_walk, settled_of, tile_of, read_whole, GivesTile}
 use Rattle.block_rebuild.specs.Blocks.{put_planned}
 use Rattle.block_rebuild.specs.InterBlocks.{Rebuilding}
 use Rattle.frame_decoder.specs.Frames.{put_more}
@@ -75,7 +76,7 @@ values_mapped f (ask p k) w = values_mapped f (k (bit_of p w)) (after_bit p w)
 
 ---- A tile's bytes ----
 
-abbrev with_counted : {A : Type 0} → List CountedBool → A → Settled A
+abbrev pub with_counted : {A : Type 0} → List CountedBool → A → Settled A
 with_counted counted x = record { value = x; counted = counted }
 
 pub whole_not_started : {A : Type 0} (s : Syntax ℕ Rule (Settled A)) (bytes : List ℕ) (rule : Rule) → started bytes ≡ Err rule → read_whole s bytes ≡ Err rule
@@ -98,16 +99,29 @@ pub counts_by_is : (n : ℕ) → counts_by n ≡ not (nat_eq n 0)
 counts_by_is zero = refl
 counts_by_is (suc n) = search rules
 
-pub whole_read : {n : ℕ} (s : Syntax ℕ Rule (Settled PlainTile)) (bytes counts : List ℕ) (old new : CountingReader n) (column : TileColumn) (planes : FramePlanes) (counting : Bool)
-    → counts_by n ≡ counting → started bytes ≡ Ok (standing_of old).window → (standing_of old).counts ≡ counts → Reads s old (tile_of column planes) new
-    → GivesWhole counting counts (read_whole s bytes) (Ok (standing_of new).counts) column planes
+pub whole_read : {A : Type 0} {n : ℕ} (s : Syntax ℕ Rule (Settled A)) (bytes counts : List ℕ) (old new : CountingReader n) (x : A) (counting : Bool)
+    → counts_by n ≡ counting → started bytes ≡ Ok (standing_of old).window → (standing_of old).counts ≡ counts → Reads s old x new
+    → (counted : List CountedBool) × (read_whole s bytes ≡ Ok (with_counted counted x)) × ((standing_of new).counts ≡ counted_if counting counts counted)
 unfolding read_whole run_counting
-whole_read {n} s bytes counts old new column planes counting is starts before gives =
-    let read = counted_value (run_bools s (standing_of old).window) (standing_of old).counts (counts_by n) (tile_of column planes) (standing_of new) gives in
+whole_read {n = n} s bytes counts old new x counting is starts before gives =
+    let read = counted_value (run_bools s (standing_of old).window) (standing_of old).counts (counts_by n) x (standing_of new) gives in
     (read.0, rw starts read.1, read.2 ∙ (λ i. counted_if (is i) (before i) read.0))
 
-pub whole_broken : {n : ℕ} (s : Syntax ℕ Rule (Settled PlainTile)) (bytes : List ℕ) (old : CountingReader n) (rule : Rule)
+pub whole_broken : {A : Type 0} {n : ℕ} (s : Syntax ℕ Rule (Settled A)) (bytes : List ℕ) (old : CountingReader n) (rule : Rule)
     → started bytes ≡ Ok (standing_of old).window → run_counting s (standing_of old) ≡ Err rule → read_whole s bytes ≡ Err rule
 unfolding read_whole run_counting
-whole_broken {n} s bytes old rule starts gives =
+whole_broken {n = n} s bytes old rule starts gives =
     rw starts (counted_fault (run_bools s (standing_of old).window) (standing_of old).counts (counts_by n) rule gives)
+
+-- what a tile's reader gives
+pub tile_given : {n : ℕ} (rest : Rest PlainTile) (room : ℕ) (start : Tile PlainTile Rule) (result : Result (Unit {0}) Rule) (old : CountingReader n) (walk : Walk PlainTile) (limit most : ℕ) (column : TileColumn) (planes : FramePlanes) (new : CountingReader n)
+    → start.standing ≡ standing_of old → start.rule_of ≡ (λ rule. Some rule) → EndsTile rest room start result (record { walk = walk; rule_of = λ rule. Some rule; limit = limit; room = most; state = tile_of column planes; standing = standing_of new })
+    → GivesTile (rest start.state) old result column planes new
+tile_given rest room start (Ok u) old walk limit most column planes new is tells h = rw (sym is) h.0
+tile_given rest room start (Err rule) old walk limit most column planes new is tells h =
+    rw (sym is) (subst (λ (f : Rule → Option Rule). Breaks (f rule) (rest start.state) start.standing) tells h)
+
+-- the same of what is left behind references
+pub tile_left : {n : ℕ} (s : Syntax ℕ Rule (Settled PlainTile)) (old : CountingReader n) (result : Result (Unit {0}) Rule) (column left_column : TileColumn) (planes left_planes : FramePlanes) (new left : CountingReader n)
+    → left_column ≡ column → left_planes ≡ planes → left ≡ new → GivesTile s old result column planes new → GivesTile s old result left_column left_planes left
+tile_left s old result column left_column planes left_planes new left c p r h = rw (c, p, r) h

@@ -1,5 +1,5 @@
 -- What the code keeps, and what its calls answer.
-use Rattle.std.specs.Prelude.{◌≡◌, ◌<◌, All, ◌≤◌, ◌+◌, ◌-◌, ◌*◌, ◌/◌, ◌%◌, ◌^◌, ℕ, true, false, Bool, List, [], ◌∷◌, ◌++◌, map, min, slice_range, IsOk, Result, Ok, Err}
+use Rattle.std.specs.Prelude.{◌≡◌, All, ◌≤◌, ℕ, true, false, Bool, List, [], ◌∷◌, ◌++◌, map, min, slice_range, IsOk, Result, Ok, Err}
 use Rattle.vp9_types.specs.Maps.{FrameMap}
 use Rattle.vp9_types.specs.Results.{map_ok, ◌>>=◌}
 use Rattle.bool_decoder.specs.Bools.{run_bools}
@@ -26,10 +26,7 @@ use Rattle.block_residue.specs.Code.{FitPlanes}
 use Rattle.block_residue.specs.Residues as residues
 use Rattle.block_residue.specs.declared.sides.TileSides.{TileSides}
 use Rattle.inter_modes.specs.ModeInfo.{mode_info}
-use Rattle.mode_syntax.specs.Partitions.{partition_at}
-use Rattle.mode_syntax.specs.Walk.{Walk, decode_partition}
-use Rattle.mode_syntax.specs.declared.square_at.SquareAt.{SquareAt}
-use Rattle.vp9_types.specs.declared.block.Partition.TheVariants.{Split}
+use Rattle.mode_syntax.specs.Walk.{Walk}
 use Rattle.planes.specs.Pictures.{HasSizes, IsInRange, map_of, samples_of}
 use Rattle.planes.specs.declared.frame_planes.FramePlanes.{FramePlanes}
 use Rattle.planes.specs.declared.picture.Picture.{Picture}
@@ -112,33 +109,6 @@ pub record SameColumns (old new : TileColumn) : Type 0 where
 abbrev pub GivesTile : {n : ℕ} → Syntax ℕ Rule (Settled PlainTile) → CountingReader n → Result (Unit {0}) Rule → TileColumn → FramePlanes → CountingReader n → Type 0
 GivesTile s old (Ok u) c planes new = Reads s old (tile_of c planes) new
 GivesTile s old (Err rule) c planes new = run_counting s (standing_of old) ≡ Err rule
-
----- Squares ----
-
--- a square of a tile column that has room for all of its blocks
-pub record IsSquareIn (c : TileColumn) (at : SquareAt) : Type 0 where
-  pub first : at.tile_from ≤ at.col
-  pub within : at.col + 2 ^ at.level ≤ limit_of c
-  pub from : at.tile_from ≡ c.grid.from
-  pub to : at.tile_to ≡ c.grid.to
-  pub room : 4 ^ at.level ≤ c.grid.room
-
--- a square that starts inside the frame is split, and nothing but that is read of it
-pub record IsSplit (by : code.FrameSources) (at : SquareAt) (before : TileColumn) (planes_before : FramePlanes) (old new : Standing) (c : TileColumn) (planes : FramePlanes) : Type 0 where
-  pub least : 1 ≤ at.level
-  pub row : at.row < by.setting.places.rows
-  pub col : at.col < by.setting.places.cols
-  pub read : run_counting (partition_at (frame_is_intra by.setting.header.kind) (lists_of by.setting.contexts).partitions before.grid.blocks by.setting.places at) old ≡ Ok (Split, new)
-  pub column : c ≡ before
-  pub samples : planes ≡ planes_before
-
--- all of a square is decoded, or it is split, or the rule is broken
-abbrev pub GivesUnsplit : {n : ℕ} → code.FrameSources → SquareAt → TileColumn → FramePlanes → CountingReader n → Result Bool Rule → TileColumn → FramePlanes → CountingReader n → Type 0
-GivesUnsplit by at before planes_before old (Ok false) c planes new =
-    Reads (decode_partition (walk_of by before) at.level at.row at.col (tile_of before planes_before)) old (tile_of c planes) new
-GivesUnsplit by at before planes_before old (Ok true) c planes new = IsSplit by at before planes_before (standing_of old) (standing_of new) c planes
-GivesUnsplit by at before planes_before old (Err rule) c planes new =
-    run_counting (decode_partition (walk_of by before) at.level at.row at.col (tile_of before planes_before)) (standing_of old) ≡ Err rule
 
 ---- A tile's bytes ----
 

@@ -5,3 +5,5 @@ pub mod Frames
 pub mod Columns
 pub mod Past
 pub mod Code
+pub mod Plans
+pub mod Laws

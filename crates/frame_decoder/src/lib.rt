@@ -5,8 +5,9 @@ mod columns;
 mod decoding;
 mod frame_blocks;
 mod halt;
+mod laws;
+mod plain;
 mod sources;
-mod squares;
 mod tile_places;
 mod tiles;
 
@@ -14,5 +15,6 @@ pub use columns::{BlockRoom, TileColumn};
 pub use decoding::{Decoded, begin_frame, decode_frame};
 pub use frame_blocks::FrameBlocks;
 pub use halt::Halt;
+pub use laws::frames_are_read_by_columns;
 pub use sources::{FramePast, FrameSources, adapts};
 pub use tile_places::TilePlaces;

@@ -14,14 +14,15 @@ ghost use Rattle.frame_decoder.specs.Frames.{read_all_tiles};
 ghost use Rattle.frame_decoder.specs.Reading.{FrameRead, nothing_read, read_tile_of};
 
 use crate::columns::{BlockRoom, TileColumn};
+use crate::plain::PlainReader;
 use crate::sources::FrameSources;
-use crate::squares::decode_superblock;
 use crate::tile_places::TilePlaces;
 use counting_reader::CountingReader;
 use frame_headers::tile_span;
 use mode_syntax::SquareAt;
 use planes::FramePlanes;
 use prob_contexts::Counts;
+use tile_reader::read_rows;
 use vp9_types::{Rule, Span};
 
 /// Places of 8x8 along a superblock.
@@ -39,46 +40,46 @@ fn superblocks(from: u32, to: u32) -> u32
     (to - from).div_ceil(SIDE)
 }
 
-/// A row of superblocks, from the first one on.
-fn decode_row<const COUNTS: bool>(
-    by: &FrameSources<'_>,
-    reader: &mut CountingReader<COUNTS>,
-    column: &mut TileColumn,
-    planes: &mut FramePlanes,
-    room: &mut BlockRoom,
-    first: SquareAt,
+/// The blocks of a tile.
+fn read_tile<const COUNTS: bool>(
+    plain: &mut PlainReader<'_, '_, '_, COUNTS>,
+    tile: &TilePlaces,
 ) -> Result<(), Rule>
-    requires ready { IsReady by.now.setting column.old planes.old }
-    requires past { IsPastOf by.now.setting.header by.now.past }
-    requires begin { first.col ≡ first.tile_from }
-    requires level { first.level ≡ 3 }
-    requires from { first.tile_from ≡ column.old.grid.from }
-    requires to { first.tile_to ≡ column.old.grid.to }
-    requires room { 64 * superblocks_along (column.old.grid.to - column.old.grid.from) ≤ column.old.grid.room }
-    ensures gives { GivesTile (decode_row (walk_of by.now column.old) first.row first.tile_from (superblocks_along (first.tile_to - first.tile_from)) (tile_of column.old planes.old))
-        reader.old result column.new planes.new reader.new }
-    ensures ready { OnOk result (IsReady by.now.setting column.new planes.new) }
-    ensures same { OnOk result (SameColumns column.old column.new) }
-    ensures room { OnOk result (column.old.grid.room ≤ column.new.grid.room + 64 * superblocks_along (column.old.grid.to - column.old.grid.from)) }
+    requires ready { IsReady plain.old.by.now.setting plain.old.column.now plain.old.planes.now }
+    requires past { IsPastOf plain.old.by.now.setting.header plain.old.by.now.past }
+    requires from { tile.now.col_from ≡ plain.old.column.now.grid.from }
+    requires to { tile.now.col_to ≡ plain.old.column.now.grid.to }
+    requires order { tile.now.row_from ≤ tile.now.row_to }
+    requires low { tile.now.row_to ≤ 8192 }
+    requires room { 64 * (superblocks_along (plain.old.column.now.grid.to - plain.old.column.now.grid.from) * superblocks_along (tile.now.row_to - tile.now.row_from)) ≤ plain.old.column.now.grid.room }
+    ensures gives { GivesTile (decode_tile (walk_of plain.old.by.now plain.old.column.now) (superblocks_along (tile.now.col_to - tile.now.col_from)) tile.now.row_from tile.now.col_from (superblocks_along (tile.now.row_to - tile.now.row_from)) (tile_of plain.old.column.now plain.old.planes.now))
+        plain.old.reader.now result plain.new.column.now plain.new.planes.now plain.new.reader.now }
+    ensures ready { OnOk result (IsReady plain.old.by.now.setting plain.new.column.now plain.new.planes.now) }
+    ensures same { OnOk result (SameColumns plain.old.column.now plain.new.column.now) }
+    ensures room { OnOk result (plain.old.column.now.grid.room ≤ plain.new.column.now.grid.room + 64 * (superblocks_along (plain.old.column.now.grid.to - plain.old.column.now.grid.from) * superblocks_along (tile.now.row_to - tile.now.row_from))) }
+    ensures same_reader { plain.new.reader.ghost_name ≡ plain.old.reader.ghost_name }
+    ensures same_column { plain.new.column.ghost_name ≡ plain.old.column.ghost_name }
+    ensures same_planes { plain.new.planes.ghost_name ≡ plain.old.planes.ghost_name }
 {
-    let count = superblocks(first.tile_from, first.tile_to);
-    for i in 0..count {
-        let at = SquareAt {
-            col: first.col + SIDE * i,
-            ..first
-        };
-        decode_superblock(by, reader, column, planes, room, at)?;
-    }
-    Ok(())
+    let first = SquareAt {
+        row: tile.row_from,
+        col: tile.col_from,
+        level: SUPERBLOCK,
+        tile_from: tile.col_from,
+        tile_to: tile.col_to,
+    };
+    let across = superblocks(tile.col_from, tile.col_to);
+    let down = superblocks(tile.row_from, tile.row_to);
+    read_rows(plain, first, across, down)
 }
 
-/// All rows of superblocks of a tile.
-fn decode_rows<const COUNTS: bool>(
+/// All blocks of a tile.
+#[tactic(auto, using(crate::proofs::TileReads::tile_left))]
+fn decode_blocks<const COUNTS: bool>(
     by: &FrameSources<'_>,
-    reader: &mut CountingReader<COUNTS>,
+    reader: &mut CountingReader<'_, COUNTS>,
     column: &mut TileColumn,
     planes: &mut FramePlanes,
-    room: &mut BlockRoom,
     tile: &TilePlaces,
 ) -> Result<(), Rule>
     requires ready { IsReady by.now.setting column.old planes.old }
@@ -94,18 +95,15 @@ fn decode_rows<const COUNTS: bool>(
     ensures same { OnOk result (SameColumns column.old column.new) }
     ensures room { OnOk result (column.old.grid.room ≤ column.new.grid.room + 64 * (superblocks_along (column.old.grid.to - column.old.grid.from) * superblocks_along (tile.now.row_to - tile.now.row_from))) }
 {
-    let count = superblocks(tile.row_from, tile.row_to);
-    for i in 0..count {
-        let first = SquareAt {
-            row: tile.row_from + SIDE * i,
-            col: tile.col_from,
-            level: SUPERBLOCK,
-            tile_from: tile.col_from,
-            tile_to: tile.col_to,
-        };
-        decode_row(by, reader, column, planes, room, first)?;
-    }
-    Ok(())
+    let mut room = BlockRoom::new();
+    let mut plain = PlainReader {
+        by,
+        reader,
+        column,
+        planes,
+        room: &mut room,
+    };
+    read_tile(&mut plain, tile)
 }
 
 /// A tile, from its bytes, with the counts so far; answers the counts behind it.
@@ -131,9 +129,8 @@ fn decode_tile<const COUNTS: bool>(
     ensures same { OnOk result (SameColumns column.old column.new) }
     ensures room { OnOk result (column.old.grid.room ≤ column.new.grid.room + 64 * (superblocks_along (column.old.grid.to - column.old.grid.from) * superblocks_along (tile.now.row_to - tile.now.row_from))) }
 {
-    let mut room = BlockRoom::new();
     let mut reader = CountingReader::<COUNTS>::start(bytes, counts)?;
-    decode_rows(by, &mut reader, column, planes, &mut room, tile)?;
+    decode_blocks(by, &mut reader, column, planes, tile)?;
     Ok(reader.into_counts())
 }
 

@@ -1,4 +1,5 @@
 use Rattle.std.proofs.lemmas.Result.{err_from_is_err_and}
+use Rattle.frame_decoder.specs.Code.{tile_of}
 use Rattle.frame_decoder.proofs.TileReads.{counts_by_is, whole_broken, whole_not_started, whole_read}
 use Rattle.frame_decoder.proofs.tiles.decode_tile.Goals as goal
 
@@ -7,11 +8,11 @@ returns-in_err-reader-clause-gives g c =
     let p = err_from_is_err_and c.from_residual.result c.from_residual.ensures.1 in
     rw (p.1, p.2) (whole_not_started _ c.args.bytes.now _ c.in_err-reader.ensures)
 
-pub returns-in_err-decode_rows-clause-gives : goal.returns-in_err-decode_rows-clause-gives
-returns-in_err-decode_rows-clause-gives g c =
-    let p = err_from_is_err_and c.from_residual-in_err-decode_rows.result c.from_residual-in_err-decode_rows.ensures.1 in
-    rw (p.1, p.2) (whole_broken _ c.args.bytes.now _ _ c.in_ok-reader.ensures.0 c.in_err-decode_rows.ensures.gives)
+pub returns-in_err-decode_blocks-clause-gives : goal.returns-in_err-decode_blocks-clause-gives
+returns-in_err-decode_blocks-clause-gives g c =
+    let p = err_from_is_err_and c.from_residual-in_err-decode_blocks.result c.from_residual-in_err-decode_blocks.ensures.1 in
+    rw (p.1, p.2) (whole_broken _ c.args.bytes.now _ _ c.in_ok-reader.ensures.0 c.in_err-decode_blocks.ensures.gives)
 
 pub returns-clause-gives : goal.returns-clause-gives
 returns-clause-gives g c =
-    rw c.into_counts.ensures (whole_read _ c.args.bytes.now _ _ c.decode_rows.new.reader c.decode_rows.new.column c.decode_rows.new.planes _ (counts_by_is g.row.COUNTS) c.in_ok-reader.ensures.0 c.in_ok-reader.ensures.1 c.in_ok-decode_rows.ensures.gives)
+    rw c.into_counts.ensures (whole_read _ c.args.bytes.now _ _ c.decode_blocks.new.reader (tile_of c.decode_blocks.new.column c.decode_blocks.new.planes) _ (counts_by_is g.row.COUNTS) c.in_ok-reader.ensures.0 c.in_ok-reader.ensures.1 c.in_ok-decode_blocks.ensures.gives)

@@ -1,4 +1,4 @@
-use Rattle.std.proofs.Common.{refl, arith}
+use Rattle.std.proofs.Common.{refl}
 use Rattle.frame_decoder.proofs.ColumnSteps.{begins_by}
 use Rattle.frame_decoder.proofs.columns.TileColumn.renew.Goals as goal
 

@@ -1,0 +1,45 @@
+-- What the code keeps, and what it takes of a block's buffer.
+use Rattle.std.specs.Prelude.{◌≡◌, ◌≤◌, ℕ, zero, suc, ◌*◌, ℤ, Bool, false, List, [], ◌∷◌, ◌++◌, length, map, get_or, take, drop, slice_range, if◌then◌else◌}
+use Rattle.std.specs.List.{range_with_len}
+use Rattle.vp9_types.specs.declared.shape.Plane.{Plane}
+use Rattle.vp9_types.specs.declared.shape.Plane.TheVariants.{Y, U, V}
+use Rattle.vp9_types.specs.declared.shape.Shape.{Shape}
+use Rattle.vp9_tables.specs.Scans.{area}
+use Rattle.block_plan.specs.InPlanes.{places_in, tx_in}
+use Rattle.block_plan.specs.declared.block.BlockInfo.{BlockInfo}
+use Rattle.block_plan.specs.declared.residues.BlockResidues.{BlockResidues}
+use Rattle.block_plan.specs.declared.residues.PlaneResidues.{PlaneResidues}
+
+---- Pieces one behind another ----
+
+-- the pieces of a list of values, each from the end of the one before it
+unfoldable pub pieces : ℕ → List ℕ → List ℤ → List (List ℤ)
+pieces from [] values = []
+pieces from (to ∷ ends) values = slice_range values from to ∷ pieces to ends values
+
+-- the ends rise, and the last piece ends the list
+abbrev pub IsCut : ℕ → List ℕ → ℕ → Type 0
+IsCut from [] n = from ≡ n
+IsCut from (to ∷ ends) n = (from ≤ to) × IsCut to ends n
+
+-- where the k-th piece begins
+abbrev pub start_of : ℕ → List ℕ → ℕ → ℕ
+start_of from ends zero = from
+start_of from ends (suc k) = get_or ends k 0
+
+---- The pieces of a block ----
+
+-- the values of the k-th transform block in a buffer, of so many each, or none
+abbrev pub piece_held : ℕ → List Bool → List ℤ → ℕ → List ℤ
+piece_held area some values k = if get_or some k false then take area (drop (k * area) values) else []
+
+-- those of n transform blocks
+unfoldable pub pieces_held : ℕ → List Bool → List ℤ → ℕ → List (List ℤ)
+pieces_held area some values n = map (piece_held area some values) (range_with_len 0 n)
+
+abbrev pub plane_pieces : Shape → BlockInfo → Plane → PlaneResidues → List (List ℤ)
+plane_pieces shape b p r = pieces_held (area (tx_in shape b p)) r.some r.values (length (places_in shape b p))
+
+-- of a block, plane by plane
+abbrev pub block_pieces : Shape → BlockInfo → BlockResidues → List (List ℤ)
+block_pieces shape b r = plane_pieces shape b Y r.y ++ plane_pieces shape b U r.u ++ plane_pieces shape b V r.v

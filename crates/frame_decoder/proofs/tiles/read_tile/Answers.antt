@@ -1,0 +1,10 @@
+use Rattle.std.proofs.Common.{◌*◌, refl, sym}
+use Rattle.mode_syntax.specs.Walk.{decode_tile}
+use Rattle.frame_decoder.specs.Code.{walk_of}
+use Rattle.frame_decoder.proofs.TileReads.{tile_given}
+use Rattle.frame_decoder.proofs.tiles.read_tile.Goals as goal
+
+pub returns-clause-gives : goal.returns-clause-gives
+returns-clause-gives g c =
+    rw (sym c.superblocks-across.ensures.is, sym c.superblocks-down.ensures.is)
+    (tile_given (decode_tile (walk_of c.args.plain.now.by.now c.args.plain.now.column.now) c.superblocks-across.result c.args.tile.now.row_from c.args.tile.now.col_from c.superblocks-down.result) (64 * (c.superblocks-across.result * c.superblocks-down.result)) _ c.read_rows.result c.args.plain.now.reader.now _ _ _ c.read_rows.new.reader.column.now c.read_rows.new.reader.planes.now c.read_rows.new.reader.reader.now refl refl c.read_rows.ensures.ends)

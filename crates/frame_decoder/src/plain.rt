@@ -1,0 +1,127 @@
+//! A tile whose blocks are put in as they are read.
+
+ghost use Rattle.std.specs.Prelude.{◌≡◌, ◌+◌, ◌<◌, ◌≤◌, OnOk};
+ghost use Rattle.block_geometry.specs.Sizes.{width_8};
+ghost use Rattle.frame_decoder.specs.Columns.{limit_of};
+ghost use Rattle.frame_decoder.specs.Past.{IsPastOf};
+ghost use Rattle.frame_decoder.specs.Code.{plain_block, sources_of, tile_of, IsReady, SameColumns, GivesTile};
+
+use crate::columns::{BlockRoom, TileColumn};
+use crate::sources::{FrameSources, frame_is_intra};
+use block_geometry::FramePlaces;
+use block_plan::BlockAt;
+use block_rebuild::put_block;
+use block_residue::read_block;
+use counting_reader::CountingReader;
+use inter_modes::mode_info;
+use mode_syntax::{SquareAt, read_partition};
+use planes::FramePlanes;
+use tile_reader::TileReader;
+use vp9_types::{Partition, Rule};
+
+/// A block that starts inside the frame.
+fn decode_block<const COUNTS: bool>(
+    by: &FrameSources<'_>,
+    reader: &mut CountingReader<COUNTS>,
+    column: &mut TileColumn,
+    planes: &mut FramePlanes,
+    room: &mut BlockRoom,
+    at: BlockAt,
+) -> Result<(), Rule>
+    requires ready { IsReady by.now.setting column.old planes.old }
+    requires past { IsPastOf by.now.setting.header by.now.past }
+    requires row { at.row < by.now.setting.places.rows }
+    requires first { at.tile_from ≤ at.col }
+    requires col { at.col < at.tile_to }
+    requires from { at.tile_from ≡ column.old.grid.from }
+    requires to { at.tile_to ≡ column.old.grid.to }
+    requires wide { at.col + width_8 at.size ≤ limit_of column.old }
+    requires room { 1 ≤ column.old.grid.room }
+    ensures gives { GivesTile (plain_block (sources_of by.now) at (tile_of column.old planes.old))
+        reader.old result column.new planes.new reader.new }
+    ensures ready { OnOk result (IsReady by.now.setting column.new planes.new) }
+    ensures same { OnOk result (SameColumns column.old column.new) }
+    ensures room { OnOk result (column.old.grid.room ≤ column.new.grid.room + 1) }
+{
+    let setting = &by.setting;
+    let vectors = by.past.vectors.as_ref();
+    let block = mode_info(reader, setting, at, &column.grid, by.past.segments, vectors)?;
+    let listed = read_block(
+        reader,
+        setting,
+        &block,
+        &mut column.sides,
+        &mut room.residues,
+    )?;
+    put_block(
+        planes,
+        &by.past.pictures,
+        at.tile_from,
+        &block,
+        &room.residues,
+        &mut room.rebuild,
+    );
+    column.grid.put(listed);
+    Ok(())
+}
+
+/// What the blocks of a tile are read and put in by, its bools, its column, the frame's planes, and room for one block.
+#[derive(Drop)]
+pub(crate) struct PlainReader<'a, 'b, 'c, const COUNTS: bool> {
+    pub by: &'a FrameSources<'b>,
+    pub reader: &'a mut CountingReader<'c, COUNTS>,
+    pub column: &'a mut TileColumn,
+    pub planes: &'a mut FramePlanes,
+    pub room: &'a mut BlockRoom,
+}
+
+impl<'a, 'b, 'c, const COUNTS: bool> TileReader for PlainReader<'a, 'b, 'c, COUNTS> {
+    ghost use Rattle.std.specs.Prelude.{Some};
+    ghost use Rattle.std.specs.Borrow.{GName};
+    ghost use Rattle.counting_reader.specs.Code.{standing_of};
+    ghost use Rattle.tile_reader.specs.Code.{Tile};
+    ghost use Rattle.frame_decoder.specs.Columns.{limit_of};
+    ghost use Rattle.frame_decoder.specs.Past.{IsPastOf};
+    ghost use Rattle.frame_decoder.specs.Code.{PlainTile, IsReady, tile_of, walk_of};
+    ghost use Rattle.frame_decoder.specs.declared.sources.FrameSources.{FrameSources};
+
+    ghost State = { PlainTile };
+
+    type Halt = Rule;
+
+    ghost tile = { λ w. record {
+      walk = walk_of w.by.now w.column.now;
+      rule_of = λ rule. Some rule;
+      limit = limit_of w.column.now;
+      room = w.column.now.grid.room;
+      state = tile_of w.column.now w.planes.now;
+      standing = standing_of w.reader.now;
+    } };
+
+    ghost ready = { λ w. IsPastOf w.by.now.setting.header w.by.now.past × IsReady w.by.now.setting w.column.now w.planes.now };
+
+    ghost Kept = { GName × GName × GName × FrameSources };
+
+    ghost kept = { λ w. (w.reader.ghost_name, w.column.ghost_name, w.planes.ghost_name, w.by.now) };
+
+    fn frame(&self) -> FramePlaces {
+        self.by.setting.places
+    }
+
+    fn read_partition(&mut self, at: SquareAt) -> Partition {
+        let setting = &self.by.setting;
+        let intra = frame_is_intra(&setting.header.kind);
+        read_partition(self.reader, setting, intra, &self.column.grid, at)
+    }
+
+    fn read_block(&mut self, at: BlockAt) -> Result<(), Rule> {
+        decode_block(
+            self.by,
+            self.reader,
+            self.column,
+            self.planes,
+            self.room,
+            at,
+        )
+    }
+}

@@ -1,0 +1,3 @@
+mod Endings
+mod SquareEnds
+mod RowEnds
