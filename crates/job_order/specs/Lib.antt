@@ -1,0 +1,7 @@
+pub mod Segments
+pub mod Needs
+pub mod Worlds
+pub mod Truths
+pub mod Sound
+pub mod Code
+pub mod Example
