@@ -1,4 +1,3 @@
-mod odd_values;
 mod rows;
 mod sizes;
 
