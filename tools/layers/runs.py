@@ -314,7 +314,11 @@ def grey_items(sizes):
 
 
 def grey():
-    return grey_items(GREY_SIZES)
+    return grey_items([size for size in GREY_SIZES if size != (1, 1)])
+
+
+def least_grey():
+    return grey_items([(1, 1)])
 
 
 def odd_grey():

@@ -1,49 +1,12 @@
 mod rows;
-mod sizes;
 
-use edge_io::{MemSink, MemSource, OpenGate};
 use md5::{Digest, Md5};
 use rows::{Row, drawn_streams, inter_decode, intra_decode, list, long_runs, overflow_frames};
 use std::alloc::{AllocError, Global};
 use std::sync::Wait;
 use std::test::Fail;
 use std::thread::Threads;
-use vp9_app::{Ran, Status, run};
-
-type MemRan = Ran<MemSource, MemSink, MemSink>;
-
-// The numbers of the calls that are to fail, from 1.
-#[derive(Clone, Copy)]
-struct Fails {
-    source: &'static [u64],
-    out: &'static [u64],
-    note: &'static [u64],
-}
-
-const NONE: Fails = Fails {
-    source: &[],
-    out: &[],
-    note: &[],
-};
-
-// The program's name, and these words.
-fn run_words<R: Threads + Wait + Sync>(
-    rt: &R,
-    alloc: Global,
-    given: &[&'static str],
-    input: &[u8],
-    fails: &Fails,
-) -> Result<MemRan, AllocError> {
-    let mut words = Vec::new(alloc);
-    words.push(String::from_str(alloc, "vp9dec")?)?;
-    for word in given {
-        words.push(String::from_str(alloc, word)?)?;
-    }
-    let source = MemSource::new(alloc, input, fails.source)?;
-    let out = MemSink::new(alloc, fails.out)?;
-    let note = MemSink::new(alloc, fails.note)?;
-    Ok(run(rt, alloc, words.as_slice(), source, out, note, &OpenGate))
-}
+use test_runs::{Fails, MemRan, NONE, run_words};
 
 fn run_row<R: Threads + Wait + Sync>(
     rt: &R,
@@ -267,5 +230,21 @@ fn a_write_fault_ends_a_stream(rt: HostRuntime) -> Result<(), Fail> {
     assert_eq!(rt; ran.status.code(), 5);
     assert_eq!(rt; ran.note.bytes(), b"write fault\n".as_slice());
     assert_eq!(rt; ran.out.bytes().len(), 0);
+    Ok(())
+}
+
+#[test]
+fn options_change_nothing(rt: HostRuntime) -> Result<(), Fail> {
+    let options: [&[&'static str]; 3] = [
+        &["decode", "--workers", "7"],
+        &["decode", "--workers", "61", "--window", "13"],
+        &["decode", "--plain", "--window", "5"],
+    ];
+    for words in options {
+        let drawn = first_other_as(&rt, rt.alloc(), words, drawn_streams::TABLES.as_slice())?;
+        assert_eq!(rt; drawn, None);
+        let inter = first_other_as(&rt, rt.alloc(), words, inter_decode::TABLES.as_slice())?;
+        assert_eq!(rt; inter, None);
+    }
     Ok(())
 }

@@ -1,0 +1,43 @@
+//! Runs of the program's commands over memory.
+
+use edge_io::{MemSink, MemSource, OpenGate};
+use std::alloc::{AllocError, Global};
+use std::sync::Wait;
+use std::thread::Threads;
+use vp9_app::{Ran, run};
+
+pub type MemRan = Ran<MemSource, MemSink, MemSink>;
+
+/// The numbers of the calls that are to fail, from 1.
+#[derive(Clone, Copy)]
+pub struct Fails {
+    pub source: &'static [u64],
+    pub out: &'static [u64],
+    pub note: &'static [u64],
+}
+
+/// None fails.
+pub const NONE: Fails = Fails {
+    source: &[],
+    out: &[],
+    note: &[],
+};
+
+/// What the program's name and these words do with an input.
+pub fn run_words<R: Threads + Wait + Sync>(
+    rt: &R,
+    alloc: Global,
+    given: &[&'static str],
+    input: &[u8],
+    fails: &Fails,
+) -> Result<MemRan, AllocError> {
+    let mut words = Vec::new(alloc);
+    words.push(String::from_str(alloc, "vp9dec")?)?;
+    for word in given {
+        words.push(String::from_str(alloc, word)?)?;
+    }
+    let source = MemSource::new(alloc, input, fails.source)?;
+    let out = MemSink::new(alloc, fails.out)?;
+    let note = MemSink::new(alloc, fails.note)?;
+    Ok(run(rt, alloc, words.as_slice(), source, out, note, &OpenGate))
+}
