@@ -16,3 +16,4 @@ pub mod Spans
 pub mod Turns
 pub mod Example
 pub mod Publishers
+pub mod Readiness

@@ -10,7 +10,7 @@ ghost use Rattle.job_order.specs.declared.segment.Segment.TheVariants.{Build};
 ghost use Rattle.job_order.specs.declared.segment.Shown.{Shown};
 ghost use Rattle.job_order.specs.Segments.{InOrder, IsPublished, job_at};
 ghost use Rattle.job_order.specs.Needs.{NeedsBand, Publishes};
-ghost use Rattle.job_order.specs.Worlds.{WorldState, HasResult, IsFinished, IsReady, Does, opening, after, run, IsAllowed, AreAllowed, published, and_published};
+ghost use Rattle.job_order.specs.Worlds.{WorldState, HasResult, IsFinished, IsReady, Does, opening, after, run, IsAllowed, AreAllowed, IsReached, published, and_published};
 ghost use Rattle.job_order.specs.declared.order.Mark.{Mark};
 ghost use Rattle.job_order.specs.Code.{IsMark};
 ghost use Rattle.job_order.specs.Example.{example_rules, example_truth};
@@ -28,6 +28,13 @@ pub fn marks_stay()
 pub fn every_list_of_events_is_sound<X, M: Meaning<X>>()
     ensures { (window : ℕ) (events : List (Event X)) → 2 ≤ window → AreTrue M.rules M.truth → AreAllowed M.rules (opening window) events →
         IsSound M.rules M.truth (run M.rules (opening window) events) }
+{}
+
+/// The same step by step: a world that was reached is sound, and an event that is allowed in it leads to another that was reached.
+pub fn reached_worlds_are_sound<X, M: Meaning<X>>()
+    ensures first { (window : ℕ) → IsReached M.rules window (opening window) }
+    ensures next { (window : ℕ) (w : WorldState X) (e : Event X) → IsReached M.rules window w → IsAllowed M.rules w e → IsReached M.rules window (after M.rules w e) }
+    ensures sound { (window : ℕ) (w : WorldState X) → 2 ≤ window → AreTrue M.rules M.truth → IsReached M.rules window w → IsSound M.rules M.truth w }
 {}
 
 /// No later event changes a result, and what the writes have put grows no more once one was refused.
@@ -78,4 +85,5 @@ pub fn jobs_may_be_done_in_turn<X, M: Meaning<X>>()
 pub fn some_rules_are_true()
     ensures are_true { AreTrue example_rules example_truth }
     ensures total { AreTotal example_rules example_truth }
+    ensures does { (w : WorldState ℕ) (job : JobName) → IsSound example_rules example_truth w → IsReady example_rules w job → Does example_rules w job (frame_of job) }
 {}
