@@ -1,9 +1,9 @@
 //! Tests of the world of jobs: whole runs, played.
 #![tactic(auto)]
 
-mod play;
+mod player;
 
-pub use play::{Order, Three, play};
+pub use player::{Order, Three, job_of, play};
 
 #[cfg(test)]
 mod tests;

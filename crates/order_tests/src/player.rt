@@ -1,5 +1,7 @@
-ghost use Rattle.std.specs.Prelude.{◌≡◌, ⊤, Some, IfOk, MatchOption};
+ghost use Rattle.std.specs.Prelude.{◌≡◌, ⊤, true, Some, IfOk, MatchOption};
+ghost use Rattle.vp9_types.specs.declared.job.JobName.{JobName};
 ghost use Rattle.vp9_types.specs.declared.job.JobName.TheVariants.{Head};
+ghost use Rattle.job_order.specs.Segments.{job_at};
 ghost use Rattle.job_order.specs.Worlds.{published, IsReached, IsReady};
 ghost use Rattle.job_order.specs.Sound.{frame_of};
 ghost use Rattle.job_order.specs.Example.{example_rules, both_before, reads_before};
@@ -73,10 +75,19 @@ fn draw_all(world: &mut World<u64, Three>, stops: bool) -> Result<(), AllocError
 // The next ticket is published.
 fn has_ticket(world: &World<u64, Three>) -> bool
     requires { IsReached example_rules 2 world.now }
+    ensures { result ≡ true → (job : JobName) × (job_at world.now.segments world.now.drawn ≡ Some job) }
+{
+    job_of(world, world.drawn()).is_some()
+}
+
+/// The job of a ticket.
+pub fn job_of(world: &World<u64, Three>, ticket: u64) -> Option<JobName>
+    requires { IsReached example_rules 2 world.now }
+    ensures { result ≡ job_at world.now.segments ticket }
 {
     reached_worlds_are_sound::<u64, Three>();
     some_rules_are_true();
-    job_at(world.segments(), world.drawn()).is_some()
+    job_at(world.segments(), ticket)
 }
 
 fn draw(world: &mut World<u64, Three>, stops: bool) -> Result<(), AllocError>
@@ -125,7 +136,7 @@ fn next(world: &World<u64, Three>, order: Order) -> Option<JobName>
             Order::Forwards => passed,
             Order::Backwards => drawn - 1 - passed,
         };
-        if let Some(job) = job_at(world.segments(), ticket) {
+        if let Some(job) = job_of(world, ticket) {
             if world.is_ready(job, reads_of(job)) {
                 return Some(job);
             }
