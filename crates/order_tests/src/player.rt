@@ -1,8 +1,8 @@
-ghost use Rattle.std.specs.Prelude.{◌≡◌, ⊤, true, Some, IfOk, MatchOption};
+ghost use Rattle.std.specs.Prelude.{◌≡◌, true, Some, IfOk};
 ghost use Rattle.vp9_types.specs.declared.job.JobName.{JobName};
 ghost use Rattle.vp9_types.specs.declared.job.JobName.TheVariants.{Head};
 ghost use Rattle.job_order.specs.Segments.{job_at};
-ghost use Rattle.job_order.specs.Worlds.{published, IsReached, IsReady};
+ghost use Rattle.job_order.specs.Worlds.{published, IsAllowed, IsReached, IsReady};
 ghost use Rattle.job_order.specs.Sound.{frame_of};
 ghost use Rattle.job_order.specs.Example.{example_rules, both_before, reads_before};
 
@@ -38,7 +38,7 @@ pub fn play(alloc: Global, order: Order, stops: bool) -> Result<World<u64, Three
 {
     reached_worlds_are_sound::<u64, Three>();
     let mut world = World::new(alloc, 2)?;
-    let mut rounds = 0;
+    let mut rounds: u32 = 0;
     while rounds < 100 {
         draw_some(&mut world, order, stops)?;
         match next(&world, order) {
@@ -64,7 +64,7 @@ fn draw_all(world: &mut World<u64, Three>, stops: bool) -> Result<(), AllocError
     requires { IsReached example_rules 2 world.old }
     ensures { IsReached example_rules 2 world.new }
 {
-    let mut rounds = 0;
+    let mut rounds: u32 = 0;
     while rounds < 100 && has_ticket(world) {
         draw(world, stops)?;
         rounds += 1;
@@ -94,8 +94,7 @@ fn draw(world: &mut World<u64, Three>, stops: bool) -> Result<(), AllocError>
     requires { IsReached example_rules 2 world.old }
     ensures { IsReached example_rules 2 world.new }
 {
-    reached_worlds_are_sound::<u64, Three>();
-    world.step(Event::Draw)?;
+    step(world, Event::Draw)?;
     stop(world, stops)
 }
 
@@ -103,8 +102,20 @@ fn stop(world: &mut World<u64, Three>, stops: bool) -> Result<(), AllocError>
     requires { IsReached example_rules 2 world.old }
     ensures { IsReached example_rules 2 world.new }
 {
+    if stops {
+        step(world, Event::Stop)
+    } else {
+        Ok(())
+    }
+}
+
+fn step(world: &mut World<u64, Three>, event: Event<u64>) -> Result<(), AllocError>
+    requires reached { IsReached example_rules 2 world.old }
+    requires allowed { IsAllowed example_rules world.old event }
+    ensures { IsReached example_rules 2 world.new }
+{
     reached_worlds_are_sound::<u64, Three>();
-    if stops { world.step(Event::Stop) } else { Ok(()) }
+    world.step(event)
 }
 
 fn finish(world: &mut World<u64, Three>, job: JobName, stops: bool) -> Result<(), AllocError>
@@ -114,18 +125,19 @@ fn finish(world: &mut World<u64, Three>, job: JobName, stops: bool) -> Result<()
 {
     reached_worlds_are_sound::<u64, Three>();
     some_rules_are_true();
-    world.step(Event::Finish {
+    let event = Event::Finish {
         job,
         result: frame_of(job),
         publishes: publishes(job),
-    })?;
+    };
+    step(world, event)?;
     stop(world, stops)
 }
 
 // A drawn job that is ready: that of the smallest ticket, or of the greatest.
 fn next(world: &World<u64, Three>, order: Order) -> Option<JobName>
     requires { IsReached example_rules 2 world.now }
-    ensures { MatchOption result (λ job. IsReady example_rules world.now job) ⊤ }
+    ensures { (job : JobName) → result ≡ Some job → IsReady example_rules world.now job }
 {
     reached_worlds_are_sound::<u64, Three>();
     some_rules_are_true();
