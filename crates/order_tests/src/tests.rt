@@ -60,7 +60,13 @@ fn jobs_are_done_backwards(rt: HostRuntime) -> Result<(), AllocError> {
     assert_eq!(rt; world.finished().len(), JOBS);
     assert_eq!(rt; world.finished()[JOBS - 1].job, JobName::End { frame: 3 });
     // Behind Head(0) the greater of the two columns comes first.
-    assert_eq!(rt; world.finished()[1].job, JobName::Column { frame: 0, column: 1 });
+    assert_eq!(rt;
+        world.finished()[1].job,
+        JobName::Column {
+            frame: 0,
+            column: 1
+        }
+    );
     assert!(rt; !is_in_turn(&world));
     assert_eq!(rt; written(&world), Some(3));
     Ok(())
