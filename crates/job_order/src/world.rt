@@ -85,7 +85,8 @@ impl<X: Drop, M: Meaning<X>> World<X, M> {
         &self.finished
     }
 
-    /// Whether the job is ready. `reads` is what a job of a superblock row of a column reads of other frames.
+    /// Whether the job is ready: true only where it is, and no clause says that it is true wherever it is. `reads` is what a job of a
+    /// superblock row of a column reads of other frames.
     pub fn is_ready(&self, job: JobName, reads: [Option<BandSpan>; 3]) -> bool
         requires order { InOrder self.now.segments }
         requires reads { reads ≡ M.rules.reads job self.now.finished }
