@@ -1,6 +1,6 @@
 -- Whether a job is ready.
-use Rattle.std.proofs.Common.{◌≡◌, ℕ, ◌+◌, ◌*◌, ◌<◌, ◌≤◌, ◌⊎◌, inl, inr, ⊎_elim, refl, sym, ◌∙◌, ap, subst, List, [], ◌∷◌, ◌++◌, length, take, drop, reverse, get_or, slice_get, Option, Some, None, arith, take-append-drop, eq-or-lt_of_le}
-use Rattle.std.proofs.lemmas.Option.{slice_get_within, get_or_from_slice_get, slice_get-get_or}
+use Rattle.std.proofs.Common.{◌≡◌, ℕ, zero, suc, ◌+◌, ◌*◌, ◌<◌, ◌≤◌, ◌⊎◌, inl, inr, ⊎_elim, refl, sym, ◌∙◌, ap, subst, List, [], ◌∷◌, ◌++◌, length, take, drop, reverse, get_or, slice_get, Option, Some, None, arith, take-append-drop, eq-or-lt_of_le}
+use Rattle.std.proofs.lemmas.Option.{slice_get_within, get_or_from_slice_get, slice_get-get_or, same_Some}
 use Rattle.std.proofs.lemmas.List.{take_more, reverse-append}
 use Rattle.vp9_types.specs.declared.job.JobName.{JobName}
 use Rattle.vp9_types.specs.declared.job.JobName.TheVariants.{Column, Rows, Filter}
@@ -12,17 +12,23 @@ use Rattle.job_order.specs.declared.event.Done.{Done}
 use Rattle.job_order.specs.declared.needs.JobSpan.TheVariants.{One, Columns, RowOf}
 use Rattle.job_order.specs.declared.needs.JobSpan.{JobSpan}
 use Rattle.job_order.specs.declared.needs.Needs.{Needs}
-use Rattle.job_order.specs.Segments.{IsBelow, InOrder}
+use Rattle.job_order.specs.Segments.{IsListed, IsBelow, InOrder}
 use Rattle.job_order.specs.Needs.{IsNeed, IsInSpan, IsLastRow, Publishes}
 use Rattle.job_order.specs.Worlds.{Rules, WorldState, HasResult, IsFinished, IsReady}
 use Rattle.job_order.specs.Code.{IsIn, IsInIf, IsInOne, PublishesOne, Names}
 use Rattle.job_order.proofs.Homes.{IsBuild, filter_home}
+use Rattle.job_order.proofs.Orders.{start, ticket_of}
 use Rattle.job_order.proofs.Smaller.{same_build}
 use Rattle.job_order.proofs.Finished.{finished_either}
 
 pub all_below : (P : ℕ → Type 0) (n : ℕ) → ((k : ℕ) → k < n → P k) → P n → (k : ℕ) → k < n + 1 → P k
 all_below P n below here k less =
     ⊎_elim (λ (e : k ≡ n). subst P (sym e) here) (λ (l : k < n). below k l) (eq-or-lt_of_le (let z : k ≤ n = omega (arith, less) in z))
+
+lt-or-le : (a b : ℕ) → (a < b) ⊎ (b ≤ a)
+lt-or-le a zero = inr (omega arith)
+lt-or-le zero (suc b) = inl (omega arith)
+lt-or-le (suc a) (suc b) = ⊎_elim (λ (x : a < b). inl (omega (arith, x))) (λ (x : b ≤ a). inr (omega (arith, x))) (lt-or-le a b)
 
 module _ {X : Type 0} where
   has_right : (xs ys : List (Done X)) (job : JobName) (x : X) → HasResult ys job x → HasResult (xs ++ ys) job x
@@ -84,6 +90,12 @@ module _ (segments : List Segment) (h : InOrder segments) where
       inr (x.0, omega (arith, so.1, x.0)))
       p.1
 
+  filter_listed : (f columns rows row : ℕ) (shown : Option Shown) → IsBuild segments f columns rows shown → row < rows → IsListed segments (Filter f row)
+  filter_listed f columns rows row shown there less = (
+    start segments (2 * f + 2) + (1 + (row * (columns + 1) + columns)),
+    ticket_of segments (2 * f + 2) (Build f columns rows shown) (Filter f row) (1 + (row * (columns + 1) + columns)) there (refl, less, refl),
+  )
+
   pub named_row : (f g columns rows band row : ℕ) (shown : Option Shown) (result : Option ℕ) → 2 * f + 2 < length segments → get_or segments (2 * f + 2) Opening ≡ Build g columns rows shown
       → (band + 1 < rows → result ≡ Some (band + 1)) → (band + 1 ≡ rows → result ≡ Some band) → Publishes segments f row band → result ≡ Some row
   named_row f g columns rows band row shown result within e next last p =
@@ -94,6 +106,27 @@ module _ (segments : List Segment) (h : InOrder segments) where
       (λ (x : (row ≡ band + 1) × (band + 1 < rows)). next x.1 ∙ ap Some (sym x.0))
       (λ (x : (row ≡ band) × (band + 1 ≡ rows)). last x.1 ∙ ap Some (sym x.0))
       (band_of f columns rows row band shown (subst (λ i. slice_get segments (2 * f + 2) ≡ Some (Build i columns rows shown)) is there) p)
+
+  pub published_by : (f g columns rows band row : ℕ) (shown : Option Shown) (result : Option ℕ) → 2 * f + 2 < length segments → get_or segments (2 * f + 2) Opening ≡ Build g columns rows shown
+      → (band + 1 < rows → result ≡ Some (band + 1)) → (band + 1 ≡ rows → result ≡ Some band) → (rows ≤ band → result ≡ None) → result ≡ Some row → Publishes segments f row band
+  published_by f g columns rows band row shown result within e next last none is =
+      let there : slice_get segments (2 * f + 2) ≡ Some (Build g columns rows shown) = slice_get-get_or segments (2 * f + 2) Opening within ∙ ap Some e in
+      let at = h.places (2 * f + 2) (Build g columns rows shown) there in
+      let own : g ≡ f = omega (arith, at) in
+      let here : IsBuild segments f columns rows shown = subst (λ i. slice_get segments (2 * f + 2) ≡ Some (Build i columns rows shown)) own there in
+      ⊎_elim
+      (λ (more : band + 1 < rows).
+      let same : row ≡ band + 1 = same_Some row (band + 1) (sym is ∙ next more) in
+      (filter_listed f columns rows row shown here (omega (arith, same, more)), inl same))
+      (λ (no_more : rows ≤ band + 1).
+      ⊎_elim
+      (λ (it : rows ≡ band + 1).
+      let same : row ≡ band = same_Some row band (sym is ∙ last (sym it)) in
+      let plain : rows ≡ row + 1 = omega (arith, same, it) in
+      (filter_listed f columns rows row shown here (omega (arith, same, it)), inr (same, (columns, shown, (2 * f + 2, subst (λ r. IsBuild segments f columns r shown) plain here)))))
+      (λ (past : rows < band + 1). absurd (let bad : ◌≡◌ {A = Option ℕ} None (Some row) = sym (none (omega (arith, past))) ∙ is in cc))
+      (eq-or-lt_of_le no_more))
+      (lt-or-le (band + 1) rows)
 
   pub no_row : (f band row : ℕ) → ((g columns rows : ℕ) (shown : Option Shown) → get_or segments (2 * f + 2) Opening ≡ Build g columns rows shown → ⊥) → Publishes segments f row band → ⊥
   no_row f band row none p =
@@ -116,6 +149,17 @@ module _ {X : Type 0} (segments : List Segment) (finished : List (Done X)) where
   jobs_named (first ∷ second ∷ []) long a b need x =
       ⊎_elim (λ (y : IsInIf first need). a need y) (λ (y : IsInIf second need ⊎ ⊥). ⊎_elim (λ (z : IsInIf second need). b need z) (λ (z : ⊥). absurd z) y) x
 
+  pub first_named : (jobs : List (Option JobSpan)) → ((need : JobName) → IsInOne jobs need → IsFinished finished need)
+      → (need : JobName) → IsInIf (get_or jobs 0 None) need → IsFinished finished need
+  first_named [] all need x = absurd x
+  first_named (first ∷ more) all need x = all need (inl x)
+
+  pub second_named : (jobs : List (Option JobSpan)) → ((need : JobName) → IsInOne jobs need → IsFinished finished need)
+      → (need : JobName) → IsInIf (get_or jobs 1 None) need → IsFinished finished need
+  second_named [] all need x = absurd x
+  second_named (first ∷ []) all need x = absurd x
+  second_named (first ∷ second ∷ more) all need x = all need (inr (inl x))
+
   -- what publishes a band of a span is finished
   abbrev pub IsOut : Option BandSpan → Type 0
   IsOut span = (g band row : ℕ) → IsInSpan span g band → Publishes segments g row band → IsFinished finished (Filter g row)
@@ -132,6 +176,21 @@ module _ {X : Type 0} (segments : List Segment) (finished : List (Done X)) where
       p.1
   bands_named one two three k l n _ p = absurd p
 
+  pub first_out : (bands : List (Option BandSpan)) → ((need : JobName) → PublishesOne segments bands need → IsFinished finished need) → IsOut (get_or bands 0 None)
+  first_out [] all g band row x p = absurd x
+  first_out (one ∷ more) all g band row x p = all (Filter g row) (band, inl x, p)
+
+  pub second_out : (bands : List (Option BandSpan)) → ((need : JobName) → PublishesOne segments bands need → IsFinished finished need) → IsOut (get_or bands 1 None)
+  second_out [] all g band row x p = absurd x
+  second_out (one ∷ []) all g band row x p = absurd x
+  second_out (one ∷ two ∷ more) all g band row x p = all (Filter g row) (band, inr (inl x), p)
+
+  pub third_out : (bands : List (Option BandSpan)) → ((need : JobName) → PublishesOne segments bands need → IsFinished finished need) → IsOut (get_or bands 2 None)
+  third_out [] all g band row x p = absurd x
+  third_out (one ∷ []) all g band row x p = absurd x
+  third_out (one ∷ two ∷ []) all g band row x p = absurd x
+  third_out (one ∷ two ∷ three ∷ more) all g band row x p = all (Filter g row) (band, inr (inr (inl x)), p)
+
   pub all_out : (bands : List (Option BandSpan)) → length bands ≡ 3 → IsOut (get_or bands 0 None) → IsOut (get_or bands 1 None) → IsOut (get_or bands 2 None)
       → (need : JobName) → PublishesOne segments bands need → IsFinished finished need
   all_out [] long k l n need p = absurd (omega (arith, long))
@@ -139,6 +198,11 @@ module _ {X : Type 0} (segments : List Segment) (finished : List (Done X)) where
   all_out (one ∷ two ∷ []) long k l n need p = absurd (omega (arith, long))
   all_out (one ∷ two ∷ three ∷ four ∷ more) long k l n need p = absurd (omega (arith, long))
   all_out (one ∷ two ∷ three ∷ []) long k l n need p = bands_named one two three k l n need p
+
+-- what a ready job needs is finished
+pub named_of : {X : Type 0} (m : Rules X) (w : WorldState X) (job : JobName) (needs : Needs) (reads : List (Option BandSpan)) → reads ≡ m.reads job w.finished
+    → ((need : JobName) → Names w.segments needs need → IsNeed w.segments w.window reads job need) → IsReady m w job → (need : JobName) → Names w.segments needs need → IsFinished w.finished need
+named_of m w job needs reads is from ready need n = ready.needs need (subst (λ r. IsNeed w.segments w.window r job need) is (from need n))
 
 pub ready_from : {X : Type 0} (m : Rules X) (w : WorldState X) (job : JobName) (needs : Needs) (reads : List (Option BandSpan)) → reads ≡ m.reads job w.finished → IsBelow w.segments w.drawn job
     → ¬ IsFinished w.finished job → ((need : JobName) → IsNeed w.segments w.window reads job need → Names w.segments needs need)

@@ -1,4 +1,4 @@
-ghost use Rattle.std.specs.Prelude.{◌≡◌, ℕ, ◌+◌, ◌<◌, ◌≤◌, true, false, reverse, Some};
+ghost use Rattle.std.specs.Prelude.{◌≡◌, ◌↔◌, ℕ, ◌+◌, ◌<◌, ◌≤◌, true, false, reverse, Some, None};
 ghost use Rattle.vp9_types.specs.declared.job.JobName.{JobName};
 ghost use Rattle.vp9_types.specs.declared.job.JobName.TheVariants.{Column, Rows, Filter};
 ghost use Rattle.job_order.specs.Segments.{InOrder, IsBelow};
@@ -15,7 +15,8 @@ use vp9_types::{BandSpan, JobName};
 // The job has a ticket below this number.
 pub fn is_drawn(segments: &[Segment], drawn: u64, job: JobName) -> bool
     requires { InOrder segments.now }
-    ensures { result ≡ true → IsBelow segments.now drawn job }
+    ensures yes { result ≡ true → IsBelow segments.now drawn job }
+    ensures no { result ≡ false → ¬ IsBelow segments.now drawn job }
 {
     let mut mark = Mark::first();
     let mut ticket = 0;
@@ -51,7 +52,8 @@ pub fn is_done<X>(finished: &[Done<X>], job: JobName) -> bool
 // All that is named is finished.
 pub fn are_done<X>(segments: &[Segment], finished: &[Done<X>], needs: Needs) -> bool
     requires { InOrder segments.now }
-    ensures { result ≡ true → (need : JobName) → Names segments.now needs need → IsFinished (reverse finished.now) need }
+    ensures yes { result ≡ true → (need : JobName) → Names segments.now needs need → IsFinished (reverse finished.now) need }
+    ensures no { result ≡ false → ¬ ((need : JobName) → Names segments.now needs need → IsFinished (reverse finished.now) need) }
 {
     if !are_jobs_done(finished, needs.jobs) {
         return false;
@@ -60,7 +62,8 @@ pub fn are_done<X>(segments: &[Segment], finished: &[Done<X>], needs: Needs) -> 
 }
 
 fn are_jobs_done<X>(finished: &[Done<X>], jobs: [Option<JobSpan>; 2]) -> bool
-    ensures { result ≡ true → (need : JobName) → IsInOne jobs need → IsFinished (reverse finished.now) need }
+    ensures yes { result ≡ true → (need : JobName) → IsInOne jobs need → IsFinished (reverse finished.now) need }
+    ensures no { result ≡ false → ¬ ((need : JobName) → IsInOne jobs need → IsFinished (reverse finished.now) need) }
 {
     if !is_span_done(finished, jobs[0]) {
         return false;
@@ -70,7 +73,8 @@ fn are_jobs_done<X>(finished: &[Done<X>], jobs: [Option<JobSpan>; 2]) -> bool
 
 fn are_all_out<X>(segments: &[Segment], finished: &[Done<X>], bands: [Option<BandSpan>; 3]) -> bool
     requires { InOrder segments.now }
-    ensures { result ≡ true → (need : JobName) → PublishesOne segments.now bands need → IsFinished (reverse finished.now) need }
+    ensures yes { result ≡ true → (need : JobName) → PublishesOne segments.now bands need → IsFinished (reverse finished.now) need }
+    ensures no { result ≡ false → ¬ ((need : JobName) → PublishesOne segments.now bands need → IsFinished (reverse finished.now) need) }
 {
     if !are_bands_out(segments, finished, bands[0])
         || !are_bands_out(segments, finished, bands[1])
@@ -81,7 +85,8 @@ fn are_all_out<X>(segments: &[Segment], finished: &[Done<X>], bands: [Option<Ban
 }
 
 fn is_span_done<X>(finished: &[Done<X>], span: Option<JobSpan>) -> bool
-    ensures { result ≡ true → (need : JobName) → IsInIf span need → IsFinished (reverse finished.now) need }
+    ensures yes { result ≡ true → (need : JobName) → IsInIf span need → IsFinished (reverse finished.now) need }
+    ensures no { result ≡ false → ¬ ((need : JobName) → IsInIf span need → IsFinished (reverse finished.now) need) }
 {
     match span {
         None => true,
@@ -90,7 +95,8 @@ fn is_span_done<X>(finished: &[Done<X>], span: Option<JobSpan>) -> bool
 }
 
 fn is_each_done<X>(finished: &[Done<X>], span: JobSpan) -> bool
-    ensures { result ≡ true → (need : JobName) → IsIn span need → IsFinished (reverse finished.now) need }
+    ensures yes { result ≡ true → (need : JobName) → IsIn span need → IsFinished (reverse finished.now) need }
+    ensures no { result ≡ false → ¬ ((need : JobName) → IsIn span need → IsFinished (reverse finished.now) need) }
 {
     match span {
         JobSpan::One { job } => is_done(finished, job),
@@ -104,7 +110,8 @@ fn is_each_done<X>(finished: &[Done<X>], span: JobSpan) -> bool
 }
 
 fn are_columns_done<X>(finished: &[Done<X>], frame: u64, columns: u32) -> bool
-    ensures { result ≡ true → (c : ℕ) → c < columns → IsFinished (reverse finished.now) (Column frame c) }
+    ensures yes { result ≡ true → (c : ℕ) → c < columns → IsFinished (reverse finished.now) (Column frame c) }
+    ensures no { result ≡ false → ¬ ((c : ℕ) → c < columns → IsFinished (reverse finished.now) (Column frame c)) }
 {
     let mut column = 0;
     while column < columns {
@@ -117,7 +124,8 @@ fn are_columns_done<X>(finished: &[Done<X>], frame: u64, columns: u32) -> bool
 }
 
 fn is_row_done<X>(finished: &[Done<X>], frame: u64, row: u32, columns: u32) -> bool
-    ensures { result ≡ true → (c : ℕ) → c < columns → IsFinished (reverse finished.now) (Rows frame c row) }
+    ensures yes { result ≡ true → (c : ℕ) → c < columns → IsFinished (reverse finished.now) (Rows frame c row) }
+    ensures no { result ≡ false → ¬ ((c : ℕ) → c < columns → IsFinished (reverse finished.now) (Rows frame c row)) }
 {
     let mut column = 0;
     while column < columns {
@@ -132,7 +140,8 @@ fn is_row_done<X>(finished: &[Done<X>], frame: u64, row: u32, columns: u32) -> b
 // Each band of the span is published.
 fn are_bands_out<X>(segments: &[Segment], finished: &[Done<X>], span: Option<BandSpan>) -> bool
     requires { InOrder segments.now }
-    ensures { result ≡ true → (g band row : ℕ) → IsInSpan span g band → Publishes segments.now g row band → IsFinished (reverse finished.now) (Filter g row) }
+    ensures yes { result ≡ true → (g band row : ℕ) → IsInSpan span g band → Publishes segments.now g row band → IsFinished (reverse finished.now) (Filter g row) }
+    ensures no { result ≡ false → ¬ ((g band row : ℕ) → IsInSpan span g band → Publishes segments.now g row band → IsFinished (reverse finished.now) (Filter g row)) }
 {
     match span {
         None => true,
@@ -142,7 +151,8 @@ fn are_bands_out<X>(segments: &[Segment], finished: &[Done<X>], span: Option<Ban
 
 fn are_out<X>(segments: &[Segment], finished: &[Done<X>], span: BandSpan) -> bool
     requires { InOrder segments.now }
-    ensures { result ≡ true → (band row : ℕ) → span.first ≤ band → band ≤ span.last → Publishes segments.now span.frame row band → IsFinished (reverse finished.now) (Filter span.frame row) }
+    ensures yes { result ≡ true → (band row : ℕ) → span.first ≤ band → band ≤ span.last → Publishes segments.now span.frame row band → IsFinished (reverse finished.now) (Filter span.frame row) }
+    ensures no { result ≡ false → ¬ ((band row : ℕ) → span.first ≤ band → band ≤ span.last → Publishes segments.now span.frame row band → IsFinished (reverse finished.now) (Filter span.frame row)) }
 {
     let mut band = span.first as u64;
     while band <= span.last as u64 {
@@ -156,7 +166,8 @@ fn are_out<X>(segments: &[Segment], finished: &[Done<X>], span: BandSpan) -> boo
 
 fn is_out<X>(segments: &[Segment], finished: &[Done<X>], frame: u64, band: u64) -> bool
     requires { InOrder segments.now }
-    ensures { result ≡ true → (row : ℕ) → Publishes segments.now frame row band → IsFinished (reverse finished.now) (Filter frame row) }
+    ensures yes { result ≡ true → (row : ℕ) → Publishes segments.now frame row band → IsFinished (reverse finished.now) (Filter frame row) }
+    ensures no { result ≡ false → ¬ ((row : ℕ) → Publishes segments.now frame row band → IsFinished (reverse finished.now) (Filter frame row)) }
 {
     match publisher(segments, frame, band) {
         None => true,
@@ -164,10 +175,10 @@ fn is_out<X>(segments: &[Segment], finished: &[Done<X>], frame: u64, band: u64) 
     }
 }
 
-// The row of the filter that publishes a band.
+// The row of the filter that publishes a band, if one does.
 fn publisher(segments: &[Segment], frame: u64, band: u64) -> Option<u32>
     requires { InOrder segments.now }
-    ensures { (row : ℕ) → Publishes segments.now frame row band → result ≡ Some row }
+    ensures { (row : ℕ) → result ≡ Some row ↔ Publishes segments.now frame row band }
 {
     if frame >= segments.len() as u64 / 2 {
         return None;
@@ -185,6 +196,7 @@ fn publisher(segments: &[Segment], frame: u64, band: u64) -> Option<u32>
 fn row_of_band(rows: u32, band: u64) -> Option<u32>
     ensures next { band + 1 < rows → result ≡ Some (band + 1) }
     ensures last { band + 1 ≡ rows → result ≡ Some band }
+    ensures none { rows ≤ band → result ≡ None }
 {
     if band >= rows as u64 {
         None

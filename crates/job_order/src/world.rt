@@ -1,4 +1,4 @@
-ghost use Rattle.std.specs.Prelude.{◌≡◌, ◌+◌, ◌∷◌, true, reverse, IfOk, IfErr};
+ghost use Rattle.std.specs.Prelude.{◌≡◌, ◌+◌, ◌∷◌, true, false, reverse, IfOk, IfErr};
 ghost use Rattle.job_order.specs.Segments.{InOrder};
 ghost use Rattle.job_order.specs.Worlds.{opening, after, and_published, IsAllowed, IsReady};
 
@@ -85,12 +85,12 @@ impl<X: Drop, M: Meaning<X>> World<X, M> {
         &self.finished
     }
 
-    /// Whether the job is ready: true only where it is, and no clause says that it is true wherever it is. `reads` is what a job of a
-    /// superblock row of a column reads of other frames.
+    /// Whether the job is ready. `reads` is what a job of a superblock row of a column reads of other frames.
     pub fn is_ready(&self, job: JobName, reads: [Option<BandSpan>; 3]) -> bool
         requires order { InOrder self.now.segments }
         requires reads { reads ≡ M.rules.reads job self.now.finished }
-        ensures { result ≡ true → IsReady M.rules self.now job }
+        ensures yes { result ≡ true → IsReady M.rules self.now job }
+        ensures no { result ≡ false → ¬ IsReady M.rules self.now job }
     {
         if !is_drawn(&self.segments, self.drawn, job) || is_done(&self.finished, job) {
             return false;
