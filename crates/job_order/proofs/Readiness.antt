@@ -1,5 +1,6 @@
 -- Whether a job is ready.
-use Rattle.std.proofs.Common.{◌≡◌, ℕ, zero, suc, ◌+◌, ◌*◌, ◌<◌, ◌≤◌, ◌⊎◌, inl, inr, ⊎_elim, refl, sym, ◌∙◌, ap, subst, List, [], ◌∷◌, ◌++◌, length, take, drop, reverse, get_or, slice_get, Option, Some, None, arith, take-append-drop, eq-or-lt_of_le}
+use Rattle.std.proofs.Common.{◌≡◌, ℕ, ◌+◌, ◌*◌, ◌<◌, ◌≤◌, ◌⊎◌, inl, inr, ⊎_elim, refl, sym, ◌∙◌, ap, subst, List, [], ◌∷◌, ◌++◌, length, take, drop, reverse, get_or, slice_get, Option, Some, None, arith, take-append-drop, eq-or-lt_of_le}
+use Rattle.std.proofs.lemmas.Bool.{cases_lt}
 use Rattle.std.proofs.lemmas.Option.{slice_get_within, get_or_from_slice_get, slice_get-get_or, same_Some}
 use Rattle.std.proofs.lemmas.List.{take_more, reverse-append}
 use Rattle.vp9_types.specs.declared.job.JobName.{JobName}
@@ -24,11 +25,6 @@ use Rattle.job_order.proofs.Finished.{finished_either}
 pub all_below : (P : ℕ → Type 0) (n : ℕ) → ((k : ℕ) → k < n → P k) → P n → (k : ℕ) → k < n + 1 → P k
 all_below P n below here k less =
     ⊎_elim (λ (e : k ≡ n). subst P (sym e) here) (λ (l : k < n). below k l) (eq-or-lt_of_le (let z : k ≤ n = omega (arith, less) in z))
-
-lt-or-le : (a b : ℕ) → (a < b) ⊎ (b ≤ a)
-lt-or-le a zero = inr (omega arith)
-lt-or-le zero (suc b) = inl (omega arith)
-lt-or-le (suc a) (suc b) = ⊎_elim (λ (x : a < b). inl (omega (arith, x))) (λ (x : b ≤ a). inr (omega (arith, x))) (lt-or-le a b)
 
 module _ {X : Type 0} where
   has_right : (xs ys : List (Done X)) (job : JobName) (x : X) → HasResult ys job x → HasResult (xs ++ ys) job x
@@ -126,7 +122,7 @@ module _ (segments : List Segment) (h : InOrder segments) where
       (filter_listed f columns rows row shown here (omega (arith, same, it)), inr (same, (columns, shown, (2 * f + 2, subst (λ r. IsBuild segments f columns r shown) plain here)))))
       (λ (past : rows < band + 1). absurd (let bad : ◌≡◌ {A = Option ℕ} None (Some row) = sym (none (omega (arith, past))) ∙ is in cc))
       (eq-or-lt_of_le no_more))
-      (lt-or-le (band + 1) rows)
+      (cases_lt (band + 1) rows)
 
   pub no_row : (f band row : ℕ) → ((g columns rows : ℕ) (shown : Option Shown) → get_or segments (2 * f + 2) Opening ≡ Build g columns rows shown → ⊥) → Publishes segments f row band → ⊥
   no_row f band row none p =
@@ -149,11 +145,6 @@ module _ {X : Type 0} (segments : List Segment) (finished : List (Done X)) where
   jobs_named (first ∷ second ∷ []) long a b need x =
       ⊎_elim (λ (y : IsInIf first need). a need y) (λ (y : IsInIf second need ⊎ ⊥). ⊎_elim (λ (z : IsInIf second need). b need z) (λ (z : ⊥). absurd z) y) x
 
-  pub first_named : (jobs : List (Option JobSpan)) → ((need : JobName) → IsInOne jobs need → IsFinished finished need)
-      → (need : JobName) → IsInIf (get_or jobs 0 None) need → IsFinished finished need
-  first_named [] all need x = absurd x
-  first_named (first ∷ more) all need x = all need (inl x)
-
   pub second_named : (jobs : List (Option JobSpan)) → ((need : JobName) → IsInOne jobs need → IsFinished finished need)
       → (need : JobName) → IsInIf (get_or jobs 1 None) need → IsFinished finished need
   second_named [] all need x = absurd x
@@ -175,15 +166,6 @@ module _ {X : Type 0} (segments : List Segment) (finished : List (Done X)) where
       y)
       p.1
   bands_named one two three k l n _ p = absurd p
-
-  pub first_out : (bands : List (Option BandSpan)) → ((need : JobName) → PublishesOne segments bands need → IsFinished finished need) → IsOut (get_or bands 0 None)
-  first_out [] all g band row x p = absurd x
-  first_out (one ∷ more) all g band row x p = all (Filter g row) (band, inl x, p)
-
-  pub second_out : (bands : List (Option BandSpan)) → ((need : JobName) → PublishesOne segments bands need → IsFinished finished need) → IsOut (get_or bands 1 None)
-  second_out [] all g band row x p = absurd x
-  second_out (one ∷ []) all g band row x p = absurd x
-  second_out (one ∷ two ∷ more) all g band row x p = all (Filter g row) (band, inr (inl x), p)
 
   pub third_out : (bands : List (Option BandSpan)) → ((need : JobName) → PublishesOne segments bands need → IsFinished finished need) → IsOut (get_or bands 2 None)
   third_out [] all g band row x p = absurd x

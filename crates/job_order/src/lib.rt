@@ -21,6 +21,3 @@ pub use needs::{JobSpan, Needs, needs_of};
 pub use order::{Mark, job_at, job_from};
 pub use segment::{Segment, Shown};
 pub use world::World;
-
-#[cfg(test)]
-mod tests;
