@@ -10,7 +10,7 @@ use Rattle.job_order.specs.declared.event.Done.{Done}
 use Rattle.job_order.specs.Needs.{IsInSpan, HasBand}
 use Rattle.job_order.specs.Worlds.{Building, WorldState, HasResult, IsReady, IsBehind, direct, Does}
 use Rattle.job_order.specs.Truths.{AreTrue, AreSlots, IsRightBuilding}
-use Rattle.job_order.specs.Sound.{IsSound, AreTotal, frame_of}
+use Rattle.job_order.specs.Sound.{IsSound, AreTotal, AreSettled, frame_of}
 use Rattle.job_order.specs.Example.{example_rules, example_truth, two_rows, TakesWrite, both_before, reads_before}
 
 abbrev slots_if : ℕ → Bool → List ℕ
@@ -106,6 +106,9 @@ example_does w (Close f) s r = does_plain w (Close f) tt
 example_does w (Rows f c q) s r = does_plain w (Rows f c q) tt
 example_does w (Filter f q) s r = does_plain w (Filter f q) tt
 example_does w (End f) s r = does_plain w (End f) tt
+
+pub example_settled : AreSettled example_rules example_truth
+example_settled w e f c r s a done = refl
 
 pub example_total : AreTotal example_rules example_truth
 example_total w job s r = (frame_of job, example_does w job s r)

@@ -10,6 +10,7 @@ pub mod Readable
 pub mod Bands
 pub mod Keeps
 pub mod Later
+pub mod Settled
 pub mod Next
 pub mod Walk
 pub mod Spans

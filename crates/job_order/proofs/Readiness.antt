@@ -86,7 +86,7 @@ module _ (segments : List Segment) (h : InOrder segments) where
       inr (x.0, omega (arith, so.1, x.0)))
       p.1
 
-  filter_listed : (f columns rows row : ℕ) (shown : Option Shown) → IsBuild segments f columns rows shown → row < rows → IsListed segments (Filter f row)
+  pub filter_listed : (f columns rows row : ℕ) (shown : Option Shown) → IsBuild segments f columns rows shown → row < rows → IsListed segments (Filter f row)
   filter_listed f columns rows row shown there less = (
     start segments (2 * f + 2) + (1 + (row * (columns + 1) + columns)),
     ticket_of segments (2 * f + 2) (Build f columns rows shown) (Filter f row) (1 + (row * (columns + 1) + columns)) there (refl, less, refl),
