@@ -1,5 +1,5 @@
 -- The rules of the example are true.
-use Rattle.std.proofs.Common.{◌≡◌, ℕ, zero, suc, ◌+◌, ◌-◌, ◌<◌, ◌≤◌, inl, ⊎_elim, refl, sym, ◌∙◌, ap, subst, Bool, true, false, if◌then◌else◌, nat_lt, List, [], ◌∷◌, length, get_or, Some, arith, All, Contains}
+use Rattle.std.proofs.Common.{◌≡◌, ℕ, zero, suc, ◌+◌, ◌-◌, ◌<◌, ◌≤◌, ◌⊎◌, inl, ⊎_elim, refl, sym, ◌∙◌, ap, subst, Bool, true, false, if◌then◌else◌, nat_lt, List, [], ◌∷◌, length, get_or, Some, None, arith, All, Contains}
 use Rattle.std.proofs.lemmas.Bool.{ltb-true, ltb-false}
 use Rattle.std.proofs.lemmas.Option.{same_Some}
 use Rattle.std.proofs.lemmas.List.Elements.{All-nil, All-cons}
@@ -7,11 +7,11 @@ use Rattle.vp9_types.specs.declared.job.JobName.{JobName}
 use Rattle.vp9_types.specs.declared.job.JobName.TheVariants.{Head, Column, Close, Rows, Filter, Write, End}
 use Rattle.job_order.specs.declared.segment.Shown.{Shown}
 use Rattle.job_order.specs.declared.event.Done.{Done}
-use Rattle.job_order.specs.Needs.{HasBand}
+use Rattle.job_order.specs.Needs.{IsInSpan, HasBand}
 use Rattle.job_order.specs.Worlds.{Building, WorldState, HasResult, IsReady, IsBehind, direct, Does}
 use Rattle.job_order.specs.Truths.{AreTrue, AreSlots, IsRightBuilding}
-use Rattle.job_order.specs.Sound.{IsSound, AreTotal, frame_of}
-use Rattle.job_order.specs.Example.{example_rules, example_truth, one_row, TakesWrite, reads_before}
+use Rattle.job_order.specs.Sound.{IsSound, AreTotal, AreSettled, frame_of}
+use Rattle.job_order.specs.Example.{example_rules, example_truth, two_rows, TakesWrite, both_before, reads_before}
 
 abbrev slots_if : ℕ → Bool → List ℕ
 slots_if f b = if b then (f - 1) ∷ [] else []
@@ -46,19 +46,22 @@ example_slots =
       next = λ f g c. let s = in_slot (f + 1) g c in inl (omega (arith, s.1));
     }
 
-right_one : (f x : ℕ) (b : Building) → x ≡ f → one_row x ≡ Some b → IsRightBuilding example_truth f b
+right_one : (f x : ℕ) (b : Building) → x ≡ f → two_rows x ≡ Some b → IsRightBuilding example_truth f b
 right_one f x b is e =
-    let same : record { columns = 1; rows = 1; shown = Some (record { frame = x; bands = 1 }) } ≡ b = same_Some _ b e in
+    let same : record { columns = 2; rows = 2; shown = Some (record { frame = x; bands = 2 }) } ≡ b = same_Some _ b e in
     subst (λ (y : Building). IsRightBuilding example_truth f y) same
-    (refl, λ shown s. let y = same_Some (record { frame = x; bands = 1 }) shown s in (inl (sym (ap (λ (z : Shown). z.frame) y) ∙ is), sym (ap (λ (z : Shown). z.bands) y)))
+    (refl, λ shown s. let y = same_Some (record { frame = x; bands = 2 }) shown s in (inl (sym (ap (λ (z : Shown). z.frame) y) ∙ is), sym (ap (λ (z : Shown). z.bands) y)))
 
-read_if : (f g band : ℕ) (b : Bool) → (b ≡ true → 0 < f) → HasBand (if b then Some (record { frame = f - 1; first = 0; last = 0 }) ∷ [] else []) g band → (0 < f) × (f - 1 ≡ g) × (band < 1)
-read_if f g band true some h = ⊎_elim (λ (x : (f - 1 ≡ g) × (0 ≤ band) × (band ≤ 0)). (some refl, x.0, (let l = x.2 in omega (arith, l)))) (λ (x : ⊥). absurd x) h
+read_if : (f g band : ℕ) (b : Bool) → (b ≡ true → 0 < f) → IsInSpan (if b then Some (record { frame = f - 1; first = 0; last = 1 }) else None) g band → (0 < f) × (f - 1 ≡ g) × (band < 2)
+read_if f g band true some h = (some refl, h.0, (let l = h.2 in omega (arith, l)))
 read_if f g band false some h = absurd h
 
-right_reads : (f c r g band : ℕ) → HasBand (reads_before (Rows f c r)) g band → Contains (example_truth.slots f) g × (band < 1)
+none_read : (g band : ℕ) → HasBand (None ∷ None ∷ []) g band → ⊥
+none_read g band h = ⊎_elim (λ (x : ⊥). x) (λ (y : ⊥ ⊎ ⊥). ⊎_elim (λ (x : ⊥). x) (λ (x : ⊥). x) y) h
+
+right_reads : (f c r g band : ℕ) → HasBand (reads_before (Rows f c r)) g band → Contains (example_truth.slots f) g × (band < 2)
 right_reads f c r g band h =
-    let x = read_if f g band (nat_lt 0 f) (λ e. ltb-true 0 f e) h in
+    let x = read_if f g band (nat_lt 0 f) (λ e. ltb-true 0 f e) (⊎_elim (λ (x : IsInSpan (both_before f) g band). x) (λ (y : HasBand (None ∷ None ∷ []) g band). absurd (none_read g band y)) h) in
     (subst (λ i. Contains (example_truth.slots f) i) x.1 (in_it f (nat_lt 0 f) (λ e. ltb-false 0 f e) x.0), x.2)
 
 not_true : false ≡ true → ⊥
@@ -95,11 +98,17 @@ module _ (w : WorldState ℕ) where
         (refl, λ k e. subst (λ i. Contains {X = Done ℕ} (record { job = Write g; result = g } ∷ []) (record { job = Write i; result = i })) (let z : g ≡ k = omega (arith, e) in z) (0, omega arith, refl)),
       )
 
+pub example_does : (w : WorldState ℕ) (job : JobName) → IsSound example_rules example_truth w → IsReady example_rules w job → Does example_rules w job (frame_of job)
+example_does w (Write f) s r = does_write w f s r
+example_does w (Head f) s r = does_plain w (Head f) tt
+example_does w (Column f c) s r = does_plain w (Column f c) tt
+example_does w (Close f) s r = does_plain w (Close f) tt
+example_does w (Rows f c q) s r = does_plain w (Rows f c q) tt
+example_does w (Filter f q) s r = does_plain w (Filter f q) tt
+example_does w (End f) s r = does_plain w (End f) tt
+
+pub example_settled : AreSettled example_rules example_truth
+example_settled w e f c r s a done = refl
+
 pub example_total : AreTotal example_rules example_truth
-example_total w (Write f) s r = (f, does_write w f s r)
-example_total w (Head f) s r = (f, does_plain w (Head f) tt)
-example_total w (Column f c) s r = (f, does_plain w (Column f c) tt)
-example_total w (Close f) s r = (f, does_plain w (Close f) tt)
-example_total w (Rows f c q) s r = (f, does_plain w (Rows f c q) tt)
-example_total w (Filter f q) s r = (f, does_plain w (Filter f q) tt)
-example_total w (End f) s r = (f, does_plain w (End f) tt)
+example_total w job s r = (frame_of job, example_does w job s r)

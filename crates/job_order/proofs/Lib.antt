@@ -10,9 +10,11 @@ pub mod Readable
 pub mod Bands
 pub mod Keeps
 pub mod Later
+pub mod Settled
 pub mod Next
 pub mod Walk
 pub mod Spans
 pub mod Turns
 pub mod Example
 pub mod Publishers
+pub mod Readiness

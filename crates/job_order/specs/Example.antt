@@ -1,5 +1,5 @@
--- A run for which the rules are true: two frames of one column and one superblock row, each shown, the second of which reads the
--- first. Each result is the number of the job's frame.
+-- A run for which the rules are true: three frames of two columns and two superblock rows, each shown, of which the second and
+-- the third read the one before them. Each result is the number of the job's frame.
 use Rattle.std.specs.Prelude.{◌≡◌, ℕ, ◌+◌, ◌-◌, false, if◌then◌else◌, nat_lt, List, [], ◌∷◌, Option, Some, None, Contains}
 use Rattle.vp9_types.specs.declared.job.JobName.{JobName}
 use Rattle.vp9_types.specs.declared.job.JobName.TheVariants.{Rows, Write}
@@ -14,19 +14,23 @@ abbrev pub TakesWrite : JobName → List (Done ℕ) → Type 0
 TakesWrite (Write f) uses = (g : ℕ) → f ≡ g + 1 → Contains uses (record { job = Write g; result = g })
 TakesWrite _ uses = Unit {0}
 
-abbrev pub reads_before : JobName → List (Option BandSpan)
-reads_before (Rows f c r) = if nat_lt 0 f then Some (record { frame = f - 1; first = 0; last = 0 }) ∷ [] else []
-reads_before _ = []
+-- both bands of the frame before
+abbrev pub both_before : ℕ → Option BandSpan
+both_before f = if nat_lt 0 f then Some (record { frame = f - 1; first = 0; last = 1 }) else None
 
-abbrev pub one_row : ℕ → Option Building
-one_row f = Some (record { columns = 1; rows = 1; shown = Some (record { frame = f; bands = 1 }) })
+abbrev pub reads_before : JobName → List (Option BandSpan)
+reads_before (Rows f c r) = both_before f ∷ None ∷ None ∷ []
+reads_before _ = None ∷ None ∷ None ∷ []
+
+abbrev pub two_rows : ℕ → Option Building
+two_rows f = Some (record { columns = 2; rows = 2; shown = Some (record { frame = f; bands = 2 }) })
 
 abbrev pub example_rules : Rules ℕ
 example_rules =
     record {
       does = λ job uses x. (x ≡ frame_of job) × TakesWrite job uses;
-      parses = λ f. if nat_lt f 2 then Some 1 else None;
-      builds = one_row;
+      parses = λ f. if nat_lt f 3 then Some 2 else None;
+      builds = two_rows;
       reads = λ job results. reads_before job;
       puts = λ f. f ∷ [];
       fails = λ f. false;
@@ -36,7 +40,7 @@ abbrev pub example_truth : Truth ℕ
 example_truth =
     record {
       right = λ job x. x ≡ frame_of job;
-      bands = λ f. 1;
+      bands = λ f. 2;
       slots = λ f. if nat_lt 0 f then (f - 1) ∷ [] else [];
       text = λ f. f ∷ [];
     }

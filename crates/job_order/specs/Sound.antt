@@ -3,9 +3,10 @@ use Rattle.std.specs.Prelude.{◌≡◌, ℕ, zero, suc, ◌+◌, ◌≤◌, ◌
 use Rattle.vp9_types.specs.declared.job.JobName.{JobName}
 use Rattle.vp9_types.specs.declared.job.JobName.TheVariants.{Head, Column, Close, Rows, Filter, Write, End}
 use Rattle.job_order.specs.declared.event.Done.{Done}
+use Rattle.job_order.specs.declared.event.Event.{Event}
 use Rattle.job_order.specs.Segments.{job_at, IsBelow, InOrder}
 use Rattle.job_order.specs.Needs.{IsNeed, NeedsBand, Publishes}
-use Rattle.job_order.specs.Worlds.{Rules, WorldState, HasResult, IsFinished, IsReady, IsDrawn, NeedsIn, Does, segments_of}
+use Rattle.job_order.specs.Worlds.{Rules, WorldState, HasResult, IsFinished, IsReady, IsDrawn, NeedsIn, Does, IsAllowed, after, segments_of}
 use Rattle.job_order.specs.Truths.{Truth, IsFront}
 
 -- no job was finished twice
@@ -87,6 +88,11 @@ pub record IsLeast {X : Type 0} (w : WorldState X) (ticket : ℕ) (job : JobName
 -- a job that is ready in a sound world has some result
 abbrev pub AreTotal : {X : Type 0} → Rules X → Truth X → Type 0
 AreTotal {X} m t = (w : WorldState X) (job : JobName) → IsSound m t w → IsReady m w job → (x : X) × Does m w job x
+
+-- once a frame's close is finished in a sound world, no event changes what the jobs of the frame's superblock rows read
+abbrev pub AreSettled : {X : Type 0} → Rules X → Truth X → Type 0
+AreSettled {X} m t =
+    (w : WorldState X) (e : Event X) (f c r : ℕ) → IsSound m t w → IsAllowed m w e → IsFinished w.finished (Close f) → m.reads (Rows f c r) (after m w e).finished ≡ m.reads (Rows f c r) w.finished
 
 -- one worker at its n-th job: the jobs of the tickets below n are finished, and no others
 pub record IsInTurn {X : Type 0} (w : WorldState X) (n : ℕ) : Type 0 where

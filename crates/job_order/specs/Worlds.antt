@@ -131,3 +131,7 @@ IsAllowed m w Stop = Unit {0}
 abbrev pub AreAllowed : {X : Type 0} → Rules X → WorldState X → List (Event X) → Type 0
 AreAllowed m w [] = Unit {0}
 AreAllowed m w (e ∷ events) = IsAllowed m w e × AreAllowed m (after m w e) events
+
+-- Events that were allowed one after another lead to this world.
+abbrev pub IsReached : {X : Type 0} → Rules X → ℕ → WorldState X → Type 0
+IsReached {X} m window w = (events : List (Event X)) × AreAllowed m (opening window) events × (w ≡ run m (opening window) events)

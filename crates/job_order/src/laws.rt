@@ -1,8 +1,8 @@
 //! Laws of the definitions, as contracts of functions that do nothing.
 
-ghost use Rattle.std.specs.Prelude.{◌≡◌, ℕ, ◌+◌, ◌<◌, ◌≤◌, List, Option, Some};
+ghost use Rattle.std.specs.Prelude.{◌≡◌, ◌↔◌, ℕ, ◌+◌, ◌<◌, ◌≤◌, List, Option, Some};
 ghost use Rattle.vp9_types.specs.declared.job.JobName.{JobName};
-ghost use Rattle.vp9_types.specs.declared.job.JobName.TheVariants.{Filter, End};
+ghost use Rattle.vp9_types.specs.declared.job.JobName.TheVariants.{Close, Rows, Filter, End};
 ghost use Rattle.job_order.specs.declared.event.Event.{Event};
 ghost use Rattle.job_order.specs.declared.event.Event.TheVariants.{Draw, Finish};
 ghost use Rattle.job_order.specs.declared.segment.Segment.{Segment};
@@ -10,12 +10,12 @@ ghost use Rattle.job_order.specs.declared.segment.Segment.TheVariants.{Build};
 ghost use Rattle.job_order.specs.declared.segment.Shown.{Shown};
 ghost use Rattle.job_order.specs.Segments.{InOrder, IsPublished, job_at};
 ghost use Rattle.job_order.specs.Needs.{NeedsBand, Publishes};
-ghost use Rattle.job_order.specs.Worlds.{WorldState, HasResult, IsFinished, IsReady, Does, opening, after, run, IsAllowed, AreAllowed, published, and_published};
+ghost use Rattle.job_order.specs.Worlds.{WorldState, HasResult, IsFinished, IsReady, NeedsIn, Does, opening, after, run, IsAllowed, AreAllowed, IsReached, published, and_published};
 ghost use Rattle.job_order.specs.declared.order.Mark.{Mark};
 ghost use Rattle.job_order.specs.Code.{IsMark};
 ghost use Rattle.job_order.specs.Example.{example_rules, example_truth};
 ghost use Rattle.job_order.specs.Truths.{AreTrue};
-ghost use Rattle.job_order.specs.Sound.{IsSound, HasFailed, written, IsLeast, IsInTurn, AreTotal, MayRead, frame_of};
+ghost use Rattle.job_order.specs.Sound.{IsSound, HasFailed, written, IsLeast, IsInTurn, AreTotal, AreSettled, MayRead, frame_of};
 
 use crate::meaning::Meaning;
 
@@ -28,6 +28,13 @@ pub fn marks_stay()
 pub fn every_list_of_events_is_sound<X, M: Meaning<X>>()
     ensures { (window : ℕ) (events : List (Event X)) → 2 ≤ window → AreTrue M.rules M.truth → AreAllowed M.rules (opening window) events →
         IsSound M.rules M.truth (run M.rules (opening window) events) }
+{}
+
+/// The same step by step: a world that was reached is sound, and an event that is allowed in it leads to another that was reached.
+pub fn reached_worlds_are_sound<X, M: Meaning<X>>()
+    ensures first { (window : ℕ) → IsReached M.rules window (opening window) }
+    ensures next { (window : ℕ) (w : WorldState X) (e : Event X) → IsReached M.rules window w → IsAllowed M.rules w e → IsReached M.rules window (after M.rules w e) }
+    ensures sound { (window : ℕ) (w : WorldState X) → 2 ≤ window → AreTrue M.rules M.truth → IsReached M.rules window w → IsSound M.rules M.truth w }
 {}
 
 /// No later event changes a result, and what the writes have put grows no more once one was refused.
@@ -74,8 +81,20 @@ pub fn jobs_may_be_done_in_turn<X, M: Meaning<X>>()
         × IsInTurn (after M.rules (after M.rules w Draw) (Finish job x (published M.rules job x))) (n + 1) }
 {}
 
-/// There are rules that are true, and total: those of an example.
+/// What a job of a superblock row needs stays, once its frame's close is finished, where the rules are settled.
+pub fn needs_stay<X, M: Meaning<X>>()
+    ensures reads { (window : ℕ) (w : WorldState X) (later : List (Event X)) (f c r : ℕ) → 2 ≤ window → AreTrue M.rules M.truth → AreSettled M.rules M.truth →
+        IsReached M.rules window w → AreAllowed M.rules w later → IsFinished w.finished (Close f) →
+        M.rules.reads (Rows f c r) (run M.rules w later).finished ≡ M.rules.reads (Rows f c r) w.finished }
+    ensures needs { (window : ℕ) (w : WorldState X) (later : List (Event X)) (f c r : ℕ) → 2 ≤ window → AreTrue M.rules M.truth → AreSettled M.rules M.truth →
+        IsReached M.rules window w → AreAllowed M.rules w later → IsFinished w.finished (Close f) →
+        (need : JobName) → NeedsIn M.rules (run M.rules w later) (Rows f c r) need ↔ NeedsIn M.rules w (Rows f c r) need }
+{}
+
+/// There are rules that are true, total and settled: those of an example.
 pub fn some_rules_are_true()
     ensures are_true { AreTrue example_rules example_truth }
     ensures total { AreTotal example_rules example_truth }
+    ensures settled { AreSettled example_rules example_truth }
+    ensures does { (w : WorldState ℕ) (job : JobName) → IsSound example_rules example_truth w → IsReady example_rules w job → Does example_rules w job (frame_of job) }
 {}

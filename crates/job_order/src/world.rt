@@ -1,11 +1,15 @@
-ghost use Rattle.std.specs.Prelude.{◌≡◌, ◌+◌, ◌∷◌, IfOk, IfErr};
-ghost use Rattle.job_order.specs.Worlds.{opening, after, and_published, IsAllowed};
+ghost use Rattle.std.specs.Prelude.{◌≡◌, ◌+◌, ◌∷◌, true, false, reverse, IfOk, IfErr};
+ghost use Rattle.job_order.specs.Segments.{InOrder};
+ghost use Rattle.job_order.specs.Worlds.{opening, after, and_published, IsAllowed, IsReady};
 
 use crate::event::{BandName, Done, Event};
 use crate::meaning::Meaning;
+use crate::needs::needs_of;
+use crate::ready::{are_done, is_done, is_drawn};
 use crate::segment::Segment;
 use std::alloc::{AllocError, Global};
 use std::marker::{Model, PhantomData};
+use vp9_types::{BandSpan, JobName};
 
 /// The world of jobs: what has happened so far. Contracts see it as its parts.
 #[derive(Drop)]
@@ -72,6 +76,27 @@ impl<X: Drop, M: Meaning<X>> World<X, M> {
         ensures { result ≡ self.now.stopped }
     {
         self.stopped
+    }
+
+    /// The finished jobs with their results, the latest last.
+    pub fn finished(&self) -> &[Done<X>]
+        ensures { reverse result.now ≡ self.now.finished }
+    {
+        &self.finished
+    }
+
+    /// Whether the job is ready. `reads` is what a job of a superblock row of a column reads of other frames.
+    pub fn is_ready(&self, job: JobName, reads: [Option<BandSpan>; 3]) -> bool
+        requires order { InOrder self.now.segments }
+        requires reads { reads ≡ M.rules.reads job self.now.finished }
+        ensures yes { result ≡ true → IsReady M.rules self.now job }
+        ensures no { result ≡ false → ¬ IsReady M.rules self.now job }
+    {
+        if !is_drawn(&self.segments, self.drawn, job) || is_done(&self.finished, job) {
+            return false;
+        }
+        let needs = needs_of(&self.segments, self.window, job, reads);
+        are_done(&self.segments, &self.finished, needs)
     }
 
     /// Takes an event that is allowed. Where memory is wanting, the world stays as it was.

@@ -1,0 +1,5 @@
+pub mod PlanSteps
+mod WholeTiles
+pub mod PlanTiles
+pub mod NextTiles
+pub mod ColumnTiles

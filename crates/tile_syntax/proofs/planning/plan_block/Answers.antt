@@ -1,0 +1,86 @@
+use Rattle.std.proofs.Common.{◌≡◌, ◌∙◌, ap, sym, arith}
+use Rattle.std.proofs.lemmas.Result.{err_from_is_err_and}
+use Rattle.frame_headers.specs.State.{shape_of}
+use Rattle.vp9_types.specs.Shapes.{mi_cols, mi_rows}
+use Rattle.block_geometry.specs.declared.transform_blocks.FramePlaces.{FramePlaces}
+use Rattle.frame_decoder.specs.Code.{sources_of}
+use Rattle.frame_decoder.proofs.BlockSteps.{all_have_small, fits_more, lies_more, small_more, starts_more, vectors_held, vectors_small}
+use Rattle.column_plan.proofs.Held.{infos_are}
+use Rattle.tile_syntax.proofs.PlanSteps.{all_kept, block_broken, block_planned, modes_broken}
+use Rattle.tile_syntax.proofs.planning.plan_block.Goals as goal
+
+pub mode_info-requires : goal.mode_info-requires
+mode_info-requires g c =
+    let setting = c.args.by.now.setting in
+    let ready = c.requires.ready in
+    let past = c.requires.past in
+    let rows : setting.places.rows ≡ mi_rows (shape_of setting.header) = ap (λ (p : FramePlaces). p.rows) setting.whole in
+    let cols : setting.places.cols ≡ mi_cols (shape_of setting.header) = ap (λ (p : FramePlaces). p.cols) setting.whole in (
+      omega arith,
+      (
+        c.requires.row,
+        (
+          c.requires.first,
+          (
+            c.requires.col,
+            (
+              rw c.requires.to ready.within,
+              (
+                (past.rows ∙ sym rows, past.cols ∙ sym cols),
+                (
+                  (λ r k low first last. (rw ready.rows low, omega (arith, c.requires.from, first), omega (arith, c.requires.to, last))),
+                  (
+                    rw c.as_ref-vectors.ensures.value
+                        (vectors_held setting.header c.args.by.now.past.vectors c.args.at.row c.args.at.col past.vectors (rw (sym rows) c.requires.row) (omega (arith, c.requires.col, c.requires.to, ready.within, cols))),
+                    (all_have_small _ ready.small, rw c.as_ref-vectors.ensures.value (vectors_small setting.header c.args.by.now.past.vectors past.vectors)),
+                  ),
+                ),
+              ),
+            ),
+          ),
+        ),
+      ),
+    )
+
+pub returns-in_err-block-clause-gives : goal.returns-in_err-block-clause-gives
+returns-in_err-block-clause-gives g c =
+    let p = err_from_is_err_and c.from_residual.result c.from_residual.ensures.1 in
+    let by = c.args.by.now in
+    let column = c.args.column.now in
+    rw (p.1, p.2) (modes_broken (sources_of by) c.args.at _ column.grid.blocks _ _ _ _ (infos_are (shape_of by.setting.header) column.grid.from column.grid.blocks c.args.residues.now)
+    (rw c.as_ref-vectors.ensures.value at c.in_err-block.ensures.read))
+
+pub returns-in_err-listed-clause-gives : goal.returns-in_err-listed-clause-gives
+returns-in_err-listed-clause-gives g c =
+    let p = err_from_is_err_and c.from_residual-in_err-listed.result c.from_residual-in_err-listed.ensures.1 in
+    let by = c.args.by.now in
+    let column = c.args.column.now in
+    rw (p.1, p.2) (block_broken (sources_of by) c.args.at _ column.grid.blocks _ _ _ _ _ (infos_are (shape_of by.setting.header) column.grid.from column.grid.blocks c.args.residues.now)
+    (rw c.as_ref-vectors.ensures.value at c.in_ok-block.ensures.read) (c.in_err-listed.ensures.gives c.args.at.tile_from))
+
+pub returns-clause-gives : goal.returns-clause-gives
+returns-clause-gives g c =
+    let by = c.args.by.now in
+    let shape = shape_of by.setting.header in
+    let column = c.args.column.now in
+    let any = c.in_ok-listed.ensures.listed in
+    rw c.put.ensures (block_planned (sources_of by) c.args.at shape column.grid.from column.grid.blocks c.args.residues.now _ _ _ _ _ _ c.in_ok-block.block c.in_ok-listed.listed any.0 c.read_block.new.residues
+    c.requires.from c.requires.ready.all any.1 c.in_ok-push_block.ensures.pushed c.in_ok-push_block.ensures.stands
+    (rw c.as_ref-vectors.ensures.value at c.in_ok-block.ensures.read) (c.in_ok-listed.ensures.gives c.args.at.tile_from))
+
+pub returns-clause-ready : goal.returns-clause-ready
+returns-clause-ready g c =
+    let is = c.in_ok-block.ensures.block in
+    let any = c.in_ok-listed.ensures.listed in record {
+      rows = rw c.put.ensures c.requires.ready.rows;
+      order = rw c.put.ensures c.requires.ready.order;
+      within = rw c.put.ensures c.requires.ready.within;
+      ends = rw c.put.ensures c.requires.ready.ends;
+      fit = c.in_ok-listed.ensures.fit;
+      fit_blocks = rw c.put.ensures (fits_more _ c.in_ok-block.block _ c.args.at.size any.0 any.1 is.size is.fits c.requires.ready.fit_blocks);
+      lie = rw c.put.ensures (lies_more _ _ _ c.in_ok-block.block _ c.args.at any.0 any.1 is.col is.size (rw c.requires.from at c.requires.first) c.requires.wide c.requires.ready.lie);
+      starts = rw c.put.ensures (starts_more c.args.by.now.setting.places.rows c.args.by.now.setting.places.cols _ c.in_ok-block.block _ any.0 any.1
+          (rw is.row c.requires.row) (rw is.col (omega (arith, c.requires.col, c.requires.to, c.requires.ready.within))) is.segment c.requires.ready.starts);
+      small = rw c.put.ensures (small_more _ c.in_ok-block.block _ any.0 any.1 is.small c.requires.ready.small);
+      all = rw c.put.ensures (all_kept (shape_of c.args.by.now.setting.header) _ c.in_ok-block.block _ any.0 c.read_block.new.residues c.args.residues.now _ c.requires.ready.all any.1 c.in_ok-push_block.ensures.pushed);
+    }

@@ -1,0 +1,129 @@
+-- What the code keeps of a tile column whose blocks are planned as they are read, and what its calls answer.
+use Rattle.std.specs.Prelude.{◌≡◌, ◌≤◌, ℕ, ℤ, Bool, List, [], ◌∷◌, ◌++◌, length, min, Option, Some, None, Result, Ok, Err}
+use Rattle.vp9_types.specs.Syntax.{Syntax}
+use Rattle.vp9_types.specs.declared.rule.Rule.{Rule}
+use Rattle.vp9_types.specs.declared.shape.Shape.{Shape}
+use Rattle.frame_headers.specs.State.{shape_of}
+use Rattle.frame_setting.specs.declared.setting.FrameSetting.{FrameSetting}
+use Rattle.counting_reader.specs.Code.{Reads, standing_of}
+use Rattle.counting_reader.specs.Counting.{Settled, counted_if, lifted, settle}
+use Rattle.counting_reader.specs.Counting as counting
+use Rattle.counting_reader.specs.declared.reader.CountingReader.{CountingReader}
+use Rattle.block_geometry.specs.declared.transform_blocks.FramePlaces.{FramePlaces}
+use Rattle.block_plan.specs.Planned.{PlannedBlock}
+use Rattle.block_plan.specs.declared.block.BlockAt.{BlockAt}
+use Rattle.block_residue.specs.Code.{FitPlanes}
+use Rattle.block_residue.specs.Residues as residues
+use Rattle.block_residue.specs.declared.sides.TileSides.{TileSides}
+use Rattle.inter_modes.specs.ModeInfo.{mode_info}
+use Rattle.prob_contexts.specs.declared.kind.CountedBool.{CountedBool}
+use Rattle.mode_syntax.specs.Walk.{Walk}
+use Rattle.tile_reader.specs.Code.{Breaks}
+use Rattle.column_plan.specs.Planned.{planned_blocks, total}
+use Rattle.frame_decoder.specs.Columns.{AllFit, AllLie, AllSmall, AllStart, limit_of}
+use Rattle.frame_decoder.specs.Code.{counts_if}
+use Rattle.frame_decoder.specs.Plans.{ColumnRead}
+use Rattle.frame_decoder.specs.Reading.{Column, TileRead, infos}
+use Rattle.frame_decoder.specs.Sources.{FrameSources, frame_is_intra}
+use Rattle.frame_decoder.specs.declared.columns.TileColumn.{TileColumn}
+use Rattle.frame_decoder.specs.declared.halt.Halt.{Halt}
+use Rattle.frame_decoder.specs.declared.halt.Halt.TheVariants as halt
+use Rattle.tile_syntax.specs.declared.plans.ColumnPlan.{ColumnPlan}
+use Rattle.tile_syntax.specs.declared.plans.Unplanned.{Unplanned}
+use Rattle.tile_syntax.specs.declared.plans.Unplanned.TheVariants as unplanned
+
+---- A tile ----
+
+-- the blocks of its column so far, and the sides
+pub record PlanTile : Type 0 where
+  pub blocks : List PlannedBlock
+  pub sides : TileSides
+
+unfoldable pub plan_block : FrameSources → BlockAt → PlanTile → Syntax ℕ Rule (Settled PlanTile)
+plan_block by at s =
+    counting.◌>>=◌ (mode_info by.header by.modes by.contexts by.past.segments (infos s.blocks) by.past.vectors at) (λ told.
+    counting.◌>>=◌ (lifted told) (λ info.
+    counting.◌>>=◌ (residues.read_block by.header by.contexts at.tile_from info s.sides) (λ read.
+    settle (record { blocks = s.blocks ++ read.0 ∷ []; sides = read.1 }))))
+
+abbrev pub plan_walk : FrameSources → FramePlaces → ℕ → ℕ → Walk PlanTile
+plan_walk by frame from to = record {
+  frame = frame;
+  tile_from = from;
+  tile_to = to;
+  intra = frame_is_intra by.header.kind;
+  probs = by.contexts.partitions;
+  block = plan_block by;
+  blocks = λ s. infos s.blocks;
+}
+
+-- what planning keeps where a tile says so much
+abbrev pub plan_view : TileRead → PlanTile
+plan_view s = record { blocks = s.earlier ++ s.blocks; sides = s.sides }
+
+-- what the code holds of it
+abbrev pub tile_held : Shape → TileColumn → List (List ℤ) → PlanTile
+tile_held shape c pieces = record { blocks = planned_blocks shape c.grid.from c.grid.blocks pieces; sides = c.sides }
+
+-- between two blocks
+pub record IsPlanning (setting : FrameSetting) (c : TileColumn) (pieces : List (List ℤ)) : Type 0 where
+  pub rows : c.grid.rows ≡ setting.places.rows
+  pub order : c.grid.from ≤ c.grid.to
+  pub within : c.grid.to ≤ setting.places.cols
+  pub ends : c.grid.to ≡ min (limit_of c) setting.places.cols
+  pub fit : FitPlanes (shape_of setting.header) c.sides
+  pub fit_blocks : AllFit c.grid.blocks
+  pub lie : AllLie c.grid.from (limit_of c) c.grid.blocks
+  pub starts : AllStart setting.places.rows setting.places.cols c.grid.blocks
+  pub small : AllSmall c.grid.blocks
+  pub all : total (shape_of setting.header) c.grid.blocks ≡ length pieces
+
+-- the rule that is broken, if it isn't want of memory
+abbrev pub rule_of : Halt → Option Rule
+rule_of (halt.Broken rule) = Some rule
+rule_of halt.OutOfMemory = None
+
+-- it reads what a walk of the tile says, or breaks the rule
+abbrev pub GivesTile : {n : ℕ} → Syntax ℕ Rule (Settled PlanTile) → CountingReader n → Result (Unit {0}) Halt → PlanTile → CountingReader n → Type 0
+GivesTile s old (Ok u) t new = Reads s old t new
+GivesTile s old (Err e) t new = Breaks (rule_of e) s (standing_of old)
+
+---- A tile's bytes ----
+
+-- a tile breaks this rule. Where none is named, memory was wanting, and nothing is said
+abbrev pub BreaksWhole : {X : Type 0} → Option Rule → Result X Rule → Type 0
+BreaksWhole None computed = Unit {0}
+BreaksWhole (Some rule) computed = computed ≡ Err rule
+
+-- a tile is read, and what is counted in it comes to these counts, where counting is on
+abbrev pub GivesWhole : Bool → List ℕ → Result (Settled PlanTile) Rule → Result (List ℕ) Halt → PlanTile → Type 0
+GivesWhole counting before computed (Ok counts) t =
+    (counted : List CountedBool) × (computed ≡ Ok (record { value = t; counted = counted })) × (counts ≡ counted_if counting before counted)
+GivesWhole counting before computed (Err e) t = BreaksWhole (rule_of e) computed
+
+---- A tile column ----
+
+-- the code holds what is read of a column
+pub record HoldsColumn (shape : Shape) (p : ColumnPlan) (read : Column) : Type 0 where
+  pub blocks : planned_blocks shape p.column.grid.from p.column.grid.blocks p.residues ≡ read.blocks
+  pub y : p.column.sides.y.above ≡ read.y
+  pub u : p.column.sides.u.above ≡ read.u
+  pub v : p.column.sides.v.above ≡ read.v
+
+-- its next tile is read, or breaks the rule
+abbrev pub GivesNext : Bool → List ℕ → Result (Settled ColumnRead) Rule → Result (List ℕ) Halt → Shape → ColumnPlan → Type 0
+GivesNext counting before computed (Ok counts) shape plan =
+    (read : Settled ColumnRead) × (computed ≡ Ok read) × HoldsColumn shape plan read.value.column × (counts ≡ counted_if counting before read.counted)
+GivesNext counting before computed (Err e) shape plan = BreaksWhole (rule_of e) computed
+
+-- why the n-th tile of a frame isn't planned
+abbrev pub unplanned_at : ℕ → Halt → Unplanned
+unplanned_at n (halt.Broken rule) = unplanned.Broken n rule
+unplanned_at n halt.OutOfMemory = unplanned.OutOfMemory
+
+-- All of its tiles are read, or one breaks the rule. Where memory was wanting, nothing is said.
+abbrev pub GivesPlan : Bool → Result (Settled ColumnRead) (ℕ × Rule) → Result (List ℕ) Unplanned → Shape → ColumnPlan → Type 0
+GivesPlan counting computed (Ok counts) shape plan =
+    (read : Settled ColumnRead) × (computed ≡ Ok read) × HoldsColumn shape plan read.value.column × (counts ≡ counts_if counting read.counted)
+GivesPlan counting computed (Err (unplanned.Broken n rule)) shape plan = computed ≡ Err (n, rule)
+GivesPlan counting computed (Err unplanned.OutOfMemory) shape plan = Unit {0}

@@ -1,0 +1,10 @@
+//! Reads a tile column of a frame by itself, without a sample, into a plan.
+#![tactic(auto)]
+
+mod laws;
+mod planning;
+mod plans;
+mod tiles;
+
+pub use laws::plans_read_what_tiles_say;
+pub use plans::{ColumnPlan, Unplanned, column};
