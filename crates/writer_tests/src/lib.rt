@@ -1,4 +1,4 @@
-//! Tests of what writes: bools, headers, the symbols of blocks and their lists, packets and indexes, frames and made streams.
+//! Tests of what writes: bools, headers, the symbols of blocks, packets and indexes.
 #![tactic(auto)]
 
 #[cfg(test)]
@@ -10,17 +10,11 @@ mod container_writer_tests;
 #[cfg(test)]
 mod header_test_tests;
 #[cfg(test)]
-mod listed_frames_tests;
-#[cfg(test)]
-mod listed_symbols_tests;
-#[cfg(test)]
 mod mode_tests;
 #[cfg(test)]
 mod odd_values_tests;
 #[cfg(test)]
 mod residue_tests;
-#[cfg(test)]
-mod stream_forge_tests;
 #[cfg(test)]
 mod token_tests;
 #[cfg(test)]

@@ -1,5 +1,5 @@
 use Rattle.seq_decoder.specs.Code.{MayDecode}
-use Rattle.writer_tests.proofs.listed_frames_tests.comes_out.Given as goal
+use Rattle.stream_tests.proofs.listed_frames_tests.comes_out.Given as goal
 
 abbrev pub invariant-loop-frame : goal.invariant-loop-frame
 invariant-loop-frame l = record { may : MayDecode l.decoder }
