@@ -1,6 +1,6 @@
 -- Who draws what the blocks of a frame say.
 use Rattle.std.specs.Prelude.{Option, Some, None, if◌then◌else◌}
-use Rattle.frame_decoder.specs.Sources.{FrameSources}
+use Rattle.frame_state.specs.Sources.{FrameSources}
 use Rattle.frame_writer.specs.Symbols.{Speaker}
 use Rattle.drawn_symbols.specs.Blocks.{draw_block}
 use Rattle.drawn_symbols.specs.Draws.{Drawn}

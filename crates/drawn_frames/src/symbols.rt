@@ -4,7 +4,7 @@ use crate::frames::is_drawn_frame;
 use crate::levels::draw_block_levels;
 use block_plan::{BlockAt, BlockGrid, BlockInfo};
 use drawn_symbols::{Draws, draw_block, draw_partition};
-use frame_decoder::FrameSources;
+use frame_state::FrameSources;
 use frame_writer::FrameSymbols;
 use inter_writer::BlockSymbols;
 use residue_writer::BlockLevels;

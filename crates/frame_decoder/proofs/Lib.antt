@@ -1,9 +1,3 @@
-pub mod ColumnBlocks
-pub mod BlockSteps
-pub mod TileOffsets
-pub mod TileReads
-pub mod FrameReads
-pub mod ColumnSteps
-mod CountSums
-mod PlanReads
-mod Verdicts
+pub mod PlainBlocks
+pub mod PlainTiles
+pub mod PlainFrames

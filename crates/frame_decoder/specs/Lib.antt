@@ -1,9 +1,3 @@
-pub mod Sources
-pub mod Tiles
-pub mod Reading
 pub mod Frames
-pub mod Columns
-pub mod Past
+pub mod Pictures
 pub mod Code
-pub mod Plans
-pub mod Laws

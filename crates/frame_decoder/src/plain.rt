@@ -2,50 +2,75 @@
 
 ghost use Rattle.std.specs.Prelude.{◌≡◌, ◌+◌, ◌<◌, ◌≤◌, OnOk};
 ghost use Rattle.block_geometry.specs.Sizes.{width_8};
-ghost use Rattle.frame_decoder.specs.Columns.{limit_of};
-ghost use Rattle.frame_decoder.specs.Past.{IsPastOf};
-ghost use Rattle.frame_decoder.specs.Code.{plain_block, sources_of, tile_of, IsReady, SameColumns, GivesTile};
+ghost use Rattle.frame_headers.specs.State.{shape_of};
+ghost use Rattle.frame_state.specs.Code.{IsReady, SameColumns, sources_of};
+ghost use Rattle.frame_state.specs.Columns.{limit_of};
+ghost use Rattle.frame_decoder.specs.Code.{plain_block, pictures_of, tile_of, ArePlanes, CanPredict, GivesTile};
 
-use crate::columns::{BlockRoom, TileColumn};
-use crate::sources::{FrameSources, frame_is_intra};
 use block_geometry::FramePlaces;
-use block_plan::BlockAt;
-use block_rebuild::put_block;
+use block_plan::{BlockAt, BlockResidues};
+use block_rebuild::{RebuildRoom, Rebuilding, put_block};
 use block_residue::read_block;
 use counting_reader::CountingReader;
+use frame_state::{FrameSources, TileColumn, frame_is_intra};
 use inter_modes::mode_info;
 use mode_syntax::{SquareAt, read_partition};
-use planes::FramePlanes;
+use planes::{FramePlanes, Picture};
 use tile_reader::TileReader;
 use vp9_types::{Partition, Rule};
 
+/// What the blocks of a frame are read by, and the pictures that they are predicted from.
+#[derive(Drop)]
+pub struct PlainSources<'a> {
+    pub reading: FrameSources<'a>,
+    pub pictures: Rebuilding<'a, Picture>,
+}
+
+/// Room for one block: its residue, and what it is put in by.
+#[derive(Drop)]
+pub(crate) struct BlockRoom {
+    pub residues: BlockResidues,
+    pub rebuild: RebuildRoom,
+}
+
+impl BlockRoom {
+    pub fn new() -> BlockRoom {
+        BlockRoom {
+            residues: BlockResidues::new(),
+            rebuild: RebuildRoom::new(),
+        }
+    }
+}
+
 /// A block that starts inside the frame.
 fn decode_block<const COUNTS: bool>(
-    by: &FrameSources<'_>,
+    by: &PlainSources<'_>,
     reader: &mut CountingReader<COUNTS>,
     column: &mut TileColumn,
     planes: &mut FramePlanes,
     room: &mut BlockRoom,
     at: BlockAt,
 ) -> Result<(), Rule>
-    requires ready { IsReady by.now.setting column.old planes.old }
-    requires past { IsPastOf by.now.setting.header by.now.past }
-    requires row { at.row < by.now.setting.places.rows }
+    requires ready { IsReady by.now.reading.setting column.old }
+    requires planes { ArePlanes (shape_of by.now.reading.setting.header) planes.old }
+    requires past { CanPredict by.now }
+    requires row { at.row < by.now.reading.setting.places.rows }
     requires first { at.tile_from ≤ at.col }
     requires col { at.col < at.tile_to }
     requires from { at.tile_from ≡ column.old.grid.from }
     requires to { at.tile_to ≡ column.old.grid.to }
     requires wide { at.col + width_8 at.size ≤ limit_of column.old }
     requires room { 1 ≤ column.old.grid.room }
-    ensures gives { GivesTile (plain_block (sources_of by.now) at (tile_of column.old planes.old))
+    ensures gives { GivesTile (plain_block (sources_of by.now.reading) (pictures_of by.now) at (tile_of column.old planes.old))
         reader.old result column.new planes.new reader.new }
-    ensures ready { OnOk result (IsReady by.now.setting column.new planes.new) }
+    ensures ready { OnOk result (IsReady by.now.reading.setting column.new) }
+    ensures planes { OnOk result (ArePlanes (shape_of by.now.reading.setting.header) planes.new) }
     ensures same { OnOk result (SameColumns column.old column.new) }
     ensures room { OnOk result (column.old.grid.room ≤ column.new.grid.room + 1) }
 {
-    let setting = &by.setting;
-    let vectors = by.past.vectors.as_ref();
-    let block = mode_info(reader, setting, at, &column.grid, by.past.segments, vectors)?;
+    let FrameSources { setting, past } = &by.reading;
+    let vectors = past.vectors.as_ref();
+    let block = mode_info(reader, setting, at, &column.grid, past.segments, vectors)?;
     let listed = read_block(
         reader,
         setting,
@@ -55,7 +80,7 @@ fn decode_block<const COUNTS: bool>(
     )?;
     put_block(
         planes,
-        &by.past.pictures,
+        &by.pictures,
         at.tile_from,
         &block,
         &room.residues,
@@ -68,7 +93,7 @@ fn decode_block<const COUNTS: bool>(
 /// What the blocks of a tile are read and put in by, its bools, its column, the frame's planes, and room for one block.
 #[derive(Drop)]
 pub(crate) struct PlainReader<'a, 'b, 'c, const COUNTS: bool> {
-    pub by: &'a FrameSources<'b>,
+    pub by: &'a PlainSources<'b>,
     pub reader: &'a mut CountingReader<'c, COUNTS>,
     pub column: &'a mut TileColumn,
     pub planes: &'a mut FramePlanes,
@@ -80,10 +105,11 @@ impl<'a, 'b, 'c, const COUNTS: bool> TileReader for PlainReader<'a, 'b, 'c, COUN
     ghost use Rattle.std.specs.Borrow.{GName};
     ghost use Rattle.counting_reader.specs.Code.{standing_of};
     ghost use Rattle.tile_reader.specs.Code.{Tile};
-    ghost use Rattle.frame_decoder.specs.Columns.{limit_of};
-    ghost use Rattle.frame_decoder.specs.Past.{IsPastOf};
-    ghost use Rattle.frame_decoder.specs.Code.{PlainTile, IsReady, tile_of, walk_of};
-    ghost use Rattle.frame_decoder.specs.declared.sources.FrameSources.{FrameSources};
+    ghost use Rattle.frame_headers.specs.State.{shape_of};
+    ghost use Rattle.frame_state.specs.Code.{IsReady};
+    ghost use Rattle.frame_state.specs.Columns.{limit_of};
+    ghost use Rattle.frame_decoder.specs.Code.{PlainTile, ArePlanes, CanPredict, tile_of, walk_of};
+    ghost use Rattle.frame_decoder.specs.declared.plain.PlainSources.{PlainSources};
 
     ghost State = { PlainTile };
 
@@ -98,18 +124,18 @@ impl<'a, 'b, 'c, const COUNTS: bool> TileReader for PlainReader<'a, 'b, 'c, COUN
       standing = standing_of w.reader.now;
     } };
 
-    ghost ready = { λ w. IsPastOf w.by.now.setting.header w.by.now.past × IsReady w.by.now.setting w.column.now w.planes.now };
+    ghost ready = { λ w. CanPredict w.by.now × IsReady w.by.now.reading.setting w.column.now × ArePlanes (shape_of w.by.now.reading.setting.header) w.planes.now };
 
-    ghost Kept = { GName × GName × GName × FrameSources };
+    ghost Kept = { GName × GName × GName × PlainSources };
 
     ghost kept = { λ w. (w.reader.ghost_name, w.column.ghost_name, w.planes.ghost_name, w.by.now) };
 
     fn frame(&self) -> FramePlaces {
-        self.by.setting.places
+        self.by.reading.setting.places
     }
 
     fn read_partition(&mut self, at: SquareAt) -> Partition {
-        let setting = &self.by.setting;
+        let setting = &self.by.reading.setting;
         let intra = frame_is_intra(&setting.header.kind);
         read_partition(self.reader, setting, intra, &self.column.grid, at)
     }

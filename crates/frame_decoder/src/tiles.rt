@@ -7,46 +7,32 @@ ghost use Rattle.frame_headers.specs.Tiles.{AreFewTiles};
 ghost use Rattle.vp9_types.specs.Sizes.{superblocks_along};
 ghost use Rattle.prob_contexts.specs.Counted.{no_counts};
 ghost use Rattle.mode_syntax.specs.Walk.{decode_row, decode_tile};
-ghost use Rattle.frame_decoder.specs.Columns.{AreTileColumns};
-ghost use Rattle.frame_decoder.specs.Past.{IsPastOf};
-ghost use Rattle.frame_decoder.specs.Code.{counts_if, sources_of, tile_of, walk_of, read_whole, ArePlanes, HoldsRead, IsReady, SameColumns, GivesRead, GivesTile, GivesWhole};
-ghost use Rattle.frame_decoder.specs.Frames.{read_all_tiles};
-ghost use Rattle.frame_decoder.specs.Reading.{FrameRead, nothing_read, read_tile_of};
+ghost use Rattle.frame_state.specs.Code.{counts_if, sources_of, read_whole, IsReady, SameColumns};
+ghost use Rattle.frame_state.specs.Columns.{AreTileColumns};
+ghost use Rattle.frame_state.specs.Reading.{FrameRead, nothing_read, read_all_tiles, read_tile_of};
+ghost use Rattle.frame_decoder.specs.Code.{pictures_of, tile_of, walk_of, ArePlanes, CanPredict, HoldsRead, GivesRead, GivesTile, GivesWhole};
 
-use crate::columns::{BlockRoom, TileColumn};
-use crate::plain::PlainReader;
-use crate::sources::FrameSources;
-use crate::tile_places::TilePlaces;
+use crate::plain::{BlockRoom, PlainReader, PlainSources};
 use counting_reader::CountingReader;
 use frame_headers::tile_span;
+use frame_state::{TileColumn, TilePlaces, superblocks};
 use mode_syntax::SquareAt;
 use planes::FramePlanes;
 use prob_contexts::Counts;
 use tile_reader::read_rows;
 use vp9_types::{Rule, Span};
 
-/// Places of 8x8 along a superblock.
-const SIDE: u32 = 8;
 /// The level of a superblock.
 const SUPERBLOCK: u8 = 3;
-
-/// How many superblocks reach over these places.
-fn superblocks(from: u32, to: u32) -> u32
-    requires order { from ≤ to }
-    requires few { to ≤ 65536 }
-    ensures is { result ≡ superblocks_along (to - from) }
-    ensures few { result ≤ 8192 }
-{
-    (to - from).div_ceil(SIDE)
-}
 
 /// The blocks of a tile.
 fn read_tile<const COUNTS: bool>(
     plain: &mut PlainReader<'_, '_, '_, COUNTS>,
     tile: &TilePlaces,
 ) -> Result<(), Rule>
-    requires ready { IsReady plain.old.by.now.setting plain.old.column.now plain.old.planes.now }
-    requires past { IsPastOf plain.old.by.now.setting.header plain.old.by.now.past }
+    requires ready { IsReady plain.old.by.now.reading.setting plain.old.column.now }
+    requires planes { ArePlanes (shape_of plain.old.by.now.reading.setting.header) plain.old.planes.now }
+    requires past { CanPredict plain.old.by.now }
     requires from { tile.now.col_from ≡ plain.old.column.now.grid.from }
     requires to { tile.now.col_to ≡ plain.old.column.now.grid.to }
     requires order { tile.now.row_from ≤ tile.now.row_to }
@@ -54,7 +40,8 @@ fn read_tile<const COUNTS: bool>(
     requires room { 64 * (superblocks_along (plain.old.column.now.grid.to - plain.old.column.now.grid.from) * superblocks_along (tile.now.row_to - tile.now.row_from)) ≤ plain.old.column.now.grid.room }
     ensures gives { GivesTile (decode_tile (walk_of plain.old.by.now plain.old.column.now) (superblocks_along (tile.now.col_to - tile.now.col_from)) tile.now.row_from tile.now.col_from (superblocks_along (tile.now.row_to - tile.now.row_from)) (tile_of plain.old.column.now plain.old.planes.now))
         plain.old.reader.now result plain.new.column.now plain.new.planes.now plain.new.reader.now }
-    ensures ready { OnOk result (IsReady plain.old.by.now.setting plain.new.column.now plain.new.planes.now) }
+    ensures ready { OnOk result (IsReady plain.old.by.now.reading.setting plain.new.column.now) }
+    ensures planes { OnOk result (ArePlanes (shape_of plain.old.by.now.reading.setting.header) plain.new.planes.now) }
     ensures same { OnOk result (SameColumns plain.old.column.now plain.new.column.now) }
     ensures room { OnOk result (plain.old.column.now.grid.room ≤ plain.new.column.now.grid.room + 64 * (superblocks_along (plain.old.column.now.grid.to - plain.old.column.now.grid.from) * superblocks_along (tile.now.row_to - tile.now.row_from))) }
     ensures same_reader { plain.new.reader.ghost_name ≡ plain.old.reader.ghost_name }
@@ -76,14 +63,15 @@ fn read_tile<const COUNTS: bool>(
 /// All blocks of a tile.
 #[tactic(auto, using(crate::proofs::TileReads::tile_left))]
 fn decode_blocks<const COUNTS: bool>(
-    by: &FrameSources<'_>,
+    by: &PlainSources<'_>,
     reader: &mut CountingReader<'_, COUNTS>,
     column: &mut TileColumn,
     planes: &mut FramePlanes,
     tile: &TilePlaces,
 ) -> Result<(), Rule>
-    requires ready { IsReady by.now.setting column.old planes.old }
-    requires past { IsPastOf by.now.setting.header by.now.past }
+    requires ready { IsReady by.now.reading.setting column.old }
+    requires planes { ArePlanes (shape_of by.now.reading.setting.header) planes.old }
+    requires past { CanPredict by.now }
     requires from { tile.now.col_from ≡ column.old.grid.from }
     requires to { tile.now.col_to ≡ column.old.grid.to }
     requires order { tile.now.row_from ≤ tile.now.row_to }
@@ -91,7 +79,8 @@ fn decode_blocks<const COUNTS: bool>(
     requires room { 64 * (superblocks_along (column.old.grid.to - column.old.grid.from) * superblocks_along (tile.now.row_to - tile.now.row_from)) ≤ column.old.grid.room }
     ensures gives { GivesTile (decode_tile (walk_of by.now column.old) (superblocks_along (tile.now.col_to - tile.now.col_from)) tile.now.row_from tile.now.col_from (superblocks_along (tile.now.row_to - tile.now.row_from)) (tile_of column.old planes.old))
         reader.old result column.new planes.new reader.new }
-    ensures ready { OnOk result (IsReady by.now.setting column.new planes.new) }
+    ensures ready { OnOk result (IsReady by.now.reading.setting column.new) }
+    ensures planes { OnOk result (ArePlanes (shape_of by.now.reading.setting.header) planes.new) }
     ensures same { OnOk result (SameColumns column.old column.new) }
     ensures room { OnOk result (column.old.grid.room ≤ column.new.grid.room + 64 * (superblocks_along (column.old.grid.to - column.old.grid.from) * superblocks_along (tile.now.row_to - tile.now.row_from))) }
 {
@@ -110,14 +99,15 @@ fn decode_blocks<const COUNTS: bool>(
 #[tactic(auto, unfolding(crate::specs::Code::read_whole))]
 fn decode_tile<const COUNTS: bool>(
     bytes: &[u8],
-    by: &FrameSources<'_>,
+    by: &PlainSources<'_>,
     tile: &TilePlaces,
     column: &mut TileColumn,
     planes: &mut FramePlanes,
     counts: Counts,
 ) -> Result<Counts, Rule>
-    requires ready { IsReady by.now.setting column.old planes.old }
-    requires past { IsPastOf by.now.setting.header by.now.past }
+    requires ready { IsReady by.now.reading.setting column.old }
+    requires planes { ArePlanes (shape_of by.now.reading.setting.header) planes.old }
+    requires past { CanPredict by.now }
     requires from { tile.now.col_from ≡ column.old.grid.from }
     requires to { tile.now.col_to ≡ column.old.grid.to }
     requires order { tile.now.row_from ≤ tile.now.row_to }
@@ -125,7 +115,8 @@ fn decode_tile<const COUNTS: bool>(
     requires room { 64 * (superblocks_along (column.old.grid.to - column.old.grid.from) * superblocks_along (tile.now.row_to - tile.now.row_from)) ≤ column.old.grid.room }
     ensures gives { GivesWhole COUNTS counts (read_whole (decode_tile (walk_of by.now column.old) (superblocks_along (tile.now.col_to - tile.now.col_from)) tile.now.row_from tile.now.col_from (superblocks_along (tile.now.row_to - tile.now.row_from)) (tile_of column.old planes.old)) bytes.now)
         result column.new planes.new }
-    ensures ready { OnOk result (IsReady by.now.setting column.new planes.new) }
+    ensures ready { OnOk result (IsReady by.now.reading.setting column.new) }
+    ensures planes { OnOk result (ArePlanes (shape_of by.now.reading.setting.header) planes.new) }
     ensures same { OnOk result (SameColumns column.old column.new) }
     ensures room { OnOk result (column.old.grid.room ≤ column.new.grid.room + 64 * (superblocks_along (column.old.grid.to - column.old.grid.from) * superblocks_along (tile.now.row_to - tile.now.row_from))) }
 {
@@ -137,24 +128,24 @@ fn decode_tile<const COUNTS: bool>(
 /// The `n`-th tile of a frame, from its bytes, with the counts so far; answers the counts behind it.
 fn decode_nth<const COUNTS: bool>(
     bytes: &[u8],
-    by: &FrameSources<'_>,
+    by: &PlainSources<'_>,
     n: u32,
     columns: &mut [TileColumn],
     planes: &mut FramePlanes,
     counts: Counts,
 ) -> Result<Counts, Rule>
-    requires past { IsPastOf by.now.setting.header by.now.past }
-    requires few { AreFewTiles by.now.setting.header.params.tiles }
-    requires below { n < tile_count by.now.setting.header }
-    requires columns { AreTileColumns by.now.setting.header n columns.old }
-    requires planes { ArePlanes (shape_of by.now.setting.header) planes.old }
-    ensures gives { (read : FrameRead) → HoldsRead (sources_of by.now) columns.old planes.old read → counts ≡ counts_if COUNTS read.counted
-        → GivesRead (sources_of by.now) COUNTS (read_tile_of (sources_of by.now) n bytes.now read) result columns.new planes.new }
-    ensures columns { OnOk result (AreTileColumns by.now.setting.header (n + 1) columns.new) }
-    ensures planes { OnOk result (ArePlanes (shape_of by.now.setting.header) planes.new) }
+    requires past { CanPredict by.now }
+    requires few { AreFewTiles by.now.reading.setting.header.params.tiles }
+    requires below { n < tile_count by.now.reading.setting.header }
+    requires columns { AreTileColumns by.now.reading.setting.header n columns.old }
+    requires planes { ArePlanes (shape_of by.now.reading.setting.header) planes.old }
+    ensures gives { (read : FrameRead) → HoldsRead (pictures_of by.now) columns.old planes.old read → counts ≡ counts_if COUNTS read.counted
+        → GivesRead (pictures_of by.now) COUNTS (read_tile_of (sources_of by.now.reading) n bytes.now read) result columns.new planes.new }
+    ensures columns { OnOk result (AreTileColumns by.now.reading.setting.header (n + 1) columns.new) }
+    ensures planes { OnOk result (ArePlanes (shape_of by.now.reading.setting.header) planes.new) }
 {
-    let tiles = by.setting.header.params.tiles;
-    let tile = TilePlaces::new(by.setting.places, tiles, n);
+    let tiles = by.reading.setting.header.params.tiles;
+    let tile = TilePlaces::new(by.reading.setting.places, tiles, n);
     let column = &mut columns[(n % tiles.columns()) as usize];
     column.sides.clear_left();
     decode_tile::<COUNTS>(bytes, by, &tile, column, planes, counts)
@@ -164,28 +155,28 @@ fn decode_nth<const COUNTS: bool>(
 /// all of them, from `none` on, if counting is on.
 pub(crate) fn decode_tiles<const COUNTS: bool>(
     bytes: &[u8],
-    by: &FrameSources<'_>,
+    by: &PlainSources<'_>,
     compressed: Span,
     columns: &mut [TileColumn],
     planes: &mut FramePlanes,
     none: Counts,
 ) -> Result<Counts, Rule>
-    requires past { IsPastOf by.now.setting.header by.now.past }
-    requires few { AreFewTiles by.now.setting.header.params.tiles }
+    requires past { CanPredict by.now }
+    requires few { AreFewTiles by.now.reading.setting.header.params.tiles }
     requires within { compressed.to ≤ length bytes.now }
-    requires tested { IsOk (tile_spans bytes.now by.now.setting.header compressed) }
-    requires columns { AreTileColumns by.now.setting.header 0 columns.old }
-    requires planes { ArePlanes (shape_of by.now.setting.header) planes.old }
-    requires start { HoldsRead (sources_of by.now) columns.old planes.old (nothing_read by.now.setting.header) }
+    requires tested { IsOk (tile_spans bytes.now by.now.reading.setting.header compressed) }
+    requires columns { AreTileColumns by.now.reading.setting.header 0 columns.old }
+    requires planes { ArePlanes (shape_of by.now.reading.setting.header) planes.old }
+    requires start { HoldsRead (pictures_of by.now) columns.old planes.old (nothing_read by.now.reading.setting.header) }
     requires none { none ≡ no_counts }
-    ensures gives { GivesRead (sources_of by.now) COUNTS (read_all_tiles (sources_of by.now) bytes.now compressed)
+    ensures gives { GivesRead (pictures_of by.now) COUNTS (read_all_tiles (sources_of by.now.reading) bytes.now compressed)
         result columns.new planes.new }
-    ensures columns { OnOk result (AreTileColumns by.now.setting.header (tile_count by.now.setting.header) columns.new) }
-    ensures planes { OnOk result (ArePlanes (shape_of by.now.setting.header) planes.new) }
+    ensures columns { OnOk result (AreTileColumns by.now.reading.setting.header (tile_count by.now.reading.setting.header) columns.new) }
+    ensures planes { OnOk result (ArePlanes (shape_of by.now.reading.setting.header) planes.new) }
 {
     let mut counts = none;
-    for n in 0..by.setting.header.params.tiles.count() {
-        let span = tile_span(bytes, &by.setting.header, compressed, n);
+    for n in 0..by.reading.setting.header.params.tiles.count() {
+        let span = tile_span(bytes, &by.reading.setting.header, compressed, n);
         let tile = &bytes[span.from..span.to];
         counts = decode_nth::<COUNTS>(tile, by, n, columns, planes, counts)?;
     }

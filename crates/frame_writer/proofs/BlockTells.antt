@@ -20,9 +20,9 @@ use Rattle.block_residue.specs.Residues.{ReadPlane, any_coded, listed, planned}
 use Rattle.block_residue.specs.Residues as residues
 use Rattle.block_residue.specs.declared.sides.TileSides.{TileSides}
 use Rattle.inter_modes.specs.ModeInfo.{mode_info}
-use Rattle.frame_decoder.specs.Columns.{limit_of}
-use Rattle.frame_decoder.specs.Reading.{TileRead, infos, read_block}
-use Rattle.frame_decoder.specs.Sources.{FrameSources}
+use Rattle.frame_state.specs.Columns.{limit_of}
+use Rattle.frame_state.specs.Reading.{TileRead, infos, read_block}
+use Rattle.frame_state.specs.Sources.{FrameSources}
 use Rattle.inter_writer.specs.Said.{IsSaid, IsSaidBy}
 use Rattle.inter_writer.specs.declared.frame_blocks.BlockSymbols.{BlockSymbols}
 use Rattle.inter_writer.specs.declared.frame_blocks.PredictionSymbols.{PredictionSymbols}
@@ -34,9 +34,9 @@ use Rattle.tile_writer.specs.declared.unwritten.Unwritten.{Unwritten}
 use Rattle.tile_writer.specs.declared.unwritten.Unwritten.TheVariants.{Broken, Unsaid}
 use Rattle.frame_writer.specs.Symbols.{Speaker, as_said, block_told, modes_by, modes_said, with_block}
 use Rattle.frame_writer.specs.Code.{TileHeld, TileHere, held_of, here_of}
-use Rattle.frame_decoder.specs.declared.columns.TileColumn.{TileColumn}
-use Rattle.frame_decoder.specs.declared.sources.FrameSources as code
-use Rattle.frame_decoder.specs.declared.tile_places.TilePlaces.{TilePlaces}
+use Rattle.frame_state.specs.declared.columns.TileColumn.{TileColumn}
+use Rattle.frame_state.specs.declared.sources.FrameSources as code
+use Rattle.frame_state.specs.declared.tile_places.TilePlaces.{TilePlaces}
 
 abbrev pub before_it : TileRead → List BlockInfo
 before_it s = infos (s.earlier ++ s.blocks)

@@ -9,13 +9,13 @@ use Rattle.frame_headers.specs.State.{shape_of}
 use Rattle.block_geometry.specs.declared.transform_blocks.FramePlaces.{FramePlaces}
 use Rattle.block_residue.specs.Code.{FitPlanes}
 use Rattle.frame_setting.specs.declared.setting.FrameSetting.{FrameSetting}
-use Rattle.frame_decoder.specs.Columns.{AllStart, limit_of}
-use Rattle.frame_decoder.specs.Reading.{TileRead, read_walk}
-use Rattle.frame_decoder.specs.Code.{sources_of}
-use Rattle.frame_decoder.specs.Sources.{FrameSources}
-use Rattle.frame_decoder.specs.declared.sources.FrameSources as code
-use Rattle.frame_decoder.specs.declared.columns.TileColumn.{TileColumn}
-use Rattle.frame_decoder.specs.declared.tile_places.TilePlaces.{TilePlaces}
+use Rattle.frame_state.specs.Columns.{AllStart, limit_of}
+use Rattle.frame_state.specs.Reading.{TileRead, read_walk}
+use Rattle.frame_state.specs.Code.{sources_of}
+use Rattle.frame_state.specs.Sources.{FrameSources}
+use Rattle.frame_state.specs.declared.sources.FrameSources as code
+use Rattle.frame_state.specs.declared.columns.TileColumn.{TileColumn}
+use Rattle.frame_state.specs.declared.tile_places.TilePlaces.{TilePlaces}
 use Rattle.tile_writer.specs.Code.{EndsTile, Tile, tile_rest}
 use Rattle.tile_writer.specs.declared.unwritten.Unwritten.{Unwritten}
 use Rattle.tile_writer.specs.declared.unwritten.Unwritten.TheVariants as unwritten

@@ -19,9 +19,8 @@ use Rattle.header_writer.specs.Spelling.{IsSpelled}
 use Rattle.header_writer.specs.WellFormed.{IsWellFormed}
 use Rattle.prob_contexts.specs.Lists.{ContextLists, lists_of}
 use Rattle.prob_contexts.specs.declared.contexts.Contexts.{Contexts}
-use Rattle.frame_decoder.specs.Frames.{FrameInput, read_all_tiles, read_frame, sources}
-use Rattle.frame_decoder.specs.Reading.{FrameRead}
-use Rattle.frame_decoder.specs.Sources.{FramePast, FrameSources}
+use Rattle.frame_state.specs.Reading.{read_all_tiles, FrameRead}
+use Rattle.frame_state.specs.Sources.{FramePast, FrameSources}
 use Rattle.frame_writer.specs.Bytes.{tile_bytes, with_size, without_index}
 use Rattle.frame_writer.specs.Code.{AreHeaders, AreTiles, GivesAll, GivesFrame, GivesRest, IsFrame, IsTooLong, IsUntold, ReadsFrame, input_with, sources_with}
 use Rattle.frame_writer.specs.Symbols.{Speaker}
@@ -30,6 +29,7 @@ use Rattle.frame_writer.specs.declared.written.NotWritten.{NotWritten}
 use Rattle.frame_writer.specs.declared.written.NotWritten.TheVariants.{Unsaid, TooLong, OutOfMemory}
 use Rattle.frame_writer.specs.declared.written.Written.{Written}
 use Rattle.frame_writer.proofs.SpansRead.{all_read, in_middle}
+use Rattle.frame_state.proofs.TileSpans.{frame_reads, tiles_break}
 
 -- the size isn't read with the rest of the compressed header
 same_forward : (header : Header) (size : ℕ) (before : ContextLists) (bytes : List ℕ) → forward (with_size header size) before bytes ≡ forward header before bytes
@@ -54,16 +54,6 @@ ends_so bytes = by_test (slice_index bytes (length bytes - 1) / 32 == 6)
 abbrev span_at : List ℕ → List ℕ → Span
 span_at front compressed = record { from = length front; to = length front + length compressed }
 
-frame_reads : (f : FrameInput) (updated : ContextLists × Modes) (r : Result FrameRead Rule) → forward f.header f.past.contexts (slice_range f.bytes f.compressed.from f.compressed.to) ≡ Ok updated
-    → read_all_tiles (sources f updated) f.bytes f.compressed ≡ r → (read : FrameRead) → r ≡ Ok read → read_frame f ≡ Ok (read, sources f updated)
-unfolding read_frame
-frame_reads f updated r made reads read is = rw made (rw (reads ∙ is) refl)
-
-frame_breaks : (f : FrameInput) (updated : ContextLists × Modes) (rule : Rule) → forward f.header f.past.contexts (slice_range f.bytes f.compressed.from f.compressed.to) ≡ Ok updated
-    → read_all_tiles (sources f updated) f.bytes f.compressed ≡ Err rule → read_frame f ≡ Err rule
-unfolding read_frame
-frame_breaks f updated rule made reads = rw made (rw reads refl)
-
 reads_so : {T : Type 0} (speaker : Speaker T) (frame : FrameToWrite) (past : FramePast) (t new : T) (front compressed out tail bytes : List ℕ) (broken : Option Rule)
     → bytes ≡ out ++ tail → forward (with_size frame.header (length compressed)) past.contexts (slice_range bytes (length front) (length front + length compressed)) ≡ Ok (lists_of frame.contexts, frame.modes)
     → GivesAll speaker (sources_with frame past (length compressed)) t (front ++ compressed) broken out new
@@ -73,14 +63,14 @@ reads_so speaker frame past t new front compressed out tail bytes None is made g
     let f = input_with frame past (length compressed) (span_at front compressed) bytes in
     let all = all_read by (front ++ compressed) out tail (span_at front compressed) (Ok gives.0) (sym (length-append front compressed)) gives.1 in (
       gives.0,
-      frame_reads f (lists_of frame.contexts, frame.modes) (Ok gives.0) made (ap (λ bytes. read_all_tiles by bytes (span_at front compressed)) is ∙ all) gives.0 refl,
+      frame_reads f (lists_of frame.contexts, frame.modes) gives.0 made (ap (λ bytes. read_all_tiles by bytes (span_at front compressed)) is ∙ all),
       gives.2,
     )
 reads_so speaker frame past t new front compressed out tail bytes (Some rule) is made gives =
     let by = sources_with frame past (length compressed) in
     let f = input_with frame past (length compressed) (span_at front compressed) bytes in
     let all = all_read by (front ++ compressed) out tail (span_at front compressed) (Err rule) (sym (length-append front compressed)) gives.0 in (
-      frame_breaks f (lists_of frame.contexts, frame.modes) rule made (ap (λ bytes. read_all_tiles by bytes (span_at front compressed)) is ∙ all),
+      tiles_break f (lists_of frame.contexts, frame.modes) rule made (ap (λ bytes. read_all_tiles by bytes (span_at front compressed)) is ∙ all),
       gives.1,
     )
 

@@ -12,9 +12,8 @@ use Rattle.vp9_types.specs.Results.{◌>>=◌}
 use Rattle.vp9_types.specs.declared.job.Span.{Span}
 use Rattle.vp9_types.specs.declared.rule.Rule.{Rule}
 use Rattle.frame_headers.specs.Spans.{in_front, last_tile, sized_tile, tile_at, tile_count, tile_size, tile_spans, tiles_from}
-use Rattle.frame_decoder.specs.Frames.{read_all_tiles}
-use Rattle.frame_decoder.specs.Reading.{FrameRead, nothing_read, read_tile_of, read_tiles}
-use Rattle.frame_decoder.specs.Sources.{FrameSources}
+use Rattle.frame_state.specs.Reading.{read_all_tiles, FrameRead, nothing_read, read_tile_of, read_tiles}
+use Rattle.frame_state.specs.Sources.{FrameSources}
 use Rattle.frame_writer.specs.Bytes.{HasSize, read_each, sized, tile_bytes}
 use Rattle.frame_writer.specs.Code.{AreTiles}
 

@@ -1,9 +1,8 @@
 -- A tile that is written in its column, and what is read of it.
-use Rattle.std.proofs.Common.{◌≡◌, ◌∙◌, ℕ, ◌+◌, ◌-◌, ◌*◌, ◌^◌, ◌<◌, ◌≤◌, List, [], ◌∷◌, ◌++◌, Bool, length, map, refl, sym, ap, subst, arith}
+use Rattle.std.proofs.Common.{◌≡◌, ◌∙◌, ℕ, ◌+◌, ◌-◌, ◌*◌, ◌^◌, ◌<◌, ◌≤◌, List, ◌++◌, Bool, length, refl, sym, ap, subst, arith}
 use Rattle.std.specs.Prelude.{Option, Some, None, Result, Ok, Err, slice_index_or, slice_set}
 use Rattle.std.proofs.lemmas.List.{append-nil, map-set, set-set}
 use Rattle.vp9_types.specs.Results.{◌>>=◌}
-use Rattle.vp9_types.specs.Shapes.{mi_cols, mi_rows}
 use Rattle.vp9_types.specs.Sizes.{superblocks_along}
 use Rattle.vp9_types.specs.Syntax.{Syntax}
 use Rattle.vp9_types.specs.declared.rule.Rule.{Rule}
@@ -15,25 +14,22 @@ use Rattle.counting_reader.specs.Counting.{Settled}
 use Rattle.frame_headers.specs.State.{shape_of}
 use Rattle.frame_headers.specs.declared.header.Header.{Header}
 use Rattle.block_geometry.specs.Frames.{places_of}
-use Rattle.block_geometry.specs.declared.transform_blocks.FramePlaces.{FramePlaces}
 use Rattle.block_plan.specs.declared.block.BlockInfo.{BlockInfo}
 use Rattle.block_residue.specs.Code.{FitPlanes}
 use Rattle.block_residue.specs.declared.sides.TileSides.{TileSides}
 use Rattle.frame_setting.specs.declared.setting.FrameSetting.{FrameSetting}
-use Rattle.frame_decoder.specs.Code.{column_as_listed, column_of_code, read_whole, settled_of, sources_of}
-use Rattle.frame_decoder.specs.Columns.{AllStart, AreTileColumns, IsTileColumn}
-use Rattle.frame_decoder.specs.Reading.{FrameRead, TileRead, begun, column_after, column_at, infos, read_tile, read_tile_of, with_tile}
-use Rattle.frame_decoder.specs.Sources.{FrameSources}
-use Rattle.frame_decoder.specs.Tiles.{column_of, tile_places}
-use Rattle.frame_decoder.specs.declared.columns.TileColumn.{TileColumn}
-use Rattle.frame_decoder.specs.declared.sources.FrameSources as code
-use Rattle.frame_decoder.specs.declared.tile_places.TilePlaces.{TilePlaces}
-use Rattle.frame_decoder.proofs.ColumnSteps.{begins_there, cleared, cleared_fit, column_left, column_told, columns_with, ends_there, has_room, sides_told, with_sides}
-use Rattle.frame_decoder.proofs.FrameReads.{tile_at}
-use Rattle.frame_decoder.proofs.TileOffsets.{column_ends, offset_grows, offset_low}
+use Rattle.frame_state.specs.Code.{column_as_listed, column_of_code, read_whole, settled_of, sources_of}
+use Rattle.frame_state.specs.Columns.{AreTileColumns, IsTileColumn}
+use Rattle.frame_state.specs.Reading.{FrameRead, TileRead, begun, column_after, column_at, infos, read_tile, read_tile_of, with_tile}
+use Rattle.frame_state.specs.Sources.{FrameSources}
+use Rattle.frame_state.specs.Tiles.{column_of, tile_places}
+use Rattle.frame_state.specs.declared.columns.TileColumn.{TileColumn}
+use Rattle.frame_state.specs.declared.sources.FrameSources as code
+use Rattle.frame_state.specs.declared.tile_places.TilePlaces.{TilePlaces}
+use Rattle.frame_state.proofs.ColumnSteps.{begins_there, cleared, cleared_fit, column_left, column_told, columns_with, ends_there, has_room, ready_of, sides_told, with_sides}
+use Rattle.frame_state.proofs.TileSpans.{tile_at}
 use Rattle.tile_writer.specs.declared.unwritten.Unwritten.{Unwritten}
 use Rattle.tile_writer.specs.declared.unwritten.Unwritten.TheVariants as unwritten
-use Rattle.frame_writer.specs.Bytes.{IsWritten}
 use Rattle.frame_writer.specs.Code.{EndsColumn, GivesNth, GivesNthTo, GivesTile, GivesTileTo, HoldsColumns, IsReadyFor, TileHeld, held_by, held_of}
 use Rattle.frame_writer.specs.Frames.{nth_syntax, nth_told, said_of, tile_told}
 use Rattle.frame_writer.specs.Symbols.{Speaker}
@@ -48,21 +44,11 @@ use Rattle.frame_writer.proofs.WrittenReads.{breaks_there, settles_there}
 pub ready_for : (setting : FrameSetting) (n k : ℕ) (c : TileColumn) (sides : TileSides) (t : TilePlaces) → k ≡ column_of setting.header.params.tiles n
     → t ≡ tile_places setting.places setting.header.params.tiles n → IsTileColumn setting.header n k c → FitPlanes (shape_of setting.header) sides
     → IsReadyFor setting t (with_sides c sides)
-ready_for setting n k c sides t at is h fit =
-    let cols : setting.places.cols ≡ mi_cols (shape_of setting.header) = ap (λ (p : FramePlaces). p.cols) setting.whole in
-    let log2 = setting.header.params.tiles.columns_log2 in record {
-      rows = h.rows ∙ ap (λ (p : FramePlaces). p.rows) (sym setting.whole);
-      order = rw (h.from, h.to) (offset_grows (mi_cols (shape_of setting.header)) log2 k);
-      within = rw (h.to, cols) (offset_low (mi_cols (shape_of setting.header)) log2 (k + 1));
-      ends = rw (h.from, h.to, cols) (column_ends (mi_cols (shape_of setting.header)) log2 k);
-      from = begins_there setting n k c t at is h;
-      to = ends_there setting n k c t at is h;
-      fit = fit;
-      fit_blocks = h.fit_blocks;
-      lie = h.lie;
-      starts = subst (λ (p : FramePlaces). AllStart p.rows p.cols c.grid.blocks) (sym setting.whole) h.starts;
-      small = h.small;
-    }
+ready_for setting n k c sides t at is h fit = record {
+  from = begins_there setting n k c t at is h;
+  to = ends_there setting n k c t at is h;
+  ready = ready_of setting n k c sides h fit;
+}
 
 -- the code's column holds what reading begins the tile with
 pub holds_begun : (header : Header) (n k : ℕ) (columns : List TileColumn) (read : FrameRead) (x : TileColumn) → k ≡ column_of header.params.tiles n → k < length columns
@@ -201,17 +187,8 @@ pub columns_written : (setting : FrameSetting) (n k : ℕ) (columns : List TileC
     → AreTileColumns setting.header (n + 1) (slice_set columns k new)
 columns_written setting n k columns x new sides t below low at is h before ready room =
     let c = slice_index_or columns k x in
-    columns_with setting n k columns new low h (column_left setting n k c new t below at is (h.each k x low) (record {
-      rows = ready.rows;
-      from = sym ready.from ∙ before.from;
-      to = sym ready.to ∙ before.to;
-      fit = ready.fit;
-      fit_blocks = ready.fit_blocks;
-      lie = ready.lie;
-      starts = ready.starts;
-      small = ready.small;
-      room = rw (before.from, before.to) at room;
-    }))
+    columns_with setting n k columns new low h
+    (column_left setting n k c new t below at is (h.each k x low) ready.ready (record { from = sym ready.from ∙ before.from; to = sym ready.to ∙ before.to }) (rw (before.from, before.to) at room))
 
 pub columns_renewed : (setting : FrameSetting) (n k : ℕ) (columns : List TileColumn) (new : TileColumn) → k < length columns → AreTileColumns setting.header n columns
     → IsTileColumn setting.header 0 k new → AreTileColumns setting.header (n + 1) (slice_set columns k new)

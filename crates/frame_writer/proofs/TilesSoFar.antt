@@ -8,11 +8,11 @@ use Rattle.std.proofs.lemmas.List.Elements.{All-append}
 use Rattle.vp9_types.specs.Results.{◌>>=◌}
 use Rattle.vp9_types.specs.declared.rule.Rule.{Rule}
 use Rattle.frame_headers.specs.Spans.{tile_count}
-use Rattle.frame_decoder.specs.Reading.{FrameRead, nothing_read, read_tile_of}
-use Rattle.frame_decoder.specs.Code.{sources_of}
-use Rattle.frame_decoder.specs.Sources.{FrameSources}
-use Rattle.frame_decoder.specs.declared.sources.FrameSources as code
-use Rattle.frame_decoder.specs.declared.columns.TileColumn.{TileColumn}
+use Rattle.frame_state.specs.Reading.{FrameRead, nothing_read, read_tile_of}
+use Rattle.frame_state.specs.Code.{sources_of}
+use Rattle.frame_state.specs.Sources.{FrameSources}
+use Rattle.frame_state.specs.declared.sources.FrameSources as code
+use Rattle.frame_state.specs.declared.columns.TileColumn.{TileColumn}
 use Rattle.tile_writer.specs.declared.unwritten.Unwritten.{Unwritten}
 use Rattle.tile_writer.specs.declared.unwritten.Unwritten.TheVariants as unwritten
 use Rattle.frame_writer.specs.Bytes.{HasItsBools, HasSize, HaveTheirBools, read_each, sized, tile_bytes}

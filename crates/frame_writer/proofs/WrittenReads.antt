@@ -23,7 +23,7 @@ use Rattle.bool_encoder.proofs.WriteLaws.{written_is_read}
 use Rattle.counting_reader.specs.Counting.{Settled}
 use Rattle.counting_writer.specs.Counted.{valued, PutsTo}
 use Rattle.counting_writer.proofs.CountedPuts.{value_counts, value_put}
-use Rattle.frame_decoder.specs.Code.{read_whole, settled_of}
+use Rattle.frame_state.specs.Code.{read_whole, settled_of}
 use Rattle.frame_writer.specs.Bytes.{IsWritten}
 
 ---- Bytes with more behind them lie in the part ----

@@ -16,8 +16,8 @@ use Rattle.compressed_writer.specs.Bytes.{IsWrittenHeader}
 use Rattle.header_writer.specs.Reads.{HoldsHeader}
 use Rattle.header_writer.specs.Spelling.{IsSpelled}
 use Rattle.header_writer.specs.declared.choices.Choices.{Choices}
-use Rattle.frame_decoder.specs.Reading.{FrameRead, TileRead, nothing_read, read_tile_of}
-use Rattle.frame_decoder.specs.Sources.{FrameSources}
+use Rattle.frame_state.specs.Reading.{FrameRead, TileRead, nothing_read, read_tile_of}
+use Rattle.frame_state.specs.Sources.{FrameSources}
 use Rattle.frame_writer.specs.Frames.{nth_syntax}
 
 -- the bytes of bools that lead a syntax from the marker on to its end: to the value, or to the rule that is broken there

@@ -1,10 +1,9 @@
 -- What a frame's writer keeps, and what its calls answer.
-use Rattle.std.specs.Prelude.{◌≡◌, ◌≤◌, ◌<◌, ◌⊎◌, ℕ, ◌+◌, ◌-◌, ◌^◌, Bool, true, false, List, [], ◌∷◌, ◌++◌, map, length, Option, Some, None, Result, Ok, Err, min}
+use Rattle.std.specs.Prelude.{◌≡◌, ◌≤◌, ◌⊎◌, ℕ, ◌+◌, ◌-◌, ◌^◌, Bool, true, false, List, [], ◌∷◌, ◌++◌, map, length, Option, Some, None, Result, Ok, Err}
 use Rattle.std.specs.List.{flat_map, All}
 use Rattle.vp9_types.specs.declared.rule.Rule.{Rule}
 use Rattle.frame_headers.specs.Header.{head_of}
 use Rattle.frame_headers.specs.Spans.{tile_count}
-use Rattle.frame_headers.specs.State.{shape_of}
 use Rattle.bool_encoder.specs.Part.{Part, Finishes}
 use Rattle.frame_headers.specs.declared.header.FrameHead.TheVariants.{Coded}
 use Rattle.frame_headers.specs.declared.header.Header.{Header}
@@ -19,21 +18,19 @@ use Rattle.prob_contexts.specs.declared.contexts.Contexts.{Contexts}
 use Rattle.vp9_types.specs.declared.job.Span.{Span}
 use Rattle.block_geometry.specs.declared.transform_blocks.FramePlaces.{FramePlaces}
 use Rattle.block_plan.specs.declared.block.BlockInfo.{BlockInfo}
-use Rattle.block_residue.specs.Code.{FitPlanes}
 use Rattle.block_residue.specs.declared.sides.TileSides.{TileSides}
 use Rattle.frame_setting.specs.declared.setting.FrameSetting.{FrameSetting}
-use Rattle.frame_decoder.specs.Columns.{AllFit, AllLie, AllSmall, AllStart, IsTileColumn, limit_of}
-use Rattle.frame_decoder.specs.Code.{column_as_listed, column_of_code}
-use Rattle.frame_decoder.specs.Frames.{FrameInput, read_frame}
-use Rattle.frame_decoder.specs.Reading.{FrameRead, TileRead, infos, nothing_read, read_tile_of}
-use Rattle.frame_decoder.specs.Sources.{FramePast, FrameSources}
-use Rattle.frame_decoder.specs.declared.columns.TileColumn.{TileColumn}
-use Rattle.frame_decoder.specs.declared.sources.FrameSources as code
-use Rattle.frame_decoder.specs.declared.tile_places.TilePlaces.{TilePlaces}
+use Rattle.frame_state.specs.Columns.{IsTileColumn}
+use Rattle.frame_state.specs.Code.{IsReady, column_as_listed, column_of_code}
+use Rattle.frame_state.specs.Reading.{FrameInput, read_frame, FrameRead, TileRead, infos, nothing_read, read_tile_of}
+use Rattle.frame_state.specs.Sources.{FramePast, FrameSources}
+use Rattle.frame_state.specs.declared.columns.TileColumn.{TileColumn}
+use Rattle.frame_state.specs.declared.sources.FrameSources as code
+use Rattle.frame_state.specs.declared.tile_places.TilePlaces.{TilePlaces}
 use Rattle.tile_writer.specs.declared.unwritten.Unwritten.{Unwritten}
 use Rattle.tile_writer.specs.declared.unwritten.Unwritten.TheVariants as unwritten
 use Rattle.frame_writer.specs.Bytes.{HasItsBools, HasSize, HaveTheirBools, IsLaidOut, IsWritten, read_each, sized, tile_bytes, with_size, without_index}
-use Rattle.frame_writer.specs.Frames.{FrameSaid, frame_told, nth_syntax, nth_told, said_of, tile_syntax, tile_told, tiles_told}
+use Rattle.frame_writer.specs.Frames.{frame_told, nth_syntax, nth_told, said_of, tile_syntax, tile_told, tiles_told}
 use Rattle.frame_writer.specs.Symbols.{Speaker}
 use Rattle.frame_writer.specs.declared.frame.FrameHeaders.{FrameHeaders}
 use Rattle.frame_writer.specs.declared.frame.FrameToWrite.{FrameToWrite}
@@ -70,17 +67,9 @@ TellsInto told false x new = told ≡ None
 
 -- a tile's column, between two of its blocks
 pub record IsReadyFor (setting : FrameSetting) (tile : TilePlaces) (c : TileColumn) : Type 0 where
-  pub rows : c.grid.rows ≡ setting.places.rows
-  pub order : c.grid.from ≤ c.grid.to
-  pub within : c.grid.to ≤ setting.places.cols
-  pub ends : c.grid.to ≡ min (limit_of c) setting.places.cols
   pub from : tile.col_from ≡ c.grid.from
   pub to : tile.col_to ≡ c.grid.to
-  pub fit : FitPlanes (shape_of setting.header) c.sides
-  pub fit_blocks : AllFit c.grid.blocks
-  pub lie : AllLie c.grid.from (limit_of c) c.grid.blocks
-  pub starts : AllStart setting.places.rows setting.places.cols c.grid.blocks
-  pub small : AllSmall c.grid.blocks
+  pub ready : IsReady setting c
 
 abbrev pub held_by : TileColumn → TileHeld
 held_by c = record { blocks = c.grid.blocks; sides = c.sides }

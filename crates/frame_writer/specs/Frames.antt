@@ -12,10 +12,10 @@ use Rattle.block_geometry.specs.Frames.{places_of}
 use Rattle.block_geometry.specs.declared.transform_blocks.FramePlaces.{FramePlaces}
 use Rattle.block_plan.specs.Planned.{PlannedBlock}
 use Rattle.mode_syntax.specs.Walk.{decode_tile}
-use Rattle.frame_decoder.specs.Reading.{Column, FrameRead, TileRead, begun, column_after, column_at, no_column, nothing_read, read_walk}
-use Rattle.frame_decoder.specs.Sources.{FrameSources}
-use Rattle.frame_decoder.specs.Tiles.{column_of, tile_places}
-use Rattle.frame_decoder.specs.declared.tile_places.TilePlaces.{TilePlaces}
+use Rattle.frame_state.specs.Reading.{Column, FrameRead, TileRead, begun, column_after, column_at, no_column, nothing_read, read_walk}
+use Rattle.frame_state.specs.Sources.{FrameSources}
+use Rattle.frame_state.specs.Tiles.{column_of, tile_places}
+use Rattle.frame_state.specs.declared.tile_places.TilePlaces.{TilePlaces}
 use Rattle.tile_writer.specs.Said.{Said, said_tile}
 use Rattle.tile_writer.specs.declared.unwritten.Unwritten.{Unwritten}
 use Rattle.frame_writer.specs.Symbols.{Speaker, teller_of}

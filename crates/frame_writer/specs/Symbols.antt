@@ -12,8 +12,8 @@ use Rattle.block_plan.specs.declared.block.Prediction.TheVariants as prediction
 use Rattle.block_residue.specs.declared.sides.TileSides.{TileSides}
 use Rattle.inter_modes.specs.ModeInfo.{InterFrame, block_with, sources_of}
 use Rattle.inter_modes.specs.declared.starts.BlockStart.{BlockStart}
-use Rattle.frame_decoder.specs.Reading.{TileRead, infos}
-use Rattle.frame_decoder.specs.Sources.{FrameSources}
+use Rattle.frame_state.specs.Reading.{TileRead, infos}
+use Rattle.frame_state.specs.Sources.{FrameSources}
 use Rattle.inter_writer.specs.Said as inter
 use Rattle.inter_writer.specs.declared.frame_blocks.BlockSymbols.{BlockSymbols}
 use Rattle.inter_writer.specs.declared.frame_blocks.PredictionSymbols.{PredictionSymbols}

@@ -8,10 +8,10 @@ ghost use Rattle.header_writer.specs.Reads.{HoldsHeader};
 ghost use Rattle.header_writer.specs.Spelling.{IsSpelled};
 ghost use Rattle.header_writer.specs.WellFormed.{CanChoose, IsWellFormed};
 ghost use Rattle.frame_headers.specs.Tiles.{AreFewTiles};
-ghost use Rattle.frame_decoder.specs.Code.{sources_of};
-ghost use Rattle.frame_decoder.specs.Columns.{AreTileColumns};
-ghost use Rattle.frame_decoder.specs.Past.{IsPastOf, past_of};
-ghost use Rattle.frame_decoder.specs.Reading.{nothing_read};
+ghost use Rattle.frame_state.specs.Code.{sources_of};
+ghost use Rattle.frame_state.specs.Columns.{AreTileColumns};
+ghost use Rattle.frame_state.specs.Past.{IsPastOf, past_of};
+ghost use Rattle.frame_state.specs.Reading.{nothing_read};
 ghost use Rattle.frame_writer.specs.Bytes.{with_size, without_index};
 ghost use Rattle.frame_writer.specs.Code.{GivesFrame, GivesHeaders, GivesRest, HoldsColumns};
 
@@ -21,7 +21,7 @@ use crate::tiles::write_tiles;
 use crate::written::{NotWritten, Written};
 use bool_encoder::BoolEncoder;
 use compressed_writer::write_compressed_header;
-use frame_decoder::{FramePast, FrameSources, TileColumn, TilePlaces};
+use frame_state::{FramePast, FrameSources, TileColumn, TilePlaces};
 use frame_headers::{FrameParams, Header, Persist, Uncompressed};
 use frame_setting::FrameSetting;
 use header_writer::{Choices, write_uncompressed_header};
@@ -161,7 +161,7 @@ fn write_behind<S: FrameSymbols>(
     ensures { GivesRest S.speaker (sources_of by.now) symbols headers.items result.0 result.1 }
 {
     let setting = &by.setting;
-    let Ok(columns) = TileColumn::all(Vec::new(alloc), setting) else {
+    let Ok(columns) = TileColumn::new_all(alloc, setting) else {
         return (Err(NotWritten::OutOfMemory), symbols);
     };
     let Ok(column) = TileColumn::new(alloc, setting, 0) else {

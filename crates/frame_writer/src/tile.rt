@@ -1,10 +1,10 @@
 //! A frame that is written, tile by tile.
 
 ghost use Rattle.std.specs.Prelude.{◌≡◌, ◌≤◌};
-ghost use Rattle.frame_decoder.specs.Code.{sources_of};
-ghost use Rattle.frame_decoder.specs.Columns.{limit_of};
-ghost use Rattle.frame_decoder.specs.Past.{IsPastOf};
-ghost use Rattle.frame_decoder.specs.Reading.{TileRead, read_walk};
+ghost use Rattle.frame_state.specs.Code.{sources_of};
+ghost use Rattle.frame_state.specs.Columns.{limit_of};
+ghost use Rattle.frame_state.specs.Past.{IsPastOf};
+ghost use Rattle.frame_state.specs.Reading.{TileRead, read_walk};
 ghost use Rattle.tile_writer.specs.Code.{Tile};
 ghost use Rattle.frame_writer.specs.Symbols.{teller_of};
 ghost use Rattle.frame_writer.specs.Code.{TileHere, IsReadyFor, here_of};
@@ -13,7 +13,7 @@ use crate::symbols::FrameSymbols;
 use block_geometry::FramePlaces;
 use block_plan::BlockAt;
 use bool_encoder::BoolEncoder;
-use frame_decoder::{FrameSources, TileColumn, TilePlaces};
+use frame_state::{FrameSources, TileColumn, TilePlaces};
 use frame_headers::FrameKind;
 use inter_writer::{SaidBlock, put_mode_info};
 use mode_syntax::SquareAt;

@@ -5,10 +5,10 @@ ghost use Rattle.bool_encoder.specs.Part.{marked};
 ghost use Rattle.vp9_types.specs.Sizes.{superblocks_along};
 ghost use Rattle.frame_headers.specs.Spans.{tile_count};
 ghost use Rattle.frame_headers.specs.Tiles.{AreFewTiles};
-ghost use Rattle.frame_decoder.specs.Code.{sources_of};
-ghost use Rattle.frame_decoder.specs.Columns.{AreTileColumns};
-ghost use Rattle.frame_decoder.specs.Past.{IsPastOf};
-ghost use Rattle.frame_decoder.specs.Reading.{FrameRead, TileRead, nothing_read};
+ghost use Rattle.frame_state.specs.Code.{sources_of};
+ghost use Rattle.frame_state.specs.Columns.{AreTileColumns};
+ghost use Rattle.frame_state.specs.Past.{IsPastOf};
+ghost use Rattle.frame_state.specs.Reading.{FrameRead, TileRead, nothing_read};
 ghost use Rattle.frame_writer.specs.Bytes.{HasSize, sized};
 ghost use Rattle.frame_writer.specs.Code.{EndsColumn, GivesBytes, GivesNth, GivesTile, GivesTiles, HoldsColumns, IsReadyFor, first_broken, held_by, held_of};
 
@@ -16,7 +16,7 @@ use crate::symbols::FrameSymbols;
 use crate::tile::FrameInProgress;
 use crate::written::{NotWritten, Written, ending_of};
 use bool_encoder::BoolEncoder;
-use frame_decoder::{TileColumn, TilePlaces};
+use frame_state::{TileColumn, TilePlaces, superblocks};
 use frame_setting::FrameSetting;
 use mode_syntax::SquareAt;
 use std::alloc::{AllocError, Global};
@@ -26,16 +26,6 @@ use vp9_types::Rule;
 
 /// The level of a superblock.
 const SUPERBLOCK: u8 = 3;
-
-/// How many superblocks reach over these places.
-fn superblocks(from: u32, to: u32) -> u32
-    requires order { from ≤ to }
-    requires few { to ≤ 65536 }
-    ensures is { result ≡ superblocks_along (to - from) }
-    ensures few { result ≤ 8192 }
-{
-    (to - from).div_ceil(8)
-}
 
 /// The bytes of a tile that ends so, or why it has none.
 fn tile_bytes(encoder: &BoolEncoder, ended: Result<(), Unwritten>) -> Result<Written, NotWritten>

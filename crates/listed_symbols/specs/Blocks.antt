@@ -20,7 +20,7 @@ use Rattle.inter_writer.specs.declared.frame_blocks.PredictionSymbols.{Predictio
 use Rattle.inter_writer.specs.declared.frame_blocks.PredictionSymbols.TheVariants.{Intra, Inter}
 use Rattle.residue_writer.specs.declared.levels.BlockLevels.{BlockLevels}
 use Rattle.residue_writer.specs.declared.levels.PlaneLevels.{PlaneLevels}
-use Rattle.frame_decoder.specs.Sources.{FrameSources}
+use Rattle.frame_state.specs.Sources.{FrameSources}
 use Rattle.frame_writer.specs.Symbols.{Speaker}
 use Rattle.listed_symbols.specs.Inter.{can_put_inter}
 use Rattle.listed_symbols.specs.Intra.{can_partition, can_luma}

@@ -2,9 +2,9 @@
 
 ghost use Rattle.std.specs.Prelude.{◌≡◌, ◌<◌, ◌≤◌, true};
 ghost use Rattle.prob_contexts.specs.Lists.{lists_of};
-ghost use Rattle.frame_decoder.specs.Code.{sources_of};
-ghost use Rattle.frame_decoder.specs.Columns.{AllSmall};
-ghost use Rattle.frame_decoder.specs.Past.{IsPastOf};
+ghost use Rattle.frame_state.specs.Code.{sources_of};
+ghost use Rattle.frame_state.specs.Columns.{AllSmall};
+ghost use Rattle.frame_state.specs.Past.{IsPastOf};
 ghost use Rattle.inter_writer.specs.Fits.{CanPut, CanPutIntra};
 ghost use Rattle.listed_symbols.specs.Blocks.{can_put, can_put_intra, last_told};
 
@@ -14,7 +14,7 @@ use crate::intra::{can_luma, can_partition};
 use crate::lists::{ListedBlock, ListedSymbols};
 use crate::starts::can_start_intra;
 use block_plan::{BlockAt, BlockGrid, BlockInfo};
-use frame_decoder::FrameSources;
+use frame_state::FrameSources;
 use frame_headers::FrameKind;
 use frame_setting::FrameSetting;
 use frame_writer::FrameSymbols;

@@ -21,8 +21,8 @@ use Rattle.picture_table.specs.declared.table.PictureTable.{PictureTable}
 use Rattle.prob_contexts.specs.Lists.{ContextLists}
 use Rattle.planes.specs.declared.picture.Picture as planes
 use Rattle.frame_decoder.specs.Frames.{FrameResult}
-use Rattle.frame_decoder.specs.declared.halt.Halt.{Halt}
-use Rattle.frame_decoder.specs.declared.halt.Halt.TheVariants as halt
+use Rattle.frame_state.specs.declared.halt.Halt.{Halt}
+use Rattle.frame_state.specs.declared.halt.Halt.TheVariants as halt
 use Rattle.seq_decoder.specs.After.{Stepped, after_coded, picture_of, shown_picture, state_after}
 use Rattle.seq_decoder.specs.SavedContexts.{context_at, own_contexts, place_of, saved_before, with_own, saved_after}
 use Rattle.seq_decoder.specs.Code.{StandsFor, shape_told, shown_text, step_text, shown_of, text_if, IsAt, IsCoded, Shows, Halts, halt_outcome, refusal_outcome}

@@ -28,24 +28,26 @@ use Rattle.planes.specs.Pictures.{map_of}
 use Rattle.planes.specs.declared.picture.Picture as planes
 use Rattle.picture_table.specs.Code.{IsSound, IsTable, held, held_in, shown}
 use Rattle.picture_table.specs.declared.table.PictureTable.{PictureTable}
+use Rattle.block_rebuild.specs.InterBlocks.{ReferencePicture}
 use Rattle.block_rebuild.specs.Code.{HasReference, IsUsable, picture_of, reference_of, rebuilding_of}
 use Rattle.block_rebuild.specs.declared.references.ReferencePicture as code_picture
 use Rattle.block_rebuild.specs.declared.references.Rebuilding as code
-use Rattle.frame_decoder.specs.Past.{HasPictures, has_row, row_width}
+use Rattle.frame_decoder.specs.Pictures.{HasPictures, has_row, row_width}
 use Rattle.std.proofs.lemmas.Bool.{eqb-true}
 use Rattle.frame_headers.specs.Spans.{tile_count}
-use Rattle.frame_decoder.specs.Past.{AreVectors}
-use Rattle.frame_decoder.specs.declared.frame_blocks.FrameBlocks.{FrameBlocks}
-use Rattle.frame_decoder.proofs.ColumnBlocks.{all_small}
+use Rattle.frame_state.specs.Past.{AreVectors}
+use Rattle.frame_state.specs.declared.frame_blocks.FrameBlocks.{FrameBlocks}
+use Rattle.frame_state.proofs.ColumnBlocks.{all_small}
 use Rattle.seq_decoder.specs.declared.last.LastFrame as code_last
 use Rattle.seq_decoder.proofs.FrameLemmas.{is_at, shown_sound}
 use Rattle.seq_decoder.specs.After.{input_of, picture_in, references_of, segments_before, takes_vectors, vectors_before}
 use Rattle.seq_decoder.specs.SavedContexts.{context_before}
 use Rattle.frame_decoder.specs.Code.{IsDecoded}
-use Rattle.frame_decoder.specs.Frames.{FrameInput, decoded}
-use Rattle.frame_decoder.specs.Sources.{FramePast}
-use Rattle.frame_decoder.specs.declared.halt.Halt.{Halt}
-use Rattle.frame_decoder.specs.declared.halt.Halt.TheVariants as halt
+use Rattle.frame_state.specs.Reading.{FrameInput}
+use Rattle.frame_decoder.specs.Frames.{decoded}
+use Rattle.frame_state.specs.Sources.{FramePast}
+use Rattle.frame_state.specs.declared.halt.Halt.{Halt}
+use Rattle.frame_state.specs.declared.halt.Halt.TheVariants as halt
 use Rattle.seq_decoder.specs.Code.{IsCoded, IsHeld, NamesHeld, NamesHeldBy, last_of_code, shape_told, shown_of, told_of}
 use Rattle.seq_decoder.specs.State.{Picture, State, last_size}
 use Rattle.seq_decoder.proofs.HeaderReferences.{HoldsReference, references_held}
@@ -233,16 +235,17 @@ vectors_are header last b takes same columns =
 ---- The input of a frame ----
 
 pub input_is : (state : State) (own header : Header) (bytes : List ℕ) (compressed : Span) (past : FramePast) → own ≡ header → past.contexts ≡ context_before header state.contexts
-    → past.segments ≡ segments_before header (last_size state.last) state.segments → past.vectors ≡ vectors_before header state.last → past.references ≡ references_of state.slots header.kind
+    → past.segments ≡ segments_before header (last_size state.last) state.segments → past.vectors ≡ vectors_before header state.last
     → ◌≡◌ {A = FrameInput} (record { header = own; compressed = compressed; bytes = bytes; past = past }) (input_of state bytes header compressed)
-input_is state own header bytes compressed past same contexts segments vectors references = λ i. record {
+input_is state own header bytes compressed past same contexts segments vectors = λ i. record {
   header = same i;
   compressed = compressed;
   bytes = bytes;
-  past = record { contexts = contexts i; segments = segments i; vectors = vectors i; references = references i };
+  past = record { contexts = contexts i; segments = segments i; vectors = vectors i };
 }
 
 -- a frame that can't be decoded
-pub coded_halts : (header : Header) (input other : FrameInput) (picture : planes.Picture) (table : PictureTable) (e : Halt) → input ≡ other → IsDecoded input picture (Err e) → IsCoded header (decoded other) table (Err e)
-coded_halts header input other picture table (halt.Broken rule) same is = ap decoded (sym same) ∙ is
-coded_halts header input other picture table halt.OutOfMemory same is = tt
+pub coded_halts : (header : Header) (references others : ReferenceFrame → ReferencePicture) (input other : FrameInput) (picture : planes.Picture) (table : PictureTable) (e : Halt)
+    → references ≡ others → input ≡ other → IsDecoded references input picture (Err e) → IsCoded header (decoded others other) table (Err e)
+coded_halts header references others input other picture table (halt.Broken rule) named same is = (λ i. decoded (sym named i) (sym same i)) ∙ is
+coded_halts header references others input other picture table halt.OutOfMemory named same is = tt

@@ -9,10 +9,10 @@ use Rattle.block_geometry.specs.declared.transform_blocks.FramePlaces.{FramePlac
 use Rattle.block_plan.specs.Blocks.{covering, or_else}
 use Rattle.block_plan.specs.declared.block.BlockInfo.{BlockInfo}
 use Rattle.frame_headers.specs.declared.segments.Segmentation.{Segmentation}
-use Rattle.frame_decoder.specs.Columns.{blocks_of}
-use Rattle.frame_decoder.specs.Frames.{all_blocks}
-use Rattle.frame_decoder.specs.declared.columns.TileColumn.{TileColumn}
-use Rattle.frame_decoder.proofs.ColumnBlocks.{covering_both}
+use Rattle.frame_state.specs.Columns.{blocks_of}
+use Rattle.frame_state.specs.Reading.{all_blocks}
+use Rattle.frame_state.specs.declared.columns.TileColumn.{TileColumn}
+use Rattle.frame_state.proofs.ColumnBlocks.{covering_both}
 use Rattle.inter_modes.specs.Segments.{segment_or, segments_after, segments_of, updates}
 
 one_place : (inside : Bool) (old : ℕ) (x y both : Option BlockInfo) → both ≡ or_else y x

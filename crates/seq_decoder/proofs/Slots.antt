@@ -9,8 +9,8 @@ use Rattle.frame_headers.specs.State.{next_persist, shape_of, start_persist}
 use Rattle.frame_headers.specs.declared.header.FrameHead.{FrameHead}
 use Rattle.frame_headers.specs.declared.header.FrameHead.TheVariants as head
 use Rattle.frame_headers.specs.declared.header.Header.{Header}
-use Rattle.frame_decoder.specs.Frames.{FrameResult, decoded}
-use Rattle.seq_decoder.specs.After.{Stepped, after_coded, behind_head, input_of, state_after, picture_of, step}
+use Rattle.frame_decoder.specs.Frames.{FrameResult}
+use Rattle.seq_decoder.specs.After.{Stepped, after_coded, behind_head, decoded_in, state_after, picture_of, step}
 use Rattle.seq_decoder.specs.State.{State, start_state, persist_of, slot_shape}
 
 -- what headers read after a frame
@@ -37,7 +37,7 @@ step_is number state frame h is = ap (behind_head number state frame) is
 pub coded_persists : (number : ℕ) (state : State) (frame : List ℕ) (header : Header) (compressed : Span) (next : Stepped)
     → head_of (persist_of state) frame ≡ Ok (head.Coded header compressed) → step number state frame ≡ Ok next → persist_of next.state ≡ next_persist header (persist_of state)
 coded_persists number state frame header compressed next is stepped =
-    persists_by number state header (decoded (input_of state frame header compressed)) next (sym (step_is number state frame (Ok (head.Coded header compressed)) is) ∙ stepped)
+    persists_by number state header (decoded_in state frame header compressed) next (sym (step_is number state frame (Ok (head.Coded header compressed)) is) ∙ stepped)
 
 pub shown_stays : (number : ℕ) (state : State) (frame : List ℕ) (slot : ℕ) (next : Stepped)
     → head_of (persist_of state) frame ≡ Ok (head.ShowExisting slot) → step number state frame ≡ Ok next → next.state ≡ state

@@ -16,8 +16,9 @@ use Rattle.block_geometry.specs.Frames.{places_of}
 use Rattle.block_plan.specs.declared.block.BlockInfo.{BlockInfo}
 use Rattle.block_rebuild.specs.Code.{no_picture}
 use Rattle.block_rebuild.specs.InterBlocks.{ReferencePicture}
-use Rattle.frame_decoder.specs.Frames.{FrameInput, FrameResult, all_blocks, decoded}
-use Rattle.frame_decoder.specs.Sources.{FramePast}
+use Rattle.frame_state.specs.Reading.{FrameInput, all_blocks}
+use Rattle.frame_decoder.specs.Frames.{FrameResult, decoded}
+use Rattle.frame_state.specs.Sources.{FramePast}
 use Rattle.inter_contexts.specs.References.{reference_in}
 use Rattle.inter_modes.specs.Segments.{segments_after}
 use Rattle.seq_decoder.specs.SavedContexts.{is_key, loses_past, context_before, saved_after}
@@ -58,12 +59,15 @@ past_of state header = record {
   contexts = context_before header state.contexts;
   segments = segments_before header (last_size state.last) state.segments;
   vectors = vectors_before header state.last;
-  references = references_of state.slots header.kind;
 }
 
--- what a frame is decoded from, by its header and where its compressed header lies
+-- what a frame is read from, by its header and where its compressed header lies
 abbrev pub input_of : State → List ℕ → Header → Span → FrameInput
 input_of state frame header compressed = record { header = header; compressed = compressed; bytes = frame; past = past_of state header }
+
+-- it is decoded in this state
+abbrev pub decoded_in : State → List ℕ → Header → Span → Result FrameResult Rule
+decoded_in state frame header compressed = decoded (references_of state.slots header.kind) (input_of state frame header compressed)
 
 ---- What it leaves and shows ----
 
@@ -107,7 +111,7 @@ after_coded number state header (Err rule) = Err rule
 
 -- Showing a slot leaves the state as it is.
 abbrev pub behind_head : ℕ → State → List ℕ → Result FrameHead Rule → Result Stepped Rule
-behind_head number state frame (Ok (head.Coded header compressed)) = after_coded number state header (decoded (input_of state frame header compressed))
+behind_head number state frame (Ok (head.Coded header compressed)) = after_coded number state header (decoded_in state frame header compressed)
 behind_head number state frame (Ok (head.ShowExisting slot)) = Ok (record { state = state; shown = get_or state.slots slot None })
 behind_head number state frame (Err rule) = Err rule
 

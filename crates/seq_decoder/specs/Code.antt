@@ -23,11 +23,12 @@ use Rattle.picture_table.specs.Code.{held, names, IsTable}
 use Rattle.picture_table.specs.declared.table.PictureTable.{PictureTable}
 use Rattle.planes.specs.Pictures.{map_of}
 use Rattle.planes.specs.declared.picture.Picture as planes
-use Rattle.frame_decoder.specs.Columns.{blocks_of}
+use Rattle.frame_state.specs.Columns.{blocks_of}
 use Rattle.frame_decoder.specs.Code.{HoldsResult}
-use Rattle.frame_decoder.specs.Frames.{FrameResult, all_blocks}
-use Rattle.frame_decoder.specs.declared.halt.Halt.{Halt}
-use Rattle.frame_decoder.specs.declared.halt.Halt.TheVariants as halt
+use Rattle.frame_decoder.specs.Frames.{FrameResult}
+use Rattle.frame_state.specs.Reading.{all_blocks}
+use Rattle.frame_state.specs.declared.halt.Halt.{Halt}
+use Rattle.frame_state.specs.declared.halt.Halt.TheVariants as halt
 use Rattle.frame_output.specs.Texts.{frame_text}
 use Rattle.seq_decoder.specs.declared.coding.Coded.{Coded}
 use Rattle.seq_decoder.specs.declared.decoder.Decoder.{Decoder}

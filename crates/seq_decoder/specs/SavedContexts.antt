@@ -9,7 +9,7 @@ use Rattle.prob_contexts.specs.Lists.{ContextLists}
 use Rattle.backward_adapt.specs.Adaptation.{adaptation}
 use Rattle.backward_adapt.specs.declared.kind.AdaptKind.{AdaptKind}
 use Rattle.backward_adapt.specs.declared.kind.AdaptKind.TheVariants as adapt
-use Rattle.frame_decoder.specs.Sources.{adapts}
+use Rattle.frame_state.specs.Sources.{adapts}
 use Rattle.frame_decoder.specs.Frames.{FrameResult}
 use Rattle.prob_contexts.specs.Defaults.{default_lists}
 

@@ -2,13 +2,14 @@
 
 ghost use Rattle.std.specs.Prelude.{◌≡◌};
 ghost use Rattle.prob_contexts.specs.Lists.{lists_of};
-ghost use Rattle.frame_decoder.specs.Code.{counts_if};
+ghost use Rattle.frame_state.specs.Code.{counts_if};
 ghost use Rattle.frame_decoder.specs.Frames.{FrameResult};
-ghost use Rattle.frame_decoder.specs.Sources.{adapts};
+ghost use Rattle.frame_state.specs.Sources.{adapts};
 ghost use Rattle.seq_decoder.specs.SavedContexts.{kind_of, own_contexts};
 
 use backward_adapt::{AdaptKind, InterKind, adapt};
-use frame_decoder::{Decoded, adapts};
+use frame_decoder::Decoded;
+use frame_state::adapts;
 use frame_headers::{FrameKind, Header};
 use prob_contexts::Contexts;
 

@@ -3,9 +3,9 @@
 ghost use Rattle.std.specs.Prelude.{◌≡◌, ℕ, ◌<◌, Some, None, Ok, IfOk, OnOk, get_or, length};
 ghost use Rattle.frame_headers.specs.Sizes.{IsFrameSize};
 ghost use Rattle.frame_headers.specs.Tiles.{AreFewTiles};
-ghost use Rattle.frame_decoder.specs.Frames.{FrameResult, decoded};
-ghost use Rattle.picture_table.specs.Code.{held};
-ghost use Rattle.seq_decoder.specs.After.{Stepped, after_coded, input_of, state_after, step};
+ghost use Rattle.frame_decoder.specs.Frames.{FrameResult};
+ghost use Rattle.picture_table.specs.Code.{IsTable, held};
+ghost use Rattle.seq_decoder.specs.After.{Stepped, after_coded, decoded_in, state_after, step};
 ghost use Rattle.seq_decoder.specs.Code.{MayDecode, NamesHeld, StandsFor, HasBegun, IsAt, IsCoded, LiesWithin, halt_outcome, refusal_outcome, Adds};
 ghost use Rattle.seq_decoder.specs.Outcomes.{outcome_at};
 ghost use Rattle.seq_decoder.specs.State.{State, start_state};
@@ -18,7 +18,8 @@ use crate::segments::{begin_segments, keep_segments, segments_of};
 use crate::showing::show;
 use edge_io::{PutFault, Sink};
 use file_frames::FileFrame;
-use frame_decoder::{FramePast, Halt, TileColumn, begin_frame, decode_frame};
+use frame_decoder::{PlainSources, decode_frame};
+use frame_state::{FramePast, Halt, TileColumn, begin_frame};
 use frame_headers::{FrameHead, Header, Persist, read};
 use picture_table::PictureTable;
 use planes::Picture;
@@ -83,8 +84,9 @@ impl Decoder {
         }
     }
 
-    /// Decodes a frame into a picture that no slot holds, which is taken when what comes before its tiles breaks no rule, and makes the saved contexts and the segments those that the frame
-    /// starts with.
+    /// Decodes a frame into a picture that no slot holds, which is taken when what comes before its tiles breaks no rule, and
+    /// makes the saved contexts and the segments those that the frame starts with. Where there is no frame the table of pictures
+    /// stays whole.
     fn decode_picture(
         &mut self,
         alloc: Global,
@@ -97,10 +99,11 @@ impl Decoder {
         requires few { AreFewTiles header.now.params.tiles }
         requires placed { LiesWithin (length bytes.now) compressed }
         requires held { NamesHeld header.now (held self.old.table) }
-        ensures coded { (state : State) → StandsFor self.old state → IsCoded header.now (decoded (input_of state bytes.now header.now compressed)) self.new.table result }
+        ensures coded { (state : State) → StandsFor self.old state → IsCoded header.now (decoded_in state bytes.now header.now compressed) self.new.table result }
         ensures at { IfOk result (λ c. (r : FrameResult) × IsAt header.now self.new.table c r) }
         ensures begun { OnOk result ((state : State) → StandsFor self.old state → HasBegun header.now self.new state) }
         ensures may { OnOk result (MayDecode (record self.new { persist = record self.new.persist { size = Some header.now.size } })) }
+        ensures table { IsTable self.new.table × (held self.new.table ≡ held self.old.table) }
     {
         self.saved.reset(header);
         let before = self.saved.at(place_of(header));
@@ -108,16 +111,21 @@ impl Decoder {
         begin_segments(alloc, header, self.persist.size, &mut self.segments)?;
         let place = self.table.blank(alloc, header.shape())?;
         let mut picture = replace(&mut self.table.pictures[place], Picture::none(alloc));
-        let columns = replace(&mut self.columns, Vec::new(alloc));
         let past = FramePast {
             contexts: &before,
             segments: segments_of(&self.segments),
             vectors: vectors_before(header, &self.last),
+        };
+        let by = PlainSources {
+            reading: FrameSources { setting, past },
             pictures: pictures_for(header, &self.table),
         };
-        let decoded = decode_frame(columns, bytes, setting, compressed, past, &mut picture)?;
+        let decoded = decode_frame(&mut self.columns, bytes, by, compressed, &mut picture);
         self.table.pictures[place] = picture;
-        Ok(Coded { decoded, place })
+        Ok(Coded {
+            decoded: decoded?,
+            place,
+        })
     }
 
     /// Keeps what a frame leaves, for which the saved contexts and the segments are made those that it starts with.
@@ -159,7 +167,7 @@ impl Decoder {
         requires held { NamesHeld header.now (held self.old.table) }
         requires sink { K.can_put sink.old }
         ensures adds { (state : State) → StandsFor self.old state → Adds frame.entry.number
-            (after_coded frame.entry.number state header.now (decoded (input_of state frame.entry.bytes.now header.now compressed))) self.new
+            (after_coded frame.entry.number state header.now (decoded_in state frame.entry.bytes.now header.now compressed)) self.new
             (K.taken sink.old) (K.taken sink.new) (K.faults sink.old) (K.faults sink.new) result }
         ensures may { OnOk result (MayDecode self.new) }
         ensures grows { K.grows sink.new ≡ K.grows sink.old }

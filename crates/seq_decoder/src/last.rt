@@ -1,9 +1,9 @@
 //! The last decoded frame.
 
 ghost use Rattle.std.specs.Prelude.{◌≡◌, Some};
-ghost use Rattle.frame_decoder.specs.Columns.{AreColumnsOf};
+ghost use Rattle.frame_state.specs.Columns.{AreColumnsOf};
 
-use frame_decoder::TileColumn;
+use frame_state::TileColumn;
 use frame_headers::Header;
 use std::mem::replace;
 

@@ -14,7 +14,7 @@ mod showing;
 pub use decoder::Decoder;
 pub use last::LastFrame;
 pub use laws::headers_read_what_persists;
-pub use past::{pictures_for, vectors_before};
+pub use past::vectors_before;
 pub use plain::decode_plain;
 pub use saved::{SavedContexts, loses_past, place_of};
 pub use segments::{has_size, segments_of};

@@ -3,14 +3,14 @@
 ghost use Rattle.std.specs.Prelude.{◌≡◌, Some, All, IsSome, OnOk};
 ghost use Rattle.block_geometry.specs.Frames.{places_of};
 ghost use Rattle.frame_headers.specs.State.{shape_of};
-ghost use Rattle.frame_decoder.specs.Columns.{HasStarts, blocks_of};
-ghost use Rattle.frame_decoder.specs.Frames.{all_blocks};
+ghost use Rattle.frame_state.specs.Columns.{HasStarts, blocks_of};
+ghost use Rattle.frame_state.specs.Reading.{all_blocks};
 ghost use Rattle.inter_modes.specs.Segments.{segments_after};
 ghost use Rattle.seq_decoder.specs.After.{has_size, segments_before};
 ghost use Rattle.seq_decoder.specs.Code.{HasPlaces, segments_held};
 
 use crate::saved::loses_past;
-use frame_decoder::TileColumn;
+use frame_state::TileColumn;
 use frame_headers::{FrameSize, Header};
 use inter_modes::update_segments;
 use segment_map::SegmentMap;

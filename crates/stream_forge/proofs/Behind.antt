@@ -2,7 +2,7 @@
 use Rattle.std.proofs.Common.{◌≡◌, subst}
 use Rattle.std.specs.Prelude.{Result}
 use Rattle.frame_headers.specs.declared.persist.Persist.{Persist}
-use Rattle.frame_decoder.specs.Sources.{FramePast}
+use Rattle.frame_state.specs.Sources.{FramePast}
 use Rattle.frame_writer.specs.Code.{GivesFrame}
 use Rattle.frame_writer.specs.Symbols.{Speaker}
 use Rattle.frame_writer.specs.declared.written.NotWritten.{NotWritten}

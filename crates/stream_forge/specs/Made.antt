@@ -11,9 +11,8 @@ use Rattle.container_writer.specs.Files.{file_header, packet_of}
 use Rattle.header_writer.specs.Spelling.{IsSpelled}
 use Rattle.header_writer.specs.declared.choices.Choices.{Choices}
 use Rattle.ivf_container.specs.Packets.{written_bytes}
-use Rattle.frame_decoder.specs.Frames.{read_frame}
-use Rattle.frame_decoder.specs.Reading.{FrameRead}
-use Rattle.frame_decoder.specs.Sources.{FrameSources}
+use Rattle.frame_state.specs.Reading.{read_frame, FrameRead}
+use Rattle.frame_state.specs.Sources.{FrameSources}
 use Rattle.compressed_header.specs.Header.{forward}
 use Rattle.tile_writer.specs.declared.unwritten.Unwritten.{Unwritten}
 use Rattle.frame_writer.specs.Bytes.{IsLaidOut, with_size}

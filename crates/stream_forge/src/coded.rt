@@ -9,11 +9,11 @@ ghost use Rattle.seq_decoder.specs.State.{State};
 ghost use Rattle.stream_forge.specs.Code.{GivesBehind};
 
 use crate::past::{fresh_segments, segments_for};
-use frame_decoder::FramePast;
+use frame_state::FramePast;
 use frame_headers::Header;
 use frame_writer::{FrameSymbols, FrameToWrite, NotWritten, Written, write_frame};
 use header_writer::Choices;
-use seq_decoder::{Decoder, pictures_for, place_of, vectors_before};
+use seq_decoder::{Decoder, place_of, vectors_before};
 use std::alloc::Global;
 use vp9_types::Modes;
 
@@ -55,7 +55,6 @@ pub fn write_coded<S: FrameSymbols>(
         contexts: &contexts,
         segments: segments_for(&fresh, &decoder.segments),
         vectors: vectors_before(&header, &decoder.last),
-        pictures: pictures_for(&header, &decoder.table),
     };
     let frame = FrameToWrite {
         header,

@@ -1,8 +1,7 @@
 //! Lists that can be told, and lists that can't.
 
 use block_plan::{BlockInfo, IntraPrediction, Prediction};
-use block_rebuild::Rebuilding;
-use frame_decoder::{FramePast, FrameSources};
+use frame_state::{FramePast, FrameSources};
 use frame_headers::{
     ColorConfig, Features, FrameContexts, FrameKind, FrameParams, FrameSize, Header, LoopDeltas,
     LoopFilter, Quantizer, Segmentation, TileInfo,
@@ -126,12 +125,6 @@ fn told(alloc: Global, listed: ListedLevels<'static>) -> Result<(bool, BlockLeve
             contexts: &contexts,
             segments: &segments,
             vectors: None,
-            pictures: Rebuilding {
-                shape: KEY_FRAME.shape(),
-                last: None,
-                golden: None,
-                altref: None,
-            },
         },
     };
     let blocks = [ListedBlock {

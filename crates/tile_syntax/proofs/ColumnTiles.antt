@@ -20,15 +20,15 @@ use Rattle.counting_reader.specs.Counting.{Settled, counted_if}
 use Rattle.mode_syntax.specs.Laws.{read_all, then_rest, tiles_of, with_counted}
 use Rattle.block_plan.specs.declared.block.BlockInfo.{BlockInfo}
 use Rattle.column_plan.specs.Planned.{planned_blocks}
-use Rattle.frame_decoder.specs.Code.{column_as_listed, column_of_code, counts_if}
-use Rattle.frame_decoder.specs.Columns.{IsTileColumn}
-use Rattle.frame_decoder.specs.Plans.{ColumnRead, column_tile, no_tiles, plan_of, tile_bytes}
-use Rattle.frame_decoder.specs.Reading.{no_column}
-use Rattle.frame_decoder.specs.Sources.{FrameSources}
-use Rattle.frame_decoder.specs.Tiles.{column_of}
-use Rattle.frame_decoder.specs.declared.columns.TileColumn.{TileColumn}
-use Rattle.frame_decoder.specs.declared.halt.Halt.{Halt}
-use Rattle.frame_decoder.specs.declared.halt.Halt.TheVariants as halt
+use Rattle.frame_state.specs.Code.{column_as_listed, column_of_code, counts_if}
+use Rattle.frame_state.specs.Columns.{IsTileColumn}
+use Rattle.frame_state.specs.Plans.{ColumnRead, column_tile, no_tiles, plan_of, tile_bytes}
+use Rattle.frame_state.specs.Reading.{no_column}
+use Rattle.frame_state.specs.Sources.{FrameSources}
+use Rattle.frame_state.specs.Tiles.{column_of}
+use Rattle.frame_state.specs.declared.columns.TileColumn.{TileColumn}
+use Rattle.frame_state.specs.declared.halt.Halt.{Halt}
+use Rattle.frame_state.specs.declared.halt.Halt.TheVariants as halt
 use Rattle.vp9_types.specs.declared.shape.Shape.{Shape}
 use Rattle.tile_syntax.specs.Code.{BreaksWhole, GivesPlan, HoldsColumn, rule_of, unplanned_at}
 use Rattle.tile_syntax.specs.declared.plans.ColumnPlan.{ColumnPlan}

@@ -1,9 +1,8 @@
 -- The next tile of a column that is planned.
-use Rattle.std.proofs.Common.{◌≡◌, ◌∙◌, ℕ, ℤ, ◌+◌, ◌-◌, ◌*◌, ◌^◌, ◌<◌, ◌≤◌, Bool, List, length, refl, sym, ap, subst}
+use Rattle.std.proofs.Common.{◌≡◌, ◌∙◌, ℕ, ◌+◌, ◌-◌, ◌*◌, ◌^◌, ◌<◌, ◌≤◌, Bool, List, refl, sym, ap}
 use Rattle.std.specs.Prelude.{Option, Some, None, Result, Ok, Err, OnOk}
 use Rattle.std.proofs.lemmas.List.{append-nil}
 use Rattle.vp9_types.specs.Results.{◌>>=◌, map_ok}
-use Rattle.vp9_types.specs.Shapes.{mi_cols}
 use Rattle.vp9_types.specs.Sizes.{superblocks_along}
 use Rattle.vp9_types.specs.Syntax.{Syntax}
 use Rattle.vp9_types.specs.declared.rule.Rule.{Rule}
@@ -17,25 +16,22 @@ use Rattle.counting_reader.specs.Code.{standing_of}
 use Rattle.counting_reader.specs.Counting.{Settled, counted_if, mapped}
 use Rattle.counting_reader.specs.declared.reader.CountingReader.{CountingReader}
 use Rattle.block_geometry.specs.Frames.{places_of}
-use Rattle.block_geometry.specs.declared.transform_blocks.FramePlaces.{FramePlaces}
 use Rattle.block_residue.specs.Code.{FitPlanes}
 use Rattle.mode_syntax.specs.Walk.{decode_tile}
 use Rattle.tile_reader.specs.Code.{Breaks}
-use Rattle.column_plan.specs.Planned.{total}
-use Rattle.frame_decoder.specs.Code.{SameColumns, read_whole, settled_of, sources_of}
-use Rattle.frame_decoder.specs.Columns.{AllStart, IsTileColumn}
-use Rattle.frame_decoder.specs.Plans.{ColumnRead, column_tile, with_its_tile}
-use Rattle.frame_decoder.specs.Reading.{Column, begun, read_tile}
-use Rattle.frame_decoder.specs.Tiles.{column_of, tile_places}
-use Rattle.frame_decoder.specs.declared.columns.TileColumn.{TileColumn}
-use Rattle.frame_decoder.specs.declared.sources.FrameSources as code
-use Rattle.frame_decoder.specs.declared.tile_places.TilePlaces.{TilePlaces}
-use Rattle.frame_decoder.proofs.ColumnSteps.{begins_there, cleared, cleared_fit, column_left, ends_there, sides_told, with_sides}
-use Rattle.tile_syntax.proofs.WholeTiles.{column_whole, tile_of}
-use Rattle.frame_decoder.proofs.TileOffsets.{column_ends, offset_grows, offset_low}
-use Rattle.frame_decoder.proofs.TileReads.{seen_by, values_mapped, whole_broken}
-use Rattle.frame_decoder.specs.declared.halt.Halt.{Halt}
-use Rattle.tile_syntax.specs.Code.{BreaksWhole, GivesNext, GivesWhole, HoldsColumn, IsPlanning, PlanTile, plan_view, plan_walk, rule_of, tile_held}
+use Rattle.frame_state.specs.Code.{IsReady, SameColumns, read_whole, settled_of, sources_of}
+use Rattle.frame_state.specs.Columns.{IsTileColumn}
+use Rattle.frame_state.specs.Plans.{ColumnRead, column_tile, with_its_tile}
+use Rattle.frame_state.specs.Reading.{Column, begun, read_tile}
+use Rattle.frame_state.specs.Tiles.{column_of, tile_places}
+use Rattle.frame_state.specs.declared.columns.TileColumn.{TileColumn}
+use Rattle.frame_state.specs.declared.sources.FrameSources as code
+use Rattle.frame_state.specs.declared.tile_places.TilePlaces.{TilePlaces}
+use Rattle.frame_state.proofs.ColumnSteps.{begins_there, cleared, column_left, ends_there, sides_told, with_sides}
+use Rattle.frame_state.proofs.PlanReads.{column_whole, tile_of}
+use Rattle.frame_state.proofs.TileBytes.{seen_by, values_mapped, whole_broken}
+use Rattle.frame_state.specs.declared.halt.Halt.{Halt}
+use Rattle.tile_syntax.specs.Code.{BreaksWhole, GivesNext, GivesWhole, HoldsColumn, PlanTile, plan_view, plan_walk, rule_of, tile_held}
 use Rattle.tile_syntax.specs.declared.plans.ColumnPlan.{ColumnPlan}
 use Rattle.tile_syntax.proofs.PlanTiles.{tile_seen}
 
@@ -69,24 +65,6 @@ breaks_as None a b same breaks = tt
 breaks_as (Some rule) a b same breaks = same rule breaks
 
 ---- Where it begins ----
-
--- a column is ready for its next tile
-pub planning_of : (setting : FrameSetting) (n k : ℕ) (c : TileColumn) (pieces : List (List ℤ)) → IsTileColumn setting.header n k c
-    → total (shape_of setting.header) c.grid.blocks ≡ length pieces → IsPlanning setting (with_sides c (cleared c.sides)) pieces
-planning_of setting n k c pieces h all =
-    let cols : setting.places.cols ≡ mi_cols (shape_of setting.header) = ap (λ (p : FramePlaces). p.cols) setting.whole in
-    let log2 = setting.header.params.tiles.columns_log2 in record {
-      rows = h.rows ∙ ap (λ (p : FramePlaces). p.rows) (sym setting.whole);
-      order = rw (h.from, h.to) (offset_grows (mi_cols (shape_of setting.header)) log2 k);
-      within = rw (h.to, cols) (offset_low (mi_cols (shape_of setting.header)) log2 (k + 1));
-      ends = rw (h.from, h.to, cols) (column_ends (mi_cols (shape_of setting.header)) log2 k);
-      fit = cleared_fit (shape_of setting.header) c.sides h.fit;
-      fit_blocks = h.fit_blocks;
-      lie = h.lie;
-      starts = subst (λ (p : FramePlaces). AllStart p.rows p.cols c.grid.blocks) (sym setting.whole) h.starts;
-      small = h.small;
-      all = all;
-    }
 
 begins_so : (shape : Shape) (p : ColumnPlan) (read : Column) → FitPlanes shape p.column.sides → HoldsColumn shape p read
     → tile_held shape (with_sides p.column (cleared p.column.sides)) p.residues ≡ plan_view (begun shape read)
@@ -153,27 +131,12 @@ gives_next by n p new t bytes before counting (Err e) is h gives bytes_of read t
     (sym (whole_mapped plan_view (tile_of told n read.column) bytes) ∙ (ap (λ s. read_whole s bytes) (sym same) ∙ breaks))))) gives
 
 -- what it leaves of the column
-pub column_next : (setting : FrameSetting) (n : ℕ) (c new : TileColumn) (pieces : List (List ℤ)) (t : TilePlaces) (result : Result (List ℕ) Halt)
+pub column_next : (setting : FrameSetting) (n : ℕ) (c new : TileColumn) (t : TilePlaces) (result : Result (List ℕ) Halt)
     → n < 2 ^ setting.header.params.tiles.columns_log2 * 2 ^ setting.header.params.tiles.rows_log2
     → t ≡ tile_places setting.places setting.header.params.tiles n → IsTileColumn setting.header n (column_of setting.header.params.tiles n) c
-    → OnOk result (IsPlanning setting new pieces) → OnOk result (SameColumns (with_sides c (cleared c.sides)) new)
+    → OnOk result (IsReady setting new) → OnOk result (SameColumns (with_sides c (cleared c.sides)) new)
     → OnOk result (c.grid.room ≤ new.grid.room + 64 * (superblocks_along (c.grid.to - c.grid.from) * superblocks_along (t.row_to - t.row_from)))
     → OnOk result (IsTileColumn setting.header (n + 1) (column_of setting.header.params.tiles n) new)
-column_next setting n c new pieces t (Ok counts) below is h ready same left =
-    column_left setting n (column_of setting.header.params.tiles n) c new t below refl is h (record {
-      rows = ready.rows;
-      from = same.from;
-      to = same.to;
-      fit = ready.fit;
-      fit_blocks = ready.fit_blocks;
-      lie = ready.lie;
-      starts = ready.starts;
-      small = ready.small;
-      room = left;
-    })
-column_next setting n c new pieces t (Err e) below is h ready same left = tt
-
-pub all_next : (setting : FrameSetting) (new : TileColumn) (pieces : List (List ℤ)) (result : Result (List ℕ) Halt)
-    → OnOk result (IsPlanning setting new pieces) → OnOk result (total (shape_of setting.header) new.grid.blocks ≡ length pieces)
-all_next setting new pieces (Ok counts) ready = ready.all
-all_next setting new pieces (Err e) ready = tt
+column_next setting n c new t (Ok counts) below is h ready same left =
+    column_left setting n (column_of setting.header.params.tiles n) c new t below refl is h ready (record { from = same.from; to = same.to }) left
+column_next setting n c new t (Err e) below is h ready same left = tt

@@ -16,8 +16,8 @@ use Rattle.block_residue.specs.Residues.{listed}
 use Rattle.block_residue.specs.Residues as residues
 use Rattle.block_residue.specs.declared.sides.TileSides.{TileSides}
 use Rattle.inter_modes.specs.ModeInfo.{mode_info}
-use Rattle.frame_decoder.specs.Reading.{infos}
-use Rattle.frame_decoder.specs.Sources.{FrameSources}
+use Rattle.frame_state.specs.Reading.{infos}
+use Rattle.frame_state.specs.Sources.{FrameSources}
 use Rattle.column_plan.specs.Code.{block_pieces}
 use Rattle.column_plan.specs.Planned.{planned_blocks, planned_from, total}
 use Rattle.column_plan.proofs.Held.{infos_are, one_more_planned, all_are}
@@ -25,10 +25,10 @@ use Rattle.counting_reader.specs.Code.{standing_of}
 use Rattle.counting_reader.specs.declared.reader.CountingReader.{CountingReader}
 use Rattle.mode_syntax.specs.Walk.{Walk}
 use Rattle.tile_reader.specs.Code.{Breaks, EndsTile, Rest, Tile}
-use Rattle.frame_decoder.specs.declared.columns.TileColumn.{TileColumn}
-use Rattle.frame_decoder.specs.declared.sources.FrameSources as code
+use Rattle.frame_state.specs.declared.columns.TileColumn.{TileColumn}
+use Rattle.frame_state.specs.declared.sources.FrameSources as code
 use Rattle.frame_headers.specs.State.{shape_of}
-use Rattle.frame_decoder.specs.declared.halt.Halt.{Halt}
+use Rattle.frame_state.specs.declared.halt.Halt.{Halt}
 use Rattle.tile_syntax.specs.Code.{GivesTile, PlanTile, plan_block, tile_held, rule_of}
 
 abbrev planned : List PlannedBlock → TileSides → PlanTile

@@ -9,9 +9,9 @@ use Rattle.block_residue.specs.Residues as residues
 use Rattle.inter_modes.specs.ModeInfo.{mode_info}
 use Rattle.mode_syntax.specs.Walk.{decode_tile}
 use Rattle.mode_syntax.proofs.Mapped.{tile_everywhere}
-use Rattle.frame_decoder.specs.Reading.{TileRead, infos, read_block, read_walk}
-use Rattle.frame_decoder.specs.Sources.{FrameSources}
-use Rattle.frame_decoder.specs.declared.tile_places.TilePlaces.{TilePlaces}
+use Rattle.frame_state.specs.Reading.{TileRead, infos, read_block, read_walk}
+use Rattle.frame_state.specs.Sources.{FrameSources}
+use Rattle.frame_state.specs.declared.tile_places.TilePlaces.{TilePlaces}
 use Rattle.tile_syntax.specs.Code.{plan_block, plan_view, plan_walk}
 
 block_seen : (by : FrameSources) (at : BlockAt) (s : TileRead) → plan_block by at (plan_view s) ≡ mapped plan_view (read_block by at s)

@@ -1,10 +1,8 @@
 -- What the code keeps of a tile column whose blocks are planned as they are read, and what its calls answer.
-use Rattle.std.specs.Prelude.{◌≡◌, ◌≤◌, ℕ, ℤ, Bool, List, [], ◌∷◌, ◌++◌, length, min, Option, Some, None, Result, Ok, Err}
+use Rattle.std.specs.Prelude.{◌≡◌, ℕ, ℤ, Bool, List, [], ◌∷◌, ◌++◌, Option, Some, None, Result, Ok, Err}
 use Rattle.vp9_types.specs.Syntax.{Syntax}
 use Rattle.vp9_types.specs.declared.rule.Rule.{Rule}
 use Rattle.vp9_types.specs.declared.shape.Shape.{Shape}
-use Rattle.frame_headers.specs.State.{shape_of}
-use Rattle.frame_setting.specs.declared.setting.FrameSetting.{FrameSetting}
 use Rattle.counting_reader.specs.Code.{Reads, standing_of}
 use Rattle.counting_reader.specs.Counting.{Settled, counted_if, lifted, settle}
 use Rattle.counting_reader.specs.Counting as counting
@@ -12,22 +10,20 @@ use Rattle.counting_reader.specs.declared.reader.CountingReader.{CountingReader}
 use Rattle.block_geometry.specs.declared.transform_blocks.FramePlaces.{FramePlaces}
 use Rattle.block_plan.specs.Planned.{PlannedBlock}
 use Rattle.block_plan.specs.declared.block.BlockAt.{BlockAt}
-use Rattle.block_residue.specs.Code.{FitPlanes}
 use Rattle.block_residue.specs.Residues as residues
 use Rattle.block_residue.specs.declared.sides.TileSides.{TileSides}
 use Rattle.inter_modes.specs.ModeInfo.{mode_info}
 use Rattle.prob_contexts.specs.declared.kind.CountedBool.{CountedBool}
 use Rattle.mode_syntax.specs.Walk.{Walk}
 use Rattle.tile_reader.specs.Code.{Breaks}
-use Rattle.column_plan.specs.Planned.{planned_blocks, total}
-use Rattle.frame_decoder.specs.Columns.{AllFit, AllLie, AllSmall, AllStart, limit_of}
-use Rattle.frame_decoder.specs.Code.{counts_if}
-use Rattle.frame_decoder.specs.Plans.{ColumnRead}
-use Rattle.frame_decoder.specs.Reading.{Column, TileRead, infos}
-use Rattle.frame_decoder.specs.Sources.{FrameSources, frame_is_intra}
-use Rattle.frame_decoder.specs.declared.columns.TileColumn.{TileColumn}
-use Rattle.frame_decoder.specs.declared.halt.Halt.{Halt}
-use Rattle.frame_decoder.specs.declared.halt.Halt.TheVariants as halt
+use Rattle.column_plan.specs.Planned.{planned_blocks}
+use Rattle.frame_state.specs.Code.{counts_if}
+use Rattle.frame_state.specs.Plans.{ColumnRead}
+use Rattle.frame_state.specs.Reading.{Column, TileRead, infos}
+use Rattle.frame_state.specs.Sources.{FrameSources, frame_is_intra}
+use Rattle.frame_state.specs.declared.columns.TileColumn.{TileColumn}
+use Rattle.frame_state.specs.declared.halt.Halt.{Halt}
+use Rattle.frame_state.specs.declared.halt.Halt.TheVariants as halt
 use Rattle.tile_syntax.specs.declared.plans.ColumnPlan.{ColumnPlan}
 use Rattle.tile_syntax.specs.declared.plans.Unplanned.{Unplanned}
 use Rattle.tile_syntax.specs.declared.plans.Unplanned.TheVariants as unplanned
@@ -64,19 +60,6 @@ plan_view s = record { blocks = s.earlier ++ s.blocks; sides = s.sides }
 -- what the code holds of it
 abbrev pub tile_held : Shape → TileColumn → List (List ℤ) → PlanTile
 tile_held shape c pieces = record { blocks = planned_blocks shape c.grid.from c.grid.blocks pieces; sides = c.sides }
-
--- between two blocks
-pub record IsPlanning (setting : FrameSetting) (c : TileColumn) (pieces : List (List ℤ)) : Type 0 where
-  pub rows : c.grid.rows ≡ setting.places.rows
-  pub order : c.grid.from ≤ c.grid.to
-  pub within : c.grid.to ≤ setting.places.cols
-  pub ends : c.grid.to ≡ min (limit_of c) setting.places.cols
-  pub fit : FitPlanes (shape_of setting.header) c.sides
-  pub fit_blocks : AllFit c.grid.blocks
-  pub lie : AllLie c.grid.from (limit_of c) c.grid.blocks
-  pub starts : AllStart setting.places.rows setting.places.cols c.grid.blocks
-  pub small : AllSmall c.grid.blocks
-  pub all : total (shape_of setting.header) c.grid.blocks ≡ length pieces
 
 -- the rule that is broken, if it isn't want of memory
 abbrev pub rule_of : Halt → Option Rule

@@ -1,21 +1,20 @@
 //! A tile whose blocks are planned as they are read.
 
-ghost use Rattle.std.specs.Prelude.{◌≡◌, ◌+◌, ◌<◌, ◌≤◌, OnOk};
+ghost use Rattle.std.specs.Prelude.{◌≡◌, ◌+◌, ◌<◌, ◌≤◌, length, OnOk};
+ghost use Rattle.column_plan.specs.Planned.{total};
 ghost use Rattle.frame_headers.specs.State.{shape_of};
 ghost use Rattle.block_geometry.specs.Sizes.{width_8};
-ghost use Rattle.frame_decoder.specs.Columns.{limit_of};
-ghost use Rattle.frame_decoder.specs.Past.{IsPastOf};
-ghost use Rattle.frame_decoder.specs.Code.{SameColumns, sources_of};
-ghost use Rattle.frame_decoder.specs.Sources.{frame_is_intra};
-ghost use Rattle.tile_syntax.specs.Code.{GivesTile, IsPlanning, plan_block, tile_held};
+ghost use Rattle.frame_state.specs.Columns.{limit_of};
+ghost use Rattle.frame_state.specs.Past.{IsPastOf};
+ghost use Rattle.frame_state.specs.Code.{IsReady, SameColumns, sources_of};
+ghost use Rattle.tile_syntax.specs.Code.{GivesTile, plan_block, tile_held};
 
 use block_geometry::FramePlaces;
 use block_plan::{BlockAt, BlockResidues};
 use block_residue::read_block;
 use column_plan::{PlanResidues, push_block};
 use counting_reader::CountingReader;
-use frame_decoder::{FrameSources, Halt, TileColumn};
-use frame_headers::FrameKind;
+use frame_state::{FrameSources, Halt, TileColumn, frame_is_intra};
 use inter_modes::mode_info;
 use mode_syntax::{SquareAt, read_partition};
 use tile_reader::TileReader;
@@ -30,7 +29,8 @@ pub(crate) fn plan_block<const COUNTS: bool>(
     room: &mut BlockResidues,
     at: BlockAt,
 ) -> Result<(), Halt>
-    requires ready { IsPlanning by.now.setting column.old residues.old }
+    requires ready { IsReady by.now.setting column.old }
+    requires all { total (shape_of by.now.setting.header) column.old.grid.blocks ≡ length residues.old }
     requires past { IsPastOf by.now.setting.header by.now.past }
     requires row { at.row < by.now.setting.places.rows }
     requires first { at.tile_from ≤ at.col }
@@ -41,7 +41,8 @@ pub(crate) fn plan_block<const COUNTS: bool>(
     requires room { 1 ≤ column.old.grid.room }
     ensures gives { GivesTile (plan_block (sources_of by.now) at (tile_held (shape_of by.now.setting.header) column.old residues.old))
         reader.old result (tile_held (shape_of by.now.setting.header) column.new residues.new) reader.new }
-    ensures ready { OnOk result (IsPlanning by.now.setting column.new residues.new) }
+    ensures ready { OnOk result (IsReady by.now.setting column.new) }
+    ensures all { OnOk result (total (shape_of by.now.setting.header) column.new.grid.blocks ≡ length residues.new) }
     ensures same { OnOk result (SameColumns column.old column.new) }
     ensures room { OnOk result (column.old.grid.room ≤ column.new.grid.room + 1) }
 {
@@ -52,13 +53,6 @@ pub(crate) fn plan_block<const COUNTS: bool>(
     push_block(residues, setting, &block, room)?;
     column.grid.put(listed);
     Ok(())
-}
-
-/// Whether all blocks of a frame are intra blocks.
-fn frame_is_intra(kind: &FrameKind) -> bool
-    ensures { result ≡ frame_is_intra kind.now }
-{
-    !matches!(kind, FrameKind::Inter(_))
 }
 
 /// A tile that is planned: what its blocks are read by, its bools, its column, and the residues of the column's blocks.
@@ -75,7 +69,7 @@ impl<'a, 'b, 'c, const COUNTS: bool> TileReader for PlanReader<'a, 'b, 'c, COUNT
     ghost use Rattle.std.specs.Borrow.{GName};
     ghost use Rattle.counting_reader.specs.Code.{standing_of};
     ghost use Rattle.tile_reader.specs.Code.{Tile};
-    ghost use Rattle.frame_decoder.specs.declared.sources.FrameSources.{FrameSources};
+    ghost use Rattle.frame_state.specs.declared.sources.FrameSources.{FrameSources};
     ghost use Rattle.tile_syntax.specs.Code.{PlanTile, plan_walk, rule_of};
 
     ghost State = { PlanTile };
@@ -91,7 +85,8 @@ impl<'a, 'b, 'c, const COUNTS: bool> TileReader for PlanReader<'a, 'b, 'c, COUNT
       standing = standing_of w.reader.now;
     } };
 
-    ghost ready = { λ w. IsPastOf w.by.now.setting.header w.by.now.past × IsPlanning w.by.now.setting w.column.now w.residues.now };
+    ghost ready = { λ w. IsPastOf w.by.now.setting.header w.by.now.past × IsReady w.by.now.setting w.column.now
+        × (total (shape_of w.by.now.setting.header) w.column.now.grid.blocks ≡ length w.residues.now) };
 
     ghost Kept = { GName × GName × GName × FrameSources };
 

@@ -1,18 +1,19 @@
 //! The tiles of a column that is planned.
 
-ghost use Rattle.std.specs.Prelude.{◌≡◌, ◌-◌, ◌+◌, ◌*◌, ◌≤◌, OnOk};
+ghost use Rattle.std.specs.Prelude.{◌≡◌, ◌-◌, ◌+◌, ◌*◌, ◌≤◌, length, OnOk};
+ghost use Rattle.column_plan.specs.Planned.{total};
 ghost use Rattle.frame_headers.specs.State.{shape_of};
 ghost use Rattle.vp9_types.specs.Sizes.{superblocks_along};
 ghost use Rattle.mode_syntax.specs.Walk.{decode_tile};
-ghost use Rattle.frame_decoder.specs.Past.{IsPastOf};
-ghost use Rattle.frame_decoder.specs.Code.{SameColumns, read_whole, sources_of};
-ghost use Rattle.tile_syntax.specs.Code.{GivesTile, GivesWhole, IsPlanning, tile_held, plan_walk};
+ghost use Rattle.frame_state.specs.Past.{IsPastOf};
+ghost use Rattle.frame_state.specs.Code.{IsReady, SameColumns, read_whole, sources_of};
+ghost use Rattle.tile_syntax.specs.Code.{GivesTile, GivesWhole, tile_held, plan_walk};
 
 use crate::planning::PlanReader;
 use block_plan::BlockResidues;
 use column_plan::PlanResidues;
 use counting_reader::CountingReader;
-use frame_decoder::{FrameSources, Halt, TileColumn, TilePlaces};
+use frame_state::{FrameSources, Halt, TileColumn, TilePlaces, superblocks};
 use mode_syntax::SquareAt;
 use prob_contexts::Counts;
 use tile_reader::read_rows;
@@ -20,22 +21,13 @@ use tile_reader::read_rows;
 /// The level of a superblock.
 const SUPERBLOCK: u8 = 3;
 
-/// How many superblocks reach over these places.
-fn superblocks(from: u32, to: u32) -> u32
-    requires order { from ≤ to }
-    requires few { to ≤ 65536 }
-    ensures is { result ≡ superblocks_along (to - from) }
-    ensures few { result ≤ 8192 }
-{
-    (to - from).div_ceil(8)
-}
-
 /// The blocks of a tile.
 fn read_planned<const COUNTS: bool>(
     plan: &mut PlanReader<'_, '_, '_, COUNTS>,
     tile: &TilePlaces,
 ) -> Result<(), Halt>
-    requires ready { IsPlanning plan.old.by.now.setting plan.old.column.now plan.old.residues.now }
+    requires ready { IsReady plan.old.by.now.setting plan.old.column.now }
+    requires all { total (shape_of plan.old.by.now.setting.header) plan.old.column.now.grid.blocks ≡ length plan.old.residues.now }
     requires past { IsPastOf plan.old.by.now.setting.header plan.old.by.now.past }
     requires from { tile.now.col_from ≡ plan.old.column.now.grid.from }
     requires to { tile.now.col_to ≡ plan.old.column.now.grid.to }
@@ -44,7 +36,8 @@ fn read_planned<const COUNTS: bool>(
     requires room { 64 * (superblocks_along (plan.old.column.now.grid.to - plan.old.column.now.grid.from) * superblocks_along (tile.now.row_to - tile.now.row_from)) ≤ plan.old.column.now.grid.room }
     ensures gives { GivesTile (decode_tile (plan_walk (sources_of plan.old.by.now) plan.old.by.now.setting.places plan.old.column.now.grid.from plan.old.column.now.grid.to) (superblocks_along (tile.now.col_to - tile.now.col_from)) tile.now.row_from tile.now.col_from (superblocks_along (tile.now.row_to - tile.now.row_from)) (tile_held (shape_of plan.old.by.now.setting.header) plan.old.column.now plan.old.residues.now))
         plan.old.reader.now result (tile_held (shape_of plan.old.by.now.setting.header) plan.new.column.now plan.new.residues.now) plan.new.reader.now }
-    ensures ready { OnOk result (IsPlanning plan.old.by.now.setting plan.new.column.now plan.new.residues.now) }
+    ensures ready { OnOk result (IsReady plan.old.by.now.setting plan.new.column.now) }
+    ensures all { OnOk result (total (shape_of plan.old.by.now.setting.header) plan.new.column.now.grid.blocks ≡ length plan.new.residues.now) }
     ensures same { OnOk result (SameColumns plan.old.column.now plan.new.column.now) }
     ensures room { OnOk result (plan.old.column.now.grid.room ≤ plan.new.column.now.grid.room + 64 * (superblocks_along (plan.old.column.now.grid.to - plan.old.column.now.grid.from) * superblocks_along (tile.now.row_to - tile.now.row_from))) }
     ensures same_reader { plan.new.reader.ghost_name ≡ plan.old.reader.ghost_name }
@@ -72,7 +65,8 @@ fn plan_blocks<const COUNTS: bool>(
     residues: &mut PlanResidues,
     tile: &TilePlaces,
 ) -> Result<(), Halt>
-    requires ready { IsPlanning by.now.setting column.old residues.old }
+    requires ready { IsReady by.now.setting column.old }
+    requires all { total (shape_of by.now.setting.header) column.old.grid.blocks ≡ length residues.old }
     requires past { IsPastOf by.now.setting.header by.now.past }
     requires from { tile.now.col_from ≡ column.old.grid.from }
     requires to { tile.now.col_to ≡ column.old.grid.to }
@@ -81,7 +75,8 @@ fn plan_blocks<const COUNTS: bool>(
     requires room { 64 * (superblocks_along (column.old.grid.to - column.old.grid.from) * superblocks_along (tile.now.row_to - tile.now.row_from)) ≤ column.old.grid.room }
     ensures gives { GivesTile (decode_tile (plan_walk (sources_of by.now) by.now.setting.places column.old.grid.from column.old.grid.to) (superblocks_along (tile.now.col_to - tile.now.col_from)) tile.now.row_from tile.now.col_from (superblocks_along (tile.now.row_to - tile.now.row_from)) (tile_held (shape_of by.now.setting.header) column.old residues.old))
         reader.old result (tile_held (shape_of by.now.setting.header) column.new residues.new) reader.new }
-    ensures ready { OnOk result (IsPlanning by.now.setting column.new residues.new) }
+    ensures ready { OnOk result (IsReady by.now.setting column.new) }
+    ensures all { OnOk result (total (shape_of by.now.setting.header) column.new.grid.blocks ≡ length residues.new) }
     ensures same { OnOk result (SameColumns column.old column.new) }
     ensures room { OnOk result (column.old.grid.room ≤ column.new.grid.room + 64 * (superblocks_along (column.old.grid.to - column.old.grid.from) * superblocks_along (tile.now.row_to - tile.now.row_from))) }
 {
@@ -97,7 +92,7 @@ fn plan_blocks<const COUNTS: bool>(
 }
 
 /// A tile, from its bytes, into its column's plan, with the counts so far; answers the counts behind it.
-#[tactic(auto, unfolding(frame_decoder::specs::Code::read_whole))]
+#[tactic(auto, unfolding(frame_state::specs::Code::read_whole))]
 pub(crate) fn plan_tile<const COUNTS: bool>(
     bytes: &[u8],
     by: &FrameSources<'_>,
@@ -106,7 +101,8 @@ pub(crate) fn plan_tile<const COUNTS: bool>(
     residues: &mut PlanResidues,
     counts: Counts,
 ) -> Result<Counts, Halt>
-    requires ready { IsPlanning by.now.setting column.old residues.old }
+    requires ready { IsReady by.now.setting column.old }
+    requires all { total (shape_of by.now.setting.header) column.old.grid.blocks ≡ length residues.old }
     requires past { IsPastOf by.now.setting.header by.now.past }
     requires from { tile.now.col_from ≡ column.old.grid.from }
     requires to { tile.now.col_to ≡ column.old.grid.to }
@@ -115,7 +111,8 @@ pub(crate) fn plan_tile<const COUNTS: bool>(
     requires room { 64 * (superblocks_along (column.old.grid.to - column.old.grid.from) * superblocks_along (tile.now.row_to - tile.now.row_from)) ≤ column.old.grid.room }
     ensures gives { GivesWhole COUNTS counts (read_whole (decode_tile (plan_walk (sources_of by.now) by.now.setting.places column.old.grid.from column.old.grid.to) (superblocks_along (tile.now.col_to - tile.now.col_from)) tile.now.row_from tile.now.col_from (superblocks_along (tile.now.row_to - tile.now.row_from)) (tile_held (shape_of by.now.setting.header) column.old residues.old)) bytes.now)
         result (tile_held (shape_of by.now.setting.header) column.new residues.new) }
-    ensures ready { OnOk result (IsPlanning by.now.setting column.new residues.new) }
+    ensures ready { OnOk result (IsReady by.now.setting column.new) }
+    ensures all { OnOk result (total (shape_of by.now.setting.header) column.new.grid.blocks ≡ length residues.new) }
     ensures same { OnOk result (SameColumns column.old column.new) }
     ensures room { OnOk result (column.old.grid.room ≤ column.new.grid.room + 64 * (superblocks_along (column.old.grid.to - column.old.grid.from) * superblocks_along (tile.now.row_to - tile.now.row_from))) }
 {

@@ -6,12 +6,15 @@ use Rattle.loop_edges.specs.Cells.{setting_of}
 use Rattle.loop_edges.specs.Edges.{filtered_frame}
 use Rattle.loop_edges.specs.declared.setting.EdgeSetting.{EdgeSetting}
 use Rattle.planes.specs.Pictures.{HasSizes, IsInRange, samples_of}
-use Rattle.frame_decoder.specs.Columns.{AreTileColumns, blocks_of}
-use Rattle.frame_decoder.specs.Frames.{FrameInput, all_blocks, blocks_read}
-use Rattle.frame_decoder.specs.Past.{past_of}
-use Rattle.frame_decoder.proofs.ColumnBlocks.{all_fit, starts_of}
-use Rattle.frame_decoder.proofs.ColumnSteps.{blocks_told, written_back}
-use Rattle.frame_decoder.proofs.FrameReads.{frame_done, nothing_put, tiles_break}
+use Rattle.frame_state.specs.Columns.{AreTileColumns, blocks_of}
+use Rattle.frame_state.specs.Reading.{all_blocks, blocks_read, sources}
+use Rattle.block_rebuild.specs.InterBlocks.{Rebuilding}
+use Rattle.frame_decoder.specs.Code.{input_of, pictures_of}
+use Rattle.frame_decoder.specs.Frames.{raw, rebuilding}
+use Rattle.frame_state.proofs.ColumnBlocks.{all_fit, starts_of}
+use Rattle.frame_state.proofs.ColumnSteps.{blocks_told, written_back}
+use Rattle.frame_decoder.proofs.PlainFrames.{frame_breaks, frame_done, nothing_put, result_of}
+use Rattle.frame_state.proofs.TileSpans.{frame_reads, tiles_break}
 use Rattle.frame_decoder.proofs.decoding.decode_frame.Goals as goal
 
 pub decode_counted-requires-clause-start : goal.decode_counted-requires-clause-start
@@ -23,21 +26,21 @@ decode_counted-requires-clause-start c = record {
 pub returns-in_err-counts : goal.returns-in_err-counts
 returns-in_err-counts c =
     let p = err_from_is_err_and c.from_residual-in_err-counts.result c.from_residual-in_err-counts.ensures.1 in
-    let setting = c.args.setting in
-    let input : FrameInput = record { header = setting.header; compressed = c.args.compressed; bytes = c.args.bytes.now; past = past_of c.args.past } in
-    rw (p.1, p.2) (tiles_break input (lists_of setting.contexts, setting.modes) _ c.requires.begun.1 c.in_err-counts.ensures.gives)
+    let setting = c.args.by.reading.setting in
+    let input = input_of c.args.by c.args.bytes.now c.args.compressed in
+    rw (p.1, p.2) (frame_breaks (pictures_of c.args.by).references input _ (tiles_break input (lists_of setting.contexts, setting.modes) _ c.requires.begun.1 c.in_err-counts.ensures.gives))
 
 pub new-blocks-requires : goal.new-blocks-requires
 new-blocks-requires c =
     let back = written_back c.decode_counted.new.columns c.in_ok-columns.columns.items c.in_ok-columns.columns.len (omega (arith, c.decode_counted.auto.columns)) in
-    rw (c.deref.ensures.value, back) (record { size = c.args.setting.size; few = c.requires.few; are = c.in_ok-counts.ensures.columns })
+    rw (c.deref.ensures.value, back) (record { size = c.args.by.reading.setting.size; few = c.requires.few; are = c.in_ok-counts.ensures.columns })
 
 pub filter_frame-requires-clause-sizes : goal.filter_frame-requires-clause-sizes
 filter_frame-requires-clause-sizes c = rw (c.new-2.ensures, c.planes_mut.ensures.value) c.in_ok-counts.ensures.planes.sizes
 
 pub filter_frame-requires-clause-fit : goal.filter_frame-requires-clause-fit
 filter_frame-requires-clause-fit c =
-    let header = c.args.setting.header in
+    let header = c.args.by.reading.setting.header in
     rw c.new-blocks.ensures.columns
     (all_fit header (tile_count header) c.deref.result.now
     (subst (λ columns. AreTileColumns header (tile_count header) columns)
@@ -49,10 +52,12 @@ filter_frame-requires-clause-range c = rw (c.new-2.ensures, c.planes_mut.ensures
 
 pub returns : goal.returns
 returns c =
-    let setting = c.args.setting in
+    let by = c.args.by in
+    let setting = by.reading.setting in
     let header = setting.header in
     let planes = c.decode_counted.new.planes in
-    let input : FrameInput = record { header = header; compressed = c.args.compressed; bytes = c.args.bytes.now; past = past_of c.args.past } in
+    let input = input_of by c.args.bytes.now c.args.compressed in
+    let put : pictures_of by ≡ rebuilding header (pictures_of by).references = ap (λ shape. record { shape = shape; references = (pictures_of by).references }) c.requires.past.pictures.shape in
     let gives = c.in_ok-counts.ensures.gives in
     let read = gives.0 in
     let back = written_back c.decode_counted.new.columns c.in_ok-columns.columns.items c.in_ok-columns.columns.len (omega (arith, c.decode_counted.auto.columns)) in
@@ -62,8 +67,9 @@ returns c =
     let m : samples_of c.filter_frame.new.planes ≡ filtered_frame (setting_of header) (all_blocks (blocks_read read)) (samples_of planes) =
     c.filter_frame.ensures.map ∙ (λ i. filtered_frame (c.new-2.ensures i) (all_blocks (blocks_of (columns i))) (samples_of (c.planes_mut.ensures.value i)))
     ∙ ap (λ blocks. filtered_frame (setting_of header) (all_blocks blocks) (samples_of planes)) blocks in (
-      record { blocks = blocks_read read; map = filtered_frame (setting_of header) (all_blocks (blocks_read read)) (samples_of planes); counted = read.counted; contexts = lists_of setting.contexts },
-      frame_done input (lists_of setting.contexts, setting.modes) read (samples_of planes) c.requires.begun.1 gives.1 gives.2.map_held,
+      result_of read (sources input (lists_of setting.contexts, setting.modes)) (samples_of planes),
+      frame_done (pictures_of by).references input read (sources input (lists_of setting.contexts, setting.modes)) (samples_of planes)
+          (frame_reads input (lists_of setting.contexts, setting.modes) read c.requires.begun.1 gives.1) (subst (λ (put : Rebuilding). raw put read.blocks ≡ samples_of planes) put gives.2.map_held),
       record {
         map = m;
         shape = c.requires.blank.same;

@@ -1,6 +1,6 @@
 use Rattle.std.proofs.lemmas.Result.{err_from_is_err_and}
 use Rattle.frame_decoder.specs.Code.{tile_of}
-use Rattle.frame_decoder.proofs.TileReads.{counts_by_is, whole_broken, whole_not_started, whole_read}
+use Rattle.frame_state.proofs.TileBytes.{counts_by_is, whole_broken, whole_not_started, whole_read}
 use Rattle.frame_decoder.proofs.tiles.decode_tile.Goals as goal
 
 pub returns-in_err-reader-clause-gives : goal.returns-in_err-reader-clause-gives

@@ -1,7 +1,7 @@
 use Rattle.std.proofs.Common.{◌*◌, refl, sym}
 use Rattle.mode_syntax.specs.Walk.{decode_tile}
 use Rattle.frame_decoder.specs.Code.{walk_of}
-use Rattle.frame_decoder.proofs.TileReads.{tile_given}
+use Rattle.frame_decoder.proofs.PlainTiles.{tile_given}
 use Rattle.frame_decoder.proofs.tiles.read_tile.Goals as goal
 
 pub returns-clause-gives : goal.returns-clause-gives

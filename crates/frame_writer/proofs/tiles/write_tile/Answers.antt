@@ -4,10 +4,10 @@ use Rattle.std.proofs.lemmas.Result.{err_from_is_err_and}
 use Rattle.vp9_types.specs.Shapes.{mi_rows}
 use Rattle.frame_headers.specs.State.{shape_of}
 use Rattle.block_geometry.specs.declared.transform_blocks.FramePlaces.{FramePlaces}
-use Rattle.frame_decoder.specs.Code.{sources_of}
-use Rattle.frame_decoder.specs.Tiles.{column_of}
-use Rattle.frame_decoder.proofs.ColumnSteps.{rows_in_order, rows_within}
-use Rattle.frame_decoder.proofs.TileOffsets.{column_below}
+use Rattle.frame_state.specs.Code.{sources_of}
+use Rattle.frame_state.specs.Tiles.{column_of}
+use Rattle.frame_state.proofs.ColumnSteps.{rows_in_order, rows_within}
+use Rattle.frame_state.proofs.TileOffsets.{column_below}
 use Rattle.frame_writer.proofs.TileWrites.{columns_lost, columns_put_back, nth_put_back, nth_taken, ready_taken, room_taken}
 use Rattle.frame_writer.proofs.tiles.write_tile.Goals as goal
 

@@ -2,7 +2,7 @@ use Rattle.std.proofs.Common.{◌≡◌, ◌∙◌, ◌+◌, ◌-◌, ◌<◌, r
 use Rattle.std.specs.Prelude.{Ok, Err}
 use Rattle.std.proofs.lemmas.Result.{err_from_is_err_and}
 use Rattle.frame_headers.specs.Spans.{tile_count}
-use Rattle.frame_decoder.specs.Code.{sources_of}
+use Rattle.frame_state.specs.Code.{sources_of}
 use Rattle.frame_writer.proofs.TilesSoFar.{all_given, by_sources, none_so_far, one_more, refused_at, so_far_at}
 use Rattle.frame_writer.proofs.tiles.write_tiles.Goals as goal
 

@@ -1,4 +1,4 @@
-use Rattle.frame_decoder.proofs.BlockSteps.{all_have_small, vectors_small}
+use Rattle.frame_state.proofs.BlockSteps.{all_have_small, vectors_small}
 use Rattle.listed_symbols.proofs.symbols.can_put.Goals as goal
 
 pub can_put_inter-requires-clause-small : goal.can_put_inter-requires-clause-small

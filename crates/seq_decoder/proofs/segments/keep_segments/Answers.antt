@@ -3,9 +3,9 @@ use Rattle.std.specs.Prelude.{Some}
 use Rattle.block_geometry.specs.Frames.{places_of}
 use Rattle.block_geometry.specs.declared.transform_blocks.FramePlaces.{FramePlaces}
 use Rattle.frame_headers.specs.State.{shape_of}
-use Rattle.frame_decoder.specs.Columns.{blocks_of}
-use Rattle.frame_decoder.specs.Frames.{all_blocks}
-use Rattle.frame_decoder.specs.declared.columns.TileColumn.{TileColumn}
+use Rattle.frame_state.specs.Columns.{blocks_of}
+use Rattle.frame_state.specs.Reading.{all_blocks}
+use Rattle.frame_state.specs.declared.columns.TileColumn.{TileColumn}
 use Rattle.inter_modes.specs.Segments.{segments_after}
 use Rattle.segment_map.specs.Segments.{id_map}
 use Rattle.seq_decoder.specs.Code.{HasPlaces}

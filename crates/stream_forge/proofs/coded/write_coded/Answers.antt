@@ -3,11 +3,8 @@ use Rattle.prob_contexts.specs.Lists.{lists_of}
 use Rattle.seq_decoder.specs.After.{segments_before, vectors_before}
 use Rattle.seq_decoder.specs.SavedContexts.{context_at, context_before, place_of, saved_before}
 use Rattle.stream_forge.proofs.Behind.{behind_given}
-use Rattle.stream_forge.proofs.Pasts.{names_by, segments_are}
+use Rattle.stream_forge.proofs.Pasts.{segments_are}
 use Rattle.stream_forge.proofs.coded.write_coded.Goals as goal
-
-pub pictures_for-requires-clause-held : goal.pictures_for-requires-clause-held
-pictures_for-requires-clause-held g c = names_by c.args.frame.now.header c.args.decoder.now.persist _ c.requires.well c.requires.may.shapes
 
 pub write_frame-requires-clause-forward : goal.write_frame-requires-clause-forward
 write_frame-requires-clause-forward g c = c.requires.modes (lists_of c.at-contexts.result)
@@ -16,11 +13,9 @@ pub write_frame-requires-clause-past : goal.write_frame-requires-clause-past
 write_frame-requires-clause-past g c =
     let d = c.args.decoder.now in
     let segments = segments_are c.args.frame.now.header d.persist.size c.in-Ok.fresh d.segments c.segments_for.result.now c.in-Ok.ensures c.requires.may.places c.segments_for.ensures in record {
-      shape = c.pictures_for.ensures.shape;
       rows = segments.rows;
       cols = segments.cols;
       vectors = c.vectors_before.ensures.are;
-      pictures = c.pictures_for.ensures.has;
     }
 
 pub returns-in_default : goal.returns-in_default
@@ -42,6 +37,5 @@ returns g c = λ state stands.
       contexts = contexts i;
       segments = (segments.are ∙ (λ i. segments_before header (stands.persist i).size (stands.segments i))) i;
       vectors = (c.vectors_before.ensures.blocks ∙ ap (vectors_before header) stands.last) i;
-      references = c.pictures_for.ensures.pictures state.slots stands.slots i;
     })
     contexts c.write_frame.ensures

@@ -3,8 +3,8 @@ use Rattle.std.proofs.lemmas.Result.{err_from_is_err_and}
 use Rattle.frame_headers.specs.State.{shape_of}
 use Rattle.vp9_types.specs.Shapes.{mi_cols, mi_rows}
 use Rattle.block_geometry.specs.declared.transform_blocks.FramePlaces.{FramePlaces}
-use Rattle.frame_decoder.specs.Code.{sources_of}
-use Rattle.frame_decoder.proofs.BlockSteps.{all_have_small, fits_more, lies_more, small_more, starts_more, vectors_held, vectors_small}
+use Rattle.frame_state.specs.Code.{sources_of}
+use Rattle.frame_state.proofs.BlockSteps.{all_have_small, fits_more, lies_more, small_more, starts_more, vectors_held, vectors_small}
 use Rattle.column_plan.proofs.Held.{infos_are}
 use Rattle.tile_syntax.proofs.PlanSteps.{all_kept, block_broken, block_planned, modes_broken}
 use Rattle.tile_syntax.proofs.planning.plan_block.Goals as goal
@@ -65,7 +65,7 @@ returns-clause-gives g c =
     let column = c.args.column.now in
     let any = c.in_ok-listed.ensures.listed in
     rw c.put.ensures (block_planned (sources_of by) c.args.at shape column.grid.from column.grid.blocks c.args.residues.now _ _ _ _ _ _ c.in_ok-block.block c.in_ok-listed.listed any.0 c.read_block.new.residues
-    c.requires.from c.requires.ready.all any.1 c.in_ok-push_block.ensures.pushed c.in_ok-push_block.ensures.stands
+    c.requires.from c.requires.all any.1 c.in_ok-push_block.ensures.pushed c.in_ok-push_block.ensures.stands
     (rw c.as_ref-vectors.ensures.value at c.in_ok-block.ensures.read) (c.in_ok-listed.ensures.gives c.args.at.tile_from))
 
 pub returns-clause-ready : goal.returns-clause-ready
@@ -82,5 +82,9 @@ returns-clause-ready g c =
       starts = rw c.put.ensures (starts_more c.args.by.now.setting.places.rows c.args.by.now.setting.places.cols _ c.in_ok-block.block _ any.0 any.1
           (rw is.row c.requires.row) (rw is.col (omega (arith, c.requires.col, c.requires.to, c.requires.ready.within))) is.segment c.requires.ready.starts);
       small = rw c.put.ensures (small_more _ c.in_ok-block.block _ any.0 any.1 is.small c.requires.ready.small);
-      all = rw c.put.ensures (all_kept (shape_of c.args.by.now.setting.header) _ c.in_ok-block.block _ any.0 c.read_block.new.residues c.args.residues.now _ c.requires.ready.all any.1 c.in_ok-push_block.ensures.pushed);
     }
+
+pub returns-clause-all : goal.returns-clause-all
+returns-clause-all g c =
+    let any = c.in_ok-listed.ensures.listed in
+    rw c.put.ensures (all_kept (shape_of c.args.by.now.setting.header) _ c.in_ok-block.block _ any.0 c.read_block.new.residues c.args.residues.now _ c.requires.all any.1 c.in_ok-push_block.ensures.pushed)

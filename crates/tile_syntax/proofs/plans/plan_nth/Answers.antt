@@ -3,14 +3,15 @@ use Rattle.std.specs.Prelude.{nat_eq, not}
 use Rattle.vp9_types.specs.Shapes.{mi_rows}
 use Rattle.frame_headers.specs.State.{shape_of}
 use Rattle.block_geometry.specs.declared.transform_blocks.FramePlaces.{FramePlaces}
-use Rattle.frame_decoder.specs.Tiles.{column_of}
-use Rattle.frame_decoder.proofs.ColumnSteps.{begins_there, ends_there, has_room, rows_in_order, rows_within}
-use Rattle.tile_syntax.proofs.NextTiles.{all_next, column_next, gives_next, planning_of}
+use Rattle.frame_state.specs.Tiles.{column_of}
+use Rattle.frame_state.proofs.ColumnSteps.{begins_there, cleared_fit, ends_there, has_room, ready_of, rows_in_order, rows_within}
+use Rattle.tile_syntax.proofs.NextTiles.{column_next, gives_next}
 use Rattle.tile_syntax.proofs.plans.plan_nth.Goals as goal
 
 pub plan_tile-requires-clause-ready : goal.plan_tile-requires-clause-ready
 plan_tile-requires-clause-ready g c =
-    rw c.clear_left.ensures (planning_of c.args.by.now.setting c.args.n (column_of c.args.by.now.setting.header.params.tiles c.args.n) c.args.plan.now.column c.args.plan.now.residues c.requires.column c.requires.all)
+    rw c.clear_left.ensures (ready_of c.args.by.now.setting c.args.n (column_of c.args.by.now.setting.header.params.tiles c.args.n) c.args.plan.now.column _ c.requires.column
+    (cleared_fit (shape_of c.args.by.now.setting.header) c.args.plan.now.column.sides c.requires.column.fit))
 
 pub plan_tile-requires-clause-from : goal.plan_tile-requires-clause-from
 plan_tile-requires-clause-from g c = begins_there c.args.by.now.setting c.args.n _ _ c.new-tile.result refl c.new-tile.ensures c.requires.column
@@ -38,8 +39,5 @@ returns-clause-gives g c =
 
 pub returns-clause-column : goal.returns-clause-column
 returns-clause-column g c =
-    column_next c.args.by.now.setting c.args.n c.args.plan.now.column c.plan_tile.new.column c.plan_tile.new.residues c.new-tile.result c.plan_tile.result c.requires.below c.new-tile.ensures c.requires.column
+    column_next c.args.by.now.setting c.args.n c.args.plan.now.column c.plan_tile.new.column c.new-tile.result c.plan_tile.result c.requires.below c.new-tile.ensures c.requires.column
     c.plan_tile.ensures.ready (rw c.clear_left.ensures at c.plan_tile.ensures.same) c.plan_tile.ensures.room
-
-pub returns-clause-all : goal.returns-clause-all
-returns-clause-all g c = all_next c.args.by.now.setting c.plan_tile.new.column c.plan_tile.new.residues c.plan_tile.result c.plan_tile.ensures.ready

@@ -5,9 +5,9 @@ use Rattle.frame_headers.specs.Spans.{tile_spans}
 use Rattle.frame_headers.specs.State.{shape_of}
 use Rattle.prob_contexts.specs.declared.kind.CountedBool.{CountedBool}
 use Rattle.column_plan.specs.Planned.{total}
-use Rattle.frame_decoder.specs.Code.{counts_if, sources_of}
-use Rattle.frame_decoder.specs.Columns.{IsTileColumn}
-use Rattle.frame_decoder.specs.Plans.{ColumnRead, tile_bytes}
+use Rattle.frame_state.specs.Code.{counts_if, sources_of}
+use Rattle.frame_state.specs.Columns.{IsTileColumn}
+use Rattle.frame_state.specs.Plans.{ColumnRead, tile_bytes}
 use Rattle.tile_syntax.specs.Code.{HoldsColumn}
 use Rattle.tile_syntax.proofs.ColumnTiles.{IsLeft}
 use Rattle.tile_syntax.proofs.plans.plan_tiles.Given as goal

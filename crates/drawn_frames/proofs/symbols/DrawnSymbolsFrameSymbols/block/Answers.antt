@@ -3,7 +3,7 @@ use Rattle.vp9_types.specs.Shapes.{mi_cols, mi_rows}
 use Rattle.frame_headers.specs.State.{shape_of}
 use Rattle.block_geometry.specs.declared.transform_blocks.FramePlaces.{FramePlaces}
 use Rattle.segment_map.specs.Segments.{id_map}
-use Rattle.frame_decoder.proofs.BlockSteps.{all_have_small, vectors_held, vectors_small}
+use Rattle.frame_state.proofs.BlockSteps.{all_have_small, vectors_held, vectors_small}
 use Rattle.drawn_frames.proofs.symbols.DrawnSymbolsFrameSymbols.block.Goals as goal
 
 pub draw_block-requires-clause-held_before : goal.draw_block-requires-clause-held_before

@@ -1,8 +1,8 @@
 use Rattle.std.proofs.Common.{◌≡◌, ◌∙◌, ap, arith, refl}
 use Rattle.block_plan.specs.Grid.{GridOf}
 use Rattle.block_plan.specs.declared.block.BlockInfo.{BlockInfo}
-use Rattle.frame_decoder.specs.Code.{sources_of}
-use Rattle.frame_decoder.proofs.BlockSteps.{all_have_small, fits_more, lies_more, small_more, starts_more, vectors_small}
+use Rattle.frame_state.specs.Code.{sources_of}
+use Rattle.frame_state.proofs.BlockSteps.{all_have_small, fits_more, lies_more, small_more, starts_more, vectors_small}
 use Rattle.frame_writer.specs.Code.{held_by}
 use Rattle.frame_writer.specs.Symbols.{with_block}
 use Rattle.frame_writer.proofs.BlockTells.{block_said_so, held_more, is_listed, levels_untold, limit_same, modes_stop, nothing_told, of_here, residue_stops, room_less, to_here}
@@ -13,7 +13,7 @@ returns-in_default-clause-ends g c = λ s here.
     nothing_told g.S.FrameSymbols.speaker (sources_of c.args.self.now.by.now) c.args.at s _ c.args.self.now.symbols (of_here c.args.self.now.by.now c.args.self.now.places c.args.self.now.columns.items s (record { held = held_by c.args.self.now.column; by = c.args.self.now.by.now; places = c.args.self.now.places; columns = c.args.self.now.columns.items }) here) c.in_default.ensures.tells
 
 pub put_mode_info-requires-clause-small : goal.put_mode_info-requires-clause-small
-put_mode_info-requires-clause-small g c = let ready = c.requires.ready in all_have_small _ ready.1.small
+put_mode_info-requires-clause-small g c = let ready = c.requires.ready in all_have_small _ ready.1.ready.small
 
 pub put_mode_info-requires-clause-small_before : goal.put_mode_info-requires-clause-small_before
 put_mode_info-requires-clause-small_before g c =
@@ -101,7 +101,7 @@ put-requires-clause-row g c =
     let any = is_listed (sources_of c.args.self.now.by.now) c.args.at.tile_from c.in-Ok.block c.in-Ok-2.listed c.levels.new.levels _ _ tells.0 tells.1 tells.2 in
     let row : c.in-Ok-2.listed.row ≡ c.args.at.row = ap (λ (b : BlockInfo). b.row) any.1 ∙ is.row in
     let col : c.in-Ok-2.listed.col ≡ c.args.at.col = ap (λ (b : BlockInfo). b.col) any.1 ∙ is.col in
-    omega (arith, row, c.requires.row, ready.1.rows)
+    omega (arith, row, c.requires.row, ready.1.ready.rows)
 
 pub put-requires-clause-first : goal.put-requires-clause-first
 put-requires-clause-first g c =
@@ -123,7 +123,7 @@ put-requires-clause-last g c =
     let any = is_listed (sources_of c.args.self.now.by.now) c.args.at.tile_from c.in-Ok.block c.in-Ok-2.listed c.levels.new.levels _ _ tells.0 tells.1 tells.2 in
     let row : c.in-Ok-2.listed.row ≡ c.args.at.row = ap (λ (b : BlockInfo). b.row) any.1 ∙ is.row in
     let col : c.in-Ok-2.listed.col ≡ c.args.at.col = ap (λ (b : BlockInfo). b.col) any.1 ∙ is.col in
-    omega (arith, col, c.requires.col, stands.wide, ready.1.ends)
+    omega (arith, col, c.requires.col, stands.wide, ready.1.ready.ends)
 
 pub returns-clause-ready : goal.returns-clause-ready
 returns-clause-ready g c =
@@ -138,16 +138,18 @@ returns-clause-ready g c =
     let grid = c.put.ensures in (
       ready.0,
       rw grid (record {
-        rows = ready.1.rows;
-        order = ready.1.order;
-        within = ready.1.within;
-        ends = ready.1.ends;
         from = ready.1.from;
         to = ready.1.to;
-        fit = c.in_ok-listed.ensures.fit;
-        fit_blocks = fits_more _ c.in-Ok.block _ c.args.at.size any.0 any.1 is.size is.fits ready.1.fit_blocks;
-        lie = lies_more _ _ _ c.in-Ok.block _ c.args.at any.0 any.1 is.col is.size (omega (arith, stands.first, stands.from, ready.1.from)) stands.wide ready.1.lie;
-        starts = starts_more setting.places.rows setting.places.cols _ c.in-Ok.block _ any.0 any.1 (rw is.row c.requires.row) (rw is.col c.requires.col) is.segment ready.1.starts;
-        small = small_more _ c.in-Ok.block _ any.0 any.1 is.small ready.1.small;
+        ready = record {
+          rows = ready.1.ready.rows;
+          order = ready.1.ready.order;
+          within = ready.1.ready.within;
+          ends = ready.1.ready.ends;
+          fit = c.in_ok-listed.ensures.fit;
+          fit_blocks = fits_more _ c.in-Ok.block _ c.args.at.size any.0 any.1 is.size is.fits ready.1.ready.fit_blocks;
+          lie = lies_more _ _ _ c.in-Ok.block _ c.args.at any.0 any.1 is.col is.size (omega (arith, stands.first, stands.from, ready.1.from)) stands.wide ready.1.ready.lie;
+          starts = starts_more setting.places.rows setting.places.cols _ c.in-Ok.block _ any.0 any.1 (rw is.row c.requires.row) (rw is.col c.requires.col) is.segment ready.1.ready.starts;
+          small = small_more _ c.in-Ok.block _ any.0 any.1 is.small ready.1.ready.small;
+        };
       }),
     )

@@ -34,11 +34,8 @@ pub decode_frame-requires-clause-past : goal.decode_frame-requires-clause-past
 decode_frame-requires-clause-past c =
     let places = subst (HasPlaces (Some c.args.header.now.size)) c.segments_of.ensures c.in_ok-begin_segments.ensures.places in
     rw c.in_ok-setting.ensures.0 (record {
-      shape = c.pictures_for.ensures.shape;
-      rows = places.0;
-      cols = places.1;
-      vectors = c.vectors_before.ensures.are;
-      pictures = c.pictures_for.ensures.has;
+      past = record { rows = places.0; cols = places.1; vectors = c.vectors_before.ensures.are };
+      pictures = record { shape = c.pictures_for.ensures.shape; there = c.pictures_for.ensures.has };
     })
 
 pub pictures_for-requires-clause-table : goal.pictures_for-requires-clause-table
@@ -68,9 +65,8 @@ returns-in_err-decoded-clause-coded c = λ state stands.
     input_is state _ header c.args.bytes.now c.args.compressed _ c.in_ok-setting.ensures.0
     (c.at-before.ensures ∙ (λ i. context_at (c.reset.ensures i) (c.place_of.ensures i)) ∙ ap (λ saved. context_at (saved_before header saved) (place_of header)) stands.contexts)
     (ap segments_held (sym c.segments_of.ensures) ∙ c.in_ok-begin_segments.ensures.map ∙ (λ i. segments_before header (stands.persist i).size (stands.segments i)))
-    (c.vectors_before.ensures.blocks ∙ ap (vectors_before header) stands.last)
-    (c.pictures_for.ensures.pictures state.slots (still ∙ stands.slots)) in
-    rw (p.1, p.2) (coded_halts header _ _ c.decode_frame.new.picture t _ input c.in_err-decoded.ensures)
+    (c.vectors_before.ensures.blocks ∙ ap (vectors_before header) stands.last) in
+    rw (p.1, p.2) (coded_halts header _ _ _ _ c.decode_frame.new.picture t _ (c.pictures_for.ensures.pictures state.slots (still ∙ stands.slots)) input c.in_err-decoded.ensures)
 
 pub index_mut-requires-2 : goal.index_mut-requires-2
 index_mut-requires-2 c =
@@ -90,10 +86,10 @@ returns-clause-coded c = λ state stands.
     input_is state _ header c.args.bytes.now c.args.compressed _ c.in_ok-setting.ensures.0
     (c.at-before.ensures ∙ (λ i. context_at (c.reset.ensures i) (c.place_of.ensures i)) ∙ ap (λ saved. context_at (saved_before header saved) (place_of header)) stands.contexts)
     (ap segments_held (sym c.segments_of.ensures) ∙ c.in_ok-begin_segments.ensures.map ∙ (λ i. segments_before header (stands.persist i).size (stands.segments i)))
-    (c.vectors_before.ensures.blocks ∙ ap (vectors_before header) stands.last)
-    (c.pictures_for.ensures.pictures state.slots (still ∙ stands.slots)) in (
+    (c.vectors_before.ensures.blocks ∙ ap (vectors_before header) stands.last) in
+    let pictures = c.pictures_for.ensures.pictures state.slots (still ∙ stands.slots) in (
       decodes.0,
-      ap decoded (sym input) ∙ decodes.1,
+      (λ i. decoded (sym pictures i) (sym input i)) ∙ decodes.1,
       record {
         picture = c.decode_frame.new.picture;
         there = put_there (slice_set t.pictures.items place dest) place dest c.decode_frame.new.picture (put_there t.pictures.items place blank.0 dest blank.1);

@@ -3,8 +3,8 @@ use Rattle.std.specs.Prelude.{Some}
 use Rattle.block_geometry.specs.Frames.{places_of}
 use Rattle.frame_headers.specs.State.{next_persist, shape_of}
 use Rattle.frame_headers.specs.declared.persist.Persist.{Persist}
-use Rattle.frame_decoder.specs.Columns.{blocks_of}
-use Rattle.frame_decoder.specs.Frames.{all_blocks}
+use Rattle.frame_state.specs.Columns.{blocks_of}
+use Rattle.frame_state.specs.Reading.{all_blocks}
 use Rattle.inter_modes.specs.Segments.{segments_after}
 use Rattle.prob_contexts.specs.Lists.{lists_of}
 use Rattle.seq_decoder.specs.After.{segments_before}

@@ -1,0 +1,9 @@
+pub mod TileOffsets
+pub mod ColumnBlocks
+pub mod BlockSteps
+pub mod TileBytes
+pub mod TileSpans
+pub mod ColumnSteps
+pub mod CountSums
+pub mod PlanReads
+pub mod Verdicts
