@@ -32,7 +32,6 @@ use Rattle.inter_modes.specs.Code.{RefersInRange}
 use Rattle.planes.specs.Pictures.{map_of}
 use Rattle.planes.specs.declared.picture.Picture.{Picture}
 use Rattle.vp9_types.specs.declared.block.ReferenceFrame.{ReferenceFrame}
-use Rattle.mv_prediction.specs.Code as vectors
 use Rattle.frame_decoder.specs.Pictures.{HasPictures, has_row, row_width}
 use Rattle.frame_decoder.specs.Code.{PlainTile, plain_block}
 

@@ -61,7 +61,7 @@ fn read_tile<const COUNTS: bool>(
 }
 
 /// All blocks of a tile.
-#[tactic(auto, using(crate::proofs::TileReads::tile_left))]
+#[tactic(auto, using(crate::proofs::PlainTiles::tile_left))]
 fn decode_blocks<const COUNTS: bool>(
     by: &PlainSources<'_>,
     reader: &mut CountingReader<'_, COUNTS>,
@@ -96,7 +96,7 @@ fn decode_blocks<const COUNTS: bool>(
 }
 
 /// A tile, from its bytes, with the counts so far; answers the counts behind it.
-#[tactic(auto, unfolding(crate::specs::Code::read_whole))]
+#[tactic(auto, unfolding(frame_state::specs::Code::read_whole))]
 fn decode_tile<const COUNTS: bool>(
     bytes: &[u8],
     by: &PlainSources<'_>,

@@ -19,7 +19,7 @@ use Rattle.frame_decoder.proofs.decoding.decode_frame.Goals as goal
 
 pub decode_counted-requires-clause-start : goal.decode_counted-requires-clause-start
 decode_counted-requires-clause-start c = record {
-  columns_held = rw c.deref_mut.ensures.value c.in_ok-columns.ensures.start;
+  columns_held = rw c.deref_mut.ensures.value c.in_ok-begin_all.ensures.start;
   map_held = nothing_put _ ∙ sym (ap samples_of c.planes_mut-planes.ensures.value ∙ c.requires.blank.map);
 }
 
@@ -32,7 +32,7 @@ returns-in_err-counts c =
 
 pub new-blocks-requires : goal.new-blocks-requires
 new-blocks-requires c =
-    let back = written_back c.decode_counted.new.columns c.in_ok-columns.columns.items c.in_ok-columns.columns.len (omega (arith, c.decode_counted.auto.columns)) in
+    let back = written_back c.decode_counted.new.columns c.begin_all.new.columns.items c.begin_all.new.columns.len (omega (arith, c.decode_counted.auto.columns)) in
     rw (c.deref.ensures.value, back) (record { size = c.args.by.reading.setting.size; few = c.requires.few; are = c.in_ok-counts.ensures.columns })
 
 pub filter_frame-requires-clause-sizes : goal.filter_frame-requires-clause-sizes
@@ -44,7 +44,7 @@ filter_frame-requires-clause-fit c =
     rw c.new-blocks.ensures.columns
     (all_fit header (tile_count header) c.deref.result.now
     (subst (λ columns. AreTileColumns header (tile_count header) columns)
-    (sym (c.deref.ensures.value ∙ written_back c.decode_counted.new.columns c.in_ok-columns.columns.items c.in_ok-columns.columns.len (omega (arith, c.decode_counted.auto.columns))))
+    (sym (c.deref.ensures.value ∙ written_back c.decode_counted.new.columns c.begin_all.new.columns.items c.begin_all.new.columns.len (omega (arith, c.decode_counted.auto.columns))))
     c.in_ok-counts.ensures.columns))
 
 pub filter_frame-requires-clause-range : goal.filter_frame-requires-clause-range
@@ -60,7 +60,7 @@ returns c =
     let put : pictures_of by ≡ rebuilding header (pictures_of by).references = ap (λ shape. record { shape = shape; references = (pictures_of by).references }) c.requires.past.pictures.shape in
     let gives = c.in_ok-counts.ensures.gives in
     let read = gives.0 in
-    let back = written_back c.decode_counted.new.columns c.in_ok-columns.columns.items c.in_ok-columns.columns.len (omega (arith, c.decode_counted.auto.columns)) in
+    let back = written_back c.decode_counted.new.columns c.begin_all.new.columns.items c.begin_all.new.columns.len (omega (arith, c.decode_counted.auto.columns)) in
     let blocks : blocks_of c.decode_counted.new.columns ≡ blocks_read read = blocks_told c.decode_counted.new.columns read.columns gives.2.columns_held in
     let columns : c.new-blocks.result.columns.now ≡ c.decode_counted.new.columns = c.new-blocks.ensures.columns ∙ c.deref.ensures.value ∙ back in
     let are = c.in_ok-counts.ensures.columns in
@@ -76,9 +76,9 @@ returns c =
         sizes = subst (λ (f : EdgeSetting). HasSizes f.shape c.filter_frame.new.planes) c.new-2.ensures c.filter_frame.ensures.sizes;
         range = subst (λ (f : EdgeSetting). IsInRange f.shape.depth c.filter_frame.new.planes) c.new-2.ensures c.filter_frame.ensures.range;
         contexts = refl;
-        blocks = ap blocks_of back ∙ blocks;
-        starts = rw back (starts_of header (tile_count header) c.decode_counted.new.columns are);
-        columns = rw back (record { size = setting.size; few = c.requires.few; are = are });
+        blocks = rw c.replace.ensures.value (ap blocks_of back ∙ blocks);
+        starts = rw (c.replace.ensures.value, back) (starts_of header (tile_count header) c.decode_counted.new.columns are);
+        columns = rw (c.replace.ensures.value, back) (record { size = setting.size; few = c.requires.few; are = are });
         counts = gives.3;
       },
     )
