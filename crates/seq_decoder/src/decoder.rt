@@ -19,7 +19,7 @@ use crate::showing::show;
 use edge_io::{PutFault, Sink};
 use file_frames::FileFrame;
 use frame_decoder::{PlainSources, decode_frame};
-use frame_state::{FramePast, Halt, TileColumn, begin_frame};
+use frame_state::{FramePast, FrameSources, Halt, TileColumn, begin_frame};
 use frame_headers::{FrameHead, Header, Persist, read};
 use picture_table::PictureTable;
 use planes::Picture;
@@ -111,17 +111,21 @@ impl Decoder {
         begin_segments(alloc, header, self.persist.size, &mut self.segments)?;
         let place = self.table.blank(alloc, header.shape())?;
         let mut picture = replace(&mut self.table.pictures[place], Picture::none(alloc));
-        let past = FramePast {
-            contexts: &before,
-            segments: segments_of(&self.segments),
-            vectors: vectors_before(header, &self.last),
-        };
+        let mut columns = replace(&mut self.columns, Vec::new(alloc));
         let by = PlainSources {
-            reading: FrameSources { setting, past },
+            reading: FrameSources {
+                setting,
+                past: FramePast {
+                    contexts: &before,
+                    segments: segments_of(&self.segments),
+                    vectors: vectors_before(header, &self.last),
+                },
+            },
             pictures: pictures_for(header, &self.table),
         };
-        let decoded = decode_frame(&mut self.columns, bytes, by, compressed, &mut picture);
+        let decoded = decode_frame(&mut columns, bytes, by, compressed, &mut picture);
         self.table.pictures[place] = picture;
+        self.columns = columns;
         Ok(Coded {
             decoded: decoded?,
             place,

@@ -7,7 +7,8 @@ use Rattle.std.proofs.lemmas.Result.{err_from_is_err_and}
 use Rattle.planes.specs.Pictures.{IsBlank}
 use Rattle.picture_table.proofs.Places.{held_beside, put_there, table_beside}
 use Rattle.frame_decoder.specs.Frames.{decoded}
-use Rattle.seq_decoder.specs.After.{past_of, segments_before, vectors_before}
+use Rattle.seq_decoder.specs.After.{input_of, past_of, references_of, segments_before, vectors_before}
+use Rattle.frame_decoder.proofs.PlainFrames.{frame_breaks}
 use Rattle.seq_decoder.specs.Code.{HasPlaces, NamesHeld, segments_held, shape_told}
 use Rattle.frame_decoder.specs.Code.{HoldsResult}
 use Rattle.seq_decoder.specs.SavedContexts.{context_at, place_of, saved_before}
@@ -20,23 +21,23 @@ pub returns-in_err-setting-clause-coded : goal.returns-in_err-setting-clause-cod
 returns-in_err-setting-clause-coded c = λ state stands.
     let p = err_from_is_err_and c.from_residual.result c.from_residual.ensures.1 in
     let header = c.args.header.now in
-    rw (p.1, p.2) (c.in_err-setting.ensures (past_of state header)
-    (sym (c.at-before.ensures ∙ (λ i. context_at (c.reset.ensures i) (c.place_of.ensures i)) ∙ ap (λ saved. context_at (saved_before header saved) (place_of header)) stands.contexts)))
+    rw (p.1, p.2) (frame_breaks (references_of state.slots header.kind) (input_of state c.args.bytes.now header c.args.compressed) _ (c.in_err-setting.ensures (past_of state header)
+    (sym (c.at-before.ensures ∙ (λ i. context_at (c.reset.ensures i) (c.place_of.ensures i)) ∙ ap (λ saved. context_at (saved_before header saved) (place_of header)) stands.contexts))))
 
-pub decode_frame-requires-clause-few : goal.decode_frame-requires-clause-few
-decode_frame-requires-clause-few c = rw c.in_ok-setting.ensures.0 c.requires.few
+pub decode_frame-decoded-requires-clause-few : goal.decode_frame-decoded-requires-clause-few
+decode_frame-decoded-requires-clause-few c = rw c.in_ok-setting.ensures.0 c.requires.few
 
-pub decode_frame-requires-clause-begun : goal.decode_frame-requires-clause-begun
-decode_frame-requires-clause-begun c =
+pub decode_frame-decoded-requires-clause-begun : goal.decode_frame-decoded-requires-clause-begun
+decode_frame-decoded-requires-clause-begun c =
     let begun = c.in_ok-setting.ensures in (refl, rw begun.0 begun.1, rw begun.0 begun.2)
 
-pub decode_frame-requires-clause-past : goal.decode_frame-requires-clause-past
-decode_frame-requires-clause-past c =
+pub decode_frame-decoded-requires-clause-past : goal.decode_frame-decoded-requires-clause-past
+decode_frame-decoded-requires-clause-past c =
     let places = subst (HasPlaces (Some c.args.header.now.size)) c.segments_of.ensures c.in_ok-begin_segments.ensures.places in
-    rw c.in_ok-setting.ensures.0 (record {
-      past = record { rows = places.0; cols = places.1; vectors = c.vectors_before.ensures.are };
-      pictures = record { shape = c.pictures_for.ensures.shape; there = c.pictures_for.ensures.has };
-    })
+    record {
+      past = rw c.in_ok-setting.ensures.0 (record { rows = places.0; cols = places.1; vectors = c.vectors_before.ensures.are });
+      pictures = rw c.in_ok-setting.ensures.0 (record { shape = c.pictures_for.ensures.shape; there = c.pictures_for.ensures.has });
+    }
 
 pub pictures_for-requires-clause-table : goal.pictures_for-requires-clause-table
 pictures_for-requires-clause-table c =
@@ -47,8 +48,8 @@ pictures_for-requires-clause-held c =
     let t = c.blank.new.self in
     subst (NamesHeld c.args.header.now) (sym (held_beside t.pictures.items c.in_ok-place.place c.replace-picture.new.dest t.slots c.in_ok-place.ensures.free ∙ c.blank.ensures.held)) c.requires.held
 
-pub decode_frame-requires-clause-blank : goal.decode_frame-requires-clause-blank
-decode_frame-requires-clause-blank c =
+pub decode_frame-decoded-requires-clause-blank : goal.decode_frame-decoded-requires-clause-blank
+decode_frame-decoded-requires-clause-blank c =
     let blank = c.in_ok-place.ensures.blank in
     let same = c.replace-picture.ensures.value ∙ picture_is c.blank.new.self.pictures.items c.in_ok-place.place blank.0 c.index_mut.result.now blank.1 c.index_mut.ensures.value in
     rw (same, c.in_ok-setting.ensures.0) (subst (λ s. IsBlank s blank.0) c.shape.ensures blank.2)
@@ -66,7 +67,7 @@ returns-in_err-decoded-clause-coded c = λ state stands.
     (c.at-before.ensures ∙ (λ i. context_at (c.reset.ensures i) (c.place_of.ensures i)) ∙ ap (λ saved. context_at (saved_before header saved) (place_of header)) stands.contexts)
     (ap segments_held (sym c.segments_of.ensures) ∙ c.in_ok-begin_segments.ensures.map ∙ (λ i. segments_before header (stands.persist i).size (stands.segments i)))
     (c.vectors_before.ensures.blocks ∙ ap (vectors_before header) stands.last) in
-    rw (p.1, p.2) (coded_halts header _ _ _ _ c.decode_frame.new.picture t _ (c.pictures_for.ensures.pictures state.slots (still ∙ stands.slots)) input c.in_err-decoded.ensures)
+    rw (p.1, p.2) (coded_halts header _ _ _ _ c.decode_frame-decoded.new.picture t _ (c.pictures_for.ensures.pictures state.slots (still ∙ stands.slots)) input c.in_err-decoded.ensures)
 
 pub index_mut-requires-2 : goal.index_mut-requires-2
 index_mut-requires-2 c =
@@ -91,10 +92,10 @@ returns-clause-coded c = λ state stands.
       decodes.0,
       (λ i. decoded (sym pictures i) (sym input i)) ∙ decodes.1,
       record {
-        picture = c.decode_frame.new.picture;
-        there = put_there (slice_set t.pictures.items place dest) place dest c.decode_frame.new.picture (put_there t.pictures.items place blank.0 dest blank.1);
+        picture = c.decode_frame-decoded.new.picture;
+        there = put_there (slice_set t.pictures.items place dest) place dest c.decode_frame-decoded.new.picture (put_there t.pictures.items place blank.0 dest blank.1);
         free = c.in_ok-place.ensures.free;
-        holds = subst (λ h. HoldsResult h c.decode_frame.new.picture c.in_ok-decoded.decoded decodes.0) c.in_ok-setting.ensures.0 decodes.2;
+        holds = subst (λ h. HoldsResult h c.decode_frame-decoded.new.picture c.in_ok-decoded.field-0 decodes.0) c.in_ok-setting.ensures.0 decodes.2;
       },
     )
 
@@ -107,10 +108,10 @@ returns-clause-at c =
     let dest = c.replace-picture.new.dest in (
       decodes.0,
       record {
-        picture = c.decode_frame.new.picture;
-        there = put_there (slice_set t.pictures.items place dest) place dest c.decode_frame.new.picture (put_there t.pictures.items place blank.0 dest blank.1);
+        picture = c.decode_frame-decoded.new.picture;
+        there = put_there (slice_set t.pictures.items place dest) place dest c.decode_frame-decoded.new.picture (put_there t.pictures.items place blank.0 dest blank.1);
         free = c.in_ok-place.ensures.free;
-        holds = subst (λ h. HoldsResult h c.decode_frame.new.picture c.in_ok-decoded.decoded decodes.0) c.in_ok-setting.ensures.0 decodes.2;
+        holds = subst (λ h. HoldsResult h c.decode_frame-decoded.new.picture c.in_ok-decoded.field-0 decodes.0) c.in_ok-setting.ensures.0 decodes.2;
       },
     )
 
@@ -121,7 +122,7 @@ returns-clause-begun c = λ state stands.
     let place = c.in_ok-place.place in
     let dest = c.replace-picture.new.dest in
     let still = held_beside t.pictures.items place dest t.slots c.in_ok-place.ensures.free ∙ c.blank.ensures.held in
-    let kept = held_beside (slice_set t.pictures.items place dest) place c.decode_frame.new.picture t.slots c.in_ok-place.ensures.free ∙ still in record {
+    let kept = held_beside (slice_set t.pictures.items place dest) place c.decode_frame-decoded.new.picture t.slots c.in_ok-place.ensures.free ∙ still in record {
       persist = stands.persist;
       contexts = c.reset.ensures ∙ ap (saved_before header) stands.contexts;
       slots = kept ∙ stands.slots;
@@ -136,11 +137,33 @@ returns-clause-may c =
     let place = c.in_ok-place.place in
     let dest = c.replace-picture.new.dest in
     let still = held_beside t.pictures.items place dest t.slots c.in_ok-place.ensures.free ∙ c.blank.ensures.held in
-    let kept = held_beside (slice_set t.pictures.items place dest) place c.decode_frame.new.picture t.slots c.in_ok-place.ensures.free ∙ still in record {
+    let kept = held_beside (slice_set t.pictures.items place dest) place c.decode_frame-decoded.new.picture t.slots c.in_ok-place.ensures.free ∙ still in record {
       sized = sized_with c.args.self.now.persist (Some header.size) c.requires.may.sized;
-      table_is = table_beside (record { pictures = with_item t.pictures place dest; slots = t.slots }) _ place c.decode_frame.new.picture c.in_ok-place.ensures.free refl refl
+      table_is = table_beside (record { pictures = with_item t.pictures place dest; slots = t.slots }) _ place c.decode_frame-decoded.new.picture c.in_ok-place.ensures.free refl refl
           (table_beside t _ place dest c.in_ok-place.ensures.free refl refl c.blank.ensures.table);
       shapes = ap (map shape_told) kept ∙ c.requires.may.shapes;
-      few = omega (arith, length-set (slice_set t.pictures.items place dest) place c.decode_frame.new.picture, length-set t.pictures.items place dest, c.blank.ensures.few, c.requires.may.few);
+      few = omega (arith, length-set (slice_set t.pictures.items place dest) place c.decode_frame-decoded.new.picture, length-set t.pictures.items place dest, c.blank.ensures.few, c.requires.may.few);
       places = c.in_ok-begin_segments.ensures.places;
     }
+
+pub returns-in_err-decoded-clause-table : goal.returns-in_err-decoded-clause-table
+returns-in_err-decoded-clause-table c =
+    let t = c.blank.new.self in
+    let place = c.in_ok-place.place in
+    let dest = c.replace-picture.new.dest in
+    let still = held_beside t.pictures.items place dest t.slots c.in_ok-place.ensures.free ∙ c.blank.ensures.held in (
+      table_beside (record { pictures = with_item t.pictures place dest; slots = t.slots }) _ place c.decode_frame-decoded.new.picture c.in_ok-place.ensures.free refl refl
+          (table_beside t _ place dest c.in_ok-place.ensures.free refl refl c.blank.ensures.table),
+      held_beside (slice_set t.pictures.items place dest) place c.decode_frame-decoded.new.picture t.slots c.in_ok-place.ensures.free ∙ still,
+    )
+
+pub returns-clause-table : goal.returns-clause-table
+returns-clause-table c =
+    let t = c.blank.new.self in
+    let place = c.in_ok-place.place in
+    let dest = c.replace-picture.new.dest in
+    let still = held_beside t.pictures.items place dest t.slots c.in_ok-place.ensures.free ∙ c.blank.ensures.held in (
+      table_beside (record { pictures = with_item t.pictures place dest; slots = t.slots }) _ place c.decode_frame-decoded.new.picture c.in_ok-place.ensures.free refl refl
+          (table_beside t _ place dest c.in_ok-place.ensures.free refl refl c.blank.ensures.table),
+      held_beside (slice_set t.pictures.items place dest) place c.decode_frame-decoded.new.picture t.slots c.in_ok-place.ensures.free ∙ still,
+    )
