@@ -1,5 +1,5 @@
 -- What the code keeps, and what it takes of a block's buffer.
-use Rattle.std.specs.Prelude.{◌≡◌, ◌≤◌, ℕ, zero, suc, ◌*◌, ℤ, Bool, false, List, [], ◌∷◌, ◌++◌, length, map, get_or, take, drop, slice_range, if◌then◌else◌}
+use Rattle.std.specs.Prelude.{◌≡◌, All, ◌≤◌, ◌<◌, ℕ, zero, suc, ◌*◌, ℤ, Bool, false, List, [], ◌∷◌, ◌++◌, length, map, get_or, take, drop, slice_range, if◌then◌else◌}
 use Rattle.std.specs.List.{range_with_len}
 use Rattle.vp9_types.specs.declared.shape.Plane.{Plane}
 use Rattle.vp9_types.specs.declared.shape.Plane.TheVariants.{Y, U, V}
@@ -9,6 +9,8 @@ use Rattle.block_plan.specs.InPlanes.{places_in, tx_in}
 use Rattle.block_plan.specs.declared.block.BlockInfo.{BlockInfo}
 use Rattle.block_plan.specs.declared.residues.BlockResidues.{BlockResidues}
 use Rattle.block_plan.specs.declared.residues.PlaneResidues.{PlaneResidues}
+use Rattle.column_plan.specs.Rows.{before_row, place_of_row, row_of}
+use Rattle.column_plan.specs.declared.rows.RowPlace.{RowPlace}
 
 ---- Pieces one behind another ----
 
@@ -43,3 +45,11 @@ plane_pieces shape b p r = pieces_held (area (tx_in shape b p)) r.some r.values 
 -- of a block, plane by plane
 abbrev pub block_pieces : Shape → BlockInfo → BlockResidues → List (List ℤ)
 block_pieces shape b r = plane_pieces shape b Y r.y ++ plane_pieces shape b U r.u ++ plane_pieces shape b V r.v
+
+---- Rows of superblocks ----
+
+-- where the rows of superblocks that its blocks reach begin
+pub record AreRowPlaces (shape : Shape) (blocks : List BlockInfo) (places : List RowPlace) : Type 0 where
+  pub each : (r : ℕ) (d : RowPlace) → r < length places → get_or places r d ≡ place_of_row shape r blocks
+  pub reached : (r : ℕ) → r < length places → length (before_row r blocks) < length blocks
+  pub low : All (λ b. row_of b < length places) blocks

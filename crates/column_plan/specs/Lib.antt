@@ -1,2 +1,3 @@
 pub mod Planned
+pub mod Rows
 pub mod Code
