@@ -66,8 +66,12 @@ breaks_as (Some rule) a b same breaks = same rule breaks
 
 ---- Where it begins ----
 
+-- with nothing at the left
+abbrev pub begun_again : ColumnPlan → ColumnPlan
+begun_again p = record { column = with_sides p.column (cleared p.column.sides); residues = p.residues; rows = p.rows }
+
 begins_so : (shape : Shape) (p : ColumnPlan) (read : Column) → FitPlanes shape p.column.sides → HoldsColumn shape p read
-    → tile_held shape (with_sides p.column (cleared p.column.sides)) p.residues ≡ plan_view (begun shape read)
+    → tile_held shape (begun_again p) ≡ plan_view (begun shape read)
 begins_so shape p read fit h = λ i. record {
   blocks = (h.blocks ∙ sym (append-nil read.blocks)) i;
   sides = record {
@@ -101,14 +105,14 @@ tile_walk by n c t read s is h state =
 pub gives_next : (by : code.FrameSources) (n : ℕ) (p new : ColumnPlan) (t : TilePlaces) (bytes before : List ℕ) (counting : Bool) (result : Result (List ℕ) Halt)
     → t ≡ tile_places by.setting.places by.setting.header.params.tiles n → IsTileColumn by.setting.header n (column_of by.setting.header.params.tiles n) p.column
     → GivesWhole counting before (read_whole (decode_tile (plan_walk (sources_of by) by.setting.places p.column.grid.from p.column.grid.to) (superblocks_along (t.col_to - t.col_from)) t.row_from t.col_from
-    (superblocks_along (t.row_to - t.row_from)) (tile_held (shape_of by.setting.header) (with_sides p.column (cleared p.column.sides)) p.residues)) bytes) result (tile_held (shape_of by.setting.header) new.column new.residues)
+    (superblocks_along (t.row_to - t.row_from)) (tile_held (shape_of by.setting.header) (begun_again p))) bytes) result (tile_held (shape_of by.setting.header) new)
     → (bytes_of : ℕ → List ℕ) (read : ColumnRead) → bytes_of n ≡ bytes → HoldsColumn (shape_of by.setting.header) p read.column
     → GivesNext counting before (column_tile (sources_of by) bytes_of n read) result (shape_of by.setting.header) new
 gives_next by n p new t bytes before counting (Ok counts) is h gives bytes_of read there holds =
     let told = sources_of by in
     let shape = shape_of by.setting.header in
     let same = tile_walk by n p.column t read.column _ is h (begins_so shape p read.column h.fit holds) in
-    let seen : map_ok (seen_by plan_view) (read_whole (tile_of told n read.column) bytes) ≡ Ok (record { value = tile_held shape new.column new.residues; counted = gives.0 }) =
+    let seen : map_ok (seen_by plan_view) (read_whole (tile_of told n read.column) bytes) ≡ Ok (record { value = tile_held shape new; counted = gives.0 }) =
     sym (whole_mapped plan_view (tile_of told n read.column) bytes) ∙ (ap (λ s. read_whole s bytes) (sym same) ∙ gives.1) in
     let q = value_seen plan_view (read_whole (tile_of told n read.column) bytes) _ seen in (
       with_its_tile n read q.0,

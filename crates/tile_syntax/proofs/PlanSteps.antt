@@ -25,7 +25,7 @@ use Rattle.counting_reader.specs.Code.{standing_of}
 use Rattle.counting_reader.specs.declared.reader.CountingReader.{CountingReader}
 use Rattle.mode_syntax.specs.Walk.{Walk}
 use Rattle.tile_reader.specs.Code.{Breaks, EndsTile, Rest, Tile}
-use Rattle.frame_state.specs.declared.columns.TileColumn.{TileColumn}
+use Rattle.tile_syntax.specs.declared.plans.ColumnPlan.{ColumnPlan}
 use Rattle.frame_state.specs.declared.sources.FrameSources as code
 use Rattle.frame_headers.specs.State.{shape_of}
 use Rattle.frame_state.specs.declared.halt.Halt.{Halt}
@@ -112,10 +112,10 @@ plan_given rest room start (Err e) old walk limit most t new is tells h =
     rw (sym is) (subst (λ (f : Halt → Option Rule). Breaks (f e) (rest start.state) start.standing) tells h)
 
 -- the same of what is left behind references
-pub plan_left : {n : ℕ} (shape : Shape) (s : Syntax ℕ Rule (Settled PlanTile)) (old : CountingReader n) (result : Result (Unit {0}) Halt) (column left_column : TileColumn) (pieces left_pieces : List (List ℤ)) (new left : CountingReader n)
-    → left_column ≡ column → left_pieces ≡ pieces → left ≡ new → GivesTile s old result (tile_held shape column pieces) new → GivesTile s old result (tile_held shape left_column left_pieces) left
-plan_left shape s old result column left_column pieces left_pieces new left c p r h = rw (c, p, r) h
+pub plan_left : {n : ℕ} (shape : Shape) (s : Syntax ℕ Rule (Settled PlanTile)) (old : CountingReader n) (result : Result (Unit {0}) Halt) (plan left_plan : ColumnPlan) (new left : CountingReader n)
+    → left_plan ≡ plan → left ≡ new → GivesTile s old result (tile_held shape plan) new → GivesTile s old result (tile_held shape left_plan) left
+plan_left shape s old result plan left_plan new left p r h = rw (p, r) h
 
-pub plan_same : {n : ℕ} (b c : code.FrameSources) (s : Syntax ℕ Rule (Settled PlanTile)) (old : CountingReader n) (result : Result (Unit {0}) Halt) (column : TileColumn) (pieces : List (List ℤ)) (new : CountingReader n)
-    → b ≡ c → GivesTile s old result (tile_held (shape_of b.setting.header) column pieces) new → GivesTile s old result (tile_held (shape_of c.setting.header) column pieces) new
-plan_same b c s old result column pieces new same h = rw (sym same) h
+pub plan_same : {n : ℕ} (b c : code.FrameSources) (s : Syntax ℕ Rule (Settled PlanTile)) (old : CountingReader n) (result : Result (Unit {0}) Halt) (plan : ColumnPlan) (new : CountingReader n)
+    → b ≡ c → GivesTile s old result (tile_held (shape_of b.setting.header) plan) new → GivesTile s old result (tile_held (shape_of c.setting.header) plan) new
+plan_same b c s old result plan new same h = rw (sym same) h

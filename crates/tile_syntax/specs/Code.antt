@@ -1,5 +1,5 @@
 -- What the code keeps of a tile column whose blocks are planned as they are read, and what its calls answer.
-use Rattle.std.specs.Prelude.{◌≡◌, ℕ, ℤ, Bool, List, [], ◌∷◌, ◌++◌, Option, Some, None, Result, Ok, Err}
+use Rattle.std.specs.Prelude.{◌≡◌, length, ℕ, Bool, List, [], ◌∷◌, ◌++◌, Option, Some, None, Result, Ok, Err}
 use Rattle.vp9_types.specs.Syntax.{Syntax}
 use Rattle.vp9_types.specs.declared.rule.Rule.{Rule}
 use Rattle.vp9_types.specs.declared.shape.Shape.{Shape}
@@ -16,17 +16,17 @@ use Rattle.inter_modes.specs.ModeInfo.{mode_info}
 use Rattle.prob_contexts.specs.declared.kind.CountedBool.{CountedBool}
 use Rattle.mode_syntax.specs.Walk.{Walk}
 use Rattle.tile_reader.specs.Code.{Breaks}
-use Rattle.column_plan.specs.Planned.{planned_blocks}
 use Rattle.frame_state.specs.Code.{counts_if}
 use Rattle.frame_state.specs.Plans.{ColumnRead}
 use Rattle.frame_state.specs.Reading.{Column, TileRead, infos}
 use Rattle.frame_state.specs.Sources.{FrameSources, frame_is_intra}
-use Rattle.frame_state.specs.declared.columns.TileColumn.{TileColumn}
 use Rattle.frame_state.specs.declared.halt.Halt.{Halt}
 use Rattle.frame_state.specs.declared.halt.Halt.TheVariants as halt
 use Rattle.tile_syntax.specs.declared.plans.ColumnPlan.{ColumnPlan}
 use Rattle.tile_syntax.specs.declared.plans.Unplanned.{Unplanned}
 use Rattle.tile_syntax.specs.declared.plans.Unplanned.TheVariants as unplanned
+use Rattle.column_plan.specs.Planned.{planned_blocks, total}
+use Rattle.column_plan.specs.Code.{AreRowPlaces}
 
 ---- A tile ----
 
@@ -58,8 +58,13 @@ abbrev pub plan_view : TileRead → PlanTile
 plan_view s = record { blocks = s.earlier ++ s.blocks; sides = s.sides }
 
 -- what the code holds of it
-abbrev pub tile_held : Shape → TileColumn → List (List ℤ) → PlanTile
-tile_held shape c pieces = record { blocks = planned_blocks shape c.grid.from c.grid.blocks pieces; sides = c.sides }
+abbrev pub tile_held : Shape → ColumnPlan → PlanTile
+tile_held shape p = record { blocks = planned_blocks shape p.column.grid.from p.column.grid.blocks p.residues; sides = p.column.sides }
+
+-- it keeps the residues of all of its blocks, and where their rows of superblocks begin
+pub record IsKept (shape : Shape) (p : ColumnPlan) : Type 0 where
+  pub all : total shape p.column.grid.blocks ≡ length p.residues
+  pub rows : AreRowPlaces shape p.column.grid.blocks p.rows.places.items
 
 -- the rule that is broken, if it isn't want of memory
 abbrev pub rule_of : Halt → Option Rule

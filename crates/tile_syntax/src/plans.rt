@@ -6,7 +6,8 @@ ghost use Rattle.frame_headers.specs.Spans.{tile_count, tile_spans};
 ghost use Rattle.frame_headers.specs.State.{shape_of};
 ghost use Rattle.frame_headers.specs.Tiles.{AreFewTiles};
 ghost use Rattle.prob_contexts.specs.Counted.{no_counts};
-ghost use Rattle.column_plan.specs.Planned.{total};
+ghost use Rattle.column_plan.specs.Rows.{place_of_row};
+ghost use Rattle.vp9_types.specs.declared.shape.Shape.{Shape};
 ghost use Rattle.frame_state.specs.Columns.{IsTileColumn};
 ghost use Rattle.frame_state.specs.Past.{IsPastOf};
 ghost use Rattle.frame_state.specs.Code.{sources_of};
@@ -14,11 +15,11 @@ ghost use Rattle.frame_state.specs.Plans.{ColumnRead, column_tile, plan_of, tile
 ghost use Rattle.frame_state.specs.Reading.{no_column};
 ghost use Rattle.frame_state.specs.Sources.{adapts};
 ghost use Rattle.frame_state.specs.Tiles.{column_of};
-ghost use Rattle.tile_syntax.specs.Code.{GivesNext, GivesPlan, HoldsColumn, unplanned_at};
+ghost use Rattle.tile_syntax.specs.Code.{GivesNext, GivesPlan, HoldsColumn, IsKept, unplanned_at};
 ghost use Rattle.tile_syntax.specs.declared.plans.Unplanned.TheVariants as unplanned;
 
 use crate::tiles::plan_tile;
-use column_plan::PlanResidues;
+use column_plan::{PlanResidues, RowPlace, RowPlaces};
 use frame_state::{FrameSources, Halt, TileColumn, TilePlaces, adapts};
 use frame_headers::tile_span;
 use frame_setting::FrameSetting;
@@ -53,11 +54,12 @@ impl From<AllocError> for Unplanned {
     }
 }
 
-/// The blocks of a tile column, where they have coefficients, and their residues.
+/// The blocks of a tile column, where they have coefficients, their residues, and where each row of superblocks begins in them.
 #[derive(Drop)]
 pub struct ColumnPlan {
     pub column: TileColumn,
     pub residues: PlanResidues,
+    pub rows: RowPlaces,
 }
 
 impl ColumnPlan {
@@ -70,7 +72,26 @@ impl ColumnPlan {
         Ok(ColumnPlan {
             column: TileColumn::new(alloc, setting, k)?,
             residues: PlanResidues::new(alloc),
+            rows: RowPlaces::new(alloc),
         })
+    }
+
+    /// Where it ends so far.
+    pub(crate) fn end(&self) -> RowPlace
+        ensures { result ≡ record { block = length self.now.column.grid.blocks; piece = length self.now.residues } }
+    {
+        RowPlace {
+            block: self.column.grid.blocks().len(),
+            piece: self.residues.len(),
+        }
+    }
+
+    /// Where a row of superblocks begins in it: at its end, if no block starts there or below.
+    pub fn row_place(&self, row: u32) -> RowPlace
+        ensures { (shape : Shape) → IsKept shape self.now → result ≡ place_of_row shape row self.now.column.grid.blocks }
+    {
+        let end = self.end();
+        self.rows.at(row, end)
     }
 }
 
@@ -86,22 +107,15 @@ fn plan_nth<const COUNTS: bool>(
     requires few { AreFewTiles by.now.setting.header.params.tiles }
     requires below { n < tile_count by.now.setting.header }
     requires column { IsTileColumn by.now.setting.header n (column_of by.now.setting.header.params.tiles n) plan.old.column }
-    requires all { total (shape_of by.now.setting.header) plan.old.column.grid.blocks ≡ length plan.old.residues }
+    requires kept { IsKept (shape_of by.now.setting.header) plan.old }
     ensures gives { (bytes_of : ℕ → List ℕ) (read : ColumnRead) → bytes_of n ≡ bytes.now → HoldsColumn (shape_of by.now.setting.header) plan.old read.column
         → GivesNext COUNTS counts (column_tile (sources_of by.now) bytes_of n read) result (shape_of by.now.setting.header) plan.new }
     ensures column { OnOk result (IsTileColumn by.now.setting.header (n + 1) (column_of by.now.setting.header.params.tiles n) plan.new.column) }
-    ensures all { OnOk result (total (shape_of by.now.setting.header) plan.new.column.grid.blocks ≡ length plan.new.residues) }
+    ensures kept { OnOk result (IsKept (shape_of by.now.setting.header) plan.new) }
 {
     let tile = TilePlaces::new(by.setting.places, by.setting.header.params.tiles, n);
     plan.column.sides.clear_left();
-    plan_tile::<COUNTS>(
-        bytes,
-        by,
-        &tile,
-        &mut plan.column,
-        &mut plan.residues,
-        counts,
-    )
+    plan_tile::<COUNTS>(bytes, by, &tile, plan, counts)
 }
 
 /// All tiles of the `k`-th tile column of a frame, whose compressed header lies at `compressed`. Answers the counts of all of
@@ -121,11 +135,12 @@ fn plan_tiles<const COUNTS: bool>(
     requires tested { IsOk (tile_spans bytes.now by.now.setting.header compressed) }
     requires column { IsTileColumn by.now.setting.header 0 k plan.old.column }
     requires start { HoldsColumn (shape_of by.now.setting.header) plan.old (no_column (shape_of by.now.setting.header)) }
-    requires all { total (shape_of by.now.setting.header) plan.old.column.grid.blocks ≡ length plan.old.residues }
+    requires kept { IsKept (shape_of by.now.setting.header) plan.old }
     requires none { none ≡ no_counts }
     ensures gives { (spans : List Span) → tile_spans bytes.now by.now.setting.header compressed ≡ Ok spans
         → GivesPlan COUNTS (plan_of (sources_of by.now) (tile_bytes bytes.now spans) k) result (shape_of by.now.setting.header) plan.new }
     ensures column { OnOk result (IsTileColumn by.now.setting.header (tile_count by.now.setting.header) k plan.new.column) }
+    ensures kept { OnOk result (IsKept (shape_of by.now.setting.header) plan.new) }
 {
     let tiles = by.setting.header.params.tiles;
     let mut counts = none;
@@ -159,9 +174,11 @@ pub fn column(
     ensures gives { (spans : List Span) → tile_spans bytes.now by.now.setting.header compressed ≡ Ok spans
         → GivesPlan (adapts by.now.setting.header) (plan_of (sources_of by.now) (tile_bytes bytes.now spans) k) result (shape_of by.now.setting.header) plan.new }
     ensures column { OnOk result (IsTileColumn by.now.setting.header (tile_count by.now.setting.header) k plan.new.column) }
+    ensures kept { OnOk result (IsKept (shape_of by.now.setting.header) plan.new) }
 {
     plan.column.renew(alloc, &by.setting, k)?;
     plan.residues.clear();
+    plan.rows.clear();
     let none = Counts::new(alloc)?;
     if adapts(&by.setting.header) {
         plan_tiles::<true>(plan, bytes, by, compressed, k, none)

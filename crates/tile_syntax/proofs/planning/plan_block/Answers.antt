@@ -1,4 +1,5 @@
-use Rattle.std.proofs.Common.{◌≡◌, ◌∙◌, ap, sym, arith}
+use Rattle.std.proofs.Common.{◌≡◌, ◌∙◌, ◌/◌, ap, sym, length, arith}
+use Rattle.block_plan.specs.declared.block.BlockInfo.{BlockInfo}
 use Rattle.std.proofs.lemmas.Result.{err_from_is_err_and}
 use Rattle.frame_headers.specs.State.{shape_of}
 use Rattle.vp9_types.specs.Shapes.{mi_cols, mi_rows}
@@ -7,6 +8,7 @@ use Rattle.frame_state.specs.Code.{sources_of}
 use Rattle.frame_state.proofs.BlockSteps.{all_have_small, fits_more, lies_more, small_more, starts_more, vectors_held, vectors_small}
 use Rattle.column_plan.proofs.Held.{infos_are}
 use Rattle.tile_syntax.proofs.PlanSteps.{all_kept, block_broken, block_planned, modes_broken}
+use Rattle.column_plan.proofs.RowStarts.{rows_noted}
 use Rattle.tile_syntax.proofs.planning.plan_block.Goals as goal
 
 pub mode_info-requires : goal.mode_info-requires
@@ -46,26 +48,26 @@ pub returns-in_err-block-clause-gives : goal.returns-in_err-block-clause-gives
 returns-in_err-block-clause-gives g c =
     let p = err_from_is_err_and c.from_residual.result c.from_residual.ensures.1 in
     let by = c.args.by.now in
-    let column = c.args.column.now in
-    rw (p.1, p.2) (modes_broken (sources_of by) c.args.at _ column.grid.blocks _ _ _ _ (infos_are (shape_of by.setting.header) column.grid.from column.grid.blocks c.args.residues.now)
+    let column = c.args.plan.now.column in
+    rw (p.1, p.2) (modes_broken (sources_of by) c.args.at _ column.grid.blocks _ _ _ _ (infos_are (shape_of by.setting.header) column.grid.from column.grid.blocks c.args.plan.now.residues)
     (rw c.as_ref-vectors.ensures.value at c.in_err-block.ensures.read))
 
 pub returns-in_err-listed-clause-gives : goal.returns-in_err-listed-clause-gives
 returns-in_err-listed-clause-gives g c =
     let p = err_from_is_err_and c.from_residual-in_err-listed.result c.from_residual-in_err-listed.ensures.1 in
     let by = c.args.by.now in
-    let column = c.args.column.now in
-    rw (p.1, p.2) (block_broken (sources_of by) c.args.at _ column.grid.blocks _ _ _ _ _ (infos_are (shape_of by.setting.header) column.grid.from column.grid.blocks c.args.residues.now)
+    let column = c.args.plan.now.column in
+    rw (p.1, p.2) (block_broken (sources_of by) c.args.at _ column.grid.blocks _ _ _ _ _ (infos_are (shape_of by.setting.header) column.grid.from column.grid.blocks c.args.plan.now.residues)
     (rw c.as_ref-vectors.ensures.value at c.in_ok-block.ensures.read) (c.in_err-listed.ensures.gives c.args.at.tile_from))
 
 pub returns-clause-gives : goal.returns-clause-gives
 returns-clause-gives g c =
     let by = c.args.by.now in
     let shape = shape_of by.setting.header in
-    let column = c.args.column.now in
+    let column = c.args.plan.now.column in
     let any = c.in_ok-listed.ensures.listed in
-    rw c.put.ensures (block_planned (sources_of by) c.args.at shape column.grid.from column.grid.blocks c.args.residues.now _ _ _ _ _ _ c.in_ok-block.block c.in_ok-listed.listed any.0 c.read_block.new.residues
-    c.requires.from c.requires.all any.1 c.in_ok-push_block.ensures.pushed c.in_ok-push_block.ensures.stands
+    rw c.put.ensures (block_planned (sources_of by) c.args.at shape column.grid.from column.grid.blocks c.args.plan.now.residues _ _ _ _ _ _ c.in_ok-block.block c.in_ok-listed.listed any.0 c.read_block.new.residues
+    c.requires.from c.requires.kept.all any.1 c.in_ok-push_block.ensures.pushed c.in_ok-push_block.ensures.stands
     (rw c.as_ref-vectors.ensures.value at c.in_ok-block.ensures.read) (c.in_ok-listed.ensures.gives c.args.at.tile_from))
 
 pub returns-clause-ready : goal.returns-clause-ready
@@ -84,7 +86,12 @@ returns-clause-ready g c =
       small = rw c.put.ensures (small_more _ c.in_ok-block.block _ any.0 any.1 is.small c.requires.ready.small);
     }
 
-pub returns-clause-all : goal.returns-clause-all
-returns-clause-all g c =
-    let any = c.in_ok-listed.ensures.listed in
-    rw c.put.ensures (all_kept (shape_of c.args.by.now.setting.header) _ c.in_ok-block.block _ any.0 c.read_block.new.residues c.args.residues.now _ c.requires.all any.1 c.in_ok-push_block.ensures.pushed)
+pub returns-clause-kept : goal.returns-clause-kept
+returns-clause-kept g c =
+    let shape = shape_of c.args.by.now.setting.header in
+    let is = c.in_ok-block.ensures.block in
+    let any = c.in_ok-listed.ensures.listed in record {
+      all = rw c.put.ensures (all_kept shape _ c.in_ok-block.block _ any.0 c.read_block.new.residues c.args.plan.now.residues _ c.requires.kept.all any.1 c.in_ok-push_block.ensures.pushed);
+      rows = rw c.put.ensures (rows_noted shape c.args.plan.now.column.grid.blocks c.in_ok-listed.listed c.args.plan.now.rows.places.items _ (c.args.at.row / 8) c.end-end.result c.requires.kept.rows
+          (ap (λ (b : BlockInfo). b.row / 8) any.1 ∙ ap (λ r. r / 8) is.row) (c.end-end.ensures ∙ ap (λ n. record { block = length c.args.plan.now.column.grid.blocks; piece = n }) (sym c.requires.kept.all)) c.in_ok-reach.ensures);
+    }

@@ -34,10 +34,10 @@ plan_tile-requires-clause-room g c =
 
 pub returns-clause-gives : goal.returns-clause-gives
 returns-clause-gives g c =
-    gives_next c.args.by.now c.args.n c.args.plan.now (record { column = c.plan_tile.new.column; residues = c.plan_tile.new.residues }) c.new-tile.result c.args.bytes.now c.args.counts (not (nat_eq g.row.COUNTS 0)) c.plan_tile.result c.new-tile.ensures c.requires.column
+    gives_next c.args.by.now c.args.n c.args.plan.now c.plan_tile.new.plan c.new-tile.result c.args.bytes.now c.args.counts (not (nat_eq g.row.COUNTS 0)) c.plan_tile.result c.new-tile.ensures c.requires.column
     (rw c.clear_left.ensures at c.plan_tile.ensures.gives)
 
 pub returns-clause-column : goal.returns-clause-column
 returns-clause-column g c =
-    column_next c.args.by.now.setting c.args.n c.args.plan.now.column c.plan_tile.new.column c.new-tile.result c.plan_tile.result c.requires.below c.new-tile.ensures c.requires.column
+    column_next c.args.by.now.setting c.args.n c.args.plan.now.column c.plan_tile.new.plan.column c.new-tile.result c.plan_tile.result c.requires.below c.new-tile.ensures c.requires.column
     c.plan_tile.ensures.ready (rw c.clear_left.ensures at c.plan_tile.ensures.same) c.plan_tile.ensures.room

@@ -14,7 +14,7 @@ loop-i-init g c =
     let header = c.args.by.now.setting.header in
     let first : 0 ≡ 0 * 2 ^ header.params.tiles.columns_log2 = omega arith in record {
       column = subst (λ n. IsTileColumn header n c.args.k c.args.plan.now.column) first c.requires.column;
-      all = c.requires.all;
+      kept = c.requires.kept;
       read = λ spans is. (no_tiles header, [], begins (sources_of c.args.by.now) (tile_bytes c.args.bytes.now spans) c.args.k c.requires.below, c.requires.start, none_counted _ _ c.requires.none);
     }
 
@@ -49,7 +49,7 @@ loop-i-preserved g c =
     let behind = row_below columns c.loop-i.i c.args.k n c.requires.below at in record {
       column = later_by header (n + 1) ((c.loop-i.i + 1) * columns) c.args.k c.plan_nth.new.plan.column behind.1
           (subst (λ k. IsTileColumn header (n + 1) k c.plan_nth.new.plan.column) (own_tile header.params.tiles c.loop-i.i c.args.k n c.requires.below at) c.in-Ok.ensures.column);
-      all = c.in-Ok.ensures.all;
+      kept = c.in-Ok.ensures.kept;
       read = λ spans is.
           let bytes = tile_bytes c.args.bytes.now spans in
           let read = c.loop-i.invariant.read spans is in

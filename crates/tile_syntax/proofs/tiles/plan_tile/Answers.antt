@@ -17,5 +17,5 @@ returns-in_err-plan_blocks-clause-gives g c =
 
 pub returns-clause-gives : goal.returns-clause-gives
 returns-clause-gives g c =
-    rw c.into_counts.ensures (whole_read _ c.args.bytes.now _ _ c.plan_blocks.new.reader (tile_held (shape_of c.args.by.now.setting.header) c.plan_blocks.new.column c.plan_blocks.new.residues) _
+    rw c.into_counts.ensures (whole_read _ c.args.bytes.now _ _ c.plan_blocks.new.reader (tile_held (shape_of c.args.by.now.setting.header) c.plan_blocks.new.plan) _
     (counts_by_is g.row.COUNTS) c.in_ok-reader.ensures.0 c.in_ok-reader.ensures.1 c.in_ok-plan_blocks.ensures.gives)

@@ -10,10 +10,10 @@ use Rattle.tile_syntax.proofs.tiles.read_planned.Goals as goal
 
 pub returns-clause-gives : goal.returns-clause-gives
 returns-clause-gives g c =
-    let w = c.args.plan.now in
+    let w = c.args.planning.now in
     let now = c.read_rows.new.reader in
-    let same : now.by.now ≡ w.by.now = ap (λ (p : GName × GName × GName × FrameSources). p.3) c.read_rows.ensures.kept in
+    let same : now.by.now ≡ w.by.now = ap (λ (p : GName × GName × FrameSources). p.2) c.read_rows.ensures.kept in
     rw (sym c.superblocks-across.ensures.is, sym c.superblocks-down.ensures.is)
-    (plan_same now.by.now w.by.now _ w.reader.now c.read_rows.result now.column.now now.residues.now now.reader.now same
-    (plan_given (decode_tile (plan_walk (sources_of w.by.now) w.by.now.setting.places w.column.now.grid.from w.column.now.grid.to) c.superblocks-across.result c.args.tile.now.row_from c.args.tile.now.col_from c.superblocks-down.result)
-    (64 * (c.superblocks-across.result * c.superblocks-down.result)) _ c.read_rows.result w.reader.now _ _ _ (tile_held (shape_of now.by.now.setting.header) now.column.now now.residues.now) now.reader.now refl refl c.read_rows.ensures.ends))
+    (plan_same now.by.now w.by.now _ w.reader.now c.read_rows.result now.plan.now now.reader.now same
+    (plan_given (decode_tile (plan_walk (sources_of w.by.now) w.by.now.setting.places w.plan.now.column.grid.from w.plan.now.column.grid.to) c.superblocks-across.result c.args.tile.now.row_from c.args.tile.now.col_from c.superblocks-down.result)
+    (64 * (c.superblocks-across.result * c.superblocks-down.result)) _ c.read_rows.result w.reader.now _ _ _ (tile_held (shape_of now.by.now.setting.header) now.plan.now) now.reader.now refl refl c.read_rows.ensures.ends))
