@@ -1,5 +1,5 @@
 -- The tiles of a column, row by row of tiles.
-use Rattle.std.proofs.Common.{◌≡◌, ◌∙◌, ◌++◌, ◌∷◌, [], ℕ, zero, suc, ◌+◌, ◌-◌, ◌*◌, ◌%◌, ◌^◌, ◌<◌, ◌≤◌, Bool, true, false, List, inl, inr, refl, sym, ap, arith, append_assoc}
+use Rattle.std.proofs.Common.{◌≡◌, ◌∙◌, ◌++◌, ◌∷◌, [], ℕ, zero, suc, ◌+◌, ◌-◌, ◌*◌, ◌%◌, ◌^◌, ◌<◌, ◌≤◌, Bool, true, false, List, inl, inr, refl, sym, ap, arith, append_assoc, length}
 use Rattle.std.specs.Prelude.{Result, Ok, Err, IfOk, Some, filter, nat_eq, slice_get, slice_range}
 use Rattle.std.specs.List.{range_with_len}
 use Rattle.std.proofs.lemmas.Bool.{cases_eq, eq-eqb, ne_eqb}
@@ -19,7 +19,7 @@ use Rattle.prob_contexts.specs.declared.kind.CountedBool.{CountedBool}
 use Rattle.counting_reader.specs.Counting.{Settled, counted_if}
 use Rattle.mode_syntax.specs.Laws.{read_all, then_rest, tiles_of, with_counted}
 use Rattle.block_plan.specs.declared.block.BlockInfo.{BlockInfo}
-use Rattle.column_plan.specs.Planned.{planned_blocks}
+use Rattle.column_plan.specs.Planned.{planned_blocks, total}
 use Rattle.frame_state.specs.Code.{column_as_listed, column_of_code, counts_if}
 use Rattle.frame_state.specs.Columns.{IsTileColumn}
 use Rattle.frame_state.specs.Plans.{ColumnRead, column_tile, no_tiles, plan_of, tile_bytes}
@@ -30,8 +30,10 @@ use Rattle.frame_state.specs.declared.columns.TileColumn.{TileColumn}
 use Rattle.frame_state.specs.declared.halt.Halt.{Halt}
 use Rattle.frame_state.specs.declared.halt.Halt.TheVariants as halt
 use Rattle.vp9_types.specs.declared.shape.Shape.{Shape}
-use Rattle.tile_syntax.specs.Code.{BreaksWhole, GivesPlan, HoldsColumn, rule_of, unplanned_at}
+use Rattle.tile_syntax.specs.Code.{BreaksWhole, GivesPlan, HoldsColumn, rule_of, unplanned_at, IsKept}
 use Rattle.tile_syntax.specs.declared.plans.ColumnPlan.{ColumnPlan}
+use Rattle.frame_headers.specs.State.{shape_of}
+use Rattle.column_plan.proofs.RowStarts.{none_noted}
 
 ---- Their numbers ----
 
@@ -222,4 +224,13 @@ nothing_held shape p told = record {
   y = ap (λ z. z.1) told;
   u = ap (λ z. z.2) told;
   v = ap (λ z. z.3) told;
+}
+
+pub nothing_kept : (header : Header) (p : ColumnPlan) → p.column.grid.blocks ≡ [] → p.residues ≡ [] → p.rows.places.items ≡ [] → IsKept header p
+unfolding planned_blocks
+nothing_kept header p blocks residues rows = record {
+  all = (λ i. total (shape_of header) (blocks i)) ∙ ap length (sym residues);
+  rows = rw (blocks, rows) (none_noted (shape_of header));
+  refer = rw blocks (λ i d low. absurd (omega (arith, low)));
+  small = rw blocks (λ i d low. absurd (omega (arith, low)));
 }

@@ -1,13 +1,13 @@
 -- A block of a tile that is planned as it is read.
 use Rattle.std.proofs.Common.{◌≡◌, ◌∙◌, ◌++◌, ◌∷◌, [], ℕ, ℤ, refl, ap, sym, subst, Bool, List, length}
-use Rattle.std.specs.Prelude.{Ok, Err, Option, Result}
+use Rattle.std.specs.Prelude.{Ok, Err, Option, Result, All}
 use Rattle.std.proofs.lemmas.List.{append-nil}
 use Rattle.vp9_types.specs.Syntax.{Syntax, broken}
 use Rattle.vp9_types.specs.declared.rule.Rule.{Rule}
 use Rattle.vp9_types.specs.declared.shape.Shape.{Shape}
 use Rattle.counting_reader.specs.Counting.{Settled, Standing, lifted, run_counting}
 use Rattle.counting_reader.proofs.CountingRuns.{counting_bind, run_settle}
-use Rattle.block_plan.specs.Code.{planned_with}
+use Rattle.block_plan.specs.Code.{planned_with, HoldsSmall}
 use Rattle.block_plan.specs.Planned.{PlannedBlock}
 use Rattle.block_plan.specs.declared.block.BlockAt.{BlockAt}
 use Rattle.block_plan.specs.declared.block.BlockInfo.{BlockInfo}
@@ -30,6 +30,10 @@ use Rattle.frame_state.specs.declared.sources.FrameSources as code
 use Rattle.frame_headers.specs.State.{shape_of}
 use Rattle.frame_state.specs.declared.halt.Halt.{Halt}
 use Rattle.tile_syntax.specs.Code.{GivesTile, PlanTile, plan_block, tile_held, rule_of}
+use Rattle.std.proofs.lemmas.List.Elements.{All-push}
+use Rattle.frame_headers.specs.declared.header.Header.{Header}
+use Rattle.inter_modes.specs.Code.{RefersInRange}
+use Rattle.block_plan.specs.declared.block.Prediction.{Prediction}
 
 abbrev planned : List PlannedBlock → TileSides → PlanTile
 planned blocks sides = record { blocks = blocks; sides = sides }
@@ -100,6 +104,25 @@ block_planned by at shape tile_from blocks pieces now sides after_it a b d block
 pub all_kept : (shape : Shape) (blocks : List BlockInfo) (b info : BlockInfo) (any : Bool) (r : BlockResidues) (pieces now : List (List ℤ)) → total shape blocks ≡ length pieces → info ≡ listed b any
     → now ≡ pieces ++ block_pieces shape b r → total shape (blocks ++ info ∷ []) ≡ length now
 all_kept shape blocks b info any r pieces now all is pushed = all_more shape blocks b info any r pieces all is ∙ ap length (sym pushed)
+
+-- one more refers to what is in range
+pub refer_more : (header : Header) (blocks : List BlockInfo) (b info : BlockInfo) (any : Bool) → info ≡ listed b any → RefersInRange header b.prediction
+    → All (λ (b : BlockInfo). RefersInRange header b.prediction) blocks → All (λ (b : BlockInfo). RefersInRange header b.prediction) (blocks ++ info ∷ [])
+refer_more header blocks b info any is range all =
+    All-push (λ (b : BlockInfo). RefersInRange header b.prediction) blocks info all (subst (λ (p : Prediction). RefersInRange header p) (sym (ap (λ (i : BlockInfo). i.prediction) is)) range)
+
+small_listed : (shape : Shape) (tile_from : ℕ) (b info : BlockInfo) (any : Bool) (r : BlockResidues) → info ≡ listed b any → HoldsSmall (planned_with shape 0 b b r)
+    → HoldsSmall (planned_with shape tile_from b info r)
+small_listed shape tile_from b info any r is h = rw is (record { y = h.y; u = h.u; v = h.v })
+
+-- one more has no large residue
+pub small_planned : (shape : Shape) (tile_from : ℕ) (blocks : List BlockInfo) (b info : BlockInfo) (any : Bool) (r : BlockResidues) (pieces now : List (List ℤ)) → total shape blocks ≡ length pieces
+    → info ≡ listed b any → now ≡ pieces ++ block_pieces shape b r
+    → ((behind : List (List ℤ)) → planned_from shape tile_from b (block_pieces shape b r ++ behind) ≡ planned_with shape tile_from b b r)
+    → HoldsSmall (planned_with shape 0 b b r) → All HoldsSmall (planned_blocks shape tile_from blocks pieces) → All HoldsSmall (planned_blocks shape tile_from (blocks ++ info ∷ []) now)
+small_planned shape tile_from blocks b info any r pieces now all is pushed stands small kept =
+    rw pushed (subst (λ (bs : List PlannedBlock). All HoldsSmall bs) (sym (one_more shape tile_from blocks b info any r pieces all is stands))
+    (All-push HoldsSmall (planned_blocks shape tile_from blocks pieces) (planned_with shape tile_from b info r) kept (small_listed shape tile_from b info any r is small)))
 
 ---- A tile ----
 

@@ -1,5 +1,5 @@
 -- What the code keeps of a tile column whose blocks are planned as they are read, and what its calls answer.
-use Rattle.std.specs.Prelude.{◌≡◌, length, ℕ, Bool, List, [], ◌∷◌, ◌++◌, Option, Some, None, Result, Ok, Err}
+use Rattle.std.specs.Prelude.{◌≡◌, All, length, ℕ, Bool, List, [], ◌∷◌, ◌++◌, Option, Some, None, Result, Ok, Err}
 use Rattle.vp9_types.specs.Syntax.{Syntax}
 use Rattle.vp9_types.specs.declared.rule.Rule.{Rule}
 use Rattle.vp9_types.specs.declared.shape.Shape.{Shape}
@@ -27,6 +27,10 @@ use Rattle.tile_syntax.specs.declared.plans.Unplanned.{Unplanned}
 use Rattle.tile_syntax.specs.declared.plans.Unplanned.TheVariants as unplanned
 use Rattle.column_plan.specs.Planned.{planned_blocks, total}
 use Rattle.column_plan.specs.Code.{AreRowPlaces}
+use Rattle.frame_headers.specs.State.{shape_of}
+use Rattle.frame_headers.specs.declared.header.Header.{Header}
+use Rattle.inter_modes.specs.Code.{RefersInRange}
+use Rattle.block_plan.specs.Code.{HoldsSmall}
 
 ---- A tile ----
 
@@ -61,10 +65,13 @@ plan_view s = record { blocks = s.earlier ++ s.blocks; sides = s.sides }
 abbrev pub tile_held : Shape → ColumnPlan → PlanTile
 tile_held shape p = record { blocks = planned_blocks shape p.column.grid.from p.column.grid.blocks p.residues; sides = p.column.sides }
 
--- it keeps the residues of all of its blocks, and where their rows of superblocks begin
-pub record IsKept (shape : Shape) (p : ColumnPlan) : Type 0 where
-  pub all : total shape p.column.grid.blocks ≡ length p.residues
-  pub rows : AreRowPlaces shape p.column.grid.blocks p.rows.places.items
+-- It keeps the residues of all of its blocks, and where their rows of superblocks begin. Its blocks refer to what is in range, and
+-- no residue is large, so that they can be put in.
+pub record IsKept (header : Header) (p : ColumnPlan) : Type 0 where
+  pub all : total (shape_of header) p.column.grid.blocks ≡ length p.residues
+  pub rows : AreRowPlaces (shape_of header) p.column.grid.blocks p.rows.places.items
+  pub refer : All (λ b. RefersInRange header b.prediction) p.column.grid.blocks
+  pub small : All HoldsSmall (planned_blocks (shape_of header) p.column.grid.from p.column.grid.blocks p.residues)
 
 -- the rule that is broken, if it isn't want of memory
 abbrev pub rule_of : Halt → Option Rule

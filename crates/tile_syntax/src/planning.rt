@@ -29,7 +29,7 @@ pub(crate) fn plan_block<const COUNTS: bool>(
     at: BlockAt,
 ) -> Result<(), Halt>
     requires ready { IsReady by.now.setting plan.old.column }
-    requires kept { IsKept (shape_of by.now.setting.header) plan.old }
+    requires kept { IsKept by.now.setting.header plan.old }
     requires past { IsPastOf by.now.setting.header by.now.past }
     requires row { at.row < by.now.setting.places.rows }
     requires first { at.tile_from ≤ at.col }
@@ -41,7 +41,7 @@ pub(crate) fn plan_block<const COUNTS: bool>(
     ensures gives { GivesTile (plan_block (sources_of by.now) at (tile_held (shape_of by.now.setting.header) plan.old))
         reader.old result (tile_held (shape_of by.now.setting.header) plan.new) reader.new }
     ensures ready { OnOk result (IsReady by.now.setting plan.new.column) }
-    ensures kept { OnOk result (IsKept (shape_of by.now.setting.header) plan.new) }
+    ensures kept { OnOk result (IsKept by.now.setting.header plan.new) }
     ensures same { OnOk result (SameColumns plan.old.column plan.new.column) }
     ensures room { OnOk result (plan.old.column.grid.room ≤ plan.new.column.grid.room + 1) }
 {
@@ -87,7 +87,7 @@ impl<'a, 'b, 'c, const COUNTS: bool> TileReader for PlanReader<'a, 'b, 'c, COUNT
     } };
 
     ghost ready = { λ w. IsPastOf w.by.now.setting.header w.by.now.past × IsReady w.by.now.setting w.plan.now.column
-        × IsKept (shape_of w.by.now.setting.header) w.plan.now };
+        × IsKept w.by.now.setting.header w.plan.now };
 
     ghost Kept = { GName × GName × FrameSources };
 

@@ -7,7 +7,7 @@ ghost use Rattle.frame_headers.specs.State.{shape_of};
 ghost use Rattle.frame_headers.specs.Tiles.{AreFewTiles};
 ghost use Rattle.prob_contexts.specs.Counted.{no_counts};
 ghost use Rattle.column_plan.specs.Rows.{place_of_row};
-ghost use Rattle.vp9_types.specs.declared.shape.Shape.{Shape};
+ghost use Rattle.frame_headers.specs.declared.header.Header.{Header};
 ghost use Rattle.frame_state.specs.Columns.{IsTileColumn};
 ghost use Rattle.frame_state.specs.Past.{IsPastOf};
 ghost use Rattle.frame_state.specs.Code.{sources_of};
@@ -88,7 +88,7 @@ impl ColumnPlan {
 
     /// Where a row of superblocks begins in it: at its end, if no block starts there or below.
     pub fn row_place(&self, row: u32) -> RowPlace
-        ensures { (shape : Shape) → IsKept shape self.now → result ≡ place_of_row shape row self.now.column.grid.blocks }
+        ensures { (header : Header) → IsKept header self.now → result ≡ place_of_row (shape_of header) row self.now.column.grid.blocks }
     {
         let end = self.end();
         self.rows.at(row, end)
@@ -107,11 +107,11 @@ fn plan_nth<const COUNTS: bool>(
     requires few { AreFewTiles by.now.setting.header.params.tiles }
     requires below { n < tile_count by.now.setting.header }
     requires column { IsTileColumn by.now.setting.header n (column_of by.now.setting.header.params.tiles n) plan.old.column }
-    requires kept { IsKept (shape_of by.now.setting.header) plan.old }
+    requires kept { IsKept by.now.setting.header plan.old }
     ensures gives { (bytes_of : ℕ → List ℕ) (read : ColumnRead) → bytes_of n ≡ bytes.now → HoldsColumn (shape_of by.now.setting.header) plan.old read.column
         → GivesNext COUNTS counts (column_tile (sources_of by.now) bytes_of n read) result (shape_of by.now.setting.header) plan.new }
     ensures column { OnOk result (IsTileColumn by.now.setting.header (n + 1) (column_of by.now.setting.header.params.tiles n) plan.new.column) }
-    ensures kept { OnOk result (IsKept (shape_of by.now.setting.header) plan.new) }
+    ensures kept { OnOk result (IsKept by.now.setting.header plan.new) }
 {
     let tile = TilePlaces::new(by.setting.places, by.setting.header.params.tiles, n);
     plan.column.sides.clear_left();
@@ -135,12 +135,12 @@ fn plan_tiles<const COUNTS: bool>(
     requires tested { IsOk (tile_spans bytes.now by.now.setting.header compressed) }
     requires column { IsTileColumn by.now.setting.header 0 k plan.old.column }
     requires start { HoldsColumn (shape_of by.now.setting.header) plan.old (no_column (shape_of by.now.setting.header)) }
-    requires kept { IsKept (shape_of by.now.setting.header) plan.old }
+    requires kept { IsKept by.now.setting.header plan.old }
     requires none { none ≡ no_counts }
     ensures gives { (spans : List Span) → tile_spans bytes.now by.now.setting.header compressed ≡ Ok spans
         → GivesPlan COUNTS (plan_of (sources_of by.now) (tile_bytes bytes.now spans) k) result (shape_of by.now.setting.header) plan.new }
     ensures column { OnOk result (IsTileColumn by.now.setting.header (tile_count by.now.setting.header) k plan.new.column) }
-    ensures kept { OnOk result (IsKept (shape_of by.now.setting.header) plan.new) }
+    ensures kept { OnOk result (IsKept by.now.setting.header plan.new) }
 {
     let tiles = by.setting.header.params.tiles;
     let mut counts = none;
@@ -174,7 +174,7 @@ pub fn column(
     ensures gives { (spans : List Span) → tile_spans bytes.now by.now.setting.header compressed ≡ Ok spans
         → GivesPlan (adapts by.now.setting.header) (plan_of (sources_of by.now) (tile_bytes bytes.now spans) k) result (shape_of by.now.setting.header) plan.new }
     ensures column { OnOk result (IsTileColumn by.now.setting.header (tile_count by.now.setting.header) k plan.new.column) }
-    ensures kept { OnOk result (IsKept (shape_of by.now.setting.header) plan.new) }
+    ensures kept { OnOk result (IsKept by.now.setting.header plan.new) }
 {
     plan.column.renew(alloc, &by.setting, k)?;
     plan.residues.clear();

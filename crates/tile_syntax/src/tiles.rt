@@ -26,7 +26,7 @@ fn read_planned<const COUNTS: bool>(
     tile: &TilePlaces,
 ) -> Result<(), Halt>
     requires ready { IsReady planning.old.by.now.setting planning.old.plan.now.column }
-    requires kept { IsKept (shape_of planning.old.by.now.setting.header) planning.old.plan.now }
+    requires kept { IsKept planning.old.by.now.setting.header planning.old.plan.now }
     requires past { IsPastOf planning.old.by.now.setting.header planning.old.by.now.past }
     requires from { tile.now.col_from ≡ planning.old.plan.now.column.grid.from }
     requires to { tile.now.col_to ≡ planning.old.plan.now.column.grid.to }
@@ -36,7 +36,7 @@ fn read_planned<const COUNTS: bool>(
     ensures gives { GivesTile (decode_tile (plan_walk (sources_of planning.old.by.now) planning.old.by.now.setting.places planning.old.plan.now.column.grid.from planning.old.plan.now.column.grid.to) (superblocks_along (tile.now.col_to - tile.now.col_from)) tile.now.row_from tile.now.col_from (superblocks_along (tile.now.row_to - tile.now.row_from)) (tile_held (shape_of planning.old.by.now.setting.header) planning.old.plan.now))
         planning.old.reader.now result (tile_held (shape_of planning.old.by.now.setting.header) planning.new.plan.now) planning.new.reader.now }
     ensures ready { OnOk result (IsReady planning.old.by.now.setting planning.new.plan.now.column) }
-    ensures kept { OnOk result (IsKept (shape_of planning.old.by.now.setting.header) planning.new.plan.now) }
+    ensures kept { OnOk result (IsKept planning.old.by.now.setting.header planning.new.plan.now) }
     ensures same { OnOk result (SameColumns planning.old.plan.now.column planning.new.plan.now.column) }
     ensures room { OnOk result (planning.old.plan.now.column.grid.room ≤ planning.new.plan.now.column.grid.room + 64 * (superblocks_along (planning.old.plan.now.column.grid.to - planning.old.plan.now.column.grid.from) * superblocks_along (tile.now.row_to - tile.now.row_from))) }
     ensures same_reader { planning.new.reader.ghost_name ≡ planning.old.reader.ghost_name }
@@ -63,7 +63,7 @@ fn plan_blocks<const COUNTS: bool>(
     tile: &TilePlaces,
 ) -> Result<(), Halt>
     requires ready { IsReady by.now.setting plan.old.column }
-    requires kept { IsKept (shape_of by.now.setting.header) plan.old }
+    requires kept { IsKept by.now.setting.header plan.old }
     requires past { IsPastOf by.now.setting.header by.now.past }
     requires from { tile.now.col_from ≡ plan.old.column.grid.from }
     requires to { tile.now.col_to ≡ plan.old.column.grid.to }
@@ -73,7 +73,7 @@ fn plan_blocks<const COUNTS: bool>(
     ensures gives { GivesTile (decode_tile (plan_walk (sources_of by.now) by.now.setting.places plan.old.column.grid.from plan.old.column.grid.to) (superblocks_along (tile.now.col_to - tile.now.col_from)) tile.now.row_from tile.now.col_from (superblocks_along (tile.now.row_to - tile.now.row_from)) (tile_held (shape_of by.now.setting.header) plan.old))
         reader.old result (tile_held (shape_of by.now.setting.header) plan.new) reader.new }
     ensures ready { OnOk result (IsReady by.now.setting plan.new.column) }
-    ensures kept { OnOk result (IsKept (shape_of by.now.setting.header) plan.new) }
+    ensures kept { OnOk result (IsKept by.now.setting.header plan.new) }
     ensures same { OnOk result (SameColumns plan.old.column plan.new.column) }
     ensures room { OnOk result (plan.old.column.grid.room ≤ plan.new.column.grid.room + 64 * (superblocks_along (plan.old.column.grid.to - plan.old.column.grid.from) * superblocks_along (tile.now.row_to - tile.now.row_from))) }
 {
@@ -97,7 +97,7 @@ pub(crate) fn plan_tile<const COUNTS: bool>(
     counts: Counts,
 ) -> Result<Counts, Halt>
     requires ready { IsReady by.now.setting plan.old.column }
-    requires kept { IsKept (shape_of by.now.setting.header) plan.old }
+    requires kept { IsKept by.now.setting.header plan.old }
     requires past { IsPastOf by.now.setting.header by.now.past }
     requires from { tile.now.col_from ≡ plan.old.column.grid.from }
     requires to { tile.now.col_to ≡ plan.old.column.grid.to }
@@ -107,7 +107,7 @@ pub(crate) fn plan_tile<const COUNTS: bool>(
     ensures gives { GivesWhole COUNTS counts (read_whole (decode_tile (plan_walk (sources_of by.now) by.now.setting.places plan.old.column.grid.from plan.old.column.grid.to) (superblocks_along (tile.now.col_to - tile.now.col_from)) tile.now.row_from tile.now.col_from (superblocks_along (tile.now.row_to - tile.now.row_from)) (tile_held (shape_of by.now.setting.header) plan.old)) bytes.now)
         result (tile_held (shape_of by.now.setting.header) plan.new) }
     ensures ready { OnOk result (IsReady by.now.setting plan.new.column) }
-    ensures kept { OnOk result (IsKept (shape_of by.now.setting.header) plan.new) }
+    ensures kept { OnOk result (IsKept by.now.setting.header plan.new) }
     ensures same { OnOk result (SameColumns plan.old.column plan.new.column) }
     ensures room { OnOk result (plan.old.column.grid.room ≤ plan.new.column.grid.room + 64 * (superblocks_along (plan.old.column.grid.to - plan.old.column.grid.from) * superblocks_along (tile.now.row_to - tile.now.row_from))) }
 {

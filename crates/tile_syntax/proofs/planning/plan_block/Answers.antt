@@ -7,8 +7,10 @@ use Rattle.block_geometry.specs.declared.transform_blocks.FramePlaces.{FramePlac
 use Rattle.frame_state.specs.Code.{sources_of}
 use Rattle.frame_state.proofs.BlockSteps.{all_have_small, fits_more, lies_more, small_more, starts_more, vectors_held, vectors_small}
 use Rattle.column_plan.proofs.Held.{infos_are}
-use Rattle.tile_syntax.proofs.PlanSteps.{all_kept, block_broken, block_planned, modes_broken}
+use Rattle.tile_syntax.proofs.PlanSteps.{all_kept, block_broken, block_planned, modes_broken, refer_more, small_planned}
 use Rattle.column_plan.proofs.RowStarts.{rows_noted}
+use Rattle.column_plan.specs.Planned.{total}
+use Rattle.column_plan.specs.declared.rows.RowPlace.{RowPlace}
 use Rattle.tile_syntax.proofs.planning.plan_block.Goals as goal
 
 pub mode_info-requires : goal.mode_info-requires
@@ -88,10 +90,20 @@ returns-clause-ready g c =
 
 pub returns-clause-kept : goal.returns-clause-kept
 returns-clause-kept g c =
-    let shape = shape_of c.args.by.now.setting.header in
-    let is = c.in_ok-block.ensures.block in
-    let any = c.in_ok-listed.ensures.listed in record {
-      all = rw c.put.ensures (all_kept shape _ c.in_ok-block.block _ any.0 c.read_block.new.residues c.args.plan.now.residues _ c.requires.kept.all any.1 c.in_ok-push_block.ensures.pushed);
-      rows = rw c.put.ensures (rows_noted shape c.args.plan.now.column.grid.blocks c.in_ok-listed.listed c.args.plan.now.rows.places.items _ (c.args.at.row / 8) c.end-end.result c.requires.kept.rows
-          (ap (λ (b : BlockInfo). b.row / 8) any.1 ∙ ap (λ r. r / 8) is.row) (c.end-end.ensures ∙ ap (λ n. record { block = length c.args.plan.now.column.grid.blocks; piece = n }) (sym c.requires.kept.all)) c.in_ok-reach.ensures);
+    let header = c.args.by.now.setting.header in
+    let shape = shape_of header in
+    let column = c.args.plan.now.column in
+    let blocks = column.grid.blocks in
+    let block = c.in_ok-block.block in
+    let listed = c.in_ok-listed.listed in
+    let held = c.read_block.new.residues in
+    let any = c.in_ok-listed.ensures.listed in
+    let kept = c.requires.kept in
+    let end : c.end-end.result ≡ record { block = length blocks; piece = total shape blocks } = c.end-end.ensures ∙ ap (λ n. record { block = length blocks; piece = n }) (sym kept.all) in record {
+      all = rw c.put.ensures (all_kept shape blocks block _ any.0 held c.args.plan.now.residues _ kept.all any.1 c.in_ok-push_block.ensures.pushed);
+      rows = rw c.put.ensures (rows_noted shape blocks listed c.args.plan.now.rows.places.items _ (c.args.at.row / 8) c.end-end.result kept.rows
+          (ap (λ (b : BlockInfo). b.row / 8) any.1 ∙ ap (λ r. r / 8) c.in_ok-block.ensures.block.row) end c.in_ok-reach.ensures);
+      refer = rw c.put.ensures (refer_more header blocks block listed any.0 any.1 c.in_ok-block.ensures.in_range kept.refer);
+      small = rw c.put.ensures (small_planned shape column.grid.from blocks block listed any.0 held c.args.plan.now.residues _ kept.all any.1 c.in_ok-push_block.ensures.pushed
+          (c.in_ok-push_block.ensures.stands column.grid.from) c.in_ok-listed.ensures.small kept.small);
     }
