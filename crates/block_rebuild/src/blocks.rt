@@ -5,7 +5,7 @@ ghost use Rattle.frame_headers.specs.Sizes.{HasFrameSize};
 ghost use Rattle.block_plan.specs.Code.{HoldsSmall, planned_with};
 ghost use Rattle.planes.specs.Pictures.{HasSizes, IsInRange, samples_of};
 ghost use Rattle.block_rebuild.specs.Blocks.{put_planned, put_by};
-ghost use Rattle.block_rebuild.specs.Code.{HasAreasOf, HoldsBlockIn, IsPlaced, AreServed, rebuilding_of};
+ghost use Rattle.block_rebuild.specs.Code.{HasAreasOf, HasReferences, HoldsBlockIn, IsPlaced, AreServed, rebuilding_of};
 ghost use Rattle.block_rebuild.specs.Residues.{AreHeld, planned_by};
 
 use crate::in_plane::{IntraCoded, put_in_plane};
@@ -66,7 +66,7 @@ pub fn put_block_in_part<S: Samples, R: TransformResidues>(
     }
 }
 
-/// As `put_block_in_part`, with whole planes.
+/// Puts a block, with its residue from its buffer, into whole planes, predicted from whole pictures.
 pub fn put_block<S: Samples>(
     planes: &mut FramePlanes,
     by: &Rebuilding<'_, S>,
@@ -77,7 +77,7 @@ pub fn put_block<S: Samples>(
 )
     requires size { HasFrameSize by.now.shape }
     requires placed { IsPlaced by.now.shape tile_from block.now }
-    requires references { AreServed S.holds S.width S.map by.now block.now block.now.prediction }
+    requires references { HasReferences S.holds S.width S.map by.now block.now.prediction }
     requires sizes { HasSizes by.now.shape planes.old }
     requires range { IsInRange by.now.shape.depth planes.old }
     requires small { HoldsSmall (planned_with by.now.shape tile_from block.now block.now residues.now) }

@@ -6,8 +6,13 @@ use Rattle.planes.specs.Pictures.{samples_of}
 use Rattle.block_rebuild.specs.Blocks.{put_planned}
 use Rattle.block_rebuild.specs.Code.{rebuilding_of}
 use Rattle.block_rebuild.proofs.Areas.{whole_holds}
+use Rattle.block_rebuild.proofs.Parts.{whole_pictures_serve}
 use Rattle.block_rebuild.proofs.Puts.{in_buffer}
 use Rattle.block_rebuild.proofs.blocks.put_block.Goals as goal
+
+pub put_block_in_part-requires-clause-references : goal.put_block_in_part-requires-clause-references
+put_block_in_part-requires-clause-references g c = let a = c.args in
+    whole_pictures_serve g.S.Samples.holds g.S.Samples.width g.S.Samples.map a.by.now a.block.now a.block.now.prediction c.requires.references
 
 pub put_block_in_part-requires-clause-part : goal.put_block_in_part-requires-clause-part
 put_block_in_part-requires-clause-part g c = let a = c.args in record {
