@@ -57,11 +57,13 @@ square T16x16 = refl
 square T32x32 = refl
 
 pub whole_residue : (tx : TxSize) (r : Residue) → IsWhole (area tx) r → IsSmall r → ForSome r (IsResidue (side tx * side tx))
-whole_residue tx None whole small = tt
-whole_residue tx (Some values) whole small = record {
-  enough = rw (square tx, whole) (omega arith);
-  small = λ k low. small k (pos 0) (rw (square tx, sym whole) at low);
-}
+whole_residue tx None whole small = λ x is. let no : ⊥ = cc in absurd no
+whole_residue tx (Some values) whole small = λ x is.
+    let same : values ≡ x = cc in
+    subst (λ (z : List ℤ). IsResidue (side tx * side tx) z) same (record {
+      enough = rw (square tx, whole) (omega arith);
+      small = λ k low. small k (pos 0) (rw (square tx, sym whole) at low);
+    })
 
 pub residue_is : (width height : ℕ) (depth : Depth) (b : IntraBlock) (r : Residue) (m : Map)
     → with_square width height m b.place.row b.place.column (side b.size) (with_any_residue depth (side b.size) (prediction width height depth b m) r) ≡ put_residue width height depth b r m
