@@ -1,7 +1,7 @@
 -- Residues taken one after another, and transform blocks put in with them.
 use Rattle.std.proofs.Common.{◌≡◌, ◌<◌, ◌+◌, ◌*◌, ◌++◌, ◌∷◌, [], ℕ, ℤ, ◌∙◌, refl, sym, ap, arith, subst, List, length, get_or}
-use Rattle.std.specs.Prelude.{Some, None, pos, slice_index_or, unsigned_abs, ◌^◌}
-use Rattle.std.specs.List.{All, fold}
+use Rattle.std.specs.Prelude.{Some, None, pos}
+use Rattle.std.specs.List.{fold}
 use Rattle.std.specs.Option.{ForSome}
 use Rattle.std.proofs.lemmas.List.FromFn.{map-range_with_len_more, length-map-range_with_len, get_or-map-range_with_len}
 use Rattle.std.proofs.lemmas.List.Sums.{fold-append}

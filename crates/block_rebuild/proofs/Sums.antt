@@ -1,5 +1,5 @@
 -- Residue added to what stands in a plane.
-use Rattle.std.proofs.Common.{◌≡◌, ◌<◌, ◌≤◌, ◌+◌, ◌*◌, ◌-◌, ◌^◌, ◌∷◌, [], ℕ, ℤ, ◌∙◌, refl, sym, ap, arith, Bool, false, List, length, get_or, take, drop, min, length-drop}
+use Rattle.std.proofs.Common.{◌≡◌, ◌<◌, ◌≤◌, ◌+◌, ◌*◌, ◌-◌, ◌^◌, ◌∷◌, [], ℕ, ℤ, ◌∙◌, refl, sym, ap, arith, List, length, get_or, take, drop, min, length-drop}
 use Rattle.std.specs.Prelude.{Some, None, pos, slice_index_or, unsigned_abs}
 use Rattle.std.specs.List.{All, fold}
 use Rattle.std.proofs.lemmas.Bool.Decides.{nat_tests}

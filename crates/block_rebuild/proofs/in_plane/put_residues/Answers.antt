@@ -1,9 +1,6 @@
-use Rattle.std.proofs.Common.{◌≡◌, ◌<◌, ◌*◌, ◌∙◌, refl, arith, length, subst}
-use Rattle.std.specs.Prelude.{ℕ}
+use Rattle.std.proofs.Common.{◌≡◌, ◌<◌, ◌*◌, ◌∙◌, refl, arith, length}
 use Rattle.block_geometry.specs.TransformBlocks.{grid_blocks}
 use Rattle.block_geometry.proofs.Rasters.{length_grid}
-use Rattle.block_plan.specs.Code.{IsSmall}
-use Rattle.block_plan.specs.Planned.{Residue}
 use Rattle.vp9_tables.specs.Scans.{area}
 use Rattle.block_rebuild.specs.Residues.{first_residues}
 use Rattle.block_rebuild.proofs.Puts.{put_one_more, small_at}

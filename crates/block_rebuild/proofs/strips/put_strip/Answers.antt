@@ -1,4 +1,4 @@
-use Rattle.std.proofs.Common.{◌≡◌, ◌<◌, ◌∙◌, refl, ap, arith, length}
+use Rattle.std.proofs.Common.{◌∙◌, refl, ap}
 use Rattle.planes.specs.Pictures.{samples_of}
 use Rattle.block_rebuild.specs.Blocks.{put_planned}
 use Rattle.block_rebuild.specs.Code.{CanBePut, HasResidues, planned_of, rebuilding_of}
