@@ -22,7 +22,8 @@ use Rattle.inter_places.specs.declared.part.Direction.TheVariants.{Down, Across}
 use Rattle.inter_places.specs.declared.axis.Place.{Place}
 use Rattle.band_needs.specs.Ranges.{both_ranges, widened, no_needs, needs_at, with_range}
 use Rattle.band_needs.specs.Reads.{ReadsRow, part_in, ListReads, ReadsBy, Reads, band_height, ReadsBand, BlocksRead, IsRangeOf, AreRead, HasBand, ListLiesIn, BlockLiesIn}
-use Rattle.band_needs.proofs.RowLemmas.{place_order, bands_rise, fold_more}
+use Rattle.inter_places.proofs.Orders.{place_order}
+use Rattle.band_needs.proofs.RowLemmas.{bands_rise, fold_more}
 use Rattle.band_needs.specs.Needs.{place_range, part_range, with_part, plane_range, list_range, with_second, with_prediction, with_block, needs_of}
 use Rattle.band_needs.specs.declared.ranges.BandRange.{BandRange}
 use Rattle.band_needs.specs.declared.ranges.BandNeeds.{BandNeeds}

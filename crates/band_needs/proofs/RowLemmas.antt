@@ -32,24 +32,7 @@ pub range_is : (shape reference : Shape) (b : BlockInfo) (modes : InterPredictio
 unfolding place_of
 range_is shape reference b modes part at range is found = found ∙ ap (λ (z : Place). place_range (band_height reference z.plane) z) is
 
----- Places in order ----
-
-clamped_more : (size : ℕ) (x : ℤ) (a d : ℕ) → clamped size ((x +ℤ pos a) -ℤ pos 3) ≤ clamped size ((x +ℤ pos (a + d)) -ℤ pos 3)
-clamped_more size (pos x) a d = grind arith
-clamped_more size (negsuc x) a d = grind arith
-
-clamped_order : (size : ℕ) (x : ℤ) (a b : ℕ) → a ≤ b → clamped size ((x +ℤ pos a) -ℤ pos 3) ≤ clamped size ((x +ℤ pos b) -ℤ pos 3)
-clamped_order size x a b le = let is : b ≡ a + (b - a) = omega (arith, le) in
-    subst (λ (n : ℕ). clamped size ((x +ℤ pos a) -ℤ pos 3) ≤ clamped size ((x +ℤ pos n) -ℤ pos 3)) (sym is) (clamped_more size x a (b - a))
-
-sixteenths : (f s t : ℕ) → s ≤ t → (f + s) / 16 ≤ (f + t) / 16
-sixteenths f s t le = omega (arith, le)
-
-pub place_order : (a : Axis) (i j k l : ℕ) → i ≤ j → k ≤ l → place a i k ≤ place a j l
-unfolding place
-place_order a i j k l le low =
-    let h = sixteenths (fraction a) (a.step * i) (a.step * j) (mul-le-mul_left a.step le) in
-    clamped_order a.size (whole a) (offset a i / 16 + k) (offset a j / 16 + l) (omega (arith, h, low))
+---- Bands in order ----
 
 pub bands_rise : (ss : Bool) (a b : ℕ) → a ≤ b → a / halved ss 64 ≤ b / halved ss 64
 bands_rise true a b le = omega (arith, le)

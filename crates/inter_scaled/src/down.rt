@@ -7,8 +7,8 @@ ghost use Rattle.inter_lanes.specs.Filter.{filtered};
 ghost use Rattle.inter_places.specs.Axes.{offset, phase};
 ghost use Rattle.inter_scaled.specs.Code.{IsFilter, lines_for};
 
+use inter_places::offset_of;
 use crate::filter::LineFilter;
-use crate::places::offset_of;
 use crate::scaled::value_below;
 use inter_lanes::{TapLanes, filter_run};
 use vp9_tables::taps;
