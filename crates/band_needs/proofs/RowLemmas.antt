@@ -1,7 +1,7 @@
 -- Rows of a reference.
-use Rattle.std.proofs.Common.{◌≡◌, ◌<◌, ◌≤◌, ◌+◌, ◌*◌, ◌-◌, ◌/◌, ◌++◌, ◌∷◌, [], ℕ, ℤ, pos, negsuc, ◌+ℤ◌, ◌-ℤ◌, List, Bool, true, false, map-id, subst, take, take_all, length, sym, ap, arith, ◌∙◌}
+use Rattle.std.proofs.Common.{◌≡◌, ◌<◌, ◌≤◌, ◌+◌, ◌*◌, ◌/◌, ◌++◌, ◌∷◌, [], ℕ, List, Bool, true, false, map-id, take, take_all, length, ap, arith, ◌∙◌}
 use Rattle.std.specs.List.{fold, range_with_len}
-use Rattle.std.proofs.Math.Nat.{mul-zero, mul-le-mul_left}
+use Rattle.std.proofs.Math.Nat.{mul-zero}
 use Rattle.std.proofs.lemmas.List.FromFn.{map-range_with_len_more}
 use Rattle.std.proofs.lemmas.List.Sums.{fold-append}
 use Rattle.vp9_types.specs.Shapes.{halved}
@@ -18,7 +18,7 @@ use Rattle.band_needs.specs.Needs.{place_range, part_range, with_block, needs_of
 use Rattle.band_needs.specs.Reads.{band_height}
 use Rattle.band_needs.specs.declared.ranges.BandRange.{BandRange}
 use Rattle.inter_places.specs.declared.axis.Axis.{Axis}
-use Rattle.inter_places.specs.Axes.{clamped, whole, straight, place, fraction, offset, first_place}
+use Rattle.inter_places.specs.Axes.{straight, place, fraction, first_place}
 
 zero : (f s : ℕ) → f < 16 → 0 ≡ (f + s * 0) / 16 + 0
 zero f s low = omega (arith, low, mul-zero s)
