@@ -1,3 +1,10 @@
 pub mod Puts
 pub mod Parts
 pub mod Sums
+pub mod Regions
+pub mod Strands
+pub mod Fits
+pub mod Stays
+pub mod Columns
+pub mod Areas
+pub mod StripLemmas

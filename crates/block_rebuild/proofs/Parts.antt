@@ -1,33 +1,34 @@
 -- Parts of inter blocks: predicted, and put in one after another.
-use Rattle.std.proofs.Common.{◌≡◌, ◌<◌, ◌≤◌, ◌+◌, ◌*◌, ◌-◌, ◌++◌, ◌∷◌, [], ℕ, ◌∙◌, refl, sym, ap, arith, subst, List, min, map-id}
-use Rattle.std.specs.Prelude.{Option, Some, None, slice_index}
+use Rattle.std.proofs.Common.{◌≡◌, ◌<◌, ◌≤◌, ◌+◌, ◌*◌, ◌-◌, ◌++◌, ◌∷◌, [], ℕ, ◌∙◌, refl, sym, ap, arith, subst, Bool, true, false, List, min, map-id}
+use Rattle.std.specs.Prelude.{Option, Some, None, IfSome, slice_index}
 use Rattle.std.specs.List.{fold, range_with_len}
 use Rattle.std.proofs.lemmas.List.FromFn.{map-range_with_len_more}
 use Rattle.std.proofs.lemmas.List.Sums.{fold-append}
 use Rattle.std.proofs.lemmas.Option.{same_Some}
 use Rattle.vp9_types.specs.Maps.{Map, FrameMap, HoldsRows, IsAtMost, rows_of, with_block}
-use Rattle.vp9_types.specs.Shapes.{plane_width, plane_height}
+use Rattle.vp9_types.specs.Shapes.{plane_width, plane_height, subsampled_size}
 use Rattle.vp9_types.specs.Sizes.{greatest}
 use Rattle.vp9_types.specs.declared.block.ReferenceFrame.{ReferenceFrame}
 use Rattle.vp9_types.specs.declared.shape.Plane.{Plane}
+use Rattle.vp9_types.specs.declared.shape.Plane.TheVariants.{Y, U, V}
 use Rattle.vp9_types.specs.declared.shape.Shape.{Shape}
 use Rattle.block_plan.specs.declared.block.BlockInfo.{BlockInfo}
 use Rattle.block_plan.specs.declared.block.InterPrediction.{InterPrediction}
-use Rattle.inter_places.specs.Axes.{IsPlace, last_place}
-use Rattle.inter_places.specs.Places.{coded_length, place_of}
+use Rattle.block_plan.specs.declared.block.Prediction.{Prediction}
+use Rattle.block_plan.specs.declared.block.Prediction.TheVariants.{Intra, Inter}
+use Rattle.inter_places.specs.Axes.{first_place, last_place}
+use Rattle.inter_places.specs.Places.{IsReference, place_of}
 use Rattle.inter_places.specs.declared.axis.Place.{Place}
 use Rattle.inter_places.specs.declared.part.BlockPart.{BlockPart}
-use Rattle.inter_places.specs.declared.part.Direction.TheVariants.{Down, Across}
 use Rattle.inter_scaled.specs.Inter.{average, both}
 use Rattle.inter_scaled.proofs.Agree.{place_below, predicted_small}
 use Rattle.inter_scaled.proofs.Blocks.{place_below as entry_below}
-use Rattle.planes.specs.Pictures.{coded_area}
-use Rattle.planes.specs.Planes.{StartsIn, lower_end, right_end, with_part}
+use Rattle.planes.specs.Planes.{lower_end, right_end, with_part}
 use Rattle.planes.specs.declared.area.Area.{Area}
 use Rattle.planes.proofs.PlaneLemmas.{with_block_small}
 use Rattle.planes.proofs.RowLemmas.{with_block_same, place}
 use Rattle.block_rebuild.specs.InterBlocks.{Rebuilding, part_of, predicted_from, predicted_part, put_part, second_from, with_second}
-use Rattle.block_rebuild.specs.Code.{HasReference, IsUsable, reference_of}
+use Rattle.block_rebuild.specs.Code.{HasReference, HasReferences, IsUsable, HoldsPart, Serves, IsServed, AreServed, reference_of}
 use Rattle.block_rebuild.specs.declared.references.ReferencePicture as code_picture
 use Rattle.block_rebuild.specs.declared.references.Rebuilding as code
 
@@ -50,6 +51,61 @@ pub across_size : (shape reference : Shape) (b : BlockInfo) (modes : InterPredic
     → place ≡ place_of shape b modes part reference → place.across.size ≡ plane_width reference place.plane
 unfolding place_of
 across_size shape reference b modes part place is = (λ i. (is i).across.size) ∙ (λ i. plane_width reference (sym is i).plane)
+
+pub served_of : {S : Type 0} (holds : S → Plane → ℕ → Type 0) (width : S → Plane → ℕ) (map : S → FrameMap) (by : code.Rebuilding S) (b : BlockInfo) (modes : InterPrediction) (list : ℕ)
+    (reference : ReferenceFrame) (r : code_picture.ReferencePicture S) → reference_of by reference ≡ Some r → IsServed holds width map by b modes list reference
+    → Serves holds width map by.shape b modes list r
+served_of holds width map by b modes list reference r found has =
+    subst (λ x. Serves holds width map by.shape b modes list x) (same_Some has.0 r (sym has.1 ∙ found)) has.2
+
+pub part_held : {S : Type 0} (holds : S → Plane → ℕ → Type 0) (shape : Shape) (b : BlockInfo) (modes : InterPrediction) (part : BlockPart) (r : code_picture.ReferencePicture S) (at : Place) (y : ℕ)
+    → at ≡ place_of shape b modes part r.shape → HoldsPart holds shape b modes part r → first_place at.down ≤ y → y ≤ last_place at.down at.rows → holds r.samples.now at.plane y
+unfolding place_of
+part_held holds shape b modes part r at y is held =
+    subst (λ (z : Place). first_place z.down ≤ y → y ≤ last_place z.down z.rows → holds r.samples.now z.plane y) (sym is) (λ low high. held y low high)
+
+halved_some : (n : ℕ) (ss : Bool) → 0 < n → 0 < subsampled_size n ss
+halved_some n true some = omega (arith, some)
+halved_some n false some = some
+
+-- a reference in range has a row
+some_length : (shape reference : Shape) (p : Plane) → IsReference shape reference → 0 < plane_height reference p
+some_length shape reference Y is = omega (arith, is.down.some, is.down.small)
+some_length shape reference U is = let some : 0 < reference.h = omega (arith, is.down.some, is.down.small) in halved_some reference.h reference.ss_y some
+some_length shape reference V is = let some : 0 < reference.h = omega (arith, is.down.some, is.down.small) in halved_some reference.h reference.ss_y some
+
+some_size : (shape reference : Shape) (b : BlockInfo) (modes : InterPrediction) (p : Plane) (n list : ℕ) → IsReference shape reference
+    → 0 < (place_of shape b modes (part_of p n list) reference).down.size
+unfolding place_of
+some_size shape reference b modes p n list is = some_length shape reference p is
+
+-- a whole picture serves each block
+pub whole_serves : {S : Type 0} (holds : S → Plane → ℕ → Type 0) (width : S → Plane → ℕ) (map : S → FrameMap) (shape : Shape) (b : BlockInfo) (modes : InterPrediction) (list : ℕ)
+    (r : code_picture.ReferencePicture S) → IsUsable holds width map shape r → Serves holds width map shape b modes list r
+unfolding place_of
+whole_serves holds width map shape b modes list r usable = record {
+  reference = usable.reference;
+  held = λ p n low y first last. usable.held p y (row_held shape r.shape b modes (part_of p n list) (place_of shape b modes (part_of p n list) r.shape) _ y refl
+      (some_size shape r.shape b modes p n list usable.reference) last);
+  wide = usable.wide;
+  range = usable.range;
+}
+
+whole_is_served : {S : Type 0} (holds : S → Plane → ℕ → Type 0) (width : S → Plane → ℕ) (map : S → FrameMap) (by : code.Rebuilding S) (b : BlockInfo) (modes : InterPrediction) (list : ℕ)
+    (reference : ReferenceFrame) → HasReference holds width map by reference → IsServed holds width map by b modes list reference
+whole_is_served holds width map by b modes list reference has = (has.0, has.1, whole_serves holds width map by.shape b modes list has.0 has.2)
+
+second_served : {S : Type 0} (holds : S → Plane → ℕ → Type 0) (width : S → Plane → ℕ) (map : S → FrameMap) (by : code.Rebuilding S) (b : BlockInfo) (modes : InterPrediction)
+    (second : Option ReferenceFrame) → IfSome second (HasReference holds width map by) → IfSome second (IsServed holds width map by b modes 1)
+second_served holds width map by b modes None has = has
+second_served holds width map by b modes (Some reference) has = whole_is_served holds width map by b modes 1 reference has
+
+-- so do whole pictures each prediction
+pub whole_pictures_serve : {S : Type 0} (holds : S → Plane → ℕ → Type 0) (width : S → Plane → ℕ) (map : S → FrameMap) (by : code.Rebuilding S) (b : BlockInfo) (p : Prediction)
+    → HasReferences holds width map by p → AreServed holds width map by b p
+whole_pictures_serve holds width map by b (Intra modes) has = has
+whole_pictures_serve holds width map by b (Inter modes) has =
+    (whole_is_served holds width map by b modes 0 modes.references.first has.0, second_served holds width map by b modes modes.references.second has.1)
 
 ---- Two references ----
 
@@ -103,66 +159,18 @@ one_predicted by b modes p n at block none holds = subst (λ (h : Map). HoldsRow
 
 ---- A part in its plane ----
 
-min_right : (a b : ℕ) → min a b ≤ b
-min_right a b = omega arith
-
-zero_plus : (n : ℕ) → 0 + n ≡ n
-zero_plus n = omega arith
-
-rows_inside : (shape reference : Shape) (b : BlockInfo) (modes : InterPrediction) (part : BlockPart)
-    → (place_of shape b modes part reference).rows ≤ coded_length shape part.plane Down - (place_of shape b modes part reference).row
-unfolding place_of
-rows_inside shape reference b modes part = min_right _ _
-
-columns_inside : (shape reference : Shape) (b : BlockInfo) (modes : InterPrediction) (part : BlockPart)
-    → (place_of shape b modes part reference).columns ≤ coded_length shape part.plane Across - (place_of shape b modes part reference).column
-unfolding place_of
-columns_inside shape reference b modes part = min_right _ _
-
--- what is predicted of a part lies in the plane
-rows_fit : (shape reference : Shape) (b : BlockInfo) (modes : InterPrediction) (part : BlockPart) (at : Place) → at ≡ place_of shape b modes part reference
-    → at.rows ≤ coded_length shape part.plane Down - at.row
-rows_fit shape reference b modes part at is = subst (λ (q : Place). q.rows ≤ coded_length shape part.plane Down - q.row) (sym is) (rows_inside shape reference b modes part)
-
-columns_fit : (shape reference : Shape) (b : BlockInfo) (modes : InterPrediction) (part : BlockPart) (at : Place) → at ≡ place_of shape b modes part reference
-    → at.columns ≤ coded_length shape part.plane Across - at.column
-columns_fit shape reference b modes part at is = subst (λ (q : Place). q.columns ≤ coded_length shape part.plane Across - q.column) (sym is) (columns_inside shape reference b modes part)
-
-pub starts_in : (shape reference : Shape) (b : BlockInfo) (modes : InterPrediction) (p : Plane) (n list : ℕ) (a : Area) (at : Place)
-    → a ≡ coded_area shape p → at ≡ place_of shape b modes (part_of p n list) reference → IsPlace at → StartsIn a at.row at.column
-starts_in shape reference b modes p n list a at whole is fits =
-    let low = rows_fit shape reference b modes (part_of p n list) at is in
-    let narrow = columns_fit shape reference b modes (part_of p n list) at is in
-    rw whole (record {
-      above = omega arith;
-      below = omega (arith, low, fits.some_rows);
-      left = omega arith;
-      right = omega (arith, narrow, fits.some_columns);
-    })
-
-whole_part : (a : Area) (m : Map) (row column rows columns : ℕ) (block : List ℕ) (f : Map) → rows ≤ lower_end a - row → columns ≤ right_end a - column
+pub whole_part : (a : Area) (m : Map) (row column rows columns : ℕ) (block : List ℕ) (f : Map) → rows ≤ lower_end a - row → columns ≤ right_end a - column
     → HoldsRows block columns rows f → with_part a m row column rows columns (rows_of columns block) ≡ with_block m row column rows columns f
 whole_part a m row column rows columns block f low narrow holds =
     let high : min rows (lower_end a - row) ≡ rows = omega (arith, low) in
     let wide : min columns (right_end a - column) ≡ columns = omega (arith, narrow) in
     rw (high, wide) (with_block_same m row column rows columns (rows_of columns block) f (λ i j below left. place columns block i j left ∙ holds i j below left))
 
-place_put : (by : Rebuilding) (reference : Shape) (b : BlockInfo) (modes : InterPrediction) (p : Plane) (n : ℕ) (m : Map) (at : Place)
+pub place_put : (by : Rebuilding) (reference : Shape) (b : BlockInfo) (modes : InterPrediction) (p : Plane) (n : ℕ) (m : Map) (at : Place)
     → at ≡ place_of by.shape b modes (part_of p n 0) reference
     → with_block m at.row at.column at.rows at.columns (predicted_part by b modes p n) ≡ put_part by b modes p m n
 unfolding place_of
 place_put by reference b modes p n m at is = λ i. with_block m (is i).row (is i).column (is i).rows (is i).columns (predicted_part by b modes p n)
-
-pub part_put : (by : Rebuilding) (reference : Shape) (b : BlockInfo) (modes : InterPrediction) (p : Plane) (n : ℕ) (a : Area) (m : Map) (at : Place) (block : List ℕ)
-    → a ≡ coded_area by.shape p → at ≡ place_of by.shape b modes (part_of p n 0) reference → HoldsRows block at.columns at.rows (predicted_part by b modes p n)
-    → with_part a m at.row at.column at.rows at.columns (rows_of at.columns block) ≡ put_part by b modes p m n
-part_put by reference b modes p n a m at block whole is holds =
-    let low = rows_fit by.shape reference b modes (part_of p n 0) at is in
-    let narrow = columns_fit by.shape reference b modes (part_of p n 0) at is in
-    let high : lower_end a ≡ coded_length by.shape p Down = (λ i. lower_end (whole i)) ∙ zero_plus _ in
-    let wide : right_end a ≡ coded_length by.shape p Across = (λ i. right_end (whole i)) ∙ zero_plus _ in
-    whole_part a m at.row at.column at.rows at.columns block (predicted_part by b modes p n) (rw high low) (rw wide narrow) holds
-    ∙ place_put by reference b modes p n m at is
 
 -- predicted samples are in the range of the depth
 mean_small : (most a b : ℕ) → a ≤ most → b ≤ most → average a b ≤ most

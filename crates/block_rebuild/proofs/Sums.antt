@@ -1,5 +1,5 @@
 -- Residue added to what stands in a plane.
-use Rattle.std.proofs.Common.{◌≡◌, ◌<◌, ◌≤◌, ◌+◌, ◌*◌, ◌-◌, ◌^◌, ◌∷◌, [], ℕ, ℤ, ◌∙◌, refl, sym, ap, arith, Bool, false, List, length, get_or, take, drop, min, length-drop}
+use Rattle.std.proofs.Common.{◌≡◌, ◌<◌, ◌≤◌, ◌+◌, ◌*◌, ◌-◌, ◌^◌, ◌∷◌, [], ℕ, ℤ, ◌∙◌, refl, sym, ap, arith, List, length, get_or, take, drop, min, length-drop}
 use Rattle.std.specs.Prelude.{Some, None, pos, slice_index_or, unsigned_abs}
 use Rattle.std.specs.List.{All, fold}
 use Rattle.std.proofs.lemmas.Bool.Decides.{nat_tests}
@@ -7,34 +7,22 @@ use Rattle.std.proofs.lemmas.List.{get_or-take, get_or-drop, length-take}
 use Rattle.std.proofs.lemmas.List.FromFn.{get_or-map-range_with_len}
 use Rattle.std.proofs.lemmas.List.Sums.{fold-append}
 use Rattle.vp9_types.specs.Maps.{Map, IsAtMost, row_of, with_block}
-use Rattle.vp9_types.specs.Shapes.{halved, mi_rows, mi_cols, coded_width, coded_height}
 use Rattle.vp9_types.specs.Sizes.{greatest, side}
 use Rattle.vp9_types.specs.declared.block.TxSize.{TxSize}
-use Rattle.vp9_types.specs.declared.block.TxSize.TheVariants.{T4x4, T8x8, T16x16, T32x32}
 use Rattle.vp9_types.specs.declared.shape.Depth.{Depth}
-use Rattle.vp9_types.specs.declared.shape.Plane.{Plane}
-use Rattle.vp9_types.specs.declared.shape.Plane.TheVariants.{Y, U, V}
-use Rattle.vp9_types.specs.declared.shape.Shape.{Shape}
 use Rattle.vp9_tables.specs.Scans.{area}
 use Rattle.block_geometry.specs.declared.transform_blocks.PlaneBlock.{PlaneBlock}
-use Rattle.block_geometry.specs.Frames.{places_of}
-use Rattle.block_geometry.proofs.Rasters.{all_inside}
-use Rattle.block_plan.proofs.Held.{held_more}
-use Rattle.block_plan.specs.Code.{residue_if, residues_held, held, held_in}
-use Rattle.block_plan.specs.InPlanes.{plane_block, places_in}
 use Rattle.block_plan.specs.Planned.{Residue}
-use Rattle.block_plan.specs.declared.block.BlockInfo.{BlockInfo}
-use Rattle.block_plan.specs.declared.block.InterPrediction.{InterPrediction}
-use Rattle.block_plan.specs.declared.residues.PlaneResidues.{PlaneResidues}
 use Rattle.intra_predict.specs.Residue.{IsResidue, with_residue}
 use Rattle.intra_predict.specs.Steps.{plus_residue, with_square}
 use Rattle.intra_predict.proofs.StepLemmas.{residue_small, square_small}
-use Rattle.planes.specs.Pictures.{coded_area}
 use Rattle.planes.specs.Planes.{HasRow, lower_end, right_end}
 use Rattle.planes.specs.declared.area.Area.{Area}
 use Rattle.planes.proofs.RowLemmas.{add-sub_left, next, one_row_more, with_block_same}
-use Rattle.block_rebuild.specs.InterBlocks.{Rebuilding, add_next, add_residue, put_inter, put_prediction, samples_from, tx_row, tx_column}
+use Rattle.block_rebuild.specs.InterBlocks.{add_residue, samples_from, tx_row, tx_column}
 use Rattle.block_rebuild.specs.Code.{add_more}
+use Rattle.block_rebuild.specs.Residues.{first_residues}
+use Rattle.block_rebuild.proofs.Puts.{first_more, square}
 
 ---- Rows ----
 
@@ -98,12 +86,6 @@ row_fits values tx size rows columns i same long low few narrow =
     let whole : size * size ≡ area tx = (λ t. same t * same t) ∙ square tx in
     omega (arith, next, whole, long, narrow)
   where
-    square : (tx : TxSize) → side tx * side tx ≡ area tx
-    square T4x4 = refl
-    square T8x8 = refl
-    square T16x16 = refl
-    square T32x32 = refl
-
     row_next : (i rows size : ℕ) → i < rows → rows ≤ size → i * size + size ≤ size * size
     row_next i rows size low few = next size i size (omega arith)
 
@@ -132,48 +114,12 @@ added_small width height depth b at (Some values) m small =
     square_small (greatest depth) width height m _ _ (side b.tx) (plus_residue depth (side b.tx) (samples_from m (tx_row b at.0) (tx_column b at.1)) values) small
     (residue_small depth (side b.tx) (samples_from m (tx_row b at.0) (tx_column b at.1)) values)
 
-pub add_one_more : (a a' : Area) (depth : Depth) (b : PlaneBlock) (ats : List (ℕ × ℕ)) (area : ℕ) (some : List Bool) (values : List ℤ) (k : ℕ) (at : ℕ × ℕ) (start m new : Map)
-    → get_or ats k (0, 0) ≡ at → m ≡ fold (add_more a depth b) start (residues_held ats area some values k)
-    → a' ≡ a → new ≡ add_more a' depth b m (at, residue_if (get_or some k false) (take area (drop (k * area) values)))
-    → new ≡ fold (add_more a depth b) start (residues_held ats area some values (k + 1))
-add_one_more a a' depth b ats area some values k at start m new here so same is =
+pub add_one_more : (a a' : Area) (depth : Depth) (b : PlaneBlock) (ats : List (ℕ × ℕ)) (residue : ℕ → Residue) (k : ℕ) (at : ℕ × ℕ) (r : Residue) (start m new : Map)
+    → get_or ats k (0, 0) ≡ at → r ≡ residue k → m ≡ fold (add_more a depth b) start (first_residues residue ats k)
+    → a' ≡ a → new ≡ add_more a' depth b m (at, r)
+    → new ≡ fold (add_more a depth b) start (first_residues residue ats (k + 1))
+add_one_more a a' depth b ats residue k at r start m new here taken so same is =
     is
-    ∙ (ap (λ (z : Area). add_more z depth b m (at, residue_if (get_or some k false) (take area (drop (k * area) values)))) same
-    ∙ (ap (λ (p : ℕ × ℕ). add_more a depth b m (p, residue_if (get_or some k false) (take area (drop (k * area) values)))) (sym here)
-    ∙ (ap (λ (z : Map). add_more a depth b z (get_or ats k (0, 0), residue_if (get_or some k false) (take area (drop (k * area) values)))) so
-    ∙ (sym (fold-append (add_more a depth b) start (residues_held ats area some values k) ((get_or ats k (0, 0), residue_if (get_or some k false) (take area (drop (k * area) values))) ∷ []))
-    ∙ ap (fold (add_more a depth b) start) (sym (held_more ats area some values k))))))
-
----- A plane ----
-
-abbrev Inside : Shape → BlockInfo → Plane → ℕ × ℕ → Type 0
-Inside shape b p at =
-    let c = plane_block shape b p in
-    (tx_row c at.0 < halved c.ss_y (8 * mi_rows shape)) × (tx_column c at.1 < halved c.ss_x (8 * mi_cols shape))
-
-starts : (shape : Shape) (b : BlockInfo) (p : Plane) (at : ℕ × ℕ) → Inside shape b p at
-    → HasRow (coded_area shape p) (tx_row (plane_block shape b p) at.0) (tx_column (plane_block shape b p) at.1) 1
-starts shape b Y at inside = record { above = omega arith; below = omega (arith, inside.0); left = omega arith; right = omega (arith, inside.1) }
-starts shape b U at inside = record { above = omega arith; below = omega (arith, inside.0); left = omega arith; right = omega (arith, inside.1) }
-starts shape b V at inside = record { above = omega arith; below = omega (arith, inside.0); left = omega arith; right = omega (arith, inside.1) }
-
-pub all_start : (shape : Shape) (b : BlockInfo) (p : Plane)
-    → All (λ (at : ℕ × ℕ). HasRow (coded_area shape p) (tx_row (plane_block shape b p) at.0) (tx_column (plane_block shape b p) at.1) 1) (places_in shape b p)
-all_start shape b p = λ k d low. starts shape b p _ (all_inside (places_of shape) (plane_block shape b p) k d low)
-
-zero_plus : (n : ℕ) → 0 + n ≡ n
-zero_plus n = omega arith
-
-next_is : (shape : Shape) (b : BlockInfo) (p : Plane) → add_more (coded_area shape p) shape.depth (plane_block shape b p) ≡ add_next shape b p
-next_is shape b p = λ i m r. add_residue (zero_plus (coded_width shape p) i) (zero_plus (coded_height shape p) i) shape.depth (plane_block shape b p) r.0 r.1 m
-
-pub inter_is : (by : Rebuilding) (b : BlockInfo) (modes : InterPrediction) (p : Plane) (a : Area) (cb : PlaneBlock) (ats : List (ℕ × ℕ))
-    (r : PlaneResidues) (old predicted new : Map) → a ≡ coded_area by.shape p → cb ≡ plane_block by.shape b p → ats ≡ places_in by.shape b p
-    → predicted ≡ put_prediction by b modes p old
-    → new ≡ fold (add_more a by.shape.depth cb) predicted (held ats (area cb.tx) r)
-    → new ≡ put_inter by b modes p (held_in by.shape b p r) old
-unfolding put_inter
-inter_is by b modes p a cb ats r old predicted new whole is places first put =
-    put
-    ∙ ((λ i. fold (add_more (whole i) by.shape.depth (is i)) (first i) (held (places i) (area (is i).tx) r))
-    ∙ ap (λ (f : Map → (ℕ × ℕ) × Residue → Map). fold f (put_prediction by b modes p old) (held_in by.shape b p r)) (next_is by.shape b p))
+    ∙ ((λ i. add_more (same i) depth b (so i) (sym here i, taken i))
+    ∙ (sym (fold-append (add_more a depth b) start (first_residues residue ats k) ((get_or ats k (0, 0), residue k) ∷ []))
+    ∙ ap (fold (add_more a depth b) start) (sym (first_more residue ats k))))

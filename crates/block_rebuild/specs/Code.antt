@@ -1,21 +1,28 @@
 -- What the code asks of a block and of planes.
-use Rattle.std.specs.Prelude.{◌≡◌, ◌<◌, ◌≤◌, ℕ, false, Option, Some, None, IfSome}
+use Rattle.std.specs.Prelude.{◌≡◌, ◌<◌, ◌≤◌, ◌+◌, ◌*◌, ℕ, min, false, Option, Some, None, IfSome}
 use Rattle.vp9_types.specs.Maps.{Map, FrameMap, IsAtMost}
-use Rattle.vp9_types.specs.Shapes.{mi_rows, mi_cols, plane_height, plane_width}
+use Rattle.vp9_types.specs.Shapes.{halved, mi_rows, mi_cols, plane_height, plane_width}
 use Rattle.vp9_types.specs.Sizes.{greatest}
 use Rattle.vp9_types.specs.declared.shape.Plane.{Plane}
+use Rattle.vp9_types.specs.declared.shape.Plane.TheVariants.{Y, U, V}
 use Rattle.vp9_types.specs.declared.shape.Shape.{Shape}
 use Rattle.vp9_tables.specs.Blocks.{greatest_of}
 use Rattle.vp9_tables.specs.Numbers.{tx_number}
 use Rattle.block_plan.specs.InPlanes.{mode_at}
-use Rattle.block_plan.specs.Planned.{Residue}
+use Rattle.block_plan.specs.Code.{HoldsSmall}
+use Rattle.block_plan.specs.Planned.{Residue, PlannedBlock}
 use Rattle.block_plan.specs.declared.block.BlockInfo.{BlockInfo}
 use Rattle.block_plan.specs.declared.block.Prediction.{Prediction}
 use Rattle.block_plan.specs.declared.block.Prediction.TheVariants.{Intra, Inter}
-use Rattle.inter_places.specs.Places.{IsReference}
+use Rattle.block_plan.specs.declared.block.InterPrediction.{InterPrediction}
+use Rattle.inter_places.specs.Axes.{first_place, last_place}
+use Rattle.inter_places.specs.Places.{IsReference, parts_of, place_of, subsampling, coded_length}
+use Rattle.inter_places.specs.declared.part.Direction.TheVariants.{Down, Across}
+use Rattle.block_geometry.specs.Sizes.{width_8, height_8}
+use Rattle.inter_places.specs.declared.part.BlockPart.{BlockPart}
 use Rattle.intra_predict.specs.Places.{place_in}
 use Rattle.intra_predict.specs.declared.block.IntraBlock.{IntraBlock}
-use Rattle.planes.specs.Pictures.{coded_area}
+use Rattle.planes.specs.declared.frame_planes.FramePlanes.{FramePlanes}
 use Rattle.planes.specs.Planes.{PlaneSamples, lower_end, plane_map, right_end}
 use Rattle.planes.specs.declared.area.Area.{Area}
 use Rattle.planes.specs.Pictures.{blank}
@@ -25,7 +32,9 @@ use Rattle.vp9_types.specs.declared.shape.Depth.{Depth}
 use Rattle.vp9_types.specs.declared.shape.Depth.TheVariants.{Eight}
 use Rattle.block_geometry.specs.declared.transform_blocks.PlaneBlock.{PlaneBlock}
 use Rattle.block_rebuild.specs.Blocks.{put_residue}
-use Rattle.block_rebuild.specs.InterBlocks.{ReferencePicture, Rebuilding, add_residue}
+use Rattle.block_rebuild.specs.InterBlocks.{ReferencePicture, Rebuilding, add_residue, part_of}
+use Rattle.block_rebuild.specs.Residues.{AreHeld, planned_by}
+use Rattle.block_rebuild.specs.declared.strips.ReadBlock as code_block
 use Rattle.block_rebuild.specs.declared.references.ReferencePicture as code_picture
 use Rattle.block_rebuild.specs.declared.references.Rebuilding as code
 use Rattle.block_rebuild.specs.declared.in_plane.IntraInPlane.{IntraInPlane}
@@ -37,10 +46,32 @@ pub record IsPlaced (shape : Shape) (tile_from : ℕ) (b : BlockInfo) : Type 0 w
   pub tile : tile_from ≤ b.col
   pub fits : tx_number b.tx ≤ greatest_of b.size
 
--- a whole plane of a frame, with samples in the range of its depth
-pub record IsPlaneOf (shape : Shape) (p : Plane) (s : PlaneSamples) : Type 0 where
-  pub area : s.area ≡ coded_area shape p
+-- An area of a plane has the samples of a block, those of its tile left of it, and the row above: all of the plane, or a strip.
+pub record HoldsBlock (shape : Shape) (p : Plane) (tile_from : ℕ) (b : BlockInfo) (a : Area) : Type 0 where
+  pub top : a.first_row ≤ halved (subsampling shape p Down) (8 * b.row)
+  pub above : 0 < halved (subsampling shape p Down) (8 * b.row) → a.first_row < halved (subsampling shape p Down) (8 * b.row)
+  pub left : a.first_column ≤ halved (subsampling shape p Across) (8 * tile_from)
+  pub bottom : min (coded_length shape p Down) (halved (subsampling shape p Down) (8 * (b.row + height_8 b.size))) ≤ lower_end a
+  pub right : min (coded_length shape p Across) (halved (subsampling shape p Across) (8 * (b.col + width_8 b.size))) ≤ right_end a
+  pub low : lower_end a ≤ coded_length shape p Down
+  pub narrow : right_end a ≤ coded_length shape p Across
+
+-- a part of a plane that holds a block, with samples in the range of its depth
+pub record IsPartOf (shape : Shape) (p : Plane) (tile_from : ℕ) (b : BlockInfo) (s : PlaneSamples) : Type 0 where
+  pub area : HoldsBlock shape p tile_from b s.area
   pub range : IsAtMost (greatest shape.depth) (plane_map s)
+
+-- in all planes
+pub record HoldsBlockIn (shape : Shape) (tile_from : ℕ) (b : BlockInfo) (f : FramePlanes) : Type 0 where
+  pub y : HoldsBlock shape Y tile_from b f.y.area
+  pub u : HoldsBlock shape U tile_from b f.u.area
+  pub v : HoldsBlock shape V tile_from b f.v.area
+
+-- two frames' planes lie in the same places
+pub record HasAreasOf (f g : FramePlanes) : Type 0 where
+  pub y : g.y.area ≡ f.y.area
+  pub u : g.u.area ≡ f.u.area
+  pub v : g.v.area ≡ f.v.area
 
 -- the transform block at a row and column of an intra block in a plane
 abbrev pub block_at : IntraInPlane → ℕ × ℕ → IntraBlock
@@ -89,3 +120,48 @@ abbrev pub HasReferences : {S : Type 0} → (S → Plane → ℕ → Type 0) →
 HasReferences holds width map by (Intra modes) = Unit {0}
 HasReferences holds width map by (Inter modes) =
     HasReference holds width map by modes.references.first × IfSome modes.references.second (HasReference holds width map by)
+
+---- Pictures of which only some rows are there ----
+
+-- the rows from the first to the last that a part of a block is predicted from
+abbrev pub HoldsPart : {S : Type 0} → (S → Plane → ℕ → Type 0) → Shape → BlockInfo → InterPrediction → BlockPart → code_picture.ReferencePicture S → Type 0
+HoldsPart holds shape b modes part r =
+    (y : ℕ) → first_place (place_of shape b modes part r.shape).down ≤ y → y ≤ last_place (place_of shape b modes part r.shape).down (place_of shape b modes part r.shape).rows →
+    holds r.samples.now part.plane y
+
+-- A picture serves a block, by its first vectors (0) or the second ones (1): it has the rows that the block is predicted from,
+-- whatever else it has.
+pub record Serves {S : Type 0} (holds : S → Plane → ℕ → Type 0) (width : S → Plane → ℕ) (map : S → FrameMap) (shape : Shape) (b : BlockInfo) (modes : InterPrediction) (list : ℕ)
+    (r : code_picture.ReferencePicture S) : Type 0 where
+  pub reference : IsReference shape r.shape
+  pub held : (p : Plane) (n : ℕ) → n < parts_of shape b.size p → HoldsPart holds shape b modes (part_of p n list) r
+  pub wide : (p : Plane) → plane_width r.shape p ≤ width r.samples.now p
+  pub range : (p : Plane) → IsAtMost (greatest shape.depth) (map r.samples.now p)
+
+-- there is such a picture
+abbrev pub IsServed : {S : Type 0} → (S → Plane → ℕ → Type 0) → (S → Plane → ℕ) → (S → FrameMap) → code.Rebuilding S → BlockInfo → InterPrediction → ℕ → ReferenceFrame → Type 0
+IsServed {S} holds width map by b modes list reference =
+    (r : code_picture.ReferencePicture S) × (reference_of by reference ≡ Some r) × Serves holds width map by.shape b modes list r
+
+-- for each that a block refers to
+abbrev pub AreServed : {S : Type 0} → (S → Plane → ℕ → Type 0) → (S → Plane → ℕ) → (S → FrameMap) → code.Rebuilding S → BlockInfo → Prediction → Type 0
+AreServed holds width map by b (Intra modes) = Unit {0}
+AreServed holds width map by b (Inter modes) =
+    IsServed holds width map by b modes 0 modes.references.first × IfSome modes.references.second (IsServed holds width map by b modes 1)
+
+---- Strips ----
+
+-- a block that is read, with the residues that are kept for it
+abbrev pub planned_of : {R : Type 0} → (R → Plane → ℕ → ℕ → Residue) → Shape → ℕ → code_block.ReadBlock R → PlannedBlock
+planned_of residue shape tile_from b = planned_by (residue b.residues) shape tile_from b.info.now
+
+-- a block that can be put into planes, or parts of them: they hold it, and its references are there
+pub record CanBePut {S : Type 0} (holds : S → Plane → ℕ → Type 0) (width : S → Plane → ℕ) (map : S → FrameMap) (by : code.Rebuilding S) (tile_from : ℕ) (f : FramePlanes) (b : BlockInfo) : Type 0 where
+  pub placed : IsPlaced by.shape tile_from b
+  pub served : AreServed holds width map by b b.prediction
+  pub part : HoldsBlockIn by.shape tile_from b f
+
+-- its residues are there, and small
+pub record HasResidues {R : Type 0} (holds : R → Plane → ℕ → ℕ → Type 0) (residue : R → Plane → ℕ → ℕ → Residue) (shape : Shape) (tile_from : ℕ) (b : code_block.ReadBlock R) : Type 0 where
+  pub held : AreHeld (holds b.residues) shape b.info.now
+  pub small : HoldsSmall (planned_of residue shape tile_from b)

@@ -1,6 +1,6 @@
 //! An intra block put into a plane.
 
-ghost use Rattle.std.specs.Prelude.{◌≡◌, ◌<◌, ◌≤◌, ◌+◌, ◌*◌, length};
+ghost use Rattle.std.specs.Prelude.{◌≡◌, ◌<◌, ◌≤◌, ◌+◌, ◌*◌, ℕ, length};
 ghost use Rattle.std.specs.List.{All, fold};
 ghost use Rattle.std.specs.Option.{option_copied};
 ghost use Rattle.vp9_types.specs.Maps.{IsAtMost};
@@ -10,15 +10,18 @@ ghost use Rattle.frame_headers.specs.Sizes.{HasFrameSize};
 ghost use Rattle.block_geometry.specs.TransformBlocks.{grid_blocks, tx_step};
 ghost use Rattle.block_geometry.specs.Code.{IsSmallGrid};
 ghost use Rattle.block_geometry.specs.Frames.{places_of};
-ghost use Rattle.block_plan.specs.Code.{residue_if, held, held_in, IsSmall, AreSmall};
+ghost use Rattle.block_plan.specs.Code.{IsSmall, AreSmall};
+ghost use Rattle.block_plan.specs.InPlanes.{places_in, tx_in};
 ghost use Rattle.intra_predict.specs.Edges.{LiesIn};
 ghost use Rattle.intra_predict.specs.Places.{place_in};
 ghost use Rattle.planes.specs.Planes.{lower_end, right_end, plane_map};
 ghost use Rattle.block_rebuild.specs.Blocks.{coded_block, put_residue, put_intra};
-ghost use Rattle.block_rebuild.specs.Code.{IsPlaced, IsPlaneOf, block_at, put_more};
+ghost use Rattle.block_rebuild.specs.Code.{IsPlaced, IsPartOf, block_at, put_more};
+ghost use Rattle.block_rebuild.specs.Residues.{IsWhole, residues_at, residues_of};
 
+use crate::residues::TransformResidues;
 use block_geometry::{FramePlaces, PlaneBlock, TransformGrid, transform_grid, width_8};
-use block_plan::{BlockInfo, IntraPrediction, PlaneResidues, mode_at, plane_block};
+use block_plan::{BlockInfo, IntraPrediction, mode_at, plane_block};
 use intra_predict::{CodedBlock, IntraBlock, Scratch, place_of, put_transform_block};
 use planes::SamplePlane;
 use vp9_tables::area_of;
@@ -88,32 +91,32 @@ pub(crate) fn places_of(shape: &Shape) -> FramePlaces
 }
 
 /// Puts a transform block into its plane, with its values if it has residue.
+#[inline(always)]
+#[tactic(auto, using(crate::proofs::Puts::whole_residue, crate::proofs::Puts::residue_is))]
 fn put_residue(
     samples: &mut SamplePlane,
     block: &IntraBlock,
     depth: Depth,
-    some: bool,
-    values: &[i32],
+    residue: Option<&[i32]>,
     scratch: &mut Scratch,
 )
     requires inside { LiesIn samples.old.area block.now.place }
     requires range { IsAtMost (greatest depth) (plane_map samples.old) }
-    requires long { length values.now ≡ area block.now.size }
-    requires small { IsSmall (residue_if some values.now) }
-    ensures map { plane_map samples.new ≡ put_residue (right_end samples.old.area) (lower_end samples.old.area) depth block.now (residue_if some values.now) (plane_map samples.old) }
+    requires whole { IsWhole (area block.now.size) (option_copied residue) }
+    requires small { IsSmall (option_copied residue) }
+    ensures map { plane_map samples.new ≡ put_residue (right_end samples.old.area) (lower_end samples.old.area) depth block.now (option_copied residue.entry) (plane_map samples.old) }
     ensures area { samples.new.area ≡ samples.old.area }
     ensures range { IsAtMost (greatest depth) (plane_map samples.new) }
 {
-    let residue = if some { Some(values) } else { None };
     put_transform_block(samples, block, depth, residue, scratch);
 }
 
 /// Puts all transform blocks of a block into its plane.
-fn put_residues(
+fn put_residues<R: TransformResidues>(
     samples: &mut SamplePlane,
     b: &IntraInPlane<'_>,
     grid: &TransformGrid,
-    residues: &PlaneResidues,
+    residues: &R,
     scratch: &mut Scratch,
 )
     requires small_grid { IsSmallGrid grid.now }
@@ -123,41 +126,36 @@ fn put_residues(
     requires tile { b.now.coded.tile_column ≤ b.now.coded.column }
     requires inside { All (λ at. LiesIn samples.old.area (place_in b.now.coded at.0 at.1)) (grid_blocks grid.now) }
     requires range { IsAtMost (greatest b.now.depth) (plane_map samples.old) }
-    requires small { AreSmall (held (grid_blocks grid.now) (area b.now.tx) residues.now) }
-    ensures map { plane_map samples.new ≡ fold (put_more samples.old.area b.now) (plane_map samples.old) (held (grid_blocks grid.now) (area b.now.tx) residues.now) }
+    requires held { (k : ℕ) → k < length (grid_blocks grid.now) → R.holds residues.now b.now.plane (area b.now.tx) k }
+    requires small { AreSmall (residues_at (R.residue residues.now b.now.plane (area b.now.tx)) (grid_blocks grid.now)) }
+    ensures map { plane_map samples.new ≡ fold (put_more samples.old.area b.now) (plane_map samples.old) (residues_at (R.residue residues.now b.now.plane (area b.now.tx)) (grid_blocks grid.now)) }
     ensures area { samples.new.area ≡ samples.old.area }
     ensures range { IsAtMost (greatest b.now.depth) (plane_map samples.new) }
 {
-    let area = area_of(b.tx);
+    let (plane, area) = (b.plane, area_of(b.tx));
     for k in 0..grid.count() {
         let block = block_at(b, grid.place(k));
-        let from = k as usize * area;
-        let values = &residues.values[from..from + area];
-        put_residue(
-            samples,
-            &block,
-            b.depth,
-            residues.some[k as usize],
-            values,
-            scratch,
-        );
+        let residue = residues.get(plane, area, k as usize);
+        put_residue(samples, &block, b.depth, residue, scratch);
     }
 }
 
-/// Puts an intra block into a plane.
-pub(crate) fn put_in_plane(
+/// Puts an intra block into a plane, or a part of it that holds the block.
+pub(crate) fn put_in_plane<R: TransformResidues>(
     samples: &mut SamplePlane,
     b: &IntraCoded<'_>,
     plane: Plane,
-    residues: &PlaneResidues,
+    residues: &R,
     scratch: &mut Scratch,
 )
     requires size { HasFrameSize b.now.shape.now }
     requires placed { IsPlaced b.now.shape.now b.now.tile_from b.now.block.now }
-    requires is { IsPlaneOf b.now.shape.now plane samples.old }
-    requires small { AreSmall (held_in b.now.shape.now b.now.block.now plane residues.now) }
-    ensures map { plane_map samples.new ≡ put_intra b.now.shape.now b.now.tile_from b.now.block.now b.now.modes.now plane (held_in b.now.shape.now b.now.block.now plane residues.now) (plane_map samples.old) }
-    ensures is { IsPlaneOf b.now.shape.now plane samples.new }
+    requires is { IsPartOf b.now.shape.now plane b.now.tile_from b.now.block.now samples.old }
+    requires held { (k : ℕ) → k < length (places_in b.now.shape.now b.now.block.now plane) → R.holds residues.now plane (area (tx_in b.now.shape.now b.now.block.now plane)) k }
+    requires small { AreSmall (residues_of (R.residue residues.now) b.now.shape.now b.now.block.now plane) }
+    ensures map { plane_map samples.new ≡ put_intra b.now.shape.now b.now.tile_from b.now.block.now b.now.modes.now plane (residues_of (R.residue residues.now) b.now.shape.now b.now.block.now plane) (plane_map samples.old) }
+    ensures area { samples.new.area ≡ samples.old.area }
+    ensures range { IsAtMost (greatest b.now.shape.now.depth) (plane_map samples.new) }
 {
     let block = plane_block(b.shape, b.block, plane);
     let grid = transform_grid(places_of(b.shape), block);

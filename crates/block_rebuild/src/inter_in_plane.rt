@@ -1,6 +1,6 @@
 //! An inter block put into a plane.
 
-ghost use Rattle.std.specs.Prelude.{◌≡◌, ◌<◌, ◌≤◌, ◌*◌, length};
+ghost use Rattle.std.specs.Prelude.{◌≡◌, ◌<◌, ◌≤◌, ◌*◌, ℕ, length};
 ghost use Rattle.std.specs.List.{fold, range_with_len};
 ghost use Rattle.vp9_types.specs.Maps.{HoldsRows, IsAtMost, rows_of};
 ghost use Rattle.vp9_types.specs.Shapes.{mi_rows, mi_cols};
@@ -8,21 +8,24 @@ ghost use Rattle.vp9_types.specs.Sizes.{greatest};
 ghost use Rattle.vp9_tables.specs.Blocks.{greatest_of as greatest_transform};
 ghost use Rattle.vp9_tables.specs.Numbers.{tx_number};
 ghost use Rattle.frame_headers.specs.Sizes.{HasFrameSize};
-ghost use Rattle.block_plan.specs.Code.{held_in, AreSmall};
+ghost use Rattle.vp9_tables.specs.Scans.{area};
+ghost use Rattle.block_plan.specs.Code.{AreSmall};
+ghost use Rattle.block_plan.specs.InPlanes.{places_in, tx_in};
 ghost use Rattle.block_plan.specs.declared.block.Prediction.TheVariants.{Inter};
 ghost use Rattle.inter_places.specs.Axes.{IsPlace};
 ghost use Rattle.inter_places.specs.Places.{IsPart, parts_of, place_of};
 ghost use Rattle.planes.specs.Planes.{StartsIn, plane_map, with_part};
-ghost use Rattle.planes.specs.Pictures.{coded_area};
 ghost use Rattle.block_rebuild.specs.InterBlocks.{part_of, predicted_from, predicted_part, put_part, put_prediction, put_inter};
-ghost use Rattle.block_rebuild.specs.Code.{IsPlaneOf, HasReference, HasReferences, picture_of, reference_of, rebuilding_of};
+ghost use Rattle.block_rebuild.specs.Code.{IsPartOf, IsServed, AreServed, picture_of, reference_of, rebuilding_of};
+ghost use Rattle.block_rebuild.specs.Residues.{residues_of};
 
 use crate::in_plane::places_of;
 use crate::references::Rebuilding;
 use crate::residue::add_residues;
+use crate::residues::TransformResidues;
 use crate::room::RebuildRoom;
 use block_geometry::transform_grid;
-use block_plan::{BlockInfo, InterPrediction, PlaneResidues, plane_block};
+use block_plan::{BlockInfo, InterPrediction, plane_block};
 use inter_places::{BlockPart, Place, part_count, place};
 use inter_scaled::{LINES, average, predict};
 use planes::SamplePlane;
@@ -45,7 +48,7 @@ fn predict_part<S: Samples>(
     block: &mut [u16],
 ) -> Place
     requires part { IsPart b.now.by.now.shape b.now.block.now part }
-    requires reference { HasReference S.holds S.width S.map b.now.by.now reference }
+    requires reference { IsServed S.holds S.width S.map b.now.by.now b.now.block.now b.now.modes.now part.list reference }
     requires lines { LINES ≤ length lines.old }
     requires room { 4096 ≤ length block.old }
     ensures place { result ≡ place_of b.now.by.now.shape b.now.block.now b.now.modes.now part (picture_of S.map (reference_of b.now.by.now reference)).shape }
@@ -70,7 +73,7 @@ fn predict_all<S: Samples>(
     room: &mut RebuildRoom,
 ) -> Place
     requires part { IsPart b.now.by.now.shape b.now.block.now (part_of plane number 0) }
-    requires references { HasReferences S.holds S.width S.map b.now.by.now (Inter b.now.modes.now) }
+    requires references { AreServed S.holds S.width S.map b.now.by.now b.now.block.now (Inter b.now.modes.now) }
     ensures place { result ≡ place_of b.now.by.now.shape b.now.block.now b.now.modes.now (part_of plane number 0) (picture_of S.map (reference_of b.now.by.now b.now.modes.now.references.first)).shape }
     ensures fits { IsPlace result }
     ensures samples { HoldsRows room.new.first result.columns result.rows (predicted_part (rebuilding_of S.map b.now.by.now) b.now.block.now b.now.modes.now plane number) }
@@ -122,10 +125,11 @@ fn put_part<S: Samples>(
     room: &mut RebuildRoom,
 )
     requires part { IsPart b.now.by.now.shape b.now.block.now (part_of plane number 0) }
-    requires references { HasReferences S.holds S.width S.map b.now.by.now (Inter b.now.modes.now) }
-    requires is { IsPlaneOf b.now.by.now.shape plane samples.old }
+    requires references { AreServed S.holds S.width S.map b.now.by.now b.now.block.now (Inter b.now.modes.now) }
+    requires is { IsPartOf b.now.by.now.shape plane b.now.block.now.col b.now.block.now samples.old }
     ensures map { plane_map samples.new ≡ put_part (rebuilding_of S.map b.now.by.now) b.now.block.now b.now.modes.now plane (plane_map samples.old) number }
-    ensures is { IsPlaneOf b.now.by.now.shape plane samples.new }
+    ensures area { samples.new.area ≡ samples.old.area }
+    ensures range { IsAtMost (greatest b.now.by.now.shape.depth) (plane_map samples.new) }
 {
     let place = predict_all(b, plane, number, room);
     put_rows(samples, &place, &room.first);
@@ -140,10 +144,11 @@ fn put_prediction<S: Samples>(
 )
     requires row { b.now.block.now.row < mi_rows b.now.by.now.shape }
     requires column { b.now.block.now.col < mi_cols b.now.by.now.shape }
-    requires references { HasReferences S.holds S.width S.map b.now.by.now (Inter b.now.modes.now) }
-    requires is { IsPlaneOf b.now.by.now.shape plane samples.old }
+    requires references { AreServed S.holds S.width S.map b.now.by.now b.now.block.now (Inter b.now.modes.now) }
+    requires is { IsPartOf b.now.by.now.shape plane b.now.block.now.col b.now.block.now samples.old }
     ensures map { plane_map samples.new ≡ put_prediction (rebuilding_of S.map b.now.by.now) b.now.block.now b.now.modes.now plane (plane_map samples.old) }
-    ensures is { IsPlaneOf b.now.by.now.shape plane samples.new }
+    ensures area { samples.new.area ≡ samples.old.area }
+    ensures range { IsAtMost (greatest b.now.by.now.shape.depth) (plane_map samples.new) }
 {
     let count = part_count(&b.by.shape, b.block.size, plane);
     for number in 0..count {
@@ -152,26 +157,28 @@ fn put_prediction<S: Samples>(
 }
 
 /// Puts an inter block into a plane: all of its samples are predicted before any residue is added.
-pub(crate) fn put_inter<S: Samples>(
+pub(crate) fn put_inter<S: Samples, R: TransformResidues>(
     samples: &mut SamplePlane,
     b: &InterCoded<'_, S>,
     plane: Plane,
-    residues: &PlaneResidues,
+    residues: &R,
     room: &mut RebuildRoom,
 )
     requires size { HasFrameSize b.now.by.now.shape }
     requires row { b.now.block.now.row < mi_rows b.now.by.now.shape }
     requires column { b.now.block.now.col < mi_cols b.now.by.now.shape }
     requires fits { tx_number b.now.block.now.tx ≤ greatest_transform b.now.block.now.size }
-    requires references { HasReferences S.holds S.width S.map b.now.by.now (Inter b.now.modes.now) }
-    requires is { IsPlaneOf b.now.by.now.shape plane samples.old }
-    requires small { AreSmall (held_in b.now.by.now.shape b.now.block.now plane residues.now) }
-    ensures map { plane_map samples.new ≡ put_inter (rebuilding_of S.map b.now.by.now) b.now.block.now b.now.modes.now plane (held_in b.now.by.now.shape b.now.block.now plane residues.now) (plane_map samples.old) }
-    ensures is { IsPlaneOf b.now.by.now.shape plane samples.new }
+    requires references { AreServed S.holds S.width S.map b.now.by.now b.now.block.now (Inter b.now.modes.now) }
+    requires is { IsPartOf b.now.by.now.shape plane b.now.block.now.col b.now.block.now samples.old }
+    requires held { (k : ℕ) → k < length (places_in b.now.by.now.shape b.now.block.now plane) → R.holds residues.now plane (area (tx_in b.now.by.now.shape b.now.block.now plane)) k }
+    requires small { AreSmall (residues_of (R.residue residues.now) b.now.by.now.shape b.now.block.now plane) }
+    ensures map { plane_map samples.new ≡ put_inter (rebuilding_of S.map b.now.by.now) b.now.block.now b.now.modes.now plane (residues_of (R.residue residues.now) b.now.by.now.shape b.now.block.now plane) (plane_map samples.old) }
+    ensures area { samples.new.area ≡ samples.old.area }
+    ensures range { IsAtMost (greatest b.now.by.now.shape.depth) (plane_map samples.new) }
 {
     put_prediction(samples, b, plane, room);
     let shape = &b.by.shape;
     let block = plane_block(shape, b.block, plane);
     let grid = transform_grid(places_of(shape), block);
-    add_residues(samples, &block, &grid, residues, shape.depth);
+    add_residues(samples, &block, &grid, plane, residues, shape.depth);
 }

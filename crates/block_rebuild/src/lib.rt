@@ -4,11 +4,17 @@
 mod blocks;
 mod in_plane;
 mod inter_in_plane;
+mod laws;
 mod references;
 mod residue;
+mod residues;
 mod room;
+mod strips;
 
-pub use blocks::put_block;
+pub use blocks::{put_block, put_block_in_part};
 pub use in_plane::IntraInPlane;
+pub use laws::{blocks_stay_in_their_tile_column, strips_side_by_side_are_the_frame};
 pub use references::{Rebuilding, ReferencePicture};
+pub use residues::TransformResidues;
 pub use room::RebuildRoom;
+pub use strips::{ReadBlock, put_strip};

@@ -2,24 +2,26 @@
 
 ghost use Rattle.std.specs.Prelude.{◌≡◌, ◌<◌, ◌≤◌, ◌+◌, ◌*◌, ◌^◌, ℕ, pos, length, slice_index, slice_index_or, unsigned_abs};
 ghost use Rattle.std.specs.List.{All, fold};
+ghost use Rattle.std.specs.Option.{option_copied};
 ghost use Rattle.vp9_types.specs.Maps.{IsAtMost, with_block};
 ghost use Rattle.vp9_types.specs.Sizes.{clip, greatest, side};
 ghost use Rattle.vp9_tables.specs.Scans.{area};
 ghost use Rattle.block_geometry.specs.TransformBlocks.{grid_blocks, tx_step};
 ghost use Rattle.block_geometry.specs.Code.{IsSmallGrid};
-ghost use Rattle.block_plan.specs.Code.{residue_if, held, IsSmall, AreSmall};
+ghost use Rattle.block_plan.specs.Code.{IsSmall, AreSmall};
 ghost use Rattle.intra_predict.specs.Residue.{IsResidue, with_residue};
 ghost use Rattle.intra_predict.specs.Steps.{plus_residue, with_square};
 ghost use Rattle.planes.specs.Planes.{HasRow, lower_end, right_end, plane_map};
 ghost use Rattle.block_rebuild.specs.InterBlocks.{tx_row, tx_column, samples_from, add_residue};
 ghost use Rattle.block_rebuild.specs.Code.{add_more};
+ghost use Rattle.block_rebuild.specs.Residues.{IsWhole, residues_at};
 
+use crate::residues::TransformResidues;
 use block_geometry::{PlaneBlock, TransformGrid};
-use block_plan::PlaneResidues;
 use intra_predict::side_of;
 use planes::SamplePlane;
 use vp9_tables::area_of;
-use vp9_types::{Depth, TxSize, halved};
+use vp9_types::{Depth, Plane, TxSize, halved};
 
 #[inline(always)]
 fn clipped(sum: i32, most: u16) -> u16
@@ -117,8 +119,7 @@ fn add_any(
     block: &PlaneBlock,
     at: (usize, usize),
     depth: Depth,
-    some: bool,
-    values: &[i32],
+    residue: Option<&[i32]>,
 )
     requires low { block.now.row ≤ 8192 }
     requires near { block.now.col ≤ 8192 }
@@ -126,24 +127,25 @@ fn add_any(
     requires x { at.1 < 16 }
     requires inside { HasRow samples.old.area (tx_row block.now at.0) (tx_column block.now at.1) 1 }
     requires range { IsAtMost (greatest depth) (plane_map samples.old) }
-    requires long { length values.now ≡ area block.now.tx }
-    requires small { IsSmall (residue_if some values.now) }
-    ensures map { plane_map samples.new ≡ add_residue (right_end samples.old.area) (lower_end samples.old.area) depth block.now at (residue_if some values.now) (plane_map samples.old) }
+    requires whole { IsWhole (area block.now.tx) (option_copied residue) }
+    requires small { IsSmall (option_copied residue) }
+    ensures map { plane_map samples.new ≡ add_residue (right_end samples.old.area) (lower_end samples.old.area) depth block.now at (option_copied residue.entry) (plane_map samples.old) }
     ensures area { samples.new.area ≡ samples.old.area }
     ensures range { IsAtMost (greatest depth) (plane_map samples.new) }
 {
-    if some {
+    if let Some(values) = residue {
         let (row, column) = first_sample(block, at);
         add_square(samples, row, column, block.tx, depth, values);
     }
 }
 
 /// Adds the residue of all transform blocks of a block in a plane.
-pub(crate) fn add_residues(
+pub(crate) fn add_residues<R: TransformResidues>(
     samples: &mut SamplePlane,
     block: &PlaneBlock,
     grid: &TransformGrid,
-    residues: &PlaneResidues,
+    plane: Plane,
+    residues: &R,
     depth: Depth,
 )
     requires small_grid { IsSmallGrid grid.now }
@@ -152,22 +154,15 @@ pub(crate) fn add_residues(
     requires near { block.now.col ≤ 8192 }
     requires inside { All (λ at. HasRow samples.old.area (tx_row block.now at.0) (tx_column block.now at.1) 1) (grid_blocks grid.now) }
     requires range { IsAtMost (greatest depth) (plane_map samples.old) }
-    requires small { AreSmall (held (grid_blocks grid.now) (area block.now.tx) residues.now) }
-    ensures map { plane_map samples.new ≡ fold (add_more samples.old.area depth block.now) (plane_map samples.old) (held (grid_blocks grid.now) (area block.now.tx) residues.now) }
+    requires held { (k : ℕ) → k < length (grid_blocks grid.now) → R.holds residues.now plane (area block.now.tx) k }
+    requires small { AreSmall (residues_at (R.residue residues.now plane (area block.now.tx)) (grid_blocks grid.now)) }
+    ensures map { plane_map samples.new ≡ fold (add_more samples.old.area depth block.now) (plane_map samples.old) (residues_at (R.residue residues.now plane (area block.now.tx)) (grid_blocks grid.now)) }
     ensures area { samples.new.area ≡ samples.old.area }
     ensures range { IsAtMost (greatest depth) (plane_map samples.new) }
 {
     let area = area_of(block.tx);
     for k in 0..grid.count() {
-        let from = k as usize * area;
-        let values = &residues.values[from..from + area];
-        add_any(
-            samples,
-            block,
-            grid.place(k),
-            depth,
-            residues.some[k as usize],
-            values,
-        );
+        let residue = residues.get(plane, area, k as usize);
+        add_any(samples, block, grid.place(k), depth, residue);
     }
 }

@@ -1,5 +1,5 @@
 -- Numbers that go from one call to the next.
-use Rattle.std.proofs.Common.{◌≡◌, ℕ, ◌+◌, ◌*◌, ◌≤◌, ◌^◌, ℤ, pos, negsuc, ◌+ℤ◌, ◌*ℤ◌, Bool, unsigned_abs, to_z, of_z, arith, refl, ◌∙◌, ap}
+use Rattle.std.proofs.Common.{◌≡◌, ℕ, ◌+◌, ◌≤◌, ◌^◌, ℤ, pos, negsuc, ◌+ℤ◌, ◌*ℤ◌, Bool, unsigned_abs, to_z, of_z, arith, ◌∙◌, ap}
 use Rattle.std.proofs.lemmas.Int.{to_z-of_z, unsigned_abs-mul}
 use mir.Syntax.{w32}
 use Rattle.inter_places.specs.Vectors.{in_sixteenths}

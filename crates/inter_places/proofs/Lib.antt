@@ -1,2 +1,3 @@
 pub mod Scales
 pub mod Kept
+pub mod Orders

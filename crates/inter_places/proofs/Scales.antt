@@ -1,7 +1,7 @@
 -- Scales of references in range.
-use Rattle.std.proofs.Common.{◌≡◌, ℕ, ◌+◌, ◌*◌, ◌/◌, ◌^◌, ◌≤◌, ◌<◌, arith}
+use Rattle.std.proofs.Common.{ℕ, ◌*◌, ◌/◌, ◌≤◌, arith}
 use Rattle.std.proofs.Math.Nat.{div-le_of_le-mul, le-div_iff_mul-le}
-use Rattle.inter_places.specs.Scaling.{IsInScale, scale}
+use Rattle.inter_places.specs.Scaling.{IsInScale}
 
 pub scale_most : (reference own : ℕ) → IsInScale reference own → reference * 16384 / own ≤ 32768
 scale_most reference own fits = div-le_of_le-mul own (omega (arith, fits.large))

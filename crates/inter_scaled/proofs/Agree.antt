@@ -4,12 +4,13 @@ use Rattle.std.proofs.lemmas.Bool.{cases_lt}
 use Rattle.std.proofs.lemmas.List.{get_or_past}
 use Rattle.std.proofs.lemmas.List.Elements.{All-get_or}
 use Rattle.std.proofs.lemmas.List.{get_or-take}
-use Rattle.std.proofs.Math.Nat.{mul-le-mul_left, mul-zero}
+use Rattle.std.proofs.Math.Nat.{mul-zero}
 use Rattle.vp9_types.specs.Maps.{Map}
 use Rattle.vp9_types.specs.declared.block.InterpFilter.{InterpFilter}
 use Rattle.vp9_tables.specs.Filters.{taps_of}
 use Rattle.inter_places.specs.declared.axis.Axis.{Axis}
 use Rattle.inter_lanes.specs.Filter.{IsTap, weighted, rounded, filtered}
+use Rattle.inter_places.proofs.Orders.{clamped_order, offset_order, place_order}
 use Rattle.inter_places.specs.Axes.{clamped, place, phase, offset, fraction, sixteenth, whole, straight}
 use Rattle.inter_places.specs.Axes.{first_place, last_place}
 use Rattle.inter_scaled.specs.Inter.{along, predicted}
@@ -19,24 +20,6 @@ use Rattle.inter_scaled.proofs.Blocks.{rounded_small}
 pub weighted_same : (taps : List ℤ) (f g : ℕ → ℕ) → ((k : ℕ) → k < 8 → f k ≡ g k) → weighted taps f ≡ weighted taps g
 unfolding weighted
 weighted_same taps f g same = rw (same 0 (omega arith), same 1 (omega arith), same 2 (omega arith), same 3 (omega arith), same 4 (omega arith), same 5 (omega arith), same 6 (omega arith), same 7 (omega arith)) refl
-
-clamped_more : (size : ℕ) (x : ℤ) (a d : ℕ) → clamped size ((x +ℤ pos a) -ℤ pos 3) ≤ clamped size ((x +ℤ pos (a + d)) -ℤ pos 3)
-clamped_more size (pos x) a d = grind arith
-clamped_more size (negsuc x) a d = grind arith
-
-clamped_order : (size : ℕ) (x : ℤ) (a b : ℕ) → a ≤ b → clamped size ((x +ℤ pos a) -ℤ pos 3) ≤ clamped size ((x +ℤ pos b) -ℤ pos 3)
-clamped_order size x a b le = let is : b ≡ a + (b - a) = omega (arith, le) in
-    subst (λ (n : ℕ). clamped size ((x +ℤ pos a) -ℤ pos 3) ≤ clamped size ((x +ℤ pos n) -ℤ pos 3)) (sym is) (clamped_more size x a (b - a))
-
-sixteenths : (f s t : ℕ) → s ≤ t → (f + s) / 16 ≤ (f + t) / 16
-sixteenths f s t le = omega (arith, le)
-
-pub offset_order : (a : Axis) (i j : ℕ) → i ≤ j → offset a i / 16 ≤ offset a j / 16
-offset_order a i j le = sixteenths (fraction a) (a.step * i) (a.step * j) (mul-le-mul_left a.step le)
-
-pub place_order : (a : Axis) (i j k l : ℕ) → i ≤ j → k ≤ l → place a i k ≤ place a j l
-unfolding place
-place_order a i j k l le low = clamped_order a.size (whole a) (offset a i / 16 + k) (offset a j / 16 + l) (omega (arith, offset_order a i j le))
 
 pub filtered_same : (most : ℕ) (taps : List ℤ) (f g : ℕ → ℕ) → ((k : ℕ) → k < 8 → f k ≡ g k) →
     rounded most (weighted taps f) ≡ rounded most (weighted taps g)

@@ -8,9 +8,9 @@ ghost use Rattle.inter_places.specs.Axes.{offset, phase};
 ghost use Rattle.inter_scaled.specs.Code.{IsFilter, lines_for};
 
 use crate::filter::LineFilter;
-use crate::places::offset_of;
 use crate::scaled::value_below;
 use inter_lanes::{TapLanes, filter_run};
+use inter_places::offset_of;
 use vp9_tables::taps;
 
 /// Sixteens of values from the beginning of row i on, at any step, each filtered down a column.

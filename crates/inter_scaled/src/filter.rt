@@ -5,9 +5,9 @@ ghost use Rattle.std.specs.Bool.{OnTrue};
 ghost use Rattle.inter_places.specs.Axes.{IsAxis};
 ghost use Rattle.inter_scaled.specs.Code.{IsFilter, IsRun};
 
-use crate::places::{is_inside, phase_of};
+use crate::places::is_inside;
 use inter_lanes::TapLanes;
-use inter_places::Axis;
+use inter_places::{Axis, phase_of};
 use vp9_tables::taps;
 use vp9_types::InterpFilter;
 

@@ -7,10 +7,10 @@ ghost use Rattle.inter_scaled.specs.Inter.{along};
 ghost use Rattle.inter_scaled.specs.Code.{IsFilter, IsRun};
 
 use crate::filter::LineFilter;
-use crate::places::{is_whole, straight};
+use crate::places::is_whole;
 use crate::scaled::scale_line;
 use inter_lanes::filter_line;
-use inter_places::Axis;
+use inter_places::{Axis, straight};
 
 /// Samples of a row at n places that follow one another, from the place on that lies `first` after the third before the
 /// first. Past an end of the row they are the last ones.

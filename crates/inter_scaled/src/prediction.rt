@@ -7,9 +7,9 @@ ghost use Rattle.inter_scaled.specs.Inter.{predicted_at};
 
 use crate::down::filter_down;
 use crate::filter::{Interpolation, LineFilter};
-use crate::places::{is_whole, offset_of};
+use crate::places::is_whole;
 use crate::rows::fill_lines;
-use inter_places::Place;
+use inter_places::{Place, offset_of};
 use vp9_types::{InterpFilter, Samples};
 
 /// The samples of the lines that a block is filtered from: 134 of 64 at the greatest step.

@@ -9,8 +9,9 @@ ghost use Rattle.vp9_tables.specs.Filters.{taps_of};
 
 use crate::filter::LineFilter;
 use crate::lines::read_places;
-use crate::places::{is_inside, offset_of, straight};
+use crate::places::is_inside;
 use inter_lanes::{rounded, weighted_run};
+use inter_places::{offset_of, straight};
 use vp9_tables::taps;
 
 /// Eight samples of a column of rows of n.

@@ -1,13 +1,21 @@
-use Rattle.std.proofs.Common.{◌≡◌, ◌∙◌, arith}
+use Rattle.std.proofs.Common.{◌≡◌, ◌∙◌, sym, subst, arith}
 use Rattle.planes.specs.Planes.{plane_map}
+use Rattle.planes.specs.declared.area.Area.{Area}
 use Rattle.block_rebuild.specs.InterBlocks.{put_prediction}
-use Rattle.block_rebuild.specs.Code.{rebuilding_of}
+use Rattle.block_rebuild.specs.Code.{HoldsBlock, rebuilding_of}
 use Rattle.block_rebuild.proofs.Parts.{one_part_more}
 use Rattle.block_rebuild.proofs.inter_in_plane.put_prediction.Goals as goal
 
+pub put_part-requires-clause-is : goal.put_part-requires-clause-is
+put_part-requires-clause-is g c = let a = c.args in let b = a.b.now in record {
+  area = subst (λ (z : Area). HoldsBlock b.by.now.shape a.plane b.block.now.col b.block.now z) (sym c.loop-number.invariant.same) c.requires.is.area;
+  range = c.loop-number.invariant.range;
+}
+
 pub loop-number-preserved : goal.loop-number-preserved
 loop-number-preserved g c = let a = c.args in let b = a.b.now in record {
-  is = c.put_part.ensures.is;
+  same = c.put_part.ensures.area ∙ c.loop-number.invariant.same;
+  range = c.put_part.ensures.range;
   so_far = one_part_more (rebuilding_of g.S.Samples.map b.by.now) b.block.now b.modes.now a.plane c.loop-number.number (plane_map a.samples.now) (plane_map c.loop-number.samples) (plane_map c.put_part.new.samples)
       c.loop-number.invariant.so_far c.put_part.ensures.map;
 }

@@ -3,7 +3,7 @@ use Rattle.planes.specs.Planes.{lower_end, plane_map, right_end}
 use Rattle.block_rebuild.proofs.Sums.{added_small}
 use Rattle.block_rebuild.proofs.residue.add_any.Goals as goal
 
-pub returns-then-some-clause-range : goal.returns-then-some-clause-range
-returns-then-some-clause-range c = let a = c.args in
+pub returns-in-Some-clause-range : goal.returns-in-Some-clause-range
+returns-in-Some-clause-range c = let a = c.args in
     let is = rw c.first_sample-row.ensures at c.add_square.ensures.map in
-    rw is (added_small (right_end a.samples.now.area) (lower_end a.samples.now.area) a.depth a.block.now a.at (Some a.values.now) (plane_map a.samples.now) c.requires.range)
+    rw is (added_small (right_end a.samples.now.area) (lower_end a.samples.now.area) a.depth a.block.now a.at (Some c.in-Some.values.now) (plane_map a.samples.now) c.requires.range)

@@ -1,40 +1,43 @@
 use Rattle.std.proofs.Common.{◌≡◌, ◌<◌, ◌*◌, ◌∙◌, refl, arith, length}
 use Rattle.block_geometry.specs.TransformBlocks.{grid_blocks}
 use Rattle.block_geometry.proofs.Rasters.{length_grid}
-use Rattle.block_plan.specs.Code.{residues_held}
-use Rattle.block_plan.proofs.Held.{one_long}
 use Rattle.vp9_tables.specs.Scans.{area}
+use Rattle.block_rebuild.specs.Residues.{first_residues}
 use Rattle.block_rebuild.proofs.Puts.{small_at}
 use Rattle.block_rebuild.proofs.Sums.{add_one_more}
 use Rattle.block_rebuild.proofs.residue.add_residues.Goals as goal
 
 pub loop-k-init : goal.loop-k-init
-unfolding residues_held
-loop-k-init c = record { same = refl; range = c.requires.range; so_far = refl }
+unfolding first_residues
+loop-k-init g c = record { same = refl; range = c.requires.range; so_far = refl }
+
+pub get-residue-requires-clause-held : goal.get-residue-requires-clause-held
+get-residue-requires-clause-held g c =
+    let low : c.loop-k.k < c.args.grid.now.rows * c.args.grid.now.columns = omega (arith, c.loop-k-test.true, c.count-k-end.ensures.count, c.loop-k.auto.k-end) in
+    rw c.area_of-area.ensures.value (c.requires.held c.loop-k.k (rw (length_grid c.args.grid.now) low))
 
 pub add_any-requires-clause-inside : goal.add_any-requires-clause-inside
-add_any-requires-clause-inside c =
+add_any-requires-clause-inside g c =
     let low : c.loop-k.k < c.args.grid.now.rows * c.args.grid.now.columns = omega (arith, c.loop-k-test.true, c.count-k-end.ensures.count, c.loop-k.auto.k-end) in
     let here = rw c.place.ensures.place at (c.requires.inside c.loop-k.k (0, 0) (rw (length_grid c.args.grid.now) low)) in
     rw c.loop-k.invariant.same here
 
 pub add_any-requires-clause-small : goal.add_any-requires-clause-small
-add_any-requires-clause-small c =
+add_any-requires-clause-small g c =
     let low : c.loop-k.k < c.args.grid.now.rows * c.args.grid.now.columns = omega (arith, c.loop-k-test.true, c.count-k-end.ensures.count, c.loop-k.auto.k-end) in
-    rw (c.area_of-area.ensures.value, one_long)
-    (small_at (grid_blocks c.args.grid.now) (area c.args.block.now.tx) c.args.residues.now.some c.args.residues.now.values (length (grid_blocks c.args.grid.now)) c.loop-k.k
+    rw (c.get-residue.ensures.value, c.area_of-area.ensures.value)
+    (small_at (g.R.TransformResidues.residue c.args.residues.now c.args.plane (area c.args.block.now.tx)) (grid_blocks c.args.grid.now) c.loop-k.k
     (rw (length_grid c.args.grid.now) low) c.requires.small)
 
 pub loop-k-preserved : goal.loop-k-preserved
-loop-k-preserved c = record {
+loop-k-preserved g c = record {
   same = c.add_any.ensures.area ∙ c.loop-k.invariant.same;
   range = c.add_any.ensures.range;
-  so_far = add_one_more c.args.samples.now.area c.loop-k.samples.area c.args.depth c.args.block.now (grid_blocks c.args.grid.now) (area c.args.block.now.tx) c.args.residues.now.some c.args.residues.now.values c.loop-k.k _ _ _ _
-      c.place.ensures.place c.loop-k.invariant.so_far c.loop-k.invariant.same
-      (rw (c.area_of-area.ensures.value, one_long) at c.add_any.ensures.map);
+  so_far = add_one_more c.args.samples.now.area c.loop-k.samples.area c.args.depth c.args.block.now (grid_blocks c.args.grid.now) (g.R.TransformResidues.residue c.args.residues.now c.args.plane (area c.args.block.now.tx)) c.loop-k.k
+      _ _ _ _ _ c.place.ensures.place (rw c.area_of-area.ensures.value at c.get-residue.ensures.value) c.loop-k.invariant.so_far c.loop-k.invariant.same c.add_any.ensures.map;
 }
 
 pub returns-clause-map : goal.returns-clause-map
-returns-clause-map c =
+returns-clause-map g c =
     let done : c.loop-k.k ≡ length (grid_blocks c.args.grid.now) = rw (length_grid c.args.grid.now) (omega (arith, c.loop-k-test.false, c.loop-k.auto.k-end, c.count-k-end.ensures.count)) in
     rw done at c.loop-k.invariant.so_far

@@ -1,7 +1,8 @@
 use Rattle.std.proofs.Common.{◌≡◌, ℕ, ◌+◌, ◌/◌, ◌<◌, ◌∙◌, ap, arith, get_or, take}
 use Rattle.vp9_tables.specs.Filters.{taps_of}
 use Rattle.inter_places.specs.Axes.{straight, offset, phase}
-use Rattle.inter_scaled.proofs.Agree.{filtered_same, part_is, along_is, offset_order}
+use Rattle.inter_places.proofs.Orders.{offset_order}
+use Rattle.inter_scaled.proofs.Agree.{filtered_same, part_is, along_is}
 use Rattle.inter_scaled.proofs.scaled.scale_line.Goals as goal
 
 pub scale_run-requires-clause-enough : goal.scale_run-requires-clause-enough

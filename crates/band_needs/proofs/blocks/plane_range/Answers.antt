@@ -1,0 +1,19 @@
+use Rattle.std.proofs.Common.{◌≡◌, ◌∙◌, sym, arith}
+use Rattle.band_needs.specs.Ranges.{both_ranges}
+use Rattle.band_needs.specs.Reads.{part_in}
+use Rattle.band_needs.specs.Needs.{part_range, with_part, plane_range}
+use Rattle.band_needs.proofs.RowLemmas.{fold_more}
+use Rattle.band_needs.proofs.blocks.plane_range.Goals as goal
+
+pub loop-number-preserved : goal.loop-number-preserved
+loop-number-preserved c = let a = c.args in let b = a.b.now in
+    c.with-range.ensures
+    ∙ ((λ i. both_ranges (c.loop-number.invariant i) (c.part_range.ensures i))
+    ∙ sym (fold_more (with_part b.shape.now a.reference.now b.block.now b.modes.now a.list a.plane)
+    (part_range b.shape.now a.reference.now b.block.now b.modes.now (part_in a.plane 0 a.list)) c.loop-number.number))
+
+pub returns : goal.returns
+unfolding plane_range
+returns c =
+    let done : c.loop-number.number ≡ c.part_count-count.result = omega (arith, c.loop-number-test.false, c.loop-number.auto.number-end) in
+    rw (done ∙ c.part_count-count.ensures) at c.loop-number.invariant

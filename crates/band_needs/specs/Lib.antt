@@ -1,0 +1,4 @@
+pub mod Ranges
+pub mod Reads
+pub mod Needs
+pub mod Code

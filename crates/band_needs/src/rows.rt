@@ -1,0 +1,54 @@
+//! Rows of a reference.
+
+ghost use Rattle.std.specs.Prelude.{◌≡◌, ◌<◌, ◌≤◌};
+ghost use Rattle.inter_places.specs.Axes.{IsAxis, IsPlace, first_place, last_place};
+ghost use Rattle.band_needs.specs.Reads.{band_height};
+ghost use Rattle.band_needs.specs.Needs.{place_range};
+
+use crate::ranges::BandRange;
+use inter_places::{Axis, Place, offset_of, straight};
+use vp9_types::{Plane, Shape};
+
+/// The first row that a block is predicted from.
+#[tactic(auto, using(crate::proofs::RowLemmas::first_is))]
+fn first_row(a: &Axis) -> u32
+    requires { IsAxis a.now }
+    ensures { result ≡ first_place a.now }
+{
+    straight(a, 0) as u32
+}
+
+/// The last row that so many samples are predicted from.
+#[tactic(auto, unfolding(inter_places::specs::Axes::place))]
+fn last_row(a: &Axis, count: usize) -> u32
+    requires axis { IsAxis a.now }
+    requires few { count ≤ 64 }
+    requires some { 0 < count }
+    ensures { result ≡ last_place a.now count }
+{
+    straight(a, offset_of(a, count - 1) / 16 + 7) as u32
+}
+
+/// How many rows of a plane a band has.
+fn band_height(shape: &Shape, plane: Plane) -> u32
+    ensures value { result ≡ band_height shape.now plane }
+    ensures some { 0 < result }
+{
+    if plane != Plane::Y && shape.ss_y {
+        32
+    } else {
+        64
+    }
+}
+
+/// The bands of a reference that a block of a plane is predicted from.
+pub(crate) fn place_range(reference: &Shape, at: &Place) -> BandRange
+    requires { IsPlace at.now }
+    ensures { result ≡ place_range (band_height reference.now at.now.plane) at.now }
+{
+    let height = band_height(reference, at.plane);
+    BandRange {
+        first: first_row(&at.down) / height,
+        last: last_row(&at.down, at.rows) / height,
+    }
+}
