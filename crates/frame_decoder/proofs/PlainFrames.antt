@@ -2,6 +2,7 @@
 use Rattle.std.proofs.Common.{◌≡◌, [], refl, ap}
 use Rattle.std.specs.Prelude.{Ok, Err}
 use Rattle.vp9_types.specs.Maps.{FrameMap}
+use Rattle.vp9_types.specs.Results.{map_ok}
 use Rattle.vp9_types.specs.declared.block.ReferenceFrame.{ReferenceFrame}
 use Rattle.vp9_types.specs.declared.rule.Rule.{Rule}
 use Rattle.planes.specs.Pictures.{blank}
@@ -10,7 +11,7 @@ use Rattle.loop_edges.specs.Edges.{filtered_frame}
 use Rattle.block_rebuild.specs.InterBlocks.{Rebuilding, ReferencePicture}
 use Rattle.frame_state.specs.Reading.{FrameInput, FrameRead, all_blocks, blocks_read, read_frame}
 use Rattle.frame_state.specs.Sources.{FrameSources}
-use Rattle.frame_decoder.specs.Frames.{FrameResult, decoded, raw, rebuilding}
+use Rattle.frame_decoder.specs.Frames.{FrameResult, decoded, raw, rebuilding, rebuilt}
 
 pub nothing_put : (put : Rebuilding) → raw put [] ≡ blank
 unfolding raw
@@ -24,6 +25,12 @@ pub frame_done : (references : ReferenceFrame → ReferencePicture) (f : FrameIn
     → read_frame f ≡ Ok (read, by) → raw (rebuilding by.header references) read.blocks ≡ m → decoded references f ≡ Ok (result_of read by m)
 unfolding decoded
 frame_done references f read by m reads put = rw reads (ap (λ m. Ok (result_of read by m)) put)
+
+-- a frame that is read is decoded
+pub frame_decodes : (references : ReferenceFrame → ReferencePicture) (f : FrameInput) (read : FrameRead) (by : FrameSources) → read_frame f ≡ Ok (read, by)
+    → decoded references f ≡ Ok (rebuilt references (read, by))
+unfolding decoded
+frame_decodes references f read by is = ap (map_ok (rebuilt references)) is
 
 pub frame_breaks : (references : ReferenceFrame → ReferencePicture) (f : FrameInput) (rule : Rule) → read_frame f ≡ Err rule → decoded references f ≡ Err rule
 unfolding decoded

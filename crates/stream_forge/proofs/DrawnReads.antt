@@ -1,7 +1,6 @@
 -- A drawn frame is read as it is drawn.
 use Rattle.std.proofs.Common.{◌≡◌, ◌∙◌, ℕ, List, refl, sym, ap, ◌⊎◌, inl, inr, subst}
 use Rattle.std.specs.Prelude.{IsOk, Option, Some, None, Result, Ok, Err}
-use Rattle.vp9_types.specs.Results.{map_ok}
 use Rattle.vp9_types.specs.declared.block.Modes.{Modes}
 use Rattle.vp9_types.specs.declared.job.Span.{Span}
 use Rattle.vp9_types.specs.declared.rule.Rule.{Rule}
@@ -12,8 +11,8 @@ use Rattle.frame_headers.specs.declared.header.Uncompressed.{Uncompressed}
 use Rattle.frame_headers.specs.declared.header.Uncompressed.TheVariants.{ShowExisting, Coded}
 use Rattle.frame_headers.specs.declared.persist.Persist.{Persist}
 use Rattle.prob_contexts.specs.Lists.{ContextLists, lists_of}
-use Rattle.frame_state.specs.Reading.{FrameInput, read_frame, FrameRead}
-use Rattle.frame_decoder.specs.Frames.{decoded, rebuilt}
+use Rattle.frame_state.specs.Reading.{read_frame}
+use Rattle.frame_decoder.specs.Frames.{decoded}
 use Rattle.frame_state.specs.Sources.{FramePast, FrameSources}
 use Rattle.frame_writer.specs.Bytes.{IsLaidOut, with_size}
 use Rattle.frame_writer.specs.Frames.{frame_told}
@@ -29,8 +28,7 @@ use Rattle.drawn_frames.specs.Symbols.{drawing}
 use Rattle.drawn_frames.specs.declared.symbols.DrawnSymbols.{DrawnSymbols}
 use Rattle.drawn_headers.specs.Code.{sized}
 use Rattle.drawn_headers.specs.Modes.{draw_modes}
-use Rattle.vp9_types.specs.declared.block.ReferenceFrame.{ReferenceFrame}
-use Rattle.block_rebuild.specs.InterBlocks.{ReferencePicture}
+use Rattle.frame_decoder.proofs.PlainFrames.{frame_decodes}
 use Rattle.seq_decoder.specs.After.{Stepped, after_coded, input_of, past_of, references_of, step}
 use Rattle.seq_decoder.specs.SavedContexts.{context_before, saved_before}
 use Rattle.seq_decoder.specs.State.{State, persist_of}
@@ -191,10 +189,6 @@ gives_unsized state choices header x (Err OutOfMemory) next gives = tt
 
 ---- A frame is decoded ----
 
-decodes : (references : ReferenceFrame → ReferencePicture) (f : FrameInput) (read : FrameRead) (by : FrameSources) → read_frame f ≡ Ok (read, by) → decoded references f ≡ Ok (rebuilt references (read, by))
-unfolding decoded
-decodes references f read by is = ap (map_ok (rebuilt references)) is
-
 -- it steps on, whatever its number
 record Steps (number : ℕ) (state : State) (bytes : List ℕ) : Type 0 where
   stepped : Stepped
@@ -204,7 +198,7 @@ steps_so : (number : ℕ) (state : State) (choices : Choices) (header : Uncompre
 steps_so number state choices (ShowExisting slot) x bytes next f = record { stepped = _; steps = step_is number state bytes (Ok (head.ShowExisting slot)) f.0 }
 steps_so number state choices (Coded header) x bytes next f =
     let own = with_size header f.size in
-    let done = decodes (references_of state.slots own.kind) (input_of state bytes own f.compressed) f.read (drawn_sources state own (draw_modes header x).0) f.reads in record {
+    let done = frame_decodes (references_of state.slots own.kind) (input_of state bytes own f.compressed) f.read (drawn_sources state own (draw_modes header x).0) f.reads in record {
       stepped = _;
       steps = step_is number state bytes (Ok (head.Coded own f.compressed)) f.head ∙ ap (after_coded number state own) done;
     }
