@@ -37,10 +37,11 @@ ReadsNoRowAbove f blocks sr = (m n : FrameMap) → AgreeFrom f.shape sr m n → 
 abbrev pub AgreeOver : Shape → ℕ → FrameMap → FrameMap → Type 0
 AgreeOver shape sr m n = (plane : Plane) (y x : ℕ) → first_changed shape plane sr ≤ y → y < lower_end_of shape plane sr → m plane y x ≡ n plane y x
 
--- Below its own rows it changes none either, and reads none.
+-- Below its own rows it changes none either.
 abbrev pub LeavesRowsBelow : EdgeSetting → List BlockInfo → ℕ → Type 0
 LeavesRowsBelow f blocks sr = (m : FrameMap) (plane : Plane) (y x : ℕ) → lower_end_of f.shape plane sr ≤ y → with_row f blocks m sr plane y x ≡ m plane y x
 
+-- What it makes of these rows depends on them alone.
 abbrev pub ReadsItsRowsAlone : EdgeSetting → List BlockInfo → ℕ → Type 0
 ReadsItsRowsAlone f blocks sr = (m n : FrameMap) → AgreeOver f.shape sr m n → AgreeOver f.shape sr (with_row f blocks m sr) (with_row f blocks n sr)
 
@@ -70,12 +71,12 @@ abbrev pub HoldsFinal : EdgeSetting → List BlockInfo → FrameMap → ℕ → 
 HoldsFinal f blocks raw sr m = (plane : Plane) (y x : ℕ) → first_changed f.shape plane sr ≤ y → y < final_end f.shape plane sr →
     m plane y x ≡ filtered_frame f blocks raw plane y x
 
--- the pending rows of the next row of superblocks, and the rows that are final from now on
+-- the pending rows of the next row of superblocks, and those that are final from now on
 pub record FollowsOn (f : EdgeSetting) (blocks : List BlockInfo) (raw : FrameMap) (sr : ℕ) (m : FrameMap) : Type 0 where
   pub pending : HoldsPending f blocks raw (sr + 1) m
   pub final : HoldsFinal f blocks raw sr m
 
--- whatever the frame was before the filter: where m has its pending rows and the row's own samples, n follows on
+-- whatever the frame was before the filter: if m has the pending rows and the row's own samples of it, n follows on
 abbrev pub IsNextOf : EdgeSetting → List BlockInfo → ℕ → FrameMap → FrameMap → Type 0
 IsNextOf f blocks sr m n = (raw : FrameMap) → HoldsPending f blocks raw sr m → HoldsStrips f.shape raw sr m → FollowsOn f blocks raw sr n
 

@@ -19,7 +19,7 @@ pub fn rows_follow_one_another()
 {}
 
 /// So a frame can be filtered in a buffer that has the rows of one row of superblocks at a time, and those above them that are
-/// pending: neither row of samples above these nor one below the row is read or changed.
+/// pending: no row of samples above these or below that row is read or changed.
 #[tactic(auto, using(crate::proofs::FinalRows::leaves_below, crate::proofs::FinalRows::reads_its_rows, crate::proofs::Following::bands_are_final))]
 pub fn a_buffer_of_one_row_is_enough()
     ensures leaves { (f : EdgeSetting) (blocks : List BlockInfo) (sr : ℕ) → LeavesRowsBelow f blocks sr }
