@@ -103,7 +103,7 @@ pub no_rows : (f : EdgeSetting) (blocks : List BlockInfo) (raw m : FrameMap) →
 no_rows f blocks raw m plane y x low = elim (cases_lt 0 (superblocks_along (mi_rows f.shape))) [
   | inl some ↦ absurd (starts_by (sub_y f.shape plane) y (rw (lt-ltb 0 (superblocks_along (mi_rows f.shape)) some) at low))
   | inr none ↦ absurd (ends_by (sub_y f.shape plane) (coded_height f.shape plane) (mi_rows f.shape) y (sides.high f.shape plane) none
-    (rw (le-ltb 0 (superblocks_along (mi_rows f.shape)) none) at low))
+      (rw (le-ltb 0 (superblocks_along (mi_rows f.shape)) none) at low))
 ]
 
 last_end : (sub : Bool) (end places sr : ℕ) → end ≡ halved sub (8 * places) → superblocks_along places ≤ sr + 1 → end ≤ min end (halved sub (64 * (sr + 1)))
