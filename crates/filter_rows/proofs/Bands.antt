@@ -33,7 +33,7 @@ bands_are_rows shape plane band y =
     let is = rows_of_band shape plane band in
     record {
       own = λ row. record { from = omega (arith, row.from, row.to, is.first_is); to = omega (arith, row.from, row.to, is.below_is) };
-      band = λ own. record { from = omega (arith, own.from, own.to, is.first_is, is.below_is); to = omega (arith, own.from, own.to, is.first_is, is.below_is) };
+      back = λ own. record { from = omega (arith, own.from, own.to, is.first_is, is.below_is); to = omega (arith, own.from, own.to, is.first_is, is.below_is) };
     }
 
 -- the eight last rows of a band come with the next row of superblocks

@@ -20,7 +20,7 @@ pub record BecomesFinal (shape : Shape) (plane : Plane) (sr y : ℕ) : Type 0 wh
 -- A band has the rows of the row of superblocks with its number.
 pub record BandsAreRows (shape : Shape) (plane : Plane) (band y : ℕ) : Type 0 where
   pub own : IsRowOf shape plane band y → IsOwnRow shape plane band y
-  pub band : IsOwnRow shape plane band y → IsRowOf shape plane band y
+  pub back : IsOwnRow shape plane band y → IsRowOf shape plane band y
 
 -- Each becomes final when that row of superblocks is filtered, or when the next one is: the last band is whole with its own.
 abbrev pub BandIsWhole : Shape → Plane → ℕ → ℕ → Type 0

@@ -1,6 +1,6 @@
 //! Who has the samples before the filter, and who gets those behind it.
 
-ghost use Rattle.std.specs.Prelude.{◌≡◌, ◌<◌, ℕ};
+ghost use Rattle.std.specs.Prelude.{◌≡◌, ◌<◌, ◌+◌, ℕ};
 ghost use Rattle.vp9_types.specs.Maps.{FrameMap, IsAtMost};
 ghost use Rattle.vp9_types.specs.Shapes.{mi_rows};
 ghost use Rattle.vp9_types.specs.Sizes.{greatest, superblocks_along};

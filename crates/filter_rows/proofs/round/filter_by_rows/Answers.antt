@@ -4,7 +4,7 @@ use Rattle.filter_rows.proofs.round.filter_by_rows.Goals as goal
 
 pub loop-sr-init : goal.loop-sr-init
 loop-sr-init g c = let a = c.args in record {
-  awaits = c.new_buffer-planes.ensures.first a.f.now (g.N.Neighbours.blocks a.blocks.now) (g.S.Strips.raw a.strips.now) refl;
+  awaits = c.in_ok-planes.ensures.first a.f.now (g.N.Neighbours.blocks a.blocks.now) (g.S.Strips.raw a.strips.now) refl;
   comes = c.requires.awaits;
   so = no_rows a.f.now (g.N.Neighbours.blocks a.blocks.now) (g.S.Strips.raw a.strips.now) (g.T.TakesRows.map a.to.now);
 }

@@ -6,11 +6,11 @@ use Rattle.filter_rows.proofs.round.filter_next_row.Goals as goal
 pub put_row-requires-clause-room : goal.put_row-requires-clause-room
 put_row-requires-clause-room g c = let a = c.args in room_for a.f.now.shape Y a.sr a.planes.now.y.area c.requires.awaits.place.y
 
-pub put_row-2-requires-clause-room : goal.put_row-2-requires-clause-room
-put_row-2-requires-clause-room g c = let a = c.args in room_for a.f.now.shape U a.sr a.planes.now.u.area c.requires.awaits.place.u
+pub put_row-requires-2-clause-room : goal.put_row-requires-2-clause-room
+put_row-requires-2-clause-room g c = let a = c.args in room_for a.f.now.shape U a.sr a.planes.now.u.area c.requires.awaits.place.u
 
-pub put_row-3-requires-clause-room : goal.put_row-3-requires-clause-room
-put_row-3-requires-clause-room g c = let a = c.args in room_for a.f.now.shape V a.sr a.planes.now.v.area c.requires.awaits.place.v
+pub put_row-requires-3-clause-room : goal.put_row-requires-3-clause-room
+put_row-requires-3-clause-room g c = let a = c.args in room_for a.f.now.shape V a.sr a.planes.now.v.area c.requires.awaits.place.v
 
 pub filter_next-requires-clause-rows : goal.filter_next-requires-clause-rows
 filter_next-requires-clause-rows g c = let a = c.args in
