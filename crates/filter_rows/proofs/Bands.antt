@@ -1,15 +1,15 @@
 -- The rows of a band.
-use Rattle.std.proofs.Common.{◌≡◌, ◌<◌, ◌≤◌, ◌+◌, ◌*◌, ◌-◌, ◌⊎◌, inl, inr, ℕ, Bool, true, false, refl, arith, ltb, cond, min}
+use Rattle.std.proofs.Common.{◌≡◌, ◌<◌, ◌≤◌, ◌+◌, ◌*◌, ◌-◌, inl, inr, ℕ, Bool, true, false, refl, arith, min}
 use Rattle.std.proofs.lemmas.Bool.{cases_lt, lt-ltb, le-ltb}
 use Rattle.vp9_types.specs.Shapes.{halved, mi_rows, coded_height}
 use Rattle.vp9_types.specs.Sizes.{superblocks_along}
 use Rattle.vp9_types.specs.declared.shape.Plane.{Plane}
 use Rattle.vp9_types.specs.declared.shape.Plane.TheVariants.{Y, U, V}
 use Rattle.vp9_types.specs.declared.shape.Shape.{Shape}
-use Rattle.band_cells.specs.Bands.{IsRowOf, band_height, first_row, band_rows}
+use Rattle.band_cells.specs.Bands.{band_height}
 use Rattle.loop_edges.specs.Cells.{sub_y}
 use Rattle.loop_filter.specs.Laws.{first_changed, first_own, lower_end_of, final_end}
-use Rattle.filter_rows.specs.Laws.{IsOwnRow, BecomesFinal, BandsAreRows, BandIsWhole}
+use Rattle.filter_rows.specs.Laws.{IsOwnRow, BandsAreRows, BandIsWhole}
 
 same_height : (shape : Shape) (plane : Plane) → band_height shape plane ≡ halved (sub_y shape plane) 64
 same_height shape Y = refl

@@ -1,8 +1,8 @@
 -- What the buffer has while a row of superblocks is put in and filtered, and when it moves on.
-use Rattle.std.proofs.Common.{◌≡◌, ◌<◌, ◌≤◌, ◌+◌, ◌*◌, ◌-◌, inl, inr, ℕ, Bool, true, false, cond, ltb, refl, sym, ◌∙◌, arith, List, min, subst}
+use Rattle.std.proofs.Common.{◌≡◌, ◌<◌, ◌≤◌, ◌+◌, ◌*◌, ◌-◌, inl, inr, ℕ, Bool, true, false, sym, ◌∙◌, arith, List, min, subst}
 use Rattle.std.specs.Prelude.{nat_lt, if◌then◌else◌}
 use Rattle.std.proofs.lemmas.Bool.{cases_lt, lt-ltb, le-ltb}
-use Rattle.vp9_types.specs.Maps.{Map, FrameMap, IsAtMost, frame_map}
+use Rattle.vp9_types.specs.Maps.{Map, FrameMap, IsAtMost}
 use Rattle.vp9_types.specs.Shapes.{halved, mi_rows, coded_height}
 use Rattle.vp9_types.specs.Sizes.{greatest, superblocks_along}
 use Rattle.vp9_types.specs.declared.shape.Plane.{Plane}
@@ -14,11 +14,11 @@ use Rattle.planes.specs.Pictures.{IsInRange, samples_of, blank}
 use Rattle.planes.specs.declared.frame_planes.FramePlanes.{FramePlanes}
 use Rattle.planes.proofs.PictureLemmas.{blank_in_range}
 use Rattle.loop_edges.specs.Cells.{sub_y}
-use Rattle.loop_edges.specs.Edges.{filtered_before, filtered_frame}
+use Rattle.loop_edges.specs.Edges.{filtered_frame}
 use Rattle.loop_edges.specs.declared.setting.EdgeSetting.{EdgeSetting}
 use Rattle.loop_filter.proofs.Sides as sides
 use Rattle.loop_filter.specs.Code.{HasAreasOf}
-use Rattle.loop_filter.specs.Laws.{first_changed, first_own, lower_end_of, final_end, HoldsPending, HoldsStrips, FollowsOn, IsNextOf}
+use Rattle.loop_filter.specs.Laws.{first_changed, final_end, FollowsOn, IsNextOf}
 use Rattle.filter_rows.specs.Buffer.{StandsAt, AwaitsRow, HasFiltered}
 use Rattle.filter_rows.specs.Code.{HasPut, KeepsPending, HasTaken}
 

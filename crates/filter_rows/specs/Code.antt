@@ -1,5 +1,5 @@
 -- What is put into the buffer, and what is taken out of it.
-use Rattle.std.specs.Prelude.{ℕ, ◌+◌, ◌<◌, ◌≤◌, ◌≡◌}
+use Rattle.std.specs.Prelude.{ℕ, ◌<◌, ◌≤◌, ◌≡◌}
 use Rattle.vp9_types.specs.declared.shape.Plane.{Plane}
 use Rattle.vp9_types.specs.declared.shape.Shape.{Shape}
 use Rattle.vp9_types.specs.Maps.{Map, FrameMap}

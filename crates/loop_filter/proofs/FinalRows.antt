@@ -1,5 +1,5 @@
 -- What edges leave, and what they read.
-use Rattle.std.proofs.Common.{◌≡◌, ◌<◌, ◌≤◌, ◌+◌, ◌*◌, ◌-◌, ◌⊎◌, inl, inr, ℕ, zero, suc, Bool, true, false, cond, refl, sym, ◌∙◌, arith, ap, List, [], ◌∷◌, ◌++◌, ◌&&◌, ◌||◌, map, min, nat_eq, subst}
+use Rattle.std.proofs.Common.{◌≡◌, ◌<◌, ◌≤◌, ◌+◌, ◌*◌, ◌-◌, ◌⊎◌, inl, inr, ℕ, zero, suc, Bool, true, false, cond, refl, sym, ◌∙◌, arith, ap, List, [], ◌∷◌, ◌++◌, ◌||◌, map, min, nat_eq, subst}
 use Rattle.std.specs.Prelude.{not, Option, Some, None, if◌then◌else◌}
 use Rattle.std.specs.List.{range_with_len, flat_map, fold}
 use Rattle.std.proofs.Math.Path.{fun_ext}

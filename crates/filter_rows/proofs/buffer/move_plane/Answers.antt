@@ -1,4 +1,4 @@
-use Rattle.std.proofs.Common.{◌∙◌, ◌+◌, refl, arith}
+use Rattle.std.proofs.Common.{◌∙◌, ◌+◌, refl}
 use Rattle.filter_rows.proofs.Places.{moves_down, pending_from, pending_to}
 use Rattle.filter_rows.proofs.buffer.move_plane.Goals as goal
 

@@ -1,5 +1,5 @@
 use Rattle.std.proofs.Common.{refl, arith}
-use Rattle.filter_rows.proofs.Rounds.{no_rows, one_row_more, all_rows}
+use Rattle.filter_rows.proofs.Rounds.{no_rows, one_row_more}
 use Rattle.filter_rows.proofs.round.filter_by_rows.Goals as goal
 
 pub loop-sr-init : goal.loop-sr-init
