@@ -126,7 +126,3 @@ one_row_more f blocks raw sr m old new inside so follows took plane y x low = el
   | inl above ↦ took.above plane y x above ∙ so plane y x (rw (lt-ltb sr (superblocks_along (mi_rows f.shape)) inside) above)
   | inr from ↦ let end = ends_with f plane sr y low in took.taken plane y x from end ∙ follows.final plane y x from end
 ]
-
-pub all_rows : (f : EdgeSetting) (blocks : List BlockInfo) (raw m : FrameMap) (sr : ℕ) → superblocks_along (mi_rows f.shape) ≤ sr → HasRows f blocks raw sr m
-    → (plane : Plane) (y x : ℕ) → y < coded_height f.shape plane → m plane y x ≡ filtered_frame f blocks raw plane y x
-all_rows f blocks raw m sr last so plane y x low = so plane y x (rw (le-ltb sr (superblocks_along (mi_rows f.shape)) last) low)
