@@ -2,3 +2,4 @@ pub mod Sides
 pub mod Walks
 pub mod Frames
 pub mod FinalRows
+pub mod Following

@@ -55,36 +55,36 @@ narrowed_four : (t : Bool) (w : FilterWidth) → Some (if t then Eight else Four
 narrowed_four true w is = rw (sym (same_width Eight w is)) refl
 narrowed_four false w is = rw (sym (same_width Four w is)) refl
 
-narrowed : (tx : TxSize) (z : Crossing) (w : FilterWidth) → outer_width tx z ≡ Some w → z.is_last ≡ true → reach w ≡ 4
+pub narrowed : (tx : TxSize) (z : Crossing) (w : FilterWidth) → outer_width tx z ≡ Some w → z.is_last ≡ true → reach w ≡ 4
 narrowed T32x32 z w is last = narrowed_if (nat_eq (z.k % 4) 0) z w is last
 narrowed T16x16 z w is last = narrowed_if (nat_eq (z.k % 2) 0) z w is last
 narrowed T8x8 z w is last = rw (sym (same_width Eight w is)) refl
 narrowed T4x4 z w is last = narrowed_four (nat_eq (z.k % 4) 0) w is
 
-not_first : (p f : Bool) (o : Option FilterWidth) (w : FilterWidth) → (if p && not f then o else None) ≡ Some w → f ≡ false
+pub not_first : (p f : Bool) (o : Option FilterWidth) (w : FilterWidth) → (if p && not f then o else None) ≡ Some w → f ≡ false
 not_first true false o w is = refl
 not_first true true o w is = let no : ⊥ = cc in absurd no
 not_first false f o w is = let no : ⊥ = cc in absurd no
 
-there : (p f : Bool) (o : Option FilterWidth) (w : FilterWidth) → (if p && not f then o else None) ≡ Some w → o ≡ Some w
+pub there : (p f : Bool) (o : Option FilterWidth) (w : FilterWidth) → (if p && not f then o else None) ≡ Some w → o ≡ Some w
 there true false o w is = is
 there true true o w is = let no : ⊥ = cc in absurd no
 there false f o w is = let no : ⊥ = cc in absurd no
 
-later : (n : ℕ) → nat_eq n 0 ≡ false → 0 < n
+pub later : (n : ℕ) → nat_eq n 0 ≡ false → 0 < n
 later n is = grind (arith, nat_tests)
 
 -- a whole cell is in a plane's height or width
-whole_side : (sub : Bool) (n end : ℕ) → n < end → (sub && nat_eq (n + 1) end) ≡ false → halved sub (8 * n) + 8 ≤ halved sub (8 * end)
+pub whole_side : (sub : Bool) (n end : ℕ) → n < end → (sub && nat_eq (n + 1) end) ≡ false → halved sub (8 * n) + 8 ≤ halved sub (8 * end)
 whole_side false n end low last = omega arith
 whole_side true n end low last = let other : n + 1 < end = grind (arith, nat_tests) in omega (arith, other)
 
-half_side : (sub : Bool) (n end : ℕ) → n < end → halved sub (8 * n) + 4 ≤ halved sub (8 * end)
+pub half_side : (sub : Bool) (n end : ℕ) → n < end → halved sub (8 * n) + 4 ≤ halved sub (8 * end)
 half_side false n end low = omega arith
 half_side true n end low = omega arith
 
 -- how far a filter looks beyond the edge
-reached : (sub : Bool) (n end : ℕ) (w : FilterWidth) → n < end → ((sub && nat_eq (n + 1) end) ≡ true → reach w ≡ 4) → halved sub (8 * n) + reach w ≤ halved sub (8 * end)
+pub reached : (sub : Bool) (n end : ℕ) (w : FilterWidth) → n < end → ((sub && nat_eq (n + 1) end) ≡ true → reach w ≡ 4) → halved sub (8 * n) + reach w ≤ halved sub (8 * end)
 reached sub n end w low last = elim (cases_Bool (sub && nat_eq (n + 1) end)) [
   | inl one ↦ omega (arith, last one, half_side sub n end low)
   | inr none ↦ omega (arith, reach_low w, whole_side sub n end low none)
@@ -135,7 +135,7 @@ side_fits shape way b a at limits (Some w) so is =
     (not_first p z.is_first (outer_width (tx_in shape b way.plane) z) w (sym is))
     (narrowed (tx_in shape b way.plane) z w (there p z.is_first (outer_width (tx_in shape b way.plane) z) w (sym is)))
 
-last_of : (p q r s : Bool) → (p && q && not r && not s) ≡ true → s ≡ false
+pub last_of : (p q r s : Bool) → (p && q && not r && not s) ≡ true → s ≡ false
 last_of true true false false is = refl
 last_of true true false true is = let no : ⊥ = cc in absurd no
 last_of true true true s is = let no : ⊥ = cc in absurd no

@@ -23,7 +23,7 @@ pub(crate) fn sub_x(shape: &Shape, plane: Plane) -> bool
 
 /// Whether a plane has half of the luma's rows.
 #[inline(always)]
-pub(crate) fn sub_y(shape: &Shape, plane: Plane) -> bool
+pub fn sub_y(shape: &Shape, plane: Plane) -> bool
     ensures { result ≡ sub_y shape.now plane }
 {
     plane != Plane::Y && shape.ss_y

@@ -1,0 +1,8 @@
+use Rattle.filter_rows.proofs.Bands.{bands_are_rows, band_is_whole}
+use Rattle.filter_rows.proofs.laws.bands_become_final.Goals as goal
+
+pub returns-clause-rows : goal.returns-clause-rows
+returns-clause-rows c = bands_are_rows
+
+pub returns-clause-whole : goal.returns-clause-whole
+returns-clause-whole c = band_is_whole

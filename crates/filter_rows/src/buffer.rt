@@ -1,0 +1,77 @@
+//! The buffer: where it stands in a frame, and how it moves.
+
+ghost use Rattle.std.specs.Prelude.{◌≡◌, ◌<◌, ◌+◌, ℕ, List, IfOk};
+ghost use Rattle.vp9_types.specs.Maps.{FrameMap, IsAtMost};
+ghost use Rattle.vp9_types.specs.Shapes.{mi_rows};
+ghost use Rattle.vp9_types.specs.Sizes.{superblocks_along};
+ghost use Rattle.block_plan.specs.declared.block.BlockInfo.{BlockInfo};
+ghost use Rattle.planes.specs.Planes.{IsArea, plane_map};
+ghost use Rattle.planes.specs.Pictures.{FitsPlanes, samples_of, blank};
+ghost use Rattle.loop_edges.specs.declared.setting.EdgeSetting.{EdgeSetting};
+ghost use Rattle.filter_rows.specs.Buffer.{buffer_area, StandsAt, AwaitsRow, HasFiltered};
+ghost use Rattle.filter_rows.specs.Code.{KeepsPending};
+
+use loop_filter::sub_y;
+use planes::{Area, FramePlanes, SamplePlane, coded_area};
+use std::alloc::{AllocError, Global};
+use vp9_types::{Plane, Shape, halved};
+
+// Where the buffer of a plane stands at a row of superblocks, or behind the last one.
+fn buffer_area(shape: &Shape, plane: Plane, sr: u32) -> Area
+    requires { FitsPlanes shape.now }
+    ensures value { result ≡ buffer_area shape.now plane sr }
+    ensures near { IsArea result }
+{
+    let whole = coded_area(shape, plane);
+    let ss_y = sub_y(shape, plane);
+    let rows = whole.rows.min(halved(ss_y, 64) + 8);
+    let changed = halved(ss_y, 64 * (sr as usize)).saturating_sub(8);
+    Area {
+        first_row: changed.min(whole.rows - rows),
+        first_column: 0,
+        rows,
+        columns: whole.columns,
+    }
+}
+
+/// A buffer for frames of a shape, at the first row of superblocks: none is pending.
+pub fn new_buffer(alloc: Global, shape: &Shape) -> Result<FramePlanes, AllocError>
+    requires { FitsPlanes shape.now }
+    ensures place { IfOk result (λ planes. StandsAt shape.now 0 planes) }
+    ensures zero { IfOk result (λ planes. samples_of planes ≡ blank) }
+    ensures first { IfOk result (λ planes. (f : EdgeSetting) (blocks : List BlockInfo) (raw : FrameMap) → f.shape ≡ shape.now → AwaitsRow f blocks raw 0 planes) }
+{
+    Ok(FramePlanes {
+        y: SamplePlane::new(alloc, buffer_area(shape, Plane::Y, 0))?,
+        u: SamplePlane::new(alloc, buffer_area(shape, Plane::U, 0))?,
+        v: SamplePlane::new(alloc, buffer_area(shape, Plane::V, 0))?,
+    })
+}
+
+// Moves a plane of the buffer down to the next row of superblocks.
+fn move_plane(samples: &mut SamplePlane, shape: &Shape, plane: Plane, sr: u32)
+    requires size { FitsPlanes shape.now }
+    requires row { sr < superblocks_along (mi_rows shape.now) }
+    requires place { samples.old.area ≡ buffer_area shape.now plane sr }
+    ensures place { samples.new.area ≡ buffer_area shape.now plane (sr + 1) }
+    ensures kept { KeepsPending shape.now plane (sr + 1) (plane_map samples.old) (plane_map samples.new) }
+    ensures range { (most : ℕ) → IsAtMost most (plane_map samples.old) → IsAtMost most (plane_map samples.new) }
+{
+    let next = buffer_area(shape, plane, sr + 1);
+    samples.move_down(next.first_row);
+}
+
+/// Moves the buffer down to the next row of superblocks, once the rows that are final are taken out. Behind the last row it
+/// moves to the end of the frame.
+pub fn move_to_next(planes: &mut FramePlanes, shape: &Shape, sr: u32)
+    requires size { FitsPlanes shape.now }
+    requires row { sr < superblocks_along (mi_rows shape.now) }
+    requires place { StandsAt shape.now sr planes.old }
+    ensures place { StandsAt shape.now (sr + 1) planes.new }
+    ensures next { (f : EdgeSetting) (blocks : List BlockInfo) (raw : FrameMap) → f.shape ≡ shape.now →
+        HasFiltered f blocks raw sr planes.old → AwaitsRow f blocks raw (sr + 1) planes.new }
+{
+    move_plane(&mut planes.y, shape, Plane::Y, sr);
+    move_plane(&mut planes.u, shape, Plane::U, sr);
+    move_plane(&mut planes.v, shape, Plane::V, sr);
+}

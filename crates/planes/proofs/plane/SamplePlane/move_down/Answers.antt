@@ -1,0 +1,17 @@
+use Rattle.std.proofs.Common.{◌≡◌, ◌-◌, ◌*◌, arith, rules, length, min}
+use Rattle.planes.proofs.MovedLemmas.{is_moved, rows_kept, moved_small}
+use Rattle.planes.proofs.plane.SamplePlane.move_down.Goals as goal
+
+pub returns-clause-kept : goal.returns-clause-kept
+returns-clause-kept c = let a = c.args in let s = c.self.inside in
+    let at : c.min-left_out.result ≡ min ((a.first_row - s.area.first_row) * s.area.columns) (length s.samples.items) = omega arith in
+    rw (← c.self.view_is) (rows_kept s.area s.samples.items c.copy_within.new.self.items a.first_row c.self.invariant.1
+    (is_moved s.samples.items c.copy_within.new.self.items c.min-left_out.result _ s.samples.len at (search rules) c.copy_within.ensures.by_index.0 c.copy_within.ensures.by_index.2)
+    (rw (← c.self.view_is) at c.requires.down))
+
+pub returns-clause-range : goal.returns-clause-range
+returns-clause-range c = let a = c.args in let s = c.self.inside in
+    let at : c.min-left_out.result ≡ min ((a.first_row - s.area.first_row) * s.area.columns) (length s.samples.items) = omega arith in
+    rw (← c.self.view_is) (λ most small. moved_small s.area s.samples.items c.copy_within.new.self.items a.first_row most
+    (is_moved s.samples.items c.copy_within.new.self.items c.min-left_out.result _ s.samples.len at (search rules) c.copy_within.ensures.by_index.0 c.copy_within.ensures.by_index.2)
+    (rw (← c.self.view_is) at c.requires.down) small)
