@@ -8,8 +8,11 @@ use Rattle.vp9_types.specs.declared.shape.Plane.TheVariants.{Y, U, V}
 use Rattle.vp9_types.specs.declared.shape.Shape.{Shape}
 use Rattle.band_cells.specs.Bands.{band_height}
 use Rattle.loop_edges.specs.Cells.{sub_y}
+use Rattle.loop_filter.proofs.Following.{whole_rows}
+use Rattle.loop_filter.proofs.Sides as sides
+use Rattle.filter_rows.proofs.Places.{pending_from, pending_to}
 use Rattle.loop_filter.specs.Laws.{first_changed, first_own, lower_end_of, final_end}
-use Rattle.filter_rows.specs.Laws.{IsOwnRow, BandsAreRows, BandIsWhole}
+use Rattle.filter_rows.specs.Laws.{IsOwnRow, BandsAreRows, BandIsWhole, FinalRowIsHeld}
 
 same_height : (shape : Shape) (plane : Plane) → band_height shape plane ≡ halved (sub_y shape plane) 64
 same_height shape Y = refl
@@ -66,3 +69,18 @@ band_is_whole shape plane band y row =
         | inr later ↦ inr (more, record { from = later; to = last_comes shape plane band y later own })
       ]
     ]
+
+ends_low : (shape : Shape) (plane : Plane) (sr y : ℕ) → y < final_end shape plane sr → y < lower_end_of shape plane sr
+ends_low shape plane sr y high = elim (cases_lt (sr + 1) (superblocks_along (mi_rows shape))) [
+  | inl more ↦ whole_rows (sub_y shape plane) sr (mi_rows shape) (coded_height shape plane) y more (sides.high shape plane) (rw (lt-ltb (sr + 1) (superblocks_along (mi_rows shape)) more) at high)
+  | inr last ↦ rw (le-ltb (sr + 1) (superblocks_along (mi_rows shape)) last) at high
+]
+
+-- what becomes final is in the buffer
+pub final_rows_held : (shape : Shape) (plane : Plane) (sr y : ℕ) → FinalRowIsHeld shape plane sr y
+final_rows_held shape plane sr y is = record {
+  above = pending_from shape plane sr y is.from;
+  below = pending_to shape plane sr y (ends_low shape plane sr y is.to);
+  left = omega arith;
+  right = omega arith;
+}

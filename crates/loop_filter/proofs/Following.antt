@@ -49,7 +49,7 @@ changed_rise true sr y low = omega (arith, low)
 changed_rise false sr y low = omega (arith, low)
 
 -- but for the last one, a row of superblocks lies in the frame whole
-whole_rows : (sub : Bool) (sr places end y : ℕ) → sr + 1 < superblocks_along places → end ≡ halved sub (8 * places) → y < halved sub (64 * (sr + 1)) - 8
+pub whole_rows : (sub : Bool) (sr places end y : ℕ) → sr + 1 < superblocks_along places → end ≡ halved sub (8 * places) → y < halved sub (64 * (sr + 1)) - 8
     → y < min end (halved sub (64 * (sr + 1)))
 whole_rows true sr places end y more is low = omega (arith, more, is, low)
 whole_rows false sr places end y more is low = omega (arith, more, is, low)
