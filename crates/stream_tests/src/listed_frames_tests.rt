@@ -3,7 +3,7 @@
 ghost use Rattle.std.specs.Prelude.{◌≡◌, None, Ok};
 ghost use Rattle.seq_decoder.specs.Code.{MayDecode};
 
-mod rows;
+pub mod rows;
 mod rows_of_vectors;
 
 use block_plan::{IntraPrediction, Mv, References};

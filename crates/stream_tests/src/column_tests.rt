@@ -1,0 +1,58 @@
+//! Tile columns of worked files, read by themselves.
+
+use crate::listed_frames_tests::Row;
+use crate::listed_frames_tests::rows::ROWS;
+use frame_headers::{FrameHead, Persist, read};
+use frame_state::{FramePast, FrameSources, begin_frame};
+use prob_contexts::default_contexts;
+use segment_map::SegmentMap;
+use std::alloc::Global;
+use std::test::Fail;
+use tile_syntax::{ColumnPlan, Unplanned, column};
+
+// How many blocks the first tile column of a key frame says, or nothing if it breaks a rule.
+fn blocks_of(alloc: Global, bytes: &[u8]) -> Result<Option<usize>, Fail> {
+    let Ok(FrameHead::Coded { header, compressed }) = read(bytes, &Persist::START) else {
+        return Ok(None);
+    };
+    let contexts = default_contexts();
+    let Ok(setting) = begin_frame(bytes, &header, compressed, &contexts) else {
+        return Ok(None);
+    };
+    let segments = SegmentMap::new(alloc, setting.places.rows, setting.places.cols)?;
+    let past = FramePast {
+        contexts: &contexts,
+        segments: &segments,
+        vectors: None,
+    };
+    let by = FrameSources { setting, past };
+    let mut plan = ColumnPlan::new(alloc, &by.setting, 0)?;
+    match column(&mut plan, alloc, bytes, &by, compressed, 0) {
+        Ok(_) => Ok(Some(plan.column.grid.blocks().len())),
+        Err(Unplanned::Broken(..)) => Ok(None),
+        Err(Unplanned::OutOfMemory) => Err(Fail::new("no memory")),
+    }
+}
+
+// How many of these files begin with a key frame whose blocks are as many as they are to be, and how many don't.
+fn counted(alloc: Global, rows: &[Row]) -> Result<(usize, usize), Fail> {
+    let (mut right, mut wrong) = (0usize, 0usize);
+    for row in rows {
+        for frame in row.frames.get(0) {
+            match blocks_of(alloc, frame.bytes)? {
+                Some(count) if count == frame.blocks.len() => right += 1,
+                Some(_) => wrong += 1,
+                None => {}
+            }
+        }
+    }
+    Ok((right, wrong))
+}
+
+#[test]
+fn blocks_are_as_many(rt: HostRuntime) -> Result<(), Fail> {
+    let (right, wrong) = counted(rt.alloc(), &ROWS)?;
+    assert!(rt; right > 9);
+    assert_eq!(rt; wrong, 0);
+    Ok(())
+}
