@@ -84,7 +84,11 @@ pub fn decode_frame(
     let planes = picture.planes_mut();
     let counts = decode_counted(bytes, &by, compressed, columns, planes, none)?;
     let blocks = FrameBlocks::new(&setting.header, columns);
-    filter_frame(picture.planes_mut(), &EdgeSetting::new(&setting.header), &blocks);
+    filter_frame(
+        picture.planes_mut(),
+        &EdgeSetting::new(&setting.header),
+        &blocks,
+    );
     Ok(Decoded {
         contexts: by.reading.setting.contexts,
         columns: replace(columns, Vec::new(alloc)),

@@ -9,8 +9,8 @@ ghost use Rattle.seq_decoder.specs.SavedContexts.{kind_of, own_contexts};
 
 use backward_adapt::{AdaptKind, InterKind, adapt};
 use frame_decoder::Decoded;
-use frame_state::adapts;
 use frame_headers::{FrameKind, Header};
+use frame_state::adapts;
 use prob_contexts::Contexts;
 
 /// A decoded frame: what it leaves beside its samples, and their place in the table of pictures.

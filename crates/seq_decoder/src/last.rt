@@ -3,8 +3,8 @@
 ghost use Rattle.std.specs.Prelude.{◌≡◌, Some};
 ghost use Rattle.frame_state.specs.Columns.{AreColumnsOf};
 
-use frame_state::TileColumn;
 use frame_headers::Header;
+use frame_state::TileColumn;
 use std::mem::replace;
 
 /// The last decoded frame: its header, and its blocks by tile column.

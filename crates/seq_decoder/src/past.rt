@@ -16,8 +16,8 @@ ghost use Rattle.seq_decoder.specs.State.{Picture as Shown, last_is_key};
 
 use crate::last::LastFrame;
 use block_rebuild::{Rebuilding, ReferencePicture};
-use frame_state::FrameBlocks;
 use frame_headers::{FrameKind, Header, Reference};
+use frame_state::FrameBlocks;
 use picture_table::PictureTable;
 use planes::Picture;
 

@@ -9,8 +9,8 @@ ghost use Rattle.seq_decoder.specs.State.{State};
 ghost use Rattle.stream_forge.specs.Code.{GivesBehind};
 
 use crate::past::{fresh_segments, segments_for};
-use frame_state::FramePast;
 use frame_headers::Header;
+use frame_state::FramePast;
 use frame_writer::{FrameSymbols, FrameToWrite, NotWritten, Written, write_frame};
 use header_writer::Choices;
 use seq_decoder::{Decoder, place_of, vectors_before};

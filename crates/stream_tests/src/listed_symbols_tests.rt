@@ -1,12 +1,12 @@
 //! Lists that can be told, and lists that can't.
 
 use block_plan::{BlockInfo, IntraPrediction, Prediction};
-use frame_state::{FramePast, FrameSources};
 use frame_headers::{
     ColorConfig, Features, FrameContexts, FrameKind, FrameParams, FrameSize, Header, LoopDeltas,
     LoopFilter, Quantizer, Segmentation, TileInfo,
 };
 use frame_setting::FrameSetting;
+use frame_state::{FramePast, FrameSources};
 use frame_writer::FrameSymbols;
 use inter_modes::{BlockStart, SegmentOf};
 use inter_writer::{BlockSymbols, PredictionSymbols};
