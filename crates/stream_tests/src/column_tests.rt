@@ -1,5 +1,10 @@
 //! Tile columns of worked files, read by themselves.
 
+ghost use Rattle.std.specs.Prelude.{◌≤◌, length, IsOk};
+ghost use Rattle.frame_headers.specs.Spans.{tile_spans};
+ghost use Rattle.frame_headers.specs.Tiles.{AreFewTiles};
+ghost use Rattle.frame_state.specs.Past.{IsPastOf};
+
 use crate::listed_frames_tests::Row;
 use crate::listed_frames_tests::rows::ROWS;
 use frame_headers::{FrameHead, Persist, read};
@@ -9,9 +14,30 @@ use segment_map::SegmentMap;
 use std::alloc::Global;
 use std::test::Fail;
 use tile_syntax::{ColumnPlan, Unplanned, column};
+use vp9_types::Span;
 
 // How many blocks the first tile column of a key frame says, or nothing if it breaks a rule.
-fn blocks_of(alloc: Global, bytes: &[u8]) -> Result<Option<usize>, Fail> {
+fn blocks_of(
+    alloc: Global,
+    bytes: &[u8],
+    by: &FrameSources<'_>,
+    compressed: Span,
+) -> Result<Option<usize>, Fail>
+    requires past { IsPastOf by.now.setting.header by.now.past }
+    requires few { AreFewTiles by.now.setting.header.params.tiles }
+    requires within { compressed.to ≤ length bytes.now }
+    requires tested { IsOk (tile_spans bytes.now by.now.setting.header compressed) }
+{
+    let mut plan = ColumnPlan::new(alloc, &by.setting, 0)?;
+    match column(&mut plan, alloc, bytes, by, compressed, 0) {
+        Ok(_) => Ok(Some(plan.column.grid.blocks().len())),
+        Err(Unplanned::Broken(..)) => Ok(None),
+        Err(Unplanned::OutOfMemory) => Err(Fail::new("no memory")),
+    }
+}
+
+// The same of a file's first frame.
+fn blocks_of_first(alloc: Global, bytes: &[u8]) -> Result<Option<usize>, Fail> {
     let Ok(FrameHead::Coded { header, compressed }) = read(bytes, &Persist::START) else {
         return Ok(None);
     };
@@ -20,18 +46,15 @@ fn blocks_of(alloc: Global, bytes: &[u8]) -> Result<Option<usize>, Fail> {
         return Ok(None);
     };
     let segments = SegmentMap::new(alloc, setting.places.rows, setting.places.cols)?;
-    let past = FramePast {
-        contexts: &contexts,
-        segments: &segments,
-        vectors: None,
+    let by = FrameSources {
+        setting,
+        past: FramePast {
+            contexts: &contexts,
+            segments: &segments,
+            vectors: None,
+        },
     };
-    let by = FrameSources { setting, past };
-    let mut plan = ColumnPlan::new(alloc, &by.setting, 0)?;
-    match column(&mut plan, alloc, bytes, &by, compressed, 0) {
-        Ok(_) => Ok(Some(plan.column.grid.blocks().len())),
-        Err(Unplanned::Broken(..)) => Ok(None),
-        Err(Unplanned::OutOfMemory) => Err(Fail::new("no memory")),
-    }
+    blocks_of(alloc, bytes, &by, compressed)
 }
 
 // How many of these files begin with a key frame whose blocks are as many as they are to be, and how many don't.
@@ -39,7 +62,7 @@ fn counted(alloc: Global, rows: &[Row]) -> Result<(usize, usize), Fail> {
     let (mut right, mut wrong) = (0usize, 0usize);
     for row in rows {
         for frame in row.frames.get(0) {
-            match blocks_of(alloc, frame.bytes)? {
+            match blocks_of_first(alloc, frame.bytes)? {
                 Some(count) if count == frame.blocks.len() => right += 1,
                 Some(_) => wrong += 1,
                 None => {}
