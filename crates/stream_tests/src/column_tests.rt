@@ -1,6 +1,6 @@
 //! Tile columns of worked files, read by themselves.
 
-ghost use Rattle.std.specs.Prelude.{◌≤◌, length, IsOk};
+ghost use Rattle.std.specs.Prelude.{◌≡◌, ◌≤◌, length, IsOk};
 ghost use Rattle.frame_headers.specs.Spans.{tile_spans};
 ghost use Rattle.frame_headers.specs.Tiles.{AreFewTiles};
 ghost use Rattle.frame_state.specs.Past.{IsPastOf};
@@ -8,15 +8,16 @@ ghost use Rattle.frame_state.specs.Past.{IsPastOf};
 use crate::listed_frames_tests::Row;
 use crate::listed_frames_tests::rows::ROWS;
 use frame_headers::{FrameHead, Persist, read};
+use frame_setting::FrameSetting;
 use frame_state::{FramePast, FrameSources, begin_frame};
-use prob_contexts::default_contexts;
+use prob_contexts::{Contexts, default_contexts};
 use segment_map::SegmentMap;
 use std::alloc::Global;
 use std::test::Fail;
 use tile_syntax::{ColumnPlan, Unplanned, column};
 use vp9_types::Span;
 
-// How many blocks the first tile column of a key frame says, or nothing if it breaks a rule.
+// How many blocks the first tile column of an intra frame says, or nothing if it breaks a rule.
 fn blocks_of(
     alloc: Global,
     bytes: &[u8],
@@ -36,7 +37,27 @@ fn blocks_of(
     }
 }
 
+// What a first frame is read by.
+fn first<'a>(
+    setting: FrameSetting,
+    contexts: &'a Contexts,
+    segments: &'a SegmentMap,
+) -> FrameSources<'a>
+    requires rows { segments.now.rows ≡ setting.places.rows }
+    requires cols { segments.now.cols ≡ setting.places.cols }
+    ensures setting { result.setting ≡ setting }
+    ensures past { IsPastOf setting.header result.past }
+{
+    let past = FramePast {
+        contexts,
+        segments,
+        vectors: None,
+    };
+    FrameSources { setting, past }
+}
+
 // The same of a file's first frame.
+#[tactic(auto, using(frame_headers::proofs::SizeLemmas::start_has_sizes))]
 fn blocks_of_first(alloc: Global, bytes: &[u8]) -> Result<Option<usize>, Fail> {
     let Ok(FrameHead::Coded { header, compressed }) = read(bytes, &Persist::START) else {
         return Ok(None);
@@ -46,14 +67,7 @@ fn blocks_of_first(alloc: Global, bytes: &[u8]) -> Result<Option<usize>, Fail> {
         return Ok(None);
     };
     let segments = SegmentMap::new(alloc, setting.places.rows, setting.places.cols)?;
-    let by = FrameSources {
-        setting,
-        past: FramePast {
-            contexts: &contexts,
-            segments: &segments,
-            vectors: None,
-        },
-    };
+    let by = first(setting, &contexts, &segments);
     blocks_of(alloc, bytes, &by, compressed)
 }
 
