@@ -1,0 +1,11 @@
+use Rattle.column_order.proofs.ColumnFollows.{plan_follows}
+use Rattle.column_order.proofs.laws.blocks_of_a_column_follow_one_another.Goals as goal
+
+pub returns-clause-placed : goal.returns-clause-placed
+returns-clause-placed c = λ by bytes k plan is. (plan_follows by bytes k plan is).placed
+
+pub returns-clause-inside : goal.returns-clause-inside
+returns-clause-inside c = λ by bytes k plan is. (plan_follows by bytes k plan is).inside
+
+pub returns-clause-order : goal.returns-clause-order
+returns-clause-order c = λ by bytes k plan is. (plan_follows by bytes k plan is).order
