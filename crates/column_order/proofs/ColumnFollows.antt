@@ -30,7 +30,7 @@ use Rattle.column_order.proofs.TxFits.{Reads}
 
 ---- Tiles in order ----
 
-more_ok : {S E : Type 0} (bools : List CountedBool) (x : Result (Settled S) (ℕ × E)) (t : Settled S) → with_counted bools x ≡ Ok t
+pub more_ok : {S E : Type 0} (bools : List CountedBool) (x : Result (Settled S) (ℕ × E)) (t : Settled S) → with_counted bools x ≡ Ok t
     → (b : Settled S) × (x ≡ Ok b) × (b.value ≡ t.value)
 more_ok bools (Ok b) t is =
     let same : record { value = b.value; counted = bools ++ b.counted } ≡ t = cc in
@@ -72,7 +72,7 @@ ran_so : {X : Type 0} (s : Reads TileRead) (w : Window) (f : Settled TileRead �
 ran_so s w f P t (Ok p) has ran is = let same : f p.0 ≡ t = cc in (p.0, same, run_yields P s w p.0 has (ap settled_part ran))
 ran_so s w f P t (Err e) has ran is = let no : ⊥ = cc in absurd no
 
-started_so : {X : Type 0} (s : Reads TileRead) (w : Result Window Rule) (f : Settled TileRead → X) (P : TileRead → Type 0) (t : X) → Yields s P
+pub started_so : {X : Type 0} (s : Reads TileRead) (w : Result Window Rule) (f : Settled TileRead → X) (P : TileRead → Type 0) (t : X) → Yields s P
     → (w >>= λ window. run_bools s window >>= λ read. Ok (f read.0)) ≡ Ok t → (p : Settled TileRead) × (f p ≡ t) × P p.value
 started_so s (Ok w) f P t has is = ran_so s w f P t (run_bools s w) has refl is
 started_so s (Err e) f P t has is = let no : ⊥ = cc in absurd no

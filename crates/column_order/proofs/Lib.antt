@@ -6,3 +6,7 @@ pub mod ResiduePlaces
 pub mod Follows
 pub mod TileFollows
 pub mod ColumnFollows
+pub mod TilesOfColumns
+pub mod Mixed
+pub mod ColumnsApart
+pub mod FrameStrips

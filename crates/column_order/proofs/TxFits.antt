@@ -78,7 +78,7 @@ pub tx_fits : (mode : TxMode) (lists : TxLists) (context : ℕ) (size : BlockSiz
 unfolding read_tx_size tx_symbol settle
 tx_fits mode lists context size = elim (cases_Bool (is_selected mode && not (is_below_8x8 size))) [
   | inl one ↦
-      let fits : LeavesAtMost (greatest_of size) (tx_tree (tx_of (greatest_of size))) = tree_fits size (not_true _ (and_parts _ _ one).1) in
+      let fits : LeavesAtMost (greatest_of size) (tx_tree (tx_of (greatest_of size))) = tree_fits size (not_true (is_below_8x8 size) (and_parts (is_selected mode) (not (is_below_8x8 size)) one).1) in
       rw one (yields_bind _ _ (λ x. x ≤ greatest_of size) (Fits size) (tree_low _ _ (tx_tree (tx_of (greatest_of size))) _ (greatest_of size) fits)
       (λ x h. omega (arith, number_low x, h)))
   | inr none ↦ rw none (allowed_fits mode size)

@@ -3,4 +3,4 @@
 
 mod laws;
 
-pub use laws::blocks_of_a_column_follow_one_another;
+pub use laws::{blocks_of_a_column_follow_one_another, frames_are_strips_of_their_columns};
