@@ -11,13 +11,26 @@ use Rattle.counting_reader.proofs.Yields.{yields_bind, yields_all}
 use Rattle.mode_syntax.specs.Partitions.{partition_at}
 use Rattle.mode_syntax.specs.Walk.{Walk, block_at, square_at, starts_inside, block_inside, smallest_parts, parts, decode_partition, decode_row, decode_tile}
 use Rattle.mode_syntax.proofs.Mapped.{starts_so, twice, narrow, half, smallest}
-use Rattle.column_order.specs.Walks.{EachKeeps, LiesIn, Window}
+use Rattle.block_rebuild.specs.Strips.{Region}
 use Rattle.column_order.proofs.Heights.{low, half_low, smallest_low}
+
+-- so many places from a row and a column on lie in a region, and begin in the frame
+pub record LiesIn {S : Type 0} (walk : Walk S) (w : Region) (r c high wide : ℕ) : Type 0 where
+  pub left : w.left ≤ c
+  pub right : c + wide ≤ w.right
+  pub top : w.top ≤ r
+  pub bottom : r + high ≤ w.bottom
+  pub row : r < walk.frame.rows
+  pub column : c < walk.frame.cols
+
+-- what each block of a walk in a region keeps
+pub record EachKeeps {S : Type 0} (walk : Walk S) (P : S → Type 0) (w : Region) : Type 0 where
+  pub kept : (r c : ℕ) (size : BlockSize) (s : S) → LiesIn walk w r c (height_8 size) (width_8 size) → P s → Yields (walk.block (block_at walk r c size) s) P
 
 row_starts : {S : Type 0} (walk : Walk S) (r c : ℕ) → starts_inside walk r c ≡ true → r < walk.frame.rows
 row_starts walk r c h = ltb-true r walk.frame.rows (and_parts _ _ h).0
 
-module _ {S : Type 0} (walk : Walk S) (P : S → Type 0) (w : Window) (keeps : EachKeeps walk P w) where
+module _ {S : Type 0} (walk : Walk S) (P : S → Type 0) (w : Region) (keeps : EachKeeps walk P w) where
   inside_kept : (r c : ℕ) (size : BlockSize) (s : S) → w.left ≤ c → c + width_8 size ≤ w.right → w.top ≤ r → r + height_8 size ≤ w.bottom → P s → Yields (block_inside walk r c size s) P
   unfolding block_inside settle
   inside_kept r c size s left right top bottom p = elim (cases_Bool (starts_inside walk r c)) [

@@ -11,7 +11,7 @@ use Rattle.block_plan.specs.Planned.{PlannedBlock}
 use Rattle.block_plan.specs.declared.block.BlockAt.{BlockAt}
 use Rattle.block_plan.specs.declared.block.BlockInfo.{BlockInfo}
 use Rattle.block_rebuild.specs.Laws.{IsInColumn, IsRead}
-use Rattle.block_rebuild.specs.Strips.{superblock_row}
+use Rattle.block_rebuild.specs.Strips.{Region, superblock_row}
 use Rattle.block_residue.specs.Residues as residues
 use Rattle.counting_reader.specs.Counting.{Yields, lifted, settle}
 use Rattle.counting_reader.proofs.Yields.{yields_bind, yields_map}
@@ -23,10 +23,9 @@ use Rattle.frame_state.specs.Tiles.{column_of, row_of, superblocks_before, tile_
 use Rattle.frame_state.specs.declared.tile_places.TilePlaces.{TilePlaces}
 use Rattle.frame_state.proofs.TileOffsets.{before_grows, tile_is_low}
 use Rattle.column_order.specs.Columns.{column_from, column_to}
-use Rattle.column_order.specs.Walks.{EachKeeps, LiesIn, Window}
 use Rattle.column_order.proofs.Follows.{Follow, LieBefore, before_more, is_inside, is_read, one_before, one_follows, row_fits, row_is}
 use Rattle.column_order.proofs.ResiduePlaces.{IsPlannedOf, block_places}
-use Rattle.column_order.proofs.RowsKept.{tile_kept}
+use Rattle.column_order.proofs.RowsKept.{EachKeeps, LiesIn, tile_kept}
 use Rattle.column_order.proofs.Stands.{StandsAt, Tells, info_stands, lifted_stands}
 
 abbrev all_blocks : TileRead → List PlannedBlock
@@ -54,7 +53,7 @@ module _ (by : FrameSources) (tile : TilePlaces) (to q top : ℕ) where
   abbrev walk : Walk TileRead
   walk = read_walk by (places_of (shape_of by.header)) tile
 
-  abbrev window : Window
+  abbrev window : Region
   window = record { left = tile.col_from; right = to; top = top; bottom = top + 8 }
 
   added : (at : BlockAt) (info : BlockInfo) (b : PlannedBlock) (s : TileRead) → at.tile_from ≡ tile.col_from → top ≡ 8 * q → LiesIn walk window at.row at.col (height_8 at.size) (width_8 at.size)
