@@ -1,7 +1,8 @@
 -- Blocks of a tile column that follow one another.
-use Rattle.std.proofs.Common.{◌≡◌, ◌∙◌, ◌++◌, ◌∷◌, [], ℕ, ◌+◌, ◌*◌, ◌/◌, ◌%◌, ◌<◌, ◌≤◌, List, arith}
+use Rattle.std.proofs.Common.{◌≡◌, ◌∙◌, ◌++◌, ◌∷◌, [], ℕ, ◌+◌, ◌*◌, ◌/◌, ◌%◌, ◌<◌, ◌≤◌, List, arith, length, get_or}
 use Rattle.std.specs.List.{All}
 use Rattle.std.proofs.Math.Nat.{le-max_left}
+use Rattle.std.proofs.lemmas.List.{get_or-map, length-map}
 use Rattle.std.proofs.lemmas.List.Elements.{All-push}
 use Rattle.std.proofs.lemmas.List.Quantifiers.{all_pairs_push}
 use Rattle.vp9_types.specs.Shapes.{mi_cols, mi_rows}
@@ -16,6 +17,8 @@ use Rattle.block_plan.specs.declared.block.BlockAt.{BlockAt}
 use Rattle.block_plan.specs.declared.block.BlockInfo.{BlockInfo}
 use Rattle.block_rebuild.specs.Laws.{AreInOrder, IsInColumn, IsRead}
 use Rattle.block_rebuild.specs.Strips.{superblock_row}
+use Rattle.column_plan.specs.Rows as rows
+use Rattle.frame_state.specs.Reading.{infos}
 use Rattle.column_order.proofs.ResiduePlaces.{IsPlannedOf}
 use Rattle.column_order.proofs.Stands.{StandsAt}
 
@@ -74,3 +77,13 @@ is_read header at info b is stands row column tile fits = record {
 pub is_inside : (header : Header) (at : BlockAt) (info : BlockInfo) (b : PlannedBlock) (to : ℕ) → IsPlannedOf header at.tile_from info b → StandsAt at info
     → at.col + width_8 at.size ≤ to → IsInColumn at.tile_from to b
 is_inside header at info b to is stands end = record { begin = is.tile; end = rw (is.col ∙ stands.col, is.size ∙ stands.size) end }
+
+---- As they are listed ----
+
+pub infos_in_order : (blocks : List PlannedBlock) → AreInOrder blocks → rows.AreInOrder (infos blocks)
+infos_in_order blocks order = λ i j d first low.
+    let long : length (infos blocks) ≡ length blocks = length-map blocks (λ (b : PlannedBlock). b.info) in
+    let there : j < length blocks = omega (arith, low, long) in
+    let e : PlannedBlock = record { info = d; tile_from = 0; y = []; u = []; v = [] } in
+    let is : (n : ℕ) → n < length blocks → get_or (infos blocks) n d ≡ (get_or blocks n e).info = λ n in_list. get_or-map (λ (b : PlannedBlock). b.info) blocks n e d in_list in
+    rw (is i (omega (arith, first, there)), is j there) (order i j e first there)

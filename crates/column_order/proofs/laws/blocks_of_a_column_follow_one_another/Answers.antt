@@ -1,4 +1,5 @@
 use Rattle.column_order.proofs.ColumnFollows.{plan_follows}
+use Rattle.column_order.proofs.Follows.{infos_in_order}
 use Rattle.column_order.proofs.TilesOfColumns.{plan_tiles}
 use Rattle.column_order.proofs.laws.blocks_of_a_column_follow_one_another.Goals as goal
 
@@ -10,6 +11,9 @@ returns-clause-inside c = λ by bytes k plan is. (plan_follows by bytes k plan i
 
 pub returns-clause-order : goal.returns-clause-order
 returns-clause-order c = λ by bytes k plan is. (plan_follows by bytes k plan is).order
+
+pub returns-clause-infos : goal.returns-clause-infos
+returns-clause-infos c = λ by bytes k plan is. infos_in_order plan.value.column.blocks (plan_follows by bytes k plan is).order
 
 pub returns-clause-tiles : goal.returns-clause-tiles
 returns-clause-tiles c = plan_tiles
