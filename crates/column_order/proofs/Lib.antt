@@ -1,0 +1,12 @@
+pub mod Heights
+pub mod RowsKept
+pub mod TxFits
+pub mod Stands
+pub mod ResiduePlaces
+pub mod Follows
+pub mod TileFollows
+pub mod ColumnFollows
+pub mod TilesOfColumns
+pub mod Mixed
+pub mod ColumnsApart
+pub mod FrameStrips
