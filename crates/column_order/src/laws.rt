@@ -19,8 +19,8 @@ ghost use Rattle.column_order.specs.Columns.{IsColumnStrip, column_from, column_
 
 /// Where a tile column is read to its end, each of its blocks starts inside the frame and the column, lies in one row of
 /// superblocks, has a transform that fits it, and has its residues at its transform blocks; each ends inside the column's
-/// superblocks; the rows of superblocks that the blocks lie in ascend, as those of a column's plan have to; and they are those of the column's tiles, one after
-/// another. Nothing is asked of the header or of the bytes.
+/// superblocks; the rows of superblocks that the blocks lie in ascend, as a column's plan asks of those that it lists; and they
+/// are the blocks of the column's tiles, one after another. Nothing is asked of the header or of the bytes.
 pub fn blocks_of_a_column_follow_one_another()
     ensures placed { (by : FrameSources) (bytes : ℕ → List ℕ) (k : ℕ) (plan : Settled ColumnRead) → plan_of by bytes k ≡ Ok plan →
         All (IsRead (shape_of by.header)) plan.value.column.blocks }
@@ -34,9 +34,9 @@ pub fn blocks_of_a_column_follow_one_another()
         plan.value.column.blocks ≡ flat_map plan.value.tiles (tiles_of (column_of by.header.params.tiles) k (range_with_len 0 (tile_count by.header))) }
 {}
 
-/// Where all tiles of a frame are read, its samples before the loop filter, for which all of its blocks are put in in the
-/// order of the tiles, are in each row of superblocks of each tile column what the blocks of this column make that is read by
-/// itself, and put in by itself.
+/// Where all tiles of a frame are read, its samples before the loop filter, for which its blocks are put in in the order of the
+/// tiles, are in each row of superblocks of each tile column the strip that the blocks of this column alone make, as they are
+/// read by itself.
 pub fn frames_are_strips_of_their_columns()
     ensures { (by : FrameSources) (bytes : List ℕ) (compressed : Span) (spans : List Span) (read : FrameRead) (references : ReferenceFrame → ReferencePicture) (k r : ℕ) (plan : Settled ColumnRead) →
         tile_spans bytes by.header compressed ≡ Ok spans → read_all_tiles by bytes compressed ≡ Ok read → plan_of by (tile_bytes bytes spans) k ≡ Ok plan →
