@@ -191,12 +191,21 @@ first_taken r (b ∷ blocks) = elim (cases_lt (row_of b) r) [
   | inr low ↦ rw (stops r b blocks low) refl
 ]
 
-fewer_before : (r : ℕ) (blocks : List BlockInfo) → length (before_row r blocks) ≤ length (before_row (r + 1) blocks)
+pub fewer_before : (r : ℕ) (blocks : List BlockInfo) → length (before_row r blocks) ≤ length (before_row (r + 1) blocks)
 fewer_before r [] = rw (nothing_before r, nothing_before (r + 1)) (omega arith)
 fewer_before r (b ∷ blocks) = elim (cases_lt (row_of b) r) [
   | inl high ↦
       let rest = fewer_before r blocks in
       rw (goes r b blocks high, goes (r + 1) b blocks (omega (arith, high))) (omega (arith, rest))
+  | inr low ↦ rw (stops r b blocks low) (omega arith)
+]
+
+pub before_few : (r : ℕ) (blocks : List BlockInfo) → length (before_row r blocks) ≤ length blocks
+before_few r [] = rw (nothing_before r) (omega arith)
+before_few r (b ∷ blocks) = elim (cases_lt (row_of b) r) [
+  | inl high ↦
+      let rest = before_few r blocks in
+      rw (goes r b blocks high) (omega (arith, rest))
   | inr low ↦ rw (stops r b blocks low) (omega arith)
 ]
 
