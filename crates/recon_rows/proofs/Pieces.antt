@@ -12,7 +12,7 @@ use Rattle.block_plan.specs.Planned.{Residue, Residues}
 use Rattle.block_plan.specs.declared.block.BlockInfo.{BlockInfo}
 use Rattle.block_rebuild.specs.Residues.{IsWhole, residues_at, residues_of, planned_by}
 use Rattle.block_rebuild.proofs.Puts.{first_is, length_first}
-use Rattle.column_plan.specs.Planned.{residue_of_piece, residues_from, planned_from, count_in}
+use Rattle.column_plan.specs.Planned.{residue_of_piece, residues_from, planned_from, count_in, count_of}
 use Rattle.column_plan.specs.Code as plan
 use Rattle.column_plan.specs.Code.{AreWhole, HoldsWhole}
 use Rattle.recon_rows.specs.Parts.{first_in, has_piece, piece_residue}
@@ -77,3 +77,7 @@ all_held shape tile_from b pieces y u v next last fits whole V k low =
     ap (drop (count_in shape b U)) is ∙ (drop-drop (count_in shape b U) u pieces ∙ sym (ap (λ n. drop n pieces) last)) in
     held_is shape b V pieces v k fits low
     (subst (λ (l : List (List ℤ)). AreWhole (area (tx_in shape b V)) (residues_from (places_in shape b V) l)) then whole.v)
+
+-- the last plane's pieces are there, where the block's are
+pub last_fits : (shape : Shape) (b : BlockInfo) (n y u v : ℕ) → u ≡ y + count_in shape b Y → v ≡ u + count_in shape b U → y + count_of shape b ≤ n → v + count_in shape b V ≤ n
+last_fits shape b n y u v next last fits = omega (arith, next, last, fits)

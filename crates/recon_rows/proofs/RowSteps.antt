@@ -14,6 +14,9 @@ use Rattle.block_rebuild.specs.InterBlocks.{Rebuilding}
 use Rattle.block_rebuild.specs.Strips.{with_blocks}
 use Rattle.column_plan.specs.Planned.{count_of, planned_blocks, planned_from, total}
 use Rattle.column_plan.proofs.Held.{parts_are}
+use Rattle.column_plan.proofs.RowStarts.{before_few, fewer_before, first_taken, row_between, rows_lie}
+use Rattle.column_plan.specs.Rows.{AreInOrder, before_row, place_of_row, planned_in_row}
+use Rattle.column_plan.specs.declared.rows.RowPlace.{RowPlace}
 
 ---- One of a column's blocks ----
 
@@ -112,3 +115,24 @@ one_put by shape tile_from blocks pieces a first k piece b start m new least low
     ∙ (ap (put_planned by (planned_from shape tile_from b (drop piece pieces))) so
     ∙ (sym (fold-append (λ z c. put_planned by c z) start (planned_blocks shape tile_from row (drop first pieces)) (planned_from shape tile_from b (drop piece pieces) ∷ []))
     ∙ ap (fold (λ z c. put_planned by c z) start) (sym list)))
+
+---- The row's places ----
+
+pub first_piece : (shape : Shape) (row : ℕ) (blocks : List BlockInfo) (p : RowPlace) → p ≡ place_of_row shape row blocks → p.piece ≡ total shape (take p.block blocks)
+first_piece shape row blocks p is = rw is (ap (total shape) (sym (first_taken row blocks)))
+
+-- a block between two rows' places is one of the column's, and of the row's
+pub in_column : (shape : Shape) (row k : ℕ) (blocks : List BlockInfo) (next : RowPlace) → next ≡ place_of_row shape row blocks → k < next.block → k < length blocks
+in_column shape row k blocks next is low =
+    let few = before_few row blocks in
+    let at : next.block ≡ length (before_row row blocks) = ap (λ (p : RowPlace). p.block) is in
+    omega (arith, few, at, low)
+
+pub this_in_row : (P : BlockInfo → Type 0) (blocks : List BlockInfo) (a e k : ℕ) (b : BlockInfo) → All P (slice_range blocks a e) → a ≤ k → k < e → k < length blocks → b ≡ get_or blocks k b → P b
+this_in_row P blocks a e k b all least before low is =
+    let left : k - a < e - a = omega (arith, least, before) in
+    let there : k - a < length (drop a blocks) = rw (length-drop a blocks) (omega (arith, least, low)) in
+    let at : a + (k - a) ≡ k = omega (arith, least) in
+    let long : k - a < length (slice_range blocks a e) = rw (length-take (e - a) (drop a blocks)) (omega (arith, left, there)) in
+    let same : get_or (slice_range blocks a e) (k - a) b ≡ b = get_or-take (e - a) (drop a blocks) (k - a) b left ∙ (get_or-drop a blocks (k - a) b ∙ (ap (λ n. get_or blocks n b) at ∙ sym is)) in
+    subst P same (all (k - a) b long)

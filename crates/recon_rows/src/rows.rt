@@ -1,6 +1,6 @@
 //! The blocks of a row of superblocks of a tile column, put from its plan.
 
-ghost use Rattle.std.specs.Prelude.{◌≡◌, ◌<◌, ◌×◌};
+ghost use Rattle.std.specs.Prelude.{◌≡◌, ◌<◌};
 ghost use Rattle.std.specs.List.{All};
 ghost use Rattle.vp9_types.specs.Shapes.{mi_cols, mi_rows};
 ghost use Rattle.vp9_types.specs.Sizes.{superblocks_along};
