@@ -9,6 +9,7 @@ use Rattle.recon_rows.proofs.rows.put_row.Given as goal
 abbrev pub invariant-loop-k : goal.invariant-loop-k
 invariant-loop-k g l = record {
   least : l.initial.k ≤ l.k;
+  most : l.k ≤ l.k-end;
   pieces : l.piece ≡ total l.by.shape (take l.k l.blocks);
   areas : HasAreasOf l.initial.planes l.planes;
   range : IsInRange l.by.shape.depth l.planes;
