@@ -76,12 +76,7 @@ fn transform_blocks(
 
 /// How many transform blocks a block has in a plane of a frame of this shape, whose size in places of 8x8 luma samples is
 /// known already.
-pub fn transform_count(
-    places: FramePlaces,
-    shape: &Shape,
-    block: &BlockInfo,
-    plane: Plane,
-) -> u32
+pub fn transform_count(places: FramePlaces, shape: &Shape, block: &BlockInfo, plane: Plane) -> u32
     requires size { HasFrameSize shape.now }
     requires whole { places ≡ places_of shape.now }
     requires row { block.now.row < places.rows }

@@ -1,9 +1,8 @@
-use Rattle.std.proofs.Common.{◌≡◌, ◌≤◌, ◌*◌, ◌∙◌, sym, ap, length}
+use Rattle.std.proofs.Common.{◌∙◌, sym, ap, length}
 use Rattle.vp9_tables.specs.Scans.{area}
 use Rattle.block_geometry.proofs.Rasters.{length_grid}
 use Rattle.block_geometry.specs.TransformBlocks.{transform_blocks}
 use Rattle.block_geometry.specs.declared.transform_blocks.PlaneBlock.{PlaneBlock}
-use Rattle.block_plan.specs.InPlanes.{plane_block}
 use Rattle.column_plan.proofs.Held.{all_fit}
 use Rattle.column_plan.proofs.blocks.transform_blocks.Goals as goal
 
