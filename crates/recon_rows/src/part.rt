@@ -17,7 +17,7 @@ ghost use Rattle.recon_rows.specs.Parts.{IsPartOf, piece_residue};
 
 use block_geometry::FramePlaces;
 use block_plan::BlockInfo;
-use block_rebuild::{Rebuilding, RebuildRoom, TransformResidues, put_block_in_part};
+use block_rebuild::{RebuildRoom, Rebuilding, TransformResidues, put_block_in_part};
 use column_plan::{PlanResidues, transform_count};
 use planes::FramePlanes;
 use vp9_types::{Plane, Samples, Shape};
@@ -52,7 +52,7 @@ impl<'a> PlanPart<'a> {
         ensures part { IsPartOf shape.now block.now residues.now first result }
         ensures end { result.end ≡ first + count_of shape.now block.now }
     {
-        // So many that they can be counted.
+        // Their number bounds the sums.
         let _all = residues.len();
         let u = first + transform_count(places, shape, block, Plane::Y) as usize;
         let v = u + transform_count(places, shape, block, Plane::U) as usize;
@@ -84,9 +84,14 @@ fn piece(residues: &PlanResidues, first: usize, k: usize) -> Option<&[i32]>
     requires { first + k < length residues.now }
     ensures { option_copied result ≡ piece_residue residues.now first k }
 {
+    // Their number bounds the sum.
     let _all = residues.len();
     let values = residues.get(first + k);
-    if values.is_empty() { None } else { Some(values) }
+    if values.is_empty() {
+        None
+    } else {
+        Some(values)
+    }
 }
 
 impl<'a> TransformResidues for PlanPart<'a> {

@@ -18,7 +18,7 @@ ghost use Rattle.recon_rows.specs.Rows.{IsProvided, blocks_between, planned_betw
 
 use crate::part::{PlanPart, put_planned_block};
 use block_geometry::FramePlaces;
-use block_rebuild::{Rebuilding, RebuildRoom};
+use block_rebuild::{RebuildRoom, Rebuilding};
 use planes::FramePlanes;
 use tile_syntax::ColumnPlan;
 use vp9_types::{Samples, Shape};

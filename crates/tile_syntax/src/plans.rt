@@ -20,9 +20,9 @@ ghost use Rattle.tile_syntax.specs.declared.plans.Unplanned.TheVariants as unpla
 
 use crate::tiles::plan_tile;
 use column_plan::{PlanResidues, RowPlace, RowPlaces};
-use frame_state::{FrameSources, Halt, TileColumn, TilePlaces, adapts};
 use frame_headers::tile_span;
 use frame_setting::FrameSetting;
+use frame_state::{FrameSources, Halt, TileColumn, TilePlaces, adapts};
 use prob_contexts::Counts;
 use std::alloc::{AllocError, Global};
 use vp9_types::{Rule, Span};

@@ -10,7 +10,6 @@ use Rattle.column_plan.proofs.Held.{infos_are}
 use Rattle.tile_syntax.proofs.PlanSteps.{all_kept, block_broken, block_planned, modes_broken, refer_more, small_planned, whole_planned}
 use Rattle.column_plan.proofs.RowStarts.{rows_noted}
 use Rattle.column_plan.specs.Planned.{total}
-use Rattle.column_plan.specs.declared.rows.RowPlace.{RowPlace}
 use Rattle.tile_syntax.proofs.planning.plan_block.Goals as goal
 
 pub mode_info-requires : goal.mode_info-requires
