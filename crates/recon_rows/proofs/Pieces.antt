@@ -1,16 +1,15 @@
 -- The residues of a block among the pieces of its column.
 use Rattle.std.proofs.Common.{◌≡◌, ◌<◌, ◌≤◌, ◌+◌, ◌∷◌, [], ℕ, zero, suc, ℤ, ◌∙◌, refl, sym, ap, arith, subst, List, length, get_or, drop}
 use Rattle.std.proofs.lemmas.List.{same_lists, get_or-drop, drop-drop, length-drop}
-use Rattle.std.specs.List.{All}
 use Rattle.std.specs.Prelude.{None, Some}
 use Rattle.vp9_types.specs.declared.shape.Plane.{Plane}
 use Rattle.vp9_types.specs.declared.shape.Plane.TheVariants.{Y, U, V}
 use Rattle.vp9_tables.specs.Scans.{area}
 use Rattle.vp9_types.specs.declared.shape.Shape.{Shape}
 use Rattle.block_plan.specs.InPlanes.{places_in, tx_in}
-use Rattle.block_plan.specs.Planned.{Residue, Residues}
+use Rattle.block_plan.specs.Planned.{Residue}
 use Rattle.block_plan.specs.declared.block.BlockInfo.{BlockInfo}
-use Rattle.block_rebuild.specs.Residues.{IsWhole, residues_at, residues_of, planned_by}
+use Rattle.block_rebuild.specs.Residues.{IsWhole, residues_at, planned_by}
 use Rattle.block_rebuild.proofs.Puts.{first_is, length_first}
 use Rattle.column_plan.specs.Planned.{residue_of_piece, residues_from, planned_from, count_in, count_of}
 use Rattle.column_plan.specs.Code as plan

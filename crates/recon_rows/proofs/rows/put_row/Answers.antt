@@ -1,4 +1,4 @@
-use Rattle.std.proofs.Common.{rules, ◌≡◌, ◌∙◌, ◌<◌, ◌≤◌, ◌+◌, refl, ap, sym, arith, length, List}
+use Rattle.std.proofs.Common.{rules, ◌≡◌, ◌∙◌, ◌<◌, ◌+◌, refl, ap, sym, arith, length, List}
 use Rattle.std.specs.List.{All}
 use Rattle.block_plan.specs.Code.{HoldsSmall}
 use Rattle.block_plan.specs.Planned.{PlannedBlock}
