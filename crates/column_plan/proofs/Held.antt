@@ -1,11 +1,11 @@
 -- What is kept of a block stands for its residues.
-use Rattle.std.proofs.Common.{◌≡◌, ◌∙◌, ◌++◌, ◌∷◌, [], ℕ, ℤ, suc, ◌+◌, ◌-◌, ◌*◌, ◌<◌, ◌≤◌, Bool, true, false, List, length, map, refl, sym, ap, arith, append_assoc}
+use Rattle.std.proofs.Common.{◌≡◌, ◌∙◌, ◌++◌, ◌∷◌, [], ℕ, ℤ, suc, ◌+◌, ◌-◌, ◌*◌, ◌<◌, ◌≤◌, Bool, true, false, List, length, map, refl, sym, ap, subst, arith, append_assoc}
 use Rattle.std.specs.Prelude.{get_or, take, drop, if◌then◌else◌, OnOk, Result, Ok, Err}
 use Rattle.std.specs.List.{range_with_len}
 use Rattle.std.proofs.Math.Nat.{mul-le-mul, mul-le-mul_right}
 use Rattle.std.proofs.Math.Seq.{drop-append_seam}
 use Rattle.std.proofs.lemmas.List.{append-nil, drop-append-le, drop-drop, length-append, length-drop, length-take-le}
-use Rattle.std.proofs.lemmas.List.FromFn.{length-map-range_with_len, map-range_with_len_more}
+use Rattle.std.proofs.lemmas.List.FromFn.{get_or-map-range_with_len, length-map-range_with_len, map-range_with_len_more}
 use Rattle.vp9_types.specs.declared.block.TxSize.{TxSize}
 use Rattle.vp9_types.specs.declared.block.TxSize.TheVariants.{T4x4, T8x8, T16x16, T32x32}
 use Rattle.vp9_types.specs.declared.shape.Plane.{Plane}
@@ -15,11 +15,11 @@ use Rattle.vp9_tables.specs.Scans.{area}
 use Rattle.block_geometry.specs.TransformBlocks.{tx_step}
 use Rattle.block_plan.specs.Code.{held_at, held_in, planned_with, residue_if, residues_held}
 use Rattle.block_plan.specs.InPlanes.{places_in, tx_in}
-use Rattle.block_plan.specs.Planned.{PlannedBlock}
+use Rattle.block_plan.specs.Planned.{PlannedBlock, Residue}
 use Rattle.block_plan.specs.declared.block.BlockInfo.{BlockInfo}
 use Rattle.block_plan.specs.declared.residues.BlockResidues.{BlockResidues}
 use Rattle.block_plan.specs.declared.residues.PlaneResidues.{PlaneResidues}
-use Rattle.column_plan.specs.Code.{piece_held, pieces_held, plane_pieces, block_pieces}
+use Rattle.column_plan.specs.Code.{AreWhole, IsWhole, piece_held, pieces_held, plane_pieces, block_pieces}
 use Rattle.column_plan.specs.Planned.{residue_of_piece, residues_from, count_in, count_of, planned_from, planned_blocks, total}
 
 ---- Room ----
@@ -131,6 +131,24 @@ block_stands shape tile_from b r behind y u v =
       u = (ap (residues_from (places_in shape b U)) after_y ∙ u (vs ++ behind)) i;
       v = (ap (residues_from (places_in shape b V)) after_u ∙ v behind) i;
     }
+
+---- Whole residues ----
+
+piece_whole : (area : ℕ) (some : Bool) (values : List ℤ) → length values ≡ area → IsWhole area (residue_if some values)
+piece_whole area true values long = long
+piece_whole area false values long = tt
+
+pub plane_whole : (shape : Shape) (b : BlockInfo) (p : Plane) (r : PlaneResidues) → count_in shape b p * area (tx_in shape b p) ≤ length r.values → AreWhole (area (tx_in shape b p)) (held_in shape b p r)
+unfolding residues_held
+plane_whole shape b p r fits k d low =
+    let places = places_in shape b p in
+    let n = area (tx_in shape b p) in
+    let here : k < length places = rw (length-map-range_with_len (held_at places n r.some r.values) 0 (length places)) at low in
+    let start : 0 + k ≡ k = omega arith in
+    let room = room_for k (length places) n (length r.values) here fits in
+    let left : n ≤ length (drop (k * n) r.values) = rw length-drop (omega (arith, room)) in
+    subst (λ (x : (ℕ × ℕ) × Residue). IsWhole n x.1) (sym (get_or-map-range_with_len (held_at places n r.some r.values) 0 (length places) k k d here start))
+    (piece_whole n (get_or r.some k false) (take n (drop (k * n) r.values)) (length-take-le n (drop (k * n) r.values) left))
 
 ---- Blocks one behind another ----
 

@@ -1,14 +1,12 @@
 -- Where the rows of superblocks of a tile column begin in its plan.
-use Rattle.std.proofs.Common.{◌≡◌, ◌∙◌, ◌++◌, ◌∷◌, [], ℕ, ℤ, zero, suc, ◌+◌, ◌-◌, ◌/◌, ◌<◌, ◌≤◌, Bool, true, false, List, length, replicate, get_or, inl, inr, refl, sym, ap, arith, append_assoc}
+use Rattle.std.proofs.Common.{◌≡◌, ◌∙◌, ◌++◌, ◌∷◌, [], ℕ, ℤ, zero, suc, ◌+◌, ◌-◌, ◌<◌, ◌≤◌, true, false, List, length, replicate, get_or, inl, inr, refl, sym, ap, arith, append_assoc}
 use Rattle.std.specs.Prelude.{All, drop, take, nat_eq, nat_lt, slice_range, if◌then◌else◌}
-use Rattle.std.specs.List.{AllPairs, filter}
 use Rattle.std.proofs.Math.Seq.{get_or-append_right}
 use Rattle.std.proofs.Math.ListN.{get_or-append}
 use Rattle.std.proofs.lemmas.Bool.{cases_lt, cases_eq, eq-eqb, le-ltb, lt-ltb, ne_eqb}
 use Rattle.std.proofs.lemmas.List.{drop-drop, drop-take, get_or-replicate, length-append, length-replicate, replicate-append-replicate}
 use Rattle.std.proofs.lemmas.List.Elements.{All-push}
 use Rattle.vp9_types.specs.declared.shape.Shape.{Shape}
-use Rattle.block_plan.specs.Planned.{PlannedBlock}
 use Rattle.block_plan.specs.declared.block.BlockInfo.{BlockInfo}
 use Rattle.column_plan.specs.Code.{AreRowPlaces}
 use Rattle.column_plan.specs.Planned.{count_of, planned_blocks, planned_from, total}
@@ -191,12 +189,21 @@ first_taken r (b ∷ blocks) = elim (cases_lt (row_of b) r) [
   | inr low ↦ rw (stops r b blocks low) refl
 ]
 
-fewer_before : (r : ℕ) (blocks : List BlockInfo) → length (before_row r blocks) ≤ length (before_row (r + 1) blocks)
+pub fewer_before : (r : ℕ) (blocks : List BlockInfo) → length (before_row r blocks) ≤ length (before_row (r + 1) blocks)
 fewer_before r [] = rw (nothing_before r, nothing_before (r + 1)) (omega arith)
 fewer_before r (b ∷ blocks) = elim (cases_lt (row_of b) r) [
   | inl high ↦
       let rest = fewer_before r blocks in
       rw (goes r b blocks high, goes (r + 1) b blocks (omega (arith, high))) (omega (arith, rest))
+  | inr low ↦ rw (stops r b blocks low) (omega arith)
+]
+
+pub before_few : (r : ℕ) (blocks : List BlockInfo) → length (before_row r blocks) ≤ length blocks
+before_few r [] = rw (nothing_before r) (omega arith)
+before_few r (b ∷ blocks) = elim (cases_lt (row_of b) r) [
+  | inl high ↦
+      let rest = before_few r blocks in
+      rw (goes r b blocks high) (omega (arith, rest))
   | inr low ↦ rw (stops r b blocks low) (omega arith)
 ]
 

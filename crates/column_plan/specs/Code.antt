@@ -1,11 +1,12 @@
 -- What the code keeps, and what it takes of a block's buffer.
-use Rattle.std.specs.Prelude.{◌≡◌, All, ◌≤◌, ◌<◌, ℕ, zero, suc, ◌*◌, ℤ, Bool, false, List, [], ◌∷◌, ◌++◌, length, map, get_or, take, drop, slice_range, if◌then◌else◌}
+use Rattle.std.specs.Prelude.{◌≡◌, All, ◌≤◌, ◌<◌, ℕ, zero, suc, ◌*◌, ℤ, Bool, false, List, [], ◌∷◌, ◌++◌, length, map, get_or, take, drop, slice_range, Some, None, if◌then◌else◌}
 use Rattle.std.specs.List.{range_with_len}
 use Rattle.vp9_types.specs.declared.shape.Plane.{Plane}
 use Rattle.vp9_types.specs.declared.shape.Plane.TheVariants.{Y, U, V}
 use Rattle.vp9_types.specs.declared.shape.Shape.{Shape}
 use Rattle.vp9_tables.specs.Scans.{area}
 use Rattle.block_plan.specs.InPlanes.{places_in, tx_in}
+use Rattle.block_plan.specs.Planned.{PlannedBlock, Residue, Residues}
 use Rattle.block_plan.specs.declared.block.BlockInfo.{BlockInfo}
 use Rattle.block_plan.specs.declared.residues.BlockResidues.{BlockResidues}
 use Rattle.block_plan.specs.declared.residues.PlaneResidues.{PlaneResidues}
@@ -45,6 +46,20 @@ plane_pieces shape b p r = pieces_held (area (tx_in shape b p)) r.some r.values 
 -- of a block, plane by plane
 abbrev pub block_pieces : Shape → BlockInfo → BlockResidues → List (List ℤ)
 block_pieces shape b r = plane_pieces shape b Y r.y ++ plane_pieces shape b U r.u ++ plane_pieces shape b V r.v
+
+-- no values, or so many
+abbrev pub IsWhole : ℕ → Residue → Type 0
+IsWhole n None = Unit {0}
+IsWhole n (Some values) = length values ≡ n
+
+abbrev pub AreWhole : ℕ → Residues → Type 0
+AreWhole n residues = All (λ (r : (ℕ × ℕ) × Residue). IsWhole n r.1) residues
+
+-- each residue of a planned block has as many values as its transform block has samples, or none
+pub record HoldsWhole (shape : Shape) (b : PlannedBlock) : Type 0 where
+  pub y : AreWhole (area (tx_in shape b.info Y)) b.y
+  pub u : AreWhole (area (tx_in shape b.info U)) b.u
+  pub v : AreWhole (area (tx_in shape b.info V)) b.v
 
 ---- Rows of superblocks ----
 

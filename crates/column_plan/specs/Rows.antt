@@ -1,6 +1,6 @@
 -- Where the rows of superblocks of a tile column begin in its plan (6.4 of the standard: decode_tile, which reads a tile's
 -- superblocks row by row).
-use Rattle.std.specs.Prelude.{ℕ, ◌+◌, ◌/◌, ◌≤◌, Bool, List, [], ◌∷◌, length, nat_eq, nat_lt, if◌then◌else◌}
+use Rattle.std.specs.Prelude.{ℕ, ◌/◌, ◌≤◌, List, [], ◌∷◌, length, nat_eq, nat_lt, if◌then◌else◌}
 use Rattle.std.specs.List.{AllPairs, filter}
 use Rattle.vp9_types.specs.declared.shape.Shape.{Shape}
 use Rattle.block_plan.specs.declared.block.BlockInfo.{BlockInfo}

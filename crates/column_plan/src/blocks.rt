@@ -1,21 +1,24 @@
 //! The residues of a block, taken out of its buffer.
 
 ghost use Rattle.std.specs.Prelude.{◌≡◌, ◌+◌, ◌*◌, ◌<◌, ◌≤◌, ◌++◌, ℕ, ℤ, List, length, OnOk};
+ghost use Rattle.frame_headers.specs.Sizes.{HasFrameSize};
 ghost use Rattle.frame_headers.specs.State.{shape_of};
+ghost use Rattle.block_geometry.specs.Frames.{places_of};
+ghost use Rattle.vp9_tables.specs.Scans.{area};
 ghost use Rattle.vp9_tables.specs.Blocks.{greatest_of};
 ghost use Rattle.vp9_tables.specs.Numbers.{tx_number};
 ghost use Rattle.block_plan.specs.Code.{held_in, planned_with};
-ghost use Rattle.block_plan.specs.InPlanes.{places_in};
-ghost use Rattle.column_plan.specs.Code.{piece_held, pieces_held, plane_pieces, block_pieces};
-ghost use Rattle.column_plan.specs.Planned.{planned_from, residues_from};
+ghost use Rattle.block_plan.specs.InPlanes.{places_in, tx_in};
+ghost use Rattle.column_plan.specs.Code.{AreWhole, HoldsWhole, piece_held, pieces_held, plane_pieces, block_pieces};
+ghost use Rattle.column_plan.specs.Planned.{count_in, planned_from, residues_from};
 
 use crate::residues::PlanResidues;
-use block_geometry::transform_grid;
+use block_geometry::{FramePlaces, transform_grid};
 use block_plan::{BlockInfo, BlockResidues, PlaneResidues, plane_block};
 use frame_setting::FrameSetting;
 use std::alloc::AllocError;
 use vp9_tables::area_of;
-use vp9_types::Plane;
+use vp9_types::{Plane, Shape};
 
 /// The values of the `k`-th transform block of a block in a plane, of `area` each, or none.
 fn values_of<'a>(some: &[bool], values: &'a [i32], k: usize, area: usize) -> &'a [i32]
@@ -49,6 +52,41 @@ fn push_held(
     Ok(())
 }
 
+/// How many transform blocks a block has in a plane of a frame of this shape, and how many samples each has.
+fn transform_blocks(
+    places: FramePlaces,
+    shape: &Shape,
+    block: &BlockInfo,
+    plane: Plane,
+) -> (u32, usize)
+    requires size { HasFrameSize shape.now }
+    requires whole { places ≡ places_of shape.now }
+    requires row { block.now.row < places.rows }
+    requires column { block.now.col < places.cols }
+    requires fits { tx_number block.now.tx ≤ greatest_of block.now.size }
+    ensures count { result.0 ≡ count_in shape.now block.now plane }
+    ensures few { result.0 ≤ 256 }
+    ensures area { result.1 ≡ area (tx_in shape.now block.now plane) }
+    ensures room { result.0 * result.1 ≤ 4096 }
+{
+    let in_plane = plane_block(shape, block, plane);
+    let grid = transform_grid(places, in_plane);
+    (grid.count(), area_of(in_plane.tx))
+}
+
+/// How many transform blocks a block has in a plane of a frame of this shape, whose size in places of 8x8 luma samples is
+/// known already.
+pub fn transform_count(places: FramePlaces, shape: &Shape, block: &BlockInfo, plane: Plane) -> u32
+    requires size { HasFrameSize shape.now }
+    requires whole { places ≡ places_of shape.now }
+    requires row { block.now.row < places.rows }
+    requires column { block.now.col < places.cols }
+    requires fits { tx_number block.now.tx ≤ greatest_of block.now.size }
+    ensures { result ≡ count_in shape.now block.now plane }
+{
+    transform_blocks(places, shape, block, plane).0
+}
+
 /// Adds the residues of a block in a plane.
 fn push_plane(
     residues: &mut PlanResidues,
@@ -62,11 +100,11 @@ fn push_plane(
     requires fits { tx_number block.now.tx ≤ greatest_of block.now.size }
     ensures pushed { OnOk result (residues.new ≡ residues.old ++ plane_pieces (shape_of setting.now.header) block.now plane held.now) }
     ensures stands { (behind : List (List ℤ)) → residues_from (places_in (shape_of setting.now.header) block.now plane) (plane_pieces (shape_of setting.now.header) block.now plane held.now ++ behind) ≡ held_in (shape_of setting.now.header) block.now plane held.now }
+    ensures whole { AreWhole (area (tx_in (shape_of setting.now.header) block.now plane)) (held_in (shape_of setting.now.header) block.now plane held.now) }
 {
-    let in_plane = plane_block(&setting.header.shape(), block, plane);
-    let grid = transform_grid(setting.places, in_plane);
-    let area = area_of(in_plane.tx);
-    push_held(residues, &held.some, &held.values, grid.count(), area)
+    let shape = setting.header.shape();
+    let (count, area) = transform_blocks(setting.places, &shape, block, plane);
+    push_held(residues, &held.some, &held.values, count, area)
 }
 
 /// Adds the residues of a block, plane by plane. Where memory is refused, some of them may have been added.
@@ -81,6 +119,7 @@ pub fn push_block(
     requires fits { tx_number block.now.tx ≤ greatest_of block.now.size }
     ensures pushed { OnOk result (residues.new ≡ residues.old ++ block_pieces (shape_of setting.now.header) block.now held.now) }
     ensures stands { OnOk result ((tile_from : ℕ) (behind : List (List ℤ)) → planned_from (shape_of setting.now.header) tile_from block.now (block_pieces (shape_of setting.now.header) block.now held.now ++ behind) ≡ planned_with (shape_of setting.now.header) tile_from block.now block.now held.now) }
+    ensures whole { OnOk result (HoldsWhole (shape_of setting.now.header) (planned_with (shape_of setting.now.header) 0 block.now block.now held.now)) }
 {
     push_plane(residues, setting, block, Plane::Y, &held.y)?;
     push_plane(residues, setting, block, Plane::U, &held.u)?;

@@ -233,4 +233,5 @@ nothing_kept header p blocks residues rows = record {
   rows = rw (blocks, rows) (none_noted (shape_of header));
   refer = rw blocks (λ i d low. absurd (omega (arith, low)));
   small = rw blocks (λ i d low. absurd (omega (arith, low)));
+  whole = rw blocks (λ i d low. absurd (omega (arith, low)));
 }

@@ -18,7 +18,7 @@ use Rattle.block_residue.specs.declared.sides.TileSides.{TileSides}
 use Rattle.inter_modes.specs.ModeInfo.{mode_info}
 use Rattle.frame_state.specs.Reading.{infos}
 use Rattle.frame_state.specs.Sources.{FrameSources}
-use Rattle.column_plan.specs.Code.{block_pieces}
+use Rattle.column_plan.specs.Code.{HoldsWhole, block_pieces}
 use Rattle.column_plan.specs.Planned.{planned_blocks, planned_from, total}
 use Rattle.column_plan.proofs.Held.{infos_are, one_more_planned, all_are}
 use Rattle.counting_reader.specs.Code.{standing_of}
@@ -123,6 +123,20 @@ pub small_planned : (shape : Shape) (tile_from : ℕ) (blocks : List BlockInfo) 
 small_planned shape tile_from blocks b info any r pieces now all is pushed stands small kept =
     rw pushed (subst (λ (bs : List PlannedBlock). All HoldsSmall bs) (sym (one_more shape tile_from blocks b info any r pieces all is stands))
     (All-push HoldsSmall (planned_blocks shape tile_from blocks pieces) (planned_with shape tile_from b info r) kept (small_listed shape tile_from b info any r is small)))
+
+whole_listed : (shape : Shape) (tile_from : ℕ) (b info : BlockInfo) (any : Bool) (r : BlockResidues) → info ≡ listed b any → HoldsWhole shape (planned_with shape 0 b b r)
+    → HoldsWhole shape (planned_with shape tile_from b info r)
+whole_listed shape tile_from b info any r is h = rw is (record { y = h.y; u = h.u; v = h.v })
+
+-- one more has whole residues
+pub whole_planned : (shape : Shape) (tile_from : ℕ) (blocks : List BlockInfo) (b info : BlockInfo) (any : Bool) (r : BlockResidues) (pieces now : List (List ℤ)) → total shape blocks ≡ length pieces
+    → info ≡ listed b any → now ≡ pieces ++ block_pieces shape b r
+    → ((behind : List (List ℤ)) → planned_from shape tile_from b (block_pieces shape b r ++ behind) ≡ planned_with shape tile_from b b r)
+    → HoldsWhole shape (planned_with shape 0 b b r) → All (HoldsWhole shape) (planned_blocks shape tile_from blocks pieces)
+    → All (HoldsWhole shape) (planned_blocks shape tile_from (blocks ++ info ∷ []) now)
+whole_planned shape tile_from blocks b info any r pieces now all is pushed stands whole kept =
+    rw pushed (subst (λ (bs : List PlannedBlock). All (HoldsWhole shape) bs) (sym (one_more shape tile_from blocks b info any r pieces all is stands))
+    (All-push (HoldsWhole shape) (planned_blocks shape tile_from blocks pieces) (planned_with shape tile_from b info r) kept (whole_listed shape tile_from b info any r is whole)))
 
 ---- A tile ----
 

@@ -26,7 +26,7 @@ use Rattle.tile_syntax.specs.declared.plans.ColumnPlan.{ColumnPlan}
 use Rattle.tile_syntax.specs.declared.plans.Unplanned.{Unplanned}
 use Rattle.tile_syntax.specs.declared.plans.Unplanned.TheVariants as unplanned
 use Rattle.column_plan.specs.Planned.{planned_blocks, total}
-use Rattle.column_plan.specs.Code.{AreRowPlaces}
+use Rattle.column_plan.specs.Code.{AreRowPlaces, HoldsWhole}
 use Rattle.frame_headers.specs.State.{shape_of}
 use Rattle.frame_headers.specs.declared.header.Header.{Header}
 use Rattle.inter_modes.specs.Code.{RefersInRange}
@@ -66,12 +66,13 @@ abbrev pub tile_held : Shape → ColumnPlan → PlanTile
 tile_held shape p = record { blocks = planned_blocks shape p.column.grid.from p.column.grid.blocks p.residues; sides = p.column.sides }
 
 -- It keeps the residues of all of its blocks, and where their rows of superblocks begin. Its blocks refer to what is in range, and
--- no residue is large, so that they can be put in.
+-- no residue is large, and each that is there is whole, so that they can be put in.
 pub record IsKept (header : Header) (p : ColumnPlan) : Type 0 where
   pub all : total (shape_of header) p.column.grid.blocks ≡ length p.residues
   pub rows : AreRowPlaces (shape_of header) p.column.grid.blocks p.rows.places.items
   pub refer : All (λ b. RefersInRange header b.prediction) p.column.grid.blocks
   pub small : All HoldsSmall (planned_blocks (shape_of header) p.column.grid.from p.column.grid.blocks p.residues)
+  pub whole : All (HoldsWhole (shape_of header)) (planned_blocks (shape_of header) p.column.grid.from p.column.grid.blocks p.residues)
 
 -- the rule that is broken, if it isn't want of memory
 abbrev pub rule_of : Halt → Option Rule

@@ -7,10 +7,9 @@ use Rattle.block_geometry.specs.declared.transform_blocks.FramePlaces.{FramePlac
 use Rattle.frame_state.specs.Code.{sources_of}
 use Rattle.frame_state.proofs.BlockSteps.{all_have_small, fits_more, lies_more, small_more, starts_more, vectors_held, vectors_small}
 use Rattle.column_plan.proofs.Held.{infos_are}
-use Rattle.tile_syntax.proofs.PlanSteps.{all_kept, block_broken, block_planned, modes_broken, refer_more, small_planned}
+use Rattle.tile_syntax.proofs.PlanSteps.{all_kept, block_broken, block_planned, modes_broken, refer_more, small_planned, whole_planned}
 use Rattle.column_plan.proofs.RowStarts.{rows_noted}
 use Rattle.column_plan.specs.Planned.{total}
-use Rattle.column_plan.specs.declared.rows.RowPlace.{RowPlace}
 use Rattle.tile_syntax.proofs.planning.plan_block.Goals as goal
 
 pub mode_info-requires : goal.mode_info-requires
@@ -106,4 +105,6 @@ returns-clause-kept g c =
       refer = rw c.put.ensures (refer_more header blocks block listed any.0 any.1 c.in_ok-block.ensures.in_range kept.refer);
       small = rw c.put.ensures (small_planned shape column.grid.from blocks block listed any.0 held c.args.plan.now.residues _ kept.all any.1 c.in_ok-push_block.ensures.pushed
           (c.in_ok-push_block.ensures.stands column.grid.from) c.in_ok-listed.ensures.small kept.small);
+      whole = rw c.put.ensures (whole_planned shape column.grid.from blocks block listed any.0 held c.args.plan.now.residues _ kept.all any.1 c.in_ok-push_block.ensures.pushed
+          (c.in_ok-push_block.ensures.stands column.grid.from) c.in_ok-push_block.ensures.whole kept.whole);
     }

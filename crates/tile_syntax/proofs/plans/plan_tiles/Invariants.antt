@@ -1,4 +1,4 @@
-use Rattle.std.proofs.Common.{◌≡◌, ◌*◌, ◌^◌, List, length}
+use Rattle.std.proofs.Common.{◌≡◌, ◌*◌, ◌^◌, List}
 use Rattle.std.specs.Prelude.{not, nat_eq, Ok}
 use Rattle.vp9_types.specs.declared.job.Span.{Span}
 use Rattle.frame_headers.specs.Spans.{tile_spans}
