@@ -5,8 +5,8 @@
     tools/try_wrong.py --changed     those of each crate that changed since they were refused, and what was never tried
     tools/try_wrong.py --stale       tries nothing: tells these, by its status too
 
-It puts them into must-fail/ in a clone of what is committed, and runs the kit's gate there for these crates alone: their proofs, and those of the
-crates below, are taken from earlier runs of the gate on this machine where they stand. What was refused is kept in wrong/REFUSED.tsv, with the
+It puts them into must-fail/ in a clone of what is committed, crate by crate, and runs the kit's gate there for the crate alone: its proofs, and those of
+the crates below, are taken from earlier runs of the gate on this machine where they stand. What was refused is kept in wrong/REFUSED.tsv, with the
 sum of the crate's src/, specs/ and proofs/, comments apart, and of the edit.
 """
 import datetime
@@ -67,7 +67,7 @@ def write_refused(known):
 
 
 def tried(some):
-    """Puts these wrong bodies into a clone, runs the gate for their crates, and returns what it said of each."""
+    """Puts these wrong bodies of a crate into a clone, runs the gate for the crate, and returns what it said of each."""
     crates = sorted({crate for crate, _ in some})
     with tempfile.TemporaryDirectory(prefix="vp9dec-wrong-") as room:
         subprocess.run(["git", "clone", "-q", TOP, f"{room}/clone"], check=True)
@@ -109,17 +109,21 @@ def main():
     if changed:
         sys.exit("crates/ has changes that aren't committed, and the clone would not have them: commit them first")
     begun, today = time.time(), datetime.date.today().isoformat()
-    found = tried(set(some))
-    # (another run may have written it meanwhile)
-    known = refused()
-    for key in gone:
-        known.pop(key, None)
-    for key, (what, _) in found.items():
-        if what == "refused":
-            known[key] = sums[key[0]], every[key], today
-        else:
+    found = {}
+    # Crate by crate: what a run has come to stands, even if it is ended then.
+    for crate in sorted({crate for crate, _ in some}):
+        told = tried({key for key in some if key[0] == crate})
+        found.update(told)
+        # (another run may have written it meanwhile)
+        known = refused()
+        for key in gone:
             known.pop(key, None)
-    write_refused(known)
+        for key, (what, _) in told.items():
+            if what == "refused":
+                known[key] = sums[crate], every[key], today
+            else:
+                known.pop(key, None)
+        write_refused(known)
     failed = [key for key in some if found.get(key, ("", ""))[0] != "refused"]
     for crate, name in failed:
         print(f"{crate}/{name}: {found.get((crate, name), ('no word of it',))[0]}")
