@@ -1,12 +1,10 @@
 //! The tile columns of a frame, planned by threads, each by itself.
 
-ghost use Rattle.std.specs.Prelude.{◌≡◌, ◌≤◌, ◌<◌, ◌^◌, ℕ, length, IfOk, IsOk};
-ghost use Rattle.std.specs.List.{All};
-ghost use Rattle.frame_headers.specs.Spans.{tile_count, tile_spans};
+ghost use Rattle.std.specs.Prelude.{◌≡◌, ◌≤◌, ◌<◌, ◌^◌, length, IfOk, IsOk};
+ghost use Rattle.frame_headers.specs.Spans.{tile_spans};
 ghost use Rattle.frame_headers.specs.Tiles.{AreFewTiles};
-ghost use Rattle.frame_state.specs.Columns.{IsTileColumn};
 ghost use Rattle.frame_state.specs.Past.{IsPastOf};
-ghost use Rattle.tile_syntax.specs.Code.{IsKept};
+ghost use Rattle.column_tests.specs.Plans.{ArePlans, IsPlan};
 
 use frame_state::FrameSources;
 use std::alloc::{AllocError, Global};
@@ -27,8 +25,7 @@ fn plan_one(
     requires below { k < 2 ^ by.now.setting.header.params.tiles.columns_log2 }
     requires within { compressed.to ≤ length bytes.now }
     requires tested { IsOk (tile_spans bytes.now by.now.setting.header compressed) }
-    ensures column { IfOk result (λ p. IsTileColumn by.now.setting.header (tile_count by.now.setting.header) k p.column) }
-    ensures kept { IfOk result (λ p. IsKept by.now.setting.header p) }
+    ensures { IfOk result (λ p. IsPlan by.now.setting.header k p) }
 {
     let mut plan = ColumnPlan::new(alloc, &by.setting, k)?;
     column(&mut plan, alloc, bytes, by, compressed, k)?;
@@ -47,6 +44,7 @@ pub fn plan_all<R: Threads + Sync>(
     requires few { AreFewTiles by.now.setting.header.params.tiles }
     requires within { compressed.to ≤ length bytes.now }
     requires tested { IsOk (tile_spans bytes.now by.now.setting.header compressed) }
+    ensures { IfOk result (λ v. ArePlans by.now.setting.header v.items) }
 {
     let count = by.setting.header.params.tiles.columns() as usize;
     map_indices(rt, alloc, count, &|k: usize| plan_one(
