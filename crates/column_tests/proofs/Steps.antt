@@ -53,10 +53,3 @@ one_more header columns all c is first new = rw is (λ k d low.
 
 pub one_longer : (columns all : List TileColumn) (c : TileColumn) → all ≡ columns ++ c ∷ [] → length all ≡ length columns + 1
 one_longer columns all c is = ap (λ (cs : List TileColumn). length cs) is ∙ length-append columns (c ∷ [])
-
-pub none_first : (header : Header) → AreFirst header []
-none_first header = λ k d low. absurd (omega (arith, low))
-
--- the plans of all columns
-pub all_from : (header : Header) (plans xs : List (Result ColumnPlan Unplanned)) → xs ≡ plans → ((k : ℕ) (d : Result ColumnPlan Unplanned) → k < length plans → IfOk (get_or plans k d) (λ p. IsPlan header k p)) → AreFrom header 0 xs
-all_from header plans xs is are = rw is are
