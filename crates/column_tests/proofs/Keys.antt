@@ -1,6 +1,5 @@
 -- The blocks of a key frame's plan can be put into whole planes.
-use Rattle.std.proofs.Common.{◌≡◌, ◌∙◌, ◌≤◌, ◌<◌, ◌^◌, ◌%◌, ◌-◌, ℕ, List, get_or, take, refl, sym, ap, subst, arith}
-use Rattle.std.specs.Prelude.{drop, slice_range}
+use Rattle.std.proofs.Common.{◌≡◌, ◌∙◌, ◌<◌, ◌^◌, ℕ, get_or, sym, ap, arith}
 use Rattle.std.specs.List.{All}
 use Rattle.std.proofs.Math.Nat.{mod-eq_of_lt}
 use Rattle.std.proofs.lemmas.List.Elements.{All-drop, All-take}

@@ -47,7 +47,10 @@ pub fn plan_all<R: Threads + Sync>(
     ensures { IfOk result (λ v. ArePlans by.now.setting.header v.items) }
 {
     let count = by.setting.header.params.tiles.columns() as usize;
-    map_indices(rt, alloc, count, &|k: usize| plan_one(
-        alloc, bytes, by, compressed, k as u32,
-    ))
+    map_indices(
+        rt,
+        alloc,
+        count,
+        &|k: usize| plan_one(alloc, bytes, by, compressed, k as u32),
+    )
 }
