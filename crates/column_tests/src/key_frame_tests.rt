@@ -9,6 +9,7 @@ ghost use Rattle.frame_state.specs.Past.{IsPastOf};
 ghost use Rattle.column_tests.specs.Plans.{IsPicture};
 
 use crate::frames::{COARSE, COARSE_DIGEST, FINE, FINE_DIGEST};
+use crate::keeping::{Kept, kept_in};
 use crate::planning::plan_all;
 use crate::putting::{columns_of, filter, put_all};
 use edge_io::MemSink;
@@ -44,14 +45,14 @@ fn first<'a>(
     FrameSources { setting, past }
 }
 
-// The picture of a key frame, planned by threads, and how many tile columns it has.
+// The picture of a key frame, planned by threads, how many tile columns it has, and what their plans keep.
 fn picture_of<R: Threads + Sync>(
     rt: &R,
     alloc: Global,
     bytes: &[u8],
     by: &FrameSources<'_>,
     compressed: Span,
-) -> Result<Option<(Picture, usize)>, AllocError>
+) -> Result<Option<(Picture, usize, Kept)>, AllocError>
     requires key { by.now.setting.header.kind ≡ kinds.Key }
     requires past { IsPastOf by.now.setting.header by.now.past }
     requires few { AreFewTiles by.now.setting.header.params.tiles }
@@ -62,12 +63,13 @@ fn picture_of<R: Threads + Sync>(
     let setting = &by.setting;
     let mut picture = Picture::new(alloc, setting.header.shape())?;
     let plans = plan_all(rt, alloc, bytes, by, compressed)?;
+    let kept = kept_in(&plans);
     put_all(picture.planes_mut(), setting, &plans);
     let Some(columns) = columns_of(alloc, setting, plans)? else {
         return Ok(None);
     };
     filter(picture.planes_mut(), setting, &columns);
-    Ok(Some((picture, columns.len())))
+    Ok(Some((picture, columns.len(), kept)))
 }
 
 // The digest of a picture's text.
@@ -83,13 +85,13 @@ fn digest_of(alloc: Global, picture: &Picture) -> Result<Option<[u8; 16]>, Alloc
     }
 }
 
-// The digest of a key frame's text, and how many tile columns it has.
+// The digest of a key frame's text, how many tile columns it has, and what their plans keep.
 #[tactic(auto, using(frame_headers::proofs::SizeLemmas::start_has_sizes))]
 fn decoded<R: Threads + Sync>(
     rt: &R,
     alloc: Global,
     bytes: &[u8],
-) -> Result<Option<([u8; 16], usize)>, AllocError> {
+) -> Result<Option<([u8; 16], usize, Kept)>, AllocError> {
     let Ok(FrameHead::Coded { header, compressed }) = read(bytes, &Persist::START) else {
         return Ok(None);
     };
@@ -102,20 +104,43 @@ fn decoded<R: Threads + Sync>(
     };
     let segments = SegmentMap::new(alloc, setting.places.rows, setting.places.cols)?;
     let by = first(setting, &contexts, &segments);
-    let Some((picture, columns)) = picture_of(rt, alloc, bytes, &by, compressed)? else {
+    let Some((picture, columns, kept)) = picture_of(rt, alloc, bytes, &by, compressed)? else {
         return Ok(None);
     };
-    Ok(digest_of(alloc, &picture)?.map(|digest| (digest, columns)))
+    Ok(digest_of(alloc, &picture)?.map(|digest| (digest, columns, kept)))
+}
+
+// Whether four threads plan a frame of this digest.
+fn is_decoded<R: Threads + Sync>(
+    rt: &R,
+    alloc: Global,
+    bytes: &[u8],
+    digest: [u8; 16],
+) -> Result<bool, AllocError> {
+    let told = decoded(rt, alloc, bytes)?;
+    Ok(told.is_some_and(|(found, columns, _)| found == digest && columns == 4))
 }
 
 #[test]
 fn four_threads_plan_a_coarse_frame(rt: HostRuntime) -> Result<(), Fail> {
-    assert_eq!(rt; decoded(&rt, rt.alloc(), COARSE)?, Some((COARSE_DIGEST, 4)));
+    assert!(rt; is_decoded(&rt, rt.alloc(), COARSE, COARSE_DIGEST)?);
     Ok(())
 }
 
 #[test]
 fn four_threads_plan_a_fine_frame(rt: HostRuntime) -> Result<(), Fail> {
-    assert_eq!(rt; decoded(&rt, rt.alloc(), FINE)?, Some((FINE_DIGEST, 4)));
+    assert!(rt; is_decoded(&rt, rt.alloc(), FINE, FINE_DIGEST)?);
+    Ok(())
+}
+
+// The plans of a frame keep no more values than the frame has samples.
+#[test]
+fn plans_keep_few_values(rt: HostRuntime) -> Result<(), Fail> {
+    for bytes in [COARSE, FINE] {
+        let Some((_, _, kept)) = decoded(&rt, rt.alloc(), bytes)? else {
+            return Err(Fail::new("no frame"));
+        };
+        assert!(rt; kept.values <= 1920 * 1088 * 3 / 2, "{kept:?}");
+    }
     Ok(())
 }

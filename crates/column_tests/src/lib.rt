@@ -4,6 +4,8 @@
 #[cfg(test)]
 mod frames;
 #[cfg(test)]
+mod keeping;
+#[cfg(test)]
 mod key_frame_tests;
 #[cfg(test)]
 mod planning;
