@@ -2,7 +2,7 @@ ghost use Rattle.std.specs.Prelude.{◌≡◌, ◌+◌, ◌*◌, ◌≤◌, Some
 ghost use Rattle.band_cells.specs.Bands.{IsRowOf, band_samples};
 ghost use Rattle.band_cells.specs.Code.{AreSamplesOf, HasRow, picture_row, name_of};
 
-use crate::layout::{band_height, coded_width};
+use crate::layout::band_height;
 use crate::meaning::Meaning;
 use crate::samples::{BandName, BandSamples};
 use std::marker::{Model, PhantomData};
@@ -46,7 +46,7 @@ impl<M: Meaning> Filled<M> {
         let shape = &self.samples.shape;
         let first = self.name.index * band_height(shape, plane);
         let row = (y - first) as usize;
-        row_at(self.plane(plane), coded_width(shape, plane), row)
+        row_at(self.plane(plane), shape.coded_size(plane).0, row)
     }
 }
 

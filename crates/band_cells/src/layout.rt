@@ -2,30 +2,9 @@
 
 ghost use Rattle.std.specs.Prelude.{◌≡◌, ◌<◌};
 ghost use Rattle.band_cells.specs.Bands.{band_height, band_rows};
-ghost use Rattle.vp9_types.specs.Shapes.{coded_width, coded_height};
+ghost use Rattle.vp9_types.specs.Shapes.{coded_width};
 
 use vp9_types::{Plane, Shape};
-
-/// How many samples a row of a plane has, in the places of 8x8 luma samples that a frame covers.
-pub(crate) fn coded_width(shape: &Shape, plane: Plane) -> usize
-    ensures { result ≡ coded_width shape.now plane }
-{
-    let width = 8 * (shape.w as usize).div_ceil(8);
-    match plane {
-        Plane::U | Plane::V if shape.ss_x => width / 2,
-        _ => width,
-    }
-}
-
-fn coded_height(shape: &Shape, plane: Plane) -> usize
-    ensures { result ≡ coded_height shape.now plane }
-{
-    let height = 8 * (shape.h as usize).div_ceil(8);
-    match plane {
-        Plane::U | Plane::V if shape.ss_y => height / 2,
-        _ => height,
-    }
-}
 
 /// How many rows of a plane a band has, but for the last one.
 pub(crate) fn band_height(shape: &Shape, plane: Plane) -> u32
@@ -46,7 +25,8 @@ pub fn band_size(shape: &Shape, plane: Plane, index: u32) -> (usize, usize)
 {
     let height = band_height(shape, plane) as usize;
     let first = index as usize * height;
-    let below = coded_height(shape, plane).saturating_sub(first);
+    let (width, all) = shape.coded_size(plane);
+    let below = all.saturating_sub(first);
     let rows = if below < height { below } else { height };
-    (coded_width(shape, plane), rows)
+    (width, rows)
 }

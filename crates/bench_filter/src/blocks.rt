@@ -160,8 +160,7 @@ pub fn grid_of(alloc: Global, shape: &Shape) -> Result<BlockGrid, AllocError>
     requires size { FitsPlanes shape.now }
     ensures { IfOk result (λ grid. IsWholeGrid shape.now grid) }
 {
-    let rows = (shape.h + 7) / 8;
-    let cols = (shape.w + 7) / 8;
+    let (rows, cols) = (shape.place_rows(), shape.place_cols());
     let total = rows as usize * cols as usize;
     let mut grid = BlockGrid::new(alloc, rows, 0, cols, total)?;
     put_rows(&mut grid, rows, cols, total);

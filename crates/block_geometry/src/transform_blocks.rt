@@ -7,13 +7,28 @@ ghost use Rattle.block_geometry.specs.Code.{IsSmallGrid};
 ghost use Rattle.block_geometry.specs.TransformBlocks.{starts, multiples, plane_side, tx_step, transform_blocks, grid_blocks};
 
 use vp9_tables::block_size;
-use vp9_types::{BlockSize, TxSize};
+use vp9_types::{BlockSize, Shape, TxSize};
 
 /// The size of a frame in places of 8x8 luma samples, MiRows and MiCols, 1 to 8192 in a VP9 file.
 #[derive(Clone, Copy, Debug, PartialEq, Eq)]
 pub struct FramePlaces {
     pub rows: u32,
     pub cols: u32,
+}
+
+impl FramePlaces {
+    ghost use Rattle.block_geometry.specs.Frames.{places_of};
+
+    /// Those of a frame of this shape.
+    #[inline(always)]
+    pub fn of(shape: &Shape) -> FramePlaces
+        ensures { result ≡ places_of shape.now }
+    {
+        FramePlaces {
+            rows: shape.place_rows(),
+            cols: shape.place_cols(),
+        }
+    }
 }
 
 /// A block in a plane: its place in 8x8 luma samples, its size in luma, its transform in the plane, and whether the plane

@@ -104,6 +104,14 @@ impl BlockGrid {
         );
     }
 
+    /// The first of its columns, in places of 8x8 luma samples.
+    #[inline(always)]
+    pub fn first_col(&self) -> u32
+        ensures { result ≡ self.now.from }
+    {
+        self.from
+    }
+
     /// The blocks in order.
     pub fn blocks(&self) -> &[BlockInfo]
         ensures { result.now ≡ self.now.blocks }

@@ -34,7 +34,6 @@ use Rattle.block_geometry.specs.declared.transform_blocks.PlaneBlock.{PlaneBlock
 use Rattle.block_rebuild.specs.Blocks.{put_residue}
 use Rattle.block_rebuild.specs.InterBlocks.{ReferencePicture, Rebuilding, add_residue, part_of}
 use Rattle.block_rebuild.specs.Residues.{AreHeld, planned_by}
-use Rattle.block_rebuild.specs.declared.strips.ReadBlock as code_block
 use Rattle.block_rebuild.specs.declared.references.ReferencePicture as code_picture
 use Rattle.block_rebuild.specs.declared.references.Rebuilding as code
 use Rattle.block_rebuild.specs.declared.in_plane.IntraInPlane.{IntraInPlane}
@@ -148,20 +147,3 @@ abbrev pub AreServed : {S : Type 0} → (S → Plane → ℕ → Type 0) → (S 
 AreServed holds width map by b (Intra modes) = Unit {0}
 AreServed holds width map by b (Inter modes) =
     IsServed holds width map by b modes 0 modes.references.first × IfSome modes.references.second (IsServed holds width map by b modes 1)
-
----- Strips ----
-
--- a block that is read, with the residues that are kept for it
-abbrev pub planned_of : {R : Type 0} → (R → Plane → ℕ → ℕ → Residue) → Shape → ℕ → code_block.ReadBlock R → PlannedBlock
-planned_of residue shape tile_from b = planned_by (residue b.residues) shape tile_from b.info.now
-
--- a block that can be put into planes, or parts of them: they hold it, and its references are there
-pub record CanBePut {S : Type 0} (holds : S → Plane → ℕ → Type 0) (width : S → Plane → ℕ) (map : S → FrameMap) (by : code.Rebuilding S) (tile_from : ℕ) (f : FramePlanes) (b : BlockInfo) : Type 0 where
-  pub placed : IsPlaced by.shape tile_from b
-  pub served : AreServed holds width map by b b.prediction
-  pub part : HoldsBlockIn by.shape tile_from b f
-
--- its residues are there, and small
-pub record HasResidues {R : Type 0} (holds : R → Plane → ℕ → ℕ → Type 0) (residue : R → Plane → ℕ → ℕ → Residue) (shape : Shape) (tile_from : ℕ) (b : code_block.ReadBlock R) : Type 0 where
-  pub held : AreHeld (holds b.residues) shape b.info.now
-  pub small : HoldsSmall (planned_of residue shape tile_from b)

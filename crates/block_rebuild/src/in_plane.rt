@@ -77,19 +77,6 @@ fn block_at(b: &IntraInPlane<'_>, at: (usize, usize)) -> IntraBlock
     }
 }
 
-/// The plane's frame in places of 8x8 luma samples.
-pub(crate) fn places_of(shape: &Shape) -> FramePlaces
-    requires { HasFrameSize shape.now }
-    ensures is { result ≡ places_of shape.now }
-    ensures few_rows { result.rows ≤ 8192 }
-    ensures few_cols { result.cols ≤ 8192 }
-{
-    FramePlaces {
-        rows: shape.h.div_ceil(8),
-        cols: shape.w.div_ceil(8),
-    }
-}
-
 /// Puts a transform block into its plane, with its values if it has residue.
 #[inline(always)]
 #[tactic(auto, using(crate::proofs::Puts::whole_residue, crate::proofs::Puts::residue_is))]
@@ -158,7 +145,7 @@ pub(crate) fn put_in_plane<R: TransformResidues>(
     ensures range { IsAtMost (greatest b.now.shape.now.depth) (plane_map samples.new) }
 {
     let block = plane_block(b.shape, b.block, plane);
-    let grid = transform_grid(places_of(b.shape), block);
+    let grid = transform_grid(FramePlaces::of(b.shape), block);
     let in_plane = IntraInPlane {
         plane,
         depth: b.shape.depth,

@@ -19,7 +19,6 @@ ghost use Rattle.block_rebuild.specs.InterBlocks.{part_of, predicted_from, predi
 ghost use Rattle.block_rebuild.specs.Code.{IsPartOf, IsServed, AreServed, picture_of, reference_of, rebuilding_of};
 ghost use Rattle.block_rebuild.specs.Residues.{residues_of};
 
-use crate::in_plane::places_of;
 use crate::references::Rebuilding;
 use crate::residue::add_residues;
 use crate::residues::TransformResidues;
@@ -179,6 +178,6 @@ pub(crate) fn put_inter<S: Samples, R: TransformResidues>(
     put_prediction(samples, b, plane, room);
     let shape = &b.by.shape;
     let block = plane_block(shape, b.block, plane);
-    let grid = transform_grid(places_of(shape), block);
+    let grid = transform_grid(FramePlaces::of(shape), block);
     add_residues(samples, &block, &grid, plane, residues, shape.depth);
 }

@@ -9,7 +9,6 @@ mod references;
 mod residue;
 mod residues;
 mod room;
-mod strips;
 
 pub use blocks::{put_block, put_block_in_part};
 pub use in_plane::IntraInPlane;
@@ -17,4 +16,3 @@ pub use laws::{blocks_stay_in_their_tile_column, strips_side_by_side_are_the_fra
 pub use references::{Rebuilding, ReferencePicture};
 pub use residues::TransformResidues;
 pub use room::RebuildRoom;
-pub use strips::{ReadBlock, put_strip};

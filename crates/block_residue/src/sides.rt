@@ -171,12 +171,8 @@ fn flags_along(shape: &Shape, plane: Plane) -> (usize, usize)
     ensures columns { result.0 ≡ coded_width shape.now plane / 4 }
     ensures rows { result.1 ≡ coded_height shape.now plane / 4 }
 {
-    let columns = 2 * shape.w.div_ceil(8) as usize;
-    let rows = 2 * shape.h.div_ceil(8) as usize;
-    match plane {
-        Plane::Y => (columns, rows),
-        Plane::U | Plane::V => (halved(shape.ss_x, columns), halved(shape.ss_y, rows)),
-    }
+    let (columns, rows) = shape.coded_size(plane);
+    (columns / 4, rows / 4)
 }
 
 #[inline(always)]

@@ -16,7 +16,7 @@ use Rattle.frame_headers.specs.declared.header.Header.{Header}
 use Rattle.frame_headers.specs.declared.tiles.TileInfo.{TileInfo}
 use Rattle.block_geometry.specs.Frames.{places_of}
 use Rattle.counting_reader.specs.Counting.{Settled, Yields}
-use Rattle.mode_syntax.specs.Laws.{read_all, settled_part, then_rest, tiles_of, with_counted}
+use Rattle.mode_syntax.specs.TileColumns.{read_all, settled_part, then_rest, tiles_of, with_counted}
 use Rattle.mode_syntax.proofs.ModeTiles.{run_yields}
 use Rattle.frame_state.specs.Plans.{ColumnRead, column_tile, no_tiles, plan_of, with_its_tile}
 use Rattle.frame_state.specs.Reading.{TileRead, column_after, read_tile}

@@ -10,7 +10,7 @@ use Rattle.block_geometry.specs.Frames.{places_of}
 use Rattle.block_plan.specs.declared.block.BlockAt.{BlockAt}
 use Rattle.bool_decoder.specs.Window.{started}
 use Rattle.counting_reader.specs.Counting.{Settled, Yields, settle}
-use Rattle.mode_syntax.specs.Laws.{read_all, then_rest, tiles_of}
+use Rattle.mode_syntax.specs.TileColumns.{read_all, then_rest, tiles_of}
 use Rattle.mode_syntax.specs.Laws as laws
 use Rattle.mode_syntax.proofs.Kept.{tile_kept}
 use Rattle.frame_state.specs.Plans.{ColumnRead, column_tile, no_tiles, plan_of, with_its_tile}

@@ -7,7 +7,7 @@ ghost use Rattle.vp9_types.specs.declared.job.Span.{Span};
 ghost use Rattle.frame_headers.specs.Spans.{tile_count, tile_spans};
 ghost use Rattle.frame_headers.specs.State.{shape_of};
 ghost use Rattle.counting_reader.specs.Counting.{Settled};
-ghost use Rattle.mode_syntax.specs.Laws.{tiles_of};
+ghost use Rattle.mode_syntax.specs.TileColumns.{tiles_of};
 ghost use Rattle.column_plan.specs.Rows as rows;
 ghost use Rattle.block_rebuild.specs.InterBlocks.{ReferencePicture};
 ghost use Rattle.block_rebuild.specs.Laws.{AreInOrder, IsInColumn, IsRead};

@@ -57,8 +57,7 @@ pub fn filter_by_rows<S: Strips, N: Neighbours, T: TakesRows>(
         T.map to.new plane y x ≡ filtered_frame f.now (N.blocks blocks.now) (S.raw strips.now) plane y x) }
 {
     let mut planes = new_buffer(alloc, &f.shape)?;
-    let count = ((f.shape.h + 7) / 8 + 7) / 8;
-    for sr in 0..count {
+    for sr in 0..f.shape.superblock_rows() {
         filter_next_row(&mut planes, f, blocks, strips, sr);
         to.take_rows(&planes, &f.shape, sr);
         move_to_next(&mut planes, &f.shape, sr);

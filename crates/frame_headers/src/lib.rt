@@ -29,4 +29,4 @@ pub use quantizer::Quantizer;
 pub use reading::read;
 pub use segments::{FeatureReference, Features, MapUpdate, SegmentFeatures, Segmentation};
 pub use spans::{check_tiles, tile_span};
-pub use tiles::TileInfo;
+pub use tiles::{TileInfo, superblocks_of};

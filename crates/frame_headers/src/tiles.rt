@@ -52,7 +52,7 @@ fn power_of_two(log2: u8) -> u32
 }
 
 /// How many superblocks of 64 samples cover a width or height.
-fn superblocks_of(size: u32) -> u32
+pub fn superblocks_of(size: u32) -> u32
     ensures { result ≡ superblocks size }
 {
     size.div_ceil(8).div_ceil(8)

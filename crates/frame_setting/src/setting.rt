@@ -27,13 +27,11 @@ impl FrameSetting {
         ensures modes { result.modes ≡ modes }
         ensures contexts { result.contexts ≡ contexts }
     {
-        let rows = header.size.height.div_ceil(8);
-        let cols = header.size.width.div_ceil(8);
         FrameSetting {
             header: *header,
             modes,
             contexts,
-            places: FramePlaces { rows, cols },
+            places: FramePlaces::of(&header.shape()),
         }
     }
 }

@@ -19,7 +19,7 @@ use Rattle.counting_reader.specs.Counting.{Settled}
 use Rattle.prob_contexts.specs.declared.kind.CountedBool.{CountedBool}
 use Rattle.block_geometry.specs.Frames.{places_of}
 use Rattle.block_plan.specs.Planned.{PlannedBlock}
-use Rattle.mode_syntax.specs.Laws.{AreSeparate, by_column, column_alone, counted_of, read_all, then_rest, viewed, with_column, with_counted}
+use Rattle.mode_syntax.specs.TileColumns.{AreSeparate, by_column, column_alone, counted_of, read_all, then_rest, viewed, with_column, with_counted}
 use Rattle.mode_syntax.proofs.Columns.{all_read, counts_add, first_broken, columns_separate}
 use Rattle.frame_state.specs.Code.{read_whole, settled_of}
 use Rattle.frame_state.specs.Reading.{read_all_tiles, Column, FrameRead, TileRead, column_after, column_at, no_column, nothing_read, read_tile, read_tile_of, read_tiles, with_tile}

@@ -13,7 +13,7 @@ use Rattle.frame_headers.specs.declared.header.Header.{Header}
 use Rattle.counting_reader.specs.Counting.{Settled}
 use Rattle.block_geometry.specs.Frames.{places_of}
 use Rattle.block_plan.specs.Planned.{PlannedBlock}
-use Rattle.mode_syntax.specs.Laws.{read_all, tiles_of}
+use Rattle.mode_syntax.specs.TileColumns.{read_all, tiles_of}
 use Rattle.frame_state.specs.Reading.{Column, TileRead, column_after, no_column, read_tile}
 use Rattle.frame_state.specs.Sources.{FrameSources}
 use Rattle.frame_state.specs.Tiles.{column_of, tile_places}

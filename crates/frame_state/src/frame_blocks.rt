@@ -37,7 +37,7 @@ impl Neighbours for FrameBlocks<'_> {
     ghost holds = { λ g r c. (r < mi_rows (shape_of g.header.now)) × (c < mi_cols (shape_of g.header.now)) };
 
     fn at(&self, row: u32, col: u32) -> Option<&BlockInfo> {
-        let cols = self.header.size.width.div_ceil(8);
+        let cols = self.header.shape().place_cols();
         let k = tile_at(cols, self.header.params.tiles.columns_log2, col);
         self.columns[k as usize].grid.at(row, col)
     }

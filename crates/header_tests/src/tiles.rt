@@ -5,14 +5,7 @@ ghost use Rattle.frame_headers.specs.Tiles.{max_log2, min_log2, superblocks};
 ghost use Rattle.header_writer.specs.WellFormed.{IsTileInfo};
 ghost use Rattle.header_tests.specs.Params.{is_tile_info};
 
-use frame_headers::TileInfo;
-
-/// How many superblocks of 64 samples cover a width.
-fn superblocks_of(width: u32) -> u32
-    ensures { result ≡ superblocks width }
-{
-    width.div_ceil(8).div_ceil(8)
-}
+use frame_headers::{TileInfo, superblocks_of};
 
 fn least_log2(columns: u32) -> u8
     ensures { result ≡ min_log2 columns }

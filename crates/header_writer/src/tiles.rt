@@ -1,22 +1,15 @@
 //! Tiles.
 
 ghost use Rattle.std.specs.Prelude.{◌≡◌, ◌≤◌, ◌-◌, max, IfOk};
-ghost use Rattle.frame_headers.specs.Tiles.{superblocks, min_log2, max_log2, more_columns, tile_columns_log2, tile_rows_log2, tile_info};
+ghost use Rattle.frame_headers.specs.Tiles.{min_log2, max_log2, more_columns, tile_columns_log2, tile_rows_log2, tile_info};
 ghost use Rattle.header_writer.specs.Code.{HasPut};
 ghost use Rattle.header_writer.specs.Fields.{Puts};
 ghost use Rattle.header_writer.specs.Spelling.{spelled_columns, spelled_rows, spelled_tiles};
 ghost use Rattle.header_writer.specs.WellFormed.{IsTileInfo};
 
 use crate::bits::BitWriter;
-use frame_headers::{FieldName, TileInfo};
+use frame_headers::{FieldName, TileInfo, superblocks_of};
 use std::alloc::AllocError;
-
-/// How many superblocks of 64 samples cover a width.
-fn superblocks_of(width: u32) -> u32
-    ensures { result ≡ superblocks width }
-{
-    width.div_ceil(8).div_ceil(8)
-}
 
 fn least_log2(columns: u32) -> u8
     ensures value { result ≡ min_log2 columns }

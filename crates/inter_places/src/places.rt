@@ -71,13 +71,13 @@ fn span_of(shape: &Shape, block: &BlockInfo, plane: Plane, along: Direction) -> 
         Direction::Down => BlockSpan {
             first: block.row,
             count: u32::from(height_8(block.size)),
-            all: shape.h.div_ceil(8),
+            all: shape.place_rows(),
             ss,
         },
         Direction::Across => BlockSpan {
             first: block.col,
             count: u32::from(width_8(block.size)),
-            all: shape.w.div_ceil(8),
+            all: shape.place_cols(),
             ss,
         },
     }
@@ -151,11 +151,10 @@ fn coded_length(shape: &Shape, plane: Plane, along: Direction) -> u32
     requires high { shape.now.h ≤ 65536 }
     ensures { result ≡ coded_length shape.now plane along }
 {
-    let luma = 8 * luma_length(shape, along).div_ceil(8);
-    if subsampling(shape, plane, along) {
-        luma / 2
-    } else {
-        luma
+    let (columns, rows) = shape.coded_size(plane);
+    match along {
+        Direction::Down => rows as u32,
+        Direction::Across => columns as u32,
     }
 }
 

@@ -95,7 +95,7 @@ fn across(shape: &Shape, plane: Plane, pass: Pass, block: &BlockInfo, at: CellAt
                 at.col,
                 width_8(block.size),
                 is_chroma && shape.ss_x,
-                (shape.w + 7) / 8,
+                shape.place_cols(),
             )
         }
         Pass::Horizontal => {
@@ -103,7 +103,7 @@ fn across(shape: &Shape, plane: Plane, pass: Pass, block: &BlockInfo, at: CellAt
                 at.row,
                 height_8(block.size),
                 is_chroma && shape.ss_y,
-                (shape.h + 7) / 8,
+                shape.place_rows(),
             )
         }
     }

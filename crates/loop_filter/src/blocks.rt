@@ -34,8 +34,7 @@ fn side_edge(shape: &Shape, way: PlanePass, at: CellAt, limits: Limits, width: F
     let (sub_x, sub_y) = (sub_x(shape, way.plane), sub_y(shape, way.plane));
     let row = halved(sub_y, 8 * at.row as usize);
     let column = halved(sub_x, 8 * at.col as usize);
-    let rows = halved(sub_y, (shape.h as usize + 7) / 8 * 8);
-    let columns = halved(sub_x, (shape.w as usize + 7) / 8 * 8);
+    let (columns, rows) = shape.coded_size(way.plane);
     let lines = match way.pass {
         Pass::Vertical => rows - row,
         Pass::Horizontal => columns - column,

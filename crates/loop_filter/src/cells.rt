@@ -85,7 +85,7 @@ fn filter_cell_row<N: Neighbours>(
 {
     let sub = sub_x(&f.shape, way.plane);
     let step = step_of(sub);
-    let count = cells_along(sub, (f.shape.w + 7) / 8, sc);
+    let count = cells_along(sub, f.shape.place_cols(), sc);
     for j in 0..count {
         filter_cell(
             samples,
@@ -123,7 +123,7 @@ pub fn filter_pass<N: Neighbours>(
 {
     let sub = sub_y(&f.shape, way.plane);
     let step = step_of(sub);
-    let count = cells_along(sub, (f.shape.h + 7) / 8, sr);
+    let count = cells_along(sub, f.shape.place_rows(), sr);
     for i in 0..count {
         filter_cell_row(samples, f, way, blocks, 8 * sr + step * i, sc);
     }

@@ -86,8 +86,7 @@ fn filter_plane<N: Neighbours>(
     ensures map { plane_map samples.new ≡ fold with_edge (plane_map samples.old) (row_edges f.now (N.blocks blocks.now) plane sr) }
     ensures range { IsAtMost (greatest f.now.shape.depth) (plane_map samples.new) }
 {
-    let count = ((f.shape.w + 7) / 8 + 7) / 8;
-    for sc in 0..count {
+    for sc in 0..f.shape.superblock_cols() {
         filter_superblock(samples, f, plane, blocks, sr, sc);
     }
 }
@@ -124,8 +123,7 @@ pub fn filter_frame<N: Neighbours>(planes: &mut FramePlanes, f: &EdgeSetting, bl
     ensures map { samples_of planes.new ≡ filtered_frame f.now (N.blocks blocks.now) (samples_of planes.old) }
     ensures range { IsInRange f.now.shape.depth planes.new }
 {
-    let count = ((f.shape.h + 7) / 8 + 7) / 8;
-    for sr in 0..count {
+    for sr in 0..f.shape.superblock_rows() {
         filter_row(planes, f, blocks, sr);
     }
 }

@@ -6,7 +6,7 @@ use Rattle.std.proofs.lemmas.Bool.{cases_Bool, cases_eq, eq-eqb, ne_eqb}
 use Rattle.std.proofs.lemmas.List.Sums.{sum_by-append, sum_by-cons}
 use Rattle.prob_contexts.specs.declared.kind.CountedBool.{CountedBool}
 use Rattle.counting_reader.specs.Counting.{Settled}
-use Rattle.mode_syntax.specs.Laws.{with_counted, then_rest, read_all, viewed, counted_of, AreSeparate, tiles_of, column_alone, with_column, by_column}
+use Rattle.mode_syntax.specs.TileColumns.{with_counted, then_rest, read_all, viewed, counted_of, AreSeparate, tiles_of, column_alone, with_column, by_column}
 
 abbrev Tiled : Type 0 → Type 0 → Type 0
 Tiled S E = Result (Settled S) (ℕ × E)

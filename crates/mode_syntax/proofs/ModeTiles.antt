@@ -16,7 +16,8 @@ use Rattle.counting_reader.specs.Counting.{mapped}
 use Rattle.mode_syntax.proofs.Mapped.{tile_step}
 use Rattle.mode_syntax.proofs.Kept.{tile_kept}
 use Rattle.mode_syntax.proofs.ModeWalks.{own_columns, other_columns}
-use Rattle.mode_syntax.specs.Laws.{in_columns, next_block, mode_walk, viewed, AreSeparate, Layout, IsLaidOut, settled_part, mode_tile, column_blocks}
+use Rattle.mode_syntax.specs.Laws.{in_columns, next_block, mode_walk, Layout, IsLaidOut, mode_tile, column_blocks}
+use Rattle.mode_syntax.specs.TileColumns.{viewed, AreSeparate, settled_part}
 
 pub run_mapped : {S T : Type 0} (f : S → T) (s : Syntax ℕ Rule (Settled S)) (w : Window) → settled_part (run_bools (mapped f s) w) ≡ viewed f (settled_part (run_bools s w))
 unfolding mapped

@@ -8,7 +8,6 @@ use Rattle.bool_decoder.specs.Bools.{run_bools}
 use Rattle.bool_decoder.specs.Window.{Window}
 use Rattle.frame_headers.specs.declared.header.Header.{Header}
 use Rattle.prob_contexts.specs.Lists.{ContextLists}
-use Rattle.prob_contexts.specs.declared.kind.CountedBool.{CountedBool}
 use Rattle.counting_reader.specs.Counting.{Settled, settle, mapped, Yields, ◌>>=◌}
 use Rattle.block_geometry.specs.Sizes.{width_8}
 use Rattle.block_geometry.specs.declared.transform_blocks.FramePlaces.{FramePlaces}
@@ -17,6 +16,7 @@ use Rattle.block_plan.specs.declared.block.BlockAt.{BlockAt}
 use Rattle.block_plan.specs.declared.block.BlockInfo.{BlockInfo}
 use Rattle.mode_syntax.specs.ModeInfo.{intra_frame_mode_info}
 use Rattle.mode_syntax.specs.Partitions.{partition_at}
+use Rattle.mode_syntax.specs.TileColumns.{settled_part}
 use Rattle.mode_syntax.specs.Tiles.{Leaf, Cut, one_leaf, leaves, tile_leaves}
 use Rattle.mode_syntax.specs.Walk.{Walk, block_at, square_at, decode_tile}
 
@@ -102,48 +102,7 @@ mode_walk header modes contexts frame tile_from tile_to = record {
   blocks = λ blocks. blocks;
 }
 
----- Tiles in order, and those of a column alone ----
-
--- these are counted before
-abbrev pub with_counted : {S E : Type 0} → List CountedBool → Result (Settled S) E → Result (Settled S) E
-with_counted bools (Ok s) = Ok (record { value = s.value; counted = bools ++ s.counted })
-with_counted bools (Err e) = Err e
-
-abbrev pub then_rest : {S E : Type 0} → ℕ → Result (Settled S) E → (S → Result (Settled S) (ℕ × E)) → Result (Settled S) (ℕ × E)
-then_rest n (Ok s) f = with_counted s.counted (f s.value)
-then_rest n (Err e) f = Err (n, e)
-
--- Tiles by their numbers, each from where the last left the state, and all that they count; or the first that fails.
-unfoldable pub read_all : {S E : Type 0} → (ℕ → S → Result (Settled S) E) → List ℕ → S → Result (Settled S) (ℕ × E)
-read_all step [] s = Ok (record { value = s; counted = [] })
-read_all step (n ∷ ns) s = then_rest n (step n s) (read_all step ns)
-
-abbrev pub viewed : {S T E : Type 0} → (S → T) → Result (Settled S) E → Result (Settled T) E
-viewed f (Ok s) = Ok (record { value = f s.value; counted = s.counted })
-viewed f (Err e) = Err e
-
-abbrev pub counted_of : {S E : Type 0} → Result (Settled S) E → List CountedBool
-counted_of (Ok s) = s.counted
-counted_of (Err e) = []
-
--- A tile does to the part of the state that its column sees what it does to the state, and leaves the other columns' parts.
-pub record AreSeparate {S T E : Type 0} (column_of : ℕ → ℕ) (step : ℕ → S → Result (Settled S) E) (view : ℕ → S → T) (column_step : ℕ → T → Result (Settled T) E) : Type 0 where
-  pub own : (n : ℕ) (s : S) → column_step n (view (column_of n) s) ≡ viewed (view (column_of n)) (step n s)
-  pub others : (n k : ℕ) (s : S) (t : Settled S) → (column_of n ≡ k → ⊥) → step n s ≡ Ok t → view k t.value ≡ view k s
-
-abbrev pub tiles_of : (ℕ → ℕ) → ℕ → List ℕ → List ℕ
-tiles_of column_of k ns = filter (λ n. nat_eq (column_of n) k) ns
-
--- a column read alone, over the tiles of these numbers
-abbrev pub column_alone : {S T E : Type 0} → (ℕ → ℕ) → (ℕ → S → T) → (ℕ → T → Result (Settled T) E) → List ℕ → S → ℕ → Result (Settled T) (ℕ × E)
-column_alone column_of view column_step ns s k = read_all column_step (tiles_of column_of k ns) (view k s)
-
--- a state of its own for each column: a tile reads from its column's and changes that alone
-abbrev pub with_column : {T : Type 0} → ℕ → T → (ℕ → T) → ℕ → T
-with_column c t s k = if nat_eq c k then t else s k
-
-abbrev pub by_column : {T E : Type 0} → (ℕ → ℕ) → (ℕ → T → Result (Settled T) E) → ℕ → (ℕ → T) → Result (Settled (ℕ → T)) E
-by_column column_of step n s = viewed (λ t. with_column (column_of n) t s) (step n (s (column_of n)))
+---- Where columns lie ----
 
 -- where the tiles of a frame lie, and their bytes: the columns from which and before which a tile column lies and how
 -- many superblocks it is wide, and by its number the row from which a tile lies, how many superblocks it is high, its window
@@ -159,10 +118,6 @@ pub record Layout : Type 0 where
 pub record IsLaidOut (frame : FramePlaces) (l : Layout) : Type 0 where
   pub ends : (k : ℕ) → min (l.from k + 8 * l.wide k) frame.cols ≤ l.to k
   pub apart : (j k : ℕ) → (j ≡ k → ⊥) → (l.from j + 8 * l.wide j ≤ l.from k) ⊎ (l.to k ≤ l.from j)
-
-abbrev pub settled_part : {A : Type 0} → Result (Settled A × Window) Rule → Result (Settled A) Rule
-settled_part (Ok p) = Ok p.0
-settled_part (Err e) = Err e
 
 -- the modes of a tile of a number: the state is the blocks so far
 unfoldable pub mode_tile : Header → Modes → ContextLists → FramePlaces → Layout → (ℕ → ℕ) → ℕ → List BlockInfo → Result (Settled (List BlockInfo)) Rule

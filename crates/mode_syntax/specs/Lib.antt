@@ -4,4 +4,5 @@ pub mod ModeInfo
 pub mod Partitions
 pub mod Tiles
 pub mod Walk
+pub mod TileColumns
 pub mod Laws

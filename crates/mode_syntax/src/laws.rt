@@ -16,7 +16,8 @@ ghost use Rattle.mode_syntax.specs.ModeInfo.{intra_frame_mode_info};
 ghost use Rattle.mode_syntax.specs.Partitions.{partition_at};
 ghost use Rattle.mode_syntax.specs.Tiles.{Cut, tile_leaves, times_covered};
 ghost use Rattle.mode_syntax.specs.Walk.{Walk, decode_partition, decode_tile};
-ghost use Rattle.mode_syntax.specs.Laws.{ListsItsBlock, ListsLeaves, ListsTile, walk_over, KeepsStep, SameIn, in_columns, mode_walk, read_all, counted_of, AreSeparate, column_alone, by_column, Layout, IsLaidOut, mode_tile, column_blocks};
+ghost use Rattle.mode_syntax.specs.Laws.{ListsItsBlock, ListsLeaves, ListsTile, walk_over, KeepsStep, SameIn, in_columns, mode_walk, Layout, IsLaidOut, mode_tile, column_blocks};
+ghost use Rattle.mode_syntax.specs.TileColumns.{read_all, counted_of, AreSeparate, column_alone, by_column};
 ghost use Rattle.mode_syntax.specs.declared.square_at.SquareAt.{SquareAt};
 
 /// However the superblocks of a tile are partitioned, its blocks cover each of its places inside the frame once. The

@@ -223,8 +223,7 @@ fn grid_of(alloc: Global, shape: &Shape, numbers: &[[u8; 8]]) -> Result<BlockGri
     requires size { FitsPlanes shape.now }
     ensures { IfOk result (λ grid. IsWholeGrid shape.now grid) }
 {
-    let rows = (shape.h + 7) / 8;
-    let cols = (shape.w + 7) / 8;
+    let (rows, cols) = (shape.place_rows(), shape.place_cols());
     let mut grid = BlockGrid::new(alloc, rows, 0, cols, numbers.len())?;
     put_blocks(&mut grid, rows, cols, numbers);
     Ok(grid)

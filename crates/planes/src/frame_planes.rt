@@ -99,10 +99,6 @@ pub fn coded_area(shape: &Shape, plane: Plane) -> Area
     ensures value { result ≡ coded_area shape.now plane }
     ensures near { IsArea result }
 {
-    let rows = 8 * shape.h.div_ceil(8) as usize;
-    let columns = 8 * shape.w.div_ceil(8) as usize;
-    match plane {
-        Plane::Y => Area::whole(rows, columns),
-        Plane::U | Plane::V => Area::whole(halved(shape.ss_y, rows), halved(shape.ss_x, columns)),
-    }
+    let (columns, rows) = shape.coded_size(plane);
+    Area::whole(rows, columns)
 }

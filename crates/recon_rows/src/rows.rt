@@ -7,7 +7,6 @@ ghost use Rattle.vp9_types.specs.Sizes.{superblocks_along};
 ghost use Rattle.frame_headers.specs.Sizes.{HasFrameSize};
 ghost use Rattle.frame_headers.specs.State.{shape_of};
 ghost use Rattle.frame_headers.specs.declared.header.Header.{Header};
-ghost use Rattle.block_geometry.specs.Frames.{places_of};
 ghost use Rattle.planes.specs.Pictures.{IsInRange, samples_of};
 ghost use Rattle.block_rebuild.specs.Strips.{with_blocks};
 ghost use Rattle.block_rebuild.specs.Code.{HasAreasOf, IsPlaced, rebuilding_of};
@@ -22,17 +21,6 @@ use block_rebuild::{RebuildRoom, Rebuilding};
 use planes::FramePlanes;
 use tile_syntax::ColumnPlan;
 use vp9_types::{Samples, Shape};
-
-/// The frame in places of 8x8 luma samples.
-fn places_of(shape: &Shape) -> FramePlaces
-    requires { HasFrameSize shape.now }
-    ensures { result ≡ places_of shape.now }
-{
-    FramePlaces {
-        rows: shape.h.div_ceil(8),
-        cols: shape.w.div_ceil(8),
-    }
-}
 
 /// Puts the blocks of the `row`-th row of superblocks of a tile column, one after another, from the column's plan into its
 /// samples, or into a part of them that holds the row and the samples above it. The column begins at `tile_from`, in places of
@@ -61,7 +49,7 @@ pub fn put_row<S: Samples>(
     let blocks = plan.column.grid.blocks();
     let first = plan.row_place(row);
     let next = plan.row_place(row + 1);
-    let places = places_of(&by.shape);
+    let places = FramePlaces::of(&by.shape);
     let mut piece = first.piece;
     for k in first.block..next.block {
         let block = &blocks[k];

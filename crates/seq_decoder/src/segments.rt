@@ -38,8 +38,8 @@ pub fn begin_segments(
     ensures places { OnOk result (HasPlaces (Some header.now.size) map.new) }
 {
     if loses_past(header) || !has_size(header.size, last) {
-        let rows = header.size.height.div_ceil(8);
-        let cols = header.size.width.div_ceil(8);
+        let shape = header.shape();
+        let (rows, cols) = (shape.place_rows(), shape.place_cols());
         match map {
             Some(map) => map.renew(alloc, rows, cols)?,
             None => *map = Some(SegmentMap::new(alloc, rows, cols)?),

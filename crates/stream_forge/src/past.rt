@@ -18,8 +18,8 @@ pub(crate) fn fresh_segments(
     ensures { IfOk result (IsFresh header.now last) }
 {
     if loses_past(header) || !has_size(header.size, last) {
-        let rows = header.size.height.div_ceil(8);
-        let cols = header.size.width.div_ceil(8);
+        let shape = header.shape();
+        let (rows, cols) = (shape.place_rows(), shape.place_cols());
         let map = SegmentMap::new(alloc, rows, cols)?;
         return Ok(Some(map));
     }

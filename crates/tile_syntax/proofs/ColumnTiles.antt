@@ -17,7 +17,7 @@ use Rattle.frame_headers.specs.declared.tiles.TileInfo.{TileInfo}
 use Rattle.prob_contexts.specs.Counted.{counts_after, no_counts, with_bool}
 use Rattle.prob_contexts.specs.declared.kind.CountedBool.{CountedBool}
 use Rattle.counting_reader.specs.Counting.{Settled, counted_if}
-use Rattle.mode_syntax.specs.Laws.{read_all, then_rest, tiles_of, with_counted}
+use Rattle.mode_syntax.specs.TileColumns.{read_all, then_rest, tiles_of, with_counted}
 use Rattle.block_plan.specs.declared.block.BlockInfo.{BlockInfo}
 use Rattle.column_plan.specs.Planned.{planned_blocks, total}
 use Rattle.frame_state.specs.Code.{column_as_listed, column_of_code, counts_if}
@@ -185,13 +185,6 @@ bytes_there bytes header compressed span spans n is at =
 -- the n-th tile is one of the column's
 pub own_tile : (tiles : TileInfo) (i k n : ℕ) → k < 2 ^ tiles.columns_log2 → n ≡ i * 2 ^ tiles.columns_log2 + k → column_of tiles n ≡ k
 own_tile tiles i k n low at = ap (λ m. m % 2 ^ tiles.columns_log2) at ∙ mod-mul-add i (2 ^ tiles.columns_log2) k low
-
-pub tile_below : (columns rows i k n : ℕ) → k < columns → i < rows → n ≡ i * columns + k → n < columns * rows
-tile_below columns rows i k n low more at =
-    let next : (i + 1) * columns ≤ rows * columns = mul-le-mul_right columns (let one : i + 1 ≤ rows = omega arith in one) in
-    let sum : (i + 1) * columns ≡ i * columns + columns = grind arith in
-    let turned : rows * columns ≡ columns * rows = grind arith in
-    omega (arith, low, next, sum, turned, at)
 
 pub row_below : (columns i k n : ℕ) → k < columns → n ≡ i * columns + k → (i * columns ≤ n) × (n + 1 ≤ (i + 1) * columns)
 row_below columns i k n low at =

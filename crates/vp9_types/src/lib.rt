@@ -7,6 +7,7 @@ mod job;
 mod laws;
 mod outcome;
 mod rule;
+mod sample;
 mod samples;
 mod shape;
 
@@ -18,5 +19,6 @@ pub use job::{BandSpan, JobName, Span};
 pub use laws::{reading_is_its_entries, rules_are_numbered, trees_are_stored};
 pub use outcome::{Outcome, Stop};
 pub use rule::Rule;
+pub use sample::Sample;
 pub use samples::Samples;
 pub use shape::{Depth, Plane, Shape, halved};

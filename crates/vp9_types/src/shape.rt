@@ -55,7 +55,16 @@ pub struct Shape {
 }
 
 impl Shape {
-    ghost use Rattle.vp9_types.specs.Shapes.{plane_width, plane_height, bands_of};
+    ghost use Rattle.vp9_types.specs.Shapes.{
+      bands_of,
+      coded_height,
+      coded_width,
+      mi_cols,
+      mi_rows,
+      plane_height,
+      plane_width,
+    };
+    ghost use Rattle.vp9_types.specs.Sizes.{superblocks_along};
 
     /// Width and height of a plane, in samples.
     pub fn plane_size(&self, plane: Plane) -> (u32, u32)
@@ -65,6 +74,54 @@ impl Shape {
         match plane {
             Plane::Y => (self.w, self.h),
             Plane::U | Plane::V => (subsampled(self.w, self.ss_x), subsampled(self.h, self.ss_y)),
+        }
+    }
+
+    /// The rows of places of 8x8 luma samples: MiRows (7.2.6).
+    #[inline(always)]
+    pub fn place_rows(&self) -> u32
+        ensures { result ≡ mi_rows self.now }
+    {
+        self.h.div_ceil(8)
+    }
+
+    /// The columns of places of 8x8 luma samples: MiCols (7.2.6).
+    #[inline(always)]
+    pub fn place_cols(&self) -> u32
+        ensures { result ≡ mi_cols self.now }
+    {
+        self.w.div_ceil(8)
+    }
+
+    /// The rows of superblocks.
+    #[inline(always)]
+    pub fn superblock_rows(&self) -> u32
+        ensures { result ≡ superblocks_along (mi_rows self.now) }
+    {
+        self.place_rows().div_ceil(8)
+    }
+
+    /// The columns of superblocks.
+    #[inline(always)]
+    pub fn superblock_cols(&self) -> u32
+        ensures { result ≡ superblocks_along (mi_cols self.now) }
+    {
+        self.place_cols().div_ceil(8)
+    }
+
+    /// Width and height of what is decoded of a plane: its samples in the places of 8x8 luma samples.
+    #[inline(always)]
+    pub fn coded_size(&self, plane: Plane) -> (usize, usize)
+        ensures width { result.0 ≡ coded_width self.now plane }
+        ensures height { result.1 ≡ coded_height self.now plane }
+    {
+        let (w, h) = (
+            8 * self.place_cols() as usize,
+            8 * self.place_rows() as usize,
+        );
+        match plane {
+            Plane::Y => (w, h),
+            Plane::U | Plane::V => (halved(self.ss_x, w), halved(self.ss_y, h)),
         }
     }
 
