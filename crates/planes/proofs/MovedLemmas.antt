@@ -1,7 +1,8 @@
 -- A plane whose area is moved down.
-use Rattle.std.proofs.Common.{◌≡◌, ◌<◌, ◌≤◌, ◌+◌, ◌*◌, ◌-◌, ◌&&◌, ℕ, Bool, true, false, cond, inl, inr, refl, sym, ◌∙◌, arith, List, length, get_or, ap, leb, min, subst}
+use Rattle.std.proofs.Common.{◌≡◌, ◌<◌, ◌≤◌, ◌+◌, ◌*◌, ◌-◌, ◌&&◌, ℕ, Bool, true, false, cond, inl, inr, refl, sym, ◌∙◌, arith, List, [], ◌∷◌, length, get_or, map, ap, leb, min, subst}
 use Rattle.std.proofs.lemmas.Bool.{cases_lt, le-ltb}
 use Rattle.std.proofs.lemmas.Bool.Decides.{nat_tests}
+use Rattle.std.proofs.lemmas.List.{get_or-map, get_or_past, length-map}
 use Rattle.vp9_types.specs.Maps.{IsAtMost, rows_of}
 use Rattle.planes.specs.declared.area.Area.{Area}
 use Rattle.planes.specs.Planes.{moved_to, from_row, lower_end}
@@ -17,14 +18,29 @@ pub record IsMoved (xs ys : List ℕ) (from : ℕ) : Type 0 where
 none_less : (k : ℕ) → k - 0 ≡ k
 none_less k = omega arith
 
--- what `copy_within` says of a copy to the front
-pub is_moved : (xs ys : List ℕ) (from at len : ℕ) → from ≡ at → len ≡ length xs
-    → ((k d : ℕ) → 0 ≤ k → k < 0 + (len - from) → get_or ys k d ≡ get_or xs (from + (k - 0)) d) → ((k d : ℕ) → 0 + (len - from) ≤ k → get_or ys k d ≡ get_or xs k d)
-    → IsMoved xs ys at
-is_moved xs ys from at len is long copied same = subst (λ (n : ℕ). IsMoved xs ys n) is (record {
-  front = λ k low. copied k 0 (omega arith) (omega (arith, long, low)) ∙ ap (λ (n : ℕ). get_or xs (from + n) 0) (none_less k);
-  back = λ k past. same k 0 (omega (arith, long, past));
-})
+same_at : {X : Type 0} (f : X → ℕ) (xs ys : List X) (j k : ℕ) → j < length xs → k < length ys → ((d : X) → get_or ys k d ≡ get_or xs j d)
+    → get_or (map f ys) k 0 ≡ get_or (map f xs) j 0
+same_at f [] ys j k low here same = omega (arith, low)
+same_at f (x ∷ xs) ys j k low here same = get_or-map f ys k x 0 here ∙ (ap f (same x) ∙ sym (get_or-map f (x ∷ xs) j x 0 low))
+
+same_behind : {X : Type 0} (f : X → ℕ) (xs ys : List X) (k : ℕ) → length ys ≡ length xs → ((d : X) → get_or ys k d ≡ get_or xs k d)
+    → get_or (map f ys) k 0 ≡ get_or (map f xs) k 0
+same_behind f xs ys k long same = elim (cases_lt k (length xs)) [
+  | inl low ↦ same_at f xs ys k k low (omega (arith, low, long)) same
+  | inr past ↦ get_or_past (map f ys) k 0 (omega (arith, past, long, length-map ys f)) ∙ sym (get_or_past (map f xs) k 0 (omega (arith, past, length-map xs f)))
+]
+
+-- what `copy_within` says of a copy to the front, by the numbers that samples stand for
+pub is_moved : {X : Type 0} (f : X → ℕ) (xs ys : List X) (from at len : ℕ) → from ≡ at → len ≡ length xs → length ys ≡ length xs
+    → ((k : ℕ) (d : X) → 0 ≤ k → k < 0 + (len - from) → get_or ys k d ≡ get_or xs (from + (k - 0)) d) → ((k : ℕ) (d : X) → 0 + (len - from) ≤ k → get_or ys k d ≡ get_or xs k d)
+    → IsMoved (map f xs) (map f ys) at
+is_moved f xs ys from at len is long same_long copied same =
+    let many = length-map xs f in
+    record {
+      front = λ k low. same_at f xs ys (at + k) k (omega (arith, low, many)) (omega (arith, low, many, same_long))
+          (λ d. copied k d (omega arith) (omega (arith, long, low, is, many)) ∙ (ap (λ (n : ℕ). get_or xs (from + n) d) (none_less k) ∙ ap (λ (n : ℕ). get_or xs (n + k) d) is));
+      back = λ k past. same_behind f xs ys k same_long (λ d. same k d (omega (arith, long, past, is, many)));
+    }
 
 nothing : (b : Bool) (x : ℕ) → x ≡ 0 → cond b x 0 ≡ 0
 nothing true x none = none

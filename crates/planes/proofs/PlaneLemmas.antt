@@ -1,17 +1,17 @@
 -- Planes as maps: rows of them, and blocks put in.
-use Rattle.std.proofs.Common.{◌≡◌, ◌<◌, ◌≤◌, ◌+◌, ◌*◌, ◌-◌, ◌&&◌, ℕ, inl, inr, refl, sym, ◌∙◌, arith, ap, List, length, get_or, take, drop, ◌++◌, subst, Bool, true, false, cond, ltb, leb, replicate, min}
+use Rattle.std.proofs.Common.{◌≡◌, ◌<◌, ◌≤◌, ◌+◌, ◌*◌, ◌-◌, ◌&&◌, ℕ, inl, inr, refl, sym, ◌∙◌, arith, ap, List, length, get_or, take, drop, ◌++◌, subst, Bool, true, false, cond, ltb, leb, replicate, min, map}
 use Rattle.std.proofs.Math.Nat.{mul-le-mul_right}
 use Rattle.std.proofs.Math.Path.{fun_ext}
 use Rattle.std.proofs.lemmas.Bool.{cases_lt, cases_Bool}
 use Rattle.std.proofs.lemmas.Bool.Decides.{nat_tests}
-use Rattle.std.proofs.lemmas.List.{get_or-take, get_or-drop, get_or-replicate, get_or_past, get_or_default, same_lists, take_at, length-replicate, length-take, length-drop}
+use Rattle.std.proofs.lemmas.List.{get_or-take, get_or-drop, get_or-replicate, get_or_past, get_or_default, get_or-map, length-map, take-map, drop-map, map-append, same_lists, take_at, length-replicate, length-take, length-drop}
 use Rattle.std.proofs.lemmas.List.FromFn.{length-map-range_with_len, get_or-map-range_with_len}
 use Rattle.vp9_types.specs.Maps.{Map, IsAtMost, rows_of, row_of, with_block}
 use Rattle.planes.specs.declared.area.Area.{Area}
 use Rattle.planes.specs.Planes.{PlaneSamples, moved_to, with_part, HasRow, lower_end, right_end}
 use Rattle.planes.specs.Code.{place_in}
 use Rattle.planes.specs.Code.{written_over, with_row}
-use Rattle.planes.proofs.RowLemmas.{next, place, add-sub_left, row_put}
+use Rattle.planes.proofs.RowLemmas.{next, place, add-sub_left, row_put, map_mid}
 use borrow.Rule.Slice.PartMut.{put_mid, same_len_mid}
 
 zero_rows : (width n : ℕ) → rows_of width (replicate n 0) ≡ (λ _ _. 0)
@@ -105,7 +105,7 @@ column_sample a xs row column i below right left =
         let more : row + i - first ≡ (row - first) + i = omega (arith, below) in rw more (omega arith)
 
 -- samples that come back from a loan
-pub whole_loan : (n : ℕ) (xs ys : List ℕ) → length ys ≡ length xs → n ≡ length xs → take n (ys ++ drop (length ys) xs) ≡ ys
+pub whole_loan : {X : Type 0} (n : ℕ) (xs ys : List X) → length ys ≡ length xs → n ≡ length xs → take n (ys ++ drop (length ys) xs) ≡ ys
 whole_loan n xs ys same whole = take_at ys (drop (length ys) xs) n (same ∙ sym whole)
 
 -- a block put into the rows of an area, which were lent
@@ -181,3 +181,54 @@ below_zero a xs whole row column below =
   where
     rows_past : (first rows row : ℕ) → first + rows ≤ row → rows ≤ row - first
     rows_past first rows row below = omega arith
+
+-- the same of samples that stand for numbers
+pub row_values : {X : Type 0} (f : X → ℕ) (a : Area) (xs : List X) (row column n : ℕ) → HasRow a row column n → length xs ≡ a.rows * a.columns
+    → map f (take (place_in a row column + n - place_in a row column) (drop (place_in a row column) xs)) ≡ row_of (area_map a (map f xs)) row column n
+row_values f a xs row column n inside whole =
+    let at : ℕ = place_in a row column in
+    sym (take-map f (at + n - at) (drop at xs)) ∙ ap (take (at + n - at)) (sym (drop-map f at xs))
+    ∙ row_is a (map f xs) row column n inside (length-map xs f ∙ whole)
+
+pub row_value : {X : Type 0} (f : X → ℕ) (a : Area) (xs : List X) (row column n : ℕ) → HasRow a row column n → (j : ℕ) → j < n
+    → get_or (map f (take (place_in a row column + n - place_in a row column) (drop (place_in a row column) xs))) j 0 ≡ area_map a (map f xs) row (column + j)
+row_value f a xs row column n inside j low =
+    let at : ℕ = place_in a row column in
+    ap (λ (l : List ℕ). get_or l j 0) (sym (take-map f (at + n - at) (drop at xs)) ∙ ap (take (at + n - at)) (sym (drop-map f at xs)))
+    ∙ row_samples a (map f xs) row column n inside j low
+
+pub sample_value : {X : Type 0} (f : X → ℕ) (a : Area) (xs : List X) (d : X) (row column : ℕ) → HasRow a row column 1 → length xs ≡ a.rows * a.columns
+    → f (get_or xs (place_in a row column) d) ≡ area_map a (map f xs) row column
+sample_value f a xs d row column inside whole =
+    let fits = row_fits a row column 1 (length xs) inside whole in
+    sym (get_or-map f xs (place_in a row column) d 0 (omega arith))
+    ∙ sample_is a (map f xs) row column inside.above inside.left (omega (arith, inside.right))
+
+pub part_values : {X : Type 0} (f : X → ℕ) (a : Area) (xs ys : List X) (len row column rows columns down across : ℕ) (b : Map) → a.first_row ≤ row → a.first_column ≤ column
+    → len ≡ length xs → length ys ≡ length xs → down ≡ min rows (lower_end a - row) → across ≡ min columns (right_end a - column)
+    → rows_of a.columns (map f ys) ≡ with_block (rows_of a.columns (map f xs)) (row - a.first_row) (column - a.first_column) down across b
+    → area_map a (map f (take len (ys ++ drop (length ys) xs))) ≡ with_part a (area_map a (map f xs)) row column rows columns b
+part_values f a xs ys len row column rows columns down across b below right whole same d e is =
+    rw (whole_loan len xs ys same whole, ← d, ← e)
+    (ap (moved_to a.first_row a.first_column) is
+    ∙ block_moved (rows_of a.columns (map f xs)) b a.first_row a.first_column row column down across below right)
+
+pub cleared : {X : Type 0} (f : X → ℕ) (a : Area) (xs ys : List X) (len n : ℕ) → len ≡ length xs → length ys ≡ length xs → map f ys ≡ replicate n 0
+    → area_map a (map f (take len (ys ++ drop (length ys) xs))) ≡ (λ _ _. 0)
+cleared f a xs ys len n whole same zero =
+    rw (whole_loan len xs ys same whole, zero) (zero_map a.first_row a.first_column a.columns n)
+
+abbrev values_by : {X : Type 0} → (X → ℕ) → Area → List X → PlaneSamples
+values_by f a xs = record { area = a; samples = map f xs }
+
+loan_values : {X : Type 0} (f : X → ℕ) (xs ys : List X) (len : ℕ) → map f (take len (ys ++ drop (length ys) xs)) ≡ take len (map f ys ++ drop (length ys) (map f xs))
+loan_values f xs ys len = sym (take-map f len (ys ++ drop (length ys) xs))
+    ∙ ap (take len) (map-append f ys (drop (length ys) xs) ∙ ap (λ (l : List ℕ). map f ys ++ l) (sym (drop-map f (length ys) xs)))
+
+-- what a plane is that lent a part of its list, by the numbers of its samples
+pub values_lent : {X : Type 0} (f : X → ℕ) (a : Area) (xs : List X) (p : PlaneSamples) (row column at len : ℕ) → values_by f a xs ≡ p → len ≡ length xs → at ≡ place_in a row column
+    → (w : List X) → values_by f a (take len (put_mid at (length w) xs w ++ drop (length (put_mid at (length w) xs w)) xs)) ≡ with_row p row column (map f w)
+values_lent f a xs p row column at len is long here w =
+    ap (λ (l : List ℕ). plane_by a l) (loan_values f xs (put_mid at (length w) xs w) len
+    ∙ rw (← length-map (put_mid at (length w) xs w) f, map_mid f at (length w) xs w, long, ← length-map xs f, ← length-map w f) refl)
+    ∙ row_lent a (map f xs) p row column at (length (map f xs)) is refl here (map f w)

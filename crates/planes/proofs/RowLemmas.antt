@@ -1,9 +1,9 @@
 -- Maps of planes: a row written, and a block of one row more.
-use Rattle.std.proofs.Common.{◌≡◌, ◌<◌, ◌≤◌, ◌+◌, ◌*◌, ◌-◌, inl, inr, ℕ, ◌&&◌, cond, refl, sym, ◌∙◌, arith, List, length, get_or, take, drop}
+use Rattle.std.proofs.Common.{◌≡◌, ◌<◌, ◌≤◌, ◌+◌, ◌*◌, ◌-◌, inl, inr, ℕ, ◌&&◌, cond, refl, sym, ◌∙◌, arith, List, length, get_or, take, drop, map, ◌++◌, ap}
 use Rattle.std.proofs.Math.Path.{fun_ext}
 use Rattle.std.proofs.lemmas.Bool.{cases_order, cases_lt, lt-ltb}
 use Rattle.std.proofs.lemmas.Bool.Decides.{nat_tests}
-use Rattle.std.proofs.lemmas.List.{places, get_or-take, get_or-drop, length-take, length-drop}
+use Rattle.std.proofs.lemmas.List.{places, take-map, drop-map, map-append, length-map, get_or-take, get_or-drop, length-take, length-drop}
 use Rattle.std.proofs.Math.Nat.{mul-le-mul_right}
 use Rattle.std.proofs.lemmas.List.{take_all}
 use Rattle.std.proofs.lemmas.Simd.{put_chunk_whole}
@@ -113,3 +113,26 @@ row_stored m width n xs block y x i rows so lt wide high whole =
 pub place : (width : ℕ) (xs : List ℕ) (y x : ℕ) → x < width → rows_of width xs y x ≡ get_or xs (y * width + x) 0
 unfolding rows_of
 place width xs y x low = rw lt-ltb refl
+
+-- samples that stand for numbers, a part of them written
+pub map_mid : {X : Type 0} (f : X → ℕ) (a k : ℕ) (xs ys : List X) → map f (put_mid a k xs ys) ≡ put_mid a k (map f xs) (map f ys)
+map_mid f a k xs ys =
+    map-append f (take a xs) (ys ++ drop k (drop a xs))
+    ∙ ap (λ (p : List ℕ). p ++ map f (ys ++ drop k (drop a xs))) (sym (take-map f a xs))
+    ∙ ap (λ (q : List ℕ). take a (map f xs) ++ q)
+    (map-append f ys (drop k (drop a xs)) ∙ ap (λ (l : List ℕ). map f ys ++ l) (sym (drop-map f k (drop a xs)) ∙ ap (drop k) (sym (drop-map f a xs))))
+
+map_part : {X : Type 0} (f : X → ℕ) (n at : ℕ) (xs : List X) → map f (take n (drop at xs)) ≡ take n (drop at (map f xs))
+map_part f n at xs = sym (take-map f n (drop at xs)) ∙ ap (take n) (sym (drop-map f at xs))
+
+-- the loop's step of such samples
+pub values_copied : {X : Type 0} (f : X → ℕ) (m : Map) (width stride : ℕ) (xs block now : List X) (y x i n rows : ℕ)
+    → rows_of width (map f xs) ≡ with_block m y x i n (rows_of stride (map f block))
+    → i < rows → x + n ≤ width → (y + rows) * width ≤ length xs → n ≤ stride → rows * stride ≤ length block
+    → now ≡ take (i * stride + n - i * stride) (drop (i * stride) block)
+    → rows_of width (map f (put_mid ((y + i) * width + x) ((y + i) * width + x + n - ((y + i) * width + x)) xs now)) ≡ with_block m y x (i + 1) n (rows_of stride (map f block))
+values_copied f m width stride xs block now y x i n rows so lt wide high narrow whole is =
+    ap (rows_of width) (map_mid f ((y + i) * width + x) ((y + i) * width + x + n - ((y + i) * width + x)) xs now)
+    ∙ row_copied m width stride (map f xs) (map f block) (map f now) y x i n rows so lt wide
+    (omega (arith, high, length-map xs f)) narrow (omega (arith, whole, length-map block f))
+    (ap (map f) is ∙ map_part f (i * stride + n - i * stride) (i * stride) block)

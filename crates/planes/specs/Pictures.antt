@@ -21,26 +21,26 @@ pub record FitsPlanes (shape : Shape) : Type 0 where
 abbrev pub coded_area : Shape → Plane → Area
 coded_area shape p = whole_area (coded_height shape p) (coded_width shape p)
 
-abbrev pub plane_of : FramePlanes → Plane → PlaneSamples
+abbrev pub plane_of : {X : Type 0} → FramePlanes X → Plane → PlaneSamples
 plane_of f Y = f.y
 plane_of f U = f.u
 plane_of f V = f.v
 
 -- plane, row, column, sample
-abbrev pub samples_of : FramePlanes → FrameMap
+abbrev pub samples_of : {X : Type 0} → FramePlanes X → FrameMap
 samples_of f = frame_map (plane_map f.y) (plane_map f.u) (plane_map f.v)
 
-abbrev pub map_of : Picture → FrameMap
+abbrev pub map_of : {X : Type 0} → Picture X → FrameMap
 map_of p = samples_of p.planes
 
 -- each plane has all that is decoded of it
-pub record HasSizes (shape : Shape) (f : FramePlanes) : Type 0 where
+pub record HasSizes {X : Type 0} (shape : Shape) (f : FramePlanes X) : Type 0 where
   pub y : f.y.area ≡ coded_area shape Y
   pub u : f.u.area ≡ coded_area shape U
   pub v : f.v.area ≡ coded_area shape V
 
 -- each sample is in the range of the depth
-pub record IsInRange (depth : Depth) (f : FramePlanes) : Type 0 where
+pub record IsInRange {X : Type 0} (depth : Depth) (f : FramePlanes X) : Type 0 where
   pub y : IsAtMost (greatest depth) (plane_map f.y)
   pub u : IsAtMost (greatest depth) (plane_map f.u)
   pub v : IsAtMost (greatest depth) (plane_map f.v)
@@ -49,7 +49,7 @@ pub record IsInRange (depth : Depth) (f : FramePlanes) : Type 0 where
 abbrev pub blank : FrameMap
 blank = λ _ _ _. 0
 
-pub record IsBlank (shape : Shape) (p : Picture) : Type 0 where
+pub record IsBlank {X : Type 0} (shape : Shape) (p : Picture X) : Type 0 where
   pub same : p.shape ≡ shape
   pub sizes : HasSizes shape p.planes
   pub range : IsInRange shape.depth p.planes

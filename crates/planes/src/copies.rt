@@ -1,22 +1,28 @@
 //! Rows of a block copied into rows of samples.
 
-ghost use Rattle.std.specs.Prelude.{◌≡◌, ◌+◌, ◌*◌, ◌^◌, ◌≤◌, ◌<◌, ℕ, length, slice_index};
+ghost use Rattle.std.specs.Prelude.{◌≡◌, ◌+◌, ◌*◌, ◌^◌, ◌≤◌, ◌<◌, ℕ, length, map, slice_index};
 ghost use Rattle.vp9_types.specs.Maps.{rows_of, with_block};
 
 use crate::area::Area;
-use std::simd::Simd;
+use vp9_types::Sample;
 
 /// Copies the rows of a block, `stride` samples apart, to a place in rows of `width` samples.
 #[inline(always)]
-pub(crate) fn copy_rows(samples: &mut [u16], width: usize, to: &Area, block: &[u16], stride: usize)
+pub(crate) fn copy_rows<P: Sample>(
+    samples: &mut [P],
+    width: usize,
+    to: &Area,
+    block: &[P],
+    stride: usize,
+)
     requires wide { to.now.first_column + to.now.columns ≤ width }
     requires near { to.now.first_row + to.now.rows ≤ 65536 }
     requires apart { width ≤ 65536 }
     requires high { (to.now.first_row + to.now.rows) * width ≤ length samples.old }
     requires narrow { to.now.columns ≤ stride }
     requires whole { to.now.rows * stride ≤ length block.now }
-    ensures { rows_of width samples.new
-        ≡ with_block (rows_of width samples.old) to.now.first_row to.now.first_column to.now.rows to.now.columns (rows_of stride block.now) }
+    ensures { rows_of width (map P.value samples.new)
+        ≡ with_block (rows_of width (map P.value samples.old)) to.now.first_row to.now.first_column to.now.rows to.now.columns (rows_of stride (map P.value block.now)) }
 {
     for i in 0..to.rows {
         let at = (to.first_row + i) * width + to.first_column;
@@ -27,13 +33,13 @@ pub(crate) fn copy_rows(samples: &mut [u16], width: usize, to: &Area, block: &[u
 
 /// Copies rows of N samples to a row and column of rows of `width` samples.
 #[inline(always)]
-pub(crate) fn copy_columns<const N: usize>(
-    samples: &mut [u16],
+pub(crate) fn copy_columns<P: Sample, const N: usize>(
+    samples: &mut [P],
     width: usize,
     row: usize,
     column: usize,
     rows: usize,
-    block: &[u16],
+    block: &[P],
 )
     requires few { N ≤ 64 }
     requires low { rows ≤ 64 }
@@ -42,30 +48,35 @@ pub(crate) fn copy_columns<const N: usize>(
     requires apart { width ≤ 65536 }
     requires high { (row + rows) * width ≤ length samples.old }
     requires whole { rows * N ≤ length block.now }
-    ensures { rows_of width samples.new ≡ with_block (rows_of width samples.old) row column rows N (rows_of N block.now) }
+    ensures { rows_of width (map P.value samples.new) ≡ with_block (rows_of width (map P.value samples.old)) row column rows N (rows_of N (map P.value block.now)) }
 {
     let mut place = row * width + column;
     for i in 0..rows {
-        let line: Simd<u16, N> = Simd::from_slice(&block[i * N..i * N + N]);
-        line.copy_to_slice(&mut samples[place..place + N]);
+        samples[place..place + N].copy_from_slice(&block[i * N..i * N + N]);
         place += width;
     }
 }
 
 /// Reads so many samples, each `apart` places after the one before it, the first of them at place `at`.
 #[inline(always)]
-pub(crate) fn read_apart(samples: &[u16], at: usize, apart: usize, count: usize, to: &mut [u16])
+pub(crate) fn read_apart<P: Sample>(
+    samples: &[P],
+    at: usize,
+    apart: usize,
+    count: usize,
+    to: &mut [u16],
+)
     requires room { count ≤ length to.old }
     requires near { at ≤ 2 ^ 40 }
     requires apart { apart ≤ 65536 }
     requires few { count ≤ 65536 }
     requires inside { (k : ℕ) → k < count → at + k * apart < length samples.now }
-    ensures read { (k : ℕ) → k < count → slice_index to.new k ≡ slice_index samples.now (at + k * apart) }
+    ensures read { (k : ℕ) → k < count → slice_index to.new k ≡ slice_index (map P.value samples.now) (at + k * apart) }
     ensures after { (k : ℕ) → count ≤ k → slice_index to.new k ≡ slice_index to.old k }
 {
     let mut place = at;
     for k in 0..count {
-        to[k] = samples[place];
+        to[k] = samples[place].widen();
         place += apart;
     }
 }

@@ -6,22 +6,22 @@ ghost use Rattle.planes.specs.Pictures.{FitsPlanes, coded_area};
 use crate::area::Area;
 use crate::plane::SamplePlane;
 use std::alloc::{AllocError, Global};
-use vp9_types::{Plane, Shape, halved};
+use vp9_types::{Plane, Sample, Shape, halved};
 
 /// The three planes of a frame.
 #[derive(Drop)]
-pub struct FramePlanes {
-    pub y: SamplePlane,
-    pub u: SamplePlane,
-    pub v: SamplePlane,
+pub struct FramePlanes<P: Sample> {
+    pub y: SamplePlane<P>,
+    pub u: SamplePlane<P>,
+    pub v: SamplePlane<P>,
 }
 
-impl FramePlanes {
+impl<P: Sample> FramePlanes<P> {
     ghost use Rattle.planes.specs.Pictures.{HasSizes, plane_of, samples_of, blank};
     ghost use Rattle.planes.specs.Code.{LendsPlane};
 
     /// Zeros, with all places of 8x8 luma samples of a frame.
-    pub fn new(alloc: Global, shape: &Shape) -> Result<FramePlanes, AllocError>
+    pub fn new(alloc: Global, shape: &Shape) -> Result<FramePlanes<P>, AllocError>
         requires { FitsPlanes shape.now }
         ensures sizes { IfOk result (λ f. HasSizes shape.now f) }
         ensures zero { IfOk result (λ f. samples_of f ≡ blank) }
@@ -33,7 +33,7 @@ impl FramePlanes {
         })
     }
 
-    pub fn plane(&self, plane: Plane) -> &SamplePlane
+    pub fn plane(&self, plane: Plane) -> &SamplePlane<P>
         ensures { result.now ≡ plane_of self.now plane }
     {
         match plane {
@@ -44,8 +44,8 @@ impl FramePlanes {
     }
 
     /// A plane for writing.
-    pub fn plane_mut(&mut self, plane: Plane) -> &mut SamplePlane
-        ensures* writes_back { sem 𝓛 (LendsPlane self.entry plane result) }
+    pub fn plane_mut(&mut self, plane: Plane) -> &mut SamplePlane<P>
+        ensures* writes_back { sem 𝓛 (LendsPlane P.row P.Sample self.entry plane result) }
         ensures value { result.now ≡ plane_of self.old plane }
     {
         match plane {

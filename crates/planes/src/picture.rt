@@ -5,22 +5,22 @@ ghost use Rattle.planes.specs.Planes.{HasRow};
 use crate::frame_planes::FramePlanes;
 use crate::plane::SamplePlane;
 use std::alloc::{AllocError, Global};
-use vp9_types::{Depth, Plane, Samples, Shape};
+use vp9_types::{Depth, Plane, Sample, Samples, Shape};
 
 /// The samples of a frame, and its shape. Its planes have all of its places of 8x8 luma samples, and what is shown of
 /// them is their part of the shape.
 #[derive(Drop)]
-pub struct Picture {
+pub struct Picture<P: Sample> {
     shape: Shape,
-    planes: FramePlanes,
+    planes: FramePlanes<P>,
 }
 
-impl Picture {
+impl<P: Sample> Picture<P> {
     ghost use Rattle.planes.specs.Pictures.{FitsPlanes, HasSizes, IsBlank, plane_of};
     ghost use Rattle.planes.specs.Code.{LendsPlanes};
 
     /// A picture of zeros.
-    pub fn new(alloc: Global, shape: Shape) -> Result<Picture, AllocError>
+    pub fn new(alloc: Global, shape: Shape) -> Result<Picture<P>, AllocError>
         requires { FitsPlanes shape }
         ensures { IfOk result (λ p. IsBlank shape p) }
     {
@@ -29,7 +29,7 @@ impl Picture {
     }
 
     /// A picture of no samples, which needs no memory: it keeps the place of one that is lent out.
-    pub fn none(alloc: Global) -> Picture {
+    pub fn none(alloc: Global) -> Picture<P> {
         let shape = Shape {
             w: 0,
             h: 0,
@@ -51,15 +51,15 @@ impl Picture {
         self.shape
     }
 
-    pub fn plane(&self, plane: Plane) -> &SamplePlane
+    pub fn plane(&self, plane: Plane) -> &SamplePlane<P>
         ensures { result.now ≡ plane_of self.now.planes plane }
     {
         self.planes.plane(plane)
     }
 
     /// Its planes for writing.
-    pub fn planes_mut(&mut self) -> &mut FramePlanes
-        ensures* writes_back { sem 𝓛 (LendsPlanes self.entry result) }
+    pub fn planes_mut(&mut self) -> &mut FramePlanes<P>
+        ensures* writes_back { sem 𝓛 (LendsPlanes P.row P.Sample self.entry result) }
         ensures value { result.now ≡ self.old.planes }
     {
         &mut self.planes
@@ -79,7 +79,9 @@ impl Picture {
     }
 }
 
-impl Samples for Picture {
+impl<P: Sample> Samples for Picture<P> {
+    type Kept = P;
+
     ghost use Rattle.planes.specs.Pictures.{plane_of, map_of};
 
     ghost holds = { λ f p y. HasRow (plane_of f.planes p).area y 0 (plane_of f.planes p).area.columns };
@@ -88,7 +90,7 @@ impl Samples for Picture {
 
     ghost map = { λ f. map_of f };
 
-    fn row(&self, plane: Plane, y: u32) -> &[u16] {
+    fn row(&self, plane: Plane, y: u32) -> &[P] {
         let plane = self.planes.plane(plane);
         let columns = plane.area().columns;
         plane.row(y as usize, 0, columns)

@@ -1,44 +1,45 @@
-ghost use Rattle.std.specs.Prelude.{◌≡◌, ◌≤◌, ◌<◌, ◌+◌, ◌-◌, ◌*◌, ℕ, List, IfOk, length, slice_index};
-ghost use Rattle.vp9_types.specs.Maps.{IsAtMost, rows_of, row_of, with_block};
+ghost use Rattle.std.specs.Prelude.{◌≡◌, ◌≤◌, ◌<◌, ◌+◌, ◌-◌, ◌*◌, ℕ, List, IfOk, length, map, slice_index};
 ghost use Rattle.std.specs.Borrow.{sem};
+ghost use Rattle.vp9_types.specs.Maps.{IsAtMost, rows_of, row_of, with_block};
 ghost use Rattle.planes.specs.Planes.{PlaneSamples, IsArea, StartsIn, HasRow, HasColumn, lower_end, right_end, from_row, plane_map, with_part};
 
 use crate::area::Area;
 use crate::copies::{copy_columns, copy_rows, read_apart};
 use std::alloc::{AllocError, Global};
 use std::marker::Model;
+use vp9_types::Sample;
 
 /// The samples of a plane of a frame, or of a part of one. Rows and columns are those of the whole plane.
 #[derive(Drop)]
-pub struct SamplePlane {
+pub struct SamplePlane<P: Sample> {
     area: Area,
-    samples: Vec<u16>,
+    samples: Vec<P>,
 }
 
-impl Model for SamplePlane {
+impl<P: Sample> Model for SamplePlane<P> {
     ghost Value = { PlaneSamples };
 
-    ghost view = { λ p. record { area = p.area; samples = p.samples.items } };
+    ghost view = { λ p. record { area = p.area; samples = map P.value p.samples.items } };
 
     ghost invariant = { λ p. IsArea p.area × (length p.samples.items ≡ p.area.rows * p.area.columns) };
 }
 
-impl SamplePlane {
+impl<P: Sample> SamplePlane<P> {
     ghost use Rattle.planes.specs.Code.{LendsRow, with_row};
 
     /// Zeros. An area with a first row or column past 0 is a part of a plane.
     #[tactic(auto, using(crate::proofs::PlaneLemmas::zero_map))]
-    pub fn new(alloc: Global, area: Area) -> Result<SamplePlane, AllocError>
+    pub fn new(alloc: Global, area: Area) -> Result<SamplePlane<P>, AllocError>
         requires { IsArea area }
         ensures area { IfOk result (λ p. p.area ≡ area) }
         ensures zero { IfOk result (λ p. plane_map p ≡ (λ _ _. 0)) }
     {
-        let samples = Vec::from_elem(alloc, 0, area.rows * area.columns)?;
+        let samples = P::zeros(alloc, area.rows * area.columns)?;
         Ok(SamplePlane { area, samples })
     }
 
     /// No samples, which needs no memory.
-    pub(crate) fn none(alloc: Global) -> SamplePlane {
+    pub(crate) fn none(alloc: Global) -> SamplePlane<P> {
         SamplePlane {
             area: Area::whole(0, 0),
             samples: Vec::new(alloc),
@@ -66,11 +67,11 @@ impl SamplePlane {
     /// So many samples of a row, from a column on.
     #[inline(always)]
     #[tactic(auto, using(crate::proofs::PlaneLemmas::row_fits, crate::proofs::PlaneLemmas::row_is))]
-    pub fn row(&self, row: usize, column: usize, count: usize) -> &[u16]
+    pub fn row(&self, row: usize, column: usize, count: usize) -> &[P]
         requires { HasRow self.now.area row column count }
         ensures long { length result.now ≡ count }
-        ensures value { result.now ≡ row_of (plane_map self.now) row column count }
-        ensures samples { (j : ℕ) → j < count → slice_index result.now j ≡ plane_map self.now row (column + j) }
+        ensures value { map P.value result.now ≡ row_of (plane_map self.now) row column count }
+        ensures samples { (j : ℕ) → j < count → slice_index (map P.value result.now) j ≡ plane_map self.now row (column + j) }
     {
         let at = self.area.place_of(row, column);
         &self.samples[at..at + count]
@@ -79,11 +80,11 @@ impl SamplePlane {
     /// As `row`, of the row above.
     #[inline(always)]
     #[tactic(auto, using(crate::proofs::PlaneLemmas::row_fits, crate::proofs::PlaneLemmas::row_is))]
-    pub fn row_above(&self, row: usize, column: usize, count: usize) -> &[u16]
+    pub fn row_above(&self, row: usize, column: usize, count: usize) -> &[P]
         requires some { 0 < row }
         requires inside { HasRow self.now.area (row - 1) column count }
         ensures long { length result.now ≡ count }
-        ensures samples { (j : ℕ) → j < count → slice_index result.now j ≡ plane_map self.now (row - 1) (column + j) }
+        ensures samples { (j : ℕ) → j < count → slice_index (map P.value result.now) j ≡ plane_map self.now (row - 1) (column + j) }
     {
         let from = self.area.place_above(row, column);
         &self.samples[from..from + count]
@@ -96,7 +97,7 @@ impl SamplePlane {
         requires { HasRow self.now.area row column 1 }
         ensures { result ≡ plane_map self.now row column }
     {
-        self.samples[self.area.place_of(row, column)]
+        self.samples[self.area.place_of(row, column)].widen()
     }
 
     /// Reads so many samples of a column, from a row on.
@@ -114,20 +115,13 @@ impl SamplePlane {
 
     /// Puts a block of so many rows and columns at a row and column. What lies below or right of the plane is left out.
     #[inline(always)]
-    pub fn put_block(
-        &mut self,
-        row: usize,
-        column: usize,
-        rows: usize,
-        columns: usize,
-        block: &[u16],
-    )
+    pub fn put_block(&mut self, row: usize, column: usize, rows: usize, columns: usize, block: &[P])
         requires inside { StartsIn self.old.area row column }
         requires low { rows ≤ 65536 }
         requires narrow { columns ≤ 65536 }
         requires whole { rows * columns ≤ length block.now }
         ensures area { self.new.area ≡ self.old.area }
-        ensures map { plane_map self.new ≡ with_part self.old.area (plane_map self.old) row column rows columns (rows_of columns block.now) }
+        ensures map { plane_map self.new ≡ with_part self.old.area (plane_map self.old) row column rows columns (rows_of columns (map P.value block.now)) }
     {
         let area = self.area;
         let to = Area {
@@ -146,7 +140,7 @@ impl SamplePlane {
         row: usize,
         column: usize,
         rows: usize,
-        block: &[u16],
+        block: &[P],
     )
         requires inside { StartsIn self.old.area row column }
         requires few { N ≤ 64 }
@@ -155,10 +149,10 @@ impl SamplePlane {
         requires right { column + N ≤ right_end self.old.area }
         requires whole { rows * N ≤ length block.now }
         ensures area { self.new.area ≡ self.old.area }
-        ensures map { plane_map self.new ≡ with_part self.old.area (plane_map self.old) row column rows N (rows_of N block.now) }
+        ensures map { plane_map self.new ≡ with_part self.old.area (plane_map self.old) row column rows N (rows_of N (map P.value block.now)) }
     {
         let area = self.area;
-        copy_columns::<N>(
+        copy_columns::<P, N>(
             &mut self.samples,
             area.columns,
             row - area.first_row,
@@ -175,14 +169,14 @@ impl SamplePlane {
         row: usize,
         column: usize,
         rows: usize,
-        block: &[u16],
+        block: &[P],
     )
         requires inside { StartsIn self.old.area row column }
         requires few { N ≤ 64 }
         requires low { rows ≤ 64 }
         requires whole { rows * N ≤ length block.now }
         ensures area { self.new.area ≡ self.old.area }
-        ensures map { plane_map self.new ≡ with_part self.old.area (plane_map self.old) row column rows N (rows_of N block.now) }
+        ensures map { plane_map self.new ≡ with_part self.old.area (plane_map self.old) row column rows N (rows_of N (map P.value block.now)) }
     {
         let area = self.area;
         if rows <= area.lower_end() - row && N <= area.right_end() - column {
@@ -194,23 +188,23 @@ impl SamplePlane {
 
     /// Puts a square block at a row and column, as `put_block` does.
     #[inline(always)]
-    pub fn put_square<const N: usize>(&mut self, row: usize, column: usize, block: &[u16])
+    pub fn put_square<const N: usize>(&mut self, row: usize, column: usize, block: &[P])
         requires inside { StartsIn self.old.area row column }
         requires few { N ≤ 64 }
         requires whole { N * N ≤ length block.now }
         ensures area { self.new.area ≡ self.old.area }
-        ensures map { plane_map self.new ≡ with_part self.old.area (plane_map self.old) row column N N (rows_of N block.now) }
+        ensures map { plane_map self.new ≡ with_part self.old.area (plane_map self.old) row column N N (rows_of N (map P.value block.now)) }
     {
         self.put_columns::<N>(row, column, N, block);
     }
 
     /// So many samples of a row, from a column on, for writing.
     #[inline(always)]
-    pub fn row_mut(&mut self, row: usize, column: usize, count: usize) -> &mut [u16]
+    pub fn row_mut(&mut self, row: usize, column: usize, count: usize) -> &mut [P]
         requires { HasRow self.old.area row column count }
-        ensures* writes_back { sem 𝓛 (LendsRow self.entry row column result) }
+        ensures* writes_back { sem 𝓛 (LendsRow P.row P.Sample self.entry row column result) }
         ensures long { length result.now ≡ count }
-        ensures value { result.now ≡ row_of (plane_map self.old) row column count }
+        ensures value { map P.value result.now ≡ row_of (plane_map self.old) row column count }
         // what the plane is once these samples are written
         ensures written { (w : List ℕ) → length w ≡ count →
             plane_map (with_row self.old row column w) ≡ with_block (plane_map self.old) row column 1 count (λ _ j. slice_index w j) }
@@ -239,6 +233,6 @@ impl SamplePlane {
         ensures area { self.new.area ≡ self.old.area }
         ensures zero { plane_map self.new ≡ (λ _ _. 0) }
     {
-        self.samples.fill(0);
+        P::clear(&mut self.samples);
     }
 }

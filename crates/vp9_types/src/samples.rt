@@ -1,11 +1,15 @@
-ghost use Rattle.std.specs.Prelude.{◌≡◌, ℕ};
+ghost use Rattle.std.specs.Prelude.{◌≡◌, ℕ, map as each};
 ghost use Rattle.vp9_types.specs.Maps.{FrameMap, row_of};
 
+use crate::sample::Sample;
 use crate::shape::Plane;
 
 /// The rows of a frame, whoever holds them.
 pub trait Samples {
     ghost use Rattle.vp9_types.specs.declared.shape.Plane.{Plane};
+
+    /// What it keeps a sample as.
+    type Kept: Sample;
 
     /// Which rows may be asked for.
     ghost holds: { Self → Plane → ℕ → Type 0 };
@@ -17,7 +21,7 @@ pub trait Samples {
     ghost map: { Self → FrameMap };
 
     /// A row of a plane.
-    fn row(&self, plane: Plane, y: u32) -> &[u16]
+    fn row(&self, plane: Plane, y: u32) -> &[Self::Kept]
         requires { holds self.now plane y }
-        ensures { result.now ≡ row_of (map self.now plane) y 0 (width self.now plane) };
+        ensures { each Self.Kept.value result.now ≡ row_of (map self.now plane) y 0 (width self.now plane) };
 }

@@ -1,6 +1,6 @@
-use Rattle.std.proofs.Common.{◌≡◌, ◌∙◌, ℕ, sym, arith, ap}
+use Rattle.std.proofs.Common.{◌≡◌, ◌∙◌, ℕ, sym, arith, ap, map}
 use Rattle.vp9_types.specs.Maps.{rows_of, with_block}
-use Rattle.planes.proofs.RowLemmas.{no_rows, row_stored}
+use Rattle.planes.proofs.RowLemmas.{no_rows, values_copied}
 use Rattle.planes.proofs.copies.copy_columns.Goals as goal
 
 pub loop-i-init : goal.loop-i-init
@@ -10,10 +10,10 @@ pub loop-i-preserved : goal.loop-i-preserved
 loop-i-preserved g c = let a = c.args in let r = c.requires in let here = c.loop-i.invariant.place in
     record {
       place = rw here (omega arith);
-      map = rw here (row_stored _ a.width g.row.N c.loop-i.samples a.block.now a.row a.column c.loop-i.i a.rows
-          c.loop-i.invariant.map c.loop-i-test.true r.wide (omega arith) r.whole);
+      map = rw here (values_copied g.P.Sample.value _ a.width g.row.N c.loop-i.samples a.block.now c.copy_from_slice.new.self a.row a.column c.loop-i.i g.row.N a.rows
+          c.loop-i.invariant.map c.loop-i-test.true r.wide (omega arith) (omega arith) r.whole c.copy_from_slice.ensures.after);
     }
 
 pub returns : goal.returns
 returns g c = let done : c.loop-i.i ≡ c.args.rows = omega arith in
-    c.loop-i.invariant.map ∙ ap (λ (n : ℕ). with_block (rows_of c.args.width c.args.samples.now) c.args.row c.args.column n g.row.N (rows_of g.row.N c.args.block.now)) done
+    c.loop-i.invariant.map ∙ ap (λ (n : ℕ). with_block (rows_of c.args.width (map g.P.Sample.value c.args.samples.now)) c.args.row c.args.column n g.row.N (rows_of g.row.N (map g.P.Sample.value c.args.block.now))) done
