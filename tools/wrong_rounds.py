@@ -74,12 +74,18 @@ def check(folder):
 
 
 def is_refused(crate, own, said):
-    """Returns whether the check said of a function of the edit's that it is not proved, and gave a reason that is not a name or a limit."""
+    """Returns whether the check said that a function of the edit's isn't proved, and gave a reason of the function's own that is no name and no limit."""
     for module, name in own:
-        path = re.escape("::".join(it for it in (crate, module if module != "lib" else "", "") if it))
-        if re.search(rf"^fn {path}(?:\w+::)*{name}: (?:not proved|no proof)", said, re.M):
-            weak = any(found[1] == name for line in said.split("\n") for found in [NAMES.match(line)] if found)
-            return not weak and not LIMITS.search(said)
+        path = "::".join(it for it in (crate, module if module != "lib" else "") if it)
+        told = re.search(rf"^fn {path}::(?:\w+::)*{name}: (?:not proved|no proof).*", said, re.M)
+        if not told:
+            continue
+        lines = said.split("\n")
+        failed = any(re.match(rf"(?:\./)?proofs/\S*/{name}/\w+\.antt:\d+:\d+: error", line) for line in lines)
+        weak = any(found[1] == name for found in map(NAMES.match, lines) if found)
+        # (a function that calls one which isn't proved has no proof either)
+        if ("did not prove" in told[0] or failed) and not weak and not LIMITS.search(said):
+            return True
     return False
 
 
