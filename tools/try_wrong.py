@@ -4,6 +4,7 @@
     tools/try_wrong.py [CRATE..]     those of these crates, or all
     tools/try_wrong.py --changed     those of each crate that changed since they were refused, and what was never tried
     tools/try_wrong.py --stale       tries nothing: tells these, by its status too
+    --in DIR                         in this clone of what is committed, which may hold built libraries, and not in one of its own
 
 It works in a clone of what is committed, crate by crate. Most are tried some at a time (wrong_rounds.py); what that leaves undecided is put into
 must-fail/ there, and the kit's gate is run for the crate alone. Proofs are taken from earlier checks on this machine where they stand. What was refused
@@ -101,6 +102,8 @@ def tried(clone, crate, some):
 
 def main():
     words = sys.argv[1:]
+    place = words.pop(words.index("--in") + 1) if "--in" in words else None
+    words = [it for it in words if it != "--in"]
     flags, names = [it for it in words if it.startswith("-")], [it for it in words if not it.startswith("-")]
     every, known = edits(), refused()
     if [it for it in flags if it not in ("--changed", "--stale")] or [it for it in names if not any(crate == it for crate, _ in every)]:
@@ -124,8 +127,9 @@ def main():
     # Crate by crate: what a run has come to stands, even if it is ended then.
     for crate in sorted({crate for crate, _ in some}):
         with tempfile.TemporaryDirectory(prefix="vp9dec-wrong-") as room:
-            subprocess.run(["git", "clone", "-q", TOP, f"{room}/clone"], check=True)
-            told = tried(f"{room}/clone", crate, {key for key in some if key[0] == crate})
+            if not place:
+                subprocess.run(["git", "clone", "-q", TOP, f"{room}/clone"], check=True)
+            told = tried(place or f"{room}/clone", crate, {key for key in some if key[0] == crate})
         found.update(told)
         # (another run may have written it meanwhile)
         known = refused()

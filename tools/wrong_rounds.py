@@ -69,7 +69,7 @@ def rounds_of(folder, edits):
 
 def check(folder):
     """Checks a crate; returns what the check said and whether it reached a verdict."""
-    ran = subprocess.run(["rt", "check"], cwd=folder, stdin=subprocess.DEVNULL, stdout=subprocess.PIPE, stderr=subprocess.STDOUT, text=True, errors="replace")
+    ran = subprocess.run([os.environ.get("RT", "rt"), "check"], cwd=folder, stdin=subprocess.DEVNULL, stdout=subprocess.PIPE, stderr=subprocess.STDOUT, text=True, errors="replace")
     return ran.stdout, re.search(r"^logic=(\S+)", ran.stdout, re.M)
 
 
