@@ -87,12 +87,12 @@ block_broken by put at blocks sides map a b info rule modes_read residue =
     counting_bind _ _ _ ∙ rw modes_read (counting_bind _ _ _ ∙ rw (run_settle info b) (counting_bind _ _ _ ∙ rw residue refl))
 
 -- the pictures that a block refers to are there
-second_has : (header : Header) (pictures : code.Rebuilding Picture) (fields : InterFields) (second : Option ReferenceFrame) → HasPictures header pictures → header.kind ≡ frame.Inter fields
+second_has : {X : Type 0} (header : Header) (pictures : code.Rebuilding (Picture X)) (fields : InterFields) (second : Option ReferenceFrame) → HasPictures header pictures → header.kind ≡ frame.Inter fields
     → second_in_range header.size fields.references second ≡ true → IfSome second (HasReference has_row row_width map_of pictures)
 second_has header pictures fields None all kind range = tt
 second_has header pictures fields (Some reference) all kind range = all fields reference kind range
 
-pub has_references : (header : Header) (pictures : code.Rebuilding Picture) (p : Prediction) → HasPictures header pictures → RefersInRange header p → HasReferences has_row row_width map_of pictures p
+pub has_references : {X : Type 0} (header : Header) (pictures : code.Rebuilding (Picture X)) (p : Prediction) → HasPictures header pictures → RefersInRange header p → HasReferences has_row row_width map_of pictures p
 has_references header pictures (Intra modes) all range = tt
 has_references header pictures (Inter modes) all range =
     (all range.0 modes.references.first range.1 range.2, second_has header pictures range.0 modes.references.second all range.1 range.3)

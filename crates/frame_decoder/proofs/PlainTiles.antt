@@ -76,7 +76,7 @@ tile_seen by put frame tile m columns r c n s =
     (λ at s. block_seen by put m at s) (λ s. refl) columns r c n s
 
 -- what a tile's reader gives
-pub tile_given : {n : ℕ} (rest : Rest PlainTile) (room : ℕ) (start : Tile PlainTile Rule) (result : Result (Unit {0}) Rule) (old : CountingReader n) (walk : Walk PlainTile) (limit most : ℕ) (column : TileColumn) (planes : FramePlanes) (new : CountingReader n)
+pub tile_given : {X : Type 0} {n : ℕ} (rest : Rest PlainTile) (room : ℕ) (start : Tile PlainTile Rule) (result : Result (Unit {0}) Rule) (old : CountingReader n) (walk : Walk PlainTile) (limit most : ℕ) (column : TileColumn) (planes : FramePlanes X) (new : CountingReader n)
     → start.standing ≡ standing_of old → start.rule_of ≡ (λ rule. Some rule) → EndsTile rest room start result (record { walk = walk; rule_of = λ rule. Some rule; limit = limit; room = most; state = tile_of column planes; standing = standing_of new })
     → GivesTile (rest start.state) old result column planes new
 tile_given rest room start (Ok u) old walk limit most column planes new is tells h = rw (sym is) h.0
@@ -84,7 +84,7 @@ tile_given rest room start (Err rule) old walk limit most column planes new is t
     rw (sym is) (subst (λ (f : Rule → Option Rule). Breaks (f rule) (rest start.state) start.standing) tells h)
 
 -- the same of what is left behind references
-pub tile_left : {n : ℕ} (s : Syntax ℕ Rule (Settled PlainTile)) (old : CountingReader n) (result : Result (Unit {0}) Rule) (column left_column : TileColumn) (planes left_planes : FramePlanes) (new left : CountingReader n)
+pub tile_left : {X : Type 0} {n : ℕ} (s : Syntax ℕ Rule (Settled PlainTile)) (old : CountingReader n) (result : Result (Unit {0}) Rule) (column left_column : TileColumn) (planes left_planes : FramePlanes X) (new left : CountingReader n)
     → left_column ≡ column → left_planes ≡ planes → left ≡ new → GivesTile s old result column planes new → GivesTile s old result left_column left_planes left
 tile_left s old result column left_column planes left_planes new left c p r h = rw (c, p, r) h
 
@@ -168,7 +168,7 @@ tile_done by put m after_it n bytes f s so_far reads whole =
 ---- In its column ----
 
 -- the plain decoder begins the tile with what is read before it
-state_told : (by : FrameSources) (put : Rebuilding) (n k : ℕ) (columns : List TileColumn) (planes : FramePlanes) (read : FrameRead) (x : TileColumn) → k ≡ column_of by.header.params.tiles n → k < length columns
+state_told : {X : Type 0} (by : FrameSources) (put : Rebuilding) (n k : ℕ) (columns : List TileColumn) (planes : FramePlanes X) (read : FrameRead) (x : TileColumn) → k ≡ column_of by.header.params.tiles n → k < length columns
     → IsTileColumn by.header n k (slice_index_or columns k x) → HoldsRead put columns planes read
     → tile_of (with_sides (slice_index_or columns k x) (cleared (slice_index_or columns k x).sides)) planes ≡ tile_before by put (samples_of planes) n read
 state_told by put n k columns planes read x at low h holds =
@@ -187,7 +187,7 @@ state_told by put n k columns planes read x at low h holds =
     } in
     now ∙ ap (λ k. view put (samples_of planes) (begun shape (column_at by.header read k))) at
 
-walk_told : (by : PlainSources) (n k : ℕ) (c : TileColumn) (planes : FramePlanes) (m : FrameMap) (read : FrameRead) (t : TilePlaces)
+walk_told : {X : Type 0} (by : PlainSources X) (n k : ℕ) (c : TileColumn) (planes : FramePlanes X) (m : FrameMap) (read : FrameRead) (t : TilePlaces)
     → k ≡ column_of by.reading.setting.header.params.tiles n → t ≡ tile_places by.reading.setting.places by.reading.setting.header.params.tiles n → IsTileColumn by.reading.setting.header n k c
     → (s : PlainTile) → s ≡ tile_before (sources_of by.reading) (pictures_of by) m n read
     → decode_tile (walk_of by c) (superblocks_along (t.col_to - t.col_from)) t.row_from t.col_from (superblocks_along (t.row_to - t.row_from)) s
@@ -201,7 +201,7 @@ walk_told by n k c planes m read t at is h s state =
     λ i. decode_tile (plain_walk (sources_of by.reading) (pictures_of by) (setting.whole i) (from i) (to i)) (superblocks_along ((same i).col_to - (same i).col_from)) (same i).row_from (same i).col_from
     (superblocks_along ((same i).row_to - (same i).row_from)) (state i)
 
-pub gives_nth : (by : PlainSources) (n k : ℕ) (columns : List TileColumn) (x new : TileColumn) (planes after_it : FramePlanes) (t : TilePlaces) (bytes before : List ℕ) (counting : Bool) (result : Result (List ℕ) Rule)
+pub gives_nth : {X : Type 0} (by : PlainSources X) (n k : ℕ) (columns : List TileColumn) (x new : TileColumn) (planes after_it : FramePlanes X) (t : TilePlaces) (bytes before : List ℕ) (counting : Bool) (result : Result (List ℕ) Rule)
     → k ≡ column_of by.reading.setting.header.params.tiles n → k < length columns → t ≡ tile_places by.reading.setting.places by.reading.setting.header.params.tiles n
     → IsTileColumn by.reading.setting.header n k (slice_index_or columns k x)
     → GivesWhole counting before (read_whole (decode_tile (walk_of by (slice_index_or columns k x)) (superblocks_along (t.col_to - t.col_from)) t.row_from t.col_from (superblocks_along (t.row_to - t.row_from))

@@ -67,48 +67,48 @@ plain_walk by put frame from to = record {
 }
 
 -- the code's tile
-abbrev pub tile_of : TileColumn → FramePlanes → PlainTile
+abbrev pub tile_of : {X : Type 0} → TileColumn → FramePlanes X → PlainTile
 tile_of c planes = record { blocks = c.grid.blocks; sides = c.sides; map = samples_of planes }
 
 ---- A tile of the code ----
 
 -- what its blocks are put in by
-abbrev pub pictures_of : PlainSources → Rebuilding
+abbrev pub pictures_of : {X : Type 0} → PlainSources X → Rebuilding
 pictures_of by = rebuilding_of map_of by.pictures
 
-abbrev pub walk_of : PlainSources → TileColumn → Walk PlainTile
+abbrev pub walk_of : {X : Type 0} → PlainSources X → TileColumn → Walk PlainTile
 walk_of by c = plain_walk (sources_of by.reading) (pictures_of by) by.reading.setting.places c.grid.from c.grid.to
 
 -- what the frames before leave can be used for this frame
-pub record CanPredict (by : PlainSources) : Type 0 where
+pub record CanPredict {X : Type 0} (by : PlainSources X) : Type 0 where
   pub past : IsPastOf by.reading.setting.header by.reading.past
   pub pictures : ArePicturesOf by.reading.setting.header by.pictures
 
 -- the planes of a frame
-pub record ArePlanes (shape : Shape) (planes : FramePlanes) : Type 0 where
+pub record ArePlanes {X : Type 0} (shape : Shape) (planes : FramePlanes X) : Type 0 where
   pub sizes : HasSizes shape planes
   pub range : IsInRange shape.depth planes
 
 -- what a walk of the tile settles on, or the rule that is broken
-abbrev pub GivesTile : {n : ℕ} → Syntax ℕ Rule (Settled PlainTile) → CountingReader n → Result (Unit {0}) Rule → TileColumn → FramePlanes → CountingReader n → Type 0
+abbrev pub GivesTile : {X : Type 0} → {n : ℕ} → Syntax ℕ Rule (Settled PlainTile) → CountingReader n → Result (Unit {0}) Rule → TileColumn → FramePlanes X → CountingReader n → Type 0
 GivesTile s old (Ok u) c planes new = Reads s old (tile_of c planes) new
 GivesTile s old (Err rule) c planes new = run_counting s (standing_of old) ≡ Err rule
 
 ---- A tile's bytes ----
 
 -- a tile is read, and what is counted in it comes to these counts, where counting is on
-abbrev pub GivesWhole : Bool → List ℕ → Result (Settled PlainTile) Rule → Result (List ℕ) Rule → TileColumn → FramePlanes → Type 0
+abbrev pub GivesWhole : {X : Type 0} → Bool → List ℕ → Result (Settled PlainTile) Rule → Result (List ℕ) Rule → TileColumn → FramePlanes X → Type 0
 GivesWhole counting before computed (Ok counts) c planes =
     (counted : List CountedBool) × (computed ≡ Ok (record { value = tile_of c planes; counted = counted })) × (counts ≡ counted_if counting before counted)
 GivesWhole counting before computed (Err rule) c planes = computed ≡ Err rule
 
 -- the code holds what is read, and has put in all of its blocks
-pub record HoldsRead (put : Rebuilding) (columns : List TileColumn) (planes : FramePlanes) (read : FrameRead) : Type 0 where
+pub record HoldsRead {X : Type 0} (put : Rebuilding) (columns : List TileColumn) (planes : FramePlanes X) (read : FrameRead) : Type 0 where
   pub columns_held : map column_of_code columns ≡ map column_as_listed read.columns
   pub map_held : raw put read.blocks ≡ samples_of planes
 
 -- reading goes on to what the code holds then, with its counts, or breaks the rule
-abbrev pub GivesRead : Rebuilding → Bool → Result FrameRead Rule → Result (List ℕ) Rule → List TileColumn → FramePlanes → Type 0
+abbrev pub GivesRead : {X : Type 0} → Rebuilding → Bool → Result FrameRead Rule → Result (List ℕ) Rule → List TileColumn → FramePlanes X → Type 0
 GivesRead put counting computed (Ok counts) columns planes =
     (read : FrameRead) × (computed ≡ Ok read) × HoldsRead put columns planes read × (counts ≡ counts_if counting read.counted)
 GivesRead put counting computed (Err rule) columns planes = computed ≡ Err rule
@@ -116,11 +116,11 @@ GivesRead put counting computed (Err rule) columns planes = computed ≡ Err rul
 ---- A frame ----
 
 -- what it is read from
-abbrev pub input_of : PlainSources → List ℕ → Span → FrameInput
+abbrev pub input_of : {X : Type 0} → PlainSources X → List ℕ → Span → FrameInput
 input_of by bytes compressed = record { header = by.reading.setting.header; compressed = compressed; bytes = bytes; past = past_of by.reading.past }
 
 -- the code holds what a frame leaves
-pub record HoldsResult (header : Header) (picture : Picture) (d : Decoded) (r : FrameResult) : Type 0 where
+pub record HoldsResult {X : Type 0} (header : Header) (picture : Picture X) (d : Decoded) (r : FrameResult) : Type 0 where
   pub map : map_of picture ≡ r.map
   pub shape : picture.shape ≡ shape_of header
   pub sizes : HasSizes (shape_of header) picture.planes
@@ -132,7 +132,7 @@ pub record HoldsResult (header : Header) (picture : Picture) (d : Decoded) (r : 
   pub counts : d.counts ≡ counts_if (adapts header) r.counted
 
 -- the frame is that, or the rule is broken. Want of memory has no cause
-abbrev pub IsDecoded : (ReferenceFrame → ReferencePicture) → FrameInput → Picture → Result Decoded Halt → Type 0
+abbrev pub IsDecoded : {X : Type 0} → (ReferenceFrame → ReferencePicture) → FrameInput → Picture X → Result Decoded Halt → Type 0
 IsDecoded references input picture (Ok d) = (r : FrameResult) × (decoded references input ≡ Ok r) × HoldsResult input.header picture d r
 IsDecoded references input picture (Err (halt.Broken rule)) = decoded references input ≡ Err rule
 IsDecoded references input picture (Err halt.OutOfMemory) = Unit {0}

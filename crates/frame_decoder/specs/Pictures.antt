@@ -15,19 +15,19 @@ use Rattle.block_rebuild.specs.Code.{HasReference}
 use Rattle.block_rebuild.specs.declared.references.Rebuilding.{Rebuilding}
 
 -- the rows of a picture (as it tells them by `Samples`)
-abbrev pub has_row : Picture → Plane → ℕ → Type 0
+abbrev pub has_row : {X : Type 0} → Picture X → Plane → ℕ → Type 0
 has_row f p y = HasRow (plane_of f.planes p).area y 0 (plane_of f.planes p).area.columns
 
-abbrev pub row_width : Picture → Plane → ℕ
+abbrev pub row_width : {X : Type 0} → Picture X → Plane → ℕ
 row_width f p = (plane_of f.planes p).area.columns
 
 -- whichever reference is in range is there
-abbrev pub HasPictures : Header → Rebuilding Picture → Type 0
+abbrev pub HasPictures : {X : Type 0} → Header → Rebuilding (Picture X) → Type 0
 HasPictures header pictures =
     (fields : InterFields) (reference : ReferenceFrame) → header.kind ≡ Inter fields → is_in_range header.size (reference_in fields.references reference) ≡ true
     → HasReference has_row row_width map_of pictures reference
 
 -- they can be used for this frame
-pub record ArePicturesOf (header : Header) (pictures : Rebuilding Picture) : Type 0 where
+pub record ArePicturesOf {X : Type 0} (header : Header) (pictures : Rebuilding (Picture X)) : Type 0 where
   pub shape : pictures.shape ≡ shape_of header
   pub there : HasPictures header pictures

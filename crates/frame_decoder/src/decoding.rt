@@ -1,6 +1,7 @@
 //! A frame, from its bytes to its samples.
 
 ghost use Rattle.std.specs.Prelude.{◌≤◌, ◌≡◌, IsOk, Ok, OnOk, length};
+ghost use Rattle.vp9_types.specs.Sizes.{greatest};
 ghost use Rattle.frame_headers.specs.Spans.{tile_count, tile_spans};
 ghost use Rattle.frame_headers.specs.State.{shape_of};
 ghost use Rattle.frame_headers.specs.Tiles.{AreFewTiles};
@@ -16,6 +17,7 @@ ghost use Rattle.frame_decoder.specs.Code.{ArePlanes, CanPredict, GivesRead, Hol
 use crate::plain::PlainSources;
 use crate::tiles::decode_tiles;
 use frame_state::{FrameBlocks, Halt, TileColumn, adapts};
+use inter_lanes::FilterSample;
 use loop_edges::EdgeSetting;
 use loop_filter::filter_frame;
 use planes::{FramePlanes, Picture};
@@ -33,15 +35,16 @@ pub struct Decoded {
 }
 
 /// All tiles of a frame, and what was counted in them, if its probabilities are adapted.
-fn decode_counted(
+fn decode_counted<P: FilterSample>(
     bytes: &[u8],
-    by: &PlainSources<'_>,
+    by: &PlainSources<'_, P>,
     compressed: Span,
     columns: &mut [TileColumn],
-    planes: &mut FramePlanes,
+    planes: &mut FramePlanes<P>,
     none: Counts,
 ) -> Result<Counts, Rule>
     requires past { CanPredict by.now }
+    requires kept { P.takes (greatest (shape_of by.now.reading.setting.header).depth) }
     requires few { AreFewTiles by.now.reading.setting.header.params.tiles }
     requires within { compressed.to ≤ length bytes.now }
     requires tested { IsOk (tile_spans bytes.now by.now.reading.setting.header compressed) }
@@ -55,25 +58,26 @@ fn decode_counted(
     ensures planes { OnOk result (ArePlanes (shape_of by.now.reading.setting.header) planes.new) }
 {
     if adapts(&by.reading.setting.header) {
-        decode_tiles::<true>(bytes, by, compressed, columns, planes, none)
+        decode_tiles::<P, true>(bytes, by, compressed, columns, planes, none)
     } else {
-        decode_tiles::<false>(bytes, by, compressed, columns, planes, none)
+        decode_tiles::<P, false>(bytes, by, compressed, columns, planes, none)
     }
 }
 
 /// Decodes a coded frame that is begun, into a picture of zeros of its shape. Its blocks are kept in the memory of an earlier
 /// frame's tile columns, if there are as many and they suffice, which stay where they are if there is no frame.
-pub fn decode_frame(
+pub fn decode_frame<P: FilterSample>(
     columns: &mut Vec<TileColumn>,
     bytes: &[u8],
-    by: PlainSources<'_>,
+    by: PlainSources<'_, P>,
     compressed: Span,
-    picture: &mut Picture,
+    picture: &mut Picture<P>,
 ) -> Result<Decoded, Halt>
     requires few { AreFewTiles by.reading.setting.header.params.tiles }
     requires within { compressed.to ≤ length bytes.now }
     requires begun { IsBegun by.reading.setting.header bytes.now compressed (lists_of by.reading.past.contexts.now) (Ok by.reading.setting) }
     requires past { CanPredict by }
+    requires kept { P.takes (greatest (shape_of by.reading.setting.header).depth) }
     requires blank { IsBlank (shape_of by.reading.setting.header) picture.old }
     ensures { IsDecoded (pictures_of by.entry).references (input_of by.entry bytes.now compressed) picture.new result }
 {

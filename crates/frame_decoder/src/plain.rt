@@ -1,6 +1,7 @@
 //! A tile whose blocks are put in as they are read.
 
 ghost use Rattle.std.specs.Prelude.{◌≡◌, ◌+◌, ◌<◌, ◌≤◌, OnOk};
+ghost use Rattle.vp9_types.specs.Sizes.{greatest};
 ghost use Rattle.block_geometry.specs.Sizes.{width_8};
 ghost use Rattle.frame_headers.specs.State.{shape_of};
 ghost use Rattle.frame_state.specs.Code.{IsReady, SameColumns, sources_of};
@@ -13,6 +14,7 @@ use block_rebuild::{RebuildRoom, Rebuilding, put_block};
 use block_residue::read_block;
 use counting_reader::CountingReader;
 use frame_state::{FrameSources, TileColumn, frame_is_intra};
+use inter_lanes::FilterSample;
 use inter_modes::mode_info;
 use mode_syntax::{SquareAt, read_partition};
 use planes::{FramePlanes, Picture};
@@ -21,20 +23,20 @@ use vp9_types::{Partition, Rule};
 
 /// What the blocks of a frame are read by, and the pictures that they are predicted from.
 #[derive(Drop)]
-pub struct PlainSources<'a> {
+pub struct PlainSources<'a, P: FilterSample> {
     pub reading: FrameSources<'a>,
-    pub pictures: Rebuilding<'a, Picture>,
+    pub pictures: Rebuilding<'a, Picture<P>>,
 }
 
 /// Room for one block: its residue, and what it is put in by.
 #[derive(Drop)]
-pub(crate) struct BlockRoom {
+pub(crate) struct BlockRoom<P: FilterSample> {
     pub residues: BlockResidues,
-    pub rebuild: RebuildRoom,
+    pub rebuild: RebuildRoom<P>,
 }
 
-impl BlockRoom {
-    pub fn new() -> BlockRoom {
+impl<P: FilterSample> BlockRoom<P> {
+    pub fn new() -> BlockRoom<P> {
         BlockRoom {
             residues: BlockResidues::new(),
             rebuild: RebuildRoom::new(),
@@ -43,17 +45,18 @@ impl BlockRoom {
 }
 
 /// A block that starts inside the frame.
-fn decode_block<const COUNTS: bool>(
-    by: &PlainSources<'_>,
+fn decode_block<P: FilterSample, const COUNTS: bool>(
+    by: &PlainSources<'_, P>,
     reader: &mut CountingReader<COUNTS>,
     column: &mut TileColumn,
-    planes: &mut FramePlanes,
-    room: &mut BlockRoom,
+    planes: &mut FramePlanes<P>,
+    room: &mut BlockRoom<P>,
     at: BlockAt,
 ) -> Result<(), Rule>
     requires ready { IsReady by.now.reading.setting column.old }
     requires planes { ArePlanes (shape_of by.now.reading.setting.header) planes.old }
     requires past { CanPredict by.now }
+    requires kept { P.takes (greatest (shape_of by.now.reading.setting.header).depth) }
     requires row { at.row < by.now.reading.setting.places.rows }
     requires first { at.tile_from ≤ at.col }
     requires col { at.col < at.tile_to }
@@ -92,19 +95,22 @@ fn decode_block<const COUNTS: bool>(
 
 /// What the blocks of a tile are read and put in by, its bools, its column, the frame's planes, and room for one block.
 #[derive(Drop)]
-pub(crate) struct PlainReader<'a, 'b, 'c, const COUNTS: bool> {
-    pub by: &'a PlainSources<'b>,
+pub(crate) struct PlainReader<'a, 'b, 'c, P: FilterSample, const COUNTS: bool> {
+    pub by: &'a PlainSources<'b, P>,
     pub reader: &'a mut CountingReader<'c, COUNTS>,
     pub column: &'a mut TileColumn,
-    pub planes: &'a mut FramePlanes,
-    pub room: &'a mut BlockRoom,
+    pub planes: &'a mut FramePlanes<P>,
+    pub room: &'a mut BlockRoom<P>,
 }
 
-impl<'a, 'b, 'c, const COUNTS: bool> TileReader for PlainReader<'a, 'b, 'c, COUNTS> {
+impl<'a, 'b, 'c, P: FilterSample, const COUNTS: bool> TileReader
+    for PlainReader<'a, 'b, 'c, P, COUNTS>
+{
     ghost use Rattle.std.specs.Prelude.{Some};
     ghost use Rattle.std.specs.Borrow.{GName};
     ghost use Rattle.counting_reader.specs.Code.{standing_of};
     ghost use Rattle.tile_reader.specs.Code.{Tile};
+    ghost use Rattle.vp9_types.specs.Sizes.{greatest};
     ghost use Rattle.frame_headers.specs.State.{shape_of};
     ghost use Rattle.frame_state.specs.Code.{IsReady};
     ghost use Rattle.frame_state.specs.Columns.{limit_of};
@@ -124,9 +130,9 @@ impl<'a, 'b, 'c, const COUNTS: bool> TileReader for PlainReader<'a, 'b, 'c, COUN
       standing = standing_of w.reader.now;
     } };
 
-    ghost ready = { λ w. CanPredict w.by.now × IsReady w.by.now.reading.setting w.column.now × ArePlanes (shape_of w.by.now.reading.setting.header) w.planes.now };
+    ghost ready = { λ w. CanPredict w.by.now × P.takes (greatest (shape_of w.by.now.reading.setting.header).depth) × IsReady w.by.now.reading.setting w.column.now × ArePlanes (shape_of w.by.now.reading.setting.header) w.planes.now };
 
-    ghost Kept = { GName × GName × GName × PlainSources };
+    ghost Kept = { GName × GName × GName × PlainSources P };
 
     ghost kept = { λ w. (w.reader.ghost_name, w.column.ghost_name, w.planes.ghost_name, w.by.now) };
 

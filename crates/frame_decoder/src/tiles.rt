@@ -4,7 +4,7 @@ ghost use Rattle.std.specs.Prelude.{◌≡◌, ◌-◌, ◌+◌, ◌*◌, ◌<�
 ghost use Rattle.frame_headers.specs.Spans.{tile_count, tile_spans};
 ghost use Rattle.frame_headers.specs.State.{shape_of};
 ghost use Rattle.frame_headers.specs.Tiles.{AreFewTiles};
-ghost use Rattle.vp9_types.specs.Sizes.{superblocks_along};
+ghost use Rattle.vp9_types.specs.Sizes.{greatest, superblocks_along};
 ghost use Rattle.prob_contexts.specs.Counted.{no_counts};
 ghost use Rattle.mode_syntax.specs.Walk.{decode_row, decode_tile};
 ghost use Rattle.frame_state.specs.Code.{counts_if, sources_of, read_whole, IsReady, SameColumns};
@@ -16,6 +16,7 @@ use crate::plain::{BlockRoom, PlainReader, PlainSources};
 use counting_reader::CountingReader;
 use frame_headers::tile_span;
 use frame_state::{TileColumn, TilePlaces, superblocks};
+use inter_lanes::FilterSample;
 use mode_syntax::SquareAt;
 use planes::FramePlanes;
 use prob_contexts::Counts;
@@ -26,13 +27,14 @@ use vp9_types::{Rule, Span};
 const SUPERBLOCK: u8 = 3;
 
 /// The blocks of a tile.
-fn read_tile<const COUNTS: bool>(
-    plain: &mut PlainReader<'_, '_, '_, COUNTS>,
+fn read_tile<P: FilterSample, const COUNTS: bool>(
+    plain: &mut PlainReader<'_, '_, '_, P, COUNTS>,
     tile: &TilePlaces,
 ) -> Result<(), Rule>
     requires ready { IsReady plain.old.by.now.reading.setting plain.old.column.now }
     requires planes { ArePlanes (shape_of plain.old.by.now.reading.setting.header) plain.old.planes.now }
     requires past { CanPredict plain.old.by.now }
+    requires kept { P.takes (greatest (shape_of plain.old.by.now.reading.setting.header).depth) }
     requires from { tile.now.col_from ≡ plain.old.column.now.grid.from }
     requires to { tile.now.col_to ≡ plain.old.column.now.grid.to }
     requires order { tile.now.row_from ≤ tile.now.row_to }
@@ -62,16 +64,17 @@ fn read_tile<const COUNTS: bool>(
 
 /// All blocks of a tile.
 #[tactic(auto, using(crate::proofs::PlainTiles::tile_left))]
-fn decode_blocks<const COUNTS: bool>(
-    by: &PlainSources<'_>,
+fn decode_blocks<P: FilterSample, const COUNTS: bool>(
+    by: &PlainSources<'_, P>,
     reader: &mut CountingReader<'_, COUNTS>,
     column: &mut TileColumn,
-    planes: &mut FramePlanes,
+    planes: &mut FramePlanes<P>,
     tile: &TilePlaces,
 ) -> Result<(), Rule>
     requires ready { IsReady by.now.reading.setting column.old }
     requires planes { ArePlanes (shape_of by.now.reading.setting.header) planes.old }
     requires past { CanPredict by.now }
+    requires kept { P.takes (greatest (shape_of by.now.reading.setting.header).depth) }
     requires from { tile.now.col_from ≡ column.old.grid.from }
     requires to { tile.now.col_to ≡ column.old.grid.to }
     requires order { tile.now.row_from ≤ tile.now.row_to }
@@ -97,17 +100,18 @@ fn decode_blocks<const COUNTS: bool>(
 
 /// A tile, from its bytes, with the counts so far; answers the counts behind it.
 #[tactic(auto, unfolding(frame_state::specs::Code::read_whole))]
-fn decode_tile<const COUNTS: bool>(
+fn decode_tile<P: FilterSample, const COUNTS: bool>(
     bytes: &[u8],
-    by: &PlainSources<'_>,
+    by: &PlainSources<'_, P>,
     tile: &TilePlaces,
     column: &mut TileColumn,
-    planes: &mut FramePlanes,
+    planes: &mut FramePlanes<P>,
     counts: Counts,
 ) -> Result<Counts, Rule>
     requires ready { IsReady by.now.reading.setting column.old }
     requires planes { ArePlanes (shape_of by.now.reading.setting.header) planes.old }
     requires past { CanPredict by.now }
+    requires kept { P.takes (greatest (shape_of by.now.reading.setting.header).depth) }
     requires from { tile.now.col_from ≡ column.old.grid.from }
     requires to { tile.now.col_to ≡ column.old.grid.to }
     requires order { tile.now.row_from ≤ tile.now.row_to }
@@ -126,15 +130,16 @@ fn decode_tile<const COUNTS: bool>(
 }
 
 /// The `n`-th tile of a frame, from its bytes, with the counts so far; answers the counts behind it.
-fn decode_nth<const COUNTS: bool>(
+fn decode_nth<P: FilterSample, const COUNTS: bool>(
     bytes: &[u8],
-    by: &PlainSources<'_>,
+    by: &PlainSources<'_, P>,
     n: u32,
     columns: &mut [TileColumn],
-    planes: &mut FramePlanes,
+    planes: &mut FramePlanes<P>,
     counts: Counts,
 ) -> Result<Counts, Rule>
     requires past { CanPredict by.now }
+    requires kept { P.takes (greatest (shape_of by.now.reading.setting.header).depth) }
     requires few { AreFewTiles by.now.reading.setting.header.params.tiles }
     requires below { n < tile_count by.now.reading.setting.header }
     requires columns { AreTileColumns by.now.reading.setting.header n columns.old }
@@ -148,20 +153,21 @@ fn decode_nth<const COUNTS: bool>(
     let tile = TilePlaces::new(by.reading.setting.places, tiles, n);
     let column = &mut columns[(n % tiles.columns()) as usize];
     column.sides.clear_left();
-    decode_tile::<COUNTS>(bytes, by, &tile, column, planes, counts)
+    decode_tile::<P, COUNTS>(bytes, by, &tile, column, planes, counts)
 }
 
 /// All tiles of a frame in order, whose compressed header lies at `compressed`. Their sizes are tested. Answers the counts of
 /// all of them, from `none` on, if counting is on.
-pub(crate) fn decode_tiles<const COUNTS: bool>(
+pub(crate) fn decode_tiles<P: FilterSample, const COUNTS: bool>(
     bytes: &[u8],
-    by: &PlainSources<'_>,
+    by: &PlainSources<'_, P>,
     compressed: Span,
     columns: &mut [TileColumn],
-    planes: &mut FramePlanes,
+    planes: &mut FramePlanes<P>,
     none: Counts,
 ) -> Result<Counts, Rule>
     requires past { CanPredict by.now }
+    requires kept { P.takes (greatest (shape_of by.now.reading.setting.header).depth) }
     requires few { AreFewTiles by.now.reading.setting.header.params.tiles }
     requires within { compressed.to ≤ length bytes.now }
     requires tested { IsOk (tile_spans bytes.now by.now.reading.setting.header compressed) }
@@ -178,7 +184,7 @@ pub(crate) fn decode_tiles<const COUNTS: bool>(
     for n in 0..by.reading.setting.header.params.tiles.count() {
         let span = tile_span(bytes, &by.reading.setting.header, compressed, n);
         let tile = &bytes[span.from..span.to];
-        counts = decode_nth::<COUNTS>(tile, by, n, columns, planes, counts)?;
+        counts = decode_nth::<P, COUNTS>(tile, by, n, columns, planes, counts)?;
     }
     Ok(counts)
 }

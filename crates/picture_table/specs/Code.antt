@@ -3,8 +3,8 @@ use Rattle.std.specs.Prelude.{◌≡◌, ◌<◌, ◌==◌, ℕ, Bool, false, Li
 use Rattle.std.specs.List.{list_any}
 use Rattle.vp9_types.specs.Maps.{FrameMap}
 use Rattle.vp9_types.specs.declared.shape.Shape.{Shape}
-use Rattle.planes.specs.Pictures.{FitsPlanes, HasSizes, IsInRange, map_of}
-use Rattle.planes.specs.declared.picture.Picture.{Picture}
+use Rattle.picture_table.specs.Pictures.{IsSound, map_told, shape_told}
+use Rattle.picture_table.specs.declared.any.AnyPicture.{AnyPicture}
 use Rattle.picture_table.specs.declared.table.PictureTable.{PictureTable}
 
 abbrev pub is_named : ℕ → Option ℕ → Bool
@@ -18,17 +18,11 @@ names place slots = list_any (is_named place) slots
 abbrev pub IsBelow : ℕ → Option ℕ → Type 0
 IsBelow count slot = IfSome slot (λ place. place < count)
 
--- a picture of a size that frames have, with all samples of its shape, each in the range of its depth
-pub record IsSound (p : Picture) : Type 0 where
-  pub fits : FitsPlanes p.shape
-  pub sizes : HasSizes p.shape p.planes
-  pub range : IsInRange p.shape.depth p.planes
-
 -- the picture at a place is, if one is there
-abbrev pub IsSoundAt : List Picture → ℕ → Type 0
+abbrev pub IsSoundAt : List AnyPicture → ℕ → Type 0
 IsSoundAt pictures place = IfSome (slice_get pictures place) IsSound
 
-abbrev pub NamesSound : List Picture → Option ℕ → Type 0
+abbrev pub NamesSound : List AnyPicture → Option ℕ → Type 0
 NamesSound pictures slot = IfSome slot (IsSoundAt pictures)
 
 -- the places that slots name are there, and their pictures are sound
@@ -38,16 +32,16 @@ pub record IsTable (t : PictureTable) : Type 0 where
   pub sound : All (NamesSound t.pictures.items) t.slots
 
 -- the picture at a place is so
-abbrev pub HasPicture : PictureTable → ℕ → (Picture → Type 0) → Type 0
-HasPicture t place P = (p : Picture) × (slice_get t.pictures.items place ≡ Some p) × P p
+abbrev pub HasPicture : PictureTable → ℕ → (AnyPicture → Type 0) → Type 0
+HasPicture t place P = (p : AnyPicture) × (slice_get t.pictures.items place ≡ Some p) × P p
 
 -- what a picture shows
-abbrev pub shown : Option Picture → Option (Shape × FrameMap)
+abbrev pub shown : Option AnyPicture → Option (Shape × FrameMap)
 shown None = None
-shown (Some p) = Some (p.shape, map_of p)
+shown (Some p) = Some (shape_told p, map_told p)
 
 -- what a slot holds
-abbrev pub held_in : List Picture → Option ℕ → Option (Shape × FrameMap)
+abbrev pub held_in : List AnyPicture → Option ℕ → Option (Shape × FrameMap)
 held_in pictures None = None
 held_in pictures (Some place) = shown (slice_get pictures place)
 

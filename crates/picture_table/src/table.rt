@@ -2,15 +2,15 @@ ghost use Rattle.std.specs.Prelude.{◌≡◌, ◌≤◌, ◌<◌, [], None, fal
 ghost use Rattle.planes.specs.Pictures.{FitsPlanes};
 ghost use Rattle.picture_table.specs.Code.{is_named, names};
 
+use crate::any::AnyPicture;
 use frame_headers::refresh_slots;
-use planes::Picture;
 use std::alloc::{AllocError, Global};
 use vp9_types::Shape;
 
 /// Pictures, and the places in them that the eight slots name. A picture that no slot names is decoded into again.
 #[derive(Drop)]
 pub struct PictureTable {
-    pub pictures: Vec<Picture>,
+    pub pictures: Vec<AnyPicture>,
     pub slots: [Option<usize>; 8],
 }
 
@@ -31,7 +31,7 @@ fn names(slots: &[Option<usize>], place: usize) -> bool
 }
 
 impl PictureTable {
-    ghost use Rattle.planes.specs.Pictures.{IsBlank};
+    ghost use Rattle.picture_table.specs.Pictures.{IsBlankAs};
     ghost use Rattle.frame_headers.specs.State.{refreshed};
     ghost use Rattle.picture_table.specs.Code.{HasPicture, IsSoundAt, IsTable, held};
 
@@ -64,12 +64,12 @@ impl PictureTable {
     }
 
     /// A place that no slot names, with a picture of zeros of this shape. Its memory is that of a picture which was there
-    /// if that had the same size. There are never more than nine pictures.
+    /// if that had the same size and depth. There are never more than nine pictures.
     pub fn blank(&mut self, alloc: Global, shape: Shape) -> Result<usize, AllocError>
         requires table { IsTable self.old }
         requires fits { FitsPlanes shape }
         ensures free { IfOk result (λ place. names place self.new.slots ≡ false) }
-        ensures blank { IfOk result (λ place. HasPicture self.new place (IsBlank shape)) }
+        ensures blank { IfOk result (λ place. HasPicture self.new place (IsBlankAs shape)) }
         ensures table { IsTable self.new }
         ensures held { held self.new ≡ held self.old }
         ensures few { length self.new.pictures.items ≤ max 9 (length self.old.pictures.items) }
@@ -78,7 +78,7 @@ impl PictureTable {
         if place < self.pictures.len() {
             self.pictures[place].renew(alloc, shape)?;
         } else {
-            self.pictures.push(Picture::new(alloc, shape)?)?;
+            self.pictures.push(AnyPicture::new(alloc, shape)?)?;
         }
         Ok(place)
     }

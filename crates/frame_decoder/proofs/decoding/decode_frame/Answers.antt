@@ -18,28 +18,28 @@ use Rattle.frame_state.proofs.TileSpans.{frame_reads, tiles_break}
 use Rattle.frame_decoder.proofs.decoding.decode_frame.Goals as goal
 
 pub decode_counted-requires-clause-start : goal.decode_counted-requires-clause-start
-decode_counted-requires-clause-start c = record {
+decode_counted-requires-clause-start g c = record {
   columns_held = rw c.deref_mut.ensures.value c.in_ok-begin_all.ensures.start;
   map_held = nothing_put _ ∙ sym (ap samples_of c.planes_mut-planes.ensures.value ∙ c.requires.blank.map);
 }
 
 pub returns-in_err-counts : goal.returns-in_err-counts
-returns-in_err-counts c =
+returns-in_err-counts g c =
     let p = err_from_is_err_and c.from_residual-in_err-counts.result c.from_residual-in_err-counts.ensures.1 in
     let setting = c.args.by.reading.setting in
     let input = input_of c.args.by c.args.bytes.now c.args.compressed in
     rw (p.1, p.2) (frame_breaks (pictures_of c.args.by).references input _ (tiles_break input (lists_of setting.contexts, setting.modes) _ c.requires.begun.1 c.in_err-counts.ensures.gives))
 
 pub new-blocks-requires : goal.new-blocks-requires
-new-blocks-requires c =
+new-blocks-requires g c =
     let back = written_back c.decode_counted.new.columns c.begin_all.new.columns.items c.begin_all.new.columns.len (omega (arith, c.decode_counted.auto.columns)) in
     rw (c.deref.ensures.value, back) (record { size = c.args.by.reading.setting.size; few = c.requires.few; are = c.in_ok-counts.ensures.columns })
 
 pub filter_frame-requires-clause-sizes : goal.filter_frame-requires-clause-sizes
-filter_frame-requires-clause-sizes c = rw (c.new-2.ensures, c.planes_mut.ensures.value) c.in_ok-counts.ensures.planes.sizes
+filter_frame-requires-clause-sizes g c = rw (c.new-2.ensures, c.planes_mut.ensures.value) c.in_ok-counts.ensures.planes.sizes
 
 pub filter_frame-requires-clause-fit : goal.filter_frame-requires-clause-fit
-filter_frame-requires-clause-fit c =
+filter_frame-requires-clause-fit g c =
     let header = c.args.by.reading.setting.header in
     rw c.new-blocks.ensures.columns
     (all_fit header (tile_count header) c.deref.result.now
@@ -48,10 +48,10 @@ filter_frame-requires-clause-fit c =
     c.in_ok-counts.ensures.columns))
 
 pub filter_frame-requires-clause-range : goal.filter_frame-requires-clause-range
-filter_frame-requires-clause-range c = rw (c.new-2.ensures, c.planes_mut.ensures.value) c.in_ok-counts.ensures.planes.range
+filter_frame-requires-clause-range g c = rw (c.new-2.ensures, c.planes_mut.ensures.value) c.in_ok-counts.ensures.planes.range
 
 pub returns : goal.returns
-returns c =
+returns g c =
     let by = c.args.by in
     let setting = by.reading.setting in
     let header = setting.header in

@@ -121,3 +121,6 @@ returns-clause-planes g c = record {
   sizes = rw c.requires.past.pictures.shape at c.put_block.ensures.sizes;
   range = rw c.requires.past.pictures.shape at c.put_block.ensures.range;
 }
+
+pub put_block-requires-clause-fits : goal.put_block-requires-clause-fits
+put_block-requires-clause-fits g c = rw c.requires.past.pictures.shape c.requires.kept
