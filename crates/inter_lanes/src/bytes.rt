@@ -4,7 +4,7 @@ ghost use Rattle.std.specs.Prelude.{◌≡◌, ℕ, ◌+◌, ◌-◌, ◌*◌, �
 ghost use Rattle.std.specs.Int.{int_shr};
 ghost use Rattle.vp9_types.specs.Sizes.{clip};
 ghost use Rattle.inter_lanes.specs.Filter.{filtered};
-ghost use Rattle.inter_lanes.specs.Bytes.{AreTaps};
+ghost use Rattle.vp9_tables.specs.Filters.{AreTaps};
 
 /// The byte of a sum that was begun 128 whole samples below its half.
 #[inline(always)]
@@ -55,6 +55,19 @@ fn bytes_along(samples: &[u8], place: usize, taps: &[i16; 8]) -> [u8; 16]
     ensures { (j : ℕ) → j < 16 → slice_index result j ≡ filtered 255 taps.now (λ k. slice_index samples.now (place + (j + k))) }
 {
     filtered_bytes(samples, place, 1, taps)
+}
+
+/// The bytes of numbers.
+#[inline(always)]
+pub(crate) fn bytes_of(numbers: &[u16; 71]) -> [u8; 71]
+    requires { (k : ℕ) → slice_index numbers.now k ≤ 255 }
+    ensures { (k : ℕ) → slice_index result k ≡ slice_index numbers.now k }
+{
+    let mut bytes = [0; 71];
+    for k in 0..71usize {
+        bytes[k] = numbers[k] as u8;
+    }
+    bytes
 }
 
 /// So many filtered values, as `filter_run` does, of samples of one byte.
