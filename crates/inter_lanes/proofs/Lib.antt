@@ -1,3 +1,4 @@
 pub mod LaneLemmas
 pub mod NumberLemmas
 pub mod ByteLemmas
+pub mod DepthLemmas

@@ -2,7 +2,7 @@
 use Rattle.std.specs.Prelude.{◌≡◌, Option, Some, None}
 use Rattle.vp9_types.specs.Maps.{FrameMap}
 use Rattle.vp9_types.specs.declared.shape.Depth.{Depth}
-use Rattle.vp9_types.specs.declared.shape.Depth.TheVariants.{Eight, Ten, Twelve}
+use Rattle.vp9_types.specs.declared.shape.Depth.TheVariants.{Eight}
 use Rattle.vp9_types.specs.declared.shape.Shape.{Shape}
 use Rattle.planes.specs.Pictures.{FitsPlanes, HasSizes, IsBlank, IsInRange, map_of}
 use Rattle.planes.specs.declared.picture.Picture.{Picture}
@@ -22,14 +22,10 @@ map_told (Words p) = map_of p
 
 -- bytes keep samples of depth 8, words those of the others
 abbrev pub KeepInBytes : Depth → Type 0
-KeepInBytes Eight = Unit {0}
-KeepInBytes Ten = ⊥
-KeepInBytes Twelve = ⊥
+KeepInBytes depth = depth ≡ Eight
 
 abbrev pub KeepInWords : Depth → Type 0
-KeepInWords Eight = ⊥
-KeepInWords Ten = Unit {0}
-KeepInWords Twelve = Unit {0}
+KeepInWords depth = depth ≡ Eight → ⊥
 
 -- zeros of this shape
 abbrev pub IsBlankAs : Shape → AnyPicture → Type 0

@@ -3,10 +3,7 @@
 ghost use Rattle.std.specs.Prelude.{◌≡◌, IfOk, OnOk, OnErr};
 ghost use Rattle.planes.specs.Pictures.{FitsPlanes};
 ghost use Rattle.std.specs.Option.{option_copied};
-ghost use Rattle.vp9_types.specs.Sizes.{greatest};
-ghost use Rattle.vp9_types.specs.declared.shape.Depth.{Depth};
 ghost use Rattle.picture_table.specs.Pictures.{IsBlankAs, IsSound, IsThere, KeepInBytes, KeepInWords, depth_of};
-ghost use Rattle.picture_table.proofs.Kinds.{bytes_taken, words_taken};
 
 use inter_lanes::FilterSample;
 use planes::Picture;
@@ -57,10 +54,10 @@ impl AnyPicture {
 
 /// What pictures of some depths keep a sample as.
 pub trait PictureSample: FilterSample {
+    ghost use Rattle.vp9_types.specs.declared.shape.Depth.{Depth};
+
     /// Whether pictures of this depth do.
     ghost keeps: { Depth → Type 0 };
-
-    ghost are_taken: { (depth : Depth) → keeps depth → Self.takes (greatest depth) };
 
     /// The picture as one that keeps samples so, if it does.
     fn picture_of(picture: &AnyPicture) -> Option<&Picture<Self>>
@@ -70,9 +67,6 @@ pub trait PictureSample: FilterSample {
 impl PictureSample for u8 {
     ghost keeps = { λ depth. KeepInBytes depth };
 
-    ghost are_taken = { λ depth keeps. bytes_taken depth keeps };
-
-    #[tactic(auto, using(crate::proofs::Kinds::not_both))]
     fn picture_of(picture: &AnyPicture) -> Option<&Picture<u8>> {
         match picture {
             AnyPicture::Bytes(picture) => Some(picture),
@@ -84,9 +78,6 @@ impl PictureSample for u8 {
 impl PictureSample for u16 {
     ghost keeps = { λ depth. KeepInWords depth };
 
-    ghost are_taken = { λ depth keeps. words_taken depth keeps };
-
-    #[tactic(auto, using(crate::proofs::Kinds::not_both))]
     fn picture_of(picture: &AnyPicture) -> Option<&Picture<u16>> {
         match picture {
             AnyPicture::Bytes(_) => None,

@@ -1,6 +1,6 @@
 use Rattle.std.proofs.Common.{◌≡◌, length, map, ap, ◌∙◌, arith, refl}
 use Rattle.picture_table.specs.Code.{held_in}
-use Rattle.picture_table.proofs.Places.{held_before, held_beside, last_is, table_before}
+use Rattle.picture_table.proofs.Places.{held_before, held_beside, last_is, table_before, table_beside}
 use Rattle.picture_table.proofs.table.PictureTable.blank.Goals as goal
 
 pub returns-in_ok-renew-clause-held : goal.returns-in_ok-renew-clause-held
@@ -19,3 +19,6 @@ returns-in_ok-push-clause-held c =
 
 pub returns-in_ok-push-clause-table : goal.returns-in_ok-push-clause-table
 returns-in_ok-push-clause-table c = table_before c.args.self.now _ c.in_ok-new.field-0 refl c.in_ok-push.ensures.items c.requires.table
+
+pub returns-in_ok-renew-clause-table : goal.returns-in_ok-renew-clause-table
+returns-in_ok-renew-clause-table c = table_beside c.args.self.now _ c.free_place-place.result c.renew.new.self c.free_place-place.ensures.free refl refl c.requires.table
