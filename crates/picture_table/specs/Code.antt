@@ -3,7 +3,7 @@ use Rattle.std.specs.Prelude.{◌≡◌, ◌<◌, ◌==◌, ℕ, Bool, false, Li
 use Rattle.std.specs.List.{list_any}
 use Rattle.vp9_types.specs.Maps.{FrameMap}
 use Rattle.vp9_types.specs.declared.shape.Shape.{Shape}
-use Rattle.picture_table.specs.Pictures.{IsSound, map_told, shape_told}
+use Rattle.picture_table.specs.Pictures.{IsSound, map_of_any, shape_of_any}
 use Rattle.picture_table.specs.declared.any.AnyPicture.{AnyPicture}
 use Rattle.picture_table.specs.declared.table.PictureTable.{PictureTable}
 
@@ -38,7 +38,7 @@ HasPicture t place P = (p : AnyPicture) × (slice_get t.pictures.items place ≡
 -- what a picture shows
 abbrev pub shown : Option AnyPicture → Option (Shape × FrameMap)
 shown None = None
-shown (Some p) = Some (shape_told p, map_told p)
+shown (Some p) = Some (shape_of_any p, map_of_any p)
 
 -- what a slot holds
 abbrev pub held_in : List AnyPicture → Option ℕ → Option (Shape × FrameMap)

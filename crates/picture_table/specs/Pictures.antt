@@ -9,16 +9,16 @@ use Rattle.planes.specs.declared.picture.Picture.{Picture}
 use Rattle.picture_table.specs.declared.any.AnyPicture.{AnyPicture}
 use Rattle.picture_table.specs.declared.any.AnyPicture.TheVariants.{Bytes, Words}
 
-abbrev pub shape_told : AnyPicture → Shape
-shape_told (Bytes p) = p.shape
-shape_told (Words p) = p.shape
+abbrev pub shape_of_any : AnyPicture → Shape
+shape_of_any (Bytes p) = p.shape
+shape_of_any (Words p) = p.shape
 
 abbrev pub depth_of : AnyPicture → Depth
-depth_of p = (shape_told p).depth
+depth_of p = (shape_of_any p).depth
 
-abbrev pub map_told : AnyPicture → FrameMap
-map_told (Bytes p) = map_of p
-map_told (Words p) = map_of p
+abbrev pub map_of_any : AnyPicture → FrameMap
+map_of_any (Bytes p) = map_of p
+map_of_any (Words p) = map_of p
 
 -- bytes keep samples of depth 8, words those of the others
 abbrev pub KeepInBytes : Depth → Type 0
@@ -46,4 +46,4 @@ IsSound (Words p) = IsWhole p × KeepInWords p.shape.depth
 -- the same picture by what it keeps a sample as
 abbrev pub IsThere : {X : Type 0} → AnyPicture → Option (Picture X) → Type 0
 IsThere told None = ⊥
-IsThere told (Some p) = IsWhole p × (p.shape ≡ shape_told told) × (map_of p ≡ map_told told)
+IsThere told (Some p) = IsWhole p × (p.shape ≡ shape_of_any told) × (map_of p ≡ map_of_any told)

@@ -16,10 +16,11 @@ use Rattle.frame_headers.specs.State.{SlotsHaveSizes, refreshed, shape_of}
 use Rattle.frame_headers.specs.declared.header.FrameSize.{FrameSize}
 use Rattle.frame_headers.specs.declared.persist.Persist.{Persist}
 use Rattle.frame_output.specs.Texts.{frame_text}
-use Rattle.picture_table.specs.Code.{IsBelow, IsSound, IsSoundAt, IsTable, NamesSound, held, held_in, shown}
+use Rattle.picture_table.specs.Code.{IsBelow, IsSoundAt, IsTable, NamesSound, held, held_in, shown}
 use Rattle.picture_table.specs.declared.table.PictureTable.{PictureTable}
 use Rattle.prob_contexts.specs.Lists.{ContextLists}
-use Rattle.planes.specs.declared.picture.Picture as planes
+use Rattle.picture_table.specs.Pictures.{IsSound}
+use Rattle.picture_table.specs.declared.any.AnyPicture.{AnyPicture}
 use Rattle.frame_decoder.specs.Frames.{FrameResult}
 use Rattle.frame_state.specs.declared.halt.Halt.{Halt}
 use Rattle.frame_state.specs.declared.halt.Halt.TheVariants as halt
@@ -54,13 +55,13 @@ refused_at number stepped next old new faults now refused.Failed is k = (subst (
 refused_at number stepped next old new faults now refused.OutOfMemory is k = (subst (λ s. TakesFront old new (step_text s)) (sym is) k.0, k.1)
 
 -- its text
-pub text_refused : (number : ℕ) (header : Header) (table : PictureTable) (c : Coded) (got : planes.Picture) (old new : Option (List ℕ)) (faults now : ℕ) (refusal : PutFault) (result : FrameResult)
+pub text_refused : (number : ℕ) (header : Header) (table : PictureTable) (c : Coded) (got : AnyPicture) (old new : Option (List ℕ)) (faults now : ℕ) (refusal : PutFault) (result : FrameResult)
     (at : IsAt header table c result) → got ≡ at.picture
     → Shows (text_if header.show_frame got) old new faults now (Err refusal) → Shows (shown_text (shown_picture number header result)) old new faults now (Err refusal)
 text_refused number header table c got old new faults now refusal result at same shows =
     subst (λ t. Shows t old new faults now (Err refusal)) (ap (text_if header.show_frame) same ∙ text_is number header c at.picture result at.holds) shows
 
-pub text_taken : (number : ℕ) (header : Header) (table : PictureTable) (c : Coded) (got : planes.Picture) (old new : Option (List ℕ)) (result : FrameResult) (at : IsAt header table c result) → got ≡ at.picture
+pub text_taken : (number : ℕ) (header : Header) (table : PictureTable) (c : Coded) (got : AnyPicture) (old new : Option (List ℕ)) (result : FrameResult) (at : IsAt header table c result) → got ≡ at.picture
     → Takes old new (text_if header.show_frame got) → Takes old new (shown_text (shown_picture number header result))
 text_taken number header table c got old new result at same takes = subst (Takes old new) (ap (text_if header.show_frame) same ∙ text_is number header c at.picture result at.holds) takes
 
@@ -113,7 +114,7 @@ contexts_after header r after_key saved new found own before is_new is_own is_be
 ---- A slot that is shown ----
 
 -- what the code holds in a slot is what the state holds there
-pub slot_told : (xs : List (Option Picture)) (slots : List (Option ℕ)) (pictures : List planes.Picture) (n : ℕ) → map (held_in pictures) slots ≡ map shown_of xs
+pub slot_told : (xs : List (Option Picture)) (slots : List (Option ℕ)) (pictures : List AnyPicture) (n : ℕ) → map (held_in pictures) slots ≡ map shown_of xs
     → held_in pictures (get_or slots n None) ≡ shown_of (get_or xs n None)
 slot_told [] [] pictures n same = refl
 slot_told [] (s ∷ slots) pictures n same = absurd cc
@@ -135,7 +136,7 @@ text_told : (o : Option Picture) → text_of (shown_of o) ≡ shown_text o
 text_told None = refl
 text_told (Some p) = refl
 
-named_sound : (pictures : List planes.Picture) (slots : List (Option ℕ)) (n place : ℕ) → All (NamesSound pictures) slots → get_or slots n None ≡ Some place → IsSoundAt pictures place
+named_sound : (pictures : List AnyPicture) (slots : List (Option ℕ)) (n place : ℕ) → All (NamesSound pictures) slots → get_or slots n None ≡ Some place → IsSoundAt pictures place
 named_sound pictures [] n place all is = absurd cc
 named_sound pictures (s ∷ slots) zero place all is = subst (NamesSound pictures) is (All-head (NamesSound pictures) s slots all)
 named_sound pictures (s ∷ slots) (suc n) place all is = named_sound pictures slots n place (All-tail (NamesSound pictures) s slots all) is
@@ -145,7 +146,7 @@ named_there count [] n place all is = absurd cc
 named_there count (s ∷ slots) zero place all is = subst (IsBelow count) is (All-head (IsBelow count) s slots all)
 named_there count (s ∷ slots) (suc n) place all is = named_there count slots n place (All-tail (IsBelow count) s slots all) is
 
-got_there : (pictures : List planes.Picture) (place : ℕ) (d : planes.Picture) → place < length pictures → slice_get pictures place ≡ Some (get_or pictures place d)
+got_there : (pictures : List AnyPicture) (place : ℕ) (d : AnyPicture) → place < length pictures → slice_get pictures place ≡ Some (get_or pictures place d)
 got_there [] place d low = absurd (omega (arith, low))
 got_there (p ∷ pictures) zero d low = refl
 got_there (p ∷ pictures) (suc place) d low = got_there pictures place d (omega (arith, low))
@@ -153,14 +154,14 @@ got_there (p ∷ pictures) (suc place) d low = got_there pictures place d (omega
 pub shown_place : (t : PictureTable) (n place : ℕ) → IsTable t → get_or t.slots n None ≡ Some place → place < length t.pictures.items
 shown_place t n place h is = named_there (length t.pictures.items) t.slots n place h.within is
 
-pub is_at : (t : PictureTable) (n place : ℕ) (got : planes.Picture) → IsTable t → get_or t.slots n None ≡ Some place → got ≡ get_or t.pictures.items place got → slice_get t.pictures.items place ≡ Some got
+pub is_at : (t : PictureTable) (n place : ℕ) (got : AnyPicture) → IsTable t → get_or t.slots n None ≡ Some place → got ≡ get_or t.pictures.items place got → slice_get t.pictures.items place ≡ Some got
 is_at t n place got h is same = got_there t.pictures.items place got (shown_place t n place h is) ∙ ap (λ p. Some p) (sym same)
 
-pub shown_sound : (t : PictureTable) (n place : ℕ) (got : planes.Picture) → IsTable t → get_or t.slots n None ≡ Some place → got ≡ get_or t.pictures.items place got → IsSound got
+pub shown_sound : (t : PictureTable) (n place : ℕ) (got : AnyPicture) → IsTable t → get_or t.slots n None ≡ Some place → got ≡ get_or t.pictures.items place got → IsSound got
 shown_sound t n place got h is same = subst (λ o. IfSome o IsSound) (is_at t n place got h is same) (named_sound t.pictures.items t.slots n place h.sound is)
 
 -- the text of a slot's picture
-pub slot_text : (d : Decoder) (state : State) (n place : ℕ) (got : planes.Picture) → StandsFor d state → IsTable d.table → get_or d.table.slots n None ≡ Some place
+pub slot_text : (d : Decoder) (state : State) (n place : ℕ) (got : AnyPicture) → StandsFor d state → IsTable d.table → get_or d.table.slots n None ≡ Some place
     → got ≡ get_or d.table.pictures.items place got → text_if true got ≡ shown_text (get_or state.slots n None)
 slot_text d state n place got stands h is same =
     ap text_of (sym (ap shown (is_at d.table n place got h is same)) ∙ ap (held_in d.table.pictures.items) (sym is) ∙ slot_told state.slots d.table.slots d.table.pictures.items n stands.slots)

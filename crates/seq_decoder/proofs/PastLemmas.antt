@@ -26,7 +26,9 @@ use Rattle.inter_contexts.specs.References.{reference_in}
 use Rattle.inter_places.specs.Places.{IsReference}
 use Rattle.planes.specs.Pictures.{map_of}
 use Rattle.planes.specs.declared.picture.Picture as planes
-use Rattle.picture_table.specs.Code.{IsSound, IsTable, held, held_in, shown}
+use Rattle.picture_table.specs.Pictures.{IsSound, IsWhole, map_of_any, shape_of_any}
+use Rattle.picture_table.specs.declared.any.AnyPicture.{AnyPicture}
+use Rattle.picture_table.specs.Code.{IsTable, held, held_in, shown}
 use Rattle.picture_table.specs.declared.table.PictureTable.{PictureTable}
 use Rattle.block_rebuild.specs.InterBlocks.{ReferencePicture}
 use Rattle.block_rebuild.specs.Code.{HasReference, IsUsable, picture_of, reference_of, rebuilding_of}
@@ -42,13 +44,12 @@ use Rattle.seq_decoder.specs.declared.last.LastFrame as code_last
 use Rattle.seq_decoder.proofs.FrameLemmas.{is_at, shown_sound}
 use Rattle.seq_decoder.specs.After.{input_of, picture_in, references_of, segments_before, takes_vectors, vectors_before}
 use Rattle.seq_decoder.specs.SavedContexts.{context_before}
-use Rattle.frame_decoder.specs.Code.{IsDecoded}
 use Rattle.frame_state.specs.Reading.{FrameInput}
 use Rattle.frame_decoder.specs.Frames.{decoded}
 use Rattle.frame_state.specs.Sources.{FramePast}
 use Rattle.frame_state.specs.declared.halt.Halt.{Halt}
 use Rattle.frame_state.specs.declared.halt.Halt.TheVariants as halt
-use Rattle.seq_decoder.specs.Code.{IsCoded, IsHeld, NamesHeld, NamesHeldBy, last_of_code, shape_told, shown_of, told_of}
+use Rattle.seq_decoder.specs.Code.{IsCoded, IsFrame, IsHeld, NamesHeld, NamesHeldBy, last_of_code, shape_told, shown_of, told_of}
 use Rattle.seq_decoder.specs.State.{Picture, State, last_size}
 use Rattle.seq_decoder.proofs.HeaderReferences.{HoldsReference, references_held}
 use Rattle.seq_decoder.proofs.ShowingLemmas.{held_rows, wide_rows}
@@ -94,8 +95,8 @@ names_held header persist bytes compressed slots same read = by_kind header pers
 ---- A picture that is referred to ----
 
 -- it is a sound picture, with that picture's shape
-abbrev pub IsFrom : code_picture.ReferencePicture planes.Picture → Type 0
-IsFrom x = IsSound x.samples.now × (x.shape ≡ x.samples.now.shape)
+abbrev pub IsFrom : {X : Type 0} → code_picture.ReferencePicture (planes.Picture X) → Type 0
+IsFrom x = IsWhole x.samples.now × (x.shape ≡ x.samples.now.shape)
 
 both_true : (a b : Bool) → a && b ≡ true → (a ≡ true) × (b ≡ true)
 both_true true b h = (refl, h)
@@ -104,7 +105,7 @@ both_true false b h = absurd cc
 low_of : (m n : ℕ) → nat_le m n ≡ true → m ≤ n
 low_of m n h = search rules
 
-plane_range : (f : planes.Picture) (depth : Depth) (p : Plane) → IsSound f → f.shape.depth ≡ depth → IsAtMost (greatest depth) (map_of f p)
+plane_range : {X : Type 0} (f : planes.Picture X) (depth : Depth) (p : Plane) → IsWhole f → f.shape.depth ≡ depth → IsAtMost (greatest depth) (map_of f p)
 plane_range f depth Y h same = rw (sym same) h.range.y
 plane_range f depth U h same = rw (sym same) h.range.u
 plane_range f depth V h same = rw (sym same) h.range.v
@@ -128,7 +129,7 @@ is_reference header r shape size wide high same range =
       down = record { some = omega (arith, size.2); near = high; large = omega (arith, b, h); small = omega (arith, d, h) };
     }
 
-is_usable : (header : Header) (r : Reference) (x : code_picture.ReferencePicture planes.Picture) → IsFrameSize header.size → IsSound x.samples.now → x.shape ≡ x.samples.now.shape
+is_usable : {X : Type 0} (header : Header) (r : Reference) (x : code_picture.ReferencePicture (planes.Picture X)) → IsFrameSize header.size → IsWhole x.samples.now → x.shape ≡ x.samples.now.shape
     → x.shape ≡ r.shape → x.shape.depth ≡ header.color.depth → is_in_range header.size r ≡ true → IsUsable has_row row_width map_of (shape_of header) x
 is_usable header r x size sound own same depth range =
     let wide : x.shape.w ≤ 65536 = rw own sound.fits.wide in
@@ -140,7 +141,7 @@ is_usable header r x size sound own same depth range =
     }
 
 -- the one that stands for a name can be used, where its reference is in range
-usable : (header : Header) (slots : List (Option (Shape × FrameMap))) (r : Reference) (by : code.Rebuilding planes.Picture) (reference : ReferenceFrame) (x : Option (code_picture.ReferencePicture planes.Picture))
+usable : {X : Type 0} (header : Header) (slots : List (Option (Shape × FrameMap))) (r : Reference) (by : code.Rebuilding (planes.Picture X)) (reference : ReferenceFrame) (x : Option (code_picture.ReferencePicture (planes.Picture X)))
     → reference_of by reference ≡ x → by.shape ≡ shape_of header → IsFrameSize header.size → IsHeld header slots r → is_in_range header.size r ≡ true
     → told_of x ≡ slice_index_or slots r.slot None → IfSome x IsFrom → HasReference has_row row_width map_of by reference
 usable header slots r by reference None is shape size h range told from = let no : None ≡ Some h.told = told ∙ h.there in absurd cc
@@ -158,7 +159,7 @@ same_fields : (a b : InterFields) → Inter a ≡ Inter b → a ≡ b
 same_fields a b same = cc
 
 -- three pictures, each as the slot of its reference holds it
-pub record ArePictures (slots : List (Option (Shape × FrameMap))) (fields : InterFields) (by : code.Rebuilding planes.Picture) : Type 0 where
+pub record ArePictures {X : Type 0} (slots : List (Option (Shape × FrameMap))) (fields : InterFields) (by : code.Rebuilding (planes.Picture X)) : Type 0 where
   pub last : told_of by.last ≡ slice_index_or slots fields.references.last.slot None
   pub golden : told_of by.golden ≡ slice_index_or slots fields.references.golden.slot None
   pub altref : told_of by.altref ≡ slice_index_or slots fields.references.altref.slot None
@@ -166,13 +167,13 @@ pub record ArePictures (slots : List (Option (Shape × FrameMap))) (fields : Int
   pub golden_from : IfSome by.golden IsFrom
   pub altref_from : IfSome by.altref IsFrom
 
-told_as : (slots : List (Option (Shape × FrameMap))) (fields : InterFields) (by : code.Rebuilding planes.Picture) → ArePictures slots fields by → (reference : ReferenceFrame)
+told_as : {X : Type 0} (slots : List (Option (Shape × FrameMap))) (fields : InterFields) (by : code.Rebuilding (planes.Picture X)) → ArePictures slots fields by → (reference : ReferenceFrame)
     → told_of (reference_of by reference) ≡ slice_index_or slots (reference_in fields.references reference).slot None
 told_as slots fields by h Last = h.last
 told_as slots fields by h Golden = h.golden
 told_as slots fields by h Altref = h.altref
 
-from_as : (slots : List (Option (Shape × FrameMap))) (fields : InterFields) (by : code.Rebuilding planes.Picture) → ArePictures slots fields by → (reference : ReferenceFrame)
+from_as : {X : Type 0} (slots : List (Option (Shape × FrameMap))) (fields : InterFields) (by : code.Rebuilding (planes.Picture X)) → ArePictures slots fields by → (reference : ReferenceFrame)
     → IfSome (reference_of by reference) IsFrom
 from_as slots fields by h Last = h.last_from
 from_as slots fields by h Golden = h.golden_from
@@ -182,7 +183,7 @@ named_of : (header : Header) (fields : InterFields) (slots : List (Option (Shape
     → (reference : ReferenceFrame) → IsHeld header slots (reference_in fields.references reference)
 named_of header fields slots kind names = subst (λ k. NamesHeldBy k header slots) kind names
 
-pub has_pictures : (header : Header) (fields : InterFields) (slots : List (Option (Shape × FrameMap))) (by : code.Rebuilding planes.Picture) → header.kind ≡ Inter fields → by.shape ≡ shape_of header
+pub has_pictures : {X : Type 0} (header : Header) (fields : InterFields) (slots : List (Option (Shape × FrameMap))) (by : code.Rebuilding (planes.Picture X)) → header.kind ≡ Inter fields → by.shape ≡ shape_of header
     → IsFrameSize header.size → NamesHeld header slots → ArePictures slots fields by → HasPictures header by
 has_pictures header fields slots by kind shape size names h = λ others reference is range.
     let same = same_fields others fields (sym is ∙ kind) in
@@ -190,7 +191,7 @@ has_pictures header fields slots by kind shape size names h = λ others referenc
     (subst (λ (f : InterFields). is_in_range header.size (reference_in f.references reference) ≡ true) same range)
     (told_as slots fields by h reference) (from_as slots fields by h reference)
 
-picture_told : (x : Option (code_picture.ReferencePicture planes.Picture)) (y : Option Picture) → told_of x ≡ shown_of y → picture_of map_of x ≡ picture_in y
+picture_told : {X : Type 0} (x : Option (code_picture.ReferencePicture (planes.Picture X))) (y : Option Picture) → told_of x ≡ shown_of y → picture_of map_of x ≡ picture_in y
 picture_told None None same = refl
 picture_told None (Some p) same = absurd cc
 picture_told (Some r) None same = absurd cc
@@ -198,7 +199,7 @@ picture_told (Some r) (Some p) same =
     let both : ◌≡◌ {A = Shape × FrameMap} (r.shape, map_of r.samples.now) (p.shape, p.map) = cc in
     ap (λ (t : Shape × FrameMap). record { shape = t.0; map = t.1 }) both
 
-pub references_are : (slots : List (Option Picture)) (told : List (Option (Shape × FrameMap))) (fields : InterFields) (kind : FrameKind) (by : code.Rebuilding planes.Picture) → kind ≡ Inter fields
+pub references_are : {X : Type 0} (slots : List (Option Picture)) (told : List (Option (Shape × FrameMap))) (fields : InterFields) (kind : FrameKind) (by : code.Rebuilding (planes.Picture X)) → kind ≡ Inter fields
     → told ≡ map shown_of slots → ArePictures told fields by → (rebuilding_of map_of by).references ≡ references_of slots kind
 references_are slots told fields kind by is same h = subst (λ k. (rebuilding_of map_of by).references ≡ references_of slots k) (sym is) (fun_ext each)
   where
@@ -209,12 +210,12 @@ references_are slots told fields kind by is same h = subst (λ k. (rebuilding_of
         (told_as told fields by h reference ∙ ap (λ xs. slice_index_or xs n None) same ∙ at_mapped shown_of refl slots n)
 
 -- what the code finds in a slot
-pub told_there : (t : PictureTable) (n place : ℕ) (got : planes.Picture) → IsTable t → get_or t.slots n None ≡ Some place → got ≡ get_or t.pictures.items place got
-    → Some (got.shape, map_of got) ≡ slice_index_or (held t) n None
+pub told_there : (t : PictureTable) (n place : ℕ) (got : AnyPicture) → IsTable t → get_or t.slots n None ≡ Some place → got ≡ get_or t.pictures.items place got
+    → Some (shape_of_any got, map_of_any got) ≡ slice_index_or (held t) n None
 told_there t n place got h is same =
     sym (at_mapped (held_in t.pictures.items) refl t.slots n ∙ ap (held_in t.pictures.items) is ∙ ap shown (is_at t n place got h is same))
 
-pub sound_there : (t : PictureTable) (n place : ℕ) (got : planes.Picture) → IsTable t → get_or t.slots n None ≡ Some place → got ≡ get_or t.pictures.items place got → IsSound got
+pub sound_there : (t : PictureTable) (n place : ℕ) (got : AnyPicture) → IsTable t → get_or t.slots n None ≡ Some place → got ≡ get_or t.pictures.items place got → IsSound got
 sound_there t n place got h is same = shown_sound t n place got h is same
 
 ---- Vectors ----
@@ -245,7 +246,7 @@ input_is state own header bytes compressed past same contexts segments vectors =
 }
 
 -- a frame that can't be decoded
-pub coded_halts : (header : Header) (references others : ReferenceFrame → ReferencePicture) (input other : FrameInput) (picture : planes.Picture) (table : PictureTable) (e : Halt)
-    → references ≡ others → input ≡ other → IsDecoded references input picture (Err e) → IsCoded header (decoded others other) table (Err e)
+pub coded_halts : (header : Header) (references others : ReferenceFrame → ReferencePicture) (input other : FrameInput) (picture : AnyPicture) (table : PictureTable) (e : Halt)
+    → references ≡ others → input ≡ other → IsFrame references input picture (Err e) → IsCoded header (decoded others other) table (Err e)
 coded_halts header references others input other picture table (halt.Broken rule) named same is = (λ i. decoded (sym named i) (sym same i)) ∙ is
 coded_halts header references others input other picture table halt.OutOfMemory named same is = tt

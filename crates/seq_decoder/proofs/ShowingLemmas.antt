@@ -14,32 +14,32 @@ use Rattle.vp9_types.specs.Maps.{Map, FrameMap, IsAtMost}
 use Rattle.vp9_types.specs.Shapes.{depth_bits, halved, subsampled_size, plane_width, plane_height, coded_width, coded_height}
 use Rattle.frame_headers.specs.declared.header.Header.{Header}
 use Rattle.frame_headers.specs.State.{shape_of}
-use Rattle.picture_table.specs.Code.{IsSound}
+use Rattle.picture_table.specs.Pictures.{IsSound, IsWhole}
+use Rattle.picture_table.specs.declared.any.AnyPicture.{AnyPicture}
 use Rattle.planes.specs.Pictures.{FitsPlanes, HasSizes, coded_area, plane_of, map_of}
 use Rattle.planes.specs.Planes.{HasRow}
 use Rattle.planes.specs.declared.frame_planes.FramePlanes.{FramePlanes}
 use Rattle.planes.specs.declared.picture.Picture.{Picture}
-use Rattle.frame_decoder.specs.Code.{HoldsResult}
 use Rattle.frame_decoder.specs.Frames.{FrameResult}
 use Rattle.frame_output.specs.Texts.{frame_text}
 use Rattle.seq_decoder.specs.declared.coding.Coded.{Coded}
 use Rattle.seq_decoder.specs.After.{shown_picture}
-use Rattle.seq_decoder.specs.Code.{Shows, shown_text, text_if}
+use Rattle.seq_decoder.specs.Code.{HoldsFrame, Shows, shown_text, text_if}
 
 small_at : (depth : Depth) (m : Map) (y x : ℕ) → depth ≡ Eight → IsAtMost (2 ^ depth_bits depth - 1) m → m y x < 256
 small_at depth m y x eight most = omega (arith, subst (λ d. IsAtMost (2 ^ depth_bits d - 1) m) eight most y x)
 
-small_in : (f : Picture) (p : Plane) (y x : ℕ) → f.shape.depth ≡ Eight → IsSound f → map_of f p y x < 256
+small_in : {X : Type 0} (f : Picture X) (p : Plane) (y x : ℕ) → f.shape.depth ≡ Eight → IsWhole f → map_of f p y x < 256
 small_in f Y y x eight sound = small_at _ _ y x eight sound.range.y
 small_in f U y x eight sound = small_at _ _ y x eight sound.range.u
 small_in f V y x eight sound = small_at _ _ y x eight sound.range.v
 
 -- at depth 8 a sample fits a byte
-pub small_samples : (f : Picture) (shape : Shape) (p : Plane) (y x : ℕ) → IsSound f → shape ≡ f.shape → shape.depth ≡ Eight → map_of f p y x < 256
+pub small_samples : {X : Type 0} (f : Picture X) (shape : Shape) (p : Plane) (y x : ℕ) → IsWhole f → shape ≡ f.shape → shape.depth ≡ Eight → map_of f p y x < 256
 small_samples f shape p y x sound is eight = small_in f p y x (ap (λ s. s.depth) (sym is) ∙ eight) sound
 
-pub text_shown : (shown : Bool) (picture : Picture) (shape : Shape) → shown ≡ true → shape ≡ picture.shape → frame_text shape (map_of picture) ≡ text_if shown picture
-text_shown shown picture shape is same = rw (is, same) refl
+pub text_by : {X : Type 0} (picture : Picture X) (shape : Shape) → shape ≡ picture.shape → frame_text shape (map_of picture) ≡ frame_text picture.shape (map_of picture)
+text_by picture shape same = ap (λ s. frame_text s (map_of picture)) same
 
 -- chroma of a plane rounded up is within half of what is rounded up to places
 half_within : (n : ℕ) (ss : Bool) → subsampled_size n ss ≤ halved ss (8 * ((n + 7) / 8))
@@ -51,17 +51,17 @@ plane_within shape Y = (omega arith, omega arith)
 plane_within shape U = (half_within shape.w shape.ss_x, half_within shape.h shape.ss_y)
 plane_within shape V = (half_within shape.w shape.ss_x, half_within shape.h shape.ss_y)
 
-area_is : (shape : Shape) (f : FramePlanes) (p : Plane) → HasSizes shape f → (plane_of f p).area ≡ coded_area shape p
+area_is : {X : Type 0} (shape : Shape) (f : FramePlanes X) (p : Plane) → HasSizes shape f → (plane_of f p).area ≡ coded_area shape p
 area_is shape f Y h = h.y
 area_is shape f U h = h.u
 area_is shape f V h = h.v
 
 -- the rows of a picture are as wide as what is shown of them
-pub wide_rows : (f : Picture) (shape : Shape) (p : Plane) → IsSound f → shape ≡ f.shape → plane_width shape p ≤ (plane_of f.planes p).area.columns
+pub wide_rows : {X : Type 0} (f : Picture X) (shape : Shape) (p : Plane) → IsWhole f → shape ≡ f.shape → plane_width shape p ≤ (plane_of f.planes p).area.columns
 wide_rows f shape p sound is = rw (is, area_is f.shape f.planes p sound.sizes) ((plane_within f.shape p).0)
 
 -- and it has as many as are shown
-pub held_rows : (f : Picture) (shape : Shape) (p : Plane) (y : ℕ) → IsSound f → shape ≡ f.shape → y < plane_height shape p
+pub held_rows : {X : Type 0} (f : Picture X) (shape : Shape) (p : Plane) (y : ℕ) → IsWhole f → shape ≡ f.shape → y < plane_height shape p
     → HasRow (plane_of f.planes p).area y 0 (plane_of f.planes p).area.columns
 held_rows f shape p y sound is low =
     let high = subst (λ s. y < plane_height s p) is low in
@@ -85,18 +85,14 @@ shown_by true number shape m = refl
 shown_by false number shape m = refl
 
 -- the text of what is shown of a frame
-pub text_is : (number : ℕ) (header : Header) (c : Coded) (picture : Picture) (result : FrameResult) → HoldsResult header picture c.decoded result
+pub text_is : (number : ℕ) (header : Header) (c : Coded) (picture : AnyPicture) (result : FrameResult) → HoldsFrame header picture c.decoded result
     → text_if header.show_frame picture ≡ shown_text (shown_picture number header result)
 text_is number header c picture result holds =
     (λ i. if header.show_frame then frame_text (holds.shape i) (holds.map i) else []) ∙ shown_by header.show_frame number (shape_of header) result.map
 
-pub is_sound : (header : Header) (c : Coded) (picture : Picture) (result : FrameResult) → FitsPlanes (shape_of header) → HoldsResult header picture c.decoded result → IsSound picture
-is_sound header c picture result fits holds = record {
-  fits = rw holds.shape fits;
-  sizes = rw holds.shape holds.sizes;
-  range = rw holds.shape holds.range;
-}
+pub is_sound : (header : Header) (c : Coded) (picture : AnyPicture) (result : FrameResult) → FitsPlanes (shape_of header) → HoldsFrame header picture c.decoded result → IsSound picture
+is_sound header c picture result fits holds = holds.sound fits
 
 -- the picture that is shown is the one at the frame's place
-pub picture_is : (pictures : List Picture) (place : ℕ) (picture got : Picture) → slice_get pictures place ≡ Some picture → got ≡ get_or pictures place got → got ≡ picture
+pub picture_is : (pictures : List AnyPicture) (place : ℕ) (picture got : AnyPicture) → slice_get pictures place ≡ Some picture → got ≡ get_or pictures place got → got ≡ picture
 picture_is pictures place picture got there is = is ∙ get_or_from_slice_get pictures place picture got there

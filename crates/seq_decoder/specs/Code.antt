@@ -1,5 +1,5 @@
 -- What the code keeps, and what the calls answer.
-use Rattle.std.specs.Prelude.{◌≡◌, ℕ, ◌+◌, ◌/◌, ◌≤◌, ◌<◌, Bool, List, [], map, Option, Some, None, Result, Ok, Err, false, length, slice_get, slice_index_or, if◌then◌else◌}
+use Rattle.std.specs.Prelude.{◌≡◌, All, ℕ, ◌+◌, ◌/◌, ◌≤◌, ◌<◌, Bool, List, [], map, Option, Some, None, Result, Ok, Err, false, length, slice_get, slice_index_or, if◌then◌else◌}
 use Rattle.edge_io.specs.Putting.{Takes, TakesFront}
 use Rattle.edge_io.specs.declared.sink.PutFault.{PutFault}
 use Rattle.edge_io.specs.declared.sink.PutFault.TheVariants as refused
@@ -21,12 +21,20 @@ use Rattle.prob_contexts.specs.Lists.{ContextLists, lists_of}
 use Rattle.segment_map.specs.Segments.{SegmentIds, id_map}
 use Rattle.picture_table.specs.Code.{held, names, IsTable}
 use Rattle.picture_table.specs.declared.table.PictureTable.{PictureTable}
-use Rattle.planes.specs.Pictures.{map_of}
+use Rattle.planes.specs.Pictures.{FitsPlanes, map_of}
 use Rattle.planes.specs.declared.picture.Picture as planes
-use Rattle.frame_state.specs.Columns.{blocks_of}
-use Rattle.frame_decoder.specs.Code.{HoldsResult}
-use Rattle.frame_decoder.specs.Frames.{FrameResult}
-use Rattle.frame_state.specs.Reading.{all_blocks}
+use Rattle.picture_table.specs.Pictures.{IsSound, map_of_any, shape_of_any}
+use Rattle.picture_table.specs.declared.any.AnyPicture.{AnyPicture}
+use Rattle.frame_headers.specs.State.{shape_of}
+use Rattle.frame_state.specs.Code.{counts_if}
+use Rattle.frame_state.specs.Columns.{AreColumnsOf, HasStarts, blocks_of}
+use Rattle.frame_state.specs.Past.{past_of}
+use Rattle.frame_state.specs.Sources.{adapts}
+use Rattle.frame_state.specs.declared.sources.FrameSources as code_sources
+use Rattle.block_rebuild.specs.InterBlocks as rebuild
+use Rattle.frame_decoder.specs.Frames.{FrameResult, decoded}
+use Rattle.frame_decoder.specs.declared.decoding.Decoded.{Decoded}
+use Rattle.frame_state.specs.Reading.{FrameInput, all_blocks}
 use Rattle.frame_state.specs.declared.halt.Halt.{Halt}
 use Rattle.frame_state.specs.declared.halt.Halt.TheVariants as halt
 use Rattle.frame_output.specs.Texts.{frame_text}
@@ -124,7 +132,7 @@ NamesHeldBy IntraOnly header slots = Unit {0}
 NamesHeldBy (Inter fields) header slots = (reference : ReferenceFrame) → IsHeld header slots (reference_in fields.references reference)
 
 -- what a picture that is referred to shows
-abbrev pub told_of : Option (code_picture.ReferencePicture planes.Picture) → Option (Shape × FrameMap)
+abbrev pub told_of : {X : Type 0} → Option (code_picture.ReferencePicture (planes.Picture X)) → Option (Shape × FrameMap)
 told_of None = None
 told_of (Some r) = Some (r.shape, map_of r.samples.now)
 
@@ -135,15 +143,36 @@ NamesHeld header slots = NamesHeldBy header.kind header slots
 ---- What the calls answer ----
 
 -- the text of a picture, if it is shown
-abbrev pub text_if : Bool → planes.Picture → List ℕ
-text_if shown picture = if shown then frame_text picture.shape (map_of picture) else []
+abbrev pub text_if : Bool → AnyPicture → List ℕ
+text_if shown picture = if shown then frame_text (shape_of_any picture) (map_of_any picture) else []
+
+-- what a frame is read from
+abbrev pub input_by : code_sources.FrameSources → List ℕ → Span → FrameInput
+input_by by bytes compressed = record { header = by.setting.header; compressed = compressed; bytes = bytes; past = past_of by.past }
+
+-- the code holds what a frame leaves, whatever a sample is kept as
+pub record HoldsFrame (header : Header) (picture : AnyPicture) (d : Decoded) (r : FrameResult) : Type 0 where
+  pub map : map_of_any picture ≡ r.map
+  pub shape : shape_of_any picture ≡ shape_of header
+  pub sound : FitsPlanes (shape_of header) → IsSound picture
+  pub contexts : lists_of d.contexts ≡ r.contexts
+  pub blocks : blocks_of d.columns.items ≡ r.blocks
+  pub starts : All (HasStarts header) d.columns.items
+  pub columns : AreColumnsOf header d.columns.items
+  pub counts : d.counts ≡ counts_if (adapts header) r.counted
+
+-- the frame is that, or the rule is broken. Want of memory has no cause
+abbrev pub IsFrame : (ReferenceFrame → rebuild.ReferencePicture) → FrameInput → AnyPicture → Result Decoded Halt → Type 0
+IsFrame references input picture (Ok d) = (r : FrameResult) × (decoded references input ≡ Ok r) × HoldsFrame input.header picture d r
+IsFrame references input picture (Err (halt.Broken rule)) = decoded references input ≡ Err rule
+IsFrame references input picture (Err halt.OutOfMemory) = Unit {0}
 
 -- the frame's samples stand at its place, which no slot names
 pub record IsAt (header : Header) (table : PictureTable) (c : Coded) (result : FrameResult) : Type 0 where
-  pub picture : planes.Picture
+  pub picture : AnyPicture
   pub there : slice_get table.pictures.items c.place ≡ Some picture
   pub free : names c.place table.slots ≡ false
-  pub holds : HoldsResult header picture c.decoded result
+  pub holds : HoldsFrame header picture c.decoded result
 
 -- the frame is that, or the rule is broken. Want of memory has no cause, and no sink is asked here
 abbrev pub IsCoded : Header → Result FrameResult Rule → PictureTable → Result Coded Halt → Type 0

@@ -10,19 +10,18 @@ ghost use Rattle.seq_decoder.specs.Code.{MayDecode, NamesHeld, StandsFor, HasBeg
 ghost use Rattle.seq_decoder.specs.Outcomes.{outcome_at};
 ghost use Rattle.seq_decoder.specs.State.{State, start_state};
 
+use crate::begun::decode_begun;
 use crate::coding::{Coded, own_contexts};
 use crate::last::{LastFrame, replace_last};
-use crate::past::{after_key, pictures_for, place_in, vectors_before};
+use crate::past::{after_key, place_in, vectors_before};
 use crate::saved::{SavedContexts, place_of};
 use crate::segments::{begin_segments, keep_segments, segments_of};
 use crate::showing::show;
 use edge_io::{PutFault, Sink};
 use file_frames::FileFrame;
-use frame_decoder::{PlainSources, decode_frame};
 use frame_headers::{FrameHead, Header, Persist, read};
 use frame_state::{FramePast, FrameSources, Halt, TileColumn, begin_frame};
-use picture_table::PictureTable;
-use planes::Picture;
+use picture_table::{AnyPicture, PictureTable};
 use segment_map::SegmentMap;
 use std::alloc::Global;
 use std::mem::replace;
@@ -110,20 +109,18 @@ impl Decoder {
         let setting = begin_frame(bytes, header, compressed, &before)?;
         begin_segments(alloc, header, self.persist.size, &mut self.segments)?;
         let place = self.table.blank(alloc, header.shape())?;
-        let mut picture = replace(&mut self.table.pictures[place], Picture::none(alloc));
+        let mut picture = replace(&mut self.table.pictures[place], AnyPicture::none(alloc));
         let mut columns = replace(&mut self.columns, Vec::new(alloc));
-        let by = PlainSources {
-            reading: FrameSources {
-                setting,
-                past: FramePast {
-                    contexts: &before,
-                    segments: segments_of(&self.segments),
-                    vectors: vectors_before(header, &self.last),
-                },
+        let by = FrameSources {
+            setting,
+            past: FramePast {
+                contexts: &before,
+                segments: segments_of(&self.segments),
+                vectors: vectors_before(header, &self.last),
             },
-            pictures: pictures_for(header, &self.table),
         };
-        let decoded = decode_frame(&mut columns, bytes, by, compressed, &mut picture);
+        let table = &self.table;
+        let decoded = decode_begun(&mut columns, bytes, by, compressed, table, &mut picture);
         self.table.pictures[place] = picture;
         self.columns = columns;
         Ok(Coded {

@@ -1,6 +1,7 @@
 //! The whole decoder on one thread: the frames of a file in order, and what they show.
 #![tactic(auto)]
 
+mod begun;
 mod coding;
 mod decoder;
 mod last;

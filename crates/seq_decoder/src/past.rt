@@ -5,7 +5,8 @@ ghost use Rattle.block_rebuild.specs.Code.{rebuilding_of};
 ghost use Rattle.frame_headers.specs.Sizes.{IsFrameSize};
 ghost use Rattle.frame_headers.specs.State.{shape_of};
 ghost use Rattle.mv_prediction.specs.Code as vectors;
-ghost use Rattle.picture_table.specs.Code.{IsSound, IsTable, held};
+ghost use Rattle.picture_table.specs.Code.{IsTable, held};
+ghost use Rattle.picture_table.specs.Pictures.{IsWhole};
 ghost use Rattle.planes.specs.Pictures.{map_of};
 ghost use Rattle.frame_state.specs.Columns.{AreColumnsOf};
 ghost use Rattle.frame_state.specs.Past.{AreVectors, blocks_in};
@@ -18,7 +19,7 @@ use crate::last::LastFrame;
 use block_rebuild::{Rebuilding, ReferencePicture};
 use frame_headers::{FrameKind, Header, Reference};
 use frame_state::FrameBlocks;
-use picture_table::PictureTable;
+use picture_table::{PictureSample, PictureTable};
 use planes::Picture;
 
 /// The place of what a slot holds, if it holds something.
@@ -66,16 +67,17 @@ pub fn vectors_before<'a>(header: &Header, last: &'a Option<LastFrame>) -> Optio
 }
 
 /// What the slot of a reference holds.
-fn picture_in<'a>(
+fn picture_in<'a, P: PictureSample>(
     table: &'a PictureTable,
     reference: &Reference,
-) -> Option<ReferencePicture<'a, Picture>>
-    requires { IsTable table.now }
+) -> Option<ReferencePicture<'a, Picture<P>>>
+    requires table { IsTable table.now }
+    requires kept { IfSome (slice_index_or (held table.now) reference.now.slot None) (λ told. P.keeps told.0.depth) }
     ensures told { told_of result ≡ slice_index_or (held table.now) reference.now.slot None }
-    ensures from { IfSome result (λ r. IsSound r.samples.now × (r.shape ≡ r.samples.now.shape)) }
+    ensures from { IfSome result (λ r. IsWhole r.samples.now × (r.shape ≡ r.samples.now.shape)) }
 {
     let place = place_in(&table.slots, reference.slot)?;
-    let picture = &table.pictures[place];
+    let picture = P::picture_of(&table.pictures[place])?;
     Some(ReferencePicture {
         samples: picture,
         shape: picture.shape(),
@@ -83,10 +85,14 @@ fn picture_in<'a>(
 }
 
 /// The pictures that a frame refers to.
-pub fn pictures_for<'a>(header: &Header, table: &'a PictureTable) -> Rebuilding<'a, Picture>
+pub fn pictures_for<'a, P: PictureSample>(
+    header: &Header,
+    table: &'a PictureTable,
+) -> Rebuilding<'a, Picture<P>>
     requires size { IsFrameSize header.now.size }
     requires table { IsTable table.now }
     requires held { NamesHeld header.now (held table.now) }
+    requires kept { P.keeps (shape_of header.now).depth }
     ensures shape { result.shape ≡ shape_of header.now }
     ensures pictures { (slots : List (Option Shown)) → held table.now ≡ map shown_of slots → (rebuilding_of map_of result).references ≡ references_of slots header.now.kind }
     ensures has { HasPictures header.now result }

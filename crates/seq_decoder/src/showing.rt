@@ -1,13 +1,17 @@
 //! What a frame shows.
 
 ghost use Rattle.std.specs.Prelude.{◌≡◌, ◌≤◌, OnOk, length};
-ghost use Rattle.picture_table.specs.Code.{IsSound};
+ghost use Rattle.planes.specs.Pictures.{map_of};
+ghost use Rattle.picture_table.specs.Pictures.{IsSound, IsWhole};
+ghost use Rattle.frame_output.specs.Texts.{frame_text};
 ghost use Rattle.seq_decoder.specs.Code.{Shows, text_if};
 
 use edge_io::{PutFault, Sink};
 use frame_output::render;
+use picture_table::AnyPicture;
 use planes::Picture;
 use std::alloc::{AllocError, Global};
+use vp9_types::Sample;
 
 /// The least size of the buffer that rows are put into the sink from.
 const LEAST_BUFFER: usize = 1 << 16;
@@ -22,11 +26,32 @@ fn lengthen(alloc: Global, buffer: &mut Vec<u8>, least: usize) -> Result<(), All
     Ok(())
 }
 
+/// Puts the text of a picture into a sink, by a buffer that may be used again.
+fn show_kept<P: Sample, K: Sink>(
+    alloc: Global,
+    picture: &Picture<P>,
+    buffer: &mut Vec<u8>,
+    sink: &mut K,
+) -> Result<(), PutFault>
+    requires whole { IsWhole picture.now }
+    requires sink { K.can_put sink.old }
+    ensures shows { Shows (frame_text picture.now.shape (map_of picture.now)) (K.taken sink.old) (K.taken sink.new) (K.faults sink.old) (K.faults sink.new) result }
+    ensures grows { K.grows sink.new ≡ K.grows sink.old }
+    ensures again { K.faults sink.new ≡ K.faults sink.old → K.can_put sink.new }
+{
+    let shape = picture.shape();
+    let least = LEAST_BUFFER.max(2 * shape.w as usize);
+    if lengthen(alloc, buffer, least).is_err() {
+        return Err(PutFault::OutOfMemory);
+    }
+    render(&shape, picture, buffer, sink)
+}
+
 /// Puts the text of a picture into a sink, if it is shown, by a buffer that may be used again.
 pub fn show<K: Sink>(
     alloc: Global,
     shown: bool,
-    picture: &Picture,
+    picture: &AnyPicture,
     buffer: &mut Vec<u8>,
     sink: &mut K,
 ) -> Result<(), PutFault>
@@ -39,10 +64,8 @@ pub fn show<K: Sink>(
     if !shown {
         return Ok(());
     }
-    let shape = picture.shape();
-    let least = LEAST_BUFFER.max(2 * shape.w as usize);
-    if lengthen(alloc, buffer, least).is_err() {
-        return Err(PutFault::OutOfMemory);
+    match picture {
+        AnyPicture::Bytes(picture) => show_kept(alloc, picture, buffer, sink),
+        AnyPicture::Words(picture) => show_kept(alloc, picture, buffer, sink),
     }
-    render(&shape, picture, buffer, sink)
 }
