@@ -15,7 +15,6 @@ use vp9_types::{Sample, Samples};
 
 /// The row of the reference that lies n rows after the third before the first.
 #[inline(always)]
-#[tactic(auto, using(crate::proofs::RowLemmas::row_long, crate::proofs::RowLemmas::row_entry, crate::proofs::RowLemmas::row_small))]
 fn read_row<'a, P: Sample, S: Samples<Kept = P>>(
     view: &'a S,
     place: &Place,
