@@ -2,7 +2,7 @@
 use Rattle.std.proofs.Common.{◌≡◌, ◌<◌, ◌≤◌, ◌+◌, ◌-◌, ℕ, List, length, get_or, take, drop, map, ◌++◌, set, replicate, ap, sym, subst, ◌∙◌, refl, arith, inl, inr}
 use Rattle.std.proofs.lemmas.Bool.{cases_lt, cases_order}
 use Rattle.std.proofs.lemmas.Bool.Decides.{nat_tests}
-use Rattle.std.proofs.lemmas.List.{places, map-set, get_or-set_same, get_or-set_other, take-map, drop-map, map-append, length-map, get_or-take, get_or-drop, get_or_past, get_or-replicate, length-take, length-drop, length-replicate}
+use Rattle.std.proofs.lemmas.List.{places, map-set, get_or-set_same, get_or-set_other, take-map, drop-map, map-append, length-map, get_or-take, get_or-drop, get_or_past, get_or-replicate, length-take, length-replicate}
 use borrow.Rule.Slice.PartMut.{put_mid}
 
 pub put_here : {X : Type 0} (f : X → ℕ) (xs : List X) (i : ℕ) (y : X) → i < length xs → get_or (map f (set xs i y)) i 0 ≡ f y

@@ -1,7 +1,7 @@
-use Rattle.std.proofs.Common.{◌≡◌, ℕ, ◌+◌, ◌∙◌, ap, arith, get_or, map, List, ℤ}
+use Rattle.std.proofs.Common.{ℕ, ◌+◌, ◌∙◌, ap, get_or, map, List, ℤ}
 use Rattle.inter_lanes.specs.Filter.{filtered}
 use Rattle.inter_places.specs.Axes.{straight}
-use Rattle.inter_scaled.proofs.Agree.{along_whole, along_straight, filtered_same}
+use Rattle.inter_scaled.proofs.Agree.{along_whole, along_straight}
 use Rattle.inter_scaled.proofs.lines.fill_line.Goals as goal
 
 pub returns-then-is_whole-clause-value : goal.returns-then-is_whole-clause-value

@@ -1,4 +1,4 @@
-use Rattle.std.proofs.Common.{◌≡◌, ◌≤◌, ◌∙◌, ℕ, ap, arith, get_or, map}
+use Rattle.std.proofs.Common.{◌∙◌, ℕ, ap, arith, get_or, map}
 use Rattle.std.proofs.lemmas.List.{get_or-set_other}
 use Rattle.inter_places.specs.Axes.{straight}
 use Rattle.inter_scaled.proofs.Values.{number_more}

@@ -1,4 +1,4 @@
-use Rattle.std.proofs.Common.{◌≡◌, ◌≤◌, ◌∙◌, ℕ, arith, ap, get_or, map}
+use Rattle.std.proofs.Common.{◌∙◌, ℕ, arith, ap}
 use Rattle.inter_scaled.proofs.RowLemmas.{kept_long, row_entry, row_small}
 use Rattle.inter_scaled.proofs.rows.read_row.Goals as goal
 

@@ -1,4 +1,4 @@
-use Rattle.std.proofs.Common.{rules, ◌+◌, ◌*◌, ◌∙◌, ◌≡◌, ◌≤◌, ℕ, arith, get_or, map}
+use Rattle.std.proofs.Common.{rules, ◌+◌, ◌*◌, ◌∙◌, ◌≡◌, arith, get_or, map}
 use Rattle.inter_scaled.proofs.Values.{number_more, numbers_small}
 use Rattle.inter_scaled.proofs.scaled.eight_of.Goals as goal
 
