@@ -3,7 +3,6 @@
 ghost use Rattle.std.specs.Prelude.{◌≡◌, ℕ, ◌+◌, ◌*◌, ◌/◌, ◌<◌, ◌≤◌, length, slice_index, map, ⊤};
 ghost use Rattle.inter_lanes.specs.Filter.{filtered};
 ghost use Rattle.vp9_tables.specs.Filters.{AreTaps};
-
 ghost use Rattle.std.proofs.Common.{rules};
 
 use crate::bytes::{bytes_of, filter_byte_line, filter_byte_run};
@@ -74,13 +73,7 @@ pub trait FilterSample: Sample {
         ensures after { (j : ℕ) → count ≤ j → slice_index (map Self.value out.new) j ≡ slice_index (map Self.value out.old) j };
 
     /// n values filtered along samples that are given as numbers, from the first on.
-    fn filter_numbers(
-        out: &mut [Self],
-        n: usize,
-        numbers: &[u16; 71],
-        taps: &Self::Taps,
-        most: u16,
-    )
+    fn filter_numbers(out: &mut [Self], n: usize, numbers: &[u16; 71], taps: &Self::Taps, most: u16)
         requires few { n ≤ 64 }
         requires room { n ≤ length out.old }
         requires most { takes most }
@@ -140,13 +133,7 @@ impl FilterSample for u8 {
     }
 
     #[inline(always)]
-    fn filter_numbers(
-        out: &mut [u8],
-        n: usize,
-        numbers: &[u16; 71],
-        taps: &[i16; 8],
-        most: u16,
-    ) {
+    fn filter_numbers(out: &mut [u8], n: usize, numbers: &[u16; 71], taps: &[i16; 8], most: u16) {
         let _ = most;
         filter_byte_line(out, n, &bytes_of(numbers), 0, taps);
     }
@@ -202,13 +189,7 @@ impl FilterSample for u16 {
     }
 
     #[inline(always)]
-    fn filter_numbers(
-        out: &mut [u16],
-        n: usize,
-        numbers: &[u16; 71],
-        taps: &TapLanes,
-        most: u16,
-    ) {
+    fn filter_numbers(out: &mut [u16], n: usize, numbers: &[u16; 71], taps: &TapLanes, most: u16) {
         filter_line(out, n, numbers, 0, taps, most);
     }
 

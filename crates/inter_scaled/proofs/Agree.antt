@@ -1,15 +1,11 @@
 -- Values that are filtered from the same samples, and rows that lie between the first and the last.
-use Rattle.std.proofs.Common.{◌≡◌, ℕ, ◌+◌, ◌-◌, ◌*◌, ◌/◌, ◌%◌, ◌<◌, ◌≤◌, ℤ, pos, negsuc, ◌+ℤ◌, ◌-ℤ◌, List, refl, arith, ap, subst, sym, get_or, take, ◌∙◌, All, length, inl, inr}
-use Rattle.std.proofs.lemmas.Bool.{cases_lt}
-use Rattle.std.proofs.lemmas.List.{get_or_past}
-use Rattle.std.proofs.lemmas.List.Elements.{All-get_or}
-use Rattle.std.proofs.lemmas.List.{get_or-take}
+use Rattle.std.proofs.Common.{◌≡◌, ℕ, ◌+◌, ◌-◌, ◌*◌, ◌/◌, ◌%◌, ◌<◌, ◌≤◌, ℤ, pos, negsuc, ◌+ℤ◌, ◌-ℤ◌, List, refl, arith, ap, subst, sym, ◌∙◌}
 use Rattle.std.proofs.Math.Nat.{mul-zero}
 use Rattle.vp9_types.specs.Maps.{Map}
 use Rattle.vp9_types.specs.declared.block.InterpFilter.{InterpFilter}
 use Rattle.vp9_tables.specs.Filters.{taps_of}
 use Rattle.inter_places.specs.declared.axis.Axis.{Axis}
-use Rattle.inter_lanes.specs.Filter.{IsTap, weighted, rounded, filtered}
+use Rattle.inter_lanes.specs.Filter.{weighted, rounded, filtered}
 use Rattle.inter_places.proofs.Orders.{clamped_order, offset_order, place_order}
 use Rattle.inter_places.specs.Axes.{clamped, place, phase, offset, fraction, sixteenth, whole, straight}
 use Rattle.inter_places.specs.Axes.{first_place, last_place}

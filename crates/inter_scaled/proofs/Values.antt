@@ -1,8 +1,8 @@
 -- Samples by the numbers that they stand for: one of them put, and a part of them.
-use Rattle.std.proofs.Common.{◌≡◌, ◌<◌, ◌≤◌, ◌+◌, ◌-◌, ℕ, List, length, get_or, take, drop, map, ◌++◌, set, ap, sym, subst, ◌∙◌, refl, arith, inl, inr}
-use Rattle.std.proofs.lemmas.Bool.{cases_lt}
+use Rattle.std.proofs.Common.{◌≡◌, ◌<◌, ◌≤◌, ◌+◌, ◌-◌, ℕ, List, length, get_or, take, drop, map, ◌++◌, set, replicate, ap, sym, subst, ◌∙◌, refl, arith, inl, inr}
+use Rattle.std.proofs.lemmas.Bool.{cases_lt, cases_order}
 use Rattle.std.proofs.lemmas.Bool.Decides.{nat_tests}
-use Rattle.std.proofs.lemmas.List.{places, map-set, get_or-set_same, get_or-set_other, take-map, drop-map, map-append, length-map, get_or-take, get_or-drop, get_or_past, length-take, length-drop}
+use Rattle.std.proofs.lemmas.List.{places, map-set, get_or-set_same, get_or-set_other, take-map, drop-map, map-append, length-map, get_or-take, get_or-drop, get_or_past, get_or-replicate, length-take, length-replicate}
 use borrow.Rule.Slice.PartMut.{put_mid}
 
 pub put_here : {X : Type 0} (f : X → ℕ) (xs : List X) (i : ℕ) (y : X) → i < length xs → get_or (map f (set xs i y)) i 0 ≡ f y
@@ -32,8 +32,12 @@ pub number_more : (f : ℕ → ℕ) (xs : List ℕ) (k x : ℕ) → k < length x
 number_more f xs k x low so is = first_more f (λ j. get_or xs j 0) (λ j. get_or (set xs k x) j 0) k so
     (get_or-set_same xs k x 0 low ∙ is) (λ j less. get_or-set_other xs k j x 0 (λ same. omega (arith, less, same)))
 
-pub numbers_small : (most : ℕ) (xs : List ℕ) (k x : ℕ) → ((j : ℕ) → get_or xs j 0 ≤ most) → x ≤ most → (j : ℕ) → get_or (set xs k x) j 0 ≤ most
-numbers_small most xs k x small low j = grind (arith, places, nat_tests, small j)
+pub numbers_small : (most : ℕ) (xs : List ℕ) (k x : ℕ) → k < length xs → ((j : ℕ) → get_or xs j 0 ≤ most) → x ≤ most → (j : ℕ) → get_or (set xs k x) j 0 ≤ most
+numbers_small most xs k x here small low j = elim (cases_order j k) [
+  | inl same ↦ rw (same, get_or-set_same xs k x 0 here) low
+  | inr (inl before) ↦ rw (get_or-set_other xs k j x 0 (λ same. omega (arith, before, same))) (small j)
+  | inr (inr past) ↦ rw (get_or-set_other xs k j x 0 (λ same. omega (arith, past, same))) (small j)
+]
 
 map_mid : {X : Type 0} (f : X → ℕ) (a k : ℕ) (xs ys : List X) → map f (put_mid a k xs ys) ≡ put_mid a k (map f xs) (map f ys)
 map_mid f a k xs ys =
@@ -59,8 +63,29 @@ pub part_before : {X : Type 0} (f : X → ℕ) (a k : ℕ) (xs ys : List X) (j :
 part_before f a k xs ys j fits low = rw (map_mid f a k xs ys) (mid_before a k (map f xs) (map f ys) j (omega (arith, fits, length-map xs f)) low)
 
 -- a part that is read
+map_part : {X : Type 0} (f : X → ℕ) (n at : ℕ) (xs : List X) → map f (take n (drop at xs)) ≡ take n (drop at (map f xs))
+map_part f n at xs = sym (take-map f n (drop at xs)) ∙ ap (take n) (sym (drop-map f at xs))
+
+less_back : (a n : ℕ) → a + n - a ≡ n
+less_back a n = omega arith
+
+part_at : (xs : List ℕ) (at n j : ℕ) → j < n → get_or (take n (drop at xs)) j 0 ≡ get_or xs (at + j) 0
+part_at xs at n j low = rw (get_or-take, get_or-drop) refl
+
+pub copied_is : {X : Type 0} (f : X → ℕ) (xs now : List X) (at n j : ℕ) → now ≡ take (at + n - at) (drop at xs) → j < n
+    → get_or (map f now) j 0 ≡ get_or (map f xs) (at + j) 0
+copied_is f xs now at n j is low =
+    ap (λ (ys : List ℕ). get_or ys j 0) (ap (map f) is ∙ map_part f (at + n - at) at xs)
+    ∙ (ap (λ (m : ℕ). get_or (take m (drop at (map f xs))) j 0) (less_back at n) ∙ part_at (map f xs) at n j low)
+
 pub taken_is : {X : Type 0} (f : X → ℕ) (xs : List X) (m t u : ℕ) → t ≡ u → u < m → get_or (map f (take m xs)) t 0 ≡ get_or (map f xs) u 0
 taken_is f xs m t u is low = ap (λ (ys : List ℕ). get_or ys t 0) (sym (take-map f m xs)) ∙ rw is (rw get_or-take refl)
 
 pub taken_past : {X : Type 0} (f : X → ℕ) (xs : List X) (m t : ℕ) → m ≤ t → get_or (map f (take m xs)) t 0 ≡ 0
 taken_past f xs m t past = get_or_past (map f (take m xs)) t 0 (omega (arith, past, length-map (take m xs) f, length-take m xs))
+
+pub zeros : (n k : ℕ) → ◌≡◌ {A = ℕ} (get_or (replicate n 0) k 0) 0
+zeros n k = elim (cases_lt k n) [
+  | inl low ↦ get_or-replicate n k 0 0 low
+  | inr past ↦ get_or_past (replicate n 0) k 0 (omega (arith, past, length-replicate {A = ℕ} n 0))
+]

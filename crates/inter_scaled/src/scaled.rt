@@ -70,7 +70,13 @@ fn filtered_run<P: FilterSample, Q: Sample>(
 }
 
 /// A row of n values of samples that follow one another, the first of which stands at place `from`.
-fn scale_run<P: FilterSample, Q: Sample>(out: &mut [P], n: usize, samples: &[Q], from: usize, filter: &LineFilter<P::Taps>)
+fn scale_run<P: FilterSample, Q: Sample>(
+    out: &mut [P],
+    n: usize,
+    samples: &[Q],
+    from: usize,
+    filter: &LineFilter<P::Taps>,
+)
     requires filter { IsFilter P.stand_for P.hold P.takes filter.now }
     requires few { n ≤ 64 }
     requires low { from ≤ 65536 }
@@ -110,7 +116,12 @@ pub(crate) fn value_below<P: FilterSample>(
 }
 
 /// A row of n values at any step: where a place lies outside the plane, of a copy of the samples.
-pub(crate) fn scale_line<P: FilterSample>(out: &mut [P], n: usize, row: &[P], filter: &LineFilter<P::Taps>)
+pub(crate) fn scale_line<P: FilterSample>(
+    out: &mut [P],
+    n: usize,
+    row: &[P],
+    filter: &LineFilter<P::Taps>,
+)
     requires filter { IsFilter P.stand_for P.hold P.takes filter.now }
     requires few { n ≤ 64 }
     requires room { n ≤ length out.old }

@@ -1,4 +1,4 @@
-use Rattle.std.proofs.Common.{rules, ◌+◌, ◌*◌, ◌∙◌, ◌≡◌, ◌≤◌, ℕ, arith, get_or, map}
+use Rattle.std.proofs.Common.{rules, ◌+◌, ◌*◌, ◌∙◌, ◌≡◌, arith, get_or, map}
 use Rattle.inter_scaled.proofs.Values.{number_more, numbers_small}
 use Rattle.inter_scaled.proofs.scaled.eight_of.Goals as goal
 
@@ -8,5 +8,5 @@ loop-k-preserved g c = let a = c.args in let v = g.P.Sample.value in let before 
     record {
       long = search rules;
       value = number_more (λ j. get_or (map v a.samples.now) (a.first + j * a.step) 0) c.loop-k.eight k c.widen.result (omega (arith, before.long, c.loop-k-test.true)) before.value is;
-      samples = numbers_small 4095 c.loop-k.eight k c.widen.result before.samples (rw is (c.requires.samples (a.first + k * a.step)));
+      samples = numbers_small 4095 c.loop-k.eight k c.widen.result (omega (arith, before.long, c.loop-k-test.true)) before.samples (rw is (c.requires.samples (a.first + k * a.step)));
     }

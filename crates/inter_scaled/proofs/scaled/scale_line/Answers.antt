@@ -1,4 +1,5 @@
-use Rattle.std.proofs.Common.{◌≡◌, ℕ, ◌+◌, ◌/◌, ◌<◌, ◌∙◌, ap, arith, get_or, map, take}
+use Rattle.std.proofs.Common.{◌≡◌, ℕ, ◌+◌, ◌/◌, ◌<◌, ◌∙◌, List, ap, arith, get_or, map, take}
+use Rattle.std.proofs.lemmas.List.{map-id}
 use Rattle.vp9_tables.specs.Filters.{taps_of}
 use Rattle.inter_places.specs.Axes.{straight, offset, phase}
 use Rattle.inter_places.proofs.Orders.{offset_order}
@@ -20,14 +21,12 @@ returns-then-is_inside-clause-value g c = λ j low. let a = c.args in let f = a.
     ∙ along_is f.most f.kind f.axis (λ (k : ℕ). get_or (map g.P.Sample.value a.row.now) k 0) j
 
 pub returns-else-is_inside-clause-value : goal.returns-else-is_inside-clause-value
-returns-else-is_inside-clause-value g c = λ j low. let a = c.args in let f = a.filter.now in
+returns-else-is_inside-clause-value g c = λ j low. let a = c.args in let f = a.filter.now in let count : ℕ = c.offset_of.result / 16 + 8 in
     c.scale_run-else-is_inside.ensures.value j low ∙ filtered_same f.most (taps_of f.kind (phase f.axis j))
-    (λ (k : ℕ). get_or (map g.P.Sample.value (take (c.offset_of.result / 16 + 8) c.read_places.new.out)) (0 + offset f.axis j / 16 + k) 0)
+    (λ (k : ℕ). get_or (map (λ (n : ℕ). n) (take count c.read_numbers.new.out)) (0 + offset f.axis j / 16 + k) 0)
     (λ (k : ℕ). get_or (map g.P.Sample.value a.row.now) (straight f.axis (offset f.axis j / 16 + k)) 0)
     (λ k few. let within : offset f.axis j / 16 + k < c.offset_of.result / 16 + 8 = omega (arith, few, offset_order f.axis j a.n (omega (arith, low)), c.offset_of.ensures.value) in
-    taken_is g.P.Sample.value c.read_places.new.out (c.offset_of.result / 16 + 8) (0 + offset f.axis j / 16 + k) (offset f.axis j / 16 + k) (omega arith) within
-    ∙ c.read_places.ensures.value (offset f.axis j / 16 + k) within ∙ ap (λ (t : ℕ). get_or (map g.P.Sample.value a.row.now) (straight f.axis t) 0) (from_zero (offset f.axis j / 16 + k)))
+    taken_is (λ (n : ℕ). n) c.read_numbers.new.out count (0 + offset f.axis j / 16 + k) (offset f.axis j / 16 + k) (omega arith) within
+    ∙ ap (λ (xs : List ℕ). get_or xs (offset f.axis j / 16 + k) 0) (map-id c.read_numbers.new.out)
+    ∙ c.read_numbers.ensures.value (offset f.axis j / 16 + k) within)
     ∙ along_is f.most f.kind f.axis (λ (k : ℕ). get_or (map g.P.Sample.value a.row.now) k 0) j
-  where
-    from_zero : (n : ℕ) → 0 + n ≡ n
-    from_zero n = omega arith

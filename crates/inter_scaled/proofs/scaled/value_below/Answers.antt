@@ -1,4 +1,4 @@
-use Rattle.std.proofs.Common.{◌≡◌, ◌≤◌, ◌+◌, ◌*◌, ◌/◌, ◌%◌, ◌∙◌, ℕ, ap, arith, get_or, map}
+use Rattle.std.proofs.Common.{◌≡◌, ◌+◌, ◌*◌, ◌/◌, ◌%◌, ◌∙◌, ℕ, ap, arith, get_or, map}
 use Rattle.vp9_tables.specs.Filters.{taps_of}
 use Rattle.inter_scaled.proofs.Agree.{filtered_same}
 use Rattle.inter_scaled.proofs.scaled.value_below.Goals as goal
