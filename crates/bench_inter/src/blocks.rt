@@ -24,17 +24,17 @@ fn drawn(state: u32) -> u32 {
 }
 
 /// Pseudo-random samples of 8 bits.
-fn draw(samples: &mut [u16])
+fn draw(samples: &mut [u8])
     ensures { (k : ℕ) → slice_index samples.new k ≤ 255 }
 {
     let mut state = SEED;
     for sample in samples.iter_mut() {
         state = drawn(state);
-        *sample = (state >> 24) as u16;
+        *sample = (state >> 24) as u8;
     }
 }
 
-fn fill(plane: &mut SamplePlane, samples: &mut [u16])
+fn fill(plane: &mut SamplePlane<u8>, samples: &mut [u8])
     requires whole { plane.old.area ≡ whole_area SIDE SIDE }
     requires small { IsAtMost 255 (plane_map plane.old) }
     requires room { SAMPLES ≤ length samples.old }
@@ -111,7 +111,7 @@ fn place_of(k: u64, size: usize, phases: (u8, u8, u8)) -> Place
     }
 }
 
-fn predict_one(luma: &Luma, place: &Place, lines: &mut [u16], out: &mut [u16])
+fn predict_one(luma: &Luma, place: &Place, lines: &mut [u8], out: &mut [u8])
     requires whole { luma.now.plane.area ≡ whole_area SIDE SIDE }
     requires small { IsAtMost 255 (plane_map luma.now.plane) }
     requires place { IsPlace place.now }
@@ -135,8 +135,8 @@ fn predict_blocks(luma: &Luma, size: usize, phases: (u8, u8, u8), count: u64) ->
     requires forward { 1 ≤ phases.2 }
     requires slow { phases.2 ≤ 32 }
 {
-    let mut lines = [0u16; LINES];
-    let mut out = [0u16; 4096];
+    let mut lines = [0u8; LINES];
+    let mut out = [0u8; 4096];
     let mut sum = 0u64;
     let mut at = 0;
     for k in 0..count {
@@ -162,7 +162,7 @@ pub fn describe(alloc: Global, line: &str) -> Result<String, AllocError> {
     let Ok(count) = number.parse::<u64>() else {
         return format!(in alloc; "{line}: not a number");
     };
-    let mut samples = vec![in alloc; 0u16; SAMPLES]?;
+    let mut samples = vec![in alloc; 0u8; SAMPLES]?;
     let mut plane = SamplePlane::new(alloc, Area::whole(SIDE, SIDE))?;
     fill(&mut plane, &mut samples);
     let luma = Luma { plane };

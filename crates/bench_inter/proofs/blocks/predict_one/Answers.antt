@@ -1,4 +1,4 @@
-use Rattle.std.proofs.Common.{◌≤◌, arith}
+use Rattle.std.proofs.Common.{arith}
 use Rattle.bench_inter.proofs.Rows.{row_inside}
 use Rattle.bench_inter.proofs.blocks.predict_one.Goals as goal
 
