@@ -79,18 +79,6 @@ pub(crate) fn extend_samples<P: Sample, const N: usize>(line: &mut [u16], n: usi
     fill_from(line, N, n, last);
 }
 
-/// N numbers at the front of a line of their own.
-#[inline(always)]
-fn line_of<const N: usize>(numbers: &[u16]) -> [u16; 32]
-    requires few { N ≤ 32 }
-    requires enough { length numbers.now ≡ N }
-    ensures { (k : ℕ) → k < N → slice_index result k ≡ slice_index numbers.now k }
-{
-    let mut line = [0; 32];
-    copy_lanes::<N>(&mut line[..N], numbers);
-    line
-}
-
 /// The samples of N numbers, which are copied first, since what is read by reference might be what is written.
 #[inline(always)]
 pub(crate) fn narrow_lanes<P: Sample, const N: usize>(to: &mut [P], from: &[u16])
@@ -100,7 +88,10 @@ pub(crate) fn narrow_lanes<P: Sample, const N: usize>(to: &mut [P], from: &[u16]
     requires fits { (k : ℕ) → k < N → slice_index from.now k ≤ P.greatest }
     ensures { map P.value to.new ≡ from.now }
 {
-    let line = line_of::<N>(from);
+    let mut line = [0; 32];
+    for j in 0..N {
+        line[j] = from[j];
+    }
     for k in 0..N {
         to[k] = P::narrow(line[k]);
     }

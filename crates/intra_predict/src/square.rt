@@ -109,8 +109,9 @@ pub(crate) fn put_square<P: Sample, const N: usize>(
     let area = plane.area();
     let rows = N.min(area.lower_end() - row);
     let columns = N.min(area.right_end() - column);
-    if columns == N {
-        put_inside::<P, N>(plane, row, column, rows, block);
+    if rows == N && columns == N {
+        // The number of rows is then known where this is compiled.
+        put_inside::<P, N>(plane, row, column, N, block);
     } else {
         let to = Area {
             first_row: row,
