@@ -1,7 +1,7 @@
 -- Rows of a map that stand one after another in a list.
-use Rattle.std.proofs.Common.{◌≡◌, ℕ, zero, suc, ◌+◌, ◌-◌, ◌*◌, ◌<◌, ◌≤◌, List, ◌∷◌, ◌++◌, length, map, replicate, take, drop, length-map, take-map, drop-map, suc-mul, mul-le-mul_right, le_of_eq, refl, sym, ◌∙◌, ap, arith}
+use Rattle.std.proofs.Common.{◌≡◌, ℕ, zero, suc, ◌+◌, ◌-◌, ◌*◌, ◌<◌, ◌≤◌, List, ◌∷◌, ◌++◌, length, map, replicate, take, drop, suc-mul, mul-le-mul_right, le_of_eq, refl, sym, ◌∙◌, ap, arith}
 use Rattle.std.proofs.Math.Seq.{drop-append-add}
-use Rattle.std.proofs.lemmas.List.{length-append, take-append-le, replicate-append-replicate}
+use Rattle.std.proofs.lemmas.List.{length-append, length-map, take-map, drop-map, take-append-le, replicate-append-replicate}
 use Rattle.std.specs.List.{range_with_len}
 use Rattle.std.proofs.lemmas.List.FromFn.{length-map-range_with_len, take-map-range_with_len}
 use Rattle.vp9_types.specs.declared.shape.Plane.{Plane}
@@ -86,7 +86,7 @@ pub kept_row : {X : Type 0} (f : X → ℕ) (xs : List X) (at width : ℕ) → m
 kept_row f xs at width = rw (back at width) (sym (take-map f width (drop at xs)) ∙ ap (take width) (sym (drop-map f at xs)))
 
 pub kept_fits : {X : Type 0} (f : X → ℕ) (xs : List X) (n : ℕ) → n ≤ length (map f xs) → n ≤ length xs
-kept_fits f xs n fits = rw length-map xs f at fits
+kept_fits f xs n fits = rw (length-map xs f) at fits
 
 -- ---- samples that are all the same
 

@@ -23,7 +23,7 @@ use crate::references::Rebuilding;
 use crate::residue::add_residues;
 use crate::residues::TransformResidues;
 use crate::room::RebuildRoom;
-use block_geometry::transform_grid;
+use block_geometry::{FramePlaces, transform_grid};
 use block_plan::{BlockInfo, InterPrediction, plane_block};
 use inter_lanes::FilterSample;
 use inter_places::{BlockPart, Place, part_count, place};
