@@ -46,7 +46,11 @@ impl<M: Meaning, P: Sample> BandCell<M, P> {
     }
 
     /// Puts a band of the cell's name into it, unless it holds one. The answer is the band that it holds from then on.
-    pub fn publish<'a>(&'a self, band: Box<Band<M, P>>, note: &mut Note<Band<M, P>>) -> &'a Band<M, P>
+    pub fn publish<'a>(
+        &'a self,
+        band: Box<Band<M, P>>,
+        note: &mut Note<Band<M, P>>,
+    ) -> &'a Band<M, P>
         requires named { band.value ≡ Some self.now.name }
         requires note { note.old.cell ≡ self.now.cell }
         ensures note { note.new.cell ≡ note.old.cell }
