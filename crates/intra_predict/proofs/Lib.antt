@@ -5,3 +5,5 @@ pub mod EdgeLemmas
 pub mod Bounds
 pub mod StepLemmas
 pub mod Around
+pub mod KeptLemmas
+pub mod SquareLemmas

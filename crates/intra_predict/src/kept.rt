@@ -29,8 +29,12 @@ pub(crate) fn widen_twice<P: Sample, const N: usize>(line: &mut [u16], from: &[P
     requires room { 2 * N ≤ length line.old }
     ensures { (k : ℕ) → k < 2 * N → slice_index line.new k ≡ slice_index (map P.value from.now) k }
 {
-    widen_lanes::<P, N>(&mut line[..N], &from[..N]);
-    widen_lanes::<P, N>(&mut line[N..2 * N], &from[N..]);
+    let mut numbers = [0; 64];
+    for k in 0..2 * N {
+        numbers[k] = from[k].widen();
+    }
+    copy_lanes::<N>(&mut line[..N], &numbers[..N]);
+    copy_lanes::<N>(&mut line[N..2 * N], &numbers[N..2 * N]);
 }
 
 /// The numbers of samples, put at the front of a line.
@@ -75,6 +79,18 @@ pub(crate) fn extend_samples<P: Sample, const N: usize>(line: &mut [u16], n: usi
     fill_from(line, N, n, last);
 }
 
+/// N numbers at the front of a line of their own.
+#[inline(always)]
+fn line_of<const N: usize>(numbers: &[u16]) -> [u16; 32]
+    requires few { N ≤ 32 }
+    requires enough { length numbers.now ≡ N }
+    ensures { (k : ℕ) → k < N → slice_index result k ≡ slice_index numbers.now k }
+{
+    let mut line = [0; 32];
+    copy_lanes::<N>(&mut line[..N], numbers);
+    line
+}
+
 /// The samples of N numbers, which are copied first, since what is read by reference might be what is written.
 #[inline(always)]
 pub(crate) fn narrow_lanes<P: Sample, const N: usize>(to: &mut [P], from: &[u16])
@@ -84,8 +100,7 @@ pub(crate) fn narrow_lanes<P: Sample, const N: usize>(to: &mut [P], from: &[u16]
     requires fits { (k : ℕ) → k < N → slice_index from.now k ≤ P.greatest }
     ensures { map P.value to.new ≡ from.now }
 {
-    let mut line = [0; 32];
-    copy_lanes::<N>(&mut line[..N], from);
+    let line = line_of::<N>(from);
     for k in 0..N {
         to[k] = P::narrow(line[k]);
     }

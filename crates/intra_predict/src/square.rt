@@ -2,7 +2,7 @@
 
 ghost use Rattle.std.specs.Prelude.{◌≡◌, ℕ, ◌+◌, ◌*◌, ◌<◌, ◌≤◌, length, slice_index};
 ghost use Rattle.vp9_types.specs.Maps.{rows_of, with_block};
-ghost use Rattle.planes.specs.Planes.{StartsIn, HasRow, lower_end, right_end, plane_map, with_part};
+ghost use Rattle.planes.specs.Planes.{IsArea, StartsIn, HasRow, lower_end, right_end, plane_map, with_part};
 
 use crate::kept::{narrow_all, narrow_lanes};
 use planes::{Area, SamplePlane};
@@ -52,6 +52,7 @@ pub(crate) fn put_inside<P: Sample, const N: usize>(
     requires inside { StartsIn plane.old.area row column }
     requires few { N ≤ 32 }
     requires low { rows ≤ 32 }
+    requires near { row ≤ 65536 }
     requires below { row + rows ≤ lower_end plane.old.area }
     requires right { column + N ≤ right_end plane.old.area }
     requires whole { rows * N ≤ length block.now }
@@ -66,6 +67,7 @@ pub(crate) fn put_inside<P: Sample, const N: usize>(
 
 /// Puts the part of a block that an area of the plane has room for. The block's rows are `stride` numbers apart.
 fn put_part<P: Sample>(plane: &mut SamplePlane<P>, to: &Area, stride: usize, block: &[u16])
+    requires near { IsArea to.now }
     requires inside { StartsIn plane.old.area to.now.first_row to.now.first_column }
     requires few { to.now.columns ≤ stride }
     requires low { to.now.rows ≤ stride }
