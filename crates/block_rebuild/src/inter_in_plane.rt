@@ -54,6 +54,7 @@ fn predict_part<P: FilterSample, S: Samples<Kept = P>>(
     requires room { 4096 ≤ length block.old }
     ensures place { result ≡ place_of b.now.by.now.shape b.now.block.now b.now.modes.now part (picture_of S.map (reference_of b.now.by.now reference)).shape }
     ensures fits { IsPlace result }
+    ensures room { 4096 ≤ length block.new }
     ensures samples { HoldsRows (map P.value block.new) result.columns result.rows (predicted_from b.now.by.now.shape b.now.block.now b.now.modes.now part (picture_of S.map (reference_of b.now.by.now reference))) }
 {
     let Some(picture) = b.by.reference(reference) else {

@@ -36,6 +36,15 @@ fn clipped(sum: i32, most: u16) -> u16
     }
 }
 
+/// A sample with residue added to it, clipped.
+#[inline(always)]
+fn with_residue(sample: u16, change: i32, most: u16) -> u16
+    requires { unsigned_abs change < 2 ^ 24 }
+    ensures { result ≡ with_residue most sample change }
+{
+    clipped(i32::from(sample) + change, most)
+}
+
 /// Adds residue to the sample at a place, and clips the sum.
 #[inline(always)]
 fn add_at<P: Sample>(line: &mut [P], k: usize, change: i32, most: u16)
@@ -46,8 +55,8 @@ fn add_at<P: Sample>(line: &mut [P], k: usize, change: i32, most: u16)
     ensures others { (i : ℕ) → i < k → slice_index (map P.value line.new) i ≡ slice_index (map P.value line.old) i }
     ensures rest { (i : ℕ) → k < i → slice_index (map P.value line.new) i ≡ slice_index (map P.value line.old) i }
 {
-    let sum = i32::from(line[k].widen()) + change;
-    line[k] = P::narrow(clipped(sum, most));
+    let sum = with_residue(line[k].widen(), change, most);
+    line[k] = P::narrow(sum);
 }
 
 /// Adds residue to as many samples, and clips them.
