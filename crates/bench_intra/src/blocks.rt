@@ -1,13 +1,13 @@
 //! What is predicted, and its checksums.
 
-ghost use Rattle.std.specs.Prelude.{◌≡◌, ℕ, ◌≤◌, length, slice_index};
+ghost use Rattle.std.specs.Prelude.{◌≡◌, ℕ, ◌≤◌, length, map, slice_index};
 ghost use Rattle.vp9_types.specs.Maps.{IsAtMost};
 ghost use Rattle.planes.specs.Planes.{plane_map, whole_area};
 
 use intra_predict::{IntraBlock, Place, Scratch, put_predicted, side_of};
 use planes::{Area, SamplePlane};
 use std::alloc::{AllocError, Global};
-use vp9_types::{Depth, IntraMode, TxSize};
+use vp9_types::{Depth, IntraMode, Sample, TxSize};
 
 const WIDTH: usize = 1920;
 
@@ -23,17 +23,20 @@ fn drawn(state: u32) -> u32 {
 }
 
 /// Pseudo-random samples of 8 bits.
-fn draw(samples: &mut [u16])
-    ensures { (k : ℕ) → slice_index samples.new k ≤ 255 }
+fn draw<P: Sample>(samples: &mut [P])
+    requires fits { 255 ≤ P.greatest }
+    ensures small { (k : ℕ) → slice_index (map P.value samples.new) k ≤ 255 }
+    ensures long { length samples.new ≡ length samples.old }
 {
     let mut state = SEED;
-    for sample in samples.iter_mut() {
+    for k in 0..samples.len() {
         state = drawn(state);
-        *sample = (state >> 24) as u16;
+        samples[k] = P::narrow((state >> 24) as u16);
     }
 }
 
-fn fill(plane: &mut SamplePlane, samples: &mut [u16])
+fn fill<P: Sample>(plane: &mut SamplePlane<P>, samples: &mut [P])
+    requires fits { 255 ≤ P.greatest }
     requires whole { plane.old.area ≡ whole_area HEIGHT WIDTH }
     requires small { IsAtMost 255 (plane_map plane.old) }
     requires room { SAMPLES ≤ length samples.old }
@@ -69,7 +72,8 @@ fn size_of(name: &str) -> TxSize {
 }
 
 /// Predicts blocks one after another, from the second row of blocks on.
-fn predict_blocks(plane: &mut SamplePlane, mode: IntraMode, size: TxSize, count: u64)
+fn predict_blocks<P: Sample>(plane: &mut SamplePlane<P>, mode: IntraMode, size: TxSize, count: u64)
+    requires fits { 255 ≤ P.greatest }
     requires whole { plane.old.area ≡ whole_area HEIGHT WIDTH }
     requires small { IsAtMost 255 (plane_map plane.old) }
     ensures { plane.new.area ≡ whole_area HEIGHT WIDTH }
@@ -98,21 +102,39 @@ fn predict_blocks(plane: &mut SamplePlane, mode: IntraMode, size: TxSize, count:
     }
 }
 
-fn checksum(plane: &SamplePlane) -> u64
+fn checksum<P: Sample>(plane: &SamplePlane<P>) -> u64
     requires { plane.now.area ≡ whole_area HEIGHT WIDTH }
 {
     let mut sum = 0u64;
     for row in 0..HEIGHT {
         for sample in plane.row(row, 0, WIDTH) {
-            sum = sum.wrapping_mul(31).wrapping_add(u64::from(*sample));
+            sum = sum.wrapping_mul(31).wrapping_add(u64::from(sample.widen()));
         }
     }
     sum
 }
 
+/// The checksum of a plane once so many blocks are predicted.
+fn sum_of<P: Sample>(
+    alloc: Global,
+    mode: IntraMode,
+    size: TxSize,
+    count: u64,
+) -> Result<u64, AllocError>
+    requires fits { 255 ≤ P.greatest }
+{
+    let mut samples = P::zeros(alloc, SAMPLES)?;
+    let mut plane = SamplePlane::new(alloc, Area::whole(HEIGHT, WIDTH))?;
+    fill(&mut plane, &mut samples);
+    predict_blocks(&mut plane, mode, size, count);
+    Ok(checksum(&plane))
+}
+
 /// What is printed for a line.
 pub fn describe(alloc: Global, line: &str) -> Result<String, AllocError> {
-    let Some((kind, rest)) = line.split_once(' ') else {
+    let bytes = line.starts_with("bytes ");
+    let words = line.strip_prefix("bytes ").unwrap_or(line);
+    let Some((kind, rest)) = words.split_once(' ') else {
         return format!(in alloc; "{line}: no size");
     };
     let Some((size, number)) = rest.split_once(' ') else {
@@ -121,10 +143,11 @@ pub fn describe(alloc: Global, line: &str) -> Result<String, AllocError> {
     let Ok(count) = number.parse::<u64>() else {
         return format!(in alloc; "{line}: not a number");
     };
-    let mut samples = vec![in alloc; 0u16; SAMPLES]?;
-    let mut plane = SamplePlane::new(alloc, Area::whole(HEIGHT, WIDTH))?;
-    fill(&mut plane, &mut samples);
-    predict_blocks(&mut plane, mode_of(kind), size_of(size), count);
-    let sum = checksum(&plane);
+    let (mode, size) = (mode_of(kind), size_of(size));
+    let sum = if bytes {
+        sum_of::<u8>(alloc, mode, size, count)?
+    } else {
+        sum_of::<u16>(alloc, mode, size, count)?
+    };
     format!(in alloc; "{line}: {sum}")
 }

@@ -1,9 +1,9 @@
-ghost use Rattle.std.specs.Prelude.{◌≡◌, ◌+◌, ◌*◌, ◌<◌, ◌≤◌, ◌^◌, ℕ, EachIndex, length, slice_index, take};
+ghost use Rattle.std.specs.Prelude.{◌≡◌, ◌+◌, ◌*◌, ◌<◌, ◌≤◌, ◌^◌, ℕ, EachIndex, length, map, slice_index, take};
 ghost use Rattle.vp9_types.specs.declared.shape.Depth.TheVariants.{Eight};
 ghost use Rattle.frame_output.specs.Texts.{row_text, rows_text, sample_size, two_bytes};
 ghost use Rattle.std.specs.List.{flat_map};
 
-use vp9_types::{Depth, Plane, Samples};
+use vp9_types::{Depth, Plane, Sample, Samples};
 
 pub(crate) fn sample_bytes(depth: Depth) -> usize
     ensures value { result ≡ sample_size depth }
@@ -41,10 +41,10 @@ pub(crate) fn write_rows<S: Samples>(
     }
 }
 
-fn write_row(depth: Depth, row: &[u16], bytes: &mut [u8])
+fn write_row<P: Sample>(depth: Depth, row: &[P], bytes: &mut [u8])
     requires long { length bytes.old ≡ sample_size depth * length row.now }
-    requires small { depth ≡ Eight → EachIndex row.now (λ k. slice_index row.now k < 256) }
-    ensures { bytes.new ≡ row_text depth row.now }
+    requires small { depth ≡ Eight → EachIndex (map P.value row.now) (λ k. slice_index (map P.value row.now) k < 256) }
+    ensures { bytes.new ≡ row_text depth (map P.value row.now) }
 {
     match depth {
         Depth::Eight => write_bytes(row, bytes),
@@ -52,23 +52,31 @@ fn write_row(depth: Depth, row: &[u16], bytes: &mut [u8])
     }
 }
 
-fn write_bytes(row: &[u16], bytes: &mut [u8])
+fn write_bytes<P: Sample>(row: &[P], bytes: &mut [u8])
     requires long { length bytes.old ≡ length row.now }
-    requires small { EachIndex row.now (λ k. slice_index row.now k < 256) }
-    ensures { bytes.new ≡ row.now }
+    requires small { EachIndex (map P.value row.now) (λ k. slice_index (map P.value row.now) k < 256) }
+    ensures { bytes.new ≡ map P.value row.now }
 {
     for i in 0..row.len() {
-        bytes[i] = row[i] as u8;
+        bytes[i] = number_at(row, i) as u8;
     }
 }
 
-fn write_pairs(row: &[u16], bytes: &mut [u8])
+fn write_pairs<P: Sample>(row: &[P], bytes: &mut [u8])
     requires long { length bytes.old ≡ 2 * length row.now }
-    ensures { bytes.new ≡ flat_map two_bytes row.now }
+    ensures { bytes.new ≡ flat_map two_bytes (map P.value row.now) }
 {
     for i in 0..row.len() {
-        let sample = row[i];
+        let sample = number_at(row, i);
         bytes[2 * i] = (sample % 256) as u8;
         bytes[2 * i + 1] = (sample / 256) as u8;
     }
+}
+
+#[inline(always)]
+fn number_at<P: Sample>(row: &[P], place: usize) -> u16
+    requires { place < length row.now }
+    ensures { result ≡ slice_index (map P.value row.now) place }
+{
+    row[place].widen()
 }

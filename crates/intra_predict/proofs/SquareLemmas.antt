@@ -1,9 +1,12 @@
 -- Rows of a block put into a plane, one after another.
-use Rattle.std.proofs.Common.{◌≡◌, ◌<◌, ◌≤◌, ◌+◌, ◌*◌, ◌-◌, ◌∙◌, ℕ, refl, sym, arith, ap, List, length, get_or, take, drop}
+use Rattle.std.proofs.Common.{◌≡◌, ◌<◌, ◌≤◌, ◌+◌, ◌*◌, ◌-◌, ◌/◌, ◌%◌, ◌∙◌, ℕ, zero, suc, min, refl, sym, arith, ap, List, length, get_or, take, drop}
+use Rattle.std.proofs.Math.Nat.{mod-add-div, mod-lt}
+use Rattle.std.proofs.lemmas.Nat.{div_below}
 use Rattle.std.proofs.lemmas.List.{get_or-take, get_or-drop, length-take, length-drop}
-use Rattle.vp9_types.specs.Maps.{Map, rows_of, with_block}
+use Rattle.vp9_types.specs.Maps.{Map, Holds, IsAtMost, rows_of, with_block}
 use Rattle.planes.specs.declared.area.Area.{Area}
 use Rattle.planes.specs.Planes.{StartsIn, HasRow, lower_end, right_end}
+use Rattle.intra_predict.specs.Steps.{with_square}
 use Rattle.planes.proofs.RowLemmas.{add-sub_left, next, one_row_more, place, with_block_same}
 
 -- row i of a block's rows
@@ -51,3 +54,25 @@ part_put m now new row column i rows n stride block low narrow whole so is =
     let long = part_long block (i * stride) n (omega (arith, row_ends i rows stride low, whole, narrow)) in
     is ∙ (ap (λ (k : ℕ). with_block now (row + i) column 1 k (λ _ j. get_or (part block (i * stride) n) j 0)) long
     ∙ more_rows m now row column i n stride block narrow so)
+
+-- a square that is inside as a whole
+pub whole_square : (width height : ℕ) (m : Map) (row column size : ℕ) (b : Map) → size ≤ height - row → size ≤ width - column
+    → with_block m row column size size b ≡ with_square width height m row column size b
+whole_square width height m row column size b high wide =
+    let down : size ≡ min size (height - row) = omega (arith, high) in
+    let across : size ≡ min size (width - column) = omega (arith, wide) in
+    λ t. with_block m row column (down t) (across t) b
+
+-- no number of a square is greater than those of the map that it holds
+pub square_fits : (size low most : ℕ) (block : List ℕ) (f : Map) → Holds block size f → IsAtMost low f → low ≤ most
+    → (k : ℕ) → k < size * size → get_or block k 0 ≤ most
+square_fits size low most block f holds small fits k inside =
+    let some : 0 < size = side size inside in
+    let column : k % size < size = mod-lt k some in
+    let at : k / size * size + k % size ≡ k = omega (arith, mod-add-div k size) in
+    let is : get_or block k 0 ≡ f (k / size) (k % size) = ap (λ (n : ℕ). get_or block n 0) (sym at) ∙ holds (k / size) (k % size) (div_below k size size some inside) column in
+    omega (arith, is, small (k / size) (k % size), fits)
+  where
+    side : (size : ℕ) → k < size * size → 0 < size
+    side zero low = omega (arith, low)
+    side (suc n) low = omega arith

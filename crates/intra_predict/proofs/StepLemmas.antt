@@ -1,14 +1,12 @@
 -- Blocks put into a plane.
-use Rattle.std.proofs.Common.{◌≡◌, ◌<◌, ◌≤◌, ◌+◌, ◌*◌, ◌-◌, ℕ, true, false, Bool, refl, ◌∙◌, arith, List, get_or, min, lit<}
-use Rattle.std.specs.Prelude.{Option, None, Some, ℤ, pos, negsuc, slice_index_or, if◌then◌else◌}
-use Rattle.std.proofs.lemmas.Nat.{mul-add-lt}
-use Rattle.vp9_types.specs.Maps.{Map, rows_of, with_block, Holds, IsAtMost}
+use Rattle.std.proofs.Common.{◌≡◌, ◌<◌, ◌≤◌, ◌-◌, ℕ, ◌∙◌, arith, List, min, lit<}
+use Rattle.std.specs.Prelude.{Option, None, Some, ℤ, pos, negsuc}
+use Rattle.vp9_types.specs.Maps.{Map, rows_of, Holds, IsAtMost}
 use Rattle.vp9_types.specs.declared.shape.Depth.{Depth}
 use Rattle.vp9_types.specs.declared.block.TxSize.{TxSize}
 use Rattle.vp9_types.specs.declared.block.TxSize.TheVariants.{T4x4, T8x8, T16x16, T32x32}
 use Rattle.intra_predict.specs.declared.block.IntraBlock.{IntraBlock}
 use Rattle.vp9_types.specs.Sizes.{side, greatest}
-use Rattle.intra_predict.specs.Residue.{with_residue}
 use Rattle.vp9_types.specs.Sizes.{clip}
 use Rattle.intra_predict.specs.Steps.{with_square, prediction, plus_residue, with_any_residue}
 use Rattle.planes.proofs.RowLemmas.{with_block_same, place}

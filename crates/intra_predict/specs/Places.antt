@@ -1,5 +1,5 @@
 -- Where the transform blocks of a coded block lie in a plane, and what is there around them (8.5.1 of the standard).
-use Rattle.std.specs.Prelude.{ℕ, ◌+◌, ◌*◌, ◌/◌, Bool, ◌||◌, nat_lt, if◌then◌else◌}
+use Rattle.std.specs.Prelude.{ℕ, ◌+◌, ◌*◌, Bool, ◌||◌, nat_lt}
 use Rattle.vp9_types.specs.Shapes.{halved}
 use Rattle.intra_predict.specs.declared.coded.CodedBlock.{CodedBlock}
 use Rattle.intra_predict.specs.declared.place.Place.{Place}

@@ -116,7 +116,7 @@ last_is xs ys j x is end = rw (is, end) (at_end xs x)
     at_end (y ∷ xs) x = at_end xs x
 
 -- what slots hold stays while a place that none of them names is used again
-pub held_beside : (pictures : List Picture) (place : ℕ) (p : Picture) (slots : List (Option ℕ)) → names place slots ≡ false
+pub held_beside : {X : Type 0} (pictures : List (Picture X)) (place : ℕ) (p : Picture X) (slots : List (Option ℕ)) → names place slots ≡ false
     → map (held_in (slice_set pictures place p)) slots ≡ map (held_in pictures) slots
 held_beside pictures place p [] free = refl
 held_beside pictures place p (None ∷ slots) free = ap (λ rest. None ∷ rest) (held_beside pictures place p slots free)
@@ -126,7 +126,7 @@ held_beside pictures place p (Some named ∷ slots) free =
     λ i. shown (same i) ∷ held_beside pictures place p slots both.1 i
 
 -- or while there is one more
-pub held_before : (pictures : List Picture) (p : Picture) (slots : List (Option ℕ)) → All (IsBelow (length pictures)) slots
+pub held_before : {X : Type 0} (pictures : List (Picture X)) (p : Picture X) (slots : List (Option ℕ)) → All (IsBelow (length pictures)) slots
     → map (held_in (pictures ++ p ∷ [])) slots ≡ map (held_in pictures) slots
 held_before pictures p [] within = refl
 held_before pictures p (None ∷ slots) within = ap (λ rest. None ∷ rest) (held_before pictures p slots (All-tail (IsBelow (length pictures)) None slots within))
@@ -137,11 +137,11 @@ held_before pictures p (Some named ∷ slots) within =
 
 ---- Sound pictures ----
 
-same_sound : (a b : Option Picture) → a ≡ b → IfSome b IsSound → IfSome a IsSound
+same_sound : {X : Type 0} (a b : Option (Picture X)) → a ≡ b → IfSome b IsSound → IfSome a IsSound
 same_sound a b same h = subst (λ o. IfSome o IsSound) (sym same) h
 
 -- those that slots name stay so while a place that none of them names is used again
-pub sound_beside : (pictures : List Picture) (place : ℕ) (p : Picture) (slots : List (Option ℕ)) → names place slots ≡ false
+pub sound_beside : {X : Type 0} (pictures : List (Picture X)) (place : ℕ) (p : Picture X) (slots : List (Option ℕ)) → names place slots ≡ false
     → All (NamesSound pictures) slots → All (NamesSound (slice_set pictures place p)) slots
 sound_beside pictures place p [] free h = λ i d low. absurd (omega (arith, low))
 sound_beside pictures place p (None ∷ slots) free h =
@@ -153,7 +153,7 @@ sound_beside pictures place p (Some named ∷ slots) free h =
     (sound_beside pictures place p slots both.1 (All-tail (NamesSound pictures) (Some named) slots h))
 
 -- or while there is one more
-pub sound_before : (pictures : List Picture) (p : Picture) (slots : List (Option ℕ)) → All (IsBelow (length pictures)) slots
+pub sound_before : {X : Type 0} (pictures : List (Picture X)) (p : Picture X) (slots : List (Option ℕ)) → All (IsBelow (length pictures)) slots
     → All (NamesSound pictures) slots → All (NamesSound (pictures ++ p ∷ [])) slots
 sound_before pictures p [] within h = λ i d low. absurd (omega (arith, low))
 sound_before pictures p (None ∷ slots) within h =
@@ -164,11 +164,11 @@ sound_before pictures p (Some named ∷ slots) within h =
     All-cons (NamesSound (pictures ++ p ∷ [])) (Some named) slots (same_sound _ _ (get_before pictures named p low) (All-head (NamesSound pictures) (Some named) slots h))
     (sound_before pictures p slots (All-tail (IsBelow (length pictures)) (Some named) slots within) (All-tail (NamesSound pictures) (Some named) slots h))
 
-held_sound : (pictures : List Picture) (flags place : ℕ) (slot : Option ℕ) → IsSoundAt pictures place → NamesSound pictures slot → NamesSound pictures (held flags place slot)
+held_sound : {X : Type 0} (pictures : List (Picture X)) (flags place : ℕ) (slot : Option ℕ) → IsSoundAt pictures place → NamesSound pictures slot → NamesSound pictures (held flags place slot)
 held_sound pictures flags place slot new h = elim (cases_Bool (flags % 2 == 1)) [ inl one ↦ rw one new | inr none ↦ rw none h ]
 
 -- or are refreshed by a sound one
-pub sound_refreshed : (pictures : List Picture) (place : ℕ) (slots : List (Option ℕ)) (flags : ℕ) → IsSoundAt pictures place
+pub sound_refreshed : {X : Type 0} (pictures : List (Picture X)) (place : ℕ) (slots : List (Option ℕ)) (flags : ℕ) → IsSoundAt pictures place
     → All (NamesSound pictures) slots → All (NamesSound pictures) (refreshed flags place slots)
 sound_refreshed pictures place [] flags new h = h
 sound_refreshed pictures place (slot ∷ slots) flags new h =
@@ -184,7 +184,7 @@ below_more n m (Some named ∷ slots) more h =
     All-cons (IsBelow m) (Some named) slots here (below_more n m slots more (All-tail (IsBelow n) (Some named) slots h))
 
 -- a table stays one while a place that no slot names is used again
-pub table_beside : (t u : PictureTable) (place : ℕ) (p : Picture) → names place t.slots ≡ false → u.slots ≡ t.slots → u.pictures.items ≡ slice_set t.pictures.items place p → IsTable t → IsTable u
+pub table_beside : {X : Type 0} (t u : PictureTable X) (place : ℕ) (p : Picture X) → names place t.slots ≡ false → u.slots ≡ t.slots → u.pictures.items ≡ slice_set t.pictures.items place p → IsTable t → IsTable u
 table_beside t u place p free slots is h = record {
   many = rw slots h.many;
   within = rw (slots, is) (below_more (length t.pictures.items) _ t.slots (omega (arith, length-set t.pictures.items place p)) h.within);
@@ -192,7 +192,7 @@ table_beside t u place p free slots is h = record {
 }
 
 -- or gets one picture more
-pub table_before : (t u : PictureTable) (p : Picture) → u.slots ≡ t.slots → u.pictures.items ≡ t.pictures.items ++ p ∷ [] → IsTable t → IsTable u
+pub table_before : {X : Type 0} (t u : PictureTable X) (p : Picture X) → u.slots ≡ t.slots → u.pictures.items ≡ t.pictures.items ++ p ∷ [] → IsTable t → IsTable u
 table_before t u p slots is h = record {
   many = rw slots h.many;
   within = rw (slots, is) (below_more (length t.pictures.items) _ t.slots (omega (arith, length-append t.pictures.items (p ∷ []))) h.within);

@@ -19,38 +19,38 @@ abbrev pub IsBelow : ℕ → Option ℕ → Type 0
 IsBelow count slot = IfSome slot (λ place. place < count)
 
 -- a picture of a size that frames have, with all samples of its shape, each in the range of its depth
-pub record IsSound (p : Picture) : Type 0 where
+pub record IsSound {X : Type 0} (p : Picture X) : Type 0 where
   pub fits : FitsPlanes p.shape
   pub sizes : HasSizes p.shape p.planes
   pub range : IsInRange p.shape.depth p.planes
 
 -- the picture at a place is, if one is there
-abbrev pub IsSoundAt : List Picture → ℕ → Type 0
+abbrev pub IsSoundAt : {X : Type 0} → List (Picture X) → ℕ → Type 0
 IsSoundAt pictures place = IfSome (slice_get pictures place) IsSound
 
-abbrev pub NamesSound : List Picture → Option ℕ → Type 0
+abbrev pub NamesSound : {X : Type 0} → List (Picture X) → Option ℕ → Type 0
 NamesSound pictures slot = IfSome slot (IsSoundAt pictures)
 
 -- the places that slots name are there, and their pictures are sound
-pub record IsTable (t : PictureTable) : Type 0 where
+pub record IsTable {X : Type 0} (t : PictureTable X) : Type 0 where
   pub many : length t.slots ≡ 8
   pub within : All (IsBelow (length t.pictures.items)) t.slots
   pub sound : All (NamesSound t.pictures.items) t.slots
 
 -- the picture at a place is so
-abbrev pub HasPicture : PictureTable → ℕ → (Picture → Type 0) → Type 0
-HasPicture t place P = (p : Picture) × (slice_get t.pictures.items place ≡ Some p) × P p
+abbrev pub HasPicture : {X : Type 0} → PictureTable X → ℕ → (Picture X → Type 0) → Type 0
+HasPicture {X} t place P = (p : Picture X) × (slice_get t.pictures.items place ≡ Some p) × P p
 
 -- what a picture shows
-abbrev pub shown : Option Picture → Option (Shape × FrameMap)
+abbrev pub shown : {X : Type 0} → Option (Picture X) → Option (Shape × FrameMap)
 shown None = None
 shown (Some p) = Some (p.shape, map_of p)
 
 -- what a slot holds
-abbrev pub held_in : List Picture → Option ℕ → Option (Shape × FrameMap)
+abbrev pub held_in : {X : Type 0} → List (Picture X) → Option ℕ → Option (Shape × FrameMap)
 held_in pictures None = None
 held_in pictures (Some place) = shown (slice_get pictures place)
 
 -- what the slots hold
-abbrev pub held : PictureTable → List (Option (Shape × FrameMap))
+abbrev pub held : {X : Type 0} → PictureTable X → List (Option (Shape × FrameMap))
 held t = map (held_in t.pictures.items) t.slots

@@ -5,12 +5,12 @@ ghost use Rattle.picture_table.specs.Code.{is_named, names};
 use frame_headers::refresh_slots;
 use planes::Picture;
 use std::alloc::{AllocError, Global};
-use vp9_types::Shape;
+use vp9_types::{Sample, Shape};
 
 /// Pictures, and the places in them that the eight slots name. A picture that no slot names is decoded into again.
 #[derive(Drop)]
-pub struct PictureTable {
-    pub pictures: Vec<Picture>,
+pub struct PictureTable<P: Sample> {
+    pub pictures: Vec<Picture<P>>,
     pub slots: [Option<usize>; 8],
 }
 
@@ -30,13 +30,13 @@ fn names(slots: &[Option<usize>], place: usize) -> bool
     slots.iter().any(|slot| is_named(place, *slot))
 }
 
-impl PictureTable {
+impl<P: Sample> PictureTable<P> {
     ghost use Rattle.planes.specs.Pictures.{IsBlank};
     ghost use Rattle.frame_headers.specs.State.{refreshed};
     ghost use Rattle.picture_table.specs.Code.{HasPicture, IsSoundAt, IsTable, held};
 
     /// No picture, and eight slots that hold nothing.
-    pub fn new(alloc: Global) -> PictureTable
+    pub fn new(alloc: Global) -> PictureTable<P>
         ensures pictures { result.pictures.items ≡ [] }
         ensures slots { result.slots ≡ replicate 8 None }
         ensures table { IsTable result }

@@ -4,7 +4,7 @@ use Rattle.planes.specs.Planes.{plane_map, whole_area}
 use Rattle.bench_intra.proofs.blocks.predict_blocks.Given as goal
 
 abbrev pub invariant-predicting : goal.invariant-predicting
-invariant-predicting l = record {
+invariant-predicting g l = record {
   high : l.row < 1080;
   wide : l.column < 1920;
   whole : l.plane.area ≡ whole_area 1080 1920;

@@ -1,5 +1,6 @@
 use Rattle.std.proofs.Common.{◌≡◌, ◌≤◌, ◌*◌, ℕ, arith, ap}
-use Rattle.frame_output.proofs.RowTexts.{no_rows, part_long, part_small, room_is, row_written}
+use Rattle.frame_output.proofs.KeptRows.{kept_long, kept_room, kept_small, kept_written}
+use Rattle.frame_output.proofs.RowTexts.{no_rows}
 use Rattle.frame_output.proofs.rows.write_rows.Goals as goal
 
 with_room : (count size is width length room : ℕ) → size ≡ is → length ≡ room → count * (is * width) ≤ room → count * (size * width) ≤ length
@@ -10,19 +11,19 @@ loop-i-init g c = no_rows c.args.depth c.args.width (c.sample_bytes.result * c.a
 
 pub slice_bounds-write_row-end : goal.slice_bounds-write_row-end
 slice_bounds-write_row-end g c = let a = c.args in
-    part_long a.width (g.S.Samples.width a.samples.now a.plane) (g.S.Samples.map a.samples.now a.plane) _ c.row-row.result.now c.requires.wide c.row-row.ensures
+    kept_long g.S.Kept.Sample.value a.width (g.S.Samples.width a.samples.now a.plane) (g.S.Samples.map a.samples.now a.plane) _ c.row-row.result.now c.requires.wide c.row-row.ensures
 
 pub write_row-requires-clause-long : goal.write_row-requires-clause-long
 write_row-requires-clause-long g c = let a = c.args in
-    room_is a.depth a.width (g.S.Samples.width a.samples.now a.plane) (c.sample_bytes.result * a.width) (g.S.Samples.map a.samples.now a.plane) _ c.loop-i.i a.count c.loop-i.buffer c.row-row.result.now
+    kept_room g.S.Kept.Sample.value a.depth a.width (g.S.Samples.width a.samples.now a.plane) (c.sample_bytes.result * a.width) (g.S.Samples.map a.samples.now a.plane) _ c.loop-i.i a.count c.loop-i.buffer c.row-row.result.now
     c.loop-i-test.true (with_room a.count _ _ a.width _ _ c.sample_bytes.ensures.value c.loop-i.auto.buffer c.requires.room) (ap (λ n. n * a.width) c.sample_bytes.ensures.value) c.requires.wide c.row-row.ensures
 
 pub write_row-requires-clause-small : goal.write_row-requires-clause-small
 write_row-requires-clause-small g c = let a = c.args in λ eight.
-    part_small a.width (g.S.Samples.width a.samples.now a.plane) (g.S.Samples.map a.samples.now a.plane) _ c.row-row.result.now c.requires.wide c.row-row.ensures
+    kept_small g.S.Kept.Sample.value a.width (g.S.Samples.width a.samples.now a.plane) (g.S.Samples.map a.samples.now a.plane) _ c.row-row.result.now c.requires.wide c.row-row.ensures
     (λ x inside. c.requires.small eight _ x (omega arith) inside)
 
 pub loop-i-preserved : goal.loop-i-preserved
 loop-i-preserved g c = let a = c.args in
-    row_written a.depth a.width (g.S.Samples.width a.samples.now a.plane) (c.sample_bytes.result * a.width) (g.S.Samples.map a.samples.now a.plane) a.from c.loop-i.i a.count c.loop-i.buffer c.write_row.new.bytes c.row-row.result.now
+    kept_written g.S.Kept.Sample.value a.depth a.width (g.S.Samples.width a.samples.now a.plane) (c.sample_bytes.result * a.width) (g.S.Samples.map a.samples.now a.plane) a.from c.loop-i.i a.count c.loop-i.buffer c.write_row.new.bytes c.row-row.result.now
     c.loop-i.invariant c.loop-i-test.true (with_room a.count _ _ a.width _ _ c.sample_bytes.ensures.value c.loop-i.auto.buffer c.requires.room) (ap (λ n. n * a.width) c.sample_bytes.ensures.value) c.requires.wide c.row-row.ensures c.write_row.ensures

@@ -1,4 +1,4 @@
-use Rattle.std.proofs.Common.{◌≡◌, ◌<◌, ◌≤◌, ℕ, get_or, map}
+use Rattle.std.proofs.Common.{◌≡◌, ◌<◌, ℕ, get_or, map}
 use Rattle.intra_predict.proofs.kept.widen_front.Given as goal
 
 abbrev pub invariant-loop-k : goal.invariant-loop-k

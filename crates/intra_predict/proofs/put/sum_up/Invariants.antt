@@ -1,4 +1,4 @@
-use Rattle.std.proofs.Common.{◌≡◌, ◌<◌, ◌≤◌, ℕ, get_or}
+use Rattle.std.proofs.Common.{◌≡◌, ◌<◌, ℕ, get_or}
 use Rattle.std.specs.Prelude.{pos, slice_index_or}
 use Rattle.intra_predict.specs.Residue.{with_residue}
 use Rattle.intra_predict.proofs.put.sum_up.Given as goal

@@ -1,4 +1,4 @@
-use Rattle.std.proofs.Common.{◌≡◌, ◌+◌, ◌*◌, ◌∙◌, arith, refl, sym}
+use Rattle.std.proofs.Common.{◌+◌, ◌*◌, ◌∙◌, arith, refl, sym}
 use Rattle.std.specs.Prelude.{slice_index}
 use Rattle.vp9_types.specs.Maps.{rows_of, with_block}
 use Rattle.planes.specs.Planes.{plane_map}

@@ -1,4 +1,4 @@
-use Rattle.std.proofs.Common.{◌≡◌, ◌<◌, ℕ, get_or, length, map}
+use Rattle.std.proofs.Common.{◌≡◌}
 use Rattle.vp9_types.specs.Maps.{rows_of, with_block}
 use Rattle.planes.specs.Planes.{plane_map}
 use Rattle.intra_predict.proofs.square.put_part.Given as goal

@@ -1,14 +1,25 @@
 use Rattle.std.proofs.Common.{◌∙◌}
 use Rattle.std.specs.Option.{option_copied}
 use Rattle.planes.specs.Planes.{lower_end, right_end, plane_map}
+use Rattle.vp9_types.specs.Sizes.{greatest}
 use Rattle.intra_predict.specs.Steps.{prediction, with_any_residue}
 use Rattle.intra_predict.proofs.Bounds.{edges_small}
 use Rattle.intra_predict.proofs.StepLemmas.{any_residue_small, prediction_small, square_put, square_small}
+use Rattle.intra_predict.proofs.SquareLemmas.{square_fits}
 use Rattle.intra_predict.proofs.steps.put_sized.Goals as goal
 
 pub rebuild-requires-clause-small : goal.rebuild-requires-clause-small
 rebuild-requires-clause-small g c = let a = c.args in let p = a.plane.now in
     rw c.read_sized.ensures (edges_small (right_end p.area) (lower_end p.area) g.row.N a.block.now.place a.depth (plane_map p) c.requires.small)
+
+pub put_square-requires-clause-fits : goal.put_square-requires-clause-fits
+unfolding prediction
+put_square-requires-clause-fits g c = let a = c.args in let b = a.block.now in let p = a.plane.now in
+    let f = prediction (right_end p.area) (lower_end p.area) a.depth b (plane_map p) in
+    square_fits g.row.N (greatest a.depth) _ c.rebuild.new.buffer (with_any_residue a.depth g.row.N f (option_copied a.residue))
+    (rw (c.requires.size, ← c.read_sized.ensures) c.rebuild.ensures.values)
+    (any_residue_small a.depth g.row.N f (option_copied a.residue) (prediction_small (right_end p.area) (lower_end p.area) a.depth b (plane_map p) c.requires.small))
+    c.requires.fits
 
 pub returns-clause-map : goal.returns-clause-map
 unfolding prediction

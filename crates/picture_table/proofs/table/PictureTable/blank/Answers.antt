@@ -4,18 +4,18 @@ use Rattle.picture_table.proofs.Places.{held_before, held_beside, last_is, table
 use Rattle.picture_table.proofs.table.PictureTable.blank.Goals as goal
 
 pub returns-in_ok-renew-clause-held : goal.returns-in_ok-renew-clause-held
-returns-in_ok-renew-clause-held c =
+returns-in_ok-renew-clause-held g c =
     held_beside c.args.self.now.pictures.items c.free_place-place.result c.renew.new.self c.args.self.now.slots c.free_place-place.ensures.free
 
 pub returns-in_ok-push-clause-blank : goal.returns-in_ok-push-clause-blank
-returns-in_ok-push-clause-blank c =
+returns-in_ok-push-clause-blank g c =
     let end : c.free_place-place.result ≡ length c.args.self.now.pictures.items = omega (arith, c.free_place-place.ensures.within, c.if-place-len.false, c.len.ensures) in
     (c.in_ok-new.field-0, last_is c.args.self.now.pictures.items c.push.new.self.items _ c.in_ok-new.field-0 c.in_ok-push.ensures.items end, c.in_ok-new.ensures)
 
 pub returns-in_ok-push-clause-held : goal.returns-in_ok-push-clause-held
-returns-in_ok-push-clause-held c =
+returns-in_ok-push-clause-held g c =
     ap (λ items. map (held_in items) c.args.self.now.slots) c.in_ok-push.ensures.items
     ∙ held_before c.args.self.now.pictures.items c.in_ok-new.field-0 c.args.self.now.slots c.requires.table.within
 
 pub returns-in_ok-push-clause-table : goal.returns-in_ok-push-clause-table
-returns-in_ok-push-clause-table c = table_before c.args.self.now _ c.in_ok-new.field-0 refl c.in_ok-push.ensures.items c.requires.table
+returns-in_ok-push-clause-table g c = table_before c.args.self.now _ c.in_ok-new.field-0 refl c.in_ok-push.ensures.items c.requires.table

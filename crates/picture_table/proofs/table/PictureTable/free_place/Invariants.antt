@@ -3,4 +3,4 @@ use Rattle.picture_table.specs.Code.{names}
 use Rattle.picture_table.proofs.table.PictureTable.free_place.Given as goal
 
 abbrev pub invariant-loop-place : goal.invariant-loop-place
-invariant-loop-place l = (p : ℕ) → p < l.place → names p l.self.slots ≡ true
+invariant-loop-place g l = (p : ℕ) → p < l.place → names p l.self.slots ≡ true

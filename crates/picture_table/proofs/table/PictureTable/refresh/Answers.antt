@@ -3,7 +3,7 @@ use Rattle.picture_table.proofs.Places.{as_many_refreshed, refreshed_below, soun
 use Rattle.picture_table.proofs.table.PictureTable.refresh.Goals as goal
 
 pub returns-clause-table : goal.returns-clause-table
-returns-clause-table c = rw c.refresh_slots.ensures (record {
+returns-clause-table g c = rw c.refresh_slots.ensures (record {
   many = as_many_refreshed c.args.place c.args.self.now.slots c.args.refresh ∙ c.requires.table.many;
   within = refreshed_below _ c.args.place c.args.self.now.slots c.args.refresh c.requires.there c.requires.table.within;
   sound = sound_refreshed _ c.args.place c.args.self.now.slots c.args.refresh c.requires.sound c.requires.table.sound;
