@@ -57,6 +57,19 @@ fn bytes_along(samples: &[u8], place: usize, taps: &[i16; 8]) -> [u8; 16]
     filtered_bytes(samples, place, 1, taps)
 }
 
+/// The bytes of numbers.
+#[inline(always)]
+pub(crate) fn bytes_of(numbers: &[u16; 71]) -> [u8; 71]
+    requires { (k : ℕ) → slice_index numbers.now k ≤ 255 }
+    ensures { (k : ℕ) → slice_index result k ≡ slice_index numbers.now k }
+{
+    let mut bytes = [0; 71];
+    for k in 0..71usize {
+        bytes[k] = numbers[k] as u8;
+    }
+    bytes
+}
+
 /// So many filtered values, as `filter_run` does, of samples of one byte.
 #[inline(always)]
 pub fn filter_byte_run(

@@ -3,10 +3,9 @@
 ghost use Rattle.std.specs.Prelude.{◌≡◌, ℕ, ◌+◌, ◌*◌, ◌/◌, ◌<◌, ◌≤◌, length, slice_index, map, ⊤};
 ghost use Rattle.inter_lanes.specs.Filter.{filtered};
 ghost use Rattle.vp9_tables.specs.Filters.{AreTaps};
-
 ghost use Rattle.std.proofs.Common.{rules};
 
-use crate::bytes::{filter_byte_line, filter_byte_run};
+use crate::bytes::{bytes_of, filter_byte_line, filter_byte_run};
 use crate::runs::{filter_line, filter_run};
 use crate::taps::TapLanes;
 use vp9_types::Sample;
@@ -73,6 +72,16 @@ pub trait FilterSample: Sample {
         ensures value { (j : ℕ) → j < count → slice_index (map Self.value out.new) j ≡ filtered most (stand_for taps.now) (λ k. slice_index (map Self.value samples.now) (from + k * step + j)) }
         ensures after { (j : ℕ) → count ≤ j → slice_index (map Self.value out.new) j ≡ slice_index (map Self.value out.old) j };
 
+    /// n values filtered along samples that are given as numbers, from the first on.
+    fn filter_numbers(out: &mut [Self], n: usize, numbers: &[u16; 71], taps: &Self::Taps, most: u16)
+        requires few { n ≤ 64 }
+        requires room { n ≤ length out.old }
+        requires most { takes most }
+        requires small { (k : ℕ) → slice_index numbers.now k ≤ most }
+        requires taps { hold taps.now }
+        ensures value { (j : ℕ) → j < n → slice_index (map Self.value out.new) j ≡ filtered most (stand_for taps.now) (λ k. slice_index numbers.now (j + k)) }
+        ensures after { (j : ℕ) → n ≤ j → slice_index (map Self.value out.new) j ≡ slice_index (map Self.value out.old) j };
+
     /// The rounded mean of two.
     fn mean(self, other: Self) -> Self
         ensures { Self.value result ≡ (Self.value self + Self.value other + 1) / 2 };
@@ -124,6 +133,12 @@ impl FilterSample for u8 {
     }
 
     #[inline(always)]
+    fn filter_numbers(out: &mut [u8], n: usize, numbers: &[u16; 71], taps: &[i16; 8], most: u16) {
+        let _ = most;
+        filter_byte_line(out, n, &bytes_of(numbers), 0, taps);
+    }
+
+    #[inline(always)]
     fn mean(self, other: u8) -> u8 {
         let sum = u16::from(self) + u16::from(other) + 1;
         (sum / 2) as u8
@@ -171,6 +186,11 @@ impl FilterSample for u16 {
         most: u16,
     ) {
         filter_run(out, count, samples, from, step, taps, most);
+    }
+
+    #[inline(always)]
+    fn filter_numbers(out: &mut [u16], n: usize, numbers: &[u16; 71], taps: &TapLanes, most: u16) {
+        filter_line(out, n, numbers, 0, taps, most);
     }
 
     #[inline(always)]

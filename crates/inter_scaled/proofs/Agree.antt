@@ -1,15 +1,11 @@
 -- Values that are filtered from the same samples, and rows that lie between the first and the last.
-use Rattle.std.proofs.Common.{◌≡◌, ℕ, ◌+◌, ◌-◌, ◌*◌, ◌/◌, ◌%◌, ◌<◌, ◌≤◌, ℤ, pos, negsuc, ◌+ℤ◌, ◌-ℤ◌, List, refl, arith, ap, subst, sym, get_or, take, ◌∙◌, All, length, inl, inr}
-use Rattle.std.proofs.lemmas.Bool.{cases_lt}
-use Rattle.std.proofs.lemmas.List.{get_or_past}
-use Rattle.std.proofs.lemmas.List.Elements.{All-get_or}
-use Rattle.std.proofs.lemmas.List.{get_or-take}
+use Rattle.std.proofs.Common.{◌≡◌, ℕ, ◌+◌, ◌-◌, ◌*◌, ◌/◌, ◌%◌, ◌<◌, ◌≤◌, ℤ, pos, negsuc, ◌+ℤ◌, ◌-ℤ◌, List, refl, arith, ap, subst, sym, ◌∙◌}
 use Rattle.std.proofs.Math.Nat.{mul-zero}
 use Rattle.vp9_types.specs.Maps.{Map}
 use Rattle.vp9_types.specs.declared.block.InterpFilter.{InterpFilter}
 use Rattle.vp9_tables.specs.Filters.{taps_of}
 use Rattle.inter_places.specs.declared.axis.Axis.{Axis}
-use Rattle.inter_lanes.specs.Filter.{IsTap, weighted, rounded, filtered}
+use Rattle.inter_lanes.specs.Filter.{weighted, rounded, filtered}
 use Rattle.inter_places.proofs.Orders.{clamped_order, offset_order, place_order}
 use Rattle.inter_places.specs.Axes.{clamped, place, phase, offset, fraction, sixteenth, whole, straight}
 use Rattle.inter_places.specs.Axes.{first_place, last_place}
@@ -24,9 +20,6 @@ weighted_same taps f g same = rw (same 0 (omega arith), same 1 (omega arith), sa
 pub filtered_same : (most : ℕ) (taps : List ℤ) (f g : ℕ → ℕ) → ((k : ℕ) → k < 8 → f k ≡ g k) →
     rounded most (weighted taps f) ≡ rounded most (weighted taps g)
 filtered_same most taps f g same = ap (rounded most) (weighted_same taps f g same)
-
-pub part_is : (xs : List ℕ) (m t u : ℕ) → t ≡ u → u < m → get_or (take m xs) t 0 ≡ get_or xs u 0
-part_is xs m t u is low = rw is (rw get_or-take refl)
 
 clamped_below : (size : ℕ) (z : ℤ) → 0 < size → clamped size z < size
 clamped_below size (pos a) some = omega arith
@@ -55,12 +48,6 @@ phase_straight a j step = rw step (phase_is (fraction a) j (low_part a.start))
 
 straight_order : (a : Axis) (s t : ℕ) → s ≤ t → straight a s ≤ straight a t
 straight_order a s t le = clamped_order a.size (whole a) s t le
-
-pub each_tap : (taps : List ℤ) → All IsTap taps → (k : ℕ) → IsTap (get_or taps k (pos 0))
-each_tap taps small k = elim (cases_lt k (length taps)) [
-  | inl low ↦ All-get_or IsTap taps k (pos 0) low small
-  | inr past ↦ rw (get_or_past taps k (pos 0) past) (omega arith)
-]
 
 pub along_same : (most : ℕ) (kind : InterpFilter) (a : Axis) (f g : ℕ → ℕ) (j : ℕ) → ((k : ℕ) → k < 8 → f (place a j k) ≡ g (place a j k)) →
     along most kind a f j ≡ along most kind a g j

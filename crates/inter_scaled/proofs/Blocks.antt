@@ -1,14 +1,14 @@
 -- Blocks, one row more at a time.
-use Rattle.std.proofs.Common.{◌≡◌, ℕ, ◌+◌, ◌*◌, ◌<◌, ◌≤◌, List, get_or, arith, refl, ◌∙◌, inl, inr, subst, ℤ, pos, negsuc, ◌+ℤ◌, ◌/◌, ◌%◌, take, get_or, suc, zero}
+use Rattle.std.proofs.Common.{◌≡◌, ℕ, ◌+◌, ◌*◌, ◌<◌, ◌≤◌, List, get_or, arith, refl, ◌∙◌, inl, inr, subst, ℤ, pos, negsuc, ◌+ℤ◌, ◌/◌, ◌%◌, take, map, suc, zero}
 use Rattle.std.specs.Prelude.{slice_index}
 use Rattle.std.proofs.Math.Nat.{mul-le-mul_right, div-add-mod, mod-lt}
 use Rattle.std.proofs.lemmas.Nat.{div_below}
-use Rattle.std.proofs.lemmas.List.{get_or-take, get_or_past, length-take}
 use Rattle.std.proofs.lemmas.Bool.{cases_lt}
 use Rattle.std.specs.Int.{int_shr}
 use Rattle.vp9_types.specs.Sizes.{clip}
 use Rattle.inter_lanes.specs.Filter.{rounded}
 use Rattle.vp9_types.specs.Maps.{Map, HoldsRows, IsAtMost}
+use Rattle.inter_scaled.proofs.Values.{taken_is, taken_past}
 
 one_up : (a b : ℕ) → a < b → a + 1 ≤ b
 one_up a b lt = omega arith
@@ -33,16 +33,16 @@ rounded_small most s = clip_small most (int_shr (s +ℤ pos 64) 7)
     clip_small most (negsuc n) = omega arith
 
 -- lines of small values have no sample above the greatest
-pub lines_small : (most n rows : ℕ) (xs : List ℕ) (f : Map) → HoldsRows xs n rows f → IsAtMost most f → most ≤ 4095 →
-    (k : ℕ) → slice_index (take (rows * n) xs) k ≤ 4095
-lines_small most n rows xs f so small few k = elim (cases_lt k (rows * n)) [
+pub lines_small : {X : Type 0} (most n rows : ℕ) (g : X → ℕ) (xs : List X) (f : Map) → HoldsRows (map g xs) n rows f → IsAtMost most f →
+    (k : ℕ) → slice_index (map g (take (rows * n) xs)) k ≤ most
+lines_small most n rows g xs f so small k = elim (cases_lt k (rows * n)) [
   | inl low ↦
       let some : 0 < n = some_of n rows k low in
       let split : k / n * n + k % n ≡ k = omega (arith, div-add-mod k n) in
-      let is : get_or xs (k / n * n + k % n) 0 ≡ f (k / n) (k % n) = so (k / n) (k % n) (div_below k n rows some low) (mod-lt k some) in
-      let value : get_or xs k 0 ≡ f (k / n) (k % n) = subst (λ (z : ℕ). get_or xs z 0 ≡ f (k / n) (k % n)) split is in
-      rw (get_or-take, value) (omega (arith, small (k / n) (k % n)))
-  | inr past ↦ let none = get_or_past (take (rows * n) xs) k 0 (omega (arith, length-take (rows * n) xs)) in rw none (omega arith)
+      let is : get_or (map g xs) (k / n * n + k % n) 0 ≡ f (k / n) (k % n) = so (k / n) (k % n) (div_below k n rows some low) (mod-lt k some) in
+      let value : get_or (map g xs) k 0 ≡ f (k / n) (k % n) = subst (λ (z : ℕ). get_or (map g xs) z 0 ≡ f (k / n) (k % n)) split is in
+      rw (taken_is g xs (rows * n) k k refl low, value) (omega (arith, small (k / n) (k % n)))
+  | inr past ↦ rw (taken_past g xs (rows * n) k past) (omega arith)
 ]
   where
     some_of : (n rows k : ℕ) → k < rows * n → 0 < n

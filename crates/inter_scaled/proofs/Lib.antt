@@ -1,4 +1,5 @@
 pub mod Agree
 pub mod Blocks
 pub mod RowLemmas
+pub mod Values
 pub mod Whole

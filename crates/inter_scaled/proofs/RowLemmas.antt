@@ -1,8 +1,8 @@
 -- Rows as a reference gives them.
-use Rattle.std.proofs.Common.{◌≡◌, ℕ, ◌<◌, ◌≤◌, length, arith, inl, inr}
+use Rattle.std.proofs.Common.{◌≡◌, ℕ, List, map, ◌<◌, ◌≤◌, ◌∙◌, length, ap, sym, arith, inl, inr}
 use Rattle.std.specs.Prelude.{slice_index}
 use Rattle.std.proofs.lemmas.Bool.{cases_lt}
-use Rattle.std.proofs.lemmas.List.{get_or_past}
+use Rattle.std.proofs.lemmas.List.{get_or_past, length-map}
 use Rattle.std.proofs.lemmas.List.FromFn.{get_or-map-range_with_len, length-map-range_with_len}
 use Rattle.vp9_types.specs.Maps.{Map, row_of, IsAtMost}
 
@@ -17,3 +17,7 @@ row_small m most y w c small = elim (cases_lt c w) [
   | inl low ↦ rw (row_entry m y w c low) (small y c)
   | inr past ↦ let none = get_or_past (row_of m y 0 w) c 0 (omega (arith, row_long m y w)) in rw none (omega arith)
 ]
+
+-- samples that stand for a row
+pub kept_long : {X : Type 0} (f : X → ℕ) (xs : List X) (m : Map) (y w : ℕ) → map f xs ≡ row_of m y 0 w → length xs ≡ w
+kept_long f xs m y w is = sym (length-map xs f) ∙ (ap (λ (ys : List ℕ). length ys) is ∙ row_long m y w)

@@ -15,7 +15,13 @@ use inter_places::offset_of;
 use vp9_tables::taps;
 
 /// Sixteens of values from the beginning of row i on, at any step, each filtered down a column.
-fn scale_sixteens<P: FilterSample>(out: &mut [P], i: usize, n: usize, lines: &[P], down: &LineFilter<P::Taps>)
+fn scale_sixteens<P: FilterSample>(
+    out: &mut [P],
+    i: usize,
+    n: usize,
+    lines: &[P],
+    down: &LineFilter<P::Taps>,
+)
     requires filter { IsFilter P.stand_for P.hold P.takes down.now }
     requires low { i < 64 }
     requires few { n ≤ 64 }
@@ -43,7 +49,13 @@ fn scale_sixteens<P: FilterSample>(out: &mut [P], i: usize, n: usize, lines: &[P
 }
 
 /// The rest of row i, each value by itself.
-fn scale_rest<P: FilterSample>(out: &mut [P], i: usize, n: usize, lines: &[P], down: &LineFilter<P::Taps>)
+fn scale_rest<P: FilterSample>(
+    out: &mut [P],
+    i: usize,
+    n: usize,
+    lines: &[P],
+    down: &LineFilter<P::Taps>,
+)
     requires filter { IsFilter P.stand_for P.hold P.takes down.now }
     requires low { i < 64 }
     requires few { n ≤ 64 }
@@ -62,7 +74,13 @@ fn scale_rest<P: FilterSample>(out: &mut [P], i: usize, n: usize, lines: &[P], d
 }
 
 /// Row i of n values at any step, each filtered down a column.
-fn scale_row<P: FilterSample>(out: &mut [P], i: usize, n: usize, lines: &[P], down: &LineFilter<P::Taps>)
+fn scale_row<P: FilterSample>(
+    out: &mut [P],
+    i: usize,
+    n: usize,
+    lines: &[P],
+    down: &LineFilter<P::Taps>,
+)
     requires filter { IsFilter P.stand_for P.hold P.takes down.now }
     requires low { i < 64 }
     requires few { n ≤ 64 }
@@ -78,7 +96,13 @@ fn scale_row<P: FilterSample>(out: &mut [P], i: usize, n: usize, lines: &[P], do
 }
 
 /// Rows of n values at any step, each filtered down a column.
-fn scale_down<P: FilterSample>(out: &mut [P], rows: usize, n: usize, lines: &[P], down: &LineFilter<P::Taps>)
+fn scale_down<P: FilterSample>(
+    out: &mut [P],
+    rows: usize,
+    n: usize,
+    lines: &[P],
+    down: &LineFilter<P::Taps>,
+)
     requires filter { IsFilter P.stand_for P.hold P.takes down.now }
     requires low { rows ≤ 64 }
     requires some { 0 < rows }
@@ -96,7 +120,13 @@ fn scale_down<P: FilterSample>(out: &mut [P], rows: usize, n: usize, lines: &[P]
 
 /// Rows of n values, each filtered down a column of lines of n.
 #[inline(always)]
-pub(crate) fn filter_down<P: FilterSample>(out: &mut [P], rows: usize, n: usize, lines: &[P], down: &LineFilter<P::Taps>)
+pub(crate) fn filter_down<P: FilterSample>(
+    out: &mut [P],
+    rows: usize,
+    n: usize,
+    lines: &[P],
+    down: &LineFilter<P::Taps>,
+)
     requires filter { IsFilter P.stand_for P.hold P.takes down.now }
     requires low { rows ≤ 64 }
     requires some { 0 < rows }

@@ -32,6 +32,21 @@ pub(crate) fn read_places<P: Sample>(out: &mut [P], n: usize, row: &[P], a: &Axi
     }
 }
 
+/// The numbers of n samples at places that follow one another, from the third before the first on.
+#[inline(always)]
+pub(crate) fn read_numbers<P: Sample>(out: &mut [u16], n: usize, row: &[P], a: &Axis)
+    requires few { n ≤ 136 }
+    requires room { n ≤ length out.old }
+    requires axis { IsAxis a.now }
+    requires row { a.now.size ≤ length row.now }
+    ensures value { (t : ℕ) → t < n → slice_index out.new t ≡ slice_index (map P.value row.now) (straight a.now t) }
+    ensures after { (t : ℕ) → n ≤ t → slice_index out.new t ≡ slice_index out.old t }
+{
+    for t in 0..n {
+        out[t] = sample_at(row, straight(a, t)).widen();
+    }
+}
+
 /// A line of n values, where the reference has the frame's size.
 fn filter_places<P: FilterSample>(out: &mut [P], n: usize, row: &[P], filter: &LineFilter<P::Taps>)
     requires filter { IsFilter P.stand_for P.hold P.takes filter.now }
@@ -39,13 +54,13 @@ fn filter_places<P: FilterSample>(out: &mut [P], n: usize, row: &[P], filter: &L
     requires room { n ≤ length out.old }
     requires row { filter.now.axis.size ≤ length row.now }
     requires samples { (k : ℕ) → slice_index (map P.value row.now) k ≤ filter.now.most }
-    ensures value { (j : ℕ) → j < n → slice_index (map P.value out.new) j ≡ filtered filter.now.most (P.stand_for filter.now.taps) (λ k. slice_index (map P.value row.now) (straight filter.now.axis (0 + (j + k)))) }
+    ensures value { (j : ℕ) → j < n → slice_index (map P.value out.new) j ≡ filtered filter.now.most (P.stand_for filter.now.taps) (λ k. slice_index (map P.value row.now) (straight filter.now.axis (j + k))) }
     ensures after { (j : ℕ) → n ≤ j → slice_index (map P.value out.new) j ≡ slice_index (map P.value out.old) j }
 {
     let read = 16 * ((n + 15) / 16) + 7;
-    let mut window = [P::narrow(0); 71];
-    read_places(&mut window, read, row, &filter.axis, 0);
-    P::filter_along(out, n, &window[..read], 0, &filter.taps, filter.most);
+    let mut window = [0; 71];
+    read_numbers(&mut window, read, row, &filter.axis);
+    P::filter_numbers(out, n, &window, &filter.taps, filter.most);
 }
 
 /// A line of n values, whatever they are.

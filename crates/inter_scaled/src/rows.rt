@@ -9,13 +9,12 @@ ghost use Rattle.inter_scaled.specs.Code.{IsFilter, IsCopied, IsRun};
 use crate::filter::{Interpolation, LineFilter, filter_of};
 use crate::lines::put_line;
 use crate::places::is_copied;
-use inter_places::{Place, straight};
 use inter_lanes::FilterSample;
+use inter_places::{Place, straight};
 use vp9_types::{Sample, Samples};
 
 /// The row of the reference that lies n rows after the third before the first.
 #[inline(always)]
-#[tactic(auto, using(crate::proofs::RowLemmas::row_long, crate::proofs::RowLemmas::row_entry, crate::proofs::RowLemmas::row_small))]
 fn read_row<'a, P: Sample, S: Samples<Kept = P>>(
     view: &'a S,
     place: &Place,

@@ -9,7 +9,7 @@ ghost use Rattle.vp9_tables.specs.Filters.{taps_of};
 
 use crate::filter::LineFilter;
 use crate::kept::{put_at, sample_at};
-use crate::lines::read_places;
+use crate::lines::read_numbers;
 use crate::places::is_inside;
 use inter_lanes::{FilterSample, rounded, weighted_run};
 use inter_places::{offset_of, straight};
@@ -52,8 +52,8 @@ fn filtered_eight<P: FilterSample>(
 
 /// Eight samples that follow one another, filtered by the phase of a value that lies so many sixteenths behind the first.
 #[inline(always)]
-fn filtered_run<P: FilterSample>(
-    samples: &[P],
+fn filtered_run<P: FilterSample, Q: Sample>(
+    samples: &[Q],
     from: usize,
     filter: &LineFilter<P::Taps>,
     offset: usize,
@@ -62,28 +62,34 @@ fn filtered_run<P: FilterSample>(
     requires near { offset ≤ 2063 }
     requires low { from ≤ 65536 }
     requires enough { from + (offset / 16 + 8) ≤ length samples.now }
-    requires samples { (k : ℕ) → slice_index (map P.value samples.now) k ≤ filter.now.most }
-    ensures { P.value result ≡ filtered filter.now.most (taps_of filter.now.kind (offset % 16)) (λ k. slice_index (map P.value samples.now) (from + offset / 16 + k)) }
+    requires samples { (k : ℕ) → slice_index (map Q.value samples.now) k ≤ filter.now.most }
+    ensures { P.value result ≡ filtered filter.now.most (taps_of filter.now.kind (offset % 16)) (λ k. slice_index (map Q.value samples.now) (from + offset / 16 + k)) }
 {
     let eight = eight_of(samples, from + offset / 16, 1);
     filtered_eight::<P>(&eight, filter, offset)
 }
 
 /// A row of n values of samples that follow one another, the first of which stands at place `from`.
-fn scale_run<P: FilterSample>(out: &mut [P], n: usize, samples: &[P], from: usize, filter: &LineFilter<P::Taps>)
+fn scale_run<P: FilterSample, Q: Sample>(
+    out: &mut [P],
+    n: usize,
+    samples: &[Q],
+    from: usize,
+    filter: &LineFilter<P::Taps>,
+)
     requires filter { IsFilter P.stand_for P.hold P.takes filter.now }
     requires few { n ≤ 64 }
     requires low { from ≤ 65536 }
     requires room { n ≤ length out.old }
     requires enough { (j : ℕ) → j < n → from + (offset filter.now.axis j / 16 + 8) ≤ length samples.now }
-    requires samples { (k : ℕ) → slice_index (map P.value samples.now) k ≤ filter.now.most }
+    requires samples { (k : ℕ) → slice_index (map Q.value samples.now) k ≤ filter.now.most }
     ensures value { (j : ℕ) → j < n → slice_index (map P.value out.new) j
-        ≡ filtered filter.now.most (taps_of filter.now.kind (phase filter.now.axis j)) (λ k. slice_index (map P.value samples.now) (from + offset filter.now.axis j / 16 + k)) }
+        ≡ filtered filter.now.most (taps_of filter.now.kind (phase filter.now.axis j)) (λ k. slice_index (map Q.value samples.now) (from + offset filter.now.axis j / 16 + k)) }
     ensures after { (j : ℕ) → n ≤ j → slice_index (map P.value out.new) j ≡ slice_index (map P.value out.old) j }
 {
     for j in 0..n {
         let offset = offset_of(&filter.axis, j);
-        let value = filtered_run::<P>(samples, from, filter, offset);
+        let value = filtered_run::<P, Q>(samples, from, filter, offset);
         put_at(out, j, value);
     }
 }
@@ -110,7 +116,12 @@ pub(crate) fn value_below<P: FilterSample>(
 }
 
 /// A row of n values at any step: where a place lies outside the plane, of a copy of the samples.
-pub(crate) fn scale_line<P: FilterSample>(out: &mut [P], n: usize, row: &[P], filter: &LineFilter<P::Taps>)
+pub(crate) fn scale_line<P: FilterSample>(
+    out: &mut [P],
+    n: usize,
+    row: &[P],
+    filter: &LineFilter<P::Taps>,
+)
     requires filter { IsFilter P.stand_for P.hold P.takes filter.now }
     requires few { n ≤ 64 }
     requires room { n ≤ length out.old }
@@ -121,10 +132,10 @@ pub(crate) fn scale_line<P: FilterSample>(out: &mut [P], n: usize, row: &[P], fi
 {
     let count = offset_of(&filter.axis, n) / 16 + 8;
     if is_inside(&filter.axis, count) {
-        scale_run::<P>(out, n, row, straight(&filter.axis, 0), filter);
+        scale_run::<P, P>(out, n, row, straight(&filter.axis, 0), filter);
     } else {
-        let mut window = [P::narrow(0); 136];
-        read_places(&mut window, count, row, &filter.axis, 0);
-        scale_run::<P>(out, n, &window[..count], 0, filter);
+        let mut window = [0; 136];
+        read_numbers(&mut window, count, row, &filter.axis);
+        scale_run::<P, u16>(out, n, &window[..count], 0, filter);
     }
 }

@@ -1,4 +1,4 @@
-use Rattle.std.proofs.Common.{◌+◌, ◌*◌, ◌/◌, get_or}
+use Rattle.std.proofs.Common.{◌+◌, ◌*◌, ◌/◌, get_or, map}
 use Rattle.vp9_types.specs.Maps.{HoldsRows}
 use Rattle.vp9_tables.specs.Filters.{taps_of}
 use Rattle.inter_lanes.specs.Filter.{filtered}
@@ -6,5 +6,5 @@ use Rattle.inter_places.specs.Axes.{offset, phase}
 use Rattle.inter_scaled.proofs.down.scale_down.Given as goal
 
 abbrev pub invariant-loop-i : goal.invariant-loop-i
-invariant-loop-i l = HoldsRows l.out l.n l.i
-    (λ i j. filtered l.down.most (taps_of l.down.kind (phase l.down.axis i)) (λ k. get_or l.lines ((offset l.down.axis i / 16 + k) * l.n + j) 0))
+invariant-loop-i g l = HoldsRows (map g.P.Sample.value l.out) l.n l.i
+    (λ i j. filtered l.down.most (taps_of l.down.kind (phase l.down.axis i)) (λ k. get_or (map g.P.Sample.value l.lines) ((offset l.down.axis i / 16 + k) * l.n + j) 0))

@@ -1,4 +1,4 @@
-use Rattle.std.proofs.Common.{◌≡◌, ℕ, ◌+◌, ◌∙◌, ap, arith, get_or, List, ℤ}
+use Rattle.std.proofs.Common.{◌≡◌, ℕ, ◌+◌, ◌∙◌, ap, arith, get_or, map, List, ℤ}
 use Rattle.inter_lanes.specs.Filter.{filtered}
 use Rattle.inter_places.specs.Axes.{straight}
 use Rattle.inter_scaled.proofs.Agree.{along_straight, filtered_same}
@@ -7,9 +7,9 @@ use Rattle.inter_scaled.proofs.lines.fill_by.Goals as goal
 pub returns-then-this-eq0-clause-value : goal.returns-then-this-eq0-clause-value
 returns-then-this-eq0-clause-value g c = λ j low. let a = c.args in let f = a.filter.now in
     let run = c.requires.run c.if-this-eq0.true in
-    c.filter_line.ensures.value j low
-    ∙ filtered_same f.most f.taps (λ (k : ℕ). get_or a.row.now (a.from + (j + k)) 0) (λ (k : ℕ). get_or a.row.now (straight f.axis (j + k)) 0)
+    c.filter_along.ensures.value j low
+    ∙ filtered_same f.most (g.P.FilterSample.stand_for f.taps) (λ (k : ℕ). get_or (map g.P.Sample.value a.row.now) (a.from + (j + k)) 0) (λ (k : ℕ). get_or (map g.P.Sample.value a.row.now) (straight f.axis (j + k)) 0)
     (λ k few. let at = run.inside.places (j + k) (omega arith) in
-    let same : a.from + (j + k) ≡ straight f.axis (j + k) = omega (arith, at, c.requires.from) in ap (λ (z : ℕ). get_or a.row.now z 0) same)
-    ∙ ap (λ (ts : List ℤ). filtered f.most ts (λ (k : ℕ). get_or a.row.now (straight f.axis (j + k)) 0)) c.requires.filter.taps
-    ∙ along_straight f.most f.kind f.axis (λ (k : ℕ). get_or a.row.now k 0) j run.step
+    let same : a.from + (j + k) ≡ straight f.axis (j + k) = omega (arith, at, c.requires.from) in ap (λ (z : ℕ). get_or (map g.P.Sample.value a.row.now) z 0) same)
+    ∙ ap (λ (ts : List ℤ). filtered f.most ts (λ (k : ℕ). get_or (map g.P.Sample.value a.row.now) (straight f.axis (j + k)) 0)) c.requires.filter.taps
+    ∙ along_straight f.most f.kind f.axis (λ (k : ℕ). get_or (map g.P.Sample.value a.row.now) k 0) j run.step

@@ -1,21 +1,16 @@
-use Rattle.std.proofs.Common.{◌≡◌, ℕ, ◌+◌, ◌∙◌, ap, arith, get_or, List, ℤ}
+use Rattle.std.proofs.Common.{ℕ, ◌+◌, ◌∙◌, ap, get_or, map, List, ℤ}
 use Rattle.inter_lanes.specs.Filter.{filtered}
 use Rattle.inter_places.specs.Axes.{straight}
-use Rattle.inter_scaled.proofs.Agree.{along_whole, along_straight, filtered_same}
+use Rattle.inter_scaled.proofs.Agree.{along_whole, along_straight}
 use Rattle.inter_scaled.proofs.lines.fill_line.Goals as goal
 
 pub returns-then-is_whole-clause-value : goal.returns-then-is_whole-clause-value
-returns-then-is_whole-clause-value c = λ j low. let a = c.args in let f = a.filter.now in
+returns-then-is_whole-clause-value g c = λ j low. let a = c.args in let f = a.filter.now in
     c.read_places.ensures.value j low
-    ∙ along_whole f.most f.kind f.axis (λ (k : ℕ). get_or a.row.now k 0) j c.if-is_whole.ensures.step c.if-is_whole.ensures.phase c.requires.samples
+    ∙ along_whole f.most f.kind f.axis (λ (k : ℕ). get_or (map g.P.Sample.value a.row.now) k 0) j c.if-is_whole.ensures.step c.if-is_whole.ensures.phase c.requires.samples
 
 pub returns-then-is_unscaled-clause-value : goal.returns-then-is_unscaled-clause-value
-returns-then-is_unscaled-clause-value c = λ j low. let a = c.args in let f = a.filter.now in
+returns-then-is_unscaled-clause-value g c = λ j low. let a = c.args in let f = a.filter.now in
     c.filter_places.ensures.value j low
-    ∙ filtered_same f.most f.taps (λ (k : ℕ). get_or a.row.now (straight f.axis (0 + (j + k))) 0) (λ (k : ℕ). get_or a.row.now (straight f.axis (j + k)) 0)
-    (λ k few. ap (λ (t : ℕ). get_or a.row.now (straight f.axis t) 0) (from_zero (j + k)))
-    ∙ ap (λ (ts : List ℤ). filtered f.most ts (λ (k : ℕ). get_or a.row.now (straight f.axis (j + k)) 0)) c.requires.filter.taps
-    ∙ along_straight f.most f.kind f.axis (λ (k : ℕ). get_or a.row.now k 0) j c.if-is_unscaled.ensures
-  where
-    from_zero : (n : ℕ) → 0 + n ≡ n
-    from_zero n = omega arith
+    ∙ ap (λ (ts : List ℤ). filtered f.most ts (λ (k : ℕ). get_or (map g.P.Sample.value a.row.now) (straight f.axis (j + k)) 0)) c.requires.filter.taps
+    ∙ along_straight f.most f.kind f.axis (λ (k : ℕ). get_or (map g.P.Sample.value a.row.now) k 0) j c.if-is_unscaled.ensures

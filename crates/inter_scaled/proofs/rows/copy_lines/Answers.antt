@@ -1,4 +1,4 @@
-use Rattle.std.proofs.Common.{◌≡◌, ◌+◌, ◌<◌, ◌∙◌, ap, arith}
+use Rattle.std.proofs.Common.{◌≡◌, ◌+◌, ◌<◌, ◌∙◌, ap, arith, map}
 use Rattle.inter_places.specs.Axes.{straight}
 use Rattle.inter_scaled.proofs.Blocks.{rows_more}
 use Rattle.inter_scaled.proofs.rows.copy_lines.Goals as goal
@@ -8,7 +8,7 @@ loop-r-preserved g c = let a = c.args in let p = a.place.now in let m = g.S.Samp
     let row = rw c.requires.width at c.put_run.ensures.row in
     let before = rw c.requires.width at c.put_run.ensures.before in
     let inside = c.requires.copied.inside in
-    rows_more (λ r j. m (straight p.down (a.first + r)) (straight p.across (3 + j))) p.columns c.loop-r.r c.loop-r.lines c.put_run.new.lines c.loop-r.invariant
+    rows_more (λ r j. m (straight p.down (a.first + r)) (straight p.across (3 + j))) p.columns c.loop-r.r (map g.P.Sample.value c.loop-r.lines) (map g.P.Sample.value c.put_run.new.lines) c.loop-r.invariant
     (λ j low.
     let third = inside.places 3 (omega arith) in
     let at = inside.places (3 + j) (omega (arith, low)) in
