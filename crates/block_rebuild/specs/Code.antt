@@ -9,8 +9,7 @@ use Rattle.vp9_types.specs.declared.shape.Shape.{Shape}
 use Rattle.vp9_tables.specs.Blocks.{greatest_of}
 use Rattle.vp9_tables.specs.Numbers.{tx_number}
 use Rattle.block_plan.specs.InPlanes.{mode_at}
-use Rattle.block_plan.specs.Code.{HoldsSmall}
-use Rattle.block_plan.specs.Planned.{Residue, PlannedBlock}
+use Rattle.block_plan.specs.Planned.{Residue}
 use Rattle.block_plan.specs.declared.block.BlockInfo.{BlockInfo}
 use Rattle.block_plan.specs.declared.block.Prediction.{Prediction}
 use Rattle.block_plan.specs.declared.block.Prediction.TheVariants.{Intra, Inter}
@@ -33,7 +32,6 @@ use Rattle.vp9_types.specs.declared.shape.Depth.TheVariants.{Eight}
 use Rattle.block_geometry.specs.declared.transform_blocks.PlaneBlock.{PlaneBlock}
 use Rattle.block_rebuild.specs.Blocks.{put_residue}
 use Rattle.block_rebuild.specs.InterBlocks.{ReferencePicture, Rebuilding, add_residue, part_of}
-use Rattle.block_rebuild.specs.Residues.{AreHeld, planned_by}
 use Rattle.block_rebuild.specs.declared.references.ReferencePicture as code_picture
 use Rattle.block_rebuild.specs.declared.references.Rebuilding as code
 use Rattle.block_rebuild.specs.declared.in_plane.IntraInPlane.{IntraInPlane}
