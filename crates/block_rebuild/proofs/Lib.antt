@@ -8,3 +8,4 @@ pub mod Stays
 pub mod Columns
 pub mod Areas
 pub mod StripLemmas
+pub mod Values

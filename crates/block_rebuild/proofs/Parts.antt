@@ -1,5 +1,6 @@
 -- Parts of inter blocks: predicted, and put in one after another.
 use Rattle.std.proofs.Common.{◌≡◌, ◌<◌, ◌≤◌, ◌+◌, ◌*◌, ◌-◌, ◌++◌, ◌∷◌, [], ℕ, ◌∙◌, refl, sym, ap, arith, subst, Bool, true, false, List, min, map-id}
+use Rattle.std.proofs.Math.Nat.{mul-le-mul_right}
 use Rattle.std.specs.Prelude.{Option, Some, None, IfSome, slice_index}
 use Rattle.std.specs.List.{fold, range_with_len}
 use Rattle.std.proofs.lemmas.List.FromFn.{map-range_with_len_more}
@@ -16,7 +17,7 @@ use Rattle.block_plan.specs.declared.block.BlockInfo.{BlockInfo}
 use Rattle.block_plan.specs.declared.block.InterPrediction.{InterPrediction}
 use Rattle.block_plan.specs.declared.block.Prediction.{Prediction}
 use Rattle.block_plan.specs.declared.block.Prediction.TheVariants.{Intra, Inter}
-use Rattle.inter_places.specs.Axes.{first_place, last_place}
+use Rattle.inter_places.specs.Axes.{IsPlace, first_place, last_place}
 use Rattle.inter_places.specs.Places.{IsReference, place_of}
 use Rattle.inter_places.specs.declared.axis.Place.{Place}
 use Rattle.inter_places.specs.declared.part.BlockPart.{BlockPart}
@@ -108,6 +109,10 @@ whole_pictures_serve holds width map by b (Inter modes) has =
     (whole_is_served holds width map by b modes 0 modes.references.first has.0, second_served holds width map by b modes modes.references.second has.1)
 
 ---- Two references ----
+
+-- a block's room holds a part
+pub place_room : (p : Place) (n : ℕ) → IsPlace p → 4096 ≤ n → p.rows * p.columns ≤ n
+place_room p n is room = omega (arith, mul-le-mul_right p.columns is.low, is.narrow, room)
 
 pub averaged : (rows columns : ℕ) (first second new : List ℕ) (f g : Map) → HoldsRows first columns rows f → HoldsRows second columns rows g
     → ((k : ℕ) → k < rows * columns → slice_index new k ≡ average (slice_index first k) (slice_index second k)) → HoldsRows new columns rows (both f g)

@@ -9,8 +9,7 @@ use Rattle.vp9_types.specs.declared.shape.Shape.{Shape}
 use Rattle.vp9_tables.specs.Blocks.{greatest_of}
 use Rattle.vp9_tables.specs.Numbers.{tx_number}
 use Rattle.block_plan.specs.InPlanes.{mode_at}
-use Rattle.block_plan.specs.Code.{HoldsSmall}
-use Rattle.block_plan.specs.Planned.{Residue, PlannedBlock}
+use Rattle.block_plan.specs.Planned.{Residue}
 use Rattle.block_plan.specs.declared.block.BlockInfo.{BlockInfo}
 use Rattle.block_plan.specs.declared.block.Prediction.{Prediction}
 use Rattle.block_plan.specs.declared.block.Prediction.TheVariants.{Intra, Inter}
@@ -33,7 +32,6 @@ use Rattle.vp9_types.specs.declared.shape.Depth.TheVariants.{Eight}
 use Rattle.block_geometry.specs.declared.transform_blocks.PlaneBlock.{PlaneBlock}
 use Rattle.block_rebuild.specs.Blocks.{put_residue}
 use Rattle.block_rebuild.specs.InterBlocks.{ReferencePicture, Rebuilding, add_residue, part_of}
-use Rattle.block_rebuild.specs.Residues.{AreHeld, planned_by}
 use Rattle.block_rebuild.specs.declared.references.ReferencePicture as code_picture
 use Rattle.block_rebuild.specs.declared.references.Rebuilding as code
 use Rattle.block_rebuild.specs.declared.in_plane.IntraInPlane.{IntraInPlane}
@@ -61,13 +59,13 @@ pub record IsPartOf (shape : Shape) (p : Plane) (tile_from : ℕ) (b : BlockInfo
   pub range : IsAtMost (greatest shape.depth) (plane_map s)
 
 -- in all planes
-pub record HoldsBlockIn (shape : Shape) (tile_from : ℕ) (b : BlockInfo) (f : FramePlanes) : Type 0 where
+pub record HoldsBlockIn {X : Type 0} (shape : Shape) (tile_from : ℕ) (b : BlockInfo) (f : FramePlanes X) : Type 0 where
   pub y : HoldsBlock shape Y tile_from b f.y.area
   pub u : HoldsBlock shape U tile_from b f.u.area
   pub v : HoldsBlock shape V tile_from b f.v.area
 
 -- two frames' planes lie in the same places
-pub record HasAreasOf (f g : FramePlanes) : Type 0 where
+pub record HasAreasOf {X : Type 0} (f g : FramePlanes X) : Type 0 where
   pub y : g.y.area ≡ f.y.area
   pub u : g.u.area ≡ f.u.area
   pub v : g.v.area ≡ f.v.area

@@ -1,16 +1,9 @@
-use Rattle.std.proofs.Common.{◌≡◌, ◌∙◌, sym, subst, arith}
+use Rattle.std.proofs.Common.{◌≡◌, ◌∙◌, arith}
 use Rattle.planes.specs.Planes.{plane_map}
-use Rattle.planes.specs.declared.area.Area.{Area}
 use Rattle.block_rebuild.specs.InterBlocks.{put_prediction}
-use Rattle.block_rebuild.specs.Code.{HoldsBlock, rebuilding_of}
+use Rattle.block_rebuild.specs.Code.{rebuilding_of}
 use Rattle.block_rebuild.proofs.Parts.{one_part_more}
 use Rattle.block_rebuild.proofs.inter_in_plane.put_prediction.Goals as goal
-
-pub put_part-requires-clause-is : goal.put_part-requires-clause-is
-put_part-requires-clause-is g c = let a = c.args in let b = a.b.now in record {
-  area = subst (λ (z : Area). HoldsBlock b.by.now.shape a.plane b.block.now.col b.block.now z) (sym c.loop-number.invariant.same) c.requires.is.area;
-  range = c.loop-number.invariant.range;
-}
 
 pub loop-number-preserved : goal.loop-number-preserved
 loop-number-preserved g c = let a = c.args in let b = a.b.now in record {
