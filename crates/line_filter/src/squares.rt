@@ -1,7 +1,6 @@
 //! Eight rows of eight samples of a plane.
 
 ghost use Rattle.std.specs.Prelude.{◌≡◌, ℕ, ◌+◌, ◌<◌, ◌≤◌, slice_index, length, map};
-ghost use Rattle.vp9_types.specs.Maps.{rows_of, with_block};
 ghost use Rattle.planes.specs.Planes.{HasRow, StartsIn, plane_map, with_part, lower_end, right_end};
 ghost use Rattle.line_filter.specs.Code.{AreLanes, AreLanesAtMost, HasSquare};
 
@@ -22,15 +21,15 @@ fn widen_into<P: Sample>(to: &mut [u16], samples: &[P])
     }
 }
 
-/// The samples of numbers.
+/// The samples of the first numbers of a row.
 #[inline(always)]
 fn narrow_into<P: Sample>(to: &mut [P], row: &Row)
-    requires long { length to.old ≡ 8 }
+    requires few { length to.old ≤ 8 }
     requires fits { (j : ℕ) → j < 8 → slice_index row.now j ≤ P.greatest }
-    ensures long { length to.new ≡ 8 }
-    ensures value { (j : ℕ) → j < 8 → slice_index (map P.value to.new) j ≡ slice_index row.now j }
+    ensures long { length to.new ≡ length to.old }
+    ensures value { (j : ℕ) → j < length to.old → slice_index (map P.value to.new) j ≡ slice_index row.now j }
 {
-    for j in 0..8usize {
+    for j in 0..to.len() {
         to[j] = P::narrow(row[j]);
     }
 }
@@ -127,33 +126,70 @@ pub fn lanes_at<P: Sample>(plane: &SamplePlane<P>, row: usize, column: usize) ->
     }
 }
 
-/// Writes a row of a square of eight rows.
+/// Puts eight numbers at a row and column.
 #[inline(always)]
-fn put_row<P: Sample>(block: &mut [P], i: usize, row: &Row)
-    requires low { i < 8 }
-    requires long { length block.old ≡ 64 }
-    requires fits { (j : ℕ) → j < 8 → slice_index row.now j ≤ P.greatest }
-    ensures map { rows_of 8 (map P.value block.new) ≡ with_block (rows_of 8 (map P.value block.old)) i 0 1 8 (λ _ j. slice_index row.now j) }
+fn put_row<P: Sample>(plane: &mut SamplePlane<P>, row: usize, column: usize, x: u16x8)
+    requires inside { HasRow plane.old.area row column 8 }
+    requires fits { (j : ℕ) → j < 8 → slice_index x j ≤ P.greatest }
+    ensures area { plane.new.area ≡ plane.old.area }
+    ensures map { plane_map plane.new ≡ with_part plane.old.area (plane_map plane.old) row column 1 8 (λ _ j. slice_index x j) }
 {
-    narrow_into(&mut block[i * 8..i * 8 + 8], row);
+    let line = plane.row_mut(row, column, 8);
+    narrow_into(line, &stored(x));
 }
 
-/// Eight rows, one after another.
-#[inline(always)]
-fn flat<P: Sample>(x: &Lanes) -> [P; 64]
-    requires fits { AreLanesAtMost P.greatest x.now }
-    ensures { (f : ℕ → ℕ → ℕ) → AreLanes x.now f → (i j : ℕ) → i < 8 → j < 8 → rows_of 8 (map P.value result) i j ≡ f i j }
+/// The same, where the row or a part of it may lie outside of the plane.
+#[inline(never)]
+fn put_row_at_end<P: Sample>(plane: &mut SamplePlane<P>, row: usize, column: usize, x: &Row)
+    requires above { plane.old.area.first_row ≤ row }
+    requires left { plane.old.area.first_column ≤ column }
+    requires right { column ≤ right_end plane.old.area }
+    requires fits { (j : ℕ) → j < 8 → slice_index x.now j ≤ P.greatest }
+    ensures area { plane.new.area ≡ plane.old.area }
+    ensures map { plane_map plane.new ≡ with_part plane.old.area (plane_map plane.old) row column 1 8 (λ _ j. slice_index x.now j) }
 {
-    let mut block = [P::narrow(0); 64];
-    put_row(&mut block, 0, &stored(x.r0));
-    put_row(&mut block, 1, &stored(x.r1));
-    put_row(&mut block, 2, &stored(x.r2));
-    put_row(&mut block, 3, &stored(x.r3));
-    put_row(&mut block, 4, &stored(x.r4));
-    put_row(&mut block, 5, &stored(x.r5));
-    put_row(&mut block, 6, &stored(x.r6));
-    put_row(&mut block, 7, &stored(x.r7));
-    block
+    let area = plane.area();
+    if row < area.lower_end() {
+        let count = (area.right_end() - column).min(8);
+        let line = plane.row_mut(row, column, count);
+        narrow_into(line, x);
+    }
+}
+
+#[inline(always)]
+fn put_inside<P: Sample>(plane: &mut SamplePlane<P>, row: usize, column: usize, x: &Lanes)
+    requires inside { HasSquare plane.old.area row column }
+    requires near { row ≤ 65536 }
+    requires fits { AreLanesAtMost P.greatest x.now }
+    ensures area { plane.new.area ≡ plane.old.area }
+    ensures map { (f : ℕ → ℕ → ℕ) → AreLanes x.now f → plane_map plane.new ≡ with_part plane.old.area (plane_map plane.old) row column 8 8 f }
+{
+    put_row(plane, row, column, x.r0);
+    put_row(plane, row + 1, column, x.r1);
+    put_row(plane, row + 2, column, x.r2);
+    put_row(plane, row + 3, column, x.r3);
+    put_row(plane, row + 4, column, x.r4);
+    put_row(plane, row + 5, column, x.r5);
+    put_row(plane, row + 6, column, x.r6);
+    put_row(plane, row + 7, column, x.r7);
+}
+
+#[inline(never)]
+fn put_at_end<P: Sample>(plane: &mut SamplePlane<P>, row: usize, column: usize, x: &Lanes)
+    requires inside { StartsIn plane.old.area row column }
+    requires near { row ≤ 65536 }
+    requires fits { AreLanesAtMost P.greatest x.now }
+    ensures area { plane.new.area ≡ plane.old.area }
+    ensures map { (f : ℕ → ℕ → ℕ) → AreLanes x.now f → plane_map plane.new ≡ with_part plane.old.area (plane_map plane.old) row column 8 8 f }
+{
+    put_row_at_end(plane, row, column, &stored(x.r0));
+    put_row_at_end(plane, row + 1, column, &stored(x.r1));
+    put_row_at_end(plane, row + 2, column, &stored(x.r2));
+    put_row_at_end(plane, row + 3, column, &stored(x.r3));
+    put_row_at_end(plane, row + 4, column, &stored(x.r4));
+    put_row_at_end(plane, row + 5, column, &stored(x.r5));
+    put_row_at_end(plane, row + 6, column, &stored(x.r6));
+    put_row_at_end(plane, row + 7, column, &stored(x.r7));
 }
 
 /// Puts eight rows of eight samples at a row and column. What lies outside of the plane is left out.
@@ -164,5 +200,10 @@ pub fn put_lanes<P: Sample>(plane: &mut SamplePlane<P>, row: usize, column: usiz
     ensures area { plane.new.area ≡ plane.old.area }
     ensures map { (f : ℕ → ℕ → ℕ) → AreLanes x.now f → plane_map plane.new ≡ with_part plane.old.area (plane_map plane.old) row column 8 8 f }
 {
-    plane.put_square::<8>(row, column, &flat::<P>(x));
+    let area = plane.area();
+    if row + 8 <= area.lower_end() && column + 8 <= area.right_end() {
+        put_inside(plane, row, column, x);
+    } else {
+        put_at_end(plane, row, column, x);
+    }
 }
