@@ -98,6 +98,17 @@ pub record AreLanes (x : Lanes) (f : ℕ → ℕ → ℕ) : Type 0 where
   pub r6 : (j : ℕ) → j < 8 → slice_index x.r6 j ≡ f 6 j
   pub r7 : (j : ℕ) → j < 8 → slice_index x.r7 j ≡ f 7 j
 
+-- none of them is greater
+pub record AreLanesAtMost (most : ℕ) (x : Lanes) : Type 0 where
+  pub r0 : (j : ℕ) → j < 8 → slice_index x.r0 j ≤ most
+  pub r1 : (j : ℕ) → j < 8 → slice_index x.r1 j ≤ most
+  pub r2 : (j : ℕ) → j < 8 → slice_index x.r2 j ≤ most
+  pub r3 : (j : ℕ) → j < 8 → slice_index x.r3 j ≤ most
+  pub r4 : (j : ℕ) → j < 8 → slice_index x.r4 j ≤ most
+  pub r5 : (j : ℕ) → j < 8 → slice_index x.r5 j ≤ most
+  pub r6 : (j : ℕ) → j < 8 → slice_index x.r6 j ≤ most
+  pub r7 : (j : ℕ) → j < 8 → slice_index x.r7 j ≤ most
+
 -- an area has the samples that the filter looks at; all lines of the edge go on to the area's end, or there are eight
 pub record IsAcross (a : Area) (e : Edge) : Type 0 where
   pub above : a.first_row + reach e.width ≤ e.row

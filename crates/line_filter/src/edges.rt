@@ -15,19 +15,21 @@ use crate::lanes::filtered_by;
 use crate::squares::{lanes_at, put_lanes};
 use crate::turn::turned;
 use planes::SamplePlane;
+use vp9_types::Sample;
 
 /// Filters the eight columns from a place on across the edge above it. Each width has a `SITE` of its own, and is compiled
 /// by itself.
 #[inline(never)]
-fn filter_down<const SITE: usize>(
-    plane: &mut SamplePlane,
+fn filter_down<P: Sample, const SITE: usize>(
+    plane: &mut SamplePlane<P>,
     row: usize,
     column: usize,
     l: Limits,
     wide: bool,
 )
     requires inside { IsAcrossBy 4 plane.old.area row column }
-    requires small { IsAtMost 4095 (plane_map plane.old) }
+    requires range { IsAtMost (2 * l.half - 1) (plane_map plane.old) }
+    requires fits { 2 * l.half - 1 ≤ P.greatest }
     requires half { l.half ≤ 2048 }
     ensures area { plane.new.area ≡ plane.old.area }
     ensures map { plane_map plane.new ≡ down_filtered 4 (filtered_near l wide) plane.old.area (plane_map plane.old) row column }
@@ -38,15 +40,16 @@ fn filter_down<const SITE: usize>(
 
 /// Filters the eight rows from a place on across the edge at its left, likewise.
 #[inline(never)]
-fn filter_along<const SITE: usize>(
-    plane: &mut SamplePlane,
+fn filter_along<P: Sample, const SITE: usize>(
+    plane: &mut SamplePlane<P>,
     row: usize,
     column: usize,
     l: Limits,
     wide: bool,
 )
     requires inside { IsAlongBy 4 plane.old.area row column }
-    requires small { IsAtMost 4095 (plane_map plane.old) }
+    requires range { IsAtMost (2 * l.half - 1) (plane_map plane.old) }
+    requires fits { 2 * l.half - 1 ≤ P.greatest }
     requires half { l.half ≤ 2048 }
     ensures area { plane.new.area ≡ plane.old.area }
     ensures map { plane_map plane.new ≡ along_filtered 4 (filtered_near l wide) plane.old.area (plane_map plane.old) row column }
@@ -57,9 +60,10 @@ fn filter_along<const SITE: usize>(
 
 /// The same as `filter_down` by the filters of all widths.
 #[inline(never)]
-fn filter_far_down(plane: &mut SamplePlane, row: usize, column: usize, l: Limits)
+fn filter_far_down<P: Sample>(plane: &mut SamplePlane<P>, row: usize, column: usize, l: Limits)
     requires inside { IsAcrossBy 8 plane.old.area row column }
-    requires small { IsAtMost 4095 (plane_map plane.old) }
+    requires range { IsAtMost (2 * l.half - 1) (plane_map plane.old) }
+    requires fits { 2 * l.half - 1 ≤ P.greatest }
     requires half { l.half ≤ 2048 }
     ensures area { plane.new.area ≡ plane.old.area }
     ensures map { plane_map plane.new ≡ down_filtered 8 (filtered_line l Sixteen) plane.old.area (plane_map plane.old) row column }
@@ -73,9 +77,10 @@ fn filter_far_down(plane: &mut SamplePlane, row: usize, column: usize, l: Limits
 
 /// The same as `filter_along` by the filters of all widths.
 #[inline(never)]
-fn filter_far_along(plane: &mut SamplePlane, row: usize, column: usize, l: Limits)
+fn filter_far_along<P: Sample>(plane: &mut SamplePlane<P>, row: usize, column: usize, l: Limits)
     requires inside { IsAlongBy 8 plane.old.area row column }
-    requires small { IsAtMost 4095 (plane_map plane.old) }
+    requires range { IsAtMost (2 * l.half - 1) (plane_map plane.old) }
+    requires fits { 2 * l.half - 1 ≤ P.greatest }
     requires half { l.half ≤ 2048 }
     ensures area { plane.new.area ≡ plane.old.area }
     ensures map { plane_map plane.new ≡ along_filtered 8 (filtered_line l Sixteen) plane.old.area (plane_map plane.old) row column }
@@ -88,33 +93,35 @@ fn filter_far_along(plane: &mut SamplePlane, row: usize, column: usize, l: Limit
 }
 
 #[inline(always)]
-fn filter_horizontal(plane: &mut SamplePlane, e: Edge)
+fn filter_horizontal<P: Sample>(plane: &mut SamplePlane<P>, e: Edge)
     requires pass { e.pass ≡ Horizontal }
     requires inside { IsAcross plane.old.area e }
-    requires small { IsAtMost 4095 (plane_map plane.old) }
+    requires range { IsAtMost (2 * e.limits.half - 1) (plane_map plane.old) }
+    requires fits { 2 * e.limits.half - 1 ≤ P.greatest }
     requires half { e.limits.half ≤ 2048 }
     ensures area { plane.new.area ≡ plane.old.area }
     ensures map { plane_map plane.new ≡ with_edge (plane_map plane.old) e }
 {
     match e.width {
-        FilterWidth::Four => filter_down::<0>(plane, e.row, e.column, e.limits, false),
-        FilterWidth::Eight => filter_down::<1>(plane, e.row, e.column, e.limits, true),
+        FilterWidth::Four => filter_down::<P, 0>(plane, e.row, e.column, e.limits, false),
+        FilterWidth::Eight => filter_down::<P, 1>(plane, e.row, e.column, e.limits, true),
         FilterWidth::Sixteen => filter_far_down(plane, e.row, e.column, e.limits),
     }
 }
 
 #[inline(always)]
-fn filter_vertical(plane: &mut SamplePlane, e: Edge)
+fn filter_vertical<P: Sample>(plane: &mut SamplePlane<P>, e: Edge)
     requires pass { e.pass ≡ Vertical }
     requires inside { IsAlong plane.old.area e }
-    requires small { IsAtMost 4095 (plane_map plane.old) }
+    requires range { IsAtMost (2 * e.limits.half - 1) (plane_map plane.old) }
+    requires fits { 2 * e.limits.half - 1 ≤ P.greatest }
     requires half { e.limits.half ≤ 2048 }
     ensures area { plane.new.area ≡ plane.old.area }
     ensures map { plane_map plane.new ≡ with_edge (plane_map plane.old) e }
 {
     match e.width {
-        FilterWidth::Four => filter_along::<2>(plane, e.row, e.column, e.limits, false),
-        FilterWidth::Eight => filter_along::<3>(plane, e.row, e.column, e.limits, true),
+        FilterWidth::Four => filter_along::<P, 2>(plane, e.row, e.column, e.limits, false),
+        FilterWidth::Eight => filter_along::<P, 3>(plane, e.row, e.column, e.limits, true),
         FilterWidth::Sixteen => filter_far_along(plane, e.row, e.column, e.limits),
     }
 }
@@ -122,9 +129,10 @@ fn filter_vertical(plane: &mut SamplePlane, e: Edge)
 /// Filters the lines across an edge of a plane, or of a part of one that has the samples that the filter looks at.
 /// The samples are in the range of the depth that the limits are for.
 #[inline(always)]
-pub fn filter_edge(plane: &mut SamplePlane, e: Edge)
+pub fn filter_edge<P: Sample>(plane: &mut SamplePlane<P>, e: Edge)
     requires inside { IsEdgeIn plane.old.area e }
     requires range { IsAtMost (2 * e.limits.half - 1) (plane_map plane.old) }
+    requires fits { 2 * e.limits.half - 1 ≤ P.greatest }
     requires half { e.limits.half ≤ 2048 }
     ensures area { plane.new.area ≡ plane.old.area }
     ensures map { plane_map plane.new ≡ with_edge (plane_map plane.old) e }
