@@ -8,8 +8,20 @@ use Rattle.planes.specs.Planes.{lower_end, right_end, with_part}
 use Rattle.line_filter.specs.declared.lanes.Lanes.{Lanes}
 use Rattle.line_filter.specs.Lines.{Line, p, q}
 use Rattle.line_filter.specs.Edges.{line_at, in_order}
-use Rattle.line_filter.specs.Code.{AreLanes, IsNear, IsFar, line_of, near_at, near_between, far_between, down, turned}
+use Rattle.line_filter.specs.Code.{AreLanes, AreLanesAtMost, IsNear, IsFar, line_of, near_at, near_between, far_between, down, turned}
 use Rattle.line_filter.proofs.LaneLemmas.{wide_at}
+
+pub lanes_at_most : (most : ℕ) (x : Lanes) (f : Map) → AreLanes x f → ((i j : ℕ) → f i j ≤ most) → AreLanesAtMost most x
+lanes_at_most most x f so small = record {
+  r0 = λ j low. rw (so.r0 j low) (small 0 j);
+  r1 = λ j low. rw (so.r1 j low) (small 1 j);
+  r2 = λ j low. rw (so.r2 j low) (small 2 j);
+  r3 = λ j low. rw (so.r3 j low) (small 3 j);
+  r4 = λ j low. rw (so.r4 j low) (small 4 j);
+  r5 = λ j low. rw (so.r5 j low) (small 5 j);
+  r6 = λ j low. rw (so.r6 j low) (small 6 j);
+  r7 = λ j low. rw (so.r7 j low) (small 7 j);
+}
 
 abbrev pub AreSmall : Map → Type 0
 AreSmall f = (i j : ℕ) → f i j ≤ 4095
@@ -160,6 +172,18 @@ lower_of_lines a b g is = record {
   r6 = λ j low. ap (λ (z : Line). q z 6) (is j low);
   r7 = λ j low. ap (λ (z : Line). q z 7) (is j low);
 }
+
+-- each column filtered as its line alone
+pub near_filtered : (x y : Lanes) (g : Map) (s : ℕ → ℕ → ℕ) (at : ℕ) (f : Line → Line) → 4 ≤ at → AreLanes x g → ((i j : ℕ) → g i j ≡ s j (at - 4 + i))
+    → ((j : ℕ) → j < 8 → line_of (near_at y j) ≡ f (line_of (near_at x j))) → AreLanes y (λ i j. in_order 4 (f (line_at 4 (s j) at)) i)
+near_filtered x y g s at f four so is filtered =
+    lanes_of_lines y (λ j. f (line_at 4 (s j) at)) (λ j low. filtered j low ∙ ap f (near_line x g (s j) at j so four low (λ i. is i j)))
+
+pub far_filtered : (a b y z : Lanes) (g h : Map) (s : ℕ → ℕ → ℕ) (at : ℕ) (f : Line → Line) → 8 ≤ at → AreLanes a g → AreLanes b h
+    → ((i j : ℕ) → g i j ≡ s j (at - 8 + i)) → ((i j : ℕ) → h i j ≡ s j (at + i))
+    → ((j : ℕ) → j < 8 → wide_at y z j ≡ f (wide_at a b j)) → (j : ℕ) → j < 8 → wide_at y z j ≡ f (line_at 8 (s j) at)
+far_filtered a b y z g h s at f eight so also is too filtered j low =
+    filtered j low ∙ ap f (wide_line a b g h (s j) at j so also eight low (λ i. is i j) (λ i. too i j))
 
 -- a block of eight rows on another is one of sixteen
 one_below : (m h : Map) (row column columns : ℕ)

@@ -10,6 +10,7 @@ use Rattle.vp9_types.specs.Maps.{Map, IsAtMost}
 use Rattle.planes.proofs.PlaneLemmas.{with_block_small}
 use Rattle.line_filter.specs.declared.edge.Edge.{Edge}
 use Rattle.line_filter.specs.declared.edge.FilterWidth.{FilterWidth}
+use Rattle.line_filter.specs.declared.edge.FilterWidth.TheVariants.{Sixteen}
 use Rattle.line_filter.specs.declared.edge.Limits.{Limits}
 use Rattle.line_filter.specs.declared.edge.Pass.{Pass}
 use Rattle.line_filter.specs.declared.edge.Pass.TheVariants.{Vertical, Horizontal}
@@ -96,6 +97,21 @@ at_small most n at s small = record { p = listed most n _ (λ i. small _); q = l
 
 ordered : (most n i : ℕ) (x : Line) → IsSmall most x → in_order n x i ≤ most
 ordered most n i x small = either most (nat_lt i n) _ _ (small.p _) (small.q _)
+
+-- so they fit where the range of the depth does
+pub near_fits : (most : ℕ) (l : Limits) (wide : Bool) (n at : ℕ) (s : ℕ → ℕ) → 2 * l.half - 1 ≤ most → ((i : ℕ) → s i ≤ 2 * l.half - 1) → (i : ℕ)
+    → in_order n (filtered_near l wide (line_at n s at)) i ≤ most
+near_fits most l wide n at s fits small i =
+    let low = ordered (2 * l.half - 1) n i _ (near_small l wide _ (at_small _ n at s small)) in omega (arith, low, fits)
+
+pub far_fits : (most : ℕ) (l : Limits) (n at : ℕ) (s : ℕ → ℕ) → 2 * l.half - 1 ≤ most → ((i : ℕ) → s i ≤ 2 * l.half - 1) → (i : ℕ)
+    → in_order n (filtered_line l Sixteen (line_at n s at)) i ≤ most
+far_fits most l n at s fits small i =
+    let low = ordered (2 * l.half - 1) n i _ (filtered_small l Sixteen _ (at_small _ n at s small)) in omega (arith, low, fits)
+
+-- samples of 12 bits at most
+pub is_small : (half : ℕ) (m : Map) → half ≤ 2048 → IsAtMost (2 * half - 1) m → IsAtMost 4095 m
+is_small half m most small y x = let low = small y x in omega (arith, low, most)
 
 by_pass : (e : Edge) (pass : Pass) (m : Map) → IsAtMost (2 * e.limits.half - 1) m
     → IsAtMost (2 * e.limits.half - 1) (fold (with_line pass e) m (range_with_len 0 e.lines))

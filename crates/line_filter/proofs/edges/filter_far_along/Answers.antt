@@ -1,28 +1,38 @@
-use Rattle.std.proofs.Common.{◌+◌, ◌<◌, ℕ, arith, ◌∙◌, ap, refl}
+use Rattle.std.proofs.Common.{◌+◌, ◌<◌, ℕ, arith, refl}
 use Rattle.vp9_types.specs.Maps.{Map}
 use Rattle.planes.specs.Planes.{plane_map}
 use Rattle.line_filter.specs.declared.edge.FilterWidth.TheVariants.{Sixteen}
 use Rattle.line_filter.specs.Lines.{filtered_line}
 use Rattle.line_filter.specs.Edges.{line_along, in_order}
 use Rattle.line_filter.specs.Code.{along_filtered}
-use Rattle.line_filter.proofs.LineBlocks.{between_small, far_small, turned_lanes, turned_by, wide_line, upper_of_lines, lower_of_lines, put_beside}
+use Rattle.line_filter.proofs.LineBlocks.{between_small, far_small, far_filtered, turned_lanes, turned_by, upper_of_lines, lower_of_lines, lanes_at_most, put_beside}
+use Rattle.line_filter.proofs.SmallLines.{is_small, far_fits}
 use Rattle.line_filter.proofs.edges.filter_far_along.Goals as goal
 
 pub filtered_far_lanes-requires-clause-near : goal.filtered_far_lanes-requires-clause-near
-filtered_far_lanes-requires-clause-near c = rw (c.turned-left.ensures, c.turned-right.ensures)
-    (between_small _ _ _ _ (turned_lanes _ _ c.lanes_at.ensures) (turned_lanes _ _ c.lanes_at-2.ensures) (λ i j. c.requires.small _ _) (λ i j. c.requires.small _ _))
+filtered_far_lanes-requires-clause-near g c = let a = c.args in rw (c.turned-left.ensures, c.turned-right.ensures)
+    (between_small _ _ _ _ (turned_lanes _ _ c.lanes_at.ensures) (turned_lanes _ _ c.lanes_at-2.ensures) (λ i j. is_small a.l.half _ c.requires.half c.requires.range _ _) (λ i j. is_small a.l.half _ c.requires.half c.requires.range _ _))
 
 pub filtered_far_lanes-requires-clause-far : goal.filtered_far_lanes-requires-clause-far
-filtered_far_lanes-requires-clause-far c = rw (c.turned-left.ensures, c.turned-right.ensures)
-    (far_small _ _ _ _ (turned_lanes _ _ c.lanes_at.ensures) (turned_lanes _ _ c.lanes_at-2.ensures) (λ i j. c.requires.small _ _) (λ i j. c.requires.small _ _))
+filtered_far_lanes-requires-clause-far g c = let a = c.args in rw (c.turned-left.ensures, c.turned-right.ensures)
+    (far_small _ _ _ _ (turned_lanes _ _ c.lanes_at.ensures) (turned_lanes _ _ c.lanes_at-2.ensures) (λ i j. is_small a.l.half _ c.requires.half c.requires.range _ _) (λ i j. is_small a.l.half _ c.requires.half c.requires.range _ _))
+
+pub put_lanes-requires-clause-fits : goal.put_lanes-requires-clause-fits
+put_lanes-requires-clause-fits g c = let a = c.args in let m : Map = plane_map a.plane.now in
+    lanes_at_most _ _ _ (turned_by _ _ _ c.turned.ensures (upper_of_lines _ _ _ (far_filtered _ _ _ _ _ _ (λ j. m (a.row + j)) a.column (filtered_line a.l Sixteen) (omega (arith, c.requires.inside.left)) (turned_by _ _ _ c.turned-left.ensures c.lanes_at.ensures) (turned_by _ _ _ c.turned-right.ensures c.lanes_at-2.ensures) (λ i j. refl) (λ i j. refl) c.filtered_far_lanes.ensures)))
+    (λ i j. far_fits _ a.l 8 a.column (m (a.row + i)) c.requires.fits (c.requires.range (a.row + i)) j)
+
+pub put_lanes-requires-2-clause-fits : goal.put_lanes-requires-2-clause-fits
+put_lanes-requires-2-clause-fits g c = let a = c.args in let m : Map = plane_map a.plane.now in
+    lanes_at_most _ _ _ (turned_by _ _ _ c.turned-2.ensures (lower_of_lines _ _ _ (far_filtered _ _ _ _ _ _ (λ j. m (a.row + j)) a.column (filtered_line a.l Sixteen) (omega (arith, c.requires.inside.left)) (turned_by _ _ _ c.turned-left.ensures c.lanes_at.ensures) (turned_by _ _ _ c.turned-right.ensures c.lanes_at-2.ensures) (λ i j. refl) (λ i j. refl) c.filtered_far_lanes.ensures)))
+    (λ i j. far_fits _ a.l 8 a.column (m (a.row + i)) c.requires.fits (c.requires.range (a.row + i)) (8 + j))
 
 pub returns-clause-map : goal.returns-clause-map
 unfolding along_filtered
-returns-clause-map c = let a = c.args in
+returns-clause-map g c = let a = c.args in
     let m : Map = plane_map a.plane.now in
     let h : Map = λ i j. in_order 8 (filtered_line a.l Sixteen (line_along 8 m (a.row + i) a.column)) j in
-    let lines = λ (j : ℕ) (low : j < 8). c.filtered_far_lanes.ensures j low
-    ∙ ap (filtered_line a.l Sixteen) (wide_line _ _ _ _ (m (a.row + j)) a.column j (turned_by _ _ _ c.turned-left.ensures c.lanes_at.ensures) (turned_by _ _ _ c.turned-right.ensures c.lanes_at-2.ensures) (omega (arith, c.requires.inside.left)) low (λ i. refl) (λ i. refl)) in
+    let lines = far_filtered _ _ _ _ _ _ (λ j. m (a.row + j)) a.column (filtered_line a.l Sixteen) (omega (arith, c.requires.inside.left)) (turned_by _ _ _ c.turned-left.ensures c.lanes_at.ensures) (turned_by _ _ _ c.turned-right.ensures c.lanes_at-2.ensures) (λ i j. refl) (λ i j. refl) c.filtered_far_lanes.ensures in
     put_beside a.plane.now.area c.put_lanes.new.plane.area m (plane_map c.put_lanes.new.plane) (plane_map c.put_lanes-2.new.plane) h a.row a.column
     (omega (arith, c.requires.inside.left)) c.requires.inside.right c.put_lanes.ensures.area
     (c.put_lanes.ensures.map h (turned_by _ _ _ c.turned.ensures (upper_of_lines _ _ _ lines)))

@@ -1,4 +1,4 @@
-use Rattle.std.proofs.Common.{arith, ◌∙◌, rules, length-set}
+use Rattle.std.proofs.Common.{arith, ◌∙◌, length-set}
 use Rattle.line_filter.proofs.SquareLemmas.{value_more}
 use Rattle.line_filter.proofs.squares.narrow_into.Goals as goal
 
