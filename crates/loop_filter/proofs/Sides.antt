@@ -183,5 +183,8 @@ top_of depth.Twelve sharpness level = refl
 pub in_limits : (d : Depth) (sharpness level : ℕ) (l : Limits) (m : Map) → l ≡ limits_of d sharpness level → IsAtMost (greatest d) m → IsAtMost (2 * l.half - 1) m
 in_limits d sharpness level l m is small = rw (is, top_of d sharpness level) small
 
+pub kept_in_limits : (d : Depth) (sharpness level : ℕ) (l : Limits) (most : ℕ) → l ≡ limits_of d sharpness level → greatest d ≤ most → 2 * l.half - 1 ≤ most
+kept_in_limits d sharpness level l most is kept = rw (is, top_of d sharpness level) kept
+
 pub in_depth : (d : Depth) (sharpness level : ℕ) (l : Limits) (m : Map) → l ≡ limits_of d sharpness level → IsAtMost (2 * l.half - 1) m → IsAtMost (greatest d) m
 in_depth d sharpness level l m is small = rw (sym (top_of d sharpness level), sym is) small
