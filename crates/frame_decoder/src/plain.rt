@@ -104,8 +104,7 @@ pub(crate) struct PlainReader<'a, 'b, 'c, P: FilterSample, const COUNTS: bool> {
 }
 
 impl<'a, 'b, 'c, P: FilterSample, const COUNTS: bool> TileReader
-    for PlainReader<'a, 'b, 'c, P, COUNTS>
-{
+    for PlainReader<'a, 'b, 'c, P, COUNTS> {
     ghost use Rattle.std.specs.Prelude.{Some};
     ghost use Rattle.std.specs.Borrow.{GName};
     ghost use Rattle.counting_reader.specs.Code.{standing_of};

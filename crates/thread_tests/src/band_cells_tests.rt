@@ -112,7 +112,13 @@ fn publish_all(store: &Store<Numbers, u16>, bands: Bands)
 }
 
 // Whether each row of a plane has so many samples, all of this value.
-fn is_filled<S: Samples<Kept = u16>>(samples: &S, plane: Plane, rows: u32, width: usize, value: u16) -> bool
+fn is_filled<S: Samples<Kept = u16>>(
+    samples: &S,
+    plane: Plane,
+    rows: u32,
+    width: usize,
+    value: u16,
+) -> bool
     requires { (y : ℕ) → y < rows → S.holds samples.now plane y }
 {
     for y in 0..rows {

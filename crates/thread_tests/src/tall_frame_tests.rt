@@ -58,7 +58,12 @@ fn band_of(alloc: Global, frame: u64, index: u32) -> Result<Box<Band<Numbers, u1
     Ok(Box::new(alloc, band)?)
 }
 
-fn publish(alloc: Global, store: &Store<Numbers, u16>, frame: u64, index: u32) -> Result<(), AllocError>
+fn publish(
+    alloc: Global,
+    store: &Store<Numbers, u16>,
+    frame: u64,
+    index: u32,
+) -> Result<(), AllocError>
     requires number { frame < 65536 }
     requires frame { store.now.frame ≡ frame }
     requires index { index < bands_of store.now.shape }
@@ -83,7 +88,13 @@ fn publish_all(alloc: Global, store: &Store<Numbers, u16>, frame: u64) -> Result
 }
 
 // Whether each row of a plane has so many samples, all of this value.
-fn is_filled<S: Samples<Kept = u16>>(samples: &S, plane: Plane, rows: u32, width: usize, value: u16) -> bool
+fn is_filled<S: Samples<Kept = u16>>(
+    samples: &S,
+    plane: Plane,
+    rows: u32,
+    width: usize,
+    value: u16,
+) -> bool
     requires { (y : ℕ) → y < rows → S.holds samples.now plane y }
 {
     for y in 0..rows {

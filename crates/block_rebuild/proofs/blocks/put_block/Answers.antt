@@ -14,18 +14,32 @@ use Rattle.block_rebuild.proofs.blocks.put_block.Goals as goal
 pub put_block_in_part-requires : goal.put_block_in_part-requires
 put_block_in_part-requires g c = let a = c.args in let s = a.by.now.shape in (
   search rules,
-  (c.requires.size,
-  (c.requires.fits,
-  (c.requires.placed,
-  (whole_pictures_serve g.S.Samples.holds g.S.Samples.width g.S.Samples.map a.by.now a.block.now a.block.now.prediction c.requires.references,
-  (record {
-    y = whole_holds s Y a.tile_from a.block.now a.planes.now.y.area c.requires.sizes.y;
-    u = whole_holds s U a.tile_from a.block.now a.planes.now.u.area c.requires.sizes.u;
-    v = whole_holds s V a.tile_from a.block.now a.planes.now.v.area c.requires.sizes.v;
-  },
-  (c.requires.range,
-  ((λ p k low. tt),
-  subst (λ (b : PlannedBlock). HoldsSmall b) (sym (in_buffer s a.tile_from a.block.now a.residues.now)) c.requires.small))))))),
+  (
+    c.requires.size,
+    (
+      c.requires.fits,
+      (
+        c.requires.placed,
+        (
+          whole_pictures_serve g.S.Samples.holds g.S.Samples.width g.S.Samples.map a.by.now a.block.now a.block.now.prediction c.requires.references,
+          (
+            record {
+              y = whole_holds s Y a.tile_from a.block.now a.planes.now.y.area c.requires.sizes.y;
+              u = whole_holds s U a.tile_from a.block.now a.planes.now.u.area c.requires.sizes.u;
+              v = whole_holds s V a.tile_from a.block.now a.planes.now.v.area c.requires.sizes.v;
+            },
+            (
+              c.requires.range,
+              (
+                (λ p k low. tt),
+                subst (λ (b : PlannedBlock). HoldsSmall b) (sym (in_buffer s a.tile_from a.block.now a.residues.now)) c.requires.small,
+              ),
+            ),
+          ),
+        ),
+      ),
+    ),
+  ),
 )
 
 pub returns-clause-map : goal.returns-clause-map

@@ -10,52 +10,100 @@ use Rattle.block_rebuild.proofs.blocks.put_block_in_part.Goals as goal
 pub put_inter-requires : goal.put_inter-requires
 put_inter-requires g c = let a = c.args in (
   search rules,
-  (c.requires.size,
-  (c.requires.placed.row,
-  (c.requires.placed.column,
-  (c.requires.placed.fits,
-  (c.requires.fits,
-  (rw c.in-Inter.is at c.requires.references,
-  (record {
-    area = holds_own a.by.now.shape Y a.tile_from a.block.now a.planes.now.y.area c.requires.placed.tile c.requires.part.y;
-    range = c.requires.range.y;
-  },
-  (c.requires.held Y,
-  c.requires.small.y))))))))
+  (
+    c.requires.size,
+    (
+      c.requires.placed.row,
+      (
+        c.requires.placed.column,
+        (
+          c.requires.placed.fits,
+          (
+            c.requires.fits,
+            (
+              rw c.in-Inter.is at c.requires.references,
+              (
+                record {
+                  area = holds_own a.by.now.shape Y a.tile_from a.block.now a.planes.now.y.area c.requires.placed.tile c.requires.part.y;
+                  range = c.requires.range.y;
+                },
+                (
+                  c.requires.held Y,
+                  c.requires.small.y,
+                ),
+              ),
+            ),
+          ),
+        ),
+      ),
+    ),
+  ),
 )
 
 pub put_inter-requires-in-Inter : goal.put_inter-requires-in-Inter
 put_inter-requires-in-Inter g c = let a = c.args in (
   search rules,
-  (c.requires.size,
-  (c.requires.placed.row,
-  (c.requires.placed.column,
-  (c.requires.placed.fits,
-  (c.requires.fits,
-  (rw c.in-Inter.is at c.requires.references,
-  (record {
-    area = holds_own a.by.now.shape U a.tile_from a.block.now a.planes.now.u.area c.requires.placed.tile c.requires.part.u;
-    range = c.requires.range.u;
-  },
-  (c.requires.held U,
-  c.requires.small.u))))))))
+  (
+    c.requires.size,
+    (
+      c.requires.placed.row,
+      (
+        c.requires.placed.column,
+        (
+          c.requires.placed.fits,
+          (
+            c.requires.fits,
+            (
+              rw c.in-Inter.is at c.requires.references,
+              (
+                record {
+                  area = holds_own a.by.now.shape U a.tile_from a.block.now a.planes.now.u.area c.requires.placed.tile c.requires.part.u;
+                  range = c.requires.range.u;
+                },
+                (
+                  c.requires.held U,
+                  c.requires.small.u,
+                ),
+              ),
+            ),
+          ),
+        ),
+      ),
+    ),
+  ),
 )
 
 pub put_inter-requires-in-Inter-2 : goal.put_inter-requires-in-Inter-2
 put_inter-requires-in-Inter-2 g c = let a = c.args in (
   search rules,
-  (c.requires.size,
-  (c.requires.placed.row,
-  (c.requires.placed.column,
-  (c.requires.placed.fits,
-  (c.requires.fits,
-  (rw c.in-Inter.is at c.requires.references,
-  (record {
-    area = holds_own a.by.now.shape V a.tile_from a.block.now a.planes.now.v.area c.requires.placed.tile c.requires.part.v;
-    range = c.requires.range.v;
-  },
-  (c.requires.held V,
-  c.requires.small.v))))))))
+  (
+    c.requires.size,
+    (
+      c.requires.placed.row,
+      (
+        c.requires.placed.column,
+        (
+          c.requires.placed.fits,
+          (
+            c.requires.fits,
+            (
+              rw c.in-Inter.is at c.requires.references,
+              (
+                record {
+                  area = holds_own a.by.now.shape V a.tile_from a.block.now a.planes.now.v.area c.requires.placed.tile c.requires.part.v;
+                  range = c.requires.range.v;
+                },
+                (
+                  c.requires.held V,
+                  c.requires.small.v,
+                ),
+              ),
+            ),
+          ),
+        ),
+      ),
+    ),
+  ),
 )
 
 pub returns-in-Intra-clause-map : goal.returns-in-Intra-clause-map
