@@ -38,8 +38,8 @@ all_done f blocks m new n all done = done ∙ ap (filtered_before f blocks m) al
 whole_rows : (shape : Shape) (plane : Plane) (sr : ℕ) (a : Area) → a ≡ coded_area shape plane → HasFilterRows shape plane sr a
 whole_rows shape plane sr a is = rw is (record { above = omega arith; below = omega arith; end = omega arith; left = refl; right = omega arith })
 
-pub holds_rows : (shape : Shape) (sr : ℕ) (f : FramePlanes) → HasSizes shape f → HoldsFilterRows shape sr f
+pub holds_rows : {X : Type 0} (shape : Shape) (sr : ℕ) (f : FramePlanes X) → HasSizes shape f → HoldsFilterRows shape sr f
 holds_rows shape sr f so = record { y = whole_rows shape Y sr f.y.area so.y; u = whole_rows shape U sr f.u.area so.u; v = whole_rows shape V sr f.v.area so.v }
 
-pub sizes_kept : (shape : Shape) (f g : FramePlanes) → HasSizes shape f → HasAreasOf f g → HasSizes shape g
+pub sizes_kept : {X : Type 0} (shape : Shape) (f g : FramePlanes X) → HasSizes shape f → HasAreasOf f g → HasSizes shape g
 sizes_kept shape f g so same = record { y = same.y ∙ so.y; u = same.u ∙ so.u; v = same.v ∙ so.v }

@@ -185,3 +185,6 @@ in_limits d sharpness level l m is small = rw (is, top_of d sharpness level) sma
 
 pub in_depth : (d : Depth) (sharpness level : ℕ) (l : Limits) (m : Map) → l ≡ limits_of d sharpness level → IsAtMost (2 * l.half - 1) m → IsAtMost (greatest d) m
 in_depth d sharpness level l m is small = rw (sym (top_of d sharpness level), sym is) small
+
+pub half_kept : (d : Depth) (sharpness level most : ℕ) (l : Limits) → l ≡ limits_of d sharpness level → greatest d ≤ most → 2 * l.half - 1 ≤ most
+half_kept d sharpness level most l is kept = rw (is, top_of d sharpness level) kept

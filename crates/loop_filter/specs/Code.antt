@@ -68,13 +68,13 @@ pub record HasFilterRows (shape : Shape) (plane : Plane) (sr : ℕ) (a : Area) :
 abbrev pub AllFit : List BlockInfo → Type 0
 AllFit blocks = All (λ b. tx_number b.tx ≤ greatest_of b.size) blocks
 
-pub record HoldsFilterRows (shape : Shape) (sr : ℕ) (f : FramePlanes) : Type 0 where
+pub record HoldsFilterRows {X : Type 0} (shape : Shape) (sr : ℕ) (f : FramePlanes X) : Type 0 where
   pub y : HasFilterRows shape Y sr f.y.area
   pub u : HasFilterRows shape U sr f.u.area
   pub v : HasFilterRows shape V sr f.v.area
 
 -- two frames' planes lie in the same places
-pub record HasAreasOf (f g : FramePlanes) : Type 0 where
+pub record HasAreasOf {X : Type 0} (f g : FramePlanes X) : Type 0 where
   pub y : g.y.area ≡ f.y.area
   pub u : g.u.area ≡ f.u.area
   pub v : g.v.area ≡ f.v.area

@@ -19,7 +19,7 @@ use block_plan::BlockInfo;
 use line_filter::{Edge, FilterWidth, Limits, Pass, filter_edge};
 use loop_edges::{CellAt, EdgeSetting, cell_edges, filter_level, limits_of};
 use planes::SamplePlane;
-use vp9_types::{Shape, halved};
+use vp9_types::{Sample, Shape, halved};
 
 /// The edge at the side of a cell.
 #[inline(always)]
@@ -73,8 +73,8 @@ fn middle_edge(shape: &Shape, way: PlanePass, at: CellAt, limits: Limits) -> Edg
 }
 
 #[inline(always)]
-fn filter_side(
-    samples: &mut SamplePlane,
+fn filter_side<P: Sample>(
+    samples: &mut SamplePlane<P>,
     shape: &Shape,
     way: PlanePass,
     at: CellAt,
@@ -85,6 +85,7 @@ fn filter_side(
     requires cell { IsCellIn shape.now way.plane samples.old.area at.row at.col }
     requires side { CanFilterSide shape.now way samples.old.area at limits width }
     requires half { limits.half ≤ 2048 }
+    requires kept { 2 * limits.half - 1 ≤ P.greatest }
     requires range { IsAtMost (2 * limits.half - 1) (plane_map samples.old) }
     ensures area { samples.new.area ≡ samples.old.area }
     ensures map { plane_map samples.new ≡ fold with_edge (plane_map samples.old) (side_edges shape.now way.plane way.pass at.row at.col limits width) }
@@ -96,8 +97,8 @@ fn filter_side(
 }
 
 #[inline(always)]
-fn filter_middle(
-    samples: &mut SamplePlane,
+fn filter_middle<P: Sample>(
+    samples: &mut SamplePlane<P>,
     shape: &Shape,
     way: PlanePass,
     at: CellAt,
@@ -108,6 +109,7 @@ fn filter_middle(
     requires cell { IsCellIn shape.now way.plane samples.old.area at.row at.col }
     requires middle { CanFilterMiddle shape.now way samples.old.area at limits inner }
     requires half { limits.half ≤ 2048 }
+    requires kept { 2 * limits.half - 1 ≤ P.greatest }
     requires range { IsAtMost (2 * limits.half - 1) (plane_map samples.old) }
     ensures area { samples.new.area ≡ samples.old.area }
     ensures map { plane_map samples.new ≡ fold with_edge (plane_map samples.old) (middle_edges shape.now way.plane way.pass at.row at.col limits inner) }
@@ -121,8 +123,8 @@ fn filter_middle(
 /// The edges of a cell filtered at the limits of its block's level.
 #[inline(always)]
 #[tactic(auto, unfolding(loop_edges::specs::Edges::both_edges))]
-fn filter_edges(
-    samples: &mut SamplePlane,
+fn filter_edges<P: Sample>(
+    samples: &mut SamplePlane<P>,
     shape: &Shape,
     way: PlanePass,
     at: CellAt,
@@ -133,6 +135,7 @@ fn filter_edges(
     requires cell { IsCellIn shape.now way.plane samples.old.area at.row at.col }
     requires fits { tx_number block.now.tx ≤ greatest_of block.now.size }
     requires half { limits.half ≤ 2048 }
+    requires kept { 2 * limits.half - 1 ≤ P.greatest }
     requires range { IsAtMost (2 * limits.half - 1) (plane_map samples.old) }
     ensures area { samples.new.area ≡ samples.old.area }
     ensures map { plane_map samples.new ≡ fold with_edge (plane_map samples.old) (both_edges shape.now way.plane way.pass at.row at.col block.now limits) }
@@ -146,8 +149,8 @@ fn filter_edges(
 /// The edges of a cell filtered, by its block.
 #[inline(always)]
 #[tactic(auto, unfolding(loop_edges::specs::Edges::block_edges))]
-pub fn filter_block(
-    samples: &mut SamplePlane,
+pub fn filter_block<P: Sample>(
+    samples: &mut SamplePlane<P>,
     f: &EdgeSetting,
     way: PlanePass,
     at: CellAt,
@@ -156,6 +159,7 @@ pub fn filter_block(
     requires size { FitsPlanes f.now.shape }
     requires cell { IsCellIn f.now.shape way.plane samples.old.area at.row at.col }
     requires fits { tx_number block.now.tx ≤ greatest_of block.now.size }
+    requires kept { greatest f.now.shape.depth ≤ P.greatest }
     requires range { IsAtMost (greatest f.now.shape.depth) (plane_map samples.old) }
     ensures area { samples.new.area ≡ samples.old.area }
     ensures map { plane_map samples.new ≡ fold with_edge (plane_map samples.old) (block_edges f.now way.plane way.pass at.row at.col block.now) }

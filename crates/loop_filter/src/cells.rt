@@ -17,6 +17,7 @@ use crate::way::{PlanePass, sub_x, sub_y};
 use block_plan::Neighbours;
 use loop_edges::{CellAt, EdgeSetting};
 use planes::SamplePlane;
+use vp9_types::Sample;
 
 /// Places of 8x8 luma samples along a cell.
 #[inline(always)]
@@ -41,8 +42,8 @@ fn cells_along(sub: bool, end: u32, s: u32) -> u32
 }
 
 #[inline(always)]
-fn filter_cell<N: Neighbours>(
-    samples: &mut SamplePlane,
+fn filter_cell<P: Sample, N: Neighbours>(
+    samples: &mut SamplePlane<P>,
     f: &EdgeSetting,
     way: PlanePass,
     blocks: &N,
@@ -52,6 +53,7 @@ fn filter_cell<N: Neighbours>(
     requires cell { IsCellIn f.now.shape way.plane samples.old.area at.row at.col }
     requires held { N.holds blocks.now at.row at.col }
     requires fit { AllFit (N.blocks blocks.now) }
+    requires kept { greatest f.now.shape.depth ≤ P.greatest }
     requires range { IsAtMost (greatest f.now.shape.depth) (plane_map samples.old) }
     ensures area { samples.new.area ≡ samples.old.area }
     ensures map { plane_map samples.new ≡ fold with_edge (plane_map samples.old) (cell_edges f.now (N.blocks blocks.now) way.plane way.pass at.row at.col) }
@@ -64,8 +66,8 @@ fn filter_cell<N: Neighbours>(
 
 /// A row of a superblock's cells, from left to right.
 #[inline(always)]
-fn filter_cell_row<N: Neighbours>(
-    samples: &mut SamplePlane,
+fn filter_cell_row<P: Sample, N: Neighbours>(
+    samples: &mut SamplePlane<P>,
     f: &EdgeSetting,
     way: PlanePass,
     blocks: &N,
@@ -77,6 +79,7 @@ fn filter_cell_row<N: Neighbours>(
     requires column { 8 * sc ≤ mi_cols f.now.shape }
     requires held { (c : ℕ) → c < mi_cols f.now.shape → N.holds blocks.now row c }
     requires fit { AllFit (N.blocks blocks.now) }
+    requires kept { greatest f.now.shape.depth ≤ P.greatest }
     requires range { IsAtMost (greatest f.now.shape.depth) (plane_map samples.old) }
     ensures area { samples.new.area ≡ samples.old.area }
     ensures map { plane_map samples.new ≡ fold with_edge (plane_map samples.old)
@@ -102,8 +105,8 @@ fn filter_cell_row<N: Neighbours>(
 
 /// A pass over a superblock: its rows of cells, from top to bottom. It is a part of its callers, which name plane and pass.
 #[inline(always)]
-pub fn filter_pass<N: Neighbours>(
-    samples: &mut SamplePlane,
+pub fn filter_pass<P: Sample, N: Neighbours>(
+    samples: &mut SamplePlane<P>,
     f: &EdgeSetting,
     way: PlanePass,
     blocks: &N,
@@ -116,6 +119,7 @@ pub fn filter_pass<N: Neighbours>(
     requires column { 8 * sc ≤ mi_cols f.now.shape }
     requires held { (r c : ℕ) → 8 * sr ≤ r → r < 8 * (sr + 1) → r < mi_rows f.now.shape → c < mi_cols f.now.shape → N.holds blocks.now r c }
     requires fit { AllFit (N.blocks blocks.now) }
+    requires kept { greatest f.now.shape.depth ≤ P.greatest }
     requires range { IsAtMost (greatest f.now.shape.depth) (plane_map samples.old) }
     ensures area { samples.new.area ≡ samples.old.area }
     ensures map { plane_map samples.new ≡ fold with_edge (plane_map samples.old) (pass_edges f.now (N.blocks blocks.now) way.plane way.pass sr sc) }

@@ -18,13 +18,13 @@ use block_plan::Neighbours;
 use line_filter::Pass;
 use loop_edges::EdgeSetting;
 use planes::{FramePlanes, SamplePlane};
-use vp9_types::Plane;
+use vp9_types::{Plane, Sample};
 
 /// A superblock of a plane: all its vertical edges, then all its horizontal ones.
 #[inline(always)]
 #[tactic(auto, unfolding(loop_edges::specs::Edges::superblock_edges), using(crate::proofs::Walks::two_lists))]
-fn filter_superblock<N: Neighbours>(
-    samples: &mut SamplePlane,
+fn filter_superblock<P: Sample, N: Neighbours>(
+    samples: &mut SamplePlane<P>,
     f: &EdgeSetting,
     plane: Plane,
     blocks: &N,
@@ -37,6 +37,7 @@ fn filter_superblock<N: Neighbours>(
     requires column { 8 * sc ≤ mi_cols f.now.shape }
     requires held { (r c : ℕ) → 8 * sr ≤ r → r < 8 * (sr + 1) → r < mi_rows f.now.shape → c < mi_cols f.now.shape → N.holds blocks.now r c }
     requires fit { AllFit (N.blocks blocks.now) }
+    requires kept { greatest f.now.shape.depth ≤ P.greatest }
     requires range { IsAtMost (greatest f.now.shape.depth) (plane_map samples.old) }
     ensures area { samples.new.area ≡ samples.old.area }
     ensures map { plane_map samples.new ≡ fold with_edge (plane_map samples.old) (superblock_edges f.now (N.blocks blocks.now) plane sr sc) }
@@ -68,8 +69,8 @@ fn filter_superblock<N: Neighbours>(
 
 /// A row of superblocks of a plane, from left to right.
 #[inline(always)]
-fn filter_plane<N: Neighbours>(
-    samples: &mut SamplePlane,
+fn filter_plane<P: Sample, N: Neighbours>(
+    samples: &mut SamplePlane<P>,
     f: &EdgeSetting,
     plane: Plane,
     blocks: &N,
@@ -81,6 +82,7 @@ fn filter_plane<N: Neighbours>(
     requires row { 8 * sr ≤ mi_rows f.now.shape }
     requires held { (r c : ℕ) → 8 * sr ≤ r → r < 8 * (sr + 1) → r < mi_rows f.now.shape → c < mi_cols f.now.shape → N.holds blocks.now r c }
     requires fit { AllFit (N.blocks blocks.now) }
+    requires kept { greatest f.now.shape.depth ≤ P.greatest }
     requires range { IsAtMost (greatest f.now.shape.depth) (plane_map samples.old) }
     ensures area { samples.new.area ≡ samples.old.area }
     ensures map { plane_map samples.new ≡ fold with_edge (plane_map samples.old) (row_edges f.now (N.blocks blocks.now) plane sr) }
@@ -94,12 +96,13 @@ fn filter_plane<N: Neighbours>(
 /// Filters a row of superblocks of a frame, in place. The planes are whole, or parts that have the row's samples and the
 /// eight rows above it, which the filter goes on changing; those above them it leaves. The blocks are those of the whole
 /// frame, asked for in this row alone. The samples are what the rows before have left.
-pub fn filter_row<N: Neighbours>(planes: &mut FramePlanes, f: &EdgeSetting, blocks: &N, sr: u32)
+pub fn filter_row<P: Sample, N: Neighbours>(planes: &mut FramePlanes<P>, f: &EdgeSetting, blocks: &N, sr: u32)
     requires size { FitsPlanes f.now.shape }
     requires rows { HoldsFilterRows f.now.shape sr planes.old }
     requires row { 8 * sr ≤ mi_rows f.now.shape }
     requires held { (r c : ℕ) → 8 * sr ≤ r → r < 8 * (sr + 1) → r < mi_rows f.now.shape → c < mi_cols f.now.shape → N.holds blocks.now r c }
     requires fit { AllFit (N.blocks blocks.now) }
+    requires kept { greatest f.now.shape.depth ≤ P.greatest }
     requires range { IsInRange f.now.shape.depth planes.old }
     ensures areas { HasAreasOf planes.old planes.new }
     ensures map { samples_of planes.new ≡ with_row f.now (N.blocks blocks.now) (samples_of planes.old) sr }
@@ -113,11 +116,12 @@ pub fn filter_row<N: Neighbours>(planes: &mut FramePlanes, f: &EdgeSetting, bloc
 }
 
 /// Filters a frame in place, row after row of superblocks. The planes are whole.
-pub fn filter_frame<N: Neighbours>(planes: &mut FramePlanes, f: &EdgeSetting, blocks: &N)
+pub fn filter_frame<P: Sample, N: Neighbours>(planes: &mut FramePlanes<P>, f: &EdgeSetting, blocks: &N)
     requires size { FitsPlanes f.now.shape }
     requires sizes { HasSizes f.now.shape planes.old }
     requires held { (r c : ℕ) → r < mi_rows f.now.shape → c < mi_cols f.now.shape → N.holds blocks.now r c }
     requires fit { AllFit (N.blocks blocks.now) }
+    requires kept { greatest f.now.shape.depth ≤ P.greatest }
     requires range { IsInRange f.now.shape.depth planes.old }
     ensures sizes { HasSizes f.now.shape planes.new }
     ensures map { samples_of planes.new ≡ filtered_frame f.now (N.blocks blocks.now) (samples_of planes.old) }
