@@ -1,7 +1,7 @@
 -- Rows of a map that stand one after another in a list.
 use Rattle.std.proofs.Common.{◌≡◌, ℕ, zero, suc, ◌+◌, ◌-◌, ◌*◌, ◌<◌, ◌≤◌, List, ◌∷◌, ◌++◌, length, map, replicate, take, drop, suc-mul, mul-le-mul_right, le_of_eq, refl, sym, ◌∙◌, ap, arith}
 use Rattle.std.proofs.Math.Seq.{drop-append-add}
-use Rattle.std.proofs.lemmas.List.{length-append, take-append-le, replicate-append-replicate}
+use Rattle.std.proofs.lemmas.List.{length-append, length-map, take-map, drop-map, take-append-le, replicate-append-replicate}
 use Rattle.std.specs.List.{range_with_len}
 use Rattle.std.proofs.lemmas.List.FromFn.{length-map-range_with_len, take-map-range_with_len}
 use Rattle.vp9_types.specs.declared.shape.Plane.{Plane}
@@ -76,6 +76,17 @@ pub part_is : (picture : Picture) (shape : Shape) (plane : Plane) (index y heigh
     → take width (drop ((y - index * height) * width) samples) ≡ picture_row picture plane y
 part_is picture shape plane index y height width samples same h w is here =
     rw (height_is picture shape plane height same h, width_is picture shape plane width same w) (row_of_band picture plane index y samples is here)
+
+-- ---- as samples are kept
+
+back : (a b : ℕ) → a + b - a ≡ b
+back a b = omega arith
+
+pub kept_row : {X : Type 0} (f : X → ℕ) (xs : List X) (at width : ℕ) → map f (take (at + width - at) (drop at xs)) ≡ take width (drop at (map f xs))
+kept_row f xs at width = rw (back at width) (sym (take-map f width (drop at xs)) ∙ ap (take width) (sym (drop-map f at xs)))
+
+pub kept_fits : {X : Type 0} (f : X → ℕ) (xs : List X) (n : ℕ) → n ≤ length (map f xs) → n ≤ length xs
+kept_fits f xs n fits = rw (length-map xs f) at fits
 
 -- ---- samples that are all the same
 

@@ -1,6 +1,6 @@
 -- Bands of a frame: 64 rows of luma and their share of chroma, within the whole number of places of 8x8 luma samples
 -- that a frame is decoded in (MiRows and MiCols in 7.2.6 of the standard).
-use Rattle.std.specs.Prelude.{ℕ, ◌+◌, ◌-◌, ◌*◌, ◌/◌, ◌≤◌, ◌<◌, Bool, if◌then◌else◌, List, min}
+use Rattle.std.specs.Prelude.{ℕ, ◌+◌, ◌-◌, ◌*◌, ◌≤◌, ◌<◌, List, min}
 use Rattle.std.specs.List.{flat_map, range_with_len}
 use Rattle.vp9_types.specs.declared.shape.Plane.{Plane}
 use Rattle.vp9_types.specs.declared.shape.Plane.TheVariants.{Y, U, V}

@@ -1,5 +1,5 @@
 -- What the code keeps, and what the calls answer.
-use Rattle.std.specs.Prelude.{◌≡◌, ℕ, ◌/◌, ◌≤◌, ◌<◌, List, Option, Some, None}
+use Rattle.std.specs.Prelude.{◌≡◌, ℕ, ◌/◌, ◌≤◌, ◌<◌, List, map, Option, Some, None}
 use Rattle.vp9_types.specs.declared.job.BandSpan.{BandSpan}
 use Rattle.vp9_types.specs.declared.shape.Plane.{Plane}
 use Rattle.vp9_types.specs.declared.shape.Plane.TheVariants.{Y, U, V}
@@ -10,13 +10,13 @@ use Rattle.band_cells.specs.declared.samples.BandSamples.{BandSamples}
 use Rattle.band_cells.specs.Bands.{Picture, band_height, band_samples, IsRowOf}
 use Rattle.vp9_types.specs.Shapes.{coded_width, coded_height}
 
--- the samples are those that the picture has in the band
-abbrev pub AreSamplesOf : Picture → ℕ → BandSamples → Type 0
-AreSamplesOf picture index samples =
+-- the samples stand for the numbers that the picture has in the band
+abbrev pub AreSamplesOf : {X : Type 0} → (X → ℕ) → Picture → ℕ → BandSamples X → Type 0
+AreSamplesOf value picture index samples =
     (samples.shape ≡ picture.shape)
-    × (samples.y.items ≡ band_samples picture index Y)
-    × (samples.u.items ≡ band_samples picture index U)
-    × (samples.v.items ≡ band_samples picture index V)
+    × (map value samples.y.items ≡ band_samples picture index Y)
+    × (map value samples.u.items ≡ band_samples picture index U)
+    × (map value samples.v.items ≡ band_samples picture index V)
 
 -- the band isn't blank, and has the row
 abbrev pub HasRow : (ℕ → Picture) → Option BandName → Plane → ℕ → Type 0

@@ -1,4 +1,4 @@
-ghost use Rattle.std.specs.Prelude.{◌≡◌, ◌+◌, ◌*◌, ◌≤◌, Some, None, IfSome, length, take, drop};
+ghost use Rattle.std.specs.Prelude.{◌≡◌, ◌+◌, ◌*◌, ◌≤◌, Some, None, IfSome, length, map, take, drop};
 ghost use Rattle.band_cells.specs.Bands.{IsRowOf, band_samples};
 ghost use Rattle.band_cells.specs.Code.{AreSamplesOf, HasRow, picture_row, name_of};
 
@@ -6,20 +6,20 @@ use crate::layout::band_height;
 use crate::meaning::Meaning;
 use crate::samples::{BandName, BandSamples};
 use std::marker::{Model, PhantomData};
-use vp9_types::Plane;
+use vp9_types::{Plane, Sample};
 
 // The samples are those of the band that the name names.
 #[derive(Drop)]
-struct Filled<M: Meaning> {
+struct Filled<M: Meaning, P: Sample> {
     name: BandName,
-    samples: BandSamples,
+    samples: BandSamples<P>,
     of: PhantomData<M>,
-    ghost are_meant: { AreSamplesOf (M.pictures name.frame) name.index samples },
+    ghost are_meant: { AreSamplesOf P.value (M.pictures name.frame) name.index samples },
 }
 
-impl<M: Meaning> Filled<M> {
-    fn new(name: BandName, samples: BandSamples) -> Filled<M>
-        requires { AreSamplesOf (M.pictures name.frame) name.index samples }
+impl<M: Meaning, P: Sample> Filled<M, P> {
+    fn new(name: BandName, samples: BandSamples<P>) -> Filled<M, P>
+        requires { AreSamplesOf P.value (M.pictures name.frame) name.index samples }
         ensures { result.name ≡ name }
     {
         Filled {
@@ -29,8 +29,8 @@ impl<M: Meaning> Filled<M> {
         }
     }
 
-    fn plane(&self, plane: Plane) -> &[u16]
-        ensures { result.now ≡ band_samples (M.pictures self.now.name.frame) self.now.name.index plane }
+    fn plane(&self, plane: Plane) -> &[P]
+        ensures { map P.value result.now ≡ band_samples (M.pictures self.now.name.frame) self.now.name.index plane }
     {
         match plane {
             Plane::Y => &self.samples.y,
@@ -39,9 +39,9 @@ impl<M: Meaning> Filled<M> {
         }
     }
 
-    fn row(&self, plane: Plane, y: u32) -> &[u16]
+    fn row(&self, plane: Plane, y: u32) -> &[P]
         requires { IsRowOf (M.pictures self.now.name.frame).shape plane self.now.name.index y }
-        ensures { result.now ≡ picture_row (M.pictures self.now.name.frame) plane y }
+        ensures { map P.value result.now ≡ picture_row (M.pictures self.now.name.frame) plane y }
     {
         let shape = &self.samples.shape;
         let first = self.name.index * band_height(shape, plane);
@@ -51,9 +51,9 @@ impl<M: Meaning> Filled<M> {
 }
 
 // Row `row` of rows of `width` samples.
-fn row_at(samples: &[u16], width: usize, row: usize) -> &[u16]
+fn row_at<P: Sample>(samples: &[P], width: usize, row: usize) -> &[P]
     requires { row * width + width ≤ length samples.now }
-    ensures { result.now ≡ take width (drop (row * width) samples.now) }
+    ensures { map P.value result.now ≡ take width (drop (row * width) (map P.value samples.now)) }
 {
     let at = row * width;
     &samples[at..at + width]
@@ -61,11 +61,11 @@ fn row_at(samples: &[u16], width: usize, row: usize) -> &[u16]
 
 /// A band of a frame, or a blank one. Contracts see it as its name; its samples are those that `M` has there.
 #[derive(Drop)]
-pub struct Band<M: Meaning> {
-    filled: Option<Filled<M>>,
+pub struct Band<M: Meaning, P: Sample> {
+    filled: Option<Filled<M, P>>,
 }
 
-impl<M: Meaning> Model for Band<M> {
+impl<M: Meaning, P: Sample> Model for Band<M, P> {
     ghost use Rattle.std.specs.Prelude.{Option};
     ghost use Rattle.std.specs.Option.{option_map};
     ghost use Rattle.band_cells.specs.declared.samples.BandName.{BandName};
@@ -75,17 +75,17 @@ impl<M: Meaning> Model for Band<M> {
     ghost view = { λ b. option_map (λ f. f.name) b.filled };
 }
 
-impl<M: Meaning> Band<M> {
+impl<M: Meaning, P: Sample> Band<M, P> {
     /// A band without a name, to be filled.
-    pub fn blank() -> Band<M>
+    pub fn blank() -> Band<M, P>
         ensures { result ≡ None }
     {
         Band { filled: None }
     }
 
     /// Makes it this band of this frame. The samples are `M`'s.
-    pub fn fill(&mut self, frame: u64, index: u32, samples: BandSamples)
-        requires { AreSamplesOf (M.pictures frame) index samples }
+    pub fn fill(&mut self, frame: u64, index: u32, samples: BandSamples<P>)
+        requires { AreSamplesOf P.value (M.pictures frame) index samples }
         ensures { self.new ≡ Some (name_of frame index) }
     {
         self.filled = Some(Filled::new(BandName { frame, index }, samples));
@@ -102,9 +102,9 @@ impl<M: Meaning> Band<M> {
     }
 
     /// A row of a plane: `y` counts the rows of the frame. The band isn't blank, and has the row.
-    pub fn row(&self, plane: Plane, y: u32) -> &[u16]
+    pub fn row(&self, plane: Plane, y: u32) -> &[P]
         requires { HasRow M.pictures self.now plane y }
-        ensures { IfSome self.now (λ name. result.now ≡ picture_row (M.pictures name.frame) plane y) }
+        ensures { IfSome self.now (λ name. map P.value result.now ≡ picture_row (M.pictures name.frame) plane y) }
     {
         match &self.filled {
             Some(filled) => filled.row(plane, y),

@@ -8,16 +8,17 @@ use crate::samples::BandName;
 use once_cell::race::{Note, OnceBox};
 use std::alloc::Global;
 use std::marker::Model;
+use vp9_types::Sample;
 
 /// A place for one band, which is published once, and from then on read by any thread. A thread's note holds what it knows
 /// of the cell.
 #[derive(Drop)]
-pub struct BandCell<M: Meaning> {
+pub struct BandCell<M: Meaning, P: Sample> {
     name: BandName,
-    once: OnceBox<Band<M>>,
+    once: OnceBox<Band<M, P>>,
 }
 
-impl<M: Meaning> Model for BandCell<M> {
+impl<M: Meaning, P: Sample> Model for BandCell<M, P> {
     ghost use Rattle.once_cell.specs.Once.{cell_name};
     ghost use Rattle.band_cells.specs.Code.{CellParts};
 
@@ -26,9 +27,9 @@ impl<M: Meaning> Model for BandCell<M> {
     ghost view = { λ c. record { name = c.name; cell = cell_name c.once } };
 }
 
-impl<M: Meaning> BandCell<M> {
+impl<M: Meaning, P: Sample> BandCell<M, P> {
     /// The empty cell of this band of this frame. It takes no memory yet.
-    pub fn new(alloc: Global, frame: u64, index: u32) -> BandCell<M>
+    pub fn new(alloc: Global, frame: u64, index: u32) -> BandCell<M, P>
         ensures { result.name ≡ name_of frame index }
     {
         BandCell {
@@ -38,14 +39,18 @@ impl<M: Meaning> BandCell<M> {
     }
 
     /// A note that knows no band yet.
-    pub fn note(&self) -> Note<Band<M>>
+    pub fn note(&self) -> Note<Band<M, P>>
         ensures { (result.cell ≡ self.now.cell) × (result.known ≡ None) }
     {
         self.once.note()
     }
 
     /// Puts a band of the cell's name into it, unless it holds one. The answer is the band that it holds from then on.
-    pub fn publish<'a>(&'a self, band: Box<Band<M>>, note: &mut Note<Band<M>>) -> &'a Band<M>
+    pub fn publish<'a>(
+        &'a self,
+        band: Box<Band<M, P>>,
+        note: &mut Note<Band<M, P>>,
+    ) -> &'a Band<M, P>
         requires named { band.value ≡ Some self.now.name }
         requires note { note.old.cell ≡ self.now.cell }
         ensures note { note.new.cell ≡ note.old.cell }
@@ -56,7 +61,7 @@ impl<M: Meaning> BandCell<M> {
     }
 
     /// The band of the cell's name, once it is there. A note that knows it gets it.
-    pub fn look<'a>(&'a self, note: &mut Note<Band<M>>) -> Option<&'a Band<M>>
+    pub fn look<'a>(&'a self, note: &mut Note<Band<M, P>>) -> Option<&'a Band<M, P>>
         requires { note.old.cell ≡ self.now.cell }
         ensures note { note.new.cell ≡ note.old.cell }
         ensures named { IfSome result (λ band. band.now ≡ Some self.now.name) }

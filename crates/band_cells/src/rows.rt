@@ -6,18 +6,18 @@ use crate::store::Store;
 use std::marker::Model;
 use std::sync::Wait;
 use std::thread;
-use vp9_types::{BandSpan, Plane, Samples};
+use vp9_types::{BandSpan, Plane, Sample, Samples};
 
 /// The rows of some bands of a frame, which other threads may still make. A row that isn't there yet is waited for.
 /// Contracts see which bands they are.
 #[derive(Drop)]
-pub struct BandRows<'a, M: Meaning, R> {
+pub struct BandRows<'a, M: Meaning, P: Sample, R> {
     rt: &'a R,
-    store: &'a Store<M>,
+    store: &'a Store<M, P>,
     span: BandSpan,
 }
 
-impl<'a, M: Meaning, R> Model for BandRows<'a, M, R> {
+impl<'a, M: Meaning, P: Sample, R> Model for BandRows<'a, M, P, R> {
     ghost use Rattle.std.specs.Prelude.{◌≡◌};
     ghost use Rattle.vp9_types.specs.declared.job.BandSpan.{BandSpan as Bands};
 
@@ -28,9 +28,9 @@ impl<'a, M: Meaning, R> Model for BandRows<'a, M, R> {
     ghost invariant = { λ v. v.span.frame ≡ v.store.now.frame };
 }
 
-impl<'a, M: Meaning, R> BandRows<'a, M, R> {
+impl<'a, M: Meaning, P: Sample, R> BandRows<'a, M, P, R> {
     /// The rows of the bands of a span.
-    pub fn new(rt: &'a R, store: &'a Store<M>, span: BandSpan) -> BandRows<'a, M, R>
+    pub fn new(rt: &'a R, store: &'a Store<M, P>, span: BandSpan) -> BandRows<'a, M, P, R>
         requires { span.frame ≡ store.now.frame }
         ensures { result ≡ span }
     {
@@ -38,7 +38,9 @@ impl<'a, M: Meaning, R> BandRows<'a, M, R> {
     }
 }
 
-impl<'a, M: Meaning, R: Wait> Samples for BandRows<'a, M, R> {
+impl<'a, M: Meaning, P: Sample, R: Wait> Samples for BandRows<'a, M, P, R> {
+    type Kept = P;
+
     ghost use Rattle.vp9_types.specs.Shapes.{coded_width};
     ghost use Rattle.band_cells.specs.Code.{IsRowWithin};
 
@@ -48,7 +50,7 @@ impl<'a, M: Meaning, R: Wait> Samples for BandRows<'a, M, R> {
 
     ghost map = { λ span. (M.pictures span.frame).map };
 
-    fn row(&self, plane: Plane, y: u32) -> &[u16] {
+    fn row(&self, plane: Plane, y: u32) -> &[P] {
         let index = y / band_height(self.store.shape(), plane);
         let cell = self.store.cell(index);
         let mut note = cell.note();

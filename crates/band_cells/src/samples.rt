@@ -1,4 +1,4 @@
-use vp9_types::{Plane, Shape};
+use vp9_types::{Sample, Shape};
 
 /// Which band it is: of the frame of this number, counted from 0.
 #[derive(Clone, Copy, Debug, PartialEq, Eq)]
@@ -9,10 +9,10 @@ pub struct BandName {
 
 /// The samples of a band in each plane: its rows one after another, each with all columns that the plane is decoded in.
 #[derive(Drop)]
-pub struct BandSamples {
+pub struct BandSamples<P: Sample> {
     /// The shape of the frame.
     pub shape: Shape,
-    pub y: Vec<u16>,
-    pub u: Vec<u16>,
-    pub v: Vec<u16>,
+    pub y: Vec<P>,
+    pub u: Vec<P>,
+    pub v: Vec<P>,
 }

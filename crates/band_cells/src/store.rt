@@ -6,17 +6,17 @@ use crate::cell::BandCell;
 use crate::meaning::Meaning;
 use std::alloc::{AllocError, Global};
 use std::marker::Model;
-use vp9_types::Shape;
+use vp9_types::{Sample, Shape};
 
 /// The cells of the bands of one frame.
 #[derive(Drop)]
-pub struct Store<M: Meaning> {
+pub struct Store<M: Meaning, P: Sample> {
     frame: u64,
     shape: Shape,
-    cells: Vec<BandCell<M>>,
+    cells: Vec<BandCell<M, P>>,
 }
 
-impl<M: Meaning> Model for Store<M> {
+impl<M: Meaning, P: Sample> Model for Store<M, P> {
     ghost use Rattle.std.specs.Prelude.{◌≡◌, map};
     ghost use Rattle.std.specs.List.{range_with_len};
     ghost use Rattle.vp9_types.specs.Shapes.{bands_of};
@@ -30,9 +30,9 @@ impl<M: Meaning> Model for Store<M> {
         × (map (λ c. c.name) s.cells.items ≡ map (name_of s.frame) (range_with_len 0 (bands_of s.shape))) };
 }
 
-impl<M: Meaning> Store<M> {
+impl<M: Meaning, P: Sample> Store<M, P> {
     /// Empty cells for the bands of a frame of this shape, which is what `M` says of the frame.
-    pub fn new(alloc: Global, frame: u64, shape: &Shape) -> Result<Store<M>, AllocError>
+    pub fn new(alloc: Global, frame: u64, shape: &Shape) -> Result<Store<M, P>, AllocError>
         requires { shape.now ≡ (M.pictures frame).shape }
         ensures { IfOk result (λ s. (s.frame ≡ frame) × (s.shape ≡ shape.now)) }
     {
@@ -64,7 +64,7 @@ impl<M: Meaning> Store<M> {
     }
 
     /// The cell of a band.
-    pub fn cell(&self, index: u32) -> &BandCell<M>
+    pub fn cell(&self, index: u32) -> &BandCell<M, P>
         requires { index < bands_of self.now.shape }
         ensures cell { slice_get self.now.cells index ≡ Some result.now }
         ensures name { result.now.name ≡ name_of self.now.frame index }

@@ -61,13 +61,13 @@ pub record IsPartOf (shape : Shape) (p : Plane) (tile_from : ℕ) (b : BlockInfo
   pub range : IsAtMost (greatest shape.depth) (plane_map s)
 
 -- in all planes
-pub record HoldsBlockIn (shape : Shape) (tile_from : ℕ) (b : BlockInfo) (f : FramePlanes) : Type 0 where
+pub record HoldsBlockIn {X : Type 0} (shape : Shape) (tile_from : ℕ) (b : BlockInfo) (f : FramePlanes X) : Type 0 where
   pub y : HoldsBlock shape Y tile_from b f.y.area
   pub u : HoldsBlock shape U tile_from b f.u.area
   pub v : HoldsBlock shape V tile_from b f.v.area
 
 -- two frames' planes lie in the same places
-pub record HasAreasOf (f g : FramePlanes) : Type 0 where
+pub record HasAreasOf {X : Type 0} (f g : FramePlanes X) : Type 0 where
   pub y : g.y.area ≡ f.y.area
   pub u : g.u.area ≡ f.u.area
   pub v : g.v.area ≡ f.v.area

@@ -1,6 +1,7 @@
 //! A block put into all planes of its frame.
 
 ghost use Rattle.std.specs.Prelude.{◌≡◌};
+ghost use Rattle.vp9_types.specs.Sizes.{greatest};
 ghost use Rattle.frame_headers.specs.Sizes.{HasFrameSize};
 ghost use Rattle.block_plan.specs.Code.{HoldsSmall, planned_with};
 ghost use Rattle.planes.specs.Pictures.{HasSizes, IsInRange, samples_of};
@@ -14,6 +15,7 @@ use crate::references::Rebuilding;
 use crate::residues::TransformResidues;
 use crate::room::RebuildRoom;
 use block_plan::{BlockInfo, BlockResidues, Prediction};
+use inter_lanes::FilterSample;
 use planes::FramePlanes;
 use vp9_types::{Plane, Samples};
 
@@ -22,15 +24,16 @@ use vp9_types::{Plane, Samples};
 /// first. `tile_from` is the first column of its tile, in places of 8x8 luma samples. Of the pictures that it
 /// refers to only the rows that it is predicted from have to be there.
 #[tactic(auto, unfolding(crate::specs::Blocks::put_by))]
-pub fn put_block_in_part<S: Samples, R: TransformResidues>(
-    planes: &mut FramePlanes,
+pub fn put_block_in_part<P: FilterSample, S: Samples<Kept = P>, R: TransformResidues>(
+    planes: &mut FramePlanes<P>,
     by: &Rebuilding<'_, S>,
     tile_from: u32,
     block: &BlockInfo,
     residues: &R,
-    room: &mut RebuildRoom,
+    room: &mut RebuildRoom<P>,
 )
     requires size { HasFrameSize by.now.shape }
+    requires fits { P.takes (greatest by.now.shape.depth) }
     requires placed { IsPlaced by.now.shape tile_from block.now }
     requires references { AreServed S.holds S.width S.map by.now block.now block.now.prediction }
     requires part { HoldsBlockIn by.now.shape tile_from block.now planes.old }
@@ -67,15 +70,16 @@ pub fn put_block_in_part<S: Samples, R: TransformResidues>(
 }
 
 /// Puts a block, with its residue from its buffer, into whole planes, predicted from whole pictures.
-pub fn put_block<S: Samples>(
-    planes: &mut FramePlanes,
+pub fn put_block<P: FilterSample, S: Samples<Kept = P>>(
+    planes: &mut FramePlanes<P>,
     by: &Rebuilding<'_, S>,
     tile_from: u32,
     block: &BlockInfo,
     residues: &BlockResidues,
-    room: &mut RebuildRoom,
+    room: &mut RebuildRoom<P>,
 )
     requires size { HasFrameSize by.now.shape }
+    requires fits { P.takes (greatest by.now.shape.depth) }
     requires placed { IsPlaced by.now.shape tile_from block.now }
     requires references { HasReferences S.holds S.width S.map by.now block.now.prediction }
     requires sizes { HasSizes by.now.shape planes.old }

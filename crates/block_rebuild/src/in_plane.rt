@@ -25,7 +25,7 @@ use block_plan::{BlockInfo, IntraPrediction, mode_at, plane_block};
 use intra_predict::{CodedBlock, IntraBlock, Scratch, place_of, put_transform_block};
 use planes::SamplePlane;
 use vp9_tables::area_of;
-use vp9_types::{BlockSize, Depth, Plane, Shape, TxSize};
+use vp9_types::{BlockSize, Depth, Plane, Sample, Shape, TxSize};
 
 /// An intra block of a frame of this shape, in a tile whose columns begin at `tile_from`.
 #[derive(Clone, Copy)]
@@ -80,13 +80,14 @@ fn block_at(b: &IntraInPlane<'_>, at: (usize, usize)) -> IntraBlock
 /// Puts a transform block into its plane, with its values if it has residue.
 #[inline(always)]
 #[tactic(auto, using(crate::proofs::Puts::whole_residue, crate::proofs::Puts::residue_is))]
-fn put_residue(
-    samples: &mut SamplePlane,
+fn put_residue<P: Sample>(
+    samples: &mut SamplePlane<P>,
     block: &IntraBlock,
     depth: Depth,
     residue: Option<&[i32]>,
     scratch: &mut Scratch,
 )
+    requires fits { greatest depth ≤ P.greatest }
     requires inside { LiesIn samples.old.area block.now.place }
     requires range { IsAtMost (greatest depth) (plane_map samples.old) }
     requires whole { IsWhole (area block.now.size) (option_copied residue) }
@@ -99,13 +100,14 @@ fn put_residue(
 }
 
 /// Puts all transform blocks of a block into its plane.
-fn put_residues<R: TransformResidues>(
-    samples: &mut SamplePlane,
+fn put_residues<P: Sample, R: TransformResidues>(
+    samples: &mut SamplePlane<P>,
     b: &IntraInPlane<'_>,
     grid: &TransformGrid,
     residues: &R,
     scratch: &mut Scratch,
 )
+    requires fits { greatest b.now.depth ≤ P.greatest }
     requires small_grid { IsSmallGrid grid.now }
     requires step { grid.now.step ≡ tx_step b.now.tx }
     requires low { b.now.coded.row ≤ 8192 }
@@ -128,14 +130,15 @@ fn put_residues<R: TransformResidues>(
 }
 
 /// Puts an intra block into a plane, or a part of it that holds the block.
-pub(crate) fn put_in_plane<R: TransformResidues>(
-    samples: &mut SamplePlane,
+pub(crate) fn put_in_plane<P: Sample, R: TransformResidues>(
+    samples: &mut SamplePlane<P>,
     b: &IntraCoded<'_>,
     plane: Plane,
     residues: &R,
     scratch: &mut Scratch,
 )
     requires size { HasFrameSize b.now.shape.now }
+    requires fits { greatest b.now.shape.now.depth ≤ P.greatest }
     requires placed { IsPlaced b.now.shape.now b.now.tile_from b.now.block.now }
     requires is { IsPartOf b.now.shape.now plane b.now.tile_from b.now.block.now samples.old }
     requires held { (k : ℕ) → k < length (places_in b.now.shape.now b.now.block.now plane) → R.holds residues.now plane (area (tx_in b.now.shape.now b.now.block.now plane)) k }

@@ -1,6 +1,6 @@
 //! An inter block put into a plane.
 
-ghost use Rattle.std.specs.Prelude.{◌≡◌, ◌<◌, ◌≤◌, ◌*◌, ℕ, length};
+ghost use Rattle.std.specs.Prelude.{◌≡◌, ◌<◌, ◌≤◌, ◌*◌, ℕ, length, map};
 ghost use Rattle.std.specs.List.{fold, range_with_len};
 ghost use Rattle.vp9_types.specs.Maps.{HoldsRows, IsAtMost, rows_of};
 ghost use Rattle.vp9_types.specs.Shapes.{mi_rows, mi_cols};
@@ -23,12 +23,13 @@ use crate::references::Rebuilding;
 use crate::residue::add_residues;
 use crate::residues::TransformResidues;
 use crate::room::RebuildRoom;
-use block_geometry::transform_grid;
+use block_geometry::{FramePlaces, transform_grid};
 use block_plan::{BlockInfo, InterPrediction, plane_block};
+use inter_lanes::FilterSample;
 use inter_places::{BlockPart, Place, part_count, place};
 use inter_scaled::{LINES, average, predict};
 use planes::SamplePlane;
-use vp9_types::{Plane, ReferenceFrame, Samples};
+use vp9_types::{Plane, ReferenceFrame, Sample, Samples};
 
 /// An inter block: what its planes share.
 #[derive(Clone, Copy)]
@@ -39,20 +40,21 @@ pub(crate) struct InterCoded<'a, S> {
 }
 
 /// Predicts a part of a block from a reference, in rows of a block buffer, and says where it lies.
-fn predict_part<S: Samples>(
+fn predict_part<P: FilterSample, S: Samples<Kept = P>>(
     b: &InterCoded<'_, S>,
     reference: ReferenceFrame,
     part: BlockPart,
-    lines: &mut [u16],
-    block: &mut [u16],
+    lines: &mut [P],
+    block: &mut [P],
 ) -> Place
     requires part { IsPart b.now.by.now.shape b.now.block.now part }
+    requires takes { P.takes (greatest b.now.by.now.shape.depth) }
     requires reference { IsServed S.holds S.width S.map b.now.by.now b.now.block.now b.now.modes.now part.list reference }
     requires lines { LINES ≤ length lines.old }
     requires room { 4096 ≤ length block.old }
     ensures place { result ≡ place_of b.now.by.now.shape b.now.block.now b.now.modes.now part (picture_of S.map (reference_of b.now.by.now reference)).shape }
     ensures fits { IsPlace result }
-    ensures samples { HoldsRows block.new result.columns result.rows (predicted_from b.now.by.now.shape b.now.block.now b.now.modes.now part (picture_of S.map (reference_of b.now.by.now reference))) }
+    ensures samples { HoldsRows (map P.value block.new) result.columns result.rows (predicted_from b.now.by.now.shape b.now.block.now b.now.modes.now part (picture_of S.map (reference_of b.now.by.now reference))) }
 {
     let Some(picture) = b.by.reference(reference) else {
         unreachable!()
@@ -65,17 +67,18 @@ fn predict_part<S: Samples>(
 }
 
 /// Predicts a part of a block from all of its references into the first block of the room.
-fn predict_all<S: Samples>(
+fn predict_all<P: FilterSample, S: Samples<Kept = P>>(
     b: &InterCoded<'_, S>,
     plane: Plane,
     number: usize,
-    room: &mut RebuildRoom,
+    room: &mut RebuildRoom<P>,
 ) -> Place
     requires part { IsPart b.now.by.now.shape b.now.block.now (part_of plane number 0) }
+    requires takes { P.takes (greatest b.now.by.now.shape.depth) }
     requires references { AreServed S.holds S.width S.map b.now.by.now b.now.block.now (Inter b.now.modes.now) }
     ensures place { result ≡ place_of b.now.by.now.shape b.now.block.now b.now.modes.now (part_of plane number 0) (picture_of S.map (reference_of b.now.by.now b.now.modes.now.references.first)).shape }
     ensures fits { IsPlace result }
-    ensures samples { HoldsRows room.new.first result.columns result.rows (predicted_part (rebuilding_of S.map b.now.by.now) b.now.block.now b.now.modes.now plane number) }
+    ensures samples { HoldsRows (map P.value room.new.first) result.columns result.rows (predicted_part (rebuilding_of S.map b.now.by.now) b.now.block.now b.now.modes.now plane number) }
 {
     let references = b.modes.references;
     let first = BlockPart {
@@ -97,12 +100,12 @@ fn predict_all<S: Samples>(
 }
 
 /// Puts rows of samples at their place in a plane. Rows of each width are copied by a loop of their own.
-fn put_rows(samples: &mut SamplePlane, place: &Place, rows: &[u16])
+fn put_rows<P: Sample>(samples: &mut SamplePlane<P>, place: &Place, rows: &[P])
     requires place { IsPlace place.now }
     requires inside { StartsIn samples.old.area place.now.row place.now.column }
     requires whole { place.now.rows * place.now.columns ≤ length rows.now }
     ensures area { samples.new.area ≡ samples.old.area }
-    ensures map { plane_map samples.new ≡ with_part samples.old.area (plane_map samples.old) place.now.row place.now.column place.now.rows place.now.columns (rows_of place.now.columns rows.now) }
+    ensures map { plane_map samples.new ≡ with_part samples.old.area (plane_map samples.old) place.now.row place.now.column place.now.rows place.now.columns (rows_of place.now.columns (map P.value rows.now)) }
 {
     let (row, column, count) = (place.row, place.column, place.rows);
     match place.columns {
@@ -116,14 +119,15 @@ fn put_rows(samples: &mut SamplePlane, place: &Place, rows: &[u16])
 }
 
 /// Puts a part of a block into its plane.
-fn put_part<S: Samples>(
-    samples: &mut SamplePlane,
+fn put_part<P: FilterSample, S: Samples<Kept = P>>(
+    samples: &mut SamplePlane<P>,
     b: &InterCoded<'_, S>,
     plane: Plane,
     number: usize,
-    room: &mut RebuildRoom,
+    room: &mut RebuildRoom<P>,
 )
     requires part { IsPart b.now.by.now.shape b.now.block.now (part_of plane number 0) }
+    requires takes { P.takes (greatest b.now.by.now.shape.depth) }
     requires references { AreServed S.holds S.width S.map b.now.by.now b.now.block.now (Inter b.now.modes.now) }
     requires is { IsPartOf b.now.by.now.shape plane b.now.block.now.col b.now.block.now samples.old }
     ensures map { plane_map samples.new ≡ put_part (rebuilding_of S.map b.now.by.now) b.now.block.now b.now.modes.now plane (plane_map samples.old) number }
@@ -135,14 +139,15 @@ fn put_part<S: Samples>(
 }
 
 /// Puts the predicted samples of a block into its plane.
-fn put_prediction<S: Samples>(
-    samples: &mut SamplePlane,
+fn put_prediction<P: FilterSample, S: Samples<Kept = P>>(
+    samples: &mut SamplePlane<P>,
     b: &InterCoded<'_, S>,
     plane: Plane,
-    room: &mut RebuildRoom,
+    room: &mut RebuildRoom<P>,
 )
     requires row { b.now.block.now.row < mi_rows b.now.by.now.shape }
     requires column { b.now.block.now.col < mi_cols b.now.by.now.shape }
+    requires takes { P.takes (greatest b.now.by.now.shape.depth) }
     requires references { AreServed S.holds S.width S.map b.now.by.now b.now.block.now (Inter b.now.modes.now) }
     requires is { IsPartOf b.now.by.now.shape plane b.now.block.now.col b.now.block.now samples.old }
     ensures map { plane_map samples.new ≡ put_prediction (rebuilding_of S.map b.now.by.now) b.now.block.now b.now.modes.now plane (plane_map samples.old) }
@@ -156,17 +161,18 @@ fn put_prediction<S: Samples>(
 }
 
 /// Puts an inter block into a plane: all of its samples are predicted before any residue is added.
-pub(crate) fn put_inter<S: Samples, R: TransformResidues>(
-    samples: &mut SamplePlane,
+pub(crate) fn put_inter<P: FilterSample, S: Samples<Kept = P>, R: TransformResidues>(
+    samples: &mut SamplePlane<P>,
     b: &InterCoded<'_, S>,
     plane: Plane,
     residues: &R,
-    room: &mut RebuildRoom,
+    room: &mut RebuildRoom<P>,
 )
     requires size { HasFrameSize b.now.by.now.shape }
     requires row { b.now.block.now.row < mi_rows b.now.by.now.shape }
     requires column { b.now.block.now.col < mi_cols b.now.by.now.shape }
     requires fits { tx_number b.now.block.now.tx ≤ greatest_transform b.now.block.now.size }
+    requires takes { P.takes (greatest b.now.by.now.shape.depth) }
     requires references { AreServed S.holds S.width S.map b.now.by.now b.now.block.now (Inter b.now.modes.now) }
     requires is { IsPartOf b.now.by.now.shape plane b.now.block.now.col b.now.block.now samples.old }
     requires held { (k : ℕ) → k < length (places_in b.now.by.now.shape b.now.block.now plane) → R.holds residues.now plane (area (tx_in b.now.by.now.shape b.now.block.now plane)) k }

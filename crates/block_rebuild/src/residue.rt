@@ -1,6 +1,6 @@
 //! Residue added to the samples that stand in a plane (8.6.2 of the standard).
 
-ghost use Rattle.std.specs.Prelude.{◌≡◌, ◌<◌, ◌≤◌, ◌+◌, ◌*◌, ◌^◌, ℕ, pos, length, slice_index, slice_index_or, unsigned_abs};
+ghost use Rattle.std.specs.Prelude.{◌≡◌, ◌<◌, ◌≤◌, ◌+◌, ◌*◌, ◌^◌, ℕ, pos, length, map, slice_index, slice_index_or, unsigned_abs};
 ghost use Rattle.std.specs.List.{All, fold};
 ghost use Rattle.std.specs.Option.{option_copied};
 ghost use Rattle.vp9_types.specs.Maps.{IsAtMost, with_block};
@@ -21,7 +21,7 @@ use block_geometry::{PlaneBlock, TransformGrid};
 use intra_predict::side_of;
 use planes::SamplePlane;
 use vp9_tables::area_of;
-use vp9_types::{Depth, Plane, TxSize, halved};
+use vp9_types::{Depth, Plane, Sample, TxSize, halved};
 
 #[inline(always)]
 fn clipped(sum: i32, most: u16) -> u16
@@ -36,23 +36,44 @@ fn clipped(sum: i32, most: u16) -> u16
     }
 }
 
+/// Adds residue to the sample at a place, and clips the sum.
+#[inline(always)]
+fn add_at<P: Sample>(line: &mut [P], k: usize, change: i32, most: u16)
+    requires inside { k < length line.old }
+    requires small { unsigned_abs change < 2 ^ 24 }
+    requires fits { most ≤ P.greatest }
+    ensures value { slice_index (map P.value line.new) k ≡ with_residue most (slice_index (map P.value line.old) k) change }
+    ensures others { (i : ℕ) → i < k → slice_index (map P.value line.new) i ≡ slice_index (map P.value line.old) i }
+    ensures rest { (i : ℕ) → k < i → slice_index (map P.value line.new) i ≡ slice_index (map P.value line.old) i }
+{
+    let sum = i32::from(line[k].widen()) + change;
+    line[k] = P::narrow(clipped(sum, most));
+}
+
 /// Adds residue to as many samples, and clips them.
 #[inline(always)]
-fn add_line(line: &mut [u16], residue: &[i32], most: u16)
+fn add_line<P: Sample>(line: &mut [P], residue: &[i32], most: u16)
     requires room { length line.old ≡ length residue.now }
     requires residue { IsResidue (length residue.now) residue.now }
+    requires fits { most ≤ P.greatest }
     ensures { (k : ℕ) → k < length residue.now →
-        slice_index line.new k ≡ with_residue most (slice_index line.old k) (slice_index_or residue.now k (pos 0)) }
+        slice_index (map P.value line.new) k ≡ with_residue most (slice_index (map P.value line.old) k) (slice_index_or residue.now k (pos 0)) }
 {
     for k in 0..residue.len() {
-        let change = residue[k];
-        line[k] = clipped(i32::from(line[k]) + change, most);
+        add_at(line, k, residue[k], most);
     }
 }
 
 /// Adds residue to the samples of a row, from a column on.
 #[inline(always)]
-fn add_row(samples: &mut SamplePlane, row: usize, column: usize, residue: &[i32], most: u16)
+fn add_row<P: Sample>(
+    samples: &mut SamplePlane<P>,
+    row: usize,
+    column: usize,
+    residue: &[i32],
+    most: u16,
+)
+    requires fits { most ≤ P.greatest }
     requires inside { HasRow samples.old.area row column (length residue.now) }
     requires residue { IsResidue (length residue.now) residue.now }
     ensures map { plane_map samples.new ≡ with_block (plane_map samples.old) row column 1 (length residue.now)
@@ -65,14 +86,15 @@ fn add_row(samples: &mut SamplePlane, row: usize, column: usize, residue: &[i32]
 
 /// Adds the residue of a transform block to the samples at a row and column. What lies below or right of the plane is left
 /// out.
-fn add_square(
-    samples: &mut SamplePlane,
+fn add_square<P: Sample>(
+    samples: &mut SamplePlane<P>,
     row: usize,
     column: usize,
     tx: TxSize,
     depth: Depth,
     values: &[i32],
 )
+    requires fits { greatest depth ≤ P.greatest }
     requires inside { HasRow samples.old.area row column 1 }
     requires long { length values.now ≡ area tx }
     requires small { All (λ x. unsigned_abs x < 2 ^ 24) values.now }
@@ -114,8 +136,8 @@ fn first_sample(block: &PlaneBlock, at: (usize, usize)) -> (usize, usize)
 }
 
 /// Adds the residue of a transform block, if it has any, to the samples at its place.
-fn add_any(
-    samples: &mut SamplePlane,
+fn add_any<P: Sample>(
+    samples: &mut SamplePlane<P>,
     block: &PlaneBlock,
     at: (usize, usize),
     depth: Depth,
@@ -125,6 +147,7 @@ fn add_any(
     requires near { block.now.col ≤ 8192 }
     requires y { at.0 < 16 }
     requires x { at.1 < 16 }
+    requires fits { greatest depth ≤ P.greatest }
     requires inside { HasRow samples.old.area (tx_row block.now at.0) (tx_column block.now at.1) 1 }
     requires range { IsAtMost (greatest depth) (plane_map samples.old) }
     requires whole { IsWhole (area block.now.tx) (option_copied residue) }
@@ -140,14 +163,15 @@ fn add_any(
 }
 
 /// Adds the residue of all transform blocks of a block in a plane.
-pub(crate) fn add_residues<R: TransformResidues>(
-    samples: &mut SamplePlane,
+pub(crate) fn add_residues<P: Sample, R: TransformResidues>(
+    samples: &mut SamplePlane<P>,
     block: &PlaneBlock,
     grid: &TransformGrid,
     plane: Plane,
     residues: &R,
     depth: Depth,
 )
+    requires fits { greatest depth ≤ P.greatest }
     requires small_grid { IsSmallGrid grid.now }
     requires step { grid.now.step ≡ tx_step block.now.tx }
     requires low { block.now.row ≤ 8192 }

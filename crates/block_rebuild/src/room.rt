@@ -1,25 +1,26 @@
 use inter_scaled::LINES;
 use intra_predict::Scratch;
+use vp9_types::Sample;
 
 /// How many samples the greatest block has.
 const GREATEST_BLOCK: usize = 4096;
 
 /// Room to rebuild a block in. It is made once, since making it clears it; what it holds between blocks doesn't matter.
 #[derive(Drop)]
-pub struct RebuildRoom {
+pub struct RebuildRoom<P: Sample> {
     pub(crate) intra: Scratch,
-    pub(crate) lines: [u16; LINES],
-    pub(crate) first: [u16; GREATEST_BLOCK],
-    pub(crate) second: [u16; GREATEST_BLOCK],
+    pub(crate) lines: [P; LINES],
+    pub(crate) first: [P; GREATEST_BLOCK],
+    pub(crate) second: [P; GREATEST_BLOCK],
 }
 
-impl RebuildRoom {
+impl<P: Sample> RebuildRoom<P> {
     pub fn new() -> Self {
         RebuildRoom {
             intra: Scratch::new(),
-            lines: [0; LINES],
-            first: [0; GREATEST_BLOCK],
-            second: [0; GREATEST_BLOCK],
+            lines: [P::narrow(0); LINES],
+            first: [P::narrow(0); GREATEST_BLOCK],
+            second: [P::narrow(0); GREATEST_BLOCK],
         }
     }
 }

@@ -8,7 +8,7 @@ use Rattle.std.specs.Int.{int_shr}
 use Rattle.vp9_types.specs.Sizes.{clip}
 use Rattle.inter_lanes.specs.Filter.{IsTap, weight, weighted, filtered, rounded}
 use Rattle.inter_lanes.proofs.NumberLemmas.{tap_kept}
-use Rattle.inter_lanes.specs.Bytes.{above, below, sum_above, sum_below, AreTaps}
+use Rattle.vp9_tables.specs.Filters.{above, below, sum_above, sum_below, AreTaps}
 use mir.Syntax.{w8, w16}
 use mir.Val.{Fits, SFits}
 

@@ -4,7 +4,7 @@ ghost use Rattle.std.specs.Prelude.{◌≡◌, ℕ, ◌+◌, ◌-◌, ◌*◌, �
 ghost use Rattle.std.specs.Int.{int_shr};
 ghost use Rattle.vp9_types.specs.Sizes.{clip};
 ghost use Rattle.inter_lanes.specs.Filter.{filtered};
-ghost use Rattle.inter_lanes.specs.Bytes.{AreTaps};
+ghost use Rattle.vp9_tables.specs.Filters.{AreTaps};
 
 /// The byte of a sum that was begun 128 whole samples below its half.
 #[inline(always)]

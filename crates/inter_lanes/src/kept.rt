@@ -2,7 +2,9 @@
 
 ghost use Rattle.std.specs.Prelude.{◌≡◌, ℕ, ◌+◌, ◌*◌, ◌/◌, ◌<◌, ◌≤◌, length, slice_index, map, ⊤};
 ghost use Rattle.inter_lanes.specs.Filter.{filtered};
-ghost use Rattle.inter_lanes.specs.Bytes.{AreTaps};
+ghost use Rattle.vp9_tables.specs.Filters.{AreTaps};
+
+ghost use Rattle.std.proofs.Common.{rules};
 
 use crate::bytes::{filter_byte_line, filter_byte_run};
 use crate::runs::{filter_line, filter_run};
@@ -70,6 +72,14 @@ pub trait FilterSample: Sample {
         requires taps { hold taps.now }
         ensures value { (j : ℕ) → j < count → slice_index (map Self.value out.new) j ≡ filtered most (stand_for taps.now) (λ k. slice_index (map Self.value samples.now) (from + k * step + j)) }
         ensures after { (j : ℕ) → count ≤ j → slice_index (map Self.value out.new) j ≡ slice_index (map Self.value out.old) j };
+
+    /// The rounded mean of two.
+    fn mean(self, other: Self) -> Self
+        ensures { Self.value result ≡ (Self.value self + Self.value other + 1) / 2 };
+
+    ghost are_few: { (most : ℕ) → takes most → most ≤ 4095 };
+
+    ghost are_kept: { (most : ℕ) → takes most → most ≤ Self.greatest };
 }
 
 impl FilterSample for u8 {
@@ -112,6 +122,16 @@ impl FilterSample for u8 {
         let _ = most;
         filter_byte_run(out, count, samples, from, step, taps);
     }
+
+    #[inline(always)]
+    fn mean(self, other: u8) -> u8 {
+        let sum = u16::from(self) + u16::from(other) + 1;
+        (sum / 2) as u8
+    }
+
+    ghost are_few = { λ most takes. Prim.search rules };
+
+    ghost are_kept = { λ most takes. Prim.search rules };
 }
 
 impl FilterSample for u16 {
@@ -152,4 +172,14 @@ impl FilterSample for u16 {
     ) {
         filter_run(out, count, samples, from, step, taps, most);
     }
+
+    #[inline(always)]
+    fn mean(self, other: u16) -> u16 {
+        let sum = u32::from(self) + u32::from(other) + 1;
+        (sum / 2) as u16
+    }
+
+    ghost are_few = { λ most takes. Prim.search rules };
+
+    ghost are_kept = { λ most takes. Prim.search rules };
 }

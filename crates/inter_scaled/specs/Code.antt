@@ -1,15 +1,17 @@
 -- What the code keeps while it predicts.
-use Rattle.std.specs.Prelude.{ℕ, ◌+◌, ◌*◌, ◌/◌, ◌-◌, ◌≤◌, ◌<◌, ◌≡◌}
+use Rattle.std.specs.Prelude.{ℕ, ℤ, List, ◌+◌, ◌*◌, ◌/◌, ◌-◌, ◌≤◌, ◌<◌, ◌≡◌}
 use Rattle.vp9_tables.specs.Filters.{taps_of}
 use Rattle.inter_places.specs.declared.axis.Axis.{Axis}
 use Rattle.inter_places.specs.Axes.{IsAxis, fraction, offset, straight}
 use Rattle.inter_scaled.specs.declared.filter.LineFilter.{LineFilter}
 
--- an axis with the taps of its first phase
-pub record IsFilter (f : LineFilter) : Type 0 where
+-- an axis with the taps of its first phase, in the form T that lines are filtered by: which taps that stands for, whether it
+-- holds eight of a filter, and which greatest samples there may be
+pub record IsFilter {T : Type 0} (stand_for : T → List ℤ) (hold : T → Type 0) (takes : ℕ → Type 0) (f : LineFilter T) : Type 0 where
   pub axis : IsAxis f.axis
-  pub taps : f.taps ≡ taps_of f.kind (fraction f.axis)
-  pub most : f.most ≤ 4095
+  pub taps : stand_for f.taps ≡ taps_of f.kind (fraction f.axis)
+  pub held : hold f.taps
+  pub most : takes f.most
 
 -- how many lines of the reference so many rows are filtered from
 abbrev pub lines_for : Axis → ℕ → ℕ
@@ -27,6 +29,6 @@ pub record IsCopied (a : Axis) (n : ℕ) : Type 0 where
   pub inside : AreInside a (n + 7)
 
 -- a line of n values is filtered from samples one after another, read by sixteens
-pub record IsRun (f : LineFilter) (n : ℕ) : Type 0 where
+pub record IsRun {T : Type 0} (f : LineFilter T) (n : ℕ) : Type 0 where
   pub step : f.axis.step ≡ 16
   pub inside : AreInside f.axis (16 * ((n + 15) / 16) + 7)

@@ -6,7 +6,7 @@ ghost use Rattle.inter_places.specs.Axes.{IsAxis};
 ghost use Rattle.inter_scaled.specs.Code.{IsFilter, IsRun};
 
 use crate::places::is_inside;
-use inter_lanes::TapLanes;
+use inter_lanes::FilterSample;
 use inter_places::{Axis, phase_of};
 use vp9_tables::taps;
 use vp9_types::InterpFilter;
@@ -20,32 +20,36 @@ pub(crate) struct Interpolation {
 
 /// Where the values of a block are filtered from along one direction, and by what: the taps are those of its first phase.
 #[derive(Drop)]
-pub(crate) struct LineFilter {
+pub(crate) struct LineFilter<T> {
     pub(crate) axis: Axis,
     pub(crate) kind: InterpFilter,
     pub(crate) most: u16,
-    pub(crate) taps: TapLanes,
+    pub(crate) taps: T,
 }
 
-impl LineFilter {
-    #[inline(always)]
-    #[tactic(auto, using(crate::proofs::Agree::each_tap))]
-    pub(crate) fn new(axis: &Axis, kind: InterpFilter, most: u16) -> LineFilter
-        requires axis { IsAxis axis.now }
-        requires most { most ≤ 4095 }
-        ensures filter { IsFilter result }
-        ensures axis { result.axis ≡ axis.now }
-        ensures kind { result.kind ≡ kind }
-        ensures most { result.most ≡ most }
-    {
-        LineFilter {
-            axis: *axis,
-            kind,
-            most,
-            taps: TapLanes::new(taps(kind, phase_of(axis))),
-        }
+/// The filter of an axis, for samples kept as P.
+#[inline(always)]
+pub(crate) fn filter_of<P: FilterSample>(
+    axis: &Axis,
+    kind: InterpFilter,
+    most: u16,
+) -> LineFilter<P::Taps>
+    requires axis { IsAxis axis.now }
+    requires most { P.takes most }
+    ensures filter { IsFilter P.stand_for P.hold P.takes result }
+    ensures axis { result.axis ≡ axis.now }
+    ensures kind { result.kind ≡ kind }
+    ensures most { result.most ≡ most }
+{
+    LineFilter {
+        axis: *axis,
+        kind,
+        most,
+        taps: P::taps_of(taps(kind, phase_of(axis))),
     }
+}
 
+impl<T> LineFilter<T> {
     /// Whether the reference has the frame's size along this direction.
     #[inline(always)]
     pub(crate) fn is_unscaled(&self) -> bool
@@ -57,7 +61,7 @@ impl LineFilter {
     /// Whether lines of n values are filtered from samples inside the plane.
     #[inline(always)]
     pub(crate) fn is_run(&self, n: usize) -> bool
-        requires filter { IsFilter self.now }
+        requires axis { IsAxis self.now.axis }
         requires few { n ≤ 64 }
         ensures { OnTrue result (IsRun self.now n) }
     {

@@ -3,6 +3,7 @@
 
 mod down;
 mod filter;
+mod kept;
 mod laws;
 mod lines;
 mod means;

@@ -1,117 +1,120 @@
 //! Lines of values along a row of the reference.
 
-ghost use Rattle.std.specs.Prelude.{◌≡◌, ℕ, ◌+◌, ◌*◌, ◌/◌, ◌<◌, ◌≤◌, length, slice_index};
+ghost use Rattle.std.specs.Prelude.{◌≡◌, ℕ, ◌+◌, ◌*◌, ◌/◌, ◌<◌, ◌≤◌, length, map, slice_index};
 ghost use Rattle.inter_lanes.specs.Filter.{filtered};
 ghost use Rattle.inter_places.specs.Axes.{straight, IsAxis};
 ghost use Rattle.inter_scaled.specs.Inter.{along};
 ghost use Rattle.inter_scaled.specs.Code.{IsFilter, IsRun};
 
 use crate::filter::LineFilter;
+use crate::kept::{put_at, sample_at};
 use crate::places::is_whole;
 use crate::scaled::scale_line;
-use inter_lanes::filter_line;
+use inter_lanes::FilterSample;
 use inter_places::{Axis, straight};
+use vp9_types::Sample;
 
 /// Samples of a row at n places that follow one another, from the place on that lies `first` after the third before the
 /// first. Past an end of the row they are the last ones.
 #[inline(always)]
-pub(crate) fn read_places(out: &mut [u16], n: usize, row: &[u16], a: &Axis, first: usize)
+pub(crate) fn read_places<P: Sample>(out: &mut [P], n: usize, row: &[P], a: &Axis, first: usize)
     requires few { n ≤ 136 }
     requires near { first ≤ 64 }
     requires room { n ≤ length out.old }
     requires axis { IsAxis a.now }
     requires row { a.now.size ≤ length row.now }
-    ensures value { (t : ℕ) → t < n → slice_index out.new t ≡ slice_index row.now (straight a.now (first + t)) }
-    ensures after { (t : ℕ) → n ≤ t → slice_index out.new t ≡ slice_index out.old t }
+    ensures value { (t : ℕ) → t < n → slice_index (map P.value out.new) t ≡ slice_index (map P.value row.now) (straight a.now (first + t)) }
+    ensures after { (t : ℕ) → n ≤ t → slice_index (map P.value out.new) t ≡ slice_index (map P.value out.old) t }
 {
     for t in 0..n {
-        out[t] = row[straight(a, first + t)];
+        let sample = sample_at(row, straight(a, first + t));
+        put_at(out, t, sample);
     }
 }
 
 /// A line of n values, where the reference has the frame's size.
-fn filter_places(out: &mut [u16], n: usize, row: &[u16], filter: &LineFilter)
-    requires filter { IsFilter filter.now }
+fn filter_places<P: FilterSample>(out: &mut [P], n: usize, row: &[P], filter: &LineFilter<P::Taps>)
+    requires filter { IsFilter P.stand_for P.hold P.takes filter.now }
     requires few { n ≤ 64 }
     requires room { n ≤ length out.old }
     requires row { filter.now.axis.size ≤ length row.now }
-    requires samples { (k : ℕ) → slice_index row.now k ≤ 4095 }
-    ensures value { (j : ℕ) → j < n → slice_index out.new j ≡ filtered filter.now.most filter.now.taps (λ k. slice_index row.now (straight filter.now.axis (0 + (j + k)))) }
-    ensures after { (j : ℕ) → n ≤ j → slice_index out.new j ≡ slice_index out.old j }
+    requires samples { (k : ℕ) → slice_index (map P.value row.now) k ≤ filter.now.most }
+    ensures value { (j : ℕ) → j < n → slice_index (map P.value out.new) j ≡ filtered filter.now.most (P.stand_for filter.now.taps) (λ k. slice_index (map P.value row.now) (straight filter.now.axis (0 + (j + k)))) }
+    ensures after { (j : ℕ) → n ≤ j → slice_index (map P.value out.new) j ≡ slice_index (map P.value out.old) j }
 {
     let read = 16 * ((n + 15) / 16) + 7;
-    let mut window = [0; 71];
+    let mut window = [P::narrow(0); 71];
     read_places(&mut window, read, row, &filter.axis, 0);
-    filter_line(out, n, &window[..read], 0, &filter.taps, filter.most);
+    P::filter_along(out, n, &window[..read], 0, &filter.taps, filter.most);
 }
 
 /// A line of n values, whatever they are.
-fn fill_line(out: &mut [u16], n: usize, row: &[u16], filter: &LineFilter)
-    requires filter { IsFilter filter.now }
+fn fill_line<P: FilterSample>(out: &mut [P], n: usize, row: &[P], filter: &LineFilter<P::Taps>)
+    requires filter { IsFilter P.stand_for P.hold P.takes filter.now }
     requires few { n ≤ 64 }
     requires room { n ≤ length out.old }
     requires row { filter.now.axis.size ≤ length row.now }
-    requires samples { (k : ℕ) → slice_index row.now k ≤ filter.now.most }
-    ensures value { (j : ℕ) → j < n → slice_index out.new j ≡ along filter.now.most filter.now.kind filter.now.axis (slice_index row.now) j }
-    ensures after { (j : ℕ) → n ≤ j → slice_index out.new j ≡ slice_index out.old j }
+    requires samples { (k : ℕ) → slice_index (map P.value row.now) k ≤ filter.now.most }
+    ensures value { (j : ℕ) → j < n → slice_index (map P.value out.new) j ≡ along filter.now.most filter.now.kind filter.now.axis (slice_index (map P.value row.now)) j }
+    ensures after { (j : ℕ) → n ≤ j → slice_index (map P.value out.new) j ≡ slice_index (map P.value out.old) j }
 {
     if is_whole(&filter.axis) {
         read_places(out, n, row, &filter.axis, 3);
     } else if filter.is_unscaled() {
-        filter_places(out, n, row, filter);
+        filter_places::<P>(out, n, row, filter);
     } else {
-        scale_line(out, n, row, filter);
+        scale_line::<P>(out, n, row, filter);
     }
 }
 
 /// A line of n values: of kind 0 filtered from samples one after another, the first of which stands at place `from` of the
 /// row; of kind 1 whatever they are.
 #[inline(always)]
-fn fill_by<const KIND: usize>(
-    out: &mut [u16],
+fn fill_by<P: FilterSample, const KIND: usize>(
+    out: &mut [P],
     n: usize,
-    row: &[u16],
+    row: &[P],
     from: usize,
-    filter: &LineFilter,
+    filter: &LineFilter<P::Taps>,
 )
     requires run { KIND ≡ 0 → IsRun filter.now n }
     requires from { from ≡ straight filter.now.axis 0 }
-    requires filter { IsFilter filter.now }
+    requires filter { IsFilter P.stand_for P.hold P.takes filter.now }
     requires few { n ≤ 64 }
     requires room { n ≤ length out.old }
     requires row { filter.now.axis.size ≤ length row.now }
-    requires samples { (k : ℕ) → slice_index row.now k ≤ filter.now.most }
-    ensures value { (j : ℕ) → j < n → slice_index out.new j ≡ along filter.now.most filter.now.kind filter.now.axis (slice_index row.now) j }
-    ensures after { (j : ℕ) → n ≤ j → slice_index out.new j ≡ slice_index out.old j }
+    requires samples { (k : ℕ) → slice_index (map P.value row.now) k ≤ filter.now.most }
+    ensures value { (j : ℕ) → j < n → slice_index (map P.value out.new) j ≡ along filter.now.most filter.now.kind filter.now.axis (slice_index (map P.value row.now)) j }
+    ensures after { (j : ℕ) → n ≤ j → slice_index (map P.value out.new) j ≡ slice_index (map P.value out.old) j }
 {
     if KIND == 0 {
-        filter_line(out, n, row, from, &filter.taps, filter.most);
+        P::filter_along(out, n, row, from, &filter.taps, filter.most);
     } else {
-        fill_line(out, n, row, filter);
+        fill_line::<P>(out, n, row, filter);
     }
 }
 
 /// Line i of lines of n values.
 #[inline(always)]
-pub(crate) fn put_line<const KIND: usize>(
-    lines: &mut [u16],
+pub(crate) fn put_line<P: FilterSample, const KIND: usize>(
+    lines: &mut [P],
     i: usize,
     n: usize,
-    row: &[u16],
+    row: &[P],
     from: usize,
-    filter: &LineFilter,
+    filter: &LineFilter<P::Taps>,
 )
     requires run { KIND ≡ 0 → IsRun filter.now n }
     requires from { from ≡ straight filter.now.axis 0 }
-    requires filter { IsFilter filter.now }
+    requires filter { IsFilter P.stand_for P.hold P.takes filter.now }
     requires low { i ≤ 256 }
     requires few { n ≤ 64 }
     requires room { i * n + n ≤ length lines.old }
     requires row { filter.now.axis.size ≤ length row.now }
-    requires samples { (k : ℕ) → slice_index row.now k ≤ filter.now.most }
-    ensures row { (j : ℕ) → j < n → slice_index lines.new (i * n + j) ≡ along filter.now.most filter.now.kind filter.now.axis (slice_index row.now) j }
-    ensures before { (k : ℕ) → k < i * n → slice_index lines.new k ≡ slice_index lines.old k }
+    requires samples { (k : ℕ) → slice_index (map P.value row.now) k ≤ filter.now.most }
+    ensures row { (j : ℕ) → j < n → slice_index (map P.value lines.new) (i * n + j) ≡ along filter.now.most filter.now.kind filter.now.axis (slice_index (map P.value row.now)) j }
+    ensures before { (k : ℕ) → k < i * n → slice_index (map P.value lines.new) k ≡ slice_index (map P.value lines.old) k }
 {
     let at = i * n;
-    fill_by::<KIND>(&mut lines[at..at + n], n, row, from, filter);
+    fill_by::<P, KIND>(&mut lines[at..at + n], n, row, from, filter);
 }

@@ -1,46 +1,52 @@
 //! Lines along rows of the reference.
 
-ghost use Rattle.std.specs.Prelude.{◌≡◌, ℕ, ◌+◌, ◌*◌, ◌<◌, ◌≤◌, length, slice_index};
+ghost use Rattle.std.specs.Prelude.{◌≡◌, ℕ, ◌+◌, ◌*◌, ◌<◌, ◌≤◌, length, map, slice_index};
 ghost use Rattle.vp9_types.specs.Maps.{HoldsRows, IsAtMost};
 ghost use Rattle.inter_places.specs.Axes.{straight, IsPlace};
 ghost use Rattle.inter_scaled.specs.Inter.{along};
 ghost use Rattle.inter_scaled.specs.Code.{IsFilter, IsCopied, IsRun};
 
-use crate::filter::{Interpolation, LineFilter};
+use crate::filter::{Interpolation, LineFilter, filter_of};
 use crate::lines::put_line;
 use crate::places::is_copied;
 use inter_places::{Place, straight};
-use vp9_types::Samples;
+use inter_lanes::FilterSample;
+use vp9_types::{Sample, Samples};
 
 /// The row of the reference that lies n rows after the third before the first.
 #[inline(always)]
 #[tactic(auto, using(crate::proofs::RowLemmas::row_long, crate::proofs::RowLemmas::row_entry, crate::proofs::RowLemmas::row_small))]
-fn read_row<'a, S: Samples>(view: &'a S, place: &Place, n: usize, most: u16) -> &'a [u16]
+fn read_row<'a, P: Sample, S: Samples<Kept = P>>(
+    view: &'a S,
+    place: &Place,
+    n: usize,
+    most: u16,
+) -> &'a [P]
     requires place { IsPlace place.now }
     requires near { n ≤ 256 }
     requires held { S.holds view.now place.now.plane (straight place.now.down n) }
     requires wide { place.now.across.size ≤ S.width view.now place.now.plane }
     requires samples { IsAtMost most (S.map view.now place.now.plane) }
     ensures long { place.now.across.size ≤ length result.now }
-    ensures samples { (k : ℕ) → slice_index result.now k ≤ most }
-    ensures row { (c : ℕ) → c < place.now.across.size → slice_index result.now c ≡ S.map view.now place.now.plane (straight place.now.down n) c }
+    ensures samples { (k : ℕ) → slice_index (map P.value result.now) k ≤ most }
+    ensures row { (c : ℕ) → c < place.now.across.size → slice_index (map P.value result.now) c ≡ S.map view.now place.now.plane (straight place.now.down n) c }
 {
     view.row(place.plane, straight(&place.down, n) as u32)
 }
 
 /// Lines along so many rows of the reference, from the one on that lies `first` after the third before the first, of a kind
 /// as `put_line` has it.
-fn fill_by<S: Samples, const KIND: usize>(
-    lines: &mut [u16],
+fn fill_by<P: FilterSample, S: Samples<Kept = P>, const KIND: usize>(
+    lines: &mut [P],
     view: &S,
     place: &Place,
-    across: &LineFilter,
+    across: &LineFilter<P::Taps>,
     first: usize,
     count: usize,
 )
     requires run { KIND ≡ 0 → IsRun across.now place.now.columns }
     requires place { IsPlace place.now }
-    requires filter { IsFilter across.now }
+    requires filter { IsFilter P.stand_for P.hold P.takes across.now }
     requires axis { across.now.axis ≡ place.now.across }
     requires low { count ≤ 134 }
     requires near { first ≤ 3 }
@@ -48,7 +54,7 @@ fn fill_by<S: Samples, const KIND: usize>(
     requires held { (r : ℕ) → r < count → S.holds view.now place.now.plane (straight place.now.down (first + r)) }
     requires wide { place.now.across.size ≤ S.width view.now place.now.plane }
     requires samples { IsAtMost across.now.most (S.map view.now place.now.plane) }
-    ensures { HoldsRows lines.new place.now.columns count
+    ensures { HoldsRows (map P.value lines.new) place.now.columns count
         (λ r j. along across.now.most across.now.kind across.now.axis (S.map view.now place.now.plane (straight place.now.down (first + r))) j) }
 {
     // a copy stays in registers
@@ -56,22 +62,22 @@ fn fill_by<S: Samples, const KIND: usize>(
     let n = place.columns;
     let from = straight(&across.axis, 0);
     for r in 0..count {
-        let row = read_row(view, &place, first + r, across.most);
-        put_line::<KIND>(lines, r, n, row, from, across);
+        let row = read_row::<P, S>(view, &place, first + r, across.most);
+        put_line::<P, KIND>(lines, r, n, row, from, across);
     }
 }
 
 /// Filtered lines along so many rows of the reference, from the one on that lies `first` after the third before the first.
-fn filter_lines<S: Samples>(
-    lines: &mut [u16],
+fn filter_lines<P: FilterSample, S: Samples<Kept = P>>(
+    lines: &mut [P],
     view: &S,
     place: &Place,
-    across: &LineFilter,
+    across: &LineFilter<P::Taps>,
     first: usize,
     count: usize,
 )
     requires place { IsPlace place.now }
-    requires filter { IsFilter across.now }
+    requires filter { IsFilter P.stand_for P.hold P.takes across.now }
     requires axis { across.now.axis ≡ place.now.across }
     requires low { count ≤ 134 }
     requires near { first ≤ 3 }
@@ -79,34 +85,34 @@ fn filter_lines<S: Samples>(
     requires held { (r : ℕ) → r < count → S.holds view.now place.now.plane (straight place.now.down (first + r)) }
     requires wide { place.now.across.size ≤ S.width view.now place.now.plane }
     requires samples { IsAtMost across.now.most (S.map view.now place.now.plane) }
-    ensures { HoldsRows lines.new place.now.columns count
+    ensures { HoldsRows (map P.value lines.new) place.now.columns count
         (λ r j. along across.now.most across.now.kind across.now.axis (S.map view.now place.now.plane (straight place.now.down (first + r))) j) }
 {
     if across.is_run(place.columns) {
-        fill_by::<S, 0>(lines, view, place, across, first, count);
+        fill_by::<P, S, 0>(lines, view, place, across, first, count);
     } else {
-        fill_by::<S, 1>(lines, view, place, across, first, count);
+        fill_by::<P, S, 1>(lines, view, place, across, first, count);
     }
 }
 
 /// Row i of N samples as they are.
 #[inline(always)]
-fn put_run<const N: usize>(lines: &mut [u16], i: usize, row: &[u16], from: usize)
+fn put_run<P: Sample, const N: usize>(lines: &mut [P], i: usize, row: &[P], from: usize)
     requires low { i ≤ 256 }
     requires few { N ≤ 64 }
     requires near { from ≤ 65536 }
     requires room { i * N + N ≤ length lines.old }
     requires enough { from + N ≤ length row.now }
-    ensures row { (j : ℕ) → j < N → slice_index lines.new (i * N + j) ≡ slice_index row.now (from + j) }
-    ensures before { (k : ℕ) → k < i * N → slice_index lines.new k ≡ slice_index lines.old k }
+    ensures row { (j : ℕ) → j < N → slice_index (map P.value lines.new) (i * N + j) ≡ slice_index (map P.value row.now) (from + j) }
+    ensures before { (k : ℕ) → k < i * N → slice_index (map P.value lines.new) k ≡ slice_index (map P.value lines.old) k }
 {
     let at = i * N;
     lines[at..at + N].copy_from_slice(&row[from..from + N]);
 }
 
 /// Lines of N samples as they are: each width has a loop of its own.
-fn copy_lines<S: Samples, const N: usize>(
-    lines: &mut [u16],
+fn copy_lines<P: FilterSample, S: Samples<Kept = P>, const N: usize>(
+    lines: &mut [P],
     view: &S,
     place: &Place,
     most: u16,
@@ -122,15 +128,15 @@ fn copy_lines<S: Samples, const N: usize>(
     requires held { (r : ℕ) → r < count → S.holds view.now place.now.plane (straight place.now.down (first + r)) }
     requires wide { place.now.across.size ≤ S.width view.now place.now.plane }
     requires samples { IsAtMost most (S.map view.now place.now.plane) }
-    ensures { HoldsRows lines.new place.now.columns count
+    ensures { HoldsRows (map P.value lines.new) place.now.columns count
         (λ r j. S.map view.now place.now.plane (straight place.now.down (first + r)) (straight place.now.across (3 + j))) }
 {
     // a copy stays in registers
     let place = *place;
     let from = straight(&place.across, 3);
     for r in 0..count {
-        let row = read_row(view, &place, first + r, most);
-        put_run::<N>(lines, r, row, from);
+        let row = read_row::<P, S>(view, &place, first + r, most);
+        put_run::<P, N>(lines, r, row, from);
     }
 }
 
@@ -150,8 +156,8 @@ fn copied_columns(place: &Place) -> usize
 
 /// Lines along so many rows of the reference, from the one on that lies `first` after the third before the first.
 #[inline(always)]
-pub(crate) fn fill_lines<S: Samples>(
-    lines: &mut [u16],
+pub(crate) fn fill_lines<P: FilterSample, S: Samples<Kept = P>>(
+    lines: &mut [P],
     view: &S,
     place: &Place,
     by: Interpolation,
@@ -159,25 +165,25 @@ pub(crate) fn fill_lines<S: Samples>(
     count: usize,
 )
     requires place { IsPlace place.now }
-    requires most { by.most ≤ 4095 }
+    requires most { P.takes by.most }
     requires low { count ≤ 134 }
     requires near { first ≤ 3 }
     requires room { count * place.now.columns ≤ length lines.old }
     requires held { (r : ℕ) → r < count → S.holds view.now place.now.plane (straight place.now.down (first + r)) }
     requires wide { place.now.across.size ≤ S.width view.now place.now.plane }
     requires samples { IsAtMost by.most (S.map view.now place.now.plane) }
-    ensures { HoldsRows lines.new place.now.columns count
+    ensures { HoldsRows (map P.value lines.new) place.now.columns count
         (λ r j. along by.most by.kind place.now.across (S.map view.now place.now.plane (straight place.now.down (first + r))) j) }
 {
     match copied_columns(place) {
-        4 => copy_lines::<S, 4>(lines, view, place, by.most, first, count),
-        8 => copy_lines::<S, 8>(lines, view, place, by.most, first, count),
-        16 => copy_lines::<S, 16>(lines, view, place, by.most, first, count),
-        32 => copy_lines::<S, 32>(lines, view, place, by.most, first, count),
-        64 => copy_lines::<S, 64>(lines, view, place, by.most, first, count),
+        4 => copy_lines::<P, S, 4>(lines, view, place, by.most, first, count),
+        8 => copy_lines::<P, S, 8>(lines, view, place, by.most, first, count),
+        16 => copy_lines::<P, S, 16>(lines, view, place, by.most, first, count),
+        32 => copy_lines::<P, S, 32>(lines, view, place, by.most, first, count),
+        64 => copy_lines::<P, S, 64>(lines, view, place, by.most, first, count),
         _ => {
-            let across = LineFilter::new(&place.across, by.kind, by.most);
-            filter_lines(lines, view, place, &across, first, count);
+            let across = filter_of::<P>(&place.across, by.kind, by.most);
+            filter_lines::<P, S>(lines, view, place, &across, first, count);
         }
     }
 }

@@ -6,6 +6,7 @@ mod coded;
 mod diagonal;
 mod edges;
 mod flat;
+mod kept;
 mod laws;
 mod lines;
 mod place;
@@ -16,6 +17,7 @@ mod reading;
 mod rows;
 mod scratch;
 mod sizes;
+mod square;
 mod steps;
 
 pub use block::IntraBlock;

@@ -34,32 +34,7 @@ pub(crate) fn copy_lanes<const N: usize>(to: &mut [u16], from: &[u16])
     samples.copy_to_slice(to);
 }
 
-/// Twice N samples copied to the front of a line.
-#[inline(always)]
-pub(crate) fn copy_twice<const N: usize>(line: &mut [u16], from: &[u16])
-    requires few { N ≤ 64 }
-    requires long { length from.now ≡ 2 * N }
-    requires room { 2 * N ≤ length line.old }
-    ensures { (k : ℕ) → k < 2 * N → slice_index line.new k ≡ slice_index from.now k }
-{
-    copy_lanes::<N>(&mut line[..N], &from[..N]);
-    copy_lanes::<N>(&mut line[N..2 * N], &from[N..]);
-}
-
-/// The front of a line, whose last sample is then repeated up to n samples.
-#[inline(always)]
-pub(crate) fn extend(line: &mut [u16], n: usize, front: &[u16])
-    requires some { 0 < length front.now }
-    requires fits { length front.now ≤ n }
-    requires room { n ≤ length line.old }
-    ensures { (k : ℕ) → k < n → slice_index line.new k ≡ slice_index front.now (min k (length front.now - 1)) }
-{
-    let count = front.len();
-    line[..count].copy_from_slice(front);
-    fill_from(line, count, n, front[count - 1]);
-}
-
-/// As `extend`, where N samples are in front.
+/// N samples, the last of which is then repeated up to n samples.
 #[inline(always)]
 pub(crate) fn extend_lanes<const N: usize>(line: &mut [u16], n: usize, front: &[u16])
     requires some { 0 < N }

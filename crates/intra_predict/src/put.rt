@@ -9,8 +9,9 @@ ghost use Rattle.vp9_types.specs.Sizes.{clip};
 ghost use Rattle.intra_predict.specs.Steps.{with_square};
 
 use crate::sizes::side_of;
+use crate::square::put_square;
 use planes::SamplePlane;
-use vp9_types::{Depth, TxSize};
+use vp9_types::{Depth, Sample, TxSize};
 
 /// Adds the residue of a block to its samples, and clips them to the depth.
 pub fn add_residue(block: &mut [u16], residue: &[i32], size: TxSize, depth: Depth)
@@ -73,16 +74,23 @@ fn clipped(sum: i32, most: u16) -> u16
 }
 
 /// Puts a block at a row and column of a plane. What lies below or right of the plane is left out.
-pub fn put_block(plane: &mut SamplePlane, row: usize, column: usize, size: TxSize, block: &[u16])
+pub fn put_block<P: Sample>(
+    plane: &mut SamplePlane<P>,
+    row: usize,
+    column: usize,
+    size: TxSize,
+    block: &[u16],
+)
     requires inside { StartsIn plane.old.area row column }
     requires block { side size * side size ≤ length block.now }
+    requires fits { (k : ℕ) → k < side size * side size → slice_index block.now k ≤ P.greatest }
     ensures area { plane.new.area ≡ plane.old.area }
     ensures map { plane_map plane.new ≡ with_square (right_end plane.old.area) (lower_end plane.old.area) (plane_map plane.old) row column (side size) (rows_of (side size) block.now) }
 {
     match size {
-        TxSize::T4x4 => plane.put_square::<4>(row, column, block),
-        TxSize::T8x8 => plane.put_square::<8>(row, column, block),
-        TxSize::T16x16 => plane.put_square::<16>(row, column, block),
-        TxSize::T32x32 => plane.put_square::<32>(row, column, block),
+        TxSize::T4x4 => put_square::<P, 4>(plane, row, column, block),
+        TxSize::T8x8 => put_square::<P, 8>(plane, row, column, block),
+        TxSize::T16x16 => put_square::<P, 16>(plane, row, column, block),
+        TxSize::T32x32 => put_square::<P, 32>(plane, row, column, block),
     }
 }

@@ -7,32 +7,39 @@ ghost use Rattle.planes.specs.Planes.{lower_end, right_end, plane_map};
 ghost use Rattle.intra_predict.specs.Edges.{LiesIn, samples_of, edges_in, above_sample, left_sample, corner_sample, reads_right, IsUpTo};
 
 use crate::edges::Edges;
-use crate::lines::{copy_twice, extend, extend_lanes, fill_from};
+use crate::kept::{extend, extend_samples, widen_twice};
+use crate::lines::fill_from;
 use crate::place::Place;
 use crate::sizes::middle_of;
 use planes::SamplePlane;
-use vp9_types::{Depth, TxSize};
+use vp9_types::{Depth, Sample, TxSize};
 
 /// Reads the edges of a block in a plane, whose lower and right end are multiples of 8 luma samples (4 in subsampled
 /// chroma).
-pub fn read_edges(edges: &mut Edges, plane: &SamplePlane, place: &Place, size: TxSize, depth: Depth)
+pub fn read_edges<P: Sample>(
+    edges: &mut Edges,
+    plane: &SamplePlane<P>,
+    place: &Place,
+    size: TxSize,
+    depth: Depth,
+)
     requires inside { LiesIn plane.now.area place.now }
     ensures value { samples_of (side size) edges.new
         ≡ edges_in (right_end plane.now.area) (lower_end plane.now.area) depth (side size) place.now (plane_map plane.now) }
     ensures small { IsAtMost (greatest depth) (plane_map plane.now) → IsUpTo (greatest depth) (samples_of (side size) edges.new) }
 {
     match size {
-        TxSize::T4x4 => read_sized::<4>(edges, plane, place, depth),
-        TxSize::T8x8 => read_sized::<8>(edges, plane, place, depth),
-        TxSize::T16x16 => read_sized::<16>(edges, plane, place, depth),
-        TxSize::T32x32 => read_sized::<32>(edges, plane, place, depth),
+        TxSize::T4x4 => read_sized::<P, 4>(edges, plane, place, depth),
+        TxSize::T8x8 => read_sized::<P, 8>(edges, plane, place, depth),
+        TxSize::T16x16 => read_sized::<P, 16>(edges, plane, place, depth),
+        TxSize::T32x32 => read_sized::<P, 32>(edges, plane, place, depth),
     }
 }
 
 #[inline(always)]
-pub(crate) fn read_sized<const N: usize>(
+pub(crate) fn read_sized<P: Sample, const N: usize>(
     edges: &mut Edges,
-    plane: &SamplePlane,
+    plane: &SamplePlane<P>,
     place: &Place,
     depth: Depth,
 )
@@ -42,7 +49,7 @@ pub(crate) fn read_sized<const N: usize>(
     ensures { samples_of N edges.new
         ≡ edges_in (right_end plane.now.area) (lower_end plane.now.area) depth N place.now (plane_map plane.now) }
 {
-    read_above::<N>(&mut edges.above, plane, place, depth);
+    read_above::<P, N>(&mut edges.above, plane, place, depth);
     read_left(&mut edges.left, plane, place, N, depth);
     edges.corner = read_corner(plane, place, depth);
     edges.has_above = place.row > 0;
@@ -50,7 +57,12 @@ pub(crate) fn read_sized<const N: usize>(
 }
 
 #[inline(always)]
-fn read_above<const N: usize>(above: &mut [u16], plane: &SamplePlane, place: &Place, depth: Depth)
+fn read_above<P: Sample, const N: usize>(
+    above: &mut [u16],
+    plane: &SamplePlane<P>,
+    place: &Place,
+    depth: Depth,
+)
     requires some { 4 ≤ N }
     requires few { N ≤ 32 }
     requires room { 2 * N ≤ length above.old }
@@ -66,9 +78,9 @@ fn read_above<const N: usize>(above: &mut [u16], plane: &SamplePlane, place: &Pl
     let count = wanted(place, N).min(across);
     // The numbers of samples that are frequent are then known where this is compiled.
     if count == N {
-        extend_lanes::<N>(above, 2 * N, plane.row_above(place.row, place.column, N));
+        extend_samples::<P, N>(above, 2 * N, plane.row_above(place.row, place.column, N));
     } else if across >= 2 * N {
-        copy_twice::<N>(above, plane.row_above(place.row, place.column, 2 * N));
+        widen_twice::<P, N>(above, plane.row_above(place.row, place.column, 2 * N));
     } else {
         extend(
             above,
@@ -93,7 +105,13 @@ fn wanted(place: &Place, size: usize) -> usize
 }
 
 #[inline(always)]
-fn read_left(left: &mut [u16], plane: &SamplePlane, place: &Place, size: usize, depth: Depth)
+fn read_left<P: Sample>(
+    left: &mut [u16],
+    plane: &SamplePlane<P>,
+    place: &Place,
+    size: usize,
+    depth: Depth,
+)
     requires few { size ≤ 32 }
     requires room { size ≤ length left.old }
     requires inside { LiesIn plane.now.area place.now }
@@ -116,7 +134,7 @@ fn read_left(left: &mut [u16], plane: &SamplePlane, place: &Place, size: usize, 
 }
 
 #[inline(always)]
-fn read_corner(plane: &SamplePlane, place: &Place, depth: Depth) -> u16
+fn read_corner<P: Sample>(plane: &SamplePlane<P>, place: &Place, depth: Depth) -> u16
     requires { LiesIn plane.now.area place.now }
     ensures { result ≡ corner_sample depth place.now (plane_map plane.now) }
 {
@@ -126,5 +144,5 @@ fn read_corner(plane: &SamplePlane, place: &Place, depth: Depth) -> u16
     if place.column <= place.tile_from {
         return middle_of(depth) + 1;
     }
-    plane.row_above(place.row, place.column - 1, 1)[0]
+    plane.row_above(place.row, place.column - 1, 1)[0].widen()
 }

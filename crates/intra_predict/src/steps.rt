@@ -16,17 +16,19 @@ use crate::prediction::predict_sized;
 use crate::put::add_clipped;
 use crate::reading::read_sized;
 use crate::scratch::Scratch;
+use crate::square::{put_inside, put_square};
 use planes::SamplePlane;
-use vp9_types::{Depth, IntraMode, TxSize};
+use vp9_types::{Depth, IntraMode, Sample, TxSize};
 
 /// Puts the prediction of a block without residue into its plane.
-pub fn put_predicted(
-    plane: &mut SamplePlane,
+pub fn put_predicted<P: Sample>(
+    plane: &mut SamplePlane<P>,
     block: &IntraBlock,
     depth: Depth,
     scratch: &mut Scratch,
 )
     requires inside { LiesIn plane.old.area block.now.place }
+    requires fits { greatest depth ≤ P.greatest }
     requires small { IsAtMost (greatest depth) (plane_map plane.old) }
     ensures area { plane.new.area ≡ plane.old.area }
     ensures map { plane_map plane.new
@@ -37,14 +39,15 @@ pub fn put_predicted(
 }
 
 /// Puts a block with its residue, row after row, into its plane.
-pub fn put_rebuilt(
-    plane: &mut SamplePlane,
+pub fn put_rebuilt<P: Sample>(
+    plane: &mut SamplePlane<P>,
     block: &IntraBlock,
     depth: Depth,
     residue: &[i32],
     scratch: &mut Scratch,
 )
     requires inside { LiesIn plane.old.area block.now.place }
+    requires fits { greatest depth ≤ P.greatest }
     requires small { IsAtMost (greatest depth) (plane_map plane.old) }
     requires residue { IsResidue (side block.now.size * side block.now.size) residue.now }
     ensures area { plane.new.area ≡ plane.old.area }
@@ -57,14 +60,15 @@ pub fn put_rebuilt(
 
 /// Puts a block, with its residue if it has some, into its plane.
 #[inline(always)]
-pub fn put_transform_block(
-    plane: &mut SamplePlane,
+pub fn put_transform_block<P: Sample>(
+    plane: &mut SamplePlane<P>,
     block: &IntraBlock,
     depth: Depth,
     residue: Option<&[i32]>,
     scratch: &mut Scratch,
 )
     requires inside { LiesIn plane.old.area block.now.place }
+    requires fits { greatest depth ≤ P.greatest }
     requires small { IsAtMost (greatest depth) (plane_map plane.old) }
     requires residue { ForSome (option_copied residue) (IsResidue (side block.now.size * side block.now.size)) }
     ensures area { plane.new.area ≡ plane.old.area }
@@ -75,15 +79,15 @@ pub fn put_transform_block(
 {
     match block.size {
         TxSize::T4x4 => put_four(plane, block, depth, residue, scratch),
-        TxSize::T8x8 => put_sized::<8>(plane, block, depth, residue, scratch),
-        TxSize::T16x16 => put_sized::<16>(plane, block, depth, residue, scratch),
-        TxSize::T32x32 => put_sized::<32>(plane, block, depth, residue, scratch),
+        TxSize::T8x8 => put_sized::<P, 8>(plane, block, depth, residue, scratch),
+        TxSize::T16x16 => put_sized::<P, 16>(plane, block, depth, residue, scratch),
+        TxSize::T32x32 => put_sized::<P, 32>(plane, block, depth, residue, scratch),
     }
 }
 
 /// A 4x4 block. Far enough from the plane's ends its samples go by way of nothing that is kept, which costs less.
-fn put_four(
-    plane: &mut SamplePlane,
+fn put_four<P: Sample>(
+    plane: &mut SamplePlane<P>,
     block: &IntraBlock,
     depth: Depth,
     residue: Option<&[i32]>,
@@ -91,6 +95,7 @@ fn put_four(
 )
     requires size { side block.now.size ≡ 4 }
     requires inside { LiesIn plane.old.area block.now.place }
+    requires fits { greatest depth ≤ P.greatest }
     requires small { IsAtMost (greatest depth) (plane_map plane.old) }
     requires residue { ForSome (option_copied residue) (IsResidue 16) }
     ensures area { plane.new.area ≡ plane.old.area }
@@ -106,18 +111,18 @@ fn put_four(
     if rows >= 4 && columns >= 8 {
         let mut edges = Edges::new();
         let mut buffer = [0; 16];
-        read_sized::<4>(&mut edges, plane, &place, depth);
+        read_sized::<P, 4>(&mut edges, plane, &place, depth);
         rebuild::<4>(block.mode, &edges, depth, residue, &mut buffer);
-        plane.put_inside::<4>(place.row, place.column, 4, &buffer);
+        put_inside::<P, 4>(plane, place.row, place.column, 4, &buffer);
     } else {
-        put_sized::<4>(plane, block, depth, residue, scratch);
+        put_sized::<P, 4>(plane, block, depth, residue, scratch);
     }
 }
 
 /// There is one for each size, with loops of as many steps as are known where it is compiled.
 #[inline(never)]
-fn put_sized<const N: usize>(
-    plane: &mut SamplePlane,
+fn put_sized<P: Sample, const N: usize>(
+    plane: &mut SamplePlane<P>,
     block: &IntraBlock,
     depth: Depth,
     residue: Option<&[i32]>,
@@ -126,6 +131,7 @@ fn put_sized<const N: usize>(
     requires size { side block.now.size ≡ N }
     requires sixteens { N * N ≡ N * N / 16 * 16 }
     requires inside { LiesIn plane.old.area block.now.place }
+    requires fits { greatest depth ≤ P.greatest }
     requires small { IsAtMost (greatest depth) (plane_map plane.old) }
     requires residue { ForSome (option_copied residue) (IsResidue (N * N)) }
     ensures area { plane.new.area ≡ plane.old.area }
@@ -136,9 +142,9 @@ fn put_sized<const N: usize>(
 {
     let place = &block.place;
     let buffer = &mut scratch.block;
-    read_sized::<N>(&mut scratch.edges, plane, place, depth);
+    read_sized::<P, N>(&mut scratch.edges, plane, place, depth);
     rebuild::<N>(block.mode, &scratch.edges, depth, residue, buffer);
-    plane.put_square::<N>(place.row, place.column, buffer);
+    put_square::<P, N>(plane, place.row, place.column, buffer);
 }
 
 /// Predicts a block, and adds its residue if it has some. What is behind it in the buffer stays.

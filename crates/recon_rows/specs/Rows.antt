@@ -21,6 +21,6 @@ planned_between shape tile_from row blocks pieces =
     planned_blocks shape tile_from (blocks_between shape row blocks) (drop (place_of_row shape row blocks).piece pieces)
 
 -- What a block needs besides its plan: the pictures that it refers to serve it, and the planes hold it and what is around it.
-pub record IsProvided {S : Type 0} (holds : S → Plane → ℕ → Type 0) (width : S → Plane → ℕ) (map : S → FrameMap) (by : code.Rebuilding S) (tile_from : ℕ) (f : FramePlanes) (b : BlockInfo) : Type 0 where
+pub record IsProvided {S X : Type 0} (holds : S → Plane → ℕ → Type 0) (width : S → Plane → ℕ) (map : S → FrameMap) (by : code.Rebuilding S) (tile_from : ℕ) (f : FramePlanes X) (b : BlockInfo) : Type 0 where
   pub served : AreServed holds width map by b b.prediction
   pub part : HoldsBlockIn by.shape tile_from b f

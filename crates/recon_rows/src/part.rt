@@ -3,6 +3,7 @@
 ghost use Rattle.std.specs.Prelude.{◌≡◌, ◌+◌, ◌≤◌, ◌<◌, length, drop};
 ghost use Rattle.std.specs.Option.{option_copied};
 ghost use Rattle.vp9_types.specs.declared.shape.Plane.TheVariants.{Y, U, V};
+ghost use Rattle.vp9_types.specs.Sizes.{greatest};
 ghost use Rattle.vp9_tables.specs.Blocks.{greatest_of};
 ghost use Rattle.vp9_tables.specs.Numbers.{tx_number};
 ghost use Rattle.frame_headers.specs.Sizes.{HasFrameSize};
@@ -19,6 +20,7 @@ use block_geometry::FramePlaces;
 use block_plan::BlockInfo;
 use block_rebuild::{RebuildRoom, Rebuilding, TransformResidues, put_block_in_part};
 use column_plan::{PlanResidues, transform_count};
+use inter_lanes::FilterSample;
 use planes::FramePlanes;
 use vp9_types::{Plane, Samples, Shape};
 
@@ -108,15 +110,16 @@ impl<'a> TransformResidues for PlanPart<'a> {
 }
 
 /// Puts a block with its residues out of its column's plan.
-pub(crate) fn put_planned_block<S: Samples>(
-    planes: &mut FramePlanes,
+pub(crate) fn put_planned_block<P: FilterSample, S: Samples<Kept = P>>(
+    planes: &mut FramePlanes<P>,
     by: &Rebuilding<'_, S>,
     tile_from: u32,
     block: &BlockInfo,
     part: &PlanPart<'_>,
-    room: &mut RebuildRoom,
+    room: &mut RebuildRoom<P>,
 )
     requires size { HasFrameSize by.now.shape }
+    requires takes { P.takes (greatest by.now.shape.depth) }
     requires placed { IsPlaced by.now.shape tile_from block.now }
     requires references { AreServed S.holds S.width S.map by.now block.now block.now.prediction }
     requires part { HoldsBlockIn by.now.shape tile_from block.now planes.old }

@@ -3,7 +3,7 @@
 ghost use Rattle.std.specs.Prelude.{◌≡◌, ◌<◌};
 ghost use Rattle.std.specs.List.{All};
 ghost use Rattle.vp9_types.specs.Shapes.{mi_rows};
-ghost use Rattle.vp9_types.specs.Sizes.{superblocks_along};
+ghost use Rattle.vp9_types.specs.Sizes.{greatest, superblocks_along};
 ghost use Rattle.frame_headers.specs.Sizes.{HasFrameSize};
 ghost use Rattle.frame_headers.specs.State.{shape_of};
 ghost use Rattle.frame_headers.specs.declared.header.Header.{Header};
@@ -18,34 +18,34 @@ ghost use Rattle.recon_rows.specs.Rows.{IsProvided, blocks_between, planned_betw
 use crate::part::{PlanPart, put_planned_block};
 use block_geometry::FramePlaces;
 use block_rebuild::{RebuildRoom, Rebuilding};
+use inter_lanes::FilterSample;
 use planes::FramePlanes;
 use tile_syntax::ColumnPlan;
-use vp9_types::{Samples, Shape};
+use vp9_types::Samples;
 
 /// Puts the blocks of the `row`-th row of superblocks of a tile column, one after another, from the column's plan into its
-/// samples, or into a part of them that holds the row and the samples above it. The column begins at `tile_from`, in places of
-/// 8x8 luma samples. Nothing is allocated, and no residue is copied.
-pub fn put_row<S: Samples>(
-    planes: &mut FramePlanes,
+/// samples, or into a part of them that holds the row and the samples above it. Nothing is allocated, and no residue is copied.
+pub fn put_row<P: FilterSample, S: Samples<Kept = P>>(
+    planes: &mut FramePlanes<P>,
     by: &Rebuilding<'_, S>,
-    tile_from: u32,
     plan: &ColumnPlan,
     row: u32,
-    room: &mut RebuildRoom,
+    room: &mut RebuildRoom<P>,
 )
     requires size { HasFrameSize by.now.shape }
-    requires from { tile_from ≡ plan.now.column.grid.from }
+    requires fits { P.takes (greatest by.now.shape.depth) }
     requires row { row < superblocks_along (mi_rows by.now.shape) }
     requires kept { (header : Header) × (shape_of header ≡ by.now.shape) × IsKept header plan.now }
-    requires placed { All (IsPlaced by.now.shape tile_from) plan.now.column.grid.blocks }
-    requires provided { All (IsProvided S.holds S.width S.map by.now tile_from planes.old) (blocks_between by.now.shape row plan.now.column.grid.blocks) }
+    requires placed { All (IsPlaced by.now.shape plan.now.column.grid.from) plan.now.column.grid.blocks }
+    requires provided { All (IsProvided S.holds S.width S.map by.now plan.now.column.grid.from planes.old) (blocks_between by.now.shape row plan.now.column.grid.blocks) }
     requires range { IsInRange by.now.shape.depth planes.old }
-    ensures map { samples_of planes.new ≡ with_blocks (rebuilding_of S.map by.now) (samples_of planes.old) (planned_between by.now.shape tile_from row plan.now.column.grid.blocks plan.now.residues) }
+    ensures map { samples_of planes.new ≡ with_blocks (rebuilding_of S.map by.now) (samples_of planes.old) (planned_between by.now.shape plan.now.column.grid.from row plan.now.column.grid.blocks plan.now.residues) }
     ensures in_order { AreInOrder plan.now.column.grid.blocks →
-        samples_of planes.new ≡ with_blocks (rebuilding_of S.map by.now) (samples_of planes.old) (planned_in_row row (planned_blocks by.now.shape tile_from plan.now.column.grid.blocks plan.now.residues)) }
+        samples_of planes.new ≡ with_blocks (rebuilding_of S.map by.now) (samples_of planes.old) (planned_in_row row (planned_blocks by.now.shape plan.now.column.grid.from plan.now.column.grid.blocks plan.now.residues)) }
     ensures areas { HasAreasOf planes.old planes.new }
     ensures range { IsInRange by.now.shape.depth planes.new }
 {
+    let tile_from = plan.column.grid.first_col();
     let blocks = plan.column.grid.blocks();
     let first = plan.row_place(row);
     let next = plan.row_place(row + 1);

@@ -42,7 +42,7 @@ fn plane_of(alloc: Global, frame: u64, plane: Plane, index: u32) -> Result<Vec<u
     Ok(samples)
 }
 
-fn band_of(alloc: Global, frame: u64, index: u32) -> Result<Box<Band<Numbers>>, AllocError>
+fn band_of(alloc: Global, frame: u64, index: u32) -> Result<Box<Band<Numbers, u16>>, AllocError>
     requires { frame < 65536 }
     ensures { IfOk result (λ band. band.value ≡ Some (name_of frame index)) }
 {
@@ -60,10 +60,10 @@ fn band_of(alloc: Global, frame: u64, index: u32) -> Result<Box<Band<Numbers>>, 
 // All bands of a frame, to be published.
 #[derive(Drop)]
 struct Bands {
-    first: Box<Band<Numbers>>,
-    second: Box<Band<Numbers>>,
-    third: Box<Band<Numbers>>,
-    last: Box<Band<Numbers>>,
+    first: Box<Band<Numbers, u16>>,
+    second: Box<Band<Numbers, u16>>,
+    third: Box<Band<Numbers, u16>>,
+    last: Box<Band<Numbers, u16>>,
 }
 
 fn bands_of(alloc: Global, frame: u64) -> Result<Bands, AllocError>
@@ -81,7 +81,7 @@ fn bands_of(alloc: Global, frame: u64) -> Result<Bands, AllocError>
     })
 }
 
-fn publish(store: &Store<Numbers>, index: u32, band: Box<Band<Numbers>>)
+fn publish(store: &Store<Numbers, u16>, index: u32, band: Box<Band<Numbers, u16>>)
     requires index { index < bands_of store.now.shape }
     requires named { band.value ≡ Some (name_of store.now.frame index) }
 {
@@ -90,7 +90,7 @@ fn publish(store: &Store<Numbers>, index: u32, band: Box<Band<Numbers>>)
     cell.publish(band, &mut note);
 }
 
-fn publish_all(store: &Store<Numbers>, bands: Bands)
+fn publish_all(store: &Store<Numbers, u16>, bands: Bands)
     requires shape { bands_of store.now.shape ≡ 4 }
     requires first { bands.first.value ≡ Some (name_of store.now.frame 0) }
     requires second { bands.second.value ≡ Some (name_of store.now.frame 1) }
@@ -112,7 +112,7 @@ fn publish_all(store: &Store<Numbers>, bands: Bands)
 }
 
 // Whether each row of a plane has so many samples, all of this value.
-fn is_filled<S: Samples>(samples: &S, plane: Plane, rows: u32, width: usize, value: u16) -> bool
+fn is_filled<S: Samples<Kept = u16>>(samples: &S, plane: Plane, rows: u32, width: usize, value: u16) -> bool
     requires { (y : ℕ) → y < rows → S.holds samples.now plane y }
 {
     for y in 0..rows {
@@ -125,7 +125,7 @@ fn is_filled<S: Samples>(samples: &S, plane: Plane, rows: u32, width: usize, val
 }
 
 // Reads all rows, and waits for those that aren't there yet.
-fn read_all<R: Wait>(rt: &R, store: &Store<Numbers>, frame: u16) -> bool
+fn read_all<R: Wait>(rt: &R, store: &Store<Numbers, u16>, frame: u16) -> bool
     requires { store.now.frame ≡ frame }
 {
     let span = BandSpan {
@@ -145,7 +145,7 @@ fn hand_over<R: Threads + Wait + Sync>(
     alloc: Global,
     frame: u16,
 ) -> Result<bool, AllocError> {
-    let store = Store::<Numbers>::new(alloc, u64::from(frame), &SHAPE)?;
+    let store = Store::<Numbers, u16>::new(alloc, u64::from(frame), &SHAPE)?;
     let bands = bands_of(alloc, u64::from(frame))?;
     let (_, read) = join(
         rt,

@@ -43,7 +43,7 @@ fn plane_of(alloc: Global, frame: u64, plane: Plane, index: u32) -> Result<Vec<u
     Ok(samples)
 }
 
-fn band_of(alloc: Global, frame: u64, index: u32) -> Result<Box<Band<Numbers>>, AllocError>
+fn band_of(alloc: Global, frame: u64, index: u32) -> Result<Box<Band<Numbers, u16>>, AllocError>
     requires { frame < 65536 }
     ensures { IfOk result (λ band. band.value ≡ Some (name_of frame index)) }
 {
@@ -58,7 +58,7 @@ fn band_of(alloc: Global, frame: u64, index: u32) -> Result<Box<Band<Numbers>>, 
     Ok(Box::new(alloc, band)?)
 }
 
-fn publish(alloc: Global, store: &Store<Numbers>, frame: u64, index: u32) -> Result<(), AllocError>
+fn publish(alloc: Global, store: &Store<Numbers, u16>, frame: u64, index: u32) -> Result<(), AllocError>
     requires number { frame < 65536 }
     requires frame { store.now.frame ≡ frame }
     requires index { index < bands_of store.now.shape }
@@ -71,7 +71,7 @@ fn publish(alloc: Global, store: &Store<Numbers>, frame: u64, index: u32) -> Res
 }
 
 // The last band first.
-fn publish_all(alloc: Global, store: &Store<Numbers>, frame: u64) -> Result<(), AllocError>
+fn publish_all(alloc: Global, store: &Store<Numbers, u16>, frame: u64) -> Result<(), AllocError>
     requires number { frame < 65536 }
     requires frame { store.now.frame ≡ frame }
     requires shape { bands_of store.now.shape ≡ 204 }
@@ -83,7 +83,7 @@ fn publish_all(alloc: Global, store: &Store<Numbers>, frame: u64) -> Result<(), 
 }
 
 // Whether each row of a plane has so many samples, all of this value.
-fn is_filled<S: Samples>(samples: &S, plane: Plane, rows: u32, width: usize, value: u16) -> bool
+fn is_filled<S: Samples<Kept = u16>>(samples: &S, plane: Plane, rows: u32, width: usize, value: u16) -> bool
     requires { (y : ℕ) → y < rows → S.holds samples.now plane y }
 {
     for y in 0..rows {
@@ -95,7 +95,7 @@ fn is_filled<S: Samples>(samples: &S, plane: Plane, rows: u32, width: usize, val
     true
 }
 
-fn read_all<R: Wait>(rt: &R, store: &Store<Numbers>, frame: u16) -> bool
+fn read_all<R: Wait>(rt: &R, store: &Store<Numbers, u16>, frame: u16) -> bool
     requires { store.now.frame ≡ frame }
 {
     let span = BandSpan {
@@ -110,7 +110,7 @@ fn read_all<R: Wait>(rt: &R, store: &Store<Numbers>, frame: u16) -> bool
 }
 
 fn is_read<R: Wait>(rt: &R, alloc: Global, frame: u16) -> Result<bool, AllocError> {
-    let store = Store::<Numbers>::new(alloc, u64::from(frame), &SHAPE)?;
+    let store = Store::<Numbers, u16>::new(alloc, u64::from(frame), &SHAPE)?;
     publish_all(alloc, &store, u64::from(frame))?;
     Ok(read_all(rt, &store, frame))
 }

@@ -1,7 +1,7 @@
 ghost use Rattle.std.specs.Prelude.{◌≡◌, ℕ, ◌+◌, ◌*◌, ◌<◌, ◌≤◌, ◌-◌, length, slice_index_or, get_or, [], unsigned_abs, IsTrue, map, reverse, pos};
 ghost use Rattle.std.specs.List.{All, list_all, AllByRecursion, range_with_len};
 ghost use Rattle.vp9_types.specs.declared.block.InterpFilter.{InterpFilter};
-ghost use Rattle.vp9_tables.specs.Filters.{is_small, taps_of, total, whole_sample};
+ghost use Rattle.vp9_tables.specs.Filters.{AreTaps, has_small_sums, is_small, taps_of, total, whole_sample};
 
 use crate::data::filters::TAPS;
 use vp9_types::InterpFilter;
@@ -11,6 +11,7 @@ pub fn taps(kind: InterpFilter, phase: u8) -> &'static [i16; 8]
     requires { phase < 16 }
     ensures row { result.now ≡ taps_of kind phase }
     ensures size { All (λ t. unsigned_abs t ≤ 128) result.now }
+    ensures sums { AreTaps result.now }
 {
     row_of(&TAPS, 16 * kind as usize + phase as usize)
 }
@@ -18,8 +19,10 @@ pub fn taps(kind: InterpFilter, phase: u8) -> &'static [i16; 8]
 fn row_of(table: &'static [[i16; 8]], place: usize) -> &'static [i16; 8]
     requires index { place < length table.now }
     requires law { IsTrue (list_all (list_all is_small) table.now) }
+    requires sums { IsTrue (list_all has_small_sums table.now) }
     ensures row { result.now ≡ get_or table.now place [] }
     ensures size { All (λ t. unsigned_abs t ≤ 128) result.now }
+    ensures sums { AreTaps result.now }
 {
     &table[place]
 }

@@ -13,7 +13,7 @@ add_residues-requires-clause-inside g c =
     let b = c.args.b.now in
     let shape = b.by.now.shape in
     let same : grid_blocks c.transform_grid-grid.result ≡ places_in shape b.block.now c.args.plane =
-    sym c.transform_grid-grid.ensures.blocks ∙ (λ i. transform_blocks (c.places_of.ensures.is i) (c.plane_block-block.ensures i)) in
+    sym c.transform_grid-grid.ensures.blocks ∙ (λ i. transform_blocks (c.of.ensures i) (c.plane_block-block.ensures i)) in
     rw (same, c.plane_block-block.ensures)
     (all_start shape b.block.now.col b.block.now c.args.plane c.put_prediction.new.samples.area (omega arith) c.requires.fits
     (subst (λ (z : Area). HoldsBlock shape c.args.plane b.block.now.col b.block.now z) (sym c.put_prediction.ensures.area) c.requires.is.area))
@@ -22,21 +22,21 @@ pub add_residues-requires-clause-held : goal.add_residues-requires-clause-held
 add_residues-requires-clause-held g c =
     let b = c.args.b.now in
     let same : grid_blocks c.transform_grid-grid.result ≡ places_in b.by.now.shape b.block.now c.args.plane =
-    sym c.transform_grid-grid.ensures.blocks ∙ (λ i. transform_blocks (c.places_of.ensures.is i) (c.plane_block-block.ensures i)) in
+    sym c.transform_grid-grid.ensures.blocks ∙ (λ i. transform_blocks (c.of.ensures i) (c.plane_block-block.ensures i)) in
     rw (same, c.plane_block-block.ensures) c.requires.held
 
 pub add_residues-requires-clause-small : goal.add_residues-requires-clause-small
 add_residues-requires-clause-small g c =
     let b = c.args.b.now in
     let same : grid_blocks c.transform_grid-grid.result ≡ places_in b.by.now.shape b.block.now c.args.plane =
-    sym c.transform_grid-grid.ensures.blocks ∙ (λ i. transform_blocks (c.places_of.ensures.is i) (c.plane_block-block.ensures i)) in
+    sym c.transform_grid-grid.ensures.blocks ∙ (λ i. transform_blocks (c.of.ensures i) (c.plane_block-block.ensures i)) in
     rw (same, c.plane_block-block.ensures) c.requires.small
 
 pub returns-clause-map : goal.returns-clause-map
 returns-clause-map g c =
     let b = c.args.b.now in
     let same : grid_blocks c.transform_grid-grid.result ≡ places_in b.by.now.shape b.block.now c.args.plane =
-    sym c.transform_grid-grid.ensures.blocks ∙ (λ i. transform_blocks (c.places_of.ensures.is i) (c.plane_block-block.ensures i)) in
+    sym c.transform_grid-grid.ensures.blocks ∙ (λ i. transform_blocks (c.of.ensures i) (c.plane_block-block.ensures i)) in
     inter_is (rebuilding_of g.S.Samples.map b.by.now) b.block.now.col b.block.now b.modes.now c.args.plane c.put_prediction.new.samples.area c.plane_block-block.result (grid_blocks c.transform_grid-grid.result)
     (g.R.TransformResidues.residue c.args.residues.now c.args.plane) (plane_map c.args.samples.now) (plane_map c.put_prediction.new.samples) (plane_map c.add_residues.new.samples)
     c.requires.fits (subst (λ (z : Area). HoldsBlock b.by.now.shape c.args.plane b.block.now.col b.block.now z) (sym c.put_prediction.ensures.area) c.requires.is.area)

@@ -6,13 +6,13 @@ use Rattle.block_rebuild.proofs.Sums.{added, long_part, part_residue, row_added,
 use Rattle.block_rebuild.proofs.residue.add_square.Goals as goal
 
 pub loop-i-init : goal.loop-i-init
-loop-i-init c = let a = c.args in let m = plane_map a.samples.now in record {
+loop-i-init g c = let a = c.args in let m = plane_map a.samples.now in record {
   same = refl;
   so_far = sym (no_rows m a.row a.column c.min-columns.result (added c.greatest-most.result c.side_of-side.result (samples_from m a.row a.column) a.values.now));
 }
 
 pub add_row-requires-clause-inside : goal.add_row-requires-clause-inside
-add_row-requires-clause-inside c = let a = c.args in let side = c.side_of-side.result in
+add_row-requires-clause-inside g c = let a = c.args in let side = c.side_of-side.result in
     let rows : c.min-rows.result ≡ min side (lower_end a.samples.now.area - a.row) = rw (c.lower_end.ensures, c.area-area.ensures.value) at c.min-rows.ensures in
     let columns : c.min-columns.result ≡ min side (right_end a.samples.now.area - a.column) = rw (c.right_end.ensures, c.area-area.ensures.value) at c.min-columns.ensures in
     let fits = row_fits a.values.now a.tx side c.min-rows.result c.min-columns.result c.loop-i.i c.side_of-side.ensures c.requires.long c.loop-i-test.true (omega (arith, rows)) (omega (arith, columns)) in
@@ -20,14 +20,14 @@ add_row-requires-clause-inside c = let a = c.args in let side = c.side_of-side.r
     c.requires.inside c.loop-i.invariant.same c.loop-i-test.true rows columns (long_part a.values.now (c.loop-i.i * side) c.min-columns.result fits)
 
 pub add_row-requires-clause-residue : goal.add_row-requires-clause-residue
-add_row-requires-clause-residue c = let a = c.args in let side = c.side_of-side.result in
+add_row-requires-clause-residue g c = let a = c.args in let side = c.side_of-side.result in
     let rows = rw (c.lower_end.ensures, c.area-area.ensures.value) at c.min-rows.ensures in
     let columns = rw (c.right_end.ensures, c.area-area.ensures.value) at c.min-columns.ensures in
     let fits = row_fits a.values.now a.tx side c.min-rows.result c.min-columns.result c.loop-i.i c.side_of-side.ensures c.requires.long c.loop-i-test.true (omega (arith, rows)) (omega (arith, columns)) in
     part_residue a.values.now (c.loop-i.i * side) c.min-columns.result fits c.requires.small
 
 pub loop-i-preserved : goal.loop-i-preserved
-loop-i-preserved c = let a = c.args in let side = c.side_of-side.result in
+loop-i-preserved g c = let a = c.args in let side = c.side_of-side.result in
     let rows = rw (c.lower_end.ensures, c.area-area.ensures.value) at c.min-rows.ensures in
     let columns = rw (c.right_end.ensures, c.area-area.ensures.value) at c.min-columns.ensures in
     let fits = row_fits a.values.now a.tx side c.min-rows.result c.min-columns.result c.loop-i.i c.side_of-side.ensures c.requires.long c.loop-i-test.true (omega (arith, rows)) (omega (arith, columns)) in record {
@@ -37,7 +37,7 @@ loop-i-preserved c = let a = c.args in let side = c.side_of-side.result in
     }
 
 pub returns-clause-map : goal.returns-clause-map
-returns-clause-map c = let a = c.args in let area = a.samples.now.area in
+returns-clause-map g c = let a = c.args in let area = a.samples.now.area in
     let rows = rw (c.lower_end.ensures, c.area-area.ensures.value, c.side_of-side.ensures) at c.min-rows.ensures in
     let columns = rw (c.right_end.ensures, c.area-area.ensures.value, c.side_of-side.ensures) at c.min-columns.ensures in
     let done : c.loop-i.i ≡ c.min-rows.result = omega (arith, c.loop-i-test.false, c.loop-i.auto.i-end) in

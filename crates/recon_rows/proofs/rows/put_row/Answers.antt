@@ -9,7 +9,7 @@ use Rattle.block_rebuild.specs.Strips.{with_blocks}
 use Rattle.block_rebuild.proofs.StripLemmas.{areas_hold}
 use Rattle.column_plan.specs.Code.{HoldsWhole}
 use Rattle.column_plan.specs.Rows.{place_of_row}
-use Rattle.recon_rows.specs.Rows.{IsProvided}
+use Rattle.recon_rows.specs.Rows.{IsProvided, planned_between}
 use Rattle.recon_rows.proofs.RowSteps.{IsRowsPlan, all_put, end_at, first_piece, in_column, none_put, places_rise, plan_kept, planned_at, provided_at, put_at, room_at, room_there, row_planned}
 use Rattle.recon_rows.proofs.rows.put_row.Goals as goal
 
@@ -26,7 +26,7 @@ loop-k-init g c = let a = c.args in
       pieces = first_piece s a.row bs c.row_place-first.result from;
       areas = record { y = refl; u = refl; v = refl };
       range = c.requires.range;
-      so_far = none_put (rebuilding_of g.S.Samples.map a.by.now) s a.tile_from bs _ c.row_place-first.result.block (samples_of a.planes.now);
+      so_far = none_put (rebuilding_of g.S.Samples.map a.by.now) s c.first_col-tile_from.result bs _ c.row_place-first.result.block (samples_of a.planes.now);
     }
 
 pub offset_bounds-blocks-k : goal.offset_bounds-blocks-k
@@ -54,8 +54,8 @@ of-part-requires-clause-room g c = let a = c.args in
     let kept = c.requires.kept in
     let to : c.row_place-next.result ≡ place_of_row s (a.row + 1) bs = c.row_place-next.ensures kept.0 kept.2 ∙ (λ i. place_of_row (kept.1 i) (a.row + 1) (sym c.blocks-blocks.ensures i)) in
     let low : c.loop-k.k < length bs = in_column s (a.row + 1) c.loop-k.k bs c.row_place-next.result to c.loop-k-test.true in
-    let plan : IsRowsPlan s a.tile_from bs a.plan.now.residues = plan_kept kept.0 s a.plan.now a.tile_from bs kept.1 c.requires.from c.blocks-blocks.ensures kept.2 in
-    room_at s a.tile_from bs a.plan.now.residues c.loop-k.k c.loop-k.piece _ plan low c.loop-k.invariant.pieces
+    let plan : IsRowsPlan s c.first_col-tile_from.result bs a.plan.now.residues = plan_kept kept.0 s a.plan.now c.first_col-tile_from.result bs kept.1 c.first_col-tile_from.ensures c.blocks-blocks.ensures kept.2 in
+    room_at s c.first_col-tile_from.result bs a.plan.now.residues c.loop-k.k c.loop-k.piece _ plan low c.loop-k.invariant.pieces
 
 pub put_planned_block-requires-clause-placed : goal.put_planned_block-requires-clause-placed
 put_planned_block-requires-clause-placed g c = let a = c.args in
@@ -64,7 +64,7 @@ put_planned_block-requires-clause-placed g c = let a = c.args in
     let kept = c.requires.kept in
     let to : c.row_place-next.result ≡ place_of_row s (a.row + 1) bs = c.row_place-next.ensures kept.0 kept.2 ∙ (λ i. place_of_row (kept.1 i) (a.row + 1) (sym c.blocks-blocks.ensures i)) in
     let low : c.loop-k.k < length bs = in_column s (a.row + 1) c.loop-k.k bs c.row_place-next.result to c.loop-k-test.true in
-    let placed : All (IsPlaced s a.tile_from) bs = rw c.blocks-blocks.ensures c.requires.placed in
+    let placed : All (IsPlaced s c.first_col-tile_from.result) bs = rw (c.blocks-blocks.ensures, c.first_col-tile_from.ensures) c.requires.placed in
     placed c.loop-k.k _ low
 
 pub put_planned_block-requires-clause-references : goal.put_planned_block-requires-clause-references
@@ -74,7 +74,7 @@ put_planned_block-requires-clause-references g c = let a = c.args in
     let kept = c.requires.kept in
     let from : c.row_place-first.result ≡ place_of_row s a.row bs = c.row_place-first.ensures kept.0 kept.2 ∙ (λ i. place_of_row (kept.1 i) a.row (sym c.blocks-blocks.ensures i)) in
     let to : c.row_place-next.result ≡ place_of_row s (a.row + 1) bs = c.row_place-next.ensures kept.0 kept.2 ∙ (λ i. place_of_row (kept.1 i) (a.row + 1) (sym c.blocks-blocks.ensures i)) in
-    (provided_at (λ (b : BlockInfo). IsProvided g.S.Samples.holds g.S.Samples.width g.S.Samples.map a.by.now a.tile_from a.planes.now b) s a.row c.loop-k.k bs a.plan.now.column.grid.blocks c.row_place-first.result c.row_place-next.result _
+    (provided_at (λ (b : BlockInfo). IsProvided g.S.Samples.holds g.S.Samples.width g.S.Samples.map a.by.now a.plan.now.column.grid.from a.planes.now b) s a.row c.loop-k.k bs a.plan.now.column.grid.blocks c.row_place-first.result c.row_place-next.result _
     c.blocks-blocks.ensures from to c.requires.provided c.loop-k.invariant.least c.loop-k-test.true).served
 
 pub put_planned_block-requires-clause-part : goal.put_planned_block-requires-clause-part
@@ -84,9 +84,9 @@ put_planned_block-requires-clause-part g c = let a = c.args in
     let kept = c.requires.kept in
     let from : c.row_place-first.result ≡ place_of_row s a.row bs = c.row_place-first.ensures kept.0 kept.2 ∙ (λ i. place_of_row (kept.1 i) a.row (sym c.blocks-blocks.ensures i)) in
     let to : c.row_place-next.result ≡ place_of_row s (a.row + 1) bs = c.row_place-next.ensures kept.0 kept.2 ∙ (λ i. place_of_row (kept.1 i) (a.row + 1) (sym c.blocks-blocks.ensures i)) in
-    areas_hold s a.tile_from _ a.planes.now c.loop-k.planes c.loop-k.invariant.areas
-    (provided_at (λ (b : BlockInfo). IsProvided g.S.Samples.holds g.S.Samples.width g.S.Samples.map a.by.now a.tile_from a.planes.now b) s a.row c.loop-k.k bs a.plan.now.column.grid.blocks c.row_place-first.result c.row_place-next.result _
-    c.blocks-blocks.ensures from to c.requires.provided c.loop-k.invariant.least c.loop-k-test.true).part
+    rw c.first_col-tile_from.ensures (areas_hold s a.plan.now.column.grid.from _ a.planes.now c.loop-k.planes c.loop-k.invariant.areas
+    (provided_at (λ (b : BlockInfo). IsProvided g.S.Samples.holds g.S.Samples.width g.S.Samples.map a.by.now a.plan.now.column.grid.from a.planes.now b) s a.row c.loop-k.k bs a.plan.now.column.grid.blocks c.row_place-first.result c.row_place-next.result _
+    c.blocks-blocks.ensures from to c.requires.provided c.loop-k.invariant.least c.loop-k-test.true).part)
 
 pub put_planned_block-requires-clause-fits : goal.put_planned_block-requires-clause-fits
 put_planned_block-requires-clause-fits g c = let a = c.args in
@@ -95,8 +95,8 @@ put_planned_block-requires-clause-fits g c = let a = c.args in
     let kept = c.requires.kept in
     let to : c.row_place-next.result ≡ place_of_row s (a.row + 1) bs = c.row_place-next.ensures kept.0 kept.2 ∙ (λ i. place_of_row (kept.1 i) (a.row + 1) (sym c.blocks-blocks.ensures i)) in
     let low : c.loop-k.k < length bs = in_column s (a.row + 1) c.loop-k.k bs c.row_place-next.result to c.loop-k-test.true in
-    let plan : IsRowsPlan s a.tile_from bs a.plan.now.residues = plan_kept kept.0 s a.plan.now a.tile_from bs kept.1 c.requires.from c.blocks-blocks.ensures kept.2 in
-    room_there s a.tile_from bs a.plan.now.residues c.of-part.result.residues.now c.loop-k.k c.loop-k.piece c.of-part.result.y _ plan low c.loop-k.invariant.pieces c.of-part.ensures.part.y c.of-part.ensures.part.residues
+    let plan : IsRowsPlan s c.first_col-tile_from.result bs a.plan.now.residues = plan_kept kept.0 s a.plan.now c.first_col-tile_from.result bs kept.1 c.first_col-tile_from.ensures c.blocks-blocks.ensures kept.2 in
+    room_there s c.first_col-tile_from.result bs a.plan.now.residues c.of-part.result.residues.now c.loop-k.k c.loop-k.piece c.of-part.result.y _ plan low c.loop-k.invariant.pieces c.of-part.ensures.part.y c.of-part.ensures.part.residues
 
 pub put_planned_block-requires-clause-whole : goal.put_planned_block-requires-clause-whole
 put_planned_block-requires-clause-whole g c = let a = c.args in
@@ -105,8 +105,8 @@ put_planned_block-requires-clause-whole g c = let a = c.args in
     let kept = c.requires.kept in
     let to : c.row_place-next.result ≡ place_of_row s (a.row + 1) bs = c.row_place-next.ensures kept.0 kept.2 ∙ (λ i. place_of_row (kept.1 i) (a.row + 1) (sym c.blocks-blocks.ensures i)) in
     let low : c.loop-k.k < length bs = in_column s (a.row + 1) c.loop-k.k bs c.row_place-next.result to c.loop-k-test.true in
-    let plan : IsRowsPlan s a.tile_from bs a.plan.now.residues = plan_kept kept.0 s a.plan.now a.tile_from bs kept.1 c.requires.from c.blocks-blocks.ensures kept.2 in
-    planned_at (HoldsWhole s) s a.tile_from bs a.plan.now.residues c.of-part.result.residues.now c.loop-k.k c.loop-k.piece c.of-part.result.y _ plan.whole low c.loop-k.invariant.pieces c.of-part.ensures.part.y c.of-part.ensures.part.residues
+    let plan : IsRowsPlan s c.first_col-tile_from.result bs a.plan.now.residues = plan_kept kept.0 s a.plan.now c.first_col-tile_from.result bs kept.1 c.first_col-tile_from.ensures c.blocks-blocks.ensures kept.2 in
+    planned_at (HoldsWhole s) s c.first_col-tile_from.result bs a.plan.now.residues c.of-part.result.residues.now c.loop-k.k c.loop-k.piece c.of-part.result.y _ plan.whole low c.loop-k.invariant.pieces c.of-part.ensures.part.y c.of-part.ensures.part.residues
 
 pub put_planned_block-requires-clause-small : goal.put_planned_block-requires-clause-small
 put_planned_block-requires-clause-small g c = let a = c.args in
@@ -115,8 +115,8 @@ put_planned_block-requires-clause-small g c = let a = c.args in
     let kept = c.requires.kept in
     let to : c.row_place-next.result ≡ place_of_row s (a.row + 1) bs = c.row_place-next.ensures kept.0 kept.2 ∙ (λ i. place_of_row (kept.1 i) (a.row + 1) (sym c.blocks-blocks.ensures i)) in
     let low : c.loop-k.k < length bs = in_column s (a.row + 1) c.loop-k.k bs c.row_place-next.result to c.loop-k-test.true in
-    let plan : IsRowsPlan s a.tile_from bs a.plan.now.residues = plan_kept kept.0 s a.plan.now a.tile_from bs kept.1 c.requires.from c.blocks-blocks.ensures kept.2 in
-    planned_at HoldsSmall s a.tile_from bs a.plan.now.residues c.of-part.result.residues.now c.loop-k.k c.loop-k.piece c.of-part.result.y _ plan.small low c.loop-k.invariant.pieces c.of-part.ensures.part.y c.of-part.ensures.part.residues
+    let plan : IsRowsPlan s c.first_col-tile_from.result bs a.plan.now.residues = plan_kept kept.0 s a.plan.now c.first_col-tile_from.result bs kept.1 c.first_col-tile_from.ensures c.blocks-blocks.ensures kept.2 in
+    planned_at HoldsSmall s c.first_col-tile_from.result bs a.plan.now.residues c.of-part.result.residues.now c.loop-k.k c.loop-k.piece c.of-part.result.y _ plan.small low c.loop-k.invariant.pieces c.of-part.ensures.part.y c.of-part.ensures.part.residues
 
 pub loop-k-preserved : goal.loop-k-preserved
 loop-k-preserved g c = let a = c.args in
@@ -134,7 +134,7 @@ loop-k-preserved g c = let a = c.args in
       pieces = end_at s bs c.loop-k.k c.loop-k.piece c.of-part.result.end _ low before.pieces c.of-part.ensures.end;
       areas = record { y = put.areas.y ∙ before.areas.y; u = put.areas.u ∙ before.areas.u; v = put.areas.v ∙ before.areas.v };
       range = put.range;
-      so_far = put_at (rebuilding_of g.S.Samples.map a.by.now) s a.tile_from bs a.plan.now.residues c.of-part.result.residues.now c.row_place-first.result.block c.row_place-first.result.piece c.loop-k.k c.loop-k.piece c.of-part.result.y _
+      so_far = put_at (rebuilding_of g.S.Samples.map a.by.now) s c.first_col-tile_from.result bs a.plan.now.residues c.of-part.result.residues.now c.row_place-first.result.block c.row_place-first.result.piece c.loop-k.k c.loop-k.piece c.of-part.result.y _
           (samples_of a.planes.now) (samples_of c.loop-k.planes) (samples_of c.put_planned_block.new.planes) before.least low (first_piece s a.row bs c.row_place-first.result from) before.pieces
           c.of-part.ensures.part.y c.of-part.ensures.part.residues before.so_far put.map;
     }
@@ -146,10 +146,11 @@ returns-clause-map g c = let a = c.args in
     let kept = c.requires.kept in
     let from : c.row_place-first.result ≡ place_of_row s a.row bs = c.row_place-first.ensures kept.0 kept.2 ∙ (λ i. place_of_row (kept.1 i) a.row (sym c.blocks-blocks.ensures i)) in
     let to : c.row_place-next.result ≡ place_of_row s (a.row + 1) bs = c.row_place-next.ensures kept.0 kept.2 ∙ (λ i. place_of_row (kept.1 i) (a.row + 1) (sym c.blocks-blocks.ensures i)) in
-    all_put (rebuilding_of g.S.Samples.map a.by.now) s a.tile_from a.row c.loop-k.k bs a.plan.now.column.grid.blocks a.plan.now.residues c.row_place-first.result c.row_place-next.result
+    all_put (rebuilding_of g.S.Samples.map a.by.now) s c.first_col-tile_from.result a.row c.loop-k.k bs a.plan.now.column.grid.blocks a.plan.now.residues c.row_place-first.result c.row_place-next.result
     (samples_of a.planes.now) (samples_of c.loop-k.planes) c.blocks-blocks.ensures from to c.loop-k.invariant.most c.loop-k-test.false c.loop-k.invariant.so_far
+    ∙ ap (λ n. with_blocks (rebuilding_of g.S.Samples.map a.by.now) (samples_of a.planes.now) (planned_between s n a.row a.plan.now.column.grid.blocks a.plan.now.residues)) c.first_col-tile_from.ensures
 
 pub returns-clause-in_order : goal.returns-clause-in_order
 returns-clause-in_order g c = λ order. let a = c.args in
     returns-clause-map g c ∙ ap (λ (bs : List PlannedBlock). with_blocks (rebuilding_of g.S.Samples.map a.by.now) (samples_of a.planes.now) bs)
-    (row_planned a.by.now.shape a.tile_from a.row a.plan.now.column.grid.blocks a.plan.now.residues order)
+    (row_planned a.by.now.shape a.plan.now.column.grid.from a.row a.plan.now.column.grid.blocks a.plan.now.residues order)
