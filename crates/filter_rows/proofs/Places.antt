@@ -30,7 +30,7 @@ fits shape plane sr = record {
 pub room_for : (shape : Shape) (plane : Plane) (sr : ℕ) (a : Area) → a ≡ buffer_area shape plane sr → HasFilterRows shape plane sr a
 room_for shape plane sr a is = subst (HasFilterRows shape plane sr) (sym is) (fits shape plane sr)
 
-pub holds_rows : (shape : Shape) (sr : ℕ) (planes : FramePlanes) → StandsAt shape sr planes → HoldsFilterRows shape sr planes
+pub holds_rows : {X : Type 0} (shape : Shape) (sr : ℕ) (planes : FramePlanes X) → StandsAt shape sr planes → HoldsFilterRows shape sr planes
 holds_rows shape sr planes at = record { y = room_for shape Y sr planes.y.area at.y; u = room_for shape U sr planes.u.area at.u; v = room_for shape V sr planes.v.area at.v }
 
 rises : (sub : Bool) (room sr : ℕ) → min (halved sub (64 * sr) - 8) room ≤ min (halved sub (64 * (sr + 1)) - 8) room

@@ -27,7 +27,7 @@ none_pending : (sub : Bool) (end y : ℕ) → y < min end (halved sub (64 * 0)) 
 none_pending true end y high = omega (arith, high)
 none_pending false end y high = omega (arith, high)
 
-pub first_row : (shape : Shape) (f : EdgeSetting) (blocks : List BlockInfo) (raw : FrameMap) (planes : FramePlanes) → f.shape ≡ shape → StandsAt shape 0 planes
+pub first_row : {X : Type 0} (shape : Shape) (f : EdgeSetting) (blocks : List BlockInfo) (raw : FrameMap) (planes : FramePlanes X) → f.shape ≡ shape → StandsAt shape 0 planes
     → samples_of planes ≡ blank → AwaitsRow f blocks raw 0 planes
 first_row shape f blocks raw planes same at zero = record {
   place = subst (λ (s : Shape). StandsAt s 0 planes) (sym same) at;
@@ -35,7 +35,7 @@ first_row shape f blocks raw planes same at zero = record {
   pending = λ plane y x low high. absurd (none_pending (sub_y f.shape plane) (coded_height f.shape plane) y high);
 }
 
-kept_in : (shape : Shape) (sr : ℕ) (old new : FramePlanes) → KeepsPending shape Y sr (plane_map old.y) (plane_map new.y) → KeepsPending shape U sr (plane_map old.u) (plane_map new.u)
+kept_in : {X : Type 0} (shape : Shape) (sr : ℕ) (old new : FramePlanes X) → KeepsPending shape Y sr (plane_map old.y) (plane_map new.y) → KeepsPending shape U sr (plane_map old.u) (plane_map new.u)
     → KeepsPending shape V sr (plane_map old.v) (plane_map new.v) → (plane : Plane) → KeepsPending shape plane sr (samples_of old plane) (samples_of new plane)
 kept_in shape sr old new y u v Y = y
 kept_in shape sr old new y u v U = u
@@ -44,7 +44,7 @@ kept_in shape sr old new y u v V = v
 abbrev KeepsRange : Map → Map → Type 0
 KeepsRange old new = (most : ℕ) → IsAtMost most old → IsAtMost most new
 
-pub moved : (shape : Shape) (sr : ℕ) (old new : FramePlanes) → StandsAt shape (sr + 1) new
+pub moved : {X : Type 0} (shape : Shape) (sr : ℕ) (old new : FramePlanes X) → StandsAt shape (sr + 1) new
     → KeepsPending shape Y (sr + 1) (plane_map old.y) (plane_map new.y) → KeepsPending shape U (sr + 1) (plane_map old.u) (plane_map new.u)
     → KeepsPending shape V (sr + 1) (plane_map old.v) (plane_map new.v)
     → KeepsRange (plane_map old.y) (plane_map new.y) → KeepsRange (plane_map old.u) (plane_map new.u) → KeepsRange (plane_map old.v) (plane_map new.v)
@@ -57,18 +57,18 @@ moved shape sr old new at ky ku kv ry ru rv f blocks raw same done =
       pending = λ plane y x low high. kept plane y x low high ∙ done.rows.pending plane y x low high;
     }
 
-put_in : (shape : Shape) (sr : ℕ) (raw : FrameMap) (old new : FramePlanes) → HasPut shape Y sr (raw Y) (plane_map old.y) (plane_map new.y)
+put_in : {X : Type 0} (shape : Shape) (sr : ℕ) (raw : FrameMap) (old new : FramePlanes X) → HasPut shape Y sr (raw Y) (plane_map old.y) (plane_map new.y)
     → HasPut shape U sr (raw U) (plane_map old.u) (plane_map new.u) → HasPut shape V sr (raw V) (plane_map old.v) (plane_map new.v)
     → (plane : Plane) → HasPut shape plane sr (raw plane) (samples_of old plane) (samples_of new plane)
 put_in shape sr raw old new y u v Y = y
 put_in shape sr raw old new y u v U = u
 put_in shape sr raw old new y u v V = v
 
-pub put_stands : (shape : Shape) (sr : ℕ) (old mid : FramePlanes) → StandsAt shape sr old → mid.y.area ≡ old.y.area → mid.u.area ≡ old.u.area → mid.v.area ≡ old.v.area
+pub put_stands : {X : Type 0} (shape : Shape) (sr : ℕ) (old mid : FramePlanes X) → StandsAt shape sr old → mid.y.area ≡ old.y.area → mid.u.area ≡ old.u.area → mid.v.area ≡ old.v.area
     → StandsAt shape sr mid
 put_stands shape sr old mid at y u v = record { y = y ∙ at.y; u = u ∙ at.u; v = v ∙ at.v }
 
-pub filtered_in : (f : EdgeSetting) (blocks : List BlockInfo) (raw : FrameMap) (sr : ℕ) (old mid new : FramePlanes) → AwaitsRow f blocks raw sr old → StandsAt f.shape sr mid
+pub filtered_in : {X : Type 0} (f : EdgeSetting) (blocks : List BlockInfo) (raw : FrameMap) (sr : ℕ) (old mid new : FramePlanes X) → AwaitsRow f blocks raw sr old → StandsAt f.shape sr mid
     → HasPut f.shape Y sr (raw Y) (plane_map old.y) (plane_map mid.y) → HasPut f.shape U sr (raw U) (plane_map old.u) (plane_map mid.u)
     → HasPut f.shape V sr (raw V) (plane_map old.v) (plane_map mid.v) → HasAreasOf mid new → IsInRange f.shape.depth new
     → IsNextOf f blocks sr (samples_of mid) (samples_of new) → HasFiltered f blocks raw sr new

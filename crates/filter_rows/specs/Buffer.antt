@@ -31,19 +31,19 @@ buffer_area shape plane sr = record {
 }
 
 -- it is at a row of superblocks
-pub record StandsAt (shape : Shape) (sr : ℕ) (planes : FramePlanes) : Type 0 where
+pub record StandsAt {X : Type 0} (shape : Shape) (sr : ℕ) (planes : FramePlanes X) : Type 0 where
   pub y : planes.y.area ≡ buffer_area shape Y sr
   pub u : planes.u.area ≡ buffer_area shape U sr
   pub v : planes.v.area ≡ buffer_area shape V sr
 
 -- It awaits the samples of a row of superblocks. `raw` is the frame before the filter.
-pub record AwaitsRow (f : EdgeSetting) (blocks : List BlockInfo) (raw : FrameMap) (sr : ℕ) (planes : FramePlanes) : Type 0 where
+pub record AwaitsRow {X : Type 0} (f : EdgeSetting) (blocks : List BlockInfo) (raw : FrameMap) (sr : ℕ) (planes : FramePlanes X) : Type 0 where
   pub place : StandsAt f.shape sr planes
   pub range : IsInRange f.shape.depth planes
   pub pending : HoldsPending f blocks raw sr (samples_of planes)
 
 -- That row is filtered: it has rows that are final now, and those that are pending for the next one.
-pub record HasFiltered (f : EdgeSetting) (blocks : List BlockInfo) (raw : FrameMap) (sr : ℕ) (planes : FramePlanes) : Type 0 where
+pub record HasFiltered {X : Type 0} (f : EdgeSetting) (blocks : List BlockInfo) (raw : FrameMap) (sr : ℕ) (planes : FramePlanes X) : Type 0 where
   pub place : StandsAt f.shape sr planes
   pub range : IsInRange f.shape.depth planes
   pub rows : FollowsOn f blocks raw sr (samples_of planes)

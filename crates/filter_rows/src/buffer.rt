@@ -14,7 +14,7 @@ ghost use Rattle.filter_rows.specs.Code.{KeepsPending};
 use loop_filter::sub_y;
 use planes::{Area, FramePlanes, SamplePlane, coded_area};
 use std::alloc::{AllocError, Global};
-use vp9_types::{Plane, Shape, halved};
+use vp9_types::{Plane, Sample, Shape, halved};
 
 // Where the buffer of a plane stands at a row of superblocks, or behind the last one.
 fn buffer_area(shape: &Shape, plane: Plane, sr: u32) -> Area
@@ -35,7 +35,7 @@ fn buffer_area(shape: &Shape, plane: Plane, sr: u32) -> Area
 }
 
 /// A buffer for frames of a shape, at the first row of superblocks: none is pending.
-pub fn new_buffer(alloc: Global, shape: &Shape) -> Result<FramePlanes, AllocError>
+pub fn new_buffer<P: Sample>(alloc: Global, shape: &Shape) -> Result<FramePlanes<P>, AllocError>
     requires { FitsPlanes shape.now }
     ensures place { IfOk result (λ planes. StandsAt shape.now 0 planes) }
     ensures zero { IfOk result (λ planes. samples_of planes ≡ blank) }
@@ -49,7 +49,7 @@ pub fn new_buffer(alloc: Global, shape: &Shape) -> Result<FramePlanes, AllocErro
 }
 
 // Moves a plane of the buffer down to the next row of superblocks.
-fn move_plane(samples: &mut SamplePlane, shape: &Shape, plane: Plane, sr: u32)
+fn move_plane<P: Sample>(samples: &mut SamplePlane<P>, shape: &Shape, plane: Plane, sr: u32)
     requires size { FitsPlanes shape.now }
     requires row { sr < superblocks_along (mi_rows shape.now) }
     requires place { samples.old.area ≡ buffer_area shape.now plane sr }
@@ -63,7 +63,7 @@ fn move_plane(samples: &mut SamplePlane, shape: &Shape, plane: Plane, sr: u32)
 
 /// Moves the buffer down to the next row of superblocks, once the rows that are final are taken out. Behind the last row it
 /// moves to the end of the frame.
-pub fn move_to_next(planes: &mut FramePlanes, shape: &Shape, sr: u32)
+pub fn move_to_next<P: Sample>(planes: &mut FramePlanes<P>, shape: &Shape, sr: u32)
     requires size { FitsPlanes shape.now }
     requires row { sr < superblocks_along (mi_rows shape.now) }
     requires place { StandsAt shape.now sr planes.old }

@@ -3,7 +3,7 @@
 ghost use Rattle.std.specs.Prelude.{◌≡◌, ◌≤◌, ◌<◌, ◌*◌, ◌+◌, ℕ, OnOk};
 ghost use Rattle.vp9_types.specs.declared.shape.Plane.{Plane as InPlane};
 ghost use Rattle.vp9_types.specs.Shapes.{mi_rows, mi_cols, coded_height};
-ghost use Rattle.vp9_types.specs.Sizes.{superblocks_along};
+ghost use Rattle.vp9_types.specs.Sizes.{greatest, superblocks_along};
 ghost use Rattle.planes.specs.Pictures.{FitsPlanes};
 ghost use Rattle.loop_edges.specs.Edges.{filtered_frame};
 ghost use Rattle.loop_filter.specs.Code.{AllFit};
@@ -16,11 +16,11 @@ use loop_edges::EdgeSetting;
 use loop_filter::filter_next;
 use planes::FramePlanes;
 use std::alloc::{AllocError, Global};
-use vp9_types::Plane;
+use vp9_types::{Plane, Sample};
 
 /// Puts the samples of a row of superblocks into the buffer, which awaits them, and filters the row.
-pub fn filter_next_row<S: Strips, N: Neighbours>(
-    planes: &mut FramePlanes,
+pub fn filter_next_row<P: Sample, S: Strips<Kept = P>, N: Neighbours>(
+    planes: &mut FramePlanes<P>,
     f: &EdgeSetting,
     blocks: &N,
     strips: &S,
@@ -30,6 +30,7 @@ pub fn filter_next_row<S: Strips, N: Neighbours>(
     requires row { sr < superblocks_along (mi_rows f.now.shape) }
     requires held { (r c : ℕ) → 8 * sr ≤ r → r < 8 * (sr + 1) → r < mi_rows f.now.shape → c < mi_cols f.now.shape → N.holds blocks.now r c }
     requires fit { AllFit (N.blocks blocks.now) }
+    requires kept { greatest f.now.shape.depth ≤ P.greatest }
     requires strips { S.holds strips.now sr }
     requires awaits { AwaitsRow f.now (N.blocks blocks.now) (S.raw strips.now) sr planes.old }
     ensures { HasFiltered f.now (N.blocks blocks.now) (S.raw strips.now) sr planes.new }
@@ -41,7 +42,7 @@ pub fn filter_next_row<S: Strips, N: Neighbours>(
 }
 
 /// Filters a frame row by row, in a buffer of its own. Whoever takes the rows gets the filtered frame.
-pub fn filter_by_rows<S: Strips, N: Neighbours, T: TakesRows>(
+pub fn filter_by_rows<P: Sample, S: Strips<Kept = P>, N: Neighbours, T: TakesRows<Kept = P>>(
     alloc: Global,
     f: &EdgeSetting,
     blocks: &N,
@@ -51,12 +52,13 @@ pub fn filter_by_rows<S: Strips, N: Neighbours, T: TakesRows>(
     requires size { FitsPlanes f.now.shape }
     requires held { (r c : ℕ) → r < mi_rows f.now.shape → c < mi_cols f.now.shape → N.holds blocks.now r c }
     requires fit { AllFit (N.blocks blocks.now) }
+    requires kept { greatest f.now.shape.depth ≤ P.greatest }
     requires strips { (sr : ℕ) → sr < superblocks_along (mi_rows f.now.shape) → S.holds strips.now sr }
     requires awaits { T.awaits to.old 0 }
     ensures { OnOk result ((plane : InPlane) (y x : ℕ) → y < coded_height f.now.shape plane →
         T.map to.new plane y x ≡ filtered_frame f.now (N.blocks blocks.now) (S.raw strips.now) plane y x) }
 {
-    let mut planes = new_buffer(alloc, &f.shape)?;
+    let mut planes = new_buffer::<P>(alloc, &f.shape)?;
     for sr in 0..f.shape.superblock_rows() {
         filter_next_row(&mut planes, f, blocks, strips, sr);
         to.take_rows(&planes, &f.shape, sr);

@@ -11,10 +11,13 @@ ghost use Rattle.filter_rows.specs.Buffer.{StandsAt};
 ghost use Rattle.filter_rows.specs.Code.{HasPut, HasTaken};
 
 use planes::{FramePlanes, SamplePlane};
-use vp9_types::{Plane, Shape};
+use vp9_types::{Plane, Sample, Shape};
 
 /// The samples of a frame before the filter, whoever holds them: as strips of tile columns, or whole.
 pub trait Strips {
+    /// What a sample is kept as.
+    type Kept: Sample;
+
     /// The frame before the filter.
     ghost raw: { Self → FrameMap };
 
@@ -22,7 +25,7 @@ pub trait Strips {
     ghost holds: { Self → ℕ → Type 0 };
 
     /// Puts the samples of a row of superblocks into a plane that has room for them.
-    fn put_row(&self, to: &mut SamplePlane, shape: &Shape, plane: Plane, sr: u32)
+    fn put_row(&self, to: &mut SamplePlane<Self::Kept>, shape: &Shape, plane: Plane, sr: u32)
         requires size { FitsPlanes shape.now }
         requires held { holds self.now sr }
         requires room { HasFilterRows shape.now plane sr to.old.area }
@@ -34,6 +37,9 @@ pub trait Strips {
 
 /// Who gets the rows of a filtered frame: as bands, or whole.
 pub trait TakesRows {
+    /// What a sample is kept as.
+    type Kept: Sample;
+
     /// The frame, as far as it has come.
     ghost map: { Self → FrameMap };
 
@@ -41,7 +47,7 @@ pub trait TakesRows {
     ghost awaits: { Self → ℕ → Type 0 };
 
     /// Takes the rows that are final once this row of superblocks is filtered.
-    fn take_rows(&mut self, planes: &FramePlanes, shape: &Shape, sr: u32)
+    fn take_rows(&mut self, planes: &FramePlanes<Self::Kept>, shape: &Shape, sr: u32)
         requires size { FitsPlanes shape.now }
         requires row { sr < superblocks_along (mi_rows shape.now) }
         requires awaited { awaits self.old sr }
