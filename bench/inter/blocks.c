@@ -23,13 +23,13 @@ static const int16_t taps[16][8] = {
 
 static uint32_t drawn(uint32_t state) { return state * 1664525u + 1013904223u; }
 
-static inline uint16_t rounded(int sum) {
+static inline uint8_t rounded(int sum) {
     sum = (sum + 64) >> 7;
     return sum < 0 ? 0 : sum > MOST ? MOST : sum;
 }
 
 /* values at places `step` apart, from rows of `stride` samples */
-PASS filter(uint16_t *restrict out, int rows, int n, const uint16_t *restrict from, int stride, int step, const int16_t *restrict t) {
+PASS filter(uint8_t *restrict out, int rows, int n, const uint8_t *restrict from, int stride, int step, const int16_t *restrict t) {
     for (int i = 0; i < rows; i++)
         for (int j = 0; j < n; j++) {
             int sum = 0;
@@ -39,8 +39,8 @@ PASS filter(uint16_t *restrict out, int rows, int n, const uint16_t *restrict fr
 }
 
 /* any step, each value by itself */
-PASS scale(uint16_t *restrict out, const uint16_t *restrict from, int n, int step, int across, int down) {
-    uint16_t lines[134 * 64];
+PASS scale(uint8_t *restrict out, const uint8_t *restrict from, int n, int step, int across, int down) {
+    uint8_t lines[134 * 64];
     int count = (down + step * (n - 1)) / 16 + 8;
     for (int i = 0; i < count; i++)
         for (int j = 0; j < n; j++) {
@@ -54,8 +54,8 @@ PASS scale(uint16_t *restrict out, const uint16_t *restrict from, int n, int ste
     }
 }
 
-PASS predict(uint16_t *restrict out, const uint16_t *restrict from, int n, int step, int across, int down) {
-    uint16_t lines[71 * 64];
+PASS predict(uint8_t *restrict out, const uint8_t *restrict from, int n, int step, int across, int down) {
+    uint8_t lines[71 * 64];
     if (step != 16)
         scale(out, from, n, step, across, down);
     else if (across && down) {
@@ -69,7 +69,7 @@ PASS predict(uint16_t *restrict out, const uint16_t *restrict from, int n, int s
         for (int i = 0; i < n; i++) memcpy(out + i * n, from + (i + 3) * SIDE + 3, n * sizeof *out);
 }
 
-static __attribute__((noinline)) void predict_sized(uint16_t *out, const uint16_t *from, int n, int step, int across, int down) {
+static __attribute__((noinline)) void predict_sized(uint8_t *out, const uint8_t *from, int n, int step, int across, int down) {
     switch (n) {
         case 4: predict(out, from, 4, step, across, down); break;
         case 8: predict(out, from, 8, step, across, down); break;
@@ -80,7 +80,7 @@ static __attribute__((noinline)) void predict_sized(uint16_t *out, const uint16_
 }
 
 int main(void) {
-    static uint16_t samples[SIDE * SIDE], out[4096];
+    static uint8_t samples[SIDE * SIDE], out[4096];
     char kind[16];
     int size;
     uint64_t count;

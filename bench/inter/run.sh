@@ -2,7 +2,7 @@
 # Times inter prediction of blocks out of a plane of 512x512 samples, proved and built by LLVM, beside the same in C (gcc -O3, for the same
 # instructions): for the default processor and, where this one has AVX2, for x86-64-v3. All must print one checksum. The least processor
 # time of several runs counts, less what no blocks take. Where libvpx.a is installed (libvpx-dev), libvpx's own functions predict the same
-# blocks: of 8-bit samples, and of samples in 16 bits as here.
+# blocks: of samples of one byte, as here, and of samples in 16 bits.
 . "$(dirname "$0")/../lib.sh"
 samples=${1:-40000000} runs=${2:-7}
 usage "[SAMPLES [RUNS]]" "$samples" "$runs"

@@ -3,7 +3,7 @@ use Rattle.inter_scaled.proofs.Agree.{place_below}
 use Rattle.picture_tests.proofs.inter.sum_of.Goals as goal
 
 pub predict-requires-clause-held : goal.predict-requires-clause-held
-predict-requires-clause-held c = λ r first last. let p = c.args.place.now in
+predict-requires-clause-held g c = λ r first last. let p = c.args.place.now in
     rw c.requires.whole (record {
       above = omega arith;
       below = omega (arith, last, c.requires.high, place_below p.down (p.rows - 1) 7 c.requires.place.down.some);
