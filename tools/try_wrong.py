@@ -4,10 +4,11 @@
     tools/try_wrong.py [CRATE..]     those of these crates, or all
     tools/try_wrong.py --changed     those of each crate that changed since they were refused, and what was never tried
     tools/try_wrong.py --stale       tries nothing: tells these, by its status too
+    --in DIR                         in this clone of what is committed, which may hold built libraries, and not in one of its own
 
-It puts them into must-fail/ in a clone of what is committed, crate by crate, and runs the kit's gate there for the crate alone: its proofs, and those of
-the crates below, are taken from earlier runs of the gate on this machine where they stand. What was refused is kept in wrong/REFUSED.tsv, with the
-sum of the crate's src/, specs/ and proofs/, comments apart, and of the edit.
+It works in a clone of what is committed, crate by crate. Most are tried some at a time (wrong_rounds.py); what that leaves undecided is put into
+must-fail/ there, and the kit's gate is run for the crate alone. Proofs are taken from earlier checks on this machine where they stand. What was refused
+is kept in wrong/REFUSED.tsv, with the sum of the crate's src/, specs/ and proofs/, comments apart, and of the edit.
 """
 import datetime
 import hashlib
@@ -18,6 +19,8 @@ import subprocess
 import sys
 import tempfile
 import time
+
+import wrong_rounds
 
 TOP = os.path.dirname(os.path.dirname(os.path.abspath(__file__)))
 REFUSED = f"{TOP}/wrong/REFUSED.tsv"
@@ -66,30 +69,41 @@ def write_refused(known):
             print(*key, *row, sep="\t", file=out)
 
 
-def tried(some):
+def tried_alone(clone, some):
     """Puts these wrong bodies of a crate into a clone, runs the gate for the crate, and returns what it said of each."""
     crates = sorted({crate for crate, _ in some})
-    with tempfile.TemporaryDirectory(prefix="vp9dec-wrong-") as room:
-        subprocess.run(["git", "clone", "-q", TOP, f"{room}/clone"], check=True)
-        for crate, name in some:
-            os.makedirs(f"{room}/clone/crates/{crate}/must-fail", exist_ok=True)
-            shutil.copy(f"{TOP}/wrong/{crate}/{name}.edit", f"{room}/clone/crates/{crate}/must-fail")
-        ran = subprocess.Popen(["nice", "rt", "ci", *crates], cwd=f"{room}/clone", stdout=subprocess.PIPE, stderr=subprocess.STDOUT, text=True, errors="replace")
-        found = {}
-        for line in ran.stdout:
-            told = SAID.search(line)
-            if told and (told[1], told[2]) in some:
-                found[told[1], told[2]] = told[3], told[4]
-                if told[3] != "refused" or "only because a proof file names" in told[4]:
-                    print(line.rstrip()[:300], flush=True)
-            elif line.startswith("rt:") and re.search(r"NOT PROVED|passed,|cannot", line):
+    for crate, name in some:
+        os.makedirs(f"{clone}/crates/{crate}/must-fail", exist_ok=True)
+        shutil.copy(f"{TOP}/wrong/{crate}/{name}.edit", f"{clone}/crates/{crate}/must-fail")
+    ran = subprocess.Popen(["rt", "ci", *crates], cwd=clone, stdout=subprocess.PIPE, stderr=subprocess.STDOUT, text=True, errors="replace")
+    found = {}
+    for line in ran.stdout:
+        told = SAID.search(line)
+        if told and (told[1], told[2]) in some:
+            found[told[1], told[2]] = told[3], told[4]
+            if told[3] != "refused" or "only because a proof file names" in told[4]:
                 print(line.rstrip()[:300], flush=True)
-        ran.wait()
+        elif line.startswith("rt:") and re.search(r"NOT PROVED|passed,|cannot", line):
+            print(line.rstrip()[:300], flush=True)
+    ran.wait()
+    return found
+
+
+def tried(clone, crate, some):
+    """Tries these wrong bodies of a crate in a clone, and returns what became of each."""
+    files = {name: f"{TOP}/wrong/{crate}/{name}.edit" for _, name in some}
+    found = {(crate, name): ("refused", "") for name in wrong_rounds.tried(crate, f"{clone}/crates/{crate}", files)}
+    left = {key for key in some if key not in found}
+    print(f"{crate}: {len(found)} refused in rounds, {len(left)} to be tried alone", flush=True)
+    if left:
+        found.update(tried_alone(clone, left))
     return found
 
 
 def main():
     words = sys.argv[1:]
+    place = words.pop(words.index("--in") + 1) if "--in" in words else None
+    words = [it for it in words if it != "--in"]
     flags, names = [it for it in words if it.startswith("-")], [it for it in words if not it.startswith("-")]
     every, known = edits(), refused()
     if [it for it in flags if it not in ("--changed", "--stale")] or [it for it in names if not any(crate == it for crate, _ in every)]:
@@ -112,7 +126,10 @@ def main():
     found = {}
     # Crate by crate: what a run has come to stands, even if it is ended then.
     for crate in sorted({crate for crate, _ in some}):
-        told = tried({key for key in some if key[0] == crate})
+        with tempfile.TemporaryDirectory(prefix="vp9dec-wrong-") as room:
+            if not place:
+                subprocess.run(["git", "clone", "-q", TOP, f"{room}/clone"], check=True)
+            told = tried(place or f"{room}/clone", crate, {key for key in some if key[0] == crate})
         found.update(told)
         # (another run may have written it meanwhile)
         known = refused()

@@ -20,7 +20,7 @@ pub returns-clause-map : goal.returns-clause-map
 unfolding pass_edges
 returns-clause-map g c = let a = c.args in
     let done : c.loop-i.i ≡ c.cells_along-count.result = omega (arith, c.loop-i-test.false, c.loop-i.auto.i-end) in
-    let all : c.loop-i.i ≡ cells_along (sub_y a.f.now.shape a.way.plane) (mi_rows a.f.now.shape) a.sr = done ∙ (c.cells_along-count.ensures.value ∙ rw c.sub_y-sub.ensures refl) in
+    let all : c.loop-i.i ≡ cells_along (sub_y a.f.now.shape a.way.plane) (mi_rows a.f.now.shape) a.sr = done ∙ (c.cells_along-count.ensures.value ∙ rw (c.sub_y-sub.ensures, c.place_rows.ensures) refl) in
     c.loop-i.invariant.map ∙ ap (λ (n : ℕ). fold with_edge (plane_map a.samples.now)
     (flat_map (λ r. cell_row a.f.now (g.N.Neighbours.blocks a.blocks.now) a.way.plane a.way.pass r (cells_of (sub_x a.f.now.shape a.way.plane) (mi_cols a.f.now.shape) a.sc))
     (cells_from (sub_y a.f.now.shape a.way.plane) a.sr n))) all
