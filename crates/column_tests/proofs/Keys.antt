@@ -43,7 +43,7 @@ served holds width map by header b (Intra modes) key refers = tt
 served holds width map by header b (Inter modes) key refers = let no : 1 ≡ 0 = ap is_key (sym key ∙ refers.1) in absurd (omega (arith, no))
 
 -- the blocks of its plan have what they need besides it
-pub provided : {S : Type 0} (holds : S → Plane → ℕ → Type 0) (width : S → Plane → ℕ) (map : S → FrameMap) (by : code.Rebuilding S) (header : Header) (k row tile_from : ℕ) (plan : ColumnPlan) (planes : FramePlanes)
+pub provided : {S X : Type 0} (holds : S → Plane → ℕ → Type 0) (width : S → Plane → ℕ) (map : S → FrameMap) (by : code.Rebuilding S) (header : Header) (k row tile_from : ℕ) (plan : ColumnPlan) (planes : FramePlanes X)
     → header.kind ≡ kinds.Key → by.shape ≡ shape_of header → IsPlan header k plan → HasSizes (shape_of header) planes
     → All (IsProvided holds width map by tile_from planes) (blocks_between by.shape row plan.column.grid.blocks)
 provided holds width map by header k row tile_from plan planes key shape is sizes =
@@ -59,20 +59,11 @@ provided holds width map by header k row tile_from plan planes key shape is size
     All-take (IsProvided holds width map by tile_from planes) _ _ (All-drop (IsProvided holds width map by tile_from planes) _ plan.column.grid.blocks all)
 
 -- they are placed
-pub placed : (header : Header) (k tile_from : ℕ) (shape : Shape) (plan : ColumnPlan) → shape ≡ shape_of header → tile_from ≡ plan.column.grid.from → IsPlan header k plan
-    → All (IsPlaced shape tile_from) plan.column.grid.blocks
-placed header k tile_from shape plan is from planned = rw (is, from) (λ n d low. record {
+pub placed : (header : Header) (k : ℕ) (shape : Shape) (plan : ColumnPlan) → shape ≡ shape_of header → IsPlan header k plan
+    → All (IsPlaced shape plan.column.grid.from) plan.column.grid.blocks
+placed header k shape plan is planned = rw is (λ n d low. record {
   row = (planned.column.starts n d low).0;
   column = (planned.column.starts n d low).1;
   tile = (planned.column.lie n d low).0;
   fits = planned.column.fit_blocks n d low;
 })
-
--- the k-th tile of a frame begins where its k-th column does
-pub begins : (setting : FrameSetting) (k : ℕ) (plan : ColumnPlan) (tile : TilePlaces) → k < 2 ^ setting.header.params.tiles.columns_log2 → IsPlan setting.header k plan
-    → tile ≡ tile_places setting.places setting.header.params.tiles k → tile.col_from ≡ plan.column.grid.from
-begins setting k plan tile low planned is =
-    let tiles = setting.header.params.tiles in
-    let cols : setting.places.cols ≡ mi_cols (shape_of setting.header) = ap (λ (p : FramePlaces). p.cols) setting.whole in
-    let this : column_of tiles k ≡ k = mod-eq_of_lt low in
-    (lies setting.places tiles k tile is).col_from ∙ ((λ i. tile_offset (cols i) tiles.columns_log2 (this i)) ∙ sym planned.column.from)

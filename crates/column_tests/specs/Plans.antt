@@ -22,11 +22,11 @@ pub record ArePlans (header : Header) (plans : List (Result ColumnPlan Unplanned
   pub each : (k : ℕ) (d : Result ColumnPlan Unplanned) → k < length plans → IfOk (slice_index_or plans k d) (λ p. IsPlan header k p)
 
 -- the planes of a frame of this shape
-pub record ArePlanes (shape : Shape) (planes : FramePlanes) : Type 0 where
+pub record ArePlanes {X : Type 0} (shape : Shape) (planes : FramePlanes X) : Type 0 where
   pub sizes : HasSizes shape planes
   pub range : IsInRange shape.depth planes
 
 -- what comes of a picture: one of this shape
-pub record IsPicture (shape : Shape) (p : Picture) : Type 0 where
+pub record IsPicture {X : Type 0} (shape : Shape) (p : Picture X) : Type 0 where
   pub same : p.shape ≡ shape
   pub planes : ArePlanes shape p.planes

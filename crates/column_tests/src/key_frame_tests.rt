@@ -52,7 +52,7 @@ fn picture_of<R: Threads + Sync>(
     bytes: &[u8],
     by: &FrameSources<'_>,
     compressed: Span,
-) -> Result<Option<(Picture, usize, Kept)>, AllocError>
+) -> Result<Option<(Picture<u16>, usize, Kept)>, AllocError>
     requires key { by.now.setting.header.kind ≡ kinds.Key }
     requires past { IsPastOf by.now.setting.header by.now.past }
     requires few { AreFewTiles by.now.setting.header.params.tiles }
@@ -73,7 +73,7 @@ fn picture_of<R: Threads + Sync>(
 }
 
 // The digest of a picture's text.
-fn digest_of(alloc: Global, picture: &Picture) -> Result<Option<[u8; 16]>, AllocError>
+fn digest_of(alloc: Global, picture: &Picture<u16>) -> Result<Option<[u8; 16]>, AllocError>
     requires { IsPicture picture.now.shape picture.now }
 {
     let shape = picture.shape();

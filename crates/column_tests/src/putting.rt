@@ -11,7 +11,7 @@ ghost use Rattle.column_tests.specs.Plans.{ArePlanes, ArePlans, IsPlan};
 
 use block_rebuild::{RebuildRoom, Rebuilding};
 use frame_setting::FrameSetting;
-use frame_state::{FrameBlocks, TileColumn, TilePlaces};
+use frame_state::{FrameBlocks, TileColumn};
 use loop_edges::EdgeSetting;
 use loop_filter::filter_frame;
 use planes::{FramePlanes, Picture};
@@ -21,7 +21,7 @@ use tile_syntax::{ColumnPlan, Unplanned};
 use vp9_types::Shape;
 
 // What blocks that refer to no picture are put in by.
-fn no_pictures<'a>(shape: Shape) -> Rebuilding<'a, Picture>
+fn no_pictures<'a>(shape: Shape) -> Rebuilding<'a, Picture<u16>>
     ensures { result.shape ≡ shape }
 {
     Rebuilding {
@@ -34,12 +34,12 @@ fn no_pictures<'a>(shape: Shape) -> Rebuilding<'a, Picture>
 
 // Puts a row of superblocks of the `k`-th tile column of a key frame.
 fn put_row_of(
-    planes: &mut FramePlanes,
+    planes: &mut FramePlanes<u16>,
     setting: &FrameSetting,
     k: u32,
     plan: &ColumnPlan,
     row: u32,
-    room: &mut RebuildRoom,
+    room: &mut RebuildRoom<u16>,
 )
     requires key { setting.now.header.kind ≡ kinds.Key }
     requires few { AreFewTiles setting.now.header.params.tiles }
@@ -50,12 +50,11 @@ fn put_row_of(
     ensures planes { ArePlanes (shape_of setting.now.header) planes.new }
 {
     let by = no_pictures(setting.header.shape());
-    let tile = TilePlaces::new(setting.places, setting.header.params.tiles, k);
-    put_row(planes, &by, tile.col_from, plan, row, room);
+    put_row(planes, &by, plan, row, room);
 }
 
 // Puts all blocks of the `k`-th tile column of a key frame.
-fn put_column(planes: &mut FramePlanes, setting: &FrameSetting, k: u32, plan: &ColumnPlan)
+fn put_column(planes: &mut FramePlanes<u16>, setting: &FrameSetting, k: u32, plan: &ColumnPlan)
     requires key { setting.now.header.kind ≡ kinds.Key }
     requires few { AreFewTiles setting.now.header.params.tiles }
     requires below { k < 2 ^ setting.now.header.params.tiles.columns_log2 }
@@ -71,7 +70,7 @@ fn put_column(planes: &mut FramePlanes, setting: &FrameSetting, k: u32, plan: &C
 
 // Puts the blocks of all tile columns of a key frame that are planned.
 pub fn put_all(
-    planes: &mut FramePlanes,
+    planes: &mut FramePlanes<u16>,
     setting: &FrameSetting,
     plans: &[Result<ColumnPlan, Unplanned>],
 )
@@ -109,7 +108,7 @@ pub fn columns_of(
 }
 
 // Filters a frame of these tile columns.
-pub fn filter(planes: &mut FramePlanes, setting: &FrameSetting, columns: &[TileColumn])
+pub fn filter(planes: &mut FramePlanes<u16>, setting: &FrameSetting, columns: &[TileColumn])
     requires columns { AreColumnsOf setting.now.header columns.now }
     requires planes { ArePlanes (shape_of setting.now.header) planes.old }
     ensures planes { ArePlanes (shape_of setting.now.header) planes.new }

@@ -15,7 +15,7 @@ small_at : (depth : Depth) (m : Map) (y x : ℕ) → depth ≡ Eight → IsAtMos
 small_at depth m y x eight most = omega (arith, subst (λ d. IsAtMost (2 ^ depth_bits d - 1) m) eight most y x)
 
 -- at depth 8 a sample fits a byte
-small_in : (f : Picture) (p : Plane) (y x : ℕ) → f.shape.depth ≡ Eight → IsPicture f.shape f → map_of f p y x < 256
+small_in : {X : Type 0} (f : Picture X) (p : Plane) (y x : ℕ) → f.shape.depth ≡ Eight → IsPicture f.shape f → map_of f p y x < 256
 small_in f Y y x eight is = small_at _ _ y x eight is.planes.range.y
 small_in f U y x eight is = small_at _ _ y x eight is.planes.range.u
 small_in f V y x eight is = small_at _ _ y x eight is.planes.range.v

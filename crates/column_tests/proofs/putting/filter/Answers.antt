@@ -1,5 +1,6 @@
 use Rattle.frame_headers.specs.Spans.{tile_count}
 use Rattle.frame_state.proofs.ColumnBlocks.{all_fit}
+use Rattle.inter_lanes.proofs.DepthLemmas.{of_any}
 use Rattle.column_tests.proofs.putting.filter.Goals as goal
 
 pub filter_frame-requires-clause-fit : goal.filter_frame-requires-clause-fit

@@ -2,19 +2,20 @@ use Rattle.std.proofs.Common.{◌≡◌, ◌∙◌, subst}
 use Rattle.vp9_types.specs.declared.shape.Shape.{Shape}
 use Rattle.frame_headers.specs.State.{shape_of}
 use Rattle.planes.specs.Pictures.{IsInRange}
-use Rattle.column_tests.proofs.Keys.{begins, placed, provided}
+use Rattle.inter_lanes.proofs.DepthLemmas.{of_any}
+use Rattle.column_tests.proofs.Keys.{placed, provided}
 use Rattle.column_tests.proofs.putting.put_row_of.Goals as goal
-
-pub put_row-requires-clause-from : goal.put_row-requires-clause-from
-put_row-requires-clause-from c = let a = c.args in begins a.setting.now a.k a.plan.now c.new-tile.result c.requires.below c.requires.plan c.new-tile.ensures
 
 pub put_row-requires-clause-placed : goal.put_row-requires-clause-placed
 put_row-requires-clause-placed c = let a = c.args in
-    placed a.setting.now.header a.k c.new-tile.result.col_from c.no_pictures-by.result.shape a.plan.now (c.no_pictures-by.ensures ∙ c.shape.ensures) (put_row-requires-clause-from c) c.requires.plan
+    placed a.setting.now.header a.k c.no_pictures-by.result.shape a.plan.now (c.no_pictures-by.ensures ∙ c.shape.ensures) c.requires.plan
 
 pub put_row-requires-clause-provided : goal.put_row-requires-clause-provided
 put_row-requires-clause-provided c = let a = c.args in
-    provided _ _ _ c.no_pictures-by.result a.setting.now.header a.k a.row c.new-tile.result.col_from a.plan.now a.planes.now c.requires.key (c.no_pictures-by.ensures ∙ c.shape.ensures) c.requires.plan c.requires.planes.sizes
+    provided _ _ _ c.no_pictures-by.result a.setting.now.header a.k a.row _ a.plan.now a.planes.now c.requires.key (c.no_pictures-by.ensures ∙ c.shape.ensures) c.requires.plan c.requires.planes.sizes
+
+pub put_row-requires-clause-fits : goal.put_row-requires-clause-fits
+put_row-requires-clause-fits c = of_any _
 
 pub returns : goal.returns
 returns c =
