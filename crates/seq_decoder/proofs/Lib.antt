@@ -5,3 +5,4 @@ pub mod RunLemmas
 pub mod SegmentLemmas
 pub mod HeaderReferences
 pub mod PastLemmas
+pub mod KeptFrames

@@ -3,7 +3,7 @@ use Rattle.seq_decoder.proofs.PastLemmas.{has_pictures, references_are}
 use Rattle.seq_decoder.proofs.past.pictures_for.Goals as goal
 
 pub returns-in-Inter-clause-pictures : goal.returns-in-Inter-clause-pictures
-returns-in-Inter-clause-pictures c = λ slots same.
+returns-in-Inter-clause-pictures g c = λ slots same.
     references_are slots (held c.args.table.now) c.in-Inter.fields c.args.header.now.kind
     (record { shape = c.shape-shape.result; last = c.picture_in.result; golden = c.picture_in-in-Inter.result; altref = c.picture_in-in-Inter-2.result }) c.in-Inter.is same
     (record {
@@ -16,7 +16,7 @@ returns-in-Inter-clause-pictures c = λ slots same.
     })
 
 pub returns-in-Inter-clause-has : goal.returns-in-Inter-clause-has
-returns-in-Inter-clause-has c =
+returns-in-Inter-clause-has g c =
     has_pictures c.args.header.now c.in-Inter.fields (held c.args.table.now)
     (record { shape = c.shape-shape.result; last = c.picture_in.result; golden = c.picture_in-in-Inter.result; altref = c.picture_in-in-Inter-2.result })
     c.in-Inter.is c.shape-shape.ensures c.requires.size c.requires.held
