@@ -22,7 +22,7 @@ fn shape_of(w: u32, h: u32) -> Shape
 
 #[test]
 fn pictures_have_memory(rt: HostRuntime) -> Result<(), Fail> {
-    let mut picture = Picture::new(rt.alloc(), shape_of(352, 288))?;
+    let mut picture: Picture<u16> = Picture::new(rt.alloc(), shape_of(352, 288))?;
     for (w, h) in [(352, 288), (130, 132), (1, 65536), (1920, 1080)] {
         picture.renew(rt.alloc(), shape_of(w, h))?;
         assert_eq!(rt; picture.shape().h, h);
@@ -36,7 +36,7 @@ fn pictures_have_memory(rt: HostRuntime) -> Result<(), Fail> {
 
 #[test]
 fn a_picture_that_no_slot_names_is_used_again(rt: HostRuntime) -> Result<(), Fail> {
-    let mut table = PictureTable::new(rt.alloc());
+    let mut table: PictureTable<u8> = PictureTable::new(rt.alloc());
     let first = table.blank(rt.alloc(), shape_of(64, 64))?;
     let second = table.blank(rt.alloc(), shape_of(8, 8))?;
     assert_eq!(rt; first, second);
