@@ -19,7 +19,7 @@ use planes::{Area, SamplePlane};
 use rows::{STEPS, Step, Summed, WHOLE};
 use std::test::Fail;
 use test_draws::{Digest, Draws};
-use vp9_types::{Depth, IntraMode, TxSize};
+use vp9_types::{Depth, IntraMode, Sample, TxSize};
 
 const WIDTH: usize = 40;
 
@@ -54,7 +54,7 @@ fn drawn_edges(seed: u32, most: u16, extreme: bool, has_above: bool, has_left: b
     edges
 }
 
-fn checksum(plane: &SamplePlane) -> u64
+fn checksum(plane: &SamplePlane<u16>) -> u64
     requires { plane.now.area ≡ whole_area HEIGHT WIDTH }
 {
     let mut digest = Digest::new();
@@ -115,7 +115,7 @@ fn draw_residue(residue: &mut [i32], seed: u32)
     }
 }
 
-fn take_step(plane: &mut SamplePlane, step: &Step, scratch: &mut Scratch)
+fn take_step(plane: &mut SamplePlane<u16>, step: &Step, scratch: &mut Scratch)
     requires whole { plane.old.area ≡ whole_area HEIGHT WIDTH }
     requires small { IsAtMost 1023 (plane_map plane.old) }
     requires high { step.now.row < HEIGHT }
@@ -143,7 +143,7 @@ fn take_step(plane: &mut SamplePlane, step: &Step, scratch: &mut Scratch)
     }
 }
 
-fn fill_plane(plane: &mut SamplePlane)
+fn fill_plane(plane: &mut SamplePlane<u16>)
     requires whole { plane.old.area ≡ whole_area HEIGHT WIDTH }
     requires small { IsAtMost 1023 (plane_map plane.old) }
     ensures whole { plane.new.area ≡ whole_area HEIGHT WIDTH }
@@ -168,7 +168,7 @@ fn planes(rt: HostRuntime) -> Result<(), Fail> {
 }
 
 /// The sample that fills the first block of a frame of 8x8 samples.
-fn first_block(plane: &SamplePlane, mode: IntraMode) -> u16
+fn first_block<P: Sample>(plane: &SamplePlane<P>, mode: IntraMode) -> u16
     requires whole { plane.now.area ≡ whole_area 8 8 }
     requires small { IsAtMost 255 (plane_map plane.now) }
 {
@@ -193,7 +193,7 @@ fn first_block(plane: &SamplePlane, mode: IntraMode) -> u16
 
 #[test]
 fn corner(rt: HostRuntime) -> Result<(), Fail> {
-    let plane = SamplePlane::new(rt.alloc(), Area::whole(8, 8))?;
+    let plane: SamplePlane<u8> = SamplePlane::new(rt.alloc(), Area::whole(8, 8))?;
     assert_eq!(rt; first_block(&plane, IntraMode::V), 0x7f);
     assert_eq!(rt; first_block(&plane, IntraMode::H), 0x81);
     assert_eq!(rt; first_block(&plane, IntraMode::Tm), 0x81);

@@ -22,7 +22,7 @@ fn shape_of(w: u32, h: u32, depth: Depth) -> Shape
 
 #[test]
 fn pictures_have_memory(rt: HostRuntime) -> Result<(), Fail> {
-    let mut picture = Picture::<u16>::new(rt.alloc(), shape_of(352, 288, Depth::Ten))?;
+    let mut picture: Picture<u16> = Picture::new(rt.alloc(), shape_of(352, 288, Depth::Ten))?;
     for (w, h) in [(352, 288), (130, 132), (1, 65536), (1920, 1080)] {
         picture.renew(rt.alloc(), shape_of(w, h, Depth::Ten))?;
         assert_eq!(rt; picture.shape().h, h);
