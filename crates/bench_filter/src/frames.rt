@@ -1,6 +1,6 @@
 //! Frames drawn and filtered, and their checksums.
 
-ghost use Rattle.std.specs.Prelude.{◌≡◌, ℕ, ◌≤◌, length, slice_index};
+ghost use Rattle.std.specs.Prelude.{◌≡◌, ℕ, ◌≤◌, length, map, slice_index};
 ghost use Rattle.vp9_types.specs.Maps.{IsAtMost};
 ghost use Rattle.vp9_types.specs.declared.shape.Depth.TheVariants.{Eight};
 ghost use Rattle.planes.specs.Planes.{plane_map};
@@ -14,9 +14,7 @@ use loop_edges::EdgeSetting;
 use loop_filter::filter_frame;
 use planes::{FramePlanes, SamplePlane};
 use std::alloc::{AllocError, Global};
-use vp9_types::{Depth, Shape};
-
-const WIDTH: usize = 1920;
+use vp9_types::{Depth, Sample, Shape};
 
 const SPREADS: [u32; 8] = [1, 2, 3, 4, 6, 10, 30, 2];
 
@@ -48,9 +46,10 @@ fn setting_of(level: u8) -> EdgeSetting
 }
 
 /// Draws a row of samples of 8 bits, and gives the state after the last.
-fn draw_row(line: &mut [u16], y: usize, first: u32) -> u32
+fn draw_row<P: Sample>(line: &mut [P], y: usize, first: u32) -> u32
     requires y { y ≤ 65536 }
-    ensures small { (k : ℕ) → slice_index line.new k ≤ 255 }
+    requires kept { 255 ≤ P.greatest }
+    ensures small { (k : ℕ) → slice_index (map P.value line.new) k ≤ 255 }
     ensures long { length line.new ≡ length line.old }
 {
     let mut state = first;
@@ -58,28 +57,27 @@ fn draw_row(line: &mut [u16], y: usize, first: u32) -> u32
         state = next(state);
         let spread = SPREADS[(y / 16 + 3 * (x / 16)) % 8];
         let base = 100 + ((x / 8 * 5 + y / 8 * 3) % 11) as u32;
-        line[x] = ((base + (state >> 16) * spread / 65536) as u16).min(255);
+        line[x] = P::narrow(((base + (state >> 16) * spread / 65536) as u16).min(255));
     }
     state
 }
 
-fn fill(plane: &mut SamplePlane, seed: u32)
+fn fill<P: Sample>(plane: &mut SamplePlane<P>, seed: u32)
+    requires kept { 255 ≤ P.greatest }
     requires small { IsAtMost 255 (plane_map plane.old) }
     ensures area { plane.new.area ≡ plane.old.area }
     ensures small { IsAtMost 255 (plane_map plane.new) }
 {
     let area = plane.area();
-    let mut line = [0; WIDTH];
     let mut state = seed;
-    let columns = area.columns.min(WIDTH);
     for y in 0..area.rows {
-        let part = &mut line[..columns];
-        state = draw_row(part, y, state);
-        plane.put_block(area.first_row + y, area.first_column, 1, columns, part);
+        let line = plane.row_mut(area.first_row + y, area.first_column, area.columns);
+        state = draw_row(line, y, state);
     }
 }
 
-fn draw(planes: &mut FramePlanes, shape: &Shape, seed: u32)
+fn draw<P: Sample>(planes: &mut FramePlanes<P>, shape: &Shape, seed: u32)
+    requires kept { 255 ≤ P.greatest }
     requires depth { shape.now.depth ≡ Eight }
     requires sizes { HasSizes shape.now planes.old }
     requires range { IsInRange shape.now.depth planes.old }
@@ -91,7 +89,13 @@ fn draw(planes: &mut FramePlanes, shape: &Shape, seed: u32)
     fill(&mut planes.v, seed.wrapping_add(3));
 }
 
-fn filter_frames(planes: &mut FramePlanes, f: &EdgeSetting, grid: &BlockGrid, count: u32)
+fn filter_frames<P: Sample>(
+    planes: &mut FramePlanes<P>,
+    f: &EdgeSetting,
+    grid: &BlockGrid,
+    count: u32,
+)
+    requires kept { 255 ≤ P.greatest }
     requires size { FitsPlanes f.now.shape }
     requires depth { f.now.shape.depth ≡ Eight }
     requires whole { IsWholeGrid f.now.shape grid.now }
@@ -104,28 +108,32 @@ fn filter_frames(planes: &mut FramePlanes, f: &EdgeSetting, grid: &BlockGrid, co
     }
 }
 
-fn add_up(sum: u64, plane: &SamplePlane) -> u64 {
+fn add_up<P: Sample>(sum: u64, plane: &SamplePlane<P>) -> u64 {
     let area = plane.area();
     let mut sum = sum;
     for y in 0..area.rows {
         for sample in plane.row(area.first_row + y, area.first_column, area.columns) {
-            sum = sum.wrapping_mul(31).wrapping_add(u64::from(*sample));
+            sum = sum.wrapping_mul(31).wrapping_add(u64::from(sample.widen()));
         }
     }
     sum
 }
 
-fn sum_of(alloc: Global, level: u8, count: u32) -> Result<u64, AllocError> {
+fn sum_of<P: Sample>(alloc: Global, level: u8, count: u32) -> Result<u64, AllocError>
+    requires kept { 255 ≤ P.greatest }
+{
     let f = setting_of(level);
     let grid = grid_of(alloc, &f.shape)?;
-    let mut planes = FramePlanes::new(alloc, &f.shape)?;
+    let mut planes: FramePlanes<P> = FramePlanes::new(alloc, &f.shape)?;
     filter_frames(&mut planes, &f, &grid, count);
     Ok(add_up(add_up(add_up(0, &planes.y), &planes.u), &planes.v))
 }
 
 /// What is printed for a line.
 pub fn describe(alloc: Global, line: &str) -> Result<String, AllocError> {
-    let Some((first, second)) = line.split_once(' ') else {
+    let bytes = line.starts_with("bytes ");
+    let words = line.strip_prefix("bytes ").unwrap_or(line);
+    let Some((first, second)) = words.split_once(' ') else {
         return format!(in alloc; "{line}: no number");
     };
     let Ok(level) = first.parse::<u8>() else {
@@ -134,6 +142,10 @@ pub fn describe(alloc: Global, line: &str) -> Result<String, AllocError> {
     let Ok(count) = second.parse::<u32>() else {
         return format!(in alloc; "{line}: not a number");
     };
-    let sum = sum_of(alloc, level, count)?;
+    let sum = if bytes {
+        sum_of::<u8>(alloc, level, count)?
+    } else {
+        sum_of::<u16>(alloc, level, count)?
+    };
     format!(in alloc; "{line}: {sum}")
 }

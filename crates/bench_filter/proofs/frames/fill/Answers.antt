@@ -1,12 +1,12 @@
-use Rattle.std.proofs.Common.{◌∙◌}
-use Rattle.vp9_types.specs.Maps.{rows_of}
-use Rattle.planes.specs.Planes.{plane_map}
-use Rattle.planes.proofs.PlaneLemmas.{with_block_small, rows_small}
+use Rattle.std.proofs.Common.{◌∙◌, map}
+use Rattle.std.proofs.lemmas.List.{length-map}
+use Rattle.bench_filter.proofs.Draws.{row_drawn}
 use Rattle.bench_filter.proofs.frames.fill.Goals as goal
 
 pub loop-y-preserved : goal.loop-y-preserved
-loop-y-preserved c = let a = c.args in record {
-  area = c.put_block.ensures.area ∙ c.loop-y.invariant.area;
-  small = rw c.put_block.ensures.map (with_block_small 255 (plane_map c.loop-y.plane) _ _ _ _ (rows_of c.min-columns.result c.draw_row-state.new.line)
-      c.loop-y.invariant.small (rows_small 255 c.min-columns.result c.draw_row-state.new.line c.draw_row-state.ensures.small));
+loop-y-preserved g c = let i = c.loop-y.invariant in record {
+  area = i.area;
+  small = row_drawn 255 _ _ _ _ _ (map g.P.Sample.value c.draw_row-state.new.line) i.small c.draw_row-state.ensures.small
+      (c.row_mut-line.ensures.written (map g.P.Sample.value c.draw_row-state.new.line)
+      (length-map c.draw_row-state.new.line g.P.Sample.value ∙ c.draw_row-state.ensures.long ∙ c.row_mut-line.ensures.long));
 }
