@@ -57,66 +57,61 @@ of-part-requires-clause-room g c = let a = c.args in
     let plan : IsRowsPlan s c.first_col-tile_from.result bs a.plan.now.residues = plan_kept kept.0 s a.plan.now c.first_col-tile_from.result bs kept.1 c.first_col-tile_from.ensures c.blocks-blocks.ensures kept.2 in
     room_at s c.first_col-tile_from.result bs a.plan.now.residues c.loop-k.k c.loop-k.piece _ plan low c.loop-k.invariant.pieces
 
-pub put_planned_block-requires-clause-placed : goal.put_planned_block-requires-clause-placed
-put_planned_block-requires-clause-placed g c = let a = c.args in
+pub of-part-requires-clause-fits : goal.of-part-requires-clause-fits
+of-part-requires-clause-fits g c = let a = c.args in
     let s = a.by.now.shape in
     let bs = c.blocks-blocks.result.now in
     let kept = c.requires.kept in
     let to : c.row_place-next.result ≡ place_of_row s (a.row + 1) bs = c.row_place-next.ensures kept.0 kept.2 ∙ (λ i. place_of_row (kept.1 i) (a.row + 1) (sym c.blocks-blocks.ensures i)) in
     let low : c.loop-k.k < length bs = in_column s (a.row + 1) c.loop-k.k bs c.row_place-next.result to c.loop-k-test.true in
-    let placed : All (IsPlaced s c.first_col-tile_from.result) bs = rw (c.blocks-blocks.ensures, c.first_col-tile_from.ensures) c.requires.placed in
-    placed c.loop-k.k _ low
+    let placed : All (IsPlaced s a.plan.now.column.grid.from) bs = rw c.blocks-blocks.ensures c.requires.placed in
+    (placed c.loop-k.k _ low).fits
 
-pub put_planned_block-requires-clause-references : goal.put_planned_block-requires-clause-references
-put_planned_block-requires-clause-references g c = let a = c.args in
+-- the room's size, then the clauses
+pub put_planned_block-requires : goal.put_planned_block-requires
+put_planned_block-requires g c = let a = c.args in
     let s = a.by.now.shape in
+    let from_column = c.first_col-tile_from.result in
     let bs = c.blocks-blocks.result.now in
     let kept = c.requires.kept in
     let from : c.row_place-first.result ≡ place_of_row s a.row bs = c.row_place-first.ensures kept.0 kept.2 ∙ (λ i. place_of_row (kept.1 i) a.row (sym c.blocks-blocks.ensures i)) in
     let to : c.row_place-next.result ≡ place_of_row s (a.row + 1) bs = c.row_place-next.ensures kept.0 kept.2 ∙ (λ i. place_of_row (kept.1 i) (a.row + 1) (sym c.blocks-blocks.ensures i)) in
-    (provided_at (λ (b : BlockInfo). IsProvided g.S.Samples.holds g.S.Samples.width g.S.Samples.map a.by.now a.plan.now.column.grid.from a.planes.now b) s a.row c.loop-k.k bs a.plan.now.column.grid.blocks c.row_place-first.result c.row_place-next.result _
-    c.blocks-blocks.ensures from to c.requires.provided c.loop-k.invariant.least c.loop-k-test.true).served
-
-pub put_planned_block-requires-clause-part : goal.put_planned_block-requires-clause-part
-put_planned_block-requires-clause-part g c = let a = c.args in
-    let s = a.by.now.shape in
-    let bs = c.blocks-blocks.result.now in
-    let kept = c.requires.kept in
-    let from : c.row_place-first.result ≡ place_of_row s a.row bs = c.row_place-first.ensures kept.0 kept.2 ∙ (λ i. place_of_row (kept.1 i) a.row (sym c.blocks-blocks.ensures i)) in
-    let to : c.row_place-next.result ≡ place_of_row s (a.row + 1) bs = c.row_place-next.ensures kept.0 kept.2 ∙ (λ i. place_of_row (kept.1 i) (a.row + 1) (sym c.blocks-blocks.ensures i)) in
-    rw c.first_col-tile_from.ensures (areas_hold s a.plan.now.column.grid.from _ a.planes.now c.loop-k.planes c.loop-k.invariant.areas
-    (provided_at (λ (b : BlockInfo). IsProvided g.S.Samples.holds g.S.Samples.width g.S.Samples.map a.by.now a.plan.now.column.grid.from a.planes.now b) s a.row c.loop-k.k bs a.plan.now.column.grid.blocks c.row_place-first.result c.row_place-next.result _
-    c.blocks-blocks.ensures from to c.requires.provided c.loop-k.invariant.least c.loop-k-test.true).part)
-
-pub put_planned_block-requires-clause-fits : goal.put_planned_block-requires-clause-fits
-put_planned_block-requires-clause-fits g c = let a = c.args in
-    let s = a.by.now.shape in
-    let bs = c.blocks-blocks.result.now in
-    let kept = c.requires.kept in
-    let to : c.row_place-next.result ≡ place_of_row s (a.row + 1) bs = c.row_place-next.ensures kept.0 kept.2 ∙ (λ i. place_of_row (kept.1 i) (a.row + 1) (sym c.blocks-blocks.ensures i)) in
     let low : c.loop-k.k < length bs = in_column s (a.row + 1) c.loop-k.k bs c.row_place-next.result to c.loop-k-test.true in
-    let plan : IsRowsPlan s c.first_col-tile_from.result bs a.plan.now.residues = plan_kept kept.0 s a.plan.now c.first_col-tile_from.result bs kept.1 c.first_col-tile_from.ensures c.blocks-blocks.ensures kept.2 in
-    room_there s c.first_col-tile_from.result bs a.plan.now.residues c.of-part.result.residues.now c.loop-k.k c.loop-k.piece c.of-part.result.y _ plan low c.loop-k.invariant.pieces c.of-part.ensures.part.y c.of-part.ensures.part.residues
-
-pub put_planned_block-requires-clause-whole : goal.put_planned_block-requires-clause-whole
-put_planned_block-requires-clause-whole g c = let a = c.args in
-    let s = a.by.now.shape in
-    let bs = c.blocks-blocks.result.now in
-    let kept = c.requires.kept in
-    let to : c.row_place-next.result ≡ place_of_row s (a.row + 1) bs = c.row_place-next.ensures kept.0 kept.2 ∙ (λ i. place_of_row (kept.1 i) (a.row + 1) (sym c.blocks-blocks.ensures i)) in
-    let low : c.loop-k.k < length bs = in_column s (a.row + 1) c.loop-k.k bs c.row_place-next.result to c.loop-k-test.true in
-    let plan : IsRowsPlan s c.first_col-tile_from.result bs a.plan.now.residues = plan_kept kept.0 s a.plan.now c.first_col-tile_from.result bs kept.1 c.first_col-tile_from.ensures c.blocks-blocks.ensures kept.2 in
-    planned_at (HoldsWhole s) s c.first_col-tile_from.result bs a.plan.now.residues c.of-part.result.residues.now c.loop-k.k c.loop-k.piece c.of-part.result.y _ plan.whole low c.loop-k.invariant.pieces c.of-part.ensures.part.y c.of-part.ensures.part.residues
-
-pub put_planned_block-requires-clause-small : goal.put_planned_block-requires-clause-small
-put_planned_block-requires-clause-small g c = let a = c.args in
-    let s = a.by.now.shape in
-    let bs = c.blocks-blocks.result.now in
-    let kept = c.requires.kept in
-    let to : c.row_place-next.result ≡ place_of_row s (a.row + 1) bs = c.row_place-next.ensures kept.0 kept.2 ∙ (λ i. place_of_row (kept.1 i) (a.row + 1) (sym c.blocks-blocks.ensures i)) in
-    let low : c.loop-k.k < length bs = in_column s (a.row + 1) c.loop-k.k bs c.row_place-next.result to c.loop-k-test.true in
-    let plan : IsRowsPlan s c.first_col-tile_from.result bs a.plan.now.residues = plan_kept kept.0 s a.plan.now c.first_col-tile_from.result bs kept.1 c.first_col-tile_from.ensures c.blocks-blocks.ensures kept.2 in
-    planned_at HoldsSmall s c.first_col-tile_from.result bs a.plan.now.residues c.of-part.result.residues.now c.loop-k.k c.loop-k.piece c.of-part.result.y _ plan.small low c.loop-k.invariant.pieces c.of-part.ensures.part.y c.of-part.ensures.part.residues
+    let placed : All (IsPlaced s from_column) bs = rw (c.blocks-blocks.ensures, c.first_col-tile_from.ensures) c.requires.placed in
+    let provided = provided_at (λ (b : BlockInfo). IsProvided g.S.Samples.holds g.S.Samples.width g.S.Samples.map a.by.now a.plan.now.column.grid.from a.planes.now b) s a.row c.loop-k.k bs a.plan.now.column.grid.blocks c.row_place-first.result c.row_place-next.result _
+    c.blocks-blocks.ensures from to c.requires.provided c.loop-k.invariant.least c.loop-k-test.true in
+    let plan : IsRowsPlan s from_column bs a.plan.now.residues = plan_kept kept.0 s a.plan.now from_column bs kept.1 c.first_col-tile_from.ensures c.blocks-blocks.ensures kept.2 in
+    let part = c.of-part.ensures.part in (
+      search rules,
+      (
+        c.requires.size,
+        (
+          c.requires.fits,
+          (
+            placed c.loop-k.k _ low,
+            (
+              provided.served,
+              (
+                rw c.first_col-tile_from.ensures (areas_hold s a.plan.now.column.grid.from _ a.planes.now c.loop-k.planes c.loop-k.invariant.areas provided.part),
+                (
+                  c.loop-k.invariant.range,
+                  (
+                    record { residues = refl; y = refl; u = rw part.y part.u; v = part.v },
+                    (
+                      room_there s from_column bs a.plan.now.residues c.of-part.result.residues.now c.loop-k.k c.loop-k.piece c.of-part.result.y _ plan low c.loop-k.invariant.pieces part.y part.residues,
+                      (
+                        planned_at (HoldsWhole s) s from_column bs a.plan.now.residues c.of-part.result.residues.now c.loop-k.k c.loop-k.piece c.of-part.result.y _ plan.whole low c.loop-k.invariant.pieces part.y part.residues,
+                        planned_at HoldsSmall s from_column bs a.plan.now.residues c.of-part.result.residues.now c.loop-k.k c.loop-k.piece c.of-part.result.y _ plan.small low c.loop-k.invariant.pieces part.y part.residues,
+                      ),
+                    ),
+                  ),
+                ),
+              ),
+            ),
+          ),
+        ),
+      ),
+    )
 
 pub loop-k-preserved : goal.loop-k-preserved
 loop-k-preserved g c = let a = c.args in
