@@ -129,6 +129,43 @@ fn long_runs_end_as_they_are_to(rt: HostRuntime) -> Result<(), Fail> {
     Ok(())
 }
 
+fn behind_the_header(file: &[u8]) -> &[u8] {
+    if file.len() < 32 {
+        file
+    } else {
+        file.split_at(32).1
+    }
+}
+
+// Files of depth 8, 10, 12, and 8 again.
+const DEPTHS: [&str; 4] = [
+    "one key frame of 8x8",
+    "depth 10",
+    "depth 12 in 4:4:4",
+    "two key frames",
+];
+
+#[test]
+fn the_depth_changes_at_key_frames(rt: HostRuntime) -> Result<(), Fail> {
+    let mut file = Vec::new(rt.alloc());
+    let mut text = Vec::new(rt.alloc());
+    for name in DEPTHS {
+        let Some(row) = row_named(intra_decode::TABLES.as_slice(), name) else {
+            return Err(Fail::new(name));
+        };
+        let more = if file.is_empty() {
+            row.input
+        } else {
+            behind_the_header(row.input)
+        };
+        file.extend_from_slice(more)?;
+        text.extend_from_slice(row.output)?;
+    }
+    let ran = run_words(&rt, rt.alloc(), &["decode"], &file, &NONE)?;
+    assert_eq!(rt; (ran.status.code(), ran.out.bytes()), (0, text.as_slice()));
+    Ok(())
+}
+
 // What vpxdec writes of them.
 #[test]
 fn drawn_streams_are_decoded(rt: HostRuntime) -> Result<(), Fail> {
