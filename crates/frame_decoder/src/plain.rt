@@ -19,29 +19,20 @@ use inter_modes::mode_info;
 use mode_syntax::{SquareAt, read_partition};
 use planes::{FramePlanes, Picture};
 use tile_reader::TileReader;
-use vp9_types::{Partition, Rule};
+use vp9_types::{Partition, Rule, Sample};
 
 /// What the blocks of a frame are read by, and the pictures that they are predicted from.
 #[derive(Drop)]
-pub struct PlainSources<'a, P: FilterSample> {
+pub struct PlainSources<'a, P: Sample> {
     pub reading: FrameSources<'a>,
     pub pictures: Rebuilding<'a, Picture<P>>,
 }
 
 /// Room for one block: its residue, and what it is put in by.
 #[derive(Drop)]
-pub(crate) struct BlockRoom<P: FilterSample> {
+pub(crate) struct BlockRoom<'a, P: Sample> {
     pub residues: BlockResidues,
-    pub rebuild: RebuildRoom<P>,
-}
-
-impl<P: FilterSample> BlockRoom<P> {
-    pub fn new() -> BlockRoom<P> {
-        BlockRoom {
-            residues: BlockResidues::new(),
-            rebuild: RebuildRoom::new(),
-        }
-    }
+    pub rebuild: &'a mut RebuildRoom<P>,
 }
 
 /// A block that starts inside the frame.
@@ -50,7 +41,7 @@ fn decode_block<P: FilterSample, const COUNTS: bool>(
     reader: &mut CountingReader<COUNTS>,
     column: &mut TileColumn,
     planes: &mut FramePlanes<P>,
-    room: &mut BlockRoom<P>,
+    room: &mut BlockRoom<'_, P>,
     at: BlockAt,
 ) -> Result<(), Rule>
     requires ready { IsReady by.now.reading.setting column.old }
@@ -87,7 +78,7 @@ fn decode_block<P: FilterSample, const COUNTS: bool>(
         at.tile_from,
         &block,
         &room.residues,
-        &mut room.rebuild,
+        room.rebuild,
     );
     column.grid.put(listed);
     Ok(())
@@ -95,16 +86,16 @@ fn decode_block<P: FilterSample, const COUNTS: bool>(
 
 /// What the blocks of a tile are read and put in by, its bools, its column, the frame's planes, and room for one block.
 #[derive(Drop)]
-pub(crate) struct PlainReader<'a, 'b, 'c, P: FilterSample, const COUNTS: bool> {
+pub(crate) struct PlainReader<'a, 'b, 'c, 'd, P: Sample, const COUNTS: bool> {
     pub by: &'a PlainSources<'b, P>,
     pub reader: &'a mut CountingReader<'c, COUNTS>,
     pub column: &'a mut TileColumn,
     pub planes: &'a mut FramePlanes<P>,
-    pub room: &'a mut BlockRoom<P>,
+    pub room: &'a mut BlockRoom<'d, P>,
 }
 
-impl<'a, 'b, 'c, P: FilterSample, const COUNTS: bool> TileReader
-    for PlainReader<'a, 'b, 'c, P, COUNTS> {
+impl<'a, 'b, 'c, 'd, P: FilterSample, const COUNTS: bool> TileReader
+    for PlainReader<'a, 'b, 'c, 'd, P, COUNTS> {
     ghost use Rattle.std.specs.Prelude.{Some};
     ghost use Rattle.std.specs.Borrow.{GName};
     ghost use Rattle.counting_reader.specs.Code.{standing_of};

@@ -13,6 +13,8 @@ ghost use Rattle.frame_state.specs.Reading.{FrameRead, nothing_read, read_all_ti
 ghost use Rattle.frame_decoder.specs.Code.{pictures_of, tile_of, walk_of, ArePlanes, CanPredict, HoldsRead, GivesRead, GivesTile, GivesWhole};
 
 use crate::plain::{BlockRoom, PlainReader, PlainSources};
+use block_plan::BlockResidues;
+use block_rebuild::RebuildRoom;
 use counting_reader::CountingReader;
 use frame_headers::tile_span;
 use frame_state::{TileColumn, TilePlaces, superblocks};
@@ -28,7 +30,7 @@ const SUPERBLOCK: u8 = 3;
 
 /// The blocks of a tile.
 fn read_tile<P: FilterSample, const COUNTS: bool>(
-    plain: &mut PlainReader<'_, '_, '_, P, COUNTS>,
+    plain: &mut PlainReader<'_, '_, '_, '_, P, COUNTS>,
     tile: &TilePlaces,
 ) -> Result<(), Rule>
     requires ready { IsReady plain.old.by.now.reading.setting plain.old.column.now }
@@ -87,7 +89,11 @@ fn decode_blocks<P: FilterSample, const COUNTS: bool>(
     ensures same { OnOk result (SameColumns column.old column.new) }
     ensures room { OnOk result (column.old.grid.room ≤ column.new.grid.room + 64 * (superblocks_along (column.old.grid.to - column.old.grid.from) * superblocks_along (tile.now.row_to - tile.now.row_from))) }
 {
-    let mut room = BlockRoom::new();
+    let mut rebuild = RebuildRoom::new();
+    let mut room = BlockRoom {
+        residues: BlockResidues::new(),
+        rebuild: &mut rebuild,
+    };
     let mut plain = PlainReader {
         by,
         reader,
