@@ -11,7 +11,7 @@ use crate::blocks::{grid_of, next};
 use block_plan::BlockGrid;
 use frame_headers::{Features, LoopDeltas, LoopFilter, Segmentation};
 use loop_edges::EdgeSetting;
-use loop_filter::filter_frame;
+use loop_filter::{EdgeSample, filter_frame};
 use planes::{FramePlanes, SamplePlane};
 use std::alloc::{AllocError, Global};
 use vp9_types::{Depth, Sample, Shape};
@@ -89,7 +89,7 @@ fn draw<P: Sample>(planes: &mut FramePlanes<P>, shape: &Shape, seed: u32)
     fill(&mut planes.v, seed.wrapping_add(3));
 }
 
-fn filter_frames<P: Sample>(
+fn filter_frames<P: EdgeSample>(
     planes: &mut FramePlanes<P>,
     f: &EdgeSetting,
     grid: &BlockGrid,
@@ -119,7 +119,7 @@ fn add_up<P: Sample>(sum: u64, plane: &SamplePlane<P>) -> u64 {
     sum
 }
 
-fn sum_of<P: Sample>(alloc: Global, level: u8, count: u32) -> Result<u64, AllocError>
+fn sum_of<P: EdgeSample>(alloc: Global, level: u8, count: u32) -> Result<u64, AllocError>
     requires kept { 255 ≤ P.greatest }
 {
     let f = setting_of(level);

@@ -1,26 +1,51 @@
+ghost use Rattle.std.specs.Prelude.{◌≡◌, length};
+
+use inter_lanes::FilterSample;
 use inter_scaled::LINES;
 use intra_predict::Scratch;
-use vp9_types::Sample;
 
 /// How many samples the greatest block has.
-const GREATEST_BLOCK: usize = 4096;
+pub(crate) const GREATEST_BLOCK: usize = 4096;
 
-/// Room to rebuild a block in. It is made once, since making it clears it; what it holds between blocks doesn't matter.
+/// How many samples an inter block is predicted in: two predictions, and the lines that they are made of.
+const BUFFER: usize = 2 * GREATEST_BLOCK + LINES;
+
+/// Room to rebuild a block in, whatever its samples are kept as. It is made once, since making it clears it; what it holds between
+/// blocks doesn't matter.
 #[derive(Drop)]
-pub struct RebuildRoom<P: Sample> {
+pub struct RebuildRoom {
     pub(crate) intra: Scratch,
-    pub(crate) lines: [P; LINES],
-    pub(crate) first: [P; GREATEST_BLOCK],
-    pub(crate) second: [P; GREATEST_BLOCK],
+    bytes: [u8; BUFFER],
+    words: [u16; BUFFER],
 }
 
-impl<P: Sample> RebuildRoom<P> {
+impl RebuildRoom {
     pub fn new() -> Self {
         RebuildRoom {
             intra: Scratch::new(),
-            lines: [P::narrow(0); LINES],
-            first: [P::narrow(0); GREATEST_BLOCK],
-            second: [P::narrow(0); GREATEST_BLOCK],
+            bytes: [0; BUFFER],
+            words: [0; BUFFER],
         }
+    }
+}
+
+/// What the samples of a frame are kept as while its blocks are put in.
+pub trait RoomSample: FilterSample {
+    /// The room's samples of this kind.
+    fn buffer(room: &mut RebuildRoom) -> &mut [Self]
+        ensures { length result.now ≡ 8192 + lines };
+}
+
+impl RoomSample for u8 {
+    #[inline(always)]
+    fn buffer(room: &mut RebuildRoom) -> &mut [u8] {
+        &mut room.bytes
+    }
+}
+
+impl RoomSample for u16 {
+    #[inline(always)]
+    fn buffer(room: &mut RebuildRoom) -> &mut [u16] {
+        &mut room.words
     }
 }

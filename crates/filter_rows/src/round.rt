@@ -13,13 +13,13 @@ use crate::buffer::{move_to_next, new_buffer};
 use crate::strips::{Strips, TakesRows};
 use block_plan::Neighbours;
 use loop_edges::EdgeSetting;
-use loop_filter::filter_next;
+use loop_filter::{EdgeSample, filter_next};
 use planes::FramePlanes;
 use std::alloc::{AllocError, Global};
-use vp9_types::{Plane, Sample};
+use vp9_types::Plane;
 
 /// Puts the samples of a row of superblocks into the buffer, which awaits them, and filters the row.
-pub fn filter_next_row<P: Sample, S: Strips<Kept = P>, N: Neighbours>(
+pub fn filter_next_row<P: EdgeSample, S: Strips<Kept = P>, N: Neighbours>(
     planes: &mut FramePlanes<P>,
     f: &EdgeSetting,
     blocks: &N,
@@ -42,7 +42,7 @@ pub fn filter_next_row<P: Sample, S: Strips<Kept = P>, N: Neighbours>(
 }
 
 /// Filters a frame row by row, in a buffer of its own. Whoever takes the rows gets the filtered frame.
-pub fn filter_by_rows<P: Sample, S: Strips<Kept = P>, N: Neighbours, T: TakesRows<Kept = P>>(
+pub fn filter_by_rows<P: EdgeSample, S: Strips<Kept = P>, N: Neighbours, T: TakesRows<Kept = P>>(
     alloc: Global,
     f: &EdgeSetting,
     blocks: &N,

@@ -1,13 +1,18 @@
--- Squares of eight rows of eight samples, loaded and put.
-use Rattle.std.proofs.Common.{below_more, set, refl, ◌≡◌, ◌<◌, ◌≤◌, ◌+◌, ◌*◌, ◌-◌, ℕ, inl, inr, sym, ◌∙◌, arith, ap, List, length, get_or, drop, ◌++◌, replicate, slice_index, map, min}
+-- Squares of eight rows of eight samples, loaded and stored.
+use Rattle.std.proofs.Common.{◌≡◌, ◌<◌, ◌≤◌, ◌+◌, ◌*◌, ◌-◌, ℕ, inl, inr, sym, ◌∙◌, arith, ap, List, length, get_or, take, drop, ◌++◌, replicate, slice_index, map}
 use Rattle.std.proofs.lemmas.Bool.{cases_lt}
 use Rattle.std.proofs.lemmas.Bool.Decides.{nat_tests}
-use Rattle.std.proofs.lemmas.List.{get_or_append_left, get_or-append_right, get_or-drop, get_or-replicate, get_or_past, length-map, map-set, get_or-set_other}
-use Rattle.std.proofs.lemmas.Grind.{get_or-set_at}
+use Rattle.std.proofs.lemmas.List.{get_or_append_left, get_or-append_right, get_or-drop, get_or-replicate, get_or_past, get_or-map, length-map, length-take, length-drop}
+use Rattle.std.proofs.lemmas.Simd.{put_chunk_whole}
+use lib.Lanes.{put_chunk}
+use mir.Syntax.{w8, w16, cast, unsigned}
+use borrow.Rule.Simd.Lanes.{act1}
+use borrow.Table.Row.{s_int}
+use borrow.Rule.Slice.PartMut.{put_mid}
 use Rattle.vp9_types.specs.Maps.{Map, rows_of, with_block}
 use Rattle.planes.specs.declared.area.Area.{Area}
-use Rattle.planes.specs.Planes.{PlaneSamples, plane_map, moved_to, lower_end, right_end, with_part}
-use Rattle.planes.proofs.RowLemmas.{with_block_same, one_row_more, no_rows}
+use Rattle.planes.specs.Planes.{PlaneSamples, plane_map, moved_to, right_end, with_part}
+use Rattle.planes.proofs.RowLemmas.{with_block_same, one_row_more, add-sub_left, row_put}
 use Rattle.planes.proofs.PlaneLemmas.{area_map}
 
 -- right of its samples a plane shows 0
@@ -31,46 +36,49 @@ part_of_eight p row column count now long few is past j low = elim (cases_lt j c
       ∙ sym (right_zero p.area p.samples row (column + j) (omega (arith, past (omega arith))))
 ]
 
--- one sample more that stands for its number
-pub value_more : {X : Type 0} (f : X → ℕ) (to : List X) (n : ℕ) (x : X) (row : List ℕ) → n < length to → f x ≡ slice_index row n
-    → ((j : ℕ) → j < n → slice_index (map f to) j ≡ slice_index row j) → (j : ℕ) → j < n + 1 → slice_index (map f (set to n x)) j ≡ slice_index row j
-value_more f to n x row low is so =
-    below_more (λ j. slice_index (map f (set to n x)) j ≡ slice_index row j) n
-    (λ j h. ap (λ (l : List ℕ). slice_index l j) (map-set f to n x) ∙ (get_or-set_other (map f to) n j (f x) 0 (λ same. omega arith) ∙ so j h))
-    (ap (λ (l : List ℕ). slice_index l n) (map-set f to n x) ∙ (get_or-set_at (map f to) n n (f x) 0 refl (omega (arith, low, length-map to f)) ∙ is))
+-- a row of a square is stored
+pub row_set : (i : ℕ) (block now : List ℕ) → i < 8 → length block ≡ 64 → length now ≡ 8
+    → rows_of 8 (put_mid (i * 8) (i * 8 + 8 - i * 8) block now) ≡ with_block (rows_of 8 block) i 0 1 8 (λ _ j. slice_index now j)
+row_set i block now low long eight =
+    let at : i * 8 ≡ i * 8 + 0 = omega arith in
+    rw (add-sub_left, at) (row_put 8 block now i 0 8 (omega arith) (omega (arith, long)) eight)
 
--- a row put into a plane, as far as it is in the area
-pub row_is_part : (a : Area) (m new : Map) (row column n : ℕ) (w x : List ℕ) → row < lower_end a → n ≡ min 8 (right_end a - column)
-    → new ≡ with_block m row column 1 n (λ _ j. slice_index w j) → ((j : ℕ) → j < n → slice_index w j ≡ slice_index x j)
-    → new ≡ with_part a m row column 1 8 (λ _ j. slice_index x j)
-row_is_part a m new row column n w x inside wide is same =
-    let one : min 1 (lower_end a - row) ≡ 1 = omega (arith, inside) in
-    is ∙ rw (one, ← wide) (with_block_same m row column 1 n _ _ (λ _ j _ low. same j low))
+-- lanes as bytes
+abbrev pub byte_of : ℕ → ℕ
+byte_of = act1 (cast unsigned unsigned w8) (s_int w16) (s_int w8)
 
-pub no_part : (a : Area) (m : Map) (row column : ℕ) (b : Map) → lower_end a ≤ row → m ≡ with_part a m row column 1 8 b
-no_part a m row column b below =
-    let none : min 1 (lower_end a - row) ≡ 0 = omega (arith, below) in
-    rw none (sym (no_rows m row column (min 8 (right_end a - column)) b))
+byte_same : (n : ℕ) → n ≤ 255 → byte_of n ≡ n
+byte_same n small = omega (arith, small)
 
--- the first row of a square is put
-pub first_part : (a : Area) (m new : Map) (row column : ℕ) (x : List ℕ) (f : Map) → new ≡ with_part a m row column 1 8 (λ _ j. slice_index x j)
-    → ((j : ℕ) → j < 8 → slice_index x j ≡ f 0 j) → new ≡ with_part a m row column 1 8 f
-first_part a m new row column x f is holds =
-    is ∙ with_block_same m row column _ _ _ f (λ i j first low. let zero : i ≡ 0 = omega (arith, first) in rw zero (holds j (omega (arith, low))))
+-- a row of a square is stored in bytes
+pub bytes_set : (i : ℕ) (block row : List ℕ) → i < 8 → length block ≡ 64 → length row ≡ 8 → ((j : ℕ) → j < 8 → slice_index row j ≤ 255)
+    → rows_of 8 (put_mid (i * 8) (i * 8 + 8 - i * 8) block (put_chunk 0 (take (i * 8 + 8 - i * 8) (drop (i * 8) block)) (map byte_of row)))
+    ≡ with_block (rows_of 8 block) i 0 1 8 (λ _ j. slice_index row j)
+bytes_set i block row low long eight small =
+    let bytes : List ℕ = map byte_of row in
+    let all : length bytes ≡ 8 = length-map row byte_of ∙ eight in
+    let part : length (take (i * 8 + 8 - i * 8) (drop (i * 8) block)) ≡ length bytes =
+    omega (arith, low, long, all, length-take (i * 8 + 8 - i * 8) (drop (i * 8) block), length-drop (i * 8) block) in
+    ap (λ (w : List ℕ). rows_of 8 (put_mid (i * 8) (i * 8 + 8 - i * 8) block w)) (put_chunk_whole (take (i * 8 + 8 - i * 8) (drop (i * 8) block)) bytes part)
+    ∙ (row_set i block bytes low long all
+    ∙ with_block_same (rows_of 8 block) i 0 1 8 _ _ (λ _ j _ lt. get_or-map byte_of row j 0 0 (omega (arith, lt, eight)) ∙ byte_same (slice_index row j) (small j lt)))
 
--- one row more is put
-pub one_part_more : (a b : Area) (m old new : Map) (row column i : ℕ) (x : List ℕ) (f : Map) → b ≡ a → old ≡ with_part a m row column i 8 f
-    → new ≡ with_part b old (row + i) column 1 8 (λ _ j. slice_index x j) → ((j : ℕ) → j < 8 → slice_index x j ≡ f i j)
-    → new ≡ with_part a m row column (i + 1) 8 f
-one_part_more a b m old new row column i x f same so is holds =
-    let n : ℕ = min 8 (right_end a - column) in elim (cases_lt (row + i) (lower_end a)) [
-      | inl there ↦
-          let all : min i (lower_end a - row) ≡ i = omega (arith, there) in
-          let one : min 1 (lower_end a - (row + i)) ≡ 1 = omega (arith, there) in
-          let more : min (i + 1) (lower_end a - row) ≡ i + 1 = omega (arith, there) in
-          is ∙ rw (same, so, all, one, more) (with_block_same (with_block m row column i n f) (row + i) column 1 n _ _ (λ _ j _ low. holds j (omega (arith, low))) ∙ one_row_more m row column i n f)
-      | inr gone ↦
-          let none : min 1 (lower_end a - (row + i)) ≡ 0 = omega (arith, gone) in
-          let all : min (i + 1) (lower_end a - row) ≡ min i (lower_end a - row) = omega (arith, gone) in
-          is ∙ rw (same, so, none, all) (no_rows (with_block m row column (min i (lower_end a - row)) n f) (row + i) column n (λ _ j. slice_index x j))
-    ]
+-- one row more is stored
+pub stored : (m old new : Map) (i : ℕ) (row : List ℕ) (f : Map) → old ≡ with_block m 0 0 i 8 f
+    → new ≡ with_block old i 0 1 8 (λ _ j. slice_index row j)
+    → ((j : ℕ) → j < 8 → slice_index row j ≡ f i j) → new ≡ with_block m 0 0 (i + 1) 8 f
+stored m old new i row f so is holds =
+    let at : i ≡ 0 + i = omega arith in
+    is ∙ rw so (with_block_same (with_block m 0 0 i 8 f) i 0 1 8 _ _ (λ k j _ low. holds j low) ∙ (ap (λ (k : ℕ). with_block (with_block m 0 0 i 8 f) k 0 1 8 (λ _ j. f i j)) at ∙ one_row_more m 0 0 i 8 f))
+
+inside : (m f : Map) (i j : ℕ) → i < 8 → j < 8 → with_block m 0 0 8 8 f i j ≡ f i j
+unfolding with_block
+inside m f i j low narrow = grind (arith, nat_tests)
+
+pub all_stored : (new m f : Map) → new ≡ with_block m 0 0 8 8 f → (i j : ℕ) → i < 8 → j < 8 → new i j ≡ f i j
+all_stored new m f is i j low narrow = ap (λ (g : Map). g i j) is ∙ inside m f i j low narrow
+
+-- a square of samples may stand for what it holds
+pub part_same : (a : Area) (m : Map) (row column : ℕ) (b f : Map) → ((i j : ℕ) → i < 8 → j < 8 → b i j ≡ f i j)
+    → with_part a m row column 8 8 b ≡ with_part a m row column 8 8 f
+part_same a m row column b f same = with_block_same m row column _ _ b f (λ i j low narrow. same i j (omega arith) (omega arith))

@@ -11,16 +11,16 @@ ghost use Rattle.line_filter.specs.Code.{IsAcross, IsAlong, IsEdgeIn, IsAcrossBy
 
 use crate::edge::{Edge, FilterWidth, Limits, Pass};
 use crate::far_lanes::filtered_far_lanes;
+use crate::kept::EdgeSample;
 use crate::lanes::filtered_by;
-use crate::squares::{lanes_at, put_lanes};
+use crate::squares::lanes_at;
 use crate::turn::turned;
 use planes::SamplePlane;
-use vp9_types::Sample;
 
 /// Filters the eight columns from a place on across the edge above it. Each width has a `SITE` of its own, and is compiled
 /// by itself.
 #[inline(never)]
-fn filter_down<P: Sample, const SITE: usize>(
+fn filter_down<P: EdgeSample, const SITE: usize>(
     plane: &mut SamplePlane<P>,
     row: usize,
     column: usize,
@@ -35,12 +35,12 @@ fn filter_down<P: Sample, const SITE: usize>(
     ensures map { plane_map plane.new ≡ down_filtered 4 (filtered_near l wide) plane.old.area (plane_map plane.old) row column }
 {
     let lanes = filtered_by::<SITE>(&lanes_at(plane, row - 4, column), l, wide);
-    put_lanes(plane, row - 4, column, &lanes);
+    P::put_lanes(plane, row - 4, column, &lanes);
 }
 
 /// Filters the eight rows from a place on across the edge at its left, likewise.
 #[inline(never)]
-fn filter_along<P: Sample, const SITE: usize>(
+fn filter_along<P: EdgeSample, const SITE: usize>(
     plane: &mut SamplePlane<P>,
     row: usize,
     column: usize,
@@ -55,12 +55,12 @@ fn filter_along<P: Sample, const SITE: usize>(
     ensures map { plane_map plane.new ≡ along_filtered 4 (filtered_near l wide) plane.old.area (plane_map plane.old) row column }
 {
     let lanes = filtered_by::<SITE>(&turned(&lanes_at(plane, row, column - 4)), l, wide);
-    put_lanes(plane, row, column - 4, &turned(&lanes));
+    P::put_lanes(plane, row, column - 4, &turned(&lanes));
 }
 
 /// The same as `filter_down` by the filters of all widths.
 #[inline(never)]
-fn filter_far_down<P: Sample>(plane: &mut SamplePlane<P>, row: usize, column: usize, l: Limits)
+fn filter_far_down<P: EdgeSample>(plane: &mut SamplePlane<P>, row: usize, column: usize, l: Limits)
     requires inside { IsAcrossBy 8 plane.old.area row column }
     requires range { IsAtMost (2 * l.half - 1) (plane_map plane.old) }
     requires fits { 2 * l.half - 1 ≤ P.greatest }
@@ -71,13 +71,13 @@ fn filter_far_down<P: Sample>(plane: &mut SamplePlane<P>, row: usize, column: us
     let above = lanes_at(plane, row - 8, column);
     let below = lanes_at(plane, row, column);
     let (above, below) = filtered_far_lanes::<0>(&above, &below, l);
-    put_lanes(plane, row - 8, column, &above);
-    put_lanes(plane, row, column, &below);
+    P::put_lanes(plane, row - 8, column, &above);
+    P::put_lanes(plane, row, column, &below);
 }
 
 /// The same as `filter_along` by the filters of all widths.
 #[inline(never)]
-fn filter_far_along<P: Sample>(plane: &mut SamplePlane<P>, row: usize, column: usize, l: Limits)
+fn filter_far_along<P: EdgeSample>(plane: &mut SamplePlane<P>, row: usize, column: usize, l: Limits)
     requires inside { IsAlongBy 8 plane.old.area row column }
     requires range { IsAtMost (2 * l.half - 1) (plane_map plane.old) }
     requires fits { 2 * l.half - 1 ≤ P.greatest }
@@ -88,12 +88,12 @@ fn filter_far_along<P: Sample>(plane: &mut SamplePlane<P>, row: usize, column: u
     let left = turned(&lanes_at(plane, row, column - 8));
     let right = turned(&lanes_at(plane, row, column));
     let (left, right) = filtered_far_lanes::<1>(&left, &right, l);
-    put_lanes(plane, row, column - 8, &turned(&left));
-    put_lanes(plane, row, column, &turned(&right));
+    P::put_lanes(plane, row, column - 8, &turned(&left));
+    P::put_lanes(plane, row, column, &turned(&right));
 }
 
 #[inline(always)]
-fn filter_horizontal<P: Sample>(plane: &mut SamplePlane<P>, e: Edge)
+fn filter_horizontal<P: EdgeSample>(plane: &mut SamplePlane<P>, e: Edge)
     requires pass { e.pass ≡ Horizontal }
     requires inside { IsAcross plane.old.area e }
     requires range { IsAtMost (2 * e.limits.half - 1) (plane_map plane.old) }
@@ -110,7 +110,7 @@ fn filter_horizontal<P: Sample>(plane: &mut SamplePlane<P>, e: Edge)
 }
 
 #[inline(always)]
-fn filter_vertical<P: Sample>(plane: &mut SamplePlane<P>, e: Edge)
+fn filter_vertical<P: EdgeSample>(plane: &mut SamplePlane<P>, e: Edge)
     requires pass { e.pass ≡ Vertical }
     requires inside { IsAlong plane.old.area e }
     requires range { IsAtMost (2 * e.limits.half - 1) (plane_map plane.old) }
@@ -129,7 +129,7 @@ fn filter_vertical<P: Sample>(plane: &mut SamplePlane<P>, e: Edge)
 /// Filters the lines across an edge of a plane, or of a part of one that has the samples that the filter looks at.
 /// The samples are in the range of the depth that the limits are for.
 #[inline(always)]
-pub fn filter_edge<P: Sample>(plane: &mut SamplePlane<P>, e: Edge)
+pub fn filter_edge<P: EdgeSample>(plane: &mut SamplePlane<P>, e: Edge)
     requires inside { IsEdgeIn plane.old.area e }
     requires range { IsAtMost (2 * e.limits.half - 1) (plane_map plane.old) }
     requires fits { 2 * e.limits.half - 1 ≤ P.greatest }

@@ -5,6 +5,7 @@ mod edge;
 mod edges;
 mod far;
 mod far_lanes;
+mod kept;
 mod lanes;
 mod near;
 mod squares;
@@ -12,3 +13,4 @@ mod turn;
 
 pub use edge::{Edge, FilterWidth, Limits, Pass};
 pub use edges::filter_edge;
+pub use kept::EdgeSample;

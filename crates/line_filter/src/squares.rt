@@ -1,10 +1,10 @@
-//! Eight rows of eight samples of a plane.
+//! Eight rows of eight samples of a plane, loaded.
 
 ghost use Rattle.std.specs.Prelude.{◌≡◌, ℕ, ◌+◌, ◌<◌, ◌≤◌, slice_index, length, map};
-ghost use Rattle.planes.specs.Planes.{HasRow, StartsIn, plane_map, with_part, lower_end, right_end};
-ghost use Rattle.line_filter.specs.Code.{AreLanes, AreLanesAtMost, HasSquare};
+ghost use Rattle.planes.specs.Planes.{HasRow, StartsIn, plane_map, lower_end, right_end};
+ghost use Rattle.line_filter.specs.Code.{AreLanes, HasSquare};
 
-use crate::lanes::{Lanes, Row, loaded, stored};
+use crate::lanes::{Lanes, Row, loaded};
 use planes::SamplePlane;
 use std::simd::prelude::*;
 use vp9_types::Sample;
@@ -18,19 +18,6 @@ fn widen_into<P: Sample>(to: &mut [u16], samples: &[P])
 {
     for j in 0..to.len() {
         to[j] = samples[j].widen();
-    }
-}
-
-/// The samples of the first numbers of a row.
-#[inline(always)]
-fn narrow_into<P: Sample>(to: &mut [P], row: &Row)
-    requires few { length to.old ≤ 8 }
-    requires fits { (j : ℕ) → j < 8 → slice_index row.now j ≤ P.greatest }
-    ensures long { length to.new ≡ length to.old }
-    ensures value { (j : ℕ) → j < length to.old → slice_index (map P.value to.new) j ≡ slice_index row.now j }
-{
-    for j in 0..to.len() {
-        to[j] = P::narrow(row[j]);
     }
 }
 
@@ -123,87 +110,5 @@ pub fn lanes_at<P: Sample>(plane: &SamplePlane<P>, row: usize, column: usize) ->
         lanes_inside(plane, row, column)
     } else {
         lanes_at_end(plane, row, column)
-    }
-}
-
-/// Puts eight numbers at a row and column.
-#[inline(always)]
-fn put_row<P: Sample>(plane: &mut SamplePlane<P>, row: usize, column: usize, x: u16x8)
-    requires inside { HasRow plane.old.area row column 8 }
-    requires fits { (j : ℕ) → j < 8 → slice_index x j ≤ P.greatest }
-    ensures area { plane.new.area ≡ plane.old.area }
-    ensures map { plane_map plane.new ≡ with_part plane.old.area (plane_map plane.old) row column 1 8 (λ _ j. slice_index x j) }
-{
-    let line = plane.row_mut(row, column, 8);
-    narrow_into(line, &stored(x));
-}
-
-/// The same, where the row or a part of it may lie outside of the plane.
-#[inline(never)]
-fn put_row_at_end<P: Sample>(plane: &mut SamplePlane<P>, row: usize, column: usize, x: &Row)
-    requires above { plane.old.area.first_row ≤ row }
-    requires left { plane.old.area.first_column ≤ column }
-    requires right { column ≤ right_end plane.old.area }
-    requires fits { (j : ℕ) → j < 8 → slice_index x.now j ≤ P.greatest }
-    ensures area { plane.new.area ≡ plane.old.area }
-    ensures map { plane_map plane.new ≡ with_part plane.old.area (plane_map plane.old) row column 1 8 (λ _ j. slice_index x.now j) }
-{
-    let area = plane.area();
-    if row < area.lower_end() {
-        let count = (area.right_end() - column).min(8);
-        let line = plane.row_mut(row, column, count);
-        narrow_into(line, x);
-    }
-}
-
-#[inline(always)]
-fn put_inside<P: Sample>(plane: &mut SamplePlane<P>, row: usize, column: usize, x: &Lanes)
-    requires inside { HasSquare plane.old.area row column }
-    requires near { row ≤ 65536 }
-    requires fits { AreLanesAtMost P.greatest x.now }
-    ensures area { plane.new.area ≡ plane.old.area }
-    ensures map { (f : ℕ → ℕ → ℕ) → AreLanes x.now f → plane_map plane.new ≡ with_part plane.old.area (plane_map plane.old) row column 8 8 f }
-{
-    put_row(plane, row, column, x.r0);
-    put_row(plane, row + 1, column, x.r1);
-    put_row(plane, row + 2, column, x.r2);
-    put_row(plane, row + 3, column, x.r3);
-    put_row(plane, row + 4, column, x.r4);
-    put_row(plane, row + 5, column, x.r5);
-    put_row(plane, row + 6, column, x.r6);
-    put_row(plane, row + 7, column, x.r7);
-}
-
-#[inline(never)]
-fn put_at_end<P: Sample>(plane: &mut SamplePlane<P>, row: usize, column: usize, x: &Lanes)
-    requires inside { StartsIn plane.old.area row column }
-    requires near { row ≤ 65536 }
-    requires fits { AreLanesAtMost P.greatest x.now }
-    ensures area { plane.new.area ≡ plane.old.area }
-    ensures map { (f : ℕ → ℕ → ℕ) → AreLanes x.now f → plane_map plane.new ≡ with_part plane.old.area (plane_map plane.old) row column 8 8 f }
-{
-    put_row_at_end(plane, row, column, &stored(x.r0));
-    put_row_at_end(plane, row + 1, column, &stored(x.r1));
-    put_row_at_end(plane, row + 2, column, &stored(x.r2));
-    put_row_at_end(plane, row + 3, column, &stored(x.r3));
-    put_row_at_end(plane, row + 4, column, &stored(x.r4));
-    put_row_at_end(plane, row + 5, column, &stored(x.r5));
-    put_row_at_end(plane, row + 6, column, &stored(x.r6));
-    put_row_at_end(plane, row + 7, column, &stored(x.r7));
-}
-
-/// Puts eight rows of eight samples at a row and column. What lies outside of the plane is left out.
-#[inline(always)]
-pub fn put_lanes<P: Sample>(plane: &mut SamplePlane<P>, row: usize, column: usize, x: &Lanes)
-    requires inside { StartsIn plane.old.area row column }
-    requires fits { AreLanesAtMost P.greatest x.now }
-    ensures area { plane.new.area ≡ plane.old.area }
-    ensures map { (f : ℕ → ℕ → ℕ) → AreLanes x.now f → plane_map plane.new ≡ with_part plane.old.area (plane_map plane.old) row column 8 8 f }
-{
-    let area = plane.area();
-    if row + 8 <= area.lower_end() && column + 8 <= area.right_end() {
-        put_inside(plane, row, column, x);
-    } else {
-        put_at_end(plane, row, column, x);
     }
 }

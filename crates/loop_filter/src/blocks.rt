@@ -16,10 +16,10 @@ ghost use Rattle.loop_filter.specs.Code.{IsCellIn, CanFilterSide, CanFilterMiddl
 
 use crate::way::{PlanePass, sub_x, sub_y};
 use block_plan::BlockInfo;
-use line_filter::{Edge, FilterWidth, Limits, Pass, filter_edge};
+use line_filter::{Edge, EdgeSample, FilterWidth, Limits, Pass, filter_edge};
 use loop_edges::{CellAt, EdgeSetting, cell_edges, filter_level, limits_of};
 use planes::SamplePlane;
-use vp9_types::{Sample, Shape, halved};
+use vp9_types::{Shape, halved};
 
 /// The edge at the side of a cell.
 #[inline(always)]
@@ -73,7 +73,7 @@ fn middle_edge(shape: &Shape, way: PlanePass, at: CellAt, limits: Limits) -> Edg
 }
 
 #[inline(always)]
-fn filter_side<P: Sample>(
+fn filter_side<P: EdgeSample>(
     samples: &mut SamplePlane<P>,
     shape: &Shape,
     way: PlanePass,
@@ -97,7 +97,7 @@ fn filter_side<P: Sample>(
 }
 
 #[inline(always)]
-fn filter_middle<P: Sample>(
+fn filter_middle<P: EdgeSample>(
     samples: &mut SamplePlane<P>,
     shape: &Shape,
     way: PlanePass,
@@ -123,7 +123,7 @@ fn filter_middle<P: Sample>(
 /// The edges of a cell filtered at the limits of its block's level.
 #[inline(always)]
 #[tactic(auto, unfolding(loop_edges::specs::Edges::both_edges))]
-fn filter_edges<P: Sample>(
+fn filter_edges<P: EdgeSample>(
     samples: &mut SamplePlane<P>,
     shape: &Shape,
     way: PlanePass,
@@ -149,7 +149,7 @@ fn filter_edges<P: Sample>(
 /// The edges of a cell filtered, by its block.
 #[inline(always)]
 #[tactic(auto, unfolding(loop_edges::specs::Edges::block_edges))]
-pub fn filter_block<P: Sample>(
+pub fn filter_block<P: EdgeSample>(
     samples: &mut SamplePlane<P>,
     f: &EdgeSetting,
     way: PlanePass,

@@ -15,9 +15,9 @@ ghost use Rattle.loop_filter.specs.Code.{IsCellIn, IsRowIn, HasFilterRows, AllFi
 use crate::blocks::filter_block;
 use crate::way::{PlanePass, sub_x, sub_y};
 use block_plan::Neighbours;
+use line_filter::EdgeSample;
 use loop_edges::{CellAt, EdgeSetting};
 use planes::SamplePlane;
-use vp9_types::Sample;
 
 /// Places of 8x8 luma samples along a cell.
 #[inline(always)]
@@ -42,7 +42,7 @@ fn cells_along(sub: bool, end: u32, s: u32) -> u32
 }
 
 #[inline(always)]
-fn filter_cell<P: Sample, N: Neighbours>(
+fn filter_cell<P: EdgeSample, N: Neighbours>(
     samples: &mut SamplePlane<P>,
     f: &EdgeSetting,
     way: PlanePass,
@@ -66,7 +66,7 @@ fn filter_cell<P: Sample, N: Neighbours>(
 
 /// A row of a superblock's cells, from left to right.
 #[inline(always)]
-fn filter_cell_row<P: Sample, N: Neighbours>(
+fn filter_cell_row<P: EdgeSample, N: Neighbours>(
     samples: &mut SamplePlane<P>,
     f: &EdgeSetting,
     way: PlanePass,
@@ -105,7 +105,7 @@ fn filter_cell_row<P: Sample, N: Neighbours>(
 
 /// A pass over a superblock: its rows of cells, from top to bottom. It is a part of its callers, which name plane and pass.
 #[inline(always)]
-pub fn filter_pass<P: Sample, N: Neighbours>(
+pub fn filter_pass<P: EdgeSample, N: Neighbours>(
     samples: &mut SamplePlane<P>,
     f: &EdgeSetting,
     way: PlanePass,

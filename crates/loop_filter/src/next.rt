@@ -9,13 +9,13 @@ ghost use Rattle.loop_filter.specs.Laws.{IsNextOf};
 
 use crate::rows::filter_row;
 use block_plan::Neighbours;
+use line_filter::EdgeSample;
 use loop_edges::EdgeSetting;
 use planes::FramePlanes;
-use vp9_types::Sample;
 
 /// As `filter_row`, in a buffer that need not have more of the frame than the row's samples before the filter and the pending
 /// rows above them: it leaves rows of the filtered frame, and the pending ones of the next row.
-pub fn filter_next<P: Sample, N: Neighbours>(
+pub fn filter_next<P: EdgeSample, N: Neighbours>(
     planes: &mut FramePlanes<P>,
     f: &EdgeSetting,
     blocks: &N,

@@ -15,15 +15,15 @@ ghost use Rattle.loop_filter.specs.Code.{HasFilterRows, HoldsFilterRows, HasArea
 use crate::cells::filter_pass;
 use crate::way::PlanePass;
 use block_plan::Neighbours;
-use line_filter::Pass;
+use line_filter::{EdgeSample, Pass};
 use loop_edges::EdgeSetting;
 use planes::{FramePlanes, SamplePlane};
-use vp9_types::{Plane, Sample};
+use vp9_types::Plane;
 
 /// A superblock of a plane: all its vertical edges, then all its horizontal ones.
 #[inline(always)]
 #[tactic(auto, unfolding(loop_edges::specs::Edges::superblock_edges), using(crate::proofs::Walks::two_lists))]
-fn filter_superblock<P: Sample, N: Neighbours>(
+fn filter_superblock<P: EdgeSample, N: Neighbours>(
     samples: &mut SamplePlane<P>,
     f: &EdgeSetting,
     plane: Plane,
@@ -69,7 +69,7 @@ fn filter_superblock<P: Sample, N: Neighbours>(
 
 /// A row of superblocks of a plane, from left to right.
 #[inline(always)]
-fn filter_plane<P: Sample, N: Neighbours>(
+fn filter_plane<P: EdgeSample, N: Neighbours>(
     samples: &mut SamplePlane<P>,
     f: &EdgeSetting,
     plane: Plane,
@@ -96,7 +96,7 @@ fn filter_plane<P: Sample, N: Neighbours>(
 /// Filters a row of superblocks of a frame, in place. The planes are whole, or parts that have the row's samples and the
 /// eight rows above it, which the filter goes on changing; those above them it leaves. The blocks are those of the whole
 /// frame, asked for in this row alone. The samples are what the rows before have left.
-pub fn filter_row<P: Sample, N: Neighbours>(
+pub fn filter_row<P: EdgeSample, N: Neighbours>(
     planes: &mut FramePlanes<P>,
     f: &EdgeSetting,
     blocks: &N,
@@ -121,7 +121,7 @@ pub fn filter_row<P: Sample, N: Neighbours>(
 }
 
 /// Filters a frame in place, row after row of superblocks. The planes are whole.
-pub fn filter_frame<P: Sample, N: Neighbours>(
+pub fn filter_frame<P: EdgeSample, N: Neighbours>(
     planes: &mut FramePlanes<P>,
     f: &EdgeSetting,
     blocks: &N,

@@ -1,6 +1,6 @@
 //! Drawn pictures with drawn blocks, filtered, beside what tools/vectors.py filter makes of them line by line.
 
-ghost use Rattle.std.specs.Prelude.{◌≡◌, ◌+◌, ℕ, ◌≤◌, ◌<◌, slice_index, length, IfOk};
+ghost use Rattle.std.specs.Prelude.{◌≡◌, ◌+◌, ℕ, ◌≤◌, ◌<◌, slice_index, length, map, IfOk};
 ghost use Rattle.vp9_types.specs.Maps.{IsAtMost};
 ghost use Rattle.vp9_types.specs.Shapes.{mi_rows, mi_cols};
 ghost use Rattle.vp9_types.specs.Sizes.{greatest};
@@ -18,14 +18,15 @@ use block_plan::{
 };
 use frame_headers::{Features, LoopDeltas, LoopFilter, SegmentFeatures, Segmentation};
 use loop_edges::EdgeSetting;
-use loop_filter::filter_frame;
+use loop_filter::{EdgeSample, filter_frame};
 use planes::{FramePlanes, SamplePlane};
 use std::alloc::{AllocError, Global};
 use std::test::Fail;
 use test_draws::{Digest, Draws};
 use vp9_tables::max_tx_size;
 use vp9_types::{
-    BlockSize, Depth, InterMode, InterpFilter, IntraMode, Plane, ReferenceFrame, Shape, TxSize,
+    BlockSize, Depth, InterMode, InterpFilter, IntraMode, Plane, ReferenceFrame, Sample, Shape,
+    TxSize,
 };
 
 /// A frame's filter, the seed of its samples, and the checksums of its planes before and after. A feature of 100 is none.
@@ -230,47 +231,48 @@ fn grid_of(alloc: Global, shape: &Shape, numbers: &[[u8; 8]]) -> Result<BlockGri
 }
 
 /// Draws a row of samples.
-fn draw_row(line: &mut [u16], y: usize, one: u32, most: u16, draws: &mut Draws)
+fn draw_row<P: Sample>(line: &mut [P], y: usize, one: u32, most: u16, draws: &mut Draws)
     requires one { one ≤ 16 }
     requires y { y ≤ 65536 }
-    ensures small { (k : ℕ) → slice_index line.new k ≤ most }
+    requires kept { most ≤ P.greatest }
+    ensures small { (k : ℕ) → slice_index (map P.value line.new) k ≤ most }
     ensures long { length line.new ≡ length line.old }
 {
     for x in 0..line.len() {
         let spread = (SPREADS[(y / 16 + 3 * (x / 16)) % 8] * one).max(1);
         let base = 100 * one + ((x / 8 * 5 + y / 8 * 3) % 11) as u32 * one / 2;
         let sample = base + draws.below(spread);
-        line[x] = (sample as u16).min(most);
+        line[x] = P::narrow((sample as u16).min(most));
     }
 }
 
-fn fill(plane: &mut SamplePlane, one: u32, most: u16, seed: u32)
+fn fill<P: Sample>(plane: &mut SamplePlane<P>, one: u32, most: u16, seed: u32)
     requires one { one ≤ 16 }
+    requires kept { most ≤ P.greatest }
     requires small { IsAtMost most (plane_map plane.old) }
     ensures area { plane.new.area ≡ plane.old.area }
     ensures small { IsAtMost most (plane_map plane.new) }
 {
     let area = plane.area();
-    let mut line = [0; 1024];
     let mut draws = Draws::new(seed);
-    let columns = area.columns.min(1024);
     for y in 0..area.rows {
-        let part = &mut line[..columns];
-        draw_row(part, y, one, most, &mut draws);
-        plane.put_block(area.first_row + y, area.first_column, 1, columns, part);
+        let line = plane.row_mut(area.first_row + y, area.first_column, area.columns);
+        draw_row(line, y, one, most, &mut draws);
     }
 }
 
-fn checksum(plane: &SamplePlane) -> u64 {
+fn checksum<P: Sample>(plane: &SamplePlane<P>) -> u64 {
     let area = plane.area();
     let mut digest = Digest::new();
     for y in 0..area.rows {
-        digest.add_samples(plane.row(area.first_row + y, area.first_column, area.columns));
+        for sample in plane.row(area.first_row + y, area.first_column, area.columns) {
+            digest.add(u64::from(sample.widen()));
+        }
     }
     digest.sum()
 }
 
-fn sums_of(planes: &FramePlanes) -> [u64; 3] {
+fn sums_of<P: Sample>(planes: &FramePlanes<P>) -> [u64; 3] {
     [
         checksum(&planes.y),
         checksum(&planes.u),
@@ -288,7 +290,8 @@ fn one_of(depth: Depth) -> u32
     }
 }
 
-fn draw(planes: &mut FramePlanes, shape: &Shape, seed: u32)
+fn draw<P: Sample>(planes: &mut FramePlanes<P>, shape: &Shape, seed: u32)
+    requires kept { greatest shape.now.depth ≤ P.greatest }
     requires sizes { HasSizes shape.now planes.old }
     requires range { IsInRange shape.now.depth planes.old }
     ensures sizes { HasSizes shape.now planes.new }
@@ -302,26 +305,34 @@ fn draw(planes: &mut FramePlanes, shape: &Shape, seed: u32)
 }
 
 /// The checksums before and after.
-fn sums(alloc: Global, case: &Case, numbers: &[[u8; 8]]) -> Result<([u64; 3], [u64; 3]), AllocError>
-    requires w { case.now.w ≤ 65536 }
-    requires h { case.now.h ≤ 65536 }
+fn sums<P: EdgeSample>(
+    alloc: Global,
+    f: &EdgeSetting,
+    seed: u32,
+    numbers: &[[u8; 8]],
+) -> Result<([u64; 3], [u64; 3]), AllocError>
+    requires size { FitsPlanes f.now.shape }
+    requires kept { greatest f.now.shape.depth ≤ P.greatest }
 {
-    let f = setting_of(case);
     let grid = grid_of(alloc, &f.shape, numbers)?;
-    let mut planes = FramePlanes::new(alloc, &f.shape)?;
-    draw(&mut planes, &f.shape, case.seed);
+    let mut planes: FramePlanes<P> = FramePlanes::new(alloc, &f.shape)?;
+    draw(&mut planes, &f.shape, seed);
     let before = sums_of(&planes);
-    filter_frame(&mut planes, &f, &grid);
+    filter_frame(&mut planes, f, &grid);
     Ok((before, sums_of(&planes)))
 }
 
-/// Whether the drawn samples, and what becomes of them, are as told.
+/// Whether the drawn samples, and what becomes of them, are as told, in two bytes a sample and in one.
 fn is_as_told(alloc: Global, case: &Case, numbers: &[[u8; 8]]) -> Result<bool, AllocError> {
     if case.w > 65536 || case.h > 65536 {
         return Ok(false);
     }
-    let (before, after) = sums(alloc, case, numbers)?;
-    Ok(before == case.drawn && after == case.filtered)
+    let f = setting_of(case);
+    let told = (case.drawn, case.filtered);
+    if f.shape.depth == Depth::Eight && sums::<u8>(alloc, &f, case.seed, numbers)? != told {
+        return Ok(false);
+    }
+    Ok(sums::<u16>(alloc, &f, case.seed, numbers)? == told)
 }
 
 #[test]

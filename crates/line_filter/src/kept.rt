@@ -1,0 +1,92 @@
+//! Eight rows of eight samples put into a plane, by what it keeps a sample as.
+
+ghost use Rattle.std.specs.Prelude.{◌≡◌, ℕ, ◌<◌, ◌≤◌, slice_index, length};
+ghost use Rattle.vp9_types.specs.Maps.{rows_of, with_block};
+ghost use Rattle.planes.specs.Planes.{StartsIn, plane_map, with_part};
+ghost use Rattle.line_filter.specs.Code.{AreLanes, AreLanesAtMost};
+
+use crate::lanes::{Lanes, Row, stored};
+use planes::SamplePlane;
+use std::simd::prelude::*;
+use vp9_types::Sample;
+
+/// A sample that edges are filtered of.
+pub trait EdgeSample: Sample {
+    /// Puts eight rows of eight samples at a row and column. What lies outside of the plane is left out.
+    fn put_lanes(plane: &mut SamplePlane<Self>, row: usize, column: usize, x: &Lanes)
+        requires inside { StartsIn plane.old.area row column }
+        requires fits { AreLanesAtMost Self.greatest x.now }
+        ensures area { plane.new.area ≡ plane.old.area }
+        ensures map { (f : ℕ → ℕ → ℕ) → AreLanes x.now f → plane_map plane.new ≡ with_part plane.old.area (plane_map plane.old) row column 8 8 f };
+}
+
+impl EdgeSample for u8 {
+    #[inline(always)]
+    fn put_lanes(plane: &mut SamplePlane<u8>, row: usize, column: usize, x: &Lanes) {
+        plane.put_square::<8>(row, column, &flat_bytes(x));
+    }
+}
+
+impl EdgeSample for u16 {
+    #[inline(always)]
+    fn put_lanes(plane: &mut SamplePlane<u16>, row: usize, column: usize, x: &Lanes) {
+        plane.put_square::<8>(row, column, &flat(x));
+    }
+}
+
+/// Writes a row of a square of eight rows.
+#[inline(always)]
+fn put_row(block: &mut [u16], i: usize, row: &Row)
+    requires low { i < 8 }
+    requires long { length block.old ≡ 64 }
+    ensures map { rows_of 8 block.new ≡ with_block (rows_of 8 block.old) i 0 1 8 (λ _ j. slice_index row.now j) }
+{
+    block[i * 8..i * 8 + 8].copy_from_slice(row);
+}
+
+/// The same in bytes.
+#[inline(always)]
+fn put_bytes(block: &mut [u8], i: usize, row: u16x8)
+    requires low { i < 8 }
+    requires long { length block.old ≡ 64 }
+    requires small { (j : ℕ) → j < 8 → slice_index row j ≤ 255 }
+    ensures map { rows_of 8 block.new ≡ with_block (rows_of 8 block.old) i 0 1 8 (λ _ j. slice_index row j) }
+{
+    let bytes: u8x8 = row.cast();
+    bytes.copy_to_slice(&mut block[i * 8..i * 8 + 8]);
+}
+
+/// Eight rows, one after another.
+#[inline(always)]
+fn flat(x: &Lanes) -> [u16; 64]
+    ensures { (f : ℕ → ℕ → ℕ) → AreLanes x.now f → (i j : ℕ) → i < 8 → j < 8 → rows_of 8 result i j ≡ f i j }
+{
+    let mut block = [0; 64];
+    put_row(&mut block, 0, &stored(x.r0));
+    put_row(&mut block, 1, &stored(x.r1));
+    put_row(&mut block, 2, &stored(x.r2));
+    put_row(&mut block, 3, &stored(x.r3));
+    put_row(&mut block, 4, &stored(x.r4));
+    put_row(&mut block, 5, &stored(x.r5));
+    put_row(&mut block, 6, &stored(x.r6));
+    put_row(&mut block, 7, &stored(x.r7));
+    block
+}
+
+/// The same in bytes.
+#[inline(always)]
+fn flat_bytes(x: &Lanes) -> [u8; 64]
+    requires small { AreLanesAtMost 255 x.now }
+    ensures { (f : ℕ → ℕ → ℕ) → AreLanes x.now f → (i j : ℕ) → i < 8 → j < 8 → rows_of 8 result i j ≡ f i j }
+{
+    let mut block = [0; 64];
+    put_bytes(&mut block, 0, x.r0);
+    put_bytes(&mut block, 1, x.r1);
+    put_bytes(&mut block, 2, x.r2);
+    put_bytes(&mut block, 3, x.r3);
+    put_bytes(&mut block, 4, x.r4);
+    put_bytes(&mut block, 5, x.r5);
+    put_bytes(&mut block, 6, x.r6);
+    put_bytes(&mut block, 7, x.r7);
+    block
+}
