@@ -13,9 +13,8 @@ use crate::in_plane::{IntraCoded, put_in_plane};
 use crate::inter_in_plane::{InterCoded, put_inter};
 use crate::references::Rebuilding;
 use crate::residues::TransformResidues;
-use crate::room::RebuildRoom;
+use crate::room::{GREATEST_BLOCK, RebuildRoom, RoomSample};
 use block_plan::{BlockInfo, BlockResidues, Prediction};
-use inter_lanes::FilterSample;
 use planes::FramePlanes;
 use vp9_types::{Plane, Samples};
 
@@ -24,13 +23,13 @@ use vp9_types::{Plane, Samples};
 /// first. `tile_from` is the first column of its tile, in places of 8x8 luma samples. Of the pictures that it
 /// refers to only the rows that it is predicted from have to be there.
 #[tactic(auto, unfolding(crate::specs::Blocks::put_by))]
-pub fn put_block_in_part<P: FilterSample, S: Samples<Kept = P>, R: TransformResidues>(
+pub fn put_block_in_part<P: RoomSample, S: Samples<Kept = P>, R: TransformResidues>(
     planes: &mut FramePlanes<P>,
     by: &Rebuilding<'_, S>,
     tile_from: u32,
     block: &BlockInfo,
     residues: &R,
-    room: &mut RebuildRoom<P>,
+    room: &mut RebuildRoom,
 )
     requires size { HasFrameSize by.now.shape }
     requires fits { P.takes (greatest by.now.shape.depth) }
@@ -62,21 +61,22 @@ pub fn put_block_in_part<P: FilterSample, S: Samples<Kept = P>, R: TransformResi
                 block,
                 modes: &modes,
             };
-            put_inter(&mut planes.y, &b, Plane::Y, residues, room);
-            put_inter(&mut planes.u, &b, Plane::U, residues, room);
-            put_inter(&mut planes.v, &b, Plane::V, residues, room);
+            let (first, rest) = P::buffer(room).split_at_mut(GREATEST_BLOCK);
+            put_inter(&mut planes.y, &b, Plane::Y, residues, first, rest);
+            put_inter(&mut planes.u, &b, Plane::U, residues, first, rest);
+            put_inter(&mut planes.v, &b, Plane::V, residues, first, rest);
         }
     }
 }
 
 /// Puts a block, with its residue from its buffer, into whole planes, predicted from whole pictures.
-pub fn put_block<P: FilterSample, S: Samples<Kept = P>>(
+pub fn put_block<P: RoomSample, S: Samples<Kept = P>>(
     planes: &mut FramePlanes<P>,
     by: &Rebuilding<'_, S>,
     tile_from: u32,
     block: &BlockInfo,
     residues: &BlockResidues,
-    room: &mut RebuildRoom<P>,
+    room: &mut RebuildRoom,
 )
     requires size { HasFrameSize by.now.shape }
     requires fits { P.takes (greatest by.now.shape.depth) }

@@ -1,6 +1,6 @@
 //! An inter block put into a plane.
 
-ghost use Rattle.std.specs.Prelude.{◌≡◌, ◌<◌, ◌≤◌, ◌*◌, ℕ, length, map};
+ghost use Rattle.std.specs.Prelude.{◌≡◌, ◌+◌, ◌<◌, ◌≤◌, ◌*◌, ℕ, length, map};
 ghost use Rattle.std.specs.List.{fold, range_with_len};
 ghost use Rattle.vp9_types.specs.Maps.{HoldsRows, IsAtMost, rows_of};
 ghost use Rattle.vp9_types.specs.Shapes.{mi_rows, mi_cols};
@@ -22,7 +22,7 @@ ghost use Rattle.block_rebuild.specs.Residues.{residues_of};
 use crate::references::Rebuilding;
 use crate::residue::add_residues;
 use crate::residues::TransformResidues;
-use crate::room::RebuildRoom;
+use crate::room::GREATEST_BLOCK;
 use block_geometry::{FramePlaces, transform_grid};
 use block_plan::{BlockInfo, InterPrediction, plane_block};
 use inter_lanes::FilterSample;
@@ -54,7 +54,8 @@ fn predict_part<P: FilterSample, S: Samples<Kept = P>>(
     requires room { 4096 ≤ length block.old }
     ensures place { result ≡ place_of b.now.by.now.shape b.now.block.now b.now.modes.now part (picture_of S.map (reference_of b.now.by.now reference)).shape }
     ensures fits { IsPlace result }
-    ensures room { 4096 ≤ length block.new }
+    ensures room { length block.new ≡ length block.old }
+    ensures rest { length lines.new ≡ length lines.old }
     ensures samples { HoldsRows (map P.value block.new) result.columns result.rows (predicted_from b.now.by.now.shape b.now.block.now b.now.modes.now part (picture_of S.map (reference_of b.now.by.now reference))) }
 {
     let Some(picture) = b.by.reference(reference) else {
@@ -67,35 +68,41 @@ fn predict_part<P: FilterSample, S: Samples<Kept = P>>(
     place
 }
 
-/// Predicts a part of a block from all of its references into the first block of the room.
+/// Predicts a part of a block from all of its references into a block buffer. What is made on the way goes behind it.
 fn predict_all<P: FilterSample, S: Samples<Kept = P>>(
     b: &InterCoded<'_, S>,
     plane: Plane,
     number: usize,
-    room: &mut RebuildRoom<P>,
+    first: &mut [P],
+    rest: &mut [P],
 ) -> Place
     requires part { IsPart b.now.by.now.shape b.now.block.now (part_of plane number 0) }
     requires takes { P.takes (greatest b.now.by.now.shape.depth) }
     requires references { AreServed S.holds S.width S.map b.now.by.now b.now.block.now (Inter b.now.modes.now) }
+    requires room { 4096 ≤ length first.old }
+    requires rest { 4096 + LINES ≤ length rest.old }
     ensures place { result ≡ place_of b.now.by.now.shape b.now.block.now b.now.modes.now (part_of plane number 0) (picture_of S.map (reference_of b.now.by.now b.now.modes.now.references.first)).shape }
     ensures fits { IsPlace result }
-    ensures samples { HoldsRows (map P.value room.new.first) result.columns result.rows (predicted_part (rebuilding_of S.map b.now.by.now) b.now.block.now b.now.modes.now plane number) }
+    ensures samples { HoldsRows (map P.value first.new) result.columns result.rows (predicted_part (rebuilding_of S.map b.now.by.now) b.now.block.now b.now.modes.now plane number) }
+    ensures room { length first.new ≡ length first.old }
+    ensures rest { length rest.new ≡ length rest.old }
 {
     let references = b.modes.references;
-    let first = BlockPart {
+    let part = BlockPart {
         plane,
         number,
         list: 0,
     };
-    let place = predict_part(b, references.first, first, &mut room.lines, &mut room.first);
+    let (second, lines) = rest.split_at_mut(GREATEST_BLOCK);
+    let place = predict_part(b, references.first, part, lines, first);
     if let Some(reference) = references.second {
-        let second = BlockPart {
+        let other = BlockPart {
             plane,
             number,
             list: 1,
         };
-        predict_part(b, reference, second, &mut room.lines, &mut room.second);
-        average(&mut room.first, &room.second, place.rows * place.columns);
+        predict_part(b, reference, other, lines, second);
+        average(first, second, place.rows * place.columns);
     }
     place
 }
@@ -125,18 +132,23 @@ fn put_part<P: FilterSample, S: Samples<Kept = P>>(
     b: &InterCoded<'_, S>,
     plane: Plane,
     number: usize,
-    room: &mut RebuildRoom<P>,
+    first: &mut [P],
+    rest: &mut [P],
 )
     requires part { IsPart b.now.by.now.shape b.now.block.now (part_of plane number 0) }
     requires takes { P.takes (greatest b.now.by.now.shape.depth) }
     requires references { AreServed S.holds S.width S.map b.now.by.now b.now.block.now (Inter b.now.modes.now) }
     requires is { IsPartOf b.now.by.now.shape plane b.now.block.now.col b.now.block.now samples.old }
+    requires room { 4096 ≤ length first.old }
+    requires rest { 4096 + LINES ≤ length rest.old }
     ensures map { plane_map samples.new ≡ put_part (rebuilding_of S.map b.now.by.now) b.now.block.now b.now.modes.now plane (plane_map samples.old) number }
     ensures area { samples.new.area ≡ samples.old.area }
     ensures range { IsAtMost (greatest b.now.by.now.shape.depth) (plane_map samples.new) }
+    ensures room { length first.new ≡ length first.old }
+    ensures rest { length rest.new ≡ length rest.old }
 {
-    let place = predict_all(b, plane, number, room);
-    put_rows(samples, &place, &room.first);
+    let place = predict_all(b, plane, number, first, rest);
+    put_rows(samples, &place, first);
 }
 
 /// Puts the predicted samples of a block into its plane.
@@ -144,20 +156,25 @@ fn put_prediction<P: FilterSample, S: Samples<Kept = P>>(
     samples: &mut SamplePlane<P>,
     b: &InterCoded<'_, S>,
     plane: Plane,
-    room: &mut RebuildRoom<P>,
+    first: &mut [P],
+    rest: &mut [P],
 )
     requires row { b.now.block.now.row < mi_rows b.now.by.now.shape }
     requires column { b.now.block.now.col < mi_cols b.now.by.now.shape }
     requires takes { P.takes (greatest b.now.by.now.shape.depth) }
     requires references { AreServed S.holds S.width S.map b.now.by.now b.now.block.now (Inter b.now.modes.now) }
     requires is { IsPartOf b.now.by.now.shape plane b.now.block.now.col b.now.block.now samples.old }
+    requires room { 4096 ≤ length first.old }
+    requires rest { 4096 + LINES ≤ length rest.old }
     ensures map { plane_map samples.new ≡ put_prediction (rebuilding_of S.map b.now.by.now) b.now.block.now b.now.modes.now plane (plane_map samples.old) }
     ensures area { samples.new.area ≡ samples.old.area }
     ensures range { IsAtMost (greatest b.now.by.now.shape.depth) (plane_map samples.new) }
+    ensures room { length first.new ≡ length first.old }
+    ensures rest { length rest.new ≡ length rest.old }
 {
     let count = part_count(&b.by.shape, b.block.size, plane);
     for number in 0..count {
-        put_part(samples, b, plane, number, room);
+        put_part(samples, b, plane, number, first, rest);
     }
 }
 
@@ -167,7 +184,8 @@ pub(crate) fn put_inter<P: FilterSample, S: Samples<Kept = P>, R: TransformResid
     b: &InterCoded<'_, S>,
     plane: Plane,
     residues: &R,
-    room: &mut RebuildRoom<P>,
+    first: &mut [P],
+    rest: &mut [P],
 )
     requires size { HasFrameSize b.now.by.now.shape }
     requires row { b.now.block.now.row < mi_rows b.now.by.now.shape }
@@ -178,11 +196,15 @@ pub(crate) fn put_inter<P: FilterSample, S: Samples<Kept = P>, R: TransformResid
     requires is { IsPartOf b.now.by.now.shape plane b.now.block.now.col b.now.block.now samples.old }
     requires held { (k : ℕ) → k < length (places_in b.now.by.now.shape b.now.block.now plane) → R.holds residues.now plane (area (tx_in b.now.by.now.shape b.now.block.now plane)) k }
     requires small { AreSmall (residues_of (R.residue residues.now) b.now.by.now.shape b.now.block.now plane) }
+    requires room { 4096 ≤ length first.old }
+    requires rest { 4096 + LINES ≤ length rest.old }
     ensures map { plane_map samples.new ≡ put_inter (rebuilding_of S.map b.now.by.now) b.now.block.now b.now.modes.now plane (residues_of (R.residue residues.now) b.now.by.now.shape b.now.block.now plane) (plane_map samples.old) }
     ensures area { samples.new.area ≡ samples.old.area }
     ensures range { IsAtMost (greatest b.now.by.now.shape.depth) (plane_map samples.new) }
+    ensures room { length first.new ≡ length first.old }
+    ensures rest { length rest.new ≡ length rest.old }
 {
-    put_prediction(samples, b, plane, room);
+    put_prediction(samples, b, plane, first, rest);
     let shape = &b.by.shape;
     let block = plane_block(shape, b.block, plane);
     let grid = transform_grid(FramePlaces::of(shape), block);

@@ -15,4 +15,4 @@ pub use in_plane::IntraInPlane;
 pub use laws::{blocks_stay_in_their_tile_column, strips_side_by_side_are_the_frame};
 pub use references::{Rebuilding, ReferencePicture};
 pub use residues::TransformResidues;
-pub use room::RebuildRoom;
+pub use room::{RebuildRoom, RoomSample};

@@ -8,7 +8,7 @@ use intra_predict::Scratch;
 pub(crate) const GREATEST_BLOCK: usize = 4096;
 
 /// How many samples an inter block is predicted in: two predictions, and the lines that they are made of.
-const BUFFER: usize = 2 * GREATEST_BLOCK + LINES;
+pub const BUFFER: usize = 2 * GREATEST_BLOCK + LINES;
 
 /// Room to rebuild a block in, whatever its samples are kept as. It is made once, since making it clears it; what it holds between
 /// blocks doesn't matter.
@@ -33,7 +33,7 @@ impl RebuildRoom {
 pub trait RoomSample: FilterSample {
     /// The room's samples of this kind.
     fn buffer(room: &mut RebuildRoom) -> &mut [Self]
-        ensures { length result.now ≡ 8192 + lines };
+        ensures { length result.now ≡ BUFFER };
 }
 
 impl RoomSample for u8 {

@@ -39,7 +39,7 @@ fn put_row_of(
     k: u32,
     plan: &ColumnPlan,
     row: u32,
-    room: &mut RebuildRoom<u16>,
+    room: &mut RebuildRoom,
 )
     requires key { setting.now.header.kind ≡ kinds.Key }
     requires few { AreFewTiles setting.now.header.params.tiles }

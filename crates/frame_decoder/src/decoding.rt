@@ -16,8 +16,9 @@ ghost use Rattle.frame_decoder.specs.Code.{ArePlanes, CanPredict, GivesRead, Hol
 
 use crate::plain::PlainSources;
 use crate::tiles::decode_tiles;
+use block_rebuild::RoomSample;
 use frame_state::{FrameBlocks, Halt, TileColumn, adapts};
-use inter_lanes::FilterSample;
+use line_filter::EdgeSample;
 use loop_edges::EdgeSetting;
 use loop_filter::filter_frame;
 use planes::{FramePlanes, Picture};
@@ -35,7 +36,7 @@ pub struct Decoded {
 }
 
 /// All tiles of a frame, and what was counted in them, if its probabilities are adapted.
-fn decode_counted<P: FilterSample>(
+fn decode_counted<P: RoomSample>(
     bytes: &[u8],
     by: &PlainSources<'_, P>,
     compressed: Span,
@@ -66,7 +67,7 @@ fn decode_counted<P: FilterSample>(
 
 /// Decodes a coded frame that is begun, into a picture of zeros of its shape. Its blocks are kept in the memory of an earlier
 /// frame's tile columns, if there are as many and they suffice, which stay where they are if there is no frame.
-pub fn decode_frame<P: FilterSample>(
+pub fn decode_frame<P: RoomSample + EdgeSample>(
     columns: &mut Vec<TileColumn>,
     bytes: &[u8],
     by: PlainSources<'_, P>,

@@ -10,11 +10,10 @@ ghost use Rattle.frame_decoder.specs.Code.{plain_block, pictures_of, tile_of, Ar
 
 use block_geometry::FramePlaces;
 use block_plan::{BlockAt, BlockResidues};
-use block_rebuild::{RebuildRoom, Rebuilding, put_block};
+use block_rebuild::{RebuildRoom, Rebuilding, RoomSample, put_block};
 use block_residue::read_block;
 use counting_reader::CountingReader;
 use frame_state::{FrameSources, TileColumn, frame_is_intra};
-use inter_lanes::FilterSample;
 use inter_modes::mode_info;
 use mode_syntax::{SquareAt, read_partition};
 use planes::{FramePlanes, Picture};
@@ -30,18 +29,27 @@ pub struct PlainSources<'a, P: Sample> {
 
 /// Room for one block: its residue, and what it is put in by.
 #[derive(Drop)]
-pub(crate) struct BlockRoom<'a, P: Sample> {
+pub(crate) struct BlockRoom {
     pub residues: BlockResidues,
-    pub rebuild: &'a mut RebuildRoom<P>,
+    pub rebuild: RebuildRoom,
+}
+
+impl BlockRoom {
+    pub fn new() -> BlockRoom {
+        BlockRoom {
+            residues: BlockResidues::new(),
+            rebuild: RebuildRoom::new(),
+        }
+    }
 }
 
 /// A block that starts inside the frame.
-fn decode_block<P: FilterSample, const COUNTS: bool>(
+fn decode_block<P: RoomSample, const COUNTS: bool>(
     by: &PlainSources<'_, P>,
     reader: &mut CountingReader<COUNTS>,
     column: &mut TileColumn,
     planes: &mut FramePlanes<P>,
-    room: &mut BlockRoom<'_, P>,
+    room: &mut BlockRoom,
     at: BlockAt,
 ) -> Result<(), Rule>
     requires ready { IsReady by.now.reading.setting column.old }
@@ -78,7 +86,7 @@ fn decode_block<P: FilterSample, const COUNTS: bool>(
         at.tile_from,
         &block,
         &room.residues,
-        room.rebuild,
+        &mut room.rebuild,
     );
     column.grid.put(listed);
     Ok(())
@@ -86,16 +94,16 @@ fn decode_block<P: FilterSample, const COUNTS: bool>(
 
 /// What the blocks of a tile are read and put in by, its bools, its column, the frame's planes, and room for one block.
 #[derive(Drop)]
-pub(crate) struct PlainReader<'a, 'b, 'c, 'd, P: Sample, const COUNTS: bool> {
+pub(crate) struct PlainReader<'a, 'b, 'c, P: Sample, const COUNTS: bool> {
     pub by: &'a PlainSources<'b, P>,
     pub reader: &'a mut CountingReader<'c, COUNTS>,
     pub column: &'a mut TileColumn,
     pub planes: &'a mut FramePlanes<P>,
-    pub room: &'a mut BlockRoom<'d, P>,
+    pub room: &'a mut BlockRoom,
 }
 
-impl<'a, 'b, 'c, 'd, P: FilterSample, const COUNTS: bool> TileReader
-    for PlainReader<'a, 'b, 'c, 'd, P, COUNTS> {
+impl<'a, 'b, 'c, P: RoomSample, const COUNTS: bool> TileReader
+    for PlainReader<'a, 'b, 'c, P, COUNTS> {
     ghost use Rattle.std.specs.Prelude.{Some};
     ghost use Rattle.std.specs.Borrow.{GName};
     ghost use Rattle.counting_reader.specs.Code.{standing_of};

@@ -13,12 +13,10 @@ ghost use Rattle.frame_state.specs.Reading.{FrameRead, nothing_read, read_all_ti
 ghost use Rattle.frame_decoder.specs.Code.{pictures_of, tile_of, walk_of, ArePlanes, CanPredict, HoldsRead, GivesRead, GivesTile, GivesWhole};
 
 use crate::plain::{BlockRoom, PlainReader, PlainSources};
-use block_plan::BlockResidues;
-use block_rebuild::RebuildRoom;
+use block_rebuild::RoomSample;
 use counting_reader::CountingReader;
 use frame_headers::tile_span;
 use frame_state::{TileColumn, TilePlaces, superblocks};
-use inter_lanes::FilterSample;
 use mode_syntax::SquareAt;
 use planes::FramePlanes;
 use prob_contexts::Counts;
@@ -29,8 +27,8 @@ use vp9_types::{Rule, Span};
 const SUPERBLOCK: u8 = 3;
 
 /// The blocks of a tile.
-fn read_tile<P: FilterSample, const COUNTS: bool>(
-    plain: &mut PlainReader<'_, '_, '_, '_, P, COUNTS>,
+fn read_tile<P: RoomSample, const COUNTS: bool>(
+    plain: &mut PlainReader<'_, '_, '_, P, COUNTS>,
     tile: &TilePlaces,
 ) -> Result<(), Rule>
     requires ready { IsReady plain.old.by.now.reading.setting plain.old.column.now }
@@ -66,7 +64,7 @@ fn read_tile<P: FilterSample, const COUNTS: bool>(
 
 /// All blocks of a tile.
 #[tactic(auto, using(crate::proofs::PlainTiles::tile_left))]
-fn decode_blocks<P: FilterSample, const COUNTS: bool>(
+fn decode_blocks<P: RoomSample, const COUNTS: bool>(
     by: &PlainSources<'_, P>,
     reader: &mut CountingReader<'_, COUNTS>,
     column: &mut TileColumn,
@@ -89,11 +87,7 @@ fn decode_blocks<P: FilterSample, const COUNTS: bool>(
     ensures same { OnOk result (SameColumns column.old column.new) }
     ensures room { OnOk result (column.old.grid.room ≤ column.new.grid.room + 64 * (superblocks_along (column.old.grid.to - column.old.grid.from) * superblocks_along (tile.now.row_to - tile.now.row_from))) }
 {
-    let mut rebuild = RebuildRoom::new();
-    let mut room = BlockRoom {
-        residues: BlockResidues::new(),
-        rebuild: &mut rebuild,
-    };
+    let mut room = BlockRoom::new();
     let mut plain = PlainReader {
         by,
         reader,
@@ -106,7 +100,7 @@ fn decode_blocks<P: FilterSample, const COUNTS: bool>(
 
 /// A tile, from its bytes, with the counts so far; answers the counts behind it.
 #[tactic(auto, unfolding(frame_state::specs::Code::read_whole))]
-fn decode_tile<P: FilterSample, const COUNTS: bool>(
+fn decode_tile<P: RoomSample, const COUNTS: bool>(
     bytes: &[u8],
     by: &PlainSources<'_, P>,
     tile: &TilePlaces,
@@ -136,7 +130,7 @@ fn decode_tile<P: FilterSample, const COUNTS: bool>(
 }
 
 /// The `n`-th tile of a frame, from its bytes, with the counts so far; answers the counts behind it.
-fn decode_nth<P: FilterSample, const COUNTS: bool>(
+fn decode_nth<P: RoomSample, const COUNTS: bool>(
     bytes: &[u8],
     by: &PlainSources<'_, P>,
     n: u32,
@@ -164,7 +158,7 @@ fn decode_nth<P: FilterSample, const COUNTS: bool>(
 
 /// All tiles of a frame in order, whose compressed header lies at `compressed`. Their sizes are tested. Answers the counts of
 /// all of them, from `none` on, if counting is on.
-pub(crate) fn decode_tiles<P: FilterSample, const COUNTS: bool>(
+pub(crate) fn decode_tiles<P: RoomSample, const COUNTS: bool>(
     bytes: &[u8],
     by: &PlainSources<'_, P>,
     compressed: Span,

@@ -5,10 +5,9 @@ ghost use Rattle.planes.specs.Pictures.{FitsPlanes};
 ghost use Rattle.std.specs.Option.{option_copied};
 ghost use Rattle.picture_table.specs.Pictures.{IsBlankAs, IsSound, IsThere, KeepInBytes, KeepInWords, depth_of};
 
-use inter_lanes::FilterSample;
 use planes::Picture;
 use std::alloc::{AllocError, Global};
-use vp9_types::{Depth, Shape};
+use vp9_types::{Depth, Sample, Shape};
 
 /// A picture, by what it keeps a sample as: one byte where the depth is 8, else two.
 #[derive(Drop)]
@@ -53,7 +52,7 @@ impl AnyPicture {
 }
 
 /// What pictures of some depths keep a sample as.
-pub trait PictureSample: FilterSample {
+pub trait PictureSample: Sample {
     ghost use Rattle.vp9_types.specs.declared.shape.Depth.{Depth};
 
     /// Whether pictures of this depth do.

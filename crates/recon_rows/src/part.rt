@@ -18,9 +18,8 @@ ghost use Rattle.recon_rows.specs.Parts.{IsPartOf, piece_residue};
 
 use block_geometry::FramePlaces;
 use block_plan::BlockInfo;
-use block_rebuild::{RebuildRoom, Rebuilding, TransformResidues, put_block_in_part};
+use block_rebuild::{RebuildRoom, Rebuilding, RoomSample, TransformResidues, put_block_in_part};
 use column_plan::{PlanResidues, transform_count};
-use inter_lanes::FilterSample;
 use planes::FramePlanes;
 use vp9_types::{Plane, Samples, Shape};
 
@@ -110,13 +109,13 @@ impl<'a> TransformResidues for PlanPart<'a> {
 }
 
 /// Puts a block with its residues out of its column's plan.
-pub(crate) fn put_planned_block<P: FilterSample, S: Samples<Kept = P>>(
+pub(crate) fn put_planned_block<P: RoomSample, S: Samples<Kept = P>>(
     planes: &mut FramePlanes<P>,
     by: &Rebuilding<'_, S>,
     tile_from: u32,
     block: &BlockInfo,
     part: &PlanPart<'_>,
-    room: &mut RebuildRoom<P>,
+    room: &mut RebuildRoom,
 )
     requires size { HasFrameSize by.now.shape }
     requires takes { P.takes (greatest by.now.shape.depth) }

@@ -17,20 +17,19 @@ ghost use Rattle.recon_rows.specs.Rows.{IsProvided, blocks_between, planned_betw
 
 use crate::part::{PlanPart, put_planned_block};
 use block_geometry::FramePlaces;
-use block_rebuild::{RebuildRoom, Rebuilding};
-use inter_lanes::FilterSample;
+use block_rebuild::{RebuildRoom, Rebuilding, RoomSample};
 use planes::FramePlanes;
 use tile_syntax::ColumnPlan;
 use vp9_types::Samples;
 
 /// Puts the blocks of the `row`-th row of superblocks of a tile column, one after another, from the column's plan into its
 /// samples, or into a part of them that holds the row and the samples above it. Nothing is allocated, and no residue is copied.
-pub fn put_row<P: FilterSample, S: Samples<Kept = P>>(
+pub fn put_row<P: RoomSample, S: Samples<Kept = P>>(
     planes: &mut FramePlanes<P>,
     by: &Rebuilding<'_, S>,
     plan: &ColumnPlan,
     row: u32,
-    room: &mut RebuildRoom<P>,
+    room: &mut RebuildRoom,
 )
     requires size { HasFrameSize by.now.shape }
     requires fits { P.takes (greatest by.now.shape.depth) }

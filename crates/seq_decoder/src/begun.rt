@@ -17,14 +17,16 @@ ghost use Rattle.seq_decoder.specs.Code.{HoldsFrame, IsFrame, NamesHeld, input_b
 ghost use Rattle.seq_decoder.specs.State.{Picture as Shown};
 
 use crate::past::pictures_for;
+use block_rebuild::RoomSample;
 use frame_decoder::{Decoded, PlainSources, decode_frame};
 use frame_state::{FrameSources, Halt, TileColumn};
+use line_filter::EdgeSample;
 use picture_table::{AnyPicture, PictureSample, PictureTable};
 use planes::Picture;
 use vp9_types::Span;
 
 /// Decodes a frame that is begun into a picture of zeros that keeps its samples so, as those of the table do that it refers to.
-fn decode_kept<P: PictureSample>(
+fn decode_kept<P: PictureSample + RoomSample + EdgeSample>(
     columns: &mut Vec<TileColumn>,
     bytes: &[u8],
     reading: FrameSources<'_>,

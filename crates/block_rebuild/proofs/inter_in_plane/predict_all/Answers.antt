@@ -1,4 +1,4 @@
-use Rattle.std.proofs.Common.{map}
+use Rattle.std.proofs.Common.{arith, map}
 use Rattle.block_rebuild.specs.Code.{rebuilding_of}
 use Rattle.block_rebuild.proofs.Parts.{one_predicted, place_room, two_predicted}
 use Rattle.block_rebuild.proofs.inter_in_plane.predict_all.Goals as goal
@@ -15,7 +15,7 @@ returns-in_default-clause-samples g c = let a = c.args in let b = a.b.now in let
     c.in_default.is c.predict_part-place.ensures.samples
 
 pub average-requires-clause-room : goal.average-requires-clause-room
-average-requires-clause-room g c = place_room c.predict_part-place.result _ c.predict_part-place.ensures.fits c.predict_part-place.ensures.room
+average-requires-clause-room g c = place_room c.predict_part-place.result _ c.predict_part-place.ensures.fits (omega (arith, c.predict_part-place.ensures.room, c.requires.room))
 
 pub average-requires-clause-enough : goal.average-requires-clause-enough
-average-requires-clause-enough g c = place_room c.predict_part-place.result _ c.predict_part-place.ensures.fits c.predict_part.ensures.room
+average-requires-clause-enough g c = place_room c.predict_part-place.result _ c.predict_part-place.ensures.fits (omega (arith, c.predict_part.ensures.room, c.split_at_mut-second.ensures.front_len))

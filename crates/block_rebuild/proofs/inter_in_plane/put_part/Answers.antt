@@ -13,7 +13,7 @@ put_rows-requires-clause-inside g c = let a = c.args in let b = a.b.now in
 pub returns-clause-map : goal.returns-clause-map
 returns-clause-map g c = let a = c.args in let b = a.b.now in
     c.put_rows.ensures.map
-    ∙ part_put (rebuilding_of g.S.Samples.map b.by.now) _ b.block.now b.modes.now a.plane a.number a.samples.now.area (plane_map a.samples.now) c.predict_all-place.result (map g.P.Sample.value c.predict_all-place.new.room.first)
+    ∙ part_put (rebuilding_of g.S.Samples.map b.by.now) _ b.block.now b.modes.now a.plane a.number a.samples.now.area (plane_map a.samples.now) c.predict_all-place.result (map g.P.Sample.value c.predict_all-place.new.first)
     c.requires.part.number c.requires.is.area c.predict_all-place.ensures.place c.predict_all-place.ensures.fits c.predict_all-place.ensures.samples
 
 pub returns-clause-range : goal.returns-clause-range

@@ -8,6 +8,8 @@ use Rattle.block_rebuild.proofs.inter_in_plane.put_prediction.Goals as goal
 pub loop-number-preserved : goal.loop-number-preserved
 loop-number-preserved g c = let a = c.args in let b = a.b.now in record {
   same = c.put_part.ensures.area ∙ c.loop-number.invariant.same;
+  room = c.put_part.ensures.room ∙ c.loop-number.invariant.room;
+  rest = c.put_part.ensures.rest ∙ c.loop-number.invariant.rest;
   range = c.put_part.ensures.range;
   so_far = one_part_more (rebuilding_of g.S.Samples.map b.by.now) b.block.now b.modes.now a.plane c.loop-number.number (plane_map a.samples.now) (plane_map c.loop-number.samples) (plane_map c.put_part.new.samples)
       c.loop-number.invariant.so_far c.put_part.ensures.map;

@@ -1,4 +1,4 @@
-use Rattle.std.proofs.Common.{◌≡◌}
+use Rattle.std.proofs.Common.{◌≡◌, length}
 use Rattle.std.specs.List.{fold, range_with_len}
 use Rattle.vp9_types.specs.Maps.{IsAtMost}
 use Rattle.vp9_types.specs.Sizes.{greatest}
@@ -10,6 +10,8 @@ use Rattle.block_rebuild.proofs.inter_in_plane.put_prediction.Given as goal
 abbrev pub invariant-loop-number : goal.invariant-loop-number
 invariant-loop-number g l = record {
   same : l.samples.area ≡ l.initial.samples.area;
+  room : length l.first ≡ length l.initial.first;
+  rest : length l.rest ≡ length l.initial.rest;
   range : IsAtMost (greatest l.b.by.now.shape.depth) (plane_map l.samples);
   so_far : plane_map l.samples ≡ fold (put_part (rebuilding_of g.S.Samples.map l.b.by.now) l.b.block.now l.b.modes.now l.plane) (plane_map l.initial.samples) (range_with_len 0 l.number);
 }

@@ -1,4 +1,4 @@
-use Rattle.std.proofs.Common.{rules, ◌≡◌, ◌∙◌, ap, sym, arith}
+use Rattle.std.proofs.Common.{◌≡◌, ◌∙◌, ap, sym, arith}
 use Rattle.std.proofs.lemmas.Result.{err_from_is_err_and}
 use Rattle.frame_headers.specs.State.{shape_of}
 use Rattle.vp9_types.specs.Shapes.{mi_cols, mi_rows}
@@ -91,33 +91,36 @@ returns-clause-planes g c = record {
   range = rw c.requires.past.pictures.shape at c.put_block.ensures.range;
 }
 
-pub put_block-requires : goal.put_block-requires
-put_block-requires g c =
+pub put_block-requires-clause-size : goal.put_block-requires-clause-size
+put_block-requires-clause-size g c = rw c.requires.past.pictures.shape c.args.by.now.reading.setting.size
+
+pub put_block-requires-clause-fits : goal.put_block-requires-clause-fits
+put_block-requires-clause-fits g c = rw c.requires.past.pictures.shape c.requires.kept
+
+pub put_block-requires-clause-placed : goal.put_block-requires-clause-placed
+put_block-requires-clause-placed g c =
     let setting = c.args.by.now.reading.setting in
     let is = c.in_ok-block.ensures.block in
     let rows : setting.places.rows ≡ mi_rows (shape_of setting.header) = ap (λ (p : FramePlaces). p.rows) setting.whole in
     let cols : setting.places.cols ≡ mi_cols (shape_of setting.header) = ap (λ (p : FramePlaces). p.cols) setting.whole in
-    let small = c.in_ok-listed.ensures.small in (
-      search rules,
-      (
-        rw c.requires.past.pictures.shape setting.size,
-        (
-          rw c.requires.past.pictures.shape c.requires.kept,
-          (
-            rw c.requires.past.pictures.shape (record {
-              row = rw (is.row, sym rows) c.requires.row;
-              column = omega (arith, is.col, c.requires.col, c.requires.to, c.requires.ready.within, cols);
-              tile = rw is.col c.requires.first;
-              fits = rw is.size is.fits;
-            }),
-            (
-              has_references setting.header c.args.by.now.pictures c.in_ok-block.block.prediction c.requires.past.pictures.there c.in_ok-block.ensures.in_range,
-              (
-                rw c.requires.past.pictures.shape c.requires.planes.sizes,
-                (rw c.requires.past.pictures.shape c.requires.planes.range, rw c.requires.past.pictures.shape (record { y = small.y; u = small.u; v = small.v })),
-              ),
-            ),
-          ),
-        ),
-      ),
-    )
+    rw c.requires.past.pictures.shape (record {
+      row = rw (is.row, sym rows) c.requires.row;
+      column = omega (arith, is.col, c.requires.col, c.requires.to, c.requires.ready.within, cols);
+      tile = rw is.col c.requires.first;
+      fits = rw is.size is.fits;
+    })
+
+pub put_block-requires-clause-references : goal.put_block-requires-clause-references
+put_block-requires-clause-references g c =
+    has_references c.args.by.now.reading.setting.header c.args.by.now.pictures c.in_ok-block.block.prediction c.requires.past.pictures.there c.in_ok-block.ensures.in_range
+
+pub put_block-requires-clause-sizes : goal.put_block-requires-clause-sizes
+put_block-requires-clause-sizes g c = rw c.requires.past.pictures.shape c.requires.planes.sizes
+
+pub put_block-requires-clause-range : goal.put_block-requires-clause-range
+put_block-requires-clause-range g c = rw c.requires.past.pictures.shape c.requires.planes.range
+
+pub put_block-requires-clause-small : goal.put_block-requires-clause-small
+put_block-requires-clause-small g c =
+    let small = c.in_ok-listed.ensures.small in
+    rw c.requires.past.pictures.shape (record { y = small.y; u = small.u; v = small.v })

@@ -68,8 +68,9 @@ of-part-requires-clause-fits g c = let a = c.args in
     (placed c.loop-k.k _ low).fits
 
 -- the room's size, then the clauses
-pub put_planned_block-requires : goal.put_planned_block-requires
-put_planned_block-requires g c = let a = c.args in
+pub put_planned_block-requires-clause-placed : goal.put_planned_block-requires-clause-placed
+put_planned_block-requires-clause-placed g c =
+    let a = c.args in
     let s = a.by.now.shape in
     let from_column = c.first_col-tile_from.result in
     let bs = c.blocks-blocks.result.now in
@@ -78,40 +79,77 @@ put_planned_block-requires g c = let a = c.args in
     let to : c.row_place-next.result ≡ place_of_row s (a.row + 1) bs = c.row_place-next.ensures kept.0 kept.2 ∙ (λ i. place_of_row (kept.1 i) (a.row + 1) (sym c.blocks-blocks.ensures i)) in
     let low : c.loop-k.k < length bs = in_column s (a.row + 1) c.loop-k.k bs c.row_place-next.result to c.loop-k-test.true in
     let placed : All (IsPlaced s from_column) bs = rw (c.blocks-blocks.ensures, c.first_col-tile_from.ensures) c.requires.placed in
+    placed c.loop-k.k _ low
+
+pub put_planned_block-requires-clause-references : goal.put_planned_block-requires-clause-references
+put_planned_block-requires-clause-references g c =
+    let a = c.args in
+    let s = a.by.now.shape in
+    let from_column = c.first_col-tile_from.result in
+    let bs = c.blocks-blocks.result.now in
+    let kept = c.requires.kept in
+    let from : c.row_place-first.result ≡ place_of_row s a.row bs = c.row_place-first.ensures kept.0 kept.2 ∙ (λ i. place_of_row (kept.1 i) a.row (sym c.blocks-blocks.ensures i)) in
+    let to : c.row_place-next.result ≡ place_of_row s (a.row + 1) bs = c.row_place-next.ensures kept.0 kept.2 ∙ (λ i. place_of_row (kept.1 i) (a.row + 1) (sym c.blocks-blocks.ensures i)) in
+    let low : c.loop-k.k < length bs = in_column s (a.row + 1) c.loop-k.k bs c.row_place-next.result to c.loop-k-test.true in
     let provided = provided_at (λ (b : BlockInfo). IsProvided g.S.Samples.holds g.S.Samples.width g.S.Samples.map a.by.now a.plan.now.column.grid.from a.planes.now b) s a.row c.loop-k.k bs a.plan.now.column.grid.blocks c.row_place-first.result c.row_place-next.result _
     c.blocks-blocks.ensures from to c.requires.provided c.loop-k.invariant.least c.loop-k-test.true in
+    provided.served
+
+pub put_planned_block-requires-clause-part : goal.put_planned_block-requires-clause-part
+put_planned_block-requires-clause-part g c =
+    let a = c.args in
+    let s = a.by.now.shape in
+    let from_column = c.first_col-tile_from.result in
+    let bs = c.blocks-blocks.result.now in
+    let kept = c.requires.kept in
+    let from : c.row_place-first.result ≡ place_of_row s a.row bs = c.row_place-first.ensures kept.0 kept.2 ∙ (λ i. place_of_row (kept.1 i) a.row (sym c.blocks-blocks.ensures i)) in
+    let to : c.row_place-next.result ≡ place_of_row s (a.row + 1) bs = c.row_place-next.ensures kept.0 kept.2 ∙ (λ i. place_of_row (kept.1 i) (a.row + 1) (sym c.blocks-blocks.ensures i)) in
+    let low : c.loop-k.k < length bs = in_column s (a.row + 1) c.loop-k.k bs c.row_place-next.result to c.loop-k-test.true in
+    let provided = provided_at (λ (b : BlockInfo). IsProvided g.S.Samples.holds g.S.Samples.width g.S.Samples.map a.by.now a.plan.now.column.grid.from a.planes.now b) s a.row c.loop-k.k bs a.plan.now.column.grid.blocks c.row_place-first.result c.row_place-next.result _
+    c.blocks-blocks.ensures from to c.requires.provided c.loop-k.invariant.least c.loop-k-test.true in
+    rw c.first_col-tile_from.ensures (areas_hold s a.plan.now.column.grid.from _ a.planes.now c.loop-k.planes c.loop-k.invariant.areas provided.part)
+
+pub put_planned_block-requires-clause-fits : goal.put_planned_block-requires-clause-fits
+put_planned_block-requires-clause-fits g c =
+    let a = c.args in
+    let s = a.by.now.shape in
+    let from_column = c.first_col-tile_from.result in
+    let bs = c.blocks-blocks.result.now in
+    let kept = c.requires.kept in
+    let from : c.row_place-first.result ≡ place_of_row s a.row bs = c.row_place-first.ensures kept.0 kept.2 ∙ (λ i. place_of_row (kept.1 i) a.row (sym c.blocks-blocks.ensures i)) in
+    let to : c.row_place-next.result ≡ place_of_row s (a.row + 1) bs = c.row_place-next.ensures kept.0 kept.2 ∙ (λ i. place_of_row (kept.1 i) (a.row + 1) (sym c.blocks-blocks.ensures i)) in
+    let low : c.loop-k.k < length bs = in_column s (a.row + 1) c.loop-k.k bs c.row_place-next.result to c.loop-k-test.true in
     let plan : IsRowsPlan s from_column bs a.plan.now.residues = plan_kept kept.0 s a.plan.now from_column bs kept.1 c.first_col-tile_from.ensures c.blocks-blocks.ensures kept.2 in
-    let part = c.of-part.ensures.part in (
-      search rules,
-      (
-        c.requires.size,
-        (
-          c.requires.fits,
-          (
-            placed c.loop-k.k _ low,
-            (
-              provided.served,
-              (
-                rw c.first_col-tile_from.ensures (areas_hold s a.plan.now.column.grid.from _ a.planes.now c.loop-k.planes c.loop-k.invariant.areas provided.part),
-                (
-                  c.loop-k.invariant.range,
-                  (
-                    record { residues = refl; y = refl; u = rw part.y part.u; v = part.v },
-                    (
-                      room_there s from_column bs a.plan.now.residues c.of-part.result.residues.now c.loop-k.k c.loop-k.piece c.of-part.result.y _ plan low c.loop-k.invariant.pieces part.y part.residues,
-                      (
-                        planned_at (HoldsWhole s) s from_column bs a.plan.now.residues c.of-part.result.residues.now c.loop-k.k c.loop-k.piece c.of-part.result.y _ plan.whole low c.loop-k.invariant.pieces part.y part.residues,
-                        planned_at HoldsSmall s from_column bs a.plan.now.residues c.of-part.result.residues.now c.loop-k.k c.loop-k.piece c.of-part.result.y _ plan.small low c.loop-k.invariant.pieces part.y part.residues,
-                      ),
-                    ),
-                  ),
-                ),
-              ),
-            ),
-          ),
-        ),
-      ),
-    )
+    let part = c.of-part.ensures.part in
+    room_there s from_column bs a.plan.now.residues c.of-part.result.residues.now c.loop-k.k c.loop-k.piece c.of-part.result.y _ plan low c.loop-k.invariant.pieces part.y part.residues
+
+pub put_planned_block-requires-clause-whole : goal.put_planned_block-requires-clause-whole
+put_planned_block-requires-clause-whole g c =
+    let a = c.args in
+    let s = a.by.now.shape in
+    let from_column = c.first_col-tile_from.result in
+    let bs = c.blocks-blocks.result.now in
+    let kept = c.requires.kept in
+    let from : c.row_place-first.result ≡ place_of_row s a.row bs = c.row_place-first.ensures kept.0 kept.2 ∙ (λ i. place_of_row (kept.1 i) a.row (sym c.blocks-blocks.ensures i)) in
+    let to : c.row_place-next.result ≡ place_of_row s (a.row + 1) bs = c.row_place-next.ensures kept.0 kept.2 ∙ (λ i. place_of_row (kept.1 i) (a.row + 1) (sym c.blocks-blocks.ensures i)) in
+    let low : c.loop-k.k < length bs = in_column s (a.row + 1) c.loop-k.k bs c.row_place-next.result to c.loop-k-test.true in
+    let plan : IsRowsPlan s from_column bs a.plan.now.residues = plan_kept kept.0 s a.plan.now from_column bs kept.1 c.first_col-tile_from.ensures c.blocks-blocks.ensures kept.2 in
+    let part = c.of-part.ensures.part in
+    planned_at (HoldsWhole s) s from_column bs a.plan.now.residues c.of-part.result.residues.now c.loop-k.k c.loop-k.piece c.of-part.result.y _ plan.whole low c.loop-k.invariant.pieces part.y part.residues
+
+pub put_planned_block-requires-clause-small : goal.put_planned_block-requires-clause-small
+put_planned_block-requires-clause-small g c =
+    let a = c.args in
+    let s = a.by.now.shape in
+    let from_column = c.first_col-tile_from.result in
+    let bs = c.blocks-blocks.result.now in
+    let kept = c.requires.kept in
+    let from : c.row_place-first.result ≡ place_of_row s a.row bs = c.row_place-first.ensures kept.0 kept.2 ∙ (λ i. place_of_row (kept.1 i) a.row (sym c.blocks-blocks.ensures i)) in
+    let to : c.row_place-next.result ≡ place_of_row s (a.row + 1) bs = c.row_place-next.ensures kept.0 kept.2 ∙ (λ i. place_of_row (kept.1 i) (a.row + 1) (sym c.blocks-blocks.ensures i)) in
+    let low : c.loop-k.k < length bs = in_column s (a.row + 1) c.loop-k.k bs c.row_place-next.result to c.loop-k-test.true in
+    let plan : IsRowsPlan s from_column bs a.plan.now.residues = plan_kept kept.0 s a.plan.now from_column bs kept.1 c.first_col-tile_from.ensures c.blocks-blocks.ensures kept.2 in
+    let part = c.of-part.ensures.part in
+    planned_at HoldsSmall s from_column bs a.plan.now.residues c.of-part.result.residues.now c.loop-k.k c.loop-k.piece c.of-part.result.y _ plan.small low c.loop-k.invariant.pieces part.y part.residues
 
 pub loop-k-preserved : goal.loop-k-preserved
 loop-k-preserved g c = let a = c.args in
