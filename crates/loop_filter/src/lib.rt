@@ -8,8 +8,8 @@ mod next;
 mod rows;
 mod way;
 
-pub use line_filter::EdgeSample;
 pub use laws::{a_buffer_of_one_row_is_enough, rows_follow_one_another};
+pub use line_filter::EdgeSample;
 pub use next::filter_next;
 pub use rows::{filter_frame, filter_row};
 pub use way::sub_y;

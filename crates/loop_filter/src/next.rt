@@ -15,7 +15,12 @@ use planes::FramePlanes;
 
 /// As `filter_row`, in a buffer that need not have more of the frame than the row's samples before the filter and the pending
 /// rows above them: it leaves rows of the filtered frame, and the pending ones of the next row.
-pub fn filter_next<P: EdgeSample, N: Neighbours>(planes: &mut FramePlanes<P>, f: &EdgeSetting, blocks: &N, sr: u32)
+pub fn filter_next<P: EdgeSample, N: Neighbours>(
+    planes: &mut FramePlanes<P>,
+    f: &EdgeSetting,
+    blocks: &N,
+    sr: u32,
+)
     requires size { FitsPlanes f.now.shape }
     requires rows { HoldsFilterRows f.now.shape sr planes.old }
     requires row { sr < superblocks_along (mi_rows f.now.shape) }

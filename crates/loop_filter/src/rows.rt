@@ -96,7 +96,12 @@ fn filter_plane<P: EdgeSample, N: Neighbours>(
 /// Filters a row of superblocks of a frame, in place. The planes are whole, or parts that have the row's samples and the
 /// eight rows above it, which the filter goes on changing; those above them it leaves. The blocks are those of the whole
 /// frame, asked for in this row alone. The samples are what the rows before have left.
-pub fn filter_row<P: EdgeSample, N: Neighbours>(planes: &mut FramePlanes<P>, f: &EdgeSetting, blocks: &N, sr: u32)
+pub fn filter_row<P: EdgeSample, N: Neighbours>(
+    planes: &mut FramePlanes<P>,
+    f: &EdgeSetting,
+    blocks: &N,
+    sr: u32,
+)
     requires size { FitsPlanes f.now.shape }
     requires rows { HoldsFilterRows f.now.shape sr planes.old }
     requires row { 8 * sr ≤ mi_rows f.now.shape }
@@ -116,7 +121,11 @@ pub fn filter_row<P: EdgeSample, N: Neighbours>(planes: &mut FramePlanes<P>, f: 
 }
 
 /// Filters a frame in place, row after row of superblocks. The planes are whole.
-pub fn filter_frame<P: EdgeSample, N: Neighbours>(planes: &mut FramePlanes<P>, f: &EdgeSetting, blocks: &N)
+pub fn filter_frame<P: EdgeSample, N: Neighbours>(
+    planes: &mut FramePlanes<P>,
+    f: &EdgeSetting,
+    blocks: &N,
+)
     requires size { FitsPlanes f.now.shape }
     requires sizes { HasSizes f.now.shape planes.old }
     requires held { (r c : ℕ) → r < mi_rows f.now.shape → c < mi_cols f.now.shape → N.holds blocks.now r c }
