@@ -26,7 +26,7 @@ use Rattle.inter_contexts.specs.References.{reference_in}
 use Rattle.inter_places.specs.Places.{IsReference}
 use Rattle.planes.specs.Pictures.{map_of}
 use Rattle.planes.specs.declared.picture.Picture as planes
-use Rattle.picture_table.specs.Pictures.{IsSound, IsWhole, map_of_any, shape_of_any}
+use Rattle.picture_table.specs.Pictures.{IsSound, IsThere, IsWhole, depth_of, map_of_any, shape_of_any}
 use Rattle.picture_table.specs.declared.any.AnyPicture.{AnyPicture}
 use Rattle.picture_table.specs.Code.{IsTable, held, held_in, shown}
 use Rattle.picture_table.specs.declared.table.PictureTable.{PictureTable}
@@ -183,6 +183,13 @@ named_of : (header : Header) (fields : InterFields) (slots : List (Option (Shape
     → (reference : ReferenceFrame) → IsHeld header slots (reference_in fields.references reference)
 named_of header fields slots kind names = subst (λ k. NamesHeldBy k header slots) kind names
 
+-- each is kept as the frame's depth asks
+pub kept_named : (Keeps : Depth → Type 0) (header : Header) (fields : InterFields) (slots : List (Option (Shape × FrameMap))) → header.kind ≡ Inter fields → NamesHeld header slots
+    → Keeps (shape_of header).depth → (reference : ReferenceFrame) → IfSome (slice_index_or slots (reference_in fields.references reference).slot None) (λ told. Keeps told.0.depth)
+kept_named Keeps header fields slots kind names keeps reference =
+    let h = named_of header fields slots kind names reference in
+    rw h.there (subst Keeps (sym h.depth) keeps)
+
 pub has_pictures : {X : Type 0} (header : Header) (fields : InterFields) (slots : List (Option (Shape × FrameMap))) (by : code.Rebuilding (planes.Picture X)) → header.kind ≡ Inter fields → by.shape ≡ shape_of header
     → IsFrameSize header.size → NamesHeld header slots → ArePictures slots fields by → HasPictures header by
 has_pictures header fields slots by kind shape size names h = λ others reference is range.
@@ -250,3 +257,16 @@ pub coded_halts : (header : Header) (references others : ReferenceFrame → Refe
     → references ≡ others → input ≡ other → IsFrame references input picture (Err e) → IsCoded header (decoded others other) table (Err e)
 coded_halts header references others input other picture table (halt.Broken rule) named same is = (λ i. decoded (sym named i) (sym same i)) ∙ is
 coded_halts header references others input other picture table halt.OutOfMemory named same is = tt
+
+---- A picture by what it keeps a sample as ----
+
+pub there_as : {X : Type 0} (Keeps : Depth → Type 0) (any : AnyPicture) (told : Option (Shape × FrameMap)) (result : Option (planes.Picture X)) (p : planes.Picture X)
+    → Some (shape_of_any any, map_of_any any) ≡ told → IfSome told (λ t. Keeps t.0.depth) → IsSound any → (IsSound any → Keeps (depth_of any) → IsThere any result) → result ≡ Some p
+    → IsThere any (Some p)
+there_as Keeps any told result p same kept sound given is =
+    subst (IsThere any) is (given sound (subst (λ (o : Option (Shape × FrameMap)). IfSome o (λ t. Keeps t.0.depth)) (sym same) kept))
+
+pub not_there : {X : Type 0} (Keeps : Depth → Type 0) (any : AnyPicture) (told : Option (Shape × FrameMap)) (result : Option (planes.Picture X))
+    → Some (shape_of_any any, map_of_any any) ≡ told → IfSome told (λ t. Keeps t.0.depth) → IsSound any → (IsSound any → Keeps (depth_of any) → IsThere any result) → result ≡ None → ⊥
+not_there Keeps any told result same kept sound given is =
+    subst (IsThere any) is (given sound (subst (λ (o : Option (Shape × FrameMap)). IfSome o (λ t. Keeps t.0.depth)) (sym same) kept))

@@ -25,6 +25,13 @@ use picture_table::{AnyPicture, PictureSample, PictureTable};
 use planes::Picture;
 use vp9_types::Span;
 
+/// What a frame that is begun is decoded from: what it is read by, and the pictures that its references are among.
+#[derive(Drop)]
+pub struct BegunFrame<'a> {
+    pub reading: FrameSources<'a>,
+    pub table: &'a PictureTable,
+}
+
 /// Decodes a frame that is begun into a picture of zeros that keeps its samples so, as those of the table do that it refers to.
 fn decode_kept<P: PictureSample + RoomSample + EdgeSample>(
     columns: &mut Vec<TileColumn>,
@@ -56,22 +63,22 @@ fn decode_kept<P: PictureSample + RoomSample + EdgeSample>(
 pub fn decode_begun(
     columns: &mut Vec<TileColumn>,
     bytes: &[u8],
-    reading: FrameSources<'_>,
+    by: BegunFrame<'_>,
     compressed: Span,
-    table: &PictureTable,
     picture: &mut AnyPicture,
 ) -> Result<Decoded, Halt>
-    requires few { AreFewTiles reading.setting.header.params.tiles }
+    requires few { AreFewTiles by.reading.setting.header.params.tiles }
     requires within { compressed.to ≤ length bytes.now }
-    requires begun { IsBegun reading.setting.header bytes.now compressed (lists_of reading.past.contexts.now) (Ok reading.setting) }
-    requires past { IsPastOf reading.setting.header reading.past }
-    requires table { IsTable table.now }
-    requires held { NamesHeld reading.setting.header (held table.now) }
-    requires blank { IsBlankAs (shape_of reading.setting.header) picture.old }
-    ensures decoded { (slots : List (Option Shown)) → held table.now ≡ map shown_of slots →
-        IsFrame (references_of slots reading.entry.setting.header.kind) (input_by reading.entry bytes.now compressed) picture.new result }
-    ensures left { IfOk result (λ d. (r : FrameResult) × HoldsFrame reading.entry.setting.header picture.new d r) }
+    requires begun { IsBegun by.reading.setting.header bytes.now compressed (lists_of by.reading.past.contexts.now) (Ok by.reading.setting) }
+    requires past { IsPastOf by.reading.setting.header by.reading.past }
+    requires table { IsTable by.table.now }
+    requires held { NamesHeld by.reading.setting.header (held by.table.now) }
+    requires blank { IsBlankAs (shape_of by.reading.setting.header) picture.old }
+    ensures decoded { (slots : List (Option Shown)) → held by.table.now ≡ map shown_of slots →
+        IsFrame (references_of slots by.entry.reading.setting.header.kind) (input_by by.entry.reading bytes.now compressed) picture.new result }
+    ensures left { IfOk result (λ d. (r : FrameResult) × HoldsFrame by.entry.reading.setting.header picture.new d r) }
 {
+    let BegunFrame { reading, table } = by;
     match picture {
         AnyPicture::Bytes(picture) => {
             decode_kept(columns, bytes, reading, compressed, table, picture)

@@ -10,7 +10,7 @@ ghost use Rattle.seq_decoder.specs.Code.{MayDecode, NamesHeld, StandsFor, HasBeg
 ghost use Rattle.seq_decoder.specs.Outcomes.{outcome_at};
 ghost use Rattle.seq_decoder.specs.State.{State, start_state};
 
-use crate::begun::decode_begun;
+use crate::begun::{BegunFrame, decode_begun};
 use crate::coding::{Coded, own_contexts};
 use crate::last::{LastFrame, replace_last};
 use crate::past::{after_key, place_in, vectors_before};
@@ -111,16 +111,18 @@ impl Decoder {
         let place = self.table.blank(alloc, header.shape())?;
         let mut picture = replace(&mut self.table.pictures[place], AnyPicture::none(alloc));
         let mut columns = replace(&mut self.columns, Vec::new(alloc));
-        let by = FrameSources {
-            setting,
-            past: FramePast {
-                contexts: &before,
-                segments: segments_of(&self.segments),
-                vectors: vectors_before(header, &self.last),
+        let by = BegunFrame {
+            reading: FrameSources {
+                setting,
+                past: FramePast {
+                    contexts: &before,
+                    segments: segments_of(&self.segments),
+                    vectors: vectors_before(header, &self.last),
+                },
             },
+            table: &self.table,
         };
-        let table = &self.table;
-        let decoded = decode_begun(&mut columns, bytes, by, compressed, table, &mut picture);
+        let decoded = decode_begun(&mut columns, bytes, by, compressed, &mut picture);
         self.table.pictures[place] = picture;
         self.columns = columns;
         Ok(Coded {

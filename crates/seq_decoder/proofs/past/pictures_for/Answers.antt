@@ -1,5 +1,6 @@
 use Rattle.picture_table.specs.Code.{held}
-use Rattle.seq_decoder.proofs.PastLemmas.{has_pictures, references_are}
+use Rattle.vp9_types.specs.declared.block.ReferenceFrame.TheVariants.{Last, Golden, Altref}
+use Rattle.seq_decoder.proofs.PastLemmas.{has_pictures, kept_named, references_are}
 use Rattle.seq_decoder.proofs.past.pictures_for.Goals as goal
 
 pub returns-in-Inter-clause-pictures : goal.returns-in-Inter-clause-pictures
@@ -28,3 +29,12 @@ returns-in-Inter-clause-has g c =
       golden_from = c.picture_in-in-Inter.ensures.from;
       altref_from = c.picture_in-in-Inter-2.ensures.from;
     })
+
+pub picture_in-requires-clause-kept : goal.picture_in-requires-clause-kept
+picture_in-requires-clause-kept g c = kept_named g.P.PictureSample.keeps c.args.header.now c.in-Inter.fields (held c.args.table.now) c.in-Inter.is c.requires.held c.requires.kept Last
+
+pub picture_in-requires-in-Inter-clause-kept : goal.picture_in-requires-in-Inter-clause-kept
+picture_in-requires-in-Inter-clause-kept g c = kept_named g.P.PictureSample.keeps c.args.header.now c.in-Inter.fields (held c.args.table.now) c.in-Inter.is c.requires.held c.requires.kept Golden
+
+pub picture_in-requires-in-Inter-2-clause-kept : goal.picture_in-requires-in-Inter-2-clause-kept
+picture_in-requires-in-Inter-2-clause-kept g c = kept_named g.P.PictureSample.keeps c.args.header.now c.in-Inter.fields (held c.args.table.now) c.in-Inter.is c.requires.held c.requires.kept Altref
