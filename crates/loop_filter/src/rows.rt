@@ -67,9 +67,9 @@ fn filter_superblock<P: EdgeSample, N: Neighbours>(
     );
 }
 
-/// A row of superblocks of a plane, from left to right.
+/// A row of superblocks of a plane, from left to right. Each plane has a `SITE` of its own, and is compiled by itself.
 #[inline(always)]
-fn filter_plane<P: EdgeSample, N: Neighbours>(
+fn filter_plane<P: EdgeSample, N: Neighbours, const SITE: usize>(
     samples: &mut SamplePlane<P>,
     f: &EdgeSetting,
     plane: Plane,
@@ -114,9 +114,9 @@ pub fn filter_row<P: EdgeSample, N: Neighbours>(
     ensures range { IsInRange f.now.shape.depth planes.new }
 {
     if f.filter.level > 0 {
-        filter_plane(&mut planes.y, f, Plane::Y, blocks, sr);
-        filter_plane(&mut planes.u, f, Plane::U, blocks, sr);
-        filter_plane(&mut planes.v, f, Plane::V, blocks, sr);
+        filter_plane::<P, N, 0>(&mut planes.y, f, Plane::Y, blocks, sr);
+        filter_plane::<P, N, 1>(&mut planes.u, f, Plane::U, blocks, sr);
+        filter_plane::<P, N, 2>(&mut planes.v, f, Plane::V, blocks, sr);
     }
 }
 
