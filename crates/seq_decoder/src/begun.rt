@@ -74,7 +74,7 @@ pub fn decode_begun(
     requires table { IsTable by.table.now }
     requires held { NamesHeld by.reading.setting.header (held by.table.now) }
     requires blank { IsBlankAs (shape_of by.reading.setting.header) picture.old }
-    ensures decoded { (slots : List (Option Shown)) → held by.table.now ≡ map shown_of slots →
+    ensures decoded { (slots : List (Option Shown)) → held by.entry.table.now ≡ map shown_of slots →
         IsFrame (references_of slots by.entry.reading.setting.header.kind) (input_by by.entry.reading bytes.now compressed) picture.new result }
     ensures left { IfOk result (λ d. (r : FrameResult) × HoldsFrame by.entry.reading.setting.header picture.new d r) }
 {
