@@ -72,9 +72,10 @@ def write_refused(known):
 def tried_alone(clone, some):
     """Puts these wrong bodies of a crate into a clone, runs the gate for the crate, and returns what it said of each."""
     crates = sorted({crate for crate, _ in some})
-    for crate, name in some:
-        os.makedirs(f"{clone}/crates/{crate}/must-fail", exist_ok=True)
-        shutil.copy(f"{TOP}/wrong/{crate}/{name}.edit", f"{clone}/crates/{crate}/must-fail")
+    put = [f"{clone}/crates/{crate}/must-fail/{name}.edit" for crate, name in some]
+    for (crate, name), to in zip(some, put):
+        os.makedirs(os.path.dirname(to), exist_ok=True)
+        shutil.copy(f"{TOP}/wrong/{crate}/{name}.edit", to)
     ran = subprocess.Popen(["rt", "ci", *crates], cwd=clone, stdout=subprocess.PIPE, stderr=subprocess.STDOUT, text=True, errors="replace")
     found = {}
     for line in ran.stdout:
@@ -86,6 +87,8 @@ def tried_alone(clone, some):
         elif line.startswith("rt:") and re.search(r"NOT PROVED|passed,|cannot", line):
             print(line.rstrip()[:300], flush=True)
     ran.wait()
+    for it in put:
+        os.remove(it)
     return found
 
 
