@@ -4,7 +4,7 @@
     tools/try_wrong.py [CRATE..]     those of these crates, or all
     tools/try_wrong.py --changed     those of each crate that changed since they were refused, and what was never tried
     tools/try_wrong.py --stale       tries nothing: tells these, by its status too
-    --in DIR                         in this clone of what is committed, which may hold built libraries, and not in one of its own
+    --in DIR                         in this clone of what is committed, which may hold built libraries, and not in one of its own: one run at a time there
 
 It works in a clone of what is committed, crate by crate. Most are tried some at a time (wrong_rounds.py); what that leaves undecided is put into
 must-fail/ there, and the kit's gate is run for the crate alone. Proofs are taken from earlier checks on this machine where they stand. What was refused

@@ -2,7 +2,7 @@
 
 A check of the crate with all of a round's bodies in place tells of each function whether it is proved. What this leaves undecided is tried alone, by
 the kit's gate (try_wrong.py): a body outside of a function, one that doesn't compile, one that the prover gives up on by a limit, one that is
-refused only because a proof names what it took away, and one that is proved.
+refused only because a proof names what it took away, and one that is proved. RT in the environment names another command than rt.
 """
 import os
 import re

@@ -1,6 +1,7 @@
 //! A frame's tile columns, joined.
 
-ghost use Rattle.std.specs.Prelude.{◌≡◌, ◌↔◌, ℕ, Bool, List, length, Contains, IsTrue, Ok, Err};
+ghost use Rattle.std.specs.Prelude.{◌≡◌, ◌↔◌, ℕ, Bool, List, length, Contains, IsTrue, Some, Ok, Err};
+ghost use Rattle.vp9_types.specs.declared.rule.Rule.{Rule};
 ghost use Rattle.vp9_types.specs.declared.job.Span.{Span};
 ghost use Rattle.frame_headers.specs.Spans.{tile_spans};
 ghost use Rattle.prob_contexts.specs.Counted.{no_counts};
@@ -79,6 +80,8 @@ fn add_all(columns: &[Result<Counts, Unplanned>], none: Counts) -> Counts
 pub fn close(columns: &[Result<Counts, Unplanned>], none: Counts) -> Result<Counts, Halt>
     requires none { none ≡ no_counts }
     ensures memory { result ≡ Err halt.OutOfMemory ↔ Contains columns.now (Err unplanned.OutOfMemory) }
+    ensures broken { (rule : Rule) → result ≡ Err (halt.Broken rule) →
+        (n : ℕ) × (least_verdict (λ k. broken_by (result_at columns.now k)) (length columns.now) ≡ Some (n, rule)) }
     ensures frame { (counting : Bool) (by : FrameSources) (bytes : List ℕ) (compressed : Span) (spans : List Span) →
         tile_spans bytes by.header compressed ≡ Ok spans → AreColumnResults counting by bytes spans columns.now →
         GivesFrame counting (read_all_tiles by bytes compressed) result }

@@ -27,6 +27,11 @@ KeepInBytes depth = depth ≡ Eight
 abbrev pub KeepInWords : Depth → Type 0
 KeepInWords depth = depth ≡ Eight → ⊥
 
+-- it has room for pictures of this shape: planes of its sizes, which keep samples as its depth asks
+abbrev pub HasRoomFor : Shape → AnyPicture → Type 0
+HasRoomFor shape (Bytes p) = HasSizes shape p.planes × KeepInBytes shape.depth
+HasRoomFor shape (Words p) = HasSizes shape p.planes × KeepInWords shape.depth
+
 -- zeros of this shape
 abbrev pub IsBlankAs : Shape → AnyPicture → Type 0
 IsBlankAs shape (Bytes p) = IsBlank shape p × KeepInBytes shape.depth

@@ -1,9 +1,9 @@
 //! A picture, whatever it keeps a sample as.
 
-ghost use Rattle.std.specs.Prelude.{◌≡◌, IfOk, OnOk, OnErr};
+ghost use Rattle.std.specs.Prelude.{◌≡◌, IfOk, IsOk, OnOk, OnErr};
 ghost use Rattle.planes.specs.Pictures.{FitsPlanes};
 ghost use Rattle.std.specs.Option.{option_copied};
-ghost use Rattle.picture_table.specs.Pictures.{IsBlankAs, IsSound, IsThere, KeepInBytes, KeepInWords, depth_of};
+ghost use Rattle.picture_table.specs.Pictures.{HasRoomFor, IsBlankAs, IsSound, IsThere, KeepInBytes, KeepInWords, depth_of};
 
 use planes::Picture;
 use std::alloc::{AllocError, Global};
@@ -39,6 +39,7 @@ impl AnyPicture {
         requires { FitsPlanes shape }
         ensures blank { OnOk result (IsBlankAs shape self.new) }
         ensures kept { OnErr result (self.new ≡ self.old) }
+        ensures again { HasRoomFor shape self.old → IsOk result }
     {
         match (&mut *self, shape.depth) {
             (AnyPicture::Bytes(picture), Depth::Eight) => picture.renew(alloc, shape),
