@@ -90,7 +90,7 @@ fn begin_plane<P: Sample>(strip: &mut SamplePlane<P>, above: &SamplePlane<P>)
 fn begin<P: Sample>(strip: &mut FramePlanes<P>, above: Option<&FramePlanes<P>>)
     requires { IfSome (option_copied above) (λ a. ShareFirstRows strip.old a) }
     ensures areas { HasAreasOf strip.old strip.new }
-    ensures begun { Begins (option_copied above) strip.new }
+    ensures begun { Begins (option_copied above.entry) strip.new }
 {
     match above {
         Some(above) => {
