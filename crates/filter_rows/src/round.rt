@@ -31,7 +31,7 @@ pub fn filter_next_row<P: EdgeSample, S: Strips<Kept = P>, N: Neighbours>(
     requires held { (r c : ℕ) → 8 * sr ≤ r → r < 8 * (sr + 1) → r < mi_rows f.now.shape → c < mi_cols f.now.shape → N.holds blocks.now r c }
     requires fit { AllFit (N.blocks blocks.now) }
     requires kept { greatest f.now.shape.depth ≤ P.greatest }
-    requires strips { S.holds strips.now sr }
+    requires strips { S.holds strips.now f.now.shape sr }
     requires awaits { AwaitsRow f.now (N.blocks blocks.now) (S.raw strips.now) sr planes.old }
     ensures { HasFiltered f.now (N.blocks blocks.now) (S.raw strips.now) sr planes.new }
 {
@@ -53,7 +53,7 @@ pub fn filter_by_rows<P: EdgeSample, S: Strips<Kept = P>, N: Neighbours, T: Take
     requires held { (r c : ℕ) → r < mi_rows f.now.shape → c < mi_cols f.now.shape → N.holds blocks.now r c }
     requires fit { AllFit (N.blocks blocks.now) }
     requires kept { greatest f.now.shape.depth ≤ P.greatest }
-    requires strips { (sr : ℕ) → sr < superblocks_along (mi_rows f.now.shape) → S.holds strips.now sr }
+    requires strips { (sr : ℕ) → sr < superblocks_along (mi_rows f.now.shape) → S.holds strips.now f.now.shape sr }
     requires awaits { T.awaits to.old 0 }
     ensures { OnOk result ((plane : InPlane) (y x : ℕ) → y < coded_height f.now.shape plane →
         T.map to.new plane y x ≡ filtered_frame f.now (N.blocks blocks.now) (S.raw strips.now) plane y x) }
