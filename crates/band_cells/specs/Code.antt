@@ -1,5 +1,6 @@
 -- What the code keeps, and what the calls answer.
-use Rattle.std.specs.Prelude.{◌≡◌, ℕ, ◌/◌, ◌≤◌, ◌<◌, List, Option, Some, None}
+use Rattle.std.specs.Prelude.{◌≡◌, ℕ, ◌+◌, ◌-◌, ◌/◌, ◌≤◌, ◌<◌, List, map, Option, Some, None}
+use Rattle.std.specs.List.{range_with_len}
 use Rattle.vp9_types.specs.declared.job.BandSpan.{BandSpan}
 use Rattle.vp9_types.specs.declared.shape.Plane.{Plane}
 use Rattle.vp9_types.specs.declared.shape.Plane.TheVariants.{Y, U, V}
@@ -60,3 +61,11 @@ pub record IsRowWithin (shape : Shape) (span : BandSpan) (plane : Plane) (y : �
   pub inside : y < coded_height shape plane
   pub from : span.first ≤ y / band_height shape plane
   pub to : y / band_height shape plane ≤ span.last
+
+-- how many bands a span has
+abbrev pub span_length : BandSpan → ℕ
+span_length span = span.last + 1 - span.first
+
+-- the names of some bands are those of a span, one after another
+abbrev pub AreBandsOf : BandSpan → List (Option BandName) → Type 0
+AreBandsOf span names = names ≡ map (λ index. Some (name_of span.frame index)) (range_with_len span.first (span_length span))
