@@ -44,15 +44,15 @@ pub trait TakesRows {
     /// The frame, as far as it has come.
     ghost map: { Self → FrameMap };
 
-    /// Which row of superblocks may come next.
-    ghost awaits: { Self → ℕ → Type 0 };
+    /// Which row of superblocks of a frame of a shape may come next.
+    ghost awaits: { Self → FrameShape → ℕ → Type 0 };
 
     /// Takes the rows that are final once this row of superblocks is filtered.
     fn take_rows(&mut self, planes: &FramePlanes<Self::Kept>, shape: &Shape, sr: u32)
         requires size { FitsPlanes shape.now }
         requires row { sr < superblocks_along (mi_rows shape.now) }
-        requires awaited { awaits self.old sr }
+        requires awaited { awaits self.old shape.now sr }
         requires place { StandsAt shape.now sr planes.now }
         ensures rows { HasTaken shape.now sr (samples_of planes.now) (map self.old) (map self.new) }
-        ensures next { awaits self.new (sr + 1) };
+        ensures next { awaits self.new shape.now (sr + 1) };
 }

@@ -13,9 +13,10 @@ mod segments;
 mod showing;
 
 pub use decoder::Decoder;
+pub use coding::own_contexts;
 pub use last::LastFrame;
 pub use laws::headers_read_what_persists;
-pub use past::vectors_before;
+pub use past::{after_key, vectors_before};
 pub use plain::decode_plain;
 pub use saved::{SavedContexts, loses_past, place_of};
-pub use segments::{has_size, segments_of};
+pub use segments::{begin_segments, has_size, keep_segments, segments_of};
