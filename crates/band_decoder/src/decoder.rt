@@ -5,26 +5,31 @@ ghost use Rattle.frame_headers.specs.Sizes.{IsFrameSize};
 ghost use Rattle.frame_headers.specs.Tiles.{AreFewTiles};
 ghost use Rattle.seq_decoder.specs.Code.{LiesWithin};
 ghost use Rattle.band_decoder.specs.Kept.{MayDecode};
+ghost use Rattle.frame_plans.specs.Plans.{columns_of};
 
-use crate::frame::{FrameRoom, Rebuilt, rebuild};
+use crate::frame::{FrameRoom, rebuild};
 use crate::kept::{KeptFrame, KeptFrames};
-use crate::plans::plan_frame;
+use frame_plans::plan_frame;
 use crate::showing::show;
 use block_rebuild::RoomSample;
 use edge_io::{PutFault, Sink};
 use file_frames::{FileFrame, FrameCursor};
 use frame_decoder::Decoded;
 use frame_headers::{FrameHead, Header, Persist, read};
-use frame_state::{FramePast, FrameSources, Halt, begin_frame};
+use frame_setting::FrameSetting;
+use frame_state::{FramePast, FrameSources, Halt, TileColumn, begin_frame};
 use line_filter::EdgeSample;
+use prob_contexts::Counts;
 use segment_map::SegmentMap;
 use seq_decoder::{
     LastFrame, SavedContexts, after_key, begin_segments, keep_segments, own_contexts, place_of,
     segments_of, vectors_before,
 };
-use std::alloc::Global;
+use std::alloc::{AllocError, Global};
+use std::marker::Brand;
+use std::mem::replace;
 use tile_syntax::ColumnPlan;
-use vp9_types::{Depth, Outcome, Rule, Span, Stop};
+use vp9_types::{Depth, Sample, Span};
 
 /// Why a decode ends: a rule or want of memory, a sink that refuses, or a reference that isn't kept as headers told.
 #[derive(Clone, Copy, Debug, PartialEq, Eq)]
@@ -35,10 +40,29 @@ pub enum Ended {
 }
 
 impl From<Halt> for Ended {
+    ghost use Rattle.std.specs.Prelude.{Unit};
+
     ghost from_gives = { λ _ _. Unit {0} };
 
     fn from(halt: Halt) -> Self {
         Ended::Halted(halt)
+    }
+}
+
+impl From<AllocError> for Ended {
+    ghost use Rattle.std.specs.Prelude.{Unit};
+
+    ghost from_gives = { λ _ _. Unit {0} };
+
+    fn from(_: AllocError) -> Self {
+        Ended::Halted(Halt::OutOfMemory)
+    }
+}
+
+fn shown_or(told: Result<(), PutFault>) -> Result<(), Ended> {
+    match told {
+        Ok(()) => Ok(()),
+        Err(refusal) => Err(Ended::Refused(refusal)),
     }
 }
 
@@ -71,6 +95,39 @@ impl<P: RoomSample + EdgeSample> Kind<P> {
         rebuild::<P, Brand>(&mut bands, &mut self.room, alloc, setting, &by, plans)?;
         Ok(self.kept.keep(KeptFrame { bands })?)
     }
+
+    /// Puts the text of a frame at a place into a sink, if it is shown.
+    fn show_if<K: Sink>(
+        &self,
+        shown: bool,
+        alloc: Global,
+        place: usize,
+        text: &mut Vec<u8>,
+        sink: &mut K,
+    ) -> Result<(), Ended>
+        requires { K.can_put sink.old }
+        ensures grows { K.grows sink.new ≡ K.grows sink.old }
+        ensures again { K.faults sink.new ≡ K.faults sink.old → K.can_put sink.new }
+    {
+        if !shown {
+            return Ok(());
+        }
+        let Some(frame) = self.kept.at(place) else {
+            return Err(Ended::NoReference);
+        };
+        shown_or(show(alloc, frame, text, sink))
+    }
+}
+
+/// The tile columns of plans, which leave them.
+fn take_columns(alloc: Global, plans: &mut Vec<ColumnPlan>) -> Result<Vec<TileColumn>, AllocError>
+    ensures { IfOk result (λ v. v.items ≡ columns_of plans.old.items) }
+{
+    let mut columns = Vec::with_capacity(alloc, plans.len())?;
+    for plan in replace(plans, Vec::new(alloc)) {
+        columns.push_reserved(plan.column);
+    }
+    Ok(columns)
 }
 
 /// What is kept of the frames so far, by bands.
@@ -168,16 +225,53 @@ impl BandDecoder {
             Depth::Eight => {
                 let place = self.bytes.rebuild(alloc, &planned.setting, &self.plans)?;
                 self.bytes.show_if(header.show_frame, alloc, place, &mut self.text, sink)?;
-                self.bytes.kept.refresh(header.refresh, place);
+                self.bytes.kept.refresh(header.refresh, Some(place));
+                self.words.kept.refresh(header.refresh, None);
             }
             Depth::Ten | Depth::Twelve => {
                 let place = self.words.rebuild(alloc, &planned.setting, &self.plans)?;
                 self.words.show_if(header.show_frame, alloc, place, &mut self.text, sink)?;
-                self.words.kept.refresh(header.refresh, place);
+                self.words.kept.refresh(header.refresh, Some(place));
+                self.bytes.kept.refresh(header.refresh, None);
             }
         }
         let columns = take_columns(alloc, &mut self.plans)?;
         self.keep(header, Decoded { contexts: planned.setting.contexts, columns, counts: planned.counts });
         Ok(())
+    }
+
+    /// Writes what a slot holds.
+    fn show_slot<K: Sink>(&mut self, alloc: Global, slot: u8, sink: &mut K) -> Result<(), Ended>
+        requires { K.can_put sink.old }
+        ensures kept { self.new.persist ≡ self.old.persist }
+        ensures segments { self.new.segments ≡ self.old.segments }
+    {
+        if let Some(frame) = self.bytes.kept.in_slot(slot) {
+            return shown_or(show(alloc, frame, &mut self.text, sink));
+        }
+        match self.words.kept.in_slot(slot) {
+            Some(frame) => shown_or(show(alloc, frame, &mut self.text, sink)),
+            None => Ok(()),
+        }
+    }
+
+    /// Decodes a frame, and writes it if it is shown.
+    pub fn decode_next<K: Sink>(
+        &mut self,
+        alloc: Global,
+        bytes: &[u8],
+        sink: &mut K,
+    ) -> Result<(), Ended>
+        requires may { MayDecode self.old }
+        requires sink { K.can_put sink.old }
+        ensures may { OnOk result (MayDecode self.new) }
+    {
+        match read(bytes, &self.persist) {
+            Ok(FrameHead::Coded { header, compressed }) => {
+                self.decode_coded(alloc, bytes, &header, compressed, sink)
+            }
+            Ok(FrameHead::ShowExisting { slot }) => self.show_slot(alloc, slot, sink),
+            Err(rule) => Err(Ended::Halted(Halt::Broken(rule))),
+        }
     }
 }

@@ -10,7 +10,7 @@ ghost use Rattle.frame_state.specs.Sources.{FrameSources};
 ghost use Rattle.frame_bands.specs.Frames.{map_of};
 ghost use Rattle.band_decoder.specs.Frames.{AreFramePlans, CanPutAll, put_by};
 
-use crate::planned_blocks::PlannedBlocks;
+use frame_plans::PlannedBlocks;
 use crate::strips::{make_room, put_strips};
 use block_rebuild::{RebuildRoom, Rebuilding, RoomSample};
 use column_strips::{ColumnStrips, RawFrame};

@@ -2,7 +2,7 @@
 
 ghost use Rattle.std.specs.Prelude.{◌≡◌, IfOk};
 ghost use Rattle.planes.specs.Pictures.{FitsPlanes};
-ghost use Rattle.band_decoder.specs.Kept.{IsSound};
+ghost use Rattle.band_decoder.specs.Frames.{IsSound};
 
 use block_rebuild::{Rebuilding, ReferencePicture};
 use frame_bands::FrameBands;
@@ -78,9 +78,15 @@ impl<P: Sample> KeptFrames<P> {
         Ok(place)
     }
 
-    /// From now on the slots that `refresh` says name this place.
-    pub fn refresh(&mut self, refresh: u8, place: usize) {
-        frame_headers::refresh_slots(&mut self.slots, refresh, place);
+    /// From now on the slots that `refresh` says name this place, or nothing.
+    pub fn refresh(&mut self, refresh: u8, place: Option<usize>) {
+        let mut flags = refresh;
+        for i in 0..self.slots.len() {
+            if flags % 2 == 1 {
+                self.slots[i] = place;
+            }
+            flags /= 2;
+        }
     }
 
     pub fn at(&self, place: usize) -> Option<&KeptFrame<P>> {

@@ -1,8 +1,8 @@
-//! A frame by the way of jobs, on one thread: its tile columns planned, their strips put, rows filtered, and bands kept.
+//! A decoder on one thread that goes the way of jobs: tile columns planned, their strips put, rows filtered, and bands kept, which later frames refer to.
 #![tactic(auto)]
 
-mod plans;
-mod planned_blocks;
-
-pub use plans::plan_frame;
-pub use planned_blocks::PlannedBlocks;
+mod decoder;
+mod frame;
+mod kept;
+mod showing;
+mod strips;

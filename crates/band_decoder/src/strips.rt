@@ -1,10 +1,11 @@
 //! The strips of a row of superblocks, by tile column.
 
-ghost use Rattle.std.specs.Prelude.{◌≡◌, ◌<◌, ◌≤◌, ℕ, IfSome, OnOk, get_or, length};
+ghost use Rattle.std.specs.Prelude.{◌≡◌, ◌<◌, ◌^◌, ℕ, IfSome, OnOk, get_or, length};
 ghost use Rattle.std.specs.Option.{option_copied};
 ghost use Rattle.vp9_types.specs.Shapes.{mi_rows};
 ghost use Rattle.vp9_types.specs.Sizes.{greatest, superblocks_along};
 ghost use Rattle.frame_headers.specs.Sizes.{HasFrameSize};
+ghost use Rattle.frame_headers.specs.Spans.{tile_count};
 ghost use Rattle.frame_headers.specs.State.{shape_of};
 ghost use Rattle.frame_headers.specs.Tiles.{AreFewTiles};
 ghost use Rattle.frame_headers.specs.declared.header.Header.{Header};
@@ -14,8 +15,11 @@ ghost use Rattle.band_decoder.specs.Frames.{AreAbove, CanPut, HaveAreas, HoldRow
 
 use block_rebuild::{RebuildRoom, Rebuilding, RoomSample};
 use frame_bands::FrameBands;
+use frame_setting::FrameSetting;
+use frame_state::{TilePlaces, superblocks};
 use planes::FramePlanes;
-use recon_rows::rows;
+use recon_rows::{new_strip, renew_strip, rows};
+use std::alloc::{AllocError, Global};
 use tile_syntax::ColumnPlan;
 use vp9_types::Sample;
 

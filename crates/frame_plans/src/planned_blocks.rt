@@ -2,7 +2,7 @@
 
 ghost use Rattle.std.specs.Prelude.{◌≡◌};
 ghost use Rattle.frame_state.specs.Columns.{AreColumnsOf};
-ghost use Rattle.band_decoder.specs.Plans.{columns_of};
+ghost use Rattle.frame_plans.specs.Plans.{columns_of};
 
 use block_plan::{BlockInfo, Neighbours};
 use frame_headers::Header;
@@ -53,7 +53,7 @@ impl Neighbours for PlannedBlocks<'_> {
     ghost use Rattle.vp9_types.specs.Shapes.{mi_cols, mi_rows};
     ghost use Rattle.frame_state.specs.Columns.{blocks_of};
     ghost use Rattle.frame_state.specs.Reading.{all_blocks};
-    ghost use Rattle.band_decoder.specs.Plans.{columns_of};
+    ghost use Rattle.frame_plans.specs.Plans.{columns_of};
 
     ghost blocks = { λ g. all_blocks (blocks_of (columns_of g.plans.now)) };
 

@@ -10,7 +10,7 @@ ghost use Rattle.frame_state.specs.Plans.{tile_bytes};
 ghost use Rattle.frame_state.specs.Reading.{read_all_tiles};
 ghost use Rattle.frame_state.specs.Sources.{adapts};
 ghost use Rattle.frame_close.specs.Code.{GivesFrame};
-ghost use Rattle.band_decoder.specs.Plans.{AreFirstPlans, ArePlansAsRead};
+ghost use Rattle.frame_plans.specs.Plans.{AreFirstPlans, ArePlansAsRead};
 
 use frame_close::close;
 use frame_setting::FrameSetting;
