@@ -1,5 +1,5 @@
 -- What a frame is rebuilt from, row of superblocks by row of superblocks.
-use Rattle.std.specs.Prelude.{◌≡◌, ◌<◌, ◌-◌, ℕ, List, get_or, length, Option, Some, None, Ok}
+use Rattle.std.specs.Prelude.{◌≡◌, ◌<◌, ◌-◌, ℕ, List, get_or, length, slice_get, Option, Some, None, Ok}
 use Rattle.std.specs.List.{All}
 use Rattle.vp9_types.specs.Maps.{IsAtMost}
 use Rattle.vp9_types.specs.Sizes.{greatest}
@@ -86,6 +86,11 @@ pub record HoldRow {X : Type 0} (put : Rebuilding) (plans : List ColumnPlan) (ro
 abbrev pub AreAbove : {X : Type 0} → Rebuilding → List ColumnPlan → ℕ → Option (List (FramePlanes X)) → Type 0
 AreAbove put plans row None = row ≡ 0
 AreAbove put plans row (Some strips) = (0 < row) × HoldRow put plans (row - 1) strips
+
+-- the strip of a tile column among those of a row, if there is one
+abbrev pub strip_at : {X : Type 0} → Option (List (FramePlanes X)) → ℕ → Option (FramePlanes X)
+strip_at None k = None
+strip_at (Some strips) k = slice_get strips k
 
 -- a frame's tiles are all read, and these are the plans of its tile columns
 pub record AreFramePlans (by : FrameSources) (bytes : List ℕ) (compressed : Span) (read : FrameRead) (plans : List ColumnPlan) : Type 0 where

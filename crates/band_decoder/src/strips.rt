@@ -11,7 +11,7 @@ ghost use Rattle.frame_headers.specs.Tiles.{AreFewTiles};
 ghost use Rattle.frame_headers.specs.declared.header.Header.{Header};
 ghost use Rattle.tile_syntax.specs.declared.plans.ColumnPlan.{ColumnPlan as Plan};
 ghost use Rattle.frame_state.specs.Columns.{IsTileColumn};
-ghost use Rattle.band_decoder.specs.Frames.{AreAbove, CanPut, HaveAreas, HoldRow, put_by};
+ghost use Rattle.band_decoder.specs.Frames.{AreAbove, CanPut, HaveAreas, HoldRow, put_by, strip_at};
 
 use block_rebuild::{RebuildRoom, Rebuilding, RoomSample};
 use frame_bands::FrameBands;
@@ -25,6 +25,7 @@ use vp9_types::Sample;
 
 fn strip_at<P: Sample>(strips: Option<&[FramePlanes<P>]>, k: usize) -> Option<&FramePlanes<P>>
     requires { IfSome strips (λ s. k < length s.now) }
+    ensures { option_copied result ≡ strip_at (option_copied strips) k }
 {
     match strips {
         Some(strips) => Some(&strips[k]),

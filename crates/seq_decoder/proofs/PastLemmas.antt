@@ -110,7 +110,7 @@ plane_range f depth Y h same = rw (sym same) h.range.y
 plane_range f depth U h same = rw (sym same) h.range.u
 plane_range f depth V h same = rw (sym same) h.range.v
 
-is_reference : (header : Header) (r : Reference) (shape : Shape) → IsFrameSize header.size → shape.w ≤ 65536 → shape.h ≤ 65536 → shape ≡ r.shape → is_in_range header.size r ≡ true
+pub is_reference : (header : Header) (r : Reference) (shape : Shape) → IsFrameSize header.size → shape.w ≤ 65536 → shape.h ≤ 65536 → shape ≡ r.shape → is_in_range header.size r ≡ true
     → IsReference (shape_of header) shape
 is_reference header r shape size wide high same range =
     let one = both_true _ _ range in

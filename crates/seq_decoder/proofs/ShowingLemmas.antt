@@ -26,7 +26,7 @@ use Rattle.seq_decoder.specs.declared.coding.Coded.{Coded}
 use Rattle.seq_decoder.specs.After.{shown_picture}
 use Rattle.seq_decoder.specs.Code.{HoldsFrame, Shows, shown_text, text_if}
 
-small_at : (depth : Depth) (m : Map) (y x : ℕ) → depth ≡ Eight → IsAtMost (2 ^ depth_bits depth - 1) m → m y x < 256
+pub small_at : (depth : Depth) (m : Map) (y x : ℕ) → depth ≡ Eight → IsAtMost (2 ^ depth_bits depth - 1) m → m y x < 256
 small_at depth m y x eight most = omega (arith, subst (λ d. IsAtMost (2 ^ depth_bits d - 1) m) eight most y x)
 
 small_in : {X : Type 0} (f : Picture X) (p : Plane) (y x : ℕ) → f.shape.depth ≡ Eight → IsWhole f → map_of f p y x < 256
@@ -46,7 +46,7 @@ half_within : (n : ℕ) (ss : Bool) → subsampled_size n ss ≤ halved ss (8 * 
 half_within n true = omega arith
 half_within n false = omega arith
 
-plane_within : (shape : Shape) (p : Plane) → (plane_width shape p ≤ coded_width shape p) × (plane_height shape p ≤ coded_height shape p)
+pub plane_within : (shape : Shape) (p : Plane) → (plane_width shape p ≤ coded_width shape p) × (plane_height shape p ≤ coded_height shape p)
 plane_within shape Y = (omega arith, omega arith)
 plane_within shape U = (half_within shape.w shape.ss_x, half_within shape.h shape.ss_y)
 plane_within shape V = (half_within shape.w shape.ss_x, half_within shape.h shape.ss_y)
