@@ -1,6 +1,6 @@
 //! The strips of a row of superblocks, by tile column.
 
-ghost use Rattle.std.specs.Prelude.{◌≡◌, ◌<◌, ◌^◌, ℕ, IfSome, OnOk, get_or, length};
+ghost use Rattle.std.specs.Prelude.{◌≡◌, ◌<◌, ◌^◌, ◌≤◌, ℕ, IfSome, OnOk, get_or, length};
 ghost use Rattle.std.specs.Option.{option_copied};
 ghost use Rattle.vp9_types.specs.Shapes.{mi_rows};
 ghost use Rattle.vp9_types.specs.Sizes.{greatest, superblocks_along};
@@ -10,18 +10,18 @@ ghost use Rattle.frame_headers.specs.State.{shape_of};
 ghost use Rattle.frame_headers.specs.Tiles.{AreFewTiles};
 ghost use Rattle.frame_headers.specs.declared.header.Header.{Header};
 ghost use Rattle.tile_syntax.specs.declared.plans.ColumnPlan.{ColumnPlan as Plan};
+ghost use Rattle.block_rebuild.specs.Code.{rebuilding_of};
 ghost use Rattle.frame_state.specs.Columns.{IsTileColumn};
-ghost use Rattle.band_decoder.specs.Frames.{AreAbove, CanPut, HaveAreas, HoldRow, put_by, strip_at};
+ghost use Rattle.frame_rows.specs.Frames.{AreAbove, CanPut, HaveAreas, HoldRow, strip_at};
 
 use block_rebuild::{RebuildRoom, Rebuilding, RoomSample};
-use frame_bands::FrameBands;
 use frame_setting::FrameSetting;
 use frame_state::{TilePlaces, superblocks};
 use planes::FramePlanes;
 use recon_rows::{new_strip, renew_strip, rows};
 use std::alloc::{AllocError, Global};
 use tile_syntax::ColumnPlan;
-use vp9_types::Sample;
+use vp9_types::{Sample, Samples};
 
 fn strip_at<P: Sample>(strips: Option<&[FramePlanes<P>]>, k: usize) -> Option<&FramePlanes<P>>
     requires { IfSome strips (λ s. k < length s.now) }
@@ -34,10 +34,10 @@ fn strip_at<P: Sample>(strips: Option<&[FramePlanes<P>]>, k: usize) -> Option<&F
 }
 
 /// Makes the strips of a row of superblocks of all tile columns, below those of the row before it.
-pub fn put_strips<P: RoomSample>(
+pub fn put_strips<P: RoomSample, S: Samples<Kept = P>>(
     own: &mut [FramePlanes<P>],
     above: Option<&[FramePlanes<P>]>,
-    by: &Rebuilding<'_, FrameBands<P>>,
+    by: &Rebuilding<'_, S>,
     plans: &[ColumnPlan],
     row: u32,
     room: &mut RebuildRoom,
@@ -45,10 +45,10 @@ pub fn put_strips<P: RoomSample>(
     requires size { HasFrameSize by.now.shape }
     requires fits { P.takes (greatest by.now.shape.depth) }
     requires row { row < superblocks_along (mi_rows by.now.shape) }
-    requires plans { (header : Header) × (shape_of header ≡ by.now.shape) × ((k : ℕ) (d : Plan) → k < length plans.now → CanPut header by.now (get_or plans.now k d)) }
+    requires plans { (header : Header) × (shape_of header ≡ by.now.shape) × ((k : ℕ) (d : Plan) → k < length plans.now → CanPut S.holds S.width S.map header by.now (get_or plans.now k d)) }
     requires areas { HaveAreas by.now.shape plans.now row own.old }
-    requires above { AreAbove (put_by by.now) plans.now row (option_copied above) }
-    ensures { HoldRow (put_by by.now) plans.now row own.new }
+    requires above { AreAbove (rebuilding_of S.map by.now) plans.now row (option_copied above) }
+    ensures { HoldRow (rebuilding_of S.map by.now) plans.now row own.new }
 {
     for k in 0..plans.len() {
         rows(&mut own[k], strip_at(above, k), by, &plans[k], row, room);
