@@ -11,6 +11,7 @@ use Rattle.vp9_types.specs.declared.shape.Plane.{Plane}
 use Rattle.vp9_types.specs.declared.shape.Plane.TheVariants.{Y, U, V}
 use Rattle.vp9_types.specs.declared.shape.Shape.{Shape}
 use Rattle.block_geometry.specs.declared.transform_blocks.PlaneBlock.{PlaneBlock}
+use Rattle.block_plan.specs.InPlanes.{plane_block}
 use Rattle.block_plan.specs.Planned.{PlannedBlock, Residue, Residues}
 use Rattle.block_plan.specs.declared.block.BlockInfo.{BlockInfo}
 use Rattle.block_plan.specs.declared.block.InterPrediction.{InterPrediction}
@@ -66,7 +67,7 @@ inter_leaves : (by : Rebuilding) (b : BlockInfo) (modes : InterPrediction) (p : 
     → put_inter by b modes p residues m y x ≡ m y x
 unfolding put_inter
 inter_leaves by b modes p residues m y x past =
-    all_leave (add_next by.shape b p) y x (λ m r. added_leaves (coded_width by.shape p) (coded_height by.shape p) by.shape.depth _ r.0 r.1 m y x past) residues (put_prediction by b modes p m)
+    all_leave (add_next by.shape b p) y x (λ m r. added_leaves (coded_width by.shape p) (coded_height by.shape p) by.shape.depth (plane_block by.shape b p) r.0 r.1 m y x past) residues (put_prediction by b modes p m)
     ∙ prediction_leaves by b modes p m y x past
 
 block_leaves : (by : Rebuilding) (b : PlannedBlock) (prediction : Prediction) (m : FrameMap) (p : Plane) (y x : ℕ) → coded_width by.shape p ≤ x → put_by by b prediction m p y x ≡ m p y x

@@ -76,10 +76,10 @@ in_range depth f V range = range.v
 ---- One strip more ----
 
 -- one of the first strips has a column of a plane
-record IsCovered {X : Type 0} (strips : List (FramePlanes X)) (p : Plane) (k x : ℕ) : Type 0 where
-  number : ℕ
-  low : number < k
-  column : (d : FramePlanes X) → ((plane_of (get_or strips number d) p).area.first_column ≤ x) × (x < right_end (plane_of (get_or strips number d) p).area)
+pub record IsCovered {X : Type 0} (strips : List (FramePlanes X)) (p : Plane) (k x : ℕ) : Type 0 where
+  pub number : ℕ
+  pub low : number < k
+  pub column : (d : FramePlanes X) → ((plane_of (get_or strips number d) p).area.first_column ≤ x) × (x < right_end (plane_of (get_or strips number d) p).area)
 
 -- the first strips are put
 pub record HasStrips {X : Type 0} (shape : Shape) (p : Plane) (r : ℕ) (raw : Map) (strips : List (FramePlanes X)) (k : ℕ) (old now : Map) : Type 0 where
@@ -91,6 +91,12 @@ no_strips shape p r raw strips old = record {
   put = λ y x below above covered. absurd (let low = covered.low in omega (arith, low));
   above = λ y x high. refl;
 }
+
+below_it : (n k : ℕ) → n < k + 1 → (n ≡ k → ⊥) → n < k
+below_it n k low apart = elim (cases_lt n k) [
+  | inl before ↦ before
+  | inr behind ↦ absurd (apart (omega (arith, low, behind)))
+]
 
 pub one_more : {X : Type 0} (shape : Shape) (p : Plane) (r : ℕ) (raw : FrameMap) (strips : List (FramePlanes X)) (k : ℕ) (f : FramePlanes X) (old now new : Map) → AreRow shape raw r strips
     → k < length strips → f ≡ get_or strips k f → HasPart (rows_from (first_own shape p r) (plane_of f p).area) (plane_map (plane_of f p)) now new
@@ -118,11 +124,32 @@ one_more shape p r raw strips k f old now new row there is has so = record {
           absurd (out (record { below = below; above = omega (arith, end, below, above); behind = here.0; before = here.1 }))
       | inr other ↦ record { number = covered.number; low = (let apart : covered.number ≡ k → ⊥ = other in let low = covered.low in below_it covered.number k low apart); column = covered.column }
     ]
-    below_it : (n k : ℕ) → n < k + 1 → (n ≡ k → ⊥) → n < k
-    below_it n k low apart = elim (cases_lt n k) [
-      | inl before ↦ before
-      | inr behind ↦ absurd (apart (omega (arith, low, behind)))
-    ]
+
+---- As the code has it ----
+
+pub own_of : {X : Type 0} (shape : Shape) (raw : FrameMap) (r : ℕ) (strips : List (FramePlanes X)) (k : ℕ) (f : FramePlanes X) → AreRow shape raw r strips → k < length strips → f ≡ get_or strips k f
+    → IsPartOfRow shape raw r f
+own_of shape raw r strips k f row there is = subst (IsPartOfRow shape raw r) (sym is) (row.parts k f there)
+
+pub rows_of_one : {X : Type 0} (shape : Shape) (raw : FrameMap) (p : Plane) (r : ℕ) (strips : List (FramePlanes X)) (k : ℕ) (f : FramePlanes X) (s : PlaneSamples) → AreRow shape raw r strips → k < length strips
+    → f ≡ get_or strips k f → s ≡ plane_of f p → HasOwnRows shape p r s.area
+rows_of_one shape raw p r strips k f s row there is plane =
+    subst (λ (s : PlaneSamples). HasOwnRows shape p r s.area) (sym plane) ((own_of shape raw r strips k f row there is).areas p)
+
+pub range_of_one : {X : Type 0} (shape : Shape) (raw : FrameMap) (p : Plane) (r : ℕ) (strips : List (FramePlanes X)) (k : ℕ) (f : FramePlanes X) (s : PlaneSamples) → AreRow shape raw r strips → k < length strips
+    → f ≡ get_or strips k f → s ≡ plane_of f p → IsAtMost (greatest shape.depth) (plane_map s)
+range_of_one shape raw p r strips k f s row there is plane =
+    subst (λ (s : PlaneSamples). IsAtMost (greatest shape.depth) (plane_map s)) (sym plane) (in_range shape.depth f p (own_of shape raw r strips k f row there is).range)
+
+pub room_at : (shape : Shape) (p : Plane) (r first : ℕ) (a old to : Area) → r < superblocks_along (mi_rows shape) → HasOwnRows shape p r a → HasFilterRows shape p r old → to ≡ old → first ≡ first_own shape p r
+    → LiesIn (rows_from first a) to
+room_at shape p r first a old to low own room same is = rw (same, is) (room_there shape p r a old low own room)
+
+pub part_at : {X : Type 0} (shape : Shape) (p : Plane) (r first : ℕ) (f : FramePlanes X) (s : PlaneSamples) (now new : Map) → first ≡ first_own shape p r → s ≡ plane_of f p
+    → HasPart (rows_from first s.area) (plane_map s) now new → HasPart (rows_from (first_own shape p r) (plane_of f p).area) (plane_map (plane_of f p)) now new
+part_at shape p r first f s now new is plane has =
+    subst (λ (s : PlaneSamples). HasPart (rows_from (first_own shape p r) s.area) (plane_map s) now new) plane
+    (subst (λ n. HasPart (rows_from n s.area) (plane_map s) now new) is has)
 
 pub all_put : {X : Type 0} (shape : Shape) (p : Plane) (r : ℕ) (raw : FrameMap) (strips : List (FramePlanes X)) (k : ℕ) (old new : PlaneSamples) → AreRow shape raw r strips → length strips ≤ k
     → HasFilterRows shape p r old.area → new.area ≡ old.area → HasStrips shape p r (raw p) strips k (plane_map old) (plane_map new) → HasPut shape p r (raw p) (plane_map old) (plane_map new)
