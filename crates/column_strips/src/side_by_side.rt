@@ -31,13 +31,13 @@ impl RawFrame for Brand {
 /// The strips of the tile columns of a frame in one of its rows of superblocks, the k-th of the k-th tile column.
 #[derive(Drop)]
 pub struct ColumnStrips<'a, P: Sample, F> {
-    strips: &'a [FramePlanes<P>],
+    pub strips: &'a [FramePlanes<P>],
     of: PhantomData<F>,
 }
 
 impl<'a, P: Sample, F> ColumnStrips<'a, P, F> {
     pub fn new(strips: &'a [FramePlanes<P>]) -> ColumnStrips<'a, P, F>
-        ensures { result.strips ≡ strips }
+        ensures { result.strips.now ≡ strips.now }
     {
         ColumnStrips {
             strips,
