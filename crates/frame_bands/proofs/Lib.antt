@@ -1,0 +1,5 @@
+pub mod Places
+pub mod Lists
+pub mod Takes
+pub mod Filling
+pub mod Reading
