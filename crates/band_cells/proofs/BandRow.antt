@@ -1,5 +1,5 @@
 -- A row of a band, and its samples.
-use Rattle.std.proofs.Common.{◌≡◌, ℕ, zero, suc, ◌+◌, ◌-◌, ◌*◌, ◌/◌, ◌<◌, ◌≤◌, ◌∷◌, min, Bool, true, false, List, length, get_or, Option, Some, None, IfSome, map, refl, sym, ◌∙◌, ap, arith, subst}
+use Rattle.std.proofs.Common.{◌≡◌, ℕ, zero, suc, ◌+◌, ◌-◌, ◌*◌, ◌/◌, ◌<◌, ◌≤◌, ◌∷◌, min, Bool, true, false, List, length, get_or, Option, Some, IfSome, map, refl, sym, ◌∙◌, ap, arith, subst}
 use Rattle.std.specs.List.{range_with_len}
 use Rattle.vp9_types.specs.Maps.{row_of}
 use Rattle.vp9_types.specs.Shapes.{halved, coded_width, coded_height}
@@ -11,7 +11,7 @@ use Rattle.planes.specs.Planes.{PlaneSamples, plane_map, HasRow}
 use Rattle.planes.specs.Pictures.{plane_of}
 use Rattle.band_cells.specs.declared.samples.BandName.{BandName}
 use Rattle.band_cells.specs.declared.samples.BandSamples.{BandSamples}
-use Rattle.band_cells.specs.Bands.{Picture, band_height, band_area, IsRowOf}
+use Rattle.band_cells.specs.Bands.{Picture, band_height, IsRowOf}
 use Rattle.band_cells.proofs.Names.{same_length, found_name}
 use Rattle.band_cells.specs.Code.{AreBandsOf, span_length, AreSamplesOf, IsPlaneOf, IsRowWithin, HasRow as HasBandRow, name_of, picture_row}
 

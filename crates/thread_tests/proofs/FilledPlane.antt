@@ -21,6 +21,6 @@ filled a m new v block put same y x low high left right =
     let at : (y - a.first_row) * a.columns + (x - a.first_column) < a.rows * a.columns = omega (arith, room, left, right) in
     (λ i. put i y x)
     ∙ rw (rows, columns)
-      (inside_block m (rows_of a.columns samples) a.first_row a.first_column a.rows a.columns y x low high left right
-      ∙ (place a.columns samples (y - a.first_row) (x - a.first_column) (omega (arith, left, right))
-      ∙ (ap (λ (l : List ℕ). get_or l ((y - a.first_row) * a.columns + (x - a.first_column)) 0) all ∙ get_or-replicate (a.rows * a.columns) _ v 0 at)))
+    (inside_block m (rows_of a.columns samples) a.first_row a.first_column a.rows a.columns y x low high left right
+    ∙ (place a.columns samples (y - a.first_row) (x - a.first_column) (omega (arith, left, right))
+    ∙ (ap (λ (l : List ℕ). get_or l ((y - a.first_row) * a.columns + (x - a.first_column)) 0) all ∙ get_or-replicate (a.rows * a.columns) _ v 0 at)))

@@ -134,9 +134,11 @@ fn read_all<R: Wait>(
     let mut bands = Vec::new(alloc);
     store.look_up(rt, span, &mut bands)?;
     let rows = BandRows::new(store, span, &bands);
-    Ok(is_filled(&rows, Plane::Y, 200, 16, frame)
-        && is_filled(&rows, Plane::U, 100, 8, frame)
-        && is_filled(&rows, Plane::V, 100, 8, frame))
+    Ok(
+        is_filled(&rows, Plane::Y, 200, 16, frame)
+            && is_filled(&rows, Plane::U, 100, 8, frame)
+            && is_filled(&rows, Plane::V, 100, 8, frame),
+    )
 }
 
 // One thread publishes the bands of a frame, and another reads them.

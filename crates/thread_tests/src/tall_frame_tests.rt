@@ -109,9 +109,11 @@ fn read_all<R: Wait>(
     let mut bands = Vec::new(alloc);
     store.look_up(rt, span, &mut bands)?;
     let rows = BandRows::new(store, span, &bands);
-    Ok(is_filled(&rows, Plane::Y, 13_000, 16, frame)
-        && is_filled(&rows, Plane::U, 6500, 8, frame)
-        && is_filled(&rows, Plane::V, 6500, 8, frame))
+    Ok(
+        is_filled(&rows, Plane::Y, 13_000, 16, frame)
+            && is_filled(&rows, Plane::U, 6500, 8, frame)
+            && is_filled(&rows, Plane::V, 6500, 8, frame),
+    )
 }
 
 fn is_read<R: Wait>(rt: &R, alloc: Global, frame: u16) -> Result<bool, AllocError> {

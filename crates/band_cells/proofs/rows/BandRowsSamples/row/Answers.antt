@@ -13,12 +13,12 @@ pub row-requires : goal.row-requires
 row-requires g c =
     let row = subst (λ s. IsRowWithin (g.M.Meaning.pictures s.frame).shape s c.args.plane c.args.y) (sym c.self.view_is) c.requires in
     let named = band_named g.M.Meaning.pictures c.self.inside.shape c.self.inside.span c.args.plane c.args.y c.band_height.result _ c.self.inside.bands.now c.index-self-band.result
-      c.self.invariant.0 c.self.invariant.1 row c.band_height.ensures.height in
+    c.self.invariant.0 c.self.invariant.1 row c.band_height.ensures.height in
     band_has g.M.Meaning.pictures c.self.inside.shape c.self.inside.span c.args.plane c.args.y c.band_height.result _ c.self.invariant.0 row c.band_height.ensures.height named
 
 pub returns : goal.returns
 returns g c =
     let row = subst (λ s. IsRowWithin (g.M.Meaning.pictures s.frame).shape s c.args.plane c.args.y) (sym c.self.view_is) c.requires in
     let named = band_named g.M.Meaning.pictures c.self.inside.shape c.self.inside.span c.args.plane c.args.y c.band_height.result _ c.self.inside.bands.now c.index-self-band.result
-      c.self.invariant.0 c.self.invariant.1 row c.band_height.ensures.height in
+    c.self.invariant.0 c.self.invariant.1 row c.band_height.ensures.height in
     band_row g.M.Meaning.pictures c.self.inside.span c.args.self.now c.args.plane c.args.y _ _ _ c.row.ensures named c.self.view_is

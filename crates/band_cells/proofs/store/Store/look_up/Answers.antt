@@ -1,4 +1,4 @@
-use Rattle.std.proofs.Common.{◌+◌, ◌-◌, ℕ, Some, sym, ◌∙◌, ap, arith}
+use Rattle.std.proofs.Common.{ℕ, Some, sym, ◌∙◌, ap, arith}
 use Rattle.band_cells.proofs.Names.{next_name, no_names, all_names}
 use Rattle.band_cells.specs.Code.{name_of}
 use Rattle.band_cells.proofs.store.Store.look_up.Goals as goal
@@ -24,7 +24,7 @@ loop-index-preserved g c = (
   omega (arith, c.push_reserved.ensures.capacity, c.loop-index.invariant.3),
   omega (arith, c.push_reserved.ensures.capacity, c.loop-index.invariant.4),
   next_name _ _ _ _ _ _ _ c.loop-index.index _ c.loop-index.invariant.5 (omega (arith, c.loop-index.invariant.0)) (omega (arith, c.loop-index.invariant.0))
-  (c.wait_for.ensures ∙ ap (λ (k : ℕ). Some (name_of k c.loop-index.index)) (sym c.requires.frame)) c.push_reserved.ensures.items,
+      (c.wait_for.ensures ∙ ap (λ (k : ℕ). Some (name_of k c.loop-index.index)) (sym c.requires.frame)) c.push_reserved.ensures.items,
 )
 
 pub returns-clause-found : goal.returns-clause-found
