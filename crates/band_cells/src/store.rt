@@ -66,6 +66,13 @@ impl<M: Meaning, P: Sample> Store<M, P> {
         &self.shape
     }
 
+    /// How many bands the frame has.
+    pub fn bands(&self) -> u32
+        ensures { result ≡ bands_of self.now.shape }
+    {
+        self.shape.bands()
+    }
+
     /// The cell of a band.
     pub fn cell(&self, index: u32) -> &BandCell<M, P>
         requires { index < bands_of self.now.shape }
@@ -105,6 +112,8 @@ impl<M: Meaning, P: Sample> Store<M, P> {
         ensures room { vec_capacity bands.old ≤ vec_capacity bands.new }
         ensures again { span_length span ≤ vec_capacity bands.old → IsOk result }
     {
+        // Their number bounds the sum.
+        let _all = self.bands();
         bands.clear();
         let end = span.last + 1;
         bands.reserve(end.saturating_sub(span.first) as usize)?;

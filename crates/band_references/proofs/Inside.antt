@@ -52,6 +52,6 @@ pub bands_inside : (shape : Shape) (shapes : ReferenceFrame → Shape) (blocks :
     → IsReference shape (shapes r) → needs_at (needs_of shape shapes blocks) r ≡ Some bands → bands.last < bands_of (shapes r)
 bands_inside shape shapes blocks r bands inside is named =
     let range : IsRangeOf (BlocksRead shape shapes blocks (length blocks) r) bands =
-      subst (AreRead (BlocksRead shape shapes blocks (length blocks) r)) named (needs_are shape shapes blocks r inside) in
+    subst (AreRead (BlocksRead shape shapes blocks (length blocks) r)) named (needs_are shape shapes blocks r inside) in
     let d = some_block blocks range.last.block range.last.one in
     band_shown shape shapes (slice_index_or blocks range.last.block d) r bands.last is (range.last.reads d)

@@ -66,8 +66,8 @@ row_of_bands : (shape reference : Shape) (b : BlockInfo) (modes : InterPredictio
 row_of_bands shape reference b modes list bands p n y is lies low first last =
     let band = lies p n low y first last in
     let shown : y < plane_height reference p =
-      rw (plane_same shape reference b modes (part_in p n list)) at
-        (row_held shape reference b modes (part_in p n list) (place_of shape b modes (part_in p n list) reference) _ y refl (some_size shape reference b modes p n list is) last) in
+    rw (plane_same shape reference b modes (part_in p n list)) at
+    (row_held shape reference b modes (part_in p n list) (place_of shape b modes (part_in p n list) reference) _ y refl (some_size shape reference b modes p n list is) last) in
     record {
       inside = omega (arith, shown, shown_rows reference p);
       from = rw (same_height reference p) at band.0;
@@ -134,7 +134,7 @@ module _ (pictures : ℕ → Picture) (by : Rebuilding BandSpan) where
           reference = by_span.reference;
           held = λ p y row. subst (λ (s : BandSpan). held_in pictures s p y) (sym by_span.span) (has_row r.shape (pictures frame).shape bands p y by_span.same row);
           wide = λ p. subst (λ (s : BandSpan). plane_width r.shape p ≤ width_in pictures s p) (sym by_span.span)
-            (subst (λ (s : Shape). plane_width r.shape p ≤ coded_width s p) by_span.same (shown_columns r.shape p));
+              (subst (λ (s : Shape). plane_width r.shape p ≤ coded_width s p) by_span.same (shown_columns r.shape p));
           range = λ p. subst (λ (s : BandSpan). IsAtMost (greatest by.shape.depth) (map_in pictures s p)) (sym by_span.span) (by_span.range p);
         },
       )

@@ -53,7 +53,7 @@ whole_then shape index rows many low plane y row = elim (cases_lt rows (superblo
 ]
 
 pub whole_is_final : (f : EdgeSetting) (blocks : List BlockInfo) (raw m : FrameMap) (index rows : ℕ) → WholeBandIsFinal f blocks raw index rows m
-whole_is_final f blocks raw m index rows whole has = record { shape = refl; map = λ plane y x row inside. has plane y x row (whole plane y row) }
+whole_is_final f blocks raw m index rows whole has = record { same = refl; map = λ plane y x row inside. has plane y x row (whole plane y row) }
 
 ---- Before that it isn't ----
 

@@ -105,7 +105,7 @@ pub row_in_part : (shape : Shape) (plane : Plane) (sr index y x : ℕ) → IsRow
     → IsInArea (final_part shape plane sr index) y x
 row_in_part shape plane sr index y x row final inside =
     let here = in_part (first_changed shape plane sr) (first_row shape plane index) (final_end shape plane sr) (band_rows shape plane index) y row.from row.to final.from final.to in
-    record { below = here.from; above = here.to; behind = omega arith; before = inside }
+    record { below = here.from; above = here.to; behind = omega arith; before = omega (arith, inside) }
 
 pub row_of_part : (shape : Shape) (plane : Plane) (sr index y x : ℕ) → IsInArea (final_part shape plane sr index) y x → IsRowOf shape plane index y
 row_of_part shape plane sr index y x here =

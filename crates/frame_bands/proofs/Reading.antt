@@ -13,7 +13,7 @@ use Rattle.planes.specs.declared.area.Area.{Area}
 use Rattle.planes.specs.declared.frame_planes.FramePlanes.{FramePlanes}
 use Rattle.band_cells.specs.Bands.{Picture, IsRowOf, band_area}
 use Rattle.band_cells.specs.Code.{LieIn, IsPlaneOf}
-use Rattle.frame_bands.specs.Bands.{AreBandsOf, band_with, band_map, joined}
+use Rattle.frame_bands.specs.Bands.{AreFrameBands, band_with, band_map, joined}
 use Rattle.frame_bands.specs.Code.{HaveSameBands, IsPictureOf}
 use Rattle.frame_bands.proofs.Lists.{passes}
 use Rattle.frame_bands.proofs.Places.{band_of_row, row_of_some_band}
@@ -33,7 +33,7 @@ has_row : (shape : Shape) (plane : Plane) (index y : ℕ) (a : Area) → a ≡ b
 has_row shape plane index y a is row = rw is (record { above = row.from; below = row.to; left = omega arith; right = omega arith })
 
 -- a row of the frame is in the band that it is one of
-pub row_there : {X : Type 0} (shape : Shape) (bands : List (FramePlanes X)) (index : ℕ) (planes : FramePlanes X) (plane : Plane) (y : ℕ) → AreBandsOf shape bands
+pub row_there : {X : Type 0} (shape : Shape) (bands : List (FramePlanes X)) (index : ℕ) (planes : FramePlanes X) (plane : Plane) (y : ℕ) → AreFrameBands shape bands
     → slice_get bands index ≡ Some planes → index ≡ band_with shape plane y → y < coded_height shape plane → HasRow (plane_of planes plane).area y 0 (plane_of planes plane).area.columns
 row_there shape bands index planes plane y are is at low =
     let lie = passes (LieIn shape) bands index planes are.areas is in
@@ -41,24 +41,29 @@ row_there shape bands index planes plane y are is at low =
     (subst (λ k. IsRowOf shape plane k y) (sym at) (row_of_some_band shape plane y low))
 
 -- and is there the frame's row
-pub row_read : {X : Type 0} (shape : Shape) (bands : List (FramePlanes X)) (index : ℕ) (planes : FramePlanes X) (plane : Plane) (y : ℕ) → AreBandsOf shape bands
+pub row_read : {X : Type 0} (shape : Shape) (bands : List (FramePlanes X)) (index : ℕ) (planes : FramePlanes X) (plane : Plane) (y : ℕ) → AreFrameBands shape bands
     → slice_get bands index ≡ Some planes → index ≡ band_with shape plane y
     → row_of (plane_map (plane_of planes plane)) y 0 (plane_of planes plane).area.columns ≡ row_of (joined shape bands plane) y 0 (coded_width shape plane)
 row_read shape bands index planes plane y are is at =
     let lie = passes (LieIn shape) bands index planes are.areas is in
     let wide : (plane_of planes plane).area.columns ≡ coded_width shape plane = ap (λ (a : Area). a.columns) (lies_in shape index planes plane lie) in
-    rw wide (ap (λ m. map (m y) (range_with_len 0 (coded_width shape plane))) (sym (maps_agree planes plane))
+    ap (λ (n : ℕ). row_of (plane_map (plane_of planes plane)) y 0 n) wide ∙ (ap (λ m. map (m y) (range_with_len 0 (coded_width shape plane))) (sym (maps_agree planes plane))
     ∙ ap (λ o. map (λ x. band_map o plane y x) (range_with_len 0 (coded_width shape plane))) (sym (ap (slice_get bands) (sym at) ∙ is)))
 
 -- a plane of a band that is handed out
-pub plane_handed : {X : Type 0} (shape : Shape) (bands : List (FramePlanes X)) (index : ℕ) (planes : FramePlanes X) (picture : Picture) (plane : Plane) → AreBandsOf shape bands
+plane_handed : {X : Type 0} (shape : Shape) (bands : List (FramePlanes X)) (index : ℕ) (planes : FramePlanes X) (picture : Picture) (plane : Plane) → AreFrameBands shape bands
     → slice_get bands index ≡ Some planes → IsPictureOf shape index (joined shape bands) picture → IsPlaneOf picture plane index (plane_of planes plane)
 plane_handed shape bands index planes picture plane are is of = (
-  rw of.shape (lies_in shape index planes plane (passes (LieIn shape) bands index planes are.areas is)),
+  rw of.same (lies_in shape index planes plane (passes (LieIn shape) bands index planes are.areas is)),
   λ y x row inside.
-      let own = rw of.shape at row in
-      ap (λ m. m y x) (sym (maps_agree planes plane)) ∙ (sym (here_now shape bands index planes plane y x (band_of_row shape plane index y own) is) ∙ of.map plane y x own (rw of.shape at inside)),
+      let own = rw of.same at row in
+      ap (λ m. m y x) (sym (maps_agree planes plane)) ∙ (sym (here_now shape bands index planes plane y x (band_of_row shape plane index y own) is) ∙ of.map plane y x own (rw of.same at inside)),
 )
+
+pub band_handed : {X : Type 0} (shape : Shape) (bands : List (FramePlanes X)) (index : ℕ) (planes handed : FramePlanes X) (picture : Picture) → AreFrameBands shape bands
+    → slice_get bands index ≡ Some planes → handed ≡ planes → IsPictureOf shape index (joined shape bands) picture → (plane : Plane) → IsPlaneOf picture plane index (plane_of handed plane)
+band_handed shape bands index planes handed picture are is same of plane =
+    subst (λ p. IsPlaneOf picture plane index (plane_of p plane)) (sym same) (plane_handed shape bands index planes picture plane are is of)
 
 ---- Bands of another shape ----
 
@@ -77,7 +82,7 @@ lies_if : {X : Type 0} (a b : Shape) (index : ℕ) → HaveSameBands a b → (o 
 lies_if a b index same None lie = lie
 lies_if a b index same (Some planes) lie = same_lies a b index planes same lie
 
-pub same_bands : {X : Type 0} (a b : Shape) (bands : List (FramePlanes X)) → HaveSameBands a b → AreBandsOf a bands → AreBandsOf b bands
+pub same_bands : {X : Type 0} (a b : Shape) (bands : List (FramePlanes X)) → HaveSameBands a b → AreFrameBands a bands → AreFrameBands b bands
 same_bands a b bands same are = record {
   many = are.many ∙ same_number a b same.rows;
   areas = λ index. lies_if a b index same (slice_get bands index) (are.areas index);

@@ -3,7 +3,7 @@ use Rattle.std.proofs.Common.{◌≡◌, ◌<◌, ◌≤◌, ◌+◌, ◌*◌, �
 use Rattle.std.specs.Prelude.{Some, slice_get, slice_set}
 use Rattle.std.proofs.lemmas.Bool.{cases_Bool, cases_lt, le-ltb, eqb-true, eqb-false}
 use Rattle.std.proofs.lemmas.List.{length-set}
-use Rattle.vp9_types.specs.Maps.{Map, FrameMap, rows_of}
+use Rattle.vp9_types.specs.Maps.{Map, FrameMap, frame_map, rows_of}
 use Rattle.vp9_types.specs.Shapes.{halved, mi_rows, coded_width, coded_height}
 use Rattle.vp9_types.specs.Sizes.{superblocks_along}
 use Rattle.vp9_types.specs.declared.shape.Plane.{Plane}
@@ -21,7 +21,7 @@ use Rattle.filter_rows.specs.Buffer.{buffer_area, StandsAt}
 use Rattle.filter_rows.specs.Code.{HasTaken}
 use Rattle.filter_rows.specs.Laws.{BecomesFinal, IsOwnRow}
 use Rattle.filter_rows.proofs.Bands.{bands_are_rows, ends_low}
-use Rattle.frame_bands.specs.Bands.{AreBandsOf, band_with, band_map, joined}
+use Rattle.frame_bands.specs.Bands.{AreFrameBands, band_with, band_map, joined}
 use Rattle.frame_bands.specs.Code.{TakesFinal, final_part}
 use Rattle.frame_bands.proofs.Lists.{AllAt, set_at, get_there, get_beside}
 use Rattle.frame_bands.proofs.Places.{row_in_part, row_of_part, final_of_part, band_of_row}
@@ -56,28 +56,29 @@ plane_takes shape plane index sr from old new at lies part = record {
 }
 
 -- all three
-pub record PlanesTake {X : Type 0} (shape : Shape) (index sr : ℕ) (from old new : FramePlanes X) : Type 0 where
-  pub y : PlaneTakes shape Y index sr (plane_map from.y) (plane_map old.y) (plane_map new.y)
-  pub u : PlaneTakes shape U index sr (plane_map from.u) (plane_map old.u) (plane_map new.u)
-  pub v : PlaneTakes shape V index sr (plane_map from.v) (plane_map old.v) (plane_map new.v)
+each_takes : {X : Type 0} (shape : Shape) (index sr : ℕ) (from old : FramePlanes X) (y u v : PlaneSamples)
+    → PlaneTakes shape Y index sr (plane_map from.y) (plane_map old.y) (plane_map y)
+    → PlaneTakes shape U index sr (plane_map from.u) (plane_map old.u) (plane_map u)
+    → PlaneTakes shape V index sr (plane_map from.v) (plane_map old.v) (plane_map v) → (plane : Plane)
+    → PlaneTakes shape plane index sr (samples_of from plane) (samples_of old plane) (frame_map (plane_map y) (plane_map u) (plane_map v) plane)
+each_takes shape index sr from old y u v ty tu tv Y = ty
+each_takes shape index sr from old y u v ty tu tv U = tu
+each_takes shape index sr from old y u v ty tu tv V = tv
 
-each_takes : {X : Type 0} (shape : Shape) (index sr : ℕ) (from old new : FramePlanes X) → PlanesTake shape index sr from old new → (plane : Plane)
-    → PlaneTakes shape plane index sr (samples_of from plane) (samples_of old plane) (samples_of new plane)
-each_takes shape index sr from old new take Y = take.y
-each_takes shape index sr from old new take U = take.u
-each_takes shape index sr from old new take V = take.v
-
-pub band_takes : {X : Type 0} (shape : Shape) (index sr : ℕ) (from old new : FramePlanes X) → PlanesTake shape index sr from old new
-    → TakesFinal shape index sr (samples_of from) (samples_of old) (samples_of new)
-band_takes shape index sr from old new take = record {
-  taken = λ plane y x row final. (each_takes shape index sr from old new take plane).taken y x row final;
-  kept = λ plane y x not. (each_takes shape index sr from old new take plane).kept y x not;
+pub band_takes : {X : Type 0} (shape : Shape) (index sr : ℕ) (from old : FramePlanes X) (y u v : PlaneSamples)
+    → PlaneTakes shape Y index sr (plane_map from.y) (plane_map old.y) (plane_map y)
+    → PlaneTakes shape U index sr (plane_map from.u) (plane_map old.u) (plane_map u)
+    → PlaneTakes shape V index sr (plane_map from.v) (plane_map old.v) (plane_map v)
+    → TakesFinal shape index sr (samples_of from) (samples_of old) (frame_map (plane_map y) (plane_map u) (plane_map v))
+band_takes shape index sr from old y u v ty tu tv = record {
+  taken = λ plane r x row final. (each_takes shape index sr from old y u v ty tu tv plane).taken r x row final;
+  kept = λ plane r x not. (each_takes shape index sr from old y u v ty tu tv plane).kept r x not;
 }
 
 ---- A band of a frame ----
 
-pub bands_still : {X : Type 0} (shape : Shape) (bands : List (FramePlanes X)) (index : ℕ) (new : FramePlanes X) → AreBandsOf shape bands → LieIn shape index new
-    → AreBandsOf shape (slice_set bands index new)
+pub bands_still : {X : Type 0} (shape : Shape) (bands : List (FramePlanes X)) (index : ℕ) (new : FramePlanes X) → AreFrameBands shape bands → LieIn shape index new
+    → AreFrameBands shape (slice_set bands index new)
 bands_still shape bands index new are lies = record {
   many = length-set bands index new ∙ are.many;
   areas = set_at (LieIn shape) bands index new are.areas lies;

@@ -10,7 +10,7 @@ use Rattle.band_cells.specs.Bands.{band_height}
 use Rattle.band_cells.specs.Code.{LieIn}
 
 -- the bands of a frame of this shape, in order
-pub record AreBandsOf {X : Type 0} (shape : Shape) (bands : List (FramePlanes X)) : Type 0 where
+pub record AreFrameBands {X : Type 0} (shape : Shape) (bands : List (FramePlanes X)) : Type 0 where
   pub many : length bands ≡ bands_of shape
   pub areas : (index : ℕ) → IfSome (slice_get bands index) (LieIn shape index)
 

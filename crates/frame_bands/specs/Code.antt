@@ -31,5 +31,5 @@ pub record TakesFinal (shape : Shape) (index sr : ℕ) (from old new : FrameMap)
 
 -- a picture has the samples of a frame in a band
 pub record IsPictureOf (shape : Shape) (index : ℕ) (m : FrameMap) (picture : Picture) : Type 0 where
-  pub shape : picture.shape ≡ shape
+  pub same : picture.shape ≡ shape
   pub map : (plane : Plane) (y x : ℕ) → IsRowOf shape plane index y → x < coded_width shape plane → m plane y x ≡ picture.map plane y x

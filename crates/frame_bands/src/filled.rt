@@ -24,7 +24,7 @@ pub fn is_whole(shape: &Shape, index: u32, rows: u32) -> bool
     requires rows { rows ≤ superblocks_along (mi_rows shape.now) }
     ensures { MatchBool result (IsWhole shape.now index rows) (¬ (IsWhole shape.now index rows)) }
 {
-    rows == shape.superblock_rows() || rows >= index + 2
+    rows == shape.superblock_rows() || index + 1 < rows
 }
 
 /// Filters a frame into its bands, each sample of which is written once. If there is not enough memory for the filter's buffer

@@ -1,7 +1,8 @@
 ghost use Rattle.std.specs.Prelude.{◌≡◌, ◌≤◌, ◌<◌, ℕ, IfOk, MatchBool};
+ghost use Rattle.std.proofs.Props.{props};
 ghost use Rattle.planes.specs.Pictures.{FitsPlanes};
 ghost use Rattle.band_cells.specs.Code.{LieIn};
-ghost use Rattle.frame_bands.specs.Bands.{AreBandsOf, band_with};
+ghost use Rattle.frame_bands.specs.Bands.{AreFrameBands, band_with};
 ghost use Rattle.frame_bands.specs.Code.{HaveSameBands, IsPictureOf};
 
 use crate::taking::take_into_bands;
@@ -17,13 +18,13 @@ use vp9_types::{Plane, Sample, Samples, Shape};
 pub struct FrameBands<P: Sample> {
     shape: Shape,
     bands: Vec<FramePlanes<P>>,
-    ghost are_bands: { AreBandsOf shape bands.items },
+    ghost are_bands: { AreFrameBands shape bands.items } by { Prim.hlevel props },
 }
 
 // Bands of zeros.
 fn new_bands<P: Sample>(alloc: Global, shape: &Shape) -> Result<Vec<FramePlanes<P>>, AllocError>
     requires { FitsPlanes shape.now }
-    ensures { IfOk result (λ bands. AreBandsOf shape.now bands.items) }
+    ensures { IfOk result (λ bands. AreFrameBands shape.now bands.items) }
 {
     let count = shape.bands();
     let mut bands = Vec::with_capacity(alloc, count as usize)?;
@@ -58,7 +59,8 @@ impl<P: Sample> FrameBands<P> {
     ghost use Rattle.std.specs.Prelude.{OnOk, OnErr, IsOk};
     ghost use Rattle.vp9_types.specs.declared.shape.Plane.{Plane as InPlane};
     ghost use Rattle.vp9_types.specs.Shapes.{bands_of};
-    ghost use Rattle.band_cells.specs.Bands.{Picture, IsRowOf};
+    ghost use Rattle.planes.specs.Pictures.{samples_of};
+    ghost use Rattle.band_cells.specs.Bands.{Picture};
     ghost use Rattle.band_cells.specs.Code.{AreSamplesOf};
     ghost use Rattle.frame_bands.specs.Frames.{map_of};
 
@@ -99,7 +101,8 @@ impl<P: Sample> FrameBands<P> {
         requires spare { LieIn self.old.shape index spare }
         ensures band { (picture : Picture) → IsPictureOf self.old.shape index (map_of self.old) picture → AreSamplesOf picture index result }
         ensures shape { self.new.shape ≡ self.old.shape }
-        ensures others { (plane : InPlane) (y x : ℕ) → (IsRowOf self.old.shape plane index y → ⊥) → map_of self.new plane y x ≡ map_of self.old plane y x }
+        ensures spare { (plane : InPlane) (y x : ℕ) → band_with self.old.shape plane y ≡ index → map_of self.new plane y x ≡ samples_of spare.entry plane y x }
+        ensures others { (plane : InPlane) (y x : ℕ) → (band_with self.old.shape plane y ≡ index → ⊥) → map_of self.new plane y x ≡ map_of self.old plane y x }
     {
         BandSamples {
             shape: self.shape,

@@ -8,7 +8,7 @@ ghost use Rattle.loop_filter.specs.Laws.{first_changed, final_end};
 ghost use Rattle.filter_rows.specs.Buffer.{StandsAt};
 ghost use Rattle.filter_rows.specs.Code.{HasTaken};
 ghost use Rattle.band_cells.specs.Code.{LieIn};
-ghost use Rattle.frame_bands.specs.Bands.{AreBandsOf, joined};
+ghost use Rattle.frame_bands.specs.Bands.{AreFrameBands, joined};
 ghost use Rattle.frame_bands.specs.Code.{TakesFinal, final_part};
 
 use band_cells::band_area;
@@ -29,7 +29,8 @@ fn final_end(shape: &Shape, plane: Plane, sr: u32) -> usize
     requires { sr < superblocks_along (mi_rows shape.now) }
     ensures { result ≡ final_end shape.now plane sr }
 {
-    if sr + 1 < shape.superblock_rows() {
+    let rows = shape.superblock_rows();
+    if sr + 1 < rows {
         first_changed(shape, plane, sr + 1)
     } else {
         let below = halved(sub_y(shape, plane), 64 * (sr as usize + 1));
@@ -90,8 +91,8 @@ fn take_into<P: Sample>(
     requires own { index ≤ sr }
     requires above { sr ≤ index + 1 }
     requires place { StandsAt shape.now sr planes.now }
-    requires bands { AreBandsOf shape.now bands.old }
-    ensures bands { AreBandsOf shape.now bands.new }
+    requires bands { AreFrameBands shape.now bands.old }
+    ensures bands { AreFrameBands shape.now bands.new }
     ensures rows { TakesFinal shape.now index sr (samples_of planes.now) (joined shape.now bands.old) (joined shape.now bands.new) }
 {
     take_final(&mut bands[index as usize], index, planes, shape, sr);
@@ -107,8 +108,8 @@ pub(crate) fn take_into_bands<P: Sample>(
     requires size { FitsPlanes shape.now }
     requires row { sr < superblocks_along (mi_rows shape.now) }
     requires place { StandsAt shape.now sr planes.now }
-    requires bands { AreBandsOf shape.now bands.old }
-    ensures bands { AreBandsOf shape.now bands.new }
+    requires bands { AreFrameBands shape.now bands.old }
+    ensures bands { AreFrameBands shape.now bands.new }
     ensures rows { HasTaken shape.now sr (samples_of planes.now) (joined shape.now bands.old) (joined shape.now bands.new) }
 {
     take_into(bands, sr, planes, shape, sr);

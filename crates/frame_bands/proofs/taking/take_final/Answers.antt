@@ -40,8 +40,7 @@ returns-clause-areas g c = record {
 
 pub returns-clause-rows : goal.returns-clause-rows
 returns-clause-rows g c = let a = c.args in
-    band_takes a.shape.now a.index a.sr a.planes.now a.band.now _ (record {
-      y = plane_takes a.shape.now Y a.index a.sr a.planes.now.y a.band.now.y _ c.requires.place.y (c.copy_part.ensures.area ∙ c.requires.areas.y) (rw c.final_part.ensures at c.copy_part.ensures.part);
-      u = plane_takes a.shape.now U a.index a.sr a.planes.now.u a.band.now.u _ c.requires.place.u (c.copy_part-2.ensures.area ∙ c.requires.areas.u) (rw c.final_part-2.ensures at c.copy_part-2.ensures.part);
-      v = plane_takes a.shape.now V a.index a.sr a.planes.now.v a.band.now.v _ c.requires.place.v (c.copy_part-3.ensures.area ∙ c.requires.areas.v) (rw c.final_part-3.ensures at c.copy_part-3.ensures.part);
-    })
+    band_takes a.shape.now a.index a.sr a.planes.now a.band.now c.copy_part.new.to c.copy_part-2.new.to c.copy_part-3.new.to
+    (plane_takes a.shape.now Y a.index a.sr a.planes.now.y a.band.now.y _ c.requires.place.y (c.copy_part.ensures.area ∙ c.requires.areas.y) (rw c.final_part.ensures at c.copy_part.ensures.part))
+    (plane_takes a.shape.now U a.index a.sr a.planes.now.u a.band.now.u _ c.requires.place.u (c.copy_part-2.ensures.area ∙ c.requires.areas.u) (rw c.final_part-2.ensures at c.copy_part-2.ensures.part))
+    (plane_takes a.shape.now V a.index a.sr a.planes.now.v a.band.now.v _ c.requires.place.v (c.copy_part-3.ensures.area ∙ c.requires.areas.v) (rw c.final_part-3.ensures at c.copy_part-3.ensures.part))

@@ -21,4 +21,4 @@ pub returns-clause-name : goal.returns-clause-name
 returns-clause-name g c =
     let bands = ap (λ s. bands_of s.shape) c.self.view_is in
     let inside : c.args.index < bands_of c.self.inside.shape = omega (arith, bands, c.requires) in
-    name_at _ _ _ 0 _ c.args.index c.index.result.now c.self.invariant.1 inside c.index.ensures ∙ ap (λ s. name_of s.frame c.args.index) c.self.view_is
+    name_at _ _ _ 0 _ c.args.index c.args.index c.index.result.now c.self.invariant.1 inside (omega arith) c.index.ensures ∙ ap (λ s. name_of s.frame c.args.index) c.self.view_is
