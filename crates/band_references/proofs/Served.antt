@@ -1,5 +1,5 @@
 -- References that have the bands that are needed serve the blocks.
-use Rattle.std.proofs.Common.{◌≡◌, ◌<◌, ◌≤◌, ◌+◌, ◌-◌, ◌*◌, ◌/◌, ◌×◌, Bool, true, false, ℕ, List, Option, Some, None, IfSome, refl, sym, ◌∙◌, ap, arith, subst, absurd, le_refl}
+use Rattle.std.proofs.Common.{◌≡◌, ◌<◌, ◌≤◌, ◌+◌, ◌-◌, ◌*◌, ◌/◌, Bool, true, false, ℕ, List, Option, Some, None, IfSome, refl, sym, ◌∙◌, ap, arith, subst, le_refl, if◌then◌else◌}
 use Rattle.std.specs.List.{All}
 use Rattle.std.specs.Option.{option_map}
 use Rattle.std.proofs.lemmas.List.Elements.{All-weaker}
@@ -70,8 +70,8 @@ row_of_bands shape reference b modes list bands p n y is lies low first last =
     (row_held shape reference b modes (part_in p n list) (place_of shape b modes (part_in p n list) reference) _ y refl (some_size shape reference b modes p n list is) last) in
     record {
       inside = omega (arith, shown, shown_rows reference p);
-      from = rw (same_height reference p) at band.0;
-      to = rw (same_height reference p) at band.1;
+      from = subst (λ h. bands.first ≤ y / h) (same_height reference p) band.0;
+      to = subst (λ h. y / h ≤ bands.last) (same_height reference p) band.1;
     }
 
 module _ {S : Type 0} (holds : S → Plane → ℕ → Type 0) (width : S → Plane → ℕ) (map : S → FrameMap) (by : Rebuilding S) where
@@ -79,7 +79,8 @@ module _ {S : Type 0} (holds : S → Plane → ℕ → Type 0) (width : S → Pl
   list_served : (b : BlockInfo) (modes : InterPrediction) (list : ℕ) (reference : ReferenceFrame) (shape : Shape) (needed : Option BandRange)
       → IfSome needed (IsThere holds width map by reference shape) → ListLiesIn by.shape shape b modes list needed → IsServed holds width map by b modes list reference
   list_served b modes list reference shape None there lies =
-      absurd (lies Y 0 (some_parts false false (is_below_8x8 b.size)) _ (le_refl _) (place_order (place_of by.shape b modes (part_in Y 0 list) shape).down 0 _ 0 7 (omega arith) (omega arith)))
+      let at = place_of by.shape b modes (part_in Y 0 list) shape in
+      absurd (lies Y 0 (some_parts false false (is_below_8x8 b.size)) (first_place at.down) (le_refl (first_place at.down)) (place_order at.down 0 (at.rows - 1) 0 7 (omega arith) (omega arith)))
   list_served b modes list reference shape (Some bands) there lies =
       let r = there.0 in
       let has = there.3 in

@@ -1,5 +1,5 @@
 -- References whose bands were looked up.
-use Rattle.std.specs.Prelude.{ℕ, ◌≡◌, ◌×◌, Option, Some, None, IfSome}
+use Rattle.std.specs.Prelude.{ℕ, ◌≡◌, Option, Some, None, IfSome}
 use Rattle.std.specs.Option.{option_map}
 use Rattle.vp9_types.specs.Maps.{FrameMap, IsAtMost}
 use Rattle.vp9_types.specs.Shapes.{coded_width}
