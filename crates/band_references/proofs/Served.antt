@@ -133,10 +133,10 @@ module _ (pictures : ℕ → Picture) (by : Rebuilding BandSpan) where
         is.2,
         record {
           reference = by_span.reference;
-          held = λ p y row. subst (λ (s : BandSpan). held_in pictures s p y) (sym by_span.span) (has_row r.shape (pictures frame).shape bands p y by_span.same row);
-          wide = λ p. subst (λ (s : BandSpan). plane_width r.shape p ≤ width_in pictures s p) (sym by_span.span)
+          held = λ p y row. subst (λ (s : BandSpan). held_in pictures s p y) (sym by_span.bands) (has_row r.shape (pictures frame).shape bands p y by_span.same row);
+          wide = λ p. subst (λ (s : BandSpan). plane_width r.shape p ≤ width_in pictures s p) (sym by_span.bands)
               (subst (λ (s : Shape). plane_width r.shape p ≤ coded_width s p) by_span.same (shown_columns r.shape p));
-          range = λ p. subst (λ (s : BandSpan). IsAtMost (greatest by.shape.depth) (map_in pictures s p)) (sym by_span.span) (by_span.range p);
+          range = λ p. subst (λ (s : BandSpan). IsAtMost (greatest by.shape.depth) (map_in pictures s p)) (sym by_span.bands) (by_span.range p);
         },
       )
     where

@@ -56,7 +56,7 @@ map_in pictures span = (pictures span.frame).map
 -- A reference is the picture of its frame, by the bands of a span. Its size is in range for the frame that refers to it, as
 -- are its samples.
 pub record IsBySpan (pictures : ℕ → Picture) (shape : Shape) (span : BandSpan) (r : ReferencePicture BandSpan) : Type 0 where
-  pub span : r.samples.now ≡ span
+  pub bands : r.samples.now ≡ span
   pub same : r.shape ≡ (pictures span.frame).shape
   pub reference : IsReference shape r.shape
   pub range : (p : Plane) → IsAtMost (greatest shape.depth) ((pictures span.frame).map p)

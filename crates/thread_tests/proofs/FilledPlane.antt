@@ -1,5 +1,6 @@
 -- A plane that is filled with one number.
-use Rattle.std.proofs.Common.{◌≡◌, ℕ, ◌+◌, ◌-◌, ◌*◌, ◌<◌, ◌≤◌, List, map, map-id, get_or, replicate, min, ◌∙◌, ap, arith, nat_tests}
+use Rattle.std.proofs.Common.{◌≡◌, ℕ, ◌+◌, ◌-◌, ◌*◌, ◌<◌, ◌≤◌, List, map, map-id, get_or, replicate, min, ◌∙◌, ap, arith}
+use Rattle.std.proofs.lemmas.Bool.Decides.{nat_tests}
 use Rattle.std.proofs.lemmas.List.{get_or-replicate}
 use Rattle.vp9_types.specs.Maps.{Map, rows_of, with_block}
 use Rattle.planes.proofs.RowLemmas.{next, place}
