@@ -1,5 +1,5 @@
 -- References that have the bands that are needed serve the blocks.
-use Rattle.std.proofs.Common.{◌≡◌, ◌<◌, ◌≤◌, ◌+◌, ◌-◌, ◌*◌, ◌/◌, Bool, true, false, ℕ, List, Option, Some, None, IfSome, refl, sym, ◌∙◌, ap, arith, subst, le_refl, if◌then◌else◌}
+use Rattle.std.proofs.Common.{◌≡◌, ◌<◌, ◌≤◌, ◌-◌, ◌*◌, ◌/◌, Bool, true, false, ℕ, List, Option, Some, None, IfSome, refl, sym, arith, subst, le_refl, if◌then◌else◌}
 use Rattle.std.specs.List.{All}
 use Rattle.std.specs.Option.{option_map}
 use Rattle.std.proofs.lemmas.List.Elements.{All-weaker}
@@ -10,7 +10,7 @@ use Rattle.vp9_types.specs.declared.block.ReferenceFrame.{ReferenceFrame}
 use Rattle.vp9_types.specs.declared.block.ReferenceFrame.TheVariants.{Last, Golden, Altref}
 use Rattle.vp9_types.specs.declared.job.BandSpan.{BandSpan}
 use Rattle.vp9_types.specs.declared.shape.Plane.{Plane}
-use Rattle.vp9_types.specs.declared.shape.Plane.TheVariants.{Y, U, V}
+use Rattle.vp9_types.specs.declared.shape.Plane.TheVariants.{Y}
 use Rattle.vp9_types.specs.declared.shape.Shape.{Shape}
 use Rattle.block_geometry.specs.Sizes.{is_below_8x8}
 use Rattle.block_plan.specs.declared.block.BlockInfo.{BlockInfo}
@@ -21,21 +21,21 @@ use Rattle.inter_places.proofs.Orders.{place_order}
 use Rattle.inter_places.specs.Axes.{first_place, last_place}
 use Rattle.inter_places.specs.Places.{IsReference, parts_of, place_of}
 use Rattle.inter_places.specs.declared.part.BlockPart.{BlockPart}
-use Rattle.band_cells.specs.Bands.{Picture, band_height}
+use Rattle.band_cells.specs.Bands.{Picture}
 use Rattle.band_cells.specs.Code.{IsRowWithin}
 use Rattle.band_needs.proofs.Exact.{block_lies}
 use Rattle.band_needs.specs.Needs.{needs_of}
 use Rattle.band_needs.specs.Ranges.{needs_at}
-use Rattle.band_needs.specs.Reads.{part_in, HasBand, PartLiesIn, ListLiesIn, BlockLiesIn}
+use Rattle.band_needs.specs.Reads.{part_in, ListLiesIn, BlockLiesIn}
 use Rattle.band_needs.specs.declared.ranges.BandNeeds.{BandNeeds}
 use Rattle.band_needs.specs.declared.ranges.BandRange.{BandRange}
 use Rattle.block_rebuild.proofs.Parts.{row_held}
-use Rattle.block_rebuild.specs.Code.{HoldsPart, Serves, IsServed, AreServed, reference_of}
+use Rattle.block_rebuild.specs.Code.{IsServed, AreServed, reference_of}
 use Rattle.block_rebuild.specs.declared.references.ReferencePicture.{ReferencePicture}
 use Rattle.block_rebuild.specs.declared.references.Rebuilding.{Rebuilding}
 use Rattle.band_references.proofs.Heights.{same_height, shown_rows, shown_columns, some_length}
-use Rattle.band_references.specs.References.{IsRowOfBands, HasBands, IsThere, AreThere}
-use Rattle.band_references.specs.Code.{span_of, span_at, spans_of, number_of, held_in, width_in, map_in, IsBySpan, AreBySpans}
+use Rattle.band_references.specs.References.{IsRowOfBands, IsThere, AreThere}
+use Rattle.band_references.specs.Code.{span_of, spans_of, held_in, width_in, map_in, IsBySpan, AreBySpans}
 use Rattle.band_references.specs.declared.spans.ReferenceNumbers.{ReferenceNumbers}
 
 some_parts : (ss_y ss_x below : Bool) → 0 < (if below then halved ss_y 2 * halved ss_x 2 else 1)

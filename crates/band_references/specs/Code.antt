@@ -1,5 +1,5 @@
 -- References whose bands were looked up.
-use Rattle.std.specs.Prelude.{ℕ, ◌≡◌, Option, Some, None, IfSome}
+use Rattle.std.specs.Prelude.{ℕ, ◌≡◌, Option, Some, IfSome}
 use Rattle.std.specs.Option.{option_map}
 use Rattle.vp9_types.specs.Maps.{FrameMap, IsAtMost}
 use Rattle.vp9_types.specs.Shapes.{coded_width}
@@ -12,7 +12,6 @@ use Rattle.vp9_types.specs.declared.shape.Shape.{Shape}
 use Rattle.inter_places.specs.Places.{IsReference}
 use Rattle.band_cells.specs.Bands.{Picture}
 use Rattle.band_cells.specs.Code.{IsRowWithin}
-use Rattle.band_needs.specs.Ranges.{needs_at}
 use Rattle.band_needs.specs.declared.ranges.BandNeeds.{BandNeeds}
 use Rattle.band_needs.specs.declared.ranges.BandRange.{BandRange}
 use Rattle.block_rebuild.specs.Code.{reference_of}
