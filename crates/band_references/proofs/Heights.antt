@@ -1,6 +1,6 @@
 -- Rows of a plane, and the bands that they lie in.
-use Rattle.std.proofs.Common.{◌≡◌, ◌<◌, ◌≤◌, ◌+◌, ◌-◌, ◌*◌, ◌/◌, ℕ, Bool, true, false, refl, arith}
-use Rattle.vp9_types.specs.Shapes.{halved, subsampled_size, plane_height, plane_width, coded_height, coded_width, bands_of, mi_rows}
+use Rattle.std.proofs.Common.{◌≡◌, ◌<◌, ◌≤◌, ◌+◌, ◌*◌, ◌/◌, ℕ, Bool, true, false, refl, arith}
+use Rattle.vp9_types.specs.Shapes.{halved, subsampled_size, plane_height, plane_width, coded_height, coded_width, bands_of}
 use Rattle.vp9_types.specs.declared.shape.Plane.{Plane}
 use Rattle.vp9_types.specs.declared.shape.Plane.TheVariants.{Y, U, V}
 use Rattle.vp9_types.specs.declared.shape.Shape.{Shape}

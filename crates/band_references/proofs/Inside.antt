@@ -1,5 +1,5 @@
 -- The bands that are needed lie in the frame.
-use Rattle.std.proofs.Common.{◌≡◌, ◌<◌, ◌≤◌, ◌+◌, ◌-◌, ◌/◌, ◌×◌, ◌⊎◌, inl, inr, ℕ, List, [], ◌∷◌, length, Option, Some, None, refl, sym, ◌∙◌, ap, arith, subst}
+use Rattle.std.proofs.Common.{◌≡◌, ◌<◌, ◌/◌, inl, inr, ℕ, List, [], ◌∷◌, length, Some, sym, ◌∙◌, ap, arith, subst}
 use Rattle.std.specs.List.{All}
 use Rattle.std.specs.Prelude.{slice_index_or}
 use Rattle.vp9_types.specs.Shapes.{mi_rows, plane_height, bands_of}
@@ -12,6 +12,7 @@ use Rattle.block_plan.specs.declared.block.Prediction.{Prediction}
 use Rattle.block_plan.specs.declared.block.Prediction.TheVariants.{Intra, Inter}
 use Rattle.inter_places.specs.Places.{IsReference, place_of}
 use Rattle.inter_scaled.proofs.Agree.{place_below}
+use Rattle.band_cells.specs.Bands.{band_height}
 use Rattle.band_needs.proofs.Exact.{needs_are}
 use Rattle.band_needs.specs.Needs.{needs_of}
 use Rattle.band_needs.specs.Ranges.{needs_at}
@@ -39,7 +40,8 @@ band_shown : (shape : Shape) (shapes : ReferenceFrame → Shape) (b : BlockInfo)
     → ReadsBand shape shapes b r band → band < bands_of (shapes r)
 band_shown shape shapes b r band is reads =
     let shown = read_shown shape shapes b r reads.plane reads.row b.prediction is reads.reads in
-    rw (reads.is, same_height (shapes r) reads.plane) (band_inside (shapes r) reads.plane reads.row shown)
+    let same : band ≡ reads.row / band_height (shapes r) reads.plane = reads.is ∙ ap (λ h. reads.row / h) (same_height (shapes r) reads.plane) in
+    subst (λ k. k < bands_of (shapes r)) (sym same) (band_inside (shapes r) reads.plane reads.row shown)
 
 some_block : (blocks : List BlockInfo) (k : ℕ) → k < length blocks → BlockInfo
 some_block [] k low = absurd (none k low)

@@ -1,5 +1,5 @@
 -- References that have the bands that are needed serve the blocks.
-use Rattle.std.proofs.Common.{◌≡◌, ◌<◌, ◌≤◌, ◌+◌, ◌-◌, ◌*◌, ◌/◌, ◌×◌, Bool, true, false, ℕ, List, Option, Some, None, IfSome, refl, sym, ◌∙◌, ap, arith, subst, absurd, le_refl}
+use Rattle.std.proofs.Common.{◌≡◌, ◌<◌, ◌≤◌, ◌-◌, ◌*◌, ◌/◌, Bool, true, false, ℕ, List, Option, Some, None, IfSome, refl, sym, arith, subst, le_refl, if◌then◌else◌}
 use Rattle.std.specs.List.{All}
 use Rattle.std.specs.Option.{option_map}
 use Rattle.std.proofs.lemmas.List.Elements.{All-weaker}
@@ -10,7 +10,7 @@ use Rattle.vp9_types.specs.declared.block.ReferenceFrame.{ReferenceFrame}
 use Rattle.vp9_types.specs.declared.block.ReferenceFrame.TheVariants.{Last, Golden, Altref}
 use Rattle.vp9_types.specs.declared.job.BandSpan.{BandSpan}
 use Rattle.vp9_types.specs.declared.shape.Plane.{Plane}
-use Rattle.vp9_types.specs.declared.shape.Plane.TheVariants.{Y, U, V}
+use Rattle.vp9_types.specs.declared.shape.Plane.TheVariants.{Y}
 use Rattle.vp9_types.specs.declared.shape.Shape.{Shape}
 use Rattle.block_geometry.specs.Sizes.{is_below_8x8}
 use Rattle.block_plan.specs.declared.block.BlockInfo.{BlockInfo}
@@ -21,21 +21,21 @@ use Rattle.inter_places.proofs.Orders.{place_order}
 use Rattle.inter_places.specs.Axes.{first_place, last_place}
 use Rattle.inter_places.specs.Places.{IsReference, parts_of, place_of}
 use Rattle.inter_places.specs.declared.part.BlockPart.{BlockPart}
-use Rattle.band_cells.specs.Bands.{Picture, band_height}
+use Rattle.band_cells.specs.Bands.{Picture}
 use Rattle.band_cells.specs.Code.{IsRowWithin}
 use Rattle.band_needs.proofs.Exact.{block_lies}
 use Rattle.band_needs.specs.Needs.{needs_of}
 use Rattle.band_needs.specs.Ranges.{needs_at}
-use Rattle.band_needs.specs.Reads.{part_in, HasBand, PartLiesIn, ListLiesIn, BlockLiesIn}
+use Rattle.band_needs.specs.Reads.{part_in, ListLiesIn, BlockLiesIn}
 use Rattle.band_needs.specs.declared.ranges.BandNeeds.{BandNeeds}
 use Rattle.band_needs.specs.declared.ranges.BandRange.{BandRange}
 use Rattle.block_rebuild.proofs.Parts.{row_held}
-use Rattle.block_rebuild.specs.Code.{HoldsPart, Serves, IsServed, AreServed, reference_of}
+use Rattle.block_rebuild.specs.Code.{IsServed, AreServed, reference_of}
 use Rattle.block_rebuild.specs.declared.references.ReferencePicture.{ReferencePicture}
 use Rattle.block_rebuild.specs.declared.references.Rebuilding.{Rebuilding}
 use Rattle.band_references.proofs.Heights.{same_height, shown_rows, shown_columns, some_length}
-use Rattle.band_references.specs.References.{IsRowOfBands, HasBands, IsThere, AreThere}
-use Rattle.band_references.specs.Code.{span_of, span_at, spans_of, number_of, held_in, width_in, map_in, IsBySpan, AreBySpans}
+use Rattle.band_references.specs.References.{IsRowOfBands, IsThere, AreThere}
+use Rattle.band_references.specs.Code.{span_of, spans_of, held_in, width_in, map_in, IsBySpan, AreBySpans}
 use Rattle.band_references.specs.declared.spans.ReferenceNumbers.{ReferenceNumbers}
 
 some_parts : (ss_y ss_x below : Bool) → 0 < (if below then halved ss_y 2 * halved ss_x 2 else 1)
@@ -70,8 +70,8 @@ row_of_bands shape reference b modes list bands p n y is lies low first last =
     (row_held shape reference b modes (part_in p n list) (place_of shape b modes (part_in p n list) reference) _ y refl (some_size shape reference b modes p n list is) last) in
     record {
       inside = omega (arith, shown, shown_rows reference p);
-      from = rw (same_height reference p) at band.0;
-      to = rw (same_height reference p) at band.1;
+      from = subst (λ h. bands.first ≤ y / h) (same_height reference p) band.0;
+      to = subst (λ h. y / h ≤ bands.last) (same_height reference p) band.1;
     }
 
 module _ {S : Type 0} (holds : S → Plane → ℕ → Type 0) (width : S → Plane → ℕ) (map : S → FrameMap) (by : Rebuilding S) where
@@ -79,7 +79,8 @@ module _ {S : Type 0} (holds : S → Plane → ℕ → Type 0) (width : S → Pl
   list_served : (b : BlockInfo) (modes : InterPrediction) (list : ℕ) (reference : ReferenceFrame) (shape : Shape) (needed : Option BandRange)
       → IfSome needed (IsThere holds width map by reference shape) → ListLiesIn by.shape shape b modes list needed → IsServed holds width map by b modes list reference
   list_served b modes list reference shape None there lies =
-      absurd (lies Y 0 (some_parts false false (is_below_8x8 b.size)) _ (le_refl _) (place_order (place_of by.shape b modes (part_in Y 0 list) shape).down 0 _ 0 7 (omega arith) (omega arith)))
+      let at = place_of by.shape b modes (part_in Y 0 list) shape in
+      absurd (lies Y 0 (some_parts false false (is_below_8x8 b.size)) (first_place at.down) (le_refl (first_place at.down)) (place_order at.down 0 (at.rows - 1) 0 7 (omega arith) (omega arith)))
   list_served b modes list reference shape (Some bands) there lies =
       let r = there.0 in
       let has = there.3 in
@@ -132,10 +133,10 @@ module _ (pictures : ℕ → Picture) (by : Rebuilding BandSpan) where
         is.2,
         record {
           reference = by_span.reference;
-          held = λ p y row. subst (λ (s : BandSpan). held_in pictures s p y) (sym by_span.span) (has_row r.shape (pictures frame).shape bands p y by_span.same row);
-          wide = λ p. subst (λ (s : BandSpan). plane_width r.shape p ≤ width_in pictures s p) (sym by_span.span)
+          held = λ p y row. subst (λ (s : BandSpan). held_in pictures s p y) (sym by_span.bands) (has_row r.shape (pictures frame).shape bands p y by_span.same row);
+          wide = λ p. subst (λ (s : BandSpan). plane_width r.shape p ≤ width_in pictures s p) (sym by_span.bands)
               (subst (λ (s : Shape). plane_width r.shape p ≤ coded_width s p) by_span.same (shown_columns r.shape p));
-          range = λ p. subst (λ (s : BandSpan). IsAtMost (greatest by.shape.depth) (map_in pictures s p)) (sym by_span.span) (by_span.range p);
+          range = λ p. subst (λ (s : BandSpan). IsAtMost (greatest by.shape.depth) (map_in pictures s p)) (sym by_span.bands) (by_span.range p);
         },
       )
     where

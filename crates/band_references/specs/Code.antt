@@ -1,5 +1,5 @@
 -- References whose bands were looked up.
-use Rattle.std.specs.Prelude.{ℕ, ◌≡◌, ◌×◌, Option, Some, None, IfSome}
+use Rattle.std.specs.Prelude.{ℕ, ◌≡◌, Option, Some, IfSome}
 use Rattle.std.specs.Option.{option_map}
 use Rattle.vp9_types.specs.Maps.{FrameMap, IsAtMost}
 use Rattle.vp9_types.specs.Shapes.{coded_width}
@@ -12,7 +12,6 @@ use Rattle.vp9_types.specs.declared.shape.Shape.{Shape}
 use Rattle.inter_places.specs.Places.{IsReference}
 use Rattle.band_cells.specs.Bands.{Picture}
 use Rattle.band_cells.specs.Code.{IsRowWithin}
-use Rattle.band_needs.specs.Ranges.{needs_at}
 use Rattle.band_needs.specs.declared.ranges.BandNeeds.{BandNeeds}
 use Rattle.band_needs.specs.declared.ranges.BandRange.{BandRange}
 use Rattle.block_rebuild.specs.Code.{reference_of}
@@ -56,7 +55,7 @@ map_in pictures span = (pictures span.frame).map
 -- A reference is the picture of its frame, by the bands of a span. Its size is in range for the frame that refers to it, as
 -- are its samples.
 pub record IsBySpan (pictures : ℕ → Picture) (shape : Shape) (span : BandSpan) (r : ReferencePicture BandSpan) : Type 0 where
-  pub span : r.samples.now ≡ span
+  pub bands : r.samples.now ≡ span
   pub same : r.shape ≡ (pictures span.frame).shape
   pub reference : IsReference shape r.shape
   pub range : (p : Plane) → IsAtMost (greatest shape.depth) ((pictures span.frame).map p)

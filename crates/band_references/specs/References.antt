@@ -1,5 +1,5 @@
 -- References of which only some bands are there: those that a row of blocks is predicted from.
-use Rattle.std.specs.Prelude.{ℕ, ◌≡◌, ◌≤◌, ◌<◌, ◌/◌, ◌×◌, List, Option, Some, None, IfSome}
+use Rattle.std.specs.Prelude.{ℕ, ◌≡◌, ◌≤◌, ◌<◌, ◌/◌, Some, IfSome}
 use Rattle.vp9_types.specs.Maps.{FrameMap, IsAtMost}
 use Rattle.vp9_types.specs.Shapes.{plane_width, coded_height}
 use Rattle.vp9_types.specs.Sizes.{greatest}

@@ -22,7 +22,6 @@ use vp9_types::Samples;
 
 /// References that have the bands that a row of blocks needs serve each of the blocks, whatever else they have: they hold all
 /// rows that it is predicted from.
-#[tactic(auto, using(crate::proofs::Served::blocks_served))]
 pub fn bands_serve_blocks<S: Samples>()
     ensures { (by : Rebuilding S) (shapes : ReferenceFrame → Shape) (blocks : List BlockInfo) → All (λ b. b.row < mi_rows by.shape) blocks →
         AreThere S.holds S.width S.map by shapes (needs_of by.shape shapes blocks) →
@@ -30,7 +29,6 @@ pub fn bands_serve_blocks<S: Samples>()
 {}
 
 /// So do bands that were looked up by the spans that are needed of a run's pictures: `BandRows` has what is asked for here.
-#[tactic(auto, using(crate::proofs::Served::served_by_spans))]
 pub fn looked_up_bands_serve_blocks<M: Meaning>()
     ensures { (by : Rebuilding Bands) (shapes : ReferenceFrame → Shape) (numbers : ReferenceNumbers) (blocks : List BlockInfo) → All (λ b. b.row < mi_rows by.shape) blocks →
         AreBySpans M.pictures by shapes (spans_of (needs_of by.shape shapes blocks) numbers) →

@@ -1,5 +1,6 @@
 -- A plane that is filled with one number.
-use Rattle.std.proofs.Common.{◌≡◌, ℕ, ◌+◌, ◌-◌, ◌*◌, ◌<◌, ◌≤◌, List, map, map-id, get_or, replicate, min, ◌∙◌, ap, arith, nat_tests}
+use Rattle.std.proofs.Common.{◌≡◌, ℕ, ◌+◌, ◌-◌, ◌*◌, ◌<◌, ◌≤◌, List, map, map-id, get_or, replicate, min, ◌∙◌, ap, arith, subst}
+use Rattle.std.proofs.lemmas.Bool.Decides.{nat_tests}
 use Rattle.std.proofs.lemmas.List.{get_or-replicate}
 use Rattle.vp9_types.specs.Maps.{Map, rows_of, with_block}
 use Rattle.planes.proofs.RowLemmas.{next, place}
@@ -24,3 +25,10 @@ filled a m new v block put same y x low high left right =
     (inside_block m (rows_of a.columns samples) a.first_row a.first_column a.rows a.columns y x low high left right
     ∙ (place a.columns samples (y - a.first_row) (x - a.first_column) (omega (arith, left, right))
     ∙ (ap (λ (l : List ℕ). get_or l ((y - a.first_row) * a.columns + (x - a.first_column)) 0) all ∙ get_or-replicate (a.rows * a.columns) _ v 0 at)))
+
+-- by the area that the code has
+pub filled_by : (a old : Area) (m new : Map) (v : ℕ) (block : List ℕ) → a ≡ old → new ≡ with_part old m a.first_row a.first_column a.rows a.columns (rows_of a.columns (map (λ n. n) block))
+    → block ≡ replicate (a.rows * a.columns) v → (y x : ℕ) → old.first_row ≤ y → y < lower_end old → old.first_column ≤ x → x < right_end old → new y x ≡ v
+filled_by a old m new v block is put all =
+    subst (λ (z : Area). new ≡ with_part z m a.first_row a.first_column a.rows a.columns (rows_of a.columns (map (λ n. n) block)) → (y x : ℕ) → z.first_row ≤ y → y < lower_end z → z.first_column ≤ x → x < right_end z → new y x ≡ v)
+    is (λ part. filled a m new v block part all) put
