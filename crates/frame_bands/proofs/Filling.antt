@@ -14,7 +14,7 @@ use Rattle.loop_edges.specs.declared.setting.EdgeSetting.{EdgeSetting}
 use Rattle.loop_filter.specs.Laws.{first_changed}
 use Rattle.filter_rows.proofs.Bands.{same_height}
 use Rattle.filter_rows.proofs.Rounds.{ends_with}
-use Rattle.frame_bands.specs.Laws.{final_below, IsWhole, BandBegins, BandGrows, BandIsWhole, WholeBandIsFinal}
+use Rattle.frame_bands.specs.Laws.{IsWhole, BandBegins, BandGrows, BandIsWhole, WholeBandIsFinal}
 
 none_yet : (sub : Bool) (index y : ℕ) → index * halved sub 64 ≤ y → y < halved sub (64 * index) - 8 → ⊥
 none_yet true index y from low = omega (arith, from, low)

@@ -1,6 +1,6 @@
 -- The bands of a frame as a list.
 use Rattle.std.proofs.Common.{◌≡◌, ◌≢◌, ℕ, zero, suc, List, [], ◌∷◌, ◌++◌, length, refl, sym, ap, subst}
-use Rattle.std.specs.Prelude.{Option, Some, None, IfSome, slice_get, slice_set}
+use Rattle.std.specs.Prelude.{Some, IfSome, slice_get, slice_set}
 
 -- each item of a list passes, at its index
 abbrev pub AllAt : {X : Type 0} → (ℕ → X → Type 0) → List X → Type 0

@@ -1,13 +1,13 @@
 -- Where the rows lie that a band takes over.
-use Rattle.std.proofs.Common.{◌≡◌, ◌<◌, ◌≤◌, ◌+◌, ◌*◌, ◌-◌, ◌/◌, inl, inr, ℕ, Bool, true, false, refl, sym, arith, min, max}
-use Rattle.std.proofs.lemmas.Bool.{cases_lt, lt-ltb, le-ltb}
+use Rattle.std.proofs.Common.{◌≡◌, ◌<◌, ◌≤◌, ◌+◌, ◌*◌, ◌-◌, ◌/◌, inl, inr, ℕ, Bool, true, false, arith, min, max}
+use Rattle.std.proofs.lemmas.Bool.{cases_lt}
 use Rattle.vp9_types.specs.Shapes.{halved, mi_rows, bands_of, coded_width, coded_height}
 use Rattle.vp9_types.specs.Sizes.{superblocks_along}
 use Rattle.vp9_types.specs.declared.shape.Plane.{Plane}
 use Rattle.vp9_types.specs.declared.shape.Shape.{Shape}
 use Rattle.plane_parts.specs.Parts.{LiesIn, IsInArea}
 use Rattle.planes.specs.Planes.{lower_end}
-use Rattle.band_cells.specs.Bands.{band_height, band_area, band_rows, first_row, IsRowOf}
+use Rattle.band_cells.specs.Bands.{band_area, band_rows, first_row, IsRowOf}
 use Rattle.loop_edges.specs.Cells.{sub_y}
 use Rattle.loop_filter.proofs.Sides as sides
 use Rattle.loop_filter.specs.Laws.{first_changed, final_end, lower_end_of}
@@ -42,7 +42,7 @@ pub part_in_band : (shape : Shape) (plane : Plane) (sr index : ℕ) → sr < sup
 part_in_band shape plane sr index inside own above =
     let end = lower_end (band_area shape plane index) in
     let first : max (first_changed shape plane sr) (first_row shape plane index) ≤ end =
-      rw (same_height shape plane) (starts_in_band (sub_y shape plane) (coded_height shape plane) (mi_rows shape) sr index (sides.high shape plane) inside own above) in
+    rw (same_height shape plane) (starts_in_band (sub_y shape plane) (coded_height shape plane) (mi_rows shape) sr index (sides.high shape plane) inside own above) in
     record {
       top = omega arith;
       bottom = ends_by (max (first_changed shape plane sr) (first_row shape plane index)) (min (final_end shape plane sr) end) end first (less_of (final_end shape plane sr) end);
@@ -74,7 +74,7 @@ part_in_buffer shape plane sr index inside own =
     let end = lower_end (buffer_area shape plane sr) in
     let below : lower_end_of shape plane sr ≤ end = (fits shape plane sr).below in
     let first : max (first_changed shape plane sr) (first_row shape plane index) ≤ lower_end_of shape plane sr =
-      rw (same_height shape plane) (starts_in_buffer (sub_y shape plane) (coded_height shape plane) (mi_rows shape) sr index (sides.high shape plane) inside own) in
+    rw (same_height shape plane) (starts_in_buffer (sub_y shape plane) (coded_height shape plane) (mi_rows shape) sr index (sides.high shape plane) inside own) in
     record {
       top = omega arith;
       bottom = ends_by (max (first_changed shape plane sr) (first_row shape plane index)) (min (final_end shape plane sr) (lower_end (band_area shape plane index))) end

@@ -1,9 +1,9 @@
 -- What is read of a frame's bands, and what a band that is handed out has.
-use Rattle.std.proofs.Common.{◌≡◌, ◌<◌, ◌≤◌, ◌+◌, ◌*◌, ◌-◌, ℕ, List, map, refl, sym, ◌∙◌, ap, subst, arith}
+use Rattle.std.proofs.Common.{◌≡◌, ◌<◌, ℕ, List, map, refl, sym, ◌∙◌, ap, subst, arith}
 use Rattle.std.specs.Prelude.{Option, Some, None, IfSome, slice_get}
 use Rattle.std.specs.List.{range_with_len}
 use Rattle.vp9_types.specs.Maps.{row_of}
-use Rattle.vp9_types.specs.Shapes.{mi_rows, mi_cols, bands_of, coded_width, coded_height}
+use Rattle.vp9_types.specs.Shapes.{mi_rows, bands_of, coded_width, coded_height}
 use Rattle.vp9_types.specs.declared.shape.Plane.{Plane}
 use Rattle.vp9_types.specs.declared.shape.Plane.TheVariants.{Y, U, V}
 use Rattle.vp9_types.specs.declared.shape.Shape.{Shape}

@@ -1,11 +1,10 @@
 -- What bands have once they took over the rows that are final.
-use Rattle.std.proofs.Common.{◌≡◌, ◌<◌, ◌≤◌, ◌+◌, ◌*◌, ◌-◌, ◌&&◌, inl, inr, ℕ, Bool, true, false, cond, leb, List, min, ◌==◌, refl, sym, ◌∙◌, ap, subst, arith}
+use Rattle.std.proofs.Common.{◌≡◌, ◌<◌, ◌≤◌, ◌+◌, ◌*◌, ◌-◌, ◌&&◌, inl, inr, ℕ, Bool, true, false, cond, leb, List, min, ◌==◌, refl, sym, ◌∙◌, ap, arith}
 use Rattle.std.specs.Prelude.{Some, slice_get, slice_set}
 use Rattle.std.proofs.lemmas.Bool.{cases_Bool, cases_lt, le-ltb, eqb-true, eqb-false}
 use Rattle.std.proofs.lemmas.List.{length-set}
 use Rattle.vp9_types.specs.Maps.{Map, FrameMap, frame_map, rows_of}
-use Rattle.vp9_types.specs.Shapes.{halved, mi_rows, coded_width, coded_height}
-use Rattle.vp9_types.specs.Sizes.{superblocks_along}
+use Rattle.vp9_types.specs.Shapes.{halved, coded_width, coded_height}
 use Rattle.vp9_types.specs.declared.shape.Plane.{Plane}
 use Rattle.vp9_types.specs.declared.shape.Plane.TheVariants.{Y, U, V}
 use Rattle.vp9_types.specs.declared.shape.Shape.{Shape}
@@ -17,13 +16,13 @@ use Rattle.band_cells.specs.Bands.{IsRowOf, band_area}
 use Rattle.band_cells.specs.Code.{LieIn}
 use Rattle.loop_edges.specs.Cells.{sub_y}
 use Rattle.loop_filter.specs.Laws.{first_changed, first_own, final_end}
-use Rattle.filter_rows.specs.Buffer.{buffer_area, StandsAt}
+use Rattle.filter_rows.specs.Buffer.{buffer_area}
 use Rattle.filter_rows.specs.Code.{HasTaken}
-use Rattle.filter_rows.specs.Laws.{BecomesFinal, IsOwnRow}
+use Rattle.filter_rows.specs.Laws.{BecomesFinal}
 use Rattle.filter_rows.proofs.Bands.{bands_are_rows, ends_low}
 use Rattle.frame_bands.specs.Bands.{AreFrameBands, band_with, band_map, joined}
 use Rattle.frame_bands.specs.Code.{TakesFinal, final_part}
-use Rattle.frame_bands.proofs.Lists.{AllAt, set_at, get_there, get_beside}
+use Rattle.frame_bands.proofs.Lists.{set_at, get_there, get_beside}
 use Rattle.frame_bands.proofs.Places.{row_in_part, row_of_part, final_of_part, band_of_row}
 
 nothing : (b : Bool) (x : ℕ) → x ≡ 0 → cond b x 0 ≡ 0

@@ -101,7 +101,7 @@ impl<P: Sample> FrameBands<P> {
         requires spare { LieIn self.old.shape index spare }
         ensures band { (picture : Picture) → IsPictureOf self.old.shape index (map_of self.old) picture → AreSamplesOf picture index result }
         ensures shape { self.new.shape ≡ self.old.shape }
-        ensures spare { (plane : InPlane) (y x : ℕ) → band_with self.old.shape plane y ≡ index → map_of self.new plane y x ≡ samples_of spare.entry plane y x }
+        ensures put { (plane : InPlane) (y x : ℕ) → band_with self.old.shape plane y ≡ index → map_of self.new plane y x ≡ samples_of spare plane y x }
         ensures others { (plane : InPlane) (y x : ℕ) → (band_with self.old.shape plane y ≡ index → ⊥) → map_of self.new plane y x ≡ map_of self.old plane y x }
     {
         BandSamples {

@@ -13,8 +13,8 @@ ghost use Rattle.frame_bands.specs.Code.{TakesFinal, final_part};
 
 use band_cells::band_area;
 use loop_filter::sub_y;
-use planes::{Area, FramePlanes};
 use plane_parts::copy_part;
+use planes::{Area, FramePlanes};
 use vp9_types::{Plane, Sample, Shape, halved};
 
 // The first row of a plane that a row of superblocks makes final.
@@ -73,9 +73,21 @@ pub fn take_final<P: Sample>(
     ensures areas { LieIn shape.now index band.new }
     ensures rows { TakesFinal shape.now index sr (samples_of planes.now) (samples_of band.old) (samples_of band.new) }
 {
-    copy_part(&mut band.y, &planes.y, &final_part(shape, Plane::Y, sr, index));
-    copy_part(&mut band.u, &planes.u, &final_part(shape, Plane::U, sr, index));
-    copy_part(&mut band.v, &planes.v, &final_part(shape, Plane::V, sr, index));
+    copy_part(
+        &mut band.y,
+        &planes.y,
+        &final_part(shape, Plane::Y, sr, index),
+    );
+    copy_part(
+        &mut band.u,
+        &planes.u,
+        &final_part(shape, Plane::U, sr, index),
+    );
+    copy_part(
+        &mut band.v,
+        &planes.v,
+        &final_part(shape, Plane::V, sr, index),
+    );
 }
 
 // The same for a band of a frame.

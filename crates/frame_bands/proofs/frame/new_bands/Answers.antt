@@ -1,5 +1,5 @@
 use Rattle.std.proofs.Common.{arith}
-use Rattle.frame_bands.proofs.Lists.{none_at, pushed_at}
+use Rattle.frame_bands.proofs.Lists.{pushed_at}
 use Rattle.frame_bands.proofs.frame.new_bands.Goals as goal
 
 pub loop-index-preserved : goal.loop-index-preserved

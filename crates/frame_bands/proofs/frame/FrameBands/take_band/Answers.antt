@@ -1,4 +1,4 @@
-use Rattle.std.proofs.Common.{◌≡◌, ap, sym, ◌∙◌}
+use Rattle.std.proofs.Common.{ap, sym, ◌∙◌}
 use Rattle.std.specs.Prelude.{slice_set}
 use Rattle.std.proofs.lemmas.Option.{slice_get_read}
 use Rattle.vp9_types.specs.declared.shape.Plane.TheVariants.{Y, U, V}
@@ -18,8 +18,8 @@ returns-clause-band g c = let a = c.args in let s = c.args.self.now in λ pictur
     let handed = band_handed s.shape s.bands.items a.index c.index_mut.result.now c.replace.result picture s.are_bands there c.replace.ensures.value of in
     (sym of.same, handed Y, handed U, handed V)
 
-pub returns-clause-spare : goal.returns-clause-spare
-returns-clause-spare g c = let a = c.args in let s = c.args.self.now in λ plane y x at.
+pub returns-clause-put : goal.returns-clause-put
+returns-clause-put g c = let a = c.args in let s = c.args.self.now in λ plane y x at.
     let there = slice_get_read s.bands.items _ a.index c.index_mut.result.now (sym s.are_bands.many) c.requires.index c.index_mut.ensures.value in
     here_now s.shape (slice_set s.bands.items a.index c.replace.new.dest) a.index c.replace.new.dest plane y x at (get_there s.bands.items a.index c.index_mut.result.now c.replace.new.dest there)
     ∙ ap (λ p. samples_of p plane y x) c.replace.ensures.after

@@ -1,4 +1,4 @@
-use Rattle.std.proofs.Common.{◌<◌, ℕ, ap, sym, ◌∙◌}
+use Rattle.std.proofs.Common.{◌<◌, ap, sym, ◌∙◌}
 use Rattle.std.proofs.lemmas.Option.{slice_get_read}
 use Rattle.vp9_types.specs.Maps.{row_of}
 use Rattle.vp9_types.specs.Shapes.{bands_of}
@@ -15,4 +15,4 @@ returns g c = let a = c.args in let s = c.args.self.now in
     ∙ (ap (λ (r : Area). row_of (plane_map c.plane-samples.result.now) a.y 0 r.columns) c.area-columns.ensures.value
     ∙ (ap (λ (p : PlaneSamples). row_of (plane_map p) a.y 0 p.area.columns) c.plane-samples.ensures
     ∙ row_read s.shape s.bands.items c.band_with.result c.index-band.result.now a.plane a.y s.are_bands
-      (slice_get_read s.bands.items _ c.band_with.result c.index-band.result.now (sym s.are_bands.many) inside c.index-band.ensures) c.band_with.ensures))
+    (slice_get_read s.bands.items _ c.band_with.result c.index-band.result.now (sym s.are_bands.many) inside c.index-band.ensures) c.band_with.ensures))
