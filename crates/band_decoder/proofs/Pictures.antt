@@ -29,7 +29,7 @@ use Rattle.seq_decoder.proofs.PastLemmas.{is_reference}
 use Rattle.seq_decoder.proofs.ShowingLemmas.{plane_within}
 use Rattle.frame_bands.specs.Frames.{map_of}
 use Rattle.frame_bands.specs.declared.frame.FrameBands.{FrameBands}
-use Rattle.band_decoder.specs.Frames.{ArePictures, IsPicture, has_row, row_width}
+use Rattle.band_decoder.specs.Pictures.{ArePictures, IsPicture, has_row, row_width}
 
 usable : {X : Type 0} (header : Header) (reference : Reference) (r : picture.ReferencePicture (FrameBands X)) → IsFrameSize header.size → IsPicture header reference r → is_in_range header.size reference ≡ true
     → IsUsable has_row row_width map_of (shape_of header) r

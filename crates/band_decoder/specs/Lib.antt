@@ -1,2 +1,2 @@
-pub mod Frames
 pub mod Kept
+pub mod Pictures

@@ -2,7 +2,7 @@
 
 ghost use Rattle.std.specs.Prelude.{◌≡◌, IfOk};
 ghost use Rattle.planes.specs.Pictures.{FitsPlanes};
-ghost use Rattle.band_decoder.specs.Frames.{IsSound};
+ghost use Rattle.band_decoder.specs.Pictures.{IsSound};
 
 use block_rebuild::{Rebuilding, ReferencePicture};
 use frame_bands::FrameBands;
@@ -108,7 +108,7 @@ impl<P: Sample> KeptFrames<P> {
 
 impl<P: Sample> KeptFrames<P> {
     ghost use Rattle.std.specs.Prelude.{IfSome};
-    ghost use Rattle.band_decoder.specs.Frames.{ArePictures, IsPicture};
+    ghost use Rattle.band_decoder.specs.Pictures.{ArePictures, IsPicture};
 
     /// The frame that a reference names, if it has the shape that the headers told.
     fn picture_in<'a>(

@@ -2,7 +2,8 @@
 #![tactic(auto)]
 
 mod decoder;
-mod frame;
 mod kept;
+mod kinds;
 mod showing;
-mod strips;
+
+pub use decoder::{NoReference, decode_by_bands};

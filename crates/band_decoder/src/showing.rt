@@ -1,5 +1,7 @@
 //! What a frame shows.
 
+ghost use Rattle.std.specs.Prelude.{OnOk};
+
 use crate::kept::KeptFrame;
 use edge_io::{PutFault, Sink};
 use frame_output::render;
@@ -17,8 +19,7 @@ pub fn show<P: Sample, K: Sink>(
     sink: &mut K,
 ) -> Result<(), PutFault>
     requires { K.can_put sink.old }
-    ensures grows { K.grows sink.new ≡ K.grows sink.old }
-    ensures again { K.faults sink.new ≡ K.faults sink.old → K.can_put sink.new }
+    ensures { OnOk result (K.can_put sink.new) }
 {
     let shape = frame.bands.shape();
     let least = LEAST_BUFFER.max(2 * shape.w as usize);

@@ -3,3 +3,4 @@ pub mod Lists
 pub mod Takes
 pub mod Filling
 pub mod Reading
+pub mod Below

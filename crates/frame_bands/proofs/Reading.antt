@@ -19,12 +19,12 @@ use Rattle.frame_bands.proofs.Lists.{passes}
 use Rattle.frame_bands.proofs.Places.{band_of_row, row_of_some_band}
 use Rattle.frame_bands.proofs.Takes.{here_now}
 
-lies_in : {X : Type 0} (shape : Shape) (index : ℕ) (planes : FramePlanes X) (plane : Plane) → LieIn shape index planes → (plane_of planes plane).area ≡ band_area shape plane index
+pub lies_in : {X : Type 0} (shape : Shape) (index : ℕ) (planes : FramePlanes X) (plane : Plane) → LieIn shape index planes → (plane_of planes plane).area ≡ band_area shape plane index
 lies_in shape index planes Y lie = lie.y
 lies_in shape index planes U lie = lie.u
 lies_in shape index planes V lie = lie.v
 
-maps_agree : {X : Type 0} (planes : FramePlanes X) (plane : Plane) → samples_of planes plane ≡ plane_map (plane_of planes plane)
+pub maps_agree : {X : Type 0} (planes : FramePlanes X) (plane : Plane) → samples_of planes plane ≡ plane_map (plane_of planes plane)
 maps_agree planes Y = refl
 maps_agree planes U = refl
 maps_agree planes V = refl

@@ -58,7 +58,7 @@ pub(crate) fn band_with(shape: &Shape, plane: Plane, y: u32) -> u32
 impl<P: Sample> FrameBands<P> {
     ghost use Rattle.std.specs.Prelude.{OnOk, OnErr, IsOk};
     ghost use Rattle.vp9_types.specs.declared.shape.Plane.{Plane as InPlane};
-    ghost use Rattle.vp9_types.specs.Shapes.{bands_of};
+    ghost use Rattle.vp9_types.specs.Shapes.{bands_of, coded_height};
     ghost use Rattle.planes.specs.Pictures.{samples_of};
     ghost use Rattle.band_cells.specs.Bands.{Picture};
     ghost use Rattle.band_cells.specs.Code.{AreSamplesOf};
@@ -93,6 +93,19 @@ impl<P: Sample> FrameBands<P> {
         ensures { result ≡ self.now.shape }
     {
         self.shape
+    }
+
+    /// Below the frame it has no samples: its map is 0 there.
+    pub fn zero_below(&self)
+        ensures { (plane : InPlane) (y x : ℕ) → coded_height self.now.shape plane ≤ y → map_of self.now plane y x ≡ 0 }
+    {
+        let count = self.bands.len();
+        if count > 0 {
+            let last = &self.bands[count - 1];
+            last.y.zero_below();
+            last.u.zero_below();
+            last.v.zero_below();
+        }
     }
 
     /// Hands out a band, and takes a spare one in its place, whose samples come to stand there.

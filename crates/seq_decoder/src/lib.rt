@@ -12,8 +12,8 @@ mod saved;
 mod segments;
 mod showing;
 
-pub use decoder::Decoder;
 pub use coding::own_contexts;
+pub use decoder::Decoder;
 pub use last::LastFrame;
 pub use laws::headers_read_what_persists;
 pub use past::{after_key, vectors_before};
