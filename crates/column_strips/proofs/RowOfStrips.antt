@@ -158,10 +158,11 @@ module _ {X : Type 0} (header : Header) (r : ℕ) (strips : List (FramePlanes X)
         number = column_at p x;
         low = few;
         column = λ d. (let area = area_of shape (column_from header (column_at p x)) (column_to header (column_at p x)) r (get_or strips (column_at p x) d) p (each (column_at p x) d few) in
-        subst (λ (a : Area). (a.first_column ≤ x) × (x < right_end a)) (sym area)
-        (place_begins ss x (column_from header (column_at p x)) begin,
-        inner x (halved ss (8 * column_from header (column_at p x))) (halved ss (8 * column_to header (column_at p x))) (coded_width shape p) (place_begins ss x (column_from header (column_at p x)) begin)
-        (place_ends ss x (column_to header (column_at p x)) end) low));
+            subst (λ (a : Area). (a.first_column ≤ x) × (x < right_end a)) (sym area) (
+              place_begins ss x (column_from header (column_at p x)) begin,
+              inner x (halved ss (8 * column_from header (column_at p x))) (halved ss (8 * column_to header (column_at p x))) (coded_width shape p) (place_begins ss x (column_from header (column_at p x)) begin)
+                  (place_ends ss x (column_to header (column_at p x)) end) low,
+            ));
       }
 
 pub row_is : {X : Type 0} (by : FrameSources) (bytes : List ℕ) (compressed : Span) (read : FrameRead) (plans : ℕ → Settled ColumnRead) (references : ReferenceFrame → ReferencePicture) (r : ℕ) (strips : List (FramePlanes X))
@@ -173,9 +174,9 @@ row_is by bytes compressed read plans references r strips columns low are =
     record {
       row = low;
       parts = λ k d there. (let held = are.each k d there in
-      let strip = frame_strips by bytes compressed columns.spans read references k r (plans k) columns.cut columns.frame (columns.columns k (rw are.many at there)) in
-      part_is (shape_of by.header) (with_blocks put blank read.blocks) (column_from by.header k) (column_to by.header k) r (get_or strips k d) (offset_low (mi_cols (shape_of by.header)) log2 k) low held.areas held.range
-      (λ p y x i. held.samples p y x i ∙ sym (strip p y x i)));
+          let strip = frame_strips by bytes compressed columns.spans read references k r (plans k) columns.cut columns.frame (columns.columns k (rw are.many at there)) in
+          part_is (shape_of by.header) (with_blocks put blank read.blocks) (column_from by.header k) (column_to by.header k) r (get_or strips k d) (offset_low (mi_cols (shape_of by.header)) log2 k) low held.areas held.range
+          (λ p y x i. held.samples p y x i ∙ sym (strip p y x i)));
       columns = column_there by.header r strips are.many (λ k d there. (are.each k d there).areas);
       edge = frame_ends put read.blocks;
     }

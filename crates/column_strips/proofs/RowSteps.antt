@@ -27,7 +27,7 @@ half_inside : (ss : Bool) (r rows : ℕ) → r < superblocks_along rows → halv
 half_inside true r rows low = omega (arith, low)
 half_inside false r rows low = omega (arith, low)
 
-top_inside : (shape : Shape) (p : Plane) (r : ℕ) → r < superblocks_along (mi_rows shape) → halved (sub_y shape p) (64 * r) < coded_height shape p
+pub top_inside : (shape : Shape) (p : Plane) (r : ℕ) → r < superblocks_along (mi_rows shape) → halved (sub_y shape p) (64 * r) < coded_height shape p
 top_inside shape Y r low = half_inside false r (mi_rows shape) low
 top_inside shape U r low = half_inside shape.ss_y r (mi_rows shape) low
 top_inside shape V r low = half_inside shape.ss_y r (mi_rows shape) low
@@ -111,8 +111,10 @@ one_more shape p r raw strips k f old now new row there is has so = record {
   where
     part : Area
     part = rows_from (first_own shape p r) (plane_of f p).area
+
     own : IsPartOfRow shape raw r f
     own = subst (IsPartOfRow shape raw r) (sym is) (row.parts k f there)
+
     earlier : (y x : ℕ) → first_own shape p r ≤ y → y < lower_end_of shape p r → IsCovered strips p (k + 1) x → (IsInArea part y x → ⊥) → IsCovered strips p k x
     earlier y x below above covered out = elim (cases_eq covered.number k) [
       | inl same ↦

@@ -57,7 +57,7 @@ row_held shape from to r blocks pieces f areas read inside order =
     let each : All (λ (b : PlannedBlock). StripHolds shape from to b) planned = λ i d low. strip_holds shape from to _ (read i d low) (inside i d low) in
     let lie = in_its_row (λ (b : PlannedBlock). StripHolds shape from to b) r planned each in
     let held : All (λ (b : PlannedBlock). HoldsBlockIn shape b.tile_from b.info f) (planned_in_row r planned) =
-    λ i d low. (let one = lie i d low in held_in shape from to r f _ areas one.1 one.0) in
+    λ i d low. (let one = lie i d low in held_in shape from to r f (get_or (planned_in_row r planned) i d) areas one.1 one.0) in
     of_infos (λ tile_from b. HoldsBlockIn shape tile_from b f) shape from (blocks_between shape r blocks) (drop (place_of_row shape r blocks).piece pieces)
     (subst (All (λ (b : PlannedBlock). HoldsBlockIn shape b.tile_from b.info f)) (sym (row_planned shape from r blocks pieces order)) held)
 
