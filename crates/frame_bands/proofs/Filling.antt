@@ -14,7 +14,7 @@ use Rattle.loop_edges.specs.declared.setting.EdgeSetting.{EdgeSetting}
 use Rattle.loop_filter.specs.Laws.{first_changed}
 use Rattle.filter_rows.proofs.Bands.{same_height}
 use Rattle.filter_rows.proofs.Rounds.{ends_with}
-use Rattle.frame_bands.specs.Laws.{IsWhole, BandBegins, BandGrows, BandIsWhole, WholeBandIsFinal}
+use Rattle.frame_bands.specs.Laws.{IsWhole, BandBegins, BandGrows, BandBecomesWhole, WholeBandIsFinal}
 
 none_yet : (sub : Bool) (index y : ℕ) → index * halved sub 64 ≤ y → y < halved sub (64 * index) - 8 → ⊥
 none_yet true index y from low = omega (arith, from, low)
@@ -45,7 +45,7 @@ enough : (shape : Shape) (plane : Plane) (index rows y : ℕ) → IsRowOf shape 
 enough shape plane index rows y row (inl many) more = whole_by (sub_y shape plane) index rows (coded_height shape plane) y many (rw (same_height shape plane) at row.to)
 enough shape plane index rows y row (inr all) more = absurd (omega (arith, all, more))
 
-pub whole_then : (shape : Shape) (index rows : ℕ) → BandIsWhole shape index rows
+pub whole_then : (shape : Shape) (index rows : ℕ) → BandBecomesWhole shape index rows
 whole_then shape index rows many low plane y row = elim (cases_lt rows (superblocks_along (mi_rows shape))) [
   | inr all ↦ rw (le-ltb rows (superblocks_along (mi_rows shape)) all)
       (in_frame (first_row shape plane index) (band_height shape plane) (coded_height shape plane) y row.from row.to)

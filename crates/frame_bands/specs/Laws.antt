@@ -35,8 +35,8 @@ BandGrows f blocks raw index sr from old new = sr < superblocks_along (mi_rows f
     TakesFinal f.shape index sr from old new → HasFinalOf f blocks raw index (sr + 1) new
 
 -- So it is whole once the row of superblocks below its own is filtered too, or the last one is.
-abbrev pub BandIsWhole : Shape → ℕ → ℕ → Type 0
-BandIsWhole shape index rows = (index + 2 ≤ rows) ⊎ (rows ≡ superblocks_along (mi_rows shape)) → rows ≤ superblocks_along (mi_rows shape) → IsWhole shape index rows
+abbrev pub BandBecomesWhole : Shape → ℕ → ℕ → Type 0
+BandBecomesWhole shape index rows = (index + 2 ≤ rows) ⊎ (rows ≡ superblocks_along (mi_rows shape)) → rows ≤ superblocks_along (mi_rows shape) → IsWhole shape index rows
 
 -- Then it has what the filtered frame has there.
 abbrev pub WholeBandIsFinal : EdgeSetting → List BlockInfo → FrameMap → ℕ → ℕ → FrameMap → Type 0

@@ -56,7 +56,8 @@ fn final_part(shape: &Shape, plane: Plane, sr: u32, index: u32) -> Area
 }
 
 /// Takes those rows of a band out of the filter's buffer that are final once a row of superblocks is filtered, and were not
-/// before. The band is that of this row, which gets all but its last eight rows, or the one above it, which gets these.
+/// before. The band is that of this row, which gets all but its last eight rows (in the last row all), or the one above it,
+/// which gets these.
 pub fn take_final<P: Sample>(
     band: &mut FramePlanes<P>,
     index: u32,
