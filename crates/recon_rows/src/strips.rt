@@ -1,6 +1,6 @@
 //! Strips: each row of superblocks of a tile column in planes of its own.
 
-ghost use Rattle.std.specs.Prelude.{◌≡◌, ◌≤◌, ◌<◌, IfOk, IfSome, IsOk, OnErr, OnOk};
+ghost use Rattle.std.specs.Prelude.{◌≡◌, ◌≤◌, ◌<◌, IfOk, IfSome, IsOk, MatchBool, OnErr, OnOk};
 ghost use Rattle.std.specs.List.{All};
 ghost use Rattle.std.specs.Option.{option_copied};
 ghost use Rattle.vp9_types.specs.Shapes.{mi_cols, mi_rows};
@@ -72,6 +72,25 @@ pub fn new_strip<P: Sample>(
     })
 }
 
+/// Whether planes lie where the strip of a row of superblocks of a tile column does.
+fn lies_there<P: Sample>(
+    strip: &FramePlanes<P>,
+    shape: &Shape,
+    from: u32,
+    to: u32,
+    row: u32,
+) -> bool
+    requires size { FitsPlanes shape.now }
+    requires begin { from ≤ mi_cols shape.now }
+    requires order { from ≤ to }
+    requires row { row < superblocks_along (mi_rows shape.now) }
+    ensures { MatchBool result (HasStripAreas shape.now from to row strip.now) (¬ (HasStripAreas shape.now from to row strip.now)) }
+{
+    strip.y.area() == strip_area(shape, Plane::Y, from, to, row)
+        && strip.u.area() == strip_area(shape, Plane::U, from, to, row)
+        && strip.v.area() == strip_area(shape, Plane::V, from, to, row)
+}
+
 /// Makes this room for the strip of a row of superblocks of a tile column, as `new_strip` does, in its memory where it lies in
 /// the same places; what it holds then isn't said.
 pub fn renew_strip<P: Sample>(
@@ -90,10 +109,7 @@ pub fn renew_strip<P: Sample>(
     ensures kept { OnErr result (strip.new ≡ strip.old) }
     ensures again { HasStripAreas shape.now from to row strip.old → IsOk result × (strip.new ≡ strip.old) }
 {
-    let y = strip_area(shape, Plane::Y, from, to, row);
-    let u = strip_area(shape, Plane::U, from, to, row);
-    let v = strip_area(shape, Plane::V, from, to, row);
-    if strip.y.area() == y && strip.u.area() == u && strip.v.area() == v {
+    if lies_there(strip, shape, from, to, row) {
         return Ok(());
     }
     *strip = new_strip(alloc, shape, from, to, row)?;
