@@ -1,2 +1,2 @@
-pub mod RowLists
+pub mod BandRow
 pub mod Names

@@ -1,12 +1,12 @@
 -- Bands of a frame: 64 rows of luma and their share of chroma, within the whole number of places of 8x8 luma samples
 -- that a frame is decoded in (MiRows and MiCols in 7.2.6 of the standard).
-use Rattle.std.specs.Prelude.{ℕ, ◌+◌, ◌-◌, ◌*◌, ◌≤◌, ◌<◌, List, min}
-use Rattle.std.specs.List.{flat_map, range_with_len}
+use Rattle.std.specs.Prelude.{ℕ, ◌+◌, ◌-◌, ◌*◌, ◌≤◌, ◌<◌, min}
 use Rattle.vp9_types.specs.declared.shape.Plane.{Plane}
 use Rattle.vp9_types.specs.declared.shape.Plane.TheVariants.{Y, U, V}
 use Rattle.vp9_types.specs.declared.shape.Shape.{Shape}
 use Rattle.vp9_types.specs.Shapes.{halved, coded_width, coded_height}
-use Rattle.vp9_types.specs.Maps.{Map, FrameMap, row_of}
+use Rattle.vp9_types.specs.Maps.{FrameMap}
+use Rattle.planes.specs.declared.area.Area.{Area}
 
 -- a frame's shape, and its samples
 pub record Picture : Type 0 where
@@ -30,11 +30,11 @@ pub record IsRowOf (shape : Shape) (plane : Plane) (index y : ℕ) : Type 0 wher
   pub from : first_row shape plane index ≤ y
   pub to : y < first_row shape plane index + band_rows shape plane index
 
--- n rows of a map, from row `first` on, each of `width` samples, one after another
-abbrev pub rows_from : Map → ℕ → ℕ → ℕ → List ℕ
-rows_from m width first n = flat_map (λ y. row_of m y 0 width) (range_with_len first n)
-
--- the samples of a band in a plane
-unfoldable pub band_samples : Picture → ℕ → Plane → List ℕ
-band_samples picture index plane =
-    rows_from (picture.map plane) (coded_width picture.shape plane) (first_row picture.shape plane index) (band_rows picture.shape plane index)
+-- where a band lies in a plane
+abbrev pub band_area : Shape → Plane → ℕ → Area
+band_area shape plane index = record {
+  first_row = first_row shape plane index;
+  first_column = 0;
+  rows = band_rows shape plane index;
+  columns = coded_width shape plane;
+}

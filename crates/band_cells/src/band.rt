@@ -1,8 +1,7 @@
-ghost use Rattle.std.specs.Prelude.{◌≡◌, ◌+◌, ◌*◌, ◌≤◌, Some, None, IfSome, length, map, take, drop};
-ghost use Rattle.band_cells.specs.Bands.{IsRowOf, band_samples};
+ghost use Rattle.std.specs.Prelude.{◌≡◌, Some, None, IfSome, map};
+ghost use Rattle.band_cells.specs.Bands.{IsRowOf};
 ghost use Rattle.band_cells.specs.Code.{AreSamplesOf, HasRow, picture_row, name_of};
 
-use crate::layout::band_height;
 use crate::meaning::Meaning;
 use crate::samples::{BandName, BandSamples};
 use std::marker::{Model, PhantomData};
@@ -14,12 +13,12 @@ struct Filled<M: Meaning, P: Sample> {
     name: BandName,
     samples: BandSamples<P>,
     of: PhantomData<M>,
-    ghost are_meant: { AreSamplesOf P.value (M.pictures name.frame) name.index samples },
+    ghost are_meant: { AreSamplesOf (M.pictures name.frame) name.index samples },
 }
 
 impl<M: Meaning, P: Sample> Filled<M, P> {
     fn new(name: BandName, samples: BandSamples<P>) -> Filled<M, P>
-        requires { AreSamplesOf P.value (M.pictures name.frame) name.index samples }
+        requires { AreSamplesOf (M.pictures name.frame) name.index samples }
         ensures { result.name ≡ name }
     {
         Filled {
@@ -29,34 +28,15 @@ impl<M: Meaning, P: Sample> Filled<M, P> {
         }
     }
 
-    fn plane(&self, plane: Plane) -> &[P]
-        ensures { map P.value result.now ≡ band_samples (M.pictures self.now.name.frame) self.now.name.index plane }
-    {
-        match plane {
-            Plane::Y => &self.samples.y,
-            Plane::U => &self.samples.u,
-            Plane::V => &self.samples.v,
-        }
-    }
-
+    #[inline(always)]
     fn row(&self, plane: Plane, y: u32) -> &[P]
         requires { IsRowOf (M.pictures self.now.name.frame).shape plane self.now.name.index y }
         ensures { map P.value result.now ≡ picture_row (M.pictures self.now.name.frame) plane y }
     {
-        let shape = &self.samples.shape;
-        let first = self.name.index * band_height(shape, plane);
-        let row = (y - first) as usize;
-        row_at(self.plane(plane), shape.coded_size(plane).0, row)
+        let samples = self.samples.planes.plane(plane);
+        let columns = samples.area().columns;
+        samples.row(y as usize, 0, columns)
     }
-}
-
-// Row `row` of rows of `width` samples.
-fn row_at<P: Sample>(samples: &[P], width: usize, row: usize) -> &[P]
-    requires { row * width + width ≤ length samples.now }
-    ensures { map P.value result.now ≡ take width (drop (row * width) (map P.value samples.now)) }
-{
-    let at = row * width;
-    &samples[at..at + width]
 }
 
 /// A band of a frame, or a blank one. Contracts see it as its name; its samples are those that `M` has there.
@@ -85,7 +65,7 @@ impl<M: Meaning, P: Sample> Band<M, P> {
 
     /// Makes it this band of this frame. The samples are `M`'s.
     pub fn fill(&mut self, frame: u64, index: u32, samples: BandSamples<P>)
-        requires { AreSamplesOf P.value (M.pictures frame) index samples }
+        requires { AreSamplesOf (M.pictures frame) index samples }
         ensures { self.new ≡ Some (name_of frame index) }
     {
         self.filled = Some(Filled::new(BandName { frame, index }, samples));
@@ -102,6 +82,7 @@ impl<M: Meaning, P: Sample> Band<M, P> {
     }
 
     /// A row of a plane: `y` counts the rows of the frame. The band isn't blank, and has the row.
+    #[inline(always)]
     pub fn row(&self, plane: Plane, y: u32) -> &[P]
         requires { HasRow M.pictures self.now plane y }
         ensures { IfSome self.now (λ name. map P.value result.now ≡ picture_row (M.pictures name.frame) plane y) }

@@ -11,7 +11,7 @@ mod store;
 
 pub use band::Band;
 pub use cell::BandCell;
-pub use layout::band_size;
+pub use layout::band_area;
 pub use meaning::Meaning;
 pub use rows::BandRows;
 pub use samples::{BandName, BandSamples};

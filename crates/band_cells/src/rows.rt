@@ -1,44 +1,54 @@
-ghost use Rattle.std.specs.Prelude.{◌≡◌};
+ghost use Rattle.std.specs.Prelude.{◌≡◌, map};
+ghost use Rattle.band_cells.specs.Code.{AreBandsOf};
 
+use crate::band::Band;
 use crate::layout::band_height;
 use crate::meaning::Meaning;
 use crate::store::Store;
 use std::marker::Model;
-use std::sync::Wait;
-use std::thread;
-use vp9_types::{BandSpan, Plane, Sample, Samples};
+use vp9_types::{BandSpan, Plane, Sample, Samples, Shape};
 
-/// The rows of some bands of a frame, which other threads may still make. A row that isn't there yet is waited for.
-/// Contracts see which bands they are.
+/// The rows of some bands of a frame, which were looked up before: a row is found by its number alone. Contracts see which
+/// bands they are.
 #[derive(Drop)]
-pub struct BandRows<'a, M: Meaning, P: Sample, R> {
-    rt: &'a R,
-    store: &'a Store<M, P>,
+pub struct BandRows<'a, M: Meaning, P: Sample> {
+    shape: Shape,
     span: BandSpan,
+    bands: &'a [&'a Band<M, P>],
 }
 
-impl<'a, M: Meaning, P: Sample, R> Model for BandRows<'a, M, P, R> {
-    ghost use Rattle.std.specs.Prelude.{◌≡◌};
+impl<'a, M: Meaning, P: Sample> Model for BandRows<'a, M, P> {
+    ghost use Rattle.std.specs.Prelude.{◌≡◌, map};
     ghost use Rattle.vp9_types.specs.declared.job.BandSpan.{BandSpan as Bands};
+    ghost use Rattle.band_cells.specs.Code.{AreBandsOf};
 
     ghost Value = { Bands };
 
     ghost view = { λ v. v.span };
 
-    ghost invariant = { λ v. v.span.frame ≡ v.store.now.frame };
+    ghost invariant = { λ v. (v.shape ≡ (M.pictures v.span.frame).shape) × (AreBandsOf v.span (map (λ b. b.now) v.bands.now)) };
 }
 
-impl<'a, M: Meaning, P: Sample, R> BandRows<'a, M, P, R> {
-    /// The rows of the bands of a span.
-    pub fn new(rt: &'a R, store: &'a Store<M, P>, span: BandSpan) -> BandRows<'a, M, P, R>
-        requires { span.frame ≡ store.now.frame }
+impl<'a, M: Meaning, P: Sample> BandRows<'a, M, P> {
+    /// The rows of the bands of a span, as `Store::look_up` finds them.
+    pub fn new(
+        store: &Store<M, P>,
+        span: BandSpan,
+        bands: &'a [&'a Band<M, P>],
+    ) -> BandRows<'a, M, P>
+        requires frame { span.frame ≡ store.now.frame }
+        requires bands { AreBandsOf span (map (λ b. b.now) bands.now) }
         ensures { result ≡ span }
     {
-        BandRows { rt, store, span }
+        BandRows {
+            shape: *store.shape(),
+            span,
+            bands,
+        }
     }
 }
 
-impl<'a, M: Meaning, P: Sample, R: Wait> Samples for BandRows<'a, M, P, R> {
+impl<'a, M: Meaning, P: Sample> Samples for BandRows<'a, M, P> {
     type Kept = P;
 
     ghost use Rattle.vp9_types.specs.Shapes.{coded_width};
@@ -50,16 +60,9 @@ impl<'a, M: Meaning, P: Sample, R: Wait> Samples for BandRows<'a, M, P, R> {
 
     ghost map = { λ span. (M.pictures span.frame).map };
 
+    #[inline(always)]
     fn row(&self, plane: Plane, y: u32) -> &[P] {
-        let index = y / band_height(self.store.shape(), plane);
-        let cell = self.store.cell(index);
-        let mut note = cell.note();
-        for _ in self.rt.forever() {
-            if let Some(band) = cell.look(&mut note) {
-                return band.row(plane, y);
-            }
-            thread::yield_now();
-        }
-        unreachable!()
+        let band = y / band_height(&self.shape, plane) - self.span.first;
+        self.bands[band as usize].row(plane, y)
     }
 }

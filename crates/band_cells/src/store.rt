@@ -1,12 +1,15 @@
-ghost use Rattle.std.specs.Prelude.{◌≡◌, ◌<◌, Some, IfOk, slice_get};
+ghost use Rattle.std.specs.Prelude.{◌≡◌, ◌<◌, ◌≤◌, Some, IfOk, IsOk, OnOk, map, slice_get, vec_capacity};
 ghost use Rattle.vp9_types.specs.Shapes.{bands_of};
-ghost use Rattle.band_cells.specs.Code.{name_of};
+ghost use Rattle.band_cells.specs.Code.{name_of, span_length, AreBandsOf};
 
+use crate::band::Band;
 use crate::cell::BandCell;
 use crate::meaning::Meaning;
 use std::alloc::{AllocError, Global};
 use std::marker::Model;
-use vp9_types::{Sample, Shape};
+use std::sync::Wait;
+use std::thread;
+use vp9_types::{BandSpan, Sample, Shape};
 
 /// The cells of the bands of one frame.
 #[derive(Drop)]
@@ -63,6 +66,13 @@ impl<M: Meaning, P: Sample> Store<M, P> {
         &self.shape
     }
 
+    /// How many bands the frame has.
+    pub fn bands(&self) -> u32
+        ensures { result ≡ bands_of self.now.shape }
+    {
+        self.shape.bands()
+    }
+
     /// The cell of a band.
     pub fn cell(&self, index: u32) -> &BandCell<M, P>
         requires { index < bands_of self.now.shape }
@@ -70,5 +80,46 @@ impl<M: Meaning, P: Sample> Store<M, P> {
         ensures name { result.now.name ≡ name_of self.now.frame index }
     {
         &self.cells[index as usize]
+    }
+
+    // A band, which is waited for if it isn't there yet.
+    fn wait_for<'a, R: Wait>(&'a self, rt: &R, index: u32) -> &'a Band<M, P>
+        requires { index < bands_of self.now.shape }
+        ensures { result.now ≡ Some (name_of self.now.frame index) }
+    {
+        let cell = self.cell(index);
+        let mut note = cell.note();
+        for _ in rt.forever() {
+            if let Some(band) = cell.look(&mut note) {
+                return band;
+            }
+            thread::yield_now();
+        }
+        unreachable!()
+    }
+
+    /// Looks up the bands of a span of the frame, for `BandRows`. One that isn't there yet is waited for. They take the place
+    /// of those that were listed before, whose room is used again.
+    pub fn look_up<'a, R: Wait>(
+        &'a self,
+        rt: &R,
+        span: BandSpan,
+        bands: &mut Vec<&'a Band<M, P>>,
+    ) -> Result<(), AllocError>
+        requires frame { span.frame ≡ self.now.frame }
+        requires last { span.last < bands_of self.now.shape }
+        ensures found { OnOk result (AreBandsOf span (map (λ b. b.now) bands.new.items)) }
+        ensures room { vec_capacity bands.old ≤ vec_capacity bands.new }
+        ensures again { span_length span ≤ vec_capacity bands.old → IsOk result }
+    {
+        // Their number bounds the sum.
+        let _all = self.bands();
+        bands.clear();
+        let end = span.last + 1;
+        bands.reserve(end.saturating_sub(span.first) as usize)?;
+        for index in span.first..end {
+            bands.push_reserved(self.wait_for(rt, index));
+        }
+        Ok(())
     }
 }

@@ -14,7 +14,7 @@ use Rattle.filter_rows.proofs.Places.{pending_from, pending_to}
 use Rattle.loop_filter.specs.Laws.{first_changed, first_own, lower_end_of, final_end}
 use Rattle.filter_rows.specs.Laws.{IsOwnRow, BandsAreRows, BandIsWhole, FinalRowIsHeld}
 
-same_height : (shape : Shape) (plane : Plane) → band_height shape plane ≡ halved (sub_y shape plane) 64
+pub same_height : (shape : Shape) (plane : Plane) → band_height shape plane ≡ halved (sub_y shape plane) 64
 same_height shape Y = refl
 same_height shape U = refl
 same_height shape V = refl
@@ -70,7 +70,7 @@ band_is_whole shape plane band y row =
       ]
     ]
 
-ends_low : (shape : Shape) (plane : Plane) (sr y : ℕ) → y < final_end shape plane sr → y < lower_end_of shape plane sr
+pub ends_low : (shape : Shape) (plane : Plane) (sr y : ℕ) → y < final_end shape plane sr → y < lower_end_of shape plane sr
 ends_low shape plane sr y high = elim (cases_lt (sr + 1) (superblocks_along (mi_rows shape))) [
   | inl more ↦ whole_rows (sub_y shape plane) sr (mi_rows shape) (coded_height shape plane) y more (sides.high shape plane) (rw (lt-ltb (sr + 1) (superblocks_along (mi_rows shape)) more) at high)
   | inr last ↦ rw (le-ltb (sr + 1) (superblocks_along (mi_rows shape)) last) at high

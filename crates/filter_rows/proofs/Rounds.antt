@@ -110,7 +110,7 @@ last_end : (sub : Bool) (end places sr : ℕ) → end ≡ halved sub (8 * places
 last_end true end places sr is last = omega (arith, is, last)
 last_end false end places sr is last = omega (arith, is, last)
 
-ends_with : (f : EdgeSetting) (plane : Plane) (sr y : ℕ) → y < final_before f.shape plane (sr + 1) → y < final_end f.shape plane sr
+pub ends_with : (f : EdgeSetting) (plane : Plane) (sr y : ℕ) → y < final_before f.shape plane (sr + 1) → y < final_end f.shape plane sr
 ends_with f plane sr y low = elim (cases_lt (sr + 1) (superblocks_along (mi_rows f.shape))) [
   | inl more ↦ let t = lt-ltb (sr + 1) (superblocks_along (mi_rows f.shape)) more in rw t (rw t at low)
   | inr last ↦

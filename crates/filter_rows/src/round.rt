@@ -1,6 +1,6 @@
 //! A row of superblocks put in and filtered, and so a whole frame.
 
-ghost use Rattle.std.specs.Prelude.{◌≡◌, ◌≤◌, ◌<◌, ◌*◌, ◌+◌, ℕ, OnOk};
+ghost use Rattle.std.specs.Prelude.{◌≡◌, ◌≤◌, ◌<◌, ◌*◌, ◌+◌, ℕ, OnErr, OnOk};
 ghost use Rattle.vp9_types.specs.declared.shape.Plane.{Plane as InPlane};
 ghost use Rattle.vp9_types.specs.Shapes.{mi_rows, mi_cols, coded_height};
 ghost use Rattle.vp9_types.specs.Sizes.{greatest, superblocks_along};
@@ -31,7 +31,7 @@ pub fn filter_next_row<P: EdgeSample, S: Strips<Kept = P>, N: Neighbours>(
     requires held { (r c : ℕ) → 8 * sr ≤ r → r < 8 * (sr + 1) → r < mi_rows f.now.shape → c < mi_cols f.now.shape → N.holds blocks.now r c }
     requires fit { AllFit (N.blocks blocks.now) }
     requires kept { greatest f.now.shape.depth ≤ P.greatest }
-    requires strips { S.holds strips.now sr }
+    requires strips { S.holds strips.now f.now.shape sr }
     requires awaits { AwaitsRow f.now (N.blocks blocks.now) (S.raw strips.now) sr planes.old }
     ensures { HasFiltered f.now (N.blocks blocks.now) (S.raw strips.now) sr planes.new }
 {
@@ -53,10 +53,12 @@ pub fn filter_by_rows<P: EdgeSample, S: Strips<Kept = P>, N: Neighbours, T: Take
     requires held { (r c : ℕ) → r < mi_rows f.now.shape → c < mi_cols f.now.shape → N.holds blocks.now r c }
     requires fit { AllFit (N.blocks blocks.now) }
     requires kept { greatest f.now.shape.depth ≤ P.greatest }
-    requires strips { (sr : ℕ) → sr < superblocks_along (mi_rows f.now.shape) → S.holds strips.now sr }
-    requires awaits { T.awaits to.old 0 }
-    ensures { OnOk result ((plane : InPlane) (y x : ℕ) → y < coded_height f.now.shape plane →
+    requires strips { (sr : ℕ) → sr < superblocks_along (mi_rows f.now.shape) → S.holds strips.now f.now.shape sr }
+    requires awaits { T.awaits to.old f.now.shape 0 }
+    ensures frame { OnOk result ((plane : InPlane) (y x : ℕ) → y < coded_height f.now.shape plane →
         T.map to.new plane y x ≡ filtered_frame f.now (N.blocks blocks.now) (S.raw strips.now) plane y x) }
+    ensures awaits { OnOk result (T.awaits to.new f.now.shape (superblocks_along (mi_rows f.now.shape))) }
+    ensures kept { OnErr result (to.new ≡ to.old) }
 {
     let mut planes = new_buffer::<P>(alloc, &f.shape)?;
     for sr in 0..f.shape.superblock_rows() {

@@ -1,2 +1,5 @@
 pub mod Parts
 pub mod Rows
+pub mod Strips
+pub mod Laws
+pub mod Code

@@ -1,10 +1,10 @@
 ghost use Rattle.std.specs.Prelude.{◌≡◌, ℕ, ◌<◌, true, Some, IfOk};
 ghost use Rattle.vp9_types.specs.Shapes.{bands_of};
 ghost use Rattle.vp9_types.specs.declared.shape.Depth.TheVariants.{Eight};
-ghost use Rattle.band_cells.specs.Bands.{band_samples};
 ghost use Rattle.band_cells.specs.Code.{name_of};
 
-use band_cells::{Band, BandCell, BandName, BandRows, BandSamples, Meaning, Store, band_size};
+use crate::filled_bands::filled_band;
+use band_cells::{Band, BandCell, BandName, BandRows, Meaning, Store};
 use std::alloc::{AllocError, Global};
 use std::sync::Wait;
 use std::test::Fail;
@@ -32,26 +32,12 @@ impl Meaning for Numbers {
         record { shape = record { w = 16; h = 200; depth = Eight; ss_x = true; ss_y = true }; map = λ _ _ _. frame } };
 }
 
-fn plane_of(alloc: Global, frame: u64, plane: Plane, index: u32) -> Result<Vec<u16>, AllocError>
-    requires { frame < 65536 }
-    ensures { IfOk result (λ samples. samples.items ≡
-        band_samples (record { shape = record { w = 16; h = 200; depth = Eight; ss_x = true; ss_y = true }; map = λ _ _ _. frame }) index plane) }
-{
-    let (width, rows) = band_size(&SHAPE, plane, index);
-    let samples = Vec::from_elem(alloc, frame as u16, rows * width)?;
-    Ok(samples)
-}
-
 fn band_of(alloc: Global, frame: u64, index: u32) -> Result<Box<Band<Numbers, u16>>, AllocError>
-    requires { frame < 65536 }
+    requires frame { frame < 65536 }
+    requires index { index < 4 }
     ensures { IfOk result (λ band. band.value ≡ Some (name_of frame index)) }
 {
-    let samples = BandSamples {
-        shape: SHAPE,
-        y: plane_of(alloc, frame, Plane::Y, index)?,
-        u: plane_of(alloc, frame, Plane::U, index)?,
-        v: plane_of(alloc, frame, Plane::V, index)?,
-    };
+    let samples = filled_band(alloc, &SHAPE, index, frame as u16)?;
     let mut band = Band::blank();
     band.fill(frame, index, samples);
     Ok(Box::new(alloc, band)?)
@@ -131,18 +117,28 @@ fn is_filled<S: Samples<Kept = u16>>(
 }
 
 // Reads all rows, and waits for those that aren't there yet.
-fn read_all<R: Wait>(rt: &R, store: &Store<Numbers, u16>, frame: u16) -> bool
-    requires { store.now.frame ≡ frame }
+fn read_all<R: Wait>(
+    rt: &R,
+    alloc: Global,
+    store: &Store<Numbers, u16>,
+    frame: u16,
+) -> Result<bool, AllocError>
+    requires frame { store.now.frame ≡ frame }
+    requires shape { bands_of store.now.shape ≡ 4 }
 {
     let span = BandSpan {
         frame: u64::from(frame),
         first: 0,
         last: 3,
     };
-    let rows = BandRows::new(rt, store, span);
-    is_filled(&rows, Plane::Y, 200, 16, frame)
-        && is_filled(&rows, Plane::U, 100, 8, frame)
-        && is_filled(&rows, Plane::V, 100, 8, frame)
+    let mut bands = Vec::new(alloc);
+    store.look_up(rt, span, &mut bands)?;
+    let rows = BandRows::new(store, span, &bands);
+    Ok(
+        is_filled(&rows, Plane::Y, 200, 16, frame)
+            && is_filled(&rows, Plane::U, 100, 8, frame)
+            && is_filled(&rows, Plane::V, 100, 8, frame),
+    )
 }
 
 // One thread publishes the bands of a frame, and another reads them.
@@ -156,9 +152,9 @@ fn hand_over<R: Threads + Wait + Sync>(
     let (_, read) = join(
         rt,
         || publish_all(&store, bands),
-        || read_all(rt, &store, frame),
+        || read_all(rt, alloc, &store, frame),
     );
-    Ok(read)
+    read
 }
 
 #[test]

@@ -4,6 +4,8 @@
 #[cfg(test)]
 mod band_cells_tests;
 #[cfg(test)]
+mod filled_bands;
+#[cfg(test)]
 mod progress_board_tests;
 #[cfg(test)]
 mod tall_frame_tests;

@@ -1,9 +1,9 @@
-use Rattle.std.proofs.Common.{◌∙◌}
-use Rattle.band_cells.proofs.RowLists.{kept_fits, part_fits, part_is}
+use Rattle.std.proofs.Common.{◌∙◌, ap}
+use Rattle.band_cells.proofs.BandRow.{plane_held, plane_row}
 use Rattle.band_cells.proofs.band.Filled.row.Goals as goal
 
-pub row_at-requires : goal.row_at-requires
-row_at-requires g c = kept_fits g.P.Sample.value _ _ (part_fits _ _ _ _ _ _ _ _ c.args.self.now.are_meant.0 c.band_height.ensures.height c.coded_size.ensures.width c.requires c.plane.ensures)
+pub row-requires : goal.row-requires
+row-requires g c = plane_held (g.M.Meaning.pictures c.args.self.now.name.frame) c.args.self.now.name.index c.args.self.now.samples _ c.args.plane _ _ c.args.self.now.are_meant c.requires c.plane-samples.ensures (ap (λ a. a.columns) c.area-columns.ensures.value)
 
 pub returns : goal.returns
-returns g c = c.row_at.ensures ∙ part_is _ _ _ _ _ _ _ _ c.args.self.now.are_meant.0 c.band_height.ensures.height c.coded_size.ensures.width c.requires c.plane.ensures
+returns g c = c.row.ensures.value ∙ plane_row (g.M.Meaning.pictures c.args.self.now.name.frame) c.args.self.now.name.index c.args.self.now.samples _ c.args.plane _ _ c.args.self.now.are_meant c.requires c.plane-samples.ensures (ap (λ a. a.columns) c.area-columns.ensures.value)

@@ -1,0 +1,3 @@
+pub mod RowSteps
+pub mod FrameEdge
+pub mod RowOfStrips

@@ -1,0 +1,4 @@
+pub mod Bands
+pub mod Frames
+pub mod Code
+pub mod Laws
