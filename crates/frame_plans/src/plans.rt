@@ -60,14 +60,7 @@ fn plan_columns(
 {
     let mut results = Vec::with_capacity(alloc, plans.len())?;
     for k in 0..plans.len() {
-        results.push_reserved(column(
-            &mut plans[k],
-            alloc,
-            bytes,
-            by,
-            compressed,
-            k as u32,
-        ));
+        results.push_reserved(column(&mut plans[k], alloc, bytes, by, compressed, k as u32));
     }
     Ok(results)
 }

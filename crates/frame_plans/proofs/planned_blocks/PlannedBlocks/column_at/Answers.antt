@@ -28,22 +28,22 @@ loop-k-preserved c =
     let from : c.first_col.result ≡ begins_at self.header.now k = c.first_col.ensures ∙ is.from in
     elim c.if-first_col-col.branch [
       | then-first_col-col w ↦ rw w.at-is (record {
-          there = there;
-          low = omega arith;
-          from = omega (arith, from, w.if-first_col-col);
-          behind = λ j after before. absurd (omega (arith, after, before));
-        })
+        there = there;
+        low = omega arith;
+        from = omega (arith, from, w.if-first_col-col);
+        behind = λ j after before. absurd (omega (arith, after, before));
+      })
       | else-first_col-col w ↦ rw w.at-is (record {
-          there = i.there;
-          low = omega (arith, i.low);
-          from = i.from;
-          behind = λ j after before. elim (cases_lt j k) [
-            | inl low ↦ i.behind j after low
-            | inr high ↦
-                let same : j ≡ k = omega (arith, before, high) in
-                rw same (omega (arith, from, w.if-first_col-col))
-          ];
-        })
+        there = i.there;
+        low = omega (arith, i.low);
+        from = i.from;
+        behind = λ j after before. elim (cases_lt j k) [
+          | inl low ↦ i.behind j after low
+          | inr high ↦
+              let same : j ≡ k = omega (arith, before, high) in
+              rw same (omega (arith, from, w.if-first_col-col))
+        ];
+      })
     ]
 
 pub returns-clause-to : goal.returns-clause-to
