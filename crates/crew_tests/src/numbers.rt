@@ -108,9 +108,7 @@ impl<const FRAMES: u64, const COLUMNS: u32, const ROWS: u32> Jobs<
                 frame
             }
             JobName::Close { frame } => {
-                for column in 0..COLUMNS {
-                    results.result(JobName::Column { frame, column });
-                }
+                see_columns::<FRAMES, COLUMNS, ROWS, R>(results, frame);
                 frame
             }
             JobName::Rows { frame, column, row } => {
@@ -125,9 +123,7 @@ impl<const FRAMES: u64, const COLUMNS: u32, const ROWS: u32> Jobs<
                 }
             }
             JobName::Filter { frame, row } => {
-                for column in 0..COLUMNS {
-                    results.result(JobName::Rows { frame, column, row });
-                }
+                see_row::<FRAMES, COLUMNS, ROWS, R>(results, frame, row);
                 frame
             }
             JobName::End { frame } => frame,
@@ -157,5 +153,29 @@ impl<const FRAMES: u64, const COLUMNS: u32, const ROWS: u32> Jobs<
 
     fn is_refused(&self, write: &u64) -> bool {
         *write == u64::MAX
+    }
+}
+
+// A close takes the results of all tile columns.
+fn see_columns<
+    const FRAMES: u64,
+    const COLUMNS: u32,
+    const ROWS: u32,
+    R: Results<u64, Numbers<FRAMES, COLUMNS, ROWS>>,
+>(results: &R, frame: u64) {
+    for column in 0..COLUMNS {
+        results.result(JobName::Column { frame, column });
+    }
+}
+
+// A filter takes a superblock row in all tile columns.
+fn see_row<
+    const FRAMES: u64,
+    const COLUMNS: u32,
+    const ROWS: u32,
+    R: Results<u64, Numbers<FRAMES, COLUMNS, ROWS>>,
+>(results: &R, frame: u64, row: u32) {
+    for column in 0..COLUMNS {
+        results.result(JobName::Rows { frame, column, row });
     }
 }
