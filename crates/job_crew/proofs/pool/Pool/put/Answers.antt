@@ -1,0 +1,20 @@
+use Rattle.std.proofs.Common.{◌≡◌, ◌∙◌, sym, subst, Some, arith}
+use Rattle.job_order.specs.Segments.{job_at}
+use Rattle.job_order.specs.Code.{IsMark}
+use Rattle.job_crew.proofs.Pools.{moves, puts}
+use Rattle.job_crew.proofs.pool.Pool.put.Goals as goal
+
+pub invariant_of-self : goal.invariant_of-self
+invariant_of-self g c = (
+  moves _ _ _ _ _ _ _ _ c.self.invariant.0 (subst (λ s. IsMark s c.job_from.new.mark) c.deref.ensures.value c.job_from.ensures.mark)
+      (omega (arith, c.job_from.ensures.later, c.if-ticket-self.false)),
+  c.self.invariant.1,
+)
+
+pub invariant_of-self-2 : goal.invariant_of-self-2
+invariant_of-self-2 g c = (
+  rw c.push_reserved.ensures.items
+      (puts _ _ _ _ _ _ _ _ _ _ c.self.invariant.0 (subst (λ s. IsMark s c.job_from.new.mark) c.deref.ensures.value c.job_from.ensures.mark) c.job_from.ensures.later
+      (c.args.ticket, subst (λ s. job_at s c.args.ticket ≡ Some c.in_ok-job.job) c.deref.ensures.value (sym c.job_from.ensures.job ∙ c.in_ok-job.was))),
+  omega (arith, c.push_reserved.ensures.capacity, c.self.invariant.1),
+)

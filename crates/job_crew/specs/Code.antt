@@ -1,0 +1,78 @@
+-- What the crew keeps of the jobs and of its seats.
+use Rattle.std.specs.Prelude.{◌≡◌, ℕ, ◌+◌, ◌<◌, ◌≤◌, Bool, true, false, List, [], ◌∷◌, ◌++◌, length, Some, All, slice_get}
+use Rattle.std.specs.List.{remove}
+use Rattle.vp9_types.specs.declared.job.JobName.{JobName}
+use Rattle.vp9_types.specs.declared.job.JobName.TheVariants.{Head, Column, Close, Rows, Filter, Write, End}
+use Rattle.job_order.specs.declared.segment.Segment.{Segment}
+use Rattle.job_order.specs.declared.segment.Segment.TheVariants.{Build, Last}
+use Rattle.job_order.specs.declared.segment.Shown.{Shown}
+use Rattle.job_order.specs.declared.order.Mark.{Mark}
+use Rattle.job_order.specs.Segments.{jobs_of, jobs_in, job_at, InOrder, IsListed, StandsAt}
+use Rattle.job_order.specs.Worlds.{Rules}
+use Rattle.job_order.specs.Truths.{Truth}
+use Rattle.job_order.specs.Code.{IsMark}
+use Rattle.progress_board.specs.Code.{BoardParts, SeatParts}
+use Rattle.job_crew.specs.declared.jobs.Layout.{Layout}
+use Rattle.job_crew.specs.Runs.{IsDue}
+
+-- each job of a segment is due
+abbrev pub AreDue : {X : Type 0} → Rules X → Truth X → Segment → Type 0
+AreDue m t s = (place : ℕ) (job : JobName) → slice_get (jobs_of s) place ≡ Some job → IsDue m t job
+
+-- the segment may stand behind these
+pub record Fits (segments : List Segment) (s : Segment) : Type 0 where
+  pub at : StandsAt (length segments) s
+  pub shown : (f columns rows : ℕ) (shown : Shown) → s ≡ Build f columns rows (Some shown) → shown.frame ≤ f
+  pub goes_on : (place f : ℕ) → place + 1 ≡ length segments → slice_get segments place ≡ Some (Last f) → ⊥
+
+-- a frame of this layout has the job, which is neither its head nor an end
+abbrev pub HasCell : Layout → JobName → Type 0
+HasCell layout (Head f) = ⊥
+HasCell layout (Column f c) = c < layout.columns
+HasCell layout (Close f) = Unit {0}
+HasCell layout (Rows f c r) = (c < layout.columns) × (r < layout.rows)
+HasCell layout (Filter f r) = r < layout.rows
+HasCell layout (Write f) = Unit {0}
+HasCell layout (End f) = ⊥
+
+-- what is published, the jobs that were drawn and not begun, how many were drawn, how many it has room for, and whether the run is over
+pub record PoolParts : Type 0 where
+  pub segments : List Segment
+  pub names : List JobName
+  pub drawn : ℕ
+  pub room : ℕ
+  pub over : Bool
+
+pub record IsPool {X : Type 0} (m : Rules X) (t : Truth X) (segments : List Segment) (names : List JobName) (mark : Mark) (published drawn : ℕ) : Type 0 where
+  pub order : InOrder segments
+  pub marked : IsMark segments mark
+  pub later : mark.ticket ≤ drawn
+  pub tickets : published ≤ length (jobs_in segments)
+  pub listed : All (IsListed segments) names
+  pub due : (job : JobName) → IsListed segments job → IsDue m t job
+
+-- the segment is published, if so
+abbrev pub published_if : Bool → PoolParts → Segment → PoolParts
+published_if true pool s = record pool { segments = pool.segments ++ s ∷ [] }
+published_if false pool s = pool
+
+-- the job of the next ticket is put in, as the last
+abbrev pub Puts : PoolParts → ℕ → JobName → PoolParts → Type 0
+Puts old ticket job new =
+    (ticket ≡ old.drawn) × (job_at old.segments ticket ≡ Some job) × (new ≡ record old { names = old.names ++ job ∷ []; drawn = ticket + 1 })
+
+-- the job at this place is taken out
+abbrev pub Takes : PoolParts → ℕ → JobName → PoolParts → Type 0
+Takes old at job new = (slice_get old.names at ≡ Some job) × (new ≡ record old { names = remove old.names at })
+
+-- the seat is of the board, and has no slot
+abbrev pub IsSeated : BoardParts → SeatParts → Type 0
+IsSeated board seat = (seat.board ≡ board.board) × (seat.view.has ≡ [])
+
+-- and after a call it is so still, and leads as it did
+abbrev pub IsSeatedStill : SeatParts → SeatParts → Type 0
+IsSeatedStill old new = (new.board ≡ old.board) × (new.view.has ≡ []) × (new.view.leads ≡ old.view.leads) × (new.view.out ≡ old.view.out)
+
+-- after it has taken the outlet
+abbrev pub IsAway : SeatParts → SeatParts → Type 0
+IsAway old new = (new.board ≡ old.board) × (new.view.has ≡ 1 ∷ []) × (new.view.leads ≡ old.view.leads) × (new.view.out ≡ old.view.out)

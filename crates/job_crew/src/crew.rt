@@ -1,0 +1,539 @@
+ghost use Rattle.std.specs.Prelude.{◌≡◌, ℕ, ◌<◌, ◌≤◌, ◌++◌, ◌∷◌, [], true, length, All, None, IfSome, IfNone, IfOk, IfErr};
+ghost use Rattle.vp9_types.specs.declared.job.JobName.TheVariants.{Head, Close, Write, End};
+ghost use Rattle.job_order.specs.Segments.{InOrder, IsListed};
+ghost use Rattle.job_crew.specs.declared.outlet.Content.TheVariants.{Open};
+ghost use Rattle.job_order.specs.Sound.{texts_below};
+ghost use Rattle.job_crew.specs.Runs.{IsDue, IsEnded};
+ghost use Rattle.job_crew.specs.Code.{AreDue, Takes, IsSeated, IsSeatedStill, IsAway};
+
+use crate::cells::{Cells, Lent};
+use crate::jobs::{Jobs, Layout, Output, Start};
+use crate::outlet::{Content, Ending, Outlet, Over, Placed, Told};
+use crate::pool::Pool;
+use job_order::{Meaning, Segment, needs_of};
+use progress_board::{Board, Refused, Seat};
+use std::alloc::{AllocError, Global};
+use std::sync::{Condvar, Mutex, Wait};
+use std::thread;
+use std::thread::Threads;
+use vp9_types::{BandSpan, JobName};
+
+// A worker waits at the pool and not for a band, so no lane is used.
+const LANES: u8 = 0;
+
+const OUTLET: u8 = 1;
+
+// How many drawn jobs the pool has room for. A run would go on with room for one, since the least job that isn't finished is ready or at
+// work. More lets workers pass over jobs that wait, into the frames behind: at 1920x1080 a frame of four tile columns has 92 jobs, and a
+// frame that has ten times as many has so many columns that enough of its own are ready.
+const POOL_ROOM: usize = 1024;
+
+const NO_BANDS: [Option<BandSpan>; 3] = [None, None, None];
+
+// What the workers share.
+#[derive(Drop)]
+struct Crew<'a, X: Drop, M: Meaning<X> + Start, K: Output, J> {
+    alloc: Global,
+    jobs: &'a J,
+    cells: &'a Cells<X, M>,
+    pool: &'a Mutex<Pool<X, M>>,
+    moved: &'a Condvar,
+    board: &'a Board<Placed<X, M, K>>,
+    window: u8,
+}
+
+fn placed<X: Drop, M: Meaning<X> + Start, K: Output>(content: Content<X, M, K>) -> Placed<X, M, K>
+    ensures slot { result.slot ≡ 1 }
+    ensures content { result.content ≡ content }
+{
+    Placed {
+        slot: OUTLET,
+        content,
+    }
+}
+
+// A job is ready where its needs are finished.
+impl<'a, X: Drop, M: Meaning<X> + Start, K: Output, J: Jobs<X, M, K>> Crew<'a, X, M, K, J> {
+    // What a job reads of other frames.
+    fn reads<R: Wait>(&self, lent: &Lent<'_, X, M, R>, job: JobName) -> [Option<BandSpan>; 3]
+        requires due { IsDue M.rules M.truth job }
+    {
+        match job {
+            JobName::Rows { frame, column, row } => self.jobs.reads(frame, column, row, lent),
+            _ => NO_BANDS,
+        }
+    }
+
+    // Whether the needs of a job are finished. What it reads is asked for once the jobs are that it needs by name, its close among them.
+    fn is_ready<R: Wait>(
+        &self,
+        lent: &Lent<'_, X, M, R>,
+        segments: &[Segment],
+        job: JobName,
+    ) -> bool
+        requires order { InOrder segments.now }
+        requires listed { IsListed segments.now job }
+        requires due { IsDue M.rules M.truth job }
+    {
+        let [first, second] = needs_of(segments, self.window, job, NO_BANDS).jobs;
+        if !self.cells.are_finished(first) || !self.cells.are_finished(second) {
+            return false;
+        }
+        let reads = self.reads(lent, job);
+        let [last, golden, altref] = needs_of(segments, self.window, job, reads).bands;
+        self.cells.are_published(segments, last)
+            && self.cells.are_published(segments, golden)
+            && self.cells.are_published(segments, altref)
+    }
+
+    // The place in the pool of the first job that is ready.
+    fn ready_place<R: Wait>(&self, lent: &Lent<'_, X, M, R>, pool: &Pool<X, M>) -> Option<usize> {
+        for at in 0..pool.len() {
+            if let Some(job) = pool.name(at)
+                && self.is_ready(lent, pool.segments(), job)
+            {
+                return Some(at);
+            }
+        }
+        None
+    }
+
+    // The first job of the pool that is ready, which is taken out of it.
+    fn take_ready<R: Wait>(
+        &self,
+        lent: &Lent<'_, X, M, R>,
+        pool: &mut Pool<X, M>,
+    ) -> Option<JobName>
+        ensures some { IfSome result (λ job. (at : ℕ) × Takes pool.old at job pool.new) }
+        ensures none { IfNone result (pool.new ≡ pool.old) }
+        ensures due { IfSome result (λ job. IsDue M.rules M.truth job) }
+    {
+        let at = self.ready_place(lent, pool)?;
+        pool.remove(at)
+    }
+
+    // Draws a ticket, and takes its job where that is ready.
+    fn draw<R: Wait>(
+        &self,
+        lent: &Lent<'_, X, M, R>,
+        pool: &mut Pool<X, M>,
+        seat: &mut Seat<Placed<X, M, K>>,
+    ) -> Option<JobName>
+        requires room { length pool.old.names < pool.old.room }
+        requires seat { IsSeated self.now.board.now seat.old }
+        ensures seat { IsSeatedStill seat.old seat.new }
+        ensures due { IfSome result (λ job. IsDue M.rules M.truth job) }
+    {
+        let ticket = self.board.draw(seat);
+        let job = pool.put(ticket)?;
+        let last = pool.len().checked_sub(1)?;
+        if self.is_ready(lent, pool.segments(), job) {
+            pool.remove(last)
+        } else {
+            None
+        }
+    }
+
+    // The first ready job of the pool, or of the next tickets.
+    fn next<R: Wait>(
+        &self,
+        lent: &Lent<'_, X, M, R>,
+        pool: &mut Pool<X, M>,
+        seat: &mut Seat<Placed<X, M, K>>,
+    ) -> Option<JobName>
+        requires seat { IsSeated self.now.board.now seat.old }
+        ensures seat { IsSeatedStill seat.old seat.new }
+        ensures due { IfSome result (λ job. IsDue M.rules M.truth job) }
+    {
+        if let Some(job) = self.take_ready(lent, pool) {
+            return Some(job);
+        }
+        for _ in 0..POOL_ROOM {
+            if !pool.can_draw() {
+                break;
+            }
+            if let Some(job) = self.draw(lent, pool, seat) {
+                return Some(job);
+            }
+        }
+        None
+    }
+
+    // A job to do. There is none once the run is over.
+    fn wait_for_job<R: Wait>(
+        &self,
+        rt: &R,
+        lent: &Lent<'_, X, M, R>,
+        seat: &mut Seat<Placed<X, M, K>>,
+    ) -> Option<JobName>
+        requires seat { IsSeated self.now.board.now seat.old }
+        ensures seat { IsSeatedStill seat.old seat.new }
+        ensures due { IfSome result (λ job. IsDue M.rules M.truth job) }
+    {
+        let mut guard = self.pool.lock(rt);
+        if guard.has_waiter() {
+            self.moved.notify_all();
+        }
+        for _ in rt.forever() {
+            let pool = &mut *guard;
+            if pool.is_over() {
+                return None;
+            }
+            if let Some(job) = self.next(lent, pool, seat) {
+                return Some(job);
+            }
+            pool.wait();
+            guard = self.moved.wait(rt, guard);
+            guard.wake();
+        }
+        unreachable!()
+    }
+}
+
+// What each job does, and what comes of its result.
+impl<'a, X: Drop, M: Meaning<X> + Start, K: Output, J: Jobs<X, M, K>> Crew<'a, X, M, K, J> {
+    fn publish<R: Wait>(&self, rt: &R, segment: Segment)
+        requires due { AreDue M.rules M.truth segment }
+    {
+        self.pool.lock(rt).publish(segment);
+    }
+
+    fn take_memory<R: Wait>(&self, rt: &R, frame: u64, layout: Layout) -> Result<(), AllocError> {
+        let next = frame.checked_add(1).ok_or(AllocError)?;
+        self.cells.make_place(self.alloc, next)?;
+        self.cells.make_frame(self.alloc, frame, layout)?;
+        self.pool.lock(rt).make_room()
+    }
+
+    // The head's result says that the run ends.
+    fn end_at_head<R: Wait>(&self, rt: &R, frame: u64, value: X)
+        requires right { M.truth.right (Head frame) value }
+        requires ends { M.rules.parses value ≡ None }
+    {
+        self.cells.finish(JobName::Head { frame }, value);
+        self.publish(rt, Segment::Last { frame });
+    }
+
+    fn do_head<R: Wait>(&self, rt: &R, lent: &Lent<'_, X, M, R>, frame: u64)
+        requires due { IsDue M.rules M.truth (Head frame) }
+    {
+        let value = self.jobs.run(JobName::Head { frame }, lent);
+        let Some(layout) = self.jobs.layout(&value) else {
+            return self.end_at_head(rt, frame, value);
+        };
+        if self.take_memory(rt, frame, layout).is_err() {
+            return self.end_at_head(rt, frame, self.jobs.starved(frame));
+        }
+        self.cells.finish(JobName::Head { frame }, value);
+        self.publish(
+            rt,
+            Segment::Parse {
+                frame,
+                columns: layout.columns,
+            },
+        );
+    }
+
+    // What the close's result publishes.
+    fn built(&self, frame: u64, close: &X) -> Segment
+        requires right { M.truth.right (Close frame) close.now }
+        ensures due { AreDue M.rules M.truth result }
+    {
+        match self.jobs.building(close) {
+            Some(building) => Segment::Build {
+                frame,
+                columns: building.columns,
+                rows: building.rows,
+                shown: building.shown,
+            },
+            None => Segment::Last { frame },
+        }
+    }
+
+    fn do_close<R: Wait>(&self, rt: &R, lent: &Lent<'_, X, M, R>, frame: u64)
+        requires due { IsDue M.rules M.truth (Close frame) }
+    {
+        let value = self.jobs.run(JobName::Close { frame }, lent);
+        let segment = self.built(frame, &value);
+        self.cells.finish(JobName::Close { frame }, value);
+        self.publish(rt, segment);
+    }
+
+    // Takes the outlet where the frame's write comes next. Where it doesn't, the outlet stays.
+    fn take_outlet(&self, seat: &mut Seat<Placed<X, M, K>>, frame: u64) -> Option<K>
+        requires seat { IsSeated self.now.board.now seat.old }
+        ensures some { IfSome result (λ output. (K.taken output ≡ M.taken ++ texts_below M.truth.text frame) × IsAway seat.old seat.new) }
+        ensures none { IfNone result (IsSeatedStill seat.old seat.new) }
+    {
+        let Placed { content, .. } = self.board.take(seat, OUTLET)?;
+        match content {
+            Content::Open(outlet) if outlet.next == frame => Some(outlet.output()),
+            other => {
+                self.board.give(seat, OUTLET, placed(other));
+                None
+            }
+        }
+    }
+
+    fn give_outlet(&self, seat: &mut Seat<Placed<X, M, K>>, content: Content<X, M, K>)
+        requires seat { (seat.old.board ≡ self.now.board.now.board) × (seat.old.view.has ≡ 1 ∷ []) }
+        ensures seat { IsSeatedStill seat.old seat.new }
+    {
+        self.board.give(seat, OUTLET, placed(content));
+    }
+
+    // The run is over.
+    fn end<R: Wait>(&self, rt: &R, seat: &mut Seat<Placed<X, M, K>>, ending: Ending<X>, output: K)
+        requires seat { (seat.old.board ≡ self.now.board.now.board) × (seat.old.view.has ≡ 1 ∷ []) }
+        requires ended { IsEnded M.rules M.truth M.taken ending (K.taken output) }
+        ensures seat { IsSeatedStill seat.old seat.new }
+    {
+        self.give_outlet(seat, Content::Over(Over::new(ending, output)));
+        self.pool.lock(rt).end();
+    }
+
+    fn do_write<R: Wait>(
+        &self,
+        rt: &R,
+        lent: &Lent<'_, X, M, R>,
+        seat: &mut Seat<Placed<X, M, K>>,
+        frame: u64,
+    )
+        requires seat { IsSeated self.now.board.now seat.old }
+        requires due { IsDue M.rules M.truth (Write frame) }
+        ensures seat { IsSeatedStill seat.old seat.new }
+    {
+        let Some(next) = frame.checked_add(1) else {
+            return;
+        };
+        let Some(mut output) = self.take_outlet(seat, frame) else {
+            return;
+        };
+        let value = self.jobs.write(frame, lent, &mut output);
+        if self.jobs.is_refused(&value) {
+            self.end(rt, seat, Ending::Refused { frame, value }, output);
+        } else {
+            self.give_outlet(seat, Content::Open(Outlet::new(next, output)));
+            self.cells.finish(JobName::Write { frame }, value);
+        }
+    }
+
+    fn do_end<R: Wait>(
+        &self,
+        rt: &R,
+        lent: &Lent<'_, X, M, R>,
+        seat: &mut Seat<Placed<X, M, K>>,
+        frame: u64,
+    )
+        requires seat { IsSeated self.now.board.now seat.old }
+        requires due { IsDue M.rules M.truth (End frame) }
+        ensures seat { IsSeatedStill seat.old seat.new }
+    {
+        let Some(output) = self.take_outlet(seat, frame) else {
+            return;
+        };
+        let value = self.jobs.run(JobName::End { frame }, lent);
+        self.end(rt, seat, Ending::Whole { frame, value }, output);
+    }
+
+    fn do_job<R: Wait>(
+        &self,
+        rt: &R,
+        lent: &Lent<'_, X, M, R>,
+        seat: &mut Seat<Placed<X, M, K>>,
+        job: JobName,
+    )
+        requires seat { IsSeated self.now.board.now seat.old }
+        requires due { IsDue M.rules M.truth job }
+        ensures seat { IsSeatedStill seat.old seat.new }
+    {
+        match job {
+            JobName::Head { frame } => self.do_head(rt, lent, frame),
+            JobName::Close { frame } => self.do_close(rt, lent, frame),
+            JobName::Write { frame } => self.do_write(rt, lent, seat, frame),
+            JobName::End { frame } => self.do_end(rt, lent, seat, frame),
+            JobName::Column { .. } | JobName::Rows { .. } | JobName::Filter { .. } => {
+                let value = self.jobs.run(job, lent);
+                self.cells.finish(job, value);
+            }
+        }
+    }
+
+    // Does jobs until the run is over.
+    fn work<R: Wait>(&self, rt: &R, seat: &mut Seat<Placed<X, M, K>>)
+        requires seat { IsSeated self.now.board.now seat.old }
+        ensures seat { IsSeatedStill seat.old seat.new }
+    {
+        let lent = Lent {
+            rt,
+            cells: self.cells,
+        };
+        for _ in rt.forever() {
+            let Some(job) = self.wait_for_job(rt, &lent, seat) else {
+                break;
+            };
+            self.do_job(rt, &lent, seat, job);
+        }
+    }
+
+    // What the run leaves, where it is over.
+    fn take_told(&self, seat: &mut Seat<Placed<X, M, K>>) -> Option<Told<X, K>>
+        requires seat { IsSeated self.now.board.now seat.old }
+        ensures seat { IsSeatedStill seat.old seat.new }
+        ensures told { IfSome result (λ told. IsEnded M.rules M.truth M.taken told.ending (K.taken told.output)) }
+    {
+        let Placed { content, .. } = self.board.take(seat, OUTLET)?;
+        match content {
+            Content::Over(over) => {
+                self.give_outlet(seat, Content::Taken);
+                Some(over.told())
+            }
+            other => {
+                self.give_outlet(seat, other);
+                None
+            }
+        }
+    }
+
+    // Does what is left, and takes what the run leaves.
+    fn finish<R: Wait>(&self, rt: &R, seat: &mut Seat<Placed<X, M, K>>) -> Told<X, K>
+        requires seat { IsSeated self.now.board.now seat.old }
+        ensures seat { IsSeatedStill seat.old seat.new }
+        ensures told { IsEnded M.rules M.truth M.taken result.ending (K.taken result.output) }
+    {
+        for _ in rt.forever() {
+            self.work(rt, seat);
+            if let Some(told) = self.take_told(seat) {
+                return told;
+            }
+        }
+        unreachable!()
+    }
+}
+
+fn make_seats<X: Drop, M: Meaning<X> + Start, K: Output>(
+    alloc: Global,
+    board: &Board<Placed<X, M, K>>,
+    first: &mut Seat<Placed<X, M, K>>,
+    workers: u8,
+) -> Vec<Seat<Placed<X, M, K>>>
+    requires board { first.old.board ≡ board.now.board }
+    requires leads { (first.old.view.leads ≡ true) × (first.old.view.out ≡ 0) × (first.old.view.has ≡ []) }
+    ensures board { first.new.board ≡ board.now.board }
+    ensures leads { (first.new.view.leads ≡ true) × (first.new.view.has ≡ []) }
+    ensures out { first.new.view.out ≡ length result.items }
+    ensures seats { All (λ s. IsSeated board.now s) result.items }
+{
+    let mut seats = Vec::new(alloc);
+    for _ in 0..workers {
+        if seats.reserve(1).is_err() {
+            break;
+        }
+        seats.push_reserved(board.split(first));
+    }
+    seats
+}
+
+fn join_all<X: Drop, M: Meaning<X> + Start, K: Output>(
+    board: &Board<Placed<X, M, K>>,
+    first: &mut Seat<Placed<X, M, K>>,
+    seats: Vec<Seat<Placed<X, M, K>>>,
+)
+    requires board { first.old.board ≡ board.now.board }
+    requires leads { (first.old.view.leads ≡ true) × (first.old.view.has ≡ []) }
+    requires out { first.old.view.out ≡ length seats.items }
+    requires seats { All (λ s. IsSeated board.now s) seats.items }
+    ensures board { first.new.board ≡ board.now.board }
+    ensures leads { (first.new.view.leads ≡ true) × (first.new.view.out ≡ 0) × (first.new.view.has ≡ []) }
+{
+    let mut seats = seats;
+    while let Some(seat) = seats.pop() {
+        board.join(first, seat);
+    }
+}
+
+// Each seat's worker does jobs until the run is over.
+fn work_all<
+    X: Drop + Send + Sync,
+    M: Meaning<X> + Start + Send + Sync,
+    K: Output + Send + Drop,
+    J: Jobs<X, M, K> + Sync,
+    R: Threads + Wait + Sync,
+>(rt: &R, crew: &Crew<'_, X, M, K, J>, seats: &mut [Seat<Placed<X, M, K>>], workers: u8)
+    requires workers { 0 < workers }
+    requires seats { All (λ s. IsSeated crew.now.board.now s) seats.old }
+    ensures seats { All (λ s. IsSeated crew.now.board.now s) seats.new }
+{
+    thread::for_each_mut(
+        rt,
+        seats,
+        usize::from(workers),
+        &|_: usize, seat: &mut Seat<Placed<X, M, K>>|
+            requires { IsSeated crew.now.board.now seat.now }
+            ensures { IsSeated crew.entry.now.board.now seat.exit.now }
+        { crew.work(rt, seat) },
+    );
+}
+
+fn given_back<X: Drop, M: Meaning<X> + Start, K: Output + Drop>(
+    refused: Refused<Placed<X, M, K>>,
+) -> K
+    requires { (o : _) × (refused.outlet.content ≡ Open o) × (o.next ≡ 0) }
+    ensures { K.taken result ≡ M.taken }
+{
+    let Refused { outlet, .. } = refused;
+    let Placed { content, .. } = outlet;
+    let Content::Open(outlet) = content else {
+        unreachable!()
+    };
+    outlet.output()
+}
+
+/// Does the jobs of a run by so many workers, with so many frames at once, and hands the output back: what it has taken, and how the run
+/// ended. With no memory to begin, nothing was done. With none for a seat there are fewer workers.
+pub fn run_jobs<
+    X: Drop + Send + Sync,
+    M: Meaning<X> + Start + Send + Sync,
+    K: Output + Send + Drop,
+    J: Jobs<X, M, K> + Sync,
+    R: Threads + Wait + Sync,
+>(rt: &R, alloc: Global, jobs: &J, output: K, workers: u8, window: u8) -> Result<Told<X, K>, K>
+    requires workers { (1 ≤ workers) × (workers ≤ 64) }
+    requires window { (2 ≤ window) × (window ≤ 16) }
+    requires taken { K.taken output ≡ M.taken }
+    ensures told { IfOk result (λ told. IsEnded M.rules M.truth M.taken told.ending (K.taken told.output)) }
+    ensures refused { IfErr result (λ k. K.taken k ≡ M.taken) }
+{
+    let Ok(cells) = Cells::<X, M>::new(alloc) else {
+        return Err(output);
+    };
+    let Ok(pool) = Pool::<X, M>::new(alloc, POOL_ROOM) else {
+        return Err(output);
+    };
+    let source = Placed {
+        slot: 0,
+        content: Content::Source,
+    };
+    let outlet = placed(Content::Open(Outlet::new(0, output)));
+    let (board, mut first) = match Board::new(alloc, LANES, source, outlet) {
+        Ok(made) => made,
+        Err(refused) => return Err(given_back(refused)),
+    };
+    let pool = Mutex::new(pool);
+    let moved = Condvar::new();
+    let mut seats = make_seats(alloc, &board, &mut first, workers);
+    let crew = Crew {
+        alloc,
+        jobs,
+        cells: &cells,
+        pool: &pool,
+        moved: &moved,
+        board: &board,
+        window,
+    };
+    work_all(rt, &crew, seats.as_mut_slice(), workers);
+    join_all(&board, &mut first, seats);
+    let told = crew.finish(rt, &mut first);
+    board.close(first);
+    Ok(told)
+}

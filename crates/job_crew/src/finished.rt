@@ -1,0 +1,47 @@
+ghost use Rattle.std.specs.Prelude.{◌≡◌, IfSome};
+
+use job_order::Meaning;
+use std::marker::{Model, PhantomData};
+use vp9_types::JobName;
+
+/// A job that is finished, with its result, which is right. Contracts see its name.
+#[derive(Drop)]
+pub(crate) struct Finished<X: Drop, M: Meaning<X>> {
+    job: JobName,
+    value: X,
+    of: PhantomData<M>,
+}
+
+impl<X: Drop, M: Meaning<X>> Model for Finished<X, M> {
+    ghost use Rattle.vp9_types.specs.declared.job.JobName.{JobName as Name};
+
+    ghost Value = { Name };
+
+    ghost view = { λ f. f.job };
+
+    ghost invariant = { λ f. M.truth.right f.job f.value };
+}
+
+impl<X: Drop, M: Meaning<X>> Finished<X, M> {
+    pub(crate) fn new(job: JobName, value: X) -> Finished<X, M>
+        requires { M.truth.right job value }
+        ensures { result ≡ job }
+    {
+        Finished {
+            job,
+            value,
+            of: PhantomData,
+        }
+    }
+
+    /// The result, where it is this job's.
+    pub(crate) fn of(&self, job: JobName) -> Option<&X>
+        ensures { IfSome result (λ x. M.truth.right job x.now) }
+    {
+        if self.job == job {
+            Some(&self.value)
+        } else {
+            None
+        }
+    }
+}

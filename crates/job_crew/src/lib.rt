@@ -1,0 +1,13 @@
+//! A crew of workers that do the jobs of a run, in any order that their needs allow, and write the run's texts in order. What the jobs are about is the caller's.
+#![tactic(auto)]
+
+mod cells;
+mod crew;
+mod finished;
+mod jobs;
+mod outlet;
+mod pool;
+
+pub use crew::run_jobs;
+pub use jobs::{Building, Jobs, Layout, Output, Results, Start};
+pub use outlet::{Ending, Told};
