@@ -52,7 +52,8 @@ fn publish(
 ) -> Result<(), AllocError>
     requires number { frame < 65536 }
     requires frame { store.now.frame ≡ frame }
-    requires index { index < bands_of store.now.shape }
+    requires shape { bands_of store.now.shape ≡ 204 }
+    requires index { index < 204 }
 {
     let band = band_of(alloc, frame, index)?;
     let cell = store.cell(index);
