@@ -1,0 +1,50 @@
+-- Where a tile column lies, as its tiles do.
+use Rattle.std.proofs.Common.{◌≡◌, ◌∙◌, ◌<◌, ◌≤◌, ◌+◌, ◌-◌, ◌*◌, ◌^◌, ℕ, ap, arith}
+use Rattle.std.proofs.Math.Nat.{mod-eq_of_lt}
+use Rattle.block_geometry.specs.declared.transform_blocks.FramePlaces.{FramePlaces}
+use Rattle.frame_headers.specs.declared.tiles.TileInfo.{TileInfo}
+use Rattle.vp9_types.specs.Shapes.{mi_cols}
+use Rattle.vp9_types.specs.Sizes.{superblocks_along}
+use Rattle.frame_headers.specs.Spans.{tile_count}
+use Rattle.frame_headers.specs.State.{shape_of}
+use Rattle.frame_headers.specs.declared.header.Header.{Header}
+use Rattle.frame_setting.specs.declared.setting.FrameSetting.{FrameSetting}
+use Rattle.frame_state.specs.Columns.{IsTileColumn, limit_of}
+use Rattle.frame_state.specs.Tiles.{tile_offset, tile_places}
+use Rattle.frame_state.specs.declared.tile_places.TilePlaces.{TilePlaces}
+use Rattle.frame_state.proofs.TileOffsets.{offset_grows, offset_low}
+use Rattle.tile_syntax.specs.declared.plans.ColumnPlan.{ColumnPlan}
+use Rattle.column_order.specs.Columns.{column_from, column_to}
+
+pub tile_begins : (frame : FramePlaces) (tiles : TileInfo) (k : ℕ) → k < 2 ^ tiles.columns_log2 → (tile_places frame tiles k).col_from ≡ tile_offset frame.cols tiles.columns_log2 k
+unfolding tile_places
+tile_begins frame tiles k low = ap (λ (n : ℕ). tile_offset frame.cols tiles.columns_log2 n) (mod-eq_of_lt low)
+
+pub tile_ends : (frame : FramePlaces) (tiles : TileInfo) (k : ℕ) → k < 2 ^ tiles.columns_log2 → (tile_places frame tiles k).col_to ≡ tile_offset frame.cols tiles.columns_log2 (k + 1)
+unfolding tile_places
+tile_ends frame tiles k low = ap (λ (n : ℕ). tile_offset frame.cols tiles.columns_log2 (n + 1)) (mod-eq_of_lt low)
+
+pub column_begins : (setting : FrameSetting) (k : ℕ) (t : TilePlaces) → t ≡ tile_places setting.places setting.header.params.tiles k → k < 2 ^ setting.header.params.tiles.columns_log2
+    → t.col_from ≡ column_from setting.header k
+column_begins setting k t is low =
+    ap (λ (p : TilePlaces). p.col_from) is ∙ tile_begins setting.places setting.header.params.tiles k low
+    ∙ ap (λ (p : FramePlaces). tile_offset p.cols setting.header.params.tiles.columns_log2 k) setting.whole
+
+pub column_stops : (setting : FrameSetting) (k : ℕ) (t : TilePlaces) → t ≡ tile_places setting.places setting.header.params.tiles k → k < 2 ^ setting.header.params.tiles.columns_log2
+    → t.col_to ≡ column_from setting.header (k + 1)
+column_stops setting k t is low =
+    ap (λ (p : TilePlaces). p.col_to) is ∙ tile_ends setting.places setting.header.params.tiles k low
+    ∙ ap (λ (p : FramePlaces). tile_offset p.cols setting.header.params.tiles.columns_log2 (k + 1)) setting.whole
+
+pub begins_inside : (header : Header) (k : ℕ) → column_from header k ≤ mi_cols (shape_of header)
+begins_inside header k = offset_low (mi_cols (shape_of header)) header.params.tiles.columns_log2 k
+
+pub stops_behind : (header : Header) (k : ℕ) → column_from header k ≤ column_from header (k + 1)
+stops_behind header k = offset_grows (mi_cols (shape_of header)) header.params.tiles.columns_log2 k
+
+pub few_columns : (setting : FrameSetting) → mi_cols (shape_of setting.header) ≤ 8192
+few_columns setting = let wide : setting.header.size.width ≤ 65536 = setting.size.1 in omega (arith, wide)
+
+-- where the plan of a tile column lies
+pub plan_lies : (header : Header) (k : ℕ) (plan : ColumnPlan) → IsTileColumn header (tile_count header) k plan.column → (plan.column.grid.from ≡ column_from header k) × (limit_of plan.column ≡ column_to header k)
+plan_lies header k plan is = (is.from, λ i. is.from i + 8 * superblocks_along (is.to i - is.from i))
