@@ -25,11 +25,7 @@ use tile_syntax::ColumnPlan;
 use vp9_types::{Sample, Samples};
 
 /// The strip of a tile column among those above a row: none above the first one.
-fn strip_above<P: Sample>(
-    strips: &[FramePlanes<P>],
-    row: u32,
-    k: usize,
-) -> Option<&FramePlanes<P>>
+fn strip_above<P: Sample>(strips: &[FramePlanes<P>], row: u32, k: usize) -> Option<&FramePlanes<P>>
     requires { 0 < row → k < length strips.now }
     ensures { option_copied result ≡ strip_above strips.now row k }
 {
@@ -68,7 +64,14 @@ pub fn put_strips<P: RoomSample, S: Samples<Kept = P>>(
     ensures { HoldRow (rebuilding_of S.map by.now) plans.now row own.new }
 {
     for k in 0..plans.len() {
-        rows(&mut own[k], strip_above(above, row, k), by, &plans[k], row, room);
+        rows(
+            &mut own[k],
+            strip_above(above, row, k),
+            by,
+            &plans[k],
+            row,
+            room,
+        );
     }
 }
 

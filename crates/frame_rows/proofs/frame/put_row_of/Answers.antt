@@ -7,10 +7,13 @@ use Rattle.frame_rows.proofs.frame.put_row_of.Goals as goal
 pub put_strips-requires-clause-plans : goal.put_strips-requires-clause-plans
 put_strips-requires-clause-plans g c =
     let parts = c.args.parts.now in
-    let can = c.requires.parts in
-    (parts.by.setting.header, sym can.shape, λ k d low.
-    let p = can.plans.each k d low in record {
-      kept = p.kept;
-      read = rw can.shape (plan_read (sources_of parts.by) (tile_bytes parts.bytes.now can.spans) k p.read _ p.says p.held p.column);
-      served = can.served k d low;
-    })
+    let can = c.requires.parts in (
+      parts.by.setting.header,
+      sym can.shape,
+      λ k d low.
+          let p = can.plans.each k d low in record {
+            kept = p.kept;
+            read = rw can.shape (plan_read (sources_of parts.by) (tile_bytes parts.bytes.now can.spans) k p.read _ p.says p.held p.column);
+            served = can.served k d low;
+          },
+    )
