@@ -1,8 +1,8 @@
--- The 23 rules, their numbers and names.
+-- The 28 rules, their numbers and names. No rule has number 24.
 use Rattle.std.specs.Prelude.{ℕ, List, ◌++◌, codes}
 use Rattle.std.specs.Fmt.{decimal}
 use Rattle.vp9_types.specs.declared.rule.Rule.{Rule}
-use Rattle.vp9_types.specs.declared.rule.Rule.TheVariants.{IvfSignature, IvfHeader, IvfCodec, IvfTruncated, SuperframeSizes, HeaderTruncated, FrameMarker, ReservedBit, SyncCode, ColourConfig, ShowMissing, RefMissing, RefFormat, RefScale, HeaderSizeZero, HeaderSizeLong, BoolEmpty, BoolMarker, TileSize, BlockScale, MvRange, CoefRange, TransformRange}
+use Rattle.vp9_types.specs.declared.rule.Rule.TheVariants.{IvfSignature, IvfHeader, IvfCodec, IvfTruncated, SuperframeSizes, HeaderTruncated, FrameMarker, ReservedBit, SyncCode, ColourConfig, ShowMissing, RefMissing, RefFormat, RefScale, HeaderSizeZero, HeaderSizeLong, BoolEmpty, BoolMarker, TileSize, BlockScale, MvRange, CoefRange, TransformRange, WebmElement, WebmTrack, WebmLacing, WebmEncoding, OutputShape}
 
 abbrev pub rule_number : Rule → ℕ
 rule_number IvfSignature = 1
@@ -28,6 +28,11 @@ rule_number BlockScale = 20
 rule_number MvRange = 21
 rule_number CoefRange = 22
 rule_number TransformRange = 23
+rule_number WebmElement = 25
+rule_number WebmTrack = 26
+rule_number WebmLacing = 27
+rule_number WebmEncoding = 28
+rule_number OutputShape = 29
 
 abbrev pub rule_name : Rule → List ℕ
 rule_name IvfSignature = codes "IvfSignature"
@@ -53,6 +58,11 @@ rule_name BlockScale = codes "BlockScale"
 rule_name MvRange = codes "MvRange"
 rule_name CoefRange = codes "CoefRange"
 rule_name TransformRange = codes "TransformRange"
+rule_name WebmElement = codes "WebmElement"
+rule_name WebmTrack = codes "WebmTrack"
+rule_name WebmLacing = codes "WebmLacing"
+rule_name WebmEncoding = codes "WebmEncoding"
+rule_name OutputShape = codes "OutputShape"
 
 -- as in `rule 2 IvfHeader`
 abbrev pub rule_text : Rule → List ℕ

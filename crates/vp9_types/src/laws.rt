@@ -9,10 +9,12 @@ ghost use Rattle.vp9_types.specs.Syntax.{Syntax};
 ghost use Rattle.vp9_types.specs.Trees.{Tree, IsTreeOf, tree_of, is_tree};
 ghost use Rattle.vp9_types.specs.declared.rule.Rule.{Rule};
 
-/// Each rule has a number from 1 to 23, and each such number has one rule.
+/// Each rule has a number from 1 to 29, and each such number but 24 has one rule.
 pub fn rules_are_numbered()
-    ensures in_range { (rule : Rule) → (1 ≤ rule_number rule) × (rule_number rule ≤ 23) }
+    ensures in_range { (rule : Rule) → (1 ≤ rule_number rule) × (rule_number rule ≤ 29) }
     ensures each { (n : ℕ) → 1 ≤ n → n ≤ 23 → (rule : Rule) × (rule_number rule ≡ n) }
+    ensures later { (n : ℕ) → 25 ≤ n → n ≤ 29 → (rule : Rule) × (rule_number rule ≡ n) }
+    ensures free { (rule : Rule) → rule_number rule ≡ 24 → ⊥ }
     ensures once { (a b : Rule) → rule_number a ≡ rule_number b → a ≡ b }
 {}
 

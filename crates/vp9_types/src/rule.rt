@@ -53,10 +53,20 @@ pub enum Rule {
     CoefRange,
     /// A value in an inverse transform is too large.
     TransformRange,
+    /// An element of a WebM file isn't spelled as one, or reaches past its parent.
+    WebmElement,
+    /// A WebM file has no track of VP9 before its first cluster.
+    WebmTrack,
+    /// A block of a WebM file is laced.
+    WebmLacing,
+    /// The track of a WebM file is encoded once more.
+    WebmEncoding,
+    /// A shown frame has another shape than the first, and the output can't say so.
+    OutputShape,
 }
 
 impl Rule {
-    /// The rule's number, 1 to 23.
+    /// The rule's number, 1 to 23 and 25 to 29.
     pub fn number(self) -> u8
         ensures { result ≡ rule_number self }
     {
@@ -84,6 +94,11 @@ impl Rule {
             Rule::MvRange => 21,
             Rule::CoefRange => 22,
             Rule::TransformRange => 23,
+            Rule::WebmElement => 25,
+            Rule::WebmTrack => 26,
+            Rule::WebmLacing => 27,
+            Rule::WebmEncoding => 28,
+            Rule::OutputShape => 29,
         }
     }
 
@@ -115,6 +130,11 @@ impl Rule {
             Rule::MvRange => "MvRange",
             Rule::CoefRange => "CoefRange",
             Rule::TransformRange => "TransformRange",
+            Rule::WebmElement => "WebmElement",
+            Rule::WebmTrack => "WebmTrack",
+            Rule::WebmLacing => "WebmLacing",
+            Rule::WebmEncoding => "WebmEncoding",
+            Rule::OutputShape => "OutputShape",
         }
     }
 }
