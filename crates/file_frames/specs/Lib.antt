@@ -1,3 +1,4 @@
+pub mod Containers
 pub mod FileFrames
 pub mod Walks
 pub mod Laws
