@@ -2,7 +2,7 @@
 use Rattle.std.proofs.Common.{◌≡◌, ◌∙◌, ℕ, Bool, true, false, List, ap, inl, inr, refl, sym}
 use Rattle.std.specs.Prelude.{if◌then◌else◌}
 use Rattle.ivf_container.specs.Packets.{Packets, IsFile, packets_of}
-use Rattle.webm_container.specs.Webm.{webm_packets}
+use Rattle.webm_container.specs.Walk.{webm_packets}
 use Rattle.file_frames.specs.Containers.{HasPackets, is_webm, packets_of_file}
 
 abbrev packets_if : List ℕ → Bool → Packets

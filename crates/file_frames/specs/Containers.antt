@@ -3,7 +3,7 @@ use Rattle.std.specs.Prelude.{◌≡◌, ◌⊎◌, ℕ, Bool, true, false, List
 use Rattle.std.specs.List.{starts_with}
 use Rattle.vp9_types.specs.declared.rule.Rule.{Rule}
 use Rattle.ivf_container.specs.Packets.{Packets, IsFile, header_end, packets_of, rate_of}
-use Rattle.webm_container.specs.Webm.{webm_packets}
+use Rattle.webm_container.specs.Walk.{webm_packets}
 
 -- it begins with the id of the element EBML
 abbrev pub is_webm : List ℕ → Bool

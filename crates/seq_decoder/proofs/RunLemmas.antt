@@ -14,7 +14,7 @@ use Rattle.file_frames.specs.Containers.{rate_of_file}
 use Rattle.file_frames.specs.FileFrames.{frames_of_file}
 use Rattle.file_frames.specs.Walks.{Added, walk}
 use Rattle.file_frames.proofs.Walks.{goes_by, ends_at, arrives, breaks}
-use Rattle.frame_output.specs.declared.format.Format.{Format}
+use Rattle.frame_output.specs.declared.rendering.Format.{Format}
 use Rattle.seq_decoder.specs.After.{Stepped, step}
 use Rattle.seq_decoder.specs.Code.{put_text, Breaks, Halts}
 use Rattle.seq_decoder.specs.Outcomes.{Completes, WritesFront, Decodes}

@@ -22,7 +22,7 @@ use Rattle.planes.specs.declared.frame_planes.FramePlanes.{FramePlanes}
 use Rattle.planes.specs.declared.picture.Picture.{Picture}
 use Rattle.frame_decoder.specs.Frames.{FrameResult}
 use Rattle.frame_output.specs.Formats.{output_text}
-use Rattle.frame_output.specs.declared.format.Rendering.{Rendering}
+use Rattle.frame_output.specs.declared.rendering.Rendering.{Rendering}
 use Rattle.seq_decoder.specs.declared.coding.Coded.{Coded}
 use Rattle.seq_decoder.specs.After.{shown_picture}
 use Rattle.seq_decoder.specs.Code.{HoldsFrame, Shows, shown_of}

@@ -9,8 +9,8 @@ use Rattle.file_frames.specs.FileFrames.{frames_of_file}
 use Rattle.file_frames.specs.Walks.{Added, Walk, Walked, walk}
 use Rattle.frame_headers.specs.References.{same_bit}
 use Rattle.frame_output.specs.Formats.{output_text}
-use Rattle.frame_output.specs.declared.format.Format.{Format}
-use Rattle.frame_output.specs.declared.format.Format.TheVariants.{Raw, Md5, Y4m}
+use Rattle.frame_output.specs.declared.rendering.Format.{Format}
+use Rattle.frame_output.specs.declared.rendering.Format.TheVariants.{Raw, Md5, Y4m}
 use Rattle.seq_decoder.specs.After.{Stepped, step}
 use Rattle.seq_decoder.specs.State.{Picture, State, start_state}
 use Rattle.seq_decoder.specs.declared.form.OutputForm.{OutputForm}
