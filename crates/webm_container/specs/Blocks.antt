@@ -1,5 +1,5 @@
 -- Blocks of a cluster.
-use Rattle.std.specs.Prelude.{◌≡◌, ℕ, ◌+◌, ◌-◌, ◌^◌, Bool, true, false, not, if◌then◌else◌, nat_eq, nat_lt, nat_le, bit_and, List, slice_index, Option, Some, None, Result, Ok, Err}
+use Rattle.std.specs.Prelude.{ℕ, ◌+◌, ◌-◌, ◌^◌, Bool, false, not, if◌then◌else◌, nat_eq, nat_lt, nat_le, bit_and, List, slice_index, Option, Some, None, Result, Ok, Err}
 use Rattle.vp9_types.specs.Results.{◌>>=◌}
 use Rattle.vp9_types.specs.declared.job.Span.{Span}
 use Rattle.vp9_types.specs.declared.rule.Rule.{Rule}

@@ -1,5 +1,5 @@
 -- The elements of EBML, which WebM is written in. Neither has a part in the VP9 standard: this is the whole of their description here.
-use Rattle.std.specs.Prelude.{◌≡◌, ℕ, ◌+◌, ◌-◌, ◌*◌, ◌%◌, ◌^◌, Bool, true, false, if◌then◌else◌, nat_eq, nat_lt, nat_le, List, slice_index, slice_range, Result, Ok, Err}
+use Rattle.std.specs.Prelude.{ℕ, ◌+◌, ◌-◌, ◌*◌, ◌%◌, ◌^◌, true, false, if◌then◌else◌, nat_eq, nat_lt, nat_le, List, slice_index, slice_range, Result, Ok, Err}
 use Rattle.std.specs.Int.{w8, leading_zeros}
 use Rattle.byteorder.specs.Endian.{big_number}
 use Rattle.vp9_types.specs.Results.{◌>>=◌}

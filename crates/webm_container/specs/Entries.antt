@@ -1,5 +1,5 @@
 -- The entries of tracks, and which of them is chosen.
-use Rattle.std.specs.Prelude.{◌≡◌, ℕ, ◌==◌, ◌&&◌, Bool, true, false, not, if◌then◌else◌, nat_eq, nat_lt, List, length, drop, codes, slice_range, Option, Some, None, is_none, Result, Ok, Err}
+use Rattle.std.specs.Prelude.{ℕ, ◌==◌, ◌&&◌, Bool, true, false, if◌then◌else◌, nat_eq, nat_lt, List, length, drop, codes, slice_range, Option, Some, None, Result, Ok, Err}
 use Rattle.std.specs.List.{starts_with, list_all}
 use Rattle.byteorder.specs.Endian.{big_number}
 use Rattle.vp9_types.specs.declared.rule.Rule.{Rule}

@@ -21,7 +21,12 @@ fn is_of(track: Option<u64>, number: u64) -> bool
 
 /// The payload of a block that lies from `from` to `to`, or nothing if it is of another track.
 #[tactic(auto, unfolding(crate::specs::Blocks::payload_at))]
-pub fn payload_at(bytes: &[u8], track: Option<u64>, from: usize, to: usize) -> Result<Option<Span>, Rule>
+pub fn payload_at(
+    bytes: &[u8],
+    track: Option<u64>,
+    from: usize,
+    to: usize,
+) -> Result<Option<Span>, Rule>
     requires { to ≤ length bytes.now }
     ensures { result ≡ payload_at bytes.now track from to }
 {

@@ -6,23 +6,38 @@ use vp9_types::Rule;
 
 /// The ids of the elements that are looked at, with their markers.
 pub const EBML: u64 = 0x1A45_DFA3;
+
 pub const SEGMENT: u64 = 0x1853_8067;
+
 pub const TRACKS: u64 = 0x1654_AE6B;
+
 pub const TRACK_ENTRY: u64 = 0xAE;
+
 pub const TRACK_NUMBER: u64 = 0xD7;
+
 pub const CODEC_ID: u64 = 0x86;
+
 pub const CONTENT_ENCODINGS: u64 = 0x6D80;
+
 pub const CLUSTER: u64 = 0x1F43_B675;
+
 pub const SIMPLE_BLOCK: u64 = 0xA3;
+
 pub const BLOCK_GROUP: u64 = 0xA0;
+
 pub const BLOCK: u64 = 0xA1;
 
 /// The other children of a Segment, before which a Cluster of unknown size ends.
 pub const CUES: u64 = 0x1C53_BB6B;
+
 pub const TAGS: u64 = 0x1254_C367;
+
 pub const SEEK_HEAD: u64 = 0x114D_9B74;
+
 pub const INFO: u64 = 0x1549_A966;
+
 pub const CHAPTERS: u64 = 0x1043_A770;
+
 pub const ATTACHMENTS: u64 = 0x1941_A469;
 
 /// A number whose first byte says how many bytes it has: with its marker, without it, and where it ends.

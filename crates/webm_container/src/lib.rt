@@ -2,6 +2,9 @@
 #![tactic(auto)]
 
 mod blocks;
+mod cursor;
 mod elements;
 mod entries;
+mod steps;
 
+pub use cursor::{WebmCursor, next_block};
