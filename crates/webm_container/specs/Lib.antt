@@ -1,0 +1,5 @@
+pub mod Elements
+pub mod Entries
+pub mod Blocks
+pub mod Walk
+pub mod Code
