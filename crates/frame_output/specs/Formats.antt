@@ -21,18 +21,18 @@ sampling_name true false = codes "422"
 sampling_name false true = codes "440"
 sampling_name false false = codes "444"
 
--- what follows: the depth where it isn't 8, and at 8 where chroma lies if it is halved both ways
-abbrev pub kind_name : Depth → Bool → Bool → List ℕ
-kind_name Eight ss_x ss_y = if ss_x && ss_y then codes "jpeg" else []
-kind_name Ten ss_x ss_y = codes "p10"
-kind_name Twelve ss_x ss_y = codes "p12"
+-- what is said besides: the depth where it isn't 8, and at 8 where chroma lies if it is halved both ways
+abbrev pub variant_name : Depth → Bool → Bool → List ℕ
+variant_name Eight ss_x ss_y = if ss_x && ss_y then codes "jpeg" else []
+variant_name Ten ss_x ss_y = codes "p10"
+variant_name Twelve ss_x ss_y = codes "p12"
 
 -- the first line of a file of frames of this shape, as in `YUV4MPEG2 W352 H288 F30:1 Ip C420jpeg`
 unfoldable pub header_line : ℕ × ℕ → Shape → List ℕ
 header_line rate shape =
     codes "YUV4MPEG2 W" ++ decimal shape.w ++ codes " H" ++ decimal shape.h
     ++ codes " F" ++ decimal rate.0 ++ codes ":" ++ decimal rate.1
-    ++ codes " Ip C" ++ sampling_name shape.ss_x shape.ss_y ++ kind_name shape.depth shape.ss_x shape.ss_y ++ codes "\n"
+    ++ codes " Ip C" ++ sampling_name shape.ss_x shape.ss_y ++ variant_name shape.depth shape.ss_x shape.ss_y ++ codes "\n"
 
 -- what precedes a frame in such a file
 unfoldable pub frame_head : ℕ × ℕ → Bool → Shape → List ℕ

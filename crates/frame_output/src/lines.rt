@@ -2,7 +2,7 @@
 
 ghost use Rattle.std.specs.Prelude.{◌≡◌, ◌+◌, ◌≤◌, ◌++◌, length, decimal};
 ghost use Rattle.arrayvec.specs.ArrayVec.{array_vec_len};
-ghost use Rattle.frame_output.specs.Formats.{digest_line, frame_head, header_line, kind_name, sampling_name};
+ghost use Rattle.frame_output.specs.Formats.{digest_line, frame_head, header_line, variant_name, sampling_name};
 
 use crate::rendering::Rendering;
 use arrayvec::ArrayVec;
@@ -59,8 +59,8 @@ fn sampling_name(ss_x: bool, ss_y: bool) -> &'static str
     }
 }
 
-fn kind_name(depth: Depth, ss_x: bool, ss_y: bool) -> &'static str
-    ensures name { result.now ≡ kind_name depth ss_x ss_y }
+fn variant_name(depth: Depth, ss_x: bool, ss_y: bool) -> &'static str
+    ensures name { result.now ≡ variant_name depth ss_x ss_y }
     ensures short { length result.now ≤ 4 }
 {
     match depth {
@@ -83,7 +83,10 @@ fn header_line(rate: (u32, u32), shape: &Shape) -> Line
     push_number(&mut line, ":", rate.1);
     push(&mut line, b" Ip C");
     push(&mut line, sampling_name(shape.ss_x, shape.ss_y).as_bytes());
-    push(&mut line, kind_name(shape.depth, shape.ss_x, shape.ss_y).as_bytes());
+    push(
+        &mut line,
+        variant_name(shape.depth, shape.ss_x, shape.ss_y).as_bytes(),
+    );
     push(&mut line, b"\n");
     line
 }
