@@ -1,14 +1,15 @@
 -- What a cursor has ahead of it, by what it finds at its place.
-use Rattle.std.proofs.Common.{◌≡◌, ℕ, ◌+◌, ◌<◌, ◌≤◌, List, [], ◌∷◌, length, get_or, map, drop, ap, sym, arith, ◌∙◌}
-use Rattle.std.specs.Prelude.{Option, Some, None, Ok, Err}
-use Rattle.std.proofs.lemmas.List.{drop_more, drop_all}
+use Rattle.std.proofs.Common.{◌≡◌, ℕ, ◌+◌, ◌-◌, ◌<◌, ◌≤◌, List, [], ◌∷◌, length, get_or, map, drop, ap, sym, arith, ◌∙◌}
+use Rattle.std.specs.Prelude.{Some, Ok, Err}
+use Rattle.std.proofs.lemmas.List.{drop_more, drop_all, length-drop, length-take-le}
 use Rattle.vp9_types.specs.declared.job.Span.{Span}
 use Rattle.vp9_types.specs.declared.rule.Rule.{Rule}
 use Rattle.ivf_container.specs.Packets.{Packets, with_payload}
 use Rattle.superframe_index.specs.Frames.{LieBetween, at_spans, frames_of}
 use Rattle.file_frames.specs.Containers.{packets_of_file}
 use Rattle.file_frames.specs.FileFrames.{joined, split_packets, frames_of_file}
-use Rattle.file_frames.specs.Code.{ahead_from, all_ahead, packets_left, span_bytes, ahead_at}
+use Rattle.file_frames.specs.Code.{ahead_from, all_ahead, span_bytes, ahead_at}
+use Rattle.file_frames.specs.Cursors.{packets_left}
 use Rattle.file_frames.specs.declared.packets.PacketCursor.{PacketCursor}
 
 -- before the first frame
@@ -56,3 +57,10 @@ in_hand bytes cursor payload spans got taken number d low same =
 pub few_between : (from to : ℕ) (spans : List Span) → LieBetween from to spans → from + length spans ≤ to
 few_between from to [] h = omega (arith, h)
 few_between from to (span ∷ spans) h = omega (arith, h.0, h.1, few_between span.to to spans h.2)
+
+-- The number of the next frame stays small: it and those in hand are no more than the bytes that were passed.
+pub few_ahead : (number parts taken old new : ℕ) (bytes : List ℕ) (p : Span) (spans : List Span) → number + (parts - taken) ≤ old → parts ≤ taken → old + (p.to - p.from) < new
+    → p.from ≤ p.to → p.to ≤ length bytes → LieBetween 0 (length (span_bytes bytes p)) spans → number + (length spans - 0) ≤ new
+few_ahead number parts taken old new bytes p spans few all nearer order within lie =
+    let long : length (span_bytes bytes p) ≡ p.to - p.from = length-take-le (p.to - p.from) (drop p.from bytes) (omega (arith, within, length-drop p.from bytes)) in
+    omega (arith, few, all, nearer, order, within, few_between 0 (length (span_bytes bytes p)) spans lie, long)

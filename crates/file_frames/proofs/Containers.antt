@@ -5,7 +5,7 @@ use Rattle.ivf_container.specs.Packets.{Packets, IsFile, packets_of}
 use Rattle.webm_container.specs.Walk.{webm_packets}
 use Rattle.file_frames.specs.Containers.{HasPackets, is_webm, packets_of_file}
 
-abbrev packets_if : List ℕ → Bool → Packets
+abbrev pub packets_if : List ℕ → Bool → Packets
 packets_if bytes webm = if webm then webm_packets bytes else packets_of bytes
 
 has_by : (bytes : List ℕ) (webm : Bool) → is_webm bytes ≡ webm → IsFile bytes (packets_of bytes) → HasPackets bytes (packets_if bytes webm)

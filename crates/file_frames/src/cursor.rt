@@ -1,7 +1,8 @@
 ghost use Rattle.std.specs.Prelude.{◌≡◌, ◌≤◌, ◌+◌, ◌-◌, length};
 ghost use Rattle.std.specs.List.{All};
 ghost use Rattle.superframe_index.specs.Frames.{IsPart};
-ghost use Rattle.file_frames.specs.Code.{FitsFile, place_of};
+ghost use Rattle.file_frames.specs.Props.{fits_file_prop};
+ghost use Rattle.file_frames.specs.Cursors.{FitsFile, place_of};
 
 use crate::packets::PacketCursor;
 use superframe_index::{Parts, split};
@@ -24,7 +25,7 @@ pub struct FrameCursor<'a> {
     parts: Parts,
     taken: usize,
     number: u64,
-    ghost within: { FitsFile bytes.now packets },
+    ghost within: { FitsFile bytes.now packets } by { fits_file_prop bytes.now packets },
     ghost placed_in: { place_of packets ≤ length bytes.now },
     ghost parted: { length parts.items ≤ 8 },
     ghost placed: { All (IsPart payload.now) parts.items },

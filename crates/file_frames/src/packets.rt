@@ -3,7 +3,7 @@
 ghost use Rattle.std.specs.Prelude.{◌≡◌, ◌≤◌, length};
 ghost use Rattle.ivf_container.specs.Packets.{rate_of};
 ghost use Rattle.webm_container.specs.Code.{blocks_ahead};
-ghost use Rattle.file_frames.specs.Code.{FitsFile, IsNextPacket, packets_left};
+ghost use Rattle.file_frames.specs.Cursors.{FitsFile, IsNextPacket, packets_left, place_of};
 ghost use Rattle.file_frames.specs.Containers.{is_webm, packets_of_file, rate_of_file};
 
 use ivf_container::{next_packet, rate, read_header};
@@ -75,6 +75,7 @@ impl PacketCursor {
     /// Before the first packet.
     pub fn new(bytes: &[u8]) -> PacketCursor
         ensures left { packets_left bytes.now result ≡ packets_of_file bytes.now }
+        ensures placed { place_of result ≤ length bytes.now }
         ensures fits { FitsFile bytes.now result }
     {
         if is_webm(bytes) {

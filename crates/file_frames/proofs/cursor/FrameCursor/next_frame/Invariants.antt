@@ -1,5 +1,6 @@
 use Rattle.std.proofs.Common.{◌≡◌, ◌-◌, length}
-use Rattle.file_frames.specs.Code.{ahead, place_of}
+use Rattle.file_frames.specs.Code.{ahead}
+use Rattle.file_frames.specs.Cursors.{place_of}
 use Rattle.file_frames.proofs.cursor.FrameCursor.next_frame.Given as goal
 
 abbrev pub invariant-payloads : goal.invariant-payloads
