@@ -5,6 +5,8 @@ mod blocks;
 mod cursor;
 mod elements;
 mod entries;
+mod laws;
 mod steps;
 
 pub use cursor::{WebmCursor, next_block};
+pub use laws::files_have_these_packets;

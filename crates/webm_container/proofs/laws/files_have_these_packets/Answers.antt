@@ -1,0 +1,4 @@
+use Rattle.webm_container.proofs.laws.files_have_these_packets.Goals as goal
+
+pub returns : goal.returns
+returns c = ?
