@@ -29,7 +29,7 @@ use Rattle.frame_state.specs.declared.halt.Halt.{Halt}
 use Rattle.frame_state.specs.declared.halt.Halt.TheVariants as halt
 use Rattle.seq_decoder.specs.After.{Stepped, after_coded, picture_of, shown_picture, state_after}
 use Rattle.seq_decoder.specs.SavedContexts.{context_at, own_contexts, place_of, saved_before, with_own, saved_after}
-use Rattle.seq_decoder.specs.Code.{StandsFor, shape_told, put_text, shown_of, told_picture, IsAt, IsCoded, Shows, Halts, Puts, halt_outcome, refusal_outcome}
+use Rattle.seq_decoder.specs.Code.{StandsFor, shape_told, put_text, shown_of, told_picture, HasBegun, IsAt, IsCoded, MayDecode, Shows, Halts, Puts, halt_outcome, refusal_outcome}
 use Rattle.seq_decoder.specs.Outputs.{Putting, admits, form_after, put, shown_text}
 use Rattle.seq_decoder.specs.declared.form.OutputForm.{OutputForm}
 use Rattle.seq_decoder.specs.Outcomes.{outcome_at}
@@ -167,7 +167,7 @@ named_there count [] n place all is = absurd cc
 named_there count (s ∷ slots) zero place all is = subst (IsBelow count) is (All-head (IsBelow count) s slots all)
 named_there count (s ∷ slots) (suc n) place all is = named_there count slots n place (All-tail (IsBelow count) s slots all) is
 
-got_there : (pictures : List AnyPicture) (place : ℕ) (d : AnyPicture) → place < length pictures → slice_get pictures place ≡ Some (get_or pictures place d)
+pub got_there : (pictures : List AnyPicture) (place : ℕ) (d : AnyPicture) → place < length pictures → slice_get pictures place ≡ Some (get_or pictures place d)
 got_there [] place d low = absurd (omega (arith, low))
 got_there (p ∷ pictures) zero d low = refl
 got_there (p ∷ pictures) (suc place) d low = got_there pictures place d (omega (arith, low))
@@ -194,3 +194,26 @@ slot_sound t n (Some place) h is = named_sound t.pictures.items t.slots n place 
 pub slot_shows : (d : Decoder) (state : State) (n : ℕ) (place : Option ℕ) → StandsFor d state → place ≡ get_or d.table.slots n None
     → held_in d.table.pictures.items place ≡ shown_of (get_or state.slots n None)
 slot_shows d state n place stands is = ap (held_in d.table.pictures.items) is ∙ slot_told state.slots d.table.slots d.table.pictures.items n stands.slots
+
+---- A frame that is put changes nothing but how the next one is ----
+
+pub may_put : (d after : Decoder) (size : FrameSize) → after ≡ record d { form = after.form; text = after.text } → MayDecode (record d { persist = record d.persist { size = Some size } })
+    → MayDecode (record after { persist = record after.persist { size = Some size } })
+may_put d after size same h =
+    subst (λ (x : Decoder). MayDecode (record x { persist = record x.persist { size = Some size } })) (sym same)
+    (record { sized = h.sized; table_is = h.table_is; shapes = h.shapes; few = h.few; places = h.places })
+
+pub may_shown : (d after : Decoder) → after ≡ record d { form = after.form; text = after.text } → MayDecode d → MayDecode after
+may_shown d after same h =
+    subst (λ (x : Decoder). MayDecode x) (sym same) (record { sized = h.sized; table_is = h.table_is; shapes = h.shapes; few = h.few; places = h.places })
+
+pub begun_put : (header : Header) (d after : Decoder) (state : State) → after ≡ record d { form = after.form; text = after.text } → HasBegun header d state → HasBegun header after state
+begun_put header d after state same h =
+    subst (λ (x : Decoder). HasBegun header x state) (sym same) (record { persist = h.persist; contexts = h.contexts; slots = h.slots; segments = h.segments; last = h.last })
+
+pub stands_put : (d after : Decoder) (state : State) → after ≡ record d { form = after.form; text = after.text } → StandsFor d state → StandsFor after state
+stands_put d after state same h =
+    subst (λ (x : Decoder). StandsFor x state) (sym same) (record { persist = h.persist; contexts = h.contexts; slots = h.slots; segments = h.segments; last = h.last })
+
+pub at_put : (header : Header) (d after : Decoder) (c : Coded) (r : FrameResult) → after ≡ record d { form = after.form; text = after.text } → IsAt header d.table c r → IsAt header after.table c r
+at_put header d after c r same h = subst (λ (x : Decoder). IsAt header x.table c r) (sym same) h
