@@ -6,14 +6,15 @@ use Rattle.std.proofs.lemmas.Bool.{lt-leb, le-leb}
 use Rattle.vp9_types.specs.Results.{◌>>=◌}
 use Rattle.vp9_types.specs.declared.rule.Rule.{Rule}
 use Rattle.ivf_container.specs.Packets.{with_payloads}
-use Rattle.webm_container.specs.Walk.{moved, is_top_level, in_cluster, cluster_step, in_group, group_step, block_step, go_on, packets_from}
+use Rattle.webm_container.specs.Walk.{moved, in_cluster, cluster_step, in_group, group_step, block_step, go_on, packets_from}
 use Rattle.webm_container.specs.Webm as webm
 use Rattle.webm_container.specs.Webm.{Head, head_bytes, id_of, IsHead, Other, other_bytes, IsOther, Block, block_bytes, InGroup, group_element, group_bytes, IsInGroup, group_payloads, InCluster, cluster_element, cluster_bytes, IsInCluster, cluster_payloads}
 use Rattle.webm_container.specs.declared.cursor.Cluster.{Cluster}
 use Rattle.webm_container.specs.declared.cursor.Parent.TheVariants as parent
 use Rattle.webm_container.specs.declared.cursor.WebmCursor.{WebmCursor}
 use Rattle.webm_container.specs.declared.elements.Element.{Element}
-use Rattle.webm_container.specs.declared.elements.TheConstants as the
+use Rattle.webm_container.specs.Ids as the
+use Rattle.webm_container.specs.Ids.{is_top_level}
 use Rattle.webm_container.proofs.Walks.{next_from}
 use Rattle.webm_container.proofs.Spelled.{if_false, if_true, differs, agrees, element_of, element_there, known_there, content_there, head_long}
 use Rattle.webm_container.proofs.Moves.{moves, over_all, block_goes}
@@ -49,11 +50,11 @@ module _ (bytes : List ℕ) (track segment : ℕ) (cluster : Cluster) (inside : 
   over_one_in_group to outer (webm.group_block head b) at rest h from here room =
       next_from bytes (in_group_at to at) (omega arith, outer, inside, fits)
       ∙ ap (go_on bytes (packets_from bytes)) (group_reads to at head (block_bytes b) rest here h.0 room
-      ∙ if_true (nat_eq (id_of head) the.BLOCK) _ _ (agrees _ _ h.1))
+      ∙ if_true (nat_eq (id_of head) the.block) _ _ (agrees _ _ h.1))
       ∙ block_goes bytes rest track b (in_group_at to at) (known_of head (block_bytes b) at to) refl (content_there bytes (block_bytes b) rest head at here) (content_end head (block_bytes b) at) h.2
   over_one_in_group to outer (webm.other_in_group e) at rest h from here room =
       moves bytes (in_group_at to at) (in_group_at to (at + length (other_bytes e))) (omega arith, outer, inside, fits)
-      (group_reads to at e.head e.content rest here h.0 room ∙ if_false (nat_eq (id_of e.head) the.BLOCK) _ _ (differs _ _ h.1))
+      (group_reads to at e.head e.content rest here h.0 room ∙ if_false (nat_eq (id_of e.head) the.block) _ _ (differs _ _ h.1))
 
   -- at its end
   group_ends : (to : ℕ) → to ≤ cluster.to → packets_from bytes (in_group_at to to) ≡ packets_from bytes (in_cluster_at to)
@@ -69,8 +70,8 @@ module _ (bytes : List ℕ) (track segment : ℕ) (cluster : Cluster) (inside : 
   cluster_reads : (at : ℕ) (head : Head) (content rest : List ℕ) → drop at bytes ≡ (head_bytes head ++ content) ++ rest → IsHead false (length content) head → at + length (head_bytes head ++ content) ≤ cluster.to
       → (cluster.unknown ≡ true → is_top_level (id_of head) ≡ false)
       → cluster_step bytes (in_cluster_at at) cluster
-      ≡ (if nat_eq (id_of head) the.SIMPLE_BLOCK then block_step bytes (in_cluster_at at) (known_of head content at cluster.to)
-      else (if nat_eq (id_of head) the.BLOCK_GROUP then moved (in_cluster_at at) (at + length (head_bytes head)) (parent.Group cluster (at + length (head_bytes head ++ content)))
+      ≡ (if nat_eq (id_of head) the.simple_block then block_step bytes (in_cluster_at at) (known_of head content at cluster.to)
+      else (if nat_eq (id_of head) the.block_group then moved (in_cluster_at at) (at + length (head_bytes head)) (parent.Group cluster (at + length (head_bytes head ++ content)))
       else moved (in_cluster_at at) (at + length (head_bytes head ++ content)) (parent.Cluster cluster)))
   unfolding cluster_step
   cluster_reads at head content rest here h room low =
@@ -83,7 +84,7 @@ module _ (bytes : List ℕ) (track segment : ℕ) (cluster : Cluster) (inside : 
   over_one_in_cluster (webm.simple_block head b) at rest h from here room =
       next_from bytes (in_cluster_at at) (omega arith, inside, fits)
       ∙ ap (go_on bytes (packets_from bytes)) (cluster_reads at head (block_bytes b) rest here h.0 room (λ _. ap is_top_level h.1)
-      ∙ if_true (nat_eq (id_of head) the.SIMPLE_BLOCK) _ _ (agrees _ _ h.1))
+      ∙ if_true (nat_eq (id_of head) the.simple_block) _ _ (agrees _ _ h.1))
       ∙ block_goes bytes rest track b (in_cluster_at at) (known_of head (block_bytes b) at cluster.to) refl (content_there bytes (block_bytes b) rest head at here) (content_end head (block_bytes b) at) h.2
   over_one_in_cluster (webm.block_group head items) at rest h from here room =
       let content = group_bytes items in
@@ -92,16 +93,16 @@ module _ (bytes : List ℕ) (track segment : ℕ) (cluster : Cluster) (inside : 
       let end : to ≡ inner + length content = content_end head content at in
       moves bytes (in_cluster_at at) (in_group_at to inner) (omega arith, inside, fits)
       (cluster_reads at head content rest here h.0 room (λ _. ap is_top_level h.1)
-      ∙ if_false (nat_eq (id_of head) the.SIMPLE_BLOCK) _ _ (ap (λ id. nat_eq id the.SIMPLE_BLOCK) h.1)
-      ∙ if_true (nat_eq (id_of head) the.BLOCK_GROUP) _ _ (agrees _ _ h.1))
+      ∙ if_false (nat_eq (id_of head) the.simple_block) _ _ (ap (λ id. nat_eq id the.simple_block) h.1)
+      ∙ if_true (nat_eq (id_of head) the.block_group) _ _ (agrees _ _ h.1))
       ∙ over_all bytes group_element (group_payloads track) (in_group_at to) 0 to (IsInGroup track) (over_one_in_group to room) items inner rest h.2 (omega arith) (content_there bytes content rest head at here) (omega (arith, end))
       ∙ ap (λ k. with_payloads (flat_map (group_payloads track) items) (packets_from bytes (in_group_at to k))) (sym end)
       ∙ ap (with_payloads (flat_map (group_payloads track) items)) (group_ends to room)
   over_one_in_cluster (webm.other_in_cluster e) at rest h from here room =
       moves bytes (in_cluster_at at) (in_cluster_at (at + length (other_bytes e))) (omega arith, inside, fits)
       (cluster_reads at e.head e.content rest here h.0 room h.3
-      ∙ if_false (nat_eq (id_of e.head) the.SIMPLE_BLOCK) _ _ (differs _ _ h.1)
-      ∙ if_false (nat_eq (id_of e.head) the.BLOCK_GROUP) _ _ (differs _ _ h.2))
+      ∙ if_false (nat_eq (id_of e.head) the.simple_block) _ _ (differs _ _ h.1)
+      ∙ if_false (nat_eq (id_of e.head) the.block_group) _ _ (differs _ _ h.2))
 
   pub over_cluster : (items : List InCluster) (at : ℕ) (rest : List ℕ) → AllByRecursion (IsInCluster cluster.unknown track) items → drop at bytes ≡ cluster_bytes items ++ rest → at + length (cluster_bytes items) ≤ cluster.to
       → packets_from bytes (in_cluster_at at) ≡ with_payloads (flat_map (cluster_payloads track) items) (packets_from bytes (in_cluster_at (at + length (cluster_bytes items))))

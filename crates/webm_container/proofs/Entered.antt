@@ -13,7 +13,7 @@ use Rattle.webm_container.specs.Webm.{Head, head_bytes, id_of, IsHead, Other, ot
 use Rattle.webm_container.specs.declared.cursor.Parent.TheVariants as parent
 use Rattle.webm_container.specs.declared.cursor.WebmCursor.{WebmCursor}
 use Rattle.webm_container.specs.declared.elements.Element.{Element}
-use Rattle.webm_container.specs.declared.elements.TheConstants as the
+use Rattle.webm_container.specs.Ids as the
 use Rattle.webm_container.specs.declared.entries.TrackEntry.{TrackEntry}
 use Rattle.webm_container.specs.declared.entries.TrackNumber.{TrackNumber}
 use Rattle.webm_container.specs.declared.entries.TrackNumber.TheVariants.{Is}
@@ -34,7 +34,7 @@ noted_by codec number encodings entry content =
     else entry))
 
 abbrev note : TrackEntry → ℕ → List ℕ → TrackEntry
-note entry id content = noted_by (nat_eq id the.CODEC_ID) (nat_eq id the.TRACK_NUMBER) (nat_eq id the.CONTENT_ENCODINGS) entry content
+note entry id content = noted_by (nat_eq id the.codec_id) (nat_eq id the.track_number) (nat_eq id the.content_encodings) entry content
 
 abbrev notes : TrackEntry → List Other → TrackEntry
 notes entry [] = entry
@@ -71,10 +71,10 @@ encoded_step true number encodings entry content none = refl
 encoded_step false true encodings entry content none = refl
 encoded_step false false encodings entry content none = ap (λ b. (noted_by false false b entry content).encoded) none
 
-no_number : (id : ℕ) → nat_eq id the.CODEC_ID ≡ true → nat_eq id the.TRACK_NUMBER ≡ false
-no_number id is = ap (λ k. nat_eq k the.TRACK_NUMBER) (eqb-true id the.CODEC_ID is)
+no_number : (id : ℕ) → nat_eq id the.codec_id ≡ true → nat_eq id the.track_number ≡ false
+no_number id is = ap (λ k. nat_eq k the.track_number) (eqb-true id the.codec_id is)
 
-codec_said : (elements : List Other) (entry : TrackEntry) → (notes entry elements).is_vp9 ≡ or_else entry.is_vp9 (mapped is_vp9 (first_content the.CODEC_ID elements))
+codec_said : (elements : List Other) (entry : TrackEntry) → (notes entry elements).is_vp9 ≡ or_else entry.is_vp9 (mapped is_vp9 (first_content the.codec_id elements))
 codec_said [] entry = sym (none_more entry.is_vp9) where
   none_more : (said : Option Bool) → or_else said None ≡ said
   none_more None = refl
@@ -82,9 +82,9 @@ codec_said [] entry = sym (none_more entry.is_vp9) where
 codec_said (e ∷ more) entry =
     let id = id_of e.head in
     codec_said more (note entry id e.content)
-    ∙ codec_step (nat_eq id the.CODEC_ID) (nat_eq id the.TRACK_NUMBER) (nat_eq id the.CONTENT_ENCODINGS) entry e.content (first_content the.CODEC_ID more)
+    ∙ codec_step (nat_eq id the.codec_id) (nat_eq id the.track_number) (nat_eq id the.content_encodings) entry e.content (first_content the.codec_id more)
 
-number_said : (elements : List Other) (entry : TrackEntry) → (notes entry elements).number ≡ or_else entry.number (mapped number_in (first_content the.TRACK_NUMBER elements))
+number_said : (elements : List Other) (entry : TrackEntry) → (notes entry elements).number ≡ or_else entry.number (mapped number_in (first_content the.track_number elements))
 number_said [] entry = sym (none_more entry.number) where
   none_more : (said : Option TrackNumber) → or_else said None ≡ said
   none_more None = refl
@@ -92,14 +92,14 @@ number_said [] entry = sym (none_more entry.number) where
 number_said (e ∷ more) entry =
     let id = id_of e.head in
     number_said more (note entry id e.content)
-    ∙ number_step (nat_eq id the.CODEC_ID) (nat_eq id the.TRACK_NUMBER) (nat_eq id the.CONTENT_ENCODINGS) entry e.content (first_content the.TRACK_NUMBER more) (no_number id)
+    ∙ number_step (nat_eq id the.codec_id) (nat_eq id the.track_number) (nat_eq id the.content_encodings) entry e.content (first_content the.track_number more) (no_number id)
 
 encoded_said : (elements : List Other) (entry : TrackEntry) → IsNotEncoded elements → (notes entry elements).encoded ≡ entry.encoded
 encoded_said [] entry none = refl
 encoded_said (e ∷ more) entry none =
     let id = id_of e.head in
     encoded_said more (note entry id e.content) none.1
-    ∙ encoded_step (nat_eq id the.CODEC_ID) (nat_eq id the.TRACK_NUMBER) (nat_eq id the.CONTENT_ENCODINGS) entry e.content (differs id the.CONTENT_ENCODINGS none.0)
+    ∙ encoded_step (nat_eq id the.codec_id) (nat_eq id the.track_number) (nat_eq id the.content_encodings) entry e.content (differs id the.content_encodings none.0)
 
 abbrev Track : Type 0
 Track = Result (Option ℕ) Rule
@@ -130,15 +130,15 @@ is_chosen (Some track) elements after h = ap ok_track (sym h)
 is_chosen None elements after (inl h) =
     let entry = notes new_entry elements in
     ap (λ said. chosen_by said (usable entry.number entry.encoded)) (codec_said elements new_entry)
-    ∙ not_vp9 (first_content the.CODEC_ID elements) (usable entry.number entry.encoded) h.0
+    ∙ not_vp9 (first_content the.codec_id elements) (usable entry.number entry.encoded) h.0
     ∙ ap ok_track (sym h.1)
 is_chosen None elements after (inr h) =
     let entry = notes new_entry elements in
     ap (λ said. chosen_by said (usable entry.number entry.encoded)) (codec_said elements new_entry)
-    ∙ is_vp9_entry (first_content the.CODEC_ID elements) (usable entry.number entry.encoded) h.1
+    ∙ is_vp9_entry (first_content the.codec_id elements) (usable entry.number entry.encoded) h.1
     ∙ ap (λ n. usable n entry.encoded) (number_said elements new_entry)
-    ∙ ap (usable (mapped number_in (first_content the.TRACK_NUMBER elements))) (encoded_said elements new_entry h.3)
-    ∙ can_use (first_content the.TRACK_NUMBER elements) h.0 h.2
+    ∙ ap (usable (mapped number_in (first_content the.track_number elements))) (encoded_said elements new_entry h.3)
+    ∙ can_use (first_content the.track_number elements) h.0 h.2
     ∙ ap ok_track (sym h.4)
 
 ---- The walk ----
@@ -218,7 +218,7 @@ module _ (bytes : List ℕ) (segment : ℕ) (fits : segment ≤ length bytes) wh
       let next = are.3.0 in
       let to_there : end + length behind ≡ at + length (spelled ++ behind) = omega (arith, long) in
       moves bytes (in_tracks_at to before at) (in_entry_at to end before new_entry inner) (omega arith, outer, fits)
-      (tracks_reads to at before head content (behind ++ rest) first are.0 room_here ∙ if_true (nat_eq (id_of head) the.TRACK_ENTRY) _ _ (agrees _ _ are.1))
+      (tracks_reads to at before head content (behind ++ rest) first are.0 room_here ∙ if_true (nat_eq (id_of head) the.track_entry) _ _ (agrees _ _ are.1))
       ∙ over_entry to end room_here outer before elements new_entry inner (behind ++ rest) are.2 (content_there bytes content (behind ++ rest) head at first) (omega (arith, ends))
       ∙ ap (λ k. packets_from bytes (in_entry_at to end before (notes new_entry elements) k)) (sym ends)
       ∙ entry_ends to end room_here outer before next elements are.3.1
@@ -233,6 +233,6 @@ module _ (bytes : List ℕ) (segment : ℕ) (fits : segment ≤ length bytes) wh
       let room_here : end ≤ to = omega (arith, long) in
       let to_there : end + length behind ≡ at + length (spelled ++ behind) = omega (arith, long) in
       moves bytes (in_tracks_at to before at) (in_tracks_at to before end) (omega arith, outer, fits)
-      (tracks_reads to at before e.head e.content (behind ++ rest) first are.0 room_here ∙ if_false (nat_eq (id_of e.head) the.TRACK_ENTRY) _ _ (differs _ _ are.1))
+      (tracks_reads to at before e.head e.content (behind ++ rest) first are.0 room_here ∙ if_false (nat_eq (id_of e.head) the.track_entry) _ _ (differs _ _ are.1))
       ∙ over_tracks to outer more before last end rest are.2 (after bytes spelled (behind ++ rest) at first) (omega (arith, long))
       ∙ ap (λ k. packets_from bytes (in_tracks_at to last k)) to_there

@@ -6,14 +6,15 @@ use Rattle.std.proofs.lemmas.Bool.{le-leb}
 use Rattle.vp9_types.specs.Results.{◌>>=◌}
 use Rattle.vp9_types.specs.declared.rule.Rule.{Rule}
 use Rattle.ivf_container.specs.Packets.{Packets, no_packets, with_payloads}
-use Rattle.webm_container.specs.Walk.{in_file, file_step, in_segment, segment_step, tracks_step, is_top_level, in_cluster, cluster_step, go_on, packets_from, at_start, webm_packets}
+use Rattle.webm_container.specs.Walk.{in_file, file_step, in_segment, segment_step, tracks_step, in_cluster, cluster_step, go_on, packets_from, at_start, webm_packets}
 use Rattle.webm_container.specs.Webm as webm
 use Rattle.webm_container.specs.Webm.{Head, head_bytes, id_of, IsHead, Other, other_bytes, others_bytes, IsOther, InTracks, tracks_bytes, InCluster, cluster_bytes, IsInCluster, cluster_payloads, InSegment, segment_element, segment_bytes, EndsCluster, AreInSegment, WebmFile, file_bytes, HasPayloads, IsWebmFile}
 use Rattle.webm_container.specs.declared.cursor.Cluster.{Cluster}
 use Rattle.webm_container.specs.declared.cursor.Parent.TheVariants as parent
 use Rattle.webm_container.specs.declared.cursor.WebmCursor.{WebmCursor}
 use Rattle.webm_container.specs.declared.elements.Element.{Element}
-use Rattle.webm_container.specs.declared.elements.TheConstants as the
+use Rattle.webm_container.specs.Ids as the
+use Rattle.webm_container.specs.Ids.{is_top_level}
 use Rattle.webm_container.proofs.Walks.{next_from}
 use Rattle.webm_container.proofs.Spelled.{if_false, if_true, differs, agrees, after, end_of, element_of, element_there, content_there, head_long}
 use Rattle.webm_container.proofs.Moves.{moves, over_all}
@@ -118,8 +119,8 @@ module _ (bytes : List ℕ) (segment : ℕ) (fits : segment ≤ length bytes) wh
       let next = are.2.0 in
       moves bytes (in_segment_at before at) (record { at = inner; segment = segment; parent = parent.Tracks end; track = before }) (omega (arith, inside), fits)
       (segment_reads false before at head content (behind ++ rest) first are.0 inside
-      ∙ if_false (nat_eq (id_of head) the.CLUSTER) _ _ (ap (λ id. nat_eq id the.CLUSTER) are.1)
-      ∙ if_true (nat_eq (id_of head) the.TRACKS) _ _ (agrees _ _ are.1))
+      ∙ if_false (nat_eq (id_of head) the.cluster) _ _ (ap (λ id. nat_eq id the.cluster) are.1)
+      ∙ if_true (nat_eq (id_of head) the.tracks) _ _ (agrees _ _ are.1))
       ∙ over_tracks bytes segment fits end inside items before next inner (behind ++ rest) are.2.1 (content_there bytes content (behind ++ rest) head at first) (omega (arith, ends))
       ∙ ap (λ k. packets_from bytes (record { at = k; segment = segment; parent = parent.Tracks end; track = next })) (sym ends)
       ∙ tracks_end end next inside
@@ -142,7 +143,7 @@ module _ (bytes : List ℕ) (segment : ℕ) (fits : segment ≤ length bytes) wh
       let there = after bytes spelled (behind ++ rest) at first in
       ap (λ t. packets_from bytes (in_segment_at t at)) are.3.2
       ∙ moves bytes (in_segment_at (Some track) at) (in_cluster_at unknown to track inner) (omega (arith, inside), fits)
-      (segment_reads unknown (Some track) at head content (behind ++ rest) first are.0 inside ∙ if_true (nat_eq (id_of head) the.CLUSTER) _ _ (agrees _ _ are.1))
+      (segment_reads unknown (Some track) at head content (behind ++ rest) first are.0 inside ∙ if_true (nat_eq (id_of head) the.cluster) _ _ (agrees _ _ are.1))
       ∙ over_cluster bytes track segment (record { to = to; unknown = unknown }) low.1 fits items inner (behind ++ rest) are.3.3 (content_there bytes content (behind ++ rest) head at first) (omega (arith, ends, low.0))
       ∙ ap (λ k. with_payloads pays (packets_from bytes (in_cluster_at unknown to track k))) (sym ends)
       ∙ ap (with_payloads pays) (cluster_ends unknown before track end more others rest are.2 are.3.5 there (omega (arith, long, room))
@@ -158,8 +159,8 @@ module _ (bytes : List ℕ) (segment : ℕ) (fits : segment ≤ length bytes) wh
       let inside : end ≤ segment = omega (arith, long, room) in
       moves bytes (in_segment_at before at) (in_segment_at before end) (omega (arith, inside), fits)
       (segment_reads false before at e.head e.content (behind ++ rest) first are.0 inside
-      ∙ if_false (nat_eq (id_of e.head) the.CLUSTER) _ _ (differs _ _ are.2)
-      ∙ if_false (nat_eq (id_of e.head) the.TRACKS) _ _ (differs _ _ are.1))
+      ∙ if_false (nat_eq (id_of e.head) the.cluster) _ _ (differs _ _ are.2)
+      ∙ if_false (nat_eq (id_of e.head) the.tracks) _ _ (differs _ _ are.1))
       ∙ over_segment more before payloads end rest are.3 (after bytes spelled (behind ++ rest) at first) (omega (arith, long, room))
 
 ---- Before the Segment ----
@@ -185,33 +186,33 @@ module _ (bytes : List ℕ) where
   not_first : (at : ℕ) (b : Bool) → 1 ≤ at → (nat_eq at 0 && b) ≡ false
   not_first at b low = ap (λ t. t && b) (differs at 0 (λ e. omega (arith, e)))
 
-  over_ebml : (e : Other) (rest : List ℕ) → bytes ≡ other_bytes e ++ rest → IsOther e → id_of e.head ≡ the.EBML → packets_from bytes at_start ≡ packets_from bytes (in_file_at (length (other_bytes e)))
+  over_ebml : (e : Other) (rest : List ℕ) → bytes ≡ other_bytes e ++ rest → IsOther e → id_of e.head ≡ the.ebml → packets_from bytes at_start ≡ packets_from bytes (in_file_at (length (other_bytes e)))
   over_ebml e rest here h is =
       let n = length (other_bytes e) in
       let zero_more : 0 + n ≡ n = omega arith in
       moves bytes at_start (in_file_at (0 + n)) (omega arith)
       (file_reads false 0 e.head e.content rest here h (omega (arith, ap length here, length-append (other_bytes e) rest))
-      ∙ if_false (not (nat_eq (id_of e.head) the.EBML)) _ _ (ap (λ id. not (nat_eq id the.EBML)) is)
-      ∙ if_false (nat_eq (id_of e.head) the.SEGMENT) _ _ (ap (λ id. nat_eq id the.SEGMENT) is))
+      ∙ if_false (not (nat_eq (id_of e.head) the.ebml)) _ _ (ap (λ id. not (nat_eq id the.ebml)) is)
+      ∙ if_false (nat_eq (id_of e.head) the.segment) _ _ (ap (λ id. nat_eq id the.segment) is))
       ∙ ap (λ k. packets_from bytes (in_file_at k)) zero_more
 
   abbrev IsBefore : Other → Type 0
-  IsBefore element = IsOther element × (id_of element.head ≢ the.SEGMENT)
+  IsBefore element = IsOther element × (id_of element.head ≢ the.segment)
 
   over_one_before : (e : Other) (at : ℕ) (rest : List ℕ) → IsBefore e → 1 ≤ at → drop at bytes ≡ other_bytes e ++ rest → at + length (other_bytes e) ≤ length bytes
       → packets_from bytes (in_file_at at) ≡ with_payloads (none_of e) (packets_from bytes (in_file_at (at + length (other_bytes e))))
   over_one_before e at rest h low here room =
       moves bytes (in_file_at at) (in_file_at (at + length (other_bytes e))) (omega arith)
       (file_reads false at e.head e.content rest here h.0 room
-      ∙ if_false (nat_eq at 0 && not (nat_eq (id_of e.head) the.EBML)) _ _ (not_first at (not (nat_eq (id_of e.head) the.EBML)) low)
-      ∙ if_false (nat_eq (id_of e.head) the.SEGMENT) _ _ (differs _ _ h.1))
+      ∙ if_false (nat_eq at 0 && not (nat_eq (id_of e.head) the.ebml)) _ _ (not_first at (not (nat_eq (id_of e.head) the.ebml)) low)
+      ∙ if_false (nat_eq (id_of e.head) the.segment) _ _ (differs _ _ h.1))
 
   segment_end : (unknown : Bool) (end : ℕ) → end ≤ length bytes → (unknown ≡ true → end ≡ length bytes) → end_of unknown (length bytes) end ≡ end
   segment_end true end inside last = sym (last refl)
   segment_end false end inside last = refl
 
   over_head : (unknown : Bool) (at : ℕ) (head : Head) (items : List InSegment) (behind : List ℕ) (payloads : List (List ℕ)) → 1 ≤ at
-      → drop at bytes ≡ (head_bytes head ++ segment_bytes items) ++ behind → IsHead unknown (length (segment_bytes items)) head → id_of head ≡ the.SEGMENT
+      → drop at bytes ≡ (head_bytes head ++ segment_bytes items) ++ behind → IsHead unknown (length (segment_bytes items)) head → id_of head ≡ the.segment
       → at + length (head_bytes head ++ segment_bytes items) + length behind ≡ length bytes → (unknown ≡ true → behind ≡ []) → AreInSegment None items payloads
       → packets_from bytes (in_file_at at) ≡ record { payloads = payloads; ending = None }
   over_head unknown at head items behind payloads low here h is long last are =
@@ -224,8 +225,8 @@ module _ (bytes : List ℕ) where
       let to : segment ≡ end = segment_end unknown end inside (λ u. omega (arith, long, ap length (last u))) in
       moves bytes (in_file_at at) (record { at = from; segment = segment; parent = parent.Segment; track = None }) (omega (arith, inside))
       (file_reads unknown at head content behind here h inside
-      ∙ if_false (nat_eq at 0 && not (nat_eq (id_of head) the.EBML)) _ _ (not_first at (not (nat_eq (id_of head) the.EBML)) low)
-      ∙ if_true (nat_eq (id_of head) the.SEGMENT) _ _ (agrees _ _ is))
+      ∙ if_false (nat_eq at 0 && not (nat_eq (id_of head) the.ebml)) _ _ (not_first at (not (nat_eq (id_of head) the.ebml)) low)
+      ∙ if_true (nat_eq (id_of head) the.segment) _ _ (agrees _ _ is))
       ∙ over_segment bytes segment (omega (arith, to, inside)) items None payloads from behind are (content_there bytes content behind head at here) (omega (arith, ends, to))
 
 pub over_file : (bytes : List ℕ) (file : WebmFile) (payloads : List (List ℕ)) → bytes ≡ file_bytes file → HasPayloads file payloads → webm_packets bytes ≡ record { payloads = payloads; ending = None }
