@@ -6,19 +6,55 @@ use Rattle.vp9_types.specs.declared.rule.Rule.{Rule}
 use Rattle.webm_container.specs.Elements.{element_at, known_at}
 use Rattle.webm_container.specs.Entries.{noted, chosen}
 use Rattle.webm_container.specs.Blocks.{payload_at}
-use Rattle.webm_container.specs.Walk.{in_file, file_step, if_chosen, in_segment, segment_step, in_tracks, tracks_step, with_track, entry_step, behind_block, block_step, is_top_level, in_cluster, cluster_step, in_group, group_step, step_within, step_at, moved}
-use Rattle.webm_container.specs.Code.{LiesWithin}
+use Rattle.webm_container.specs.Walk.{in_file, file_step, if_chosen, in_segment, segment_step, in_tracks, tracks_step, with_track, entry_step, behind_block, block_step, in_cluster, cluster_step, in_group, group_step, step_within, step_at, moved}
+use Rattle.webm_container.specs.Code.{inner_end, outer_end, segment_end, Fits}
 use Rattle.webm_container.specs.declared.cursor.Cluster.{Cluster}
 use Rattle.webm_container.specs.declared.cursor.Parent.{Parent}
 use Rattle.webm_container.specs.declared.cursor.Parent.TheVariants as parent
 use Rattle.webm_container.specs.declared.cursor.WebmCursor.{WebmCursor}
 use Rattle.webm_container.specs.declared.elements.Element.{Element}
-use Rattle.webm_container.specs.declared.elements.TheConstants as the
+use Rattle.webm_container.specs.Ids as the
+use Rattle.webm_container.specs.Ids.{is_top_level}
 use Rattle.webm_container.specs.declared.entries.TrackEntry.{TrackEntry}
 use Rattle.webm_container.specs.declared.steps.Step.{Step}
 use Rattle.webm_container.specs.declared.steps.Step.TheVariants.{Moved, Block, End}
 use Rattle.webm_container.proofs.Tests.{by_test, by_result}
 use Rattle.webm_container.proofs.Places.{Lies, element_lies, known_lies, PayloadLies, payload_lies}
+
+-- what is open at a place ends behind it, a child no later than its parent
+abbrev pub LiesWithin : ℕ → ℕ → ℕ → Parent → Type 0
+LiesWithin long at segment parent.File = at ≤ long
+LiesWithin long at segment parent.Segment = (at ≤ segment) × (segment ≤ long)
+LiesWithin long at segment (parent.Tracks to) = (at ≤ to) × (to ≤ segment) × (segment ≤ long)
+LiesWithin long at segment (parent.Entry tracks to entry) = (at ≤ to) × (to ≤ tracks) × (tracks ≤ segment) × (segment ≤ long)
+LiesWithin long at segment (parent.Cluster cluster) = (at ≤ cluster.to) × (cluster.to ≤ segment) × (segment ≤ long)
+LiesWithin long at segment (parent.Group cluster to) = (at ≤ to) × (to ≤ cluster.to) × (cluster.to ≤ segment) × (segment ≤ long)
+
+lies_within : (long at segment : ℕ) (p : Parent) → at ≤ inner_end long segment p → inner_end long segment p ≤ outer_end long segment p → outer_end long segment p ≤ segment_end long segment p → segment_end long segment p ≤ long
+    → LiesWithin long at segment p
+lies_within long at segment parent.File here inner outer inside = here
+lies_within long at segment parent.Segment here inner outer inside = (here, inside)
+lies_within long at segment (parent.Tracks to) here inner outer inside = (here, outer, inside)
+lies_within long at segment (parent.Entry tracks to entry) here inner outer inside = (here, inner, outer, inside)
+lies_within long at segment (parent.Cluster cluster) here inner outer inside = (here, outer, inside)
+lies_within long at segment (parent.Group cluster to) here inner outer inside = (here, inner, outer, inside)
+
+pub lies : (long : ℕ) (c : WebmCursor) → Fits long c → LiesWithin long c.at c.segment c.parent
+lies long c h = lies_within long c.at c.segment c.parent h.here h.inner h.outer h.inside
+
+abbrev pub cursor_at : ℕ → ℕ → Parent → Option ℕ → WebmCursor
+cursor_at at segment within track = record { at = at; segment = segment; parent = within; track = track }
+
+fits_within : (long at segment : ℕ) (p : Parent) (track : Option ℕ) → LiesWithin long at segment p → Fits long (cursor_at at segment p track)
+fits_within long at segment parent.File track h = record { here = h; inner = omega arith; outer = omega arith; inside = omega arith }
+fits_within long at segment parent.Segment track h = record { here = h.0; inner = omega arith; outer = omega arith; inside = h.1 }
+fits_within long at segment (parent.Tracks to) track h = record { here = h.0; inner = omega arith; outer = h.1; inside = h.2 }
+fits_within long at segment (parent.Entry tracks to entry) track h = record { here = h.0; inner = h.1; outer = h.2; inside = h.3 }
+fits_within long at segment (parent.Cluster cluster) track h = record { here = h.0; inner = omega arith; outer = h.1; inside = h.2 }
+fits_within long at segment (parent.Group cluster to) track h = record { here = h.0; inner = h.1; outer = h.2; inside = h.3 }
+
+pub fits_of : (long : ℕ) (c : WebmCursor) → LiesWithin long c.at c.segment c.parent → Fits long c
+fits_of long c h = fits_within long c.at c.segment c.parent c.track h
 
 -- how many parents of a place are open that end before the Segment does
 abbrev pub depth : Parent → ℕ
@@ -51,14 +87,11 @@ IsStep long c (Ok (Block span d)) = GoesBehind long c span d
 IsStep long c (Ok End) = Unit {0}
 IsStep long c (Err rule) = Unit {0}
 
-abbrev cursor_at : ℕ → ℕ → Parent → Option ℕ → WebmCursor
-cursor_at at segment within track = record { at = at; segment = segment; parent = within; track = track }
-
 in_file_steps : (long at segment : ℕ) (track : Option ℕ) (e : Element) → Lies at long (Ok e) → IsStep long (cursor_at at segment parent.File track) (in_file (cursor_at at segment parent.File track) e)
 in_file_steps long at segment track e h =
     let P = IsStep long (cursor_at at segment parent.File track) in
-    by_test P (nat_eq at 0 && not (nat_eq e.id the.EBML)) _ _ (λ _. tt) (λ _.
-    by_test P (nat_eq e.id the.SEGMENT) _ _ (λ _. record { fits = (h.1, h.2); onward = omega (arith, h.0); within = omega (arith, h.1, h.2); nearer = omega (arith, h.0, h.1, h.2) }) (λ _.
+    by_test P (nat_eq at 0 && not (nat_eq e.id the.ebml)) _ _ (λ _. tt) (λ _.
+    by_test P (nat_eq e.id the.segment) _ _ (λ _. record { fits = (h.1, h.2); onward = omega (arith, h.0); within = omega (arith, h.1, h.2); nearer = omega (arith, h.0, h.1, h.2) }) (λ _.
     by_test P e.unknown _ _ (λ _. tt) (λ _. record { fits = h.2; onward = omega (arith, h.0, h.1); within = h.2; nearer = omega (arith, h.0, h.1, h.2) })))
 
 pub file_steps : (bytes : List ℕ) (at segment : ℕ) (track : Option ℕ) → IsStep (length bytes) (cursor_at at segment parent.File track) (file_step bytes (cursor_at at segment parent.File track))
@@ -76,11 +109,11 @@ in_segment_steps : (long at segment : ℕ) (track : Option ℕ) (e : Element) �
 in_segment_steps long at segment track e fits h =
     let c = cursor_at at segment parent.Segment track in
     let P = IsStep long c in
-    by_test P (nat_eq e.id the.CLUSTER) _ _
+    by_test P (nat_eq e.id the.cluster) _ _
     (λ _. if_chosen_steps long c track (moved c e.from (parent.Cluster (record { to = e.to; unknown = e.unknown })))
     (record { fits = (h.1, h.2, fits); onward = omega (arith, h.0); within = omega (arith, h.1, h.2); nearer = omega (arith, h.0, h.1, h.2) })) (λ _.
     by_test P e.unknown _ _ (λ _. tt) (λ _.
-    by_test P (nat_eq e.id the.TRACKS) _ _
+    by_test P (nat_eq e.id the.tracks) _ _
     (λ _. record { fits = (h.1, h.2, fits); onward = omega (arith, h.0); within = omega (arith, h.1, h.2); nearer = omega (arith, h.0, h.1, h.2) })
     (λ _. record { fits = (h.2, fits); onward = omega (arith, h.0, h.1); within = omega (arith, h.2); nearer = omega (arith, h.0, h.1, h.2) })))
 
@@ -96,7 +129,7 @@ in_tracks_steps : (long at segment to : ℕ) (track : Option ℕ) (e : Element) 
     → IsStep long (cursor_at at segment (parent.Tracks to) track) (in_tracks (cursor_at at segment (parent.Tracks to) track) to e)
 in_tracks_steps long at segment to track e inner fits h =
     let c = cursor_at at segment (parent.Tracks to) track in
-    by_test (IsStep long c) (nat_eq e.id the.TRACK_ENTRY) _ _
+    by_test (IsStep long c) (nat_eq e.id the.track_entry) _ _
     (λ _. record { fits = (h.1, h.2, inner, fits); onward = omega (arith, h.0); within = omega (arith, h.1, h.2); nearer = omega (arith, h.0, h.1, h.2) })
     (λ _. record { fits = (h.2, inner, fits); onward = omega (arith, h.0, h.1); within = omega (arith, h.2); nearer = omega (arith, h.0, h.1, h.2) })
 
@@ -151,8 +184,8 @@ in_cluster_steps bytes at segment cluster track e here inner fits h =
     let P = IsStep long c in
     by_test P (cluster.unknown && is_top_level e.id) _ _ (λ _. record { fits = (omega arith, fits); onward = omega arith; within = omega arith; nearer = omega arith }) (λ _.
     by_test P e.unknown _ _ (λ _. tt) (λ _.
-    by_test P (nat_eq e.id the.SIMPLE_BLOCK) _ _ (λ _. block_steps bytes at segment (parent.Cluster cluster) track e (h.2, inner, fits) (omega (arith, h.2)) (h.0, h.1)) (λ _.
-    by_test P (nat_eq e.id the.BLOCK_GROUP) _ _
+    by_test P (nat_eq e.id the.simple_block) _ _ (λ _. block_steps bytes at segment (parent.Cluster cluster) track e (h.2, inner, fits) (omega (arith, h.2)) (h.0, h.1)) (λ _.
+    by_test P (nat_eq e.id the.block_group) _ _
     (λ _. record { fits = (h.1, h.2, inner, fits); onward = omega (arith, h.0); within = omega (arith, h.1, h.2); nearer = omega (arith, h.0, h.1, h.2) })
     (λ _. record { fits = (h.2, inner, fits); onward = omega (arith, h.0, h.1); within = omega (arith, h.2); nearer = omega (arith, h.0, h.1, h.2) }))))
 
@@ -168,7 +201,7 @@ cluster_steps bytes at segment cluster track here inner fits =
 in_group_steps : (bytes : List ℕ) (at segment to : ℕ) (cluster : Cluster) (track : Option ℕ) (e : Element) → to ≤ cluster.to → cluster.to ≤ segment → segment ≤ length bytes → Lies at to (Ok e)
     → IsStep (length bytes) (cursor_at at segment (parent.Group cluster to) track) (in_group bytes (cursor_at at segment (parent.Group cluster to) track) e)
 in_group_steps bytes at segment to cluster track e inner outer fits h =
-    by_test (IsStep (length bytes) (cursor_at at segment (parent.Group cluster to) track)) (nat_eq e.id the.BLOCK) _ _
+    by_test (IsStep (length bytes) (cursor_at at segment (parent.Group cluster to) track)) (nat_eq e.id the.block) _ _
     (λ _. block_steps bytes at segment (parent.Group cluster to) track e (h.2, inner, outer, fits) (omega (arith, h.2)) (h.0, h.1))
     (λ _. record { fits = (h.2, inner, outer, fits); onward = omega (arith, h.0, h.1); within = omega (arith, h.2); nearer = omega (arith, h.0, h.1, h.2) })
 

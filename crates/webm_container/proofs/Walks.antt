@@ -5,13 +5,13 @@ use Rattle.vp9_types.specs.declared.job.Span.{Span}
 use Rattle.vp9_types.specs.declared.rule.Rule.{Rule}
 use Rattle.ivf_container.specs.Packets.{Packets, no_packets, with_payload}
 use Rattle.webm_container.specs.Walk.{step_at, go_on, fewer_from, packets_from}
-use Rattle.webm_container.specs.Code.{LiesWithin, Fits, blocks_ahead, IsBlock}
+use Rattle.webm_container.specs.Code.{Fits, blocks_ahead, IsBlock}
 use Rattle.webm_container.specs.declared.cursor.Parent.{Parent}
 use Rattle.webm_container.specs.declared.cursor.Parent.TheVariants as parent
 use Rattle.webm_container.specs.declared.cursor.WebmCursor.{WebmCursor}
 use Rattle.webm_container.specs.declared.steps.Step.{Step}
 use Rattle.webm_container.specs.declared.steps.Step.TheVariants.{Moved, Block, End}
-use Rattle.webm_container.proofs.Progress.{depth, left_of, GoesOn, GoesBehind, IsStep, is_step}
+use Rattle.webm_container.proofs.Progress.{LiesWithin, lies, fits_of, depth, left_of, GoesOn, GoesBehind, IsStep, is_step}
 
 -- what a step leads to is decided by the packets from where it ends
 goes_on : (bytes : List ℕ) (c : WebmCursor) (f g : WebmCursor → Packets) (r : Result Step Rule) → IsStep (length bytes) c r
@@ -58,9 +58,9 @@ IsTaken bytes c (Ok End) = blocks_ahead bytes c ≡ no_packets None
 IsTaken bytes c (Err rule) = blocks_ahead bytes c ≡ no_packets (Some rule)
 
 pub is_taken : (bytes : List ℕ) (c : WebmCursor) (r : Result Step Rule) → Fits (length bytes) c → r ≡ step_at bytes c → IsTaken bytes c r
-unfolding Fits blocks_ahead
+unfolding blocks_ahead
 is_taken bytes c r fits same =
-    by_step r (subst (IsStep (length bytes) c) (sym same) (is_step bytes c fits)) (next_from bytes c fits ∙ ap (go_on bytes (packets_from bytes)) (sym same)) where
+    by_step r (subst (IsStep (length bytes) c) (sym same) (is_step bytes c (lies (length bytes) c fits))) (next_from bytes c (lies (length bytes) c fits) ∙ ap (go_on bytes (packets_from bytes)) (sym same)) where
       by_step : (r : Result Step Rule) → IsStep (length bytes) c r → packets_from bytes c ≡ go_on bytes (packets_from bytes) r → IsTaken bytes c r
       by_step (Ok (Moved d)) step is = (step, is)
       by_step (Ok (Block span d)) step is = (step, is)
@@ -89,13 +89,11 @@ at_within long at segment (parent.Cluster cluster) h = omega (arith, h.0, h.1, h
 at_within long at segment (parent.Group cluster to) h = omega (arith, h.0, h.1, h.2, h.3)
 
 pub lies_within : (long : ℕ) (c : WebmCursor) → Fits long c → c.at ≤ long
-unfolding Fits
-lies_within long c h = at_within long c.at c.segment c.parent h
+lies_within long c h = at_within long c.at c.segment c.parent (lies long c h)
 
 pub goes_further : (bytes : List ℕ) (first c d : WebmCursor) → IsOnWay bytes first c → IsTaken bytes c (Ok (Moved d)) → IsOnWay bytes first d
-unfolding Fits
 goes_further bytes first c d way taken =
-    record { fits = taken.0.fits; ahead = way.ahead ∙ taken.1; onward = omega (arith, way.onward, taken.0.onward) }
+    record { fits = fits_of (length bytes) d taken.0.fits; ahead = way.ahead ∙ taken.1; onward = omega (arith, way.onward, taken.0.onward) }
 
 pub comes_to_block : (bytes : List ℕ) (first c d : WebmCursor) (span : Span) → IsOnWay bytes first c → IsTaken bytes c (Ok (Block span d)) → IsBlock bytes first span d
 comes_to_block bytes first c d span way taken =
@@ -107,5 +105,4 @@ comes_to_block bytes first c d span way taken =
     }
 
 pub behind_fits : (long : ℕ) (c d : WebmCursor) (span : Span) → GoesBehind long c span d → Fits long d
-unfolding Fits
-behind_fits long c d span h = h.goes.fits
+behind_fits long c d span h = fits_of long d h.goes.fits

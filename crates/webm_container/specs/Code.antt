@@ -8,18 +8,33 @@ use Rattle.webm_container.specs.declared.cursor.Parent.{Parent}
 use Rattle.webm_container.specs.declared.cursor.Parent.TheVariants as parent
 use Rattle.webm_container.specs.declared.cursor.WebmCursor.{WebmCursor}
 
--- what is open at a place ends behind it, a child no later than its parent
-abbrev pub LiesWithin : ℕ → ℕ → ℕ → Parent → Type 0
-LiesWithin long at segment parent.File = at ≤ long
-LiesWithin long at segment parent.Segment = (at ≤ segment) × (segment ≤ long)
-LiesWithin long at segment (parent.Tracks to) = (at ≤ to) × (to ≤ segment) × (segment ≤ long)
-LiesWithin long at segment (parent.Entry tracks to entry) = (at ≤ to) × (to ≤ tracks) × (tracks ≤ segment) × (segment ≤ long)
-LiesWithin long at segment (parent.Cluster cluster) = (at ≤ cluster.to) × (cluster.to ≤ segment) × (segment ≤ long)
-LiesWithin long at segment (parent.Group cluster to) = (at ≤ to) × (to ≤ cluster.to) × (cluster.to ≤ segment) × (segment ≤ long)
+-- where what is open ends: the innermost parent, the one around it, and the Segment; before it the file
+abbrev pub inner_end : ℕ → ℕ → Parent → ℕ
+inner_end long segment parent.File = long
+inner_end long segment parent.Segment = segment
+inner_end long segment (parent.Tracks to) = to
+inner_end long segment (parent.Entry tracks to entry) = to
+inner_end long segment (parent.Cluster cluster) = cluster.to
+inner_end long segment (parent.Group cluster to) = to
 
--- the places of a cursor lie within so many bytes
-unfoldable pub Fits : ℕ → WebmCursor → Type 0
-Fits long c = LiesWithin long c.at c.segment c.parent
+abbrev pub outer_end : ℕ → ℕ → Parent → ℕ
+outer_end long segment parent.File = long
+outer_end long segment parent.Segment = segment
+outer_end long segment (parent.Tracks to) = to
+outer_end long segment (parent.Entry tracks to entry) = tracks
+outer_end long segment (parent.Cluster cluster) = cluster.to
+outer_end long segment (parent.Group cluster to) = cluster.to
+
+abbrev pub segment_end : ℕ → ℕ → Parent → ℕ
+segment_end long segment parent.File = long
+segment_end long segment within = segment
+
+-- the places of a cursor lie within so many bytes: no parent ends behind its own
+pub record Fits (long : ℕ) (c : WebmCursor) : Type 0 where
+  pub here : c.at ≤ inner_end long c.segment c.parent
+  pub inner : inner_end long c.segment c.parent ≤ outer_end long c.segment c.parent
+  pub outer : outer_end long c.segment c.parent ≤ segment_end long c.segment c.parent
+  pub inside : segment_end long c.segment c.parent ≤ long
 
 -- the packets that a cursor has ahead in these bytes, and how they end
 unfoldable pub blocks_ahead : List ℕ → WebmCursor → Packets

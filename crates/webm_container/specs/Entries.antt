@@ -5,7 +5,7 @@ use Rattle.byteorder.specs.Endian.{big_number}
 use Rattle.vp9_types.specs.declared.rule.Rule.{Rule}
 use Rattle.vp9_types.specs.declared.rule.Rule.TheVariants.{WebmElement, WebmEncoding}
 use Rattle.webm_container.specs.declared.elements.Element.{Element}
-use Rattle.webm_container.specs.declared.elements.TheConstants.{CODEC_ID, TRACK_NUMBER, CONTENT_ENCODINGS}
+use Rattle.webm_container.specs.Ids as the
 use Rattle.webm_container.specs.declared.entries.TrackEntry.{TrackEntry}
 use Rattle.webm_container.specs.declared.entries.TrackNumber.{TrackNumber}
 use Rattle.webm_container.specs.declared.entries.TrackNumber.TheVariants.{Malformed, Is}
@@ -39,9 +39,9 @@ first_of (Some said) x = Some said
 abbrev pub noted : List ℕ → TrackEntry → Element → TrackEntry
 noted bytes entry element =
     let content = slice_range bytes element.from element.to in
-    if nat_eq element.id CODEC_ID then record entry { is_vp9 = first_of entry.is_vp9 (is_vp9 content) }
-    else (if nat_eq element.id TRACK_NUMBER then record entry { number = first_of entry.number (number_in content) }
-    else (if nat_eq element.id CONTENT_ENCODINGS then record entry { encoded = true }
+    if nat_eq element.id the.codec_id then record entry { is_vp9 = first_of entry.is_vp9 (is_vp9 content) }
+    else (if nat_eq element.id the.track_number then record entry { number = first_of entry.number (number_in content) }
+    else (if nat_eq element.id the.content_encodings then record entry { encoded = true }
     else entry))
 
 -- a track of VP9 that may be chosen, or the rule that its entry breaks

@@ -1,3 +1,4 @@
+pub mod Ids
 pub mod Elements
 pub mod Entries
 pub mod Blocks

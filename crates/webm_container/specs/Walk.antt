@@ -1,5 +1,5 @@
 -- The blocks of a WebM file, found by a walk over its elements, one after another.
-use Rattle.std.specs.Prelude.{ℕ, zero, suc, ◌+◌, ◌&&◌, ◌||◌, Bool, not, if◌then◌else◌, nat_eq, nat_le, List, length, slice_range, Option, Some, None, Result, Ok, Err}
+use Rattle.std.specs.Prelude.{ℕ, zero, suc, ◌+◌, ◌&&◌, not, if◌then◌else◌, nat_eq, nat_le, List, length, slice_range, Option, Some, None, Result, Ok, Err}
 use Rattle.vp9_types.specs.Results.{◌>>=◌}
 use Rattle.vp9_types.specs.declared.job.Span.{Span}
 use Rattle.vp9_types.specs.declared.rule.Rule.{Rule}
@@ -13,7 +13,8 @@ use Rattle.webm_container.specs.declared.cursor.Parent.{Parent}
 use Rattle.webm_container.specs.declared.cursor.Parent.TheVariants as parent
 use Rattle.webm_container.specs.declared.cursor.WebmCursor.{WebmCursor}
 use Rattle.webm_container.specs.declared.elements.Element.{Element}
-use Rattle.webm_container.specs.declared.elements.TheConstants as the
+use Rattle.webm_container.specs.Ids as the
+use Rattle.webm_container.specs.Ids.{is_top_level}
 use Rattle.webm_container.specs.declared.entries.TrackEntry.{TrackEntry}
 use Rattle.webm_container.specs.declared.steps.Step.{Step}
 use Rattle.webm_container.specs.declared.steps.Step.TheVariants.{Moved, Block, End}
@@ -30,8 +31,8 @@ skipped c element = if element.unknown then Err WebmElement else moved c element
 -- at its size, or at the end of the file.
 abbrev pub in_file : WebmCursor → Element → Result Step Rule
 in_file c element =
-    if nat_eq c.at 0 && not (nat_eq element.id the.EBML) then Err WebmElement
-    else (if nat_eq element.id the.SEGMENT then Ok (Moved (record { at = element.from; segment = element.to; parent = parent.Segment; track = c.track }))
+    if nat_eq c.at 0 && not (nat_eq element.id the.ebml) then Err WebmElement
+    else (if nat_eq element.id the.segment then Ok (Moved (record { at = element.from; segment = element.to; parent = parent.Segment; track = c.track }))
     else (if element.unknown then Err WebmElement
     else moved c element.to parent.File))
 
@@ -47,9 +48,9 @@ if_chosen (Some track) r = r
 -- at the end, a track has to be chosen.
 abbrev pub in_segment : WebmCursor → Element → Result Step Rule
 in_segment c element =
-    if nat_eq element.id the.CLUSTER then if_chosen c.track (moved c element.from (parent.Cluster (record { to = element.to; unknown = element.unknown })))
+    if nat_eq element.id the.cluster then if_chosen c.track (moved c element.from (parent.Cluster (record { to = element.to; unknown = element.unknown })))
     else (if element.unknown then Err WebmElement
-    else (if nat_eq element.id the.TRACKS then moved c element.from (parent.Tracks element.to)
+    else (if nat_eq element.id the.tracks then moved c element.from (parent.Tracks element.to)
     else moved c element.to parent.Segment))
 
 unfoldable pub segment_step : List ℕ → WebmCursor → Result Step Rule
@@ -60,7 +61,7 @@ segment_step bytes c =
 -- In Tracks: entries are gone into, and what else stands there is skipped.
 abbrev pub in_tracks : WebmCursor → ℕ → Element → Result Step Rule
 in_tracks c to element =
-    if nat_eq element.id the.TRACK_ENTRY then moved c element.from (parent.Entry to element.to new_entry)
+    if nat_eq element.id the.track_entry then moved c element.from (parent.Entry to element.to new_entry)
     else moved c element.to (parent.Tracks to)
 
 unfoldable pub tracks_step : List ℕ → WebmCursor → ℕ → Result Step Rule
@@ -86,19 +87,13 @@ behind_block c (Some span) = Ok (Block span c)
 unfoldable pub block_step : List ℕ → WebmCursor → Element → Result Step Rule
 block_step bytes c block = payload_at bytes c.track block.from block.to >>= behind_block (record c { at = block.to })
 
--- before these a Cluster of unknown size ends
-abbrev pub is_top_level : ℕ → Bool
-is_top_level id =
-    nat_eq id the.CLUSTER || nat_eq id the.TRACKS || nat_eq id the.CUES || nat_eq id the.TAGS || nat_eq id the.SEEK_HEAD
-    || nat_eq id the.INFO || nat_eq id the.CHAPTERS || nat_eq id the.ATTACHMENTS
-
 -- In a Cluster: SimpleBlocks are taken, BlockGroups are gone into, and what else stands there is skipped.
 abbrev pub in_cluster : List ℕ → WebmCursor → Cluster → Element → Result Step Rule
 in_cluster bytes c cluster element =
     if cluster.unknown && is_top_level element.id then moved c c.at parent.Segment
     else (if element.unknown then Err WebmElement
-    else (if nat_eq element.id the.SIMPLE_BLOCK then block_step bytes c element
-    else (if nat_eq element.id the.BLOCK_GROUP then moved c element.from (parent.Group cluster element.to)
+    else (if nat_eq element.id the.simple_block then block_step bytes c element
+    else (if nat_eq element.id the.block_group then moved c element.from (parent.Group cluster element.to)
     else moved c element.to c.parent)))
 
 unfoldable pub cluster_step : List ℕ → WebmCursor → Cluster → Result Step Rule
@@ -109,7 +104,7 @@ cluster_step bytes c cluster =
 -- In a BlockGroup: Blocks are taken, and what else stands there is skipped.
 abbrev pub in_group : List ℕ → WebmCursor → Element → Result Step Rule
 in_group bytes c element =
-    if nat_eq element.id the.BLOCK then block_step bytes c element else moved c element.to c.parent
+    if nat_eq element.id the.block then block_step bytes c element else moved c element.to c.parent
 
 unfoldable pub group_step : List ℕ → WebmCursor → Cluster → ℕ → Result Step Rule
 group_step bytes c cluster to =

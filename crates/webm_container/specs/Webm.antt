@@ -1,13 +1,13 @@
 -- What a WebM file is: how its elements are spelled, and which payloads they hold. This is said of files that break no rule.
-use Rattle.std.specs.Prelude.{◌≡◌, ◌≢◌, ◌⊎◌, ℕ, ◌+◌, ◌*◌, ◌%◌, ◌^◌, ◌<◌, ◌≤◌, Bool, true, false, if◌then◌else◌, nat_eq, List, [], ◌∷◌, ◌++◌, length, slice_index, Option, Some, None, IsTrue, ⊤}
+use Rattle.std.specs.Prelude.{◌≡◌, ◌≢◌, ◌⊎◌, ℕ, ◌+◌, ◌*◌, ◌%◌, ◌^◌, ◌<◌, ◌≤◌, Bool, true, false, if◌then◌else◌, nat_eq, List, [], ◌∷◌, ◌++◌, length, slice_index, Option, Some, None, ⊤}
 use Rattle.std.specs.List.{flat_map, AllByRecursion}
 use Rattle.byteorder.specs.Endian.{big_number}
 use Rattle.ivf_container.specs.Packets.{Packets}
 use Rattle.webm_container.specs.Elements.{coded_length}
 use Rattle.webm_container.specs.Entries.{is_vp9}
 use Rattle.webm_container.specs.Blocks.{is_laced}
-use Rattle.webm_container.specs.Walk.{is_top_level}
-use Rattle.webm_container.specs.declared.elements.TheConstants as the
+use Rattle.webm_container.specs.Ids as the
+use Rattle.webm_container.specs.Ids.{is_top_level}
 
 ---- Elements ----
 
@@ -79,15 +79,15 @@ SaysNumber None number = ⊥
 SaysNumber (Some content) number = (1 ≤ length content) × (length content ≤ 8) × (number ≡ big_number (length content) content)
 
 abbrev pub IsNotEncoded : List Other → Type 0
-IsNotEncoded entry = AllByRecursion (λ element. id_of element.head ≢ the.CONTENT_ENCODINGS) entry
+IsNotEncoded entry = AllByRecursion (λ element. id_of element.head ≢ the.content_encodings) entry
 
 -- The track that is chosen behind an entry, where `before` was. The first entry of VP9 is chosen; it has a number, and is
 -- not encoded once more.
 abbrev pub IsChosen : Option ℕ → List Other → Option ℕ → Type 0
 IsChosen (Some track) entry after = after ≡ Some track
 IsChosen None entry after =
-    ((codec_is_vp9 (first_content the.CODEC_ID entry) ≡ false) × (after ≡ None))
-    ⊎ ((number : ℕ) × (codec_is_vp9 (first_content the.CODEC_ID entry) ≡ true) × SaysNumber (first_content the.TRACK_NUMBER entry) number × IsNotEncoded entry × (after ≡ Some number))
+    ((codec_is_vp9 (first_content the.codec_id entry) ≡ false) × (after ≡ None))
+    ⊎ ((number : ℕ) × (codec_is_vp9 (first_content the.codec_id entry) ≡ true) × SaysNumber (first_content the.track_number entry) number × IsNotEncoded entry × (after ≡ Some number))
 
 -- what stands in Tracks
 pub data InTracks : Type 0 where
@@ -105,9 +105,9 @@ tracks_bytes elements = flat_map tracks_element elements
 abbrev pub AreTracks : Option ℕ → List InTracks → Option ℕ → Type 0
 AreTracks before [] after = after ≡ before
 AreTracks before (track_entry head elements ∷ more) after =
-    IsHead false (length (others_bytes elements)) head × (id_of head ≡ the.TRACK_ENTRY) × AllByRecursion IsOther elements
+    IsHead false (length (others_bytes elements)) head × (id_of head ≡ the.track_entry) × AllByRecursion IsOther elements
     × ((next : Option ℕ) × IsChosen before elements next × AreTracks next more after)
-AreTracks before (other_in_tracks element ∷ more) after = IsOther element × (id_of element.head ≢ the.TRACK_ENTRY) × AreTracks before more after
+AreTracks before (other_in_tracks element ∷ more) after = IsOther element × (id_of element.head ≢ the.track_entry) × AreTracks before more after
 
 ---- Clusters ----
 
@@ -145,8 +145,8 @@ abbrev pub group_bytes : List InGroup → List ℕ
 group_bytes elements = flat_map group_element elements
 
 abbrev pub IsInGroup : ℕ → InGroup → Type 0
-IsInGroup track (group_block head b) = IsHead false (length (block_bytes b)) head × (id_of head ≡ the.BLOCK) × IsBlock track b
-IsInGroup track (other_in_group element) = IsOther element × (id_of element.head ≢ the.BLOCK)
+IsInGroup track (group_block head b) = IsHead false (length (block_bytes b)) head × (id_of head ≡ the.block) × IsBlock track b
+IsInGroup track (other_in_group element) = IsOther element × (id_of element.head ≢ the.block)
 
 abbrev pub group_payloads : ℕ → InGroup → List (List ℕ)
 group_payloads track (group_block head b) = block_payloads track b
@@ -168,11 +168,11 @@ cluster_bytes elements = flat_map cluster_element elements
 
 -- an element of a Cluster; one of a Cluster of unknown size is none before which such a Cluster ends
 abbrev pub IsInCluster : Bool → ℕ → InCluster → Type 0
-IsInCluster unknown track (simple_block head b) = IsHead false (length (block_bytes b)) head × (id_of head ≡ the.SIMPLE_BLOCK) × IsBlock track b
+IsInCluster unknown track (simple_block head b) = IsHead false (length (block_bytes b)) head × (id_of head ≡ the.simple_block) × IsBlock track b
 IsInCluster unknown track (block_group head elements) =
-    IsHead false (length (group_bytes elements)) head × (id_of head ≡ the.BLOCK_GROUP) × AllByRecursion (IsInGroup track) elements
+    IsHead false (length (group_bytes elements)) head × (id_of head ≡ the.block_group) × AllByRecursion (IsInGroup track) elements
 IsInCluster unknown track (other_in_cluster element) =
-    IsOther element × (id_of element.head ≢ the.SIMPLE_BLOCK) × (id_of element.head ≢ the.BLOCK_GROUP)
+    IsOther element × (id_of element.head ≢ the.simple_block) × (id_of element.head ≢ the.block_group)
     × (unknown ≡ true → is_top_level (id_of element.head) ≡ false)
 
 abbrev pub cluster_payloads : ℕ → InCluster → List (List ℕ)
@@ -207,15 +207,15 @@ EndsCluster (other_in_segment element ∷ more) = is_top_level (id_of element.he
 abbrev pub AreInSegment : Option ℕ → List InSegment → List (List ℕ) → Type 0
 AreInSegment before [] payloads = ((track : ℕ) × (before ≡ Some track)) × (payloads ≡ [])
 AreInSegment before (tracks head elements ∷ more) payloads =
-    IsHead false (length (tracks_bytes elements)) head × (id_of head ≡ the.TRACKS)
+    IsHead false (length (tracks_bytes elements)) head × (id_of head ≡ the.tracks)
     × ((next : Option ℕ) × AreTracks before elements next × AreInSegment next more payloads)
 AreInSegment before (cluster unknown head elements ∷ more) payloads =
-    IsHead unknown (length (cluster_bytes elements)) head × (id_of head ≡ the.CLUSTER)
+    IsHead unknown (length (cluster_bytes elements)) head × (id_of head ≡ the.cluster)
     × (unknown ≡ true → EndsCluster more)
     × ((track : ℕ) × (behind : List (List ℕ)) × (before ≡ Some track) × AllByRecursion (IsInCluster unknown track) elements
     × (payloads ≡ flat_map (cluster_payloads track) elements ++ behind) × AreInSegment before more behind)
 AreInSegment before (other_in_segment element ∷ more) payloads =
-    IsOther element × (id_of element.head ≢ the.TRACKS) × (id_of element.head ≢ the.CLUSTER) × AreInSegment before more payloads
+    IsOther element × (id_of element.head ≢ the.tracks) × (id_of element.head ≢ the.cluster) × AreInSegment before more payloads
 
 -- The EBML element, others, the Segment, and what stands behind it; behind one of unknown size nothing can stand.
 pub record WebmFile : Type 0 where
@@ -230,9 +230,9 @@ abbrev pub file_bytes : WebmFile → List ℕ
 file_bytes file = other_bytes file.ebml ++ (others_bytes file.others ++ (head_bytes file.head ++ (segment_bytes file.elements ++ file.behind)))
 
 pub record HasPayloads (file : WebmFile) (payloads : List (List ℕ)) : Type 0 where
-  pub is_ebml : IsOther file.ebml × (id_of file.ebml.head ≡ the.EBML)
-  pub others : AllByRecursion (λ element. IsOther element × (id_of element.head ≢ the.SEGMENT)) file.others
-  pub is_segment : IsHead file.unknown (length (segment_bytes file.elements)) file.head × (id_of file.head ≡ the.SEGMENT)
+  pub is_ebml : IsOther file.ebml × (id_of file.ebml.head ≡ the.ebml)
+  pub others : AllByRecursion (λ element. IsOther element × (id_of element.head ≢ the.segment)) file.others
+  pub is_segment : IsHead file.unknown (length (segment_bytes file.elements)) file.head × (id_of file.head ≡ the.segment)
   pub last : file.unknown ≡ true → file.behind ≡ []
   pub elements : AreInSegment None file.elements payloads
 

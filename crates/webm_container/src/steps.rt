@@ -1,7 +1,8 @@
 //! The steps of the walk over a file, by what they stand in. None of them keeps anything but in the cursor.
 
 ghost use Rattle.std.specs.Prelude.{◌≡◌, ◌≤◌, length};
-ghost use Rattle.webm_container.specs.Walk.{is_top_level, file_step, segment_step, tracks_step, entry_step, block_step, cluster_step, group_step, step_at};
+ghost use Rattle.webm_container.specs.Ids.{is_top_level};
+ghost use Rattle.webm_container.specs.Walk.{file_step, segment_step, tracks_step, entry_step, block_step, cluster_step, group_step, step_at};
 ghost use Rattle.webm_container.specs.Code.{Fits};
 
 use crate::blocks::payload_at;

@@ -1,6 +1,6 @@
 use Rattle.std.proofs.Common.{refl, arith}
 use Rattle.webm_container.specs.Walk.{webm_packets}
-use Rattle.webm_container.specs.Code.{Fits, blocks_ahead}
+use Rattle.webm_container.specs.Code.{blocks_ahead}
 use Rattle.webm_container.proofs.cursor.WebmCursor.new.Goals as goal
 
 pub returns-clause-all : goal.returns-clause-all
@@ -8,5 +8,4 @@ unfolding webm_packets blocks_ahead
 returns-clause-all c = λ bytes. refl
 
 pub returns-clause-fits : goal.returns-clause-fits
-unfolding Fits
-returns-clause-fits c = λ long. omega arith
+returns-clause-fits c = λ long. record { here = omega arith; inner = omega arith; outer = omega arith; inside = omega arith }
