@@ -2,7 +2,7 @@
 
 ghost use Rattle.std.specs.Prelude.{◌≡◌, ◌+◌, ◌≤◌, ◌++◌, length, decimal};
 ghost use Rattle.arrayvec.specs.ArrayVec.{array_vec_len};
-ghost use Rattle.frame_output.specs.Formats.{digest_line, frame_head, header_line, variant_name, sampling_name};
+ghost use Rattle.frame_output.specs.Formats.{digest_line, frame_head, header_line, sampling_name, variant_name};
 
 use crate::rendering::Rendering;
 use arrayvec::ArrayVec;
@@ -19,6 +19,7 @@ fn push(line: &mut Line, piece: &[u8])
     ensures bytes { line.new.items ≡ line.old.items ++ piece.now }
     ensures len { array_vec_len line.new ≡ array_vec_len line.old + length piece.now }
 {
+    // There is room for it.
     let _ = line.try_extend_from_slice(piece);
 }
 
@@ -37,6 +38,7 @@ fn push_number(line: &mut Line, label: &str, number: u32)
 pub(crate) fn digest_line(digest: [u8; 16], shape: &Shape) -> Line
     ensures { result.items ≡ digest_line digest shape.now }
 {
+    // Two digits a byte.
     let mut digits = [0; 32];
     let _ = hex::encode_to_slice(digest, &mut digits);
     let mut line = ArrayVec::new();
