@@ -29,11 +29,29 @@ fn decodes(rt: HostRuntime) -> Result<(), Fail> {
     let cases = [
         ("vp9dec decode", false, 4, 4, Format::Raw),
         ("vp9dec decode --plain", true, 4, 4, Format::Raw),
-        ("vp9dec decode --workers 1 --window 16", false, 1, 16, Format::Raw),
-        ("vp9dec decode --window=2 --workers=64 --plain", true, 64, 2, Format::Raw),
+        (
+            "vp9dec decode --workers 1 --window 16",
+            false,
+            1,
+            16,
+            Format::Raw,
+        ),
+        (
+            "vp9dec decode --window=2 --workers=64 --plain",
+            true,
+            64,
+            2,
+            Format::Raw,
+        ),
         ("vp9dec decode --workers +7", false, 7, 4, Format::Raw),
         ("vp9dec decode --format md5", false, 4, 4, Format::Md5),
-        ("vp9dec decode --format=y4m --plain", true, 4, 4, Format::Y4m),
+        (
+            "vp9dec decode --format=y4m --plain",
+            true,
+            4,
+            4,
+            Format::Y4m,
+        ),
     ];
     for (line, plain, workers, window, format) in cases {
         let words = words_of(rt.alloc(), line)?;

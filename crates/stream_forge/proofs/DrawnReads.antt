@@ -12,7 +12,6 @@ use Rattle.frame_headers.specs.declared.header.Uncompressed.TheVariants.{ShowExi
 use Rattle.frame_headers.specs.declared.persist.Persist.{Persist}
 use Rattle.prob_contexts.specs.Lists.{ContextLists, lists_of}
 use Rattle.frame_state.specs.Reading.{read_frame}
-use Rattle.frame_decoder.specs.Frames.{decoded}
 use Rattle.frame_state.specs.Sources.{FramePast, FrameSources}
 use Rattle.frame_writer.specs.Bytes.{IsLaidOut, with_size}
 use Rattle.frame_writer.specs.Frames.{frame_told}

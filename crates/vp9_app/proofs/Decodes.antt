@@ -4,7 +4,6 @@ use Rattle.std.specs.Prelude.{Option, Some, take}
 use Rattle.vp9_types.specs.declared.rule.Rule.{Rule}
 use Rattle.edge_io.specs.Filling.{WhereTold}
 use Rattle.edge_io.specs.Putting.{Takes}
-use Rattle.vp9_types.specs.declared.outcome.Outcome.TheVariants as outcome
 use Rattle.command_words.specs.declared.command.DecodeOptions.{DecodeOptions}
 use Rattle.seq_decoder.specs.Outputs.{output_of}
 use Rattle.seq_decoder.specs.Outcomes as of_run
