@@ -19,11 +19,7 @@ fn made_files(rt: HostRuntime) {
         (
             "the worked row",
             b"\x1aE\xdf\xa3\x80\x18S\x80g\xff\x16T\xaek\x8c\xae\x8a\xd7\x81\x01\x86\x85V_VP9\x1fC\xb6u\xff\xa3\x94\x81\0\0\x800123456789abcdef",
-            [
-                Ok(Some(Span { from: 38, to: 54 })),
-                Ok(None),
-                Ok(None),
-            ],
+            [Ok(Some(Span { from: 38, to: 54 })), Ok(None), Ok(None)],
         ),
         (
             "a lacing flag",
@@ -82,29 +78,17 @@ fn made_files(rt: HostRuntime) {
         (
             "a BlockGroup",
             b"\x1aE\xdf\xa3\x80\x18S\x80g\xff\x16T\xaek\x8c\xae\x8a\xd7\x81\x01\x86\x85V_VP9\x1fC\xb6u\x8c\xa0\x8a\xa1\x85\x81\0\0\0A\x9b\x81d",
-            [
-                Ok(Some(Span { from: 40, to: 41 })),
-                Ok(None),
-                Ok(None),
-            ],
+            [Ok(Some(Span { from: 40, to: 41 })), Ok(None), Ok(None)],
         ),
         (
             "Void anywhere",
             b"\x1aE\xdf\xa3\x80\xec\x82xx\x18S\x80g\xff\xec\x80\x16T\xaek\x91\xec\x81x\xae\x8c\xd7\x81\x01\x86\x85V_VP9\xec\x80\x1fC\xb6u\xff\xec\x80\xa0\x8a\xec\x81x\xa1\x85\x81\0\0\x80A",
-            [
-                Ok(Some(Span { from: 56, to: 57 })),
-                Ok(None),
-                Ok(None),
-            ],
+            [Ok(Some(Span { from: 56, to: 57 })), Ok(None), Ok(None)],
         ),
         (
             "an empty payload, and bytes behind the Segment",
             b"\x1aE\xdf\xa3\x80\x18S\x80g\x9c\x16T\xaek\x8c\xae\x8a\xd7\x81\x01\x86\x85V_VP9\x1fC\xb6u\x86\xa3\x84\x81\0\0\x80xyz",
-            [
-                Ok(Some(Span { from: 38, to: 38 })),
-                Ok(None),
-                Ok(None),
-            ],
+            [Ok(Some(Span { from: 38, to: 38 })), Ok(None), Ok(None)],
         ),
         (
             "a track that is encoded once more",
@@ -158,5 +142,4 @@ fn made_files(rt: HostRuntime) {
         assert_eq!(rt; found[1], second, "{name}");
         assert_eq!(rt; found[2], third, "{name}");
     }
-
 }
