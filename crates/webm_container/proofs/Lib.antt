@@ -10,3 +10,4 @@ pub mod Files
 pub mod Readings
 pub mod Wholes
 pub mod Found
+pub mod Causes

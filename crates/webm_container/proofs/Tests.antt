@@ -12,3 +12,8 @@ by_test P false x y holds fails = fails refl
 pub by_result : {A B E : Type 0} (P : Result B E → Type 0) (r : Result A E) (f : A → Result B E) → ((x : A) → r ≡ Ok x → P (f x)) → ((e : E) → P (Err e)) → P (r >>= f)
 by_result P (Ok x) f ok err = ok x refl
 by_result P (Err e) f ok err = err e
+
+-- the same, with what the result is at a fault too
+pub by_result_is : {A B E : Type 0} (P : Result B E → Type 0) (r : Result A E) (f : A → Result B E) → ((x : A) → r ≡ Ok x → P (f x)) → ((e : E) → r ≡ Err e → P (Err e)) → P (r >>= f)
+by_result_is P (Ok x) f ok err = ok x refl
+by_result_is P (Err e) f ok err = err e refl

@@ -5,7 +5,7 @@ use Rattle.vp9_types.specs.declared.job.Span.{Span}
 use Rattle.vp9_types.specs.declared.rule.Rule.{Rule}
 use Rattle.ivf_container.specs.Packets.{Packets, no_packets, with_payload}
 use Rattle.webm_container.specs.Walk.{step_at, go_on, fewer_from, packets_from}
-use Rattle.webm_container.specs.Code.{Fits, blocks_ahead, IsBlock}
+use Rattle.webm_container.specs.Code.{Fits, blocks_ahead, GivesBlock}
 use Rattle.webm_container.specs.declared.cursor.Parent.{Parent}
 use Rattle.webm_container.specs.declared.cursor.Parent.TheVariants as parent
 use Rattle.webm_container.specs.declared.cursor.WebmCursor.{WebmCursor}
@@ -95,7 +95,7 @@ pub goes_further : (bytes : List ℕ) (first c d : WebmCursor) → IsOnWay bytes
 goes_further bytes first c d way taken =
     record { fits = fits_of (length bytes) d taken.0.fits; ahead = way.ahead ∙ taken.1; onward = omega (arith, way.onward, taken.0.onward) }
 
-pub comes_to_block : (bytes : List ℕ) (first c d : WebmCursor) (span : Span) → IsOnWay bytes first c → IsTaken bytes c (Ok (Block span d)) → IsBlock bytes first span d
+pub comes_to_block : (bytes : List ℕ) (first c d : WebmCursor) (span : Span) → IsOnWay bytes first c → IsTaken bytes c (Ok (Block span d)) → GivesBlock bytes first span d
 comes_to_block bytes first c d span way taken =
     record {
       in_order = taken.0.in_order;

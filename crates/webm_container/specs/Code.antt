@@ -41,14 +41,14 @@ unfoldable pub blocks_ahead : List ℕ → WebmCursor → Packets
 blocks_ahead bytes c = packets_from bytes c
 
 -- a block with this payload, and the cursor behind it: its head and its element's head have at least 6 bytes
-pub record IsBlock (bytes : List ℕ) (old : WebmCursor) (span : Span) (new : WebmCursor) : Type 0 where
+pub record GivesBlock (bytes : List ℕ) (old : WebmCursor) (span : Span) (new : WebmCursor) : Type 0 where
   pub in_order : span.from ≤ span.to
   pub within : span.to ≤ length bytes
   pub behind : old.at + 6 + (span.to - span.from) ≤ new.at
   pub ahead : blocks_ahead bytes old ≡ with_payload (slice_range bytes span.from span.to) (blocks_ahead bytes new)
 
--- the next block, the end, or the rule that is broken before another block; at the last two the cursor stays
+-- the next block, the end, or the rule that is broken before another block; behind the last two the same is ahead
 abbrev pub IsNextBlock : List ℕ → WebmCursor → Result (Option Span) Rule → WebmCursor → Type 0
-IsNextBlock bytes old (Ok (Some span)) new = IsBlock bytes old span new
+IsNextBlock bytes old (Ok (Some span)) new = GivesBlock bytes old span new
 IsNextBlock bytes old (Ok None) new = (blocks_ahead bytes old ≡ no_packets None) × (blocks_ahead bytes new ≡ no_packets None)
 IsNextBlock bytes old (Err rule) new = (blocks_ahead bytes old ≡ no_packets (Some rule)) × (blocks_ahead bytes new ≡ no_packets (Some rule))

@@ -5,3 +5,4 @@ pub mod Blocks
 pub mod Walk
 pub mod Webm
 pub mod Code
+pub mod Laws

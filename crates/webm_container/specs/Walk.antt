@@ -23,10 +23,6 @@ use Rattle.webm_container.specs.declared.steps.Step.TheVariants.{Moved, Block, E
 abbrev pub moved : WebmCursor → ℕ → Parent → Result Step Rule
 moved c at within = Ok (Moved (record c { at = at; parent = within }))
 
--- an element whose size has to be known is skipped
-abbrev pub skipped : WebmCursor → Element → Result Step Rule
-skipped c element = if element.unknown then Err WebmElement else moved c element.to c.parent
-
 -- Before the Segment: the file begins with the EBML element, and what else stands there is skipped. The Segment ends
 -- at its size, or at the end of the file.
 abbrev pub in_file : WebmCursor → Element → Result Step Rule

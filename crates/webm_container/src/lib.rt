@@ -9,4 +9,4 @@ mod laws;
 mod steps;
 
 pub use cursor::{WebmCursor, next_block};
-pub use laws::files_have_these_packets;
+pub use laws::{files_have_these_packets, rules_have_causes};
