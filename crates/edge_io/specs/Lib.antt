@@ -3,3 +3,4 @@ pub mod Reading
 pub mod Putting
 pub mod Memory
 pub mod System
+pub mod Prefixed

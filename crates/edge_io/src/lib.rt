@@ -4,6 +4,7 @@
 mod calls;
 mod gate;
 mod memory;
+mod prefixed;
 mod read;
 mod sink;
 mod source;
@@ -12,6 +13,7 @@ mod write;
 
 pub use gate::{Gate, OpenGate};
 pub use memory::{MemSink, MemSource};
+pub use prefixed::Prefixed;
 pub use read::{ReadError, read_all};
 pub use sink::{PutFault, Sink};
 pub use source::{Failed, Source};

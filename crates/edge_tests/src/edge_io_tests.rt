@@ -1,7 +1,8 @@
 ghost use Rattle.std.specs.Prelude.{◌≡◌, ◌++◌, OnOk, Some, List, ℕ};
 
 use edge_io::{
-    MemSink, MemSource, PutFault, ReadError, Sink, Source, StdSink, StdSource, put_all, read_all,
+    MemSink, MemSource, Prefixed, PutFault, ReadError, Sink, Source, StdSink, StdSource, put_all,
+    read_all,
 };
 use std::alloc::Global;
 use std::io;
@@ -138,5 +139,20 @@ fn short_writes_go_on(rt: HostRuntime) -> Result<(), Fail> {
         assert_eq!(rt; put_all(&mut sink, b"abc").is_ok(), left == 9);
         assert_eq!(rt; sink.into_inner().taken.as_slice(), bytes);
     }
+    Ok(())
+}
+
+#[test]
+fn bytes_that_were_read_are_put_back(rt: HostRuntime) -> Result<(), Fail> {
+    let mut source = MemSource::new(rt.alloc(), b"abcdefgh", &[])?;
+    let mut front = [0; 4];
+    let Ok(4) = source.fill(&mut front) else {
+        return Err(Fail::new("not four bytes"));
+    };
+    let mut whole = Prefixed::new(front, source);
+    let bytes = read_all(rt.alloc(), &mut whole)?;
+    assert_eq!(rt; bytes.as_slice(), b"abcdefgh".as_slice());
+    let rest = read_all(rt.alloc(), &mut whole.into_source())?;
+    assert_eq!(rt; rest.len(), 0);
     Ok(())
 }
