@@ -1,0 +1,3 @@
+pub mod Bands
+pub mod Table
+pub mod Code
