@@ -21,16 +21,21 @@ import subprocess
 import time
 
 MEMORY = 2 << 30
+WEBM = b"\x1a\x45\xdf\xa3"
 SECONDS = 60
 
 
 def mutated(data, rng):
-    """One to eight changes behind the file's header: a byte, a bit, a part left out, a part twice, the end cut off."""
+    """One to eight changes behind the file's header: a byte, a bit, a part left out, a part twice, the end cut off. Of a WebM file
+    every second change is one of its first 600 bytes, where most elements are."""
     data = bytearray(data)
+    is_webm = data.startswith(WEBM)
+    first = 4 if is_webm else 32
     for _ in range(rng.choice([1, 1, 2, 3, 8])):
-        if len(data) <= 33:
+        if len(data) <= first + 1:
             break
-        at, kind = rng.randrange(32, len(data)), rng.randrange(12)
+        end = min(600, len(data)) if is_webm and rng.randrange(2) else len(data)
+        at, kind = rng.randrange(first, end), rng.randrange(12)
         if kind < 5:
             data[at] = rng.randrange(256)
         elif kind < 9:
@@ -62,7 +67,7 @@ def tried(program, file, seed, keep):
     second = run(program, data) if first[0] != "no end" else first
     wrong = first != second or first[0] not in (0, 3, 6)
     if wrong and keep:
-        (pathlib.Path(keep) / f"{file.stem}-{seed}.ivf").write_bytes(data)
+        (pathlib.Path(keep) / f"{file.stem}-{seed}{file.suffix}").write_bytes(data)
     return file, seed, first, second, wrong
 
 
@@ -78,7 +83,7 @@ def main():
     given = words.parse_args()
     top = pathlib.Path(__file__).resolve().parent.parent
     program = os.environ.get("VP9DEC", str(top / "vp9dec"))
-    files = [f for folder in given.folders for f in sorted(folder.glob("*.ivf")) if f.stat().st_size <= given.limit]
+    files = [f for folder in given.folders for f in sorted([*folder.glob("*.ivf"), *folder.glob("*.webm")]) if f.stat().st_size <= given.limit]
     assert files, "no stream"
     end, ends, wrong = time.monotonic() + given.seconds, collections.Counter(), 0
     seeds = range(given.seed, given.seed + given.count)

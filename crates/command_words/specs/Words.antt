@@ -1,6 +1,6 @@
 -- What the words of the command line ask for, by clap's own account of a parse.
 use Rattle.std.specs.Prelude.{List, [], ◌∷◌, Option, Some, None, Result, Ok, Err, ℕ, pos, Bool, true, false, codes}
-use Rattle.std.specs.Prelude.{if◌then◌else◌, option_and_then, length, nat_lt, ◌&&◌, ◌^◌}
+use Rattle.std.specs.Prelude.{if◌then◌else◌, option_and_then, option_map, length, nat_lt, ◌&&◌, ◌^◌}
 use Rattle.std.specs.Char.{digit_value}
 use Rattle.std.specs.List.{list_all}
 use Rattle.std.specs.Option.{option_map_or}
@@ -9,7 +9,7 @@ use Rattle.std.specs.Str.Parse.{digits_value, without_leading_plus}
 use Rattle.std.specs.Allocator.{alloc_error}
 use Rattle.std.specs.declared.alloc.AllocError.{AllocError}
 use Rattle.clap.specs.Simple.{on_top}
-use Rattle.clap.specs.Walk.{byte_or_zero, one_of}
+use Rattle.clap.specs.Walk.{byte_or_zero, first_of, one_of}
 use Rattle.clap.specs.Words.{App, Kinds, Row, Rule, Text, fault_of, kind_of, new_app, new_rule, subcommand_of, subcommand_rows_of}
 use Rattle.clap.specs.Words.{with_rule, with_subcommand}
 use Rattle.clap.specs.declared.builder.action.ArgAction.TheVariants.{SetTrue}
@@ -18,6 +18,8 @@ use Rattle.clap.specs.declared.error.Error.{Error}
 use Rattle.clap.specs.declared.error.kind.ErrorKind.{ErrorKind}
 use Rattle.clap.specs.declared.error.kind.ErrorKind.TheVariants.{OutOfMemory}
 use Rattle.clap.specs.declared.parser.matches.ArgMatches.{ArgMatches}
+use Rattle.frame_output.specs.declared.rendering.Format.{Format}
+use Rattle.frame_output.specs.declared.rendering.Format.TheVariants.{Raw, Md5, Y4m}
 use Rattle.command_words.specs.declared.command.Command.{Command}
 use Rattle.command_words.specs.declared.command.Command.TheVariants as command
 use Rattle.command_words.specs.declared.command.DecodeOptions.{DecodeOptions}
@@ -39,12 +41,17 @@ number_rule name low high default = record (new_rule name) {
   defaults = default ∷ [];
 }
 
--- the command `decode [--plain] [--workers W] [--window N]`
+-- an option whose value is a word, and this one where it isn't given
+abbrev pub word_rule : Text → Text → Rule
+word_rule name default = record (new_rule name) { long = Some name; defaults = default ∷ [] }
+
+-- the command `decode [--plain] [--workers W] [--window N] [--format F]`
 abbrev pub decode_app : App
 decode_app =
-    with_rule (with_rule (with_rule (new_app (codes "decode")) (flag_rule (codes "plain")))
+    with_rule (with_rule (with_rule (with_rule (new_app (codes "decode")) (flag_rule (codes "plain")))
     (number_rule (codes "workers") 1 64 (codes "4")))
-    (number_rule (codes "window") 2 16 (codes "4"))
+    (number_rule (codes "window") 2 16 (codes "4")))
+    (word_rule (codes "format") (codes "raw"))
 
 -- a word that has to be given: a number from low to high
 abbrev pub given_rule : Text → ℕ → ℕ → Rule
@@ -79,18 +86,30 @@ given_at id rows = option_map_or number_or_zero (one_of id rows) 0
 abbrev pub stream_of : List Row → MadeStream
 stream_of rows = record { number = given_at (codes "number") rows; frames = given_at (codes "frames") rows }
 
-abbrev pub options_of : List Row → DecodeOptions
-options_of rows = record {
+-- the format that a word names
+abbrev pub format_named : Text → Option Format
+format_named word =
+    if bytes_eq word (codes "raw") then Some Raw
+    else (if bytes_eq word (codes "md5") then Some Md5
+    else (if bytes_eq word (codes "y4m") then Some Y4m else None))
+
+abbrev pub format_at : List Row → Option Format
+format_at rows = option_and_then format_named (first_of (codes "format") rows)
+
+-- none where no format has the name that is given
+abbrev pub options_of : List Row → Option DecodeOptions
+options_of rows = option_map (λ format. record {
   plain = is_set (codes "plain") rows;
   workers = number_at (codes "workers") rows;
   window = number_at (codes "window") rows;
-}
+  format = format;
+}) (format_at rows)
 
--- the command of this name, with what was found of its arguments
+-- the command of this name, with what was found of its arguments: none where these name no format
 abbrev pub named : Text × List Row → Option Command
 named used =
     if bytes_eq used.0 (codes "list") then Some command.List
-    else (if bytes_eq used.0 (codes "decode") then Some (command.Decode (options_of used.1))
+    else (if bytes_eq used.0 (codes "decode") then option_map command.Decode (options_of used.1)
     else (if bytes_eq used.0 (codes "make") then Some (command.Make (stream_of used.1)) else None))
 
 -- none where a parse has a fault, and else what it found
@@ -104,8 +123,8 @@ unfoldable pub command_of : List Text → Option Command
 command_of words = unless_fault (fault_of vp9dec_app words) (option_and_then named (subcommand_of vp9dec_app words))
 
 -- the command `decode` with these options
-abbrev pub decode_by : Bool → ℕ → ℕ → Option Command
-decode_by plain workers window = Some (command.Decode (record { plain = plain; workers = workers; window = window }))
+abbrev pub decode_by : Bool → ℕ → ℕ → Format → Option Command
+decode_by plain workers window format = Some (command.Decode (record { plain = plain; workers = workers; window = window; format = format }))
 
 -- the command `make` with these numbers
 abbrev pub make_of : ℕ → ℕ → Option Command

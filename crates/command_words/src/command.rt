@@ -1,3 +1,5 @@
+use frame_output::Format;
+
 /// What the words after the program's name ask for.
 #[derive(Clone, Copy, Debug, PartialEq, Eq)]
 pub enum Command {
@@ -9,7 +11,7 @@ pub enum Command {
     Make(MadeStream),
 }
 
-/// How a file is decoded, which changes nothing of what is written.
+/// How a file is decoded and its frames are written. All but the format changes nothing of what is written.
 #[derive(Clone, Copy, Debug, PartialEq, Eq)]
 pub struct DecodeOptions {
     /// On one thread.
@@ -18,6 +20,7 @@ pub struct DecodeOptions {
     pub workers: u8,
     /// How many frames may be under way at once, 2 to 16.
     pub window: u8,
+    pub format: Format,
 }
 
 /// Which stream is generated.

@@ -4,6 +4,7 @@ ghost use Rattle.std.specs.Prelude.{◌≡◌, ◌∷◌, [], List, ℕ, Some, N
 ghost use Rattle.command_words.specs.Words.{command_of, decode_by, make_of};
 
 use crate::Command;
+use frame_output::Format;
 
 /// The definition at words that are written out, whatever the program is called.
 pub fn worked_rows()
@@ -22,13 +23,23 @@ pub fn worked_rows()
     ensures an_option { (name : List ℕ) → command_of (name ∷ codes "list" ∷ codes "--plain" ∷ []) ≡ None }
     ensures after_dashes { (name : List ℕ) → command_of (name ∷ codes "--" ∷ codes "list" ∷ []) ≡ None }
     ensures before_dashes { (name : List ℕ) → command_of (name ∷ codes "list" ∷ codes "--" ∷ []) ≡ Some Command.List }
-    ensures decode { (name : List ℕ) → command_of (name ∷ codes "decode" ∷ []) ≡ decode_by false 4 4 }
-    ensures plain { (name : List ℕ) → command_of (name ∷ codes "decode" ∷ codes "--plain" ∷ []) ≡ decode_by true 4 4 }
-    ensures workers { (name : List ℕ) → command_of (name ∷ codes "decode" ∷ codes "--workers" ∷ codes "64" ∷ []) ≡ decode_by false 64 4 }
-    ensures one_worker { (name : List ℕ) → command_of (name ∷ codes "decode" ∷ codes "--workers=1" ∷ []) ≡ decode_by false 1 4 }
-    ensures window { (name : List ℕ) → command_of (name ∷ codes "decode" ∷ codes "--window" ∷ codes "16" ∷ []) ≡ decode_by false 4 16 }
-    ensures least_window { (name : List ℕ) → command_of (name ∷ codes "decode" ∷ codes "--window=2" ∷ []) ≡ decode_by false 4 2 }
-    ensures all_options { (name : List ℕ) → command_of (name ∷ codes "decode" ∷ codes "--window=3" ∷ codes "--plain" ∷ codes "--workers" ∷ codes "12" ∷ []) ≡ decode_by true 12 3 }
+    ensures decode { (name : List ℕ) → command_of (name ∷ codes "decode" ∷ []) ≡ decode_by false 4 4 Format.Raw }
+    ensures plain { (name : List ℕ) → command_of (name ∷ codes "decode" ∷ codes "--plain" ∷ []) ≡ decode_by true 4 4 Format.Raw }
+    ensures workers { (name : List ℕ) → command_of (name ∷ codes "decode" ∷ codes "--workers" ∷ codes "64" ∷ []) ≡ decode_by false 64 4 Format.Raw }
+    ensures one_worker { (name : List ℕ) → command_of (name ∷ codes "decode" ∷ codes "--workers=1" ∷ []) ≡ decode_by false 1 4 Format.Raw }
+    ensures window { (name : List ℕ) → command_of (name ∷ codes "decode" ∷ codes "--window" ∷ codes "16" ∷ []) ≡ decode_by false 4 16 Format.Raw }
+    ensures least_window { (name : List ℕ) → command_of (name ∷ codes "decode" ∷ codes "--window=2" ∷ []) ≡ decode_by false 4 2 Format.Raw }
+    ensures all_options { (name : List ℕ) → command_of (name ∷ codes "decode" ∷ codes "--window=3" ∷ codes "--plain" ∷ codes "--workers" ∷ codes "12" ∷ []) ≡ decode_by true 12 3 Format.Raw }
+    ensures raw { (name : List ℕ) → command_of (name ∷ codes "decode" ∷ codes "--format" ∷ codes "raw" ∷ []) ≡ decode_by false 4 4 Format.Raw }
+    ensures md5 { (name : List ℕ) → command_of (name ∷ codes "decode" ∷ codes "--format" ∷ codes "md5" ∷ []) ≡ decode_by false 4 4 Format.Md5 }
+    ensures y4m { (name : List ℕ) → command_of (name ∷ codes "decode" ∷ codes "--format=y4m" ∷ []) ≡ decode_by false 4 4 Format.Y4m }
+    ensures format_and_plain { (name : List ℕ) → command_of (name ∷ codes "decode" ∷ codes "--format=md5" ∷ codes "--plain" ∷ []) ≡ decode_by true 4 4 Format.Md5 }
+    ensures unknown_format { (name : List ℕ) → command_of (name ∷ codes "decode" ∷ codes "--format" ∷ codes "i420" ∷ []) ≡ None }
+    ensures upper_case_format { (name : List ℕ) → command_of (name ∷ codes "decode" ∷ codes "--format" ∷ codes "MD5" ∷ []) ≡ None }
+    ensures front_of_a_format { (name : List ℕ) → command_of (name ∷ codes "decode" ∷ codes "--format" ∷ codes "y4" ∷ []) ≡ None }
+    ensures twice_format { (name : List ℕ) → command_of (name ∷ codes "decode" ∷ codes "--format=md5" ∷ codes "--format=md5" ∷ []) ≡ None }
+    ensures format_without_value { (name : List ℕ) → command_of (name ∷ codes "decode" ∷ codes "--format" ∷ []) ≡ None }
+    ensures empty_format { (name : List ℕ) → command_of (name ∷ codes "decode" ∷ codes "--format=" ∷ []) ≡ None }
     ensures no_workers { (name : List ℕ) → command_of (name ∷ codes "decode" ∷ codes "--workers" ∷ codes "0" ∷ []) ≡ None }
     ensures many_workers { (name : List ℕ) → command_of (name ∷ codes "decode" ∷ codes "--workers" ∷ codes "65" ∷ []) ≡ None }
     ensures small_window { (name : List ℕ) → command_of (name ∷ codes "decode" ∷ codes "--window" ∷ codes "1" ∷ []) ≡ None }

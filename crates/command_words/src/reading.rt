@@ -1,17 +1,20 @@
 ghost use Rattle.std.specs.Prelude.{◌≡◌, IfOk, codes, false, map, option_and_then, string_bytes};
 ghost use Rattle.clap.specs.Words.{app_of, found_of, rows_of, rule_of, subcommand_rows_of};
-ghost use Rattle.command_words.specs.Words.{answer_of, command_of, flag_rule, given_at, given_rule, is_set, named};
-ghost use Rattle.command_words.specs.Words.{number_at, number_rule, options_of, stream_of, vp9dec_app};
+ghost use Rattle.command_words.specs.Words.{answer_of, command_of, flag_rule, format_at, format_named, given_at, given_rule, is_set};
+ghost use Rattle.command_words.specs.Words.{named, number_at, number_rule, options_of, stream_of, vp9dec_app, word_rule};
 
 use crate::{Command, DecodeOptions, MadeStream};
 use clap::error::ErrorKind;
 use clap::{Arg, ArgAction, ArgMatches, Error, value_parser};
+use frame_output::Format;
 use std::alloc::{AllocError, Global};
 
 /// How many workers there are, and how many frames under way, where nothing is said.
 const USUAL_WORKERS: &str = "4";
 
 const USUAL_WINDOW: &str = "4";
+
+const USUAL_FORMAT: &str = "raw";
 
 fn plain_option<'a>(alloc: Global) -> Arg<'a>
     ensures rule { rule_of result ≡ flag_rule (codes "plain") }
@@ -44,6 +47,16 @@ fn window_option<'a>(alloc: Global) -> Arg<'a>
         .default_value(USUAL_WINDOW)
 }
 
+// Any word is taken here: `format_named` tells which are formats.
+fn format_option<'a>(alloc: Global) -> Arg<'a>
+    ensures rule { rule_of result ≡ word_rule (codes "format") (codes "raw") }
+    ensures own { result.global ≡ false }
+{
+    Arg::new(alloc, "format")
+        .long("format")
+        .default_value(USUAL_FORMAT)
+}
+
 fn number_word<'a>(alloc: Global) -> Arg<'a>
     ensures rule { rule_of result ≡ given_rule (codes "number") 0 4294967295 }
     ensures own { result.global ≡ false }
@@ -71,7 +84,8 @@ fn vp9dec<'a>(alloc: Global) -> Result<clap::Command<'a>, AllocError>
     let decode = clap::Command::new(alloc, "decode")
         .arg(plain_option(alloc))?
         .arg(workers_option(alloc))?
-        .arg(window_option(alloc))?;
+        .arg(window_option(alloc))?
+        .arg(format_option(alloc))?;
     let make = clap::Command::new(alloc, "make")
         .arg(number_word(alloc))?
         .arg(frames_word(alloc))?;
@@ -100,14 +114,33 @@ fn given(matches: &ArgMatches<'_>, id: &str) -> u32
     matches.get_one::<u32>(id).unwrap_or(0)
 }
 
-fn options_in(matches: &ArgMatches<'_>) -> DecodeOptions
+fn format_named(word: &str) -> Option<Format>
+    ensures { result ≡ format_named word.now }
+{
+    match word {
+        "raw" => Some(Format::Raw),
+        "md5" => Some(Format::Md5),
+        "y4m" => Some(Format::Y4m),
+        _ => None,
+    }
+}
+
+fn format_in(matches: &ArgMatches<'_>) -> Option<Format>
+    ensures { result ≡ format_at (rows_of (found_of matches.now)) }
+{
+    format_named(matches.get_str("format")?)
+}
+
+fn options_in(matches: &ArgMatches<'_>) -> Option<DecodeOptions>
     ensures { result ≡ options_of (rows_of (found_of matches.now)) }
 {
-    DecodeOptions {
+    let format = format_in(matches)?;
+    Some(DecodeOptions {
         plain: flag(matches, "plain"),
         workers: number(matches, "workers"),
         window: number(matches, "window"),
-    }
+        format,
+    })
 }
 
 fn stream_in(matches: &ArgMatches<'_>) -> MadeStream
@@ -125,7 +158,7 @@ fn command_in(matches: &ArgMatches<'_>) -> Option<Command>
 {
     match matches.subcommand() {
         Some(("list", _)) => Some(Command::List),
-        Some(("decode", options)) => Some(Command::Decode(options_in(options))),
+        Some(("decode", options)) => Some(Command::Decode(options_in(options)?)),
         Some(("make", words)) => Some(Command::Make(stream_in(words))),
         _ => None,
     }

@@ -1,4 +1,5 @@
 use command_words::{Command, DecodeOptions, MadeStream, read_words};
+use frame_output::Format;
 use std::alloc::{AllocError, Global};
 use std::test::Fail;
 
@@ -26,19 +27,22 @@ fn lists(rt: HostRuntime) -> Result<(), Fail> {
 #[test]
 fn decodes(rt: HostRuntime) -> Result<(), Fail> {
     let cases = [
-        ("vp9dec decode", false, 4, 4),
-        ("vp9dec decode --plain", true, 4, 4),
-        ("vp9dec decode --workers 1 --window 16", false, 1, 16),
-        ("vp9dec decode --window=2 --workers=64 --plain", true, 64, 2),
-        ("vp9dec decode --workers +7", false, 7, 4),
+        ("vp9dec decode", false, 4, 4, Format::Raw),
+        ("vp9dec decode --plain", true, 4, 4, Format::Raw),
+        ("vp9dec decode --workers 1 --window 16", false, 1, 16, Format::Raw),
+        ("vp9dec decode --window=2 --workers=64 --plain", true, 64, 2, Format::Raw),
+        ("vp9dec decode --workers +7", false, 7, 4, Format::Raw),
+        ("vp9dec decode --format md5", false, 4, 4, Format::Md5),
+        ("vp9dec decode --format=y4m --plain", true, 4, 4, Format::Y4m),
     ];
-    for (line, plain, workers, window) in cases {
+    for (line, plain, workers, window, format) in cases {
         let words = words_of(rt.alloc(), line)?;
         let command = read_words(rt.alloc(), words.as_slice())?;
         let options = DecodeOptions {
             plain,
             workers,
             window,
+            format,
         };
         assert_eq!(rt; command, Some(Command::Decode(options)), "at {line}");
     }
@@ -89,6 +93,11 @@ fn other_words_are_no_command(rt: HostRuntime) -> Result<(), Fail> {
         "vp9dec decode --workers 300",
         "vp9dec decode --plain --plain",
         "vp9dec decode --plain=true",
+        "vp9dec decode --format",
+        "vp9dec decode --format=",
+        "vp9dec decode --format i420",
+        "vp9dec decode --format MD5",
+        "vp9dec decode --format md5 --format md5",
         "vp9dec decode --threads 4",
         "vp9dec decode x",
         "vp9dec decode list",

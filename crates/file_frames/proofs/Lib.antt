@@ -1,3 +1,4 @@
 pub mod Splits
 pub mod Walks
 pub mod Aheads
+pub mod Containers

@@ -3,11 +3,12 @@ use Rattle.std.specs.Prelude.{◌≡◌, ℕ, ◌+◌, Bool, true, false, List, 
 use Rattle.vp9_types.specs.declared.job.Span.{Span}
 use Rattle.vp9_types.specs.declared.outcome.Stop.{Stop}
 use Rattle.vp9_types.specs.declared.rule.Rule.{Rule}
-use Rattle.ivf_container.specs.Packets.{Packets, no_packets, packets_from}
+use Rattle.file_frames.specs.Cursors.{packets_left}
 use Rattle.file_frames.specs.FileFrames.{FileFrames, frames_in, split_packets, frames_of_file}
 use Rattle.file_frames.specs.Walks.{Walk, Walked, adding, walk_from, walk}
 use Rattle.file_frames.specs.declared.cursor.FileFrame.{FileFrame}
 use Rattle.file_frames.specs.declared.cursor.FrameCursor.{FrameCursor}
+use Rattle.file_frames.specs.declared.packets.PacketCursor.{PacketCursor}
 
 -- the frames that are still to come, the number of the first of them, and what is behind them
 pub record Ahead : Type 0 where
@@ -23,22 +24,17 @@ ahead_from number frames file = record { number = number; frames = frames ++ fra
 abbrev pub all_ahead : List ℕ → Ahead
 all_ahead bytes = ahead_from 0 [] (frames_of_file bytes)
 
--- the packets from a place on, unless the file's header breaks a rule
-abbrev pub packets_left : List ℕ → ℕ → Option Rule → Packets
-packets_left bytes at None = packets_from bytes at
-packets_left bytes at (Some rule) = no_packets (Some rule)
-
 abbrev pub span_bytes : List ℕ → Span → List ℕ
 span_bytes payload span = slice_range payload span.from span.to
 
 -- the frames left of a payload in hand, and those of the packets from a place on
-abbrev pub ahead_at : List ℕ → ℕ → Option Rule → List ℕ → List Span → ℕ → ℕ → Ahead
-ahead_at bytes at broken payload spans taken number =
-    ahead_from number (map (span_bytes payload) (drop taken spans)) (split_packets (packets_left bytes at broken))
+abbrev pub ahead_at : List ℕ → PacketCursor → List ℕ → List Span → ℕ → ℕ → Ahead
+ahead_at bytes packets payload spans taken number =
+    ahead_from number (map (span_bytes payload) (drop taken spans)) (split_packets (packets_left bytes packets))
 
 -- what a cursor has ahead
 unfoldable pub ahead : FrameCursor → Ahead
-ahead c = ahead_at c.bytes.now c.at c.broken c.payload.now c.parts.items c.taken c.number
+ahead c = ahead_at c.bytes.now c.packets c.payload.now c.parts.items c.taken c.number
 
 -- the next frame, the end of the file, or the rule that is broken at the frame that would come next
 abbrev pub IsNext : Ahead → Result (Option FileFrame) Stop → Ahead → Type 0

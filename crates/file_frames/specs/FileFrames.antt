@@ -2,7 +2,8 @@
 use Rattle.std.specs.Prelude.{◌≡◌, ◌⊎◌, ℕ, List, [], ◌∷◌, Option, Some, Result, Ok, Err}
 use Rattle.std.specs.List.{flat_map}
 use Rattle.vp9_types.specs.declared.rule.Rule.{Rule}
-use Rattle.ivf_container.specs.Packets.{Packets, IsFile, packets_of}
+use Rattle.ivf_container.specs.Packets.{Packets}
+use Rattle.file_frames.specs.Containers.{HasPackets, packets_of_file}
 use Rattle.superframe_index.specs.Frames.{IsSplit, at_spans, frames_of}
 
 -- the frames of each payload, and the rule that the container or the sizes of a payload's index break at the frame that
@@ -33,7 +34,7 @@ AreSplit (payload ∷ payloads) ending file =
     ⊎ ((rule : Rule) × IsSplit payload (Err rule) × (file ≡ no_frames (Some rule)))
 
 abbrev pub HasFrames : List ℕ → FileFrames → Type 0
-HasFrames bytes file = (packets : Packets) × IsFile bytes packets × AreSplit packets.payloads packets.ending file
+HasFrames bytes file = (packets : Packets) × HasPackets bytes packets × AreSplit packets.payloads packets.ending file
 
 ---- The same, computed ----
 
@@ -50,4 +51,4 @@ abbrev pub split_packets : Packets → FileFrames
 split_packets packets = split_all packets.payloads packets.ending
 
 unfoldable pub frames_of_file : List ℕ → FileFrames
-frames_of_file bytes = split_packets (packets_of bytes)
+frames_of_file bytes = split_packets (packets_of_file bytes)

@@ -1,8 +1,10 @@
 ghost use Rattle.std.specs.Prelude.{◌≡◌, ◌≤◌, ◌+◌, ◌-◌, length};
 ghost use Rattle.std.specs.List.{All};
 ghost use Rattle.superframe_index.specs.Frames.{IsPart};
+ghost use Rattle.file_frames.specs.Props.{fits_file_prop};
+ghost use Rattle.file_frames.specs.Cursors.{FitsFile, place_of};
 
-use ivf_container::{next_packet, read_header};
+use crate::packets::PacketCursor;
 use superframe_index::{Parts, split};
 use vp9_types::{Rule, Stop};
 
@@ -13,22 +15,21 @@ pub struct FileFrame<'a> {
     pub bytes: &'a [u8],
 }
 
-/// Goes over the frames of an IVF file, in order. It takes no memory.
+/// Goes over the frames of a file, in order. It takes no memory.
 #[derive(Drop)]
 pub struct FrameCursor<'a> {
     bytes: &'a [u8],
-    // Where the next packet begins, unless the file's header broke a rule.
-    at: usize,
-    broken: Option<Rule>,
+    packets: PacketCursor,
     // The payload before it, where the frames of that lie, and how many of them were given.
     payload: &'a [u8],
     parts: Parts,
     taken: usize,
     number: u64,
-    ghost within: { at ≤ length bytes.now },
+    ghost within: { FitsFile bytes.now packets } by { fits_file_prop bytes.now packets },
+    ghost placed_in: { place_of packets ≤ length bytes.now },
     ghost parted: { length parts.items ≤ 8 },
     ghost placed: { All (IsPart payload.now) parts.items },
-    ghost few: { number + (length parts.items - taken) ≤ at },
+    ghost few: { number + (length parts.items - taken) ≤ place_of packets },
     ghost given: { taken ≤ length parts.items },
 }
 
@@ -40,14 +41,9 @@ impl<'a> FrameCursor<'a> {
     pub fn new(bytes: &'a [u8]) -> FrameCursor<'a>
         ensures { ahead result ≡ all_ahead bytes.now }
     {
-        let (at, broken) = match read_header(bytes) {
-            Ok(at) => (at, None),
-            Err(rule) => (0, Some(rule)),
-        };
         FrameCursor {
             bytes,
-            at,
-            broken,
+            packets: PacketCursor::new(bytes),
             payload: &bytes[..0],
             parts: Parts::new(),
             taken: 0,
@@ -59,15 +55,12 @@ impl<'a> FrameCursor<'a> {
     fn next_payload(&mut self) -> Result<bool, Rule>
         requires { length self.old.parts.items ≤ self.old.taken }
         ensures moved { HasMoved (ahead self.old) result (ahead self.new) }
-        ensures nearer { result ≡ Ok true → self.old.at < self.new.at }
+        ensures nearer { result ≡ Ok true → place_of self.old.packets < place_of self.new.packets }
         ensures same { self.new.bytes ≡ self.old.bytes }
         ensures number { self.new.number ≡ self.old.number }
     {
-        match self.broken {
-            Some(rule) => return Err(rule),
-            None => {}
-        }
-        let packet = match next_packet(self.bytes, self.at) {
+        let mut packets = self.packets;
+        let packet = match packets.next_packet(self.bytes) {
             Ok(Some(packet)) => packet,
             Ok(None) => return Ok(false),
             Err(rule) => return Err(rule),
@@ -79,7 +72,7 @@ impl<'a> FrameCursor<'a> {
         }
         self.payload = payload;
         self.taken = 0;
-        self.at = packet.to;
+        self.packets = packets;
         Ok(true)
     }
 

@@ -1,3 +1,4 @@
 pub mod RowTexts
 pub mod Fronts
 pub mod KeptRows
+pub mod Digests

@@ -121,7 +121,7 @@ pub nothing_put : (old : Option (List ℕ)) (depth : Depth) (width : ℕ) (m : M
 unfolding rows_text
 nothing_put old depth width m = takes_none old
 
-first_rows : (depth : Depth) (width : ℕ) (m : Map) (y count : ℕ)
+pub first_rows : (depth : Depth) (width : ℕ) (m : Map) (y count : ℕ)
     → rows_text depth width m 0 (y + count) ≡ rows_text depth width m 0 y ++ rows_text depth width m y count
 first_rows depth width m y count =
     let here : 0 + y ≡ y = omega arith in

@@ -5,7 +5,7 @@ ghost use Rattle.vp9_types.specs.Shapes.{plane_width, plane_height};
 ghost use Rattle.edge_io.specs.Putting.{PutsAll, CountsPutFaults};
 ghost use Rattle.frame_output.specs.Texts.{frame_text, plane_text, sample_size};
 
-use crate::rows::{sample_bytes, write_rows};
+use crate::rows::{rows_with_room, sample_bytes, write_rows};
 use edge_io::{PutFault, Sink, put_all};
 use vp9_types::{Plane, Samples, Shape};
 
@@ -65,13 +65,4 @@ fn put_plane<S: Samples, K: Sink>(
         y += count;
     }
     Ok(())
-}
-
-// How many rows there is room for. Rows of nothing have room anywhere, and are written one by one.
-fn rows_with_room(room: usize, row_bytes: usize) -> usize
-    requires { row_bytes ≤ room }
-    ensures whole { result * row_bytes ≤ room }
-    ensures some { 0 < result }
-{
-    if row_bytes == 0 { 1 } else { room / row_bytes }
 }

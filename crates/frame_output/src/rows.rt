@@ -15,6 +15,15 @@ pub(crate) fn sample_bytes(depth: Depth) -> usize
     }
 }
 
+// How many rows there is room for. Rows of nothing have room anywhere, and are written one by one.
+pub(crate) fn rows_with_room(room: usize, row_bytes: usize) -> usize
+    requires { row_bytes ≤ room }
+    ensures whole { result * row_bytes ≤ room }
+    ensures some { 0 < result }
+{
+    if row_bytes == 0 { 1 } else { room / row_bytes }
+}
+
 // Writes `count` rows of a plane to the front of the buffer, from row `from` on.
 pub(crate) fn write_rows<S: Samples>(
     samples: &S,

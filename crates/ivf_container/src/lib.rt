@@ -5,4 +5,4 @@ mod laws;
 mod packet;
 
 pub use laws::file_has_these_packets;
-pub use packet::{Packet, next_packet, read_header};
+pub use packet::{Packet, next_packet, rate, read_header};

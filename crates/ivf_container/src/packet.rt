@@ -1,5 +1,5 @@
-ghost use Rattle.std.specs.Prelude.{◌≡◌, ◌≤◌, length};
-ghost use Rattle.ivf_container.specs.Packets.{header_end, next_packet_at, IsBegun, IsNext};
+ghost use Rattle.std.specs.Prelude.{◌≡◌, ◌≤◌, length, IfOk};
+ghost use Rattle.ivf_container.specs.Packets.{header_end, next_packet_at, rate_of, IsBegun, IsNext};
 
 use byteorder::{ByteOrder, LittleEndian};
 use vp9_types::Rule;
@@ -22,6 +22,7 @@ pub struct Packet {
 pub fn read_header(bytes: &[u8]) -> Result<usize, Rule>
     ensures exact { result ≡ header_end bytes.now }
     ensures begun { IsBegun bytes.now result }
+    ensures least { IfOk result (λ at. 32 ≤ at) }
 {
     if bytes.len() < 4 {
         return Err(Rule::IvfHeader);
@@ -43,6 +44,17 @@ pub fn read_header(bytes: &[u8]) -> Result<usize, Rule>
         return Err(Rule::IvfCodec);
     }
     Ok(end)
+}
+
+/// The frame rate that a file header names: frames for each so many seconds. Both are as they stand there, 0 too.
+pub fn rate(bytes: &[u8]) -> (u32, u32)
+    requires { 32 ≤ length bytes.now }
+    ensures { result ≡ rate_of bytes.now }
+{
+    (
+        LittleEndian::read_u32(&bytes[16..20]),
+        LittleEndian::read_u32(&bytes[20..24]),
+    )
 }
 
 /// The packet at a place of the file, which is the end of the header or of another packet. It may be empty.

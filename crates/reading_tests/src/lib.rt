@@ -19,3 +19,5 @@ mod superframes;
 mod tables;
 #[cfg(test)]
 mod tokens;
+#[cfg(test)]
+mod webm;

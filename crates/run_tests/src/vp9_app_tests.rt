@@ -1,7 +1,9 @@
 mod rows;
 
 use md5::{Digest, Md5};
-use rows::{Row, drawn_streams, inter_decode, intra_decode, list, long_runs, overflow_frames};
+use rows::{
+    Row, drawn_streams, formats, inter_decode, intra_decode, list, long_runs, overflow_frames, webm,
+};
 use std::alloc::{AllocError, Global};
 use std::sync::Wait;
 use std::test::Fail;
@@ -125,6 +127,51 @@ fn long_runs_end_as_they_are_to(rt: HostRuntime) -> Result<(), Fail> {
             (row.name, ran.note.bytes()),
             (row.name, row.note.as_bytes())
         );
+    }
+    Ok(())
+}
+
+#[test]
+fn formats_are_written(rt: HostRuntime) -> Result<(), Fail> {
+    assert_eq!(rt;
+        first_other(&rt, rt.alloc(), formats::TABLES.as_slice())?,
+        None
+    );
+    Ok(())
+}
+
+#[test]
+fn webm_files_are_read(rt: HostRuntime) -> Result<(), Fail> {
+    assert_eq!(rt;
+        first_other(&rt, rt.alloc(), webm::TABLES.as_slice())?,
+        None
+    );
+    Ok(())
+}
+
+// How a front of a WebM file ends.
+fn note_of_a_front(length: usize) -> &'static str {
+    if length < 4 {
+        "frame 0: rule 2 IvfHeader\n"
+    } else if length == webm::WITHOUT_A_TRACK {
+        "frame 0: rule 26 WebmTrack\n"
+    } else if webm::WITHOUT_A_FRAME.contains(&length) {
+        ""
+    } else {
+        "frame 0: rule 25 WebmElement\n"
+    }
+}
+
+#[test]
+fn a_webm_file_may_be_cut_anywhere(rt: HostRuntime) -> Result<(), Fail> {
+    for length in 0..webm::ONE_FRAME.len() {
+        let front = webm::ONE_FRAME.split_at(length).0;
+        let ran = run_words(&rt, rt.alloc(), &["decode"], front, &NONE)?;
+        assert_eq!(rt;
+            (length, ran.note.bytes()),
+            (length, note_of_a_front(length).as_bytes())
+        );
+        assert_eq!(rt; ran.out.bytes().len(), 0);
     }
     Ok(())
 }

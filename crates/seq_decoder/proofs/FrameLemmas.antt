@@ -1,6 +1,6 @@
 -- What a frame adds.
 use Rattle.std.proofs.Common.{◌≡◌, ℕ, zero, suc, List, [], ◌∷◌, true, ap, sym, subst, refl, ◌∙◌, arith}
-use Rattle.std.specs.Prelude.{All, Bool, IfSome, Option, Some, None, Result, Ok, Err, ◌<◌, get_or, length, map, slice_get}
+use Rattle.std.specs.Prelude.{All, Bool, false, if◌then◌else◌, IfSome, Option, Some, None, Result, Ok, Err, ◌<◌, get_or, length, map, slice_get}
 use Rattle.std.proofs.lemmas.List.Elements.{All-head, All-tail}
 use Rattle.std.proofs.lemmas.Option.{slice_get_within}
 use Rattle.edge_io.specs.Putting.{Takes, TakesFront}
@@ -8,6 +8,10 @@ use Rattle.edge_io.specs.declared.sink.PutFault.{PutFault}
 use Rattle.edge_io.specs.declared.sink.PutFault.TheVariants as refused
 use Rattle.edge_io.proofs.Fronts.{takes_none}
 use Rattle.vp9_types.specs.declared.rule.Rule.{Rule}
+use Rattle.vp9_types.specs.declared.rule.Rule.TheVariants.{OutputShape}
+use Rattle.vp9_types.specs.declared.outcome.Outcome.{Outcome}
+use Rattle.vp9_types.specs.declared.outcome.Outcome.TheVariants as outcome
+use Rattle.file_frames.specs.Walks.{Added}
 use Rattle.vp9_types.specs.Maps.{FrameMap}
 use Rattle.vp9_types.specs.declared.shape.Shape.{Shape}
 use Rattle.frame_headers.specs.declared.header.Header.{Header}
@@ -15,7 +19,6 @@ use Rattle.frame_headers.proofs.SlotLemmas.{refreshed_told}
 use Rattle.frame_headers.specs.State.{SlotsHaveSizes, refreshed, shape_of}
 use Rattle.frame_headers.specs.declared.header.FrameSize.{FrameSize}
 use Rattle.frame_headers.specs.declared.persist.Persist.{Persist}
-use Rattle.frame_output.specs.Texts.{frame_text}
 use Rattle.picture_table.specs.Code.{IsBelow, IsSoundAt, IsTable, NamesSound, held, held_in, shown}
 use Rattle.picture_table.specs.declared.table.PictureTable.{PictureTable}
 use Rattle.prob_contexts.specs.Lists.{ContextLists}
@@ -26,48 +29,74 @@ use Rattle.frame_state.specs.declared.halt.Halt.{Halt}
 use Rattle.frame_state.specs.declared.halt.Halt.TheVariants as halt
 use Rattle.seq_decoder.specs.After.{Stepped, after_coded, picture_of, shown_picture, state_after}
 use Rattle.seq_decoder.specs.SavedContexts.{context_at, own_contexts, place_of, saved_before, with_own, saved_after}
-use Rattle.seq_decoder.specs.Code.{StandsFor, shape_told, shown_text, step_text, shown_of, text_if, IsAt, IsCoded, Shows, Halts, halt_outcome, refusal_outcome}
+use Rattle.seq_decoder.specs.Code.{StandsFor, shape_told, put_text, shown_of, told_picture, HasBegun, IsAt, IsCoded, MayDecode, Shows, Halts, Puts, halt_outcome, refusal_outcome}
+use Rattle.seq_decoder.specs.Outputs.{Putting, admits, form_after, put, shown_text}
+use Rattle.seq_decoder.specs.declared.form.OutputForm.{OutputForm}
 use Rattle.seq_decoder.specs.Outcomes.{outcome_at}
 use Rattle.seq_decoder.specs.State.{Picture, State}
 use Rattle.seq_decoder.specs.declared.coding.Coded.{Coded}
 use Rattle.seq_decoder.specs.declared.decoder.Decoder.{Decoder}
-use Rattle.seq_decoder.proofs.ShowingLemmas.{text_is}
 
 ---- A frame that can't be decoded, or written ----
 
-pub rule_halts : (number : ℕ) (stepped : Result Stepped Rule) (rule : Rule) (old : Option (List ℕ)) (faults : ℕ) → stepped ≡ Err rule → Halts number stepped old old faults faults (outcome_at number rule)
-rule_halts number stepped rule old faults is = record { ends = is; frame = refl; none = takes_none old; quiet = refl }
+pub rule_halts : (number : ℕ) (r : Result (Added Putting ℕ) Rule) (rule : Rule) (old : Option (List ℕ)) (faults : ℕ) → r ≡ Err rule → Halts number r old old faults faults (outcome_at number rule)
+rule_halts number r rule old faults is = record { ends = is; frame = refl; none = takes_none old; quiet = refl }
 
 -- for want of memory, before anything is written
-pub wants_memory : (number : ℕ) (stepped : Result Stepped Rule) (old : Option (List ℕ)) (faults : ℕ) → Halts number stepped old old faults faults (halt_outcome number halt.OutOfMemory)
-wants_memory number stepped old faults = ((0, omega arith, takes_none old), refl)
+pub wants_memory : (number : ℕ) (r : Result (Added Putting ℕ) Rule) (old : Option (List ℕ)) (faults : ℕ) → Halts number r old old faults faults (halt_outcome number halt.OutOfMemory)
+wants_memory number r old faults = ((0, omega arith, takes_none old), refl)
 
 -- at a frame that can't be decoded
-pub frame_halted : (number : ℕ) (state : State) (header : Header) (d : Result FrameResult Rule) (h : Halt) (table : PictureTable) (old : Option (List ℕ)) (faults : ℕ) → IsCoded header d table (Err h)
-    → Halts number (after_coded number state header d) old old faults faults (halt_outcome number h)
-frame_halted number state header d (halt.Broken rule) table old faults is = rule_halts number (after_coded number state header d) rule old faults (ap (after_coded number state header) is)
-frame_halted number state header d halt.OutOfMemory table old faults is = wants_memory number (after_coded number state header d) old faults
+pub frame_halted : (number : ℕ) (form : OutputForm) (state : State) (header : Header) (d : Result FrameResult Rule) (h : Halt) (table : PictureTable) (old : Option (List ℕ)) (faults : ℕ) → IsCoded header d table (Err h)
+    → Halts number (put form (after_coded number state header d)) old old faults faults (halt_outcome number h)
+frame_halted number form state header d (halt.Broken rule) table old faults is = rule_halts number (put form (after_coded number state header d)) rule old faults (ap (λ f. put form (after_coded number state header f)) is)
+frame_halted number form state header d halt.OutOfMemory table old faults is = wants_memory number (put form (after_coded number state header d)) old faults
 
--- at a frame that the sink refuses
-pub refused_at : (number : ℕ) (stepped : Result Stepped Rule) (next : Stepped) (old new : Option (List ℕ)) (faults now : ℕ) (refusal : PutFault) → stepped ≡ Ok next
-    → Shows (shown_text next.shown) old new faults now (Err refusal) → Halts number stepped old new faults now (refusal_outcome refusal)
-refused_at number stepped next old new faults now refused.Failed is k = (subst (λ s. TakesFront old new (step_text s)) (sym is) k.0, k.1)
-refused_at number stepped next old new faults now refused.OutOfMemory is k = (subst (λ s. TakesFront old new (step_text s)) (sym is) k.0, k.1)
+-- how a picture is put doesn't depend on its number
+pub puts_told : (number : ℕ) (shown : Option Picture) (form after : OutputForm) (old new : Option (List ℕ)) (faults now : ℕ) (r : Result (Unit {0}) Outcome)
+    → Puts number (told_picture (shown_of shown)) form after old new faults now r → Puts number shown form after old new faults now r
+puts_told number None form after old new faults now r h = h
+puts_told number (Some picture) form after old new faults now (Ok u) h = h
+puts_told number (Some picture) form after old new faults now (Err outcome.Done) h = h
+puts_told number (Some picture) form after old new faults now (Err (outcome.Broken stop)) h = h
+puts_told number (Some picture) form after old new faults now (Err outcome.ReadFault) h = h
+puts_told number (Some picture) form after old new faults now (Err outcome.WriteFault) h = h
+puts_told number (Some picture) form after old new faults now (Err outcome.OutOfMemory) h = h
 
--- its text
-pub text_refused : (number : ℕ) (header : Header) (table : PictureTable) (c : Coded) (got : AnyPicture) (old new : Option (List ℕ)) (faults now : ℕ) (refusal : PutFault) (result : FrameResult)
-    (at : IsAt header table c result) → got ≡ at.picture
-    → Shows (text_if header.show_frame got) old new faults now (Err refusal) → Shows (shown_text (shown_picture number header result)) old new faults now (Err refusal)
-text_refused number header table c got old new faults now refusal result at same shows =
-    subst (λ t. Shows t old new faults now (Err refusal)) (ap (text_if header.show_frame) same ∙ text_is number header c at.picture result at.holds) shows
+pub puts_as : (number : ℕ) (told : Option (Shape × FrameMap)) (shown : Option Picture) (form after : OutputForm) (old new : Option (List ℕ)) (faults now : ℕ) (r : Result (Unit {0}) Outcome) → told ≡ shown_of shown
+    → Puts number (told_picture told) form after old new faults now r → Puts number shown form after old new faults now r
+puts_as number told shown form after old new faults now r is h =
+    puts_told number shown form after old new faults now r (subst (λ t. Puts number (told_picture t) form after old new faults now r) is h)
 
-pub text_taken : (number : ℕ) (header : Header) (table : PictureTable) (c : Coded) (got : AnyPicture) (old new : Option (List ℕ)) (result : FrameResult) (at : IsAt header table c result) → got ≡ at.picture
-    → Takes old new (text_if header.show_frame got) → Takes old new (shown_text (shown_picture number header result))
-text_taken number header table c got old new result at same takes = subst (Takes old new) (ap (text_if header.show_frame) same ∙ text_is number header c at.picture result at.holds) takes
+abbrev put_if : OutputForm → Stepped → Bool → Result (Added Putting ℕ) Rule
+put_if form next fits = if fits then Ok (record { state = record { state = next.state; form = form_after form next.shown }; adds = shown_text form next.shown }) else Err OutputShape
+
+fits_as : (form : OutputForm) (r : Result Stepped Rule) (next : Stepped) (fits : Bool) → r ≡ Ok next → admits form next.shown ≡ fits → put form r ≡ put_if form next fits
+fits_as form r next fits is admitted = ap (put form) is ∙ ap (put_if form next) admitted
+
+-- at a frame that isn't written
+pub put_halts : (number : ℕ) (form after : OutputForm) (r : Result Stepped Rule) (next : Stepped) (old new : Option (List ℕ)) (faults now : ℕ) (o : Outcome) → r ≡ Ok next
+    → Puts number next.shown form after old new faults now (Err o) → Halts number (put form r) old new faults now o
+put_halts number form after r next old new faults now outcome.Done is h = h
+put_halts number form after r next old new faults now (outcome.Broken stop) is h = record {
+  ends = fits_as form r next false is h.0 ∙ ap (λ s. Err s.rule) (sym h.1);
+  frame = ap (λ s. s.frame) h.1;
+  none = h.2;
+  quiet = h.3;
+}
+put_halts number form after r next old new faults now outcome.ReadFault is h = h
+put_halts number form after r next old new faults now outcome.WriteFault is h = (subst (λ p. TakesFront old new (put_text p)) (sym (fits_as form r next true is h.0)) h.1, h.2)
+put_halts number form after r next old new faults now outcome.OutOfMemory is h = (subst (λ p. TakesFront old new (put_text p)) (sym (fits_as form r next true is h.0)) h.1, h.2)
+
+-- at one that the sink refuses
+pub refused_puts : (number : ℕ) (shown : Option Picture) (form after : OutputForm) (old new : Option (List ℕ)) (faults now : ℕ) (refusal : PutFault) → admits form shown ≡ true
+    → Shows (shown_text form shown) old new faults now (Err refusal) → Puts number shown form after old new faults now (Err (refusal_outcome refusal))
+refused_puts number shown form after old new faults now refused.Failed fits h = (fits, h)
+refused_puts number shown form after old new faults now refused.OutOfMemory fits h = (fits, h)
 
 ---- What is kept of a frame ----
 
-shown_at : (header : Header) (table : PictureTable) (c : Coded) (result : FrameResult) (at : IsAt header table c result) → held_in table.pictures.items (Some c.place) ≡ Some (shape_of header, result.map)
+pub shown_at : (header : Header) (table : PictureTable) (c : Coded) (result : FrameResult) (at : IsAt header table c result) → held_in table.pictures.items (Some c.place) ≡ Some (shape_of header, result.map)
 shown_at header table c result at = ap shown at.there ∙ (λ i. Some (at.holds.shape i, at.holds.map i))
 
 -- what the slots hold behind a frame
@@ -128,14 +157,6 @@ slot_told (x ∷ xs) (s ∷ slots) pictures (suc n) same = slot_told xs slots pi
     tails : {A : Type 0} {a b : A} {rest others : List A} → a ∷ rest ≡ b ∷ others → rest ≡ others
     tails e = cc
 
-abbrev text_of : Option (Shape × FrameMap) → List ℕ
-text_of None = []
-text_of (Some told) = frame_text told.0 told.1
-
-text_told : (o : Option Picture) → text_of (shown_of o) ≡ shown_text o
-text_told None = refl
-text_told (Some p) = refl
-
 named_sound : (pictures : List AnyPicture) (slots : List (Option ℕ)) (n place : ℕ) → All (NamesSound pictures) slots → get_or slots n None ≡ Some place → IsSoundAt pictures place
 named_sound pictures [] n place all is = absurd cc
 named_sound pictures (s ∷ slots) zero place all is = subst (NamesSound pictures) is (All-head (NamesSound pictures) s slots all)
@@ -146,7 +167,7 @@ named_there count [] n place all is = absurd cc
 named_there count (s ∷ slots) zero place all is = subst (IsBelow count) is (All-head (IsBelow count) s slots all)
 named_there count (s ∷ slots) (suc n) place all is = named_there count slots n place (All-tail (IsBelow count) s slots all) is
 
-got_there : (pictures : List AnyPicture) (place : ℕ) (d : AnyPicture) → place < length pictures → slice_get pictures place ≡ Some (get_or pictures place d)
+pub got_there : (pictures : List AnyPicture) (place : ℕ) (d : AnyPicture) → place < length pictures → slice_get pictures place ≡ Some (get_or pictures place d)
 got_there [] place d low = absurd (omega (arith, low))
 got_there (p ∷ pictures) zero d low = refl
 got_there (p ∷ pictures) (suc place) d low = got_there pictures place d (omega (arith, low))
@@ -160,22 +181,39 @@ is_at t n place got h is same = got_there t.pictures.items place got (shown_plac
 pub shown_sound : (t : PictureTable) (n place : ℕ) (got : AnyPicture) → IsTable t → get_or t.slots n None ≡ Some place → got ≡ get_or t.pictures.items place got → IsSound got
 shown_sound t n place got h is same = subst (λ o. IfSome o IsSound) (is_at t n place got h is same) (named_sound t.pictures.items t.slots n place h.sound is)
 
--- the text of a slot's picture
-pub slot_text : (d : Decoder) (state : State) (n place : ℕ) (got : AnyPicture) → StandsFor d state → IsTable d.table → get_or d.table.slots n None ≡ Some place
-    → got ≡ get_or d.table.pictures.items place got → text_if true got ≡ shown_text (get_or state.slots n None)
-slot_text d state n place got stands h is same =
-    ap text_of (sym (ap shown (is_at d.table n place got h is same)) ∙ ap (held_in d.table.pictures.items) (sym is) ∙ slot_told state.slots d.table.slots d.table.pictures.items n stands.slots)
-    ∙ text_told (get_or state.slots n None)
+-- what a slot names is there, and sound
+pub slot_below : (t : PictureTable) (n : ℕ) (place : Option ℕ) → IsTable t → place ≡ get_or t.slots n None → IsBelow (length t.pictures.items) place
+slot_below t n None h is = tt
+slot_below t n (Some place) h is = shown_place t n place h (sym is)
 
--- of a slot that holds nothing
-pub no_text : (d : Decoder) (state : State) (n : ℕ) → StandsFor d state → get_or d.table.slots n None ≡ None → [] ≡ shown_text (get_or state.slots n None)
-no_text d state n stands is =
-    ap text_of (ap (held_in d.table.pictures.items) (sym is) ∙ slot_told state.slots d.table.slots d.table.pictures.items n stands.slots)
-    ∙ text_told (get_or state.slots n None)
+pub slot_sound : (t : PictureTable) (n : ℕ) (place : Option ℕ) → IsTable t → place ≡ get_or t.slots n None → NamesSound t.pictures.items place
+slot_sound t n None h is = tt
+slot_sound t n (Some place) h is = named_sound t.pictures.items t.slots n place h.sound (sym is)
 
-pub none_of : (o : Option ℕ) → ((x : ℕ) → o ≡ Some x → ⊥) → o ≡ None
-none_of None other = refl
-none_of (Some x) other = absurd (other x refl)
+-- and what is told of it
+pub slot_shows : (d : Decoder) (state : State) (n : ℕ) (place : Option ℕ) → StandsFor d state → place ≡ get_or d.table.slots n None
+    → held_in d.table.pictures.items place ≡ shown_of (get_or state.slots n None)
+slot_shows d state n place stands is = ap (held_in d.table.pictures.items) is ∙ slot_told state.slots d.table.slots d.table.pictures.items n stands.slots
 
-pub shows_nothing : (old : Option (List ℕ)) (text : List ℕ) → [] ≡ text → Takes old old text
-shows_nothing old text is = subst (Takes old old) is (takes_none old)
+---- A frame that is put changes nothing but how the next one is ----
+
+pub may_put : (d after : Decoder) (size : FrameSize) → after ≡ record d { form = after.form; text = after.text } → MayDecode (record d { persist = record d.persist { size = Some size } })
+    → MayDecode (record after { persist = record after.persist { size = Some size } })
+may_put d after size same h =
+    subst (λ (x : Decoder). MayDecode (record x { persist = record x.persist { size = Some size } })) (sym same)
+    (record { sized = h.sized; table_is = h.table_is; shapes = h.shapes; few = h.few; places = h.places })
+
+pub may_shown : (d after : Decoder) → after ≡ record d { form = after.form; text = after.text } → MayDecode d → MayDecode after
+may_shown d after same h =
+    subst (λ (x : Decoder). MayDecode x) (sym same) (record { sized = h.sized; table_is = h.table_is; shapes = h.shapes; few = h.few; places = h.places })
+
+pub begun_put : (header : Header) (d after : Decoder) (state : State) → after ≡ record d { form = after.form; text = after.text } → HasBegun header d state → HasBegun header after state
+begun_put header d after state same h =
+    subst (λ (x : Decoder). HasBegun header x state) (sym same) (record { persist = h.persist; contexts = h.contexts; slots = h.slots; segments = h.segments; last = h.last })
+
+pub stands_put : (d after : Decoder) (state : State) → after ≡ record d { form = after.form; text = after.text } → StandsFor d state → StandsFor after state
+stands_put d after state same h =
+    subst (λ (x : Decoder). StandsFor x state) (sym same) (record { persist = h.persist; contexts = h.contexts; slots = h.slots; segments = h.segments; last = h.last })
+
+pub at_put : (header : Header) (d after : Decoder) (c : Coded) (r : FrameResult) → after ≡ record d { form = after.form; text = after.text } → IsAt header d.table c r → IsAt header after.table c r
+at_put header d after c r same h = subst (λ (x : Decoder). IsAt header x.table c r) (sym same) h

@@ -6,3 +6,4 @@ pub mod SegmentLemmas
 pub mod HeaderReferences
 pub mod PastLemmas
 pub mod KeptFrames
+pub mod OutputLemmas

@@ -1,6 +1,6 @@
 -- What a frame shows, in the words of the frame's text.
 use Rattle.std.proofs.Common.{◌≡◌, ℕ, ◌+◌, ◌-◌, ◌*◌, ◌/◌, ◌^◌, ◌≤◌, ◌<◌, List, [], get_or, Bool, true, false, arith, refl, sym, ap, subst, ◌∙◌}
-use Rattle.std.specs.Prelude.{Option, Some, None, Result, Ok, Err, slice_get, if◌then◌else◌}
+use Rattle.std.specs.Prelude.{IfSome, Option, Some, None, Result, Ok, Err, slice_get, if◌then◌else◌}
 use Rattle.std.proofs.lemmas.Option.{get_or_from_slice_get}
 use Rattle.edge_io.specs.declared.sink.PutFault.{PutFault}
 use Rattle.edge_io.specs.declared.sink.PutFault.TheVariants as refused
@@ -21,10 +21,15 @@ use Rattle.planes.specs.Planes.{HasRow}
 use Rattle.planes.specs.declared.frame_planes.FramePlanes.{FramePlanes}
 use Rattle.planes.specs.declared.picture.Picture.{Picture}
 use Rattle.frame_decoder.specs.Frames.{FrameResult}
-use Rattle.frame_output.specs.Texts.{frame_text}
+use Rattle.frame_output.specs.Formats.{output_text}
+use Rattle.frame_output.specs.declared.rendering.Rendering.{Rendering}
 use Rattle.seq_decoder.specs.declared.coding.Coded.{Coded}
 use Rattle.seq_decoder.specs.After.{shown_picture}
-use Rattle.seq_decoder.specs.Code.{HoldsFrame, Shows, shown_text, text_if}
+use Rattle.seq_decoder.specs.Code.{HoldsFrame, Shows, shown_of}
+use Rattle.seq_decoder.specs.Outputs.{is_first}
+use Rattle.seq_decoder.specs.declared.form.OutputForm.{OutputForm}
+use Rattle.picture_table.specs.Code.{IsBelow, IsSoundAt, NamesSound, held_in}
+use Rattle.picture_table.specs.declared.table.PictureTable.{PictureTable}
 
 pub small_at : (depth : Depth) (m : Map) (y x : ℕ) → depth ≡ Eight → IsAtMost (2 ^ depth_bits depth - 1) m → m y x < 256
 small_at depth m y x eight most = omega (arith, subst (λ d. IsAtMost (2 ^ depth_bits d - 1) m) eight most y x)
@@ -38,8 +43,11 @@ small_in f V y x eight sound = small_at _ _ y x eight sound.range.v
 pub small_samples : {X : Type 0} (f : Picture X) (shape : Shape) (p : Plane) (y x : ℕ) → IsWhole f → shape ≡ f.shape → shape.depth ≡ Eight → map_of f p y x < 256
 small_samples f shape p y x sound is eight = small_in f p y x (ap (λ s. s.depth) (sym is) ∙ eight) sound
 
-pub text_by : {X : Type 0} (picture : Picture X) (shape : Shape) → shape ≡ picture.shape → frame_text shape (map_of picture) ≡ frame_text picture.shape (map_of picture)
-text_by picture shape same = ap (λ s. frame_text s (map_of picture)) same
+-- what is put of it, by the rendering of a form
+pub text_by : {X : Type 0} (how : Rendering) (form : OutputForm) (picture : Picture X) (shape : Shape)
+    → how ≡ record { format = form.format; rate = form.rate; first = is_first form.first } → shape ≡ picture.shape
+    → output_text how.format how.rate how.first shape (map_of picture) ≡ output_text form.format form.rate (is_first form.first) picture.shape (map_of picture)
+text_by how form picture shape is same = λ i. output_text (is i).format (is i).rate (is i).first (same i) (map_of picture)
 
 -- chroma of a plane rounded up is within half of what is rounded up to places
 half_within : (n : ℕ) (ss : Bool) → subsampled_size n ss ≤ halved ss (8 * ((n + 7) / 8))
@@ -79,16 +87,29 @@ pub render_shows : (old new : Option (List ℕ)) (grows : Bool) (faults now : �
     → PutsAll old new text r → CountsPutFaults grows faults now r → Shows shown old new faults now r
 render_shows old new grows faults now text shown r is h k = subst (λ t. Shows t old new faults now r) is (put_shows old new grows faults now text r h k)
 
-shown_by : (shown : Bool) (number : ℕ) (shape : Shape) (m : FrameMap)
-    → (if shown then frame_text shape m else []) ≡ shown_text (if shown then Some (record { frame = number; shape = shape; map = m }) else None)
-shown_by true number shape m = refl
-shown_by false number shape m = refl
+-- what is told of what a frame shows
+told_if : (shown : Bool) (pictures : List AnyPicture) (place number : ℕ) (shape : Shape) (m : FrameMap) → held_in pictures (Some place) ≡ Some (shape, m)
+    → held_in pictures (if shown then Some place else None) ≡ shown_of (if shown then Some (record { frame = number; shape = shape; map = m }) else None)
+told_if true pictures place number shape m is = is
+told_if false pictures place number shape m is = refl
 
--- the text of what is shown of a frame
-pub text_is : (number : ℕ) (header : Header) (c : Coded) (picture : AnyPicture) (result : FrameResult) → HoldsFrame header picture c.decoded result
-    → text_if header.show_frame picture ≡ shown_text (shown_picture number header result)
-text_is number header c picture result holds =
-    (λ i. if header.show_frame then frame_text (holds.shape i) (holds.map i) else []) ∙ shown_by header.show_frame number (shape_of header) result.map
+pub told_shown : (number : ℕ) (header : Header) (table : PictureTable) (c : Coded) (result : FrameResult) (place : Option ℕ) → held_in table.pictures.items (Some c.place) ≡ Some (shape_of header, result.map)
+    → place ≡ (if header.show_frame then Some c.place else None)
+    → held_in table.pictures.items place ≡ shown_of (shown_picture number header result)
+told_shown number header table c result place there is =
+    ap (held_in table.pictures.items) is ∙ told_if header.show_frame table.pictures.items c.place number (shape_of header) result.map there
+
+-- the place of what is shown is there
+pub below_if : (shown : Bool) (count place : ℕ) → place < count → IsBelow count (if shown then Some place else None)
+below_if true count place low = low
+below_if false count place low = tt
+
+pub sound_if : (shown : Bool) (pictures : List AnyPicture) (place : ℕ) → IsSoundAt pictures place → NamesSound pictures (if shown then Some place else None)
+sound_if true pictures place h = h
+sound_if false pictures place h = tt
+
+pub sound_at : (pictures : List AnyPicture) (place : ℕ) (picture : AnyPicture) → slice_get pictures place ≡ Some picture → IsSound picture → IsSoundAt pictures place
+sound_at pictures place picture there sound = subst (λ o. IfSome o IsSound) (sym there) sound
 
 pub is_sound : (header : Header) (c : Coded) (picture : AnyPicture) (result : FrameResult) → FitsPlanes (shape_of header) → HoldsFrame header picture c.decoded result → IsSound picture
 is_sound header c picture result fits holds = holds.sound fits

@@ -6,9 +6,11 @@ use Rattle.edge_io.specs.declared.sink.PutFault.TheVariants as refused
 use Rattle.vp9_types.specs.declared.job.Span.{Span}
 use Rattle.vp9_types.specs.Maps.{FrameMap, Map}
 use Rattle.vp9_types.specs.declared.rule.Rule.{Rule}
+use Rattle.vp9_types.specs.declared.rule.Rule.TheVariants.{OutputShape}
 use Rattle.vp9_types.specs.declared.outcome.Outcome.{Outcome}
 use Rattle.vp9_types.specs.declared.outcome.Outcome.TheVariants as outcome
 use Rattle.vp9_types.specs.declared.shape.Shape.{Shape}
+use Rattle.file_frames.specs.Walks.{Added}
 use Rattle.frame_headers.specs.declared.header.FrameKind.{FrameKind}
 use Rattle.frame_headers.specs.declared.header.FrameKind.TheVariants.{Key, IntraOnly, Inter}
 use Rattle.frame_headers.specs.declared.header.FrameSize.{FrameSize}
@@ -37,13 +39,13 @@ use Rattle.frame_decoder.specs.declared.decoding.Decoded.{Decoded}
 use Rattle.frame_state.specs.Reading.{FrameInput, all_blocks}
 use Rattle.frame_state.specs.declared.halt.Halt.{Halt}
 use Rattle.frame_state.specs.declared.halt.Halt.TheVariants as halt
-use Rattle.frame_output.specs.Texts.{frame_text}
 use Rattle.seq_decoder.specs.declared.coding.Coded.{Coded}
 use Rattle.seq_decoder.specs.declared.decoder.Decoder.{Decoder}
+use Rattle.seq_decoder.specs.declared.form.OutputForm.{OutputForm}
 use Rattle.seq_decoder.specs.declared.saved.SavedContexts.{SavedContexts}
 use Rattle.seq_decoder.specs.After.{Stepped, segments_before}
 use Rattle.seq_decoder.specs.Outcomes.{outcome_at}
-use Rattle.seq_decoder.specs.Runs.{picture_text}
+use Rattle.seq_decoder.specs.Outputs.{Putting, admits, form_after, put, shown_text}
 use Rattle.seq_decoder.specs.SavedContexts.{is_key, saved_before}
 use Rattle.seq_decoder.specs.State.{LastFrame, Picture, State, last_size, no_segments, persist_of}
 use Rattle.block_rebuild.specs.declared.references.ReferencePicture as code_picture
@@ -142,9 +144,10 @@ NamesHeld header slots = NamesHeldBy header.kind header slots
 
 ---- What the calls answer ----
 
--- the text of a picture, if it is shown
-abbrev pub text_if : Bool → AnyPicture → List ℕ
-text_if shown picture = if shown then frame_text (shape_of_any picture) (map_of_any picture) else []
+-- a picture of which this is told: how it is put doesn't depend on its number
+abbrev pub told_picture : Option (Shape × FrameMap) → Option Picture
+told_picture None = None
+told_picture (Some told) = Some (record { frame = 0; shape = told.0; map = told.1 })
 
 -- what a frame is read from
 abbrev pub input_by : code_sources.FrameSources → List ℕ → Span → FrameInput
@@ -195,31 +198,42 @@ abbrev pub refusal_outcome : PutFault → Outcome
 refusal_outcome refused.Failed = outcome.WriteFault
 refusal_outcome refused.OutOfMemory = outcome.OutOfMemory
 
--- what is written of a frame
-abbrev pub shown_text : Option Picture → List ℕ
-shown_text None = []
-shown_text (Some picture) = picture_text picture
+-- What is shown was written and the form is the one behind it; or it doesn't fit the form, or the sink refused, and the run ends.
+abbrev pub Puts : ℕ → Option Picture → OutputForm → OutputForm → Option (List ℕ) → Option (List ℕ) → ℕ → ℕ → Result (Unit {0}) Outcome → Type 0
+Puts number shown form after old new faults now (Ok u) =
+    (admits form shown ≡ true) × (after ≡ form_after form shown) × Takes old new (shown_text form shown) × (now ≡ faults)
+Puts number shown form after old new faults now (Err (outcome.Broken stop)) =
+    (admits form shown ≡ false) × (stop ≡ record { frame = number; rule = OutputShape }) × Takes old new [] × (now ≡ faults)
+Puts number shown form after old new faults now (Err outcome.WriteFault) =
+    (admits form shown ≡ true) × TakesFront old new (shown_text form shown) × (faults < now)
+Puts number shown form after old new faults now (Err outcome.OutOfMemory) =
+    (admits form shown ≡ true) × TakesFront old new (shown_text form shown) × (now ≡ faults)
+Puts number shown form after old new faults now (Err other) = ⊥
 
-abbrev pub step_text : Result Stepped Rule → List ℕ
-step_text (Ok stepped) = shown_text stepped.shown
-step_text (Err rule) = []
+-- what is written of a frame
+abbrev pub put_text : Result (Added Putting ℕ) Rule → List ℕ
+put_text (Ok added) = added.adds
+put_text (Err rule) = []
 
 -- the frame breaks this rule, and nothing was written
-pub record Breaks (number : ℕ) (stepped : Result Stepped Rule) (old new : Option (List ℕ)) (faults now : ℕ) (at : ℕ) (rule : Rule) : Type 0 where
-  pub ends : stepped ≡ Err rule
+pub record Breaks (number : ℕ) (put : Result (Added Putting ℕ) Rule) (old new : Option (List ℕ)) (faults now : ℕ) (at : ℕ) (rule : Rule) : Type 0 where
+  pub ends : put ≡ Err rule
   pub frame : at ≡ number
   pub none : Takes old new []
   pub quiet : now ≡ faults
 
 -- the decode ends in this frame
-abbrev pub Halts : ℕ → Result Stepped Rule → Option (List ℕ) → Option (List ℕ) → ℕ → ℕ → Outcome → Type 0
-Halts number stepped old new faults now outcome.Done = ⊥
-Halts number stepped old new faults now (outcome.Broken stop) = Breaks number stepped old new faults now stop.frame stop.rule
-Halts number stepped old new faults now outcome.WriteFault = TakesFront old new (step_text stepped) × (faults < now)
-Halts number stepped old new faults now outcome.OutOfMemory = TakesFront old new (step_text stepped) × (now ≡ faults)
-Halts number stepped old new faults now outcome.ReadFault = ⊥
+abbrev pub Halts : ℕ → Result (Added Putting ℕ) Rule → Option (List ℕ) → Option (List ℕ) → ℕ → ℕ → Outcome → Type 0
+Halts number put old new faults now outcome.Done = ⊥
+Halts number put old new faults now (outcome.Broken stop) = Breaks number put old new faults now stop.frame stop.rule
+Halts number put old new faults now outcome.WriteFault = TakesFront old new (put_text put) × (faults < now)
+Halts number put old new faults now outcome.OutOfMemory = TakesFront old new (put_text put) × (now ≡ faults)
+Halts number put old new faults now outcome.ReadFault = ⊥
 
--- the frame was decoded and written, and the decoder stands for the state behind it; or the decode ends in it
-abbrev pub Adds : ℕ → Result Stepped Rule → Decoder → Option (List ℕ) → Option (List ℕ) → ℕ → ℕ → Result (Unit {0}) Outcome → Type 0
-Adds number stepped d old new faults now (Ok u) = (next : Stepped) × (stepped ≡ Ok next) × StandsFor d next.state × Takes old new (shown_text next.shown) × (now ≡ faults)
-Adds number stepped d old new faults now (Err o) = Halts number stepped old new faults now o
+-- the frame was decoded, and written in this form if it is shown, and the decoder stands for the state behind it; or the
+-- decode ends in it
+abbrev pub Adds : ℕ → OutputForm → Result Stepped Rule → Decoder → Option (List ℕ) → Option (List ℕ) → ℕ → ℕ → Result (Unit {0}) Outcome → Type 0
+Adds number form stepped d old new faults now (Ok u) =
+    (next : Stepped) × (stepped ≡ Ok next) × StandsFor d next.state × (admits form next.shown ≡ true) × (d.form ≡ form_after form next.shown)
+    × Takes old new (shown_text form next.shown) × (now ≡ faults)
+Adds number form stepped d old new faults now (Err o) = Halts number (put form stepped) old new faults now o

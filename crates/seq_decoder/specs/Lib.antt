@@ -2,5 +2,6 @@ pub mod State
 pub mod SavedContexts
 pub mod After
 pub mod Runs
+pub mod Outputs
 pub mod Outcomes
 pub mod Code

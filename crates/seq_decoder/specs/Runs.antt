@@ -2,8 +2,10 @@
 use Rattle.std.specs.Prelude.{ℕ, List, [], ◌∷◌, Option, Some, None, Result, Ok, Err}
 use Rattle.std.specs.List.{flat_map}
 use Rattle.vp9_types.specs.declared.rule.Rule.{Rule}
+use Rattle.md5.specs.Md5.{md5}
 use Rattle.file_frames.specs.FileFrames.{frames_of_file}
 use Rattle.file_frames.specs.Walks.{Added, Walk, Walked, walk}
+use Rattle.frame_output.specs.Formats.{digest_line}
 use Rattle.frame_output.specs.Texts.{frame_text}
 use Rattle.seq_decoder.specs.After.{Stepped, step}
 use Rattle.seq_decoder.specs.State.{Picture, State, start_state}
@@ -31,9 +33,15 @@ decoding = record {
 unfoldable pub run_of : List ℕ → Run
 run_of bytes = walk decoding (frames_of_file bytes)
 
+---- Its texts ----
+
 abbrev pub picture_text : Picture → List ℕ
 picture_text picture = frame_text picture.shape picture.map
 
--- what a run writes
-abbrev pub out_text : Run → List ℕ
-out_text run = flat_map picture_text run.adds
+-- the digest of a picture's text, with its size
+abbrev pub digest_text : Picture → List ℕ
+digest_text picture = digest_line (md5 (frame_text picture.shape picture.map)) picture.shape
+
+-- those of the pictures that it shows, one after another, and how it ends
+abbrev pub texts_of : (Picture → List ℕ) → Run → Walked ℕ Rule
+texts_of text run = record { adds = flat_map text run.adds; ending = run.ending }

@@ -1,24 +1,27 @@
 //! The decoder between two frames.
 
-ghost use Rattle.std.specs.Prelude.{◌≡◌, ℕ, ◌<◌, Some, None, Ok, IfOk, OnOk, get_or, length};
+ghost use Rattle.std.specs.Prelude.{◌≡◌, ℕ, ◌<◌, Some, None, Ok, IfOk, OnOk, get_or, if◌then◌else◌, length};
 ghost use Rattle.frame_headers.specs.Sizes.{IsFrameSize};
 ghost use Rattle.frame_headers.specs.Tiles.{AreFewTiles};
 ghost use Rattle.frame_decoder.specs.Frames.{FrameResult};
-ghost use Rattle.picture_table.specs.Code.{IsTable, held};
+ghost use Rattle.picture_table.specs.Code.{IsBelow, IsTable, NamesSound, held, held_in};
 ghost use Rattle.seq_decoder.specs.After.{Stepped, after_coded, decoded_in, state_after, step};
-ghost use Rattle.seq_decoder.specs.Code.{MayDecode, NamesHeld, StandsFor, HasBegun, IsAt, IsCoded, LiesWithin, halt_outcome, refusal_outcome, Adds};
+ghost use Rattle.seq_decoder.specs.Code.{MayDecode, NamesHeld, StandsFor, HasBegun, IsAt, IsCoded, LiesWithin, halt_outcome, refusal_outcome, told_picture, Adds, Puts};
 ghost use Rattle.seq_decoder.specs.Outcomes.{outcome_at};
+ghost use Rattle.seq_decoder.specs.Outputs.{form_from};
 ghost use Rattle.seq_decoder.specs.State.{State, start_state};
 
 use crate::begun::{BegunFrame, decode_begun};
 use crate::coding::{Coded, own_contexts};
+use crate::form::OutputForm;
 use crate::last::{LastFrame, replace_last};
 use crate::past::{after_key, place_in, vectors_before};
 use crate::saved::{SavedContexts, place_of};
 use crate::segments::{begin_segments, keep_segments, segments_of};
-use crate::showing::show;
+use crate::showing::{shape_of_any, show};
 use edge_io::{PutFault, Sink};
 use file_frames::FileFrame;
+use frame_output::Format;
 use frame_headers::{FrameHead, Header, Persist, read};
 use frame_state::{FramePast, FrameSources, Halt, TileColumn, begin_frame};
 use picture_table::{AnyPicture, PictureTable};
@@ -36,6 +39,8 @@ pub struct Decoder {
     pub table: PictureTable,
     pub segments: Option<SegmentMap>,
     pub last: Option<LastFrame>,
+    // How the frames that are shown are put.
+    pub form: OutputForm,
     // Memory that is used again: the tile columns of the frame before the last, and the text of rows.
     pub columns: Vec<TileColumn>,
     pub text: Vec<u8>,
@@ -66,10 +71,22 @@ fn refusal_outcome(refusal: PutFault) -> Outcome
     }
 }
 
+/// Where the picture of a frame stands, if it is shown.
+fn shown_place(header: &Header, place: usize) -> Option<usize>
+    ensures { result ≡ (if header.now.show_frame then Some place else None) }
+{
+    if header.show_frame {
+        Some(place)
+    } else {
+        None
+    }
+}
+
 impl Decoder {
-    /// Before the first frame.
-    pub fn new(alloc: Global) -> Decoder
+    /// Before the first frame of a file of this rate and scale, whose shown frames are put in this format.
+    pub fn new(alloc: Global, format: Format, rate: (u32, u32)) -> Decoder
         ensures stands { StandsFor result start_state }
+        ensures form { result.form ≡ form_from format rate }
         ensures may { MayDecode result }
     {
         Decoder {
@@ -78,6 +95,7 @@ impl Decoder {
             table: PictureTable::new(alloc),
             segments: None,
             last: None,
+            form: OutputForm::new(format, rate),
             columns: Vec::new(alloc),
             text: Vec::new(alloc),
         }
@@ -154,6 +172,38 @@ impl Decoder {
         replace_last(&mut self.last, &mut self.columns, last);
     }
 
+    /// Writes the picture at a place of the table, if there is one to be shown and it can be put next.
+    fn put<K: Sink>(
+        &mut self,
+        alloc: Global,
+        number: u64,
+        place: Option<usize>,
+        sink: &mut K,
+    ) -> Result<(), Outcome>
+        requires there { IsBelow (length self.old.table.pictures.items) place }
+        requires sound { NamesSound self.old.table.pictures.items place }
+        requires sink { K.can_put sink.old }
+        ensures puts { Puts number (told_picture (held_in self.old.table.pictures.items place)) self.old.form self.new.form
+            (K.taken sink.old) (K.taken sink.new) (K.faults sink.old) (K.faults sink.new) result }
+        ensures same { self.new ≡ record self.old { form = self.new.form; text = self.new.text } }
+        ensures grows { K.grows sink.new ≡ K.grows sink.old }
+        ensures again { K.faults sink.new ≡ K.faults sink.old → K.can_put sink.new }
+    {
+        let Some(place) = place else {
+            return Ok(());
+        };
+        let picture = &self.table.pictures[place];
+        let shape = shape_of_any(picture);
+        if !self.form.admits(&shape) {
+            return Err(outcome_at(number, Rule::OutputShape));
+        }
+        if let Err(refusal) = show(alloc, &self.form, picture, &mut self.text, sink) {
+            return Err(refusal_outcome(refusal));
+        }
+        self.form = self.form.after(shape);
+        Ok(())
+    }
+
     /// Decodes a coded frame, and writes it if it is shown.
     fn decode_coded<K: Sink>(
         &mut self,
@@ -169,7 +219,7 @@ impl Decoder {
         requires placed { LiesWithin (length frame.bytes.now) compressed }
         requires held { NamesHeld header.now (held self.old.table) }
         requires sink { K.can_put sink.old }
-        ensures adds { (state : State) → StandsFor self.old state → Adds frame.entry.number
+        ensures adds { (state : State) → StandsFor self.old state → Adds frame.entry.number self.old.form
             (after_coded frame.entry.number state header.now (decoded_in state frame.entry.bytes.now header.now compressed)) self.new
             (K.taken sink.old) (K.taken sink.new) (K.faults sink.old) (K.faults sink.new) result }
         ensures may { OnOk result (MayDecode self.new) }
@@ -180,32 +230,33 @@ impl Decoder {
             Ok(coded) => coded,
             Err(halt) => return Err(halt_outcome(frame.number, halt)),
         };
-        let picture = &self.table.pictures[coded.place];
-        if let Err(refusal) = show(alloc, header.show_frame, picture, &mut self.text, sink) {
-            return Err(refusal_outcome(refusal));
+        let shown = shown_place(header, coded.place);
+        match self.put(alloc, frame.number, shown, sink) {
+            Ok(()) => {}
+            Err(outcome) => return Err(outcome),
         }
         self.keep(header, coded);
         Ok(())
     }
 
     /// Writes what a slot holds.
-    fn show_slot<K: Sink>(&mut self, alloc: Global, slot: u8, sink: &mut K) -> Result<(), Outcome>
+    fn show_slot<K: Sink>(
+        &mut self,
+        alloc: Global,
+        number: u64,
+        slot: u8,
+        sink: &mut K,
+    ) -> Result<(), Outcome>
         requires may { MayDecode self.old }
         requires sink { K.can_put sink.old }
-        ensures adds { (number : ℕ) (state : State) → StandsFor self.old state → Adds number (Ok (record { state = state; shown = get_or state.slots slot None })) self.new
+        ensures adds { (state : State) → StandsFor self.old state → Adds number self.old.form (Ok (record { state = state; shown = get_or state.slots slot None })) self.new
             (K.taken sink.old) (K.taken sink.new) (K.faults sink.old) (K.faults sink.new) result }
-        ensures may { MayDecode self.new }
+        ensures may { OnOk result (MayDecode self.new) }
         ensures grows { K.grows sink.new ≡ K.grows sink.old }
         ensures again { K.faults sink.new ≡ K.faults sink.old → K.can_put sink.new }
     {
-        let Some(place) = place_in(&self.table.slots, slot) else {
-            return Ok(());
-        };
-        let picture = &self.table.pictures[place];
-        match show(alloc, true, picture, &mut self.text, sink) {
-            Ok(()) => Ok(()),
-            Err(refusal) => Err(refusal_outcome(refusal)),
-        }
+        let shown = place_in(&self.table.slots, slot);
+        self.put(alloc, number, shown, sink)
     }
 
     /// Decodes a frame, and writes it if it is shown.
@@ -217,7 +268,7 @@ impl Decoder {
     ) -> Result<(), Outcome>
         requires may { MayDecode self.old }
         requires sink { K.can_put sink.old }
-        ensures adds { (state : State) → StandsFor self.old state → Adds frame.entry.number (step frame.entry.number state frame.entry.bytes.now) self.new
+        ensures adds { (state : State) → StandsFor self.old state → Adds frame.entry.number self.old.form (step frame.entry.number state frame.entry.bytes.now) self.new
             (K.taken sink.old) (K.taken sink.new) (K.faults sink.old) (K.faults sink.new) result }
         ensures may { OnOk result (MayDecode self.new) }
         ensures grows { K.grows sink.new ≡ K.grows sink.old }
@@ -227,7 +278,7 @@ impl Decoder {
             Ok(FrameHead::Coded { header, compressed }) => {
                 self.decode_coded(alloc, frame, &header, compressed, sink)
             }
-            Ok(FrameHead::ShowExisting { slot }) => self.show_slot(alloc, slot, sink),
+            Ok(FrameHead::ShowExisting { slot }) => self.show_slot(alloc, frame.number, slot, sink),
             Err(rule) => Err(outcome_at(frame.number, rule)),
         }
     }

@@ -6,7 +6,10 @@ ghost use Rattle.frame_headers.specs.declared.header.FrameHead.TheVariants as he
 ghost use Rattle.frame_headers.specs.declared.header.Header.{Header};
 ghost use Rattle.frame_headers.specs.Header.{head_of};
 ghost use Rattle.frame_headers.specs.State.{next_persist, start_persist};
+ghost use Rattle.frame_output.specs.declared.rendering.Format.TheVariants.{Md5, Raw};
 ghost use Rattle.seq_decoder.specs.After.{Stepped, step};
+ghost use Rattle.seq_decoder.specs.Outputs.{output_of};
+ghost use Rattle.seq_decoder.specs.Runs.{digest_text, picture_text, run_of, texts_of};
 ghost use Rattle.seq_decoder.specs.State.{State, persist_of, start_state};
 
 /// What headers read of the state is what the listing's definition passes on: before the first frame, after each coded one,
@@ -19,4 +22,11 @@ pub fn headers_read_what_persists()
     ensures shown { (number : ℕ) (state : State) (bytes : List ℕ) (slot : ℕ) (next : Stepped)
         → head_of (persist_of state) bytes ≡ Ok (head.ShowExisting slot) → step number state bytes ≡ Ok next
         → next.state ≡ state }
+{}
+
+/// What is written raw is the frames that the run shows, one after another; and what is written as digests is those of each
+/// of them, each as it would be alone.
+pub fn output_is_the_run()
+    ensures raw { (bytes : List ℕ) → output_of Raw bytes ≡ texts_of picture_text (run_of bytes) }
+    ensures digests { (bytes : List ℕ) → output_of Md5 bytes ≡ texts_of digest_text (run_of bytes) }
 {}

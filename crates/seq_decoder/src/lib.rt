@@ -4,6 +4,7 @@
 mod begun;
 mod coding;
 mod decoder;
+mod form;
 mod last;
 mod laws;
 mod past;
@@ -14,6 +15,7 @@ mod showing;
 
 pub use coding::own_contexts;
 pub use decoder::Decoder;
+pub use form::OutputForm;
 pub use last::LastFrame;
 pub use laws::headers_read_what_persists;
 pub use past::{after_key, vectors_before};

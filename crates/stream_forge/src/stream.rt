@@ -1,6 +1,7 @@
 //! A whole stream.
 
 ghost use Rattle.std.specs.Prelude.{◌≡◌, IfOk, IsOk, OnOk};
+ghost use Rattle.frame_output.specs.declared.rendering.Format.TheVariants.{Raw};
 ghost use Rattle.seq_decoder.specs.After.{step};
 ghost use Rattle.seq_decoder.specs.Code.{MayDecode, StandsFor};
 ghost use Rattle.seq_decoder.specs.State.{State};
@@ -13,6 +14,7 @@ use crate::frames::write_next;
 use container_writer::{write_header, write_packet};
 use drawn_symbols::Draws;
 use file_frames::FileFrame;
+use frame_output::Format;
 use frame_writer::NotWritten;
 use seq_decoder::Decoder;
 use std::alloc::{AllocError, Global};
@@ -35,9 +37,11 @@ impl From<AllocError> for NotMade {
 /// Decodes a frame that breaks no rule, for what it leaves to those behind it.
 fn pass(alloc: Global, decoder: &mut Decoder, number: u64, bytes: &[u8]) -> Result<(), NotMade>
     requires may { MayDecode decoder.old }
+    requires raw { decoder.old.form.format ≡ Raw }
     requires steps { (state : State) × StandsFor decoder.old state × IsOk (step number state bytes.now) }
     ensures passes { OnOk result (Passes number decoder.old bytes.now decoder.new) }
     ensures may { OnOk result (MayDecode decoder.new) }
+    ensures raw { OnOk result (decoder.new.form.format ≡ Raw) }
 {
     let frame = FileFrame { number, bytes };
     match decoder.decode_next(alloc, frame, &mut Discard {}) {
@@ -65,7 +69,7 @@ pub fn make_stream(alloc: Global, number: u32, frames: u32) -> Result<Vec<u8>, N
     let mut draws = Draws {
         x: u64::from(number),
     };
-    let mut decoder = Decoder::new(alloc);
+    let mut decoder = Decoder::new(alloc, Format::Raw, (0, 0));
     let mut out = Vec::new(alloc);
     write_header(&mut out, 520, 136, 30, 1, frames)?;
     for n in 0..frames {

@@ -10,6 +10,7 @@ use block_plan::{IntraPrediction, Mv, References};
 use edge_io::MemSink;
 use file_frames::FileFrame;
 use frame_headers::{FrameHead, Header, read};
+use frame_output::Format;
 use frame_writer::Written;
 use header_writer::Choices;
 use inter_modes::{BlockStart, SegmentOf};
@@ -213,7 +214,7 @@ fn pass(alloc: Global, decoder: &mut Decoder, bytes: &[u8]) -> Result<Option<Rul
 
 // Whether all frames of a file come out as they are to, up to one that breaks a rule.
 fn comes_out(alloc: Global, row: &Row) -> Result<bool, Fail> {
-    let mut decoder = Decoder::new(alloc);
+    let mut decoder = Decoder::new(alloc, Format::Raw, (0, 0));
     for frame in row.frames {
         let (is_right, broken) = written_of(alloc, &decoder, frame)?;
         let breaks = pass(alloc, &mut decoder, frame.bytes)?;

@@ -52,7 +52,7 @@ none_told s o status.OutOfMemory told h e = subst (λ st. Works None s o st) (sy
 pub works_told : (c : Option Command) (s : OfSource) (o : OfSink) (first told : Status) → Works c s o first → MayLackMemory first told → Works c s o told
 works_told None = none_told
 works_told (Some command.List) = reads_told listed
-works_told (Some (command.Decode options)) = reads_told decoded
+works_told (Some (command.Decode options)) = reads_told (decoded options)
 works_told (Some (command.Make stream)) = λ s o first told h m. (h.0, makes_told stream o first told h.1 m)
 
 ---- Causes ----
@@ -87,7 +87,7 @@ cause_none s o n status.OutOfMemory h q t = (h.1, q)
 cause_told : (c : Option Command) (s : OfSource) (o n : OfSink) (told : Status) → Works c s o told → SinkQuiet n → Takes n.before n.after (note_line told) → HasCause c s o n told
 cause_told None s o n told h q t = cause_none s o n told h q t
 cause_told (Some command.List) s o n told h q t = cause_read command.List listed s o n told (λ st d. d) h q t
-cause_told (Some (command.Decode options)) s o n told h q t = cause_read (command.Decode options) decoded s o n told (λ st d. d) h q t
+cause_told (Some (command.Decode options)) s o n told h q t = cause_read (command.Decode options) (decoded options) s o n told (λ st d. d) h q t
 cause_told (Some (command.Make stream)) s o n told h q t = cause_made stream s o n told h.0 h.1 q t
 
 -- the cause where the note wanted memory
@@ -118,7 +118,7 @@ lacking_none s o n status.OutOfMemory h q = (h.1, q)
 cause_lacking : (c : Option Command) (s : OfSource) (o n : OfSink) (told : Status) → Works c s o told → SinkQuiet n → HasCause c s o n (without_memory told)
 cause_lacking None s o n told h q = lacking_none s o n told h q
 cause_lacking (Some command.List) s o n told h q = lacking_read (Some command.List) listed s o n told h q
-cause_lacking (Some (command.Decode options)) s o n told h q = lacking_read (Some (command.Decode options)) decoded s o n told h q
+cause_lacking (Some (command.Decode options)) s o n told h q = lacking_read (Some (command.Decode options)) (decoded options) s o n told h q
 cause_lacking (Some (command.Make stream)) s o n told h q = lacking_made (Some (command.Make stream)) stream s o n told h.1 q
 
 pub cause_of : (c : Option Command) (s : OfSource) (o n : OfSink) (told last : Status) → Works c s o told → Reports n told last → HasCause c s o n last
@@ -193,7 +193,7 @@ complete_none s o n told last h (inr (inr r)) = λ a. inr (r.2 ∙ lacks_memory 
 pub complete_of : (c : Option Command) (s : OfSource) (o n : OfSink) (told last : Status) → Works c s o told → Reports n told last → IsComplete c s o n last
 complete_of None = complete_none
 complete_of (Some command.List) = λ s o n told last h r. complete_read listed s o n told last h r
-complete_of (Some (command.Decode options)) = λ s o n told last h r. complete_read decoded s o n told last h r
+complete_of (Some (command.Decode options)) = λ s o n told last h r. complete_read (decoded options) s o n told last h r
 complete_of (Some (command.Make stream)) = λ s o n told last h r. complete_made stream s o n told last h.1 r
 
 pub runs : (c : Option Command) (s : OfSource) (o n : OfSink) (first told last : Status) → Works c s o first → MayLackMemory first told → Reports n told last → Runs c s o n last

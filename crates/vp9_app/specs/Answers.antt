@@ -6,8 +6,9 @@ use Rattle.command_words.specs.declared.command.Command.{Command}
 use Rattle.command_words.specs.declared.command.Command.TheVariants as command
 use Rattle.vp9_app.specs.declared.status.Status.{Status}
 use Rattle.vp9_app.specs.declared.status.Status.TheVariants as status
-use Rattle.seq_decoder.specs.Runs.{out_text, run_of}
+use Rattle.seq_decoder.specs.Outputs.{output_of}
 use Rattle.stream_forge.specs.Made.{IsMade}
+use Rattle.command_words.specs.declared.command.DecodeOptions.{DecodeOptions}
 use Rattle.command_words.specs.declared.command.MadeStream.{MadeStream}
 use Rattle.vp9_app.specs.Listing.{listing}
 use Rattle.vp9_app.specs.Notes.{note_line}
@@ -57,10 +58,10 @@ pub record Output : Type 0 where
 abbrev pub listed : List ℕ → Output
 listed bytes = record { text = (listing bytes).adds; status = ended (listing bytes).ending }
 
--- The shown frames of the sequential decoding process, in order, to the end of the bytes or up to the first frame that
--- breaks a rule. How a file is decoded changes nothing of it.
-abbrev pub decoded : List ℕ → Output
-decoded bytes = record { text = out_text (run_of bytes); status = ended (run_of bytes).ending }
+-- The shown frames of the sequential decoding process, in order and in the format that is asked for, to the end of the bytes or
+-- up to the first frame that breaks a rule. How a file is decoded changes nothing of it.
+abbrev pub decoded : DecodeOptions → List ℕ → Output
+decoded options bytes = record { text = (output_of options.format bytes).adds; status = ended (output_of options.format bytes).ending }
 
 ---- A command that reads its source ----
 
@@ -115,7 +116,7 @@ Works None s o status.Usage = Untouched s o
 Works None s o status.OutOfMemory = Untouched s o
 Works None s o status = ⊥
 Works (Some command.List) s o status = Reads listed s o status
-Works (Some (command.Decode options)) s o status = Reads decoded s o status
+Works (Some (command.Decode options)) s o status = Reads (decoded options) s o status
 Works (Some (command.Make stream)) s o status = Unread s × Makes stream o status
 
 -- the status where the note wants memory: a write fault goes first

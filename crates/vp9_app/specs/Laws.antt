@@ -18,7 +18,7 @@ pub record AllQuiet (s : OfSource) (o n : OfSink) : Type 0 where
 -- all of its work is done: what it reads is read, and its whole output is written
 abbrev pub IsDone : Command → OfSource → OfSink → Status → Type 0
 IsDone command.List s o last = Completes listed s o last
-IsDone (command.Decode options) s o last = Completes decoded s o last
+IsDone (command.Decode options) s o last = Completes (decoded options) s o last
 IsDone (command.Make stream) s o last = Unread s × WritesMade stream o × (last ≡ status.Done)
 
 -- the cause of each answer
@@ -40,5 +40,5 @@ EndsAs output s last = WhereTold s.rest (λ bytes. (last ≡ (output bytes).stat
 abbrev pub IsComplete : Option Command → OfSource → OfSink → OfSink → Status → Type 0
 IsComplete None s o n last = AllQuiet s o n → (last ≡ status.Usage) ⊎ (last ≡ status.OutOfMemory)
 IsComplete (Some command.List) s o n last = AllQuiet s o n → EndsAs listed s last
-IsComplete (Some (command.Decode options)) s o n last = AllQuiet s o n → EndsAs decoded s last
+IsComplete (Some (command.Decode options)) s o n last = AllQuiet s o n → EndsAs (decoded options) s last
 IsComplete (Some (command.Make stream)) s o n last = AllQuiet s o n → (last ≡ status.Done) ⊎ (last ≡ status.OutOfMemory)

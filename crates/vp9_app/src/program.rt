@@ -50,16 +50,16 @@ fn list<S: Source, K: Sink>(alloc: Global, source: &mut S, out: &mut K) -> Statu
     }
 }
 
-/// Until there is a decoder of several threads, all options ask for the plain one.
+/// Until there is a decoder of several threads, all options but the format ask for the plain one.
 fn decode<S: Source, K: Sink>(
     alloc: Global,
-    _options: DecodeOptions,
+    options: DecodeOptions,
     source: &mut S,
     out: &mut K,
 ) -> Status
     requires source { S.can_fill source.old }
     requires out { K.can_put out.old }
-    ensures work { Works (Some (Command.Decode _options))
+    ensures work { Works (Some (Command.Decode options))
         (source_seen (S.rest source.old) (S.rest source.new) (S.faults source.old) (S.faults source.new))
         (sink_seen (K.grows out.old) (K.taken out.old) (K.taken out.new) (K.faults out.old) (K.faults out.new)) result }
     ensures source_again { S.faults source.new ≡ S.faults source.old → S.can_fill source.new }
@@ -67,7 +67,7 @@ fn decode<S: Source, K: Sink>(
     ensures out_again { K.faults out.new ≡ K.faults out.old → K.can_put out.new }
 {
     match read_all(alloc, source) {
-        Ok(bytes) => Status::from(decode_plain(alloc, bytes.as_slice(), out)),
+        Ok(bytes) => Status::from(decode_plain(alloc, options.format, bytes.as_slice(), out)),
         Err(ReadError::Failed) => Status::ReadFault,
         Err(ReadError::OutOfMemory) => Status::OutOfMemory,
     }

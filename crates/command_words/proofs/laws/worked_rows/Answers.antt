@@ -182,3 +182,43 @@ returns-clause-less_than_0 c = λ name. refl
 pub returns-clause-make_no_number : goal.returns-clause-make_no_number
 unfolding command_of clap_on_literals
 returns-clause-make_no_number c = λ name. refl
+
+pub returns-clause-raw : goal.returns-clause-raw
+unfolding command_of clap_on_literals
+returns-clause-raw c = λ name. refl
+
+pub returns-clause-md5 : goal.returns-clause-md5
+unfolding command_of clap_on_literals
+returns-clause-md5 c = λ name. refl
+
+pub returns-clause-y4m : goal.returns-clause-y4m
+unfolding command_of clap_on_literals
+returns-clause-y4m c = λ name. refl
+
+pub returns-clause-format_and_plain : goal.returns-clause-format_and_plain
+unfolding command_of clap_on_literals
+returns-clause-format_and_plain c = λ name. refl
+
+pub returns-clause-unknown_format : goal.returns-clause-unknown_format
+unfolding command_of clap_on_literals
+returns-clause-unknown_format c = λ name. refl
+
+pub returns-clause-upper_case_format : goal.returns-clause-upper_case_format
+unfolding command_of clap_on_literals
+returns-clause-upper_case_format c = λ name. refl
+
+pub returns-clause-front_of_a_format : goal.returns-clause-front_of_a_format
+unfolding command_of clap_on_literals
+returns-clause-front_of_a_format c = λ name. refl
+
+pub returns-clause-twice_format : goal.returns-clause-twice_format
+unfolding command_of clap_on_literals
+returns-clause-twice_format c = λ name. refl
+
+pub returns-clause-format_without_value : goal.returns-clause-format_without_value
+unfolding command_of clap_on_literals
+returns-clause-format_without_value c = λ name. refl
+
+pub returns-clause-empty_format : goal.returns-clause-empty_format
+unfolding command_of clap_on_literals
+returns-clause-empty_format c = λ name. refl

@@ -1,17 +1,18 @@
 use Rattle.seq_decoder.proofs.ShowingLemmas.{small_samples, wide_rows, held_rows, text_by, render_shows}
 use Rattle.seq_decoder.proofs.showing.show_kept.Goals as goal
 
-pub render-requires-clause-wide : goal.render-requires-clause-wide
-render-requires-clause-wide g c = λ p. wide_rows c.args.picture.now c.shape-shape.result p c.requires.whole c.shape-shape.ensures
+pub render_as-requires-clause-wide : goal.render_as-requires-clause-wide
+render_as-requires-clause-wide g c = λ p. wide_rows c.args.picture.now c.shape-shape.result p c.requires.whole c.shape-shape.ensures
 
-pub render-requires-clause-held : goal.render-requires-clause-held
-render-requires-clause-held g c = λ p y low. held_rows c.args.picture.now c.shape-shape.result p y c.requires.whole c.shape-shape.ensures low
+pub render_as-requires-clause-held : goal.render_as-requires-clause-held
+render_as-requires-clause-held g c = λ p y low. held_rows c.args.picture.now c.shape-shape.result p y c.requires.whole c.shape-shape.ensures low
 
-pub render-requires-clause-small : goal.render-requires-clause-small
-render-requires-clause-small g c =
+pub render_as-requires-clause-small : goal.render_as-requires-clause-small
+render_as-requires-clause-small g c =
     λ eight p y x low left. small_samples c.args.picture.now c.shape-shape.result p y x c.requires.whole c.shape-shape.ensures eight
 
 pub returns-clause-shows : goal.returns-clause-shows
 returns-clause-shows g c =
-    render_shows _ _ _ _ _ _ _ c.render.result (text_by c.args.picture.now c.shape-shape.result c.shape-shape.ensures)
-    c.render.ensures.bytes c.render.ensures.faults
+    render_shows _ _ _ _ _ _ _ c.render_as.result
+    (text_by c.rendering.result c.args.form.now c.args.picture.now c.shape-shape.result c.rendering.ensures c.shape-shape.ensures)
+    c.render_as.ensures.bytes c.render_as.ensures.faults

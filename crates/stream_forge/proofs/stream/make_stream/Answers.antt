@@ -3,6 +3,7 @@ use Rattle.std.specs.Prelude.{nat_eq, Err}
 use Rattle.drawn_headers.specs.Heads.{draw_head}
 use Rattle.seq_decoder.specs.Code.{StandsFor}
 use Rattle.seq_decoder.specs.State.{State}
+use Rattle.seq_decoder.specs.declared.form.OutputForm.{OutputForm}
 use Rattle.stream_forge.specs.Code.{IsMadeAfter, Passes}
 use Rattle.stream_forge.specs.Made.{IsMadeFrame}
 use Rattle.stream_forge.proofs.DrawnReads.{frame_steps}
@@ -12,6 +13,7 @@ use Rattle.stream_forge.proofs.stream.make_stream.Goals as goal
 pub loop-n-init : goal.loop-n-init
 loop-n-init c = record {
   may = c.new-decoder.ensures.may;
+  raw = ap (λ (f : OutputForm). f.format) c.new-decoder.ensures.form;
   made = λ later. let no : ⊥ = cc in absurd no;
   far = none_made c.args.number c.args.frames c.new-decoder.result _ c.write_header.new.out.items c.new-out.result.items c.new-decoder.ensures.stands c.from.ensures c.in_ok-write_header.ensures.put c.new-out.ensures.items;
 }
@@ -33,6 +35,7 @@ loop-n-preserved c =
     let after = subst (λ p. IsMadeAfter (draw_head (nat_eq c.loop-n.n 0) p c.loop-n.draws.x).0.header c.loop-n.decoder.persist) far.stands.persist c.write_next-written.ensures.after in
     record {
       may = c.in_ok-pass.ensures.may;
+      raw = c.in_ok-pass.ensures.raw;
       made = λ later. persists c.args.number c.args.frames c.loop-n.n c.loop-n.decoder c.pass.new.decoder c.loop-n.draws rest c.loop-n.out.items bytes c.loop-n.invariant.far gives passes after;
       far = one_made c.args.number c.args.frames c.loop-n.n c.loop-n.decoder c.pass.new.decoder c.loop-n.draws rest c.loop-n.out.items c.write_packet.new.out.items bytes c.loop-n-test.true c.loop-n.invariant.far gives passes
           (rw (c.from-in-loop-n.ensures, c.deref.ensures.value) at c.in_ok-write_packet.ensures.put);

@@ -31,4 +31,4 @@ pub returns-clause-next : goal.returns-clause-next
 unfolding ahead
 returns-clause-next c =
     let s = c.payloads.self in
-    (sym c.payloads.invariant ∙ in_hand s.bytes.now s.at s.broken s.payload.now s.parts.items c.deref.result.now s.taken s.number _ (below s.taken (length s.parts.items) c.len.result s.given c.len.ensures.value c.payloads-test.false) c.deref.ensures.0, refl)
+    (sym c.payloads.invariant ∙ in_hand s.bytes.now s.packets s.payload.now s.parts.items c.deref.result.now s.taken s.number _ (below s.taken (length s.parts.items) c.len.result s.given c.len.ensures.value c.payloads-test.false) c.deref.ensures.0, refl)

@@ -1,50 +1,65 @@
 use Rattle.std.proofs.Common.{ap, arith}
 use Rattle.seq_decoder.specs.After.{after_coded, shown_picture, state_after}
-use Rattle.seq_decoder.proofs.FrameLemmas.{frame_halted, place_there, refused_at, text_refused, text_taken}
-use Rattle.seq_decoder.proofs.ShowingLemmas.{is_sound, picture_is}
+use Rattle.seq_decoder.proofs.FrameLemmas.{at_put, begun_put, frame_halted, may_put, place_there, put_halts, puts_as, shown_at}
+use Rattle.seq_decoder.proofs.ShowingLemmas.{below_if, is_sound, sound_at, sound_if, told_shown}
 use Rattle.seq_decoder.proofs.decoder.Decoder.decode_coded.Goals as goal
 
 pub returns-in-Err-clause-adds : goal.returns-in-Err-clause-adds
 returns-in-Err-clause-adds g c = λ state stands.
     rw c.halt_outcome.ensures
-    (frame_halted c.args.frame.number state c.args.header.now _ c.in-Err.halt c.decode_picture.new.self.table (g.K.Sink.taken c.args.sink.now) (g.K.Sink.faults c.args.sink.now)
+    (frame_halted c.args.frame.number c.args.self.now.form state c.args.header.now _ c.in-Err.halt c.decode_picture.new.self.table (g.K.Sink.taken c.args.sink.now) (g.K.Sink.faults c.args.sink.now)
     (c.in-Err.ensures.coded state stands))
 
-pub index-picture-requires : goal.index-picture-requires
-index-picture-requires g c = omega (arith, place_there c.args.header.now c.decode_picture.new.self.table c.in-Ok.coded c.in-Ok.ensures.at.0 c.in-Ok.ensures.at.1)
-
-pub show-requires-clause-sound : goal.show-requires-clause-sound
-show-requires-clause-sound g c =
+pub put-requires-clause-there : goal.put-requires-clause-there
+put-requires-clause-there g c =
     let at = c.in-Ok.ensures.at in
-    let same = picture_is c.decode_picture.new.self.table.pictures.items c.in-Ok.coded.place at.1.picture c.index-picture.result.now at.1.there c.index-picture.ensures in
-    let size = c.requires.size in
-    rw same (is_sound c.args.header.now c.in-Ok.coded at.1.picture at.0 (record { wide = size.1; high = size.3 }) at.1.holds)
+    rw c.shown_place-shown.ensures (below_if c.args.header.now.show_frame _ c.in-Ok.coded.place (place_there c.args.header.now c.decode_picture.new.self.table c.in-Ok.coded at.0 at.1))
 
-pub returns-in-Err-show-clause-adds : goal.returns-in-Err-show-clause-adds
-returns-in-Err-show-clause-adds g c = λ state stands.
+pub put-requires-clause-sound : goal.put-requires-clause-sound
+put-requires-clause-sound g c =
+    let at = c.in-Ok.ensures.at in
+    let size = c.requires.size in
+    rw c.shown_place-shown.ensures
+    (sound_if c.args.header.now.show_frame c.decode_picture.new.self.table.pictures.items c.in-Ok.coded.place
+    (sound_at c.decode_picture.new.self.table.pictures.items c.in-Ok.coded.place at.1.picture at.1.there
+    (is_sound c.args.header.now c.in-Ok.coded at.1.picture at.0 (record { wide = size.1; high = size.3 }) at.1.holds)))
+
+pub returns-in-Err-put-clause-adds : goal.returns-in-Err-put-clause-adds
+returns-in-Err-put-clause-adds g c = λ state stands.
     let header = c.args.header.now in
     let number = c.args.frame.number in
     let coded = c.in-Ok.ensures.coded state stands in
     let table = c.decode_picture.new.self.table in
-    let same = picture_is table.pictures.items c.in-Ok.coded.place coded.2.picture c.index-picture.result.now coded.2.there c.index-picture.ensures in
-    rw c.refusal_outcome.ensures
-    (refused_at number _ (record { state = state_after number state header coded.0; shown = shown_picture number header coded.0 }) _ _ _ _ c.in-Err-show.refusal (ap (after_coded number state header) coded.1)
-    (text_refused number header table c.in-Ok.coded c.index-picture.result.now _ _ _ _ c.in-Err-show.refusal coded.0 coded.2 same c.in-Err-show.ensures.shows))
+    put_halts number _ _ _ (record { state = state_after number state header coded.0; shown = shown_picture number header coded.0 }) _ _ _ _ c.in-Err-put.outcome
+    (ap (after_coded number state header) coded.1)
+    (puts_as number _ (shown_picture number header coded.0) _ _ _ _ _ _ _
+    (told_shown number header table c.in-Ok.coded coded.0 c.shown_place-shown.result (shown_at header table c.in-Ok.coded coded.0 coded.2) c.shown_place-shown.ensures)
+    c.in-Err-put.ensures.puts)
+
+pub keep-requires-clause-may : goal.keep-requires-clause-may
+keep-requires-clause-may g c = may_put c.decode_picture.new.self c.put.new.self c.args.header.now.size c.put.ensures.same c.in-Ok.ensures.may
 
 pub keep-requires-clause-at : goal.keep-requires-clause-at
-keep-requires-clause-at g c = c.in-Ok.ensures.at
+keep-requires-clause-at g c =
+    let at = c.in-Ok.ensures.at in
+    (at.0, at_put c.args.header.now c.decode_picture.new.self c.put.new.self c.in-Ok.coded at.0 c.put.ensures.same at.1)
 
 pub returns-clause-adds : goal.returns-clause-adds
 returns-clause-adds g c = λ state stands.
     let header = c.args.header.now in
     let number = c.args.frame.number in
     let coded = c.in-Ok.ensures.coded state stands in
-    let begun = c.in-Ok.ensures.begun state stands in
+    let begun = begun_put header c.decode_picture.new.self c.put.new.self state c.put.ensures.same (c.in-Ok.ensures.begun state stands) in
+    let at = at_put header c.decode_picture.new.self c.put.new.self c.in-Ok.coded coded.0 c.put.ensures.same coded.2 in
     let table = c.decode_picture.new.self.table in
-    let same = picture_is table.pictures.items c.in-Ok.coded.place coded.2.picture c.index-picture.result.now coded.2.there c.index-picture.ensures in (
+    let puts = puts_as number _ (shown_picture number header coded.0) _ _ _ _ _ _ _
+    (told_shown number header table c.in-Ok.coded coded.0 c.shown_place-shown.result (shown_at header table c.in-Ok.coded coded.0 coded.2) c.shown_place-shown.ensures)
+    c.in-Ok-put.ensures.puts in (
       record { state = state_after number state header coded.0; shown = shown_picture number header coded.0 },
       ap (after_coded number state header) coded.1,
-      c.keep.ensures.stands number state coded.0 (record { persist = begun.persist; contexts = begun.contexts; slots = begun.slots; segments = begun.segments; last = begun.last }) coded.2,
-      text_taken number header table c.in-Ok.coded c.index-picture.result.now _ _ coded.0 coded.2 same c.in_default.ensures.shows.0,
-      c.in_default.ensures.shows.1,
+      c.keep.ensures.stands number state coded.0 begun at,
+      puts.0,
+      puts.1,
+      puts.2,
+      puts.3,
     )

@@ -1,0 +1,6 @@
+use Rattle.picture_tests.proofs.Bytes.{small}
+use Rattle.picture_tests.proofs.output.written_bytes.Goals as goal
+
+pub render_as-requires-clause-small : goal.render_as-requires-clause-small
+render_as-requires-clause-small c = λ _ p y x _ _. let planes = c.args.planes.now in
+    small planes.y planes.u planes.v c.are_bytes.ensures c.are_bytes-2.ensures c.are_bytes-3.ensures p y x

@@ -1,0 +1,9 @@
+pub mod Tests
+pub mod Places
+pub mod Progress
+pub mod Walks
+pub mod Spelled
+pub mod Moves
+pub mod Clusters
+pub mod Entered
+pub mod Files

@@ -1,0 +1,11 @@
+//! Laws of the definitions, as contracts of functions that do nothing.
+
+ghost use Rattle.std.specs.Prelude.{◌≡◌, ℕ, List};
+ghost use Rattle.ivf_container.specs.Packets.{Packets};
+ghost use Rattle.webm_container.specs.Walk.{webm_packets};
+ghost use Rattle.webm_container.specs.Webm.{IsWebmFile};
+
+/// A file that is spelled as one, and breaks no rule, has the packets that the walk finds, and no others.
+pub fn files_have_these_packets()
+    ensures { (bytes : List ℕ) (packets : Packets) → IsWebmFile bytes packets → webm_packets bytes ≡ packets }
+{}
