@@ -5,3 +5,4 @@ pub mod Served
 pub mod Frames
 pub mod Slots
 pub mod References
+pub mod Taking

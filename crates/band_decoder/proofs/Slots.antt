@@ -15,7 +15,7 @@ at_mapped f none [] n = sym none
 at_mapped f none (x ∷ xs) zero = refl
 at_mapped f none (x ∷ xs) (suc n) = at_mapped f none xs n
 
-named_sound : (frames : List AnyBands) (slots : List (Option ℕ)) (n place : ℕ) → All (NamesSound frames) slots → get_or slots n None ≡ Some place → IsSoundAt frames place
+pub named_sound : (frames : List AnyBands) (slots : List (Option ℕ)) (n place : ℕ) → All (NamesSound frames) slots → get_or slots n None ≡ Some place → IsSoundAt frames place
 named_sound frames [] n place all is = absurd cc
 named_sound frames (s ∷ slots) zero place all is = subst (NamesSound frames) is (All-head (NamesSound frames) s slots all)
 named_sound frames (s ∷ slots) (suc n) place all is = named_sound frames slots n place (All-tail (NamesSound frames) s slots all) is

@@ -13,8 +13,8 @@ loop-place-preserved c =
 
 pub returns-clause-free : goal.returns-clause-free
 returns-clause-free c =
-    let all : length c.args.self.now.pictures.items ≡ c.len-count.result = omega (arith, c.len-count.ensures) in
-    rw (← all) (none_behind (length c.args.self.now.pictures.items) c.args.self.now.slots c.requires.within)
+    let all : length c.args.self.now.frames.items ≡ c.len-count.result = omega (arith, c.len-count.ensures) in
+    rw (← all) (none_behind (length c.args.self.now.frames.items) c.args.self.now.slots c.requires.within)
 
 pub returns-clause-low : goal.returns-clause-low
 returns-clause-low c =
