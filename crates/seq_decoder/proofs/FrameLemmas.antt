@@ -1,9 +1,9 @@
 -- What a frame adds.
 use Rattle.std.proofs.Common.{◌≡◌, ℕ, zero, suc, List, [], ◌∷◌, true, ap, sym, subst, refl, ◌∙◌, arith}
-use Rattle.std.specs.Prelude.{All, Bool, false, if◌then◌else◌, IfSome, Option, Some, None, Result, Ok, Err, ◌<◌, get_or, length, map, slice_get}
+use Rattle.std.specs.Prelude.{All, OnOk, Bool, false, if◌then◌else◌, IfSome, Option, Some, None, Result, Ok, Err, ◌<◌, get_or, length, map, slice_get}
 use Rattle.std.proofs.lemmas.List.Elements.{All-head, All-tail}
 use Rattle.std.proofs.lemmas.Option.{slice_get_within}
-use Rattle.edge_io.specs.Putting.{Takes, TakesFront}
+use Rattle.edge_io.specs.Putting.{TakesFront}
 use Rattle.edge_io.specs.declared.sink.PutFault.{PutFault}
 use Rattle.edge_io.specs.declared.sink.PutFault.TheVariants as refused
 use Rattle.edge_io.proofs.Fronts.{takes_none}
@@ -22,14 +22,14 @@ use Rattle.frame_headers.specs.declared.persist.Persist.{Persist}
 use Rattle.picture_table.specs.Code.{IsBelow, IsSoundAt, IsTable, NamesSound, held, held_in, shown}
 use Rattle.picture_table.specs.declared.table.PictureTable.{PictureTable}
 use Rattle.prob_contexts.specs.Lists.{ContextLists}
-use Rattle.picture_table.specs.Pictures.{IsSound}
+use Rattle.picture_table.specs.Pictures.{IsSound, map_of_any, shape_of_any}
 use Rattle.picture_table.specs.declared.any.AnyPicture.{AnyPicture}
 use Rattle.frame_decoder.specs.Frames.{FrameResult}
 use Rattle.frame_state.specs.declared.halt.Halt.{Halt}
 use Rattle.frame_state.specs.declared.halt.Halt.TheVariants as halt
-use Rattle.seq_decoder.specs.After.{Stepped, after_coded, picture_of, shown_picture, state_after}
+use Rattle.seq_decoder.specs.After.{Stepped, after_coded, picture_of, state_after}
 use Rattle.seq_decoder.specs.SavedContexts.{context_at, own_contexts, place_of, saved_before, with_own, saved_after}
-use Rattle.seq_decoder.specs.Code.{StandsFor, shape_told, put_text, shown_of, told_picture, HasBegun, IsAt, IsCoded, MayDecode, Shows, Halts, Puts, halt_outcome, refusal_outcome}
+use Rattle.seq_decoder.specs.Code.{StandsFor, shape_told, put_text, shown_of, told_picture, Adds, HasBegun, IsAt, IsCoded, MayDecode, Shows, Halts, Puts, halt_outcome, refusal_outcome}
 use Rattle.seq_decoder.specs.Outputs.{Putting, admits, form_after, put, shown_text}
 use Rattle.seq_decoder.specs.declared.form.OutputForm.{OutputForm}
 use Rattle.seq_decoder.specs.Outcomes.{outcome_at}
@@ -89,10 +89,10 @@ put_halts number form after r next old new faults now outcome.WriteFault is h = 
 put_halts number form after r next old new faults now outcome.OutOfMemory is h = (subst (λ p. TakesFront old new (put_text p)) (sym (fits_as form r next true is h.0)) h.1, h.2)
 
 -- at one that the sink refuses
-pub refused_puts : (number : ℕ) (shown : Option Picture) (form after : OutputForm) (old new : Option (List ℕ)) (faults now : ℕ) (refusal : PutFault) → admits form shown ≡ true
-    → Shows (shown_text form shown) old new faults now (Err refusal) → Puts number shown form after old new faults now (Err (refusal_outcome refusal))
-refused_puts number shown form after old new faults now refused.Failed fits h = (fits, h)
-refused_puts number shown form after old new faults now refused.OutOfMemory fits h = (fits, h)
+pub refused_puts : (number : ℕ) (what : Option Picture) (form after : OutputForm) (old new : Option (List ℕ)) (faults now : ℕ) (refusal : PutFault) → admits form what ≡ true
+    → Shows (shown_text form what) old new faults now (Err refusal) → Puts number what form after old new faults now (Err (refusal_outcome refusal))
+refused_puts number what form after old new faults now refused.Failed fits h = (fits, h.0, h.1)
+refused_puts number what form after old new faults now refused.OutOfMemory fits h = (fits, h.0, h.1)
 
 ---- What is kept of a frame ----
 
@@ -217,3 +217,33 @@ stands_put d after state same h =
 
 pub at_put : (header : Header) (d after : Decoder) (c : Coded) (r : FrameResult) → after ≡ record d { form = after.form; text = after.text } → IsAt header d.table c r → IsAt header after.table c r
 at_put header d after c r same h = subst (λ (x : Decoder). IsAt header x.table c r) (sym same) h
+
+---- The picture at a place is put ----
+
+-- what is told of a picture
+abbrev pub told_by : AnyPicture → Picture
+told_by picture = record { frame = 0; shape = shape_of_any picture; map = map_of_any picture }
+
+picture_there : (pictures : List AnyPicture) (o : Option ℕ) (place : ℕ) (got : AnyPicture) → o ≡ Some place → IsBelow (length pictures) o → got ≡ get_or pictures place got
+    → slice_get pictures place ≡ Some got
+picture_there pictures o place got is there same = got_there pictures place got (subst (IsBelow (length pictures)) is there) ∙ ap (λ p. Some p) (sym same)
+
+pub puts_there : (number : ℕ) (pictures : List AnyPicture) (o : Option ℕ) (place : ℕ) (got : AnyPicture) (form after : OutputForm) (old new : Option (List ℕ)) (faults now : ℕ) (r : Result (Unit {0}) Outcome)
+    → o ≡ Some place → IsBelow (length pictures) o → got ≡ get_or pictures place got → Puts number (Some (told_by got)) form after old new faults now r
+    → Puts number (told_picture (held_in pictures o)) form after old new faults now r
+puts_there number pictures o place got form after old new faults now r is there same h =
+    subst (λ t. Puts number (told_picture t) form after old new faults now r) (sym (ap (held_in pictures) is ∙ ap shown (picture_there pictures o place got is there same))) h
+
+pub sound_there : (pictures : List AnyPicture) (o : Option ℕ) (place : ℕ) (got : AnyPicture) → o ≡ Some place → IsBelow (length pictures) o → got ≡ get_or pictures place got → NamesSound pictures o → IsSound got
+sound_there pictures o place got is there same sound = subst (λ p. IfSome p IsSound) (picture_there pictures o place got is there same) (subst (NamesSound pictures) is sound)
+
+-- what a slot shows is put, or the run ends there
+pub shown_adds : (number : ℕ) (form : OutputForm) (state : State) (what : Option Picture) (d : Decoder) (old new : Option (List ℕ)) (faults now : ℕ) (r : Result (Unit {0}) Outcome) → StandsFor d state
+    → Puts number what form d.form old new faults now r → Adds number form (Ok (record { state = state; shown = what })) d old new faults now r
+shown_adds number form state what d old new faults now (Ok u) stands h = (record { state = state; shown = what }, refl, stands, h.0, h.1, h.2, h.3)
+shown_adds number form state what d old new faults now (Err o) stands h =
+    put_halts number form d.form (Ok (record { state = state; shown = what })) (record { state = state; shown = what }) old new faults now o refl h
+
+pub on_ok : {A E : Type 0} (r : Result A E) (P : Type 0) → P → OnOk r P
+on_ok (Ok x) P h = h
+on_ok (Err e) P h = tt

@@ -1,16 +1,14 @@
 -- What is written of a run, where all of its frames can be put and each is put as it would be alone.
-use Rattle.std.proofs.Common.{◌≡◌, ◌∙◌, ℕ, ◌+◌, Bool, true, List, [], ◌∷◌, ◌++◌, ap, refl}
+use Rattle.std.proofs.Common.{◌≡◌, ◌∙◌, ℕ, ◌+◌, Bool, true, List, [], ◌∷◌, ap, refl}
 use Rattle.std.specs.Prelude.{Option, Some, None, Result, Ok, Err, if◌then◌else◌}
-use Rattle.std.specs.List.{flat_map}
-use Rattle.vp9_types.specs.Maps.{FrameMap}
 use Rattle.vp9_types.specs.declared.rule.Rule.{Rule}
 use Rattle.vp9_types.specs.declared.rule.Rule.TheVariants.{OutputShape}
 use Rattle.vp9_types.specs.declared.shape.Shape.{Shape}
-use Rattle.file_frames.specs.Walks.{Added, Walked, adding, followed, walk_from}
+use Rattle.file_frames.specs.Walks.{Walked, adding, followed, walk_from}
 use Rattle.frame_output.specs.Formats.{output_text}
 use Rattle.frame_output.specs.declared.rendering.Format.{Format}
 use Rattle.seq_decoder.specs.After.{Stepped, step}
-use Rattle.seq_decoder.specs.Outputs.{Putting, fits, first_of, form_after, is_first, put, putting, shown_text}
+use Rattle.seq_decoder.specs.Outputs.{Putting, fits, first_of, is_first, put, putting}
 use Rattle.seq_decoder.specs.Runs.{Run, added, decoding, shown_list, texts_of}
 use Rattle.seq_decoder.specs.State.{Picture, State}
 use Rattle.seq_decoder.specs.declared.form.OutputForm.{OutputForm}

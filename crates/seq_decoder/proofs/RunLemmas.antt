@@ -1,7 +1,7 @@
 -- The output so far, and how a decode ends.
 use Rattle.std.proofs.Common.{◌≡◌, ℕ, ◌+◌, ◌<◌, List, [], ◌∷◌, ◌++◌, ap, sym, subst, refl, ◌∙◌}
 use Rattle.std.specs.Prelude.{true, Option, Some, None, Result, Ok, Err, if◌then◌else◌}
-use Rattle.std.proofs.lemmas.List.{append-nil, append_assoc}
+use Rattle.std.proofs.lemmas.List.{append-nil}
 use Rattle.edge_io.specs.Putting.{Takes, TakesFront}
 use Rattle.edge_io.proofs.Fronts.{takes_both, front_of}
 use Rattle.vp9_types.specs.declared.rule.Rule.{Rule}
@@ -50,11 +50,11 @@ pub put_is : (form : OutputForm) (r : Result Stepped Rule) (next : Stepped) → 
 put_is form r next is fits = ap (put form) is ∙ put_when form next fits
 
 -- one frame more
-pub frame_written : (format : Format) (bytes frame : List ℕ) (number : ℕ) (state : State) (form after : OutputForm) (a rest : Ahead) (next : Stepped) (old mid new : Option (List ℕ)) (faults then now : ℕ)
-    → IsFrame a number frame rest → HasWritten format bytes (state_with state form) a old mid faults then → step number state frame ≡ Ok next → admits form next.shown ≡ true → after ≡ form_after form next.shown
-    → Takes mid new (shown_text form next.shown) → now ≡ then
+pub frame_written : (format : Format) (bytes frame : List ℕ) (number : ℕ) (state : State) (form after : OutputForm) (a rest : Ahead) (next : Stepped) (old mid new : Option (List ℕ)) (faults met now : ℕ)
+    → IsFrame a number frame rest → HasWritten format bytes (state_with state form) a old mid faults met → step number state frame ≡ Ok next → admits form next.shown ≡ true → after ≡ form_after form next.shown
+    → Takes mid new (shown_text form next.shown) → now ≡ met
     → HasWritten format bytes (state_with next.state after) rest old new faults now
-frame_written format bytes frame number state form after a rest next old mid new faults then now is h stepped fits form_is takes quiet = record {
+frame_written format bytes frame number state form after a rest next old mid new faults met now is h stepped fits form_is takes quiet = record {
   text = h.text ++ shown_text form next.shown;
   way = subst (λ f. IsOnWay (putting (form_for format bytes)) bytes (h.text ++ shown_text form next.shown) (state_with next.state f) rest) (sym form_is)
       (goes_by (putting (form_for format bytes)) bytes h.text (state_with state form) a rest number frame (added_by form next) h.way is (put_is form (step number state frame) next stepped fits));
@@ -84,10 +84,10 @@ pub run_broken : (format : Format) (bytes : List ℕ) (p : Putting) (a : Ahead) 
 run_broken format bytes p a stop old new faults now is h =
     completes format bytes h.text (Some (stop.frame, stop.rule)) old new faults now (breaks (putting (form_for format bytes)) bytes h.text p a stop.frame stop.rule h.way is) h.takes h.quiet
 
-rule_in_run : (format : Format) (bytes frame : List ℕ) (number : ℕ) (p : Putting) (a rest : Ahead) (old mid new : Option (List ℕ)) (faults then now : ℕ) (at : ℕ) (rule : Rule)
-    → IsFrame a number frame rest → HasWritten format bytes p a old mid faults then → Breaks number (put p.form (step number p.state frame)) mid new then now at rule
+rule_in_run : (format : Format) (bytes frame : List ℕ) (number : ℕ) (p : Putting) (a rest : Ahead) (old mid new : Option (List ℕ)) (faults met now : ℕ) (at : ℕ) (rule : Rule)
+    → IsFrame a number frame rest → HasWritten format bytes p a old mid faults met → Breaks number (put p.form (step number p.state frame)) mid new met now at rule
     → Completes (output_of format bytes) old new faults now (Some (at, rule))
-rule_in_run format bytes frame number p a rest old mid new faults then now at rule is h f =
+rule_in_run format bytes frame number p a rest old mid new faults met now at rule is h f =
     completes format bytes h.text (Some (at, rule)) old new faults now
     (ends_at (putting (form_for format bytes)) bytes h.text p a rest number frame rule h.way is f.ends ∙ ap (λ n. record { adds = h.text; ending = Some (n, rule) }) (sym f.frame))
     (subst (Takes old new) (append-nil h.text) (takes_both old mid new h.text [] h.takes f.none))
@@ -100,29 +100,29 @@ front_of_run format bytes text done more old mid new is takes front =
     (f.0, f.2)
 
 -- where a front of the frame's text was taken, a front of the output was
-front_in_run : (format : Format) (bytes frame : List ℕ) (number : ℕ) (p : Putting) (a rest : Ahead) (old mid new : Option (List ℕ)) (faults then : ℕ) (r : Result (Added Putting ℕ) Rule)
-    → IsFrame a number frame rest → HasWritten format bytes p a old mid faults then → put p.form (step number p.state frame) ≡ r → TakesFront mid new (put_text r)
+front_in_run : (format : Format) (bytes frame : List ℕ) (number : ℕ) (p : Putting) (a rest : Ahead) (old mid new : Option (List ℕ)) (faults met : ℕ) (r : Result (Added Putting ℕ) Rule)
+    → IsFrame a number frame rest → HasWritten format bytes p a old mid faults met → put p.form (step number p.state frame) ≡ r → TakesFront mid new (put_text r)
     → WritesFront (output_of format bytes) old new
 unfolding output_of
-front_in_run format bytes frame number p a rest old mid new faults then (Ok added) is h stepped front =
+front_in_run format bytes frame number p a rest old mid new faults met (Ok added) is h stepped front =
     let more = walk_ahead (putting (form_for format bytes)) added.state rest in
     let way = goes_by (putting (form_for format bytes)) bytes h.text p a rest number frame added h.way is stepped in
     front_of_run format bytes added.adds h.text more.adds old mid new (ap (λ w. w.adds) way) h.takes front
-front_in_run format bytes frame number p a rest old mid new faults then (Err rule) is h stepped front =
+front_in_run format bytes frame number p a rest old mid new faults met (Err rule) is h stepped front =
     front_of_run format bytes [] h.text [] old mid new
     (ap (λ w. w.adds) (ends_at (putting (form_for format bytes)) bytes h.text p a rest number frame rule h.way is stepped)
     ∙ sym (append-nil h.text) ∙ sym (append-nil (h.text ++ [])))
     h.takes front
 
 -- where the decode ends in a frame
-pub frame_halts : (format : Format) (bytes frame : List ℕ) (number : ℕ) (p : Putting) (a rest : Ahead) (old mid new : Option (List ℕ)) (faults then now : ℕ) (o : Outcome)
-    → IsFrame a number frame rest → HasWritten format bytes p a old mid faults then → Halts number (put p.form (step number p.state frame)) mid new then now o
+pub frame_halts : (format : Format) (bytes frame : List ℕ) (number : ℕ) (p : Putting) (a rest : Ahead) (old mid new : Option (List ℕ)) (faults met now : ℕ) (o : Outcome)
+    → IsFrame a number frame rest → HasWritten format bytes p a old mid faults met → Halts number (put p.form (step number p.state frame)) mid new met now o
     → Decodes (output_of format bytes) old new faults now o
-frame_halts format bytes frame number p a rest old mid new faults then now outcome.Done is h f = absurd f
-frame_halts format bytes frame number p a rest old mid new faults then now (outcome.Broken stop) is h f =
-    rule_in_run format bytes frame number p a rest old mid new faults then now stop.frame stop.rule is h f
-frame_halts format bytes frame number p a rest old mid new faults then now outcome.WriteFault is h f =
-    (subst (λ k. k < now) h.quiet f.1, front_in_run format bytes frame number p a rest old mid new faults then (put p.form (step number p.state frame)) is h refl f.0)
-frame_halts format bytes frame number p a rest old mid new faults then now outcome.OutOfMemory is h f =
-    (f.1 ∙ h.quiet, front_in_run format bytes frame number p a rest old mid new faults then (put p.form (step number p.state frame)) is h refl f.0)
-frame_halts format bytes frame number p a rest old mid new faults then now outcome.ReadFault is h f = f
+frame_halts format bytes frame number p a rest old mid new faults met now outcome.Done is h f = absurd f
+frame_halts format bytes frame number p a rest old mid new faults met now (outcome.Broken stop) is h f =
+    rule_in_run format bytes frame number p a rest old mid new faults met now stop.frame stop.rule is h f
+frame_halts format bytes frame number p a rest old mid new faults met now outcome.WriteFault is h f =
+    (subst (λ k. k < now) h.quiet f.1, front_in_run format bytes frame number p a rest old mid new faults met (put p.form (step number p.state frame)) is h refl f.0)
+frame_halts format bytes frame number p a rest old mid new faults met now outcome.OutOfMemory is h f =
+    (f.1 ∙ h.quiet, front_in_run format bytes frame number p a rest old mid new faults met (put p.form (step number p.state frame)) is h refl f.0)
+frame_halts format bytes frame number p a rest old mid new faults met now outcome.ReadFault is h f = f

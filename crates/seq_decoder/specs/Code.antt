@@ -1,5 +1,5 @@
 -- What the code keeps, and what the calls answer.
-use Rattle.std.specs.Prelude.{◌≡◌, All, ℕ, ◌+◌, ◌/◌, ◌≤◌, ◌<◌, Bool, List, [], map, Option, Some, None, Result, Ok, Err, false, length, slice_get, slice_index_or, if◌then◌else◌}
+use Rattle.std.specs.Prelude.{◌≡◌, All, ℕ, ◌+◌, ◌/◌, ◌≤◌, ◌<◌, List, [], map, Option, Some, None, Result, Ok, Err, true, false, length, slice_get, slice_index_or}
 use Rattle.edge_io.specs.Putting.{Takes, TakesFront}
 use Rattle.edge_io.specs.declared.sink.PutFault.{PutFault}
 use Rattle.edge_io.specs.declared.sink.PutFault.TheVariants as refused

@@ -1,5 +1,5 @@
 -- What is written of a run: the texts of its shown frames, in a format.
-use Rattle.std.specs.Prelude.{ℕ, ◌==◌, ◌&&◌, Bool, true, List, [], Option, Some, None, Result, Ok, Err, if◌then◌else◌}
+use Rattle.std.specs.Prelude.{ℕ, ◌==◌, ◌&&◌, Bool, true, false, List, [], Option, Some, None, Result, Ok, Err, if◌then◌else◌}
 use Rattle.vp9_types.specs.Shapes.{depth_bits}
 use Rattle.vp9_types.specs.declared.rule.Rule.{Rule}
 use Rattle.vp9_types.specs.declared.rule.Rule.TheVariants.{OutputShape}
@@ -10,7 +10,7 @@ use Rattle.file_frames.specs.Walks.{Added, Walk, Walked, walk}
 use Rattle.frame_headers.specs.References.{same_bit}
 use Rattle.frame_output.specs.Formats.{output_text}
 use Rattle.frame_output.specs.declared.rendering.Format.{Format}
-use Rattle.frame_output.specs.declared.rendering.Format.TheVariants.{Raw, Md5, Y4m}
+use Rattle.frame_output.specs.declared.rendering.Format.TheVariants.{Y4m}
 use Rattle.seq_decoder.specs.After.{Stepped, step}
 use Rattle.seq_decoder.specs.State.{Picture, State, start_state}
 use Rattle.seq_decoder.specs.declared.form.OutputForm.{OutputForm}

@@ -21,8 +21,8 @@ use crate::segments::{begin_segments, keep_segments, segments_of};
 use crate::showing::{shape_of_any, show};
 use edge_io::{PutFault, Sink};
 use file_frames::FileFrame;
-use frame_output::Format;
 use frame_headers::{FrameHead, Header, Persist, read};
+use frame_output::Format;
 use frame_state::{FramePast, FrameSources, Halt, TileColumn, begin_frame};
 use picture_table::{AnyPicture, PictureTable};
 use segment_map::SegmentMap;
@@ -75,11 +75,7 @@ fn refusal_outcome(refusal: PutFault) -> Outcome
 fn shown_place(header: &Header, place: usize) -> Option<usize>
     ensures { result ≡ (if header.now.show_frame then Some place else None) }
 {
-    if header.show_frame {
-        Some(place)
-    } else {
-        None
-    }
+    if header.show_frame { Some(place) } else { None }
 }
 
 impl Decoder {
@@ -121,6 +117,7 @@ impl Decoder {
         ensures begun { OnOk result ((state : State) → StandsFor self.old state → HasBegun header.now self.new state) }
         ensures may { OnOk result (MayDecode (record self.new { persist = record self.new.persist { size = Some header.now.size } })) }
         ensures table { IsTable self.new.table × (held self.new.table ≡ held self.old.table) }
+        ensures form { self.new.form ≡ self.old.form }
     {
         self.saved.reset(header);
         let before = self.saved.at(place_of(header));
@@ -157,6 +154,7 @@ impl Decoder {
         ensures stands { (number : ℕ) (state : State) (r : FrameResult) → HasBegun header.now self.old state → IsAt header.now self.old.table coded r
             → StandsFor self.new (state_after number state header.now r) }
         ensures may { MayDecode self.new }
+        ensures form { self.new.form ≡ self.old.form }
     {
         let Coded { decoded, place } = coded;
         let before = self.saved.at(place_of(header));

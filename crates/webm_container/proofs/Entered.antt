@@ -1,8 +1,8 @@
 -- The walk over what is spelled in Tracks, and the track that is chosen there.
-use Rattle.std.proofs.Common.{◌≡◌, ℕ, ◌+◌, ◌≤◌, List, [], ◌∷◌, ◌++◌, length, drop, refl, sym, ap, ◌∙◌, arith, Bool, true, false, length-append, append_assoc, inl, inr}
-use Rattle.std.specs.Prelude.{Option, Some, None, Result, Ok, nat_eq, nat_lt, nat_le, slice_range, if◌then◌else◌}
+use Rattle.std.proofs.Common.{◌≡◌, ℕ, ◌+◌, ◌≤◌, List, [], ◌∷◌, ◌++◌, length, drop, refl, sym, ap, ◌∙◌, arith, Bool, true, false, length-append, append_assoc, inl, inr, ◌≢◌}
+use Rattle.std.specs.Prelude.{Option, Some, None, Result, Ok, nat_eq, nat_lt, nat_le, slice_range, if◌then◌else◌, ◌⊎◌, Err}
 use Rattle.std.specs.List.{AllByRecursion}
-use Rattle.std.proofs.lemmas.Bool.{le-leb, le-ltb, eqb-true}
+use Rattle.std.proofs.lemmas.Bool.{le-leb, le-ltb, eqb-true, eqb-false, ltb-false}
 use Rattle.byteorder.specs.Endian.{big_number}
 use Rattle.vp9_types.specs.Results.{◌>>=◌}
 use Rattle.vp9_types.specs.declared.rule.Rule.{Rule}
@@ -20,23 +20,24 @@ use Rattle.webm_container.specs.declared.entries.TrackNumber.TheVariants.{Is}
 use Rattle.webm_container.specs.declared.steps.Step.{Step}
 use Rattle.webm_container.specs.declared.steps.Step.TheVariants.{Moved}
 use Rattle.webm_container.proofs.Spelled.{if_false, if_true, differs, agrees, after, range, known_there, content_there}
+use Rattle.webm_container.proofs.Tests.{by_test}
 use Rattle.webm_container.proofs.Moves.{moves}
 use Rattle.webm_container.proofs.Clusters.{known_of, content_end, not_yet}
 
 ---- What an entry says ----
 
 -- an entry, and an element with this content, by the tests of its id
-abbrev noted_by : Bool → Bool → Bool → TrackEntry → List ℕ → TrackEntry
+abbrev pub noted_by : Bool → Bool → Bool → TrackEntry → List ℕ → TrackEntry
 noted_by codec number encodings entry content =
     if codec then record entry { is_vp9 = first_of entry.is_vp9 (is_vp9 content) }
     else (if number then record entry { number = first_of entry.number (number_in content) }
     else (if encodings then record entry { encoded = true }
     else entry))
 
-abbrev note : TrackEntry → ℕ → List ℕ → TrackEntry
+abbrev pub note : TrackEntry → ℕ → List ℕ → TrackEntry
 note entry id content = noted_by (nat_eq id the.codec_id) (nat_eq id the.track_number) (nat_eq id the.content_encodings) entry content
 
-abbrev notes : TrackEntry → List Other → TrackEntry
+abbrev pub notes : TrackEntry → List Other → TrackEntry
 notes entry [] = entry
 notes entry (e ∷ more) = notes (note entry (id_of e.head) e.content) more
 
@@ -236,3 +237,79 @@ module _ (bytes : List ℕ) (segment : ℕ) (fits : segment ≤ length bytes) wh
       (tracks_reads to at before e.head e.content (behind ++ rest) first are.0 room_here ∙ if_false (nat_eq (id_of e.head) the.track_entry) _ _ (differs _ _ are.1))
       ∙ over_tracks to outer more before last end rest are.2 (after bytes spelled (behind ++ rest) at first) (omega (arith, long))
       ∙ ap (λ k. packets_from bytes (in_tracks_at to last k)) to_there
+
+---- The other way: what is chosen is said ----
+
+stays_encoded : (elements : List Other) (entry : TrackEntry) → entry.encoded ≡ true → (notes entry elements).encoded ≡ true
+stays_encoded [] entry h = h
+stays_encoded (e ∷ more) entry h =
+    let id = id_of e.head in
+    stays_encoded more (note entry id e.content) (kept (nat_eq id the.codec_id) (nat_eq id the.track_number) (nat_eq id the.content_encodings) entry e.content h) where
+      kept : (codec number encodings : Bool) (entry : TrackEntry) (content : List ℕ) → entry.encoded ≡ true → (noted_by codec number encodings entry content).encoded ≡ true
+      kept true number encodings entry content h = h
+      kept false true encodings entry content h = h
+      kept false false true entry content h = refl
+      kept false false false entry content h = h
+
+not_encoded_back : (elements : List Other) (entry : TrackEntry) → (notes entry elements).encoded ≡ false → IsNotEncoded elements
+not_encoded_back [] entry h = tt
+not_encoded_back (e ∷ more) entry h =
+    let id = id_of e.head in
+    let n = note entry id e.content in
+    let apart : id ≢ the.content_encodings = λ is.
+    let noted_so : n.encoded ≡ true = ap (λ k. (note entry k e.content).encoded) is in
+    let stays = stays_encoded more n noted_so in
+    let bad : ⊥ = cc in
+    bad in
+    (apart, not_encoded_back more n h)
+
+-- what the end of an entry of no chosen track comes to
+abbrev Picks : Option (List ℕ) → Option (List ℕ) → Bool → Option ℕ → Type 0
+Picks codec content encoded after =
+    ((codec_is_vp9 codec ≡ false) × (after ≡ None))
+    ⊎ ((number : ℕ) × (codec_is_vp9 codec ≡ true) × SaysNumber content number × (encoded ≡ false) × (after ≡ Some number))
+
+picks_number : (codec : List ℕ) (content : List ℕ) (encoded : Bool) (after : Option ℕ) → is_vp9 codec ≡ true → usable (Some (number_in content)) encoded ≡ Ok after → Picks (Some codec) (Some content) encoded after
+picks_number codec content encoded after vp9 is =
+    by_test (λ n. usable (Some n) encoded ≡ Ok after → Picks (Some codec) (Some content) encoded after) (nat_eq (length content) 0) _ _ (λ _ bad. absurd (err_not_ok bad)) (λ some.
+    by_test (λ n. usable (Some n) encoded ≡ Ok after → Picks (Some codec) (Some content) encoded after) (nat_lt 8 (length content)) _ _ (λ _ bad. absurd (err_not_ok bad)) (λ few.
+    let a = eqb-false (length content) 0 some in
+    let b = ltb-false 8 (length content) few in
+    by_encoded encoded (omega arith) b)) is where
+      err_not_ok : {rule : Rule} → Err rule ≡ Ok after → ⊥
+      err_not_ok bad = cc
+
+      by_encoded : (encoded : Bool) → 1 ≤ length content → length content ≤ 8 → usable (Some (Is (big_number (length content) content))) encoded ≡ Ok after → Picks (Some codec) (Some content) encoded after
+      by_encoded true low high bad = absurd (err_not_ok bad)
+      by_encoded false low high good =
+          let same : after ≡ Some (big_number (length content) content) = cc in
+          inr (big_number (length content) content, vp9, (low, high, refl), refl, same)
+
+picks : (codec content : Option (List ℕ)) (encoded : Bool) (after : Option ℕ) → chosen_by (mapped is_vp9 codec) (usable (mapped number_in content) encoded) ≡ Ok after → Picks codec content encoded after
+picks None content encoded after is =
+    let same : after ≡ None = cc in
+    inl (refl, same)
+picks (Some codec) content encoded after is = by_codec (is_vp9 codec) refl is where
+  by_codec : (b : Bool) → is_vp9 codec ≡ b → chosen_by (Some b) (usable (mapped number_in content) encoded) ≡ Ok after → Picks (Some codec) content encoded after
+  by_codec false b is =
+      let same : after ≡ None = cc in
+      inl (b, same)
+  by_codec true b is = by_content content b is where
+    by_content : (content : Option (List ℕ)) → is_vp9 codec ≡ true → usable (mapped number_in content) encoded ≡ Ok after → Picks (Some codec) content encoded after
+    by_content None b is =
+        let bad : ⊥ = cc in
+        absurd bad
+    by_content (Some xs) b is = picks_number codec xs encoded after b is
+
+pub is_chosen_back : (before : Option ℕ) (elements : List Other) (after : Option ℕ) → chosen before (notes new_entry elements) ≡ Ok after → IsChosen before elements after
+is_chosen_back (Some track) elements after is =
+    let same : after ≡ Some track = cc in
+    same
+is_chosen_back None elements after is =
+    let entry = notes new_entry elements in
+    told (picks (first_content the.codec_id elements) (first_content the.track_number elements) entry.encoded after
+    (sym (ap (λ said. chosen_by said (usable entry.number entry.encoded)) (codec_said elements new_entry)
+    ∙ ap (λ n. chosen_by (mapped is_vp9 (first_content the.codec_id elements)) (usable n entry.encoded)) (number_said elements new_entry)) ∙ is)) where
+      told : Picks (first_content the.codec_id elements) (first_content the.track_number elements) (notes new_entry elements).encoded after → IsChosen None elements after
+      told (inl h) = inl h
+      told (inr h) = inr (h.0, h.1, h.2, not_encoded_back elements new_entry h.3, h.4)

@@ -7,3 +7,6 @@ pub mod Moves
 pub mod Clusters
 pub mod Entered
 pub mod Files
+pub mod Readings
+pub mod Wholes
+pub mod Found

@@ -5,8 +5,7 @@ use Rattle.frame_output.proofs.Digests.{nothing_added, rows_added}
 use Rattle.frame_output.proofs.digest.add_plane.Goals as goal
 
 pub loop-y-init : goal.loop-y-init
-loop-y-init g c = let a = c.args in
-    (search rules, nothing_added a.hasher.now a.shape.now.depth c.plane_size-width.result.0 (g.S.Samples.map a.samples.now a.plane))
+loop-y-init g c = (search rules, nothing_added c.args.hasher.now _ _ _)
 
 pub loop-y-preserved : goal.loop-y-preserved
 loop-y-preserved g c = let a = c.args in

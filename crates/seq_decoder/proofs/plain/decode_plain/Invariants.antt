@@ -11,7 +11,7 @@ invariant-frames g l = record {
   can : g.K.Sink.can_put l.sink;
   grows : g.K.Sink.grows l.sink ≡ g.K.Sink.grows l.initial.sink;
   written : (state : State) × StandsFor l.decoder state
-      × HasWritten l.format l.bytes (record { state = state; form = l.decoder.form }) (ahead l.frames) (g.K.Sink.taken l.initial.sink) (g.K.Sink.taken l.sink) (g.K.Sink.faults l.initial.sink) (g.K.Sink.faults l.sink);
+      × HasWritten l.fn.format l.bytes (record { state = state; form = l.decoder.form }) (ahead l.frames) (g.K.Sink.taken l.initial.sink) (g.K.Sink.taken l.sink) (g.K.Sink.faults l.initial.sink) (g.K.Sink.faults l.sink);
 }
 
 abbrev pub decreases-frames : goal.decreases-frames

@@ -1,5 +1,7 @@
-use Rattle.std.proofs.Common.{ap, arith}
+use Rattle.std.proofs.Common.{◌∙◌, ap, subst}
+use Rattle.std.specs.Prelude.{Ok, Err}
 use Rattle.seq_decoder.specs.After.{after_coded, shown_picture, state_after}
+use Rattle.seq_decoder.specs.Code.{Puts}
 use Rattle.seq_decoder.proofs.FrameLemmas.{at_put, begun_put, frame_halted, may_put, place_there, put_halts, puts_as, shown_at}
 use Rattle.seq_decoder.proofs.ShowingLemmas.{below_if, is_sound, sound_at, sound_if, told_shown}
 use Rattle.seq_decoder.proofs.decoder.Decoder.decode_coded.Goals as goal
@@ -30,11 +32,14 @@ returns-in-Err-put-clause-adds g c = λ state stands.
     let number = c.args.frame.number in
     let coded = c.in-Ok.ensures.coded state stands in
     let table = c.decode_picture.new.self.table in
-    put_halts number _ _ _ (record { state = state_after number state header coded.0; shown = shown_picture number header coded.0 }) _ _ _ _ c.in-Err-put.outcome
-    (ap (after_coded number state header) coded.1)
-    (puts_as number _ (shown_picture number header coded.0) _ _ _ _ _ _ _
+    let what = shown_picture number header coded.0 in
+    let puts : Puts number what c.args.self.now.form c.put.new.self.form (g.K.Sink.taken c.args.sink.now) (g.K.Sink.taken c.put.new.sink) (g.K.Sink.faults c.args.sink.now) (g.K.Sink.faults c.put.new.sink) (Err c.in-Err-put.outcome) =
+    subst (λ f. Puts number what f c.put.new.self.form (g.K.Sink.taken c.args.sink.now) (g.K.Sink.taken c.put.new.sink) (g.K.Sink.faults c.args.sink.now) (g.K.Sink.faults c.put.new.sink) (Err c.in-Err-put.outcome)) c.decode_picture.ensures.form
+    (puts_as number _ what c.decode_picture.new.self.form c.put.new.self.form (g.K.Sink.taken c.args.sink.now) (g.K.Sink.taken c.put.new.sink) (g.K.Sink.faults c.args.sink.now) (g.K.Sink.faults c.put.new.sink) (Err c.in-Err-put.outcome)
     (told_shown number header table c.in-Ok.coded coded.0 c.shown_place-shown.result (shown_at header table c.in-Ok.coded coded.0 coded.2) c.shown_place-shown.ensures)
-    c.in-Err-put.ensures.puts)
+    c.in-Err-put.ensures.puts) in
+    put_halts number c.args.self.now.form c.put.new.self.form _ (record { state = state_after number state header coded.0; shown = what }) _ _ _ _ c.in-Err-put.outcome
+    (ap (after_coded number state header) coded.1) puts
 
 pub keep-requires-clause-may : goal.keep-requires-clause-may
 keep-requires-clause-may g c = may_put c.decode_picture.new.self c.put.new.self c.args.header.now.size c.put.ensures.same c.in-Ok.ensures.may
@@ -52,14 +57,17 @@ returns-clause-adds g c = λ state stands.
     let begun = begun_put header c.decode_picture.new.self c.put.new.self state c.put.ensures.same (c.in-Ok.ensures.begun state stands) in
     let at = at_put header c.decode_picture.new.self c.put.new.self c.in-Ok.coded coded.0 c.put.ensures.same coded.2 in
     let table = c.decode_picture.new.self.table in
-    let puts = puts_as number _ (shown_picture number header coded.0) _ _ _ _ _ _ _
+    let what = shown_picture number header coded.0 in
+    let puts : Puts number what c.args.self.now.form c.put.new.self.form (g.K.Sink.taken c.args.sink.now) (g.K.Sink.taken c.put.new.sink) (g.K.Sink.faults c.args.sink.now) (g.K.Sink.faults c.put.new.sink) (Ok (tt {0})) =
+    subst (λ f. Puts number what f c.put.new.self.form (g.K.Sink.taken c.args.sink.now) (g.K.Sink.taken c.put.new.sink) (g.K.Sink.faults c.args.sink.now) (g.K.Sink.faults c.put.new.sink) (Ok (tt {0}))) c.decode_picture.ensures.form
+    (puts_as number _ what c.decode_picture.new.self.form c.put.new.self.form (g.K.Sink.taken c.args.sink.now) (g.K.Sink.taken c.put.new.sink) (g.K.Sink.faults c.args.sink.now) (g.K.Sink.faults c.put.new.sink) (Ok (tt {0}))
     (told_shown number header table c.in-Ok.coded coded.0 c.shown_place-shown.result (shown_at header table c.in-Ok.coded coded.0 coded.2) c.shown_place-shown.ensures)
-    c.in-Ok-put.ensures.puts in (
-      record { state = state_after number state header coded.0; shown = shown_picture number header coded.0 },
+    c.in-Ok-put.ensures.puts) in (
+      record { state = state_after number state header coded.0; shown = what },
       ap (after_coded number state header) coded.1,
       c.keep.ensures.stands number state coded.0 begun at,
       puts.0,
-      puts.1,
+      c.keep.ensures.form ∙ puts.1,
       puts.2,
       puts.3,
     )
