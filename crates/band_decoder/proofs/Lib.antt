@@ -1,8 +1,10 @@
-pub mod Places
+pub mod TablePlaces
 pub mod FrameBottom
-pub mod Columns
+pub mod PlannedBlocks
 pub mod Served
 pub mod Frames
 pub mod Slots
-pub mod References
+pub mod ReferredFrames
 pub mod Taking
+pub mod Kept
+pub mod Shown

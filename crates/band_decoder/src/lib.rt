@@ -4,12 +4,16 @@
 mod any;
 mod begun;
 mod columns;
+mod decoder;
+mod outcomes;
+mod places;
 mod references;
+mod showing;
 mod table;
+mod whole;
 
 pub use any::{AnyBands, BandSample};
 pub use begun::{BegunFrame, DecodeRoom, PlanRoom, decode_begun};
+pub use decoder::BandDecoder;
 pub use table::BandTable;
-
-#[test]
-fn nothing() {}
+pub use whole::decode_by_bands;

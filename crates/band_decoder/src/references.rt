@@ -1,6 +1,6 @@
 //! The frames that a frame refers to.
 
-ghost use Rattle.std.specs.Prelude.{◌≡◌, List, Option, None, IfSome, get_or, map, slice_index_or};
+ghost use Rattle.std.specs.Prelude.{◌≡◌, List, Option, None, IfSome, map, slice_index_or};
 ghost use Rattle.block_rebuild.specs.Code.{rebuilding_of};
 ghost use Rattle.frame_headers.specs.Sizes.{IsFrameSize};
 ghost use Rattle.frame_headers.specs.State.{shape_of};
@@ -13,21 +13,11 @@ ghost use Rattle.band_decoder.specs.Code.{HaveBands, told_of};
 ghost use Rattle.band_decoder.specs.Table.{IsTable, held};
 
 use crate::any::BandSample;
+use crate::places::place_in;
 use crate::table::BandTable;
 use block_rebuild::{Rebuilding, ReferencePicture};
 use frame_bands::FrameBands;
 use frame_headers::{FrameKind, Header, Reference};
-
-/// The place of what a slot holds, if it holds something.
-fn place_in(slots: &[Option<usize>; 8], slot: u8) -> Option<usize>
-    ensures { result ≡ get_or slots.now slot None }
-{
-    if slot < 8 {
-        slots[usize::from(slot)]
-    } else {
-        None
-    }
-}
 
 /// What the slot of a reference holds.
 fn bands_in<'a, P: BandSample>(

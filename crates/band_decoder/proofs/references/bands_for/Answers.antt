@@ -1,7 +1,7 @@
 use Rattle.band_decoder.specs.Table.{held}
 use Rattle.vp9_types.specs.declared.block.ReferenceFrame.TheVariants.{Last, Golden, Altref}
 use Rattle.seq_decoder.proofs.PastLemmas.{kept_named}
-use Rattle.band_decoder.proofs.References.{have_bands, references_are}
+use Rattle.band_decoder.proofs.ReferredFrames.{have_bands, references_are}
 use Rattle.band_decoder.proofs.references.bands_for.Goals as goal
 
 pub returns-in-Inter-clause-pictures : goal.returns-in-Inter-clause-pictures

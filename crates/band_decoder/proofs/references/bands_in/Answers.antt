@@ -1,7 +1,7 @@
 use Rattle.std.proofs.Common.{◌∙◌, ap, sym}
 use Rattle.std.specs.Prelude.{Some}
 use Rattle.std.specs.Option.{option_copied}
-use Rattle.band_decoder.proofs.References.{not_there, there_as}
+use Rattle.band_decoder.proofs.ReferredFrames.{not_there, there_as}
 use Rattle.band_decoder.proofs.Slots.{sound_at, told_there}
 use Rattle.band_decoder.proofs.references.bands_in.Goals as goal
 

@@ -1,6 +1,6 @@
 use Rattle.std.proofs.Common.{◌∙◌}
 use Rattle.picture_table.proofs.Places.{as_many_refreshed, refreshed_below}
-use Rattle.band_decoder.proofs.Places.{sound_refreshed}
+use Rattle.band_decoder.proofs.TablePlaces.{sound_refreshed}
 use Rattle.band_decoder.proofs.table.BandTable.refresh.Goals as goal
 
 pub returns-clause-table : goal.returns-clause-table

@@ -1,7 +1,7 @@
 use Rattle.std.proofs.Common.{◌≡◌, length, map, ap, ◌∙◌, arith, refl}
 use Rattle.band_decoder.specs.Table.{held_in}
 use Rattle.picture_table.proofs.Places.{last_is}
-use Rattle.band_decoder.proofs.Places.{held_before, held_beside, table_before, table_beside}
+use Rattle.band_decoder.proofs.TablePlaces.{held_before, held_beside, table_before, table_beside}
 use Rattle.band_decoder.proofs.table.BandTable.spare.Goals as goal
 
 pub returns-in_ok-renew-clause-held : goal.returns-in_ok-renew-clause-held

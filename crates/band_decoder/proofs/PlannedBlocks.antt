@@ -84,7 +84,7 @@ any_of (x ∷ xs) k low = x
 
 block_of_plan : (plans : List ColumnPlan) (k : ℕ) (p : ColumnPlan) (d : List BlockInfo) → k < length plans → get_or (blocks_of (columns_of plans)) k d ≡ (get_or plans k p).column.grid.blocks
 block_of_plan plans k p d there =
-    get_or-map (λ (c : TileColumn). c.grid.blocks) (columns_of plans) k p.column d (omega (arith, there, length-map (λ (q : ColumnPlan). q.column) plans))
+    get_or-map (λ (c : TileColumn). c.grid.blocks) (columns_of plans) k p.column d (omega (arith, there, length-map plans (λ (q : ColumnPlan). q.column)))
     ∙ ap (λ (c : TileColumn). c.grid.blocks) (get_or-map (λ (q : ColumnPlan). q.column) plans k p p.column there)
 
 -- the blocks of plans are those that are read
@@ -93,8 +93,8 @@ pub blocks_planned : (by : FrameSources) (bytes : List ℕ) (compressed : Span) 
 blocks_planned by bytes compressed spans read plans cut frame are =
     let reads = reads_columns by bytes compressed spans read cut frame in
     let many = many_read by bytes compressed spans read cut frame in
-    let planned : length (blocks_of (columns_of plans)) ≡ length plans = length-map (λ (c : TileColumn). c.grid.blocks) (columns_of plans) ∙ length-map (λ (q : ColumnPlan). q.column) plans in
-    let listed : length (blocks_read read) ≡ length read.columns = length-map (λ (c : Column). infos c.blocks) read.columns in
+    let planned : length (blocks_of (columns_of plans)) ≡ length plans = length-map (columns_of plans) (λ (c : TileColumn). c.grid.blocks) ∙ length-map plans (λ (q : ColumnPlan). q.column) in
+    let listed : length (blocks_read read) ≡ length read.columns = length-map read.columns (λ (c : Column). infos c.blocks) in
     same_lists (blocks_of (columns_of plans)) (blocks_read read) (planned ∙ are.many ∙ sym many ∙ sym listed)
     (λ k d low.
     let there : k < length plans = omega (arith, low, planned) in
