@@ -94,7 +94,7 @@ whole_of by bytes compressed put plans bands read h =
     record {
       fits = rw h.shape (record { wide = size.1; high = size.3 });
       range = λ p y x. elim (cases_lt y (coded_height bands.shape p)) [
-        | inl low ↦ rw h.shape (h.range p y x (rw h.shape at low))
+        | inl low ↦ subst (λ (s : Shape). map_of bands p y x ≤ greatest s.depth) (sym h.shape) (h.range p y x (subst (λ (s : Shape). y < coded_height s p) h.shape low))
         | inr past ↦ omega (arith, h.below p y x past)
       ];
     }
@@ -151,10 +151,17 @@ pub left_of : {X : Type 0} {g : Ghosts X} (references : ReferenceFrame → rebui
 left_of references input bands (Ok d) h = (h.0, h.2)
 left_of references input bands (Err e) h = tt
 
+-- bands that keep a sample as a byte, and as a word
+abbrev BytesBands : Type 0
+BytesBands = FrameBands ℕ (record { value = λ n. n; greatest = 255 })
+
+abbrev WordsBands : Type 0
+WordsBands = FrameBands ℕ (record { value = λ n. n; greatest = 65535 })
+
 kept_as : (Keeps : Depth → Type 0) (a b : Shape) → a ≡ b → Keeps b.depth → Keeps a.depth
 kept_as Keeps a b same h = subst (λ (s : Shape). Keeps s.depth) (sym same) h
 
-in_bytes : {g : Ghosts ℕ} (header : Header) (bands : FrameBands ℕ g) (d : Decoded) (r : FrameResult) → KeepInBytes (shape_of header).depth → HoldsResult header bands d r → HoldsFrame header (Bytes bands) d r
+in_bytes : (header : Header) (bands : BytesBands) (d : Decoded) (r : FrameResult) → KeepInBytes (shape_of header).depth → HoldsResult header bands d r → HoldsFrame header (Bytes bands) d r
 in_bytes header bands d r keeps h = record {
   map = h.map;
   shape = h.shape;
@@ -173,7 +180,7 @@ pub left_in_bytes : (header : Header) (bands : BytesBands) (result : Result Deco
 left_in_bytes header bands (Ok d) keeps h = (h.0, in_bytes header bands d h.0 keeps h.1)
 left_in_bytes header bands (Err e) keeps h = tt
 
-in_words : {g : Ghosts ℕ} (header : Header) (bands : FrameBands ℕ g) (d : Decoded) (r : FrameResult) → KeepInWords (shape_of header).depth → HoldsResult header bands d r → HoldsFrame header (Words bands) d r
+in_words : (header : Header) (bands : WordsBands) (d : Decoded) (r : FrameResult) → KeepInWords (shape_of header).depth → HoldsResult header bands d r → HoldsFrame header (Words bands) d r
 in_words header bands d r keeps h = record {
   map = h.map;
   shape = h.shape;

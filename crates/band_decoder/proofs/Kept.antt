@@ -4,6 +4,7 @@ use Rattle.std.specs.Prelude.{All, Bool, true, false, IfSome, None, Option, Some
 use Rattle.std.proofs.lemmas.Option.{get_or_from_slice_get, slice_get_within}
 use Rattle.vp9_types.specs.Maps.{FrameMap}
 use Rattle.vp9_types.specs.declared.block.ReferenceFrame.{ReferenceFrame}
+use Rattle.vp9_types.specs.declared.outcome.Outcome.{Outcome}
 use Rattle.vp9_types.specs.declared.rule.Rule.{Rule}
 use Rattle.vp9_types.specs.declared.shape.Shape.{Shape}
 use Rattle.frame_headers.proofs.SlotLemmas.{refreshed_told}
@@ -17,25 +18,25 @@ use Rattle.frame_state.specs.declared.halt.Halt.TheVariants as halt
 use Rattle.frame_decoder.specs.Frames.{FrameResult, decoded}
 use Rattle.picture_table.specs.Code.{IsBelow}
 use Rattle.seq_decoder.specs.After.{after_coded, picture_of, shown_picture, state_after}
-use Rattle.seq_decoder.specs.Code.{Halts, halt_outcome, shape_told, shown_of}
+use Rattle.seq_decoder.specs.Code.{Halts, Puts, halt_outcome, shape_told, shown_of, told_picture}
 use Rattle.seq_decoder.specs.Outputs.{put}
 use Rattle.seq_decoder.specs.State.{Picture, State}
 use Rattle.band_decoder.specs.declared.decoder.Coded.{Coded}
 use Rattle.seq_decoder.specs.declared.form.OutputForm.{OutputForm}
-use Rattle.seq_decoder.proofs.FrameLemmas.{rule_halts, wants_memory}
+use Rattle.seq_decoder.proofs.FrameLemmas.{put_halts, rule_halts, wants_memory}
 use Rattle.band_decoder.specs.Code.{IsFrame}
-use Rattle.band_decoder.specs.Bands.{IsSound}
-use Rattle.band_decoder.specs.Decoder.{HasBegun, IsAt, IsCoded, MayDecode, StandsFor}
+use Rattle.band_decoder.specs.Bands.{IsSound, map_of_any, shape_of_any}
+use Rattle.band_decoder.specs.Decoder.{Adds, HasBegun, IsAt, IsCoded, MayDecode, StandsFor}
 use Rattle.band_decoder.specs.Table.{IsSoundAt, IsTable, NamesSound, held, held_in, shown}
 use Rattle.band_decoder.specs.declared.any.AnyBands.{AnyBands}
 use Rattle.band_decoder.specs.declared.decoder.BandDecoder.{BandDecoder}
 use Rattle.band_decoder.specs.declared.table.BandTable.{BandTable}
-use Rattle.band_decoder.proofs.Slots.{named_sound, shown_place}
+use Rattle.band_decoder.proofs.Slots.{got_there, named_sound, shown_place}
 
 ---- A frame that can't be decoded ----
 
 -- a frame that can't be decoded
-pub coded_halts : (header : Header) (references others : ReferenceFrame → ReferencePicture) (input other : FrameInput) (bands : AnyBands) (table : BandTable) (e : Halt)
+pub coded_halts : (header : Header) (references others : ReferenceFrame → ReferencePicture) (input other : FrameInput) (picture : AnyBands) (table : BandTable) (e : Halt)
     → references ≡ others → input ≡ other → IsFrame references input picture (Err e) → IsCoded header (decoded others other) table (Err e)
 coded_halts header references others input other picture table (halt.Broken rule) named same is = (λ i. decoded (sym named i) (sym same i)) ∙ is
 coded_halts header references others input other picture table halt.OutOfMemory named same is = tt
@@ -153,3 +154,29 @@ stands_put d after state same h =
 
 pub at_put : (header : Header) (d after : BandDecoder) (c : Coded) (r : FrameResult) → after ≡ record d { form = after.form; text = after.text } → IsAt header d.table c r → IsAt header after.table c r
 at_put header d after c r same h = subst (λ (x : BandDecoder). IsAt header x.table c r) (sym same) h
+
+---- What is put ----
+
+-- what is told of a picture
+abbrev pub told_by : AnyBands → Picture
+told_by picture = record { frame = 0; shape = shape_of_any picture; map = map_of_any picture }
+
+bands_there : (frames : List AnyBands) (o : Option ℕ) (place : ℕ) (got : AnyBands) → o ≡ Some place → IsBelow (length frames) o → got ≡ get_or frames place got
+    → slice_get frames place ≡ Some got
+bands_there frames o place got is there same = got_there frames place got (subst (IsBelow (length frames)) is there) ∙ ap (λ p. Some p) (sym same)
+
+pub puts_there : (number : ℕ) (frames : List AnyBands) (o : Option ℕ) (place : ℕ) (got : AnyBands) (form after : OutputForm) (old new : Option (List ℕ)) (faults now : ℕ) (r : Result (Unit {0}) Outcome)
+    → o ≡ Some place → IsBelow (length frames) o → got ≡ get_or frames place got → Puts number (Some (told_by got)) form after old new faults now r
+    → Puts number (told_picture (held_in frames o)) form after old new faults now r
+puts_there number frames o place got form after old new faults now r is there same h =
+    subst (λ t. Puts number (told_picture t) form after old new faults now r) (sym (ap (held_in frames) is ∙ ap shown (bands_there frames o place got is there same))) h
+
+pub sound_there : (frames : List AnyBands) (o : Option ℕ) (place : ℕ) (got : AnyBands) → o ≡ Some place → IsBelow (length frames) o → got ≡ get_or frames place got → NamesSound frames o → IsSound got
+sound_there frames o place got is there same sound = subst (λ p. IfSome p IsSound) (bands_there frames o place got is there same) (subst (NamesSound frames) is sound)
+
+-- what a slot shows is put, or the run ends there
+pub shown_adds : (number : ℕ) (form : OutputForm) (state : State) (what : Option Picture) (d : BandDecoder) (old new : Option (List ℕ)) (faults now : ℕ) (r : Result (Unit {0}) Outcome) → StandsFor d state
+    → Puts number what form d.form old new faults now r → Adds number form (Ok (record { state = state; shown = what })) d old new faults now r
+shown_adds number form state what d old new faults now (Ok u) stands h = (record { state = state; shown = what }, refl, stands, h.0, h.1, h.2, h.3)
+shown_adds number form state what d old new faults now (Err o) stands h =
+    put_halts number form d.form (Ok (record { state = state; shown = what })) (record { state = state; shown = what }) old new faults now o refl h

@@ -19,7 +19,7 @@ use crate::any::{AnyBands, BandSample};
 use crate::columns::take_columns;
 use crate::references::bands_for;
 use crate::table::BandTable;
-use block_rebuild::RoomSample;
+use block_rebuild::{Rebuilding, RoomSample};
 use frame_bands::FrameBands;
 use frame_decoder::Decoded;
 use frame_plans::plan_frame;
@@ -66,6 +66,25 @@ pub struct BegunFrame<'a> {
     pub table: &'a BandTable,
 }
 
+/// What a frame is rebuilt from, all of one lifetime.
+fn parts_of<'a, S>(
+    bytes: &'a [u8],
+    by: FrameSources<'a>,
+    compressed: Span,
+    plans: &'a [ColumnPlan],
+    pictures: Rebuilding<'a, S>,
+) -> FrameParts<'a, 'a, 'a, S>
+    ensures { result ≡ record { bytes = bytes; by = by; compressed = compressed; plans = plans; pictures = pictures } }
+{
+    FrameParts {
+        bytes,
+        by,
+        compressed,
+        plans,
+        pictures,
+    }
+}
+
 /// Decodes a frame that is begun into bands of its shape that keep samples so, as those of the table do that it refers to.
 fn decode_kept<P: BandSample + RoomSample + EdgeSample>(
     planning: &mut PlanRoom,
@@ -95,13 +114,7 @@ fn decode_kept<P: BandSample + RoomSample + EdgeSample>(
     let counts = plan_frame(plans, alloc, bytes, &reading, compressed)?;
     let pictures = bands_for(&reading.setting.header, table);
     let contexts = reading.setting.contexts;
-    let parts = FrameParts {
-        bytes,
-        by: reading,
-        compressed,
-        plans,
-        pictures,
-    };
+    let parts = parts_of(bytes, reading, compressed, plans, pictures);
     rebuild(bands, room, alloc, &parts)?;
     bands.zero_below();
     let columns = take_columns(&mut planning.plans, &mut planning.spare, alloc)?;

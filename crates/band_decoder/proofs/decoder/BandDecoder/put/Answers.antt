@@ -2,11 +2,12 @@ use Rattle.std.proofs.Common.{◌≡◌, ◌∙◌, Some, ap, refl, sym, true, f
 use Rattle.std.specs.Prelude.{Ok, Err}
 use Rattle.edge_io.proofs.Fronts.{takes_none}
 use Rattle.vp9_types.specs.declared.rule.Rule.TheVariants.{OutputShape}
-use Rattle.picture_table.specs.Pictures.{map_of_any}
+use Rattle.band_decoder.specs.Bands.{map_of_any}
 use Rattle.seq_decoder.specs.Code.{refusal_outcome}
 use Rattle.seq_decoder.specs.Outcomes.{outcome_at}
 use Rattle.seq_decoder.specs.Outputs.{admits, form_after}
-use Rattle.seq_decoder.proofs.FrameLemmas.{puts_there, refused_puts, sound_there, told_by}
+use Rattle.seq_decoder.proofs.FrameLemmas.{refused_puts}
+use Rattle.band_decoder.proofs.Kept.{puts_there, sound_there, told_by}
 use Rattle.band_decoder.proofs.decoder.BandDecoder.put.Goals as goal
 
 pub returns-then-not-admits-clause-puts : goal.returns-then-not-admits-clause-puts

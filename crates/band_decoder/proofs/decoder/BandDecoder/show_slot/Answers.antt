@@ -1,6 +1,6 @@
 use Rattle.std.specs.Prelude.{None, get_or}
-use Rattle.seq_decoder.proofs.FrameLemmas.{on_ok, puts_as, shown_adds}
-use Rattle.band_decoder.proofs.Kept.{may_shown, slot_below, slot_shows, slot_sound, stands_put}
+use Rattle.seq_decoder.proofs.FrameLemmas.{on_ok, puts_as}
+use Rattle.band_decoder.proofs.Kept.{may_shown, shown_adds, slot_below, slot_shows, slot_sound, stands_put}
 use Rattle.band_decoder.proofs.decoder.BandDecoder.show_slot.Goals as goal
 
 pub put-requires-clause-there : goal.put-requires-clause-there
