@@ -25,7 +25,7 @@ named_there count [] n place all is = absurd cc
 named_there count (s ∷ slots) zero place all is = subst (IsBelow count) is (All-head (IsBelow count) s slots all)
 named_there count (s ∷ slots) (suc n) place all is = named_there count slots n place (All-tail (IsBelow count) s slots all) is
 
-got_there : (frames : List AnyBands) (place : ℕ) (d : AnyBands) → place < length frames → slice_get frames place ≡ Some (get_or frames place d)
+pub got_there : (frames : List AnyBands) (place : ℕ) (d : AnyBands) → place < length frames → slice_get frames place ≡ Some (get_or frames place d)
 got_there [] place d low = absurd (omega (arith, low))
 got_there (p ∷ frames) zero d low = refl
 got_there (p ∷ frames) (suc place) d low = got_there frames place d (omega (arith, low))

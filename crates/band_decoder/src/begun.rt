@@ -74,7 +74,7 @@ fn parts_of<'a, S>(
     plans: &'a [ColumnPlan],
     pictures: Rebuilding<'a, S>,
 ) -> FrameParts<'a, 'a, 'a, S>
-    ensures { result ≡ record { bytes = bytes; by = by; compressed = compressed; plans = plans; pictures = pictures } }
+    ensures { result ≡ record { bytes = bytes.entry; by = by.entry; compressed = compressed; plans = plans.entry; pictures = pictures.entry } }
 {
     FrameParts {
         bytes,

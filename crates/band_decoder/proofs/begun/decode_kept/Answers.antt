@@ -35,7 +35,7 @@ rebuild-requires-clause-parts g c =
 pub returns-in_err-counts-clause-decoded : goal.returns-in_err-counts-clause-decoded
 returns-in_err-counts-clause-decoded g c = λ slots same.
     let p = err_from_is_err_and c.from_residual.result c.from_residual.ensures.1 in
-    rw (p.1, p.2) (frame_halts _ c.args.by.reading c.args.bytes.now c.args.compressed _ _ c.requires.begun c.in_err-counts.ensures.frame)
+    rw (p.1, p.2) (frame_halts _ c.args.by.reading c.args.bytes.now c.args.compressed c.args.bands.now _ c.requires.begun c.in_err-counts.ensures.frame)
 
 pub returns-clause-decoded : goal.returns-clause-decoded
 returns-clause-decoded g c = λ slots same.
@@ -44,7 +44,7 @@ returns-clause-decoded g c = λ slots same.
     let frame = c.in_ok-counts.ensures.frame in
     let d : Decoded = record { contexts = by.setting.contexts; columns = c.in_ok-columns.columns; counts = c.in_ok-counts.counts } in
     let made = rw (c.parts_of-parts.ensures, c.deref.ensures.value) at c.in_ok-rebuild.ensures.frame in
-    let small = rw (c.parts_of-parts.ensures, c.deref.ensures.value) at c.in_ok-rebuild.ensures.range in
+    let small = c.in_ok-rebuild.ensures.range in
     subst (λ references. IsDecoded references (input_by by bytes c.args.compressed) c.rebuild.new.bands (Ok d)) (c.bands_for-pictures.ensures.pictures slots same)
     (frame_is by bytes c.args.compressed c.bands_for-pictures.result c.plan_frame.new.plans.items c.rebuild.new.bands frame.0 d
     (record {
@@ -66,7 +66,7 @@ returns-clause-left g c =
     let frame = c.in_ok-counts.ensures.frame in
     let d : Decoded = record { contexts = by.setting.contexts; columns = c.in_ok-columns.columns; counts = c.in_ok-counts.counts } in
     let made = rw (c.parts_of-parts.ensures, c.deref.ensures.value) at c.in_ok-rebuild.ensures.frame in
-    let small = rw (c.parts_of-parts.ensures, c.deref.ensures.value) at c.in_ok-rebuild.ensures.range in
+    let small = c.in_ok-rebuild.ensures.range in
     left_of _ (input_by by bytes c.args.compressed) c.rebuild.new.bands (Ok d)
     (frame_is by bytes c.args.compressed c.bands_for-pictures.result c.plan_frame.new.plans.items c.rebuild.new.bands frame.0 d
     (record {

@@ -23,8 +23,7 @@ put-requires-clause-sound g c =
     let at = c.in-Ok.ensures.at in
     rw c.shown_place-shown.ensures
     (sound_if c.args.header.now.show_frame c.decode_bands.new.self.table.frames.items c.in-Ok.coded.place
-    (sound_at c.decode_bands.new.self.table.frames.items c.in-Ok.coded.place at.1.picture at.1.there
-    (is_sound c.args.header.now c.in-Ok.coded at.1.picture at.0 (record { wide = size.1; high = size.3 }) at.1.holds)))
+    (sound_at c.decode_bands.new.self.table.frames.items c.in-Ok.coded.place at.1.bands at.1.there at.1.holds.sound))
 
 pub returns-in-Err-put-clause-adds : goal.returns-in-Err-put-clause-adds
 returns-in-Err-put-clause-adds g c = λ state stands.
