@@ -110,11 +110,10 @@ fn decode_kept<P: BandSample + RoomSample + EdgeSample>(
 {
     let alloc = *planning.plans.allocator();
     let BegunFrame { reading, table } = by;
-    let plans = &mut planning.plans;
-    let counts = plan_frame(plans, alloc, bytes, &reading, compressed)?;
+    let counts = plan_frame(&mut planning.plans, alloc, bytes, &reading, compressed)?;
     let pictures = bands_for(&reading.setting.header, table);
     let contexts = reading.setting.contexts;
-    let parts = parts_of(bytes, reading, compressed, plans, pictures);
+    let parts = parts_of(bytes, reading, compressed, &planning.plans, pictures);
     rebuild(bands, room, alloc, &parts)?;
     bands.zero_below();
     let columns = take_columns(&mut planning.plans, &mut planning.spare, alloc)?;

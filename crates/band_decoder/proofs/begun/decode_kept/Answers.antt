@@ -44,7 +44,7 @@ returns-clause-decoded g c = λ slots same.
     let frame = c.in_ok-counts.ensures.frame in
     let d : Decoded = record { contexts = by.setting.contexts; columns = c.in_ok-columns.columns; counts = c.in_ok-counts.counts } in
     let made = rw (c.parts_of-parts.ensures, c.deref.ensures.value) at c.in_ok-rebuild.ensures.frame in
-    let small = c.in_ok-rebuild.ensures.range in
+    let small = rw c.parts_of-parts.ensures at c.in_ok-rebuild.ensures.range in
     subst (λ references. IsDecoded references (input_by by bytes c.args.compressed) c.rebuild.new.bands (Ok d)) (c.bands_for-pictures.ensures.pictures slots same)
     (frame_is by bytes c.args.compressed c.bands_for-pictures.result c.plan_frame.new.plans.items c.rebuild.new.bands frame.0 d
     (record {
@@ -66,7 +66,7 @@ returns-clause-left g c =
     let frame = c.in_ok-counts.ensures.frame in
     let d : Decoded = record { contexts = by.setting.contexts; columns = c.in_ok-columns.columns; counts = c.in_ok-counts.counts } in
     let made = rw (c.parts_of-parts.ensures, c.deref.ensures.value) at c.in_ok-rebuild.ensures.frame in
-    let small = c.in_ok-rebuild.ensures.range in
+    let small = rw c.parts_of-parts.ensures at c.in_ok-rebuild.ensures.range in
     left_of _ (input_by by bytes c.args.compressed) c.rebuild.new.bands (Ok d)
     (frame_is by bytes c.args.compressed c.bands_for-pictures.result c.plan_frame.new.plans.items c.rebuild.new.bands frame.0 d
     (record {
