@@ -22,11 +22,7 @@ pub fn place_in(slots: &[Option<usize>; 8], slot: u8) -> Option<usize>
 pub fn shown_place(header: &Header, place: usize) -> Option<usize>
     ensures { result ≡ (if header.now.show_frame then Some place else None) }
 {
-    if header.show_frame {
-        Some(place)
-    } else {
-        None
-    }
+    if header.show_frame { Some(place) } else { None }
 }
 
 /// Keeps a frame as the last one. The tile columns of the one before it are left for use again.

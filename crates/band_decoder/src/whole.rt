@@ -14,7 +14,12 @@ use vp9_types::Outcome;
 /// Decodes a file by the plans of tile columns, strips and bands, and writes the frames that it shows, in this format, in order and
 /// each as it is decoded, up to its end or the first frame that breaks a rule. It never answers a read fault. A sink that didn't
 /// fail may be used on.
-pub fn decode_by_bands<K: Sink>(alloc: Global, format: Format, bytes: &[u8], sink: &mut K) -> Outcome
+pub fn decode_by_bands<K: Sink>(
+    alloc: Global,
+    format: Format,
+    bytes: &[u8],
+    sink: &mut K,
+) -> Outcome
     requires { K.can_put sink.old }
     ensures decodes { Decodes (output_of format bytes.now) (K.taken sink.old) (K.taken sink.new) (K.faults sink.old) (K.faults sink.new) result }
     ensures grows { K.grows sink.new ≡ K.grows sink.old }
