@@ -1,25 +1,20 @@
 -- A frame whose tile columns are planned, and which is rebuilt into bands.
 use Rattle.std.proofs.Common.{◌≡◌, ◌∙◌, ◌<◌, ◌≤◌, ℕ, List, refl, sym, ap, subst, arith, inl, inr}
-use Rattle.std.specs.Prelude.{All, Result, Ok, Err, IfOk, IsOk, slice_range}
+use Rattle.std.specs.Prelude.{Result, Ok, Err, IfOk, IsOk}
 use Rattle.std.proofs.Math.Path.{fun_ext}
 use Rattle.std.proofs.lemmas.Bool.{cases_lt}
-use Rattle.vp9_types.specs.Maps.{FrameMap}
 use Rattle.vp9_types.specs.Shapes.{coded_height}
 use Rattle.vp9_types.specs.Sizes.{greatest}
-use Rattle.vp9_types.specs.declared.block.Modes.{Modes}
 use Rattle.vp9_types.specs.declared.block.ReferenceFrame.{ReferenceFrame}
 use Rattle.vp9_types.specs.declared.job.Span.{Span}
-use Rattle.vp9_types.specs.declared.rule.Rule.{Rule}
 use Rattle.vp9_types.specs.declared.sample.Sample.{Ghosts}
 use Rattle.vp9_types.specs.declared.shape.Depth.{Depth}
 use Rattle.vp9_types.specs.declared.shape.Plane.{Plane}
 use Rattle.vp9_types.specs.declared.shape.Shape.{Shape}
-use Rattle.frame_headers.specs.Sizes.{IsFrameSize}
 use Rattle.frame_headers.specs.Spans.{tile_count, tile_spans}
 use Rattle.frame_headers.specs.State.{shape_of}
 use Rattle.frame_headers.specs.Tiles.{AreFewTiles}
 use Rattle.frame_headers.specs.declared.header.Header.{Header}
-use Rattle.compressed_header.specs.Header.{forward}
 use Rattle.prob_contexts.specs.Lists.{lists_of}
 use Rattle.planes.specs.Pictures.{blank}
 use Rattle.block_plan.specs.Planned.{PlannedBlock}
@@ -33,14 +28,14 @@ use Rattle.loop_edges.specs.Edges.{filtered_frame}
 use Rattle.frame_state.specs.Code.{IsBegun, counts_if, sources_of}
 use Rattle.frame_state.specs.Columns.{blocks_of}
 use Rattle.frame_state.specs.Plans.{tile_bytes}
-use Rattle.frame_state.specs.Reading.{FrameInput, FrameRead, all_blocks, blocks_read, read_all_tiles, sources}
+use Rattle.frame_state.specs.Reading.{FrameInput, FrameRead, all_blocks, blocks_read, read_all_tiles}
 use Rattle.frame_state.specs.Sources.{adapts}
 use Rattle.frame_state.specs.declared.halt.Halt.{Halt}
 use Rattle.frame_state.specs.declared.halt.Halt.TheVariants as halt
 use Rattle.frame_state.specs.declared.sources.FrameSources as code
 use Rattle.frame_state.proofs.ColumnBlocks.{starts_of}
 use Rattle.frame_state.proofs.TileSpans.{frame_reads, tiles_break}
-use Rattle.frame_decoder.specs.Frames.{FrameResult, decoded, raw, rebuilding}
+use Rattle.frame_decoder.specs.Frames.{FrameResult, raw}
 use Rattle.frame_decoder.specs.declared.decoding.Decoded.{Decoded}
 use Rattle.frame_decoder.proofs.PlainFrames.{frame_breaks, frame_done, result_of}
 use Rattle.tile_syntax.specs.declared.plans.ColumnPlan.{ColumnPlan}
@@ -53,7 +48,7 @@ use Rattle.picture_table.specs.Pictures.{KeepInBytes, KeepInWords}
 use Rattle.band_decoder.specs.declared.any.AnyBands.TheVariants.{Bytes, Words}
 use Rattle.seq_decoder.specs.Code.{input_by}
 use Rattle.band_decoder.specs.Bands.{IsWhole}
-use Rattle.band_decoder.specs.Code.{HoldsFrame, HoldsRest, HoldsResult, IsDecoded, IsFrame}
+use Rattle.band_decoder.specs.Code.{HoldsFrame, HoldsResult, IsDecoded, IsFrame}
 use Rattle.band_decoder.proofs.PlannedBlocks.{blocks_planned}
 use Rattle.band_decoder.proofs.FrameBottom.{no_sample_below}
 

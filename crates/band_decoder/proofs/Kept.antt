@@ -1,6 +1,6 @@
 -- What a frame leaves, and what the slots hold behind it.
-use Rattle.std.proofs.Common.{◌≡◌, ◌∙◌, ℕ, zero, suc, ◌<◌, List, [], ◌∷◌, length, map, get_or, ap, sym, subst, refl, arith}
-use Rattle.std.specs.Prelude.{All, Bool, true, false, IfSome, None, Option, Some, Result, Ok, Err, slice_get, if◌then◌else◌}
+use Rattle.std.proofs.Common.{◌≡◌, ◌∙◌, ℕ, zero, suc, ◌<◌, List, [], ◌∷◌, length, map, get_or, ap, sym, subst, refl}
+use Rattle.std.specs.Prelude.{Bool, true, false, IfSome, None, Option, Some, Result, Ok, Err, slice_get, if◌then◌else◌}
 use Rattle.std.proofs.lemmas.Option.{get_or_from_slice_get, slice_get_within}
 use Rattle.vp9_types.specs.Maps.{FrameMap}
 use Rattle.vp9_types.specs.declared.block.ReferenceFrame.{ReferenceFrame}

@@ -1,5 +1,5 @@
 -- The tile columns that plans come to are those that the frame's tiles say.
-use Rattle.std.proofs.Common.{◌≡◌, ◌∙◌, ◌<◌, ◌+◌, ◌^◌, ◌∷◌, [], ℕ, ℤ, List, length, map, get_or, refl, sym, ap, arith}
+use Rattle.std.proofs.Common.{◌≡◌, ◌∙◌, ◌<◌, ◌+◌, ◌∷◌, [], ℕ, ℤ, List, length, get_or, refl, sym, ap, arith}
 use Rattle.std.specs.Prelude.{Result, Ok, Err, drop, slice_range}
 use Rattle.std.proofs.lemmas.List.{get_or-map, length-map, length-replicate, length-set, same_lists}
 use Rattle.vp9_types.specs.Results.{◌>>=◌}

@@ -1,5 +1,5 @@
 -- What the frames that a frame refers to are.
-use Rattle.std.proofs.Common.{◌≡◌, ◌∙◌, ℕ, ◌≤◌, ◌<◌, List, true, map, get_or, ap, sym, subst, refl, arith}
+use Rattle.std.proofs.Common.{◌≡◌, ◌∙◌, ◌≤◌, ◌<◌, List, true, map, ap, sym, subst, refl, arith}
 use Rattle.std.specs.Prelude.{IfSome, None, Option, Some, slice_index_or}
 use Rattle.std.proofs.Math.Path.{fun_ext}
 use Rattle.vp9_types.specs.Maps.{FrameMap, IsAtMost}

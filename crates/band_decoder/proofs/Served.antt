@@ -1,10 +1,8 @@
 -- The frames that the blocks of plans refer to serve them.
 use Rattle.std.proofs.Common.{◌≡◌, ◌<◌, ℕ, List, length, get_or, true}
 use Rattle.std.specs.Prelude.{All, IfSome, Option, Some, None}
-use Rattle.vp9_types.specs.Maps.{FrameMap}
 use Rattle.vp9_types.specs.declared.block.ReferenceFrame.{ReferenceFrame}
 use Rattle.vp9_types.specs.declared.sample.Sample.{Ghosts}
-use Rattle.vp9_types.specs.declared.shape.Plane.{Plane}
 use Rattle.frame_headers.specs.declared.header.FrameKind.TheVariants as kind
 use Rattle.frame_headers.specs.declared.header.Header.{Header}
 use Rattle.frame_headers.specs.declared.header.InterFields.{InterFields}

@@ -2,8 +2,6 @@
 use Rattle.std.proofs.Common.{◌≡◌, ◌∙◌, ℕ, zero, suc, ◌<◌, List, [], ◌∷◌, length, map, get_or, ap, sym, subst, refl, arith}
 use Rattle.std.specs.Prelude.{All, IfSome, None, Option, Some, slice_get, slice_index_or}
 use Rattle.std.proofs.lemmas.List.Elements.{All-head, All-tail}
-use Rattle.vp9_types.specs.Maps.{FrameMap}
-use Rattle.vp9_types.specs.declared.shape.Shape.{Shape}
 use Rattle.picture_table.specs.Code.{IsBelow}
 use Rattle.band_decoder.specs.Bands.{IsSound, map_of_any, shape_of_any}
 use Rattle.band_decoder.specs.Table.{IsSoundAt, IsTable, NamesSound, held, held_in, shown}

@@ -1,5 +1,5 @@
 -- The bands of frames, whatever they keep a sample as.
-use Rattle.std.specs.Prelude.{◌≡◌, Bool, false, Option, Some, None}
+use Rattle.std.specs.Prelude.{◌≡◌, false, Option, Some, None}
 use Rattle.vp9_types.specs.Maps.{FrameMap, IsAtMost}
 use Rattle.vp9_types.specs.Sizes.{greatest}
 use Rattle.vp9_types.specs.declared.sample.Sample.{Ghosts}

@@ -1,9 +1,8 @@
 -- What the code holds of a frame, and what its calls answer.
-use Rattle.std.specs.Prelude.{◌≡◌, ◌≤◌, ◌<◌, All, ℕ, List, length, Option, Some, None, Result, Ok, Err, slice_get, false, true}
+use Rattle.std.specs.Prelude.{◌≡◌, ◌<◌, All, ℕ, Option, Some, None, Result, Ok, Err, true}
 use Rattle.vp9_types.specs.Maps.{FrameMap}
 use Rattle.vp9_types.specs.Shapes.{coded_height, coded_width}
 use Rattle.vp9_types.specs.declared.block.ReferenceFrame.{ReferenceFrame}
-use Rattle.vp9_types.specs.declared.rule.Rule.{Rule}
 use Rattle.vp9_types.specs.declared.sample.Sample.{Ghosts}
 use Rattle.vp9_types.specs.declared.shape.Plane.{Plane}
 use Rattle.vp9_types.specs.declared.shape.Shape.{Shape}

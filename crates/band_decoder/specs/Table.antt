@@ -1,5 +1,5 @@
 -- What a table of frames holds.
-use Rattle.std.specs.Prelude.{◌≡◌, ◌<◌, ℕ, List, map, length, Option, Some, None, All, IfSome, slice_get}
+use Rattle.std.specs.Prelude.{◌≡◌, ℕ, List, map, length, Option, Some, None, All, IfSome, slice_get}
 use Rattle.vp9_types.specs.Maps.{FrameMap}
 use Rattle.vp9_types.specs.declared.shape.Shape.{Shape}
 use Rattle.picture_table.specs.Code.{IsBelow}

@@ -61,7 +61,10 @@ pub const ROWS: [Row; 11] = [
     \xbc#\xb0\xbe\xdf\xef\xad\xfd\x1e\xaf\xdaP\r\r\x86\xb6p\xe2\x147#\xa6Lv&R\xf3t\xee7\xcdi%m$WlR\xad^\xb7~\x8d.\xd9\
     \xb6\x84;}1\xd8\xda\x7f{<\x98\x15\x98\xc4V\xb4\x17\x17m\0y\xfd\x8e\x96\x95\xdcQO\xb5\xd6y\xeaw\xa7\xcb\xeb\x9f\x89\
     \n\xa9_\xa4\xd9n`\x181\x98\x89]\x98\x99\xc3\\\xec\xb2\xb3\xfe\xf2\x98\x8a\x08SD",
-        digest: [0xc0, 0xac, 0x67, 0xd8, 0x80, 0x4a, 0xda, 0xae, 0x22, 0xf6, 0xe4, 0x7f, 0xc0, 0x07, 0xfb, 0xe2],
+        digest: [
+            0xc0, 0xac, 0x67, 0xd8, 0x80, 0x4a, 0xda, 0xae, 0x22, 0xf6, 0xe4, 0x7f, 0xc0, 0x07,
+            0xfb, 0xe2,
+        ],
     },
     Row {
         name: "profile 3, depth 12, 4:4:0, base 0, key frame",
@@ -111,7 +114,10 @@ pub const ROWS: [Row; 11] = [
     \xa1\xa3)\xf9\xcc\x11y\xc8\xaef6\x88a\x15\xc5\xed\xb9?\xcb\x15Q\x05\xc1\xef\xadU\xe9\xe3y\xa9\xb0J\xe5\xe5-\xda\
     \x85\0,\x0cB,\xb8\xb6\x17\x81r\xeb$\x17\xb5\x0f'U\xd9O\x81V\x82\x7f\xa1R\x8c:\xb48\0\x91MP\x80\xb6A\xaa\x93\xf4R\
     \xafI}\x84`\xe9\xdd\xb2\x07\xbd\xb38c\xe1\r\xd1\xc5f\xc8\xd6\xa4\xbb\xdf0\0",
-        digest: [0x12, 0x09, 0xe9, 0xd0, 0x65, 0x77, 0x24, 0xc2, 0xca, 0xab, 0xdc, 0x47, 0xad, 0x97, 0xf0, 0x68],
+        digest: [
+            0x12, 0x09, 0xe9, 0xd0, 0x65, 0x77, 0x24, 0xc2, 0xca, 0xab, 0xdc, 0x47, 0xad, 0x97,
+            0xf0, 0x68,
+        ],
     },
     Row {
         name: "depth 8, 12 and 8 again",
@@ -273,7 +279,10 @@ pub const ROWS: [Row; 11] = [
     \0?\xc2\xccdn7u\x15M\xadN\x87/\xf6\xdbZh\x84\x08x&\x19\x03\0-\xc46n\xda\xf8a\x13\x12\x8f\x1d\xcd^\xf0q\xc2\x86O^o\
     \xa8T%`\xc7\x9d\xfa\xc8\xfdb\xd8\xf1\x8c\xad\xddc\x8c\xcd\xc5\x98\xb3\xdc\x18\xc7N29\xbb\x1cp\xea\xf7\xae\xf0'\xb7\
     s6\xe6\xbb\xca\x97`\xc9\x84\x92\x8b\xe0\xca\x0b\n2\0",
-        digest: [0x83, 0x7e, 0xba, 0x59, 0x65, 0x38, 0x08, 0xf7, 0x95, 0x0a, 0xc9, 0xd9, 0x4a, 0xa3, 0x7a, 0xfe],
+        digest: [
+            0x83, 0x7e, 0xba, 0x59, 0x65, 0x38, 0x08, 0xf7, 0x95, 0x0a, 0xc9, 0xd9, 0x4a, 0xa3,
+            0x7a, 0xfe,
+        ],
     },
     Row {
         name: "17x33",
@@ -382,7 +391,10 @@ pub const ROWS: [Row; 11] = [
     \x98\xc3\xea\xdc\xbe\xde\x92U\xcb\xfeG\xe9\x86\x9cC\xe8\0?\xc2\xccdn7u\x15M\xadN\x87/\xf6\xdbZh\x84\x08x&\x19\x03\
     \0-\xc46n\xda\xf8a\x13\x12\x8f\x1d\xcd^\xf0q\xc2\x86O^o\xa8T%`\xc7\x9d\xfa\xc8\xfdb\xd8\xf1\x8c\xad\xddc\x8c\xcd\
     \xc5\x98\xb3\xdc\x18\xc7N29\xbb\x1cp\xea\xf7\xae\xf0'\xb7s6\xe6\xbb\xca\x97`\xc9\x84\x92\x8b\xe0\xca\x0b\n2\0",
-        digest: [0x02, 0x7d, 0xb3, 0x8b, 0x7f, 0x65, 0x2b, 0x85, 0x83, 0x29, 0x3b, 0x24, 0x44, 0x78, 0x94, 0x31],
+        digest: [
+            0x02, 0x7d, 0xb3, 0x8b, 0x7f, 0x65, 0x2b, 0x85, 0x83, 0x29, 0x3b, 0x24, 0x44, 0x78,
+            0x94, 0x31,
+        ],
     },
     Row {
         name: "contexts reset",
@@ -603,7 +615,10 @@ pub const ROWS: [Row; 11] = [
     {\x10\xd9C\x99m&!\x0c\xa7\xaeH\xd1\xf3\x1a\xfd\x90\xbf3\x15\xf0\x94\xbf\x95P\x9a\xce0\x07i\x84\x02\xf8+\x86\xf0`\
     \x02\xa3\xca(c{\x15\xb6\x12\x17\xcf\xff\xf4(\x83\x1c\xc6\x85>f\xa8\x062\x01\r\x0e\x92\xdc:\xc3\x07\"\xbc\xa8P\xda\
     \xbeh5B\xffO\xcb\x8d\xfb\xad\x9e\r\xc0\xdds\xe2 i{58\xfd\xbc\x19\x01We\xd0\x12aCL\x8f\xcf\xe0\x15f\0",
-        digest: [0xa3, 0x75, 0x28, 0x34, 0x2c, 0x6c, 0xde, 0x70, 0x60, 0x6f, 0x61, 0x3e, 0xcd, 0x8b, 0xb1, 0x81],
+        digest: [
+            0xa3, 0x75, 0x28, 0x34, 0x2c, 0x6c, 0xde, 0x70, 0x60, 0x6f, 0x61, 0x3e, 0xcd, 0x8b,
+            0xb1, 0x81,
+        ],
     },
     Row {
         name: "scaled references",
@@ -1129,7 +1144,10 @@ pub const ROWS: [Row; 11] = [
     \x18\xa2#\xad\x91'\x02\x1b9w\xfbK=\xdfrp\x93\xfd\xf4O\xe7\xb5wH4\xcf\xc7\xd2k\xd1B\x999\xd0@\xa9\xde\xb58=f\x04\
     \x8crJ\xd5\x06\xb2\xfcGV\x06\xbfN\xcd\xea\xbc\x86\xd3k\xf6\xddh\x1a\x03\x96\xb0\x89kF\x17=\xdb\x10v\x1d\xf3RGB^\
     \xed)^\x9c\xb6\xdd\x0b\n\xb3\0\xde\0\xa0",
-        digest: [0xf0, 0x30, 0x8c, 0x71, 0x31, 0x68, 0xf4, 0xe3, 0x81, 0x9f, 0xb3, 0xda, 0xf4, 0xf1, 0x40, 0x8b],
+        digest: [
+            0xf0, 0x30, 0x8c, 0x71, 0x31, 0x68, 0xf4, 0xe3, 0x81, 0x9f, 0xb3, 0xda, 0xf4, 0xf1,
+            0x40, 0x8b,
+        ],
     },
     Row {
         name: "hidden, intra-only, shown again, filter, four tile rows",
@@ -1144,7 +1162,10 @@ pub const ROWS: [Row; 11] = [
     \xde\x9e6s\x96\x8f.\xd1/\x8c\x99.@4\x89\x15\xbd39IW\xc3<\xff\x89\xf6\x0b@\xcf\xc0\x9d5\xb2\x0e\xf5w\xef\xbd0ne\x90\
     \xe7{\xe8\xbe\xd6\xfe\x0c\x8d\xd6\x8f\xa6\xb5\xdf\xab\xf0\x96$\xc0\xbf\xdf\xda\0`\xb0\xda\0\x01\0\0\0\x03\0\0\0\0\
     \0\0\0\x8d",
-        digest: [0xbd, 0xd4, 0x35, 0xd8, 0x65, 0x26, 0x38, 0xeb, 0x7e, 0x11, 0x6a, 0xc4, 0xac, 0x1e, 0x2a, 0x2e],
+        digest: [
+            0xbd, 0xd4, 0x35, 0xd8, 0x65, 0x26, 0x38, 0xeb, 0x7e, 0x11, 0x6a, 0xc4, 0xac, 0x1e,
+            0x2a, 0x2e,
+        ],
     },
     Row {
         name: "4:4:4 of depth 10, two tile rows, intra-only",
@@ -1164,7 +1185,10 @@ pub const ROWS: [Row; 11] = [
     \x08w\xc7\xdb|\x90\x05\x92O\xfa\xd3\xe6\xddK\xe4\xcf\xcf\xf5\xe3\xff\xf02\x19\x04`\xd5\xdf\xfb\x04\x92nj\xf7\xd0\
     \x1e\xaey\xbb\x0f\x88Go\"\xb2\x8c\x92i<\x1f\xff\xf5\x8flu\x19P\0\0\0\0\0\0\0\xe60\0%\0\0\0\x01\0\0\0\0\0\0\0\xb2T\
     \x984 \x030\x03p\0\x12\xad}V# &\x10\0\x10p\0\0\0\0\x01\0#\x1c\x08-\xcba\x97\xb1\xc0\0",
-        digest: [0x20, 0x90, 0x9e, 0x4d, 0xdf, 0x90, 0x99, 0xb2, 0x6f, 0xc4, 0x39, 0x67, 0x40, 0x5c, 0x1e, 0x0c],
+        digest: [
+            0x20, 0x90, 0x9e, 0x4d, 0xdf, 0x90, 0x99, 0xb2, 0x6f, 0xc4, 0x39, 0x67, 0x40, 0x5c,
+            0x1e, 0x0c,
+        ],
     },
     Row {
         name: "4:4:0, lossless, filter, intra-only",
@@ -1177,7 +1201,10 @@ pub const ROWS: [Row; 11] = [
     \xb2\x90\xa1\xc3\xcf\xff\xf0\x9d\xe2\x98g\xff\xff\xfc\x03u\x89\xff\x9fD\xfeb\xff\xff\xc9k~\xf9\x82\xe8\xfa\xfa\xc4\
     \xdf\x91\x8a.\xfd\x7f\xff\xfc\x0f\xd1\xff\x19\xc4n\xd0V\x01\xff\xff\xffm3\xf4\xc6\xcf\x1d\xadvE\xa7\xfeZcO\xaf\xff\
     \xfeF\xe5?\xff\xff\xcdA\x1c\"\x7f\xff\xfe\xf1\0\x1e\x14\x99\xde\xb7\x7f\x8e\x80",
-        digest: [0x22, 0xb0, 0x1a, 0xfa, 0x1a, 0x62, 0x82, 0x87, 0x91, 0x21, 0xbe, 0x02, 0xce, 0x23, 0xc4, 0xb5],
+        digest: [
+            0x22, 0xb0, 0x1a, 0xfa, 0x1a, 0x62, 0x82, 0x87, 0x91, 0x21, 0xbe, 0x02, 0xce, 0x23,
+            0xc4, 0xb5,
+        ],
     },
     Row {
         name: "4:2:0 of depth 12, two tile rows, filter",
@@ -1191,13 +1218,19 @@ pub const ROWS: [Row; 11] = [
     \xff\r\x93\xb7\xb1\x9f\x11\xa9\xbf\xff~\xd6\xdf\xff\xce\xdd\xa4\xc4\xf0P\x94\x86\x05]\x9a\x18\x9f8,\x86}r\xde\x85\
     \x14\xc3\x14\\\x19\x9f\x13@\xcfjc_\xc3\xeb\xbb\xff\xfegz\xcf\x8f\xff\xff\xfck3\xff\xf6\xb7\xaa\xe2d\x93\x9f\xec\
     \xd990iz\xbd\xe1\xcc[m\xe5x\x07\xb4\x190\x1f\xfb|c\xff\xcbP\xf5\xebl\x01\xf30h\0",
-        digest: [0xee, 0x06, 0x23, 0x77, 0xd6, 0x92, 0xd5, 0x1e, 0xde, 0x0d, 0xa2, 0x34, 0xa0, 0x82, 0x12, 0x07],
+        digest: [
+            0xee, 0x06, 0x23, 0x77, 0xd6, 0x92, 0xd5, 0x1e, 0xde, 0x0d, 0xa2, 0x34, 0xa0, 0x82,
+            0x12, 0x07,
+        ],
     },
     Row {
         name: "4:4:4 of depth 12, base 0, filter",
         input: b"DKIF\0\0 \0VP90\x10\0\x10\0\x1e\0\0\0\x01\0\0\0\x01\0\0\0\0\0\0\02\0\0\0\0\0\0\0\0\0\0\0\xb1$\xc1\xa1@\0\x07\x80\
     \x07\xb4\xaf\0\x04\0\x04\0\0\0\0\0\x01\0T\x9b\ra\x03~\xa9`V\x9b\xac\xa2\x05\xbf\xff\xff\xfb\xac\x82\xea\xd6\xb3>p\
     \xbf\xc8\xca\x80",
-        digest: [0x21, 0x2f, 0x18, 0x40, 0x9e, 0x6b, 0xb4, 0x30, 0x82, 0x18, 0x0a, 0xe5, 0x1c, 0x09, 0x83, 0xb0],
+        digest: [
+            0x21, 0x2f, 0x18, 0x40, 0x9e, 0x6b, 0xb4, 0x30, 0x82, 0x18, 0x0a, 0xe5, 0x1c, 0x09,
+            0x83, 0xb0,
+        ],
     },
 ];
