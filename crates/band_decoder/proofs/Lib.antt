@@ -1,0 +1,10 @@
+pub mod TablePlaces
+pub mod FrameBottom
+pub mod PlannedBlocks
+pub mod Served
+pub mod Frames
+pub mod Slots
+pub mod ReferredFrames
+pub mod Taking
+pub mod Kept
+pub mod Shown

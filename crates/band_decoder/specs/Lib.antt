@@ -1,0 +1,4 @@
+pub mod Bands
+pub mod Table
+pub mod Code
+pub mod Decoder

@@ -1,0 +1,261 @@
+//! The decoder between two frames, by plans of tile columns, strips and bands.
+
+ghost use Rattle.std.specs.Prelude.{◌≡◌, ℕ, Some, None, Ok, IfOk, OnOk, get_or, length};
+ghost use Rattle.frame_headers.specs.Sizes.{IsFrameSize};
+ghost use Rattle.frame_headers.specs.Tiles.{AreFewTiles};
+ghost use Rattle.frame_decoder.specs.Frames.{FrameResult};
+ghost use Rattle.picture_table.specs.Code.{IsBelow};
+ghost use Rattle.seq_decoder.specs.After.{Stepped, after_coded, decoded_in, state_after, step};
+ghost use Rattle.seq_decoder.specs.Code.{LiesWithin, NamesHeld, Puts, told_picture};
+ghost use Rattle.seq_decoder.specs.Outputs.{form_from};
+ghost use Rattle.seq_decoder.specs.State.{State, start_state};
+ghost use Rattle.band_decoder.specs.Decoder.{Adds, HasBegun, IsAt, IsCoded, MayDecode, StandsFor};
+ghost use Rattle.band_decoder.specs.Table.{IsTable, NamesSound, held, held_in};
+
+use crate::any::AnyBands;
+use crate::begun::{BegunFrame, DecodeRoom, decode_begun};
+use crate::outcomes::{halt_outcome, outcome_at, refusal_outcome};
+use crate::places::{place_in, replace_last, shown_place};
+use crate::showing::show;
+use crate::table::BandTable;
+use edge_io::Sink;
+use file_frames::FileFrame;
+use frame_decoder::Decoded;
+use frame_headers::{FrameHead, Header, Persist, read};
+use frame_output::Format;
+use frame_state::{FramePast, FrameSources, Halt, begin_frame};
+use segment_map::SegmentMap;
+use seq_decoder::{
+    LastFrame, OutputForm, SavedContexts, after_key, begin_segments, keep_segments, own_contexts,
+    place_of, segments_of, vectors_before,
+};
+use std::alloc::Global;
+use std::mem::replace;
+use vp9_types::{Outcome, Rule, Span};
+
+/// A decoded frame: what it leaves beside its samples, and their place in the table of frames.
+#[derive(Drop)]
+pub struct Coded {
+    pub decoded: Decoded,
+    pub place: usize,
+}
+
+/// What is kept of the frames so far: what headers read, the saved contexts, the frames, the map of segments that the last frame
+/// left, and that frame's blocks.
+#[derive(Drop)]
+pub struct BandDecoder {
+    pub persist: Persist,
+    pub saved: SavedContexts,
+    pub table: BandTable,
+    pub segments: Option<SegmentMap>,
+    pub last: Option<LastFrame>,
+    // How the frames that are shown are put.
+    pub form: OutputForm,
+    // Memory that is used again: what a frame is decoded in, and the text of rows.
+    pub room: DecodeRoom,
+    pub text: Vec<u8>,
+}
+
+impl BandDecoder {
+    /// Before the first frame of a file of this rate and scale, whose shown frames are put in this format.
+    pub fn new(alloc: Global, format: Format, rate: (u32, u32)) -> BandDecoder
+        ensures stands { StandsFor result start_state }
+        ensures form { result.form ≡ form_from format rate }
+        ensures may { MayDecode result }
+    {
+        BandDecoder {
+            persist: Persist::START,
+            saved: SavedContexts::new(),
+            table: BandTable::new(alloc),
+            segments: None,
+            last: None,
+            form: OutputForm::new(format, rate),
+            room: DecodeRoom::new(alloc),
+            text: Vec::new(alloc),
+        }
+    }
+
+    /// Decodes a frame into bands that no slot holds, which are taken when what comes before its tiles breaks no rule, and makes
+    /// the saved contexts and the segments those that the frame starts with. Where there is no frame the table of frames
+    /// stays whole.
+    fn decode_bands(
+        &mut self,
+        alloc: Global,
+        bytes: &[u8],
+        header: &Header,
+        compressed: Span,
+    ) -> Result<Coded, Halt>
+        requires may { MayDecode self.old }
+        requires size { IsFrameSize header.now.size }
+        requires few { AreFewTiles header.now.params.tiles }
+        requires placed { LiesWithin (length bytes.now) compressed }
+        requires held { NamesHeld header.now (held self.old.table) }
+        ensures coded { (state : State) → StandsFor self.old state → IsCoded header.now (decoded_in state bytes.now header.now compressed) self.new.table result }
+        ensures at { IfOk result (λ c. (r : FrameResult) × IsAt header.now self.new.table c r) }
+        ensures begun { OnOk result ((state : State) → StandsFor self.old state → HasBegun header.now self.new state) }
+        ensures may { OnOk result (MayDecode (record self.new { persist = record self.new.persist { size = Some header.now.size } })) }
+        ensures table { IsTable self.new.table × (held self.new.table ≡ held self.old.table) }
+        ensures form { self.new.form ≡ self.old.form }
+    {
+        self.saved.reset(header);
+        let before = self.saved.at(place_of(header));
+        let setting = begin_frame(bytes, header, compressed, &before)?;
+        begin_segments(alloc, header, self.persist.size, &mut self.segments)?;
+        let place = self.table.spare(alloc, header.shape())?;
+        let mut bands = replace(&mut self.table.frames[place], AnyBands::Lent);
+        let mut room = replace(&mut self.room, DecodeRoom::new(alloc));
+        let by = BegunFrame {
+            reading: FrameSources {
+                setting,
+                past: FramePast {
+                    contexts: &before,
+                    segments: segments_of(&self.segments),
+                    vectors: vectors_before(header, &self.last),
+                },
+            },
+            table: &self.table,
+        };
+        let decoded = decode_begun(&mut room, bytes, by, compressed, &mut bands);
+        self.table.frames[place] = bands;
+        self.room = room;
+        Ok(Coded {
+            decoded: decoded?,
+            place,
+        })
+    }
+
+    /// Keeps what a frame leaves, for which the saved contexts and the segments are made those that it starts with.
+    fn keep(&mut self, header: &Header, coded: Coded)
+        requires size { IsFrameSize header.now.size }
+        requires may { MayDecode (record self.old { persist = record self.old.persist { size = Some header.now.size } }) }
+        requires at { (r : FrameResult) × IsAt header.now self.old.table coded r }
+        ensures stands { (number : ℕ) (state : State) (r : FrameResult) → HasBegun header.now self.old state → IsAt header.now self.old.table coded r
+            → StandsFor self.new (state_after number state header.now r) }
+        ensures may { MayDecode self.new }
+        ensures form { self.new.form ≡ self.old.form }
+    {
+        let Coded { decoded, place } = coded;
+        let before = self.saved.at(place_of(header));
+        let own = own_contexts(header, &before, &decoded, after_key(&self.last));
+        self.saved.save(header, &own);
+        keep_segments(&mut self.segments, header, &decoded.columns);
+        self.table.refresh(header.refresh, place);
+        self.persist = header.next(&self.persist);
+        let last = LastFrame {
+            header: *header,
+            columns: decoded.columns,
+        };
+        replace_last(&mut self.last, &mut self.room.planning.spare, last);
+    }
+
+    /// Writes the frame at a place of the table, if there is one to be shown and it can be put next.
+    fn put<K: Sink>(
+        &mut self,
+        alloc: Global,
+        number: u64,
+        place: Option<usize>,
+        sink: &mut K,
+    ) -> Result<(), Outcome>
+        requires there { IsBelow (length self.old.table.frames.items) place }
+        requires sound { NamesSound self.old.table.frames.items place }
+        requires sink { K.can_put sink.old }
+        ensures puts { Puts number (told_picture (held_in self.old.table.frames.items place)) self.old.form self.new.form
+            (K.taken sink.old) (K.taken sink.new) (K.faults sink.old) (K.faults sink.new) result }
+        ensures same { self.new ≡ record self.old { form = self.new.form; text = self.new.text } }
+        ensures grows { K.grows sink.new ≡ K.grows sink.old }
+        ensures again { K.faults sink.new ≡ K.faults sink.old → K.can_put sink.new }
+    {
+        let Some(place) = place else {
+            return Ok(());
+        };
+        let bands = &self.table.frames[place];
+        let shape = bands.shape();
+        if !self.form.admits(&shape) {
+            return Err(outcome_at(number, Rule::OutputShape));
+        }
+        if let Err(refusal) = show(alloc, &self.form, bands, &mut self.text, sink) {
+            return Err(refusal_outcome(refusal));
+        }
+        self.form = self.form.after(shape);
+        Ok(())
+    }
+
+    /// Decodes a coded frame, and writes it if it is shown.
+    fn decode_coded<K: Sink>(
+        &mut self,
+        alloc: Global,
+        frame: FileFrame<'_>,
+        header: &Header,
+        compressed: Span,
+        sink: &mut K,
+    ) -> Result<(), Outcome>
+        requires may { MayDecode self.old }
+        requires size { IsFrameSize header.now.size }
+        requires few { AreFewTiles header.now.params.tiles }
+        requires placed { LiesWithin (length frame.bytes.now) compressed }
+        requires held { NamesHeld header.now (held self.old.table) }
+        requires sink { K.can_put sink.old }
+        ensures adds { (state : State) → StandsFor self.old state → Adds frame.entry.number self.old.form
+            (after_coded frame.entry.number state header.now (decoded_in state frame.entry.bytes.now header.now compressed)) self.new
+            (K.taken sink.old) (K.taken sink.new) (K.faults sink.old) (K.faults sink.new) result }
+        ensures may { OnOk result (MayDecode self.new) }
+        ensures grows { K.grows sink.new ≡ K.grows sink.old }
+        ensures again { K.faults sink.new ≡ K.faults sink.old → K.can_put sink.new }
+    {
+        let coded = match self.decode_bands(alloc, frame.bytes, header, compressed) {
+            Ok(coded) => coded,
+            Err(halt) => return Err(halt_outcome(frame.number, halt)),
+        };
+        let shown = shown_place(header, coded.place);
+        match self.put(alloc, frame.number, shown, sink) {
+            Ok(()) => {}
+            Err(outcome) => return Err(outcome),
+        }
+        self.keep(header, coded);
+        Ok(())
+    }
+
+    /// Writes what a slot holds.
+    fn show_slot<K: Sink>(
+        &mut self,
+        alloc: Global,
+        number: u64,
+        slot: u8,
+        sink: &mut K,
+    ) -> Result<(), Outcome>
+        requires may { MayDecode self.old }
+        requires sink { K.can_put sink.old }
+        ensures adds { (state : State) → StandsFor self.old state → Adds number self.old.form (Ok (record { state = state; shown = get_or state.slots slot None })) self.new
+            (K.taken sink.old) (K.taken sink.new) (K.faults sink.old) (K.faults sink.new) result }
+        ensures may { OnOk result (MayDecode self.new) }
+        ensures grows { K.grows sink.new ≡ K.grows sink.old }
+        ensures again { K.faults sink.new ≡ K.faults sink.old → K.can_put sink.new }
+    {
+        let shown = place_in(&self.table.slots, slot);
+        self.put(alloc, number, shown, sink)
+    }
+
+    /// Decodes a frame, and writes it if it is shown.
+    pub fn decode_next<K: Sink>(
+        &mut self,
+        alloc: Global,
+        frame: FileFrame<'_>,
+        sink: &mut K,
+    ) -> Result<(), Outcome>
+        requires may { MayDecode self.old }
+        requires sink { K.can_put sink.old }
+        ensures adds { (state : State) → StandsFor self.old state → Adds frame.entry.number self.old.form (step frame.entry.number state frame.entry.bytes.now) self.new
+            (K.taken sink.old) (K.taken sink.new) (K.faults sink.old) (K.faults sink.new) result }
+        ensures may { OnOk result (MayDecode self.new) }
+        ensures grows { K.grows sink.new ≡ K.grows sink.old }
+        ensures again { K.faults sink.new ≡ K.faults sink.old → K.can_put sink.new }
+    {
+        match read(frame.bytes, &self.persist) {
+            Ok(FrameHead::Coded { header, compressed }) => {
+                self.decode_coded(alloc, frame, &header, compressed, sink)
+            }
+            Ok(FrameHead::ShowExisting { slot }) => self.show_slot(alloc, frame.number, slot, sink),
+            Err(rule) => Err(outcome_at(frame.number, rule)),
+        }
+    }
+}

@@ -1,0 +1,7 @@
+//! Tests of the decoder by plans of tile columns, strips and bands.
+#![tactic(auto)]
+
+#[cfg(test)]
+mod rows;
+#[cfg(test)]
+mod streams;
