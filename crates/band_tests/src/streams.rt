@@ -1,5 +1,6 @@
 //! Whole streams, decoded by bands.
 
+use crate::more_rows::MORE_ROWS;
 use crate::rows::{ROWS, Row};
 use band_decoder::decode_by_bands;
 use edge_io::MemSink;
@@ -19,6 +20,14 @@ fn decodes(alloc: Global, row: &Row) -> Result<bool, AllocError> {
 #[test]
 fn streams_decode_to_what_is_given(rt: HostRuntime) -> Result<(), Fail> {
     for row in &ROWS {
+        assert_eq!(rt; (row.name, decodes(rt.alloc(), row)?), (row.name, true));
+    }
+    Ok(())
+}
+
+#[test]
+fn more_streams_do(rt: HostRuntime) -> Result<(), Fail> {
+    for row in &MORE_ROWS {
         assert_eq!(rt; (row.name, decodes(rt.alloc(), row)?), (row.name, true));
     }
     Ok(())
