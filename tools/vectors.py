@@ -55,8 +55,8 @@ TABLE = [
     ("runs", runs.long_runs, "run_tests/src/vp9_app_tests/rows/long_runs.rt", WHOLE),
     ("overflow", runs.overflow, "run_tests/src/vp9_app_tests/rows/overflow_frames.rt", WHOLE),
     ("grey", runs.least_grey, "test_runs/src/files.rt", PARTS),
-    ("grey", runs.grey, "size_tests/src/sizes.rt", PARTS),
-    ("grey", runs.odd_grey, "size_tests/src/odd_values.rt", PARTS),
+    ("grey", runs.grey, "run_tests/src/sizes.rt", PARTS),
+    ("grey", runs.odd_grey, "run_tests/src/odd_values.rt", PARTS),
     ("tails", tables.tails, "coef_tokens/src/tails.rt", WHOLE),
 ] + [("tables", make, f"vp9_tables/src/data/{module}.rt", WHOLE) for module, make in tables.MODULES.items()]
 FILES = {"overflow": runs.overflow_files, "grey": runs.grey_files}

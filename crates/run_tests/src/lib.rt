@@ -1,5 +1,9 @@
-//! Tests of whole runs of the program's commands.
+//! Tests of whole runs of the program's commands, some of sizes and numbers that no one would choose, where a needless want of memory would show.
 #![tactic(auto)]
 
+#[cfg(test)]
+mod odd_values;
+#[cfg(test)]
+mod sizes;
 #[cfg(test)]
 mod vp9_app_tests;

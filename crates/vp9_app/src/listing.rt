@@ -57,7 +57,7 @@ fn list_frame(
     Ok(Ok(list_head(text, persist, head, frame.number, bytes)?))
 }
 
-/// The listing of an IVF file, up to the first rule that is broken.
+/// The listing of an IVF or a WebM file, up to the first rule that is broken.
 pub fn list_file(alloc: Global, bytes: &[u8]) -> Result<Listed, AllocError>
     ensures { IfOk result (λ l. listing bytes.now ≡ listing_of l) }
 {

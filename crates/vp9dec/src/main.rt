@@ -1,4 +1,4 @@
-//! `vp9dec` reads IVF on standard input, writes to standard output, and tells on standard error what is wrong.
+//! `vp9dec` reads IVF or WebM on standard input, writes to standard output, and tells on standard error what is wrong.
 #![tactic(auto)]
 
 use edge_io::{OpenGate, StdSink, StdSource};
