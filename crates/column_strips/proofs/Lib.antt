@@ -1,3 +1,4 @@
 pub mod RowSteps
+pub mod Lending
 pub mod FrameEdge
 pub mod RowOfStrips

@@ -47,7 +47,7 @@ impl<'a, P: Sample, F> ColumnStrips<'a, P, F> {
 }
 
 /// The first row of a row of superblocks in a plane.
-fn first_own(shape: &Shape, plane: Plane, sr: u32) -> usize
+pub(crate) fn first_own(shape: &Shape, plane: Plane, sr: u32) -> usize
     requires { sr < superblocks_along (mi_rows shape.now) }
     ensures { result ≡ first_own shape.now plane sr }
 {
@@ -55,7 +55,7 @@ fn first_own(shape: &Shape, plane: Plane, sr: u32) -> usize
 }
 
 /// Copies the rows of a strip's plane from a first one on.
-fn put_strip<P: Sample>(to: &mut SamplePlane<P>, strip: &SamplePlane<P>, first_row: usize)
+pub(crate) fn put_strip<P: Sample>(to: &mut SamplePlane<P>, strip: &SamplePlane<P>, first_row: usize)
     requires there { strip.now.area.first_row ≤ first_row }
     requires above { first_row ≤ lower_end strip.now.area }
     requires room { LiesIn (rows_from first_row strip.now.area) to.old.area }

@@ -1,0 +1,100 @@
+-- Which rows the buffers of some rows of superblocks have.
+use Rattle.std.proofs.Common.{◌≡◌, ◌∙◌, ◌<◌, ◌≤◌, ◌+◌, ◌*◌, ◌-◌, ◌/◌, ℕ, Bool, true, false, List, length, get_or, map, refl, sym, ap, arith, min, subst}
+use Rattle.std.specs.Prelude.{if◌then◌else◌}
+use Rattle.vp9_types.specs.Maps.{row_of}
+use Rattle.vp9_types.specs.Shapes.{halved, subsampled_size, mi_rows, plane_width, plane_height, coded_width, coded_height}
+use Rattle.vp9_types.specs.Sizes.{superblocks_along}
+use Rattle.vp9_types.specs.declared.shape.Plane.{Plane}
+use Rattle.vp9_types.specs.declared.shape.Plane.TheVariants.{Y, U, V}
+use Rattle.vp9_types.specs.declared.shape.Shape.{Shape}
+use Rattle.block_rebuild.specs.declared.references.ReferencePicture.{ReferencePicture}
+use Rattle.band_cells.specs.Bands.{Picture, band_height}
+use Rattle.band_needs.specs.declared.ranges.BandRange.{BandRange}
+use Rattle.band_references.specs.References.{IsRowOfBands}
+use Rattle.loop_edges.specs.Cells.{sub_y}
+use Rattle.loop_filter.proofs.Sides as sides
+use Rattle.filter_rows.proofs.Bands.{same_height}
+use Rattle.filtered_rows.specs.Rows.{RowSpan, IsFinalWithin, row_with}
+use Rattle.filtered_rows.specs.Code.{held_in, width_in}
+use Rattle.filtered_rows.specs.Laws.{IsByRows, RowsHaveBands, AreAllRows, AllRowsAreHeld, HasAllRows}
+
+---- Bands ----
+
+some_row : (sub : Bool) (end places y : ℕ) → end ≡ halved sub (8 * places) → y < end → y / halved sub 64 ≤ superblocks_along places - 1
+some_row true end places y is inside = omega (arith, is, inside)
+some_row false end places y is inside = omega (arith, is, inside)
+
+between : (sub : Bool) (y : ℕ) → (y / halved sub 64 ≤ (y + 8) / halved sub 64) × ((y + 8) / halved sub 64 ≤ y / halved sub 64 + 1)
+between true y = (omega arith, omega arith)
+between false y = (omega arith, omega arith)
+
+record Within (first end r : ℕ) : Type 0 where
+  from : first ≤ r
+  to : r < end
+
+within : (first end low high rows at then : ℕ) → first ≤ low → min (high + 1) (rows - 1) < end → low ≤ at → at ≤ high → at ≤ rows - 1 → at ≤ then → then ≤ at + 1 → Within first end (min then (rows - 1))
+within first end low high rows at then from to below above inside less more = record {
+  from = omega (arith, from, below, inside, less);
+  to = omega (arith, to, above, more);
+}
+
+held_row : (shape : Shape) (bands : BandRange) (rows : RowSpan) (p : Plane) (y : ℕ) → rows.first ≤ bands.first → min (bands.last + 1) (superblocks_along (mi_rows shape) - 1) < rows.end
+    → IsRowOfBands shape bands p y → IsFinalWithin shape rows p y
+held_row shape bands rows p y from to row =
+    let height : band_height shape p ≡ halved (sub_y shape p) 64 = same_height shape p in
+    let next = rw (sym height) at (between (sub_y shape p) y) in
+    let inside = rw (sym height) at (some_row (sub_y shape p) (coded_height shape p) (mi_rows shape) y (sides.high shape p) row.inside) in
+    let so = within rows.first rows.end bands.first bands.last (superblocks_along (mi_rows shape)) (y / band_height shape p) ((y + 8) / band_height shape p) from to row.from row.to inside next.0 next.1 in
+    record { inside = row.inside; from = so.from; to = so.to }
+
+half_low : (sub : Bool) (size : ℕ) → subsampled_size size sub ≤ halved sub (8 * ((size + 7) / 8))
+half_low true size = omega arith
+half_low false size = omega arith
+
+width_low : (shape : Shape) (p : Plane) → plane_width shape p ≤ coded_width shape p
+width_low shape Y = omega arith
+width_low shape U = half_low shape.ss_x shape.w
+width_low shape V = half_low shape.ss_x shape.w
+
+height_low : (shape : Shape) (p : Plane) → plane_height shape p ≤ coded_height shape p
+height_low shape Y = omega arith
+height_low shape U = half_low shape.ss_y shape.h
+height_low shape V = half_low shape.ss_y shape.h
+
+pub rows_have_bands : (pictures : ℕ → Picture) (shape : Shape) (bands : BandRange) (r : ReferencePicture RowSpan) → RowsHaveBands pictures shape bands r
+rows_have_bands pictures shape bands r by = record {
+  reference = by.reference;
+  held = λ p y row. subst (λ (s : Shape). IsFinalWithin s r.samples.now p y) by.same (held_row r.shape bands r.samples.now p y by.from by.to row);
+  wide = λ p. subst (λ (s : Shape). plane_width r.shape p ≤ coded_width s p) by.same (width_low r.shape p);
+  range = by.range;
+}
+
+---- All ----
+
+last_low : (a rows : ℕ) → 0 < rows → min a (rows - 1) < rows
+last_low a rows some = omega (arith, some)
+
+some_rows : (sub : Bool) (end places y : ℕ) → end ≡ halved sub (8 * places) → y < end → 0 < superblocks_along places
+some_rows true end places y is inside = omega (arith, is, inside)
+some_rows false end places y is inside = omega (arith, is, inside)
+
+coded_held : (pictures : ℕ → Picture) (rows : RowSpan) → AreAllRows (pictures rows.frame).shape rows → (p : Plane) (y : ℕ) → y < coded_height (pictures rows.frame).shape p → held_in pictures rows p y
+coded_held pictures rows all p y inside =
+    let shape : Shape = (pictures rows.frame).shape in
+    record {
+      inside = inside;
+      from = rw all.from (omega arith);
+      to = rw all.to (last_low ((y + 8) / band_height shape p) (superblocks_along (mi_rows shape)) (some_rows (sub_y shape p) (coded_height shape p) (mi_rows shape) y (sides.high shape p) inside));
+    }
+
+less : (y low end : ℕ) → y < low → low ≤ end → y < end
+less y low end below rise = omega (arith, below, rise)
+
+pub all_rows_held : (pictures : ℕ → Picture) (rows : RowSpan) → AllRowsAreHeld pictures rows
+all_rows_held pictures rows all =
+    let shape : Shape = (pictures rows.frame).shape in
+    record {
+      coded = coded_held pictures rows all;
+      shown = λ p y inside. coded_held pictures rows all p y (less y (plane_height shape p) (coded_height shape p) inside (height_low shape p));
+      wide = λ p. width_low shape p;
+    }

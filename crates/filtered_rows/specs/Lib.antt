@@ -1,0 +1,4 @@
+pub mod Rows
+pub mod Buffers
+pub mod Code
+pub mod Laws
