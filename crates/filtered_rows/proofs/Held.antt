@@ -1,12 +1,13 @@
 -- Which rows the buffers of some rows of superblocks have.
-use Rattle.std.proofs.Common.{◌≡◌, ◌∙◌, ◌<◌, ◌≤◌, ◌+◌, ◌*◌, ◌-◌, ◌/◌, ℕ, Bool, true, false, List, length, get_or, map, refl, sym, ap, arith, min, subst}
-use Rattle.std.specs.Prelude.{if◌then◌else◌}
-use Rattle.vp9_types.specs.Maps.{row_of}
+use Rattle.std.proofs.Common.{◌≡◌, ◌∙◌, ◌<◌, ◌≤◌, ◌+◌, ◌*◌, ◌-◌, ◌/◌, ℕ, Bool, true, false, List, length, get_or, map, refl, sym, ap, arith, min, subst, Bor}
+use Rattle.std.proofs.Math.ListN.{get_or-map}
+use Rattle.std.proofs.lemmas.List.{length-map}
 use Rattle.vp9_types.specs.Shapes.{halved, subsampled_size, mi_rows, plane_width, plane_height, coded_width, coded_height}
 use Rattle.vp9_types.specs.Sizes.{superblocks_along}
 use Rattle.vp9_types.specs.declared.shape.Plane.{Plane}
 use Rattle.vp9_types.specs.declared.shape.Plane.TheVariants.{Y, U, V}
 use Rattle.vp9_types.specs.declared.shape.Shape.{Shape}
+use Rattle.planes.specs.declared.frame_planes.FramePlanes.{FramePlanes}
 use Rattle.block_rebuild.specs.declared.references.ReferencePicture.{ReferencePicture}
 use Rattle.band_cells.specs.Bands.{Picture, band_height}
 use Rattle.band_needs.specs.declared.ranges.BandRange.{BandRange}
@@ -14,9 +15,9 @@ use Rattle.band_references.specs.References.{IsRowOfBands}
 use Rattle.loop_edges.specs.Cells.{sub_y}
 use Rattle.loop_filter.proofs.Sides as sides
 use Rattle.filter_rows.proofs.Bands.{same_height}
-use Rattle.filtered_rows.specs.Rows.{RowSpan, IsFinalWithin, row_with}
-use Rattle.filtered_rows.specs.Code.{held_in, width_in}
-use Rattle.filtered_rows.specs.Laws.{IsByRows, RowsHaveBands, AreAllRows, AllRowsAreHeld, HasAllRows}
+use Rattle.filtered_rows.specs.Rows.{RowSpan, HasFinalRows, HoldRows, IsFinalWithin, row_with}
+use Rattle.filtered_rows.specs.Code.{held_in, rows_from, width_in}
+use Rattle.filtered_rows.specs.Laws.{IsByRows, RowsHaveBands, AreAllRows, AllRowsAreHeld}
 
 ---- Bands ----
 
@@ -32,8 +33,8 @@ record Within (first end r : ℕ) : Type 0 where
   from : first ≤ r
   to : r < end
 
-within : (first end low high rows at then : ℕ) → first ≤ low → min (high + 1) (rows - 1) < end → low ≤ at → at ≤ high → at ≤ rows - 1 → at ≤ then → then ≤ at + 1 → Within first end (min then (rows - 1))
-within first end low high rows at then from to below above inside less more = record {
+within : (first end low high rows own after : ℕ) → first ≤ low → min (high + 1) (rows - 1) < end → low ≤ own → own ≤ high → own ≤ rows - 1 → own ≤ after → after ≤ own + 1 → Within first end (min after (rows - 1))
+within first end low high rows own after from to below above inside less more = record {
   from = omega (arith, from, below, inside, less);
   to = omega (arith, to, above, more);
 }
@@ -98,3 +99,25 @@ all_rows_held pictures rows all =
       shown = λ p y inside. coded_held pictures rows all p y (less y (plane_height shape p) (coded_height shape p) inside (height_low shape p));
       wide = λ p. width_low shape p;
     }
+
+---- As the code has it ----
+
+lent_at : {X : Type 0} (lent : List (Bor X)) (k : ℕ) (one : Bor X) → one ≡ get_or lent k one → get_or (map (λ b. b.now) lent) k one.now ≡ one.now
+lent_at lent k one is = get_or-map (λ b. b.now) lent k one ∙ sym (ap (λ b. b.now) is)
+
+place_of : (first row many : ℕ) → first ≤ row → row < first + many → (row - first < many) × (first + (row - first) ≡ row)
+place_of first row many from to = (omega (arith, from, to), omega (arith, from))
+
+-- the buffer that is looked up has the row
+pub looked_up : {X : Type 0} (picture : Picture) (shape : Shape) (frame first last filled row : ℕ) (lent : List (Bor (FramePlanes X))) (one : Bor (FramePlanes X)) (plane : Plane) (y : ℕ)
+    → HoldRows picture first (map (λ b. b.now) lent) → IsFinalWithin picture.shape (rows_from frame first (length lent)) plane y → shape ≡ picture.shape
+    → last ≡ superblocks_along (mi_rows shape) - 1 → filled ≡ (y + 8) / band_height shape plane → row ≡ min filled last → one ≡ get_or lent (row - first) one
+    → HasFinalRows picture (row_with picture.shape plane y) one.now
+looked_up {X} picture shape frame first last filled row lent one plane y hold held same last_is filled_is row_is is =
+    let with : ℕ = row_with picture.shape plane y in
+    let at : row ≡ with = row_is ∙ (ap (λ n. min n last) filled_is ∙ (ap (λ n. min ((y + 8) / band_height shape plane) n) last_is ∙ ap (λ (s : Shape). row_with s plane y) same)) in
+    let place = place_of first with (length lent) held.from held.to in
+    let there = lent_at lent (with - first) one (subst (λ n. one ≡ get_or lent (n - first) one) at is) in
+    let many = length-map lent (λ b. b.now) in
+    let has : HasFinalRows picture (first + (with - first)) (get_or (map (λ b. b.now) lent) (with - first) one.now) = hold.each (with - first) one.now (rw many place.0) in
+    subst (λ n. HasFinalRows picture n one.now) place.1 (subst (λ (f : FramePlanes X). HasFinalRows picture (first + (with - first)) f) there has)

@@ -1,4 +1,3 @@
-pub mod Places
 pub mod Pending
 pub mod Finals
 pub mod Held

@@ -22,7 +22,9 @@ use Rattle.filter_rows.specs.Buffer.{StandsAt, AwaitsRow, HasFiltered, buffer_ar
 use Rattle.filter_rows.specs.Code.{KeepsPending}
 use Rattle.filtered_rows.specs.Buffers.{IsFilteredAbove}
 use Rattle.filtered_rows.specs.Code.{pending_part}
-use Rattle.filtered_rows.proofs.Places.{back}
+
+back : (row : ℕ) → 0 < row → row - 1 + 1 ≡ row
+back row some = omega (arith, some)
 
 -- right of its area a plane is 0
 zero_right : (s : PlaneSamples) (y x : ℕ) → right_end s.area ≤ x → plane_map s y x ≡ 0
@@ -30,7 +32,7 @@ unfolding moved_to rows_of
 zero_right s y x past = grind (arith, nat_tests)
 
 zero_past : (shape : Shape) (plane : Plane) (row y x : ℕ) (s : PlaneSamples) → s.area ≡ buffer_area shape plane row → coded_width shape plane ≤ x → plane_map s y x ≡ 0
-zero_past shape plane row y x s is past = zero_right s y x (subst (λ (a : Area). right_end a ≤ x) (sym is) past)
+zero_past shape plane row y x s is past = zero_right s y x (subst (λ (a : Area). right_end a ≤ x) (sym is) (omega (arith, past)))
 
 pub keeps_pending : (shape : Shape) (plane : Plane) (row above : ℕ) (from old new : PlaneSamples) → from.area ≡ buffer_area shape plane above → new.area ≡ buffer_area shape plane row
     → HasPart (pending_part shape plane row) (plane_map from) (plane_map old) (plane_map new) → KeepsPending shape plane row (plane_map from) (plane_map new)

@@ -69,7 +69,7 @@ pub fn renew_buffer<P: Sample>(
     requires range { IsInRange shape.now.depth to.old }
     ensures place { StandsAt shape.now row to.new }
     ensures awaits { (f : EdgeSetting) (blocks : List BlockInfo) (raw : FrameMap) → f.shape ≡ shape.now →
-        IsFilteredAbove f blocks raw row (option_copied above) → AwaitsRow f blocks raw row to.new }
+        IsFilteredAbove f blocks raw row (option_copied above.entry) → AwaitsRow f blocks raw row to.new }
 {
     if let Some(above) = above {
         take_pending(&mut to.y, &above.y, shape, Plane::Y, row);
@@ -90,7 +90,7 @@ pub fn next_buffer<P: Sample>(
     requires above { StandsAbove shape.now row (option_copied above) }
     ensures place { IfOk result (λ planes. StandsAt shape.now row planes) }
     ensures awaits { IfOk result (λ planes. (f : EdgeSetting) (blocks : List BlockInfo) (raw : FrameMap) → f.shape ≡ shape.now →
-        IsFilteredAbove f blocks raw row (option_copied above) → AwaitsRow f blocks raw row planes) }
+        IsFilteredAbove f blocks raw row (option_copied above.entry) → AwaitsRow f blocks raw row planes) }
 {
     let mut planes = FramePlanes {
         y: SamplePlane::new(alloc, buffer_area(shape, Plane::Y, row))?,

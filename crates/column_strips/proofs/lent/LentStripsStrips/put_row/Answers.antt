@@ -15,34 +15,38 @@ loop-k-init g c = let a = c.args in record {
 
 pub put_strip-requires-clause-there : goal.put_strip-requires-clause-there
 put_strip-requires-clause-there g c = let a = c.args in let lent = a.self.now.strips.now in
+    let plane : c.plane.result.now ≡ plane_of c.index-self-k.result.now a.plane = c.plane.ensures ∙ ap (λ b. plane_of b.now a.plane) (sym c.index-self-k.is) in
     let own = rows_of_one a.shape.now g.F.RawFrame.raw a.plane a.sr (map (λ b. b.now) lent) c.loop-k.k c.index-self-k.result.now c.plane.result.now c.requires.held (lent_low lent c.loop-k.k c.loop-k-test.true)
-    (lent_is lent c.loop-k.k c.index-self-k.result c.index-self-k.is) c.plane.ensures in
+    (lent_is lent c.loop-k.k c.index-self-k.result c.index-self-k.is) plane in
     omega (arith, own.top, c.first_own-first_row.ensures)
 
 pub put_strip-requires-clause-above : goal.put_strip-requires-clause-above
 put_strip-requires-clause-above g c = let a = c.args in let lent = a.self.now.strips.now in
+    let plane : c.plane.result.now ≡ plane_of c.index-self-k.result.now a.plane = c.plane.ensures ∙ ap (λ b. plane_of b.now a.plane) (sym c.index-self-k.is) in
     let own = rows_of_one a.shape.now g.F.RawFrame.raw a.plane a.sr (map (λ b. b.now) lent) c.loop-k.k c.index-self-k.result.now c.plane.result.now c.requires.held (lent_low lent c.loop-k.k c.loop-k-test.true)
-    (lent_is lent c.loop-k.k c.index-self-k.result c.index-self-k.is) c.plane.ensures in
+    (lent_is lent c.loop-k.k c.index-self-k.result c.index-self-k.is) plane in
     omega (arith, own.bottom, own_ends a.shape.now a.plane a.sr, c.first_own-first_row.ensures)
 
 pub put_strip-requires-clause-room : goal.put_strip-requires-clause-room
 put_strip-requires-clause-room g c = let a = c.args in let lent = a.self.now.strips.now in
+    let plane : c.plane.result.now ≡ plane_of c.index-self-k.result.now a.plane = c.plane.ensures ∙ ap (λ b. plane_of b.now a.plane) (sym c.index-self-k.is) in
     let own = rows_of_one a.shape.now g.F.RawFrame.raw a.plane a.sr (map (λ b. b.now) lent) c.loop-k.k c.index-self-k.result.now c.plane.result.now c.requires.held (lent_low lent c.loop-k.k c.loop-k-test.true)
-    (lent_is lent c.loop-k.k c.index-self-k.result c.index-self-k.is) c.plane.ensures in
+    (lent_is lent c.loop-k.k c.index-self-k.result c.index-self-k.is) plane in
     room_at a.shape.now a.plane a.sr c.first_own-first_row.result c.plane.result.now.area a.to.now.area c.loop-k.to.area c.requires.held.row own c.requires.room c.loop-k.invariant.area c.first_own-first_row.ensures
 
 pub loop-k-preserved : goal.loop-k-preserved
 loop-k-preserved g c = let a = c.args in let lent = a.self.now.strips.now in
     let so = c.loop-k.invariant in
+    let plane : c.plane.result.now ≡ plane_of c.index-self-k.result.now a.plane = c.plane.ensures ∙ ap (λ b. plane_of b.now a.plane) (sym c.index-self-k.is) in
     let low = lent_low lent c.loop-k.k c.loop-k-test.true in
     let is = lent_is lent c.loop-k.k c.index-self-k.result c.index-self-k.is in
     record {
       area = c.put_strip.ensures.area ∙ so.area;
       range = c.put_strip.ensures.range (greatest a.shape.now.depth)
-          (range_of_one a.shape.now g.F.RawFrame.raw a.plane a.sr (map (λ b. b.now) lent) c.loop-k.k c.index-self-k.result.now c.plane.result.now c.requires.held low is c.plane.ensures) so.range;
+          (range_of_one a.shape.now g.F.RawFrame.raw a.plane a.sr (map (λ b. b.now) lent) c.loop-k.k c.index-self-k.result.now c.plane.result.now c.requires.held low is plane) so.range;
       so_far = one_more a.shape.now a.plane a.sr g.F.RawFrame.raw (map (λ b. b.now) lent) c.loop-k.k c.index-self-k.result.now (plane_map a.to.now) (plane_map c.loop-k.to) (plane_map c.put_strip.new.to)
           c.requires.held low is
-          (part_at a.shape.now a.plane a.sr c.first_own-first_row.result c.index-self-k.result.now c.plane.result.now (plane_map c.loop-k.to) (plane_map c.put_strip.new.to) c.first_own-first_row.ensures c.plane.ensures c.put_strip.ensures.part) so.so_far;
+          (part_at a.shape.now a.plane a.sr c.first_own-first_row.result c.index-self-k.result.now c.plane.result.now (plane_map c.loop-k.to) (plane_map c.put_strip.new.to) c.first_own-first_row.ensures plane c.put_strip.ensures.part) so.so_far;
     }
 
 pub returns : goal.returns
