@@ -122,9 +122,9 @@ row_there picture sr y n planes plane s has final is wide =
     rw (wide, area) (final_rows_held picture.shape plane sr y final)
 
 -- and is the picture's
-pub row_is : {X : Type 0} (picture : Picture) (sr y n : ℕ) (planes : FramePlanes X) (plane : Plane) (s : PlaneSamples) → HasFinalRows picture sr planes → BecomesFinal picture.shape plane sr y
+pub row_is_there : {X : Type 0} (picture : Picture) (sr y n : ℕ) (planes : FramePlanes X) (plane : Plane) (s : PlaneSamples) → HasFinalRows picture sr planes → BecomesFinal picture.shape plane sr y
     → s ≡ plane_of planes plane → n ≡ s.area.columns → row_of (plane_map s) y 0 n ≡ row_of (picture.map plane) y 0 (coded_width picture.shape plane)
-row_is picture sr y n planes plane s has final is wide =
+row_is_there picture sr y n planes plane s has final is wide =
     let area : s.area ≡ buffer_area picture.shape plane sr = ap (λ (p : PlaneSamples). p.area) is ∙ area_at picture.shape sr planes plane has.place in
     let all : n ≡ coded_width picture.shape plane = wide ∙ ap (λ (a : Area). a.columns) area in
     let here : (x : ℕ) → plane_map s y x ≡ samples_of planes plane y x = λ x. ap (λ (p : PlaneSamples). plane_map p y x) is ∙ ap (λ m. m y x) (sym (maps_agree planes plane)) in

@@ -2,11 +2,14 @@
 use Rattle.std.proofs.Common.{◌≡◌, ◌∙◌, ◌<◌, ◌≤◌, ◌+◌, ◌*◌, ◌-◌, ◌/◌, ℕ, Bool, true, false, List, length, get_or, map, refl, sym, ap, arith, min, subst, Bor}
 use Rattle.std.proofs.Math.ListN.{get_or-map}
 use Rattle.std.proofs.lemmas.List.{length-map}
+use Rattle.vp9_types.specs.Maps.{row_of}
 use Rattle.vp9_types.specs.Shapes.{halved, subsampled_size, mi_rows, plane_width, plane_height, coded_width, coded_height}
 use Rattle.vp9_types.specs.Sizes.{superblocks_along}
 use Rattle.vp9_types.specs.declared.shape.Plane.{Plane}
 use Rattle.vp9_types.specs.declared.shape.Plane.TheVariants.{Y, U, V}
 use Rattle.vp9_types.specs.declared.shape.Shape.{Shape}
+use Rattle.planes.specs.Planes.{PlaneSamples, HasRow, plane_map}
+use Rattle.planes.specs.Pictures.{plane_of}
 use Rattle.planes.specs.declared.frame_planes.FramePlanes.{FramePlanes}
 use Rattle.block_rebuild.specs.declared.references.ReferencePicture.{ReferencePicture}
 use Rattle.band_cells.specs.Bands.{Picture, band_height}
@@ -16,8 +19,9 @@ use Rattle.loop_edges.specs.Cells.{sub_y}
 use Rattle.loop_filter.proofs.Sides as sides
 use Rattle.filter_rows.proofs.Bands.{same_height}
 use Rattle.filtered_rows.specs.Rows.{RowSpan, HasFinalRows, HoldRows, IsFinalWithin, row_with}
-use Rattle.filtered_rows.specs.Code.{held_in, rows_from, width_in}
+use Rattle.filtered_rows.specs.Code.{held_in, map_in, rows_from, width_in}
 use Rattle.filtered_rows.specs.Laws.{IsByRows, RowsHaveBands, AreAllRows, AllRowsAreHeld}
+use Rattle.filtered_rows.proofs.Finals.{final_with, row_is_there, row_there}
 
 ---- Bands ----
 
@@ -109,7 +113,7 @@ place_of : (first row many : ℕ) → first ≤ row → row < first + many → (
 place_of first row many from to = (omega (arith, from, to), omega (arith, from))
 
 -- the buffer that is looked up has the row
-pub looked_up : {X : Type 0} (picture : Picture) (shape : Shape) (frame first last filled row : ℕ) (lent : List (Bor (FramePlanes X))) (one : Bor (FramePlanes X)) (plane : Plane) (y : ℕ)
+looked_up : {X : Type 0} (picture : Picture) (shape : Shape) (frame first last filled row : ℕ) (lent : List (Bor (FramePlanes X))) (one : Bor (FramePlanes X)) (plane : Plane) (y : ℕ)
     → HoldRows picture first (map (λ b. b.now) lent) → IsFinalWithin picture.shape (rows_from frame first (length lent)) plane y → shape ≡ picture.shape
     → last ≡ superblocks_along (mi_rows shape) - 1 → filled ≡ (y + 8) / band_height shape plane → row ≡ min filled last → one ≡ get_or lent (row - first) one
     → HasFinalRows picture (row_with picture.shape plane y) one.now
@@ -121,3 +125,24 @@ looked_up {X} picture shape frame first last filled row lent one plane y hold he
     let many = length-map lent (λ b. b.now) in
     let has : HasFinalRows picture (first + (with - first)) (get_or (map (λ b. b.now) lent) (with - first) one.now) = hold.each (with - first) one.now (rw many place.0) in
     subst (λ n. HasFinalRows picture n one.now) place.1 (subst (λ (f : FramePlanes X). HasFinalRows picture (first + (with - first)) f) there has)
+
+-- a row of a plane is there, and is the one that is asked for
+pub record IsRead (s : PlaneSamples) (y n : ℕ) (row : List ℕ) : Type 0 where
+  pub there : HasRow s.area y 0 n
+  pub is : row_of (plane_map s) y 0 n ≡ row
+
+pub row_read : {X : Type 0} (pictures : ℕ → Picture) (shape : Shape) (frame first last filled row n : ℕ) (lent : List (Bor (FramePlanes X))) (one : Bor (FramePlanes X)) (s : PlaneSamples) (plane : Plane) (y : ℕ) (rows : RowSpan)
+    → HoldRows (pictures frame) first (map (λ b. b.now) lent) → rows_from frame first (length lent) ≡ rows → held_in pictures rows plane y → shape ≡ (pictures frame).shape
+    → last ≡ superblocks_along (mi_rows shape) - 1 → filled ≡ (y + 8) / band_height shape plane → row ≡ min filled last → one ≡ get_or lent (row - first) one
+    → s ≡ plane_of (get_or lent (row - first) one).now plane → n ≡ s.area.columns → IsRead s y n (row_of (map_in pictures rows plane) y 0 (width_in pictures rows plane))
+row_read pictures shape frame first last filled row n lent one s plane y rows hold are held same last_is filled_is row_is is samples wide =
+    let picture : Picture = pictures frame in
+    let here : IsFinalWithin picture.shape (rows_from frame first (length lent)) plane y = subst (λ r. held_in pictures r plane y) (sym are) held in
+    let has = looked_up picture shape frame first last filled row lent one plane y hold here same last_is filled_is row_is is in
+    let final = final_with picture.shape plane y here.inside in
+    let plane_is : s ≡ plane_of one.now plane = samples ∙ ap (λ b. plane_of b.now plane) (sym is) in
+    record {
+      there = row_there picture (row_with picture.shape plane y) y n one.now plane s has final plane_is wide;
+      is = subst (λ r. row_of (plane_map s) y 0 n ≡ row_of (map_in pictures r plane) y 0 (width_in pictures r plane)) are
+          (row_is_there picture (row_with picture.shape plane y) y n one.now plane s has final plane_is wide);
+    }
