@@ -1,7 +1,8 @@
 -- Which rows the buffers of some rows of superblocks have.
-use Rattle.std.proofs.Common.{◌≡◌, ◌∙◌, ◌<◌, ◌≤◌, ◌+◌, ◌*◌, ◌-◌, ◌/◌, ℕ, Bool, true, false, List, length, get_or, map, refl, sym, ap, arith, min, subst, Bor}
-use Rattle.std.proofs.Math.ListN.{get_or-map}
-use Rattle.std.proofs.lemmas.List.{length-map}
+use Rattle.std.proofs.Common.{◌≡◌, ◌∙◌, ◌<◌, ◌≤◌, ◌+◌, ◌*◌, ◌-◌, ◌/◌, inl, inr, ℕ, Bool, true, false, List, [], ◌∷◌, ◌++◌, length, get_or, map, refl, sym, ap, arith, min, subst, Bor}
+use Rattle.std.proofs.Math.ListN.{get_or-append, get_or-map}
+use Rattle.std.proofs.lemmas.Bool.{cases_lt}
+use Rattle.std.proofs.lemmas.List.{get_or_push, length-append, length-map}
 use Rattle.vp9_types.specs.Maps.{row_of}
 use Rattle.vp9_types.specs.Shapes.{halved, subsampled_size, mi_rows, plane_width, plane_height, coded_width, coded_height}
 use Rattle.vp9_types.specs.Sizes.{superblocks_along}
@@ -20,7 +21,7 @@ use Rattle.loop_filter.proofs.Sides as sides
 use Rattle.filter_rows.proofs.Bands.{same_height}
 use Rattle.filtered_rows.specs.Rows.{RowSpan, HasFinalRows, HoldRows, IsFinalWithin, row_with}
 use Rattle.filtered_rows.specs.Code.{held_in, map_in, rows_from, width_in}
-use Rattle.filtered_rows.specs.Laws.{IsByRows, RowsHaveBands, AreAllRows, AllRowsAreHeld}
+use Rattle.filtered_rows.specs.Laws.{IsByRows, RowsHaveBands, AreAllRows, AllRowsAreHeld, NoneHoldRows, OneMoreHoldsRows}
 use Rattle.filtered_rows.proofs.Finals.{final_with, row_is_there, row_there}
 
 ---- Bands ----
@@ -102,6 +103,27 @@ all_rows_held pictures rows all =
       coded = coded_held pictures rows all;
       shown = λ p y inside. coded_held pictures rows all p y (less y (plane_height shape p) (coded_height shape p) inside (height_low shape p));
       wide = λ p. width_low shape p;
+    }
+
+---- One after another ----
+
+pub none_hold : {X : Type 0} (picture : Picture) (first : ℕ) (buffers : List (FramePlanes X)) → NoneHoldRows picture first buffers
+none_hold picture first buffers none inside = record {
+  end = rw none (omega (arith, inside));
+  each = λ k d low. absurd (let low = rw none at low in omega (arith, low));
+}
+
+pub one_more_holds : {X : Type 0} (picture : Picture) (first : ℕ) (buffers : List (FramePlanes X)) (next : FramePlanes X) → OneMoreHoldsRows picture first buffers next
+one_more_holds {X} picture first buffers next hold inside has =
+    let many : length (buffers ++ next ∷ []) ≡ length buffers + 1 = length-append buffers (next ∷ []) in
+    record {
+      end = omega (arith, many, inside);
+      each = λ k d low. elim (cases_lt k (length buffers)) [
+        | inl before ↦ subst (λ (f : FramePlanes X). HasFinalRows picture (first + k) f) (sym (get_or-append buffers (next ∷ []) d k before)) (hold.each k d before)
+        | inr behind ↦
+            let last : length buffers ≡ k = omega (arith, many, low, behind) in
+            subst (λ (f : FramePlanes X). HasFinalRows picture (first + k) f) (sym (get_or_push buffers next d k last)) (subst (λ n. HasFinalRows picture (first + n) next) last has)
+      ];
     }
 
 ---- As the code has it ----

@@ -1,5 +1,5 @@
 -- Which rows are made final by which rows of superblocks.
-use Rattle.std.specs.Prelude.{ℕ, ◌+◌, ◌-◌, ◌<◌, ◌≤◌, ◌≡◌, List, min}
+use Rattle.std.specs.Prelude.{ℕ, ◌+◌, ◌-◌, ◌<◌, ◌≤◌, ◌≡◌, List, [], ◌∷◌, ◌++◌, length, min}
 use Rattle.vp9_types.specs.declared.shape.Plane.{Plane}
 use Rattle.vp9_types.specs.declared.shape.Shape.{Shape}
 use Rattle.vp9_types.specs.Maps.{FrameMap, IsAtMost}
@@ -15,7 +15,7 @@ use Rattle.band_references.specs.References.{HasBands}
 use Rattle.loop_edges.specs.declared.setting.EdgeSetting.{EdgeSetting}
 use Rattle.filter_rows.specs.Buffer.{HasFiltered}
 use Rattle.filter_rows.specs.Laws.{BecomesFinal}
-use Rattle.filtered_rows.specs.Rows.{RowSpan, row_with, HasFinalRows, IsFiltered}
+use Rattle.filtered_rows.specs.Rows.{RowSpan, row_with, HasFinalRows, HoldRows, IsFiltered}
 use Rattle.filtered_rows.specs.Code.{held_in, width_in, map_in}
 
 -- Each row of a plane is made final by one row of superblocks alone.
@@ -26,6 +26,14 @@ pub record BecomesFinalWith (shape : Shape) (plane : Plane) (y : ℕ) : Type 0 w
 -- A buffer in which a row of superblocks is filtered has the rows that it makes final of the filtered frame.
 abbrev pub FilteredIsFinal : {X : Type 0} → EdgeSetting → List BlockInfo → FrameMap → Picture → ℕ → FramePlanes X → Type 0
 FilteredIsFinal f blocks raw picture sr planes = IsFiltered f blocks raw picture → HasFiltered f blocks raw sr planes → HasFinalRows picture sr planes
+
+-- Buffers come one after another: none hold no rows, and one more holds those of the next row of superblocks.
+abbrev pub NoneHoldRows : {X : Type 0} → Picture → ℕ → List (FramePlanes X) → Type 0
+NoneHoldRows picture first buffers = buffers ≡ [] → first ≤ superblocks_along (mi_rows picture.shape) → HoldRows picture first buffers
+
+abbrev pub OneMoreHoldsRows : {X : Type 0} → Picture → ℕ → List (FramePlanes X) → FramePlanes X → Type 0
+OneMoreHoldsRows picture first buffers next = HoldRows picture first buffers → first + length buffers < superblocks_along (mi_rows picture.shape) →
+    HasFinalRows picture (first + length buffers) next → HoldRows picture first (buffers ++ next ∷ [])
 
 -- A reference is the picture of its frame, by the buffers of the rows of superblocks of its bands, and of the row below them if
 -- there is one. Its size is in range for the frame that refers to it, as are its samples.

@@ -11,7 +11,7 @@ ghost use Rattle.band_cells.specs.Bands.{Picture};
 ghost use Rattle.band_needs.specs.declared.ranges.BandRange.{BandRange};
 ghost use Rattle.loop_edges.specs.declared.setting.EdgeSetting.{EdgeSetting};
 ghost use Rattle.filtered_rows.specs.Rows.{RowSpan};
-ghost use Rattle.filtered_rows.specs.Laws.{AllRowsAreHeld, BecomesFinalWith, FilteredIsFinal, RowsHaveBands};
+ghost use Rattle.filtered_rows.specs.Laws.{AllRowsAreHeld, BecomesFinalWith, FilteredIsFinal, NoneHoldRows, OneMoreHoldsRows, RowsHaveBands};
 
 use vp9_types::Sample;
 
@@ -19,6 +19,12 @@ use vp9_types::Sample;
 pub fn final_rows_are_held<P: Sample>()
     ensures becomes { (shape : Shape) (plane : Plane) (y : ℕ) → BecomesFinalWith shape plane y }
     ensures filtered { (f : EdgeSetting) (blocks : List BlockInfo) (raw : FrameMap) (picture : Picture) (sr : ℕ) (planes : FramePlanes P) → FilteredIsFinal f blocks raw picture sr planes }
+{}
+
+/// Buffers are gathered one after another.
+pub fn buffers_come_in_order<P: Sample>()
+    ensures none { (picture : Picture) (first : ℕ) (buffers : List (FramePlanes P)) → NoneHoldRows picture first buffers }
+    ensures more { (picture : Picture) (first : ℕ) (buffers : List (FramePlanes P)) (next : FramePlanes P) → OneMoreHoldsRows picture first buffers next }
 {}
 
 /// The buffers of the rows of superblocks of some bands, and of the row below them, have these bands; those of all rows have the frame.

@@ -7,4 +7,4 @@ mod laws;
 
 pub use buffers::{next_buffer, renew_buffer};
 pub use frame::FilteredFrame;
-pub use laws::{final_rows_are_held, rows_have_bands};
+pub use laws::{buffers_come_in_order, final_rows_are_held, rows_have_bands};
