@@ -16,8 +16,8 @@ use planes::{Area, FramePlanes, SamplePlane, coded_area};
 use std::alloc::{AllocError, Global};
 use vp9_types::{Plane, Sample, Shape, halved};
 
-/// Where the buffer of a plane stands at a row of superblocks, or behind the last one.
-pub fn buffer_area(shape: &Shape, plane: Plane, sr: u32) -> Area
+// Where the buffer of a plane stands at a row of superblocks, or behind the last one.
+fn buffer_area(shape: &Shape, plane: Plane, sr: u32) -> Area
     requires { FitsPlanes shape.now }
     ensures value { result ≡ buffer_area shape.now plane sr }
     ensures near { IsArea result }

@@ -7,7 +7,7 @@ mod laws;
 mod round;
 mod strips;
 
-pub use buffer::{buffer_area, move_to_next, new_buffer};
+pub use buffer::{move_to_next, new_buffer};
 pub use laws::bands_become_final;
 pub use round::{filter_by_rows, filter_next_row};
 pub use strips::{Strips, TakesRows};

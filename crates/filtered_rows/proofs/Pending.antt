@@ -1,6 +1,6 @@
 -- What a buffer has once the pending rows are copied.
 use Rattle.std.proofs.Common.{◌≡◌, ◌∙◌, ◌<◌, ◌≤◌, ◌+◌, ◌*◌, ◌-◌, inl, inr, ℕ, Bool, true, false, List, refl, sym, arith, min, subst}
-use Rattle.std.specs.Prelude.{Option, Some, None}
+use Rattle.std.specs.Prelude.{Option, Some, None, Result, Ok, Err, IfOk}
 use Rattle.std.proofs.lemmas.Bool.{cases_lt}
 use Rattle.std.proofs.lemmas.Bool.Decides.{nat_tests}
 use Rattle.vp9_types.specs.Maps.{Map, FrameMap, IsAtMost, rows_of}
@@ -20,7 +20,7 @@ use Rattle.loop_edges.specs.declared.setting.EdgeSetting.{EdgeSetting}
 use Rattle.loop_filter.specs.Laws.{HoldsPending}
 use Rattle.filter_rows.specs.Buffer.{StandsAt, AwaitsRow, HasFiltered, buffer_area}
 use Rattle.filter_rows.specs.Code.{KeepsPending}
-use Rattle.filtered_rows.specs.Buffers.{IsFilteredAbove}
+use Rattle.filtered_rows.specs.Buffers.{StandsAbove, IsFilteredAbove}
 use Rattle.filtered_rows.specs.Code.{pending_part}
 
 back : (row : ℕ) → 0 < row → row - 1 + 1 ≡ row
@@ -83,3 +83,12 @@ awaits_first shape row planes at range f blocks raw same first = record {
   range = subst (λ (s : Shape). IsInRange s.depth planes) (sym same) range;
   pending = subst (λ n. HoldsPending f blocks raw n (samples_of planes)) (sym first) (none_holds f blocks raw (samples_of planes));
 }
+
+-- a new buffer awaits the first row
+pub new_awaits : {X E : Type 0} (shape : Shape) (row : ℕ) (above : Option (FramePlanes X)) (result : Result (FramePlanes X) E) → StandsAbove shape row above → above ≡ None
+    → IfOk result (λ planes. (f : EdgeSetting) (blocks : List BlockInfo) (raw : FrameMap) → f.shape ≡ shape → AwaitsRow f blocks raw 0 planes)
+    → IfOk result (λ planes. (f : EdgeSetting) (blocks : List BlockInfo) (raw : FrameMap) → f.shape ≡ shape → IsFilteredAbove f blocks raw row above → AwaitsRow f blocks raw row planes)
+new_awaits shape row above (Err e) stands none new = tt
+new_awaits {X} shape row above (Ok planes) stands none new =
+    let first : row ≡ 0 = subst (λ (o : Option (FramePlanes X)). StandsAbove shape row o) none stands in
+    λ f blocks raw same done. subst (λ n. AwaitsRow f blocks raw n planes) (sym first) (new f blocks raw same)

@@ -6,7 +6,7 @@ ghost use Rattle.vp9_types.specs.Maps.{FrameMap, IsAtMost};
 ghost use Rattle.vp9_types.specs.Shapes.{mi_rows};
 ghost use Rattle.vp9_types.specs.Sizes.{superblocks_along};
 ghost use Rattle.block_plan.specs.declared.block.BlockInfo.{BlockInfo};
-ghost use Rattle.planes.specs.Planes.{plane_map};
+ghost use Rattle.planes.specs.Planes.{IsArea, plane_map};
 ghost use Rattle.planes.specs.Pictures.{FitsPlanes, IsInRange};
 ghost use Rattle.loop_edges.specs.declared.setting.EdgeSetting.{EdgeSetting};
 ghost use Rattle.filter_rows.specs.Buffer.{buffer_area, StandsAt, AwaitsRow};
@@ -14,10 +14,10 @@ ghost use Rattle.filter_rows.specs.Code.{KeepsPending};
 ghost use Rattle.filtered_rows.specs.Buffers.{StandsAbove, IsFilteredAbove};
 ghost use Rattle.filtered_rows.specs.Code.{pending_part};
 
-use filter_rows::buffer_area;
+use filter_rows::new_buffer;
 use loop_filter::sub_y;
 use plane_parts::copy_part;
-use planes::{Area, FramePlanes, SamplePlane};
+use planes::{Area, FramePlanes, SamplePlane, coded_area};
 use std::alloc::{AllocError, Global};
 use vp9_types::{Plane, Sample, Shape, halved};
 
@@ -78,6 +78,21 @@ pub fn renew_buffer<P: Sample>(
     }
 }
 
+// Where the buffer of a plane stands at a row of superblocks, made of where it stands at the row above: it ends with the plane.
+fn area_below(shape: &Shape, plane: Plane, row: u32, above: Area) -> Area
+    requires size { FitsPlanes shape.now }
+    requires above { above ≡ buffer_area shape.now plane (row - 1) }
+    ensures value { result ≡ buffer_area shape.now plane row }
+    ensures near { IsArea result }
+{
+    let height = coded_area(shape, plane).rows;
+    let changed = halved(sub_y(shape, plane), 64 * row as usize).saturating_sub(8);
+    Area {
+        first_row: changed.min(height - above.rows),
+        ..above
+    }
+}
+
 /// As `renew_buffer`, in memory of its own.
 pub fn next_buffer<P: Sample>(
     alloc: Global,
@@ -92,10 +107,13 @@ pub fn next_buffer<P: Sample>(
     ensures awaits { IfOk result (λ planes. (f : EdgeSetting) (blocks : List BlockInfo) (raw : FrameMap) → f.shape ≡ shape.now →
         IsFilteredAbove f blocks raw row (option_copied above.entry) → AwaitsRow f blocks raw row planes) }
 {
+    let Some(before) = above else {
+        return new_buffer(alloc, shape);
+    };
     let mut planes = FramePlanes {
-        y: SamplePlane::new(alloc, buffer_area(shape, Plane::Y, row))?,
-        u: SamplePlane::new(alloc, buffer_area(shape, Plane::U, row))?,
-        v: SamplePlane::new(alloc, buffer_area(shape, Plane::V, row))?,
+        y: SamplePlane::new(alloc, area_below(shape, Plane::Y, row, before.y.area()))?,
+        u: SamplePlane::new(alloc, area_below(shape, Plane::U, row, before.u.area()))?,
+        v: SamplePlane::new(alloc, area_below(shape, Plane::V, row, before.v.area()))?,
     };
     renew_buffer(&mut planes, shape, row, above);
     Ok(planes)
