@@ -14,7 +14,7 @@ use Rattle.frame_headers.specs.declared.header.Header.{Header}
 use Rattle.counting_reader.specs.Counting.{Settled}
 use Rattle.inter_places.specs.Places.{subsampling, coded_length}
 use Rattle.inter_places.specs.declared.part.Direction.TheVariants.{Down, Across}
-use Rattle.planes.specs.Planes.{lower_end, right_end}
+use Rattle.planes.specs.Planes.{right_end}
 use Rattle.planes.specs.Pictures.{IsInRange, blank, plane_of, samples_of}
 use Rattle.planes.specs.declared.area.Area.{Area}
 use Rattle.planes.specs.declared.frame_planes.FramePlanes.{FramePlanes}
@@ -24,12 +24,11 @@ use Rattle.block_rebuild.specs.Strips.{IsIn, in_plane, strip_area, strip_places,
 use Rattle.frame_state.specs.Plans.{ColumnRead}
 use Rattle.frame_state.specs.Reading.{FrameRead}
 use Rattle.frame_state.specs.Sources.{FrameSources}
-use Rattle.frame_state.specs.Tiles.{tile_offset}
 use Rattle.frame_state.proofs.TileOffsets.{offset_low, part_at, place_below, place_from, place_to}
-use Rattle.column_order.specs.Columns.{IsColumnStrip, column_from, column_to}
+use Rattle.column_order.specs.Columns.{column_from, column_to}
 use Rattle.column_order.proofs.FrameStrips.{frame_strips}
-use Rattle.recon_rows.specs.Strips.{HasStripAreas, HoldsStrip}
-use Rattle.loop_filter.specs.Laws.{first_own, lower_end_of}
+use Rattle.recon_rows.specs.Strips.{HasStripAreas}
+use Rattle.loop_filter.specs.Laws.{first_own}
 use Rattle.column_strips.specs.Laws.{AreColumnStrips, AreFrameColumns, rebuilding}
 use Rattle.column_strips.specs.Rows.{AreRow, HasColumn, HasOwnRows, IsPartOfRow, rows_from}
 use Rattle.column_strips.proofs.FrameEdge.{frame_ends}

@@ -1,5 +1,5 @@
 -- A row of superblocks put together, strip after strip.
-use Rattle.std.proofs.Common.{◌≡◌, ◌<◌, ◌≤◌, ◌+◌, ◌-◌, ◌*◌, Bool, true, false, ℕ, List, length, get_or, inl, inr, refl, sym, ◌∙◌, ap, subst, arith, min}
+use Rattle.std.proofs.Common.{◌≡◌, ◌<◌, ◌≤◌, ◌+◌, ◌*◌, Bool, true, false, ℕ, List, length, get_or, inl, inr, refl, sym, ◌∙◌, ap, subst, arith}
 use Rattle.std.proofs.lemmas.Bool.{cases_lt, cases_eq}
 use Rattle.std.proofs.lemmas.Bool.Decides.{nat_tests}
 use Rattle.vp9_types.specs.Maps.{Map, FrameMap, IsAtMost, rows_of}
@@ -19,7 +19,7 @@ use Rattle.loop_edges.specs.Cells.{sub_y}
 use Rattle.loop_filter.specs.Code.{HasFilterRows}
 use Rattle.loop_filter.specs.Laws.{first_own, lower_end_of}
 use Rattle.filter_rows.specs.Code.{HasPut}
-use Rattle.column_strips.specs.Rows.{AreRow, HasColumn, HasOwnRows, IsPartOfRow, rows_from}
+use Rattle.column_strips.specs.Rows.{AreRow, HasOwnRows, IsPartOfRow, rows_from}
 
 ---- Places ----
 

@@ -55,7 +55,11 @@ pub(crate) fn first_own(shape: &Shape, plane: Plane, sr: u32) -> usize
 }
 
 /// Copies the rows of a strip's plane from a first one on.
-pub(crate) fn put_strip<P: Sample>(to: &mut SamplePlane<P>, strip: &SamplePlane<P>, first_row: usize)
+pub(crate) fn put_strip<P: Sample>(
+    to: &mut SamplePlane<P>,
+    strip: &SamplePlane<P>,
+    first_row: usize,
+)
     requires there { strip.now.area.first_row ≤ first_row }
     requires above { first_row ≤ lower_end strip.now.area }
     requires room { LiesIn (rows_from first_row strip.now.area) to.old.area }

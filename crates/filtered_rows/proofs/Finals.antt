@@ -17,11 +17,10 @@ use Rattle.band_cells.specs.Bands.{Picture}
 use Rattle.loop_edges.specs.Cells.{sub_y}
 use Rattle.loop_edges.specs.declared.setting.EdgeSetting.{EdgeSetting}
 use Rattle.loop_filter.proofs.Sides as sides
-use Rattle.loop_filter.specs.Laws.{first_changed, final_end, lower_end_of}
-use Rattle.filter_rows.specs.Buffer.{StandsAt, HasFiltered, buffer_area}
+use Rattle.filter_rows.specs.Buffer.{StandsAt, buffer_area}
 use Rattle.filter_rows.specs.Laws.{BecomesFinal}
 use Rattle.filter_rows.proofs.Bands.{same_height, ends_low, final_rows_held}
-use Rattle.filtered_rows.specs.Rows.{row_with, HasFinalRows, IsFiltered}
+use Rattle.filtered_rows.specs.Rows.{row_with, HasFinalRows}
 use Rattle.filtered_rows.specs.Laws.{BecomesFinalWith, FilteredIsFinal}
 
 ---- By the height of a row of superblocks ----

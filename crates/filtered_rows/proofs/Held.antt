@@ -1,5 +1,5 @@
 -- Which rows the buffers of some rows of superblocks have.
-use Rattle.std.proofs.Common.{◌≡◌, ◌∙◌, ◌<◌, ◌≤◌, ◌+◌, ◌*◌, ◌-◌, ◌/◌, inl, inr, ℕ, Bool, true, false, List, [], ◌∷◌, ◌++◌, length, get_or, map, refl, sym, ap, arith, min, subst, Bor}
+use Rattle.std.proofs.Common.{◌≡◌, ◌∙◌, ◌<◌, ◌≤◌, ◌+◌, ◌*◌, ◌-◌, ◌/◌, inl, inr, ℕ, Bool, true, false, List, [], ◌∷◌, ◌++◌, length, get_or, map, sym, ap, arith, min, subst, Bor}
 use Rattle.std.proofs.Math.ListN.{get_or-append, get_or-map}
 use Rattle.std.proofs.lemmas.Bool.{cases_lt}
 use Rattle.std.proofs.lemmas.List.{get_or_push, length-append, length-map}
@@ -21,7 +21,7 @@ use Rattle.loop_filter.proofs.Sides as sides
 use Rattle.filter_rows.proofs.Bands.{same_height}
 use Rattle.filtered_rows.specs.Rows.{RowSpan, HasFinalRows, HoldRows, IsFinalWithin, row_with}
 use Rattle.filtered_rows.specs.Code.{held_in, map_in, rows_from, width_in}
-use Rattle.filtered_rows.specs.Laws.{IsByRows, RowsHaveBands, AreAllRows, AllRowsAreHeld, NoneHoldRows, OneMoreHoldsRows}
+use Rattle.filtered_rows.specs.Laws.{RowsHaveBands, AreAllRows, AllRowsAreHeld, NoneHoldRows, OneMoreHoldsRows}
 use Rattle.filtered_rows.proofs.Finals.{final_with, row_is_there, row_there}
 
 ---- Bands ----

@@ -1,5 +1,5 @@
 -- What a buffer has once the pending rows are copied.
-use Rattle.std.proofs.Common.{◌≡◌, ◌∙◌, ◌<◌, ◌≤◌, ◌+◌, ◌*◌, ◌-◌, inl, inr, ℕ, Bool, true, false, List, refl, sym, arith, min, subst}
+use Rattle.std.proofs.Common.{◌≡◌, ◌∙◌, ◌<◌, ◌≤◌, ◌+◌, ◌*◌, ◌-◌, inl, inr, ℕ, Bool, true, false, List, sym, arith, min, subst}
 use Rattle.std.specs.Prelude.{Option, Some, None, Result, Ok, Err, IfOk}
 use Rattle.std.proofs.lemmas.Bool.{cases_lt}
 use Rattle.std.proofs.lemmas.Bool.Decides.{nat_tests}
@@ -18,7 +18,7 @@ use Rattle.plane_parts.specs.Parts.{HasPart}
 use Rattle.loop_edges.specs.Cells.{sub_y}
 use Rattle.loop_edges.specs.declared.setting.EdgeSetting.{EdgeSetting}
 use Rattle.loop_filter.specs.Laws.{HoldsPending}
-use Rattle.filter_rows.specs.Buffer.{StandsAt, AwaitsRow, HasFiltered, buffer_area}
+use Rattle.filter_rows.specs.Buffer.{StandsAt, AwaitsRow, buffer_area}
 use Rattle.filter_rows.specs.Code.{KeepsPending}
 use Rattle.filtered_rows.specs.Buffers.{StandsAbove, IsFilteredAbove}
 use Rattle.filtered_rows.specs.Code.{pending_part}

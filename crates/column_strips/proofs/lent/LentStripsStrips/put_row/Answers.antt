@@ -1,6 +1,6 @@
-use Rattle.std.proofs.Common.{◌≡◌, ◌<◌, ◌∙◌, refl, sym, ap, arith, map, get_or, length}
+use Rattle.std.proofs.Common.{◌≡◌, ◌∙◌, refl, sym, ap, arith, map}
 use Rattle.vp9_types.specs.Sizes.{greatest}
-use Rattle.planes.specs.Planes.{PlaneSamples, plane_map}
+use Rattle.planes.specs.Planes.{plane_map}
 use Rattle.planes.specs.Pictures.{plane_of}
 use Rattle.column_strips.proofs.Lending.{lent_all, lent_is, lent_low}
 use Rattle.column_strips.proofs.RowSteps.{all_put, no_strips, one_more, own_ends, part_at, range_of_one, room_at, rows_of_one}

@@ -1,6 +1,6 @@
 use Rattle.std.proofs.Common.{◌≡◌, ◌∙◌, refl, sym, ap, arith}
 use Rattle.vp9_types.specs.Sizes.{greatest}
-use Rattle.planes.specs.Planes.{PlaneSamples, plane_map}
+use Rattle.planes.specs.Planes.{plane_map}
 use Rattle.planes.specs.Pictures.{plane_of}
 use Rattle.column_strips.proofs.RowSteps.{all_put, no_strips, one_more, own_ends, part_at, range_of_one, room_at, rows_of_one}
 use Rattle.column_strips.proofs.side_by_side.ColumnStripsStrips.put_row.Goals as goal
