@@ -11,4 +11,4 @@ one_more before old new text f next fails is not_refused first more =
     let behind : suc f ≡ next = omega (arith, is) in
     let whole : more.0 ≡ text f = subst (λ b. IsRightText b more.0 (text f)) not_refused more.2 in
     subst (λ n. Takes before new (texts_below text n)) behind
-      (takes_both before old new (texts_below text f) (text f) first (subst (λ put. Takes old new put) whole more.1))
+    (takes_both before old new (texts_below text f) (text f) first (subst (λ put. Takes old new put) whole more.1))
