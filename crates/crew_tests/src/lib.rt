@@ -3,7 +3,7 @@
 
 mod numbers;
 
-pub use numbers::{NumberJobs, Numbers, Paper};
+pub use numbers::{Counter, NumberJobs, Numbers, Paper};
 
 #[cfg(test)]
 mod tests;

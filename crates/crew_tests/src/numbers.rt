@@ -1,17 +1,42 @@
 ghost use Rattle.std.specs.Prelude.{◌≡◌};
 
-use job_crew::{Building, Jobs, Layout, Output, Results, Start};
+use job_crew::{Building, Gate, Jobs, Layout, Output, Results, Start};
 use job_order::{Meaning, Shown};
+use std::sync::atomic::{AtomicU64, Ordering};
 use vp9_types::{BandSpan, JobName};
 
-/// What was written: a number for each frame.
+/// What was written: a number for each frame. A write that it refuses tears it.
 #[derive(Drop)]
 pub struct Paper {
     pub numbers: Vec<u64>,
+    pub is_torn: bool,
 }
 
-impl Output for Paper {
-    ghost taken = { λ p. p.numbers.items };
+impl Output<u64> for Paper {
+    ghost use Rattle.std.specs.Prelude.{◌≡◌, true, false, Some};
+
+    ghost taken = { λ p. Some p.numbers.items };
+
+    ghost may_put = { λ p. p.is_torn ≡ false };
+
+    ghost has_refused = { λ p x. p.is_torn ≡ true };
+}
+
+/// Counts the jobs that have begun, and those that have ended.
+#[derive(Drop)]
+pub struct Counter {
+    pub begun: AtomicU64,
+    pub ended: AtomicU64,
+}
+
+impl Gate for Counter {
+    fn enter(&self, _job: JobName) {
+        self.begun.fetch_add(1, Ordering::SeqCst);
+    }
+
+    fn leave(&self, _job: JobName) {
+        self.ended.fetch_add(1, Ordering::SeqCst);
+    }
 }
 
 /// A run of so many frames, each of so many tile columns and superblock rows.
@@ -28,9 +53,9 @@ impl<const FRAMES: u64, const COLUMNS: u32, const ROWS: u32> Meaning<u64>
 
 impl<const FRAMES: u64, const COLUMNS: u32, const ROWS: u32> Start
     for Numbers<FRAMES, COLUMNS, ROWS> {
-    ghost use Rattle.std.specs.Prelude.{[]};
+    ghost use Rattle.std.specs.Prelude.{[], Some};
 
-    ghost taken = { [] };
+    ghost taken = { Some [] };
 }
 
 /// Does the jobs of such a run. The output refuses one frame, and there is no memory for another.
@@ -126,7 +151,10 @@ impl<const FRAMES: u64, const COLUMNS: u32, const ROWS: u32> Jobs<
                 see_row::<FRAMES, COLUMNS, ROWS, R>(results, frame, row);
                 frame
             }
-            JobName::End { frame } => frame,
+            JobName::End { frame } => {
+                results.last(frame);
+                frame
+            }
             JobName::Write { .. } => unreachable!(),
         }
     }
@@ -142,10 +170,8 @@ impl<const FRAMES: u64, const COLUMNS: u32, const ROWS: u32> Jobs<
         output: &mut Paper,
     ) -> u64 {
         results.result(JobName::Close { frame });
-        if frame == self.refused || frame == u64::MAX {
-            return u64::MAX;
-        }
-        if output.numbers.push(frame).is_err() {
+        if frame == self.refused || frame == u64::MAX || output.numbers.push(frame).is_err() {
+            output.is_torn = true;
             return u64::MAX;
         }
         frame

@@ -1,9 +1,10 @@
 ghost use Rattle.std.specs.Prelude.{◌≤◌, ◌≡◌};
 
 use super::*;
-use job_crew::{Ending, run_jobs};
+use job_crew::{Ending, OpenGate, Run, run_jobs};
 use std::alloc::Global;
 use std::sync::Wait;
+use std::sync::atomic::{AtomicU64, Ordering};
 use std::test::Fail;
 use std::thread::Threads;
 
@@ -39,16 +40,57 @@ fn is_right<const FRAMES: u64, const COLUMNS: u32, const ROWS: u32, R: Threads +
     requires workers { (1 ≤ workers) × (workers ≤ 64) }
     requires window { (2 ≤ window) × (window ≤ 16) }
 {
+    let run = Run {
+        alloc,
+        jobs: &jobs,
+        gate: &OpenGate,
+        workers,
+        window,
+    };
     let output = Paper {
         numbers: Vec::new(alloc),
+        is_torn: false,
     };
-    let Ok(told) = run_jobs::<u64, Numbers<FRAMES, COLUMNS, ROWS>, Paper, NumberJobs, R>(
-        rt, alloc, &jobs, output, workers, window,
+    let Ok(told) = run_jobs::<u64, Numbers<FRAMES, COLUMNS, ROWS>, Paper, NumberJobs, OpenGate, R>(
+        rt, &run, output,
     ) else {
         return false;
     };
     let all = FRAMES.min(jobs.refused).min(jobs.starved);
-    last_of(&told.ending) == all && are_below(&told.output.numbers, all)
+    let is_refused = matches!(&told.ending, Ending::Refused { .. });
+    last_of(&told.ending) == all
+        && is_refused == told.output.is_torn
+        && are_below(&told.output.numbers, all)
+}
+
+// A gate sees each job once: 14 of each frame, and those of the last head and of the end.
+#[test]
+fn a_gate_sees_each_job(rt: HostRuntime) -> Result<(), Fail> {
+    for workers in [1, 4u8] {
+        let jobs = to_the_end();
+        let gate = Counter {
+            begun: AtomicU64::new(0),
+            ended: AtomicU64::new(0),
+        };
+        let run = Run {
+            alloc: rt.alloc(),
+            jobs: &jobs,
+            gate: &gate,
+            workers,
+            window: 4,
+        };
+        let output = Paper {
+            numbers: Vec::new(rt.alloc()),
+            is_torn: false,
+        };
+        let told = run_jobs::<u64, Numbers<100, 2, 3>, Paper, NumberJobs, Counter, HostRuntime>(
+            &rt, &run, output,
+        );
+        assert!(rt; told.is_ok());
+        assert_eq!(rt; gate.begun.load(Ordering::SeqCst), 1402, "by {workers}");
+        assert_eq!(rt; gate.ended.load(Ordering::SeqCst), 1402, "by {workers}");
+    }
+    Ok(())
 }
 
 fn to_the_end() -> NumberJobs {

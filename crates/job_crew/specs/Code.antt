@@ -62,8 +62,8 @@ Puts old ticket job new =
     (ticket ≡ old.drawn) × (job_at old.segments ticket ≡ Some job) × (new ≡ record old { names = old.names ++ job ∷ []; drawn = ticket + 1 })
 
 -- the job at this place is taken out
-abbrev pub Takes : PoolParts → ℕ → JobName → PoolParts → Type 0
-Takes old at job new = (slice_get old.names at ≡ Some job) × (new ≡ record old { names = remove old.names at })
+abbrev pub TakesOut : PoolParts → ℕ → JobName → PoolParts → Type 0
+TakesOut old at job new = (slice_get old.names at ≡ Some job) × (new ≡ record old { names = remove old.names at })
 
 -- the seat is of the board, and has no slot
 abbrev pub IsSeated : BoardParts → SeatParts → Type 0

@@ -5,11 +5,10 @@ ghost use Rattle.job_order.specs.declared.segment.Shown.{Shown};
 ghost use Rattle.job_crew.specs.Code.{HasCell};
 
 use crate::finished::Finished;
-use crate::jobs::{Layout, Results};
+use crate::jobs::Layout;
 use job_order::{JobSpan, Meaning, Segment};
 use std::alloc::{AllocError, Global};
-use std::sync::{OnceLock, Wait};
-use std::thread;
+use std::sync::OnceLock;
 use vp9_types::{BandSpan, JobName};
 
 type Cell<X, M> = OnceLock<Finished<X, M>>;
@@ -276,24 +275,5 @@ fn rows_of(segments: &[Segment], frame: u64) -> Option<u32>
     match segments[at] {
         Segment::Build { rows, .. } => Some(rows),
         _ => None,
-    }
-}
-
-/// The results that a job needs, which are all there: it never waits for one.
-#[derive(Drop)]
-pub(crate) struct Lent<'a, X: Drop, M: Meaning<X>, R> {
-    pub(crate) rt: &'a R,
-    pub(crate) cells: &'a Cells<X, M>,
-}
-
-impl<'a, X: Drop, M: Meaning<X>, R: Wait> Results<X, M> for Lent<'a, X, M, R> {
-    fn result(&self, job: JobName) -> &X {
-        for _ in self.rt.forever() {
-            if let Some(value) = self.cells.find(job) {
-                return value;
-            }
-            thread::yield_now();
-        }
-        unreachable!()
     }
 }

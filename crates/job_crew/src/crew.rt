@@ -4,15 +4,18 @@ ghost use Rattle.job_order.specs.Segments.{InOrder, IsListed};
 ghost use Rattle.job_crew.specs.declared.outlet.Content.TheVariants.{Open};
 ghost use Rattle.job_order.specs.Sound.{texts_below};
 ghost use Rattle.job_crew.specs.Runs.{IsDue, IsEnded};
-ghost use Rattle.job_crew.specs.Code.{AreDue, Takes, IsSeated, IsSeatedStill, IsAway};
+ghost use Rattle.edge_io.specs.Putting.{Takes};
+ghost use Rattle.job_crew.specs.Code.{AreDue, TakesOut, IsSeated, IsSeatedStill, IsAway};
 
-use crate::cells::{Cells, Lent};
-use crate::jobs::{Jobs, Layout, Output, Start};
+use crate::cells::Cells;
+use crate::jobs::{Gate, Jobs, Layout, Output, Start};
+use crate::lent::Lent;
 use crate::outlet::{Content, Ending, Outlet, Over, Placed, Told};
 use crate::pool::Pool;
 use job_order::{Meaning, Segment, needs_of};
 use progress_board::{Board, Refused, Seat};
 use std::alloc::{AllocError, Global};
+use std::marker::PhantomData;
 use std::sync::{Condvar, Mutex, Wait};
 use std::thread;
 use std::thread::Threads;
@@ -30,19 +33,29 @@ const POOL_ROOM: usize = 1024;
 
 const NO_BANDS: [Option<BandSpan>; 3] = [None, None, None];
 
+/// What a run is of, and how it is done: by so many workers, with so many frames at once.
+#[derive(Drop)]
+pub struct Run<'a, J, G> {
+    pub alloc: Global,
+    pub jobs: &'a J,
+    pub gate: &'a G,
+    pub workers: u8,
+    pub window: u8,
+}
+
 // What the workers share.
 #[derive(Drop)]
-struct Crew<'a, X: Drop, M: Meaning<X> + Start, K: Output, J> {
-    alloc: Global,
-    jobs: &'a J,
+struct Crew<'a, X: Drop, M: Meaning<X> + Start, K: Output<X>, J, G> {
+    run: &'a Run<'a, J, G>,
     cells: &'a Cells<X, M>,
     pool: &'a Mutex<Pool<X, M>>,
     moved: &'a Condvar,
     board: &'a Board<Placed<X, M, K>>,
-    window: u8,
 }
 
-fn placed<X: Drop, M: Meaning<X> + Start, K: Output>(content: Content<X, M, K>) -> Placed<X, M, K>
+fn placed<X: Drop, M: Meaning<X> + Start, K: Output<X>>(
+    content: Content<X, M, K>,
+) -> Placed<X, M, K>
     ensures slot { result.slot ≡ 1 }
     ensures content { result.content ≡ content }
 {
@@ -53,13 +66,20 @@ fn placed<X: Drop, M: Meaning<X> + Start, K: Output>(content: Content<X, M, K>) 
 }
 
 // A job is ready where its needs are finished.
-impl<'a, X: Drop, M: Meaning<X> + Start, K: Output, J: Jobs<X, M, K>> Crew<'a, X, M, K, J> {
+impl<'a, X: Drop, M: Meaning<X> + Start, K: Output<X>, J: Jobs<X, M, K>, G: Gate> Crew<
+    'a,
+    X,
+    M,
+    K,
+    J,
+    G,
+> {
     // What a job reads of other frames.
-    fn reads<R: Wait>(&self, lent: &Lent<'_, X, M, R>, job: JobName) -> [Option<BandSpan>; 3]
+    fn reads<R: Wait>(&self, lent: &Lent<'_, X, M, K, J, R>, job: JobName) -> [Option<BandSpan>; 3]
         requires due { IsDue M.rules M.truth job }
     {
         match job {
-            JobName::Rows { frame, column, row } => self.jobs.reads(frame, column, row, lent),
+            JobName::Rows { frame, column, row } => self.run.jobs.reads(frame, column, row, lent),
             _ => NO_BANDS,
         }
     }
@@ -67,7 +87,7 @@ impl<'a, X: Drop, M: Meaning<X> + Start, K: Output, J: Jobs<X, M, K>> Crew<'a, X
     // Whether the needs of a job are finished. What it reads is asked for once the jobs are that it needs by name, its close among them.
     fn is_ready<R: Wait>(
         &self,
-        lent: &Lent<'_, X, M, R>,
+        lent: &Lent<'_, X, M, K, J, R>,
         segments: &[Segment],
         job: JobName,
     ) -> bool
@@ -75,19 +95,23 @@ impl<'a, X: Drop, M: Meaning<X> + Start, K: Output, J: Jobs<X, M, K>> Crew<'a, X
         requires listed { IsListed segments.now job }
         requires due { IsDue M.rules M.truth job }
     {
-        let [first, second] = needs_of(segments, self.window, job, NO_BANDS).jobs;
+        let [first, second] = needs_of(segments, self.run.window, job, NO_BANDS).jobs;
         if !self.cells.are_finished(first) || !self.cells.are_finished(second) {
             return false;
         }
         let reads = self.reads(lent, job);
-        let [last, golden, altref] = needs_of(segments, self.window, job, reads).bands;
+        let [last, golden, altref] = needs_of(segments, self.run.window, job, reads).bands;
         self.cells.are_published(segments, last)
             && self.cells.are_published(segments, golden)
             && self.cells.are_published(segments, altref)
     }
 
     // The place in the pool of the first job that is ready.
-    fn ready_place<R: Wait>(&self, lent: &Lent<'_, X, M, R>, pool: &Pool<X, M>) -> Option<usize> {
+    fn ready_place<R: Wait>(
+        &self,
+        lent: &Lent<'_, X, M, K, J, R>,
+        pool: &Pool<X, M>,
+    ) -> Option<usize> {
         for at in 0..pool.len() {
             if let Some(job) = pool.name(at)
                 && self.is_ready(lent, pool.segments(), job)
@@ -101,10 +125,10 @@ impl<'a, X: Drop, M: Meaning<X> + Start, K: Output, J: Jobs<X, M, K>> Crew<'a, X
     // The first job of the pool that is ready, which is taken out of it.
     fn take_ready<R: Wait>(
         &self,
-        lent: &Lent<'_, X, M, R>,
+        lent: &Lent<'_, X, M, K, J, R>,
         pool: &mut Pool<X, M>,
     ) -> Option<JobName>
-        ensures some { IfSome result (λ job. (at : ℕ) × Takes pool.old at job pool.new) }
+        ensures some { IfSome result (λ job. (at : ℕ) × TakesOut pool.old at job pool.new) }
         ensures none { IfNone result (pool.new ≡ pool.old) }
         ensures due { IfSome result (λ job. IsDue M.rules M.truth job) }
     {
@@ -115,7 +139,7 @@ impl<'a, X: Drop, M: Meaning<X> + Start, K: Output, J: Jobs<X, M, K>> Crew<'a, X
     // Draws a ticket, and takes its job where that is ready.
     fn draw<R: Wait>(
         &self,
-        lent: &Lent<'_, X, M, R>,
+        lent: &Lent<'_, X, M, K, J, R>,
         pool: &mut Pool<X, M>,
         seat: &mut Seat<Placed<X, M, K>>,
     ) -> Option<JobName>
@@ -137,7 +161,7 @@ impl<'a, X: Drop, M: Meaning<X> + Start, K: Output, J: Jobs<X, M, K>> Crew<'a, X
     // The first ready job of the pool, or of the next tickets.
     fn next<R: Wait>(
         &self,
-        lent: &Lent<'_, X, M, R>,
+        lent: &Lent<'_, X, M, K, J, R>,
         pool: &mut Pool<X, M>,
         seat: &mut Seat<Placed<X, M, K>>,
     ) -> Option<JobName>
@@ -163,7 +187,7 @@ impl<'a, X: Drop, M: Meaning<X> + Start, K: Output, J: Jobs<X, M, K>> Crew<'a, X
     fn wait_for_job<R: Wait>(
         &self,
         rt: &R,
-        lent: &Lent<'_, X, M, R>,
+        lent: &Lent<'_, X, M, K, J, R>,
         seat: &mut Seat<Placed<X, M, K>>,
     ) -> Option<JobName>
         requires seat { IsSeated self.now.board.now seat.old }
@@ -191,7 +215,14 @@ impl<'a, X: Drop, M: Meaning<X> + Start, K: Output, J: Jobs<X, M, K>> Crew<'a, X
 }
 
 // What each job does, and what comes of its result.
-impl<'a, X: Drop, M: Meaning<X> + Start, K: Output, J: Jobs<X, M, K>> Crew<'a, X, M, K, J> {
+impl<'a, X: Drop, M: Meaning<X> + Start, K: Output<X>, J: Jobs<X, M, K>, G: Gate> Crew<
+    'a,
+    X,
+    M,
+    K,
+    J,
+    G,
+> {
     fn publish<R: Wait>(&self, rt: &R, segment: Segment)
         requires due { AreDue M.rules M.truth segment }
     {
@@ -200,8 +231,8 @@ impl<'a, X: Drop, M: Meaning<X> + Start, K: Output, J: Jobs<X, M, K>> Crew<'a, X
 
     fn take_memory<R: Wait>(&self, rt: &R, frame: u64, layout: Layout) -> Result<(), AllocError> {
         let next = frame.checked_add(1).ok_or(AllocError)?;
-        self.cells.make_place(self.alloc, next)?;
-        self.cells.make_frame(self.alloc, frame, layout)?;
+        self.cells.make_place(self.run.alloc, next)?;
+        self.cells.make_frame(self.run.alloc, frame, layout)?;
         self.pool.lock(rt).make_room()
     }
 
@@ -214,15 +245,15 @@ impl<'a, X: Drop, M: Meaning<X> + Start, K: Output, J: Jobs<X, M, K>> Crew<'a, X
         self.publish(rt, Segment::Last { frame });
     }
 
-    fn do_head<R: Wait>(&self, rt: &R, lent: &Lent<'_, X, M, R>, frame: u64)
+    fn do_head<R: Wait>(&self, rt: &R, lent: &Lent<'_, X, M, K, J, R>, frame: u64)
         requires due { IsDue M.rules M.truth (Head frame) }
     {
-        let value = self.jobs.run(JobName::Head { frame }, lent);
-        let Some(layout) = self.jobs.layout(&value) else {
+        let value = self.run.jobs.run(JobName::Head { frame }, lent);
+        let Some(layout) = self.run.jobs.layout(&value) else {
             return self.end_at_head(rt, frame, value);
         };
         if self.take_memory(rt, frame, layout).is_err() {
-            return self.end_at_head(rt, frame, self.jobs.starved(frame));
+            return self.end_at_head(rt, frame, self.run.jobs.starved(frame));
         }
         self.cells.finish(JobName::Head { frame }, value);
         self.publish(
@@ -239,7 +270,7 @@ impl<'a, X: Drop, M: Meaning<X> + Start, K: Output, J: Jobs<X, M, K>> Crew<'a, X
         requires right { M.truth.right (Close frame) close.now }
         ensures due { AreDue M.rules M.truth result }
     {
-        match self.jobs.building(close) {
+        match self.run.jobs.building(close) {
             Some(building) => Segment::Build {
                 frame,
                 columns: building.columns,
@@ -250,10 +281,10 @@ impl<'a, X: Drop, M: Meaning<X> + Start, K: Output, J: Jobs<X, M, K>> Crew<'a, X
         }
     }
 
-    fn do_close<R: Wait>(&self, rt: &R, lent: &Lent<'_, X, M, R>, frame: u64)
+    fn do_close<R: Wait>(&self, rt: &R, lent: &Lent<'_, X, M, K, J, R>, frame: u64)
         requires due { IsDue M.rules M.truth (Close frame) }
     {
-        let value = self.jobs.run(JobName::Close { frame }, lent);
+        let value = self.run.jobs.run(JobName::Close { frame }, lent);
         let segment = self.built(frame, &value);
         self.cells.finish(JobName::Close { frame }, value);
         self.publish(rt, segment);
@@ -262,12 +293,14 @@ impl<'a, X: Drop, M: Meaning<X> + Start, K: Output, J: Jobs<X, M, K>> Crew<'a, X
     // Takes the outlet where the frame's write comes next. Where it doesn't, the outlet stays.
     fn take_outlet(&self, seat: &mut Seat<Placed<X, M, K>>, frame: u64) -> Option<K>
         requires seat { IsSeated self.now.board.now seat.old }
-        ensures some { IfSome result (λ output. (K.taken output ≡ M.taken ++ texts_below M.truth.text frame) × IsAway seat.old seat.new) }
+        ensures taken { IfSome result (λ output. Takes M.taken (K.taken output) (texts_below M.truth.text frame)) }
+        ensures may { IfSome result (λ output. K.may_put output) }
+        ensures some { IfSome result (λ output. IsAway seat.old seat.new) }
         ensures none { IfNone result (IsSeatedStill seat.old seat.new) }
     {
         let Placed { content, .. } = self.board.take(seat, OUTLET)?;
         match content {
-            Content::Open(outlet) if outlet.next == frame => Some(outlet.output()),
+            Content::Open(outlet) if outlet.awaits(frame) => Some(outlet.output()),
             other => {
                 self.board.give(seat, OUTLET, placed(other));
                 None
@@ -285,7 +318,7 @@ impl<'a, X: Drop, M: Meaning<X> + Start, K: Output, J: Jobs<X, M, K>> Crew<'a, X
     // The run is over.
     fn end<R: Wait>(&self, rt: &R, seat: &mut Seat<Placed<X, M, K>>, ending: Ending<X>, output: K)
         requires seat { (seat.old.board ≡ self.now.board.now.board) × (seat.old.view.has ≡ 1 ∷ []) }
-        requires ended { IsEnded M.rules M.truth M.taken ending (K.taken output) }
+        requires ended { IsEnded M.rules M.truth M.taken ending (K.taken output) (K.may_put output) (K.has_refused output) }
         ensures seat { IsSeatedStill seat.old seat.new }
     {
         self.give_outlet(seat, Content::Over(Over::new(ending, output)));
@@ -295,7 +328,7 @@ impl<'a, X: Drop, M: Meaning<X> + Start, K: Output, J: Jobs<X, M, K>> Crew<'a, X
     fn do_write<R: Wait>(
         &self,
         rt: &R,
-        lent: &Lent<'_, X, M, R>,
+        lent: &Lent<'_, X, M, K, J, R>,
         seat: &mut Seat<Placed<X, M, K>>,
         frame: u64,
     )
@@ -309,8 +342,8 @@ impl<'a, X: Drop, M: Meaning<X> + Start, K: Output, J: Jobs<X, M, K>> Crew<'a, X
         let Some(mut output) = self.take_outlet(seat, frame) else {
             return;
         };
-        let value = self.jobs.write(frame, lent, &mut output);
-        if self.jobs.is_refused(&value) {
+        let value = self.run.jobs.write(frame, lent, &mut output);
+        if self.run.jobs.is_refused(&value) {
             self.end(rt, seat, Ending::Refused { frame, value }, output);
         } else {
             self.give_outlet(seat, Content::Open(Outlet::new(next, output)));
@@ -321,7 +354,7 @@ impl<'a, X: Drop, M: Meaning<X> + Start, K: Output, J: Jobs<X, M, K>> Crew<'a, X
     fn do_end<R: Wait>(
         &self,
         rt: &R,
-        lent: &Lent<'_, X, M, R>,
+        lent: &Lent<'_, X, M, K, J, R>,
         seat: &mut Seat<Placed<X, M, K>>,
         frame: u64,
     )
@@ -332,14 +365,14 @@ impl<'a, X: Drop, M: Meaning<X> + Start, K: Output, J: Jobs<X, M, K>> Crew<'a, X
         let Some(output) = self.take_outlet(seat, frame) else {
             return;
         };
-        let value = self.jobs.run(JobName::End { frame }, lent);
+        let value = self.run.jobs.run(JobName::End { frame }, lent);
         self.end(rt, seat, Ending::Whole { frame, value }, output);
     }
 
     fn do_job<R: Wait>(
         &self,
         rt: &R,
-        lent: &Lent<'_, X, M, R>,
+        lent: &Lent<'_, X, M, K, J, R>,
         seat: &mut Seat<Placed<X, M, K>>,
         job: JobName,
     )
@@ -353,7 +386,7 @@ impl<'a, X: Drop, M: Meaning<X> + Start, K: Output, J: Jobs<X, M, K>> Crew<'a, X
             JobName::Write { frame } => self.do_write(rt, lent, seat, frame),
             JobName::End { frame } => self.do_end(rt, lent, seat, frame),
             JobName::Column { .. } | JobName::Rows { .. } | JobName::Filter { .. } => {
-                let value = self.jobs.run(job, lent);
+                let value = self.run.jobs.run(job, lent);
                 self.cells.finish(job, value);
             }
         }
@@ -366,13 +399,17 @@ impl<'a, X: Drop, M: Meaning<X> + Start, K: Output, J: Jobs<X, M, K>> Crew<'a, X
     {
         let lent = Lent {
             rt,
+            jobs: self.run.jobs,
             cells: self.cells,
+            outputs: PhantomData,
         };
         for _ in rt.forever() {
             let Some(job) = self.wait_for_job(rt, &lent, seat) else {
                 break;
             };
+            self.run.gate.enter(job);
             self.do_job(rt, &lent, seat, job);
+            self.run.gate.leave(job);
         }
     }
 
@@ -380,7 +417,7 @@ impl<'a, X: Drop, M: Meaning<X> + Start, K: Output, J: Jobs<X, M, K>> Crew<'a, X
     fn take_told(&self, seat: &mut Seat<Placed<X, M, K>>) -> Option<Told<X, K>>
         requires seat { IsSeated self.now.board.now seat.old }
         ensures seat { IsSeatedStill seat.old seat.new }
-        ensures told { IfSome result (λ told. IsEnded M.rules M.truth M.taken told.ending (K.taken told.output)) }
+        ensures told { IfSome result (λ told. IsEnded M.rules M.truth M.taken told.ending (K.taken told.output) (K.may_put told.output) (K.has_refused told.output)) }
     {
         let Placed { content, .. } = self.board.take(seat, OUTLET)?;
         match content {
@@ -399,7 +436,7 @@ impl<'a, X: Drop, M: Meaning<X> + Start, K: Output, J: Jobs<X, M, K>> Crew<'a, X
     fn finish<R: Wait>(&self, rt: &R, seat: &mut Seat<Placed<X, M, K>>) -> Told<X, K>
         requires seat { IsSeated self.now.board.now seat.old }
         ensures seat { IsSeatedStill seat.old seat.new }
-        ensures told { IsEnded M.rules M.truth M.taken result.ending (K.taken result.output) }
+        ensures told { IsEnded M.rules M.truth M.taken result.ending (K.taken result.output) (K.may_put result.output) (K.has_refused result.output) }
     {
         for _ in rt.forever() {
             self.work(rt, seat);
@@ -411,7 +448,7 @@ impl<'a, X: Drop, M: Meaning<X> + Start, K: Output, J: Jobs<X, M, K>> Crew<'a, X
     }
 }
 
-fn make_seats<X: Drop, M: Meaning<X> + Start, K: Output>(
+fn make_seats<X: Drop, M: Meaning<X> + Start, K: Output<X>>(
     alloc: Global,
     board: &Board<Placed<X, M, K>>,
     first: &mut Seat<Placed<X, M, K>>,
@@ -434,7 +471,7 @@ fn make_seats<X: Drop, M: Meaning<X> + Start, K: Output>(
     seats
 }
 
-fn join_all<X: Drop, M: Meaning<X> + Start, K: Output>(
+fn join_all<X: Drop, M: Meaning<X> + Start, K: Output<X>>(
     board: &Board<Placed<X, M, K>>,
     first: &mut Seat<Placed<X, M, K>>,
     seats: Vec<Seat<Placed<X, M, K>>>,
@@ -456,10 +493,11 @@ fn join_all<X: Drop, M: Meaning<X> + Start, K: Output>(
 fn work_all<
     X: Drop + Send + Sync,
     M: Meaning<X> + Start + Send + Sync,
-    K: Output + Send + Drop,
+    K: Output<X> + Send + Drop,
     J: Jobs<X, M, K> + Sync,
+    G: Gate + Sync,
     R: Threads + Wait + Sync,
->(rt: &R, crew: &Crew<'_, X, M, K, J>, seats: &mut [Seat<Placed<X, M, K>>], workers: u8)
+>(rt: &R, crew: &Crew<'_, X, M, K, J, G>, seats: &mut [Seat<Placed<X, M, K>>], workers: u8)
     requires workers { 0 < workers }
     requires seats { All (λ s. IsSeated crew.now.board.now s) seats.old }
     ensures seats { All (λ s. IsSeated crew.now.board.now s) seats.new }
@@ -475,11 +513,12 @@ fn work_all<
     );
 }
 
-fn given_back<X: Drop, M: Meaning<X> + Start, K: Output + Drop>(
+fn given_back<X: Drop, M: Meaning<X> + Start, K: Output<X> + Drop>(
     refused: Refused<Placed<X, M, K>>,
 ) -> K
-    requires { (o : _) × (refused.outlet.content ≡ Open o) × (o.next ≡ 0) }
-    ensures { K.taken result ≡ M.taken }
+    requires { (o : _) × (refused.outlet.content ≡ Open o) × (K.taken o.1 ≡ M.taken) }
+    ensures taken { K.taken result ≡ M.taken }
+    ensures may { K.may_put result }
 {
     let Refused { outlet, .. } = refused;
     let Placed { content, .. } = outlet;
@@ -489,25 +528,27 @@ fn given_back<X: Drop, M: Meaning<X> + Start, K: Output + Drop>(
     outlet.output()
 }
 
-/// Does the jobs of a run by so many workers, with so many frames at once, and hands the output back: what it has taken, and how the run
-/// ended. With no memory to begin, nothing was done. With none for a seat there are fewer workers.
+/// Does the jobs of a run, and hands the output back: what it has taken, and how the run ended. With no memory to begin, nothing was done.
+/// With none for a seat there are fewer workers.
 pub fn run_jobs<
     X: Drop + Send + Sync,
     M: Meaning<X> + Start + Send + Sync,
-    K: Output + Send + Drop,
+    K: Output<X> + Send + Drop,
     J: Jobs<X, M, K> + Sync,
+    G: Gate + Sync,
     R: Threads + Wait + Sync,
->(rt: &R, alloc: Global, jobs: &J, output: K, workers: u8, window: u8) -> Result<Told<X, K>, K>
-    requires workers { (1 ≤ workers) × (workers ≤ 64) }
-    requires window { (2 ≤ window) × (window ≤ 16) }
+>(rt: &R, run: &Run<'_, J, G>, output: K) -> Result<Told<X, K>, K>
+    requires workers { (1 ≤ run.now.workers) × (run.now.workers ≤ 64) }
+    requires window { (2 ≤ run.now.window) × (run.now.window ≤ 16) }
     requires taken { K.taken output ≡ M.taken }
-    ensures told { IfOk result (λ told. IsEnded M.rules M.truth M.taken told.ending (K.taken told.output)) }
-    ensures refused { IfErr result (λ k. K.taken k ≡ M.taken) }
+    requires may { K.may_put output }
+    ensures told { IfOk result (λ told. IsEnded M.rules M.truth M.taken told.ending (K.taken told.output) (K.may_put told.output) (K.has_refused told.output)) }
+    ensures refused { IfErr result (λ k. (K.taken k ≡ M.taken) × K.may_put k) }
 {
-    let Ok(cells) = Cells::<X, M>::new(alloc) else {
+    let Ok(cells) = Cells::<X, M>::new(run.alloc) else {
         return Err(output);
     };
-    let Ok(pool) = Pool::<X, M>::new(alloc, POOL_ROOM) else {
+    let Ok(pool) = Pool::<X, M>::new(run.alloc, POOL_ROOM) else {
         return Err(output);
     };
     let source = Placed {
@@ -515,23 +556,21 @@ pub fn run_jobs<
         content: Content::Source,
     };
     let outlet = placed(Content::Open(Outlet::new(0, output)));
-    let (board, mut first) = match Board::new(alloc, LANES, source, outlet) {
+    let (board, mut first) = match Board::new(run.alloc, LANES, source, outlet) {
         Ok(made) => made,
         Err(refused) => return Err(given_back(refused)),
     };
     let pool = Mutex::new(pool);
     let moved = Condvar::new();
-    let mut seats = make_seats(alloc, &board, &mut first, workers);
+    let mut seats = make_seats(run.alloc, &board, &mut first, run.workers);
     let crew = Crew {
-        alloc,
-        jobs,
+        run,
         cells: &cells,
         pool: &pool,
         moved: &moved,
         board: &board,
-        window,
     };
-    work_all(rt, &crew, seats.as_mut_slice(), workers);
+    work_all(rt, &crew, seats.as_mut_slice(), run.workers);
     join_all(&board, &mut first, seats);
     let told = crew.finish(rt, &mut first);
     board.close(first);

@@ -1,7 +1,8 @@
-ghost use Rattle.std.specs.Prelude.{◌≡◌, ℕ, ◌++◌, List, Some, None, IfSome, IfNone};
-ghost use Rattle.vp9_types.specs.declared.job.JobName.TheVariants.{Head, Rows, Write};
+ghost use Rattle.std.specs.Prelude.{◌≡◌, ℕ, ◌⊎◌, true, false, List, Option, Some, None, IfSome, IfNone};
+ghost use Rattle.vp9_types.specs.declared.job.JobName.TheVariants.{Head, Close, Rows, Write};
 ghost use Rattle.job_order.specs.Truths.{IsRightText};
-ghost use Rattle.job_crew.specs.Runs.{IsDue, IsNoWrite};
+ghost use Rattle.edge_io.specs.Putting.{Takes};
+ghost use Rattle.job_crew.specs.Runs.{IsDue, IsNoWrite, GoesOn, IsLast};
 
 use job_order::{Meaning, Shown};
 use std::marker::Brand;
@@ -22,33 +23,62 @@ pub struct Building {
     pub shown: Option<Shown>,
 }
 
-/// What takes the texts of a run.
-pub trait Output {
-    /// What it has taken.
-    ghost taken: { Self → List ℕ };
+/// What takes the texts of a run. `X` is what jobs answer, writes among them.
+pub trait Output<X> {
+    /// What it has taken, where it tells that.
+    ghost taken: { Self → Option (List ℕ) };
+
+    /// Whether it may be written to.
+    ghost may_put: { Self → Type 0 };
+
+    /// How it refused a write that has this result.
+    ghost has_refused: { Self → X → Type 0 };
 }
 
-/// What the output had taken when a run began. It holds nothing at run time.
+/// What the output had taken when a run began, where it tells that. It holds nothing at run time.
 pub trait Start {
-    ghost taken: { List ℕ };
+    ghost taken: { Option (List ℕ) };
 }
 
 /// A call that begins a run picks its own.
 impl Start for Brand {
-    ghost use Rattle.std.specs.Prelude.{[]};
+    ghost use Rattle.std.specs.Prelude.{None};
 
-    ghost taken = { [] };
+    ghost taken = { None };
 }
 
 /// Results of jobs that are done, lent to a job that needs them.
 pub trait Results<X, M: Meaning<X>> {
-    /// The result of a job that the borrower needs, or that one of these needs in turn.
+    /// The result of a job that the borrower needs, or that one of these needs in turn. Such a head has found a frame, and such a close has
+    /// built one.
     fn result(&self, job: JobName) -> &X
-        ensures { M.truth.right job result.now };
+        ensures right { M.truth.right job result.now }
+        ensures goes_on { GoesOn M.rules job result.now };
+
+    /// The result that says that the run ends at this frame, of its head or its close. An end alone asks for it.
+    fn last(&self, frame: u64) -> &X
+        ensures { IsLast M.rules M.truth frame result.now };
+}
+
+/// Sees each job begin and end, on the worker that does it. What it does changes no result.
+pub trait Gate {
+    fn enter(&self, job: JobName);
+
+    fn leave(&self, job: JobName);
+}
+
+/// Lets all jobs pass.
+#[derive(Clone, Copy, Debug)]
+pub struct OpenGate;
+
+impl Gate for OpenGate {
+    fn enter(&self, _job: JobName) {}
+
+    fn leave(&self, _job: JobName) {}
 }
 
 /// Who does the jobs. No call waits for another job.
-pub trait Jobs<X, M: Meaning<X>, K: Output> {
+pub trait Jobs<X, M: Meaning<X>, K: Output<X>> {
     /// What a head's result says. There is nothing to parse where the run ends.
     fn layout(&self, head: &X) -> Option<Layout>
         ensures some { IfSome result (λ layout. M.rules.parses head.now ≡ Some layout.columns) }
@@ -83,10 +113,12 @@ pub trait Jobs<X, M: Meaning<X>, K: Output> {
 
     /// Writes what a frame shows.
     fn write<R: Results<X, M>>(&self, frame: u64, results: &R, output: &mut K) -> X
-        requires { IsDue M.rules M.truth (Write frame) }
+        requires due { IsDue M.rules M.truth (Write frame) }
+        requires may { K.may_put output.old }
         ensures right { M.truth.right (Write frame) result }
-        ensures put { K.taken output.new ≡ K.taken output.old ++ M.rules.puts result }
-        ensures text { IsRightText (M.rules.fails result) (M.rules.puts result) (M.truth.text frame) };
+        ensures put { (put : List ℕ) × Takes (K.taken output.old) (K.taken output.new) put × IsRightText (M.rules.fails result) put (M.truth.text frame) }
+        ensures again { M.rules.fails result ≡ false → K.may_put output.new }
+        ensures refused { M.rules.fails result ≡ true → K.has_refused output.new result };
 
     /// Whether the output refused a write.
     fn is_refused(&self, write: &X) -> bool

@@ -5,9 +5,10 @@ mod cells;
 mod crew;
 mod finished;
 mod jobs;
+mod lent;
 mod outlet;
 mod pool;
 
-pub use crew::run_jobs;
-pub use jobs::{Building, Jobs, Layout, Output, Results, Start};
+pub use crew::{Run, run_jobs};
+pub use jobs::{Building, Gate, Jobs, Layout, OpenGate, Output, Results, Start};
 pub use outlet::{Ending, Told};

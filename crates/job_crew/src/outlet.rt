@@ -1,4 +1,5 @@
-ghost use Rattle.std.specs.Prelude.{◌≡◌, ◌++◌};
+ghost use Rattle.std.specs.Prelude.{◌≡◌, true};
+ghost use Rattle.edge_io.specs.Putting.{Takes};
 ghost use Rattle.job_order.specs.Sound.{texts_below};
 ghost use Rattle.job_crew.specs.Runs.{IsEnded};
 
@@ -23,21 +24,33 @@ pub struct Told<X, K> {
     pub output: K,
 }
 
-/// The output, between two writes: it has taken the texts of the frames below a number.
+/// The output, between two writes: it has taken the texts of the frames below a number, and may be written to.
 #[derive(Drop)]
-pub(crate) struct Outlet<X: Drop, M: Meaning<X> + Start, K: Output> {
-    pub(crate) next: u64,
-    pub(crate) output: K,
+pub(crate) struct Outlet<X: Drop, M: Meaning<X> + Start, K: Output<X>> {
+    next: u64,
+    output: K,
     of: PhantomData<M>,
     results: PhantomData<X>,
-    ghost written: { K.taken output ≡ M.taken ++ texts_below M.truth.text next },
 }
 
-impl<X: Drop, M: Meaning<X> + Start, K: Output> Outlet<X, M, K> {
+impl<X: Drop, M: Meaning<X> + Start, K: Output<X>> Model for Outlet<X, M, K> {
+    ghost use Rattle.std.specs.Prelude.{ℕ};
+    ghost use Rattle.edge_io.specs.Putting.{Takes};
+    ghost use Rattle.job_order.specs.Sound.{texts_below};
+
+    ghost Value = { ℕ × K };
+
+    ghost view = { λ o. (o.next, o.output) };
+
+    ghost invariant = { λ o. Takes M.taken (K.taken o.output) (texts_below M.truth.text o.next) × K.may_put o.output };
+}
+
+impl<X: Drop, M: Meaning<X> + Start, K: Output<X>> Outlet<X, M, K> {
     pub(crate) fn new(next: u64, output: K) -> Outlet<X, M, K>
-        requires { K.taken output ≡ M.taken ++ texts_below M.truth.text next }
-        ensures next { result.next ≡ next }
-        ensures output { result.output ≡ output }
+        requires taken { Takes M.taken (K.taken output) (texts_below M.truth.text next) }
+        requires may { K.may_put output }
+        ensures next { result.0 ≡ next }
+        ensures output { result.1 ≡ output }
     {
         Outlet {
             next,
@@ -47,9 +60,17 @@ impl<X: Drop, M: Meaning<X> + Start, K: Output> Outlet<X, M, K> {
         }
     }
 
+    /// Whether this frame's write comes next.
+    pub(crate) fn awaits(&self, frame: u64) -> bool
+        ensures { result ≡ true → frame ≡ self.now.0 }
+    {
+        self.next == frame
+    }
+
     pub(crate) fn output(self) -> K
-        ensures same { result ≡ self.output }
-        ensures taken { K.taken result ≡ M.taken ++ texts_below M.truth.text self.next }
+        ensures same { result ≡ self.1 }
+        ensures taken { Takes M.taken (K.taken result) (texts_below M.truth.text self.0) }
+        ensures may { K.may_put result }
     {
         let Outlet { output, .. } = self;
         output
@@ -58,13 +79,13 @@ impl<X: Drop, M: Meaning<X> + Start, K: Output> Outlet<X, M, K> {
 
 /// The output, and how the run ended.
 #[derive(Drop)]
-pub(crate) struct Over<X: Drop, M: Meaning<X> + Start, K: Output> {
+pub(crate) struct Over<X: Drop, M: Meaning<X> + Start, K: Output<X>> {
     ending: Ending<X>,
     output: K,
     of: PhantomData<M>,
 }
 
-impl<X: Drop, M: Meaning<X> + Start, K: Output> Model for Over<X, M, K> {
+impl<X: Drop, M: Meaning<X> + Start, K: Output<X>> Model for Over<X, M, K> {
     ghost use Rattle.std.specs.Prelude.{ℕ};
     ghost use Rattle.job_crew.specs.Runs.{IsEnded};
 
@@ -72,12 +93,12 @@ impl<X: Drop, M: Meaning<X> + Start, K: Output> Model for Over<X, M, K> {
 
     ghost view = { λ o. 0 };
 
-    ghost invariant = { λ o. IsEnded M.rules M.truth M.taken o.ending (K.taken o.output) };
+    ghost invariant = { λ o. IsEnded M.rules M.truth M.taken o.ending (K.taken o.output) (K.may_put o.output) (K.has_refused o.output) };
 }
 
-impl<X: Drop, M: Meaning<X> + Start, K: Output> Over<X, M, K> {
+impl<X: Drop, M: Meaning<X> + Start, K: Output<X>> Over<X, M, K> {
     pub(crate) fn new(ending: Ending<X>, output: K) -> Over<X, M, K>
-        requires { IsEnded M.rules M.truth M.taken ending (K.taken output) }
+        requires { IsEnded M.rules M.truth M.taken ending (K.taken output) (K.may_put output) (K.has_refused output) }
     {
         Over {
             ending,
@@ -87,7 +108,7 @@ impl<X: Drop, M: Meaning<X> + Start, K: Output> Over<X, M, K> {
     }
 
     pub(crate) fn told(self) -> Told<X, K>
-        ensures { IsEnded M.rules M.truth M.taken result.ending (K.taken result.output) }
+        ensures { IsEnded M.rules M.truth M.taken result.ending (K.taken result.output) (K.may_put result.output) (K.has_refused result.output) }
     {
         let Over { ending, output, .. } = self;
         Told { ending, output }
@@ -96,7 +117,7 @@ impl<X: Drop, M: Meaning<X> + Start, K: Output> Over<X, M, K> {
 
 /// What may lie in a slot of the board.
 #[derive(Drop)]
-pub(crate) enum Content<X: Drop, M: Meaning<X> + Start, K: Output> {
+pub(crate) enum Content<X: Drop, M: Meaning<X> + Start, K: Output<X>> {
     /// The source isn't used here.
     Source,
     Open(Outlet<X, M, K>),
@@ -107,12 +128,12 @@ pub(crate) enum Content<X: Drop, M: Meaning<X> + Start, K: Output> {
 
 /// A value with its slot.
 #[derive(Drop)]
-pub(crate) struct Placed<X: Drop, M: Meaning<X> + Start, K: Output> {
+pub(crate) struct Placed<X: Drop, M: Meaning<X> + Start, K: Output<X>> {
     pub(crate) slot: u8,
     pub(crate) content: Content<X, M, K>,
 }
 
-impl<X: Drop, M: Meaning<X> + Start, K: Output> InSlot for Placed<X, M, K> {
+impl<X: Drop, M: Meaning<X> + Start, K: Output<X>> InSlot for Placed<X, M, K> {
     ghost names = { λ p. p.slot };
 
     fn slot(&self) -> u8 {

@@ -3,7 +3,7 @@ ghost use Rattle.job_order.specs.Segments.{InOrder, IsListed, StandsAt, jobs_in}
 ghost use Rattle.job_order.specs.declared.segment.Segment.TheVariants.{Opening, Build, Last};
 ghost use Rattle.job_order.specs.declared.segment.Shown.{Shown};
 ghost use Rattle.job_crew.specs.Runs.{IsDue};
-ghost use Rattle.job_crew.specs.Code.{AreDue, Fits, Takes, Puts, published_if};
+ghost use Rattle.job_crew.specs.Code.{AreDue, Fits, TakesOut, Puts, published_if};
 
 use job_order::{Mark, Meaning, Segment, job_from};
 use std::alloc::{AllocError, Global};
@@ -100,7 +100,7 @@ impl<X, M: Meaning<X>> Pool<X, M> {
         &self.segments
     }
 
-    /// Takes room for what the next head and close publish, and for an end.
+    /// TakesOut room for what the next head and close publish, and for an end.
     pub(crate) fn make_room(&mut self) -> Result<(), AllocError>
         ensures { self.new ≡ self.old }
     {
@@ -141,9 +141,9 @@ impl<X, M: Meaning<X>> Pool<X, M> {
         }
     }
 
-    /// Takes a job out.
+    /// TakesOut a job out.
     pub(crate) fn remove(&mut self, at: usize) -> Option<JobName>
-        ensures some { IfSome result (λ job. Takes self.old at job self.new) }
+        ensures some { IfSome result (λ job. TakesOut self.old at job self.new) }
         ensures none { IfNone result (self.new ≡ self.old) }
         ensures due { IfSome result (λ job. IsDue M.rules M.truth job) }
     {

@@ -4,7 +4,8 @@ use Rattle.job_crew.specs.Code.{IsSeated}
 use Rattle.job_crew.proofs.crew.run_jobs.Goals as goal
 
 pub given_back-requires : goal.given_back-requires
-given_back-requires g c = (c.new-3.result, ap (λ p. p.content) c.in-Err.ensures.refused.1 ∙ c.placed-outlet.ensures.content, c.new-3.ensures.next)
+given_back-requires g c =
+    (c.new-3.result, ap (λ p. p.content) c.in-Err.ensures.refused.1 ∙ c.placed-outlet.ensures.content, ap g.K.Output.taken c.new-3.ensures.output ∙ c.requires.taken)
 
 pub join_all-requires-clause-seats : goal.join_all-requires-clause-seats
 join_all-requires-clause-seats g c =
