@@ -25,9 +25,9 @@ pub record Fits (segments : List Segment) (s : Segment) : Type 0 where
   pub shown : (f columns rows : ℕ) (shown : Shown) → s ≡ Build f columns rows (Some shown) → shown.frame ≤ f
   pub goes_on : (place f : ℕ) → place + 1 ≡ length segments → slice_get segments place ≡ Some (Last f) → ⊥
 
--- a frame of this layout has the job, which is neither its head nor an end
+-- a frame of this layout has the job, which is no end
 abbrev pub HasCell : Layout → JobName → Type 0
-HasCell layout (Head f) = ⊥
+HasCell layout (Head f) = Unit {0}
 HasCell layout (Column f c) = c < layout.columns
 HasCell layout (Close f) = Unit {0}
 HasCell layout (Rows f c r) = (c < layout.columns) × (r < layout.rows)
