@@ -306,7 +306,7 @@ impl<'a, X: Drop, M: Meaning<X> + Start, K: Output<X>, J: Jobs<X, M, K>, G: Gate
             Some(before) => before.next(alloc, frame, layout, &self.live(before))?,
             None => Frame::first(alloc, frame, layout)?,
         };
-        let made = Arc::new(alloc, made).map_err(|_| AllocError)?;
+        let made = Arc::new(alloc, made)?;
         let mut guard = self.shop.lock(rt);
         guard.frames.make_room()?;
         guard.pool.make_room()?;

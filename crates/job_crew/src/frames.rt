@@ -1,9 +1,11 @@
-ghost use Rattle.std.specs.Prelude.{◌≡◌, ℕ, ◌+◌, ◌*◌, Option, Some, IfSome, slice_get};
+ghost use Rattle.std.specs.Prelude.{◌≡◌, ℕ, ◌+◌, ◌*◌, ◌∷◌, Option, Some, IfSome, IfOk, slice_get};
+ghost use Rattle.std.specs.Arc.{arc_value};
 ghost use Rattle.job_order.specs.declared.segment.Segment.TheVariants.{Build};
 ghost use Rattle.job_order.specs.declared.segment.Shown.{Shown};
+ghost use Rattle.job_crew.specs.Code.{is_named, mapped, kept};
 
 use crate::cells::{FrameCells, frame_of};
-use crate::jobs::{LIVE, Layout};
+use crate::jobs::Layout;
 use job_order::{JobSpan, Meaning, Segment};
 use std::alloc::{AllocError, Global};
 use std::sync::Arc;
@@ -24,13 +26,47 @@ pub(crate) struct Frame<X: Drop, M: Meaning<X>> {
     before: Vec<Shared<FrameCells<X, M>>>,
 }
 
-fn names(live: &[Option<u64>; LIVE], frame: u64) -> bool {
-    for at in 0..LIVE {
-        if live[at] == Some(frame) {
-            return true;
+fn is_live(live: &[Option<u64>], frame: u64) -> bool
+    ensures { result ≡ is_named live.now frame }
+{
+    live.contains(&Some(frame))
+}
+
+fn number_of<X: Drop, M: Meaning<X>>(cells: &Shared<FrameCells<X, M>>) -> u64
+    ensures { result ≡ (arc_value cells.now).frame }
+{
+    cells.frame()
+}
+
+// The cells of a frame, and of those before it that are named as live.
+fn keep<X: Drop, M: Meaning<X>>(
+    alloc: Global,
+    last: &Shared<FrameCells<X, M>>,
+    before: &[Shared<FrameCells<X, M>>],
+    live: &[Option<u64>],
+) -> Result<Vec<Shared<FrameCells<X, M>>>, AllocError>
+    ensures { IfOk result (λ cells. mapped cells.items (λ c. (arc_value c).frame) ≡ (arc_value last.now).frame ∷ kept live.now (mapped before.now (λ c. (arc_value c).frame))) }
+{
+    let mut cells = Vec::new(alloc);
+    cells.push(Arc::try_clone(last)?)?;
+    for at in 0..before.len() {
+        let next = &before[at];
+        if is_live(live, number_of(next)) {
+            cells.push(Arc::try_clone(next)?)?;
         }
     }
-    false
+    Ok(cells)
+}
+
+fn blank<X: Drop, M: Meaning<X>>(
+    alloc: Global,
+    frame: u64,
+    layout: Layout,
+) -> Result<Shared<FrameCells<X, M>>, AllocError>
+    ensures { IfOk result (λ cells. (arc_value cells).frame ≡ frame) }
+{
+    let cells = FrameCells::new(alloc, frame, layout)?;
+    Ok(Arc::new(alloc, cells)?)
 }
 
 impl<X: Drop, M: Meaning<X>> Frame<X, M> {
@@ -40,29 +76,26 @@ impl<X: Drop, M: Meaning<X>> Frame<X, M> {
         frame: u64,
         layout: Layout,
     ) -> Result<Frame<X, M>, AllocError> {
-        let cells = FrameCells::new(alloc, frame, layout)?;
         Ok(Frame {
-            own: Arc::new(alloc, cells).map_err(|_| AllocError)?,
+            own: blank(alloc, frame, layout)?,
             before: Vec::new(alloc),
         })
     }
 
-    /// The frame behind this one, of which the close has named what is live.
+    /// The frame behind this one. It keeps this one, and of those that this one keeps what the close has named as live.
     pub(crate) fn next(
         &self,
         alloc: Global,
         frame: u64,
         layout: Layout,
-        live: &[Option<u64>; LIVE],
-    ) -> Result<Frame<X, M>, AllocError> {
-        let mut next = Frame::first(alloc, frame, layout)?;
-        next.before.push(Arc::try_clone(&self.own)?)?;
-        for cells in &self.before {
-            if names(live, cells.frame()) {
-                next.before.push(Arc::try_clone(cells)?)?;
-            }
-        }
-        Ok(next)
+        live: &[Option<u64>],
+    ) -> Result<Frame<X, M>, AllocError>
+        ensures { IfOk result (λ f. mapped f.before.items (λ c. (arc_value c).frame) ≡ (arc_value self.now.own).frame ∷ kept live.now (mapped self.now.before.items (λ c. (arc_value c).frame))) }
+    {
+        Ok(Frame {
+            own: blank(alloc, frame, layout)?,
+            before: keep(alloc, &self.own, &self.before, live)?,
+        })
     }
 
     pub(crate) fn number(&self) -> u64 {
