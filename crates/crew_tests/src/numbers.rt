@@ -131,11 +131,11 @@ impl<'a, const FRAMES: u64, const COLUMNS: u32, const ROWS: u32> Jobs<
                 frame
             }
             JobName::Close { frame } => {
-                see_columns::<FRAMES, COLUMNS, ROWS, R>(results, frame);
+                see_columns::<Numbers<FRAMES, COLUMNS, ROWS>, R>(results, frame, COLUMNS);
                 frame
             }
             JobName::Rows { frame, column, row } => {
-                see_slots::<FRAMES, COLUMNS, ROWS, R>(results, frame);
+                see_slots::<Numbers<FRAMES, COLUMNS, ROWS>, R>(results, frame);
                 if row > 0 {
                     results
                         .result(JobName::Rows {
@@ -149,7 +149,7 @@ impl<'a, const FRAMES: u64, const COLUMNS: u32, const ROWS: u32> Jobs<
                 }
             }
             JobName::Filter { frame, row } => {
-                see_row::<FRAMES, COLUMNS, ROWS, R>(results, frame, row);
+                see_row::<Numbers<FRAMES, COLUMNS, ROWS>, R>(results, frame, row, COLUMNS);
                 frame
             }
             JobName::End { frame } => {
@@ -193,39 +193,30 @@ fn span(frame: u64, last: u32) -> BandSpan {
 }
 
 // A close takes the results of all tile columns.
-fn see_columns<
-    'a,
-    const FRAMES: u64,
-    const COLUMNS: u32,
-    const ROWS: u32,
-    R: Results<Number<'a>, Numbers<FRAMES, COLUMNS, ROWS>>,
->(results: &R, frame: u64) {
-    for column in 0..COLUMNS {
+fn see_columns<'a, M: Meaning<Number<'a>>, R: Results<Number<'a>, M>>(
+    results: &R,
+    frame: u64,
+    columns: u32,
+) {
+    for column in 0..columns {
         results.result(JobName::Column { frame, column });
     }
 }
 
 // A filter takes a superblock row in all tile columns.
-fn see_row<
-    'a,
-    const FRAMES: u64,
-    const COLUMNS: u32,
-    const ROWS: u32,
-    R: Results<Number<'a>, Numbers<FRAMES, COLUMNS, ROWS>>,
->(results: &R, frame: u64, row: u32) {
-    for column in 0..COLUMNS {
+fn see_row<'a, M: Meaning<Number<'a>>, R: Results<Number<'a>, M>>(
+    results: &R,
+    frame: u64,
+    row: u32,
+    columns: u32,
+) {
+    for column in 0..columns {
         results.result(JobName::Rows { frame, column, row });
     }
 }
 
 // A superblock row of a column takes results of the frames that slots hold.
-fn see_slots<
-    'a,
-    const FRAMES: u64,
-    const COLUMNS: u32,
-    const ROWS: u32,
-    R: Results<Number<'a>, Numbers<FRAMES, COLUMNS, ROWS>>,
->(results: &R, frame: u64) {
+fn see_slots<'a, M: Meaning<Number<'a>>, R: Results<Number<'a>, M>>(results: &R, frame: u64) {
     let Some(before) = frame.checked_sub(1) else {
         return;
     };
