@@ -1,9 +1,13 @@
 //! Tests of the crew: runs in memory by some workers, to their end and to a refused write.
 #![tactic(auto)]
 
+mod gate;
 mod numbers;
+mod tally;
 
-pub use numbers::{Counter, NumberJobs, Numbers, Paper};
+pub use gate::Counter;
+pub use numbers::{NumberJobs, Numbers, Paper};
+pub use tally::{Number, Tally};
 
 #[cfg(test)]
 mod tests;

@@ -1,8 +1,8 @@
 ghost use Rattle.std.specs.Prelude.{◌≡◌};
 
-use job_crew::{Building, Gate, Jobs, Layout, Output, Results, Start};
+use crate::tally::{Number, Tally};
+use job_crew::{Building, Jobs, LIVE, Layout, Output, Results, Start};
 use job_order::{Meaning, Shown};
-use std::sync::atomic::{AtomicU64, Ordering};
 use vp9_types::{BandSpan, JobName};
 
 /// What was written: a number for each frame. A write that it refuses tears it.
@@ -12,7 +12,7 @@ pub struct Paper {
     pub is_torn: bool,
 }
 
-impl Output<u64> for Paper {
+impl<'a> Output<Number<'a>> for Paper {
     ghost use Rattle.std.specs.Prelude.{◌≡◌, true, false, Some};
 
     ghost taken = { λ p. Some p.numbers.items };
@@ -22,27 +22,10 @@ impl Output<u64> for Paper {
     ghost has_refused = { λ p x. p.is_torn ≡ true };
 }
 
-/// Counts the jobs that have begun, and those that have ended.
-#[derive(Drop)]
-pub struct Counter {
-    pub begun: AtomicU64,
-    pub ended: AtomicU64,
-}
-
-impl Gate for Counter {
-    fn enter(&self, _job: JobName) {
-        self.begun.fetch_add(1, Ordering::SeqCst);
-    }
-
-    fn leave(&self, _job: JobName) {
-        self.ended.fetch_add(1, Ordering::SeqCst);
-    }
-}
-
 /// A run of so many frames, each of so many tile columns and superblock rows.
 pub struct Numbers<const FRAMES: u64, const COLUMNS: u32, const ROWS: u32>;
 
-impl<const FRAMES: u64, const COLUMNS: u32, const ROWS: u32> Meaning<u64>
+impl<'a, const FRAMES: u64, const COLUMNS: u32, const ROWS: u32> Meaning<Number<'a>>
     for Numbers<FRAMES, COLUMNS, ROWS> {
     ghost use Rattle.crew_tests.specs.Numbers.{number_rules, number_truth};
 
@@ -58,23 +41,33 @@ impl<const FRAMES: u64, const COLUMNS: u32, const ROWS: u32> Start
     ghost taken = { Some [] };
 }
 
-/// Does the jobs of such a run. The output refuses one frame, and there is no memory for another.
+/// Does the jobs of such a run. The output refuses one frame, and there is no memory for another. A tally counts the results.
 #[derive(Drop)]
-pub struct NumberJobs {
+pub struct NumberJobs<'a> {
     pub refused: u64,
     pub starved: u64,
+    pub tally: &'a Tally,
 }
 
-impl<const FRAMES: u64, const COLUMNS: u32, const ROWS: u32> Jobs<
-    u64,
+// What the slots hold behind a frame: one the frame itself, the next what had an even number last, and so on to the multiples of 128.
+fn slots_after(frame: u64) -> [Option<u64>; LIVE] {
+    let mut slots = [None; LIVE];
+    for slot in 0..8u32 {
+        slots[slot as usize] = Some((frame >> slot) << slot);
+    }
+    slots
+}
+
+impl<'a, const FRAMES: u64, const COLUMNS: u32, const ROWS: u32> Jobs<
+    Number<'a>,
     Numbers<FRAMES, COLUMNS, ROWS>,
     Paper,
-> for NumberJobs {
-    fn layout(&self, head: &u64) -> Option<Layout> {
-        if *head < FRAMES {
+> for NumberJobs<'a> {
+    fn layout(&self, head: &Number<'a>) -> Option<Layout> {
+        if head.value() < FRAMES {
             Some(Layout {
                 columns: COLUMNS,
-                rows: if *head == self.starved {
+                rows: if head.value() == self.starved {
                     u32::MAX
                 } else {
                     ROWS
@@ -85,19 +78,23 @@ impl<const FRAMES: u64, const COLUMNS: u32, const ROWS: u32> Jobs<
         }
     }
 
-    fn building(&self, close: &u64) -> Option<Building> {
+    fn building(&self, close: &Number<'a>) -> Option<Building> {
         Some(Building {
             columns: COLUMNS,
             rows: ROWS,
             shown: Some(Shown {
-                frame: *close,
+                frame: close.value(),
                 bands: ROWS,
             }),
         })
     }
 
-    // The bands of the frame before, to the one below the row.
-    fn reads<R: Results<u64, Numbers<FRAMES, COLUMNS, ROWS>>>(
+    fn live(&self, close: &Number<'a>) -> [Option<u64>; LIVE] {
+        slots_after(close.value())
+    }
+
+    // The bands of three frames before it, to the one below the row: the last one, and two that slots hold.
+    fn reads<R: Results<Number<'a>, Numbers<FRAMES, COLUMNS, ROWS>>>(
         &self,
         frame: u64,
         _column: u32,
@@ -107,23 +104,24 @@ impl<const FRAMES: u64, const COLUMNS: u32, const ROWS: u32> Jobs<
         if frame < 1 {
             return [None, None, None];
         }
-        let span = BandSpan {
-            frame: frame - 1,
-            first: 0,
-            last: if row < ROWS - 1 { row + 1 } else { row },
-        };
-        [Some(span), None, None]
+        let last = if row < ROWS - 1 { row + 1 } else { row };
+        let before = frame - 1;
+        [
+            Some(span(before, last)),
+            Some(span((before >> 4) << 4, last)),
+            Some(span((before >> 7) << 7, last)),
+        ]
     }
 
-    fn run<R: Results<u64, Numbers<FRAMES, COLUMNS, ROWS>>>(
+    fn run<R: Results<Number<'a>, Numbers<FRAMES, COLUMNS, ROWS>>>(
         &self,
         job: JobName,
         results: &R,
-    ) -> u64 {
-        match job {
+    ) -> Number<'a> {
+        let value = match job {
             JobName::Head { frame } => {
                 if frame > 0 {
-                    *results.result(JobName::Close { frame: frame - 1 }) + 1
+                    results.result(JobName::Close { frame: frame - 1 }).value() + 1
                 } else {
                     0
                 }
@@ -133,22 +131,25 @@ impl<const FRAMES: u64, const COLUMNS: u32, const ROWS: u32> Jobs<
                 frame
             }
             JobName::Close { frame } => {
-                see_columns::<FRAMES, COLUMNS, ROWS, R>(results, frame);
+                see_columns::<Numbers<FRAMES, COLUMNS, ROWS>, R>(results, frame, COLUMNS);
                 frame
             }
             JobName::Rows { frame, column, row } => {
+                see_slots::<Numbers<FRAMES, COLUMNS, ROWS>, R>(results, frame);
                 if row > 0 {
-                    *results.result(JobName::Rows {
-                        frame,
-                        column,
-                        row: row - 1,
-                    })
+                    results
+                        .result(JobName::Rows {
+                            frame,
+                            column,
+                            row: row - 1,
+                        })
+                        .value()
                 } else {
-                    *results.result(JobName::Close { frame })
+                    results.result(JobName::Close { frame }).value()
                 }
             }
             JobName::Filter { frame, row } => {
-                see_row::<FRAMES, COLUMNS, ROWS, R>(results, frame, row);
+                see_row::<Numbers<FRAMES, COLUMNS, ROWS>, R>(results, frame, row, COLUMNS);
                 frame
             }
             JobName::End { frame } => {
@@ -156,52 +157,72 @@ impl<const FRAMES: u64, const COLUMNS: u32, const ROWS: u32> Jobs<
                 frame
             }
             JobName::Write { .. } => unreachable!(),
-        }
+        };
+        Number::new(self.tally, value)
     }
 
-    fn starved(&self, _frame: u64) -> u64 {
-        u64::MAX
+    fn starved(&self, _frame: u64) -> Number<'a> {
+        Number::new(self.tally, u64::MAX)
     }
 
-    fn write<R: Results<u64, Numbers<FRAMES, COLUMNS, ROWS>>>(
+    fn write<R: Results<Number<'a>, Numbers<FRAMES, COLUMNS, ROWS>>>(
         &self,
         frame: u64,
         results: &R,
         output: &mut Paper,
-    ) -> u64 {
+    ) -> Number<'a> {
         results.result(JobName::Close { frame });
         if frame == self.refused || frame == u64::MAX || output.numbers.push(frame).is_err() {
             output.is_torn = true;
-            return u64::MAX;
+            return Number::new(self.tally, u64::MAX);
         }
-        frame
+        Number::new(self.tally, frame)
     }
 
-    fn is_refused(&self, write: &u64) -> bool {
-        *write == u64::MAX
+    fn is_refused(&self, write: &Number<'a>) -> bool {
+        write.value() == u64::MAX
+    }
+}
+
+fn span(frame: u64, last: u32) -> BandSpan {
+    BandSpan {
+        frame,
+        first: 0,
+        last,
     }
 }
 
 // A close takes the results of all tile columns.
-fn see_columns<
-    const FRAMES: u64,
-    const COLUMNS: u32,
-    const ROWS: u32,
-    R: Results<u64, Numbers<FRAMES, COLUMNS, ROWS>>,
->(results: &R, frame: u64) {
-    for column in 0..COLUMNS {
+fn see_columns<'a, M: Meaning<Number<'a>>, R: Results<Number<'a>, M>>(
+    results: &R,
+    frame: u64,
+    columns: u32,
+) {
+    for column in 0..columns {
         results.result(JobName::Column { frame, column });
     }
 }
 
 // A filter takes a superblock row in all tile columns.
-fn see_row<
-    const FRAMES: u64,
-    const COLUMNS: u32,
-    const ROWS: u32,
-    R: Results<u64, Numbers<FRAMES, COLUMNS, ROWS>>,
->(results: &R, frame: u64, row: u32) {
-    for column in 0..COLUMNS {
+fn see_row<'a, M: Meaning<Number<'a>>, R: Results<Number<'a>, M>>(
+    results: &R,
+    frame: u64,
+    row: u32,
+    columns: u32,
+) {
+    for column in 0..columns {
         results.result(JobName::Rows { frame, column, row });
+    }
+}
+
+// A superblock row of a column takes results of the frames that slots hold.
+fn see_slots<'a, M: Meaning<Number<'a>>, R: Results<Number<'a>, M>>(results: &R, frame: u64) {
+    let Some(before) = frame.checked_sub(1) else {
+        return;
+    };
+    for slot in slots_after(before) {
+        if let Some(frame) = slot {
+            results.result(JobName::Close { frame });
+        }
     }
 }

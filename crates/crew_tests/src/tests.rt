@@ -1,7 +1,7 @@
 ghost use Rattle.std.specs.Prelude.{◌≤◌, ◌≡◌};
 
 use super::*;
-use job_crew::{Ending, OpenGate, Run, run_jobs};
+use job_crew::{Ending, Gate, OpenGate, Run, run_jobs};
 use std::alloc::Global;
 use std::sync::Wait;
 use std::sync::atomic::{AtomicU64, Ordering};
@@ -10,7 +10,7 @@ use std::thread::Threads;
 
 const NEVER: u64 = 1_000_000;
 
-fn last_of(ending: &Ending<u64>) -> u64 {
+fn last_of(ending: &Ending<Number<'_>>) -> u64 {
     match ending {
         Ending::Whole { frame, .. } | Ending::Refused { frame, .. } => *frame,
     }
@@ -29,21 +29,29 @@ fn are_below(numbers: &[u64], all: u64) -> bool {
     true
 }
 
-// Whether a run writes the numbers of all frames below the one at which it ends, by so many workers.
-fn is_right<const FRAMES: u64, const COLUMNS: u32, const ROWS: u32, R: Threads + Wait + Sync>(
-    rt: &R,
-    alloc: Global,
-    jobs: NumberJobs,
-    workers: u8,
-    window: u8,
-) -> bool
+// How many jobs a frame has.
+fn jobs_of(columns: u32, rows: u32) -> u64 {
+    let (columns, rows) = (u64::from(columns), u64::from(rows));
+    columns
+        .saturating_mul(rows)
+        .saturating_add(columns + rows + 3)
+}
+
+// Whether a run writes the numbers of all frames below the one at which it ends, and keeps the results of few frames.
+fn is_right<
+    const FRAMES: u64,
+    const COLUMNS: u32,
+    const ROWS: u32,
+    G: Gate + Sync,
+    R: Threads + Wait + Sync,
+>(rt: &R, alloc: Global, jobs: &NumberJobs<'_>, gate: &G, workers: u8, window: u8) -> bool
     requires workers { (1 ≤ workers) × (workers ≤ 64) }
     requires window { (2 ≤ window) × (window ≤ 16) }
 {
     let run = Run {
         alloc,
-        jobs: &jobs,
-        gate: &OpenGate,
+        jobs,
+        gate,
         workers,
         window,
     };
@@ -51,64 +59,70 @@ fn is_right<const FRAMES: u64, const COLUMNS: u32, const ROWS: u32, R: Threads +
         numbers: Vec::new(alloc),
         is_torn: false,
     };
-    let Ok(told) = run_jobs::<u64, Numbers<FRAMES, COLUMNS, ROWS>, Paper, NumberJobs, OpenGate, R>(
-        rt, &run, output,
-    ) else {
+    let Ok(told) = run_jobs::<
+        Number<'_>,
+        Numbers<FRAMES, COLUMNS, ROWS>,
+        Paper,
+        NumberJobs<'_>,
+        G,
+        R,
+    >(rt, &run, output) else {
         return false;
     };
     let all = FRAMES.min(jobs.refused).min(jobs.starved);
     let is_refused = matches!(&told.ending, Ending::Refused { .. });
+    let kept = (u64::from(window) + 8 + 2).saturating_mul(jobs_of(COLUMNS, ROWS));
     last_of(&told.ending) == all
         && is_refused == told.output.is_torn
         && are_below(&told.output.numbers, all)
+        && jobs.tally.most() <= kept
 }
 
-// A gate sees each job once: 14 of each frame, and those of the last head and of the end.
-#[test]
-fn a_gate_sees_each_job(rt: HostRuntime) -> Result<(), Fail> {
-    for workers in [1, 4u8] {
-        let jobs = to_the_end();
-        let gate = Counter {
-            begun: AtomicU64::new(0),
-            ended: AtomicU64::new(0),
-        };
-        let run = Run {
-            alloc: rt.alloc(),
-            jobs: &jobs,
-            gate: &gate,
-            workers,
-            window: 4,
-        };
-        let output = Paper {
-            numbers: Vec::new(rt.alloc()),
-            is_torn: false,
-        };
-        let told = run_jobs::<u64, Numbers<100, 2, 3>, Paper, NumberJobs, Counter, HostRuntime>(
-            &rt, &run, output,
-        );
-        assert!(rt; told.is_ok());
-        assert_eq!(rt; gate.begun.load(Ordering::SeqCst), 1402, "by {workers}");
-        assert_eq!(rt; gate.ended.load(Ordering::SeqCst), 1402, "by {workers}");
-    }
-    Ok(())
-}
-
-fn to_the_end() -> NumberJobs {
+fn until(tally: &Tally, refused: u64, starved: u64) -> NumberJobs<'_> {
     NumberJobs {
-        refused: NEVER,
-        starved: NEVER,
+        refused,
+        starved,
+        tally,
     }
+}
+
+// Whether a run by some workers is right to its end, and leaves no result behind.
+fn goes_to_the_end<
+    const FRAMES: u64,
+    const COLUMNS: u32,
+    const ROWS: u32,
+    R: Threads + Wait + Sync,
+>(rt: &R, alloc: Global, workers: u8, window: u8) -> bool
+    requires workers { (1 ≤ workers) × (workers ≤ 64) }
+    requires window { (2 ≤ window) × (window ≤ 16) }
+{
+    let tally = Tally::new();
+    let jobs = until(&tally, NEVER, NEVER);
+    is_right::<FRAMES, COLUMNS, ROWS, OpenGate, R>(rt, alloc, &jobs, &OpenGate, workers, window)
+        && tally.there() == 0
 }
 
 #[test]
 fn tiny_frames_by_some_workers(rt: HostRuntime) -> Result<(), Fail> {
     for workers in [1, 2, 4, 7u8] {
         assert!(rt;
-            is_right::<300, 2, 3, HostRuntime>(&rt, rt.alloc(), to_the_end(), workers, 4),
+            goes_to_the_end::<300, 2, 3, HostRuntime>(&rt, rt.alloc(), workers, 4),
             "by {workers}"
         );
         assert!(rt;
-            is_right::<500, 1, 1, HostRuntime>(&rt, rt.alloc(), to_the_end(), workers, 2),
+            goes_to_the_end::<500, 1, 1, HostRuntime>(&rt, rt.alloc(), workers, 2),
+            "by {workers}"
+        );
+    }
+    Ok(())
+}
+
+// A long run keeps no more than a short one.
+#[test]
+fn many_frames(rt: HostRuntime) -> Result<(), Fail> {
+    for workers in [1, 4u8] {
+        assert!(rt;
+            goes_to_the_end::<3000, 1, 2, HostRuntime>(&rt, rt.alloc(), workers, 4),
             "by {workers}"
         );
     }
@@ -118,8 +132,28 @@ fn tiny_frames_by_some_workers(rt: HostRuntime) -> Result<(), Fail> {
 // More workers than jobs that are ready, and more jobs in a frame than the pool has room for.
 #[test]
 fn many_workers_and_wide_frames(rt: HostRuntime) -> Result<(), Fail> {
-    assert!(rt; is_right::<40, 4, 17, HostRuntime>(&rt, rt.alloc(), to_the_end(), 64, 16));
-    assert!(rt; is_right::<3, 79, 17, HostRuntime>(&rt, rt.alloc(), to_the_end(), 3, 3));
+    assert!(rt; goes_to_the_end::<40, 4, 17, HostRuntime>(&rt, rt.alloc(), 64, 16));
+    assert!(rt; goes_to_the_end::<3, 79, 17, HostRuntime>(&rt, rt.alloc(), 3, 3));
+    Ok(())
+}
+
+// A gate sees each job once: 14 of each frame, and those of the last head and of the end.
+#[test]
+fn a_gate_sees_each_job(rt: HostRuntime) -> Result<(), Fail> {
+    for workers in [1, 4u8] {
+        let tally = Tally::new();
+        let jobs = until(&tally, NEVER, NEVER);
+        let gate = Counter {
+            begun: AtomicU64::new(0),
+            ended: AtomicU64::new(0),
+        };
+        assert!(rt;
+            is_right::<100, 2, 3, Counter, HostRuntime>(&rt, rt.alloc(), &jobs, &gate, workers, 4,),
+            "by {workers}"
+        );
+        assert_eq!(rt; gate.begun.load(Ordering::SeqCst), 1402, "by {workers}");
+        assert_eq!(rt; gate.ended.load(Ordering::SeqCst), 1402, "by {workers}");
+    }
     Ok(())
 }
 
@@ -127,12 +161,17 @@ fn many_workers_and_wide_frames(rt: HostRuntime) -> Result<(), Fail> {
 fn a_refusal_ends_the_run(rt: HostRuntime) -> Result<(), Fail> {
     for workers in [1, 2, 16u8] {
         for refused in [0, 1, 7, 40u64] {
-            let jobs = NumberJobs {
-                refused,
-                starved: NEVER,
-            };
+            let tally = Tally::new();
+            let jobs = until(&tally, refused, NEVER);
             assert!(rt;
-                is_right::<50, 2, 3, HostRuntime>(&rt, rt.alloc(), jobs, workers, 4),
+                is_right::<50, 2, 3, OpenGate, HostRuntime>(
+                    &rt,
+                    rt.alloc(),
+                    &jobs,
+                    &OpenGate,
+                    workers,
+                    4,
+                ),
                 "by {workers} at {refused}"
             );
         }
@@ -144,7 +183,7 @@ fn a_refusal_ends_the_run(rt: HostRuntime) -> Result<(), Fail> {
 fn no_frames(rt: HostRuntime) -> Result<(), Fail> {
     for workers in [1, 2, 16u8] {
         assert!(rt;
-            is_right::<0, 1, 1, HostRuntime>(&rt, rt.alloc(), to_the_end(), workers, 2),
+            goes_to_the_end::<0, 1, 1, HostRuntime>(&rt, rt.alloc(), workers, 2),
             "by {workers}"
         );
     }
@@ -156,12 +195,17 @@ fn no_frames(rt: HostRuntime) -> Result<(), Fail> {
 fn want_of_memory_ends_the_run(rt: HostRuntime) -> Result<(), Fail> {
     for workers in [1, 2, 16u8] {
         for starved in [0, 2u64] {
-            let jobs = NumberJobs {
-                refused: NEVER,
-                starved,
-            };
+            let tally = Tally::new();
+            let jobs = until(&tally, NEVER, starved);
             assert!(rt;
-                is_right::<50, 2000, 1, HostRuntime>(&rt, rt.alloc(), jobs, workers, 4),
+                is_right::<50, 2000, 1, OpenGate, HostRuntime>(
+                    &rt,
+                    rt.alloc(),
+                    &jobs,
+                    &OpenGate,
+                    workers,
+                    4,
+                ),
                 "by {workers} at {starved}"
             );
         }

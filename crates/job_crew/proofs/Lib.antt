@@ -1,3 +1,4 @@
 pub mod Due
+pub mod Kept
 pub mod Pools
 pub mod Written

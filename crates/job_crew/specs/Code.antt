@@ -1,6 +1,7 @@
 -- What the crew keeps of the jobs and of its seats.
-use Rattle.std.specs.Prelude.{◌≡◌, ℕ, ◌+◌, ◌<◌, ◌≤◌, Bool, true, false, List, [], ◌∷◌, ◌++◌, length, Some, All, slice_get}
-use Rattle.std.specs.List.{remove}
+use Rattle.std.specs.Prelude.{◌≡◌, ℕ, ◌+◌, ◌<◌, ◌≤◌, Bool, true, false, List, [], ◌∷◌, ◌++◌, length, map, Option, Some, All, slice_get, nat_eq}
+use Rattle.std.specs.List.{remove, filter, list_any}
+use Rattle.std.specs.Option.{option_eq}
 use Rattle.vp9_types.specs.declared.job.JobName.{JobName}
 use Rattle.vp9_types.specs.declared.job.JobName.TheVariants.{Head, Column, Close, Rows, Filter, Write, End}
 use Rattle.job_order.specs.declared.segment.Segment.{Segment}
@@ -25,9 +26,9 @@ pub record Fits (segments : List Segment) (s : Segment) : Type 0 where
   pub shown : (f columns rows : ℕ) (shown : Shown) → s ≡ Build f columns rows (Some shown) → shown.frame ≤ f
   pub goes_on : (place f : ℕ) → place + 1 ≡ length segments → slice_get segments place ≡ Some (Last f) → ⊥
 
--- a frame of this layout has the job, which is neither its head nor an end
+-- a frame of this layout has the job, which is no end
 abbrev pub HasCell : Layout → JobName → Type 0
-HasCell layout (Head f) = ⊥
+HasCell layout (Head f) = Unit {0}
 HasCell layout (Column f c) = c < layout.columns
 HasCell layout (Close f) = Unit {0}
 HasCell layout (Rows f c r) = (c < layout.columns) × (r < layout.rows)
@@ -76,3 +77,13 @@ IsSeatedStill old new = (new.board ≡ old.board) × (new.view.has ≡ []) × (n
 -- after it has taken the outlet
 abbrev pub IsAway : SeatParts → SeatParts → Type 0
 IsAway old new = (new.board ≡ old.board) × (new.view.has ≡ 1 ∷ []) × (new.view.leads ≡ old.view.leads) × (new.view.out ≡ old.view.out)
+
+abbrev pub mapped : {A B : Type 0} → List A → (A → B) → List B
+mapped xs f = map f xs
+
+-- those of the frames that are named as live, in their order
+abbrev pub is_named : List (Option ℕ) → ℕ → Bool
+is_named live frame = list_any (λ name. option_eq nat_eq name (Some frame)) live
+
+abbrev pub kept : List (Option ℕ) → List ℕ → List ℕ
+kept live frames = filter (is_named live) frames

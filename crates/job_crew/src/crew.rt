@@ -7,8 +7,10 @@ ghost use Rattle.job_crew.specs.Runs.{IsDue, IsEnded};
 ghost use Rattle.edge_io.specs.Putting.{Takes};
 ghost use Rattle.job_crew.specs.Code.{AreDue, TakesOut, IsSeated, IsSeatedStill, IsAway};
 
-use crate::cells::Cells;
-use crate::jobs::{Gate, Jobs, Layout, Output, Start};
+use crate::cells::Cell;
+use crate::finished::Finished;
+use crate::frames::{Frame, Frames, Held, Shared};
+use crate::jobs::{Gate, Jobs, LIVE, Layout, Output, Start};
 use crate::lent::Lent;
 use crate::outlet::{Content, Ending, Outlet, Over, Placed, Told};
 use crate::pool::Pool;
@@ -16,7 +18,7 @@ use job_order::{Meaning, Segment, needs_of};
 use progress_board::{Board, Refused, Seat};
 use std::alloc::{AllocError, Global};
 use std::marker::PhantomData;
-use std::sync::{Condvar, Mutex, Wait};
+use std::sync::{Arc, Condvar, Mutex, OnceLock, Wait};
 use std::thread;
 use std::thread::Threads;
 use vp9_types::{BandSpan, JobName};
@@ -43,12 +45,34 @@ pub struct Run<'a, J, G> {
     pub window: u8,
 }
 
+// What lies under the lock: jobs, and what they are lent.
+#[derive(Drop)]
+struct Shop<X: Drop, M: Meaning<X>> {
+    pool: Pool<X, M>,
+    frames: Frames<X, M>,
+}
+
+// A job to do, and the frame whose results it may see. Nothing is before the first head, or before an end at it.
+#[derive(Drop)]
+struct Begun<X: Drop, M: Meaning<X>> {
+    job: JobName,
+    held: Held<X, M>,
+}
+
+fn seen<X: Drop, M: Meaning<X>>(held: &Held<X, M>) -> Option<&Frame<X, M>> {
+    match held {
+        Some(frame) => Some(frame),
+        None => None,
+    }
+}
+
 // What the workers share.
 #[derive(Drop)]
 struct Crew<'a, X: Drop, M: Meaning<X> + Start, K: Output<X>, J, G> {
     run: &'a Run<'a, J, G>,
-    cells: &'a Cells<X, M>,
-    pool: &'a Mutex<Pool<X, M>>,
+    shop: &'a Mutex<Shop<X, M>>,
+    // the head's result that says that the run ends
+    last: &'a Cell<X, M>,
     moved: &'a Condvar,
     board: &'a Board<Placed<X, M, K>>,
 }
@@ -74,12 +98,30 @@ impl<'a, X: Drop, M: Meaning<X> + Start, K: Output<X>, J: Jobs<X, M, K>, G: Gate
     J,
     G,
 > {
+    // What a job is lent that may see a frame's results.
+    fn lent<'r, 'c, 'f, R>(
+        &'c self,
+        rt: &'r R,
+        frame: Option<&'f Frame<X, M>>,
+    ) -> Lent<'r, 'c, 'f, X, M, K, J, R> {
+        Lent {
+            rt,
+            jobs: self.run.jobs,
+            frame,
+            last: self.last,
+            outputs: PhantomData,
+        }
+    }
+
     // What a job reads of other frames.
-    fn reads<R: Wait>(&self, lent: &Lent<'_, X, M, K, J, R>, job: JobName) -> [Option<BandSpan>; 3]
+    fn reads<R: Wait>(&self, rt: &R, frames: &Frames<X, M>, job: JobName) -> [Option<BandSpan>; 3]
         requires due { IsDue M.rules M.truth job }
     {
         match job {
-            JobName::Rows { frame, column, row } => self.run.jobs.reads(frame, column, row, lent),
+            JobName::Rows { frame, column, row } => {
+                let lent = self.lent(rt, frames.see(job));
+                self.run.jobs.reads(frame, column, row, &lent)
+            }
             _ => NO_BANDS,
         }
     }
@@ -87,7 +129,8 @@ impl<'a, X: Drop, M: Meaning<X> + Start, K: Output<X>, J: Jobs<X, M, K>, G: Gate
     // Whether the needs of a job are finished. What it reads is asked for once the jobs are that it needs by name, its close among them.
     fn is_ready<R: Wait>(
         &self,
-        lent: &Lent<'_, X, M, K, J, R>,
+        rt: &R,
+        frames: &Frames<X, M>,
         segments: &[Segment],
         job: JobName,
     ) -> bool
@@ -96,25 +139,26 @@ impl<'a, X: Drop, M: Meaning<X> + Start, K: Output<X>, J: Jobs<X, M, K>, G: Gate
         requires due { IsDue M.rules M.truth job }
     {
         let [first, second] = needs_of(segments, self.run.window, job, NO_BANDS).jobs;
-        if !self.cells.are_finished(first) || !self.cells.are_finished(second) {
+        if !frames.are_finished(first) || !frames.are_finished(second) {
             return false;
         }
-        let reads = self.reads(lent, job);
+        let reads = self.reads(rt, frames, job);
         let [last, golden, altref] = needs_of(segments, self.run.window, job, reads).bands;
-        self.cells.are_published(segments, last)
-            && self.cells.are_published(segments, golden)
-            && self.cells.are_published(segments, altref)
+        frames.are_published(segments, last)
+            && frames.are_published(segments, golden)
+            && frames.are_published(segments, altref)
     }
 
     // The place in the pool of the first job that is ready.
     fn ready_place<R: Wait>(
         &self,
-        lent: &Lent<'_, X, M, K, J, R>,
+        rt: &R,
+        frames: &Frames<X, M>,
         pool: &Pool<X, M>,
     ) -> Option<usize> {
         for at in 0..pool.len() {
             if let Some(job) = pool.name(at)
-                && self.is_ready(lent, pool.segments(), job)
+                && self.is_ready(rt, frames, pool.segments(), job)
             {
                 return Some(at);
             }
@@ -125,21 +169,23 @@ impl<'a, X: Drop, M: Meaning<X> + Start, K: Output<X>, J: Jobs<X, M, K>, G: Gate
     // The first job of the pool that is ready, which is taken out of it.
     fn take_ready<R: Wait>(
         &self,
-        lent: &Lent<'_, X, M, K, J, R>,
+        rt: &R,
+        frames: &Frames<X, M>,
         pool: &mut Pool<X, M>,
     ) -> Option<JobName>
         ensures some { IfSome result (λ job. (at : ℕ) × TakesOut pool.old at job pool.new) }
         ensures none { IfNone result (pool.new ≡ pool.old) }
         ensures due { IfSome result (λ job. IsDue M.rules M.truth job) }
     {
-        let at = self.ready_place(lent, pool)?;
+        let at = self.ready_place(rt, frames, pool)?;
         pool.remove(at)
     }
 
     // Draws a ticket, and takes its job where that is ready.
     fn draw<R: Wait>(
         &self,
-        lent: &Lent<'_, X, M, K, J, R>,
+        rt: &R,
+        frames: &Frames<X, M>,
         pool: &mut Pool<X, M>,
         seat: &mut Seat<Placed<X, M, K>>,
     ) -> Option<JobName>
@@ -151,7 +197,7 @@ impl<'a, X: Drop, M: Meaning<X> + Start, K: Output<X>, J: Jobs<X, M, K>, G: Gate
         let ticket = self.board.draw(seat);
         let job = pool.put(ticket)?;
         let last = pool.len().checked_sub(1)?;
-        if self.is_ready(lent, pool.segments(), job) {
+        if self.is_ready(rt, frames, pool.segments(), job) {
             pool.remove(last)
         } else {
             None
@@ -161,7 +207,8 @@ impl<'a, X: Drop, M: Meaning<X> + Start, K: Output<X>, J: Jobs<X, M, K>, G: Gate
     // The first ready job of the pool, or of the next tickets.
     fn next<R: Wait>(
         &self,
-        lent: &Lent<'_, X, M, K, J, R>,
+        rt: &R,
+        frames: &Frames<X, M>,
         pool: &mut Pool<X, M>,
         seat: &mut Seat<Placed<X, M, K>>,
     ) -> Option<JobName>
@@ -169,14 +216,14 @@ impl<'a, X: Drop, M: Meaning<X> + Start, K: Output<X>, J: Jobs<X, M, K>, G: Gate
         ensures seat { IsSeatedStill seat.old seat.new }
         ensures due { IfSome result (λ job. IsDue M.rules M.truth job) }
     {
-        if let Some(job) = self.take_ready(lent, pool) {
+        if let Some(job) = self.take_ready(rt, frames, pool) {
             return Some(job);
         }
         for _ in 0..POOL_ROOM {
             if !pool.can_draw() {
                 break;
             }
-            if let Some(job) = self.draw(lent, pool, seat) {
+            if let Some(job) = self.draw(rt, frames, pool, seat) {
                 return Some(job);
             }
         }
@@ -184,31 +231,27 @@ impl<'a, X: Drop, M: Meaning<X> + Start, K: Output<X>, J: Jobs<X, M, K>, G: Gate
     }
 
     // A job to do. There is none once the run is over.
-    fn wait_for_job<R: Wait>(
-        &self,
-        rt: &R,
-        lent: &Lent<'_, X, M, K, J, R>,
-        seat: &mut Seat<Placed<X, M, K>>,
-    ) -> Option<JobName>
+    fn wait_for_job<R: Wait>(&self, rt: &R, seat: &mut Seat<Placed<X, M, K>>) -> Option<Begun<X, M>>
         requires seat { IsSeated self.now.board.now seat.old }
         ensures seat { IsSeatedStill seat.old seat.new }
-        ensures due { IfSome result (λ job. IsDue M.rules M.truth job) }
+        ensures due { IfSome result (λ begun. IsDue M.rules M.truth begun.job) }
     {
-        let mut guard = self.pool.lock(rt);
-        if guard.has_waiter() {
+        let mut guard = self.shop.lock(rt);
+        if guard.pool.has_waiter() {
             self.moved.notify_all();
         }
         for _ in rt.forever() {
-            let pool = &mut *guard;
-            if pool.is_over() {
+            let shop = &mut *guard;
+            if shop.pool.is_over() {
                 return None;
             }
-            if let Some(job) = self.next(lent, pool, seat) {
-                return Some(job);
+            if let Some(job) = self.next(rt, &shop.frames, &mut shop.pool, seat) {
+                let held = shop.frames.lend(job);
+                return Some(Begun { job, held });
             }
-            pool.wait();
+            shop.pool.wait();
             guard = self.moved.wait(rt, guard);
-            guard.wake();
+            guard.pool.wake();
         }
         unreachable!()
     }
@@ -226,14 +269,58 @@ impl<'a, X: Drop, M: Meaning<X> + Start, K: Output<X>, J: Jobs<X, M, K>, G: Gate
     fn publish<R: Wait>(&self, rt: &R, segment: Segment)
         requires due { AreDue M.rules M.truth segment }
     {
-        self.pool.lock(rt).publish(segment);
+        self.shop.lock(rt).pool.publish(segment);
     }
 
-    fn take_memory<R: Wait>(&self, rt: &R, frame: u64, layout: Layout) -> Result<(), AllocError> {
-        let next = frame.checked_add(1).ok_or(AllocError)?;
-        self.cells.make_place(self.run.alloc, next)?;
-        self.cells.make_frame(self.run.alloc, frame, layout)?;
-        self.pool.lock(rt).make_room()
+    // Sets a job's result. What the job was lent goes in the same moment, so what others let go from then on isn't held by it.
+    fn complete<R: Wait>(&self, rt: &R, held: Held<X, M>, job: JobName, value: X)
+        requires { M.truth.right job value }
+    {
+        self.shop.lock(rt).frames.finish(held, job, value);
+    }
+
+    // What the jobs behind a frame may ask for of those before it.
+    fn live(&self, frame: &Frame<X, M>) -> [Option<u64>; LIVE] {
+        let close = JobName::Close {
+            frame: frame.number(),
+        };
+        match frame.find(close) {
+            Some(close) => self.run.jobs.live(close),
+            None => [None; LIVE],
+        }
+    }
+
+    // Takes all memory for a frame, behind the one before it.
+    fn make_frame<R: Wait>(
+        &self,
+        rt: &R,
+        before: Option<&Frame<X, M>>,
+        frame: u64,
+        layout: Layout,
+    ) -> Result<Shared<Frame<X, M>>, AllocError> {
+        if frame == u64::MAX {
+            return Err(AllocError);
+        }
+        let alloc = self.run.alloc;
+        let made = match before {
+            Some(before) => before.next(alloc, frame, layout, &self.live(before))?,
+            None => Frame::first(alloc, frame, layout)?,
+        };
+        let made = Arc::new(alloc, made)?;
+        let mut guard = self.shop.lock(rt);
+        guard.frames.make_room()?;
+        guard.pool.make_room()?;
+        Ok(made)
+    }
+
+    // A frame is at work, and its head's result is there.
+    fn begin<R: Wait>(&self, rt: &R, held: Held<X, M>, frame: Shared<Frame<X, M>>, segment: Segment)
+        requires due { AreDue M.rules M.truth segment }
+    {
+        let mut guard = self.shop.lock(rt);
+        drop(held);
+        guard.frames.put(frame);
+        guard.pool.publish(segment);
     }
 
     // The head's result says that the run ends.
@@ -241,23 +328,28 @@ impl<'a, X: Drop, M: Meaning<X> + Start, K: Output<X>, J: Jobs<X, M, K>, G: Gate
         requires right { M.truth.right (Head frame) value }
         requires ends { M.rules.parses value ≡ None }
     {
-        self.cells.finish(JobName::Head { frame }, value);
+        let _ = self
+            .last
+            .try_set(Finished::new(JobName::Head { frame }, value));
         self.publish(rt, Segment::Last { frame });
     }
 
-    fn do_head<R: Wait>(&self, rt: &R, lent: &Lent<'_, X, M, K, J, R>, frame: u64)
+    fn do_head<R: Wait>(&self, rt: &R, held: Held<X, M>, frame: u64)
         requires due { IsDue M.rules M.truth (Head frame) }
     {
-        let value = self.run.jobs.run(JobName::Head { frame }, lent);
+        let job = JobName::Head { frame };
+        let value = self.run.jobs.run(job, &self.lent(rt, seen(&held)));
         let Some(layout) = self.run.jobs.layout(&value) else {
             return self.end_at_head(rt, frame, value);
         };
-        if self.take_memory(rt, frame, layout).is_err() {
+        let Ok(made) = self.make_frame(rt, seen(&held), frame, layout) else {
             return self.end_at_head(rt, frame, self.run.jobs.starved(frame));
-        }
-        self.cells.finish(JobName::Head { frame }, value);
-        self.publish(
+        };
+        made.finish(job, value);
+        self.begin(
             rt,
+            held,
+            made,
             Segment::Parse {
                 frame,
                 columns: layout.columns,
@@ -281,12 +373,13 @@ impl<'a, X: Drop, M: Meaning<X> + Start, K: Output<X>, J: Jobs<X, M, K>, G: Gate
         }
     }
 
-    fn do_close<R: Wait>(&self, rt: &R, lent: &Lent<'_, X, M, K, J, R>, frame: u64)
+    fn do_close<R: Wait>(&self, rt: &R, held: Held<X, M>, frame: u64)
         requires due { IsDue M.rules M.truth (Close frame) }
     {
-        let value = self.run.jobs.run(JobName::Close { frame }, lent);
+        let job = JobName::Close { frame };
+        let value = self.run.jobs.run(job, &self.lent(rt, seen(&held)));
         let segment = self.built(frame, &value);
-        self.cells.finish(JobName::Close { frame }, value);
+        self.complete(rt, held, job, value);
         self.publish(rt, segment);
     }
 
@@ -322,13 +415,19 @@ impl<'a, X: Drop, M: Meaning<X> + Start, K: Output<X>, J: Jobs<X, M, K>, G: Gate
         ensures seat { IsSeatedStill seat.old seat.new }
     {
         self.give_outlet(seat, Content::Over(Over::new(ending, output)));
-        self.pool.lock(rt).end();
+        self.shop.lock(rt).pool.end();
+    }
+
+    // Lets the frame before one go that is to be written. What nobody else has is dropped here, and not under the lock.
+    fn retire<R: Wait>(&self, rt: &R, frame: u64) {
+        let gone = self.shop.lock(rt).frames.retire(frame);
+        drop(gone);
     }
 
     fn do_write<R: Wait>(
         &self,
         rt: &R,
-        lent: &Lent<'_, X, M, K, J, R>,
+        held: Held<X, M>,
         seat: &mut Seat<Placed<X, M, K>>,
         frame: u64,
     )
@@ -342,19 +441,23 @@ impl<'a, X: Drop, M: Meaning<X> + Start, K: Output<X>, J: Jobs<X, M, K>, G: Gate
         let Some(mut output) = self.take_outlet(seat, frame) else {
             return;
         };
-        let value = self.run.jobs.write(frame, lent, &mut output);
+        let value = self
+            .run
+            .jobs
+            .write(frame, &self.lent(rt, seen(&held)), &mut output);
         if self.run.jobs.is_refused(&value) {
             self.end(rt, seat, Ending::Refused { frame, value }, output);
         } else {
             self.give_outlet(seat, Content::Open(Outlet::new(next, output)));
-            self.cells.finish(JobName::Write { frame }, value);
+            self.retire(rt, frame);
+            self.complete(rt, held, JobName::Write { frame }, value);
         }
     }
 
     fn do_end<R: Wait>(
         &self,
         rt: &R,
-        lent: &Lent<'_, X, M, K, J, R>,
+        held: Held<X, M>,
         seat: &mut Seat<Placed<X, M, K>>,
         frame: u64,
     )
@@ -365,29 +468,27 @@ impl<'a, X: Drop, M: Meaning<X> + Start, K: Output<X>, J: Jobs<X, M, K>, G: Gate
         let Some(output) = self.take_outlet(seat, frame) else {
             return;
         };
-        let value = self.run.jobs.run(JobName::End { frame }, lent);
+        let value = self
+            .run
+            .jobs
+            .run(JobName::End { frame }, &self.lent(rt, seen(&held)));
         self.end(rt, seat, Ending::Whole { frame, value }, output);
     }
 
-    fn do_job<R: Wait>(
-        &self,
-        rt: &R,
-        lent: &Lent<'_, X, M, K, J, R>,
-        seat: &mut Seat<Placed<X, M, K>>,
-        job: JobName,
-    )
+    fn do_job<R: Wait>(&self, rt: &R, seat: &mut Seat<Placed<X, M, K>>, begun: Begun<X, M>)
         requires seat { IsSeated self.now.board.now seat.old }
-        requires due { IsDue M.rules M.truth job }
+        requires due { IsDue M.rules M.truth begun.job }
         ensures seat { IsSeatedStill seat.old seat.new }
     {
+        let Begun { job, held } = begun;
         match job {
-            JobName::Head { frame } => self.do_head(rt, lent, frame),
-            JobName::Close { frame } => self.do_close(rt, lent, frame),
-            JobName::Write { frame } => self.do_write(rt, lent, seat, frame),
-            JobName::End { frame } => self.do_end(rt, lent, seat, frame),
+            JobName::Head { frame } => self.do_head(rt, held, frame),
+            JobName::Close { frame } => self.do_close(rt, held, frame),
+            JobName::Write { frame } => self.do_write(rt, held, seat, frame),
+            JobName::End { frame } => self.do_end(rt, held, seat, frame),
             JobName::Column { .. } | JobName::Rows { .. } | JobName::Filter { .. } => {
-                let value = self.run.jobs.run(job, lent);
-                self.cells.finish(job, value);
+                let value = self.run.jobs.run(job, &self.lent(rt, seen(&held)));
+                self.complete(rt, held, job, value);
             }
         }
     }
@@ -397,18 +498,13 @@ impl<'a, X: Drop, M: Meaning<X> + Start, K: Output<X>, J: Jobs<X, M, K>, G: Gate
         requires seat { IsSeated self.now.board.now seat.old }
         ensures seat { IsSeatedStill seat.old seat.new }
     {
-        let lent = Lent {
-            rt,
-            jobs: self.run.jobs,
-            cells: self.cells,
-            outputs: PhantomData,
-        };
         for _ in rt.forever() {
-            let Some(job) = self.wait_for_job(rt, &lent, seat) else {
+            let Some(begun) = self.wait_for_job(rt, seat) else {
                 break;
             };
+            let job = begun.job;
             self.run.gate.enter(job);
-            self.do_job(rt, &lent, seat, job);
+            self.do_job(rt, seat, begun);
             self.run.gate.leave(job);
         }
     }
@@ -545,9 +641,6 @@ pub fn run_jobs<
     ensures told { IfOk result (λ told. IsEnded M.rules M.truth M.taken told.ending (K.taken told.output) (K.may_put told.output) (K.has_refused told.output)) }
     ensures refused { IfErr result (λ k. (K.taken k ≡ M.taken) × K.may_put k) }
 {
-    let Ok(cells) = Cells::<X, M>::new(run.alloc) else {
-        return Err(output);
-    };
     let Ok(pool) = Pool::<X, M>::new(run.alloc, POOL_ROOM) else {
         return Err(output);
     };
@@ -560,13 +653,17 @@ pub fn run_jobs<
         Ok(made) => made,
         Err(refused) => return Err(given_back(refused)),
     };
-    let pool = Mutex::new(pool);
+    let shop = Mutex::new(Shop {
+        pool,
+        frames: Frames::new(run.alloc),
+    });
+    let last = OnceLock::new();
     let moved = Condvar::new();
     let mut seats = make_seats(run.alloc, &board, &mut first, run.workers);
     let crew = Crew {
         run,
-        cells: &cells,
-        pool: &pool,
+        shop: &shop,
+        last: &last,
         moved: &moved,
         board: &board,
     };

@@ -23,6 +23,9 @@ pub struct Building {
     pub shown: Option<Shown>,
 }
 
+/// How many frames a close can name: eight slots, and the frame that was decoded last.
+pub const LIVE: usize = 9;
+
 /// What takes the texts of a run. `X` is what jobs answer, writes among them.
 pub trait Output<X> {
     /// What it has taken, where it tells that.
@@ -49,8 +52,8 @@ impl Start for Brand {
 
 /// Results of jobs that are done, lent to a job that needs them.
 pub trait Results<X, M: Meaning<X>> {
-    /// The result of a job that the borrower needs, or that one of these needs in turn. Such a head has found a frame, and such a close has
-    /// built one.
+    /// The result of a job that the borrower needs, or that one of these needs in turn: one of the borrower's own frame, of the frame before
+    /// it, or of one that this one's close names as live. Such a head has found a frame, and such a close has built one.
     fn result(&self, job: JobName) -> &X
         ensures right { M.truth.right job result.now }
         ensures goes_on { GoesOn M.rules job result.now };
@@ -88,6 +91,10 @@ pub trait Jobs<X, M: Meaning<X>, K: Output<X>> {
     fn building(&self, close: &X) -> Option<Building>
         ensures some { IfSome result (λ b. M.rules.builds close.now ≡ Some (record { columns = b.columns; rows = b.rows; shown = b.shown })) }
         ensures none { IfNone result (M.rules.builds close.now ≡ None) };
+
+    /// The frames before it that jobs of later frames may ask for, as a close's result has them: those that slots hold, and the last one that
+    /// was decoded. A frame stays only as long as each close behind it names it.
+    fn live(&self, close: &X) -> [Option<u64>; LIVE];
 
     /// The bands of other frames that a superblock row of a column reads. The frame's close is finished. It is asked again until these
     /// bands are there, while no other worker can ask for a job, so it is to be a look at the results.

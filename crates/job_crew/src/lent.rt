@@ -1,7 +1,8 @@
 ghost use Rattle.std.specs.Prelude.{◌≡◌, true, IfSome};
 ghost use Rattle.job_crew.specs.Runs.{GoesOn, IsLast};
 
-use crate::cells::Cells;
+use crate::cells::Cell;
+use crate::frames::Frame;
 use crate::jobs::{Jobs, Output, Results};
 use job_order::Meaning;
 use std::marker::PhantomData;
@@ -9,22 +10,33 @@ use std::sync::Wait;
 use std::thread;
 use vp9_types::JobName;
 
-/// The results that a job needs, which are all there: it never waits for one.
+/// The results that a job may ask for: those of its own frame, and of the frames before it that this has. A job is begun when its needs are
+/// finished, and a frame keeps what its jobs may ask for, so each result is there and no job waits for one.
 #[derive(Drop)]
-pub(crate) struct Lent<'a, X: Drop, M: Meaning<X>, K, J, R> {
-    pub(crate) rt: &'a R,
-    pub(crate) jobs: &'a J,
-    pub(crate) cells: &'a Cells<X, M>,
+pub(crate) struct Lent<'r, 'c, 'f, X: Drop, M: Meaning<X>, K, J, R> {
+    pub(crate) rt: &'r R,
+    pub(crate) jobs: &'c J,
+    pub(crate) frame: Option<&'f Frame<X, M>>,
+    pub(crate) last: &'c Cell<X, M>,
     pub(crate) outputs: PhantomData<K>,
 }
 
-impl<'a, X: Drop, M: Meaning<X>, K: Output<X>, J: Jobs<X, M, K>, R> Lent<'a, X, M, K, J, R> {
+impl<'r, 'c, 'f, X: Drop, M: Meaning<X>, K: Output<X>, J: Jobs<X, M, K>, R> Lent<
+    'r,
+    'c,
+    'f,
+    X,
+    M,
+    K,
+    J,
+    R,
+> {
     // A result by which the run doesn't end.
     fn find(&self, job: JobName) -> Option<&X>
         ensures right { IfSome result (λ x. M.truth.right job x.now) }
         ensures goes_on { IfSome result (λ x. GoesOn M.rules job x.now) }
     {
-        let value = self.cells.find(job)?;
+        let value = self.frame?.find(job)?;
         let goes_on = match job {
             JobName::Head { .. } => self.jobs.layout(value).is_some(),
             JobName::Close { .. } => self.jobs.building(value).is_some(),
@@ -33,15 +45,17 @@ impl<'a, X: Drop, M: Meaning<X>, K: Output<X>, J: Jobs<X, M, K>, R> Lent<'a, X, 
         if goes_on { Some(value) } else { None }
     }
 
+    // The close's result by which the run ends, or the head's, which no frame has.
     fn find_last(&self, frame: u64) -> Option<&X>
         ensures { IfSome result (λ x. IsLast M.rules M.truth frame x.now) }
     {
-        if let Some(close) = self.cells.find(JobName::Close { frame })
+        if let Some(lent) = self.frame
+            && let Some(close) = lent.find(JobName::Close { frame })
             && self.jobs.building(close).is_none()
         {
             return Some(close);
         }
-        let head = self.cells.find(JobName::Head { frame })?;
+        let head = self.last.get()?.of(JobName::Head { frame })?;
         if self.jobs.layout(head).is_none() {
             Some(head)
         } else {
@@ -50,8 +64,8 @@ impl<'a, X: Drop, M: Meaning<X>, K: Output<X>, J: Jobs<X, M, K>, R> Lent<'a, X, 
     }
 }
 
-impl<'a, X: Drop, M: Meaning<X>, K: Output<X>, J: Jobs<X, M, K>, R: Wait> Results<X, M>
-    for Lent<'a, X, M, K, J, R> {
+impl<'r, 'c, 'f, X: Drop, M: Meaning<X>, K: Output<X>, J: Jobs<X, M, K>, R: Wait> Results<X, M>
+    for Lent<'r, 'c, 'f, X, M, K, J, R> {
     fn result(&self, job: JobName) -> &X {
         for _ in self.rt.forever() {
             if let Some(value) = self.find(job) {

@@ -4,11 +4,12 @@
 mod cells;
 mod crew;
 mod finished;
+mod frames;
 mod jobs;
 mod lent;
 mod outlet;
 mod pool;
 
 pub use crew::{Run, run_jobs};
-pub use jobs::{Building, Gate, Jobs, Layout, OpenGate, Output, Results, Start};
+pub use jobs::{Building, Gate, Jobs, LIVE, Layout, OpenGate, Output, Results, Start};
 pub use outlet::{Ending, Told};
