@@ -10,7 +10,7 @@ ghost use Rattle.line_filter.specs.Edges.{line_down, line_along, in_order, with_
 ghost use Rattle.line_filter.specs.Code.{IsAcross, IsAlong, IsEdgeIn, IsAcrossBy, IsAlongBy, down_filtered, along_filtered};
 
 use crate::edge::{Edge, FilterWidth, Limits, Pass};
-use crate::far_lanes::filtered_far_lanes;
+use crate::far_lanes::{far_masks, filtered_far_lanes};
 use crate::kept::EdgeSample;
 use crate::lanes::filtered_by;
 use crate::squares::lanes_at;
@@ -70,6 +70,14 @@ fn filter_far_down<P: EdgeSample>(plane: &mut SamplePlane<P>, row: usize, column
 {
     let above = lanes_at(plane, row - 8, column);
     let below = lanes_at(plane, row, column);
+    let masks = far_masks(&above, &below, l);
+    if !masks.calm {
+        return;
+    }
+    if !masks.flat {
+        filter_down::<P, 1>(plane, row, column, l, true);
+        return;
+    }
     let (above, below) = filtered_far_lanes::<0>(&above, &below, l);
     P::put_lanes(plane, row - 8, column, &above);
     P::put_lanes(plane, row, column, &below);
@@ -87,6 +95,14 @@ fn filter_far_along<P: EdgeSample>(plane: &mut SamplePlane<P>, row: usize, colum
 {
     let left = turned(&lanes_at(plane, row, column - 8));
     let right = turned(&lanes_at(plane, row, column));
+    let masks = far_masks(&left, &right, l);
+    if !masks.calm {
+        return;
+    }
+    if !masks.flat {
+        filter_along::<P, 3>(plane, row, column, l, true);
+        return;
+    }
     let (left, right) = filtered_far_lanes::<1>(&left, &right, l);
     P::put_lanes(plane, row, column - 8, &turned(&left));
     P::put_lanes(plane, row, column, &turned(&right));
