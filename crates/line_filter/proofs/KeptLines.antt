@@ -16,7 +16,7 @@ use Rattle.line_filter.specs.declared.lanes.Lanes.{Lanes}
 use Rattle.line_filter.specs.declared.near.Near.{Near}
 use Rattle.line_filter.specs.Lines.{Line, p, q, filter_mask, flat_mask, flat_mask2, narrow_filter, wide_filter, filtered_near, filtered_line}
 use Rattle.line_filter.specs.Edges.{line_at, line_down, line_along, in_order}
-use Rattle.line_filter.specs.Code.{AreLanes, is_flat_far, line_of, wide_line_of, near_between, far_between, line_between, down_filtered, along_filtered}
+use Rattle.line_filter.specs.Code.{AreLanes, is_flat_far, line_of, wide_line_of, near_between, far_between, line_between, between, down_filtered, along_filtered}
 use Rattle.line_filter.proofs.FarLines.{extended, near_same, calm_same, flat_same}
 use Rattle.line_filter.proofs.LineBlocks.{wide_line}
 
@@ -298,3 +298,16 @@ off_along a b m row column mask inside so also off j low =
 pub is_off : (t : Bool) → not t ≡ true → t ≡ false
 is_off false is = refl
 is_off true is = let no : ⊥ = cc in absurd no
+
+-- the four rows on each side are those of a line of four
+pub between_lanes : (a b : Lanes) (s : ℕ → ℕ → ℕ) (at : ℕ) → 8 ≤ at → AreLanes a (λ i j. s j (at - 8 + i)) → AreLanes b (λ i j. s j (at + i)) → AreLanes (between a b) (λ i j. s j (at - 4 + i))
+between_lanes a b s at inside so also = record {
+  r0 = λ j low. so.r4 j low ∙ ap (s j) (omega (arith, inside));
+  r1 = λ j low. so.r5 j low ∙ ap (s j) (omega (arith, inside));
+  r2 = λ j low. so.r6 j low ∙ ap (s j) (omega (arith, inside));
+  r3 = λ j low. so.r7 j low ∙ ap (s j) (omega (arith, inside));
+  r4 = λ j low. also.r0 j low ∙ ap (s j) (omega (arith, inside));
+  r5 = λ j low. also.r1 j low ∙ ap (s j) (omega (arith, inside));
+  r6 = λ j low. also.r2 j low ∙ ap (s j) (omega (arith, inside));
+  r7 = λ j low. also.r3 j low ∙ ap (s j) (omega (arith, inside));
+}

@@ -88,6 +88,10 @@ far_between a b j = record {
   q7 = slice_index b.r7 j;
 }
 
+-- the four rows on each side
+abbrev pub between : Lanes → Lanes → Lanes
+between a b = record { r0 = a.r4; r1 = a.r5; r2 = a.r6; r3 = a.r7; r4 = b.r0; r5 = b.r1; r6 = b.r2; r7 = b.r3 }
+
 -- column j of both, as a line
 abbrev pub line_between : Lanes → Lanes → ℕ → Line
 line_between a b j = wide_line_of (near_between a b j) (far_between a b j)

@@ -3,7 +3,7 @@
 ghost use Rattle.std.specs.Prelude.{◌≡◌, ℕ, ◌<◌, ◌≤◌, false};
 ghost use Rattle.line_filter.specs.Lines.{filtered_line};
 ghost use Rattle.line_filter.specs.declared.edge.FilterWidth.TheVariants.{Sixteen};
-ghost use Rattle.line_filter.specs.Code.{IsNear, IsFar, wide_line_of, AreNotCalm, AreNotFlat, near_between, far_between, lanes_of};
+ghost use Rattle.line_filter.specs.Code.{IsNear, IsFar, wide_line_of, AreNotCalm, AreNotFlat, between, near_between, far_between, lanes_of};
 
 use crate::edge::Limits;
 use crate::far::{Far, filtered_far, flat_mask2};
@@ -43,6 +43,23 @@ fn far(above: &Rows, below: &Rows, j: usize) -> Far
         q5: below.r5[j],
         q6: below.r6[j],
         q7: below.r7[j],
+    }
+}
+
+/// The four rows on each side of the edge.
+#[inline(always)]
+pub fn between(above: &Lanes, below: &Lanes) -> Lanes
+    ensures { result ≡ between above.now below.now }
+{
+    Lanes {
+        r0: above.r4,
+        r1: above.r5,
+        r2: above.r6,
+        r3: above.r7,
+        r4: below.r0,
+        r5: below.r1,
+        r6: below.r2,
+        r7: below.r3,
     }
 }
 
