@@ -18,11 +18,11 @@ pushed false flat a b c u v w y ea eb ec = ea
 pushed true true a b c u v w y ea eb ec = eb
 pushed true false a b c u v w y ea eb ec = ec
 
-calm_same : (l : Limits) (x : Near) (y : Far) → filter_mask l (wide_line_of x y) ≡ filter_mask l (line_of x)
+pub calm_same : (l : Limits) (x : Near) (y : Far) → filter_mask l (wide_line_of x y) ≡ filter_mask l (line_of x)
 unfolding filter_mask
 calm_same l x y = refl
 
-flat_same : (l : Limits) (x : Near) (y : Far) → flat_mask l (wide_line_of x y) ≡ flat_mask l (line_of x)
+pub flat_same : (l : Limits) (x : Near) (y : Far) → flat_mask l (wide_line_of x y) ≡ flat_mask l (line_of x)
 unfolding flat_mask
 flat_same l x y = refl
 

@@ -5,3 +5,4 @@ pub mod SquareLemmas
 pub mod LineBlocks
 pub mod EdgeLines
 pub mod SmallLines
+pub mod KeptLines

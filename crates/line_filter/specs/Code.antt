@@ -1,9 +1,10 @@
 -- What the code keeps of lines: eight of them at a time, as lanes.
-use Rattle.std.specs.Prelude.{ℕ, ◌+◌, ◌-◌, ◌*◌, ◌<◌, ◌≤◌, ◌≡◌, List, [], ◌∷◌, min, slice_index}
+use Rattle.std.specs.Prelude.{ℕ, ◌+◌, ◌-◌, ◌*◌, ◌<◌, ◌≤◌, ◌≡◌, Bool, false, ◌&&◌, List, [], ◌∷◌, min, slice_index}
 use Rattle.vp9_types.specs.Maps.{Map}
 use Rattle.planes.specs.declared.area.Area.{Area}
 use Rattle.planes.specs.Planes.{lower_end, right_end, with_part}
 use Rattle.line_filter.specs.declared.edge.Edge.{Edge}
+use Rattle.line_filter.specs.declared.edge.Limits.{Limits}
 use Rattle.line_filter.specs.declared.edge.Pass.{Pass}
 use Rattle.line_filter.specs.declared.edge.Pass.TheVariants.{Vertical, Horizontal}
 use Rattle.line_filter.specs.declared.far.Far.{Far}
@@ -11,7 +12,7 @@ use Rattle.line_filter.specs.declared.lanes.Lanes.{Lanes}
 use Rattle.line_filter.specs.declared.lanes.Rows.{Rows}
 use Rattle.line_filter.specs.declared.near.Near.{Near}
 use Rattle.line_filter.specs.Edges.{reach, line_down, line_along, in_order}
-use Rattle.line_filter.specs.Lines.{Line}
+use Rattle.line_filter.specs.Lines.{Line, filter_mask, flat_mask, flat_mask2}
 
 -- four samples on each side
 abbrev pub line_of : Near → Line
@@ -86,6 +87,24 @@ far_between a b j = record {
   q6 = slice_index b.r6 j;
   q7 = slice_index b.r7 j;
 }
+
+-- the four rows on each side
+abbrev pub between : Lanes → Lanes → Lanes
+between a b = record { r0 = a.r4; r1 = a.r5; r2 = a.r6; r3 = a.r7; r4 = b.r0; r5 = b.r1; r6 = b.r2; r7 = b.r3 }
+
+-- column j of both, as a line
+abbrev pub line_between : Lanes → Lanes → ℕ → Line
+line_between a b j = wide_line_of (near_between a b j) (far_between a b j)
+
+-- the filters change none of the first n columns, and the widest one none
+abbrev pub AreNotCalm : Limits → Lanes → Lanes → ℕ → Type 0
+AreNotCalm l a b n = (j : ℕ) → j < n → filter_mask l (line_between a b j) ≡ false
+
+abbrev pub is_flat_far : Limits → Line → Bool
+is_flat_far l x = filter_mask l x && (flat_mask l x && flat_mask2 l x)
+
+abbrev pub AreNotFlat : Limits → Lanes → Lanes → ℕ → Type 0
+AreNotFlat l a b n = (j : ℕ) → j < n → is_flat_far l (line_between a b j) ≡ false
 
 -- eight rows of eight samples are a part of a map
 pub record AreLanes (x : Lanes) (f : ℕ → ℕ → ℕ) : Type 0 where

@@ -7,15 +7,59 @@ ghost use Rattle.line_filter.specs.declared.edge.FilterWidth.TheVariants.{Sixtee
 ghost use Rattle.line_filter.specs.declared.edge.Pass.TheVariants.{Vertical, Horizontal};
 ghost use Rattle.line_filter.specs.Lines.{filtered_near, filtered_line};
 ghost use Rattle.line_filter.specs.Edges.{line_down, line_along, in_order, with_edge};
-ghost use Rattle.line_filter.specs.Code.{IsAcross, IsAlong, IsEdgeIn, IsAcrossBy, IsAlongBy, down_filtered, along_filtered};
+ghost use Rattle.line_filter.specs.Code.{AreLanes, IsAcross, IsAlong, IsEdgeIn, IsAcrossBy, IsAlongBy, down_filtered, along_filtered};
 
 use crate::edge::{Edge, FilterWidth, Limits, Pass};
-use crate::far_lanes::filtered_far_lanes;
+use crate::far_lanes::{between, far_masks, filtered_far_lanes};
 use crate::kept::EdgeSample;
-use crate::lanes::filtered_by;
+use crate::lanes::{Lanes, filtered_by};
 use crate::squares::lanes_at;
 use crate::turn::turned;
 use planes::SamplePlane;
+
+/// Filters eight columns that are loaded across the edge above a place, four rows on each side.
+#[inline(always)]
+fn filter_loaded_down<P: EdgeSample, const SITE: usize>(
+    plane: &mut SamplePlane<P>,
+    x: &Lanes,
+    row: usize,
+    column: usize,
+    l: Limits,
+    wide: bool,
+)
+    requires inside { IsAcrossBy 4 plane.old.area row column }
+    requires loaded { AreLanes x.now (λ i j. plane_map plane.old (row - 4 + i) (column + j)) }
+    requires range { IsAtMost (2 * l.half - 1) (plane_map plane.old) }
+    requires fits { 2 * l.half - 1 ≤ P.greatest }
+    requires half { l.half ≤ 2048 }
+    ensures area { plane.new.area ≡ plane.old.area }
+    ensures map { plane_map plane.new ≡ down_filtered 4 (filtered_near l wide) plane.old.area (plane_map plane.old) row column }
+{
+    let lanes = filtered_by::<SITE>(x, l, wide);
+    P::put_lanes(plane, row - 4, column, &lanes);
+}
+
+/// Filters eight rows that are loaded, as columns, across the edge left of a place.
+#[inline(always)]
+fn filter_loaded_along<P: EdgeSample, const SITE: usize>(
+    plane: &mut SamplePlane<P>,
+    x: &Lanes,
+    row: usize,
+    column: usize,
+    l: Limits,
+    wide: bool,
+)
+    requires inside { IsAlongBy 4 plane.old.area row column }
+    requires loaded { AreLanes x.now (λ i j. plane_map plane.old (row + j) (column - 4 + i)) }
+    requires range { IsAtMost (2 * l.half - 1) (plane_map plane.old) }
+    requires fits { 2 * l.half - 1 ≤ P.greatest }
+    requires half { l.half ≤ 2048 }
+    ensures area { plane.new.area ≡ plane.old.area }
+    ensures map { plane_map plane.new ≡ along_filtered 4 (filtered_near l wide) plane.old.area (plane_map plane.old) row column }
+{
+    let lanes = filtered_by::<SITE>(x, l, wide);
+    P::put_lanes(plane, row, column - 4, &turned(&lanes));
+}
 
 /// Filters the eight columns from a place on across the edge above it. Each width has a `SITE` of its own, and is compiled
 /// by itself.
@@ -34,8 +78,8 @@ fn filter_down<P: EdgeSample, const SITE: usize>(
     ensures area { plane.new.area ≡ plane.old.area }
     ensures map { plane_map plane.new ≡ down_filtered 4 (filtered_near l wide) plane.old.area (plane_map plane.old) row column }
 {
-    let lanes = filtered_by::<SITE>(&lanes_at(plane, row - 4, column), l, wide);
-    P::put_lanes(plane, row - 4, column, &lanes);
+    let lanes = lanes_at(plane, row - 4, column);
+    filter_loaded_down::<P, SITE>(plane, &lanes, row, column, l, wide);
 }
 
 /// Filters the eight rows from a place on across the edge at its left, likewise.
@@ -54,8 +98,8 @@ fn filter_along<P: EdgeSample, const SITE: usize>(
     ensures area { plane.new.area ≡ plane.old.area }
     ensures map { plane_map plane.new ≡ along_filtered 4 (filtered_near l wide) plane.old.area (plane_map plane.old) row column }
 {
-    let lanes = filtered_by::<SITE>(&turned(&lanes_at(plane, row, column - 4)), l, wide);
-    P::put_lanes(plane, row, column - 4, &turned(&lanes));
+    let lanes = turned(&lanes_at(plane, row, column - 4));
+    filter_loaded_along::<P, SITE>(plane, &lanes, row, column, l, wide);
 }
 
 /// The same as `filter_down` by the filters of all widths.
@@ -70,6 +114,14 @@ fn filter_far_down<P: EdgeSample>(plane: &mut SamplePlane<P>, row: usize, column
 {
     let above = lanes_at(plane, row - 8, column);
     let below = lanes_at(plane, row, column);
+    let masks = far_masks(&above, &below, l);
+    if !masks.calm {
+        return;
+    }
+    if !masks.flat {
+        filter_loaded_down::<P, 4>(plane, &between(&above, &below), row, column, l, true);
+        return;
+    }
     let (above, below) = filtered_far_lanes::<0>(&above, &below, l);
     P::put_lanes(plane, row - 8, column, &above);
     P::put_lanes(plane, row, column, &below);
@@ -87,6 +139,14 @@ fn filter_far_along<P: EdgeSample>(plane: &mut SamplePlane<P>, row: usize, colum
 {
     let left = turned(&lanes_at(plane, row, column - 8));
     let right = turned(&lanes_at(plane, row, column));
+    let masks = far_masks(&left, &right, l);
+    if !masks.calm {
+        return;
+    }
+    if !masks.flat {
+        filter_loaded_along::<P, 5>(plane, &between(&left, &right), row, column, l, true);
+        return;
+    }
     let (left, right) = filtered_far_lanes::<1>(&left, &right, l);
     P::put_lanes(plane, row, column - 8, &turned(&left));
     P::put_lanes(plane, row, column, &turned(&right));

@@ -1,14 +1,14 @@
 //! Eight lines at a time, of eight samples on each side.
 
-ghost use Rattle.std.specs.Prelude.{◌≡◌, ℕ, ◌<◌, ◌≤◌};
+ghost use Rattle.std.specs.Prelude.{◌≡◌, ℕ, ◌<◌, ◌≤◌, false};
 ghost use Rattle.line_filter.specs.Lines.{filtered_line};
 ghost use Rattle.line_filter.specs.declared.edge.FilterWidth.TheVariants.{Sixteen};
-ghost use Rattle.line_filter.specs.Code.{IsNear, IsFar, wide_line_of, near_between, far_between, lanes_of};
+ghost use Rattle.line_filter.specs.Code.{IsNear, IsFar, wide_line_of, AreNotCalm, AreNotFlat, between, near_between, far_between, lanes_of};
 
 use crate::edge::Limits;
-use crate::far::{Far, filtered_far};
+use crate::far::{Far, filtered_far, flat_mask2};
 use crate::lanes::{Lanes, Rows, lanes_of, rows_of};
-use crate::near::Near;
+use crate::near::{Near, filter_mask, flat_mask};
 
 #[inline(always)]
 #[tactic(auto, unfolding(crate::specs::Code::near_between))]
@@ -44,6 +44,57 @@ fn far(above: &Rows, below: &Rows, j: usize) -> Far
         q6: below.r6[j],
         q7: below.r7[j],
     }
+}
+
+/// The four rows on each side of the edge.
+#[inline(always)]
+pub fn between(above: &Lanes, below: &Lanes) -> Lanes
+    ensures { result ≡ between above.now below.now }
+{
+    Lanes {
+        r0: above.r4,
+        r1: above.r5,
+        r2: above.r6,
+        r3: above.r7,
+        r4: below.r0,
+        r5: below.r1,
+        r6: below.r2,
+        r7: below.r3,
+    }
+}
+
+/// Whether the filters of all widths change any of eight columns, and whether the widest one does.
+#[derive(Clone, Copy, Debug, PartialEq, Eq)]
+pub struct FarMasks {
+    pub calm: bool,
+    pub flat: bool,
+}
+
+#[inline(always)]
+fn masks_of(above: &Rows, below: &Rows, l: Limits) -> FarMasks
+    requires near { (j : ℕ) → j < 8 → IsNear (near_between (lanes_of above.now) (lanes_of below.now) j) }
+    ensures calm { result.calm ≡ false → AreNotCalm l (lanes_of above.now) (lanes_of below.now) 8 }
+    ensures flat { result.flat ≡ false → AreNotFlat l (lanes_of above.now) (lanes_of below.now) 8 }
+{
+    let mut calm = false;
+    let mut flat = false;
+    for j in 0..8usize {
+        let (x, y) = (near(above, below, j), far(above, below, j));
+        let is_calm = filter_mask(x, l);
+        calm |= is_calm;
+        flat |= is_calm & (flat_mask(x, l) & flat_mask2(x, y, l));
+    }
+    FarMasks { calm, flat }
+}
+
+/// Which filters change any of eight columns.
+#[inline(always)]
+pub fn far_masks(above: &Lanes, below: &Lanes, l: Limits) -> FarMasks
+    requires near { (j : ℕ) → j < 8 → IsNear (near_between above.now below.now j) }
+    ensures calm { result.calm ≡ false → AreNotCalm l above.now below.now 8 }
+    ensures flat { result.flat ≡ false → AreNotFlat l above.now below.now 8 }
+{
+    masks_of(&rows_of(above), &rows_of(below), l)
 }
 
 #[inline(always)]

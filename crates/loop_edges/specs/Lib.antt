@@ -1,3 +1,4 @@
 pub mod Levels
 pub mod Cells
 pub mod Edges
+pub mod Code

@@ -1,12 +1,13 @@
 //! The edges of a cell of 8x8 samples of a plane.
 
-ghost use Rattle.std.specs.Prelude.{◌≡◌, ◌≤◌, ◌+◌, ◌%◌, ◌&&◌, nat_eq};
+ghost use Rattle.std.specs.Prelude.{◌≡◌, ◌≤◌, ◌+◌, ◌-◌, ◌%◌, ◌&&◌, nat_eq};
 ghost use Rattle.vp9_types.specs.Shapes.{halved};
 ghost use Rattle.vp9_tables.specs.Blocks.{greatest_of};
 ghost use Rattle.vp9_tables.specs.Numbers.{tx_number};
 ghost use Rattle.block_plan.specs.InPlanes.{tx_in};
 ghost use Rattle.line_filter.specs.declared.edge.Pass.TheVariants.{Vertical, Horizontal};
-ghost use Rattle.loop_edges.specs.Cells.{is_smooth, across, outer_width, outer_edge, has_outer, has_inner, sub_x, sub_y, widest};
+ghost use Rattle.loop_edges.specs.Cells.{is_smooth, across, outer_width, outer_edge, has_outer, has_inner, sub_x, sub_y};
+ghost use Rattle.loop_edges.specs.Code.{IsSideOfBlock, cells_of, is_large, width_at};
 
 use block_geometry::{height_8, width_8};
 use block_plan::{BlockInfo, Prediction, plane_block};
@@ -47,24 +48,18 @@ fn is_smooth(block: &BlockInfo) -> bool
     block.skip && matches!(block.prediction, Prediction::Inter(_))
 }
 
-/// Whether a place is a multiple of a block's size. Divisions by numbers that aren't written out are slow.
+/// Whether a place is a multiple of a block's size, by its low bits: a division, or a jump to one by a constant, is slow.
 #[inline(always)]
 fn is_multiple(place: u32, size: u8) -> bool
-    requires { 1 ≤ size }
+    requires { IsSideOfBlock size }
     ensures { result ≡ nat_eq (place % size) 0 }
 {
-    match size {
-        1 => true,
-        2 => place % 2 == 0,
-        4 => place % 4 == 0,
-        8 => place % 8 == 0,
-        _ => place % size as u32 == 0,
-    }
+    place & (size as u32 - 1) == 0
 }
 
 #[inline(always)]
 fn crossed_at(place: u32, size: u8, sub: bool, end: u32) -> Crossing
-    requires size { 1 ≤ size }
+    requires size { IsSideOfBlock size }
     requires place { place ≤ 8192 }
     ensures k { result.k ≡ halved sub (place % 8) }
     ensures border { result.is_border ≡ nat_eq (place % size) 0 }
@@ -109,14 +104,44 @@ fn across(shape: &Shape, plane: Plane, pass: Pass, block: &BlockInfo, at: CellAt
     }
 }
 
+/// The last of the cells that a transform block lies in, from 0 on.
 #[inline(always)]
-fn widest(a: Crossing) -> FilterWidth
-    ensures { result ≡ widest a }
+fn last_cell(tx: TxSize) -> u32
+    ensures { result ≡ cells_of tx - 1 }
 {
-    if a.is_last {
-        FilterWidth::Eight
-    } else {
+    match tx {
+        TxSize::T32x32 => 3,
+        TxSize::T16x16 => 1,
+        TxSize::T8x8 | TxSize::T4x4 => 0,
+    }
+}
+
+/// Whether a transform block begins at a cell.
+#[inline(always)]
+fn begins(tx: TxSize, k: u32) -> bool
+    ensures { result ≡ nat_eq (k % cells_of tx) 0 }
+{
+    k & last_cell(tx) == 0
+}
+
+#[inline(always)]
+fn is_large(tx: TxSize) -> bool
+    ensures { result ≡ is_large tx }
+{
+    matches!(tx, TxSize::T16x16 | TxSize::T32x32)
+}
+
+/// The width of the filter where a transform block begins. By its parts, since a choice among four is a jump.
+#[inline(always)]
+fn width_at(tx: TxSize, a: Crossing) -> FilterWidth
+    ensures { result ≡ width_at tx a }
+{
+    if is_large(tx) && !a.is_last {
         FilterWidth::Sixteen
+    } else if tx == TxSize::T4x4 && a.k % 4 != 0 {
+        FilterWidth::Four
+    } else {
+        FilterWidth::Eight
     }
 }
 
@@ -124,15 +149,10 @@ fn widest(a: Crossing) -> FilterWidth
 fn outer_width(tx: TxSize, a: Crossing) -> Option<FilterWidth>
     ensures { result ≡ outer_width tx a }
 {
-    match tx {
-        TxSize::T32x32 => if a.k % 4 == 0 { Some(widest(a)) } else { None },
-        TxSize::T16x16 => if a.k % 2 == 0 { Some(widest(a)) } else { None },
-        TxSize::T8x8 => Some(FilterWidth::Eight),
-        TxSize::T4x4 => Some(if a.k % 4 == 0 {
-            FilterWidth::Eight
-        } else {
-            FilterWidth::Four
-        }),
+    if begins(tx, a.k) {
+        Some(width_at(tx, a))
+    } else {
+        None
     }
 }
 

@@ -43,3 +43,9 @@ holds_rows shape sr f so = record { y = whole_rows shape Y sr f.y.area so.y; u =
 
 pub sizes_kept : {X : Type 0} (shape : Shape) (f g : FramePlanes X) → HasSizes shape f → HasAreasOf f g → HasSizes shape g
 sizes_kept shape f g so same = record { y = same.y ∙ so.y; u = same.u ∙ so.u; v = same.v ∙ so.v }
+
+pub areas_kept : {X : Type 0} (f g h : FramePlanes X) → HasAreasOf f g → HasAreasOf g h → HasAreasOf f h
+areas_kept f g h first second = record { y = second.y ∙ first.y; u = second.u ∙ first.u; v = second.v ∙ first.v }
+
+pub rows_kept : {X : Type 0} (shape : Shape) (sr : ℕ) (f g : FramePlanes X) → HoldsFilterRows shape sr f → HasAreasOf f g → HoldsFilterRows shape sr g
+rows_kept shape sr f g so same = record { y = rw same.y so.y; u = rw same.u so.u; v = rw same.v so.v }

@@ -1,5 +1,6 @@
 pub mod Sides
 pub mod Walks
 pub mod Frames
+pub mod PlannedEdges
 pub mod FinalRows
 pub mod Following

@@ -1,5 +1,5 @@
 -- Cells one after another.
-use Rattle.std.proofs.Common.{◌≡◌, unwrap_or, nat_eq, ◌<◌, ◌≤◌, ◌+◌, ◌*◌, ◌-◌, ℕ, zero, suc, Bool, true, false, refl, sym, ◌∙◌, arith, ap, List, [], ◌∷◌, ◌++◌, map}
+use Rattle.std.proofs.Common.{◌≡◌, unwrap_or, nat_eq, ◌<◌, ◌≤◌, ◌+◌, ◌*◌, ◌-◌, ℕ, zero, suc, Bool, true, false, refl, sym, ◌∙◌, arith, ap, List, [], ◌∷◌, ◌++◌, map, min}
 use Rattle.std.specs.Prelude.{Option, Some, None, if◌then◌else◌}
 use Rattle.std.specs.List.{range_with_len, flat_map, fold}
 use Rattle.std.proofs.lemmas.Grind.{flat_map-append}
@@ -22,7 +22,7 @@ use Rattle.line_filter.specs.Edges.{with_edge}
 use Rattle.line_filter.specs.declared.edge.Edge.{Edge}
 use Rattle.loop_edges.specs.Cells.{sub_y}
 use Rattle.line_filter.specs.declared.edge.Pass.{Pass}
-use Rattle.loop_edges.specs.Edges.{step_of, edges_of, cell_edges, row_edges, with_row, superblock_edges}
+use Rattle.loop_edges.specs.Edges.{step_of, cells_along, edges_of, cell_edges, row_edges, with_row, superblock_edges}
 use Rattle.loop_edges.specs.declared.setting.EdgeSetting.{EdgeSetting}
 use Rattle.loop_filter.specs.Code.{IsRowIn, HasFilterRows, AllFit}
 
@@ -135,3 +135,11 @@ pub row_by : (f : EdgeSetting) (blocks : List BlockInfo) (plane : Plane) (sr : �
     → new ≡ fold with_edge m (row_edges f blocks plane sr)
 unfolding row_edges
 row_by f blocks plane sr m new n on all done = done ∙ rw (on, all) refl
+
+-- a cell of a superblock begins at one of its places in the frame
+pub within : (sub : Bool) (end s i : ℕ) → i < cells_along sub end s → step_of sub * i < min 8 (end - 8 * s)
+within true end s i low = omega (arith, low)
+within false end s i low = omega (arith, low)
+
+pub within_by : (sub : Bool) (end s i n step : ℕ) → n ≡ cells_along sub end s → step ≡ step_of sub → i < n → step * i < min 8 (end - 8 * s)
+within_by sub end s i n step count is low = rw is (within sub end s i (rw (sym count) low))

@@ -1,6 +1,6 @@
 //! The edges of a cell filtered, by the block that covers it.
 
-ghost use Rattle.std.specs.Prelude.{◌≡◌, ◌≤◌, ◌*◌, ◌-◌};
+ghost use Rattle.std.specs.Prelude.{◌≡◌, ◌≤◌, ◌*◌, ◌-◌, ◌++◌};
 ghost use Rattle.std.specs.List.{fold};
 ghost use Rattle.vp9_types.specs.Maps.{IsAtMost};
 ghost use Rattle.vp9_types.specs.Shapes.{halved, coded_width, coded_height};
@@ -15,9 +15,8 @@ ghost use Rattle.loop_edges.specs.Edges.{side_edge, middle_edge, side_edges, mid
 ghost use Rattle.loop_filter.specs.Code.{IsCellIn, CanFilterSide, CanFilterMiddle};
 
 use crate::way::{PlanePass, sub_x, sub_y};
-use block_plan::BlockInfo;
 use line_filter::{Edge, EdgeSample, FilterWidth, Limits, Pass, filter_edge};
-use loop_edges::{CellAt, EdgeSetting, cell_edges, filter_level, limits_of};
+use loop_edges::{CellAt, CellEdges};
 use planes::SamplePlane;
 use vp9_types::{Shape, halved};
 
@@ -122,52 +121,26 @@ fn filter_middle<P: EdgeSample>(
 
 /// The edges of a cell filtered at the limits of its block's level.
 #[inline(always)]
-#[tactic(auto, unfolding(loop_edges::specs::Edges::both_edges))]
-fn filter_edges<P: EdgeSample>(
+pub fn filter_edges<P: EdgeSample>(
     samples: &mut SamplePlane<P>,
     shape: &Shape,
     way: PlanePass,
     at: CellAt,
-    block: &BlockInfo,
+    edges: CellEdges,
     limits: Limits,
 )
     requires size { FitsPlanes shape.now }
     requires cell { IsCellIn shape.now way.plane samples.old.area at.row at.col }
-    requires fits { tx_number block.now.tx ≤ greatest_of block.now.size }
+    requires side { CanFilterSide shape.now way samples.old.area at limits edges.outer }
+    requires middle { CanFilterMiddle shape.now way samples.old.area at limits edges.inner }
     requires half { limits.half ≤ 2048 }
     requires kept { 2 * limits.half - 1 ≤ P.greatest }
     requires range { IsAtMost (2 * limits.half - 1) (plane_map samples.old) }
     ensures area { samples.new.area ≡ samples.old.area }
-    ensures map { plane_map samples.new ≡ fold with_edge (plane_map samples.old) (both_edges shape.now way.plane way.pass at.row at.col block.now limits) }
+    ensures map { plane_map samples.new ≡ fold with_edge (plane_map samples.old)
+        (side_edges shape.now way.plane way.pass at.row at.col limits edges.outer ++ middle_edges shape.now way.plane way.pass at.row at.col limits edges.inner) }
     ensures range { IsAtMost (2 * limits.half - 1) (plane_map samples.new) }
 {
-    let edges = cell_edges(shape, way.plane, way.pass, block, at);
     filter_side(samples, shape, way, at, limits, edges.outer);
     filter_middle(samples, shape, way, at, limits, edges.inner);
-}
-
-/// The edges of a cell filtered, by its block.
-#[inline(always)]
-#[tactic(auto, unfolding(loop_edges::specs::Edges::block_edges))]
-pub fn filter_block<P: EdgeSample>(
-    samples: &mut SamplePlane<P>,
-    f: &EdgeSetting,
-    way: PlanePass,
-    at: CellAt,
-    block: &BlockInfo,
-)
-    requires size { FitsPlanes f.now.shape }
-    requires cell { IsCellIn f.now.shape way.plane samples.old.area at.row at.col }
-    requires fits { tx_number block.now.tx ≤ greatest_of block.now.size }
-    requires kept { greatest f.now.shape.depth ≤ P.greatest }
-    requires range { IsAtMost (greatest f.now.shape.depth) (plane_map samples.old) }
-    ensures area { samples.new.area ≡ samples.old.area }
-    ensures map { plane_map samples.new ≡ fold with_edge (plane_map samples.old) (block_edges f.now way.plane way.pass at.row at.col block.now) }
-    ensures range { IsAtMost (greatest f.now.shape.depth) (plane_map samples.new) }
-{
-    let level = filter_level(f, block);
-    if level > 0 {
-        let limits = limits_of(f.shape.depth, f.filter.sharpness, level);
-        filter_edges(samples, &f.shape, way, at, block, limits);
-    }
 }

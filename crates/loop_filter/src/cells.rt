@@ -1,115 +1,107 @@
 //! The cells of a superblock, in order.
 
-ghost use Rattle.std.specs.Prelude.{◌≡◌, ◌≤◌, ◌<◌, ◌*◌, ◌+◌, ◌/◌, ℕ};
+ghost use Rattle.std.specs.Prelude.{◌≡◌, ◌≤◌, ◌<◌, ◌*◌, ◌+◌, ◌/◌, ◌%◌, ℕ, List, true};
 ghost use Rattle.std.specs.List.{fold};
 ghost use Rattle.vp9_types.specs.Maps.{IsAtMost};
 ghost use Rattle.vp9_types.specs.Shapes.{mi_rows, mi_cols};
 ghost use Rattle.vp9_types.specs.Sizes.{greatest};
 ghost use Rattle.planes.specs.Planes.{plane_map};
 ghost use Rattle.planes.specs.Pictures.{FitsPlanes};
+ghost use Rattle.block_plan.specs.declared.block.BlockInfo.{BlockInfo};
 ghost use Rattle.line_filter.specs.Edges.{with_edge};
 ghost use Rattle.loop_edges.specs.Cells.{sub_x, sub_y};
-ghost use Rattle.loop_edges.specs.Edges.{cell_edges, cell_row, pass_edges, cells_along, cells_of, step_of};
-ghost use Rattle.loop_filter.specs.Code.{IsCellIn, IsRowIn, HasFilterRows, AllFit};
+ghost use Rattle.loop_edges.specs.Edges.{cell_row, pass_edges, cells_along, cells_of, step_of};
+ghost use Rattle.loop_filter.specs.Code.{IsCellIn, IsRowIn, HasFilterRows};
+ghost use Rattle.loop_filter.specs.Plans.{edges_in, planned_edges, has_cell, IsPlanned, IsRowPlanned, IsAllPlanned, ArePlansOfRow, ArePlansOf};
 
-use crate::blocks::filter_block;
-use crate::way::{PlanePass, sub_x, sub_y};
-use block_plan::Neighbours;
-use line_filter::EdgeSample;
-use loop_edges::{CellAt, EdgeSetting};
+use crate::blocks::filter_edges;
+use crate::plans::{PlacePlan, RowPlans, SuperblockPlans};
+use crate::way::{PlanePass, cells_along, step_of, sub_x, sub_y};
+use line_filter::{EdgeSample, Pass};
+use loop_edges::{CellAt, CellEdges, EdgeSetting, limits_of};
 use planes::SamplePlane;
+use vp9_types::Plane;
 
-/// Places of 8x8 luma samples along a cell.
 #[inline(always)]
-fn step_of(sub: bool) -> u32
-    ensures value { result ≡ step_of sub }
-    ensures least { 1 ≤ result }
-    ensures most { result ≤ 2 }
+fn edges_in(plan: &PlacePlan, way: PlanePass) -> CellEdges
+    ensures { result ≡ edges_in plan.now way.plane way.pass }
 {
-    if sub { 2 } else { 1 }
+    let edges = match way.plane {
+        Plane::Y => plan.luma,
+        Plane::U | Plane::V => plan.chroma,
+    };
+    match way.pass {
+        Pass::Vertical => edges.vertical,
+        Pass::Horizontal => edges.horizontal,
+    }
 }
 
-/// How many cells a superblock has along a side, inside of a frame of so many places.
+/// The edges of a cell in a pass, as planned.
 #[inline(always)]
-fn cells_along(sub: bool, end: u32, s: u32) -> u32
-    requires before { 8 * s ≤ end }
-    requires near { end ≤ 8192 }
-    ensures value { result ≡ cells_along sub end s }
-    ensures few { result ≤ 8 }
-    ensures inside { (i : ℕ) → i < result → 8 * s + step_of sub * i < end }
-{
-    (end - 8 * s).min(8).div_ceil(step_of(sub))
-}
-
-#[inline(always)]
-fn filter_cell<P: EdgeSample, N: Neighbours>(
+#[tactic(auto, unfolding(crate::specs::Plans::planned_edges))]
+fn filter_cell<P: EdgeSample>(
     samples: &mut SamplePlane<P>,
     f: &EdgeSetting,
     way: PlanePass,
-    blocks: &N,
+    plan: &PlacePlan,
     at: CellAt,
 )
     requires size { FitsPlanes f.now.shape }
     requires cell { IsCellIn f.now.shape way.plane samples.old.area at.row at.col }
-    requires held { N.holds blocks.now at.row at.col }
-    requires fit { AllFit (N.blocks blocks.now) }
+    requires plan { IsPlanned f.now at.row at.col plan.now }
+    requires there { has_cell f.now.shape way.plane at.row at.col ≡ true }
     requires kept { greatest f.now.shape.depth ≤ P.greatest }
     requires range { IsAtMost (greatest f.now.shape.depth) (plane_map samples.old) }
     ensures area { samples.new.area ≡ samples.old.area }
-    ensures map { plane_map samples.new ≡ fold with_edge (plane_map samples.old) (cell_edges f.now (N.blocks blocks.now) way.plane way.pass at.row at.col) }
+    ensures map { plane_map samples.new ≡ fold with_edge (plane_map samples.old) (planned_edges f.now way.plane way.pass at.row at.col plan.now) }
     ensures range { IsAtMost (greatest f.now.shape.depth) (plane_map samples.new) }
 {
-    if let Some(block) = blocks.at(at.row, at.col) {
-        filter_block(samples, f, way, at, block);
+    let edges = edges_in(plan, way);
+    if edges.outer.is_some() || edges.inner {
+        let limits = limits_of(f.shape.depth, f.filter.sharpness, plan.level);
+        filter_edges(samples, &f.shape, way, at, edges, limits);
     }
 }
 
 /// A row of a superblock's cells, from left to right.
 #[inline(always)]
-fn filter_cell_row<P: EdgeSample, N: Neighbours>(
+fn filter_cell_row<P: EdgeSample>(
     samples: &mut SamplePlane<P>,
     f: &EdgeSetting,
     way: PlanePass,
-    blocks: &N,
+    plans: &RowPlans,
     row: u32,
     sc: u32,
 )
     requires size { FitsPlanes f.now.shape }
     requires row { IsRowIn f.now.shape way.plane samples.old.area row }
     requires column { 8 * sc ≤ mi_cols f.now.shape }
-    requires held { (c : ℕ) → c < mi_cols f.now.shape → N.holds blocks.now row c }
-    requires fit { AllFit (N.blocks blocks.now) }
+    requires planned { IsRowPlanned f.now row sc plans.now }
+    requires even { sub_y f.now.shape way.plane ≡ true → row % 2 ≡ 0 }
     requires kept { greatest f.now.shape.depth ≤ P.greatest }
     requires range { IsAtMost (greatest f.now.shape.depth) (plane_map samples.old) }
     ensures area { samples.new.area ≡ samples.old.area }
-    ensures map { plane_map samples.new ≡ fold with_edge (plane_map samples.old)
-        (cell_row f.now (N.blocks blocks.now) way.plane way.pass row (cells_of (sub_x f.now.shape way.plane) (mi_cols f.now.shape) sc)) }
+    ensures map { (blocks : List BlockInfo) → ArePlansOfRow f.now blocks row sc plans.now → plane_map samples.new ≡ fold with_edge (plane_map samples.old)
+        (cell_row f.now blocks way.plane way.pass row (cells_of (sub_x f.now.shape way.plane) (mi_cols f.now.shape) sc)) }
     ensures range { IsAtMost (greatest f.now.shape.depth) (plane_map samples.new) }
 {
     let sub = sub_x(&f.shape, way.plane);
     let step = step_of(sub);
     let count = cells_along(sub, f.shape.place_cols(), sc);
     for j in 0..count {
-        filter_cell(
-            samples,
-            f,
-            way,
-            blocks,
-            CellAt {
-                row,
-                col: 8 * sc + step * j,
-            },
-        );
+        let k = step * j;
+        let col = 8 * sc + k;
+        filter_cell(samples, f, way, &plans[k as usize], CellAt { row, col });
     }
 }
 
 /// A pass over a superblock: its rows of cells, from top to bottom. It is a part of its callers, which name plane and pass.
 #[inline(always)]
-pub fn filter_pass<P: EdgeSample, N: Neighbours>(
+pub fn filter_pass<P: EdgeSample>(
     samples: &mut SamplePlane<P>,
     f: &EdgeSetting,
     way: PlanePass,
-    blocks: &N,
+    plans: &SuperblockPlans,
     sr: u32,
     sc: u32,
 )
@@ -117,18 +109,19 @@ pub fn filter_pass<P: EdgeSample, N: Neighbours>(
     requires rows { HasFilterRows f.now.shape way.plane sr samples.old.area }
     requires row { 8 * sr ≤ mi_rows f.now.shape }
     requires column { 8 * sc ≤ mi_cols f.now.shape }
-    requires held { (r c : ℕ) → 8 * sr ≤ r → r < 8 * (sr + 1) → r < mi_rows f.now.shape → c < mi_cols f.now.shape → N.holds blocks.now r c }
-    requires fit { AllFit (N.blocks blocks.now) }
+    requires planned { IsAllPlanned f.now sr sc plans.now }
     requires kept { greatest f.now.shape.depth ≤ P.greatest }
     requires range { IsAtMost (greatest f.now.shape.depth) (plane_map samples.old) }
     ensures area { samples.new.area ≡ samples.old.area }
-    ensures map { plane_map samples.new ≡ fold with_edge (plane_map samples.old) (pass_edges f.now (N.blocks blocks.now) way.plane way.pass sr sc) }
+    ensures map { (blocks : List BlockInfo) → ArePlansOf f.now blocks sr sc plans.now → plane_map samples.new ≡ fold with_edge (plane_map samples.old)
+        (pass_edges f.now blocks way.plane way.pass sr sc) }
     ensures range { IsAtMost (greatest f.now.shape.depth) (plane_map samples.new) }
 {
     let sub = sub_y(&f.shape, way.plane);
     let step = step_of(sub);
     let count = cells_along(sub, f.shape.place_rows(), sr);
     for i in 0..count {
-        filter_cell_row(samples, f, way, blocks, 8 * sr + step * i, sc);
+        let k = step * i;
+        filter_cell_row(samples, f, way, &plans[k as usize], 8 * sr + k, sc);
     }
 }

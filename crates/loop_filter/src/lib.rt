@@ -5,6 +5,7 @@ mod blocks;
 mod cells;
 mod laws;
 mod next;
+mod plans;
 mod rows;
 mod way;
 

@@ -1,6 +1,6 @@
 //! A row of superblocks filtered, in place.
 
-ghost use Rattle.std.specs.Prelude.{◌≡◌, ◌≤◌, ◌<◌, ◌*◌, ◌+◌, ◌/◌, ℕ, false, nat_eq};
+ghost use Rattle.std.specs.Prelude.{◌≡◌, ◌≤◌, ◌<◌, ◌*◌, ◌+◌, ◌/◌, ℕ, List, false, nat_eq};
 ghost use Rattle.std.specs.List.{fold};
 ghost use Rattle.vp9_types.specs.Maps.{IsAtMost};
 ghost use Rattle.vp9_types.specs.Shapes.{mi_rows, mi_cols};
@@ -8,11 +8,14 @@ ghost use Rattle.vp9_types.specs.Sizes.{greatest, superblocks_along};
 ghost use Rattle.vp9_types.specs.declared.shape.Plane.TheVariants.{Y, U, V};
 ghost use Rattle.planes.specs.Planes.{plane_map};
 ghost use Rattle.planes.specs.Pictures.{FitsPlanes, HasSizes, IsInRange, samples_of};
+ghost use Rattle.block_plan.specs.declared.block.BlockInfo.{BlockInfo};
 ghost use Rattle.line_filter.specs.Edges.{with_edge};
 ghost use Rattle.loop_edges.specs.Edges.{superblock_edges, row_edges, with_row, filtered_frame};
 ghost use Rattle.loop_filter.specs.Code.{HasFilterRows, HoldsFilterRows, HasAreasOf, AllFit};
+ghost use Rattle.loop_filter.specs.Plans.{IsAllPlanned, ArePlansOf};
 
 use crate::cells::filter_pass;
+use crate::plans::{SuperblockPlans, plan_superblock};
 use crate::way::PlanePass;
 use block_plan::Neighbours;
 use line_filter::{EdgeSample, Pass};
@@ -20,14 +23,14 @@ use loop_edges::EdgeSetting;
 use planes::{FramePlanes, SamplePlane};
 use vp9_types::Plane;
 
-/// A superblock of a plane: all its vertical edges, then all its horizontal ones.
+/// A superblock of a plane: all its vertical edges, then all its horizontal ones. Each plane has a `SITE` of its own, and is
+/// compiled by itself.
 #[inline(always)]
-#[tactic(auto, unfolding(loop_edges::specs::Edges::superblock_edges), using(crate::proofs::Walks::two_lists))]
-fn filter_superblock<P: EdgeSample, N: Neighbours>(
+fn filter_superblock<P: EdgeSample, const SITE: usize>(
     samples: &mut SamplePlane<P>,
     f: &EdgeSetting,
     plane: Plane,
-    blocks: &N,
+    plans: &SuperblockPlans,
     sr: u32,
     sc: u32,
 )
@@ -35,12 +38,12 @@ fn filter_superblock<P: EdgeSample, N: Neighbours>(
     requires rows { HasFilterRows f.now.shape plane sr samples.old.area }
     requires row { 8 * sr ≤ mi_rows f.now.shape }
     requires column { 8 * sc ≤ mi_cols f.now.shape }
-    requires held { (r c : ℕ) → 8 * sr ≤ r → r < 8 * (sr + 1) → r < mi_rows f.now.shape → c < mi_cols f.now.shape → N.holds blocks.now r c }
-    requires fit { AllFit (N.blocks blocks.now) }
+    requires planned { IsAllPlanned f.now sr sc plans.now }
     requires kept { greatest f.now.shape.depth ≤ P.greatest }
     requires range { IsAtMost (greatest f.now.shape.depth) (plane_map samples.old) }
     ensures area { samples.new.area ≡ samples.old.area }
-    ensures map { plane_map samples.new ≡ fold with_edge (plane_map samples.old) (superblock_edges f.now (N.blocks blocks.now) plane sr sc) }
+    ensures map { (blocks : List BlockInfo) → ArePlansOf f.now blocks sr sc plans.now → plane_map samples.new ≡ fold with_edge (plane_map samples.old)
+        (superblock_edges f.now blocks plane sr sc) }
     ensures range { IsAtMost (greatest f.now.shape.depth) (plane_map samples.new) }
 {
     filter_pass(
@@ -50,7 +53,7 @@ fn filter_superblock<P: EdgeSample, N: Neighbours>(
             plane,
             pass: Pass::Vertical,
         },
-        blocks,
+        plans,
         sr,
         sc,
     );
@@ -61,35 +64,61 @@ fn filter_superblock<P: EdgeSample, N: Neighbours>(
             plane,
             pass: Pass::Horizontal,
         },
-        blocks,
+        plans,
         sr,
         sc,
     );
 }
 
-/// A row of superblocks of a plane, from left to right. Each plane has a `SITE` of its own, and is compiled by itself.
-#[inline(always)]
-fn filter_plane<P: EdgeSample, N: Neighbours, const SITE: usize>(
-    samples: &mut SamplePlane<P>,
+/// A superblock of all planes.
+fn filter_planes<P: EdgeSample, N: Neighbours>(
+    planes: &mut FramePlanes<P>,
     f: &EdgeSetting,
-    plane: Plane,
+    blocks: &N,
+    sr: u32,
+    sc: u32,
+)
+    requires size { FitsPlanes f.now.shape }
+    requires rows { HoldsFilterRows f.now.shape sr planes.old }
+    requires row { 8 * sr ≤ mi_rows f.now.shape }
+    requires column { 8 * sc ≤ mi_cols f.now.shape }
+    requires held { (r c : ℕ) → 8 * sr ≤ r → r < 8 * (sr + 1) → r < mi_rows f.now.shape → c < mi_cols f.now.shape → N.holds blocks.now r c }
+    requires fit { AllFit (N.blocks blocks.now) }
+    requires kept { greatest f.now.shape.depth ≤ P.greatest }
+    requires range { IsInRange f.now.shape.depth planes.old }
+    ensures areas { HasAreasOf planes.old planes.new }
+    ensures y { plane_map planes.new.y ≡ fold with_edge (plane_map planes.old.y) (superblock_edges f.now (N.blocks blocks.now) Y sr sc) }
+    ensures u { plane_map planes.new.u ≡ fold with_edge (plane_map planes.old.u) (superblock_edges f.now (N.blocks blocks.now) U sr sc) }
+    ensures v { plane_map planes.new.v ≡ fold with_edge (plane_map planes.old.v) (superblock_edges f.now (N.blocks blocks.now) V sr sc) }
+    ensures range { IsInRange f.now.shape.depth planes.new }
+{
+    let plans = plan_superblock(f, blocks, sr, sc);
+    filter_superblock::<P, 0>(&mut planes.y, f, Plane::Y, &plans, sr, sc);
+    filter_superblock::<P, 1>(&mut planes.u, f, Plane::U, &plans, sr, sc);
+    filter_superblock::<P, 2>(&mut planes.v, f, Plane::V, &plans, sr, sc);
+}
+
+/// A row of superblocks of all planes, from left to right.
+fn filter_superblocks<P: EdgeSample, N: Neighbours>(
+    planes: &mut FramePlanes<P>,
+    f: &EdgeSetting,
     blocks: &N,
     sr: u32,
 )
     requires size { FitsPlanes f.now.shape }
     requires on { nat_eq f.now.filter.level 0 ≡ false }
-    requires rows { HasFilterRows f.now.shape plane sr samples.old.area }
+    requires rows { HoldsFilterRows f.now.shape sr planes.old }
     requires row { 8 * sr ≤ mi_rows f.now.shape }
     requires held { (r c : ℕ) → 8 * sr ≤ r → r < 8 * (sr + 1) → r < mi_rows f.now.shape → c < mi_cols f.now.shape → N.holds blocks.now r c }
     requires fit { AllFit (N.blocks blocks.now) }
     requires kept { greatest f.now.shape.depth ≤ P.greatest }
-    requires range { IsAtMost (greatest f.now.shape.depth) (plane_map samples.old) }
-    ensures area { samples.new.area ≡ samples.old.area }
-    ensures map { plane_map samples.new ≡ fold with_edge (plane_map samples.old) (row_edges f.now (N.blocks blocks.now) plane sr) }
-    ensures range { IsAtMost (greatest f.now.shape.depth) (plane_map samples.new) }
+    requires range { IsInRange f.now.shape.depth planes.old }
+    ensures areas { HasAreasOf planes.old planes.new }
+    ensures map { samples_of planes.new ≡ with_row f.now (N.blocks blocks.now) (samples_of planes.old) sr }
+    ensures range { IsInRange f.now.shape.depth planes.new }
 {
     for sc in 0..f.shape.superblock_cols() {
-        filter_superblock(samples, f, plane, blocks, sr, sc);
+        filter_planes(planes, f, blocks, sr, sc);
     }
 }
 
@@ -114,9 +143,7 @@ pub fn filter_row<P: EdgeSample, N: Neighbours>(
     ensures range { IsInRange f.now.shape.depth planes.new }
 {
     if f.filter.level > 0 {
-        filter_plane::<P, N, 0>(&mut planes.y, f, Plane::Y, blocks, sr);
-        filter_plane::<P, N, 1>(&mut planes.u, f, Plane::U, blocks, sr);
-        filter_plane::<P, N, 2>(&mut planes.v, f, Plane::V, blocks, sr);
+        filter_superblocks(planes, f, blocks, sr);
     }
 }
 

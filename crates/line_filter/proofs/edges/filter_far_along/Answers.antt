@@ -1,13 +1,39 @@
-use Rattle.std.proofs.Common.{◌+◌, arith, refl}
+use Rattle.std.proofs.Common.{◌+◌, ◌≤◌, arith, refl}
 use Rattle.vp9_types.specs.Maps.{Map}
 use Rattle.planes.specs.Planes.{plane_map}
 use Rattle.line_filter.specs.declared.edge.FilterWidth.TheVariants.{Sixteen}
-use Rattle.line_filter.specs.Lines.{filtered_line}
+use Rattle.line_filter.specs.Lines.{filter_mask, filtered_line}
 use Rattle.line_filter.specs.Edges.{line_along, in_order}
-use Rattle.line_filter.specs.Code.{along_filtered}
+use Rattle.line_filter.specs.Code.{is_flat_far, along_filtered}
 use Rattle.line_filter.proofs.LineBlocks.{between_small, far_small, far_filtered, turned_lanes, turned_by, upper_of_lines, lower_of_lines, lanes_at_most, put_beside}
+use Rattle.line_filter.proofs.KeptLines.{along_kept, along_near, off_along, is_off, between_lanes}
 use Rattle.line_filter.proofs.SmallLines.{is_small, far_fits}
 use Rattle.line_filter.proofs.edges.filter_far_along.Goals as goal
+
+pub far_masks-masks-requires : goal.far_masks-masks-requires
+far_masks-masks-requires g c = let a = c.args in record {
+  near = rw (c.turned-left.ensures, c.turned-right.ensures)
+      (between_small _ _ _ _ (turned_lanes _ _ c.lanes_at.ensures) (turned_lanes _ _ c.lanes_at-2.ensures) (λ i j. is_small a.l.half _ c.requires.half c.requires.range _ _) (λ i j. is_small a.l.half _ c.requires.half c.requires.range _ _));
+}
+
+pub returns-then-not-masks-clause-map : goal.returns-then-not-masks-clause-map
+returns-then-not-masks-clause-map g c = let a = c.args in let m : Map = plane_map a.plane.now in
+    let inside : 8 ≤ a.column = omega (arith, c.requires.inside.left) in
+    along_kept a.l a.plane.now.area m a.row a.column inside
+    (off_along c.turned-left.result c.turned-right.result m a.row a.column (filter_mask a.l) inside (turned_by _ _ _ c.turned-left.ensures c.lanes_at.ensures)
+    (turned_by _ _ _ c.turned-right.ensures c.lanes_at-2.ensures) (c.far_masks-masks.ensures.calm (is_off _ c.if-not-masks.true)))
+
+pub filter_loaded_along-requires-clause-loaded : goal.filter_loaded_along-requires-clause-loaded
+filter_loaded_along-requires-clause-loaded g c = let a = c.args in let m : Map = plane_map a.plane.now in
+    rw c.between.ensures (between_lanes c.turned-left.result c.turned-right.result (λ j. m (a.row + j)) a.column (omega (arith, c.requires.inside.left)) (turned_by _ _ _ c.turned-left.ensures c.lanes_at.ensures) (turned_by _ _ _ c.turned-right.ensures c.lanes_at-2.ensures))
+
+pub returns-then-not-masks-2-clause-map : goal.returns-then-not-masks-2-clause-map
+returns-then-not-masks-2-clause-map g c = let a = c.args in let m : Map = plane_map a.plane.now in
+    let inside : 8 ≤ a.column = omega (arith, c.requires.inside.left) in
+    along_near a.l a.plane.now.area m _ a.row a.column inside c.requires.inside.right
+    (off_along c.turned-left.result c.turned-right.result m a.row a.column (is_flat_far a.l) inside (turned_by _ _ _ c.turned-left.ensures c.lanes_at.ensures)
+    (turned_by _ _ _ c.turned-right.ensures c.lanes_at-2.ensures) (c.far_masks-masks.ensures.flat (is_off _ c.if-not-masks-2.true)))
+    c.filter_loaded_along.ensures.map
 
 pub filtered_far_lanes-requires-clause-near : goal.filtered_far_lanes-requires-clause-near
 filtered_far_lanes-requires-clause-near g c = let a = c.args in rw (c.turned-left.ensures, c.turned-right.ensures)

@@ -1,13 +1,35 @@
-use Rattle.std.proofs.Common.{◌+◌, arith, refl}
+use Rattle.std.proofs.Common.{◌+◌, ◌≤◌, arith, refl}
 use Rattle.vp9_types.specs.Maps.{Map}
 use Rattle.planes.specs.Planes.{plane_map}
 use Rattle.line_filter.specs.declared.edge.FilterWidth.TheVariants.{Sixteen}
-use Rattle.line_filter.specs.Lines.{filtered_line}
+use Rattle.line_filter.specs.Lines.{filter_mask, filtered_line}
 use Rattle.line_filter.specs.Edges.{line_down, in_order}
-use Rattle.line_filter.specs.Code.{down_filtered}
+use Rattle.line_filter.specs.Code.{is_flat_far, down_filtered}
 use Rattle.line_filter.proofs.LineBlocks.{between_small, far_small, far_filtered, upper_of_lines, lower_of_lines, lanes_at_most, put_below}
+use Rattle.line_filter.proofs.KeptLines.{down_kept, down_near, off_down, is_off, between_lanes}
 use Rattle.line_filter.proofs.SmallLines.{is_small, far_fits}
 use Rattle.line_filter.proofs.edges.filter_far_down.Goals as goal
+
+pub far_masks-masks-requires : goal.far_masks-masks-requires
+far_masks-masks-requires g c = let a = c.args in
+    record { near = between_small _ _ _ _ c.lanes_at-above.ensures c.lanes_at-below.ensures (λ i j. is_small a.l.half _ c.requires.half c.requires.range _ _) (λ i j. is_small a.l.half _ c.requires.half c.requires.range _ _) }
+
+pub returns-then-not-masks-clause-map : goal.returns-then-not-masks-clause-map
+returns-then-not-masks-clause-map g c = let a = c.args in let m : Map = plane_map a.plane.now in
+    let inside : 8 ≤ a.row = omega (arith, c.requires.inside.above) in
+    down_kept a.l a.plane.now.area m a.row a.column inside
+    (off_down c.lanes_at-above.result c.lanes_at-below.result m a.row a.column (filter_mask a.l) inside c.lanes_at-above.ensures c.lanes_at-below.ensures (c.far_masks-masks.ensures.calm (is_off _ c.if-not-masks.true)))
+
+pub filter_loaded_down-requires-clause-loaded : goal.filter_loaded_down-requires-clause-loaded
+filter_loaded_down-requires-clause-loaded g c = let a = c.args in let m : Map = plane_map a.plane.now in
+    rw c.between.ensures (between_lanes c.lanes_at-above.result c.lanes_at-below.result (λ j y. m y (a.column + j)) a.row (omega (arith, c.requires.inside.above)) c.lanes_at-above.ensures c.lanes_at-below.ensures)
+
+pub returns-then-not-masks-2-clause-map : goal.returns-then-not-masks-2-clause-map
+returns-then-not-masks-2-clause-map g c = let a = c.args in let m : Map = plane_map a.plane.now in
+    let inside : 8 ≤ a.row = omega (arith, c.requires.inside.above) in
+    down_near a.l a.plane.now.area m _ a.row a.column inside c.requires.inside.below
+    (off_down c.lanes_at-above.result c.lanes_at-below.result m a.row a.column (is_flat_far a.l) inside c.lanes_at-above.ensures c.lanes_at-below.ensures (c.far_masks-masks.ensures.flat (is_off _ c.if-not-masks-2.true)))
+    c.filter_loaded_down.ensures.map
 
 pub filtered_far_lanes-requires-clause-near : goal.filtered_far_lanes-requires-clause-near
 filtered_far_lanes-requires-clause-near g c = let a = c.args in

@@ -1,16 +1,23 @@
-use Rattle.std.proofs.Common.{sym, refl}
-use Rattle.planes.specs.Planes.{plane_map}
-use Rattle.loop_filter.proofs.Walks.{covering_fits, cell_by}
+use Rattle.loop_filter.proofs.Sides.{in_limits, in_depth, kept_in_limits}
+use Rattle.loop_filter.proofs.PlannedEdges.{side_planned, middle_planned}
 use Rattle.loop_filter.proofs.cells.filter_cell.Goals as goal
 
-pub filter_block-requires-clause-fits : goal.filter_block-requires-clause-fits
-filter_block-requires-clause-fits g c =
-    covering_fits (g.N.Neighbours.blocks c.args.blocks.now) c.args.at.row c.args.at.col c.in-Some.block.now c.requires.fit (sym c.in-Some.ensures)
+pub filter_edges-requires-clause-side : goal.filter_edges-requires-clause-side
+filter_edges-requires-clause-side g c = let a = c.args in
+    rw c.edges_in-edges.ensures (side_planned a.f.now a.way a.samples.now.area a.at _ a.plan.now c.requires.cell c.requires.there c.requires.plan)
 
-pub returns-in-Some-clause-map : goal.returns-in-Some-clause-map
-returns-in-Some-clause-map g c = let a = c.args in
-    cell_by a.f.now (g.N.Neighbours.blocks a.blocks.now) a.way.plane a.way.pass a.at.row a.at.col _ (plane_map a.samples.now) _ c.in-Some.ensures c.filter_block.ensures.map
+pub filter_edges-requires-clause-middle : goal.filter_edges-requires-clause-middle
+filter_edges-requires-clause-middle g c = let a = c.args in
+    rw c.edges_in-edges.ensures (middle_planned a.f.now a.way a.samples.now.area a.at c.limits_of-limits.result a.plan.now c.requires.cell c.requires.there c.requires.plan)
 
-pub returns-in_default-clause-map : goal.returns-in_default-clause-map
-returns-in_default-clause-map g c = let a = c.args in
-    cell_by a.f.now (g.N.Neighbours.blocks a.blocks.now) a.way.plane a.way.pass a.at.row a.at.col _ (plane_map a.samples.now) _ c.in_default.ensures refl
+pub filter_edges-requires-clause-kept : goal.filter_edges-requires-clause-kept
+filter_edges-requires-clause-kept g c = let f = c.args.f.now in
+    kept_in_limits f.shape.depth f.filter.sharpness c.args.plan.now.level c.limits_of-limits.result _ c.limits_of-limits.ensures.value c.requires.kept
+
+pub filter_edges-requires-clause-range : goal.filter_edges-requires-clause-range
+filter_edges-requires-clause-range g c = let f = c.args.f.now in
+    in_limits f.shape.depth f.filter.sharpness c.args.plan.now.level c.limits_of-limits.result _ c.limits_of-limits.ensures.value c.requires.range
+
+pub returns-then-is_some-clause-range : goal.returns-then-is_some-clause-range
+returns-then-is_some-clause-range g c = let f = c.args.f.now in
+    in_depth f.shape.depth f.filter.sharpness c.args.plan.now.level c.limits_of-limits.result _ c.limits_of-limits.ensures.value c.filter_edges.ensures.range

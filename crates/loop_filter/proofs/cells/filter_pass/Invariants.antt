@@ -1,19 +1,21 @@
-use Rattle.std.proofs.Common.{◌≡◌}
+use Rattle.std.proofs.Common.{◌≡◌, List}
 use Rattle.std.specs.List.{fold, flat_map}
 use Rattle.vp9_types.specs.Maps.{IsAtMost}
 use Rattle.vp9_types.specs.Shapes.{mi_cols}
 use Rattle.vp9_types.specs.Sizes.{greatest}
 use Rattle.planes.specs.Planes.{plane_map}
+use Rattle.block_plan.specs.declared.block.BlockInfo.{BlockInfo}
 use Rattle.line_filter.specs.Edges.{with_edge}
 use Rattle.loop_edges.specs.Cells.{sub_x, sub_y}
 use Rattle.loop_edges.specs.Edges.{cell_row, cells_from, cells_of}
+use Rattle.loop_filter.specs.Plans.{ArePlansOf}
 use Rattle.loop_filter.proofs.cells.filter_pass.Given as goal
 
 abbrev pub invariant-loop-i : goal.invariant-loop-i
 invariant-loop-i g l = record {
   area : l.samples.area ≡ l.initial.samples.area;
   range : IsAtMost (greatest l.f.shape.depth) (plane_map l.samples);
-  map : plane_map l.samples ≡ fold with_edge (plane_map l.initial.samples)
-      (flat_map (λ r. cell_row l.f (g.N.Neighbours.blocks l.blocks) l.way.plane l.way.pass r (cells_of (sub_x l.f.shape l.way.plane) (mi_cols l.f.shape) l.sc))
+  map : (blocks : List BlockInfo) → ArePlansOf l.f blocks l.sr l.sc l.plans → plane_map l.samples ≡ fold with_edge (plane_map l.initial.samples)
+      (flat_map (λ r. cell_row l.f blocks l.way.plane l.way.pass r (cells_of (sub_x l.f.shape l.way.plane) (mi_cols l.f.shape) l.sc))
       (cells_from (sub_y l.f.shape l.way.plane) l.sr l.i));
 }

@@ -5,20 +5,20 @@ use Rattle.line_filter.specs.Edges.{line_down, in_order}
 use Rattle.line_filter.specs.Code.{down_filtered}
 use Rattle.line_filter.proofs.LineBlocks.{near_small, near_filtered, lanes_at_most}
 use Rattle.line_filter.proofs.SmallLines.{is_small, near_fits}
-use Rattle.line_filter.proofs.edges.filter_down.Goals as goal
+use Rattle.line_filter.proofs.edges.filter_loaded_down.Goals as goal
 
 pub filtered_by-lanes-requires-clause-small : goal.filtered_by-lanes-requires-clause-small
 filtered_by-lanes-requires-clause-small g c =
-    near_small c.lanes_at.result _ c.lanes_at.ensures (λ i j. is_small c.args.l.half _ c.requires.half c.requires.range _ _)
+    near_small c.args.x.now _ c.requires.loaded (λ i j. is_small c.args.l.half _ c.requires.half c.requires.range _ _)
 
 pub put_lanes-requires-clause-fits : goal.put_lanes-requires-clause-fits
 put_lanes-requires-clause-fits g c = let a = c.args in
     lanes_at_most _ c.filtered_by-lanes.result _
-    (near_filtered c.lanes_at.result _ _ (λ j y. plane_map a.plane.now y (a.column + j)) a.row (filtered_near a.l a.wide) (omega (arith, c.requires.inside.above)) c.lanes_at.ensures (λ i j. refl) c.filtered_by-lanes.ensures)
+    (near_filtered c.args.x.now _ _ (λ j y. plane_map a.plane.now y (a.column + j)) a.row (filtered_near a.l a.wide) (omega (arith, c.requires.inside.above)) c.requires.loaded (λ i j. refl) c.filtered_by-lanes.ensures)
     (λ i j. near_fits _ a.l a.wide 4 a.row (λ y. plane_map a.plane.now y (a.column + j)) c.requires.fits (λ y. c.requires.range y (a.column + j)) i)
 
 pub returns-clause-map : goal.returns-clause-map
 unfolding down_filtered
 returns-clause-map g c = let a = c.args in
     c.put_lanes.ensures.map (λ i j. in_order 4 (filtered_near a.l a.wide (line_down 4 (plane_map a.plane.now) a.row (a.column + j))) i)
-    (near_filtered c.lanes_at.result _ _ (λ j y. plane_map a.plane.now y (a.column + j)) a.row (filtered_near a.l a.wide) (omega (arith, c.requires.inside.above)) c.lanes_at.ensures (λ i j. refl) c.filtered_by-lanes.ensures)
+    (near_filtered c.args.x.now _ _ (λ j y. plane_map a.plane.now y (a.column + j)) a.row (filtered_near a.l a.wide) (omega (arith, c.requires.inside.above)) c.requires.loaded (λ i j. refl) c.filtered_by-lanes.ensures)
