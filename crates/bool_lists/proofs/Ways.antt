@@ -61,6 +61,14 @@ pub literal_way : (n x : ℕ) (old new : Part) → Puts (literal n) old x new �
 unfolding literal HasPut
 literal_way n x old new h = (literal_by n 0 x old new h).1
 
+-- two numbers, one behind the other
+pub numbers_way : (n m x y : ℕ) (old mid new : Part) → Puts (literal n) old x mid → Puts (literal m) mid y new → HasPut old (number_bools n x ++ number_bools m y) new
+numbers_way n m x y old mid new h g = spells_on old mid new (number_bools n x) (number_bools m y) (literal_way m y mid new g) (literal_way n x old mid h)
+
+-- a flag, and a number behind it
+pub flag_and_number : (p n x : ℕ) (b : Bool) (old mid new : Part) → Puts (flag p) old b mid → Puts (literal n) mid x new → HasPut old (one_bool p b ++ number_bools n x) new
+flag_and_number p n x b old mid new h g = spells_on old mid new (one_bool p b) (number_bools n x) (literal_way n x mid new g) (flag_way p b old mid h)
+
 ---- a difference ----
 
 -- what is put for one syntax and then another is put for the first, and then for the other
@@ -191,6 +199,10 @@ difference_way d old new h = elim (chosen (literal 4) from_16 d old new h) [
       rw (lt-ltb d 16 under) (spells_on old c.mid new (number_bools 1 0) (number_bools 4 d) (literal_way 4 d c.mid new c.second) c.first)
   | inr c ↦ let w = way_16 d c.mid new c.second in let from = w.0 in
       rw (le-ltb d 16 from) (spells_on old c.mid new (number_bools 1 1) (bools_16 d) w.1 c.first) ]
+
+-- a flag, and a difference behind it
+pub flag_and_difference : (p d : ℕ) (b : Bool) (old mid new : Part) → Puts (flag p) old b mid → Puts difference mid d new → HasPut old (one_bool p b ++ difference_bools d) new
+flag_and_difference p d b old mid new h g = spells_on old mid new (one_bool p b) (difference_bools d) (difference_way d mid new g) (flag_way p b old mid h)
 
 ---- a leaf ----
 
