@@ -72,13 +72,13 @@ flag_and_number p n x b old mid new h g = spells_on old mid new (one_bool p b) (
 ---- a difference ----
 
 -- what is put for one syntax and then another is put for the first, and then for the other
-record Between {A B : Type 0} (s : Syntax ℕ Rule A) (f : A → Syntax ℕ Rule B) (old : Part) (y : B) (new : Part) : Type 0 where
-  x : A
-  mid : Part
-  first : Puts s old x mid
-  second : Puts (f x) mid y new
+pub record Between {A B : Type 0} (s : Syntax ℕ Rule A) (f : A → Syntax ℕ Rule B) (old : Part) (y : B) (new : Part) : Type 0 where
+  pub x : A
+  pub mid : Part
+  pub first : Puts s old x mid
+  pub second : Puts (f x) mid y new
 
-between : {A B : Type 0} (s : Syntax ℕ Rule A) (f : A → Syntax ℕ Rule B) (old new : Part) (y : B) → Puts (s >>= f) old y new → Between s f old y new
+pub between : {A B : Type 0} (s : Syntax ℕ Rule A) (f : A → Syntax ℕ Rule B) (old new : Part) (y : B) → Puts (s >>= f) old y new → Between s f old y new
 between (done x) f old new y h = record { x = x; mid = old; first = (refl, refl); second = h }
 between (broken e) f old new y h = absurd h
 between (ask p k) f old new y h =
@@ -220,12 +220,23 @@ one_in zeros ones probs x zero now new low in_zeros in_ones g = rw (in_zeros g) 
 one_in zeros ones probs x (suc zero) now new low in_zeros in_ones g = rw (in_ones g) (or_true (has_leaf zeros x))
 one_in zeros ones probs x (suc (suc v)) now new low in_zeros in_ones g = absurd (omega arith)
 
-has_one : (tree : Tree) (probs : List ℕ) (x : ℕ) (old new : Part) → Puts (tree_symbol tree probs) old x new → has_leaf tree x ≡ true
+pub has_one : (tree : Tree) (probs : List ℕ) (x : ℕ) (old new : Part) → Puts (tree_symbol tree probs) old x new → has_leaf tree x ≡ true
 unfolding tree_symbol
 has_one (leaf y) probs x old new h = eq-eqb y x h.0
 has_one (node k zeros ones) probs x old new h =
     let now = after_put (slice_index probs k) h.0 old in
     one_in zeros ones probs x h.0 now new h.1.1 (λ g. has_one zeros probs x now new g) (λ g. has_one ones probs x now new g) h.2
+
+-- what holds of each leaf
+abbrev pub OfLeaves : (ℕ → Type 0) → Tree → Type 0
+OfLeaves P (leaf x) = P x
+OfLeaves P (node k zeros ones) = OfLeaves P zeros × OfLeaves P ones
+
+pub of_leaf : (P : ℕ → Type 0) (tree : Tree) (x : ℕ) → OfLeaves P tree → has_leaf tree x ≡ true → P x
+of_leaf P (leaf y) x all there = subst P (eqb-true y x there) all
+of_leaf P (node k zeros ones) x all there = elim (or_cases (has_leaf zeros x) (has_leaf ones x) there) [
+  | inl one ↦ of_leaf P zeros x all.0 one
+  | inr two ↦ of_leaf P ones x all.1 two ]
 
 apart_not : (tree other : Tree) (x : ℕ) → are_apart tree other ≡ true → has_leaf tree x ≡ true → has_leaf other x ≡ false
 apart_not (leaf y) other x is there = subst (λ z. has_leaf other z ≡ false) (eqb-true y x there) (not-true (has_leaf other y) is)

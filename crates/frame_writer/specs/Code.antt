@@ -9,8 +9,10 @@ use Rattle.frame_headers.specs.declared.header.FrameHead.TheVariants.{Coded}
 use Rattle.frame_headers.specs.declared.header.Header.{Header}
 use Rattle.frame_headers.specs.declared.persist.Persist.{Persist}
 use Rattle.frame_headers.specs.declared.header.Uncompressed.TheVariants as uncompressed
-use Rattle.compressed_header.specs.Header.{IsForward, forward}
+use Rattle.compressed_header.specs.Header.{IsForward}
+use Rattle.bool_lists.specs.Lists.{bytes_taken}
 use Rattle.compressed_writer.specs.Bytes.{IsWrittenHeader}
+use Rattle.compressed_writer.specs.Spelling.{spelled_compressed}
 use Rattle.header_writer.specs.Reads.{HoldsHeader}
 use Rattle.header_writer.specs.Spelling.{IsSpelled}
 use Rattle.prob_contexts.specs.Lists.{ContextLists, lists_of}
@@ -208,9 +210,9 @@ pub record AreHeaders (before : Persist) (frame : FrameToWrite) (old : Contexts)
   pub holds : HoldsHeader before (uncompressed.Coded header) front
   pub spelled : IsSpelled before frame.choices (uncompressed.Coded header) front
 
--- a compressed header of 2 ^ 16 bytes is too long
+-- a compressed header whose bools take 2 ^ 16 bytes or more is too long
 abbrev pub IsLongHeader : FrameToWrite → ContextLists → Type 0
-IsLongHeader frame before = (bytes : List ℕ) × (forward frame.header before bytes ≡ Ok (lists_of frame.contexts, frame.modes)) × (2 ^ 16 ≤ length bytes)
+IsLongHeader frame before = 2 ^ 16 ≤ bytes_taken (spelled_compressed frame.header before (lists_of frame.contexts) frame.modes)
 
 abbrev pub GivesHeaders : Persist → FrameToWrite → Contexts → Result FrameHeaders NotWritten → Type 0
 GivesHeaders before frame old (Ok h) = AreHeaders before frame old h.header h.bytes.items
