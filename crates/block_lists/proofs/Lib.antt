@@ -1,3 +1,5 @@
 pub mod Counted
 pub mod IntraWays
 pub mod VectorWays
+pub mod ReferenceWays
+pub mod StartWays

@@ -1,3 +1,5 @@
 pub mod Partitions
 pub mod Intra
 pub mod Vectors
+pub mod References
+pub mod Starts
