@@ -14,8 +14,6 @@ ghost use Rattle.band_decoder.specs.Table.{IsTable, NamesSound, held, held_in};
 
 use crate::any::AnyBands;
 use crate::begun::{BegunFrame, DecodeRoom, decode_begun};
-use crate::outcomes::{halt_outcome, outcome_at, refusal_outcome};
-use crate::places::{place_in, replace_last, shown_place};
 use crate::showing::show;
 use crate::table::BandTable;
 use edge_io::Sink;
@@ -26,8 +24,9 @@ use frame_output::Format;
 use frame_state::{FramePast, FrameSources, Halt, begin_frame};
 use segment_map::SegmentMap;
 use seq_decoder::{
-    LastFrame, OutputForm, SavedContexts, after_key, begin_segments, keep_segments, own_contexts,
-    place_of, segments_of, vectors_before,
+    LastFrame, OutputForm, SavedContexts, after_key, begin_segments, halt_outcome, keep_segments,
+    outcome_at, own_contexts, place_in, place_of, refusal_outcome, replace_last, segments_of,
+    shown_place, vectors_before,
 };
 use std::alloc::Global;
 use std::mem::replace;

@@ -5,8 +5,6 @@ mod any;
 mod begun;
 mod columns;
 mod decoder;
-mod outcomes;
-mod places;
 mod references;
 mod showing;
 mod table;

@@ -13,11 +13,11 @@ ghost use Rattle.band_decoder.specs.Code.{HaveBands, told_of};
 ghost use Rattle.band_decoder.specs.Table.{IsTable, held};
 
 use crate::any::BandSample;
-use crate::places::place_in;
 use crate::table::BandTable;
 use block_rebuild::{Rebuilding, ReferencePicture};
 use frame_bands::FrameBands;
 use frame_headers::{FrameKind, Header, Reference};
+use seq_decoder::place_in;
 
 /// What the slot of a reference holds.
 fn bands_in<'a, P: BandSample>(

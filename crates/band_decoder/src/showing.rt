@@ -1,6 +1,6 @@
 //! What a frame shows.
 
-ghost use Rattle.std.specs.Prelude.{◌≡◌, ◌≤◌, OnOk, length};
+ghost use Rattle.std.specs.Prelude.{◌≡◌};
 ghost use Rattle.frame_output.specs.Formats.{output_text};
 ghost use Rattle.frame_bands.specs.Frames.{map_of};
 ghost use Rattle.seq_decoder.specs.Code.{Shows};
@@ -11,22 +11,9 @@ use crate::any::AnyBands;
 use edge_io::{PutFault, Sink};
 use frame_bands::FrameBands;
 use frame_output::render_as;
-use seq_decoder::OutputForm;
-use std::alloc::{AllocError, Global};
+use seq_decoder::{LEAST_BUFFER, OutputForm, lengthen};
+use std::alloc::Global;
 use vp9_types::Sample;
-
-/// The least size of the buffer that rows are put into the sink from.
-const LEAST_BUFFER: usize = 1 << 16;
-
-/// Makes a buffer at least so long. One that is long enough stays.
-fn lengthen(alloc: Global, buffer: &mut Vec<u8>, least: usize) -> Result<(), AllocError>
-    ensures { OnOk result (least ≤ length buffer.new.items) }
-{
-    if buffer.len() < least {
-        *buffer = Vec::from_elem(alloc, 0, least)?;
-    }
-    Ok(())
-}
 
 /// Puts the text of a frame into a sink, by a buffer that may be used again.
 fn show_kept<P: Sample, K: Sink>(

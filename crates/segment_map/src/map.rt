@@ -59,6 +59,18 @@ impl SegmentMap {
         Ok(())
     }
 
+    /// The same map once more.
+    pub fn copied(&self, alloc: Global) -> Result<SegmentMap, AllocError>
+        ensures { IfOk result (λ m. m ≡ self.now) }
+    {
+        let mut ids = Vec::with_capacity(alloc, self.ids.len())?;
+        ids.extend_from_slice(&self.ids)?;
+        Ok(SegmentMap {
+            frame: self.frame,
+            ids,
+        })
+    }
+
     /// The least id over the part of a block inside the map. The block starts there.
     pub fn predicted(&self, row: u32, col: u32, size: BlockSize) -> u8
         requires row { row < self.now.rows }

@@ -1,13 +1,12 @@
 //! The decoder between two frames.
 
-ghost use Rattle.std.specs.Prelude.{◌≡◌, ℕ, ◌<◌, Some, None, Ok, IfOk, OnOk, get_or, if◌then◌else◌, length};
+ghost use Rattle.std.specs.Prelude.{◌≡◌, ℕ, ◌<◌, Some, None, Ok, IfOk, OnOk, get_or, length};
 ghost use Rattle.frame_headers.specs.Sizes.{IsFrameSize};
 ghost use Rattle.frame_headers.specs.Tiles.{AreFewTiles};
 ghost use Rattle.frame_decoder.specs.Frames.{FrameResult};
 ghost use Rattle.picture_table.specs.Code.{IsBelow, IsTable, NamesSound, held, held_in};
 ghost use Rattle.seq_decoder.specs.After.{Stepped, after_coded, decoded_in, state_after, step};
-ghost use Rattle.seq_decoder.specs.Code.{MayDecode, NamesHeld, StandsFor, HasBegun, IsAt, IsCoded, LiesWithin, halt_outcome, refusal_outcome, told_picture, Adds, Puts};
-ghost use Rattle.seq_decoder.specs.Outcomes.{outcome_at};
+ghost use Rattle.seq_decoder.specs.Code.{MayDecode, NamesHeld, StandsFor, HasBegun, IsAt, IsCoded, LiesWithin, told_picture, Adds, Puts};
 ghost use Rattle.seq_decoder.specs.Outputs.{form_from};
 ghost use Rattle.seq_decoder.specs.State.{State, start_state};
 
@@ -15,11 +14,12 @@ use crate::begun::{BegunFrame, decode_begun};
 use crate::coding::{Coded, own_contexts};
 use crate::form::OutputForm;
 use crate::last::{LastFrame, replace_last};
-use crate::past::{after_key, place_in, vectors_before};
+use crate::outcomes::{halt_outcome, outcome_at, refusal_outcome};
+use crate::past::{after_key, place_in, shown_place, vectors_before};
 use crate::saved::{SavedContexts, place_of};
 use crate::segments::{begin_segments, keep_segments, segments_of};
 use crate::showing::{shape_of_any, show};
-use edge_io::{PutFault, Sink};
+use edge_io::Sink;
 use file_frames::FileFrame;
 use frame_headers::{FrameHead, Header, Persist, read};
 use frame_output::Format;
@@ -28,7 +28,7 @@ use picture_table::{AnyPicture, PictureTable};
 use segment_map::SegmentMap;
 use std::alloc::Global;
 use std::mem::replace;
-use vp9_types::{Outcome, Rule, Span, Stop};
+use vp9_types::{Outcome, Rule, Span};
 
 /// What is kept of the frames so far: what headers read, the saved contexts, the pictures, the map of segments that the
 /// last frame left, and that frame's blocks.
@@ -44,38 +44,6 @@ pub struct Decoder {
     // Memory that is used again: the tile columns of the frame before the last, and the text of rows.
     pub columns: Vec<TileColumn>,
     pub text: Vec<u8>,
-}
-
-/// How a decode ends at a frame that breaks a rule.
-fn outcome_at(frame: u64, rule: Rule) -> Outcome
-    ensures { result ≡ outcome_at frame rule }
-{
-    Outcome::Broken(Stop { frame, rule })
-}
-
-fn halt_outcome(frame: u64, halt: Halt) -> Outcome
-    ensures { result ≡ halt_outcome frame halt }
-{
-    match halt {
-        Halt::Broken(rule) => outcome_at(frame, rule),
-        Halt::OutOfMemory => Outcome::OutOfMemory,
-    }
-}
-
-fn refusal_outcome(refusal: PutFault) -> Outcome
-    ensures { result ≡ refusal_outcome refusal }
-{
-    match refusal {
-        PutFault::Failed => Outcome::WriteFault,
-        PutFault::OutOfMemory => Outcome::OutOfMemory,
-    }
-}
-
-/// Where the picture of a frame stands, if it is shown.
-fn shown_place(header: &Header, place: usize) -> Option<usize>
-    ensures { result ≡ (if header.now.show_frame then Some place else None) }
-{
-    if header.show_frame { Some(place) } else { None }
 }
 
 impl Decoder {

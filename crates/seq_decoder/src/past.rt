@@ -1,6 +1,6 @@
 //! What the frames before leave to a frame.
 
-ghost use Rattle.std.specs.Prelude.{◌≡◌, List, Option, None, IfSome, get_or, map, slice_index_or};
+ghost use Rattle.std.specs.Prelude.{◌≡◌, List, Option, None, Some, IfSome, get_or, if◌then◌else◌, map, slice_index_or};
 ghost use Rattle.block_rebuild.specs.Code.{rebuilding_of};
 ghost use Rattle.frame_headers.specs.Sizes.{IsFrameSize};
 ghost use Rattle.frame_headers.specs.State.{shape_of};
@@ -31,6 +31,13 @@ pub fn place_in(slots: &[Option<usize>; 8], slot: u8) -> Option<usize>
     } else {
         None
     }
+}
+
+/// Where the picture of a frame stands, if it is shown.
+pub fn shown_place(header: &Header, place: usize) -> Option<usize>
+    ensures { result ≡ (if header.now.show_frame then Some place else None) }
+{
+    if header.show_frame { Some(place) } else { None }
 }
 
 /// Whether the last decoded frame was a key frame.

@@ -16,10 +16,10 @@ use std::alloc::{AllocError, Global};
 use vp9_types::{Sample, Shape};
 
 /// The least size of the buffer that rows are put into the sink from.
-const LEAST_BUFFER: usize = 1 << 16;
+pub const LEAST_BUFFER: usize = 1 << 16;
 
 /// Makes a buffer at least so long. One that is long enough stays.
-fn lengthen(alloc: Global, buffer: &mut Vec<u8>, least: usize) -> Result<(), AllocError>
+pub fn lengthen(alloc: Global, buffer: &mut Vec<u8>, least: usize) -> Result<(), AllocError>
     ensures { OnOk result (least ≤ length buffer.new.items) }
 {
     if buffer.len() < least {
