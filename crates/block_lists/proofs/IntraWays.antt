@@ -144,7 +144,7 @@ tx_way mode lists context size tx old new h = by_test (is_selected mode && not (
 
 ---- Modes ----
 
-intra_numbers : (n : ℕ) → has_leaf intra_mode_tree n ≡ true → intra_number (intra_of n) ≡ n
+pub intra_numbers : (n : ℕ) → has_leaf intra_mode_tree n ≡ true → intra_number (intra_of n) ≡ n
 intra_numbers n there = of_leaf (λ n. intra_number (intra_of n) ≡ n) intra_mode_tree n
     (refl, (refl, (refl, ((refl, (refl, refl)), (refl, (refl, (refl, refl))))))) there
 

@@ -3,3 +3,5 @@ pub mod IntraWays
 pub mod VectorWays
 pub mod ReferenceWays
 pub mod StartWays
+pub mod InterWays
+pub mod TokenWays

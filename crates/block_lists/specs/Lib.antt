@@ -3,3 +3,5 @@ pub mod Intra
 pub mod Vectors
 pub mod References
 pub mod Starts
+pub mod Inter
+pub mod Tokens
