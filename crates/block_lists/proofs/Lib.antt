@@ -4,4 +4,3 @@ pub mod VectorWays
 pub mod ReferenceWays
 pub mod StartWays
 pub mod InterWays
-pub mod TokenWays

@@ -4,4 +4,3 @@ pub mod Vectors
 pub mod References
 pub mod Starts
 pub mod Inter
-pub mod Tokens

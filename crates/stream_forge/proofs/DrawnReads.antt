@@ -110,7 +110,7 @@ long_by : (state : State) (header : Header) (frame : FrameToWrite) (past : Frame
     → IsLongHeader frame past.contexts ⊎ ((size : ℕ) × IsTooLong drawing (sources_with frame past size) symbols) → IsNone state (Coded header) x
 long_by state header frame past x symbols is (inl long) = inr (inl
     (subst (λ (p : Header × (ContextLists × (ContextLists × Modes))). 2 ^ 16 ≤ bytes_taken (spelled_compressed p.0 p.1.0 p.1.1.0 p.1.1.1))
-    (λ i. (sym is.header_is i, (sym (ap (λ (p : FramePast). p.contexts) is.past_is) i, (is.contexts i, (ap (λ p. p.0) (sym is.modes)) i)))) long))
+    (λ i. (is.header_is i, (ap (λ (p : FramePast). p.contexts) is.past_is i, (is.contexts i, (ap (λ p. p.0) (sym is.modes)) i)))) long))
 long_by state header frame past x symbols is (inr long) = inr (inr (record {
   size = long.0;
   long = subst (λ (p : FrameSources × DrawnSymbols). IsTooLong drawing p.0 p.1)
