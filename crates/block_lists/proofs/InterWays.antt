@@ -47,7 +47,8 @@ use Rattle.mv_prediction.specs.Vectors.{no_vector}
 use Rattle.mv_prediction.specs.declared.search.SignBiases.{SignBiases}
 use Rattle.mv_prediction.specs.declared.sub_blocks.NearVectors.{NearVectors}
 use Rattle.inter_contexts.specs.Contexts.{filter_context}
-use Rattle.inter_contexts.specs.References.{in_range_or_rule, is_in_range, reference_in, second_in_range}
+use Rattle.inter_contexts.specs.References.{in_range_or_rule, reference_in, second_in_range}
+use Rattle.frame_headers.specs.References.{is_in_range}
 use Rattle.inter_modes.specs.IntraBlocks.{four_modes as intra_four_modes, intra_block_mode_info, intra_mode as coded_intra_mode, luma_modes as intra_luma_modes, one_mode as intra_one_mode, two_columns as intra_two_columns, two_rows as intra_two_rows, uv_mode as coded_uv_mode}
 use Rattle.inter_modes.specs.ModeInfo.{InterFrame, block_mode, block_of_quarters, block_with, by_kind, checked_references, filter_of, inter_block, inter_frame_block, inter_frame_mode_info, inter_prediction, interp_filter, intra_block, intra_frame_block, mode_info, quarters_prediction, sources_of, whole_block, whole_prediction}
 use Rattle.inter_modes.specs.Starts.{segment_reference}
@@ -87,7 +88,7 @@ kept_by {B = B} s f old mid new y (Err rule) one two = absurd (no_value rule y (
 kept : {A B : Type 0} (s : Syntax ℕ Rule (Settled (Result A Rule))) (f : A → Syntax ℕ Rule (Settled (Result B Rule))) (old new : Part) (y : B) → PutsValue (s >>? f) old (Ok y) new → Kept s f old y new
 kept s f old new y h = let a = two_put s (carried f) old new (Ok y) h in kept_by s f old a.mid new y a.x a.first a.second
 
-ok_settled : {A : Type 0} (x y : A) (old new : Part) → PutsValue (settle (Ok x)) old (Ok y) new → (x ≡ y) × (old ≡ new)
+ok_settled : {A : Type 0} (x y : A) (old new : Part) → PutsValue {A = Result A Rule} (settle (Ok x)) old (Ok y) new → (x ≡ y) × (old ≡ new)
 ok_settled {A} x y old new h = let e = settle_put {A = Result A Rule} (Ok x) (Ok y) old new h in (ok_is x y e.0, e.1)
 
 -- nothing was put
@@ -408,7 +409,9 @@ inter_block_way f s above left start block old new inter h =
     let e = ok_settled {A = BlockInfo} (block_with s.search.at start (Inter b.x)) block b.mid new b.second in
     let one = checked_way f s.search.biases above left start.segment.id a.x old a.mid a.first in
     let p = prediction_way s f.contexts.inter (skips_segment f.header.params.segmentation start.segment.id) f.fields.filter (filter_context above left) a.x b.x a.mid b.mid b.first in
-    let two = rw p.is (spells_on old a.mid b.mid _ _ p.put one) in
+    let two : HasPut old (spelled_references (segment_reference f.header.params.segmentation start.segment.id) f.modes.reference_mode f.contexts.inter s.search.biases above left b.x.references
+        ++ spelled_prediction s f.contexts.inter (skips_segment f.header.params.segmentation start.segment.id) f.fields.filter (filter_context above left) b.x) b.mid =
+    rw p.is (spells_on old a.mid b.mid _ _ p.put one) in
     let made : IsBehind f s above left start (block_with s.search.at start (Inter b.x)) old b.mid = record {
       is = λ i. record { segment = start.segment; skip = start.skip; is_inter = sym inter i; tx = start.tx };
       put = two;
