@@ -1,13 +1,12 @@
 -- What was put for a syntax that counts.
-use Rattle.std.proofs.Common.{◌≡◌, ℕ, List, Bool, true, refl, sym, subst, ap}
-use Rattle.vp9_types.specs.Syntax.{Syntax, done}
-use Rattle.vp9_types.specs.Trees.{Tree, tree_symbol}
+use Rattle.std.proofs.Common.{◌≡◌, ℕ, List, Bool, true, subst}
+use Rattle.vp9_types.specs.Syntax.{Syntax}
+use Rattle.vp9_types.specs.Trees.{Tree}
 use Rattle.vp9_types.specs.declared.rule.Rule.{Rule}
 use Rattle.prob_contexts.specs.declared.kind.CountedBool.{CountedBool}
 use Rattle.prob_contexts.specs.declared.kind.ProbKind.{ProbKind}
 use Rattle.counting_reader.specs.Counting.{Settled, settle, count, uncounted, in_order}
 use Rattle.counting_reader.specs.Symbols.{counted_flag, counted_tree}
-use Rattle.bool_decoder.specs.Bools.{flag}
 use Rattle.bool_encoder.specs.Part.{Part}
 use Rattle.bool_encoder.specs.Bools.{Puts}
 use Rattle.bool_lists.specs.Lists.{HasPut, has_leaf, is_distinct, one_bool, tree_bools}

@@ -1,6 +1,6 @@
 -- The blocks of inter frames are put in one way.
-use Rattle.std.proofs.Common.{◌≡◌, ℕ, ◌+◌, ◌*◌, List, [], ◌∷◌, ◌++◌, Bool, true, false, ◌&&◌, drop, append_assoc, refl, sym, subst, ap, ◌∙◌}
-use Rattle.std.specs.Prelude.{Option, Some, None, Result, Ok, Err, slice_index, slice_index_or, if◌then◌else◌}
+use Rattle.std.proofs.Common.{◌≡◌, ℕ, ◌*◌, List, [], ◌∷◌, ◌++◌, Bool, true, false, ◌&&◌, drop, append_assoc, refl, sym, subst, ap, ◌∙◌}
+use Rattle.std.specs.Prelude.{Option, Some, None, Result, Ok, Err, if◌then◌else◌}
 use Rattle.vp9_types.specs.Maps.{Map}
 use Rattle.vp9_types.specs.Syntax.{Syntax}
 use Rattle.vp9_types.specs.declared.block.BlockSize.{BlockSize}
@@ -13,9 +13,8 @@ use Rattle.vp9_types.specs.declared.block.Modes.{Modes}
 use Rattle.vp9_types.specs.declared.block.ReferenceFrame.{ReferenceFrame}
 use Rattle.vp9_types.specs.declared.rule.Rule.{Rule}
 use Rattle.vp9_types.specs.declared.rule.Rule.TheVariants.{BlockScale}
-use Rattle.vp9_tables.specs.Numbers.{block_number, filter_number, inter_number, intra_number}
+use Rattle.vp9_tables.specs.Numbers.{filter_number, inter_number, intra_number}
 use Rattle.vp9_tables.specs.Trees.{filter_tree, inter_mode_tree, intra_mode_tree}
-use Rattle.vp9_tables.specs.declared.data.blocks.TheConstants.{SIZE_GROUP}
 use Rattle.bool_encoder.specs.Part.{Part}
 use Rattle.bool_lists.specs.Lists.{BoolList, HasPut, has_leaf, tree_bools}
 use Rattle.bool_lists.proofs.Ways.{of_leaf, spells_on, spells_none}
@@ -36,7 +35,6 @@ use Rattle.block_plan.specs.declared.block.BlockInfo.{BlockInfo}
 use Rattle.block_plan.specs.declared.block.InterPrediction.{InterPrediction}
 use Rattle.block_plan.specs.declared.block.IntraPrediction.{IntraPrediction}
 use Rattle.block_plan.specs.declared.block.Mv.{Mv}
-use Rattle.block_plan.specs.declared.block.Prediction.{Prediction}
 use Rattle.block_plan.specs.declared.block.Prediction.TheVariants.{Intra, Inter}
 use Rattle.block_plan.specs.declared.block.References.{References}
 use Rattle.mode_syntax.specs.Elements.{skips_segment}
@@ -50,16 +48,15 @@ use Rattle.inter_contexts.specs.Contexts.{filter_context}
 use Rattle.inter_contexts.specs.References.{in_range_or_rule, reference_in, second_in_range}
 use Rattle.frame_headers.specs.References.{is_in_range}
 use Rattle.inter_modes.specs.IntraBlocks.{four_modes as intra_four_modes, intra_block_mode_info, intra_mode as coded_intra_mode, luma_modes as intra_luma_modes, one_mode as intra_one_mode, two_columns as intra_two_columns, two_rows as intra_two_rows, uv_mode as coded_uv_mode}
-use Rattle.inter_modes.specs.ModeInfo.{InterFrame, block_mode, block_of_quarters, block_with, by_kind, checked_references, filter_of, inter_block, inter_frame_block, inter_frame_mode_info, inter_prediction, interp_filter, intra_block, intra_frame_block, mode_info, quarters_prediction, sources_of, whole_block, whole_prediction}
+use Rattle.inter_modes.specs.ModeInfo.{InterFrame, block_mode, block_of_quarters, block_with, by_kind, checked_references, filter_of, inter_block, inter_frame_block, inter_frame_mode_info, inter_prediction, interp_filter, intra_block, intra_frame_block, mode_info, quarters_prediction, whole_block, whole_prediction}
 use Rattle.inter_modes.specs.Starts.{segment_reference}
-use Rattle.inter_modes.specs.Vectors.{Sources, before_of, best_vectors, block_vector, block_vectors, carried, four_quarters, inter_mode, inter_of, near_of_block, quarter, quarter_vector, quarter_vectors, quarters, row_at, two_columns, two_rows, vector_of_mode, with_second, ◌>>?◌}
+use Rattle.inter_modes.specs.Vectors.{Sources, best_vectors, block_vector, block_vectors, carried, four_quarters, inter_mode, inter_of, near_of_block, quarter, quarter_vector, quarter_vectors, quarters, row_at, two_columns, two_rows, vector_of_mode, with_second, ◌>>?◌}
 use Rattle.inter_modes.specs.declared.quarters.Quarter.{Quarter}
 use Rattle.inter_modes.specs.declared.quarters.QuartersBefore.{QuartersBefore}
 use Rattle.inter_modes.specs.declared.starts.BlockStart.{BlockStart}
-use Rattle.block_lists.specs.Inter.{inter_mode_of, is_inter_block, spelled_block_mode, spelled_by_kind, spelled_by_prediction, spelled_filter, spelled_inter_beside, spelled_inter_mode, spelled_intra, spelled_luma, spelled_mode, spelled_mode_info, spelled_of_quarters, spelled_prediction, spelled_quarter, spelled_quarter_of, spelled_quarters, spelled_second, spelled_vector, spelled_vectors, spelled_whole, start_of}
+use Rattle.block_lists.specs.Inter.{inter_mode_of, spelled_block_mode, spelled_by_kind, spelled_by_prediction, spelled_filter, spelled_inter_beside, spelled_inter_mode, spelled_intra, spelled_luma, spelled_mode, spelled_mode_info, spelled_of_quarters, spelled_prediction, spelled_quarter, spelled_quarter_of, spelled_quarters, spelled_second, spelled_vector, spelled_vectors, spelled_whole, start_of}
 use Rattle.block_lists.specs.Intra.{mode_of, spelled_intra_frame}
 use Rattle.block_lists.specs.References.{spelled_references}
-use Rattle.block_lists.specs.Starts.{spelled_start}
 use Rattle.block_lists.proofs.Counted.{two_put, settle_put, tree_put}
 use Rattle.block_lists.proofs.IntraWays.{intra_frame_way, intra_numbers}
 use Rattle.block_lists.proofs.ReferenceWays.{references_way}
@@ -177,7 +174,7 @@ quarter_way s probs context refs k before q old new h =
     let one = mode_way probs context a.x old a.mid a.first in
     let two = quarter_vectors_way s a.x refs k before b.x a.mid b.mid b.first in
     subst (λ (p : Quarter × Part). HasPut old (spelled_inter_mode probs context p.0.mode ++ spelled_vector s p.0.mode (vector_at before.best 0) (vector_at p.0.vectors 0)
-        ++ spelled_second refs.second (λ reference. spelled_vector s p.0.mode (vector_at before.best 1) (vector_at p.0.vectors 1))) p.1) (λ i. (e.0 i, e.1 i))
+    ++ spelled_second refs.second (λ reference. spelled_vector s p.0.mode (vector_at before.best 1) (vector_at p.0.vectors 1))) p.1) (λ i. (e.0 i, e.1 i))
     (rw (append_assoc (spelled_inter_mode probs context a.x) (spelled_vector s a.x (vector_at before.best 0) (vector_at b.x 0)) _) (spells_on old a.mid b.mid _ _ two one))
 
 ---- Quarters ----
@@ -196,7 +193,7 @@ columns_way s probs context refs filter qs old new h =
     let one = quarter_way s probs context refs 0 _ a.x old a.mid a.first in
     let two = spells_on old a.mid b.mid _ _ (quarter_way s probs context refs 1 _ b.x a.mid b.mid b.first) one in
     subst (λ (p : List Quarter × Part). HasPut old (spelled_quarter s probs context refs (best_vectors s refs) (inter_mode_of (Predicted refs filter p.0) 0) (row_at (Predicted refs filter p.0).vectors 0)
-        ++ spelled_quarter s probs context refs (best_vectors s refs) (inter_mode_of (Predicted refs filter p.0) 1) (row_at (Predicted refs filter p.0).vectors 1)) p.1) (λ i. (e.0 i, e.1 i)) two
+    ++ spelled_quarter s probs context refs (best_vectors s refs) (inter_mode_of (Predicted refs filter p.0) 1) (row_at (Predicted refs filter p.0).vectors 1)) p.1) (λ i. (e.0 i, e.1 i)) two
 
 rows_way : (s : Sources) (probs : List ℕ) (context : ℕ) (refs : References) (filter : InterpFilter) (qs : List Quarter) (old new : Part)
     → PutsValue (two_rows s probs context refs (best_vectors s refs)) old (Ok qs) new → HasPut old (spelled_quarters s probs context B8x4 (Predicted refs filter qs)) new
@@ -208,7 +205,7 @@ rows_way s probs context refs filter qs old new h =
     let one = quarter_way s probs context refs 0 _ a.x old a.mid a.first in
     let two = spells_on old a.mid b.mid _ _ (quarter_way s probs context refs 2 _ b.x a.mid b.mid b.first) one in
     subst (λ (p : List Quarter × Part). HasPut old (spelled_quarter s probs context refs (best_vectors s refs) (inter_mode_of (Predicted refs filter p.0) 0) (row_at (Predicted refs filter p.0).vectors 0)
-        ++ spelled_quarter s probs context refs (best_vectors s refs) (inter_mode_of (Predicted refs filter p.0) 2) (row_at (Predicted refs filter p.0).vectors 2)) p.1) (λ i. (e.0 i, e.1 i)) two
+    ++ spelled_quarter s probs context refs (best_vectors s refs) (inter_mode_of (Predicted refs filter p.0) 2) (row_at (Predicted refs filter p.0).vectors 2)) p.1) (λ i. (e.0 i, e.1 i)) two
 
 abbrev FourPut : Sources → List ℕ → ℕ → References → InterpFilter → List Quarter → BoolList
 FourPut s probs context refs filter qs =
@@ -410,7 +407,7 @@ inter_block_way f s above left start block old new inter h =
     let one = checked_way f s.search.biases above left start.segment.id a.x old a.mid a.first in
     let p = prediction_way s f.contexts.inter (skips_segment f.header.params.segmentation start.segment.id) f.fields.filter (filter_context above left) a.x b.x a.mid b.mid b.first in
     let two : HasPut old (spelled_references (segment_reference f.header.params.segmentation start.segment.id) f.modes.reference_mode f.contexts.inter s.search.biases above left b.x.references
-        ++ spelled_prediction s f.contexts.inter (skips_segment f.header.params.segmentation start.segment.id) f.fields.filter (filter_context above left) b.x) b.mid =
+    ++ spelled_prediction s f.contexts.inter (skips_segment f.header.params.segmentation start.segment.id) f.fields.filter (filter_context above left) b.x) b.mid =
     rw p.is (spells_on old a.mid b.mid _ _ p.put one) in
     let made : IsBehind f s above left start (block_with s.search.at start (Inter b.x)) old b.mid = record {
       is = λ i. record { segment = start.segment; skip = start.skip; is_inter = sym inter i; tx = start.tx };

@@ -1,12 +1,12 @@
 -- The partitions and blocks of intra frames are put in one way.
-use Rattle.std.proofs.Common.{◌≡◌, ℕ, zero, suc, ◌+◌, ◌*◌, List, [], ◌∷◌, ◌++◌, Bool, true, false, not, ◌&&◌, drop, get_or, refl, sym, subst, ap, ◌∙◌}
-use Rattle.std.specs.Prelude.{Option, Some, None, slice_index, nat_lt, if◌then◌else◌}
+use Rattle.std.proofs.Common.{◌≡◌, ℕ, ◌*◌, List, [], ◌++◌, Bool, true, false, not, ◌&&◌, drop, refl, sym, subst, ap, ◌∙◌}
+use Rattle.std.specs.Prelude.{Option, Some, None, slice_index, if◌then◌else◌}
 use Rattle.vp9_types.specs.Trees.{tree_symbol}
 use Rattle.vp9_types.specs.declared.block.BlockSize.{BlockSize}
 use Rattle.vp9_types.specs.declared.block.BlockSize.TheVariants.{B4x4, B4x8, B8x4, B8x8, B8x16, B16x8, B16x16, B16x32, B32x16, B32x32, B32x64, B64x32, B64x64}
 use Rattle.vp9_types.specs.declared.block.IntraMode.{IntraMode}
 use Rattle.vp9_types.specs.declared.block.Partition.{Partition}
-use Rattle.vp9_types.specs.declared.block.Partition.TheVariants.{Whole, Horizontal, Vertical, Split}
+use Rattle.vp9_types.specs.declared.block.Partition.TheVariants.{Horizontal, Vertical, Split}
 use Rattle.vp9_types.specs.Syntax.{done}
 use Rattle.vp9_types.specs.declared.block.Modes.{Modes}
 use Rattle.vp9_types.specs.declared.block.TxMode.{TxMode}
@@ -36,7 +36,7 @@ use Rattle.bool_encoder.specs.Bools.{Puts}
 use Rattle.bool_lists.specs.Lists.{HasPut, has_leaf, is_distinct, one_bool, tree_bools}
 use Rattle.bool_lists.proofs.Ways.{between, of_leaf, flag_way, has_one, tree_way, spells_on, spells_none}
 use Rattle.counting_writer.specs.Counted.{PutsValue}
-use Rattle.counting_reader.specs.Counting.{settle, count, uncounted, in_order}
+use Rattle.counting_reader.specs.Counting.{settle, uncounted}
 use Rattle.mode_syntax.specs.Partitions.{edge_symbol, partition, partition_at, partition_of, partition_value, split_or, whole_symbol}
 use Rattle.block_lists.specs.Partitions.{is_split, spelled_partition, spelled_partition_at}
 use Rattle.block_lists.proofs.Counted.{two_put, settle_put, count_put, uncounted_put, flag_put, tree_put}
@@ -197,9 +197,9 @@ four_way edge luma old new h =
     let three = spells_on old b.mid c.mid _ _ (default_way a.x edge.left_second c.x b.mid c.mid c.first) two in
     let four = spells_on old c.mid d.mid _ _ (default_way b.x c.x d.x c.mid d.mid d.first) three in
     subst (λ l. HasPut old (spelled_default edge.above_first edge.left_first (mode_of l 0) ++ spelled_default edge.above_second (mode_of l 0) (mode_of l 1)
-        ++ spelled_default (mode_of l 0) edge.left_second (mode_of l 2) ++ spelled_default (mode_of l 1) (mode_of l 2) (mode_of l 3)) new) d.second.0
+    ++ spelled_default (mode_of l 0) edge.left_second (mode_of l 2) ++ spelled_default (mode_of l 1) (mode_of l 2) (mode_of l 3)) new) d.second.0
     (subst (λ m. HasPut old (spelled_default edge.above_first edge.left_first a.x ++ spelled_default edge.above_second a.x b.x
-        ++ spelled_default a.x edge.left_second c.x ++ spelled_default b.x c.x d.x) m) d.second.1 four)
+    ++ spelled_default a.x edge.left_second c.x ++ spelled_default b.x c.x d.x) m) d.second.1 four)
 
 luma_way : (size : BlockSize) (edge : EdgeModes) (luma : List IntraMode) (old new : Part) → Puts (luma_modes size edge) old luma new → HasPut old (spelled_luma size edge luma) new
 unfolding luma_modes spelled_luma
@@ -235,11 +235,11 @@ beside_way segmentation tx_mode contexts above left at block old new h =
     let four = spells_on old c.mid d.mid _ _ (luma_way at.size (edge_modes above left) d.x c.mid d.mid (uncounted_put _ d.x c.mid d.mid d.first)) three in
     let five = spells_on old d.mid e.mid _ _ (uv_way (last_mode d.x) e.x d.mid e.mid (uncounted_put _ e.x d.mid e.mid e.first)) four in
     subst (λ (q : BlockInfo). HasPut old (spelled_segment segmentation.enabled segmentation.map q.segment ++ spelled_skip segmentation contexts.skip (skip_context above left) q.segment q.skip
-        ++ spelled_tx tx_mode contexts.tx (tx_context at.size above left) at.size q.tx ++ spelled_luma at.size (edge_modes above left) (luma_of q.prediction)
-        ++ spelled_uv (mode_of (luma_of q.prediction) 3) (chroma_of q.prediction)) new) last.0
+    ++ spelled_tx tx_mode contexts.tx (tx_context at.size above left) at.size q.tx ++ spelled_luma at.size (edge_modes above left) (luma_of q.prediction)
+    ++ spelled_uv (mode_of (luma_of q.prediction) 3) (chroma_of q.prediction)) new) last.0
     (subst (λ m. HasPut old (spelled_segment segmentation.enabled segmentation.map a.x ++ spelled_skip segmentation contexts.skip (skip_context above left) a.x b.x
-        ++ spelled_tx tx_mode contexts.tx (tx_context at.size above left) at.size c.x ++ spelled_luma at.size (edge_modes above left) d.x
-        ++ spelled_uv (last_mode d.x) e.x) m) last.1 five)
+    ++ spelled_tx tx_mode contexts.tx (tx_context at.size above left) at.size c.x ++ spelled_luma at.size (edge_modes above left) d.x
+    ++ spelled_uv (last_mode d.x) e.x) m) last.1 five)
 
 pub intra_frame_way : (header : Header) (modes : Modes) (contexts : ContextLists) (earlier : List BlockInfo) (at : BlockAt) (block : BlockInfo) (old new : Part) →
     PutsValue (intra_frame_mode_info header modes contexts earlier at) old block new → HasPut old (spelled_intra_frame header modes contexts earlier at block) new

@@ -110,7 +110,7 @@ coded_way mode lists biases above left refs old new h =
 
     by_flag : (compound : Bool) (mid : Part) → HasPut old (flags compound) mid
         → PutsValue (if compound then compound_references lists.compound_references biases (reference_context CompoundVariable (fixed_of biases) above left)
-          else single_reference lists.single_references (reference_context SingleFirst (fixed_of biases) above left) (reference_context SingleSecond (fixed_of biases) above left)) mid refs new
+        else single_reference lists.single_references (reference_context SingleFirst (fixed_of biases) above left) (reference_context SingleSecond (fixed_of biases) above left)) mid refs new
         → HasPut old (flags (is_some refs.second) ++ Coded lists biases above left refs) new
     by_flag true mid one g = let c = compound_way _ biases _ refs mid new g in rw c.is (spells_on old mid new _ _ c.put one)
     by_flag false mid one g = let c = single_way _ _ _ refs mid new g in rw c.is (spells_on old mid new _ _ c.put one)

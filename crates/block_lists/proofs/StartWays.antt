@@ -1,11 +1,10 @@
 -- What a block of an inter frame says first is put in one way.
-use Rattle.std.proofs.Common.{◌≡◌, ℕ, List, [], ◌++◌, Bool, true, false, not, ◌&&◌, refl, sym, subst, ap, ◌∙◌}
+use Rattle.std.proofs.Common.{◌≡◌, ℕ, List, [], ◌++◌, Bool, true, false, not, ◌&&◌, refl, sym, subst, ap}
 use Rattle.std.specs.Prelude.{Option, Some, None, slice_index, if◌then◌else◌}
 use Rattle.vp9_types.specs.Trees.{tree_symbol}
 use Rattle.vp9_types.specs.declared.block.BlockSize.{BlockSize}
 use Rattle.vp9_types.specs.declared.block.TxMode.{TxMode}
 use Rattle.vp9_types.specs.declared.block.TxSize.{TxSize}
-use Rattle.vp9_tables.specs.Numbers.{tx_of}
 use Rattle.vp9_tables.specs.Trees.{segment_tree}
 use Rattle.bool_decoder.specs.Bools.{flag}
 use Rattle.bool_encoder.specs.Part.{Part}
@@ -15,16 +14,15 @@ use Rattle.frame_headers.specs.declared.segments.FeatureReference.{FeatureRefere
 use Rattle.frame_headers.specs.declared.segments.MapUpdate.{MapUpdate}
 use Rattle.frame_headers.specs.declared.segments.Segmentation.{Segmentation}
 use Rattle.prob_contexts.specs.Lists.{ContextLists, TxLists}
-use Rattle.block_geometry.specs.Sizes.{greatest_allowed}
 use Rattle.block_plan.specs.declared.block.BlockInfo.{BlockInfo}
-use Rattle.counting_reader.specs.Counting.{settle, uncounted}
+use Rattle.counting_reader.specs.Counting.{settle}
 use Rattle.counting_writer.specs.Counted.{PutsValue}
-use Rattle.mode_syntax.specs.Elements.{read_tx_size, skip_context, tx_context}
+use Rattle.mode_syntax.specs.Elements.{skip_context, tx_context}
 use Rattle.inter_contexts.specs.Contexts.{is_inter_context, predicted_context}
-use Rattle.inter_modes.specs.Starts.{block_start, coded_segment, inter_segment_id, is_inter_by, is_inter_feature, read_is_inter, segment_by, segment_of, segment_reference, temporal_segment, tx_size, updated_segment}
+use Rattle.inter_modes.specs.Starts.{block_start, coded_segment, inter_segment_id, is_inter_by, read_is_inter, segment_by, segment_of, segment_reference, temporal_segment, tx_size, updated_segment}
 use Rattle.inter_modes.specs.declared.starts.BlockStart.{BlockStart}
 use Rattle.inter_modes.specs.declared.starts.SegmentOf.{SegmentOf}
-use Rattle.block_lists.specs.Intra.{spelled_skip, spelled_tx}
+use Rattle.block_lists.specs.Intra.{spelled_skip}
 use Rattle.block_lists.specs.Starts.{spelled_inter_segment, spelled_is_inter, spelled_segment_by, spelled_start, spelled_temporal, spelled_tx_if, spelled_updated}
 use Rattle.block_lists.proofs.Counted.{two_put, settle_put, uncounted_put, flag_put}
 use Rattle.block_lists.proofs.IntraWays.{skip_way, tx_way}
@@ -55,7 +53,7 @@ temporal_way update context least segment old new h =
     by_flag : (predicted : Bool) (mid : Part) → HasPut old (one_bool (slice_index update.prediction context) predicted) mid
         → PutsValue (if predicted then settle (segment_of true least) else coded_segment update.tree) mid segment new
         → HasPut old (if segment.predicted then one_bool (slice_index update.prediction context) true
-          else (one_bool (slice_index update.prediction context) false ++ tree_bools segment_tree update.tree segment.id)) new
+        else (one_bool (slice_index update.prediction context) false ++ tree_bools segment_tree update.tree segment.id)) new
     by_flag true mid one g =
         let e = settle_put {A = SegmentOf} (segment_of true least) segment mid new g in
         let is : segment.predicted ≡ true = ap (λ (s : SegmentOf). s.predicted) (sym e.0) in
@@ -113,6 +111,6 @@ start_way segmentation mode contexts above left size least start old new h =
     let three = spells_on old b.mid c.mid _ _ (is_inter_way (segment_reference segmentation a.x.id) contexts.inter.is_inter (is_inter_context above left) c.x b.mid c.mid c.first) two in
     let four = spells_on old c.mid d.mid _ _ (tx_if_way mode contexts.tx (tx_context size above left) size (not (c.x && b.x)) d.x c.mid d.mid d.first) three in
     subst (λ (p : BlockStart × Part). HasPut old (spelled_inter_segment segmentation (predicted_context above left) p.0.segment
-        ++ spelled_skip segmentation contexts.skip (skip_context above left) p.0.segment.id p.0.skip
-        ++ spelled_is_inter (segment_reference segmentation p.0.segment.id) contexts.inter.is_inter (is_inter_context above left) p.0.is_inter
-        ++ spelled_tx_if mode contexts.tx (tx_context size above left) size (not (p.0.is_inter && p.0.skip)) p.0.tx) p.1) (λ i. (last.0 i, last.1 i)) four
+    ++ spelled_skip segmentation contexts.skip (skip_context above left) p.0.segment.id p.0.skip
+    ++ spelled_is_inter (segment_reference segmentation p.0.segment.id) contexts.inter.is_inter (is_inter_context above left) p.0.is_inter
+    ++ spelled_tx_if mode contexts.tx (tx_context size above left) size (not (p.0.is_inter && p.0.skip)) p.0.tx) p.1) (λ i. (last.0 i, last.1 i)) four

@@ -1,6 +1,6 @@
 -- Vectors are put in one way.
-use Rattle.std.proofs.Common.{◌≡◌, ◌≢◌, ◌<◌, ◌≤◌, ℕ, zero, suc, ◌+◌, ◌-◌, ◌*◌, ◌/◌, ◌%◌, ◌^◌, List, [], ◌∷◌, ◌++◌, Bool, true, false, not, ◌&&◌, ◌||◌, drop, refl, sym, subst, ap, ◌∙◌, arith, ℤ, pos, ◌+ℤ◌, ◌-ℤ◌, inl, inr}
-use Rattle.std.specs.Prelude.{Result, Ok, Err, negsuc, neg_ℤ, int_lt, unsigned_abs, slice_index, nat_eq, nat_le, nat_lt, if◌then◌else◌}
+use Rattle.std.proofs.Common.{◌≡◌, ◌<◌, ◌≤◌, ℕ, zero, suc, ◌+◌, ◌-◌, ◌*◌, ◌/◌, ◌%◌, ◌^◌, [], Bool, true, false, not, ◌&&◌, ◌||◌, drop, refl, sym, subst, ap, ◌∙◌, arith, ℤ, pos, ◌+ℤ◌, ◌-ℤ◌, inl, inr}
+use Rattle.std.specs.Prelude.{Result, Ok, Err, int_lt, unsigned_abs, slice_index, nat_eq, nat_le, if◌then◌else◌}
 use Rattle.std.specs.Ordering.{int_eq}
 use Rattle.std.specs.List.{range_with_len}
 use Rattle.std.proofs.Math.IntN.{+ℤ_comm, +ℤ-neg_ℤ_cancel}
@@ -17,7 +17,7 @@ use Rattle.bool_lists.specs.Lists.{HasPut, has_leaf, one_bool, tree_bools}
 use Rattle.bool_lists.proofs.Ways.{of_leaf, spells_on, spells_none}
 use Rattle.prob_contexts.specs.Lists.{VectorLists}
 use Rattle.prob_contexts.specs.declared.kind.ProbKind.{ProbKind}
-use Rattle.counting_reader.specs.Counting.{settle, through}
+use Rattle.counting_reader.specs.Counting.{through}
 use Rattle.counting_writer.specs.Counted.{PutsValue}
 use Rattle.block_plan.specs.declared.block.Mv.{Mv}
 use Rattle.mv_prediction.specs.Vectors.{is_precise}
@@ -198,7 +198,8 @@ signed_some : (s : Bool) (k : ℕ) → int_eq (signed s (suc k)) (pos 0) ≡ fal
 signed_some true k = refl
 signed_some false k = elim (cases_Bool (int_eq (pos (suc k)) (pos 0))) [
   | inl one ↦ let no : suc k ≡ 0 = ap unsigned_abs ((Decides-int_eq (pos (suc k)) (pos 0)).0 one) in absurd (omega (arith, no))
-  | inr none ↦ none ]
+  | inr none ↦ none
+]
 
 component_way : (lists : VectorLists) (component : Component) (precise : Bool) (z : ℤ) (old new : Part) → PutsValue (read_mv_component lists component precise) old z new → IsComponent lists component precise z old new
 unfolding read_mv_component spelled_component

@@ -1,5 +1,5 @@
 -- What a block of an inter frame is put as (6.4.11, 6.4.15 to 6.4.18 of the standard), as it is coded.
-use Rattle.std.specs.Prelude.{ℕ, ◌+◌, ◌*◌, Bool, true, false, List, [], ◌∷◌, ◌++◌, Option, Some, None, drop, slice_index, slice_index_or, if◌then◌else◌}
+use Rattle.std.specs.Prelude.{ℕ, ◌*◌, Bool, true, false, List, [], ◌++◌, Option, Some, None, drop, slice_index, slice_index_or, if◌then◌else◌}
 use Rattle.vp9_types.specs.declared.block.BlockSize.{BlockSize}
 use Rattle.vp9_types.specs.declared.block.BlockSize.TheVariants.{B4x4, B4x8, B8x4}
 use Rattle.vp9_types.specs.declared.block.InterMode.{InterMode}
@@ -35,8 +35,7 @@ use Rattle.mv_prediction.specs.SubBlocks.{vector_at}
 use Rattle.inter_contexts.specs.Contexts.{filter_context}
 use Rattle.inter_modes.specs.ModeInfo.{InterFrame, sources_of}
 use Rattle.inter_modes.specs.Starts.{segment_reference}
-use Rattle.inter_modes.specs.Vectors.{Sources, before_of, best_vectors, near_of_block, nothing_before, row_at}
-use Rattle.inter_modes.specs.declared.quarters.QuartersBefore.{QuartersBefore}
+use Rattle.inter_modes.specs.Vectors.{Sources, best_vectors, near_of_block, row_at}
 use Rattle.inter_modes.specs.declared.starts.BlockStart.{BlockStart}
 use Rattle.block_lists.specs.Intra.{mode_of, spelled_intra_frame}
 use Rattle.block_lists.specs.References.{spelled_references}

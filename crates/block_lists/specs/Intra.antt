@@ -1,5 +1,5 @@
 -- What a block of an intra frame is put as (6.4.6 to 6.4.10 of the standard), as it is coded.
-use Rattle.std.specs.Prelude.{ℕ, ◌+◌, ◌*◌, Bool, true, false, not, ◌&&◌, List, [], ◌∷◌, ◌++◌, Option, Some, None, drop, get_or, slice_index, slice_index_or, if◌then◌else◌}
+use Rattle.std.specs.Prelude.{ℕ, ◌+◌, ◌*◌, Bool, true, false, not, ◌&&◌, List, [], ◌++◌, Option, Some, None, drop, get_or, slice_index, slice_index_or, if◌then◌else◌}
 use Rattle.vp9_types.specs.declared.block.BlockSize.{BlockSize}
 use Rattle.vp9_types.specs.declared.block.BlockSize.TheVariants.{B4x4, B4x8, B8x4}
 use Rattle.vp9_types.specs.declared.block.IntraMode.{IntraMode}

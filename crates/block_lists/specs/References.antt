@@ -48,7 +48,7 @@ unfoldable pub spelled_coded_references : ReferenceMode → InterLists → SignB
 spelled_coded_references mode lists biases above left refs =
     spelled_compound_flag mode lists.compound_flag (reference_context IsCompound (fixed_of biases) above left) (is_some refs.second)
     ++ (if is_some refs.second then spelled_compound lists.compound_references biases (reference_context CompoundVariable (fixed_of biases) above left) refs
-        else spelled_single lists.single_references (reference_context SingleFirst (fixed_of biases) above left) (reference_context SingleSecond (fixed_of biases) above left) refs.first)
+    else spelled_single lists.single_references (reference_context SingleFirst (fixed_of biases) above left) (reference_context SingleSecond (fixed_of biases) above left) refs.first)
 
 -- none where the segment takes one
 unfoldable pub spelled_references : Option FeatureReference → ReferenceMode → InterLists → SignBiases → Option BlockInfo → Option BlockInfo → References → BoolList

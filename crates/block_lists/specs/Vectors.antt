@@ -1,5 +1,5 @@
 -- What vectors are put as (6.4.18 to 6.4.20 of the standard), by the best vector before them.
-use Rattle.std.specs.Prelude.{ℕ, zero, suc, ◌+◌, ◌-◌, ◌*◌, ◌/◌, ◌%◌, ◌^◌, ℤ, pos, ◌-ℤ◌, int_lt, unsigned_abs, Bool, true, false, ◌&&◌, ◌||◌, List, [], ◌∷◌, ◌++◌, drop, slice_index, nat_eq, nat_le, nat_lt, if◌then◌else◌}
+use Rattle.std.specs.Prelude.{ℕ, zero, suc, ◌+◌, ◌-◌, ◌*◌, ◌/◌, ◌%◌, ◌^◌, ℤ, pos, ◌-ℤ◌, int_lt, unsigned_abs, Bool, ◌&&◌, ◌||◌, [], ◌++◌, drop, slice_index, nat_eq, nat_le, nat_lt, if◌then◌else◌}
 use Rattle.std.specs.Ordering.{int_eq}
 use Rattle.vp9_tables.specs.Numbers.{component_number}
 use Rattle.vp9_tables.specs.Trees.{mv_class_tree, mv_fr_tree, mv_joint_tree}

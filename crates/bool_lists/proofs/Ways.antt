@@ -1,6 +1,6 @@
 -- There is one way to put a symbol.
 use Rattle.std.proofs.Common.{◌≡◌, ◌<◌, ◌≤◌, ℕ, zero, suc, ◌+◌, ◌-◌, ◌*◌, ◌/◌, ◌%◌, ◌^◌, Bool, true, false, List, [], ◌∷◌, ◌++◌, length, refl, sym, ap, subst, ◌∙◌, arith, ◌⊎◌, inl, inr}
-use Rattle.std.specs.Prelude.{nat_eq, nat_lt, slice_index, if◌then◌else◌, not, ◌&&◌, ◌||◌}
+use Rattle.std.specs.Prelude.{nat_eq, nat_lt, slice_index, if◌then◌else◌, ◌&&◌, ◌||◌}
 use Rattle.std.proofs.lemmas.Nat.{shr-shr}
 use Rattle.std.proofs.lemmas.Bool.{and_parts, or_cases, eqb-true, eq-eqb, not-true, ltb-true, ltb-false, lt-ltb, le-ltb}
 use Rattle.std.proofs.lemmas.List.{append-nil}
@@ -10,7 +10,7 @@ use Rattle.vp9_types.specs.declared.rule.Rule.{Rule}
 use Rattle.bool_decoder.specs.Bools.{flag, literal, literal_from, difference, wide_difference}
 use Rattle.bool_encoder.specs.Part.{Part, Finishes, after_put, bool_number, marked}
 use Rattle.bool_encoder.specs.Laws.{after_bools}
-use Rattle.bool_encoder.specs.Bools.{Puts, can_put}
+use Rattle.bool_encoder.specs.Bools.{Puts}
 use Rattle.bool_lists.specs.Lists.{BoolList, HasPut, are_apart, bytes_taken, difference_bools, has_leaf, is_distinct, number_bools, one_bool, tree_bools}
 
 pub bytes_are : (bools : BoolList) (part : Part) (bytes : List ℕ) → HasPut marked bools part → Finishes part bytes → length bytes ≡ bytes_taken bools
@@ -183,14 +183,16 @@ way_32 d old new h = elim (chosen (literal 5 >>= λ v. done (v + 32)) (literal 7
   | inl c ↦ let a = added 5 32 d c.mid new c.second in let is = a.is in let low = a.low in let under : d < 64 = omega (arith, is, low) in
       (omega (arith, is), rw (lt-ltb d 64 under) (spells_on old c.mid new (number_bools 1 0) (number_bools 5 (d - 32)) a.put c.first))
   | inr c ↦ let w = wide_way d c.mid new c.second in let from = w.from in
-      (omega (arith, from), rw (le-ltb d 64 from) (spells_on old c.mid new (number_bools 1 1) (bools_64 d) w.put c.first)) ]
+      (omega (arith, from), rw (le-ltb d 64 from) (spells_on old c.mid new (number_bools 1 1) (bools_64 d) w.put c.first))
+]
 
 way_16 : (d : ℕ) (old new : Part) → Puts from_16 old d new → (16 ≤ d) × HasPut old (bools_16 d) new
 way_16 d old new h = elim (chosen (literal 4 >>= λ v. done (v + 16)) from_32 d old new h) [
   | inl c ↦ let a = added 4 16 d c.mid new c.second in let is = a.is in let low = a.low in let under : d < 32 = omega (arith, is, low) in
       (omega (arith, is), rw (lt-ltb d 32 under) (spells_on old c.mid new (number_bools 1 0) (number_bools 4 (d - 16)) a.put c.first))
   | inr c ↦ let w = way_32 d c.mid new c.second in let from = w.0 in
-      (omega (arith, from), rw (le-ltb d 32 from) (spells_on old c.mid new (number_bools 1 1) (bools_32 d) w.1 c.first)) ]
+      (omega (arith, from), rw (le-ltb d 32 from) (spells_on old c.mid new (number_bools 1 1) (bools_32 d) w.1 c.first))
+]
 
 pub difference_way : (d : ℕ) (old new : Part) → Puts difference old d new → HasPut old (difference_bools d) new
 unfolding difference difference_bools
@@ -198,7 +200,8 @@ difference_way d old new h = elim (chosen (literal 4) from_16 d old new h) [
   | inl c ↦ let low = literal_low 4 d c.mid new c.second in let under : d < 16 = omega (arith, low) in
       rw (lt-ltb d 16 under) (spells_on old c.mid new (number_bools 1 0) (number_bools 4 d) (literal_way 4 d c.mid new c.second) c.first)
   | inr c ↦ let w = way_16 d c.mid new c.second in let from = w.0 in
-      rw (le-ltb d 16 from) (spells_on old c.mid new (number_bools 1 1) (bools_16 d) w.1 c.first) ]
+      rw (le-ltb d 16 from) (spells_on old c.mid new (number_bools 1 1) (bools_16 d) w.1 c.first)
+]
 
 -- a flag, and a difference behind it
 pub flag_and_difference : (p d : ℕ) (b : Bool) (old mid new : Part) → Puts (flag p) old b mid → Puts difference mid d new → HasPut old (one_bool p b ++ difference_bools d) new
@@ -236,7 +239,8 @@ pub of_leaf : (P : ℕ → Type 0) (tree : Tree) (x : ℕ) → OfLeaves P tree �
 of_leaf P (leaf y) x all there = subst P (eqb-true y x there) all
 of_leaf P (node k zeros ones) x all there = elim (or_cases (has_leaf zeros x) (has_leaf ones x) there) [
   | inl one ↦ of_leaf P zeros x all.0 one
-  | inr two ↦ of_leaf P ones x all.1 two ]
+  | inr two ↦ of_leaf P ones x all.1 two
+]
 
 apart_not : (tree other : Tree) (x : ℕ) → are_apart tree other ≡ true → has_leaf tree x ≡ true → has_leaf other x ≡ false
 apart_not (leaf y) other x is there = subst (λ z. has_leaf other z ≡ false) (eqb-true y x there) (not-true (has_leaf other y) is)
@@ -244,7 +248,8 @@ apart_not (node k zeros ones) other x is there =
     let parts = and_parts (are_apart zeros other) (are_apart ones other) is in
     elim (or_cases (has_leaf zeros x) (has_leaf ones x) there) [
       | inl one ↦ apart_not zeros other x parts.0 one
-      | inr two ↦ apart_not ones other x parts.1 two ]
+      | inr two ↦ apart_not ones other x parts.1 two
+    ]
 
 way_in : (zeros ones : Tree) (probs : List ℕ) (x p v : ℕ) (old new : Part) → v < 2 → are_apart zeros ones ≡ true
     → (Puts (tree_symbol zeros probs) (after_put p v old) x new → new ≡ after_bools (tree_bools zeros probs x) (after_put p v old))

@@ -1,6 +1,6 @@
 -- What symbols are put as: lists of bools, each by its probability out of 256 and its value (9.2 and 9.3 of the standard). What
 -- puts them is one list, whatever reads them.
-use Rattle.std.specs.Prelude.{◌≡◌, ℕ, zero, suc, ◌+◌, ◌-◌, ◌/◌, ◌%◌, ◌^◌, Bool, true, false, ◌&&◌, ◌||◌, not, List, [], ◌∷◌, ◌++◌, slice_index, nat_eq, nat_lt, if◌then◌else◌}
+use Rattle.std.specs.Prelude.{◌≡◌, ℕ, zero, suc, ◌+◌, ◌-◌, ◌/◌, ◌%◌, ◌^◌, Bool, true, ◌&&◌, ◌||◌, not, List, [], ◌∷◌, ◌++◌, slice_index, nat_eq, nat_lt, if◌then◌else◌}
 use Rattle.vp9_types.specs.Trees.{Tree, leaf, node}
 use Rattle.bool_encoder.specs.Part.{Part, bool_number, marked}
 use Rattle.bool_encoder.specs.Laws.{after_bools}
