@@ -1,4 +1,4 @@
-//! Lists of bools: what the partitions, the modes and the tokens of blocks are put as.
+//! Lists of bools: what the partitions of squares and the modes of blocks are put as.
 #![tactic(auto)]
 
 mod laws;
