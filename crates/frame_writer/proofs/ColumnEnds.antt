@@ -1,15 +1,12 @@
 -- How a tile ends in its column: what its bytes are then, and what the column is left as.
-use Rattle.std.proofs.Common.{◌≡◌, ◌∙◌, ℕ, ◌+◌, ◌-◌, ◌*◌, ◌≤◌, List, [], refl, sym, ap, subst, arith}
-use Rattle.std.specs.Prelude.{IfOk, OnOk, Option, Some, None, Result, Ok, Err, min}
+use Rattle.std.proofs.Common.{◌≡◌, ℕ, ◌+◌, ◌-◌, ◌*◌, ◌≤◌, List, [], ap, subst}
+use Rattle.std.specs.Prelude.{IfOk, OnOk, Option, Some, None, Result, Ok, Err}
 use Rattle.vp9_types.specs.Sizes.{superblocks_along}
 use Rattle.vp9_types.specs.declared.rule.Rule.{Rule}
 use Rattle.bool_encoder.specs.Part.{Part, Finishes, marked}
 use Rattle.counting_writer.proofs.CountedPuts.{puts_value}
-use Rattle.frame_headers.specs.State.{shape_of}
 use Rattle.block_geometry.specs.declared.transform_blocks.FramePlaces.{FramePlaces}
-use Rattle.block_residue.specs.Code.{FitPlanes}
-use Rattle.frame_setting.specs.declared.setting.FrameSetting.{FrameSetting}
-use Rattle.frame_state.specs.Columns.{AllStart, limit_of}
+use Rattle.frame_state.specs.Columns.{limit_of}
 use Rattle.frame_state.specs.Reading.{TileRead, read_walk}
 use Rattle.frame_state.specs.Code.{sources_of}
 use Rattle.frame_state.specs.Sources.{FrameSources}
@@ -20,7 +17,7 @@ use Rattle.tile_writer.specs.Code.{EndsTile, Tile, tile_rest}
 use Rattle.tile_writer.specs.declared.unwritten.Unwritten.{Unwritten}
 use Rattle.tile_writer.specs.declared.unwritten.Unwritten.TheVariants as unwritten
 use Rattle.frame_writer.specs.Bytes.{IsWritten}
-use Rattle.frame_writer.specs.Code.{GivesBytes, GivesTile, GivesTileTo, IsReadyFor, IsToldAs, TileHeld, TileHere, ending_of, held_by, held_of, here_of}
+use Rattle.frame_writer.specs.Code.{GivesBytes, GivesTile, GivesTileTo, IsReadyFor, IsToldAs, TileHere, ending_of, held_by, held_of, here_of}
 use Rattle.frame_writer.specs.Frames.{tile_syntax, tile_told}
 use Rattle.frame_writer.specs.Symbols.{Speaker, teller_of}
 use Rattle.frame_writer.specs.declared.written.NotWritten.{NotWritten}

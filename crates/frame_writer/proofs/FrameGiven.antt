@@ -11,7 +11,6 @@ use Rattle.compressed_writer.specs.Bytes.{IsWrittenHeader}
 use Rattle.compressed_writer.specs.Spelling.{spelled_compressed}
 use Rattle.frame_headers.specs.Header.{head_of}
 use Rattle.frame_headers.specs.Tiles.{AreFewTiles, least, max_log2, min_log2, superblocks}
-use Rattle.frame_headers.specs.declared.header.FrameHead.TheVariants as head
 use Rattle.frame_headers.specs.declared.header.Header.{Header}
 use Rattle.frame_headers.specs.declared.header.Uncompressed.TheVariants as uncompressed
 use Rattle.frame_headers.specs.declared.persist.Persist.{Persist}

@@ -1,4 +1,4 @@
-use Rattle.std.proofs.Common.{◌≡◌, ◌≤◌, ◌^◌, length, subst, arith, rules}
+use Rattle.std.proofs.Common.{◌≤◌, ◌^◌, length, subst, arith}
 use Rattle.prob_contexts.specs.Lists.{lists_of}
 use Rattle.bool_lists.proofs.Ways.{bytes_are}
 use Rattle.compressed_writer.specs.Spelling.{spelled_compressed}
