@@ -1,3 +1,4 @@
 pub mod Updates
+pub mod Spelling
 pub mod Bytes
 pub mod Code

@@ -2,6 +2,8 @@
 
 ghost use Rattle.std.specs.Prelude.{◌≡◌, IfOk};
 ghost use Rattle.bool_encoder.specs.Bools.{Puts};
+ghost use Rattle.bool_lists.specs.Lists.{HasPut};
+ghost use Rattle.compressed_writer.specs.Spelling.{spelled_reference_mode, spelled_tx_mode};
 ghost use Rattle.compressed_header.specs.Modes.{read_tx_mode, frame_reference_mode, is_compound_allowed, tx_mode_of};
 ghost use Rattle.compressed_writer.specs.Updates.{IsTxMode, IsReferenceMode};
 
@@ -11,14 +13,15 @@ use std::alloc::AllocError;
 use vp9_types::{ReferenceMode, TxMode};
 
 /// Puts `read_tx_mode` (6.3.1 of the standard).
-#[tactic(auto, unfolding(compressed_header::specs::Modes::read_tx_mode), using(vp9_types::proofs::Binds::writes_bind))]
+#[tactic(auto, unfolding(crate::specs::Spelling::spelled_tx_mode, compressed_header::specs::Modes::read_tx_mode), using(bool_lists::proofs::Ways::literal_way, bool_lists::proofs::Ways::numbers_way, bool_lists::proofs::Ways::spells_none, vp9_types::proofs::Binds::writes_bind))]
 pub fn put_tx_mode(
     encoder: &mut BoolEncoder,
     lossless: bool,
     mode: TxMode,
 ) -> Result<(), AllocError>
     requires { IsTxMode lossless mode }
-    ensures { IfOk result (λ _. Puts (read_tx_mode lossless) encoder.old mode encoder.new) }
+    ensures puts { IfOk result (λ _. Puts (read_tx_mode lossless) encoder.old mode encoder.new) }
+    ensures spells { IfOk result (λ _. HasPut encoder.old (spelled_tx_mode lossless mode) encoder.new) }
 {
     if lossless {
         return Ok(());
@@ -46,14 +49,15 @@ pub fn is_compound_allowed(references: &References) -> bool
 }
 
 /// Puts `frame_reference_mode` (6.3.12 of the standard).
-#[tactic(auto, unfolding(compressed_header::specs::Modes::frame_reference_mode), using(vp9_types::proofs::Binds::writes_bind))]
+#[tactic(auto, unfolding(crate::specs::Spelling::spelled_reference_mode, compressed_header::specs::Modes::frame_reference_mode), using(bool_lists::proofs::Ways::literal_way, bool_lists::proofs::Ways::numbers_way, bool_lists::proofs::Ways::spells_none, vp9_types::proofs::Binds::writes_bind))]
 pub fn put_reference_mode(
     encoder: &mut BoolEncoder,
     allowed: bool,
     mode: ReferenceMode,
 ) -> Result<(), AllocError>
     requires { IsReferenceMode allowed mode }
-    ensures { IfOk result (λ _. Puts (frame_reference_mode allowed) encoder.old mode encoder.new) }
+    ensures puts { IfOk result (λ _. Puts (frame_reference_mode allowed) encoder.old mode encoder.new) }
+    ensures spells { IfOk result (λ _. HasPut encoder.old (spelled_reference_mode allowed mode) encoder.new) }
 {
     if !allowed {
         return Ok(());

@@ -2,6 +2,8 @@
 
 ghost use Rattle.std.specs.Prelude.{◌≡◌, ◌≤◌, IfOk};
 ghost use Rattle.bool_encoder.specs.Bools.{Puts};
+ghost use Rattle.bool_lists.specs.Lists.{HasPut};
+ghost use Rattle.compressed_writer.specs.Spelling.{spelled_inter_probs, spelled_reference_probs};
 ghost use Rattle.prob_contexts.specs.Lists.{inter_lists};
 ghost use Rattle.compressed_header.specs.References.{is_switchable, frame_reference_mode_probs, inter_probs};
 ghost use Rattle.compressed_writer.specs.Code.{before_references, after_references};
@@ -24,7 +26,7 @@ fn is_switchable(filter: FrameFilter) -> bool
     }
 }
 
-#[tactic(auto, unfolding(compressed_header::specs::References::frame_reference_mode_probs), using(vp9_types::proofs::Binds::writes_bind))]
+#[tactic(auto, unfolding(crate::specs::Spelling::spelled_reference_probs, compressed_header::specs::References::frame_reference_mode_probs), using(bool_lists::proofs::Ways::spells_on, vp9_types::proofs::Binds::writes_bind))]
 fn put_reference_probs(
     encoder: &mut BoolEncoder,
     mode: ReferenceMode,
@@ -32,8 +34,9 @@ fn put_reference_probs(
     after: &InterProbs,
 ) -> Result<(), AllocError>
     requires { AreReferenceUpdates mode (inter_lists before.now) (inter_lists after.now) }
-    ensures { IfOk result (λ _. Puts (frame_reference_mode_probs mode (before_references (inter_lists before.now) (inter_lists after.now)))
+    ensures puts { IfOk result (λ _. Puts (frame_reference_mode_probs mode (before_references (inter_lists before.now) (inter_lists after.now)))
         encoder.old (after_references (inter_lists before.now) (inter_lists after.now)) encoder.new) }
+    ensures spells { IfOk result (λ _. HasPut encoder.old (spelled_reference_probs mode (inter_lists before.now) (inter_lists after.now)) encoder.new) }
 {
     let (chosen, single, compound) = match mode {
         ReferenceMode::Single => (false, true, false),
@@ -56,7 +59,7 @@ fn put_reference_probs(
 }
 
 /// Puts those of references and modes, with the frame's reference mode among them.
-#[tactic(auto, unfolding(compressed_header::specs::References::inter_probs, compressed_header::specs::References::read_inter_mode_probs, compressed_header::specs::References::read_interp_filter_probs, compressed_header::specs::References::read_is_inter_probs, compressed_header::specs::References::read_y_mode_probs), using(vp9_types::proofs::Binds::writes_bind))]
+#[tactic(auto, unfolding(crate::specs::Spelling::spelled_inter_probs, compressed_header::specs::References::inter_probs, compressed_header::specs::References::read_inter_mode_probs, compressed_header::specs::References::read_interp_filter_probs, compressed_header::specs::References::read_is_inter_probs, compressed_header::specs::References::read_y_mode_probs), using(bool_lists::proofs::Ways::spells_on, vp9_types::proofs::Binds::writes_bind))]
 pub fn put_inter_probs(
     encoder: &mut BoolEncoder,
     fields: &InterFields,
@@ -65,7 +68,8 @@ pub fn put_inter_probs(
     after: &InterProbs,
 ) -> Result<(), AllocError>
     requires { AreInterUpdates fields.now mode (inter_lists before.now) (inter_lists after.now) }
-    ensures { IfOk result (λ _. Puts (inter_probs fields.now (inter_lists before.now)) encoder.old (inter_lists after.now, mode) encoder.new) }
+    ensures puts { IfOk result (λ _. Puts (inter_probs fields.now (inter_lists before.now)) encoder.old (inter_lists after.now, mode) encoder.new) }
+    ensures spells { IfOk result (λ _. HasPut encoder.old (spelled_inter_probs fields.now mode (inter_lists before.now) (inter_lists after.now)) encoder.new) }
 {
     put_updates(encoder, &before.modes, &after.modes)?;
     put_updates_if(

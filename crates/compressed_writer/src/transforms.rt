@@ -3,6 +3,8 @@
 ghost use Rattle.std.specs.Prelude.{◌≡◌, ◌≤◌, IfOk, length, false};
 ghost use Rattle.std.specs.List.{All};
 ghost use Rattle.bool_encoder.specs.Bools.{Puts};
+ghost use Rattle.bool_lists.specs.Lists.{HasPut};
+ghost use Rattle.compressed_writer.specs.Spelling.{are_changed, spelled_coefficients, spelled_size, spelled_tx_probs, spelled_tx_updates};
 ghost use Rattle.prob_contexts.specs.Lists.{tx_lists, coef_lists};
 ghost use Rattle.compressed_header.specs.Transforms.{tx_mode_probs, tx_probs_of, size_coef_probs, allows, read_coef_probs};
 ghost use Rattle.compressed_writer.specs.Updates.{AreTxUpdates, AreCoefUpdates};
@@ -14,13 +16,14 @@ use std::alloc::AllocError;
 use vp9_tables::biggest_tx_size;
 use vp9_types::{TxMode, TxSize};
 
-#[tactic(auto, unfolding(compressed_header::specs::Transforms::tx_mode_probs), using(vp9_types::proofs::Binds::writes_bind))]
+#[tactic(auto, unfolding(crate::specs::Spelling::spelled_tx_probs, compressed_header::specs::Transforms::tx_mode_probs), using(bool_lists::proofs::Ways::spells_on, vp9_types::proofs::Binds::writes_bind))]
 fn put_tx_mode_probs(
     encoder: &mut BoolEncoder,
     before: &TxProbs,
     after: &TxProbs,
 ) -> Result<(), AllocError>
-    ensures { IfOk result (λ _. Puts (tx_mode_probs (tx_lists before.now)) encoder.old (tx_lists after.now) encoder.new) }
+    ensures puts { IfOk result (λ _. Puts (tx_mode_probs (tx_lists before.now)) encoder.old (tx_lists after.now) encoder.new) }
+    ensures spells { IfOk result (λ _. HasPut encoder.old (spelled_tx_probs (tx_lists before.now) (tx_lists after.now)) encoder.new) }
 {
     put_updates(encoder, &before.of_8x8, &after.of_8x8)?;
     put_updates(encoder, &before.of_16x16, &after.of_16x16)?;
@@ -28,7 +31,7 @@ fn put_tx_mode_probs(
 }
 
 /// Puts those of transform sizes, where blocks say which size they have.
-#[tactic(auto, unfolding(compressed_header::specs::Transforms::tx_probs_of))]
+#[tactic(auto, unfolding(crate::specs::Spelling::spelled_tx_updates, compressed_header::specs::Transforms::tx_probs_of), using(bool_lists::proofs::Ways::spells_none))]
 pub fn put_tx_probs(
     encoder: &mut BoolEncoder,
     mode: TxMode,
@@ -36,7 +39,8 @@ pub fn put_tx_probs(
     after: &TxProbs,
 ) -> Result<(), AllocError>
     requires { AreTxUpdates mode (tx_lists before.now) (tx_lists after.now) }
-    ensures { IfOk result (λ _. Puts (tx_probs_of mode (tx_lists before.now)) encoder.old (tx_lists after.now) encoder.new) }
+    ensures puts { IfOk result (λ _. Puts (tx_probs_of mode (tx_lists before.now)) encoder.old (tx_lists after.now) encoder.new) }
+    ensures spells { IfOk result (λ _. HasPut encoder.old (spelled_tx_updates mode (tx_lists before.now) (tx_lists after.now)) encoder.new) }
 {
     if mode == TxMode::Selected {
         return put_tx_mode_probs(encoder, before, after);
@@ -52,12 +56,13 @@ fn allows(mode: TxMode, size: TxSize) -> bool
 
 /// Whether there is a change.
 fn changes(before: &[u8], after: &[u8]) -> bool
-    ensures { result ≡ false → after.now ≡ before.now }
+    ensures is { result ≡ are_changed before.now after.now }
+    ensures same { result ≡ false → after.now ≡ before.now }
 {
     before != after
 }
 
-#[tactic(auto, unfolding(compressed_header::specs::Transforms::size_coef_probs), using(vp9_types::proofs::Binds::writes_bind))]
+#[tactic(auto, unfolding(crate::specs::Spelling::spelled_size, compressed_header::specs::Transforms::size_coef_probs), using(bool_lists::proofs::Ways::spells_on, bool_lists::proofs::Ways::literal_way, bool_lists::proofs::Ways::flag_way, bool_lists::proofs::Ways::spells_none, vp9_types::proofs::Binds::writes_bind))]
 fn put_size(
     encoder: &mut BoolEncoder,
     allowed: bool,
@@ -68,7 +73,8 @@ fn put_size(
     requires old { All (λ p. 1 ≤ p) before.now }
     requires new { All (λ p. 1 ≤ p) after.now }
     requires kept { allowed ≡ false → after.now ≡ before.now }
-    ensures { IfOk result (λ _. Puts (size_coef_probs allowed before.now) encoder.old after.now encoder.new) }
+    ensures puts { IfOk result (λ _. Puts (size_coef_probs allowed before.now) encoder.old after.now encoder.new) }
+    ensures spells { IfOk result (λ _. HasPut encoder.old (spelled_size allowed before.now after.now) encoder.new) }
 {
     if !allowed {
         return Ok(());
@@ -79,7 +85,7 @@ fn put_size(
 }
 
 /// Puts `read_coef_probs` (6.3.7 of the standard). A size without a change has no updates.
-#[tactic(auto, unfolding(compressed_header::specs::Transforms::read_coef_probs), using(vp9_types::proofs::Binds::writes_bind))]
+#[tactic(auto, unfolding(crate::specs::Spelling::spelled_coefficients, compressed_header::specs::Transforms::read_coef_probs), using(bool_lists::proofs::Ways::spells_on, vp9_types::proofs::Binds::writes_bind))]
 pub fn put_coefficients(
     encoder: &mut BoolEncoder,
     mode: TxMode,
@@ -87,7 +93,8 @@ pub fn put_coefficients(
     after: &CoefProbs,
 ) -> Result<(), AllocError>
     requires { AreCoefUpdates mode (coef_lists before.now) (coef_lists after.now) }
-    ensures { IfOk result (λ _. Puts (read_coef_probs mode (coef_lists before.now)) encoder.old (coef_lists after.now) encoder.new) }
+    ensures puts { IfOk result (λ _. Puts (read_coef_probs mode (coef_lists before.now)) encoder.old (coef_lists after.now) encoder.new) }
+    ensures spells { IfOk result (λ _. HasPut encoder.old (spelled_coefficients mode (coef_lists before.now) (coef_lists after.now)) encoder.new) }
 {
     put_size(
         encoder,

@@ -2,6 +2,8 @@
 
 ghost use Rattle.std.specs.Prelude.{◌≡◌, ◌+◌, ◌≤◌, IfOk, false};
 ghost use Rattle.bool_encoder.specs.Bools.{Puts};
+ghost use Rattle.bool_lists.specs.Lists.{HasPut};
+ghost use Rattle.compressed_writer.specs.Spelling.{spelled_component, spelled_fractions, spelled_high, spelled_precise, spelled_vector_updates, spelled_vectors};
 ghost use Rattle.prob_contexts.specs.Lists.{vector_lists};
 ghost use Rattle.compressed_header.specs.Vectors.{joint_probs, component_probs, fraction_probs, high_precision_probs, precise_probs, mv_probs};
 ghost use Rattle.compressed_writer.specs.Code.{vectors_at};
@@ -19,13 +21,14 @@ fn put_joints(
     after: &VectorProbs,
 ) -> Result<(), AllocError>
     requires { HasOddUpdates (vector_lists before.now) (vector_lists after.now) }
-    ensures { IfOk result (λ _. Puts (joint_probs (vector_lists before.now)) encoder.old
+    ensures puts { IfOk result (λ _. Puts (joint_probs (vector_lists before.now)) encoder.old
         (vectors_at 0 0 0 (vector_lists before.now) (vector_lists after.now)) encoder.new) }
+    ensures spells { IfOk result (λ _. HasPut encoder.old (spelled_vector_updates (vector_lists before.now).joints (vector_lists after.now).joints) encoder.new) }
 {
     put_vector_updates(encoder, &before.joints, &after.joints)
 }
 
-#[tactic(auto, unfolding(compressed_header::specs::Vectors::component_probs), using(vp9_types::proofs::Binds::writes_bind))]
+#[tactic(auto, unfolding(crate::specs::Spelling::spelled_component, compressed_header::specs::Vectors::component_probs), using(bool_lists::proofs::Ways::spells_on, vp9_types::proofs::Binds::writes_bind))]
 fn put_component(
     encoder: &mut BoolEncoder,
     i: usize,
@@ -34,8 +37,9 @@ fn put_component(
 ) -> Result<(), AllocError>
     requires component { i ≤ 1 }
     requires can { HasOddUpdates (vector_lists before.now) (vector_lists after.now) }
-    ensures { IfOk result (λ _. Puts (component_probs i (vectors_at i 0 0 (vector_lists before.now) (vector_lists after.now))) encoder.old
+    ensures puts { IfOk result (λ _. Puts (component_probs i (vectors_at i 0 0 (vector_lists before.now) (vector_lists after.now))) encoder.old
         (vectors_at (i + 1) 0 0 (vector_lists before.now) (vector_lists after.now)) encoder.new) }
+    ensures spells { IfOk result (λ _. HasPut encoder.old (spelled_component i (vector_lists before.now) (vector_lists after.now)) encoder.new) }
 {
     put_component_updates(encoder, i, i, 1, &before.signs, &after.signs)?;
     put_component_updates(encoder, i, 10 * i, 10, &before.classes, &after.classes)?;
@@ -43,7 +47,7 @@ fn put_component(
     put_component_updates(encoder, i, 10 * i, 10, &before.bits, &after.bits)
 }
 
-#[tactic(auto, unfolding(compressed_header::specs::Vectors::fraction_probs), using(vp9_types::proofs::Binds::writes_bind))]
+#[tactic(auto, unfolding(crate::specs::Spelling::spelled_fractions, compressed_header::specs::Vectors::fraction_probs), using(bool_lists::proofs::Ways::spells_on, vp9_types::proofs::Binds::writes_bind))]
 fn put_fractions(
     encoder: &mut BoolEncoder,
     i: usize,
@@ -52,8 +56,9 @@ fn put_fractions(
 ) -> Result<(), AllocError>
     requires component { i ≤ 1 }
     requires can { HasOddUpdates (vector_lists before.now) (vector_lists after.now) }
-    ensures { IfOk result (λ _. Puts (fraction_probs i (vectors_at 2 i 0 (vector_lists before.now) (vector_lists after.now))) encoder.old
+    ensures puts { IfOk result (λ _. Puts (fraction_probs i (vectors_at 2 i 0 (vector_lists before.now) (vector_lists after.now))) encoder.old
         (vectors_at 2 (i + 1) 0 (vector_lists before.now) (vector_lists after.now)) encoder.new) }
+    ensures spells { IfOk result (λ _. HasPut encoder.old (spelled_fractions i (vector_lists before.now) (vector_lists after.now)) encoder.new) }
 {
     put_component_updates(
         encoder,
@@ -66,7 +71,7 @@ fn put_fractions(
     put_component_updates(encoder, i, 3 * i, 3, &before.fractions, &after.fractions)
 }
 
-#[tactic(auto, unfolding(compressed_header::specs::Vectors::high_precision_probs), using(vp9_types::proofs::Binds::writes_bind))]
+#[tactic(auto, unfolding(crate::specs::Spelling::spelled_high, compressed_header::specs::Vectors::high_precision_probs), using(bool_lists::proofs::Ways::spells_on, vp9_types::proofs::Binds::writes_bind))]
 fn put_high_precision(
     encoder: &mut BoolEncoder,
     i: usize,
@@ -75,14 +80,15 @@ fn put_high_precision(
 ) -> Result<(), AllocError>
     requires component { i ≤ 1 }
     requires can { HasOddUpdates (vector_lists before.now) (vector_lists after.now) }
-    ensures { IfOk result (λ _. Puts (high_precision_probs i (vectors_at 2 2 i (vector_lists before.now) (vector_lists after.now))) encoder.old
+    ensures puts { IfOk result (λ _. Puts (high_precision_probs i (vectors_at 2 2 i (vector_lists before.now) (vector_lists after.now))) encoder.old
         (vectors_at 2 2 (i + 1) (vector_lists before.now) (vector_lists after.now)) encoder.new) }
+    ensures spells { IfOk result (λ _. HasPut encoder.old (spelled_high i (vector_lists before.now) (vector_lists after.now)) encoder.new) }
 {
     put_component_updates(encoder, i, i, 1, &before.class0_high, &after.class0_high)?;
     put_component_updates(encoder, i, i, 1, &before.high, &after.high)
 }
 
-#[tactic(auto, unfolding(compressed_header::specs::Vectors::precise_probs), using(vp9_types::proofs::Binds::writes_bind))]
+#[tactic(auto, unfolding(crate::specs::Spelling::spelled_precise, compressed_header::specs::Vectors::precise_probs), using(bool_lists::proofs::Ways::spells_on, bool_lists::proofs::Ways::spells_none, vp9_types::proofs::Binds::writes_bind))]
 fn put_precise(
     encoder: &mut BoolEncoder,
     precise: bool,
@@ -90,8 +96,9 @@ fn put_precise(
     after: &VectorProbs,
 ) -> Result<(), AllocError>
     requires { AreVectorUpdates precise (vector_lists before.now) (vector_lists after.now) }
-    ensures { IfOk result (λ _. Puts (precise_probs precise (vectors_at 2 2 0 (vector_lists before.now) (vector_lists after.now))) encoder.old
+    ensures puts { IfOk result (λ _. Puts (precise_probs precise (vectors_at 2 2 0 (vector_lists before.now) (vector_lists after.now))) encoder.old
         (vector_lists after.now) encoder.new) }
+    ensures spells { IfOk result (λ _. HasPut encoder.old (spelled_precise precise (vector_lists before.now) (vector_lists after.now)) encoder.new) }
 {
     if precise {
         put_high_precision(encoder, 0, before, after)?;
@@ -101,7 +108,7 @@ fn put_precise(
 }
 
 /// Puts `mv_probs` (6.3.16 of the standard).
-#[tactic(auto, unfolding(compressed_header::specs::Vectors::mv_probs), using(vp9_types::proofs::Binds::writes_bind))]
+#[tactic(auto, unfolding(crate::specs::Spelling::spelled_vectors, compressed_header::specs::Vectors::mv_probs), using(bool_lists::proofs::Ways::spells_on, vp9_types::proofs::Binds::writes_bind))]
 pub fn put_vectors(
     encoder: &mut BoolEncoder,
     precise: bool,
@@ -109,7 +116,8 @@ pub fn put_vectors(
     after: &VectorProbs,
 ) -> Result<(), AllocError>
     requires { AreVectorUpdates precise (vector_lists before.now) (vector_lists after.now) }
-    ensures { IfOk result (λ _. Puts (mv_probs precise (vector_lists before.now)) encoder.old (vector_lists after.now) encoder.new) }
+    ensures puts { IfOk result (λ _. Puts (mv_probs precise (vector_lists before.now)) encoder.old (vector_lists after.now) encoder.new) }
+    ensures spells { IfOk result (λ _. HasPut encoder.old (spelled_vectors precise (vector_lists before.now) (vector_lists after.now)) encoder.new) }
 {
     put_joints(encoder, before, after)?;
     put_component(encoder, 0, before, after)?;

@@ -3,6 +3,8 @@
 ghost use Rattle.std.specs.Prelude.{◌≡◌, ◌≤◌, IfOk, length, Ok};
 ghost use Rattle.vp9_types.specs.declared.block.Modes.{Modes};
 ghost use Rattle.bool_encoder.specs.Bools.{Puts};
+ghost use Rattle.bool_lists.specs.Lists.{HasPut};
+ghost use Rattle.compressed_writer.specs.Spelling.{spelled_compressed, spelled_inter_part, spelled_kind};
 ghost use Rattle.prob_contexts.specs.Lists.{lists_of};
 ghost use Rattle.compressed_header.specs.Header.{inter_part, kind_part, compressed_header, IsForward};
 ghost use Rattle.compressed_writer.specs.Bytes.{IsWrittenHeader};
@@ -20,7 +22,7 @@ use prob_contexts::Contexts;
 use std::alloc::{AllocError, Global};
 use vp9_types::{Modes, ReferenceMode};
 
-#[tactic(auto, unfolding(compressed_header::specs::Header::inter_part, compressed_header::specs::References::read_partition_probs), using(vp9_types::proofs::Binds::writes_bind))]
+#[tactic(auto, unfolding(crate::specs::Spelling::spelled_inter_part, compressed_header::specs::Header::inter_part, compressed_header::specs::References::read_partition_probs), using(bool_lists::proofs::Ways::spells_on, vp9_types::proofs::Binds::writes_bind))]
 fn put_inter_part(
     encoder: &mut BoolEncoder,
     fields: &InterFields,
@@ -31,7 +33,8 @@ fn put_inter_part(
     requires inter { AreInterUpdates fields.now mode (lists_of before.now).inter (lists_of after.now).inter }
     requires vectors { AreVectorUpdates fields.now.high_precision (lists_of before.now).vectors (lists_of after.now).vectors }
     requires uv_modes { after.now.uv_modes ≡ before.now.uv_modes }
-    ensures { IfOk result (λ _. Puts (inter_part fields.now (before_kind (lists_of before.now) (lists_of after.now))) encoder.old (lists_of after.now, mode) encoder.new) }
+    ensures puts { IfOk result (λ _. Puts (inter_part fields.now (before_kind (lists_of before.now) (lists_of after.now))) encoder.old (lists_of after.now, mode) encoder.new) }
+    ensures spells { IfOk result (λ _. HasPut encoder.old (spelled_inter_part fields.now mode (lists_of before.now) (lists_of after.now)) encoder.new) }
 {
     put_inter_probs(encoder, fields, mode, &before.inter, &after.inter)?;
     put_updates(encoder, &before.partitions, &after.partitions)?;
@@ -43,7 +46,7 @@ fn put_inter_part(
     )
 }
 
-#[tactic(auto, unfolding(compressed_header::specs::Header::kind_part))]
+#[tactic(auto, unfolding(crate::specs::Spelling::spelled_kind, compressed_header::specs::Header::kind_part), using(bool_lists::proofs::Ways::spells_none))]
 fn put_kind_part(
     encoder: &mut BoolEncoder,
     kind: &FrameKind,
@@ -53,7 +56,8 @@ fn put_kind_part(
 ) -> Result<(), AllocError>
     requires kind { IsKindUpdate kind.now mode (lists_of before.now) (lists_of after.now) }
     requires uv_modes { after.now.uv_modes ≡ before.now.uv_modes }
-    ensures { IfOk result (λ _. Puts (kind_part kind.now (before_kind (lists_of before.now) (lists_of after.now))) encoder.old (lists_of after.now, mode) encoder.new) }
+    ensures puts { IfOk result (λ _. Puts (kind_part kind.now (before_kind (lists_of before.now) (lists_of after.now))) encoder.old (lists_of after.now, mode) encoder.new) }
+    ensures spells { IfOk result (λ _. HasPut encoder.old (spelled_kind kind.now mode (lists_of before.now) (lists_of after.now)) encoder.new) }
 {
     match kind {
         FrameKind::Key | FrameKind::IntraOnly => Ok(()),
@@ -61,7 +65,7 @@ fn put_kind_part(
     }
 }
 
-#[tactic(auto, unfolding(compressed_header::specs::Header::compressed_header, compressed_header::specs::Transforms::read_skip_prob), using(vp9_types::proofs::Binds::writes_bind))]
+#[tactic(auto, unfolding(crate::specs::Spelling::spelled_compressed, compressed_header::specs::Header::compressed_header, compressed_header::specs::Transforms::read_skip_prob), using(bool_lists::proofs::Ways::spells_on, vp9_types::proofs::Binds::writes_bind))]
 fn put_compressed(
     encoder: &mut BoolEncoder,
     header: &Header,
@@ -70,7 +74,8 @@ fn put_compressed(
     modes: Modes,
 ) -> Result<(), AllocError>
     requires { CanForward header.now (lists_of before.now) (lists_of after.now) modes }
-    ensures { IfOk result (λ _. Puts (compressed_header header.now (lists_of before.now)) encoder.old (lists_of after.now, modes) encoder.new) }
+    ensures puts { IfOk result (λ _. Puts (compressed_header header.now (lists_of before.now)) encoder.old (lists_of after.now, modes) encoder.new) }
+    ensures spells { IfOk result (λ _. HasPut encoder.old (spelled_compressed header.now (lists_of before.now) (lists_of after.now) modes) encoder.new) }
 {
     put_tx_mode(encoder, header.params.quantizer.lossless(), modes.tx_mode)?;
     put_tx_probs(encoder, modes.tx_mode, &before.tx, &after.tx)?;

@@ -1,13 +1,13 @@
 -- A block that is put as it is told, and what reading keeps of it.
 use Rattle.std.proofs.Common.{◌≡◌, ◌≤◌, ◌∙◌, ◌+◌, ◌-◌, ℕ, arith, refl, sym, ap, Bool, List, [], ◌∷◌, ◌++◌, subst}
-use Rattle.std.specs.Prelude.{map, Option, Some, None, Result, Ok, Err}
+use Rattle.std.specs.Prelude.{Option, Some, None, Result, Ok, Err}
 use Rattle.std.proofs.lemmas.List.{append_assoc, map-append}
 use Rattle.vp9_types.specs.Results.{◌>>=◌}
 use Rattle.vp9_types.specs.Syntax.{Syntax}
 use Rattle.vp9_types.specs.declared.rule.Rule.{Rule}
 use Rattle.vp9_types.specs.declared.shape.Plane.TheVariants.{Y, U, V}
 use Rattle.bool_encoder.specs.Part.{Part}
-use Rattle.counting_reader.specs.Counting.{Settled, lifted, settle}
+use Rattle.counting_reader.specs.Counting.{Settled, lifted}
 use Rattle.counting_writer.specs.Counted.{PutsTo, PutsValue}
 use Rattle.counting_writer.proofs.CountedPuts.{puts_broken, puts_lifted, puts_on, puts_settle, puts_value, value_put}
 use Rattle.frame_headers.specs.declared.header.FrameKind.{FrameKind}
@@ -27,10 +27,8 @@ use Rattle.inter_writer.specs.Said.{IsSaid, IsSaidBy}
 use Rattle.inter_writer.specs.declared.frame_blocks.BlockSymbols.{BlockSymbols}
 use Rattle.inter_writer.specs.declared.frame_blocks.PredictionSymbols.{PredictionSymbols}
 use Rattle.inter_writer.specs.declared.frame_blocks.PredictionSymbols.TheVariants.{Intra, Inter}
-use Rattle.residue_writer.specs.Code.{TellsBlock}
 use Rattle.residue_writer.specs.Said as residue
 use Rattle.residue_writer.specs.declared.levels.BlockLevels.{BlockLevels}
-use Rattle.tile_writer.specs.declared.unwritten.Unwritten.{Unwritten}
 use Rattle.tile_writer.specs.declared.unwritten.Unwritten.TheVariants.{Broken, Unsaid}
 use Rattle.frame_writer.specs.Symbols.{Speaker, as_said, block_told, modes_by, modes_said, with_block}
 use Rattle.frame_writer.specs.Code.{TileHeld, TileHere, held_of, here_of}

@@ -1,15 +1,12 @@
 -- How a tile ends in its column: what its bytes are then, and what the column is left as.
-use Rattle.std.proofs.Common.{◌≡◌, ◌∙◌, ℕ, ◌+◌, ◌-◌, ◌*◌, ◌≤◌, List, [], refl, sym, ap, subst, arith}
-use Rattle.std.specs.Prelude.{IfOk, OnOk, Option, Some, None, Result, Ok, Err, min}
+use Rattle.std.proofs.Common.{◌≡◌, ℕ, ◌+◌, ◌-◌, ◌*◌, ◌≤◌, List, [], ap, subst}
+use Rattle.std.specs.Prelude.{IfOk, OnOk, Option, Some, None, Result, Ok, Err}
 use Rattle.vp9_types.specs.Sizes.{superblocks_along}
 use Rattle.vp9_types.specs.declared.rule.Rule.{Rule}
 use Rattle.bool_encoder.specs.Part.{Part, Finishes, marked}
 use Rattle.counting_writer.proofs.CountedPuts.{puts_value}
-use Rattle.frame_headers.specs.State.{shape_of}
 use Rattle.block_geometry.specs.declared.transform_blocks.FramePlaces.{FramePlaces}
-use Rattle.block_residue.specs.Code.{FitPlanes}
-use Rattle.frame_setting.specs.declared.setting.FrameSetting.{FrameSetting}
-use Rattle.frame_state.specs.Columns.{AllStart, limit_of}
+use Rattle.frame_state.specs.Columns.{limit_of}
 use Rattle.frame_state.specs.Reading.{TileRead, read_walk}
 use Rattle.frame_state.specs.Code.{sources_of}
 use Rattle.frame_state.specs.Sources.{FrameSources}
@@ -20,7 +17,7 @@ use Rattle.tile_writer.specs.Code.{EndsTile, Tile, tile_rest}
 use Rattle.tile_writer.specs.declared.unwritten.Unwritten.{Unwritten}
 use Rattle.tile_writer.specs.declared.unwritten.Unwritten.TheVariants as unwritten
 use Rattle.frame_writer.specs.Bytes.{IsWritten}
-use Rattle.frame_writer.specs.Code.{GivesBytes, GivesTile, GivesTileTo, IsReadyFor, TileHeld, TileHere, ending_of, held_by, held_of, here_of}
+use Rattle.frame_writer.specs.Code.{GivesBytes, GivesTile, GivesTileTo, IsReadyFor, IsToldAs, TileHere, ending_of, held_by, held_of, here_of}
 use Rattle.frame_writer.specs.Frames.{tile_syntax, tile_told}
 use Rattle.frame_writer.specs.Symbols.{Speaker, teller_of}
 use Rattle.frame_writer.specs.declared.written.NotWritten.{NotWritten}
@@ -90,9 +87,10 @@ untold_by speaker by places columns across down column told (Err unwritten.OutOf
 
 -- the bytes of a tile are written, whether it breaks a rule or not
 bytes_written : {T : Type 0} (speaker : Speaker T) (by : FrameSources) (frame : FramePlaces) (places : TilePlaces) (s : TileRead) (told last : T) (bytes : List ℕ) (broken : Option Rule) (column : TileColumn)
-    → GivesTileTo speaker by frame places s told bytes broken column last → (r : Result TileRead Rule) × IsWritten (tile_syntax by frame places s) r bytes
-bytes_written speaker by frame places s told last bytes None column gives = (Ok gives.0, gives.1)
-bytes_written speaker by frame places s told last bytes (Some rule) column gives = (Err rule, gives.0)
+    → GivesTileTo speaker by frame places s told bytes broken column last
+    → (r : Result TileRead Rule) × IsToldAs (tile_told speaker by frame places (s, told)) r × IsWritten (tile_syntax by frame places s) r bytes
+bytes_written speaker by frame places s told last bytes None column gives = (Ok gives.0, (last, gives.3), gives.1)
+bytes_written speaker by frame places s told last bytes (Some rule) column gives = (Err rule, gives.1, gives.0)
 
 by_bytes : {T : Type 0} (speaker : Speaker T) (by : code.FrameSources) (places : TilePlaces) (columns : List TileColumn) (across down : ℕ) (column : TileColumn) (told : T) (r : Result (Unit {0}) Unwritten)
     (walk_by : code.FrameSources) (at : TilePlaces) (others : List TileColumn) (new : TileColumn) (last : T) (part : Part) (result : Result Written NotWritten)
@@ -105,7 +103,7 @@ by_bytes speaker by places columns across down column told r walk_by at others n
 by_bytes speaker by places columns across down column told r walk_by at others new last part (Err TooLong) all ends gives s holds =
     let to = gives_by speaker by places columns across down column told r gives.0 gives.1 walk_by at others new last part all ends gives.2 gives.3 s holds in
     let written = bytes_written speaker (sources_of by) by.setting.places places s told last gives.1 gives.0 new to in
-    (written.0, gives.1, written.1, gives.4)
+    (written.0, gives.1, written.1, written.2, gives.4)
 by_bytes speaker by places columns across down column told r walk_by at others new last part (Err OutOfMemory) all ends gives s holds = tt
 
 -- from the part that a new encoder has

@@ -8,9 +8,9 @@ use Rattle.vp9_types.specs.declared.job.Span.{Span}
 use Rattle.vp9_types.specs.declared.rule.Rule.{Rule}
 use Rattle.compressed_header.specs.Header.{IsForward, compressed_header, forward}
 use Rattle.compressed_writer.specs.Bytes.{IsWrittenHeader}
+use Rattle.compressed_writer.specs.Spelling.{spelled_compressed}
 use Rattle.frame_headers.specs.Header.{head_of}
 use Rattle.frame_headers.specs.Tiles.{AreFewTiles, least, max_log2, min_log2, superblocks}
-use Rattle.frame_headers.specs.declared.header.FrameHead.TheVariants as head
 use Rattle.frame_headers.specs.declared.header.Header.{Header}
 use Rattle.frame_headers.specs.declared.header.Uncompressed.TheVariants as uncompressed
 use Rattle.frame_headers.specs.declared.persist.Persist.{Persist}
@@ -39,8 +39,8 @@ same_forward header size before bytes = refl
 -- nor are its bools others
 same_updates : (header : Header) (size : ℕ) (before after : ContextLists) (modes : Modes) (bytes : List ℕ) → IsWrittenHeader header before after modes bytes
     → IsWrittenHeader (with_size header size) before after modes bytes
-unfolding compressed_header
-same_updates header size before after modes bytes h = record { part = h.part; put = h.put; ends = h.ends }
+unfolding compressed_header spelled_compressed
+same_updates header size before after modes bytes h = record { part = h.part; put = h.put; spelled = h.spelled; ends = h.ends }
 
 ends_so : (bytes : List ℕ) → (tail : List ℕ) × (without_index bytes ≡ bytes ++ tail)
 unfolding without_index

@@ -1,6 +1,6 @@
 -- Tiles one behind another, each but the last with its size before it: they are found and read so.
-use Rattle.std.proofs.Common.{◌≡◌, ◌∙◌, ℕ, zero, suc, ◌+◌, ◌-◌, ◌^◌, ◌<◌, ◌≤◌, List, [], ◌∷◌, ◌++◌, length, drop, take, true, false, refl, sym, ap, append_assoc, arith}
-use Rattle.std.specs.Prelude.{Result, Ok, Err, nat_eq, nat_lt, slice_range}
+use Rattle.std.proofs.Common.{◌≡◌, ◌∙◌, ℕ, suc, ◌+◌, ◌-◌, ◌^◌, ◌<◌, ◌≤◌, List, [], ◌∷◌, ◌++◌, length, take, false, refl, sym, ap, append_assoc, arith}
+use Rattle.std.specs.Prelude.{Result, Ok, Err, nat_eq, slice_range}
 use Rattle.std.specs.List.{flat_map, All}
 use Rattle.std.proofs.Math.Nat.{mod-eq_of_lt}
 use Rattle.std.proofs.Math.Seq.{drop-append_seam, take-append_seam}

@@ -158,7 +158,7 @@ gives_all : {T : Type 0} (speaker : Speaker T) (by : FrameSources) (n : ℕ) (co
     → GivesNth speaker by n read now result (slice_set columns (column_of by.header.params.tiles n) new) last
 gives_all speaker by n columns new (Ok w) read now last holds gives = gives_to speaker by n columns new w.bytes.items w.broken read now last holds gives
 gives_all speaker by n columns new (Err Unsaid) read now last holds gives = told_no speaker by n read unwritten.Unsaid now gives
-gives_all speaker by n columns new (Err TooLong) read now last holds gives = record { settles = gives.0; bytes = gives.1; written = gives.2; long = gives.3 }
+gives_all speaker by n columns new (Err TooLong) read now last holds gives = record { settles = gives.0; bytes = gives.1; told = gives.2; written = gives.3; long = gives.4 }
 gives_all speaker by n columns new (Err OutOfMemory) read now last holds gives = tt
 
 pub gives_nth : {T : Type 0} (speaker : Speaker T) (by : code.FrameSources) (n k : ℕ) (columns : List TileColumn) (x new : TileColumn) (t : TilePlaces) (result : Result Written NotWritten) (now last : T)

@@ -1,10 +1,8 @@
 -- What is written behind the marker is read from its bytes, to a value or to the rule that is broken, whatever stands behind.
-use Rattle.std.proofs.Common.{◌≡◌, ℕ, suc, ◌+◌, ◌-◌, ◌*◌, ◌/◌, ◌^◌, ◌<◌, ◌≤◌, List, [], ◌∷◌, ◌++◌, length, true, false, refl, sym, ap, subst, append_assoc, ◌∙◌, arith}
+use Rattle.std.proofs.Common.{◌≡◌, ℕ, suc, ◌+◌, ◌-◌, ◌*◌, ◌/◌, ◌^◌, ◌<◌, ◌≤◌, List, [], ◌∷◌, ◌++◌, length, false, refl, sym, ap, append_assoc, ◌∙◌, arith}
 use Rattle.std.specs.Prelude.{Result, Ok, Err, nat_eq}
 use Rattle.std.proofs.lemmas.Bool.{ne_eqb}
-use Rattle.std.proofs.lemmas.List.{length-append}
 use Rattle.vp9_types.specs.Bits.{bits_of, spelled, AreBits}
-use Rattle.vp9_types.specs.Results.{◌>>=◌}
 use Rattle.vp9_types.specs.Syntax.{Syntax, done, broken, ask}
 use Rattle.vp9_types.specs.Writing.{WritesTo}
 use Rattle.vp9_types.specs.declared.rule.Rule.{Rule}
@@ -21,7 +19,7 @@ use Rattle.bool_encoder.proofs.Parts.{put_zero}
 use Rattle.bool_encoder.proofs.Starts.{Sound, writes_sound}
 use Rattle.bool_encoder.proofs.WriteLaws.{written_is_read}
 use Rattle.counting_reader.specs.Counting.{Settled}
-use Rattle.counting_writer.specs.Counted.{valued, PutsTo}
+use Rattle.counting_writer.specs.Counted.{valued}
 use Rattle.counting_writer.proofs.CountedPuts.{value_counts, value_put}
 use Rattle.frame_state.specs.Code.{read_whole, settled_of}
 use Rattle.frame_writer.specs.Bytes.{IsWritten}

@@ -1,5 +1,5 @@
 -- What is written of a frame as bytes.
-use Rattle.std.specs.Prelude.{◌≡◌, ℕ, ◌+◌, ◌-◌, ◌/◌, ◌<◌, ◌≤◌, ◌^◌, ◌==◌, List, [], ◌∷◌, ◌++◌, length, slice_index, Result, Ok, Err, if◌then◌else◌}
+use Rattle.std.specs.Prelude.{◌≡◌, ℕ, ◌+◌, ◌-◌, ◌/◌, ◌<◌, ◌≤◌, ◌^◌, ◌==◌, List, [], ◌∷◌, ◌++◌, length, slice_index, Result, Ok, if◌then◌else◌}
 use Rattle.std.specs.List.{flat_map, All}
 use Rattle.byteorder.specs.Endian.{big_bytes}
 use Rattle.vp9_types.specs.Results.{◌>>=◌}

@@ -9,8 +9,10 @@ use Rattle.frame_headers.specs.declared.header.FrameHead.TheVariants.{Coded}
 use Rattle.frame_headers.specs.declared.header.Header.{Header}
 use Rattle.frame_headers.specs.declared.persist.Persist.{Persist}
 use Rattle.frame_headers.specs.declared.header.Uncompressed.TheVariants as uncompressed
-use Rattle.compressed_header.specs.Header.{IsForward, forward}
+use Rattle.compressed_header.specs.Header.{IsForward}
+use Rattle.bool_lists.specs.Lists.{bytes_taken}
 use Rattle.compressed_writer.specs.Bytes.{IsWrittenHeader}
+use Rattle.compressed_writer.specs.Spelling.{spelled_compressed}
 use Rattle.header_writer.specs.Reads.{HoldsHeader}
 use Rattle.header_writer.specs.Spelling.{IsSpelled}
 use Rattle.prob_contexts.specs.Lists.{ContextLists, lists_of}
@@ -27,10 +29,11 @@ use Rattle.frame_state.specs.Sources.{FramePast, FrameSources}
 use Rattle.frame_state.specs.declared.columns.TileColumn.{TileColumn}
 use Rattle.frame_state.specs.declared.sources.FrameSources as code
 use Rattle.frame_state.specs.declared.tile_places.TilePlaces.{TilePlaces}
+use Rattle.tile_writer.specs.Said.{Said}
 use Rattle.tile_writer.specs.declared.unwritten.Unwritten.{Unwritten}
 use Rattle.tile_writer.specs.declared.unwritten.Unwritten.TheVariants as unwritten
 use Rattle.frame_writer.specs.Bytes.{HasItsBools, HasSize, HaveTheirBools, IsLaidOut, IsWritten, read_each, sized, tile_bytes, with_size, without_index}
-use Rattle.frame_writer.specs.Frames.{frame_told, nth_syntax, nth_told, said_of, tile_syntax, tile_told, tiles_told}
+use Rattle.frame_writer.specs.Frames.{frame_told, nth_syntax, nth_tile_told, nth_told, said_of, tile_syntax, tile_told, tiles_told}
 use Rattle.frame_writer.specs.Symbols.{Speaker}
 use Rattle.frame_writer.specs.declared.frame.FrameHeaders.{FrameHeaders}
 use Rattle.frame_writer.specs.declared.frame.FrameToWrite.{FrameToWrite}
@@ -111,17 +114,23 @@ GivesTileTo speaker by frame tile s t bytes None column new =
 GivesTileTo speaker by frame tile s t bytes (Some rule) column new =
     IsWritten (tile_syntax by frame tile s) (Err rule) bytes × (tile_told speaker by frame tile (s, t) ≡ Err (unwritten.Broken rule))
 
+-- what is told of a tile ends so: what reading keeps then, or the rule that is broken
+abbrev pub IsToldAs : {T : Type 0} → Said TileRead T → Result TileRead Rule → Type 0
+IsToldAs {T = T} told (Ok next) = (new : T) × (told ≡ Ok (next, new))
+IsToldAs told (Err rule) = told ≡ Err (unwritten.Broken rule)
+
 abbrev pub GivesTile : {T : Type 0} → Speaker T → FrameSources → FramePlaces → TilePlaces → TileRead → T → Result Written NotWritten → TileColumn → T → Type 0
 GivesTile speaker by frame tile s t (Ok w) column new = GivesTileTo speaker by frame tile s t w.bytes.items w.broken column new
 GivesTile speaker by frame tile s t (Err Unsaid) column new = tile_told speaker by frame tile (s, t) ≡ Err unwritten.Unsaid
 GivesTile speaker by frame tile s t (Err TooLong) column new =
-    (r : Result TileRead Rule) × (bytes : List ℕ) × IsWritten (tile_syntax by frame tile s) r bytes × (2 ^ 32 ≤ length bytes)
+    (r : Result TileRead Rule) × (bytes : List ℕ) × IsToldAs (tile_told speaker by frame tile (s, t)) r × IsWritten (tile_syntax by frame tile s) r bytes × (2 ^ 32 ≤ length bytes)
 GivesTile speaker by frame tile s t (Err OutOfMemory) column new = Unit {0}
 
--- the bools of the n-th tile, or those up to the rule that it breaks, take 2 ^ 32 bytes or more
-pub record IsLongTile (by : FrameSources) (n : ℕ) (read : FrameRead) : Type 0 where
+-- the bools of the n-th tile, as it is told, or those up to the rule that it breaks, take 2 ^ 32 bytes or more
+pub record IsLongTile {T : Type 0} (speaker : Speaker T) (by : FrameSources) (n : ℕ) (read : FrameRead) (t : T) : Type 0 where
   pub settles : Result TileRead Rule
   pub bytes : List ℕ
+  pub told : IsToldAs (nth_tile_told speaker by n read t) settles
   pub written : IsWritten (nth_syntax by n read) settles bytes
   pub long : 2 ^ 32 ≤ length bytes
 
@@ -135,7 +144,7 @@ GivesNthTo speaker by n read t bytes (Some rule) columns new =
 abbrev pub GivesNth : {T : Type 0} → Speaker T → FrameSources → ℕ → FrameRead → T → Result Written NotWritten → List TileColumn → T → Type 0
 GivesNth speaker by n read t (Ok w) columns new = GivesNthTo speaker by n read t w.bytes.items w.broken columns new
 GivesNth speaker by n read t (Err Unsaid) columns new = nth_told speaker by n (said_of read, t) ≡ Err unwritten.Unsaid
-GivesNth speaker by n read t (Err TooLong) columns new = IsLongTile by n read
+GivesNth speaker by n read t (Err TooLong) columns new = IsLongTile speaker by n read t
 GivesNth speaker by n read t (Err OutOfMemory) columns new = Unit {0}
 
 ---- All tiles of a frame ----
@@ -163,7 +172,7 @@ IsUntold speaker by t = (frame_told speaker by t ≡ Err unwritten.Unsaid) ⊎ (
 -- A tile is too long, be it one behind a tile that breaks a rule: that one has no reader.
 abbrev pub IsTooLong : {T : Type 0} → Speaker T → FrameSources → T → Type 0
 IsTooLong {T = T} speaker by t =
-    ((n : ℕ) × (read : FrameRead) × (now : T) × (frame_told speaker by t ≡ tiles_told speaker by n (tile_count by.header - n) (said_of read, now)) × IsLongTile by n read)
+    ((n : ℕ) × (read : FrameRead) × (now : T) × (frame_told speaker by t ≡ tiles_told speaker by n (tile_count by.header - n) (said_of read, now)) × IsLongTile speaker by n read now)
     ⊎ ((rule : Rule) × (frame_told speaker by t ≡ Err (unwritten.Broken rule)))
 
 abbrev pub GivesTiles : {T : Type 0} → Speaker T → FrameSources → T → List ℕ → Result (Option Rule) NotWritten → List ℕ → T → Type 0
@@ -208,9 +217,9 @@ pub record AreHeaders (before : Persist) (frame : FrameToWrite) (old : Contexts)
   pub holds : HoldsHeader before (uncompressed.Coded header) front
   pub spelled : IsSpelled before frame.choices (uncompressed.Coded header) front
 
--- a compressed header of 2 ^ 16 bytes is too long
+-- a compressed header whose bools take 2 ^ 16 bytes or more is too long
 abbrev pub IsLongHeader : FrameToWrite → ContextLists → Type 0
-IsLongHeader frame before = (bytes : List ℕ) × (forward frame.header before bytes ≡ Ok (lists_of frame.contexts, frame.modes)) × (2 ^ 16 ≤ length bytes)
+IsLongHeader frame before = 2 ^ 16 ≤ bytes_taken (spelled_compressed frame.header before (lists_of frame.contexts) frame.modes)
 
 abbrev pub GivesHeaders : Persist → FrameToWrite → Contexts → Result FrameHeaders NotWritten → Type 0
 GivesHeaders before frame old (Ok h) = AreHeaders before frame old h.header h.bytes.items

@@ -1,5 +1,5 @@
 -- What the tiles of a frame say, one after another (6.4 of the standard: decode_tiles, decode_tile).
-use Rattle.std.specs.Prelude.{ℕ, zero, suc, ◌+◌, ◌-◌, List, [], ◌++◌, get_or, slice_set, Result, Ok}
+use Rattle.std.specs.Prelude.{ℕ, zero, suc, ◌+◌, ◌-◌, List, ◌++◌, get_or, slice_set, Result, Ok}
 use Rattle.vp9_types.specs.Results.{◌>>=◌}
 use Rattle.vp9_types.specs.Sizes.{superblocks_along}
 use Rattle.vp9_types.specs.Syntax.{Syntax}
@@ -56,7 +56,13 @@ nth_syntax by n read =
     tile_syntax by (places_of (shape_of by.header)) (tile_places (places_of (shape_of by.header)) by.header.params.tiles n)
     (begun (shape_of by.header) (column_at by.header read (column_of by.header.params.tiles n)))
 
--- what it is told
+-- and what it is told there
+abbrev pub nth_tile_told : {T : Type 0} → Speaker T → FrameSources → ℕ → FrameRead → T → Said TileRead T
+nth_tile_told speaker by n read t =
+    tile_told speaker by (places_of (shape_of by.header)) (tile_places (places_of (shape_of by.header)) by.header.params.tiles n)
+    (begun (shape_of by.header) (column_at by.header read (column_of by.header.params.tiles n)), t)
+
+-- what it is told, behind what is said before it
 unfoldable pub nth_told : {T : Type 0} → Speaker T → FrameSources → ℕ → FrameSaid × T → Result (FrameSaid × T) Unwritten
 nth_told speaker by n p = do
   q ← tile_told speaker by (places_of (shape_of by.header)) (tile_places (places_of (shape_of by.header)) by.header.params.tiles n)

@@ -1,5 +1,5 @@
 -- A drawn frame is read as it is drawn.
-use Rattle.std.proofs.Common.{◌≡◌, ◌∙◌, ℕ, List, refl, sym, ap, ◌⊎◌, inl, inr, subst}
+use Rattle.std.proofs.Common.{◌≡◌, ◌≤◌, ◌^◌, ◌∙◌, ℕ, List, refl, sym, ap, ◌⊎◌, inl, inr, subst}
 use Rattle.std.specs.Prelude.{IsOk, Option, Some, None, Result, Ok, Err}
 use Rattle.vp9_types.specs.declared.block.Modes.{Modes}
 use Rattle.vp9_types.specs.declared.job.Span.{Span}
@@ -20,7 +20,8 @@ use Rattle.frame_writer.specs.declared.frame.FrameToWrite.{FrameToWrite}
 use Rattle.frame_writer.specs.declared.written.NotWritten.{NotWritten}
 use Rattle.frame_writer.specs.declared.written.NotWritten.TheVariants.{Unsaid, TooLong, OutOfMemory}
 use Rattle.frame_writer.specs.declared.written.Written.{Written}
-use Rattle.compressed_header.specs.Header.{compressed_header, forward}
+use Rattle.bool_lists.specs.Lists.{bytes_taken}
+use Rattle.compressed_writer.specs.Spelling.{spelled_compressed}
 use Rattle.tile_writer.specs.declared.unwritten.Unwritten.{Unwritten}
 use Rattle.tile_writer.specs.declared.unwritten.Unwritten.TheVariants as unwritten
 use Rattle.drawn_frames.specs.Symbols.{drawing}
@@ -107,11 +108,9 @@ untold_by state header frame past x size symbols is (inr told) = inl (unsaid_by 
 
 long_by : (state : State) (header : Header) (frame : FrameToWrite) (past : FramePast) (x : ℕ) (symbols : DrawnSymbols) → IsBy state header frame past x symbols
     → IsLongHeader frame past.contexts ⊎ ((size : ℕ) × IsTooLong drawing (sources_with frame past size) symbols) → IsNone state (Coded header) x
-long_by state header frame past x symbols is (inl long) = inr (inl (record {
-  bytes = long.0;
-  makes = (λ i. forward (sym is.header_is i) (sym (ap (λ (p : FramePast). p.contexts) is.past_is) i) long.0) ∙ long.1 ∙ (λ i. Ok (is.contexts i, (ap (λ p. p.0) (sym is.modes)) i));
-  long = long.2;
-}))
+long_by state header frame past x symbols is (inl long) = inr (inl
+    (subst (λ (p : Header × (ContextLists × (ContextLists × Modes))). 2 ^ 16 ≤ bytes_taken (spelled_compressed p.0 p.1.0 p.1.1.0 p.1.1.1))
+    (λ i. (is.header_is i, (ap (λ (p : FramePast). p.contexts) is.past_is i, (is.contexts i, (ap (λ p. p.0) (sym is.modes)) i)))) long))
 long_by state header frame past x symbols is (inr long) = inr (inr (record {
   size = long.0;
   long = subst (λ (p : FrameSources × DrawnSymbols). IsTooLong drawing p.0 p.1)
@@ -155,9 +154,9 @@ same_contexts : (header : Header) (saved : List ContextLists) → context_before
 unfolding saved_before
 same_contexts header saved = refl
 
-same_made : (header : Header) (before : ContextLists) (bytes : List ℕ) → forward (sized 1 header) before bytes ≡ forward header before bytes
-unfolding forward compressed_header
-same_made header before bytes = refl
+same_spelled : (header : Header) (old new : ContextLists) (modes : Modes) → spelled_compressed (sized 1 header) old new modes ≡ spelled_compressed header old new modes
+unfolding spelled_compressed
+same_spelled header old new modes = refl
 
 none_unsized : (state : State) (header : Header) (x : ℕ) → IsNone state (Coded (sized 1 header)) x → IsNone state (Coded header) x
 none_unsized state header x (inl unsaid) = inl (record {
@@ -165,12 +164,9 @@ none_unsized state header x (inl unsaid) = inl (record {
   why = unsaid.why;
   ends = ap (λ p. frame_told drawing p.0 p.1) (sym (told_unsized state header x unsaid.size)) ∙ unsaid.ends;
 })
-none_unsized state header x (inr (inl long)) = inr (inl (record {
-  bytes = long.bytes;
-  makes = sym (same_made header (context_before header state.contexts) long.bytes) ∙ (λ i. forward (sized 1 header) (sym (same_contexts header state.contexts) i) long.bytes) ∙ long.makes
-      ∙ (λ i. Ok (same_contexts header state.contexts i, (same_modes header x i).0));
-  long = long.long;
-}))
+none_unsized state header x (inr (inl long)) = inr (inl
+    (subst (λ (p : ContextLists × Modes). 2 ^ 16 ≤ bytes_taken (spelled_compressed header p.0 p.0 p.1)) (λ i. (same_contexts header state.contexts i, (same_modes header x i).0))
+    (subst (λ bools. 2 ^ 16 ≤ bytes_taken bools) (same_spelled header _ _ _) long)))
 none_unsized state header x (inr (inr long)) = inr (inr (record {
   size = long.size;
   long = subst (λ (p : FrameSources × DrawnSymbols). IsTooLong drawing p.0 p.1) (told_unsized state header x long.size) long.long;

@@ -13,7 +13,8 @@ use Rattle.header_writer.specs.declared.choices.Choices.{Choices}
 use Rattle.ivf_container.specs.Packets.{written_bytes}
 use Rattle.frame_state.specs.Reading.{read_frame, FrameRead}
 use Rattle.frame_state.specs.Sources.{FrameSources}
-use Rattle.compressed_header.specs.Header.{forward}
+use Rattle.bool_lists.specs.Lists.{bytes_taken}
+use Rattle.compressed_writer.specs.Spelling.{spelled_compressed}
 use Rattle.tile_writer.specs.declared.unwritten.Unwritten.{Unwritten}
 use Rattle.frame_writer.specs.Bytes.{IsLaidOut, with_size}
 use Rattle.frame_writer.specs.Code.{IsTooLong}
@@ -56,11 +57,10 @@ pub record IsUnsaid (state : State) (header : Header) (x : ℕ) : Type 0 where
   pub why : Unwritten
   pub ends : frame_told drawing (drawn_sources state (with_size header size) (draw_modes header x).0) (symbols_from (draw_modes header x).1) ≡ Err why
 
--- its compressed header doesn't fit the field of its size
-pub record HasLongHeader (state : State) (header : Header) (x : ℕ) : Type 0 where
-  pub bytes : List ℕ
-  pub makes : forward header (context_before header state.contexts) bytes ≡ Ok (context_before header state.contexts, (draw_modes header x).0)
-  pub long : 2 ^ 16 ≤ length bytes
+-- its compressed header, which updates nothing, doesn't fit the field of its size
+abbrev pub HasLongHeader : State → Header → ℕ → Type 0
+HasLongHeader state header x =
+    2 ^ 16 ≤ bytes_taken (spelled_compressed header (context_before header state.contexts) (context_before header state.contexts) (draw_modes header x).0)
 
 -- nor does a tile
 pub record HasLongTile (state : State) (header : Header) (x : ℕ) : Type 0 where

@@ -1,20 +1,35 @@
-use Rattle.std.proofs.Common.{◌<◌, ◌≤◌, length, arith}
+use Rattle.std.proofs.Common.{ℕ, ◌<◌, ◌≤◌, length, zip, arith}
+use Rattle.bool_lists.proofs.Loops.{each_spelled_none, pairs_on, pairs_all}
 use Rattle.compressed_header.specs.Updates.{diff_update_prob}
+use Rattle.compressed_writer.specs.Spelling.{spelled_update, spelled_updates}
 use Rattle.compressed_writer.proofs.EachPuts.{each_begins, each_on, each_all}
 use Rattle.compressed_writer.proofs.update.put_updates.Goals as goal
 
 pub loop-i-init : goal.loop-i-init
-loop-i-init c = each_begins diff_update_prob c.args.before.now c.args.encoder.now
+loop-i-init c = record {
+  puts = each_begins diff_update_prob c.args.before.now c.args.encoder.now;
+  spells = each_spelled_none (λ (at : ℕ × ℕ). spelled_update at.0 at.1) (zip c.args.before.now c.args.after.now) c.args.encoder.now;
+}
 
 pub loop-i-preserved : goal.loop-i-preserved
 loop-i-preserved c =
     let there : c.loop-i.i < length c.args.after.now = c.loop-i-test.true in
     let size = c.requires.size in
-    each_on diff_update_prob c.args.before.now c.args.encoder.now c.args.after.now c.loop-i.i 0 0 c.loop-i.encoder c.put_update.new.encoder
-    (omega (arith, size, there)) there c.loop-i.invariant c.in_ok-put_update.ensures
+    let low : c.loop-i.i < length c.args.before.now = omega (arith, size, there) in
+    record {
+      puts = each_on diff_update_prob c.args.before.now c.args.encoder.now c.args.after.now c.loop-i.i 0 0 c.loop-i.encoder c.put_update.new.encoder
+          low there c.loop-i.invariant.puts c.in_ok-put_update.ensures.puts;
+      spells = pairs_on (λ (at : ℕ × ℕ). spelled_update at.0 at.1) c.args.before.now c.args.after.now c.loop-i.i c.args.encoder.now c.loop-i.encoder c.put_update.new.encoder
+          low there c.loop-i.invariant.spells c.in_ok-put_update.ensures.spells;
+    }
 
-pub returns : goal.returns
-returns c =
+pub returns-clause-puts : goal.returns-clause-puts
+returns-clause-puts c =
     let there : length c.args.after.now ≤ c.loop-i.i = c.loop-i-test.false in
     let size = c.requires.size in
-    each_all diff_update_prob c.args.before.now c.args.encoder.now c.args.after.now c.loop-i.i c.loop-i.encoder (omega (arith, size, there)) there c.loop-i.invariant
+    each_all diff_update_prob c.args.before.now c.args.encoder.now c.args.after.now c.loop-i.i c.loop-i.encoder (omega (arith, size, there)) there c.loop-i.invariant.puts
+
+pub returns-clause-spells : goal.returns-clause-spells
+unfolding spelled_updates
+returns-clause-spells c =
+    pairs_all (λ (at : ℕ × ℕ). spelled_update at.0 at.1) c.args.before.now c.args.after.now c.loop-i.i c.args.encoder.now c.loop-i.encoder c.loop-i-test.false c.loop-i.invariant.spells

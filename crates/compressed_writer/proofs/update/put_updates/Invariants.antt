@@ -1,7 +1,12 @@
-use Rattle.std.proofs.Common.{take, drop}
+use Rattle.std.proofs.Common.{ℕ, take, drop}
+use Rattle.bool_lists.proofs.Loops.{PairsPut}
 use Rattle.compressed_header.specs.Updates.{diff_update_prob}
 use Rattle.compressed_writer.specs.Code.{EachLeft}
+use Rattle.compressed_writer.specs.Spelling.{spelled_update}
 use Rattle.compressed_writer.proofs.update.put_updates.Given as goal
 
 abbrev pub invariant-loop-i : goal.invariant-loop-i
-invariant-loop-i l = EachLeft diff_update_prob l.before l.fn.encoder (take l.i l.after) (drop l.i l.before) l.encoder
+invariant-loop-i l = record {
+  puts : EachLeft diff_update_prob l.before l.fn.encoder (take l.i l.after) (drop l.i l.before) l.encoder;
+  spells : PairsPut (λ (at : ℕ × ℕ). spelled_update at.0 at.1) l.before l.after l.i l.fn.encoder l.encoder;
+}

@@ -8,7 +8,7 @@ returns-clause-read c =
     IfOk-weaker c.finish.result _ _
     (λ bytes f.
     forwarded c.args.header.now (lists_of c.args.before.now) (lists_of c.args.after.now) c.args.modes c.put_compressed.new.encoder bytes.items
-    (rw c.new-encoder.ensures at c.in_ok-put_compressed.ensures) f)
+    (rw c.new-encoder.ensures at c.in_ok-put_compressed.ensures.puts) f)
     c.finish.ensures
 
 pub returns-clause-some : goal.returns-clause-some

@@ -1,0 +1,6 @@
+pub mod Counted
+pub mod IntraWays
+pub mod VectorWays
+pub mod ReferenceWays
+pub mod StartWays
+pub mod InterWays
