@@ -1,6 +1,5 @@
 pub mod TablePlaces
 pub mod FrameBottom
-pub mod PlannedBlocks
 pub mod Served
 pub mod Frames
 pub mod Slots

@@ -1,0 +1,6 @@
+//! A decode by the numbers of its frames: what is kept before each, what it is and adds; and that these are the decode.
+#![tactic(auto)]
+
+mod laws;
+
+pub use laws::{frames_are_the_output, slots_hold_frames};
