@@ -1,5 +1,5 @@
 -- What the output has taken after one write more.
-use Rattle.std.proofs.Common.{◌≡◌, ℕ, suc, ◌+◌, Bool, true, false, List, ◌++◌, Option, sym, subst, arith}
+use Rattle.std.proofs.Common.{◌≡◌, ℕ, suc, ◌+◌, Bool, true, false, List, ◌++◌, Option, subst, arith}
 use Rattle.edge_io.specs.Putting.{Takes}
 use Rattle.edge_io.proofs.Fronts.{takes_both}
 use Rattle.job_order.specs.Truths.{IsFront, IsRightText}

@@ -78,10 +78,11 @@ IsSeatedStill old new = (new.board ≡ old.board) × (new.view.has ≡ []) × (n
 abbrev pub IsAway : SeatParts → SeatParts → Type 0
 IsAway old new = (new.board ≡ old.board) × (new.view.has ≡ 1 ∷ []) × (new.view.leads ≡ old.view.leads) × (new.view.out ≡ old.view.out)
 
+-- what f is of each, the list first, which tells the type of what f takes
 abbrev pub mapped : {A B : Type 0} → List A → (A → B) → List B
 mapped xs f = map f xs
 
--- those of the frames that are named as live, in their order
+-- the frame is named as live
 abbrev pub is_named : List (Option ℕ) → ℕ → Bool
 is_named live frame = list_any (λ name. option_eq nat_eq name (Some frame)) live
 

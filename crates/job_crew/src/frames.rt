@@ -1,4 +1,4 @@
-ghost use Rattle.std.specs.Prelude.{◌≡◌, ℕ, ◌+◌, ◌*◌, ◌∷◌, Option, Some, IfSome, IfOk, slice_get};
+ghost use Rattle.std.specs.Prelude.{◌≡◌, ℕ, ◌+◌, ◌*◌, ◌<◌, ◌∷◌, Option, Some, IfSome, IfOk, slice_get};
 ghost use Rattle.std.specs.Arc.{arc_value};
 ghost use Rattle.job_order.specs.declared.segment.Segment.TheVariants.{Build};
 ghost use Rattle.job_order.specs.declared.segment.Shown.{Shown};
@@ -98,7 +98,9 @@ impl<X: Drop, M: Meaning<X>> Frame<X, M> {
         })
     }
 
-    pub(crate) fn number(&self) -> u64 {
+    pub(crate) fn number(&self) -> u64
+        ensures { result ≡ (arc_value self.now.own).frame }
+    {
         self.own.frame()
     }
 
@@ -155,8 +157,10 @@ impl<X: Drop, M: Meaning<X>> Frames<X, M> {
         let _ = self.frames.push(frame);
     }
 
-    /// Takes out the frame before one that is to be written: all its jobs are done.
-    pub(crate) fn retire(&mut self, frame: u64) -> Option<Shared<Frame<X, M>>> {
+    /// Takes out the frame before one that is to be written: all its jobs are done, and the frame to be written has what the next head asks for.
+    pub(crate) fn retire(&mut self, frame: u64) -> Option<Shared<Frame<X, M>>>
+        ensures { IfSome result (λ gone. (arc_value (arc_value gone).own).frame < frame) }
+    {
         if self.frames.len() > 0 && self.frames[0].number() < frame {
             Some(self.frames.remove(0))
         } else {
@@ -195,7 +199,7 @@ impl<X: Drop, M: Meaning<X>> Frames<X, M> {
         Some(self.of(job)?)
     }
 
-    /// What a job may see, for the job to have.
+    /// What a job may see, for the job to have. Only 2^64 owners would leave it without.
     pub(crate) fn lend(&self, job: JobName) -> Held<X, M> {
         Arc::try_clone(self.of(job)?).ok()
     }
