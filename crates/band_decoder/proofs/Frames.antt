@@ -49,7 +49,7 @@ use Rattle.band_decoder.specs.declared.any.AnyBands.TheVariants.{Bytes, Words}
 use Rattle.seq_decoder.specs.Code.{input_by}
 use Rattle.band_decoder.specs.Bands.{IsWhole}
 use Rattle.band_decoder.specs.Code.{HoldsFrame, HoldsResult, IsDecoded, IsFrame}
-use Rattle.frame_plans.proofs.PlannedBlocks.{blocks_planned}
+use Rattle.frame_plans.proofs.ReadBlocks.{blocks_planned}
 use Rattle.band_decoder.proofs.FrameBottom.{no_sample_below}
 
 pub ok_of : {A E : Type 0} (r : Result A E) → IsOk r → (x : A) × (r ≡ Ok x)

@@ -1,4 +1,4 @@
 pub mod Steps
 pub mod Joined
 pub mod Places
-pub mod PlannedBlocks
+pub mod ReadBlocks

@@ -66,7 +66,7 @@ many_read by bytes compressed spans read cut is =
 
 ---- Their blocks ----
 
-infos_of : (shape : Shape) (tile_from : ℕ) (blocks : List BlockInfo) (pieces : List (List ℤ)) → infos (planned_blocks shape tile_from blocks pieces) ≡ blocks
+pub infos_of : (shape : Shape) (tile_from : ℕ) (blocks : List BlockInfo) (pieces : List (List ℤ)) → infos (planned_blocks shape tile_from blocks pieces) ≡ blocks
 unfolding planned_blocks
 infos_of shape tile_from [] pieces = refl
 infos_of shape tile_from (b ∷ blocks) pieces = ap (λ (bs : List BlockInfo). b ∷ bs) (infos_of shape tile_from blocks (drop (count_of shape b) pieces))

@@ -1,0 +1,4 @@
+pub mod Copies
+pub mod Placing
+pub mod Joining
+pub mod Joined
