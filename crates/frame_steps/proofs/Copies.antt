@@ -1,5 +1,5 @@
 -- Tile columns and counts, copied.
-use Rattle.std.proofs.Common.{◌≡◌, ◌∙◌, ◌<◌, ◌≤◌, ◌+◌, ◌-◌, ◌*◌, ◌/◌, ◌^◌, ℕ, zero, suc, List, [], ◌∷◌, ◌++◌, length, min, take, get_or, ap, inl, inr, refl, sym, subst, arith}
+use Rattle.std.proofs.Common.{◌≡◌, ◌∙◌, ◌<◌, ◌≤◌, ◌+◌, ◌-◌, ◌*◌, ◌/◌, ◌^◌, ℕ, zero, suc, List, [], ◌∷◌, ◌++◌, length, take, get_or, ap, inl, inr, sym, subst, arith}
 use Rattle.std.specs.Prelude.{All, Bool, true, false, ◌&&◌, if◌then◌else◌, replicate, IfOk, IfSome, Option, None, Result, Ok, Err}
 use Rattle.std.proofs.lemmas.List.{length-replicate, take_more}
 use Rattle.std.proofs.lemmas.Bool.{cases_lt}
@@ -31,7 +31,7 @@ use Rattle.frame_setting.specs.declared.setting.FrameSetting.{FrameSetting}
 use Rattle.frame_state.specs.Code.{counts_if}
 use Rattle.frame_state.specs.Columns.{AllFit, AllLie, AllSmall, AllStart, IsTileColumn, limit_of}
 use Rattle.frame_state.specs.Plans.{ColumnRead}
-use Rattle.frame_state.specs.Tiles.{superblocks_before, tile_offset}
+use Rattle.frame_state.specs.Tiles.{tile_offset}
 use Rattle.frame_state.specs.declared.columns.TileColumn.{TileColumn}
 use Rattle.frame_state.proofs.TileOffsets.{column_ends}
 use Rattle.frame_close.specs.Code.{GivesColumn}

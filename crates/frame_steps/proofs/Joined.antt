@@ -1,33 +1,28 @@
 -- What a frame leaves, whose tile columns are joined.
-use Rattle.std.proofs.Common.{◌≡◌, ◌∙◌, ◌<◌, ◌≤◌, ◌+◌, ◌∷◌, [], ℕ, Bool, List, length, get_or, refl, sym, ap, subst, arith, inl, inr}
-use Rattle.std.specs.Prelude.{All, Contains, ◌↔◌, IsOk, IfOk, map, Result, Ok, Err, slice_index_or}
+use Rattle.std.proofs.Common.{◌≡◌, ◌∙◌, ◌<◌, ◌∷◌, [], ℕ, Bool, List, length, get_or, refl, sym, ap, subst, arith}
+use Rattle.std.specs.Prelude.{All, Contains, ◌↔◌, IsOk, Result, Ok, Err}
 use Rattle.std.proofs.lemmas.List.{get_or-map, get_or_default, length-map, same_lists}
 use Rattle.vp9_types.specs.declared.job.Span.{Span}
 use Rattle.vp9_types.specs.declared.rule.Rule.{Rule}
-use Rattle.frame_headers.specs.Spans.{tile_count, tile_spans}
-use Rattle.frame_headers.specs.declared.header.Header.{Header}
-use Rattle.block_plan.specs.declared.block.BlockInfo.{BlockInfo}
-use Rattle.frame_state.specs.Code.{counts_if}
-use Rattle.frame_state.specs.Columns.{AreColumnsOf, HasStarts, IsTileColumn, blocks_of}
-use Rattle.frame_state.specs.Laws.{columns_across}
+use Rattle.frame_headers.specs.Spans.{tile_spans}
+use Rattle.frame_state.specs.Columns.{AreColumnsOf, HasStarts, blocks_of}
 use Rattle.frame_state.specs.Plans.{plan_of, tile_bytes}
-use Rattle.frame_state.specs.Reading.{Column, FrameRead, blocks_read, column_at, infos, no_column, read_all_tiles}
+use Rattle.frame_state.specs.Reading.{Column, FrameRead, blocks_read, infos, no_column, read_all_tiles}
 use Rattle.frame_headers.specs.State.{shape_of}
 use Rattle.frame_state.specs.Sources.{FrameSources, adapts}
 use Rattle.frame_state.specs.declared.columns.TileColumn.{TileColumn}
 use Rattle.frame_state.specs.declared.halt.Halt.{Halt}
 use Rattle.frame_state.specs.declared.halt.Halt.TheVariants as halt
-use Rattle.frame_state.proofs.ColumnBlocks.{starts_of}
 use Rattle.frame_state.proofs.PlanReads.{reads_columns}
 use Rattle.frame_plans.proofs.ReadBlocks.{infos_of, many_read}
 use Rattle.counting_reader.specs.Counting.{Settled}
 use Rattle.frame_state.specs.Plans.{ColumnRead}
-use Rattle.frame_close.specs.Code.{AreColumnResults, GivesColumn, GivesFrame, result_at}
+use Rattle.frame_close.specs.Code.{AreColumnResults, GivesColumn, GivesFrame}
 use Rattle.frame_decoder.specs.declared.decoding.Decoded.{Decoded}
 use Rattle.prob_contexts.specs.Lists.{lists_of}
 use Rattle.tile_syntax.specs.declared.plans.Unplanned.{Unplanned}
 use Rattle.tile_syntax.specs.declared.plans.Unplanned.TheVariants as unplanned
-use Rattle.frame_steps.specs.Frames.{AreAsRead, AreCopies, GivesDecoded, IsCopyAsRead, IsDecoded, IsSound, sources_by}
+use Rattle.frame_steps.specs.Frames.{AreAsRead, AreCopies, GivesDecoded, IsCopyAsRead, IsSound, sources_by}
 use Rattle.frame_steps.specs.declared.beginning.BegunFrame.{BegunFrame}
 use Rattle.frame_steps.proofs.Joining.{none, ok_of}
 
@@ -106,18 +101,21 @@ decoded_is b results columns counts d sound h joins memory contexts listed count
     let gives = gives_frame b results columns (Ok counts) sound h joins in
     let reads = reads_columns (sources_by b) b.bytes.now b.compressed cut.0 gives.0 cut.1 gives.1 in
     let all : All IsOk results = λ k e low.
-        planned_at (adapts b.setting.header) (plan_of (sources_by b) (tile_bytes b.bytes.now cut.0) k) (get_or results k e) (reads.0 k) (reads.1 k)
-        (subst (GivesColumn (adapts b.setting.header) (plan_of (sources_by b) (tile_bytes b.bytes.now cut.0) k)) (get_or_default results k none e low) (h.told cut.0 k cut.1 low))
-        (λ wants. let no : ◌≡◌ {A = Result (List ℕ) Halt} (Ok counts) (Err halt.OutOfMemory) = memory.1 (k, low, get_or_default results k _ e low ∙ wants) in absurd cc) in
-    let kept = h.kept cut.0 cut.1 all in
-    (gives.0, gives.1, record {
-      contexts = ap lists_of contexts;
-      blocks = ap blocks_of listed ∙ blocks_copied b cut.0 gives.0 columns cut.1 gives.1 kept;
-      starts = subst (λ (cs : List TileColumn). All (HasStarts b.setting.header) cs) (sym listed) (λ k e low. (kept.each k e low).column.starts);
-      columns = subst (AreColumnsOf b.setting.header) (sym listed) (record {
-        size = sound.size;
-        few = sound.few;
-        are = record { many = kept.many; each = λ k e low. (kept.each k e low).column };
-      });
-      counts = counted ∙ gives.2;
-    })
+    planned_at (adapts b.setting.header) (plan_of (sources_by b) (tile_bytes b.bytes.now cut.0) k) (get_or results k e) (reads.0 k) (reads.1 k)
+    (subst (GivesColumn (adapts b.setting.header) (plan_of (sources_by b) (tile_bytes b.bytes.now cut.0) k)) (get_or_default results k none e low) (h.told cut.0 k cut.1 low))
+    (λ wants. let no : ◌≡◌ {A = Result (List ℕ) Halt} (Ok counts) (Err halt.OutOfMemory) = memory.1 (k, low, get_or_default results k _ e low ∙ wants) in absurd cc) in
+    let kept = h.kept cut.0 cut.1 all in (
+      gives.0,
+      gives.1,
+      record {
+        contexts = ap lists_of contexts;
+        blocks = ap blocks_of listed ∙ blocks_copied b cut.0 gives.0 columns cut.1 gives.1 kept;
+        starts = subst (λ (cs : List TileColumn). All (HasStarts b.setting.header) cs) (sym listed) (λ k e low. (kept.each k e low).column.starts);
+        columns = subst (AreColumnsOf b.setting.header) (sym listed) (record {
+          size = sound.size;
+          few = sound.few;
+          are = record { many = kept.many; each = λ k e low. (kept.each k e low).column };
+        });
+        counts = counted ∙ gives.2;
+      },
+    )

@@ -1,11 +1,10 @@
 -- The tile columns of a frame, joined.
-use Rattle.std.proofs.Common.{◌≡◌, ◌∙◌, ◌<◌, ◌≤◌, ◌+◌, ◌∷◌, ◌++◌, [], ℕ, Bool, List, length, get_or, refl, sym, ap, subst, arith, inl, inr}
+use Rattle.std.proofs.Common.{◌≡◌, ◌∙◌, ◌<◌, ◌≤◌, ◌+◌, ◌∷◌, ◌++◌, [], ℕ, List, length, get_or, refl, sym, ap, subst, arith, inl, inr}
 use Rattle.std.specs.Prelude.{All, ◌==◌, IsOk, Result, Ok, Err, slice_index_or}
 use Rattle.std.proofs.lemmas.Bool.{cases_Bool, eqb-false, eqb-true}
 use Rattle.std.proofs.lemmas.List.{get_or_append_left, length-append}
 use Rattle.std.proofs.Math.Seq.{get_or-append_seam}
 use Rattle.vp9_types.specs.declared.job.Span.{Span}
-use Rattle.vp9_types.specs.declared.rule.Rule.{Rule}
 use Rattle.frame_headers.specs.Spans.{tile_count, tile_spans}
 use Rattle.frame_state.specs.Columns.{IsTileColumn}
 use Rattle.frame_state.specs.Laws.{columns_across}
@@ -16,7 +15,7 @@ use Rattle.frame_close.specs.Code.{GivesColumn, result_at}
 use Rattle.prob_contexts.specs.Counted.{joined_counts, no_counts}
 use Rattle.tile_syntax.specs.declared.plans.Unplanned.{Unplanned}
 use Rattle.tile_syntax.specs.declared.plans.Unplanned.TheVariants as unplanned
-use Rattle.frame_steps.specs.Frames.{AreAsRead, AreCopies, IsColumn, IsCopyAsRead, IsSound, sources_by}
+use Rattle.frame_steps.specs.Frames.{AreCopies, IsColumn, IsCopyAsRead, IsSound, sources_by}
 use Rattle.frame_steps.specs.declared.beginning.BegunFrame.{BegunFrame}
 use Rattle.frame_steps.specs.declared.columns.PlannedColumn.{PlannedColumn}
 use Rattle.frame_steps.proofs.Copies.{told_copied}
@@ -80,16 +79,18 @@ one_planned b n results all columns more c counts d first is joined lies blocks 
       (subst (λ (x : List ℕ). GivesColumn (adapts b.setting.header) (plan_of (sources_by b) (tile_bytes b.bytes.now spans) n) (Ok x)) (sym joined)
       (told_copied (adapts b.setting.header) (plan_of (sources_by b) (tile_bytes b.bytes.now spans) n) c.counts (is.counts spans cut))) k low;
   kept = λ spans cut ok.
-      let before = first.kept spans cut (λ k e low. subst IsOk (get_or_append_left results (Ok counts ∷ []) e k low) (ok k e (omega (arith, low, length-append results (Ok counts ∷ []))))) in
-      (length-append columns (d ∷ []) ∙ ap (λ m. m + 1) before.0, λ k e low. elim (cases_Bool (k == n)) [
-        | inl same ↦
-            let same : k ≡ n = eqb-true k n same in
-            let there : slice_index_or (columns ++ d ∷ []) n e ≡ d = ap (λ m. get_or (columns ++ d ∷ []) m e) (sym before.0) ∙ get_or-append_seam columns d [] e in
-            rw same (subst (IsCopyAsRead b (tile_bytes b.bytes.now spans) n) (sym there) (record { plan = c.plan; read = (is.plan spans cut).0; blocks = blocks; column = lies }))
-        | inr other ↦
-            let below : k < n = omega (arith, low, eqb-false k n other) in
-            subst (IsCopyAsRead b (tile_bytes b.bytes.now spans) k) (sym (get_or_append_left columns (d ∷ []) e k (omega (arith, below, before.0)))) (before.1 k e below)
-      ]);
+      let before = first.kept spans cut (λ k e low. subst IsOk (get_or_append_left results (Ok counts ∷ []) e k low) (ok k e (omega (arith, low, length-append results (Ok counts ∷ []))))) in (
+        length-append columns (d ∷ []) ∙ ap (λ m. m + 1) before.0,
+        λ k e low. elim (cases_Bool (k == n)) [
+          | inl same ↦
+              let same : k ≡ n = eqb-true k n same in
+              let there : slice_index_or (columns ++ d ∷ []) n e ≡ d = ap (λ m. get_or (columns ++ d ∷ []) m e) (sym before.0) ∙ get_or-append_seam columns d [] e in
+              rw same (subst (IsCopyAsRead b (tile_bytes b.bytes.now spans) n) (sym there) (record { plan = c.plan; read = (is.plan spans cut).0; blocks = blocks; column = lies }))
+          | inr other ↦
+              let below : k < n = omega (arith, low, eqb-false k n other) in
+              subst (IsCopyAsRead b (tile_bytes b.bytes.now spans) k) (sym (get_or_append_left columns (d ∷ []) e k (omega (arith, below, before.0)))) (before.1 k e below)
+        ],
+      );
 })
 
 -- one more, which isn't

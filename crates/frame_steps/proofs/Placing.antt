@@ -1,10 +1,9 @@
 -- Blocks that are read can be placed in the pictures that they refer to.
-use Rattle.std.proofs.Common.{◌≡◌, ◌∙◌, ◌<◌, ◌≤◌, ℕ, List, length, get_or, ap, refl, sym, subst, arith}
+use Rattle.std.proofs.Common.{◌≡◌, ℕ, List, get_or, refl, sym, subst}
 use Rattle.std.specs.Prelude.{All, true, IfSome, Option, Some, None, Result, Ok, Err}
 use Rattle.vp9_types.specs.declared.block.ReferenceFrame.{ReferenceFrame}
 use Rattle.vp9_types.specs.declared.block.ReferenceFrame.TheVariants.{Last, Golden, Altref}
 use Rattle.vp9_types.specs.declared.job.Span.{Span}
-use Rattle.vp9_types.specs.declared.rule.Rule.{Rule}
 use Rattle.frame_headers.specs.References.{is_in_range}
 use Rattle.frame_headers.specs.Sizes.{HasFrameSize, IsFrameSize}
 use Rattle.frame_headers.specs.Spans.{tile_count, tile_spans}
@@ -13,7 +12,6 @@ use Rattle.frame_headers.specs.declared.header.FrameKind.{FrameKind}
 use Rattle.frame_headers.specs.declared.header.FrameKind.TheVariants as kind
 use Rattle.frame_headers.specs.declared.header.Header.{Header}
 use Rattle.frame_headers.specs.declared.header.InterFields.{InterFields}
-use Rattle.block_plan.specs.declared.block.BlockInfo.{BlockInfo}
 use Rattle.block_plan.specs.declared.block.Prediction.{Prediction}
 use Rattle.block_plan.specs.declared.block.Prediction.TheVariants.{Intra, Inter}
 use Rattle.inter_contexts.specs.References.{reference_in, second_in_range}
@@ -24,13 +22,11 @@ use Rattle.frame_state.specs.Plans.{plan_of, tile_bytes}
 use Rattle.frame_state.specs.Sources.{FrameSources, adapts}
 use Rattle.frame_state.specs.declared.columns.TileColumn.{TileColumn}
 use Rattle.frame_close.proofs.Joined.{column_gives}
-use Rattle.frame_plans.specs.Plans.{IsPlanAsRead}
 use Rattle.seq_decoder.proofs.PastLemmas.{is_reference}
 use Rattle.tile_syntax.specs.Code.{GivesPlan, IsKept}
 use Rattle.tile_syntax.specs.declared.plans.ColumnPlan.{ColumnPlan}
 use Rattle.tile_syntax.specs.declared.plans.Unplanned.{Unplanned}
-use Rattle.band_needs.specs.declared.ranges.BandNeeds.{BandNeeds}
-use Rattle.frame_steps.specs.Frames.{AreRowNeeds, HaveSizes, IsColumn, counts_of, shapes_by, sources_by}
+use Rattle.frame_steps.specs.Frames.{AreRowNeeds, HaveSizes, IsColumn, shapes_by, sources_by}
 use Rattle.frame_steps.specs.declared.beginning.BegunFrame.{BegunFrame}
 use Rattle.frame_steps.specs.declared.columns.PlannedColumn.{PlannedColumn}
 
@@ -85,12 +81,14 @@ column_planned b k c header by own sources given column kept needs =
     record {
       counts = λ spans cut. column_gives (adapts b.setting.header) (plan_of (sources_by b) (tile_bytes b.bytes.now spans) k) (Ok c.counts) (shape_of b.setting.header) c.plan (plans spans cut);
       plan = λ spans cut.
-          let gives = plans spans cut in
-          (record {
-            read = gives.0;
-            says = gives.1;
-            held = gives.2;
-            column = subst (λ (h : Header). IsTileColumn h (tile_count h) k c.plan.column) own column;
-            kept = subst (λ (h : Header). IsKept h c.plan) own kept;
-          }, subst (λ (h : Header). AreRowNeeds h c.plan.column.grid.blocks c.needs.items) own needs);
+          let gives = plans spans cut in (
+            record {
+              read = gives.0;
+              says = gives.1;
+              held = gives.2;
+              column = subst (λ (h : Header). IsTileColumn h (tile_count h) k c.plan.column) own column;
+              kept = subst (λ (h : Header). IsKept h c.plan) own kept;
+            },
+            subst (λ (h : Header). AreRowNeeds h c.plan.column.grid.blocks c.needs.items) own needs,
+          );
     }

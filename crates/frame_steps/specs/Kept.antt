@@ -1,5 +1,5 @@
 -- What is kept between two frames, and how it stands for the state.
-use Rattle.std.specs.Prelude.{◌≡◌, ℕ, List, map, Option, Some, None}
+use Rattle.std.specs.Prelude.{◌≡◌, ℕ, map, Option, Some, None}
 use Rattle.std.specs.Arc.{arc_value}
 use Rattle.frame_headers.specs.State.{SlotsHaveSizes}
 use Rattle.seq_decoder.specs.Code.{HasPlaces, last_held, saved_lists, segments_held}

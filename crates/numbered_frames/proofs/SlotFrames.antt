@@ -54,7 +54,12 @@ coded_to : (p : Putting) (frame : List ℕ) (header : Header) (compressed : Span
 coded_to p frame header compressed updated spans read r forwarded cut reads is =
     record {
       coded = record {
-        kept = p; bytes = frame; header = header; compressed = compressed; by = sources (input_of p.state frame header compressed) updated; spans = spans
+        kept = p;
+        bytes = frame;
+        header = header;
+        compressed = compressed;
+        by = sources (input_of p.state frame header compressed) updated;
+        spans = spans;
       };
       is = ap (λ u. begun_from p frame header compressed u (tile_spans frame header compressed)) forwarded ∙ ap (begun_from p frame header compressed (Ok updated)) cut;
       head = refl;

@@ -85,7 +85,7 @@ on_way format bytes (suc f) p is =
     let rest = ahead_of bytes (f + 1) in
     let way = on_way format bytes f h.kept h.before in
     let next : ahead_of bytes f ≡ record { number = f; frames = h.bytes ∷ rest.frames; ending = rest.ending } =
-        ap (λ (xs : List (List ℕ)). record { number = f; frames = xs; ending = rest.ending }) (dropped (frames_in (frames_of_file bytes)) f h.bytes h.there) in
+    ap (λ (xs : List (List ℕ)). record { number = f; frames = xs; ending = rest.ending }) (dropped (frames_in (frames_of_file bytes)) f h.bytes h.there) in
     let more = goes_by (putting (form_for format bytes)) bytes (texts_below (text format bytes) f) h.kept (ahead_of bytes f) rest f h.bytes h.added way (next, refl) h.put in
     let words = text_is format bytes f h.kept h.bytes (Ok h.added) h.before h.there h.put in
     let one : f + 1 ≡ suc f = omega arith in
@@ -112,7 +112,7 @@ ends_in : (format : Format) (bytes : List ℕ) (f : ℕ) (p : Putting) (frame : 
 ends_in format bytes f p frame rule from there is =
     let rest = ahead_of bytes (f + 1) in
     let next : ahead_of bytes f ≡ record { number = f; frames = frame ∷ rest.frames; ending = rest.ending } =
-        ap (λ (xs : List (List ℕ)). record { number = f; frames = xs; ending = rest.ending }) (dropped (frames_in (frames_of_file bytes)) f frame there) in
+    ap (λ (xs : List (List ℕ)). record { number = f; frames = xs; ending = rest.ending }) (dropped (frames_in (frames_of_file bytes)) f frame there) in
     ends_at (putting (form_for format bytes)) bytes (texts_below (text format bytes) f) p (ahead_of bytes f) rest f frame rule (on_way format bytes f p from) (next, refl) is
 
 pub ends : (format : Format) (bytes : List ℕ) (f : ℕ) (ending : Option (ℕ × Rule)) → EndsAt format bytes f ending
@@ -148,7 +148,7 @@ unfolding before
 front_put format bytes f p frame (Err rule) from there is h = front_still format bytes f (text_is format bytes f p frame (Err rule) from there is) h
 front_put format bytes f p frame (Ok added) from there is h =
     let next : before format bytes (suc f) ≡ Some added.state =
-        ap (λ o. behind_frame f o (frame_at bytes f)) from ∙ ap (behind_frame f (Some p)) there ∙ ap behind is in
+    ap (λ o. behind_frame f o (frame_at bytes f)) from ∙ ap (behind_frame f (Some p)) there ∙ ap behind is in
     front_by format bytes (suc f) added.state next
 
 front_on : (format : Format) (bytes : List ℕ) (f : ℕ) (from : Option Putting) (frame : Option (List ℕ)) → before format bytes f ≡ from → frame_at bytes f ≡ frame

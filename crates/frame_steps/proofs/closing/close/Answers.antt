@@ -1,4 +1,4 @@
-use Rattle.std.proofs.Common.{◌≡◌, ◌∙◌, ap, sym, refl, subst, List, ℕ}
+use Rattle.std.proofs.Common.{◌≡◌, refl, subst, List, ℕ}
 use Rattle.std.specs.Prelude.{◌↔◌, Contains, Result, Ok, Err}
 use Rattle.std.proofs.lemmas.Result.{err_from_is_err_and}
 use Rattle.frame_decoder.specs.declared.decoding.Decoded.{Decoded}

@@ -1,4 +1,4 @@
-use Rattle.std.proofs.Common.{◌≡◌, ◌≤◌}
+use Rattle.std.proofs.Common.{◌≤◌}
 use Rattle.std.specs.Vec.{vec_capacity}
 use Rattle.frame_steps.proofs.Joining.{AreFirst}
 use Rattle.frame_steps.proofs.closing.copy_all.Given as goal

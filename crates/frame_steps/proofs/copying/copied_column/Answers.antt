@@ -1,4 +1,4 @@
-use Rattle.std.proofs.Common.{◌≡◌, ◌∙◌, ◌+◌, ◌-◌, ◌≤◌, ◌<◌, ap, sym, refl, subst, arith, length, take, get_or, ◌++◌, ◌∷◌, [], List}
+use Rattle.std.proofs.Common.{◌≡◌, ◌∙◌, ◌<◌, sym, refl, subst, arith, length, List}
 use Rattle.std.proofs.lemmas.List.{take_all}
 use Rattle.block_plan.specs.declared.block.BlockInfo.{BlockInfo}
 use Rattle.frame_rows.proofs.Spans.{column_begins, column_stops, stops_behind}
@@ -60,7 +60,7 @@ returns-clause-is c =
     let s = c.args.setting.now in
     let at = c.loop-block in
     let blocks : at.grid.blocks ≡ c.args.column.now.grid.blocks =
-        at.invariant.blocks ∙ take_all at.block-index c.blocks-blocks.result.now (omega (arith, c.loop-block-test.false)) ∙ c.blocks-blocks.ensures in
+    at.invariant.blocks ∙ take_all at.block-index c.blocks-blocks.result.now (omega (arith, c.loop-block-test.false)) ∙ c.blocks-blocks.ensures in
     is_copied s.header c.args.k c.args.column.now _ c.requires.below c.requires.is (at.invariant.rows ∙ rows_are s) at.invariant.from at.invariant.to blocks (rw (sym c.shape.ensures) c.in_ok-new.ensures.fit)
 
 pub returns-clause-blocks : goal.returns-clause-blocks

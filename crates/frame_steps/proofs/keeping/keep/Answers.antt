@@ -1,5 +1,5 @@
 use Rattle.std.proofs.Common.{◌∙◌, ap, sym, refl}
-use Rattle.std.specs.Prelude.{Some, map}
+use Rattle.std.specs.Prelude.{Some}
 use Rattle.block_geometry.specs.Frames.{places_of}
 use Rattle.frame_headers.proofs.SlotLemmas.{refreshed_told}
 use Rattle.frame_headers.specs.State.{next_persist, refreshed, shape_of}
@@ -9,7 +9,7 @@ use Rattle.inter_modes.specs.Segments.{segments_after}
 use Rattle.prob_contexts.specs.Lists.{lists_of}
 use Rattle.seq_decoder.specs.After.{picture_of, segments_before}
 use Rattle.seq_decoder.specs.Code.{last_held, saved_lists}
-use Rattle.seq_decoder.specs.SavedContexts.{context_at, is_key, own_contexts, place_of, saved_before}
+use Rattle.seq_decoder.specs.SavedContexts.{context_at, is_key, own_contexts, place_of}
 use Rattle.seq_decoder.specs.State.{last_is_key, last_size}
 use Rattle.seq_decoder.proofs.FrameLemmas.{contexts_after}
 use Rattle.seq_decoder.proofs.Slots.{persist_after}

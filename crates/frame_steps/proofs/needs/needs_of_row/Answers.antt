@@ -1,4 +1,4 @@
-use Rattle.std.proofs.Common.{rules, ◌≡◌, ◌∙◌, ◌<◌, ◌≤◌, ◌+◌, length, ap, sym, arith}
+use Rattle.std.proofs.Common.{rules, ◌≡◌, ◌∙◌, ◌≤◌, ◌+◌, length, ap, sym, arith}
 use Rattle.frame_headers.specs.State.{shape_of}
 use Rattle.column_plan.specs.Rows.{place_of_row}
 use Rattle.recon_rows.proofs.RowSteps.{places_rise}

@@ -1,6 +1,5 @@
-use Rattle.std.proofs.Common.{◌≡◌, ◌∙◌, ◌+◌, ◌-◌, ◌*◌, ◌≤◌, ◌<◌, ◌^◌, ℕ, ap, sym, arith}
+use Rattle.std.proofs.Common.{◌∙◌, ◌+◌, ◌-◌, ◌*◌, arith}
 use Rattle.vp9_types.specs.Sizes.{superblocks_along}
-use Rattle.frame_headers.specs.State.{shape_of}
 use Rattle.column_order.specs.Columns.{column_from}
 use Rattle.frame_rows.proofs.Spans.{begins_inside, column_begins, column_stops, few_columns, stops_behind}
 use Rattle.frame_rows.proofs.Steps.{areas_of}

@@ -1,4 +1,3 @@
-use Rattle.frame_headers.specs.State.{SlotsHaveSizes, start_persist}
 use Rattle.frame_steps.proofs.Copies.{start_sized}
 use Rattle.frame_steps.proofs.kept.Kept.start.Goals as goal
 
