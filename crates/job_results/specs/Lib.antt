@@ -1,0 +1,4 @@
+pub mod Planes
+pub mod Results
+pub mod Meaning
+pub mod Endings

@@ -1,0 +1,12 @@
+//! What the jobs of a decode leave, and when it is right: the meaning of a run.
+#![tactic(auto)]
+
+mod any_planes;
+mod laws;
+mod meaning;
+mod result;
+
+pub use any_planes::AnyPlanes;
+pub use laws::ended_runs_are_decodes;
+pub use meaning::{Decode, DecodeRun};
+pub use result::{ClosedFrame, JobResult, ShownFrame};
