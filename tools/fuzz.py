@@ -1,7 +1,7 @@
 #!/usr/bin/env python3
-"""Runs `vp9dec decode` on mutations of the streams of some folders, each of them twice. A run has to end with status 0 or 3 within
-its time, never by a signal, and twice with the same bytes and the same note. Prints what didn't, with the seed that makes the file
-again; the status is 0 where nothing differs.
+"""Runs `vp9dec decode` on mutations of the streams of some folders, each of them twice: on one thread (`--plain`), and by so many workers with a
+window as the seed says. A run has to end with status 0 or 3 within its time, never by a signal, and twice with the same bytes and the same note.
+Prints what didn't, with the seed that makes the file again; the status is 0 where nothing differs.
 
 usage: tools/fuzz.py [--count N] [--seed S] [--seconds T] [--limit BYTES] [--keep FOLDER] [--jobs J] FOLDER..
 
@@ -53,9 +53,9 @@ def limits():
     resource.setrlimit(resource.RLIMIT_AS, (MEMORY, MEMORY))
 
 
-def run(program, data):
+def run(program, data, *options):
     try:
-        done = subprocess.run([program, "decode"], input=data, capture_output=True, timeout=SECONDS, preexec_fn=limits)
+        done = subprocess.run([program, "decode", *options], input=data, capture_output=True, timeout=SECONDS, preexec_fn=limits)
     except subprocess.TimeoutExpired:
         return "no end", "", b""
     return done.returncode, hashlib.md5(done.stdout).hexdigest(), done.stderr
@@ -63,9 +63,11 @@ def run(program, data):
 
 def tried(program, file, seed, keep):
     data = mutated(file.read_bytes(), random.Random(seed))
-    first = run(program, data)
-    second = run(program, data) if first[0] != "no end" else first
-    wrong = first != second or first[0] not in (0, 3, 6)
+    first = run(program, data, "--plain")
+    rng = random.Random(-seed)
+    second = run(program, data, "--workers", str(rng.choice([1, 2, 4, 4, 16, 64])), "--window", str(rng.choice([2, 4, 4, 16])))
+    # Frames at once take more memory than one, so where either lacks it, nothing is compared.
+    wrong = first[0] not in (0, 3, 6) or second[0] not in (0, 3, 6) or (first != second and 6 not in (first[0], second[0]))
     if wrong and keep:
         (pathlib.Path(keep) / f"{file.stem}-{seed}{file.suffix}").write_bytes(data)
     return file, seed, first, second, wrong

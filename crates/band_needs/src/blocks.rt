@@ -73,7 +73,7 @@ fn plane_range(b: &InterBlock<'_>, plane: Plane, list: usize, reference: &Shape)
         },
         reference,
     );
-    for number in 0..count {
+    for number in 1..count {
         let part = BlockPart {
             plane,
             number,
@@ -84,8 +84,7 @@ fn plane_range(b: &InterBlock<'_>, plane: Plane, list: usize, reference: &Shape)
     range
 }
 
-/// In all planes, by the first vectors (0) or by the second ones (1).
-#[tactic(auto, unfolding(crate::specs::Needs::list_range))]
+/// In all planes, by the first vectors (0) or by the second ones (1). Rows of V are predicted from where those of U are.
 fn list_range(b: &InterBlock<'_>, list: usize, reference: &Shape) -> BandRange
     requires row { b.now.block.now.row < mi_rows b.now.shape.now }
     requires column { b.now.block.now.col < mi_cols b.now.shape.now }
@@ -95,8 +94,7 @@ fn list_range(b: &InterBlock<'_>, list: usize, reference: &Shape) -> BandRange
 {
     let y = plane_range(b, Plane::Y, list, reference);
     let u = plane_range(b, Plane::U, list, reference);
-    let v = plane_range(b, Plane::V, list, reference);
-    y.with(u).with(v)
+    y.with(u)
 }
 
 /// By the vectors for one of its references.

@@ -1,4 +1,4 @@
-use job_crew::Gate;
+use edge_io::Gate;
 use std::sync::atomic::{AtomicU64, Ordering};
 use vp9_types::JobName;
 

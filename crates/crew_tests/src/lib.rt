@@ -2,10 +2,12 @@
 #![tactic(auto)]
 
 mod gate;
+mod meeting;
 mod numbers;
 mod tally;
 
 pub use gate::Counter;
+pub use meeting::Meeting;
 pub use numbers::{NumberJobs, Numbers, Paper};
 pub use tally::{Number, Tally};
 

@@ -1,14 +1,41 @@
 ghost use Rattle.std.specs.Prelude.{◌≤◌, ◌≡◌};
 
 use super::*;
-use job_crew::{Ending, Gate, OpenGate, Run, run_jobs};
+use edge_io::{Gate, OpenGate};
+use job_crew::{Ending, Run, run_jobs};
 use std::alloc::Global;
 use std::sync::Wait;
 use std::sync::atomic::{AtomicU64, Ordering};
 use std::test::Fail;
 use std::thread::Threads;
+use vp9_types::JobName;
 
 const NEVER: u64 = 1_000_000;
+
+// Two columns of a frame.
+const COLUMNS: [JobName; 2] = [
+    JobName::Column {
+        frame: 5,
+        column: 0,
+    },
+    JobName::Column {
+        frame: 5,
+        column: 1,
+    },
+];
+
+// A row of a frame, and a column of the next one.
+const ROW_AND_COLUMN: [JobName; 2] = [
+    JobName::Rows {
+        frame: 5,
+        column: 1,
+        row: 0,
+    },
+    JobName::Column {
+        frame: 6,
+        column: 0,
+    },
+];
 
 fn last_of(ending: &Ending<Number<'_>>) -> u64 {
     match ending {
@@ -134,6 +161,32 @@ fn many_frames(rt: HostRuntime) -> Result<(), Fail> {
 fn many_workers_and_wide_frames(rt: HostRuntime) -> Result<(), Fail> {
     assert!(rt; goes_to_the_end::<40, 4, 17, HostRuntime>(&rt, rt.alloc(), 64, 16));
     assert!(rt; goes_to_the_end::<3, 79, 17, HostRuntime>(&rt, rt.alloc(), 3, 3));
+    Ok(())
+}
+
+// Whether two jobs of a run by some workers are at work at the same time, if each looks so often for the other.
+fn meet<R: Threads + Wait + Sync>(
+    rt: &R,
+    alloc: Global,
+    jobs: [JobName; 2],
+    workers: u8,
+    looks: u32,
+) -> bool
+    requires { (1 ≤ workers) × (workers ≤ 64) }
+{
+    let tally = Tally::new();
+    let numbers = until(&tally, NEVER, NEVER);
+    let gate = Meeting::new(jobs[0], jobs[1], looks);
+    is_right::<20, 2, 3, Meeting, R>(rt, alloc, &numbers, &gate, workers, 4) && gate.has_met()
+}
+
+// With several workers they are. One worker, who does one after the other, never lets them meet.
+#[test]
+fn jobs_run_at_the_same_time(rt: HostRuntime) -> Result<(), Fail> {
+    for jobs in [COLUMNS, ROW_AND_COLUMN] {
+        assert!(rt; meet(&rt, rt.alloc(), jobs, 4, 20_000_000));
+        assert!(rt; !meet(&rt, rt.alloc(), jobs, 1, 1_000));
+    }
     Ok(())
 }
 

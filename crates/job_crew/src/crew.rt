@@ -10,10 +10,11 @@ ghost use Rattle.job_crew.specs.Code.{AreDue, TakesOut, IsSeated, IsSeatedStill,
 use crate::cells::Cell;
 use crate::finished::Finished;
 use crate::frames::{Frame, Frames, Held, Shared};
-use crate::jobs::{Gate, Jobs, LIVE, Layout, Output, Start};
+use crate::jobs::{Jobs, LIVE, Layout, Output, Start};
 use crate::lent::Lent;
 use crate::outlet::{Content, Ending, Outlet, Over, Placed, Told};
 use crate::pool::Pool;
+use edge_io::Gate;
 use job_order::{Meaning, Segment, needs_of};
 use progress_board::{Board, Refused, Seat};
 use std::alloc::{AllocError, Global};

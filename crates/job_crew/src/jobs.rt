@@ -63,23 +63,6 @@ pub trait Results<X, M: Meaning<X>> {
         ensures { IsLast M.rules M.truth frame result.now };
 }
 
-/// Sees each job begin and end, on the worker that does it. What it does changes no result.
-pub trait Gate {
-    fn enter(&self, job: JobName);
-
-    fn leave(&self, job: JobName);
-}
-
-/// Lets all jobs pass.
-#[derive(Clone, Copy, Debug)]
-pub struct OpenGate;
-
-impl Gate for OpenGate {
-    fn enter(&self, _job: JobName) {}
-
-    fn leave(&self, _job: JobName) {}
-}
-
 /// Who does the jobs. No call waits for another job.
 pub trait Jobs<X, M: Meaning<X>, K: Output<X>> {
     /// What a head's result says. There is nothing to parse where the run ends.

@@ -11,5 +11,5 @@ mod outlet;
 mod pool;
 
 pub use crew::{Run, run_jobs};
-pub use jobs::{Building, Gate, Jobs, LIVE, Layout, OpenGate, Output, Results, Start};
+pub use jobs::{Building, Jobs, LIVE, Layout, Output, Results, Start};
 pub use outlet::{Ending, Told};

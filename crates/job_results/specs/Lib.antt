@@ -2,3 +2,4 @@ pub mod Planes
 pub mod Results
 pub mod Meaning
 pub mod Endings
+pub mod Lent

@@ -1,5 +1,5 @@
 -- The meaning of a decode: what results say, and what they are to be.
-use Rattle.std.specs.Prelude.{ℕ, ◌^◌, Bool, true, false, List, [], ◌∷◌, Option, Some, None}
+use Rattle.std.specs.Prelude.{ℕ, ◌^◌, Bool, true, false, List, [], ◌∷◌, nat_lt, Option, Some, None, if◌then◌else◌}
 use Rattle.vp9_types.specs.Shapes.{mi_rows}
 use Rattle.vp9_types.specs.Sizes.{superblocks_along}
 use Rattle.frame_output.specs.declared.rendering.Format.{Format}
@@ -15,9 +15,13 @@ use Rattle.job_results.specs.declared.result.JobResult.{JobResult}
 use Rattle.job_results.specs.declared.result.JobResult.TheVariants as result
 use Rattle.job_results.specs.declared.result.ShownFrame.{ShownFrame}
 
+-- so many tile columns, of which a frame has no more than 256
+abbrev pub columns_by : ℕ → Option ℕ
+columns_by log2 = if nat_lt log2 9 then Some (2 ^ log2) else None
+
 -- a frame that shows a slot has no tile columns
 abbrev pub parses : JobResult → Option ℕ
-parses (result.Begun b) = Some (2 ^ b.value.setting.header.params.tiles.columns_log2)
+parses (result.Begun b) = columns_by b.value.setting.header.params.tiles.columns_log2
 parses (result.Existing slot) = Some 0
 parses _ = None
 

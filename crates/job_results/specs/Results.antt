@@ -99,10 +99,14 @@ abbrev pub shown_text : Format → List ℕ → ClosedFrame → Option ShownFram
 shown_text format bytes k None = []
 shown_text format bytes k (Some s) = output_text k.form.format k.form.rate (is_first k.form.first) s.shape (pictures format bytes s.frame).map
 
+-- frame f is coded, and its tiles are all read
+abbrev pub IsReadFrame : Format → List ℕ → ℕ → Type 0
+IsReadFrame format bytes f = (c : CodedFrame) × (coded format bytes f ≡ Some c) × ((read : FrameRead) × (read_of c ≡ Ok read))
+
 -- it shows a frame as that was decoded
 abbrev pub IsShown : Format → List ℕ → Option ShownFrame → Type 0
 IsShown format bytes None = Unit {0}
-IsShown format bytes (Some s) = s.shape ≡ (pictures format bytes s.frame).shape
+IsShown format bytes (Some s) = IsReadFrame format bytes s.frame × (s.shape ≡ (pictures format bytes s.frame).shape)
 
 -- it is of as many tile columns and rows of superblocks as the frame; of none where that shows a slot
 abbrev pub IsBuiltAs : Option CodedFrame → ClosedFrame → Type 0

@@ -3,10 +3,12 @@
 
 mod any_planes;
 mod laws;
+mod lent;
 mod meaning;
 mod result;
 
 pub use any_planes::AnyPlanes;
 pub use laws::ended_runs_are_decodes;
+pub use lent::{HeadRead, begun, closed, column, ended, filtered, head_read, strip};
 pub use meaning::{Decode, DecodeRun};
 pub use result::{ClosedFrame, JobResult, ShownFrame};

@@ -8,7 +8,7 @@ use std::marker::{Brand, PhantomData};
 
 /// What is decoded, and what its sink had taken when that began. It holds nothing at run time.
 pub trait DecodeRun {
-    ghost use Rattle.std.specs.Prelude.{ℕ, List, Option};
+    ghost use Rattle.std.specs.Prelude.{ℕ, Bool, List, Option};
     ghost use Rattle.frame_output.specs.declared.rendering.Format.{Format};
 
     ghost format: { Format };
@@ -19,11 +19,14 @@ pub trait DecodeRun {
 
     /// The sink's count of faults.
     ghost faults: { ℕ };
+
+    /// Whether the sink grows.
+    ghost grows: { Bool };
 }
 
 /// A call that begins a decode picks its own.
 impl DecodeRun for Brand {
-    ghost use Rattle.std.specs.Prelude.{[], None};
+    ghost use Rattle.std.specs.Prelude.{[], None, false};
     ghost use Rattle.frame_output.specs.declared.rendering.Format.TheVariants.{Raw};
 
     ghost format = { Raw };
@@ -33,6 +36,8 @@ impl DecodeRun for Brand {
     ghost taken = { None };
 
     ghost faults = { 0 };
+
+    ghost grows = { false };
 }
 
 /// The meaning of the results of a decode's jobs.

@@ -319,7 +319,9 @@ fn a_write_fault_ends_a_stream(rt: HostRuntime) -> Result<(), Fail> {
 
 #[test]
 fn options_change_nothing(rt: HostRuntime) -> Result<(), Fail> {
-    let options: [&[&'static str]; 3] = [
+    let options: [&[&'static str]; 5] = [
+        &["decode", "--workers", "1"],
+        &["decode", "--workers", "64", "--window", "2"],
         &["decode", "--workers", "7"],
         &["decode", "--workers", "61", "--window", "13"],
         &["decode", "--plain", "--window", "5"],

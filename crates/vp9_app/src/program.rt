@@ -3,12 +3,15 @@ ghost use Rattle.vp9_app.specs.Answers.{source_seen, sink_seen, Makes, Works, Ru
 ghost use Rattle.command_words.specs.declared.command.Command.TheVariants as command;
 ghost use Rattle.command_words.specs.declared.command.MadeStream.{MadeStream};
 ghost use Rattle.command_words.specs.Words.{command_of};
+ghost use Rattle.seq_decoder.specs.Outcomes.{Decodes};
+ghost use Rattle.seq_decoder.specs.Outputs.{output_of};
 
 use crate::listing::list_file;
 use crate::note::report;
 use crate::status::{Status, listing_status};
 use command_words::{Command, DecodeOptions, MadeStream, read_words};
 use edge_io::{Gate, PutFault, ReadError, Sink, Source, put_all, read_all};
+use job_decoder::{Crew, Decoded, decode_by_jobs};
 use seq_decoder::decode_plain;
 use std::alloc::Global;
 use std::sync::Wait;
@@ -50,26 +53,75 @@ fn list<S: Source, K: Sink>(alloc: Global, source: &mut S, out: &mut K) -> Statu
     }
 }
 
-/// Until there is a decoder of several threads, all options but the format ask for the plain one.
-fn decode<S: Source, K: Sink>(
+/// How the work of a command ended, and the sink that it wrote to.
+#[derive(Drop)]
+struct Worked<K> {
+    status: Status,
+    out: K,
+}
+
+/// Decodes a file on this thread, or by a crew.
+fn decode_bytes<R: Threads + Wait + Sync, K: Sink + Send + Drop, G: Gate + Sync>(
+    rt: &R,
+    alloc: Global,
+    options: DecodeOptions,
+    bytes: &[u8],
+    mut out: K,
+    gate: &G,
+) -> Decoded<K>
+    requires { K.can_put out }
+    ensures decodes { Decodes (output_of options.format bytes.now) (K.taken out) (K.taken result.sink) (K.faults out) (K.faults result.sink) result.outcome }
+    ensures grows { K.grows result.sink ≡ K.grows out }
+    ensures again { K.faults result.sink ≡ K.faults out → K.can_put result.sink }
+{
+    if options.plain {
+        let outcome = decode_plain(alloc, options.format, bytes, &mut out);
+        return Decoded { outcome, sink: out };
+    }
+    let crew = Crew {
+        workers: options.workers,
+        window: options.window,
+        gate,
+    };
+    decode_by_jobs(rt, alloc, &crew, options.format, bytes, out)
+}
+
+fn decode<R: Threads + Wait + Sync, S: Source, K: Sink + Send + Drop, G: Gate + Sync>(
+    rt: &R,
     alloc: Global,
     options: DecodeOptions,
     source: &mut S,
-    out: &mut K,
-) -> Status
+    out: K,
+    gate: &G,
+) -> Worked<K>
     requires source { S.can_fill source.old }
-    requires out { K.can_put out.old }
+    requires out { K.can_put out }
     ensures work { Works (Some (Command.Decode options))
         (source_seen (S.rest source.old) (S.rest source.new) (S.faults source.old) (S.faults source.new))
-        (sink_seen (K.grows out.old) (K.taken out.old) (K.taken out.new) (K.faults out.old) (K.faults out.new)) result }
+        (sink_seen (K.grows out) (K.taken out) (K.taken result.out) (K.faults out) (K.faults result.out)) result.status }
     ensures source_again { S.faults source.new ≡ S.faults source.old → S.can_fill source.new }
-    ensures grows { K.grows out.new ≡ K.grows out.old }
-    ensures out_again { K.faults out.new ≡ K.faults out.old → K.can_put out.new }
+    ensures grows { K.grows result.out ≡ K.grows out }
+    ensures out_again { K.faults result.out ≡ K.faults out → K.can_put result.out }
 {
-    match read_all(alloc, source) {
-        Ok(bytes) => Status::from(decode_plain(alloc, options.format, bytes.as_slice(), out)),
-        Err(ReadError::Failed) => Status::ReadFault,
-        Err(ReadError::OutOfMemory) => Status::OutOfMemory,
+    let bytes = match read_all(alloc, source) {
+        Ok(bytes) => bytes,
+        Err(ReadError::Failed) => {
+            return Worked {
+                status: Status::ReadFault,
+                out,
+            };
+        }
+        Err(ReadError::OutOfMemory) => {
+            return Worked {
+                status: Status::OutOfMemory,
+                out,
+            };
+        }
+    };
+    let decoded = decode_bytes(rt, alloc, options, bytes.as_slice(), out, gate);
+    Worked {
+        status: Status::from(decoded.outcome),
+        out: decoded.sink,
     }
 }
 
@@ -92,31 +144,39 @@ fn make<K: Sink>(alloc: Global, stream: MadeStream, out: &mut K) -> Status
 }
 
 /// Does what the words ask for.
-fn work<S: Source, K: Sink>(alloc: Global, words: &[String], source: &mut S, out: &mut K) -> Status
+fn work<R: Threads + Wait + Sync, S: Source, K: Sink + Send + Drop, G: Gate + Sync>(
+    rt: &R,
+    alloc: Global,
+    words: &[String],
+    source: &mut S,
+    mut out: K,
+    gate: &G,
+) -> Worked<K>
     requires source { S.can_fill source.old }
-    requires out { K.can_put out.old }
+    requires out { K.can_put out }
     ensures work { Works (command_of (map string_bytes words.now))
         (source_seen (S.rest source.old) (S.rest source.new) (S.faults source.old) (S.faults source.new))
-        (sink_seen (K.grows out.old) (K.taken out.old) (K.taken out.new) (K.faults out.old) (K.faults out.new)) result }
-    ensures untouched { command_of (map string_bytes words.now) ≡ None → (source.new ≡ source.old) × (out.new ≡ out.old) }
+        (sink_seen (K.grows out) (K.taken out) (K.taken result.out) (K.faults out) (K.faults result.out)) result.status }
+    ensures untouched { command_of (map string_bytes words.now) ≡ None → (source.new ≡ source.old) × (result.out ≡ out) }
     ensures unread { (stream : MadeStream) → command_of (map string_bytes words.now) ≡ Some (command.Make stream) → source.new ≡ source.old }
     ensures source_again { S.faults source.new ≡ S.faults source.old → S.can_fill source.new }
-    ensures grows { K.grows out.new ≡ K.grows out.old }
-    ensures out_again { K.faults out.new ≡ K.faults out.old → K.can_put out.new }
+    ensures grows { K.grows result.out ≡ K.grows out }
+    ensures out_again { K.faults result.out ≡ K.faults out → K.can_put result.out }
 {
-    match read_words(alloc, words) {
-        Ok(Some(Command::List)) => list(alloc, source, out),
-        Ok(Some(Command::Decode(options))) => decode(alloc, options, source, out),
-        Ok(Some(Command::Make(stream))) => make(alloc, stream, out),
+    let status = match read_words(alloc, words) {
+        Ok(Some(Command::List)) => list(alloc, source, &mut out),
+        Ok(Some(Command::Decode(options))) => return decode(rt, alloc, options, source, out, gate),
+        Ok(Some(Command::Make(stream))) => make(alloc, stream, &mut out),
         Ok(None) => Status::Usage,
         Err(_) => Status::OutOfMemory,
-    }
+    };
+    Worked { status, out }
 }
 
 /// Runs the command that the words ask for, the program's name first. What a command reads comes from `source`, what
 /// it writes goes to `out`, and how it ended is told to `note` in a line. All three are handed back.
 ///
-/// `rt` and `gate` serve commands that start threads; no command starts any yet.
+/// `rt` and `gate` serve `decode`, which starts threads unless it is asked for a plain decode.
 pub fn run<
     R: Threads + Wait + Sync,
     S: Source + Send + Drop,
@@ -124,13 +184,13 @@ pub fn run<
     N: Sink + Drop,
     G: Gate + Sync,
 >(
-    _rt: &R,
+    rt: &R,
     alloc: Global,
     words: &[String],
     mut source: S,
-    mut out: K,
+    out: K,
     mut note: N,
-    _gate: &G,
+    gate: &G,
 ) -> Ran<S, K, N>
     requires source { S.can_fill source }
     requires out { K.can_put out }
@@ -153,7 +213,7 @@ pub fn run<
     ensures out_again { (K.grows result.out ≡ K.grows out) × (K.faults result.out ≡ K.faults out → K.can_put result.out) }
     ensures note_again { (N.grows result.note ≡ N.grows note) × (N.faults result.note ≡ N.faults note → N.can_put result.note) }
 {
-    let first = work(alloc, words, &mut source, &mut out);
+    let Worked { status: first, out } = work(rt, alloc, words, &mut source, out, gate);
     let status = report(alloc, first, &mut note);
     Ran {
         status,

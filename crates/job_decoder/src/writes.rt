@@ -1,0 +1,89 @@
+//! What a frame shows, written.
+
+ghost use Rattle.std.specs.Prelude.{◌≡◌, ◌*◌, ◌≤◌, IfOk, Some, length};
+ghost use Rattle.frame_output.specs.Formats.{output_text};
+ghost use Rattle.numbered_frames.specs.Numbers.{text};
+ghost use Rattle.numbered_frames.specs.Pictures.{pictures};
+ghost use Rattle.seq_decoder.specs.Code.{Shows};
+ghost use Rattle.seq_decoder.specs.Outputs.{is_first};
+ghost use Rattle.job_results.specs.Results.{IsShown};
+
+use edge_io::{PutFault, Sink};
+use filtered_rows::FilteredFrame;
+use frame_output::render_as;
+use job_crew::Results;
+use job_results::{Decode, DecodeRun, JobResult, ShownFrame, closed};
+use job_rows::{PlaneSample, rows_of};
+use seq_decoder::{LEAST_BUFFER, OutputForm};
+use std::alloc::{AllocError, Global};
+use vp9_types::{Depth, Sample};
+
+/// Room for a row of a frame, and for many short ones.
+fn text_room(alloc: Global, shown: &ShownFrame) -> Result<Vec<u8>, AllocError>
+    ensures { IfOk result (λ room. 2 * shown.now.shape.w ≤ length room.items) }
+{
+    Vec::from_elem(alloc, 0, LEAST_BUFFER.max(2 * shown.shape.w as usize))
+}
+
+/// Writes a frame whose samples are kept so.
+fn write_shown<'a, P: PlaneSample, B: DecodeRun, K: Sink, R: Results<JobResult<'a>, Decode<B>>>(
+    alloc: Global,
+    results: &R,
+    form: &OutputForm,
+    shown: &ShownFrame,
+    sink: &mut K,
+) -> Result<(), PutFault>
+    requires shown { IsShown B.format B.bytes (Some shown.now) }
+    requires keeps { P.keeps shown.now.shape.depth }
+    requires sink { K.can_put sink.old }
+    ensures shows { Shows (output_text form.now.format form.now.rate (is_first form.now.first) shown.now.shape (pictures B.format B.bytes shown.now.frame).map)
+        (K.taken sink.old) (K.taken sink.new) (K.faults sink.old) (K.faults sink.new) result }
+    ensures grows { K.grows sink.new ≡ K.grows sink.old }
+    ensures again { K.faults sink.new ≡ K.faults sink.old → K.can_put sink.new }
+{
+    let rows = rows_of::<P, B, R>(
+        alloc,
+        results,
+        shown.frame,
+        0,
+        shown.shape.superblock_rows(),
+    )?;
+    let mut room = text_room(alloc, shown)?;
+    let frame: FilteredFrame<'_, P, Decode<B>> = FilteredFrame::new(
+        shown.frame,
+        shown.shape,
+        0,
+        &rows,
+    );
+    render_as(
+        &form.rendering(),
+        &shown.shape,
+        &frame,
+        room.as_mut_slice(),
+        sink,
+    )
+}
+
+/// Writes what a frame shows, if it shows something.
+pub fn write<'a, B: DecodeRun, K: Sink, R: Results<JobResult<'a>, Decode<B>>>(
+    alloc: Global,
+    number: u64,
+    results: &R,
+    sink: &mut K,
+) -> Result<(), PutFault>
+    requires { K.can_put sink.old }
+    ensures shows { Shows (text B.format B.bytes number) (K.taken sink.old) (K.taken sink.new) (K.faults sink.old) (K.faults sink.new) result }
+    ensures grows { K.grows sink.new ≡ K.grows sink.old }
+    ensures again { K.faults sink.new ≡ K.faults sink.old → K.can_put sink.new }
+{
+    let closed = closed::<B, R>(results, number);
+    let Some(shown) = &closed.shown else {
+        return Ok(());
+    };
+    match shown.shape.depth {
+        Depth::Eight => write_shown::<u8, B, K, R>(alloc, results, &closed.form, shown, sink),
+        Depth::Ten | Depth::Twelve => {
+            write_shown::<u16, B, K, R>(alloc, results, &closed.form, shown, sink)
+        }
+    }
+}

@@ -1,0 +1,6 @@
+pub mod FoundFrames
+pub mod HeadSteps
+pub mod ReferenceSizes
+pub mod CodedFrames
+pub mod TileColumns
+pub mod ClosedFrames

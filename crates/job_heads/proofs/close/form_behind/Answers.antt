@@ -1,0 +1,5 @@
+use Rattle.planes.specs.Pictures.{blank}
+use Rattle.job_heads.proofs.close.form_behind.Goals as goal
+
+pub returns-in-Some : goal.returns-in-Some
+returns-in-Some c = rw c.in-Some.is (c.after.ensures 0 blank)

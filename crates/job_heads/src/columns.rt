@@ -1,0 +1,40 @@
+//! A tile column.
+
+ghost use Rattle.vp9_types.specs.declared.job.JobName.TheVariants.{Column};
+ghost use Rattle.job_crew.specs.Runs.{IsDue};
+ghost use Rattle.job_results.specs.Meaning.{decode_rules, decode_truth};
+ghost use Rattle.job_results.specs.Lent.{IsColumnOf};
+ghost use Rattle.job_results.specs.Results.{IsColumn};
+
+use frame_steps::{PlannedColumn, plan_column};
+use job_crew::Results;
+use job_results::{Decode, DecodeRun, JobResult, begun};
+use std::alloc::Global;
+use tile_syntax::Unplanned;
+
+/// The plan of a tile column of a frame that has begun, or why there is none.
+fn planned<'a, B: DecodeRun, R: Results<JobResult<'a>, Decode<B>>>(
+    alloc: Global,
+    frame: u64,
+    column: u32,
+    results: &R,
+) -> Result<PlannedColumn, Unplanned>
+    requires { IsDue (decode_rules B.format B.bytes) (decode_truth B.format B.bytes) (Column frame column) }
+    ensures { IsColumnOf B.format B.bytes frame column result }
+{
+    let begun = begun::<B, R>(results, frame);
+    plan_column(alloc, begun, column)
+}
+
+/// A tile column: its plan, or why there is none.
+pub fn do_column<'a, B: DecodeRun, R: Results<JobResult<'a>, Decode<B>>>(
+    alloc: Global,
+    frame: u64,
+    column: u32,
+    results: &R,
+) -> JobResult<'a>
+    requires { IsDue (decode_rules B.format B.bytes) (decode_truth B.format B.bytes) (Column frame column) }
+    ensures { IsColumn B.format B.bytes frame column result }
+{
+    JobResult::Column(planned::<B, R>(alloc, frame, column, results))
+}

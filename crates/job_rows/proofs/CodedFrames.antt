@@ -1,0 +1,164 @@
+-- What a coded frame is made from, and what it leaves.
+use Rattle.std.proofs.Common.{◌≡◌, ◌∙◌, ℕ, zero, suc, List, [], ◌∷◌, Bool, true, false, refl, sym, ap, subst, arith}
+use Rattle.std.specs.Prelude.{Option, Some, None, Result, Ok, Err, slice_index_or, slice_range, if◌then◌else◌}
+use Rattle.std.specs.List.{All}
+use Rattle.vp9_types.specs.Results.{map_ok, ◌>>=◌}
+use Rattle.vp9_types.specs.declared.block.Modes.{Modes}
+use Rattle.vp9_types.specs.declared.job.Span.{Span}
+use Rattle.vp9_types.specs.declared.rule.Rule.{Rule}
+use Rattle.vp9_types.specs.declared.rule.Rule.TheVariants.{OutputShape}
+use Rattle.band_cells.specs.Bands as bands
+use Rattle.compressed_header.specs.Header.{forward}
+use Rattle.file_frames.specs.Walks.{Added}
+use Rattle.frame_headers.specs.Header.{head_of}
+use Rattle.frame_headers.specs.Spans.{tile_spans}
+use Rattle.frame_headers.specs.State.{shape_of}
+use Rattle.frame_headers.specs.declared.header.FrameHead.{FrameHead}
+use Rattle.frame_headers.specs.declared.header.FrameHead.TheVariants as head
+use Rattle.frame_headers.specs.declared.header.Header.{Header}
+use Rattle.frame_output.specs.declared.rendering.Format.{Format}
+use Rattle.prob_contexts.specs.Lists.{ContextLists}
+use Rattle.frame_decoder.specs.Frames.{FrameResult, decoded, rebuilt}
+use Rattle.frame_state.specs.Reading.{FrameRead, read_all_tiles, read_frame, sources}
+use Rattle.frame_state.specs.Sources.{FrameSources}
+use Rattle.seq_decoder.specs.After.{Stepped, after_coded, behind_head, decoded_in, input_of, last_of, shown_picture, state_after, step}
+use Rattle.seq_decoder.specs.Outputs.{Putting, admits, form_after, put, shown_text}
+use Rattle.seq_decoder.specs.State.{Picture, State, persist_of}
+use Rattle.seq_decoder.specs.declared.form.OutputForm.{OutputForm}
+use Rattle.numbered_frames.specs.Coded.{CodedFrame, IsFrameBefore, begun_from, coded, coded_from, headed_from, read_of, references, result_of}
+use Rattle.numbered_frames.specs.Numbers.{before, frame_at}
+use Rattle.numbered_frames.specs.Pictures.{picture_from, picture_read, pictures}
+use Rattle.numbered_frames.proofs.Ways.{passed}
+
+pub inner : {A : Type 0} (a b : A) → Some a ≡ Some b → a ≡ b
+inner a b is = cc
+
+pub same_coded : (o : Option CodedFrame) (a b : CodedFrame) → o ≡ Some a → o ≡ Some b → a ≡ b
+same_coded o a b is also = inner a b (sym is ∙ also)
+
+---- What it is made from ----
+
+-- what is kept before it, its bytes and its head; what its blocks are read by; and where its tiles lie
+pub record CodedBy (from : Option Putting) (frame : Option (List ℕ)) (c : CodedFrame) : Type 0 where
+  pub before : from ≡ Some c.kept
+  pub there : frame ≡ Some c.bytes
+  pub head : head_of (persist_of c.kept.state) c.bytes ≡ Ok (head.Coded c.header c.compressed)
+  pub updated : ContextLists × Modes
+  pub forwarded : forward c.header (input_of c.kept.state c.bytes c.header c.compressed).past.contexts (slice_range c.bytes c.compressed.from c.compressed.to) ≡ Ok updated
+  pub by : c.by ≡ sources (input_of c.kept.state c.bytes c.header c.compressed) updated
+  pub spans : tile_spans c.bytes c.header c.compressed ≡ Ok c.spans
+
+by_parts : (p : Putting) (frame : List ℕ) (header : Header) (compressed : Span) (updated : Result (ContextLists × Modes) Rule) (spans : Result (List Span) Rule) (c : CodedFrame)
+    → head_of (persist_of p.state) frame ≡ Ok (head.Coded header compressed)
+    → forward header (input_of p.state frame header compressed).past.contexts (slice_range frame compressed.from compressed.to) ≡ updated → tile_spans frame header compressed ≡ spans
+    → begun_from p frame header compressed updated spans ≡ Some c → CodedBy (Some p) (Some frame) c
+by_parts p frame header compressed (Err rule) spans c heads forwarded cut is = absurd cc
+by_parts p frame header compressed (Ok updated) (Err rule) c heads forwarded cut is = absurd cc
+by_parts p frame header compressed (Ok updated) (Ok spans) c heads forwarded cut is =
+    let whole : CodedFrame = record {
+      kept = p;
+      bytes = frame;
+      header = header;
+      compressed = compressed;
+      by = sources (input_of p.state frame header compressed) updated;
+      spans = spans;
+    } in
+    let same : whole ≡ c = inner whole c is in
+    subst (CodedBy (Some p) (Some frame)) same (record {
+      before = refl;
+      there = refl;
+      head = heads;
+      updated = updated;
+      forwarded = forwarded;
+      by = refl;
+      spans = cut;
+    })
+
+by_head : (p : Putting) (frame : List ℕ) (heads : Result FrameHead Rule) (c : CodedFrame) → head_of (persist_of p.state) frame ≡ heads → headed_from p frame heads ≡ Some c → CodedBy (Some p) (Some frame) c
+by_head p frame (Err rule) c heads is = absurd cc
+by_head p frame (Ok (head.ShowExisting slot)) c heads is = absurd cc
+by_head p frame (Ok (head.Coded header compressed)) c heads is = by_parts p frame header compressed _ _ c heads refl refl is
+
+by_frame : (from : Option Putting) (frame : Option (List ℕ)) (c : CodedFrame) → coded_from from frame ≡ Some c → CodedBy from frame c
+by_frame None frame c is = absurd cc
+by_frame (Some p) None c is = absurd cc
+by_frame (Some p) (Some frame) c is = by_head p frame (head_of (persist_of p.state) frame) c refl is
+
+pub coded_by : (format : Format) (bytes : List ℕ) (f : ℕ) (c : CodedFrame) → coded format bytes f ≡ Some c → CodedBy (before format bytes f) (frame_at bytes f) c
+unfolding coded
+coded_by format bytes f c is = by_frame (before format bytes f) (frame_at bytes f) c is
+
+-- its blocks are read by its header
+pub same_header : (from : Option Putting) (frame : Option (List ℕ)) (c : CodedFrame) → CodedBy from frame c → c.by.header ≡ c.header
+same_header from frame c by = ap (λ (s : FrameSources). s.header) by.by
+
+---- What it comes to ----
+
+decoded_to : (c : CodedFrame) (read : FrameRead) (from : Option Putting) (frame : Option (List ℕ)) → CodedBy from frame c → read_of c ≡ Ok read
+    → decoded_in c.kept.state c.bytes c.header c.compressed ≡ Ok (result_of c read)
+unfolding decoded read_frame
+decoded_to c read from frame by reads =
+    let input = input_of c.kept.state c.bytes c.header c.compressed in
+    let all = rebuilt (references c) in
+    let so : read_all_tiles (sources input by.updated) c.bytes c.compressed ≡ Ok read = ap (λ (s : FrameSources). read_all_tiles s c.bytes c.compressed) (sym by.by) ∙ reads in
+    ap (λ (u : Result (ContextLists × Modes) Rule). map_ok all (u >>= (λ updated. read_all_tiles (sources input updated) c.bytes c.compressed >>= (λ tiles. Ok (tiles, sources input updated))))) by.forwarded
+    ∙ ap (λ (r : Result FrameRead Rule). map_ok all (r >>= (λ tiles. Ok (tiles, sources input by.updated)))) so
+    ∙ ap (λ (s : FrameSources). Ok (all (read, s))) (sym by.by)
+
+abbrev kept_by : OutputForm → Stepped → Added Putting ℕ
+kept_by form stepped = record { state = record { state = stepped.state; form = form_after form stepped.shown }; adds = shown_text form stepped.shown }
+
+put_state : (form : OutputForm) (stepped : Stepped) (fits : Bool) (added : Added Putting ℕ) → (if fits then Ok (kept_by form stepped) else Err OutputShape) ≡ Ok added → added.state.state ≡ stepped.state
+put_state form stepped true added is = let same : kept_by form stepped ≡ added = cc in ap (λ (a : Added Putting ℕ). a.state.state) (sym same)
+put_state form stepped false added is = absurd cc
+
+put_by : (form : OutputForm) (stepped : Stepped) (fits : Bool) → admits form stepped.shown ≡ fits → put form (Ok stepped) ≡ (if fits then Ok (kept_by form stepped) else Err OutputShape)
+put_by form stepped fits is = ap (λ b. if b then Ok (kept_by form stepped) else Err OutputShape) is
+
+state_put : (form : OutputForm) (stepped : Stepped) (added : Added Putting ℕ) → put form (Ok stepped) ≡ Ok added → added.state.state ≡ stepped.state
+state_put form stepped added is = put_state form stepped (admits form stepped.shown) added (sym (put_by form stepped (admits form stepped.shown) refl) ∙ is)
+
+stepped_to : (f : ℕ) (c : CodedFrame) (r : FrameResult) → head_of (persist_of c.kept.state) c.bytes ≡ Ok (head.Coded c.header c.compressed) → decoded_in c.kept.state c.bytes c.header c.compressed ≡ Ok r
+    → (stepped : Stepped) × (step f c.kept.state c.bytes ≡ Ok stepped) × (stepped.state ≡ state_after f c.kept.state c.header r)
+unfolding step
+stepped_to f c r heads is =
+    let stepped : Stepped = record { state = state_after f c.kept.state c.header r; shown = shown_picture f c.header r } in
+    (stepped, ap (behind_head f c.kept.state c.bytes) heads ∙ ap (after_coded f c.kept.state c.header) is, refl)
+
+-- what is kept of the last frame behind it
+pub last_is : (format : Format) (bytes : List ℕ) (f : ℕ) (c : CodedFrame) (read : FrameRead) (next : Putting) → coded format bytes f ≡ Some c → read_of c ≡ Ok read → before format bytes (suc f) ≡ Some next
+    → next.state.last ≡ Some (last_of c.header (result_of c read))
+last_is format bytes f c read next is reads behind =
+    let by = coded_by format bytes f c is in
+    let h = passed format bytes f next behind in
+    let kept : h.kept ≡ c.kept = inner h.kept c.kept (sym h.before ∙ by.before) in
+    let frame : h.bytes ≡ c.bytes = inner h.bytes c.bytes (sym h.there ∙ by.there) in
+    let s = stepped_to f c (result_of c read) by.head (decoded_to c read _ _ by reads) in
+    let puts : put c.kept.form (step f c.kept.state c.bytes) ≡ Ok h.added = sym (λ i. put (kept i).form (step f (kept i).state (frame i))) ∙ h.put in
+    let state : h.added.state.state ≡ s.0.state = state_put c.kept.form s.0 h.added (sym (ap (put c.kept.form) s.1) ∙ puts) in
+    sym (ap (λ (q : Putting). q.state.last) h.is) ∙ ap (λ (st : State). st.last) (state ∙ s.2)
+
+---- Its picture ----
+
+pub picture_is : (format : Format) (bytes : List ℕ) (f : ℕ) (c : CodedFrame) (read : FrameRead) → coded format bytes f ≡ Some c → read_of c ≡ Ok read
+    → pictures format bytes f ≡ record { shape = shape_of c.header; map = (result_of c read).map }
+unfolding pictures
+picture_is format bytes f c read is reads = ap picture_from is ∙ ap (picture_read c) reads
+
+-- a picture that a slot holds is its frame's
+pub record IsPictureOf (picture : Picture) (of : bands.Picture) : Type 0 where
+  pub shape : picture.shape ≡ of.shape
+  pub map : picture.map ≡ of.map
+
+pub before_is : (format : Format) (bytes : List ℕ) (f : ℕ) (picture : Picture) → IsFrameBefore format bytes f picture → IsPictureOf picture (pictures format bytes picture.frame)
+before_is format bytes f picture h =
+    let of = picture_is format bytes picture.frame h.frame h.read h.is h.reads in record {
+      shape = ap (λ (p : Picture). p.shape) h.same ∙ sym (ap (λ (p : bands.Picture). p.shape) of);
+      map = ap (λ (p : Picture). p.map) h.same ∙ sym (ap (λ (p : bands.Picture). p.map) of);
+    }
+
+-- what holds of all slots holds of one that is named
+pub slot_at : (P : Option Picture → Type 0) (slots : List (Option Picture)) (n : ℕ) (picture : Picture) → All P slots → slice_index_or slots n None ≡ Some picture → P (Some picture)
+slot_at P [] n picture all is = absurd cc
+slot_at P (slot ∷ slots) zero picture all is = subst P is (all 0 slot (omega arith))
+slot_at P (slot ∷ slots) (suc n) picture all is = slot_at P slots n picture (λ k d low. all (suc k) d (omega (arith, low))) is
