@@ -19,20 +19,18 @@ fn command_line(rt: &HostRuntime) -> io::Result<Vec<String>> {
     Ok(words)
 }
 
-fn traced(rt: &HostRuntime) -> io::Result<ExitCode> {
-    let words = command_line(rt)?;
-    let trace = JobTrace::new(rt)?;
+/// Where there is no memory, or no clock, nothing is decoded.
+fn main(rt: HostRuntime) -> ExitCode {
+    let (Ok(words), Ok(trace), Ok(note)) = (
+        command_line(&rt),
+        JobTrace::new(&rt),
+        MemSink::new(rt.alloc(), &[]),
+    ) else {
+        return ExitCode::from(6);
+    };
     let source = StdSource::new(rt.stdin());
     let out = StdSink::new(rt.stdout());
-    let note = MemSink::new(rt.alloc(), &[])?;
-    let ran = run(rt, rt.alloc(), words.as_slice(), source, out, note, &trace);
+    let ran = run(&rt, rt.alloc(), words.as_slice(), source, out, note, &trace);
     trace.print();
-    Ok(ExitCode::from(ran.status.code()))
-}
-
-fn main(rt: HostRuntime) -> ExitCode {
-    match traced(&rt) {
-        Ok(code) => code,
-        Err(_) => ExitCode::from(6),
-    }
+    ExitCode::from(ran.status.code())
 }
