@@ -1,5 +1,5 @@
 #!/usr/bin/env python3
-"""Draws what jobs ran when, from the lines that `bench_jobs` writes on standard error.
+"""Draws what jobs ran when, from lines that a gate of `vp9_app::run` writes: `enter` or `leave`, microseconds since the start, and the job, as `rows 3 0 1`.
 
     tools/job_chart.py TRACE OUT.svg [--from MILLISECONDS] [--to MILLISECONDS]
 
