@@ -2,3 +2,4 @@ pub mod Copies
 pub mod Placing
 pub mod Joining
 pub mod Joined
+pub mod ColumnSpans

@@ -1,7 +1,7 @@
 use Rattle.std.proofs.Common.{◌≡◌, ◌∙◌, ◌<◌, sym, refl, subst, arith, length, List}
 use Rattle.std.proofs.lemmas.List.{take_all}
 use Rattle.block_plan.specs.declared.block.BlockInfo.{BlockInfo}
-use Rattle.frame_rows.proofs.Spans.{column_begins, column_stops, stops_behind}
+use Rattle.frame_steps.proofs.ColumnSpans.{column_begins, column_stops, stops_behind}
 use Rattle.frame_steps.proofs.Copies.{can_be_put, grown, is_copied, rows_are}
 use Rattle.frame_steps.proofs.copying.copied_column.Goals as goal
 

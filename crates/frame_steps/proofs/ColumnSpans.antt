@@ -1,5 +1,5 @@
 -- Where a tile column lies, as its tiles do.
-use Rattle.std.proofs.Common.{◌≡◌, ◌∙◌, ◌<◌, ◌≤◌, ◌+◌, ◌-◌, ◌*◌, ◌^◌, ℕ, ap, arith}
+use Rattle.std.proofs.Common.{◌≡◌, ◌∙◌, ◌<◌, ◌≤◌, ◌+◌, ◌-◌, ◌*◌, ◌^◌, ℕ, ap, sym, subst, arith}
 use Rattle.std.proofs.Math.Nat.{mod-eq_of_lt}
 use Rattle.block_geometry.specs.declared.transform_blocks.FramePlaces.{FramePlaces}
 use Rattle.frame_headers.specs.declared.tiles.TileInfo.{TileInfo}
@@ -15,6 +15,9 @@ use Rattle.frame_state.specs.declared.tile_places.TilePlaces.{TilePlaces}
 use Rattle.frame_state.proofs.TileOffsets.{offset_grows, offset_low}
 use Rattle.tile_syntax.specs.declared.plans.ColumnPlan.{ColumnPlan}
 use Rattle.column_order.specs.Columns.{column_from, column_to}
+use Rattle.vp9_types.specs.declared.shape.Shape.{Shape}
+use Rattle.planes.specs.declared.frame_planes.FramePlanes.{FramePlanes}
+use Rattle.recon_rows.specs.Strips.{HasStripAreas}
 
 pub tile_begins : (frame : FramePlaces) (tiles : TileInfo) (k : ℕ) → k < 2 ^ tiles.columns_log2 → (tile_places frame tiles k).col_from ≡ tile_offset frame.cols tiles.columns_log2 k
 unfolding tile_places
@@ -48,3 +51,12 @@ few_columns setting = let wide : setting.header.size.width ≤ 65536 = setting.s
 -- where the plan of a tile column lies
 pub plan_lies : (header : Header) (k : ℕ) (plan : ColumnPlan) → IsTileColumn header (tile_count header) k plan.column → (plan.column.grid.from ≡ column_from header k) × (limit_of plan.column ≡ column_to header k)
 plan_lies header k plan is = (is.from, λ i. is.from i + 8 * superblocks_along (is.to i - is.from i))
+
+-- the areas of a strip by where a tile column lies, and by its plan
+pub areas_of : {X : Type 0} (header : Header) (k row : ℕ) (plan : ColumnPlan) (shape : Shape) (from to : ℕ) (f : FramePlanes X) → IsTileColumn header (tile_count header) k plan.column → shape ≡ shape_of header
+    → from ≡ column_from header k → to ≡ column_to header k → HasStripAreas shape from to row f → HasStripAreas (shape_of header) plan.column.grid.from (limit_of plan.column) row f
+areas_of header k row plan shape from to f is same begins ends areas =
+    let lies = plan_lies header k plan is in
+    subst (λ (s : Shape). HasStripAreas s plan.column.grid.from (limit_of plan.column) row f) same
+    (subst (λ (n : ℕ). HasStripAreas shape n (limit_of plan.column) row f) (begins ∙ sym lies.0)
+    (subst (λ (n : ℕ). HasStripAreas shape from n row f) (ends ∙ sym lies.1) areas))

@@ -1,9 +1,0 @@
-pub mod TablePlaces
-pub mod FrameBottom
-pub mod Served
-pub mod Frames
-pub mod Slots
-pub mod ReferredFrames
-pub mod Taking
-pub mod Kept
-pub mod Shown

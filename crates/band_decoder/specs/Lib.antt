@@ -1,4 +1,0 @@
-pub mod Bands
-pub mod Table
-pub mod Code
-pub mod Decoder

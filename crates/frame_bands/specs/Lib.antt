@@ -1,4 +1,0 @@
-pub mod Bands
-pub mod Frames
-pub mod Code
-pub mod Laws
