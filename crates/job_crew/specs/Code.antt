@@ -13,7 +13,6 @@ use Rattle.job_order.specs.Worlds.{Rules}
 use Rattle.job_order.specs.Truths.{Truth}
 use Rattle.job_order.specs.Code.{IsMark}
 use Rattle.progress_board.specs.Code.{BoardParts, SeatParts}
-use Rattle.job_crew.specs.declared.jobs.Layout.{Layout}
 use Rattle.job_crew.specs.Runs.{IsDue}
 
 -- each job of a segment is due
@@ -26,15 +25,15 @@ pub record Fits (segments : List Segment) (s : Segment) : Type 0 where
   pub shown : (f columns rows : ℕ) (shown : Shown) → s ≡ Build f columns rows (Some shown) → shown.frame ≤ f
   pub goes_on : (place f : ℕ) → place + 1 ≡ length segments → slice_get segments place ≡ Some (Last f) → ⊥
 
--- a frame of this layout has the job, which is no end
-abbrev pub HasCell : Layout → JobName → Type 0
-HasCell layout (Head f) = Unit {0}
-HasCell layout (Column f c) = c < layout.columns
-HasCell layout (Close f) = Unit {0}
-HasCell layout (Rows f c r) = (c < layout.columns) × (r < layout.rows)
-HasCell layout (Filter f r) = r < layout.rows
-HasCell layout (Write f) = Unit {0}
-HasCell layout (End f) = ⊥
+-- a frame of so many superblock rows keeps the result of the job as long as later frames may ask for it
+abbrev pub HasLastingCell : ℕ → JobName → Type 0
+HasLastingCell rows (Head f) = Unit {0}
+HasLastingCell rows (Column f c) = ⊥
+HasLastingCell rows (Close f) = Unit {0}
+HasLastingCell rows (Rows f c r) = ⊥
+HasLastingCell rows (Filter f r) = r < rows
+HasLastingCell rows (Write f) = Unit {0}
+HasLastingCell rows (End f) = ⊥
 
 -- what is published, the jobs that were drawn and not begun, how many were drawn, how many it has room for, and whether the run is over
 pub record PoolParts : Type 0 where

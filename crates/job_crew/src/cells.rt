@@ -1,9 +1,8 @@
 ghost use Rattle.std.specs.Prelude.{◌≡◌, ℕ, ◌+◌, ◌*◌, ◌<◌, length, slice_get, Option, Some, IfOk, IfSome, IsSome};
 ghost use Rattle.job_order.specs.Sound.{frame_of};
-ghost use Rattle.job_crew.specs.Code.{HasCell};
+ghost use Rattle.job_crew.specs.Code.{HasLastingCell};
 
 use crate::finished::Finished;
-use crate::jobs::Layout;
 use job_order::Meaning;
 use std::alloc::{AllocError, Global};
 use std::sync::OnceLock;
@@ -12,23 +11,27 @@ use vp9_types::JobName;
 /// The result of a job, once it is finished.
 pub(crate) type Cell<X, M> = OnceLock<Finished<X, M>>;
 
-/// The results of the jobs of a frame, as many as its head says, each set once.
+/// The results of a frame's jobs that later frames may ask for, and its write's, each set once.
 #[derive(Drop)]
 pub(crate) struct FrameCells<X: Drop, M: Meaning<X>> {
     frame: u64,
-    layout: Layout,
+    rows: u32,
     head: Cell<X, M>,
-    columns: Vec<Cell<X, M>>,
     close: Cell<X, M>,
-    rows: Vec<Cell<X, M>>,
     filters: Vec<Cell<X, M>>,
     write: Cell<X, M>,
-    ghost columns_are: { length columns.items ≡ layout.columns },
-    ghost rows_are: { length rows.items ≡ layout.columns * layout.rows },
-    ghost filters_are: { length filters.items ≡ layout.rows },
+    ghost filters_are: { length filters.items ≡ rows },
 }
 
-fn blanks<X: Drop, M: Meaning<X>>(alloc: Global, number: u64) -> Result<Vec<Cell<X, M>>, AllocError>
+/// Results for each tile column of a frame, which none but its own jobs ask for, each set once.
+#[derive(Drop)]
+pub(crate) struct ColumnCells<X: Drop, M: Meaning<X>> {
+    columns: u32,
+    cells: Vec<Cell<X, M>>,
+    ghost cells_are: { length cells.items ≡ columns },
+}
+
+fn blanks<X: Drop, M: Meaning<X>>(alloc: Global, number: u32) -> Result<Vec<Cell<X, M>>, AllocError>
     ensures { IfOk result (λ cells. length cells.items ≡ number) }
 {
     let mut cells = Vec::new(alloc);
@@ -40,21 +43,15 @@ fn blanks<X: Drop, M: Meaning<X>>(alloc: Global, number: u64) -> Result<Vec<Cell
 }
 
 impl<X: Drop, M: Meaning<X>> FrameCells<X, M> {
-    pub(crate) fn new(
-        alloc: Global,
-        frame: u64,
-        layout: Layout,
-    ) -> Result<FrameCells<X, M>, AllocError>
-        ensures { IfOk result (λ cells. (cells.frame ≡ frame) × (cells.layout ≡ layout)) }
+    pub(crate) fn new(alloc: Global, frame: u64, rows: u32) -> Result<FrameCells<X, M>, AllocError>
+        ensures { IfOk result (λ cells. (cells.frame ≡ frame) × (cells.rows ≡ rows)) }
     {
         Ok(FrameCells {
             frame,
-            layout,
+            rows,
             head: OnceLock::new(),
-            columns: blanks(alloc, u64::from(layout.columns))?,
             close: OnceLock::new(),
-            rows: blanks(alloc, u64::from(layout.columns) * u64::from(layout.rows))?,
-            filters: blanks(alloc, u64::from(layout.rows))?,
+            filters: blanks(alloc, rows)?,
             write: OnceLock::new(),
         })
     }
@@ -65,39 +62,55 @@ impl<X: Drop, M: Meaning<X>> FrameCells<X, M> {
         self.frame
     }
 
-    // The cell of a job. Each job of the frame but an end has one.
-    fn cell(&self, job: JobName) -> Option<&Cell<X, M>>
-        ensures { HasCell self.now.layout job → IsSome result }
+    /// The cell of a job of the frame, where it stays.
+    pub(crate) fn cell(&self, job: JobName) -> Option<&Cell<X, M>>
+        ensures { HasLastingCell self.now.rows job → IsSome result }
     {
         match job {
             JobName::Head { .. } => Some(&self.head),
-            JobName::Column { column, .. } => self.columns.get(column as usize),
             JobName::Close { .. } => Some(&self.close),
-            JobName::Rows { column, row, .. } => {
-                let at = u64::from(row) * u64::from(self.layout.columns) + u64::from(column);
-                self.rows.get(at as usize)
-            }
             JobName::Filter { row, .. } => self.filters.get(row as usize),
             JobName::Write { .. } => Some(&self.write),
-            JobName::End { .. } => None,
+            JobName::Column { .. } | JobName::Rows { .. } | JobName::End { .. } => None,
         }
     }
+}
 
-    /// Sets the result of a job.
-    pub(crate) fn finish(&self, job: JobName, value: X)
-        requires { M.truth.right job value }
+impl<X: Drop, M: Meaning<X>> ColumnCells<X, M> {
+    pub(crate) fn new(alloc: Global, columns: u32) -> Result<ColumnCells<X, M>, AllocError>
+        ensures { IfOk result (λ cells. cells.columns ≡ columns) }
     {
-        if let Some(cell) = self.cell(job) {
-            let _ = cell.try_set(Finished::new(job, value));
-        }
+        Ok(ColumnCells {
+            columns,
+            cells: blanks(alloc, columns)?,
+        })
     }
 
-    /// The result of a job, where it is finished.
-    pub(crate) fn find(&self, job: JobName) -> Option<&X>
-        ensures { IfSome result (λ x. M.truth.right job x.now) }
+    /// The cell of a tile column.
+    pub(crate) fn cell(&self, column: u32) -> Option<&Cell<X, M>>
+        ensures { column < self.now.columns → IsSome result }
     {
-        self.cell(job)?.get()?.of(job)
+        self.cells.get(column as usize)
     }
+}
+
+/// Sets the result of a job in its cell, if it has one.
+pub(crate) fn set<X: Drop, M: Meaning<X>>(cell: Option<&Cell<X, M>>, job: JobName, value: X)
+    requires { M.truth.right job value }
+{
+    if let Some(cell) = cell {
+        let _ = cell.try_set(Finished::new(job, value));
+    }
+}
+
+/// The result of a job in its cell, where it is finished.
+pub(crate) fn get<'c, X: Drop, M: Meaning<X>>(
+    cell: Option<&'c Cell<X, M>>,
+    job: JobName,
+) -> Option<&'c X>
+    ensures { IfSome result (λ x. M.truth.right job x.now) }
+{
+    cell?.get()?.of(job)
 }
 
 /// The frame of a job.

@@ -9,17 +9,19 @@ ghost use Rattle.job_crew.specs.Code.{AreDue, TakesOut, IsSeated, IsSeatedStill,
 
 use crate::cells::Cell;
 use crate::finished::Finished;
-use crate::frames::{Frame, Frames, Held, Shared};
+use crate::frame::Frame;
+use crate::frames::Frames;
 use crate::jobs::{Jobs, LIVE, Layout, Output, Start};
 use crate::lent::Lent;
 use crate::outlet::{Content, Ending, Outlet, Over, Placed, Told};
 use crate::pool::Pool;
+use crate::work::{AtWork, FrameWork, Loan, Strips};
 use edge_io::Gate;
 use job_order::{Meaning, Segment, needs_of};
 use progress_board::{Board, Refused, Seat};
 use std::alloc::{AllocError, Global};
 use std::marker::PhantomData;
-use std::sync::{Arc, Condvar, Mutex, OnceLock, Wait};
+use std::sync::{Condvar, Mutex, OnceLock, Wait};
 use std::thread;
 use std::thread::Threads;
 use vp9_types::{BandSpan, JobName};
@@ -53,18 +55,14 @@ struct Shop<X: Drop, M: Meaning<X>> {
     frames: Frames<X, M>,
 }
 
-// A job to do, and the frame whose results it may see. Nothing is before the first head, or before an end at it.
+// What a job is lent. Nothing is before the first head, or before an end at it.
+type Held<X, M> = Option<Loan<X, M>>;
+
+// A job to do, and what it is lent.
 #[derive(Drop)]
 struct Begun<X: Drop, M: Meaning<X>> {
     job: JobName,
     held: Held<X, M>,
-}
-
-fn seen<X: Drop, M: Meaning<X>>(held: &Held<X, M>) -> Option<&Frame<X, M>> {
-    match held {
-        Some(frame) => Some(frame),
-        None => None,
-    }
 }
 
 // What the workers share.
@@ -99,18 +97,32 @@ impl<'a, X: Drop, M: Meaning<X> + Start, K: Output<X>, J: Jobs<X, M, K>, G: Gate
     J,
     G,
 > {
-    // What a job is lent that may see a frame's results.
+    // What a job is lent that may see these results.
     fn lent<'r, 'c, 'f, R>(
         &'c self,
         rt: &'r R,
-        frame: Option<&'f Frame<X, M>>,
+        at_work: Option<&'f AtWork<X, M>>,
+        strips: Option<&'f Strips<X, M>>,
     ) -> Lent<'r, 'c, 'f, X, M, K, J, R> {
         Lent {
             rt,
             jobs: self.run.jobs,
-            frame,
+            at_work,
+            strips,
             last: self.last,
             outputs: PhantomData,
+        }
+    }
+
+    // The same of what a job has.
+    fn lent_of<'r, 'c, 'f, R>(
+        &'c self,
+        rt: &'r R,
+        held: &'f Held<X, M>,
+    ) -> Lent<'r, 'c, 'f, X, M, K, J, R> {
+        match held {
+            Some(loan) => self.lent(rt, Some(&loan.at_work), loan.strips()),
+            None => self.lent(rt, None, None),
         }
     }
 
@@ -120,7 +132,7 @@ impl<'a, X: Drop, M: Meaning<X> + Start, K: Output<X>, J: Jobs<X, M, K>, G: Gate
     {
         match job {
             JobName::Rows { frame, column, row } => {
-                let lent = self.lent(rt, frames.see(job));
+                let lent = self.lent(rt, frames.see(job), None);
                 self.run.jobs.reads(frame, column, row, &lent)
             }
             _ => NO_BANDS,
@@ -273,11 +285,13 @@ impl<'a, X: Drop, M: Meaning<X> + Start, K: Output<X>, J: Jobs<X, M, K>, G: Gate
         self.shop.lock(rt).pool.publish(segment);
     }
 
-    // Sets a job's result. What the job was lent goes in the same moment, so what others let go from then on isn't held by it.
+    // Sets a job's result. What the job was lent goes in the same moment, so what others let go from then on isn't held by it. What nobody else
+    // has is dropped here, and not under the lock.
     fn complete<R: Wait>(&self, rt: &R, held: Held<X, M>, job: JobName, value: X)
         requires { M.truth.right job value }
     {
-        self.shop.lock(rt).frames.finish(held, job, value);
+        let gone = self.shop.lock(rt).frames.finish(held, job, value);
+        drop(gone);
     }
 
     // What the jobs behind a frame may ask for of those before it.
@@ -291,23 +305,32 @@ impl<'a, X: Drop, M: Meaning<X> + Start, K: Output<X>, J: Jobs<X, M, K>, G: Gate
         }
     }
 
+    fn behind(
+        &self,
+        before: &Frame<X, M>,
+        frame: u64,
+        rows: u32,
+    ) -> Result<Frame<X, M>, AllocError> {
+        before.next(self.run.alloc, frame, rows, &self.live(before))
+    }
+
     // Takes all memory for a frame, behind the one before it.
     fn make_frame<R: Wait>(
         &self,
         rt: &R,
-        before: Option<&Frame<X, M>>,
+        held: &Held<X, M>,
         frame: u64,
         layout: Layout,
-    ) -> Result<Shared<Frame<X, M>>, AllocError> {
+    ) -> Result<FrameWork<X, M>, AllocError> {
         if frame == u64::MAX {
             return Err(AllocError);
         }
         let alloc = self.run.alloc;
-        let made = match before {
-            Some(before) => before.next(alloc, frame, layout, &self.live(before))?,
-            None => Frame::first(alloc, frame, layout)?,
+        let made = match held {
+            Some(loan) => self.behind(loan.at_work.frame(), frame, layout.rows)?,
+            None => Frame::first(alloc, frame, layout.rows)?,
         };
-        let made = Arc::new(alloc, made)?;
+        let made = FrameWork::new(alloc, made, layout)?;
         let mut guard = self.shop.lock(rt);
         guard.frames.make_room()?;
         guard.pool.make_room()?;
@@ -315,7 +338,7 @@ impl<'a, X: Drop, M: Meaning<X> + Start, K: Output<X>, J: Jobs<X, M, K>, G: Gate
     }
 
     // A frame is at work, and its head's result is there.
-    fn begin<R: Wait>(&self, rt: &R, held: Held<X, M>, frame: Shared<Frame<X, M>>, segment: Segment)
+    fn begin<R: Wait>(&self, rt: &R, held: Held<X, M>, frame: FrameWork<X, M>, segment: Segment)
         requires due { AreDue M.rules M.truth segment }
     {
         let mut guard = self.shop.lock(rt);
@@ -339,14 +362,14 @@ impl<'a, X: Drop, M: Meaning<X> + Start, K: Output<X>, J: Jobs<X, M, K>, G: Gate
         requires due { IsDue M.rules M.truth (Head frame) }
     {
         let job = JobName::Head { frame };
-        let value = self.run.jobs.run(job, &self.lent(rt, seen(&held)));
+        let value = self.run.jobs.run(job, &self.lent_of(rt, &held));
         let Some(layout) = self.run.jobs.layout(&value) else {
             return self.end_at_head(rt, frame, value);
         };
-        let Ok(made) = self.make_frame(rt, seen(&held), frame, layout) else {
+        let Ok(made) = self.make_frame(rt, &held, frame, layout) else {
             return self.end_at_head(rt, frame, self.run.jobs.starved(frame));
         };
-        made.finish(job, value);
+        made.set_head(job, value);
         self.begin(
             rt,
             held,
@@ -378,7 +401,7 @@ impl<'a, X: Drop, M: Meaning<X> + Start, K: Output<X>, J: Jobs<X, M, K>, G: Gate
         requires due { IsDue M.rules M.truth (Close frame) }
     {
         let job = JobName::Close { frame };
-        let value = self.run.jobs.run(job, &self.lent(rt, seen(&held)));
+        let value = self.run.jobs.run(job, &self.lent_of(rt, &held));
         let segment = self.built(frame, &value);
         self.complete(rt, held, job, value);
         self.publish(rt, segment);
@@ -445,7 +468,7 @@ impl<'a, X: Drop, M: Meaning<X> + Start, K: Output<X>, J: Jobs<X, M, K>, G: Gate
         let value = self
             .run
             .jobs
-            .write(frame, &self.lent(rt, seen(&held)), &mut output);
+            .write(frame, &self.lent_of(rt, &held), &mut output);
         if self.run.jobs.is_refused(&value) {
             self.end(rt, seat, Ending::Refused { frame, value }, output);
         } else {
@@ -472,7 +495,7 @@ impl<'a, X: Drop, M: Meaning<X> + Start, K: Output<X>, J: Jobs<X, M, K>, G: Gate
         let value = self
             .run
             .jobs
-            .run(JobName::End { frame }, &self.lent(rt, seen(&held)));
+            .run(JobName::End { frame }, &self.lent_of(rt, &held));
         self.end(rt, seat, Ending::Whole { frame, value }, output);
     }
 
@@ -488,7 +511,7 @@ impl<'a, X: Drop, M: Meaning<X> + Start, K: Output<X>, J: Jobs<X, M, K>, G: Gate
             JobName::Write { frame } => self.do_write(rt, held, seat, frame),
             JobName::End { frame } => self.do_end(rt, held, seat, frame),
             JobName::Column { .. } | JobName::Rows { .. } | JobName::Filter { .. } => {
-                let value = self.run.jobs.run(job, &self.lent(rt, seen(&held)));
+                let value = self.run.jobs.run(job, &self.lent_of(rt, &held));
                 self.complete(rt, held, job, value);
             }
         }

@@ -2,8 +2,8 @@ ghost use Rattle.std.specs.Prelude.{◌≡◌, true, IfSome};
 ghost use Rattle.job_crew.specs.Runs.{GoesOn, IsLast};
 
 use crate::cells::Cell;
-use crate::frames::Frame;
 use crate::jobs::{Jobs, Output, Results};
+use crate::work::{AtWork, Strips, find};
 use job_order::Meaning;
 use std::marker::PhantomData;
 use std::sync::Wait;
@@ -16,7 +16,8 @@ use vp9_types::JobName;
 pub(crate) struct Lent<'r, 'c, 'f, X: Drop, M: Meaning<X>, K, J, R> {
     pub(crate) rt: &'r R,
     pub(crate) jobs: &'c J,
-    pub(crate) frame: Option<&'f Frame<X, M>>,
+    pub(crate) at_work: Option<&'f AtWork<X, M>>,
+    pub(crate) strips: Option<&'f Strips<X, M>>,
     pub(crate) last: &'c Cell<X, M>,
     pub(crate) outputs: PhantomData<K>,
 }
@@ -36,7 +37,7 @@ impl<'r, 'c, 'f, X: Drop, M: Meaning<X>, K: Output<X>, J: Jobs<X, M, K>, R> Lent
         ensures right { IfSome result (λ x. M.truth.right job x.now) }
         ensures goes_on { IfSome result (λ x. GoesOn M.rules job x.now) }
     {
-        let value = self.frame?.find(job)?;
+        let value = find(self.at_work?, self.strips, job)?;
         let goes_on = match job {
             JobName::Head { .. } => self.jobs.layout(value).is_some(),
             JobName::Close { .. } => self.jobs.building(value).is_some(),
@@ -49,8 +50,8 @@ impl<'r, 'c, 'f, X: Drop, M: Meaning<X>, K: Output<X>, J: Jobs<X, M, K>, R> Lent
     fn find_last(&self, frame: u64) -> Option<&X>
         ensures { IfSome result (λ x. IsLast M.rules M.truth frame x.now) }
     {
-        if let Some(lent) = self.frame
-            && let Some(close) = lent.find(JobName::Close { frame })
+        if let Some(lent) = self.at_work
+            && let Some(close) = lent.frame().find(JobName::Close { frame })
             && self.jobs.building(close).is_none()
         {
             return Some(close);

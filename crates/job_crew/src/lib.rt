@@ -4,11 +4,13 @@
 mod cells;
 mod crew;
 mod finished;
+mod frame;
 mod frames;
 mod jobs;
 mod lent;
 mod outlet;
 mod pool;
+mod work;
 
 pub use crew::{Run, run_jobs};
 pub use jobs::{Building, Jobs, LIVE, Layout, Output, Results, Start};

@@ -1,7 +1,7 @@
 use Rattle.std.proofs.Common.{◌≡◌, ◌∷◌, take}
 use Rattle.std.specs.Arc.{arc_value}
 use Rattle.job_crew.specs.Code.{mapped, kept}
-use Rattle.job_crew.proofs.frames.keep.Given as goal
+use Rattle.job_crew.proofs.frame.keep.Given as goal
 
 abbrev pub invariant-loop-at : goal.invariant-loop-at
 invariant-loop-at g l =

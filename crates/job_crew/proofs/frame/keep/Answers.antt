@@ -1,8 +1,8 @@
 use Rattle.std.proofs.Common.{◌≡◌, ◌∙◌, true, false, sym, subst, refl}
 use Rattle.job_crew.specs.Code.{is_named}
 use Rattle.job_crew.proofs.Kept.{is_kept, is_let_go}
-use Rattle.job_crew.proofs.frames.keep.Goals as goal
-use Rattle.job_crew.proofs.frames.keep.Goals.{then-is_live+in_ok-try_clone-2+in_ok-push-2, else-is_live}
+use Rattle.job_crew.proofs.frame.keep.Goals as goal
+use Rattle.job_crew.proofs.frame.keep.Goals.{then-is_live+in_ok-try_clone-2+in_ok-push-2, else-is_live}
 
 pub loop-at-preserved : goal.loop-at-preserved
 loop-at-preserved g c = elim c.if-is_live.branch [

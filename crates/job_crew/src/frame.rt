@@ -1,0 +1,121 @@
+ghost use Rattle.std.specs.Prelude.{◌≡◌, ℕ, ◌+◌, ◌*◌, ◌<◌, ◌∷◌, Option, Some, IfSome, IsSome, IfOk, slice_get};
+ghost use Rattle.std.specs.Arc.{arc_value};
+ghost use Rattle.job_order.specs.Sound.{frame_of};
+ghost use Rattle.job_crew.specs.Code.{is_named, mapped, kept, HasLastingCell};
+
+use crate::cells::{Cell, FrameCells, frame_of, get};
+use job_order::Meaning;
+use std::alloc::{AllocError, Global};
+use std::sync::Arc;
+use vp9_types::JobName;
+
+/// A value with several owners.
+pub(crate) type Shared<T> = Arc<T, Global>;
+
+/// A frame at work: those of its results that later frames may ask for, and those of the frames before it that its jobs and the next head may
+/// ask for. These are the frame before it, and of what that one has those that its close names as live. So a result is there as long as a job
+/// that may ask for it isn't done, and goes with the last frame that has it.
+#[derive(Drop)]
+pub(crate) struct Frame<X: Drop, M: Meaning<X>> {
+    own: Shared<FrameCells<X, M>>,
+    before: Vec<Shared<FrameCells<X, M>>>,
+}
+
+fn is_live(live: &[Option<u64>], frame: u64) -> bool
+    ensures { result ≡ is_named live.now frame }
+{
+    live.contains(&Some(frame))
+}
+
+fn number_of<X: Drop, M: Meaning<X>>(cells: &Shared<FrameCells<X, M>>) -> u64
+    ensures { result ≡ (arc_value cells.now).frame }
+{
+    cells.frame()
+}
+
+// The cells of a frame, and of those before it that are named as live.
+fn keep<X: Drop, M: Meaning<X>>(
+    alloc: Global,
+    last: &Shared<FrameCells<X, M>>,
+    before: &[Shared<FrameCells<X, M>>],
+    live: &[Option<u64>],
+) -> Result<Vec<Shared<FrameCells<X, M>>>, AllocError>
+    ensures { IfOk result (λ cells. mapped cells.items (λ c. (arc_value c).frame) ≡ (arc_value last.now).frame ∷ kept live.now (mapped before.now (λ c. (arc_value c).frame))) }
+{
+    let mut cells = Vec::new(alloc);
+    cells.push(Arc::try_clone(last)?)?;
+    for at in 0..before.len() {
+        let next = &before[at];
+        if is_live(live, number_of(next)) {
+            cells.push(Arc::try_clone(next)?)?;
+        }
+    }
+    Ok(cells)
+}
+
+fn blank<X: Drop, M: Meaning<X>>(
+    alloc: Global,
+    frame: u64,
+    rows: u32,
+) -> Result<Shared<FrameCells<X, M>>, AllocError>
+    ensures frame { IfOk result (λ cells. (arc_value cells).frame ≡ frame) }
+    ensures rows { IfOk result (λ cells. (arc_value cells).rows ≡ rows) }
+{
+    let cells = FrameCells::new(alloc, frame, rows)?;
+    Ok(Arc::new(alloc, cells)?)
+}
+
+impl<X: Drop, M: Meaning<X>> Frame<X, M> {
+    /// A frame with nothing before it.
+    pub(crate) fn first(alloc: Global, frame: u64, rows: u32) -> Result<Frame<X, M>, AllocError> {
+        Ok(Frame {
+            own: blank(alloc, frame, rows)?,
+            before: Vec::new(alloc),
+        })
+    }
+
+    /// The frame behind this one. It keeps this one, and of those that this one keeps what the close has named as live.
+    pub(crate) fn next(
+        &self,
+        alloc: Global,
+        frame: u64,
+        rows: u32,
+        live: &[Option<u64>],
+    ) -> Result<Frame<X, M>, AllocError>
+        ensures { IfOk result (λ f. mapped f.before.items (λ c. (arc_value c).frame) ≡ (arc_value self.now.own).frame ∷ kept live.now (mapped self.now.before.items (λ c. (arc_value c).frame))) }
+    {
+        Ok(Frame {
+            own: blank(alloc, frame, rows)?,
+            before: keep(alloc, &self.own, &self.before, live)?,
+        })
+    }
+
+    pub(crate) fn number(&self) -> u64
+        ensures { result ≡ (arc_value self.now.own).frame }
+    {
+        self.own.frame()
+    }
+
+    /// The cell of a job of this frame, or of one of those before it, where it stays.
+    pub(crate) fn cell(&self, job: JobName) -> Option<&Cell<X, M>>
+        ensures { frame_of job ≡ (arc_value self.now.own).frame → HasLastingCell (arc_value self.now.own).rows job → IsSome result }
+    {
+        let frame = frame_of(job);
+        if self.own.frame() == frame {
+            return self.own.cell(job);
+        }
+        for cells in &self.before {
+            if cells.frame() == frame {
+                return cells.cell(job);
+            }
+        }
+        None
+    }
+
+    /// The result of such a job, where it is finished.
+    pub(crate) fn find(&self, job: JobName) -> Option<&X>
+        ensures { IfSome result (λ x. M.truth.right job x.now) }
+    {
+        get(self.cell(job), job)
+    }
+}
