@@ -56,12 +56,16 @@ fn are_below(numbers: &[u64], all: u64) -> bool {
     true
 }
 
-// How many jobs a frame has.
-fn jobs_of(columns: u32, rows: u32) -> u64 {
-    let (columns, rows) = (u64::from(columns), u64::from(rows));
+// How many results a run keeps at most: what later frames may ask for of those in the window and of ten before them, all of those that aren't
+// written, and what each worker is letting go.
+fn most_of(columns: u32, rows: u32, workers: u8, window: u8) -> u64 {
+    let (columns, rows, window) = (u64::from(columns), u64::from(rows), u64::from(window));
+    let lasting = (window + 10) * (rows + 3);
+    let at_work = (window + 1) * (rows + 1);
+    let going = 3 * u64::from(workers);
     columns
-        .saturating_mul(rows)
-        .saturating_add(columns + rows + 3)
+        .saturating_mul(at_work + going)
+        .saturating_add(lasting)
 }
 
 // Whether a run writes the numbers of all frames below the one at which it ends, and keeps the results of few frames.
@@ -98,7 +102,7 @@ fn is_right<
     };
     let all = FRAMES.min(jobs.refused).min(jobs.starved);
     let is_refused = matches!(&told.ending, Ending::Refused { .. });
-    let kept = (u64::from(window) + 8 + 2).saturating_mul(jobs_of(COLUMNS, ROWS));
+    let kept = most_of(COLUMNS, ROWS, workers, window);
     last_of(&told.ending) == all
         && is_refused == told.output.is_torn
         && are_below(&told.output.numbers, all)
