@@ -9,12 +9,11 @@ use Rattle.vp9_types.specs.declared.shape.Shape.{Shape}
 use Rattle.block_plan.specs.declared.block.BlockInfo.{BlockInfo}
 use Rattle.block_plan.specs.declared.block.InterPrediction.{InterPrediction}
 use Rattle.inter_places.specs.Places.{place_of}
-use Rattle.inter_places.specs.declared.axis.Place.{Place}
 use Rattle.inter_places.specs.declared.part.BlockPart.{BlockPart}
 use Rattle.vp9_types.specs.declared.block.ReferenceFrame.{ReferenceFrame}
 use Rattle.band_needs.specs.Ranges.{no_needs}
 use Rattle.band_needs.specs.declared.ranges.BandNeeds.{BandNeeds}
-use Rattle.band_needs.specs.Needs.{place_range, part_range, with_block, needs_of}
+use Rattle.band_needs.specs.Needs.{rows_range, part_range, with_block, needs_of}
 use Rattle.band_needs.specs.Reads.{band_height}
 use Rattle.band_needs.specs.declared.ranges.BandRange.{BandRange}
 use Rattle.inter_places.specs.declared.axis.Axis.{Axis}
@@ -27,10 +26,10 @@ pub first_is : (a : Axis) → fraction a < 16 → straight a 0 ≡ first_place a
 unfolding place
 first_is a low = ap (straight a) (zero (fraction a) a.step low)
 
-pub range_is : (shape reference : Shape) (b : BlockInfo) (modes : InterPrediction) (part : BlockPart) (at : Place) (range : BandRange) → at ≡ place_of shape b modes part reference
-    → range ≡ place_range (band_height reference at.plane) at → range ≡ part_range shape reference b modes part
-unfolding place_of
-range_is shape reference b modes part at range is found = found ∙ ap (λ (z : Place). place_range (band_height reference z.plane) z) is
+pub range_is : (shape reference : Shape) (b : BlockInfo) (modes : InterPrediction) (part : BlockPart) (down : Axis) (rows : ℕ) (range : BandRange)
+    → down ≡ (place_of shape b modes part reference).down → rows ≡ (place_of shape b modes part reference).rows
+    → range ≡ rows_range (band_height reference part.plane) down rows → range ≡ part_range shape reference b modes part
+range_is shape reference b modes part down rows range same many found = found ∙ (λ i. rows_range (band_height reference part.plane) (same i) (many i))
 
 ---- Bands in order ----
 

@@ -11,6 +11,7 @@ use Rattle.block_plan.specs.declared.block.Prediction.{Prediction}
 use Rattle.block_plan.specs.declared.block.Prediction.TheVariants.{Intra, Inter}
 use Rattle.inter_places.specs.Axes.{first_place, last_place}
 use Rattle.inter_places.specs.Places.{parts_of, place_of}
+use Rattle.inter_places.specs.declared.axis.Axis.{Axis}
 use Rattle.inter_places.specs.declared.axis.Place.{Place}
 use Rattle.inter_places.specs.declared.part.BlockPart.{BlockPart}
 use Rattle.band_needs.specs.Ranges.{both_ranges, with_range, no_needs}
@@ -18,8 +19,11 @@ use Rattle.band_needs.specs.Reads.{part_in, band_height}
 use Rattle.band_needs.specs.declared.ranges.BandRange.{BandRange}
 use Rattle.band_needs.specs.declared.ranges.BandNeeds.{BandNeeds}
 
+abbrev pub rows_range : ℕ → Axis → ℕ → BandRange
+rows_range height down rows = record { first = first_place down / height; last = last_place down rows / height }
+
 abbrev pub place_range : ℕ → Place → BandRange
-place_range height at = record { first = first_place at.down / height; last = last_place at.down at.rows / height }
+place_range height at = rows_range height at.down at.rows
 
 abbrev pub part_range : Shape → Shape → BlockInfo → InterPrediction → BlockPart → BandRange
 part_range shape reference b modes part = place_range (band_height reference part.plane) (place_of shape b modes part reference)

@@ -13,9 +13,9 @@ ghost use Rattle.band_needs.specs.Needs.{part_range, plane_range, list_range, wi
 ghost use Rattle.band_needs.specs.Code.{shape_at, shapes_of, HasShape, HasShapes, CanBePlaced};
 
 use crate::ranges::{BandNeeds, BandRange};
-use crate::rows::place_range;
+use crate::rows::rows_range;
 use block_plan::{BlockInfo, InterPrediction, Prediction};
-use inter_places::{BlockPart, part_count, place};
+use inter_places::{BlockPart, part_count, place_rows};
 use vp9_types::{Plane, ReferenceFrame, Shape};
 
 /// The shapes of the pictures that a frame may refer to.
@@ -51,8 +51,8 @@ fn part_range(b: &InterBlock<'_>, part: BlockPart, reference: &Shape) -> BandRan
     requires reference { IsReference b.now.shape.now reference.now }
     ensures { result ≡ part_range b.now.shape.now reference.now b.now.block.now b.now.modes.now part }
 {
-    let at = place(b.shape, b.block, b.modes, part, reference);
-    place_range(reference, &at)
+    let at = place_rows(b.shape, b.block, b.modes, part, reference);
+    rows_range(reference, part.plane, &at)
 }
 
 /// All parts of a block in a plane.

@@ -1,12 +1,12 @@
 //! Rows of a reference.
 
 ghost use Rattle.std.specs.Prelude.{◌≡◌, ◌<◌, ◌≤◌};
-ghost use Rattle.inter_places.specs.Axes.{IsAxis, IsPlace, first_place, last_place};
+ghost use Rattle.inter_places.specs.Axes.{IsAxis, first_place, last_place};
 ghost use Rattle.band_needs.specs.Reads.{band_height};
-ghost use Rattle.band_needs.specs.Needs.{place_range};
+ghost use Rattle.band_needs.specs.Needs.{rows_range};
 
 use crate::ranges::BandRange;
-use inter_places::{Axis, Place, offset_of, straight};
+use inter_places::{Axis, PlaceRows, offset_of, straight};
 use vp9_types::{Plane, Shape};
 
 /// The first row that a block is predicted from.
@@ -41,12 +41,14 @@ fn band_height(shape: &Shape, plane: Plane) -> u32
     }
 }
 
-/// The bands of a reference that a block of a plane is predicted from.
-pub(crate) fn place_range(reference: &Shape, at: &Place) -> BandRange
-    requires { IsPlace at.now }
-    ensures { result ≡ place_range (band_height reference.now at.now.plane) at.now }
+/// The bands of a reference that so many rows of a plane are predicted from.
+pub(crate) fn rows_range(reference: &Shape, plane: Plane, at: &PlaceRows) -> BandRange
+    requires axis { IsAxis at.now.down }
+    requires some { 0 < at.now.rows }
+    requires few { at.now.rows ≤ 64 }
+    ensures { result ≡ rows_range (band_height reference.now plane) at.now.down at.now.rows }
 {
-    let height = band_height(reference, at.plane);
+    let height = band_height(reference, plane);
     BandRange {
         first: first_row(&at.down) / height,
         last: last_row(&at.down, at.rows) / height,

@@ -12,5 +12,5 @@ mod span;
 pub use along::{offset_of, phase_of, straight};
 pub use axis::{Axis, Place};
 pub use part::{BlockPart, Direction};
-pub use places::{part_count, place};
+pub use places::{PlaceRows, part_count, place, place_rows};
 pub use span::{BlockSpan, clamp_mv};

@@ -15,6 +15,7 @@ use block_geometry::{height_8, is_below_8x8, width_8};
 use block_plan::{BlockInfo, InterPrediction};
 use vp9_types::{BlockSize, Plane, Shape};
 
+#[inline(always)]
 fn subsampling(shape: &Shape, plane: Plane, along: Direction) -> bool
     ensures { result ≡ subsampling shape.now plane along }
 {
@@ -24,6 +25,7 @@ fn subsampling(shape: &Shape, plane: Plane, along: Direction) -> bool
     }
 }
 
+#[inline(always)]
 fn fours(ss: bool) -> usize
     ensures value { result ≡ fours ss }
     ensures some { 1 ≤ result }
@@ -45,12 +47,16 @@ pub fn part_count(shape: &Shape, size: BlockSize, plane: Plane) -> usize
 }
 
 /// How far a part begins behind its block.
+#[inline(always)]
 fn behind(shape: &Shape, size: BlockSize, part: BlockPart, along: Direction) -> u32
     requires { part.number < parts_of shape.now size part.plane }
     ensures value { result ≡ behind shape.now part along }
     ensures inside { result + 4 ≤ halved (subsampling shape.now part.plane along) 8 }
     ensures fours { result ≡ 4 * (result / 4) }
 {
+    if part.number == 0 {
+        return 0;
+    }
     let across = fours(subsampling(shape, part.plane, Direction::Across));
     match along {
         Direction::Down => 4 * (part.number / across) as u32,
@@ -58,6 +64,7 @@ fn behind(shape: &Shape, size: BlockSize, part: BlockPart, along: Direction) -> 
     }
 }
 
+#[inline(always)]
 fn span_of(shape: &Shape, block: &BlockInfo, plane: Plane, along: Direction) -> BlockSpan
     requires wide { shape.now.w ≤ 65536 }
     requires high { shape.now.h ≤ 65536 }
@@ -83,6 +90,7 @@ fn span_of(shape: &Shape, block: &BlockInfo, plane: Plane, along: Direction) -> 
     }
 }
 
+#[inline(always)]
 fn part_vector(
     shape: &Shape,
     size: BlockSize,
@@ -104,6 +112,7 @@ fn part_vector(
     }
 }
 
+#[inline(always)]
 fn luma_length(shape: &Shape, along: Direction) -> u32
     ensures { result ≡ luma_length shape.now along }
 {
@@ -113,6 +122,7 @@ fn luma_length(shape: &Shape, along: Direction) -> u32
     }
 }
 
+#[inline(always)]
 fn plane_length(shape: &Shape, plane: Plane, along: Direction) -> u32
     ensures { result ≡ plane_length shape.now plane along }
 {
@@ -124,6 +134,7 @@ fn plane_length(shape: &Shape, plane: Plane, along: Direction) -> u32
 }
 
 /// Where a part of a block is predicted from along one direction.
+#[inline(always)]
 fn part_axis(
     shape: &Shape,
     block: &BlockInfo,
@@ -146,6 +157,7 @@ fn part_axis(
 }
 
 /// The samples of a plane in the frame's places of 8x8.
+#[inline(always)]
 fn coded_length(shape: &Shape, plane: Plane, along: Direction) -> u32
     requires wide { shape.now.w ≤ 65536 }
     requires high { shape.now.h ≤ 65536 }
@@ -159,6 +171,7 @@ fn coded_length(shape: &Shape, plane: Plane, along: Direction) -> u32
 }
 
 /// How long a part of a block is along a direction.
+#[inline(always)]
 fn part_length(size: BlockSize, span: &BlockSpan) -> u32
     requires { IsSpan span.now }
     ensures value { result ≡ part_length size span.now }
@@ -176,6 +189,7 @@ fn part_length(size: BlockSize, span: &BlockSpan) -> u32
 }
 
 /// How much of it lies in the frame's places of 8x8.
+#[inline(always)]
 fn predicted_length(shape: &Shape, block: &BlockInfo, part: BlockPart, along: Direction) -> u32
     requires wide { shape.now.w ≤ 65536 }
     requires high { shape.now.h ≤ 65536 }
@@ -191,6 +205,7 @@ fn predicted_length(shape: &Shape, block: &BlockInfo, part: BlockPart, along: Di
     part_length(block.size, &span).min(end - start)
 }
 
+#[inline(always)]
 fn part_start(shape: &Shape, block: &BlockInfo, part: BlockPart, along: Direction) -> u32
     requires wide { shape.now.w ≤ 65536 }
     requires high { shape.now.h ≤ 65536 }
@@ -202,6 +217,7 @@ fn part_start(shape: &Shape, block: &BlockInfo, part: BlockPart, along: Directio
 }
 
 /// Where a part of a block is predicted from in a reference.
+#[inline(never)]
 #[tactic(auto, unfolding(crate::specs::Places::place_of))]
 pub fn place(
     shape: &Shape,
@@ -223,5 +239,36 @@ pub fn place(
         columns: predicted_length(shape, block, part, Direction::Across) as usize,
         down: part_axis(shape, block, inter, part, reference, Direction::Down),
         across: part_axis(shape, block, inter, part, reference, Direction::Across),
+    }
+}
+
+/// The rows of a reference that a part of a block is predicted from, and where.
+#[derive(Clone, Copy, Debug, PartialEq, Eq)]
+pub struct PlaceRows {
+    pub rows: usize,
+    pub down: Axis,
+}
+
+/// These alone, as `place` has them.
+#[inline(never)]
+#[tactic(auto, unfolding(crate::specs::Places::place_of))]
+pub fn place_rows(
+    shape: &Shape,
+    block: &BlockInfo,
+    inter: &InterPrediction,
+    part: BlockPart,
+    reference: &Shape,
+) -> PlaceRows
+    requires part { IsPart shape.now block.now part }
+    requires reference { IsReference shape.now reference.now }
+    ensures rows { result.rows ≡ (place_of shape.now block.now inter.now part reference.now).rows }
+    ensures down { result.down ≡ (place_of shape.now block.now inter.now part reference.now).down }
+    ensures fits { IsAxis result.down }
+    ensures some { 0 < result.rows }
+    ensures few { result.rows ≤ 64 }
+{
+    PlaceRows {
+        rows: predicted_length(shape, block, part, Direction::Down) as usize,
+        down: part_axis(shape, block, inter, part, reference, Direction::Down),
     }
 }

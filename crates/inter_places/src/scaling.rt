@@ -24,6 +24,7 @@ pub(crate) fn scale(reference: u32, own: u32) -> u32
 }
 
 /// The part of a start that the place in the plane gives.
+#[inline(always)]
 fn whole_of(scale: u32, x: u32) -> i32
     requires scale { scale ≤ 2 ^ 15 }
     requires near { x ≤ 2 ^ 17 }
@@ -34,6 +35,7 @@ fn whole_of(scale: u32, x: u32) -> i32
 }
 
 /// The part that the place in luma gives, below a sample.
+#[inline(always)]
 fn fraction_of(scale: u32, luma: u32) -> i32
     requires scale { scale ≤ 2 ^ 15 }
     requires near { luma ≤ 2 ^ 17 }
@@ -44,6 +46,7 @@ fn fraction_of(scale: u32, luma: u32) -> i32
 }
 
 /// The part that the vector gives.
+#[inline(always)]
 fn scaled_vector(scale: u32, mv: i32) -> i32
     requires scale { scale ≤ 2 ^ 15 }
     requires near { unsigned_abs mv ≤ 2 ^ 21 }
@@ -53,6 +56,7 @@ fn scaled_vector(scale: u32, mv: i32) -> i32
     ((i64::from(mv) * i64::from(scale)) >> 14) as i32
 }
 
+#[inline(always)]
 pub(crate) fn first_sample(span: &BlockSpan) -> u32
     requires { IsSpan span.now }
     ensures { result ≡ span_start span.now }
@@ -62,6 +66,7 @@ pub(crate) fn first_sample(span: &BlockSpan) -> u32
 }
 
 /// Where a part of a block is predicted from along one direction, which begins so many samples behind the block's first.
+#[inline(always)]
 pub(crate) fn axis_of(span: &BlockSpan, behind: u32, mv: i32, scale: u32, size: u32) -> Axis
     requires span { IsSpan span.now }
     requires behind { behind ≤ 64 }
@@ -73,6 +78,13 @@ pub(crate) fn axis_of(span: &BlockSpan, behind: u32, mv: i32, scale: u32, size: 
     ensures value { result ≡ axis_of span.now behind mv scale size }
     ensures fits { IsAxis result }
 {
+    if scale == 16384 {
+        return Axis {
+            start: 16 * (first_sample(span) + behind) as i32 + clamp_mv(span, mv),
+            step: 16,
+            size,
+        };
+    }
     let whole = whole_of(scale, first_sample(span) + behind);
     let vector = scaled_vector(scale, clamp_mv(span, mv));
     let fraction = fraction_of(scale, 8 * span.first + behind);

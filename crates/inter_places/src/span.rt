@@ -13,6 +13,7 @@ pub struct BlockSpan {
     pub ss: bool,
 }
 
+#[inline(always)]
 fn in_sixteenths(ss: bool, mv: i32) -> i32
     requires { unsigned_abs mv ≤ 2 ^ 20 }
     ensures value { result ≡ in_sixteenths ss mv }
@@ -23,6 +24,7 @@ fn in_sixteenths(ss: bool, mv: i32) -> i32
 }
 
 /// The block's samples in the plane.
+#[inline(always)]
 fn length_of(span: &BlockSpan) -> i32
     requires { IsSpan span.now }
     ensures value { result ≡ pos (span_length span.now) }
@@ -33,6 +35,7 @@ fn length_of(span: &BlockSpan) -> i32
 }
 
 /// How far a vector may point out of the frame: by the block and so many samples more.
+#[inline(always)]
 fn reach(span: &BlockSpan, more: u8) -> i32
     requires span { IsSpan span.now }
     requires more { more ≤ 4 }
@@ -42,6 +45,7 @@ fn reach(span: &BlockSpan, more: u8) -> i32
     16 * (i32::from(more) + length_of(span))
 }
 
+#[inline(always)]
 fn least_vector(span: &BlockSpan) -> i32
     requires { IsSpan span.now }
     ensures value { result ≡ least_vector span.now }
@@ -53,6 +57,7 @@ fn least_vector(span: &BlockSpan) -> i32
 }
 
 /// The places of 8x8 that the frame has behind the block, fewer than 0 where the block goes past its end.
+#[inline(always)]
 fn places_behind(span: &BlockSpan) -> i32
     requires { IsSpan span.now }
     ensures value { result ≡ ((pos span.now.all -ℤ pos span.now.count) -ℤ pos span.now.first) }
@@ -61,6 +66,7 @@ fn places_behind(span: &BlockSpan) -> i32
     span.all as i32 - span.count as i32 - span.first as i32
 }
 
+#[inline(always)]
 fn greatest_vector(span: &BlockSpan) -> i32
     requires { IsSpan span.now }
     ensures value { result ≡ greatest_vector span.now }
@@ -73,6 +79,7 @@ fn greatest_vector(span: &BlockSpan) -> i32
 
 /// The plane's component of a vector, in sixteenths of the plane's samples, so that it points no further out of the frame
 /// than by the block and four samples more.
+#[inline(always)]
 #[tactic(auto, unfolding(crate::specs::Vectors::clamped_vector))]
 pub fn clamp_mv(span: &BlockSpan, mv: i32) -> i32
     requires span { IsSpan span.now }
