@@ -54,7 +54,7 @@ TABLE = [
     ("runs", runs.inter_decode, "run_tests/src/vp9_app_tests/rows/inter_decode.rt", PARTS),
     ("runs", runs.long_runs, "run_tests/src/vp9_app_tests/rows/long_runs.rt", WHOLE),
     ("overflow", runs.overflow, "run_tests/src/vp9_app_tests/rows/overflow_frames.rt", WHOLE),
-    ("grey", runs.least_grey, "test_runs/src/files.rt", PARTS),
+    ("grey", runs.least_grey, "run_tests/src/files.rt", PARTS),
     ("grey", runs.grey, "run_tests/src/sizes.rt", PARTS),
     ("grey", runs.odd_grey, "run_tests/src/odd_values.rt", PARTS),
     ("tails", tables.tails, "coef_tokens/src/tails.rt", WHOLE),

@@ -2,7 +2,11 @@
 #![tactic(auto)]
 
 #[cfg(test)]
+mod files;
+#[cfg(test)]
 mod odd_values;
+#[cfg(test)]
+mod runs;
 #[cfg(test)]
 mod sizes;
 #[cfg(test)]

@@ -1,12 +1,13 @@
 // Values that no one would choose. What no contract can refuse is a needless want of memory: that a size, a count, a number or
 // an option has a value is no reason for it.
 
+use crate::files::{GREY_1_BY_1, decodes_to_grey, file_of, put_packets};
+use crate::runs::{MemRan, NONE, run_words};
 use md5::{Digest, Md5};
 use std::alloc::{AllocError, Global};
 use std::sync::Wait;
 use std::test::Fail;
 use std::thread::Threads;
-use test_runs::{GREY_1_BY_1, MemRan, NONE, decodes_to_grey, file_of, put_packets, run_words};
 use vp9_app::Status;
 
 // Key frames whose every bool is 0, so that each sample is grey: by tools/vectors.py grey.

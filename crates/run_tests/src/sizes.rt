@@ -1,7 +1,7 @@
 // Files of real sizes, and of many frames: want of memory is never their answer.
 
+use crate::files::{GREY_1_BY_1, decodes_to_grey, run_frames};
 use std::test::Fail;
-use test_runs::{GREY_1_BY_1, decodes_to_grey, run_frames};
 use vp9_app::Status;
 
 // Key frames whose every bool is 0, so that each sample is grey: by tools/vectors.py grey.

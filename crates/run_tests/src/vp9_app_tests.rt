@@ -1,5 +1,6 @@
 mod rows;
 
+use crate::runs::{Fails, MemRan, NONE, run_words};
 use md5::{Digest, Md5};
 use rows::{
     Row, drawn_streams, formats, inter_decode, intra_decode, list, long_runs, overflow_frames, webm,
@@ -8,7 +9,6 @@ use std::alloc::{AllocError, Global};
 use std::sync::Wait;
 use std::test::Fail;
 use std::thread::Threads;
-use test_runs::{Fails, MemRan, NONE, run_words};
 
 fn run_row<R: Threads + Wait + Sync>(
     rt: &R,
