@@ -1,5 +1,5 @@
 -- What the crew keeps of the jobs and of its seats.
-use Rattle.std.specs.Prelude.{◌≡◌, ℕ, ◌+◌, ◌<◌, ◌≤◌, Bool, true, false, List, [], ◌∷◌, ◌++◌, length, map, Option, Some, All, slice_get, nat_eq}
+use Rattle.std.specs.Prelude.{◌≡◌, ℕ, ◌+◌, ◌<◌, ◌≤◌, Bool, true, false, List, [], ◌∷◌, ◌++◌, length, map, Option, Some, None, All, slice_get, slice_set, nat_eq, nat_lt, if◌then◌else◌}
 use Rattle.std.specs.List.{remove, filter, list_any}
 use Rattle.std.specs.Option.{option_eq}
 use Rattle.vp9_types.specs.declared.job.JobName.{JobName}
@@ -34,6 +34,22 @@ HasLastingCell rows (Rows f c r) = ⊥
 HasLastingCell rows (Filter f r) = r < rows
 HasLastingCell rows (Write f) = Unit {0}
 HasLastingCell rows (End f) = ⊥
+
+-- what is kept by superblock row and may still be asked for when the job is finished: once a row is filtered, that row, unless it is the last one,
+-- and all below it
+abbrev pub StripsStay : {A : Type 0} → JobName → List A → List A → Type 0
+StripsStay (Filter f r) old new = (k : ℕ) → r ≤ k → k + 1 < length old → slice_get new k ≡ slice_get old k
+StripsStay job old new = new ≡ old
+
+-- one of them goes, if there is one of this number
+abbrev pub gone_at : {A : Type 0} → Option ℕ → List (Option A) → List (Option A)
+gone_at None strips = strips
+gone_at (Some r) strips = if nat_lt r (length strips) then slice_set strips r None else strips
+
+-- tile columns stay until the frame is written
+abbrev pub ColumnsStay : {A : Type 0} → JobName → A → A → Type 0
+ColumnsStay (Write f) old new = Unit {0}
+ColumnsStay job old new = new ≡ old
 
 -- what is published, the jobs that were drawn and not begun, how many were drawn, how many it has room for, and whether the run is over
 pub record PoolParts : Type 0 where

@@ -2,6 +2,7 @@
 
 ghost use Rattle.std.specs.Prelude.{◌≡◌, ◌<◌, length, Option, Some, IfSome, IsSome, IfOk};
 ghost use Rattle.std.specs.Arc.{arc_value};
+ghost use Rattle.job_crew.specs.Code.{ColumnsStay, StripsStay, gone_at};
 
 use crate::cells::{Cell, ColumnCells, frame_of, get, set};
 use crate::frame::{Frame, Shared};
@@ -254,7 +255,8 @@ impl<X: Drop, M: Meaning<X>> FrameWork<X, M> {
     }
 
     fn take_strip(&mut self, row: Option<u32>) -> Columns<X, M>
-        ensures { self.new.at_work ≡ self.old.at_work }
+        ensures at_work { self.new.at_work ≡ self.old.at_work }
+        ensures strips { self.new.strips.items ≡ gone_at row self.old.strips.items }
     {
         let at = row? as usize;
         if at < self.strips.len() {
@@ -267,7 +269,9 @@ impl<X: Drop, M: Meaning<X>> FrameWork<X, M> {
     /// Lets go what no job asks for any more once this one is finished: the row above of one that is filtered, with the last row itself, and the
     /// tile columns of a frame that is written.
     pub(crate) fn let_go(&mut self, job: JobName) -> Gone<X, M>
-        ensures { self.new.at_work.frame ≡ self.old.at_work.frame }
+        ensures frame { self.new.at_work.frame ≡ self.old.at_work.frame }
+        ensures columns { ColumnsStay job self.old.at_work.columns self.new.at_work.columns }
+        ensures strips { StripsStay job self.old.strips.items self.new.strips.items }
     {
         match job {
             JobName::Filter { row, .. } => {
