@@ -8,10 +8,9 @@ cd "$(dirname "${BASH_SOURCE[0]}")/.."
 work=$(mktemp -d)
 trap 'rm -rf "$work"' EXIT
 
-# The crate of the program that is timed, and what each line of its input begins with. One program of all layers is named here, with
-# the layer's name and a space.
-program="bench_$layer"
-BENCH_PREFIX=
+# The crate of the program that is timed, of all layers, and what each line of its input begins with
+program=bench
+BENCH_PREFIX="$layer "
 # turns.py is found here, and says by these how a program is run
 export PYTHONPATH="$PWD/bench" PYTHONDONTWRITEBYTECODE=1 BENCH_WORK="$work" BENCH_PREFIX
 

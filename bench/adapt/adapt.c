@@ -1,4 +1,4 @@
-/* Adaptation of all probabilities of an inter frame in C, as crates/bench_adapt has it adapted. It prints the same checksums. Counters
+/* Adaptation of all probabilities of an inter frame in C, as crates/bench has it adapted. It prints the same checksums. Counters
    are of 32 bits and sums of 64, as in deployed decoders. */
 #include <inttypes.h>
 #include <stdint.h>

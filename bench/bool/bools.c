@@ -1,5 +1,5 @@
 /* The bool decoder of crates/bool_decoder in C: a 64-bit window that is refilled by whole bytes. It reads what
-   crates/bench_bool reads, and prints the same checksums. */
+   crates/bench reads, and prints the same checksums. */
 #include <inttypes.h>
 #include <stdint.h>
 #include <stdio.h>

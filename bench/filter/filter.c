@@ -1,4 +1,4 @@
-/* The loop filter in C, line by line: it draws and filters what crates/bench_filter does, and prints the same checksums.
+/* The loop filter in C, line by line: it draws and filters what crates/bench does, and prints the same checksums.
    Each line is filtered with early returns, and the functions of a width are compiled for both directions. */
 #include <inttypes.h>
 #include <stddef.h>

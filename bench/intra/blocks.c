@@ -1,5 +1,5 @@
 /* The intra predictor of crates/intra_predict in C: edges, a block buffer, and the block put into the plane, each loop
-   compiled for each size. It predicts what crates/bench_intra predicts, and prints the same checksums. */
+   compiled for each size. It predicts what crates/bench predicts, and prints the same checksums. */
 #include <inttypes.h>
 #include <stdint.h>
 #include <stdio.h>

@@ -1,4 +1,4 @@
-/* The modes of inter frames of 1920x1080, read as crates/bench_modes reads them, in C over the same bool decoder: the same
+/* The modes of inter frames of 1920x1080, read as crates/bench reads them, in C over the same bool decoder: the same
    bools, candidates, contexts and counts, in drawn partitions or such as are read too. It prints the same checksums. */
 #include <inttypes.h>
 #include <stdint.h>

@@ -1,4 +1,4 @@
-/* The reading of tokens of crates/coef_tokens in C, over the same bool decoder. It reads what crates/bench_tokens reads,
+/* The reading of tokens of crates/coef_tokens in C, over the same bool decoder. It reads what crates/bench reads,
    and prints the same checksums. */
 #include <inttypes.h>
 #include <stdint.h>

@@ -1,4 +1,4 @@
-// What crates/bench_transforms makes, in C: one list at a time.
+// What crates/bench makes, in C: one list at a time.
 #include <inttypes.h>
 #include <math.h>
 #include <stdint.h>

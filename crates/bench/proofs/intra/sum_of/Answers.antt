@@ -1,0 +1,6 @@
+use Rattle.planes.specs.Planes.{plane_map}
+use Rattle.planes.proofs.PlaneLemmas.{zeros_small}
+use Rattle.bench.proofs.intra.sum_of.Goals as goal
+
+pub fill-requires-clause-small : goal.fill-requires-clause-small
+fill-requires-clause-small g c = zeros_small 255 (plane_map c.in_ok-plane.plane) c.in_ok-plane.ensures.zero

@@ -1,8 +1,0 @@
-use Rattle.std.proofs.Common.{◌≡◌, ◌≤◌, ◌<◌, ℕ, get_or, length, map}
-use Rattle.bench_filter.proofs.frames.draw_row.Given as goal
-
-abbrev pub invariant-loop-x : goal.invariant-loop-x
-invariant-loop-x g l = record {
-  long : length l.line ≡ length l.initial.line;
-  small : (k : ℕ) → k < l.x → get_or (map g.P.Sample.value l.line) k 0 ≤ 255;
-}

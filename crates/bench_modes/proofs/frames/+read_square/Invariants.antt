@@ -1,4 +1,0 @@
-use Rattle.bench_modes.proofs.frames.+read_square.Given as goal
-
-abbrev pub decreases-read_square : goal.decreases-read_square
-decreases-read_square g l = l.level
