@@ -10,21 +10,21 @@ pub(crate) const GREATEST_BLOCK: usize = 4096;
 /// How many samples an inter block is predicted in: two predictions, and the lines that they are made of.
 pub const BUFFER: usize = 2 * GREATEST_BLOCK + LINES;
 
-/// Room to rebuild a block in, whatever its samples are kept as. It is made once, since making it clears it; what it holds between
-/// blocks doesn't matter.
+/// Room to rebuild a block in, whatever its samples are kept as. It is made once, and that of a kind is cleared when it is first asked for;
+/// what it holds between blocks doesn't matter.
 #[derive(Drop)]
 pub struct RebuildRoom {
     pub(crate) intra: Scratch,
-    bytes: [u8; BUFFER],
-    words: [u16; BUFFER],
+    bytes: Option<[u8; BUFFER]>,
+    words: Option<[u16; BUFFER]>,
 }
 
 impl RebuildRoom {
     pub fn new() -> Self {
         RebuildRoom {
             intra: Scratch::new(),
-            bytes: [0; BUFFER],
-            words: [0; BUFFER],
+            bytes: None,
+            words: None,
         }
     }
 }
@@ -39,13 +39,25 @@ pub trait RoomSample: FilterSample {
 impl RoomSample for u8 {
     #[inline(always)]
     fn buffer(room: &mut RebuildRoom) -> &mut [u8] {
-        &mut room.bytes
+        if room.bytes.is_none() {
+            room.bytes = Some([0; BUFFER]);
+        }
+        match &mut room.bytes {
+            Some(bytes) => bytes,
+            None => unreachable!(),
+        }
     }
 }
 
 impl RoomSample for u16 {
     #[inline(always)]
     fn buffer(room: &mut RebuildRoom) -> &mut [u16] {
-        &mut room.words
+        if room.words.is_none() {
+            room.words = Some([0; BUFFER]);
+        }
+        match &mut room.words {
+            Some(words) => words,
+            None => unreachable!(),
+        }
     }
 }

@@ -1,6 +1,6 @@
 //! Strips: each row of superblocks of a tile column in planes of its own.
 
-ghost use Rattle.std.specs.Prelude.{◌≡◌, ◌≤◌, ◌<◌, IfOk, IfSome, IsOk, MatchBool, OnErr, OnOk};
+ghost use Rattle.std.specs.Prelude.{◌≡◌, ◌≤◌, ◌<◌, IfOk, IfSome};
 ghost use Rattle.std.specs.List.{All};
 ghost use Rattle.std.specs.Option.{option_copied};
 ghost use Rattle.vp9_types.specs.Shapes.{mi_cols, mi_rows};
@@ -72,57 +72,13 @@ pub fn new_strip<P: Sample>(
     })
 }
 
-/// Whether planes lie where the strip of a row of superblocks of a tile column does.
-fn lies_there<P: Sample>(
-    strip: &FramePlanes<P>,
-    shape: &Shape,
-    from: u32,
-    to: u32,
-    row: u32,
-) -> bool
-    requires size { FitsPlanes shape.now }
-    requires begin { from ≤ mi_cols shape.now }
-    requires order { from ≤ to }
-    requires row { row < superblocks_along (mi_rows shape.now) }
-    ensures { MatchBool result (HasStripAreas shape.now from to row strip.now) (¬ (HasStripAreas shape.now from to row strip.now)) }
-{
-    strip.y.area() == strip_area(shape, Plane::Y, from, to, row)
-        && strip.u.area() == strip_area(shape, Plane::U, from, to, row)
-        && strip.v.area() == strip_area(shape, Plane::V, from, to, row)
-}
-
-/// Makes this room for the strip of a row of superblocks of a tile column, as `new_strip` does, in its memory where it lies in
-/// the same places; what it holds then isn't said.
-pub fn renew_strip<P: Sample>(
-    strip: &mut FramePlanes<P>,
-    alloc: Global,
-    shape: &Shape,
-    from: u32,
-    to: u32,
-    row: u32,
-) -> Result<(), AllocError>
-    requires size { FitsPlanes shape.now }
-    requires begin { from ≤ mi_cols shape.now }
-    requires order { from ≤ to }
-    requires row { row < superblocks_along (mi_rows shape.now) }
-    ensures areas { OnOk result (HasStripAreas shape.now from to row strip.new) }
-    ensures kept { OnErr result (strip.new ≡ strip.old) }
-    ensures again { HasStripAreas shape.now from to row strip.old → IsOk result × (strip.new ≡ strip.old) }
-{
-    if lies_there(strip, shape, from, to, row) {
-        return Ok(());
-    }
-    *strip = new_strip(alloc, shape, from, to, row)?;
-    Ok(())
-}
-
-/// Makes a plane of a strip zeros, but for its first row, which it takes from the plane above.
+/// Takes the first row of a plane of a strip, which holds zeros, from the plane above.
 fn begin_plane<P: Sample>(strip: &mut SamplePlane<P>, above: &SamplePlane<P>)
-    requires { SharesFirstRow strip.old.area above.now.area }
+    requires shared { SharesFirstRow strip.old.area above.now.area }
+    requires zero { plane_map strip.old ≡ (λ _ _. 0) }
     ensures area { strip.new.area ≡ strip.old.area }
     ensures begun { HasPart (first_row_of strip.old.area) (plane_map above.now) (λ _ _. 0) (plane_map strip.new) }
 {
-    strip.clear();
     let first_row = Area {
         rows: 1,
         ..strip.area()
@@ -130,28 +86,22 @@ fn begin_plane<P: Sample>(strip: &mut SamplePlane<P>, above: &SamplePlane<P>)
     copy_part(strip, above, &first_row);
 }
 
-/// Makes the planes of a strip zeros, but for the last row of the strip above.
+/// Takes the first rows of a strip that holds zeros from the strip above, if there is one.
 fn begin<P: Sample>(strip: &mut FramePlanes<P>, above: Option<&FramePlanes<P>>)
-    requires { IfSome (option_copied above) (λ a. ShareFirstRows strip.old a) }
+    requires share { IfSome (option_copied above) (λ a. ShareFirstRows strip.old a) }
+    requires zero { samples_of strip.old ≡ blank }
     ensures areas { HasAreasOf strip.old strip.new }
     ensures begun { Begins (option_copied above.entry) strip.new }
 {
-    match above {
-        Some(above) => {
-            begin_plane(&mut strip.y, &above.y);
-            begin_plane(&mut strip.u, &above.u);
-            begin_plane(&mut strip.v, &above.v);
-        }
-        None => {
-            strip.y.clear();
-            strip.u.clear();
-            strip.v.clear();
-        }
+    if let Some(above) = above {
+        begin_plane(&mut strip.y, &above.y);
+        begin_plane(&mut strip.u, &above.u);
+        begin_plane(&mut strip.v, &above.v);
     }
 }
 
-/// Makes the strip of the `row`-th row of superblocks of a tile column from the column's plan, whatever its planes hold. Of the
-/// strip above only the last row of samples is read. Nothing is allocated.
+/// Makes the strip of the `row`-th row of superblocks of a tile column from the column's plan, in planes of zeros. Of the strip above only the
+/// last row of samples is read. Nothing is allocated.
 pub fn rows<P: RoomSample, S: Samples<Kept = P>>(
     strip: &mut FramePlanes<P>,
     above: Option<&FramePlanes<P>>,
@@ -167,6 +117,7 @@ pub fn rows<P: RoomSample, S: Samples<Kept = P>>(
     requires read { IsReadPlan by.now.shape plan.now }
     requires served { All (λ b. AreServed S.holds S.width S.map by.now b b.prediction) (blocks_between by.now.shape row plan.now.column.grid.blocks) }
     requires areas { HasStripAreas by.now.shape plan.now.column.grid.from (limit_of plan.now.column) row strip.old }
+    requires zero { samples_of strip.old ≡ blank }
     requires above { IsAbove (rebuilding_of S.map by.now) plan.now row (option_copied above) }
     ensures { HoldsRowOf (rebuilding_of S.map by.now) plan.now row strip.new }
 {

@@ -6,8 +6,8 @@ use Rattle.recon_rows.proofs.StripBlocks.{all_placed, row_held}
 use Rattle.recon_rows.proofs.StripSteps.{areas_stay, begun_around, begun_range, may_begin, strip_made}
 use Rattle.recon_rows.proofs.strips.rows.Goals as goal
 
-pub begin-requires : goal.begin-requires
-begin-requires g c = let a = c.args in
+pub begin-requires-clause-share : goal.begin-requires-clause-share
+begin-requires-clause-share g c = let a = c.args in
     may_begin (rebuilding_of g.S.Samples.map a.by.now) a.plan.now a.row (option_copied a.above) a.strip.now c.requires.row c.requires.areas c.requires.above
 
 pub put_row-requires-clause-placed : goal.put_row-requires-clause-placed
