@@ -93,10 +93,13 @@ fn begin<P: Sample>(strip: &mut FramePlanes<P>, above: Option<&FramePlanes<P>>)
     ensures areas { HasAreasOf strip.old strip.new }
     ensures begun { Begins (option_copied above.entry) strip.new }
 {
-    if let Some(above) = above {
-        begin_plane(&mut strip.y, &above.y);
-        begin_plane(&mut strip.u, &above.u);
-        begin_plane(&mut strip.v, &above.v);
+    match above {
+        Some(above) => {
+            begin_plane(&mut strip.y, &above.y);
+            begin_plane(&mut strip.u, &above.u);
+            begin_plane(&mut strip.v, &above.v);
+        }
+        None => {}
     }
 }
 
