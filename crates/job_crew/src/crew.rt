@@ -88,6 +88,14 @@ fn placed<X: Drop, M: Meaning<X> + Start, K: Output<X>>(
     }
 }
 
+// Parsing goes first where there are several workers: it waits for no samples, and others would wait for it later.
+fn is_parsing(job: JobName) -> bool {
+    matches!(
+        job,
+        JobName::Head { .. } | JobName::Column { .. } | JobName::Close { .. }
+    )
+}
+
 // A job is ready where its needs are finished.
 impl<'a, X: Drop, M: Meaning<X> + Start, K: Output<X>, J: Jobs<X, M, K>, G: Gate> Crew<
     'a,
@@ -162,15 +170,17 @@ impl<'a, X: Drop, M: Meaning<X> + Start, K: Output<X>, J: Jobs<X, M, K>, G: Gate
             && frames.are_published(segments, altref)
     }
 
-    // The place in the pool of the first job that is ready.
+    // The place in the pool of the first job that is ready, or of the first one that parses.
     fn ready_place<R: Wait>(
         &self,
         rt: &R,
         frames: &Frames<X, M>,
         pool: &Pool<X, M>,
+        parses: bool,
     ) -> Option<usize> {
         for at in 0..pool.len() {
             if let Some(job) = pool.name(at)
+                && (!parses || is_parsing(job))
                 && self.is_ready(rt, frames, pool.segments(), job)
             {
                 return Some(at);
@@ -179,7 +189,22 @@ impl<'a, X: Drop, M: Meaning<X> + Start, K: Output<X>, J: Jobs<X, M, K>, G: Gate
         None
     }
 
-    // The first job of the pool that is ready, which is taken out of it.
+    // The place of the job that is to be done next. One worker goes by tickets, which takes the least memory.
+    fn next_place<R: Wait>(
+        &self,
+        rt: &R,
+        frames: &Frames<X, M>,
+        pool: &Pool<X, M>,
+    ) -> Option<usize> {
+        if self.run.workers > 1
+            && let Some(at) = self.ready_place(rt, frames, pool, true)
+        {
+            return Some(at);
+        }
+        self.ready_place(rt, frames, pool, false)
+    }
+
+    // That job of the pool, which is taken out of it.
     fn take_ready<R: Wait>(
         &self,
         rt: &R,
@@ -190,34 +215,21 @@ impl<'a, X: Drop, M: Meaning<X> + Start, K: Output<X>, J: Jobs<X, M, K>, G: Gate
         ensures none { IfNone result (pool.new ≡ pool.old) }
         ensures due { IfSome result (λ job. IsDue M.rules M.truth job) }
     {
-        let at = self.ready_place(rt, frames, pool)?;
+        let at = self.next_place(rt, frames, pool)?;
         pool.remove(at)
     }
 
-    // Draws a ticket, and takes its job where that is ready.
-    fn draw<R: Wait>(
-        &self,
-        rt: &R,
-        frames: &Frames<X, M>,
-        pool: &mut Pool<X, M>,
-        seat: &mut Seat<Placed<X, M, K>>,
-    ) -> Option<JobName>
+    // Draws a ticket, whose job goes into the pool.
+    fn draw(&self, pool: &mut Pool<X, M>, seat: &mut Seat<Placed<X, M, K>>)
         requires room { length pool.old.names < pool.old.room }
         requires seat { IsSeated self.now.board.now seat.old }
         ensures seat { IsSeatedStill seat.old seat.new }
-        ensures due { IfSome result (λ job. IsDue M.rules M.truth job) }
     {
         let ticket = self.board.draw(seat);
-        let job = pool.put(ticket)?;
-        let last = pool.len().checked_sub(1)?;
-        if self.is_ready(rt, frames, pool.segments(), job) {
-            pool.remove(last)
-        } else {
-            None
-        }
+        let _ = pool.put(ticket);
     }
 
-    // The first ready job of the pool, or of the next tickets.
+    // The next job, of all tickets that the pool has room for.
     fn next<R: Wait>(
         &self,
         rt: &R,
@@ -229,18 +241,13 @@ impl<'a, X: Drop, M: Meaning<X> + Start, K: Output<X>, J: Jobs<X, M, K>, G: Gate
         ensures seat { IsSeatedStill seat.old seat.new }
         ensures due { IfSome result (λ job. IsDue M.rules M.truth job) }
     {
-        if let Some(job) = self.take_ready(rt, frames, pool) {
-            return Some(job);
-        }
         for _ in 0..POOL_ROOM {
             if !pool.can_draw() {
                 break;
             }
-            if let Some(job) = self.draw(rt, frames, pool, seat) {
-                return Some(job);
-            }
+            self.draw(pool, seat);
         }
-        None
+        self.take_ready(rt, frames, pool)
     }
 
     // A job to do. There is none once the run is over.
