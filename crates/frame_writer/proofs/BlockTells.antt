@@ -6,7 +6,10 @@ use Rattle.vp9_types.specs.Results.{◌>>=◌}
 use Rattle.vp9_types.specs.Syntax.{Syntax}
 use Rattle.vp9_types.specs.declared.rule.Rule.{Rule}
 use Rattle.vp9_types.specs.declared.shape.Plane.TheVariants.{Y, U, V}
-use Rattle.bool_encoder.specs.Part.{Part}
+use Rattle.bool_encoder.specs.Part.{Part, marked}
+use Rattle.bool_lists.specs.Lists.{BoolList, HasPut}
+use Rattle.bool_lists.proofs.Ways.{spells_on}
+use Rattle.block_lists.proofs.InterWays.{mode_info_way}
 use Rattle.counting_reader.specs.Counting.{Settled, lifted}
 use Rattle.counting_writer.specs.Counted.{PutsTo, PutsValue}
 use Rattle.counting_writer.proofs.CountedPuts.{puts_broken, puts_lifted, puts_on, puts_settle, puts_value, value_put}
@@ -27,10 +30,12 @@ use Rattle.inter_writer.specs.Said.{IsSaid, IsSaidBy}
 use Rattle.inter_writer.specs.declared.frame_blocks.BlockSymbols.{BlockSymbols}
 use Rattle.inter_writer.specs.declared.frame_blocks.PredictionSymbols.{PredictionSymbols}
 use Rattle.inter_writer.specs.declared.frame_blocks.PredictionSymbols.TheVariants.{Intra, Inter}
+use Rattle.residue_writer.specs.Lists.{spelled_residue}
 use Rattle.residue_writer.specs.Said as residue
 use Rattle.residue_writer.specs.declared.levels.BlockLevels.{BlockLevels}
 use Rattle.tile_writer.specs.declared.unwritten.Unwritten.TheVariants.{Broken, Unsaid}
-use Rattle.frame_writer.specs.Symbols.{Speaker, as_said, block_told, modes_by, modes_said, with_block}
+use Rattle.tile_writer.specs.Said.{so_far}
+use Rattle.frame_writer.specs.Symbols.{Speaker, as_said, block_told, levels_spelled, modes_by, modes_said, modes_spelled, with_block}
 use Rattle.frame_writer.specs.Code.{TileHeld, TileHere, held_of, here_of}
 use Rattle.frame_state.specs.declared.columns.TileColumn.{TileColumn}
 use Rattle.frame_state.specs.declared.sources.FrameSources as code
@@ -117,10 +122,10 @@ said_from speaker by at s h t p holds said = ap (λ blocks. speaker.block by blo
 
 ---- What stops a block, and what doesn't ----
 
-pub nothing_told : {T : Type 0} (speaker : Speaker T) (by : FrameSources) (at : BlockAt) (s : TileRead) (h : TileHeld) (t : T) → held_of s ≡ h
-    → speaker.block by h.blocks at t ≡ None → block_told speaker by at s t ≡ Err Unsaid
+pub nothing_told : {T : Type 0} (speaker : Speaker T) (by : FrameSources) (at : BlockAt) (s : TileRead) (bools : BoolList) (h : TileHeld) (t : T) → held_of s ≡ h
+    → speaker.block by h.blocks at t ≡ None → block_told speaker by at (so_far s t bools) ≡ Err Unsaid
 unfolding block_told
-nothing_told speaker by at s h t holds none = rw (said_from speaker by at s h t None holds none) refl
+nothing_told speaker by at s bools h t holds none = rw (said_from speaker by at s h t None holds none) refl
 
 -- a block's symbols, and the block or the rule
 pub record HasModes {T : Type 0} (speaker : Speaker T) (by : FrameSources) (at : BlockAt) (h : TileHeld) (t : T) (r : Result BlockInfo Rule) (next : T) (old mid : Part) : Type 0 where
@@ -134,18 +139,18 @@ modes_of_state : {T : Type 0} (speaker : Speaker T) (by : FrameSources) (at : Bl
 modes_of_state speaker by at s h t next r old mid holds m =
     ap (λ blocks. modes_said by blocks at m.symbols) (blocks_held s h holds) ∙ modes_are_said by h.blocks at m.symbols r m.are
 
-pub modes_stop : {T : Type 0} (speaker : Speaker T) (by : FrameSources) (at : BlockAt) (s : TileRead) (h : TileHeld) (t next : T) (rule : Rule) (old mid : Part) → held_of s ≡ h
-    → HasModes speaker by at h t (Err rule) next old mid → PutsTo (read_block by at s) old (Err rule) mid × (block_told speaker by at s t ≡ Err (Broken rule))
+pub modes_stop : {T : Type 0} (speaker : Speaker T) (by : FrameSources) (at : BlockAt) (s : TileRead) (bools : BoolList) (h : TileHeld) (t next : T) (rule : Rule) (old mid : Part) → held_of s ≡ h
+    → HasModes speaker by at h t (Err rule) next old mid → PutsTo (read_block by at s) old (Err rule) mid × (block_told speaker by at (so_far s t bools) ≡ Err (Broken rule))
 unfolding block_told
-modes_stop speaker by at s h t next rule old mid holds m = (
+modes_stop speaker by at s bools h t next rule old mid holds m = (
   modes_break by at s old mid rule (modes_from by at s h old mid (Err rule) holds m.put),
   rw (said_from speaker by at s h t (Some (m.symbols, next)) holds m.told) (rw (modes_of_state speaker by at s h t next (Err rule) old mid holds m) refl),
 )
 
-pub levels_untold : {T : Type 0} (speaker : Speaker T) (by : FrameSources) (at : BlockAt) (s : TileRead) (h : TileHeld) (t next : T) (info : BlockInfo) (old mid : Part) → held_of s ≡ h
-    → HasModes speaker by at h t (Ok info) next old mid → speaker.levels by info next ≡ None → block_told speaker by at s t ≡ Err Unsaid
+pub levels_untold : {T : Type 0} (speaker : Speaker T) (by : FrameSources) (at : BlockAt) (s : TileRead) (bools : BoolList) (h : TileHeld) (t next : T) (info : BlockInfo) (old mid : Part) → held_of s ≡ h
+    → HasModes speaker by at h t (Ok info) next old mid → speaker.levels by info next ≡ None → block_told speaker by at (so_far s t bools) ≡ Err Unsaid
 unfolding block_told
-levels_untold speaker by at s h t next info old mid holds m none =
+levels_untold speaker by at s bools h t next info old mid holds m none =
     rw (said_from speaker by at s h t (Some (m.symbols, next)) holds m.told) (rw (modes_of_state speaker by at s h t next (Ok info) old mid holds m) (rw none refl))
 
 -- its levels, and its residue or the rule
@@ -159,25 +164,39 @@ residue_of_state : {T : Type 0} (speaker : Speaker T) (by : FrameSources) (at : 
     → (m : HasResidue speaker by at h info t last r mid new) → residue.block_said by.header at.tile_from info m.levels s.sides ≡ r
 residue_of_state speaker by at s h info t last r mid new holds m = ap (λ sides. residue.block_said by.header at.tile_from info m.levels sides) (sides_held s h holds) ∙ m.are
 
-pub residue_stops : {T : Type 0} (speaker : Speaker T) (by : FrameSources) (at : BlockAt) (s : TileRead) (h : TileHeld) (t next last : T) (info : BlockInfo) (rule : Rule) (old mid new : Part) → held_of s ≡ h
+pub residue_stops : {T : Type 0} (speaker : Speaker T) (by : FrameSources) (at : BlockAt) (s : TileRead) (bools : BoolList) (h : TileHeld) (t next last : T) (info : BlockInfo) (rule : Rule) (old mid new : Part) → held_of s ≡ h
     → HasModes speaker by at h t (Ok info) next old mid → HasResidue speaker by at h info next last (Err rule) mid new
-    → PutsTo (read_block by at s) old (Err rule) new × (block_told speaker by at s t ≡ Err (Broken rule))
+    → PutsTo (read_block by at s) old (Err rule) new × (block_told speaker by at (so_far s t bools) ≡ Err (Broken rule))
 unfolding block_told
-residue_stops speaker by at s h t next last info rule old mid new holds m r = (
+residue_stops speaker by at s bools h t next last info rule old mid new holds m r = (
   residue_breaks by at s old mid new info rule (modes_from by at s h old mid (Ok info) holds m.put) (residue_from by at s h mid new info (Err rule) holds r.put),
   rw (said_from speaker by at s h t (Some (m.symbols, next)) holds m.told) (rw (modes_of_state speaker by at s h t next (Ok info) old mid holds m)
       (rw r.told (rw (residue_of_state speaker by at s h info next last (Err rule) mid new holds r) refl))),
 )
 
-pub block_said_so : {T : Type 0} (speaker : Speaker T) (by : FrameSources) (at : BlockAt) (s : TileRead) (h : TileHeld) (t next last : T) (info : BlockInfo) (read : PlannedBlock × TileSides) (old mid new : Part) → held_of s ≡ h
-    → HasModes speaker by at h t (Ok info) next old mid → HasResidue speaker by at h info next last (Ok read) mid new
-    → PutsValue (read_block by at s) old (with_block s read) new × (block_told speaker by at s t ≡ Ok (with_block s read, last))
+-- the bools of a block behind those before it
+abbrev pub block_bools : FrameSources → BlockAt → TileRead → BlockInfo → BlockLevels → BoolList → BoolList
+block_bools by at s info levels bools = (bools ++ modes_spelled by at s info) ++ levels_spelled by s info levels
+
+levels_from : (by : FrameSources) (s : TileRead) (h : TileHeld) (info : BlockInfo) (levels : BlockLevels) (mid new : Part) → held_of s ≡ h
+    → HasPut mid (spelled_residue by.header by.contexts info levels h.sides) new → HasPut mid (levels_spelled by s info levels) new
+levels_from by s h info levels mid new holds put = subst (λ sides. HasPut mid (spelled_residue by.header by.contexts info levels sides) new) (sym (sides_held s h holds)) put
+
+pub block_said_so : {T : Type 0} (speaker : Speaker T) (by : FrameSources) (at : BlockAt) (s : TileRead) (bools : BoolList) (h : TileHeld) (t next last : T) (info : BlockInfo) (read : PlannedBlock × TileSides) (old mid new : Part)
+    → held_of s ≡ h → HasPut marked bools old → HasModes speaker by at h t (Ok info) next old mid → (r : HasResidue speaker by at h info next last (Ok read) mid new)
+    → HasPut mid (spelled_residue by.header by.contexts info r.levels h.sides) new
+    → PutsValue (read_block by at s) old (with_block s read) new × HasPut marked (block_bools by at s info r.levels bools) new
+    × (block_told speaker by at (so_far s t bools) ≡ Ok (so_far (with_block s read) last (block_bools by at s info r.levels bools)))
 unfolding block_told
-block_said_so speaker by at s h t next last info read old mid new holds m r = (
-  block_puts by at s old mid new info read (modes_from by at s h old mid (Ok info) holds m.put) (residue_from by at s h mid new info (Ok read) holds r.put),
-  rw (said_from speaker by at s h t (Some (m.symbols, next)) holds m.told) (rw (modes_of_state speaker by at s h t next (Ok info) old mid holds m)
-      (rw r.told (rw (residue_of_state speaker by at s h info next last (Ok read) mid new holds r) refl))),
-)
+block_said_so speaker by at s bools h t next last info read old mid new holds before m r spelled =
+    let modes = modes_from by at s h old mid (Ok info) holds m.put in
+    let first = mode_info_way by.header by.modes by.contexts by.past.segments (before_it s) by.past.vectors at info old mid modes in (
+      block_puts by at s old mid new info read modes (residue_from by at s h mid new info (Ok read) holds r.put),
+      spells_on marked mid new (bools ++ modes_spelled by at s info) (levels_spelled by s info r.levels) (levels_from by s h info r.levels mid new holds spelled)
+      (spells_on marked old mid bools (modes_spelled by at s info) first before),
+      rw (said_from speaker by at s h t (Some (m.symbols, next)) holds m.told) (rw (modes_of_state speaker by at s h t next (Ok info) old mid holds m)
+          (rw r.told (rw (residue_of_state speaker by at s h info next last (Ok read) mid new holds r) refl))),
+    )
 
 pub held_more : (s : TileRead) (h : TileHeld) (b : PlannedBlock) (sides : TileSides) (info : BlockInfo) (blocks : List BlockInfo) → held_of s ≡ h → b.info ≡ info → blocks ≡ h.blocks ++ info ∷ []
     → held_of (with_block s (b, sides)) ≡ record { blocks = blocks; sides = sides }

@@ -1,9 +1,12 @@
 -- How a tile ends in its column: what its bytes are then, and what the column is left as.
-use Rattle.std.proofs.Common.{◌≡◌, ℕ, ◌+◌, ◌-◌, ◌*◌, ◌≤◌, List, [], ap, subst}
+use Rattle.std.proofs.Common.{◌≡◌, ℕ, ◌+◌, ◌-◌, ◌*◌, ◌^◌, ◌≤◌, List, [], ap, length, subst}
 use Rattle.std.specs.Prelude.{IfOk, OnOk, Option, Some, None, Result, Ok, Err}
 use Rattle.vp9_types.specs.Sizes.{superblocks_along}
 use Rattle.vp9_types.specs.declared.rule.Rule.{Rule}
 use Rattle.bool_encoder.specs.Part.{Part, Finishes, marked}
+use Rattle.bool_encoder.specs.Laws.{after_bools}
+use Rattle.bool_lists.specs.Lists.{BoolList, HasPut, bytes_taken}
+use Rattle.bool_lists.proofs.Ways.{bytes_are, spells_none}
 use Rattle.counting_writer.proofs.CountedPuts.{puts_value}
 use Rattle.block_geometry.specs.declared.transform_blocks.FramePlaces.{FramePlaces}
 use Rattle.frame_state.specs.Columns.{limit_of}
@@ -13,11 +16,11 @@ use Rattle.frame_state.specs.Sources.{FrameSources}
 use Rattle.frame_state.specs.declared.sources.FrameSources as code
 use Rattle.frame_state.specs.declared.columns.TileColumn.{TileColumn}
 use Rattle.frame_state.specs.declared.tile_places.TilePlaces.{TilePlaces}
-use Rattle.tile_writer.specs.Code.{EndsTile, Tile, tile_rest}
+use Rattle.tile_writer.specs.Code.{EndsTile, HoldsSoFar, Tile, tile_rest}
 use Rattle.tile_writer.specs.declared.unwritten.Unwritten.{Unwritten}
 use Rattle.tile_writer.specs.declared.unwritten.Unwritten.TheVariants as unwritten
-use Rattle.frame_writer.specs.Bytes.{IsWritten}
-use Rattle.frame_writer.specs.Code.{GivesBytes, GivesTile, GivesTileTo, IsReadyFor, IsToldAs, TileHere, ending_of, held_by, held_of, here_of}
+use Rattle.frame_writer.specs.Bytes.{AreBytesOf, IsWritten}
+use Rattle.frame_writer.specs.Code.{GivesBytes, GivesTile, GivesTileTo, IsLong, IsReadyFor, TileHere, ending_of, held_by, held_of, here_of}
 use Rattle.frame_writer.specs.Frames.{tile_syntax, tile_told}
 use Rattle.frame_writer.specs.Symbols.{Speaker, teller_of}
 use Rattle.frame_writer.specs.declared.written.NotWritten.{NotWritten}
@@ -59,38 +62,57 @@ broken_by rule broken is = cc
 not_ended : {A : Type 0} (why : NotWritten) (broken : Option Rule) → ◌≡◌ {A = Result (Option Rule) NotWritten} (Err why) (Ok broken) → A
 not_ended why broken is = let no : ⊥ = cc in absurd no
 
+-- the code's column holds a state, and no bool is put
+begins_so : {T : Type 0} (speaker : Speaker T) (by : code.FrameSources) (places : TilePlaces) (columns : List TileColumn) (column : TileColumn) (told : T) (s : TileRead) → held_of s ≡ held_by column
+    → HoldsSoFar (tile_at_work speaker by places columns column told marked) s []
+begins_so speaker by places columns column told s holds = (to_here by places columns s (held_by column) holds, spells_none marked)
+
+-- the bytes of a part are those of the bools that led to it
+bytes_of_part : (bools : BoolList) (part : Part) (bytes : List ℕ) → HasPut marked bools part → Finishes part bytes → AreBytesOf bools bytes
+unfolding HasPut
+bytes_of_part bools part bytes put finishes = subst (λ part. Finishes part bytes) put finishes
+
 gives_by : {T : Type 0} (speaker : Speaker T) (by : code.FrameSources) (places : TilePlaces) (columns : List TileColumn) (across down : ℕ) (column : TileColumn) (told : T) (r : Result (Unit {0}) Unwritten)
     (broken : Option Rule) (bytes : List ℕ) (walk_by : code.FrameSources) (at : TilePlaces) (others : List TileColumn) (new : TileColumn) (last : T) (part : Part)
     → AreAll places across down → Ends speaker by places columns across down column told marked r (tile_at_work speaker walk_by at others new last part) → ending_of r ≡ Ok broken → Finishes part bytes
     → (s : TileRead) → held_of s ≡ held_by column → GivesTileTo speaker (sources_of by) by.setting.places places s told bytes broken new last
 gives_by speaker by places columns across down column told (Ok u) broken bytes walk_by at others new last part all ends so finishes s holds =
-    let next = rw (all.wide, all.high) at (ends.0 s (to_here by places columns s (held_by column) holds)) in
+    let next = rw (all.wide, all.high) at (ends.0 s [] (begins_so speaker by places columns column told s holds)) in
     rw (well_or_not broken so) (
       next.next,
+      next.all,
       record { part = part; put = puts_value (tile_syntax (sources_of by) by.setting.places places s) marked part next.next next.put; ends = finishes },
       of_here by places columns next.next _ next.held,
+      bytes_of_part next.all part bytes next.list finishes,
       next.said,
     )
 gives_by speaker by places columns across down column told (Err (unwritten.Broken rule)) broken bytes walk_by at others new last part all ends so finishes s holds =
-    let here = rw (all.wide, all.high) at (ends.0 s (to_here by places columns s (held_by column) holds)) in
+    let here = rw (all.wide, all.high) at (ends.0 s [] (begins_so speaker by places columns column told s holds)) in
     rw (broken_by rule broken so) (record { part = part; put = here.0; ends = finishes }, here.1)
 gives_by speaker by places columns across down column told (Err unwritten.Unsaid) broken bytes walk_by at others new last part all ends so finishes s holds = not_ended Unsaid broken so
 gives_by speaker by places columns across down column told (Err unwritten.OutOfMemory) broken bytes walk_by at others new last part all ends so finishes s holds = not_ended OutOfMemory broken so
 
 untold_by : {T : Type 0} (speaker : Speaker T) (by : code.FrameSources) (places : TilePlaces) (columns : List TileColumn) (across down : ℕ) (column : TileColumn) (told : T) (r : Result (Unit {0}) Unwritten)
     (new : Tile TileRead TileHere T) → AreAll places across down → Ends speaker by places columns across down column told marked r new → ending_of r ≡ Err Unsaid
-    → (s : TileRead) → held_of s ≡ held_by column → tile_told speaker (sources_of by) by.setting.places places (s, told) ≡ Err unwritten.Unsaid
+    → (s : TileRead) → held_of s ≡ held_by column → tile_told speaker (sources_of by) by.setting.places places s told ≡ Err unwritten.Unsaid
 untold_by speaker by places columns across down column told (Ok u) new all ends so s holds = let no : ⊥ = cc in absurd no
 untold_by speaker by places columns across down column told (Err (unwritten.Broken rule)) new all ends so s holds = let no : ⊥ = cc in absurd no
-untold_by speaker by places columns across down column told (Err unwritten.Unsaid) new all ends so s holds = rw (all.wide, all.high) at (ends s (to_here by places columns s (held_by column) holds))
+untold_by speaker by places columns across down column told (Err unwritten.Unsaid) new all ends so s holds = rw (all.wide, all.high) at (ends s [] (begins_so speaker by places columns column told s holds))
 untold_by speaker by places columns across down column told (Err unwritten.OutOfMemory) new all ends so s holds = let no : ⊥ = cc in absurd no
 
--- the bytes of a tile are written, whether it breaks a rule or not
-bytes_written : {T : Type 0} (speaker : Speaker T) (by : FrameSources) (frame : FramePlaces) (places : TilePlaces) (s : TileRead) (told last : T) (bytes : List ℕ) (broken : Option Rule) (column : TileColumn)
-    → GivesTileTo speaker by frame places s told bytes broken column last
-    → (r : Result TileRead Rule) × IsToldAs (tile_told speaker by frame places (s, told)) r × IsWritten (tile_syntax by frame places s) r bytes
-bytes_written speaker by frame places s told last bytes None column gives = (Ok gives.0, (last, gives.3), gives.1)
-bytes_written speaker by frame places s told last bytes (Some rule) column gives = (Err rule, gives.1, gives.0)
+-- a tile whose bytes are too many, whether it breaks a rule or not
+long_by : {T : Type 0} (speaker : Speaker T) (by : code.FrameSources) (places : TilePlaces) (columns : List TileColumn) (across down : ℕ) (column : TileColumn) (told : T) (r : Result (Unit {0}) Unwritten)
+    (broken : Option Rule) (bytes : List ℕ) (new : Tile TileRead TileHere T) → AreAll places across down → Ends speaker by places columns across down column told marked r new → ending_of r ≡ Ok broken
+    → Finishes new.part bytes → 2 ^ 32 ≤ length bytes → (s : TileRead) → held_of s ≡ held_by column
+    → IsLong (tile_syntax (sources_of by) by.setting.places places s) (tile_told speaker (sources_of by) by.setting.places places s told)
+long_by speaker by places columns across down column told (Ok u) broken bytes new all ends so finishes long s holds =
+    let next = rw (all.wide, all.high) at (ends.0 s [] (begins_so speaker by places columns column told s holds)) in
+    rw next.said (subst (λ n. 2 ^ 32 ≤ n) (bytes_are next.all new.part bytes next.list finishes) long)
+long_by speaker by places columns across down column told (Err (unwritten.Broken rule)) broken bytes new all ends so finishes long s holds =
+    let here = rw (all.wide, all.high) at (ends.0 s [] (begins_so speaker by places columns column told s holds)) in
+    rw here.1 (bytes, record { part = new.part; put = here.0; ends = finishes }, long)
+long_by speaker by places columns across down column told (Err unwritten.Unsaid) broken bytes new all ends so finishes long s holds = not_ended Unsaid broken so
+long_by speaker by places columns across down column told (Err unwritten.OutOfMemory) broken bytes new all ends so finishes long s holds = not_ended OutOfMemory broken so
 
 by_bytes : {T : Type 0} (speaker : Speaker T) (by : code.FrameSources) (places : TilePlaces) (columns : List TileColumn) (across down : ℕ) (column : TileColumn) (told : T) (r : Result (Unit {0}) Unwritten)
     (walk_by : code.FrameSources) (at : TilePlaces) (others : List TileColumn) (new : TileColumn) (last : T) (part : Part) (result : Result Written NotWritten)
@@ -101,9 +123,7 @@ by_bytes speaker by places columns across down column told r walk_by at others n
 by_bytes speaker by places columns across down column told r walk_by at others new last part (Err Unsaid) all ends gives s holds =
     untold_by speaker by places columns across down column told r _ all ends gives s holds
 by_bytes speaker by places columns across down column told r walk_by at others new last part (Err TooLong) all ends gives s holds =
-    let to = gives_by speaker by places columns across down column told r gives.0 gives.1 walk_by at others new last part all ends gives.2 gives.3 s holds in
-    let written = bytes_written speaker (sources_of by) by.setting.places places s told last gives.1 gives.0 new to in
-    (written.0, gives.1, written.1, written.2, gives.4)
+    long_by speaker by places columns across down column told r gives.0 gives.1 _ all ends gives.2 gives.3 gives.4 s holds
 by_bytes speaker by places columns across down column told r walk_by at others new last part (Err OutOfMemory) all ends gives s holds = tt
 
 -- from the part that a new encoder has

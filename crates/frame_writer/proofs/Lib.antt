@@ -5,3 +5,4 @@ pub mod SpansRead
 pub mod TilesSoFar
 pub mod FrameGiven
 pub mod ColumnEnds
+pub mod OneBytes

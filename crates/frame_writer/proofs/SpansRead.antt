@@ -1,6 +1,6 @@
 -- Tiles one behind another, each but the last with its size before it: they are found and read so.
 use Rattle.std.proofs.Common.{◌≡◌, ◌∙◌, ℕ, suc, ◌+◌, ◌-◌, ◌^◌, ◌<◌, ◌≤◌, List, [], ◌∷◌, ◌++◌, length, take, false, refl, sym, ap, append_assoc, arith}
-use Rattle.std.specs.Prelude.{Result, Ok, Err, nat_eq, slice_range}
+use Rattle.std.specs.Prelude.{Option, Result, Ok, Err, nat_eq, slice_range}
 use Rattle.std.specs.List.{flat_map, All}
 use Rattle.std.proofs.Math.Nat.{mod-eq_of_lt}
 use Rattle.std.proofs.Math.Seq.{drop-append_seam, take-append_seam}
@@ -11,6 +11,7 @@ use Rattle.byteorder.specs.Numbers.{big_from-bytes, length-bytes_high_first}
 use Rattle.vp9_types.specs.Results.{◌>>=◌}
 use Rattle.vp9_types.specs.declared.job.Span.{Span}
 use Rattle.vp9_types.specs.declared.rule.Rule.{Rule}
+use Rattle.bool_lists.specs.Lists.{BoolList}
 use Rattle.frame_headers.specs.Spans.{in_front, last_tile, sized_tile, tile_at, tile_count, tile_size, tile_spans, tiles_from}
 use Rattle.frame_state.specs.Reading.{read_all_tiles, FrameRead, nothing_read, read_tile_of, read_tiles}
 use Rattle.frame_state.specs.Sources.{FrameSources}
@@ -98,10 +99,10 @@ spans_of by frame front (tile ∷ tiles) last is sizes some =
     }
 
 -- all tiles of a frame, behind its compressed header
-pub all_read : (by : FrameSources) (front out tail : List ℕ) (compressed : Span) (r : Result FrameRead Rule) → compressed.to ≡ length front → AreTiles by front out r
+pub all_read : (by : FrameSources) (lists : Option (List BoolList)) (front out tail : List ℕ) (compressed : Span) (r : Result FrameRead Rule) → compressed.to ≡ length front → AreTiles by lists front out r
     → read_all_tiles by (out ++ tail) compressed ≡ r
 unfolding tile_spans
-all_read by front out tail compressed r at are =
+all_read by lists front out tail compressed r at are =
     let bytes : out ++ tail ≡ front ++ tile_bytes are.tiles (are.last ++ tail) =
     ap (λ l. l ++ tail) are.put ∙ append_assoc front (tile_bytes are.tiles are.last) tail ∙ ap (λ l. front ++ l) (append_assoc (flat_map sized are.tiles) are.last tail) in
     let some : 1 ≤ length (are.last ++ tail) = omega (arith, length-append are.last tail, are.some) in

@@ -1,5 +1,5 @@
 -- A tile that is written in its column, and what is read of it.
-use Rattle.std.proofs.Common.{◌≡◌, ◌∙◌, ℕ, ◌+◌, ◌-◌, ◌*◌, ◌^◌, ◌<◌, ◌≤◌, List, ◌++◌, Bool, length, refl, sym, ap, subst, arith}
+use Rattle.std.proofs.Common.{◌≡◌, ◌∙◌, ℕ, ◌+◌, ◌-◌, ◌*◌, ◌^◌, ◌<◌, ◌≤◌, List, [], ◌∷◌, ◌++◌, Bool, length, refl, sym, ap, subst, arith}
 use Rattle.std.specs.Prelude.{Option, Some, None, Result, Ok, Err, slice_index_or, slice_set}
 use Rattle.std.proofs.lemmas.List.{append-nil, map-set, set-set}
 use Rattle.vp9_types.specs.Results.{◌>>=◌}
@@ -9,6 +9,7 @@ use Rattle.vp9_types.specs.declared.rule.Rule.{Rule}
 use Rattle.vp9_types.specs.declared.shape.Plane.TheVariants.{Y, U, V}
 use Rattle.bool_decoder.specs.Bools.{run_bools}
 use Rattle.bool_decoder.specs.Window.{Window, started}
+use Rattle.bool_lists.specs.Lists.{BoolList}
 use Rattle.prob_contexts.specs.declared.kind.CountedBool.{CountedBool}
 use Rattle.counting_reader.specs.Counting.{Settled}
 use Rattle.frame_headers.specs.State.{shape_of}
@@ -28,10 +29,11 @@ use Rattle.frame_state.specs.declared.sources.FrameSources as code
 use Rattle.frame_state.specs.declared.tile_places.TilePlaces.{TilePlaces}
 use Rattle.frame_state.proofs.ColumnSteps.{begins_there, cleared, cleared_fit, column_left, column_told, columns_with, ends_there, has_room, ready_of, sides_told, with_sides}
 use Rattle.frame_state.proofs.TileSpans.{tile_at}
+use Rattle.tile_writer.specs.Said.{so_far}
 use Rattle.tile_writer.specs.declared.unwritten.Unwritten.{Unwritten}
 use Rattle.tile_writer.specs.declared.unwritten.Unwritten.TheVariants as unwritten
 use Rattle.frame_writer.specs.Code.{EndsColumn, GivesNth, GivesNthTo, GivesTile, GivesTileTo, HoldsColumns, IsReadyFor, TileHeld, held_by, held_of}
-use Rattle.frame_writer.specs.Frames.{nth_syntax, nth_told, said_of, tile_told}
+use Rattle.frame_writer.specs.Frames.{nth_syntax, nth_told, said_of, tile_told, told_so_far}
 use Rattle.frame_writer.specs.Symbols.{Speaker}
 use Rattle.frame_writer.specs.declared.written.NotWritten.{NotWritten}
 use Rattle.frame_writer.specs.declared.written.NotWritten.TheVariants.{Unsaid, TooLong, OutOfMemory}
@@ -106,17 +108,18 @@ nth_breaks_from by n bytes read rule is = tile_breaks_from (nth_syntax by n read
 
 ---- What is told ----
 
-told_so : {T : Type 0} (speaker : Speaker T) (by : FrameSources) (n : ℕ) (read : FrameRead) (next : TileRead) (counted : List CountedBool) (now last : T)
-    → tile_told speaker by (places_of (shape_of by.header)) (tile_at by.header n) (start_of by n read, now) ≡ Ok (next, last)
-    → nth_told speaker by n (said_of read, now) ≡ Ok (said_of (with_tile (column_of by.header.params.tiles n) read (record { value = next; counted = counted })), last)
+told_so : {T : Type 0} (speaker : Speaker T) (by : FrameSources) (n : ℕ) (read : FrameRead) (next : TileRead) (counted : List CountedBool) (now last : T) (bools : BoolList) (lists : List BoolList)
+    → tile_told speaker by (places_of (shape_of by.header)) (tile_at by.header n) (start_of by n read) now ≡ Ok (so_far next last bools)
+    → nth_told speaker by n (told_so_far (said_of read) now lists)
+    ≡ Ok (told_so_far (said_of (with_tile (column_of by.header.params.tiles n) read (record { value = next; counted = counted }))) last (lists ++ bools ∷ []))
 unfolding nth_told
-told_so speaker by n read next counted now last is = rw is refl
+told_so speaker by n read next counted now last bools lists is = rw is refl
 
-told_no : {T : Type 0} (speaker : Speaker T) (by : FrameSources) (n : ℕ) (read : FrameRead) (why : Unwritten) (now : T)
-    → tile_told speaker by (places_of (shape_of by.header)) (tile_at by.header n) (start_of by n read, now) ≡ Err why
-    → nth_told speaker by n (said_of read, now) ≡ Err why
+told_no : {T : Type 0} (speaker : Speaker T) (by : FrameSources) (n : ℕ) (read : FrameRead) (why : Unwritten) (now : T) (lists : List BoolList)
+    → tile_told speaker by (places_of (shape_of by.header)) (tile_at by.header n) (start_of by n read) now ≡ Err why
+    → nth_told speaker by n (told_so_far (said_of read) now lists) ≡ Err why
 unfolding nth_told
-told_no speaker by n read why now is = rw is refl
+told_no speaker by n read why now lists is = rw is refl
 
 ---- The n-th tile ----
 
@@ -139,17 +142,19 @@ gives_to : {T : Type 0} (speaker : Speaker T) (by : FrameSources) (n : ℕ) (col
     → GivesNthTo speaker by n read now bytes broken (slice_set columns (column_of by.header.params.tiles n) new) last
 gives_to speaker by n columns new bytes None read now last holds gives =
     let k = column_of by.header.params.tiles n in
-    let settled = settles_there (nth_syntax by n read) gives.0 bytes gives.1 in (
+    let settled = settles_there (nth_syntax by n read) gives.0 bytes gives.2 in (
       with_tile k read (record { value = gives.0; counted = settled.0 }),
+      gives.1,
       λ tail. nth_from by n (bytes ++ tail) read _ (settled.1 tail),
-      columns_hold columns read k new gives.0 settled.0 holds gives.2,
-      told_so speaker by n read gives.0 settled.0 now last gives.3,
-      (Ok gives.0, gives.1),
+      columns_hold columns read k new gives.0 settled.0 holds gives.3,
+      (Ok gives.0, gives.2),
+      gives.4,
+      λ lists. told_so speaker by n read gives.0 settled.0 now last gives.1 lists gives.5,
     )
 gives_to speaker by n columns new bytes (Some rule) read now last holds gives = (
   λ tail. nth_breaks_from by n (bytes ++ tail) read rule (breaks_there (nth_syntax by n read) rule bytes tail gives.0),
-  told_no speaker by n read (unwritten.Broken rule) now gives.1,
   (Err rule, gives.0),
+  λ lists. told_no speaker by n read (unwritten.Broken rule) now lists gives.1,
 )
 
 gives_all : {T : Type 0} (speaker : Speaker T) (by : FrameSources) (n : ℕ) (columns : List TileColumn) (new : TileColumn) (result : Result Written NotWritten) (read : FrameRead) (now last : T)
@@ -157,8 +162,8 @@ gives_all : {T : Type 0} (speaker : Speaker T) (by : FrameSources) (n : ℕ) (co
     → GivesTile speaker by (places_of (shape_of by.header)) (tile_at by.header n) (start_of by n read) now result new last
     → GivesNth speaker by n read now result (slice_set columns (column_of by.header.params.tiles n) new) last
 gives_all speaker by n columns new (Ok w) read now last holds gives = gives_to speaker by n columns new w.bytes.items w.broken read now last holds gives
-gives_all speaker by n columns new (Err Unsaid) read now last holds gives = told_no speaker by n read unwritten.Unsaid now gives
-gives_all speaker by n columns new (Err TooLong) read now last holds gives = record { settles = gives.0; bytes = gives.1; told = gives.2; written = gives.3; long = gives.4 }
+gives_all speaker by n columns new (Err Unsaid) read now last holds gives = λ lists. told_no speaker by n read unwritten.Unsaid now lists gives
+gives_all speaker by n columns new (Err TooLong) read now last holds gives = gives
 gives_all speaker by n columns new (Err OutOfMemory) read now last holds gives = tt
 
 pub gives_nth : {T : Type 0} (speaker : Speaker T) (by : code.FrameSources) (n k : ℕ) (columns : List TileColumn) (x new : TileColumn) (t : TilePlaces) (result : Result Written NotWritten) (now last : T)

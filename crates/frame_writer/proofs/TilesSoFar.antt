@@ -15,9 +15,10 @@ use Rattle.frame_state.specs.declared.sources.FrameSources as code
 use Rattle.frame_state.specs.declared.columns.TileColumn.{TileColumn}
 use Rattle.tile_writer.specs.declared.unwritten.Unwritten.{Unwritten}
 use Rattle.tile_writer.specs.declared.unwritten.Unwritten.TheVariants as unwritten
-use Rattle.frame_writer.specs.Bytes.{HasItsBools, HasSize, HaveTheirBools, read_each, sized}
+use Rattle.bool_lists.specs.Lists.{BoolList}
+use Rattle.frame_writer.specs.Bytes.{AreAllBytesOf, AreBytesOf, HasItsBools, HasSize, HaveTheirBools, read_each, sized}
 use Rattle.frame_writer.specs.Code.{AreSoFar, GivesAll, GivesNth, GivesNthTo, GivesTiles, HoldsColumns, IsTooLong, IsUntold, StandsAt, first_broken}
-use Rattle.frame_writer.specs.Frames.{nth_told, said_of, tiles_told}
+use Rattle.frame_writer.specs.Frames.{FrameTold, nth_told, said_of, tiles_told, told_so_far}
 use Rattle.frame_writer.specs.Symbols.{Speaker}
 use Rattle.frame_writer.specs.declared.written.NotWritten.{NotWritten}
 use Rattle.frame_writer.specs.declared.written.NotWritten.TheVariants.{Unsaid, TooLong, OutOfMemory}
@@ -34,30 +35,37 @@ none_so_far speaker by t front columns holds = record {
   sizes = λ i d low. absurd (omega (arith, low));
   put = sym (append-nil front);
   bools = tt;
-  stands = (nothing_read by.header, λ more. refl, holds, ap (λ n. tiles_told speaker by 0 n (said_of (nothing_read by.header), t)) (none_less (tile_count by.header)));
+  stands = (nothing_read by.header, [], λ more. refl, holds, tt, ap (λ n. tiles_told speaker by 0 n (told_so_far (said_of (nothing_read by.header)) t [])) (none_less (tile_count by.header)));
 }
 
 -- the tiles from the n-th on, of which there is one more at least
-told_next : {T : Type 0} (speaker : Speaker T) (by : FrameSources) (n count : ℕ) (read next : FrameRead) (now then_it : T) → n < count
-    → nth_told speaker by n (said_of read, now) ≡ Ok (said_of next, then_it)
-    → tiles_told speaker by n (count - n) (said_of read, now) ≡ tiles_told speaker by (n + 1) (count - (n + 1)) (said_of next, then_it)
+told_next : {T : Type 0} (speaker : Speaker T) (by : FrameSources) (n count : ℕ) (p q : FrameTold T) → n < count → nth_told speaker by n p ≡ Ok q
+    → tiles_told speaker by n (count - n) p ≡ tiles_told speaker by (n + 1) (count - (n + 1)) q
 unfolding tiles_told
-told_next speaker by n count read next now then_it below is =
+told_next speaker by n count p q below is =
     let more : count - n ≡ suc (count - (n + 1)) = omega (arith, below) in
     rw more (rw is refl)
 
-told_ends : {T : Type 0} (speaker : Speaker T) (by : FrameSources) (n count : ℕ) (read : FrameRead) (now : T) (why : Unwritten) → n < count
-    → nth_told speaker by n (said_of read, now) ≡ Err why → tiles_told speaker by n (count - n) (said_of read, now) ≡ Err why
+told_ends : {T : Type 0} (speaker : Speaker T) (by : FrameSources) (n count : ℕ) (p : FrameTold T) (why : Unwritten) → n < count
+    → nth_told speaker by n p ≡ Err why → tiles_told speaker by n (count - n) p ≡ Err why
 unfolding tiles_told
-told_ends speaker by n count read now why below is =
+told_ends speaker by n count p why below is =
     let more : count - n ≡ suc (count - (n + 1)) = omega (arith, below) in
     rw more (rw is refl)
 
-told_all : {T : Type 0} (speaker : Speaker T) (by : FrameSources) (n count : ℕ) (read : FrameRead) (now : T) → count ≤ n → tiles_told speaker by n (count - n) (said_of read, now) ≡ Ok (said_of read, now)
+told_all : {T : Type 0} (speaker : Speaker T) (by : FrameSources) (n count : ℕ) (p : FrameTold T) → count ≤ n → tiles_told speaker by n (count - n) p ≡ Ok p
 unfolding tiles_told
-told_all speaker by n count read now all =
+told_all speaker by n count p all =
     let none : count - n ≡ 0 = omega (arith, all) in
     rw none refl
+
+-- a tile more, of its own list
+bytes_more : (lists : List BoolList) (tiles : List (List ℕ)) (bools : BoolList) (bytes : List ℕ) → AreAllBytesOf lists tiles → AreBytesOf bools bytes
+    → AreAllBytesOf (lists ++ bools ∷ []) (tiles ++ bytes ∷ [])
+bytes_more [] [] bools bytes all last = (last, tt)
+bytes_more [] (tile ∷ tiles) bools bytes all last = absurd all
+bytes_more (first ∷ lists) [] bools bytes all last = absurd all
+bytes_more (first ∷ lists) (tile ∷ tiles) bools bytes all last = (all.0, bytes_more lists tiles bools bytes all.1 last)
 
 each_next : (by : FrameSources) (n : ℕ) (tile : List ℕ) (more : List (List ℕ)) (read : FrameRead) (r : Result FrameRead Rule) → read_tile_of by n tile read ≡ r
     → read_each by n (tile ∷ more) read ≡ (r >>= read_each by (n + 1) more)
@@ -78,22 +86,24 @@ stands_more speaker by t tiles n (Some rule) broken columns others bytes now the
   stands.1,
 )
 stands_more speaker by t tiles n None None columns others bytes now then_it below stands gives =
-    let g = gives stands.0 stands.2 in
-    let here : read_tile_of by n bytes stands.0 ≡ Ok g.0 = rw (append-nil bytes) at (g.1 []) in (
+    let g = gives stands.0 stands.3 in
+    let here : read_tile_of by n bytes stands.0 ≡ Ok g.0 = rw (append-nil bytes) at (g.2 []) in (
       g.0,
+      stands.1 ++ g.1 ∷ [],
       λ more.
-          ap (λ l. read_each by 0 l (nothing_read by.header)) (append_assoc tiles (bytes ∷ []) more) ∙ stands.1 (bytes ∷ more)
+          ap (λ l. read_each by 0 l (nothing_read by.header)) (append_assoc tiles (bytes ∷ []) more) ∙ stands.2 (bytes ∷ more)
           ∙ each_next by n bytes more stands.0 (Ok g.0) here,
-      g.2,
-      stands.3 ∙ told_next speaker by n (tile_count by.header) stands.0 g.0 now then_it below g.3,
+      g.3,
+      bytes_more stands.1 tiles g.1 bytes stands.4 g.5,
+      stands.5 ∙ told_next speaker by n (tile_count by.header) _ _ below (g.6 stands.1),
     )
 stands_more speaker by t tiles n None (Some rule) columns others bytes now then_it below stands gives =
-    let g = gives stands.0 stands.2 in
+    let g = gives stands.0 stands.3 in
     let here : read_tile_of by n bytes stands.0 ≡ Err rule = rw (append-nil bytes) at (g.0 []) in (
       λ more.
-          ap (λ l. read_each by 0 l (nothing_read by.header)) (append_assoc tiles (bytes ∷ []) more) ∙ stands.1 (bytes ∷ more)
+          ap (λ l. read_each by 0 l (nothing_read by.header)) (append_assoc tiles (bytes ∷ []) more) ∙ stands.2 (bytes ∷ more)
           ∙ each_next by n bytes more stands.0 (Err rule) here,
-      stands.3 ∙ told_ends speaker by n (tile_count by.header) stands.0 now (unwritten.Broken rule) below g.1,
+      stands.5 ∙ told_ends speaker by n (tile_count by.header) _ (unwritten.Broken rule) below (g.2 stands.1),
     )
 
 ---- The bools of each tile ----
@@ -119,7 +129,7 @@ not_both x rule h = cc
 bools_in : {T : Type 0} (speaker : Speaker T) (by : FrameSources) (n : ℕ) (read : FrameRead) (broken : Option Rule) (columns : List TileColumn) (bytes : List ℕ) (now last : T)
     → GivesNthTo speaker by n read now bytes broken columns last → HasItsBools by n read bytes
 bools_in speaker by n read None columns bytes now last gives = gives.4
-bools_in speaker by n read (Some rule) columns bytes now last gives = gives.2
+bools_in speaker by n read (Some rule) columns bytes now last gives = gives.1
 
 -- behind those so far: the tile's own, or any behind a broken rule
 its_bools : {T : Type 0} (speaker : Speaker T) (by : FrameSources) (t : T) (tiles : List (List ℕ)) (n : ℕ) (before broken : Option Rule) (columns others : List TileColumn) (bytes : List ℕ) (now then_it : T)
@@ -129,8 +139,8 @@ its_bools speaker by t tiles n (Some rule) broken columns others bytes now then_
     absurd (not_both read rule (sym each ∙ ap (λ l. read_each by 0 l (nothing_read by.header)) (sym (append-nil tiles)) ∙ stands.0 []))
 its_bools speaker by t tiles n None broken columns others bytes now then_it stands gives read each =
     let same = same_read stands.0 read
-    (sym (ap (λ l. read_each by 0 l (nothing_read by.header)) (sym (append-nil tiles)) ∙ stands.1 [] ∙ none_left by n stands.0) ∙ each) in
-    subst (λ read. HasItsBools by n read bytes) same (bools_in speaker by n stands.0 broken others bytes now then_it (gives stands.0 stands.2))
+    (sym (ap (λ l. read_each by 0 l (nothing_read by.header)) (sym (append-nil tiles)) ∙ stands.2 [] ∙ none_left by n stands.0) ∙ each) in
+    subst (λ read. HasItsBools by n read bytes) same (bools_in speaker by n stands.0 broken others bytes now then_it (gives stands.0 stands.3))
 
 with_bools : {T : Type 0} (speaker : Speaker T) (by : FrameSources) (t : T) (front out : List ℕ) (n : ℕ) (before broken : Option Rule) (columns others : List TileColumn) (bytes : List ℕ) (now then_it : T)
     → (far : AreSoFar speaker by t front n before columns out now) → ((read : FrameRead) → HoldsColumns columns read → GivesNthTo speaker by n read now bytes broken others then_it)
@@ -163,20 +173,20 @@ untold_at : {T : Type 0} (speaker : Speaker T) (by : FrameSources) (t : T) (tile
     → ((read : FrameRead) → HoldsColumns columns read → GivesNth speaker by n read now (Err Unsaid) others then_it) → IsUntold speaker by t
 untold_at speaker by t tiles n (Some rule) columns others now then_it below stands gives = inr (rule, stands.1)
 untold_at speaker by t tiles n None columns others now then_it below stands gives =
-    inl (stands.3 ∙ told_ends speaker by n (tile_count by.header) stands.0 now unwritten.Unsaid below (gives stands.0 stands.2))
+    inl (stands.5 ∙ told_ends speaker by n (tile_count by.header) _ unwritten.Unsaid below (gives stands.0 stands.3 stands.1))
 
 -- or a tile is too long
 long_at : {T : Type 0} (speaker : Speaker T) (by : FrameSources) (t : T) (tiles : List (List ℕ)) (n : ℕ) (broken : Option Rule) (columns others : List TileColumn) (now then_it : T)
-    → StandsAt speaker by t tiles n broken columns now
+    → n < tile_count by.header → StandsAt speaker by t tiles n broken columns now
     → ((read : FrameRead) → HoldsColumns columns read → GivesNth speaker by n read now (Err TooLong) others then_it) → IsTooLong speaker by t
-long_at speaker by t tiles n (Some rule) columns others now then_it stands gives = inr (rule, stands.1)
-long_at speaker by t tiles n None columns others now then_it stands gives = inl (n, stands.0, now, stands.3, gives stands.0 stands.2)
+long_at speaker by t tiles n (Some rule) columns others now then_it below stands gives = inr (rule, stands.1)
+long_at speaker by t tiles n None columns others now then_it below stands gives = inl (n, stands.0, now, stands.1, below, stands.5, gives stands.0 stands.3)
 
 pub refused_at : {T : Type 0} (speaker : Speaker T) (by : FrameSources) (t : T) (front out ending : List ℕ) (n : ℕ) (broken : Option Rule) (columns others : List TileColumn) (why : NotWritten) (now then_it : T)
     → n < tile_count by.header → AreSoFar speaker by t front n broken columns out now
     → ((read : FrameRead) → HoldsColumns columns read → GivesNth speaker by n read now (Err why) others then_it) → GivesTiles speaker by t front (Err why) ending then_it
 refused_at speaker by t front out ending n broken columns others Unsaid now then_it below far gives = untold_at speaker by t far.tiles n broken columns others now then_it below far.stands gives
-refused_at speaker by t front out ending n broken columns others TooLong now then_it below far gives = long_at speaker by t far.tiles n broken columns others now then_it far.stands gives
+refused_at speaker by t front out ending n broken columns others TooLong now then_it below far gives = long_at speaker by t far.tiles n broken columns others now then_it below far.stands gives
 refused_at speaker by t front out ending n broken columns others OutOfMemory now then_it below far gives = tt
 
 ---- The last tile ----
@@ -194,15 +204,17 @@ last_given speaker by t front out n (Some rule) broken columns others bytes now 
     some = some;
     put = ap (λ l. l ++ bytes) far.put ∙ append_assoc front (flat_map sized far.tiles) bytes;
     bools = with_bools speaker by t front out n (Some rule) broken columns others bytes now then_it far gives;
+    exact = tt;
     read = λ tail. far.stands.0 ((bytes ++ tail) ∷ []);
   },
   far.stands.1,
 )
 last_given speaker by t front out n None None columns others bytes now then_it last some far gives =
     let stands = far.stands in
-    let g = gives stands.0 stands.2 in
+    let g = gives stands.0 stands.3 in
     let count = tile_count by.header in (
       g.0,
+      stands.1 ++ g.1 ∷ [],
       record {
         tiles = far.tiles;
         last = bytes;
@@ -211,13 +223,14 @@ last_given speaker by t front out n None None columns others bytes now then_it l
         some = some;
         put = ap (λ l. l ++ bytes) far.put ∙ append_assoc front (flat_map sized far.tiles) bytes;
         bools = with_bools speaker by t front out n None None columns others bytes now then_it far gives;
-        read = λ tail. stands.1 ((bytes ++ tail) ∷ []) ∙ each_next by n (bytes ++ tail) [] stands.0 (Ok g.0) (g.1 tail) ∙ none_left by (n + 1) g.0;
+        exact = bytes_more stands.1 far.tiles g.1 bytes stands.4 g.5;
+        read = λ tail. stands.2 ((bytes ++ tail) ∷ []) ∙ each_next by n (bytes ++ tail) [] stands.0 (Ok g.0) (g.2 tail) ∙ none_left by (n + 1) g.0;
       },
-      stands.3 ∙ told_next speaker by n count stands.0 g.0 now then_it (omega (arith, last)) g.3 ∙ told_all speaker by (n + 1) count g.0 then_it (omega (arith, last)),
+      stands.5 ∙ told_next speaker by n count _ _ (omega (arith, last)) (g.6 stands.1) ∙ told_all speaker by (n + 1) count _ (omega (arith, last)),
     )
 last_given speaker by t front out n None (Some rule) columns others bytes now then_it last some far gives =
     let stands = far.stands in
-    let g = gives stands.0 stands.2 in (
+    let g = gives stands.0 stands.3 in (
       record {
         tiles = far.tiles;
         last = bytes;
@@ -226,9 +239,10 @@ last_given speaker by t front out n None (Some rule) columns others bytes now th
         some = some;
         put = ap (λ l. l ++ bytes) far.put ∙ append_assoc front (flat_map sized far.tiles) bytes;
         bools = with_bools speaker by t front out n None (Some rule) columns others bytes now then_it far gives;
-        read = λ tail. stands.1 ((bytes ++ tail) ∷ []) ∙ each_next by n (bytes ++ tail) [] stands.0 (Err rule) (g.0 tail);
+        exact = tt;
+        read = λ tail. stands.2 ((bytes ++ tail) ∷ []) ∙ each_next by n (bytes ++ tail) [] stands.0 (Err rule) (g.0 tail);
       },
-      stands.3 ∙ told_ends speaker by n (tile_count by.header) stands.0 now (unwritten.Broken rule) (omega (arith, last)) g.1,
+      stands.5 ∙ told_ends speaker by n (tile_count by.header) _ (unwritten.Broken rule) (omega (arith, last)) (g.2 stands.1),
     )
 
 pub all_given : {T : Type 0} (speaker : Speaker T) (by : FrameSources) (t : T) (front out ending : List ℕ) (n : ℕ) (broken : Option Rule) (columns others : List TileColumn) (w : Written) (now then_it : T)

@@ -1,20 +1,25 @@
 -- What is written of a frame as bytes.
-use Rattle.std.specs.Prelude.{◌≡◌, ℕ, ◌+◌, ◌-◌, ◌/◌, ◌<◌, ◌≤◌, ◌^◌, ◌==◌, List, [], ◌∷◌, ◌++◌, length, slice_index, Result, Ok, if◌then◌else◌}
+use Rattle.std.specs.Prelude.{◌≡◌, ℕ, ◌+◌, ◌-◌, ◌/◌, ◌%◌, ◌<◌, ◌≤◌, ◌^◌, ◌==◌, List, [], ◌∷◌, ◌++◌, map, length, slice_index, Option, IfSome, Result, Ok, if◌then◌else◌}
 use Rattle.std.specs.List.{flat_map, All}
 use Rattle.byteorder.specs.Endian.{big_bytes}
+use Rattle.vp9_types.specs.Bits.{number_of, spelled}
 use Rattle.vp9_types.specs.Results.{◌>>=◌}
 use Rattle.vp9_types.specs.Syntax.{Syntax}
 use Rattle.vp9_types.specs.declared.rule.Rule.{Rule}
 use Rattle.bool_encoder.specs.Part.{Part, Finishes, marked}
+use Rattle.bool_encoder.specs.Laws.{after_bools}
+use Rattle.bool_lists.specs.Lists.{BoolList}
 use Rattle.counting_reader.specs.Counting.{Settled}
 use Rattle.counting_writer.specs.Counted.{PutsTo}
 use Rattle.frame_headers.specs.Spans.{tile_count}
 use Rattle.frame_headers.specs.declared.header.Header.{Header}
+use Rattle.frame_headers.specs.declared.header.Uncompressed.{Uncompressed}
 use Rattle.frame_headers.specs.declared.header.Uncompressed.TheVariants.{Coded}
 use Rattle.frame_headers.specs.declared.persist.Persist.{Persist}
 use Rattle.compressed_writer.specs.Bytes.{IsWrittenHeader}
+use Rattle.compressed_writer.specs.Spelling.{spelled_compressed}
 use Rattle.header_writer.specs.Reads.{HoldsHeader}
-use Rattle.header_writer.specs.Spelling.{IsSpelled}
+use Rattle.header_writer.specs.Spelling.{IsSpelled, bits_put, spelled_header}
 use Rattle.header_writer.specs.declared.choices.Choices.{Choices}
 use Rattle.frame_state.specs.Reading.{FrameRead, TileRead, nothing_read, read_tile_of}
 use Rattle.frame_state.specs.Sources.{FrameSources}
@@ -52,6 +57,32 @@ abbrev pub HaveTheirBools : FrameSources → ℕ → FrameRead → List (List �
 HaveTheirBools by n read [] = Unit {0}
 HaveTheirBools by n read (tile ∷ tiles) = HasItsBools by n read tile × ((next : FrameRead) → read_tile_of by n tile read ≡ Ok next → HaveTheirBools by (n + 1) next tiles)
 
+---- Bytes of one list of bools ----
+
+-- the bytes that bits spell, eight each
+unfoldable pub bytes_of_bits : List ℕ → List ℕ
+bytes_of_bits (a ∷ b ∷ c ∷ d ∷ e ∷ f ∷ g ∷ h ∷ bits) = number_of (a ∷ b ∷ c ∷ d ∷ e ∷ f ∷ g ∷ h ∷ []) ∷ bytes_of_bits bits
+bytes_of_bits bits = []
+
+-- with 0 bits up to the end of a byte
+unfoldable pub padded : List ℕ → List ℕ
+padded bits = bytes_of_bits (bits ++ spelled (7 - (length bits + 7) % 8) 0)
+
+-- the bytes of a list of bools, behind the marker: the bits of the low end of the part that they leave (9.2)
+unfoldable pub bytes_of : BoolList → List ℕ
+bytes_of bools = let part = after_bools bools marked in padded (spelled (8 + part.n) part.low)
+
+-- the bytes are those of one list of bools, behind the marker
+abbrev pub AreBytesOf : BoolList → List ℕ → Type 0
+AreBytesOf bools bytes = Finishes (after_bools bools marked) bytes
+
+-- so are those of tiles, each of its own
+abbrev pub AreAllBytesOf : List BoolList → List (List ℕ) → Type 0
+AreAllBytesOf [] [] = Unit {0}
+AreAllBytesOf [] (tile ∷ tiles) = ⊥
+AreAllBytesOf (bools ∷ lists) [] = ⊥
+AreAllBytesOf (bools ∷ lists) (tile ∷ tiles) = AreBytesOf bools tile × AreAllBytesOf lists tiles
+
 ---- A frame ----
 
 -- a header with the size of the compressed header
@@ -62,10 +93,29 @@ with_size header size = record header { params = record header.params { compress
 unfoldable pub without_index : List ℕ → List ℕ
 without_index bytes = if slice_index bytes (length bytes - 1) / 32 == 6 then bytes ++ 0 ∷ [] else bytes
 
+-- tiles one behind another: each but the last has its size before it
+unfoldable pub joined : List (List ℕ) → List ℕ
+joined [] = []
+joined (tile ∷ []) = tile
+joined (tile ∷ next ∷ tiles) = sized tile ++ joined (next ∷ tiles)
+
+-- an uncompressed header, spelled as it is chosen
+abbrev pub header_bytes : Persist → Choices → Uncompressed → List ℕ
+header_bytes before choices header = padded (bits_put (spelled_header before choices header))
+
+-- the bools of a frame's compressed header
+abbrev pub compressed_bools : FrameSources → BoolList
+compressed_bools by = spelled_compressed by.header by.past.contexts by.contexts by.modes
+
+-- a coded frame whose tiles have these bools, behind what persists (6.1, 6.4)
+unfoldable pub frame_bytes : Persist → Choices → FrameSources → List BoolList → List ℕ
+frame_bytes before choices by tiles =
+    without_index (header_bytes before choices (Coded by.header) ++ bytes_of (compressed_bools by) ++ joined (map bytes_of tiles))
+
 -- How the bytes of a frame are laid out, behind what persists (6.1, 6.4): its uncompressed header, spelled as it is chosen; the
 -- compressed one, of the size that this tells; and the tiles, each but the last with its size before it. The last two are the bytes
--- of their bools and no more.
-pub record IsLaidOut (before : Persist) (choices : Choices) (by : FrameSources) (bytes : List ℕ) : Type 0 where
+-- of their bools and no more: where the tiles break no rule, of these lists.
+pub record IsLaidOut (before : Persist) (choices : Choices) (by : FrameSources) (lists : Option (List BoolList)) (bytes : List ℕ) : Type 0 where
   pub front : List ℕ
   pub compressed : List ℕ
   pub tiles : List (List ℕ)
@@ -78,3 +128,4 @@ pub record IsLaidOut (before : Persist) (choices : Choices) (by : FrameSources) 
   pub many : length tiles + 1 ≡ tile_count by.header
   pub sizes : All HasSize tiles
   pub bools : HaveTheirBools by 0 (nothing_read by.header) (tiles ++ last ∷ [])
+  pub exact : IfSome lists (λ lists. AreAllBytesOf lists (tiles ++ last ∷ []))

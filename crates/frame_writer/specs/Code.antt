@@ -1,16 +1,18 @@
 -- What a frame's writer keeps, and what its calls answer.
-use Rattle.std.specs.Prelude.{◌≡◌, ◌≤◌, ◌⊎◌, ℕ, ◌+◌, ◌-◌, ◌^◌, Bool, true, false, List, [], ◌∷◌, ◌++◌, map, length, Option, Some, None, Result, Ok, Err}
+use Rattle.std.specs.Prelude.{◌≡◌, ◌≤◌, ◌<◌, ◌⊎◌, ℕ, ◌+◌, ◌-◌, ◌^◌, Bool, true, false, List, [], ◌∷◌, ◌++◌, map, length, Option, Some, None, IfSome, Result, Ok, Err}
 use Rattle.std.specs.List.{flat_map, All}
+use Rattle.vp9_types.specs.Syntax.{Syntax}
 use Rattle.vp9_types.specs.declared.rule.Rule.{Rule}
 use Rattle.frame_headers.specs.Header.{head_of}
 use Rattle.frame_headers.specs.Spans.{tile_count}
 use Rattle.bool_encoder.specs.Part.{Part, Finishes}
+use Rattle.counting_reader.specs.Counting.{Settled}
 use Rattle.frame_headers.specs.declared.header.FrameHead.TheVariants.{Coded}
 use Rattle.frame_headers.specs.declared.header.Header.{Header}
 use Rattle.frame_headers.specs.declared.persist.Persist.{Persist}
 use Rattle.frame_headers.specs.declared.header.Uncompressed.TheVariants as uncompressed
 use Rattle.compressed_header.specs.Header.{IsForward}
-use Rattle.bool_lists.specs.Lists.{bytes_taken}
+use Rattle.bool_lists.specs.Lists.{BoolList, bytes_taken}
 use Rattle.compressed_writer.specs.Bytes.{IsWrittenHeader}
 use Rattle.compressed_writer.specs.Spelling.{spelled_compressed}
 use Rattle.header_writer.specs.Reads.{HoldsHeader}
@@ -29,11 +31,11 @@ use Rattle.frame_state.specs.Sources.{FramePast, FrameSources}
 use Rattle.frame_state.specs.declared.columns.TileColumn.{TileColumn}
 use Rattle.frame_state.specs.declared.sources.FrameSources as code
 use Rattle.frame_state.specs.declared.tile_places.TilePlaces.{TilePlaces}
-use Rattle.tile_writer.specs.Said.{Said}
+use Rattle.tile_writer.specs.Said.{Said, so_far}
 use Rattle.tile_writer.specs.declared.unwritten.Unwritten.{Unwritten}
 use Rattle.tile_writer.specs.declared.unwritten.Unwritten.TheVariants as unwritten
-use Rattle.frame_writer.specs.Bytes.{HasItsBools, HasSize, HaveTheirBools, IsLaidOut, IsWritten, read_each, sized, tile_bytes, with_size, without_index}
-use Rattle.frame_writer.specs.Frames.{frame_told, nth_syntax, nth_tile_told, nth_told, said_of, tile_syntax, tile_told, tiles_told}
+use Rattle.frame_writer.specs.Bytes.{AreAllBytesOf, AreBytesOf, HasItsBools, HasSize, HaveTheirBools, IsLaidOut, IsWritten, frame_bytes, read_each, sized, tile_bytes, with_size, without_index}
+use Rattle.frame_writer.specs.Frames.{frame_told, nth_syntax, nth_tile_told, nth_told, said_of, tile_syntax, tile_told, tiles_told, told_so_far}
 use Rattle.frame_writer.specs.Symbols.{Speaker}
 use Rattle.frame_writer.specs.declared.frame.FrameHeaders.{FrameHeaders}
 use Rattle.frame_writer.specs.declared.frame.FrameToWrite.{FrameToWrite}
@@ -110,47 +112,49 @@ EndsColumn header k (Some rule) old new = IsTileColumn header 0 k new
 -- a tile's bytes lead its syntax to what it is told, or to the rule that this breaks
 abbrev pub GivesTileTo : {T : Type 0} → Speaker T → FrameSources → FramePlaces → TilePlaces → TileRead → T → List ℕ → Option Rule → TileColumn → T → Type 0
 GivesTileTo speaker by frame tile s t bytes None column new =
-    (next : TileRead) × IsWritten (tile_syntax by frame tile s) (Ok next) bytes × (held_of next ≡ held_by column) × (tile_told speaker by frame tile (s, t) ≡ Ok (next, new))
+    (next : TileRead) × (bools : BoolList) × IsWritten (tile_syntax by frame tile s) (Ok next) bytes × (held_of next ≡ held_by column) × AreBytesOf bools bytes
+    × (tile_told speaker by frame tile s t ≡ Ok (so_far next new bools))
 GivesTileTo speaker by frame tile s t bytes (Some rule) column new =
-    IsWritten (tile_syntax by frame tile s) (Err rule) bytes × (tile_told speaker by frame tile (s, t) ≡ Err (unwritten.Broken rule))
+    IsWritten (tile_syntax by frame tile s) (Err rule) bytes × (tile_told speaker by frame tile s t ≡ Err (unwritten.Broken rule))
 
--- what is told of a tile ends so: what reading keeps then, or the rule that is broken
-abbrev pub IsToldAs : {T : Type 0} → Said TileRead T → Result TileRead Rule → Type 0
-IsToldAs {T = T} told (Ok next) = (new : T) × (told ≡ Ok (next, new))
-IsToldAs told (Err rule) = told ≡ Err (unwritten.Broken rule)
+-- a tile is too long: its bools, or those up to the rule that it breaks, take 2 ^ 32 bytes or more
+abbrev pub IsLong : {T : Type 0} → Syntax ℕ Rule (Settled TileRead) → Said TileRead T → Type 0
+IsLong syntax (Ok said) = 2 ^ 32 ≤ bytes_taken said.bools
+IsLong syntax (Err (unwritten.Broken rule)) = (bytes : List ℕ) × IsWritten syntax (Err rule) bytes × (2 ^ 32 ≤ length bytes)
+IsLong syntax (Err unwritten.Unsaid) = ⊥
+IsLong syntax (Err unwritten.OutOfMemory) = ⊥
 
 abbrev pub GivesTile : {T : Type 0} → Speaker T → FrameSources → FramePlaces → TilePlaces → TileRead → T → Result Written NotWritten → TileColumn → T → Type 0
 GivesTile speaker by frame tile s t (Ok w) column new = GivesTileTo speaker by frame tile s t w.bytes.items w.broken column new
-GivesTile speaker by frame tile s t (Err Unsaid) column new = tile_told speaker by frame tile (s, t) ≡ Err unwritten.Unsaid
-GivesTile speaker by frame tile s t (Err TooLong) column new =
-    (r : Result TileRead Rule) × (bytes : List ℕ) × IsToldAs (tile_told speaker by frame tile (s, t)) r × IsWritten (tile_syntax by frame tile s) r bytes × (2 ^ 32 ≤ length bytes)
+GivesTile speaker by frame tile s t (Err Unsaid) column new = tile_told speaker by frame tile s t ≡ Err unwritten.Unsaid
+GivesTile speaker by frame tile s t (Err TooLong) column new = IsLong (tile_syntax by frame tile s) (tile_told speaker by frame tile s t)
 GivesTile speaker by frame tile s t (Err OutOfMemory) column new = Unit {0}
 
--- the bools of the n-th tile, as it is told, or those up to the rule that it breaks, take 2 ^ 32 bytes or more
-pub record IsLongTile {T : Type 0} (speaker : Speaker T) (by : FrameSources) (n : ℕ) (read : FrameRead) (t : T) : Type 0 where
-  pub settles : Result TileRead Rule
-  pub bytes : List ℕ
-  pub told : IsToldAs (nth_tile_told speaker by n read t) settles
-  pub written : IsWritten (nth_syntax by n read) settles bytes
-  pub long : 2 ^ 32 ≤ length bytes
+-- the n-th tile is, as it is told
+abbrev pub IsLongTile : {T : Type 0} → Speaker T → FrameSources → ℕ → FrameRead → T → Type 0
+IsLongTile speaker by n read t = IsLong (nth_syntax by n read) (nth_tile_told speaker by n read t)
 
--- the n-th tile's bytes are those of its bools, and are read as that, whatever stands behind them
+-- The n-th tile's bytes are those of its bools, and are read as that, whatever stands behind them: of one list of bools more than
+-- those of the tiles before it, where no rule is broken.
 abbrev pub GivesNthTo : {T : Type 0} → Speaker T → FrameSources → ℕ → FrameRead → T → List ℕ → Option Rule → List TileColumn → T → Type 0
 GivesNthTo speaker by n read t bytes None columns new =
-    (next : FrameRead) × ((tail : List ℕ) → read_tile_of by n (bytes ++ tail) read ≡ Ok next) × HoldsColumns columns next × (nth_told speaker by n (said_of read, t) ≡ Ok (said_of next, new)) × HasItsBools by n read bytes
+    (next : FrameRead) × (bools : BoolList) × ((tail : List ℕ) → read_tile_of by n (bytes ++ tail) read ≡ Ok next) × HoldsColumns columns next × HasItsBools by n read bytes × AreBytesOf bools bytes
+    × ((lists : List BoolList) → nth_told speaker by n (told_so_far (said_of read) t lists) ≡ Ok (told_so_far (said_of next) new (lists ++ bools ∷ [])))
 GivesNthTo speaker by n read t bytes (Some rule) columns new =
-    ((tail : List ℕ) → read_tile_of by n (bytes ++ tail) read ≡ Err rule) × (nth_told speaker by n (said_of read, t) ≡ Err (unwritten.Broken rule)) × HasItsBools by n read bytes
+    ((tail : List ℕ) → read_tile_of by n (bytes ++ tail) read ≡ Err rule) × HasItsBools by n read bytes
+    × ((lists : List BoolList) → nth_told speaker by n (told_so_far (said_of read) t lists) ≡ Err (unwritten.Broken rule))
 
 abbrev pub GivesNth : {T : Type 0} → Speaker T → FrameSources → ℕ → FrameRead → T → Result Written NotWritten → List TileColumn → T → Type 0
 GivesNth speaker by n read t (Ok w) columns new = GivesNthTo speaker by n read t w.bytes.items w.broken columns new
-GivesNth speaker by n read t (Err Unsaid) columns new = nth_told speaker by n (said_of read, t) ≡ Err unwritten.Unsaid
+GivesNth speaker by n read t (Err Unsaid) columns new = (lists : List BoolList) → nth_told speaker by n (told_so_far (said_of read) t lists) ≡ Err unwritten.Unsaid
 GivesNth speaker by n read t (Err TooLong) columns new = IsLongTile speaker by n read t
 GivesNth speaker by n read t (Err OutOfMemory) columns new = Unit {0}
 
 ---- All tiles of a frame ----
 
--- their bytes, which are those of their bools, stand behind what was there, and are read so, whatever stands behind the last
-pub record AreTiles (by : FrameSources) (front out : List ℕ) (r : Result FrameRead Rule) : Type 0 where
+-- their bytes, which are those of their bools, of these lists where no rule is broken, stand behind what was there, and are read so,
+-- whatever stands behind the last
+pub record AreTiles (by : FrameSources) (lists : Option (List BoolList)) (front out : List ℕ) (r : Result FrameRead Rule) : Type 0 where
   pub tiles : List (List ℕ)
   pub last : List ℕ
   pub many : length tiles + 1 ≡ tile_count by.header
@@ -158,12 +162,14 @@ pub record AreTiles (by : FrameSources) (front out : List ℕ) (r : Result Frame
   pub some : 1 ≤ length last
   pub put : out ≡ front ++ tile_bytes tiles last
   pub bools : HaveTheirBools by 0 (nothing_read by.header) (tiles ++ last ∷ [])
+  pub exact : IfSome lists (λ lists. AreAllBytesOf lists (tiles ++ last ∷ []))
   pub read : (tail : List ℕ) → read_each by 0 (tiles ++ (last ++ tail) ∷ []) (nothing_read by.header) ≡ r
 
 -- all are told, or they break a rule
 abbrev pub GivesAll : {T : Type 0} → Speaker T → FrameSources → T → List ℕ → Option Rule → List ℕ → T → Type 0
-GivesAll speaker by t front None out new = (read : FrameRead) × AreTiles by front out (Ok read) × (frame_told speaker by t ≡ Ok (said_of read, new))
-GivesAll speaker by t front (Some rule) out new = AreTiles by front out (Err rule) × (frame_told speaker by t ≡ Err (unwritten.Broken rule))
+GivesAll speaker by t front None out new =
+    (read : FrameRead) × (lists : List BoolList) × AreTiles by (Some lists) front out (Ok read) × (frame_told speaker by t ≡ Ok (told_so_far (said_of read) new lists))
+GivesAll speaker by t front (Some rule) out new = AreTiles by None front out (Err rule) × (frame_told speaker by t ≡ Err (unwritten.Broken rule))
 
 -- something isn't told, be it behind a tile that breaks a rule
 abbrev pub IsUntold : {T : Type 0} → Speaker T → FrameSources → T → Type 0
@@ -172,7 +178,8 @@ IsUntold speaker by t = (frame_told speaker by t ≡ Err unwritten.Unsaid) ⊎ (
 -- A tile is too long, be it one behind a tile that breaks a rule: that one has no reader.
 abbrev pub IsTooLong : {T : Type 0} → Speaker T → FrameSources → T → Type 0
 IsTooLong {T = T} speaker by t =
-    ((n : ℕ) × (read : FrameRead) × (now : T) × (frame_told speaker by t ≡ tiles_told speaker by n (tile_count by.header - n) (said_of read, now)) × IsLongTile speaker by n read now)
+    ((n : ℕ) × (read : FrameRead) × (now : T) × (lists : List BoolList) × (n < tile_count by.header) × (frame_told speaker by t ≡ tiles_told speaker by n (tile_count by.header - n) (told_so_far (said_of read) now lists))
+    × IsLongTile speaker by n read now)
     ⊎ ((rule : Rule) × (frame_told speaker by t ≡ Err (unwritten.Broken rule)))
 
 abbrev pub GivesTiles : {T : Type 0} → Speaker T → FrameSources → T → List ℕ → Result (Option Rule) NotWritten → List ℕ → T → Type 0
@@ -191,8 +198,8 @@ GivesRest speaker by t front (Err OutOfMemory) new = Unit {0}
 -- so many tiles were written
 abbrev pub StandsAt : {T : Type 0} → Speaker T → FrameSources → T → List (List ℕ) → ℕ → Option Rule → List TileColumn → T → Type 0
 StandsAt speaker by t tiles n None columns now =
-    (read : FrameRead) × ((more : List (List ℕ)) → read_each by 0 (tiles ++ more) (nothing_read by.header) ≡ read_each by n more read) × HoldsColumns columns read
-    × (frame_told speaker by t ≡ tiles_told speaker by n (tile_count by.header - n) (said_of read, now))
+    (read : FrameRead) × (lists : List BoolList) × ((more : List (List ℕ)) → read_each by 0 (tiles ++ more) (nothing_read by.header) ≡ read_each by n more read) × HoldsColumns columns read
+    × AreAllBytesOf lists tiles × (frame_told speaker by t ≡ tiles_told speaker by n (tile_count by.header - n) (told_so_far (said_of read) now lists))
 StandsAt speaker by t tiles n (Some rule) columns now =
     ((more : List (List ℕ)) → read_each by 0 (tiles ++ more) (nothing_read by.header) ≡ Err rule) × (frame_told speaker by t ≡ Err (unwritten.Broken rule))
 
@@ -210,6 +217,7 @@ pub record AreSoFar {T : Type 0} (speaker : Speaker T) (by : FrameSources) (t : 
 pub record AreHeaders (before : Persist) (frame : FrameToWrite) (old : Contexts) (header : Header) (bytes : List ℕ) : Type 0 where
   pub front : List ℕ
   pub compressed : List ℕ
+  pub short : length compressed < 2 ^ 16
   pub put : bytes ≡ front ++ compressed
   pub size : header ≡ with_size frame.header (length compressed)
   pub makes : IsForward frame.header old compressed (Ok (frame.contexts, frame.modes))
@@ -235,20 +243,30 @@ sources_with frame past size = record { header = with_size frame.header size; mo
 abbrev pub input_with : FrameToWrite → FramePast → ℕ → Span → List ℕ → FrameInput
 input_with frame past size compressed bytes = record { header = with_size frame.header size; compressed = compressed; bytes = bytes; past = past }
 
--- what is read of it is what is told, or it breaks the rule that this breaks first
-abbrev pub ReadsFrame : {T : Type 0} → Speaker T → FrameInput → FrameSources → T → Option Rule → T → Type 0
-ReadsFrame speaker f by t None new = (read : FrameRead) × (read_frame f ≡ Ok (read, by)) × (frame_told speaker by t ≡ Ok (said_of read, new))
-ReadsFrame speaker f by t (Some rule) new = (read_frame f ≡ Err rule) × (frame_told speaker by t ≡ Err (unwritten.Broken rule))
+-- What is read of it is what is told, and its tiles' bytes are those of the lists that are; or it breaks the rule that what is told
+-- breaks first.
+abbrev pub ReadsFrame : {T : Type 0} → Speaker T → FrameInput → FrameSources → T → Option Rule → Option (List BoolList) → T → Type 0
+ReadsFrame speaker f by t None (Some lists) new = (read : FrameRead) × (read_frame f ≡ Ok (read, by)) × (frame_told speaker by t ≡ Ok (told_so_far (said_of read) new lists))
+ReadsFrame speaker f by t (Some rule) None new = (read_frame f ≡ Err rule) × (frame_told speaker by t ≡ Err (unwritten.Broken rule))
+ReadsFrame speaker f by t broken lists new = ⊥
 
-pub record IsFrame {T : Type 0} (speaker : Speaker T) (before : Persist) (frame : FrameToWrite) (past : FramePast) (t : T) (bytes : List ℕ) (broken : Option Rule) (new : T) : Type 0 where
-  pub size : ℕ
+-- how many bytes its compressed header has
+abbrev pub compressed_size : FrameToWrite → FramePast → ℕ
+compressed_size frame past = bytes_taken (spelled_compressed frame.header past.contexts (lists_of frame.contexts) frame.modes)
+
+-- A frame whose compressed header has so many bytes is read as it was told. Where it breaks no rule, its bytes are those of its
+-- header and of the lists of bools that say the rest.
+pub record IsFrame {T : Type 0} (speaker : Speaker T) (before : Persist) (frame : FrameToWrite) (past : FramePast) (size : ℕ) (t : T) (bytes : List ℕ) (broken : Option Rule) (new : T) : Type 0 where
+  pub short : size < 2 ^ 16
   pub compressed : Span
   pub head : head_of before bytes ≡ Ok (Coded (with_size frame.header size) compressed)
-  pub read : ReadsFrame speaker (input_with frame past size compressed bytes) (sources_with frame past size) t broken new
-  pub laid : IsLaidOut before frame.choices (sources_with frame past size) bytes
+  pub lists : Option (List BoolList)
+  pub read : ReadsFrame speaker (input_with frame past size compressed bytes) (sources_with frame past size) t broken lists new
+  pub laid : IsLaidOut before frame.choices (sources_with frame past size) lists bytes
+  pub exact : IfSome lists (λ lists. bytes ≡ frame_bytes before frame.choices (sources_with frame past size) lists)
 
 abbrev pub GivesFrame : {T : Type 0} → Speaker T → Persist → FrameToWrite → FramePast → T → Result Written NotWritten → T → Type 0
-GivesFrame speaker before frame past t (Ok w) new = IsFrame speaker before frame past t w.bytes.items w.broken new
-GivesFrame speaker before frame past t (Err Unsaid) new = (size : ℕ) × IsUntold speaker (sources_with frame past size) t
-GivesFrame speaker before frame past t (Err TooLong) new = IsLongHeader frame past.contexts ⊎ ((size : ℕ) × IsTooLong speaker (sources_with frame past size) t)
+GivesFrame speaker before frame past t (Ok w) new = IsFrame speaker before frame past (compressed_size frame past) t w.bytes.items w.broken new
+GivesFrame speaker before frame past t (Err Unsaid) new = IsUntold speaker (sources_with frame past (compressed_size frame past)) t
+GivesFrame speaker before frame past t (Err TooLong) new = IsLongHeader frame past.contexts ⊎ IsTooLong speaker (sources_with frame past (compressed_size frame past)) t
 GivesFrame speaker before frame past t (Err OutOfMemory) new = Unit {0}

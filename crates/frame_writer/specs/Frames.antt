@@ -1,9 +1,10 @@
 -- What the tiles of a frame say, one after another (6.4 of the standard: decode_tiles, decode_tile).
-use Rattle.std.specs.Prelude.{ℕ, zero, suc, ◌+◌, ◌-◌, List, ◌++◌, get_or, slice_set, Result, Ok}
+use Rattle.std.specs.Prelude.{ℕ, zero, suc, ◌+◌, ◌-◌, List, [], ◌∷◌, ◌++◌, get_or, slice_set, Result, Ok}
 use Rattle.vp9_types.specs.Results.{◌>>=◌}
 use Rattle.vp9_types.specs.Sizes.{superblocks_along}
 use Rattle.vp9_types.specs.Syntax.{Syntax}
 use Rattle.vp9_types.specs.declared.rule.Rule.{Rule}
+use Rattle.bool_lists.specs.Lists.{BoolList}
 use Rattle.counting_reader.specs.Counting.{Settled}
 use Rattle.frame_headers.specs.Spans.{tile_count}
 use Rattle.frame_headers.specs.State.{shape_of}
@@ -16,7 +17,7 @@ use Rattle.frame_state.specs.Reading.{Column, FrameRead, TileRead, begun, column
 use Rattle.frame_state.specs.Sources.{FrameSources}
 use Rattle.frame_state.specs.Tiles.{column_of, tile_places}
 use Rattle.frame_state.specs.declared.tile_places.TilePlaces.{TilePlaces}
-use Rattle.tile_writer.specs.Said.{Said, said_tile}
+use Rattle.tile_writer.specs.Said.{Said, said_tile, so_far}
 use Rattle.tile_writer.specs.declared.unwritten.Unwritten.{Unwritten}
 use Rattle.frame_writer.specs.Symbols.{Speaker, teller_of}
 
@@ -27,10 +28,10 @@ abbrev pub tile_syntax : FrameSources → FramePlaces → TilePlaces → TileRea
 tile_syntax by frame tile s =
     decode_tile (read_walk by frame tile) (superblocks_along (tile.col_to - tile.col_from)) tile.row_from tile.col_from (superblocks_along (tile.row_to - tile.row_from)) s
 
-abbrev pub tile_told : {T : Type 0} → Speaker T → FrameSources → FramePlaces → TilePlaces → TileRead × T → Said TileRead T
-tile_told speaker by frame tile p =
+abbrev pub tile_told : {T : Type 0} → Speaker T → FrameSources → FramePlaces → TilePlaces → TileRead → T → Said TileRead T
+tile_told speaker by frame tile s t =
     said_tile (read_walk by frame tile) (teller_of speaker by) (superblocks_along (tile.col_to - tile.col_from)) tile.row_from tile.col_from
-    (superblocks_along (tile.row_to - tile.row_from)) p
+    (superblocks_along (tile.row_to - tile.row_from)) (so_far s t [])
 
 ---- All tiles ----
 
@@ -60,20 +61,29 @@ nth_syntax by n read =
 abbrev pub nth_tile_told : {T : Type 0} → Speaker T → FrameSources → ℕ → FrameRead → T → Said TileRead T
 nth_tile_told speaker by n read t =
     tile_told speaker by (places_of (shape_of by.header)) (tile_places (places_of (shape_of by.header)) by.header.params.tiles n)
-    (begun (shape_of by.header) (column_at by.header read (column_of by.header.params.tiles n)), t)
+    (begun (shape_of by.header) (column_at by.header read (column_of by.header.params.tiles n))) t
 
--- what it is told, behind what is said before it
-unfoldable pub nth_told : {T : Type 0} → Speaker T → FrameSources → ℕ → FrameSaid × T → Result (FrameSaid × T) Unwritten
+-- what is told of a frame so far: what it says, who tells the rest, and the bools of each tile
+pub record FrameTold (T : Type 0) : Type 0 where
+  pub said : FrameSaid
+  pub told : T
+  pub tiles : List BoolList
+
+abbrev pub told_so_far : {T : Type 0} → FrameSaid → T → List BoolList → FrameTold T
+told_so_far said t tiles = record { said = said; told = t; tiles = tiles }
+
+-- what a tile is told, behind what is told before it
+unfoldable pub nth_told : {T : Type 0} → Speaker T → FrameSources → ℕ → FrameTold T → Result (FrameTold T) Unwritten
 nth_told speaker by n p = do
-  q ← tile_told speaker by (places_of (shape_of by.header)) (tile_places (places_of (shape_of by.header)) by.header.params.tiles n)
-      (begun (shape_of by.header) (column_said by.header p.0 (column_of by.header.params.tiles n)), p.1)
-  Ok (with_tile_said (column_of by.header.params.tiles n) p.0 q.0, q.1)
+  tile ← tile_told speaker by (places_of (shape_of by.header)) (tile_places (places_of (shape_of by.header)) by.header.params.tiles n)
+      (begun (shape_of by.header) (column_said by.header p.said (column_of by.header.params.tiles n))) p.told
+  Ok (told_so_far (with_tile_said (column_of by.header.params.tiles n) p.said tile.state) tile.told (p.tiles ++ tile.bools ∷ []))
 
 -- so many tiles from the n-th on, in order, or why they end before
-unfoldable pub tiles_told : {T : Type 0} → Speaker T → FrameSources → ℕ → ℕ → FrameSaid × T → Result (FrameSaid × T) Unwritten
+unfoldable pub tiles_told : {T : Type 0} → Speaker T → FrameSources → ℕ → ℕ → FrameTold T → Result (FrameTold T) Unwritten
 tiles_told speaker by n zero p = Ok p
 tiles_told speaker by n (suc more) p = nth_told speaker by n p >>= tiles_told speaker by (n + 1) more
 
 -- all of a frame
-abbrev pub frame_told : {T : Type 0} → Speaker T → FrameSources → T → Result (FrameSaid × T) Unwritten
-frame_told speaker by t = tiles_told speaker by 0 (tile_count by.header) (said_of (nothing_read by.header), t)
+abbrev pub frame_told : {T : Type 0} → Speaker T → FrameSources → T → Result (FrameTold T) Unwritten
+frame_told speaker by t = tiles_told speaker by 0 (tile_count by.header) (told_so_far (said_of (nothing_read by.header)) t [])

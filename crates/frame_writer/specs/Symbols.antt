@@ -5,6 +5,8 @@ use Rattle.vp9_types.specs.declared.block.Partition.{Partition}
 use Rattle.vp9_types.specs.declared.rule.Rule.{Rule}
 use Rattle.frame_headers.specs.declared.header.FrameKind.{FrameKind}
 use Rattle.frame_headers.specs.declared.header.FrameKind.TheVariants as frame
+use Rattle.bool_lists.specs.Lists.{BoolList}
+use Rattle.block_lists.specs.Inter.{spelled_mode_info}
 use Rattle.block_plan.specs.Planned.{PlannedBlock}
 use Rattle.block_plan.specs.declared.block.BlockAt.{BlockAt}
 use Rattle.block_plan.specs.declared.block.BlockInfo.{BlockInfo}
@@ -18,9 +20,10 @@ use Rattle.inter_writer.specs.Said as inter
 use Rattle.inter_writer.specs.declared.frame_blocks.BlockSymbols.{BlockSymbols}
 use Rattle.inter_writer.specs.declared.frame_blocks.PredictionSymbols.{PredictionSymbols}
 use Rattle.inter_writer.specs.declared.frame_blocks.PredictionSymbols.TheVariants.{Intra, Inter}
+use Rattle.residue_writer.specs.Lists.{spelled_residue}
 use Rattle.residue_writer.specs.Said as residue
 use Rattle.residue_writer.specs.declared.levels.BlockLevels.{BlockLevels}
-use Rattle.tile_writer.specs.Said.{Teller, Said}
+use Rattle.tile_writer.specs.Said.{SaidSoFar, Teller, Said, so_far}
 use Rattle.tile_writer.specs.declared.unwritten.Unwritten.{Unwritten}
 use Rattle.tile_writer.specs.declared.unwritten.Unwritten.TheVariants.{Broken, Unsaid}
 
@@ -60,18 +63,25 @@ modes_said by earlier at symbols = modes_by by.header.kind by earlier at symbols
 abbrev pub with_block : TileRead → PlannedBlock × TileSides → TileRead
 with_block s read = record { earlier = s.earlier; blocks = s.blocks ++ read.0 ∷ []; sides = read.1 }
 
--- its levels, and what is made of them
-abbrev pub residue_told : {T : Type 0} → Speaker T → FrameSources → BlockAt → TileRead → BlockInfo → T → Said TileRead T
-residue_told speaker by at s info t = do
+-- its modes as they are spelled by the blocks before it, and its levels by the sides
+abbrev pub modes_spelled : FrameSources → BlockAt → TileRead → BlockInfo → BoolList
+modes_spelled by at s info = spelled_mode_info by.header by.modes by.contexts (infos (s.earlier ++ s.blocks)) by.past.vectors at info
+
+abbrev pub levels_spelled : FrameSources → TileRead → BlockInfo → BlockLevels → BoolList
+levels_spelled by s info levels = spelled_residue by.header by.contexts info levels s.sides
+
+-- its levels, and what is made of them, behind these bools
+abbrev pub residue_told : {T : Type 0} → Speaker T → FrameSources → BlockAt → TileRead → BlockInfo → BoolList → T → Said TileRead T
+residue_told speaker by at s info bools t = do
   p ← if_told (speaker.levels by info t)
   read ← as_said (residue.block_said by.header at.tile_from info p.0 s.sides)
-  Ok (with_block s read, p.1)
+  Ok (so_far (with_block s read) p.1 (bools ++ levels_spelled by s info p.0))
 
-unfoldable pub block_told : {T : Type 0} → Speaker T → FrameSources → BlockAt → TileRead → T → Said TileRead T
-block_told speaker by at s t = do
-  p ← if_told (speaker.block by (infos (s.earlier ++ s.blocks)) at t)
-  info ← modes_said by (infos (s.earlier ++ s.blocks)) at p.0
-  residue_told speaker by at s info p.1
+unfoldable pub block_told : {T : Type 0} → Speaker T → FrameSources → BlockAt → SaidSoFar TileRead T → Said TileRead T
+block_told speaker by at said = do
+  p ← if_told (speaker.block by (infos (said.state.earlier ++ said.state.blocks)) at said.told)
+  info ← modes_said by (infos (said.state.earlier ++ said.state.blocks)) at p.0
+  residue_told speaker by at said.state info (said.bools ++ modes_spelled by at said.state info) p.1
 
 -- what a tile is told of it
 abbrev pub teller_of : {T : Type 0} → Speaker T → FrameSources → Teller TileRead T

@@ -17,7 +17,9 @@ use Rattle.seq_decoder.specs.After.{Stepped, step}
 use Rattle.seq_decoder.specs.State.{State, persist_of}
 use Rattle.seq_decoder.proofs.Slots.{coded_persists, shown_stays}
 use Rattle.stream_forge.specs.Code.{IsMadeAfter}
-use Rattle.stream_forge.specs.Made.{IsFrameOf}
+use Rattle.stream_forge.specs.Reads.{IsFrameOf}
+use Rattle.frame_writer.specs.Bytes.{header_bytes}
+use Rattle.frame_writer.proofs.OneBytes.{IsBytes, header_are}
 
 shown_alone : (items old bytes : List ℕ) → items ≡ old ++ bytes → old ≡ [] → items ≡ bytes
 shown_alone items old bytes is none = is ∙ ap (λ l. l ++ bytes) none
@@ -25,9 +27,10 @@ shown_alone items old bytes is none = is ∙ ap (λ l. l ++ bytes) none
 pub shown_read : (before : Persist) (slot : ℕ) (items old bytes : List ℕ) → items ≡ old ++ bytes → old ≡ [] → HoldsHeader before (ShowExisting slot) bytes → head_of before items ≡ Ok (head.ShowExisting slot)
 shown_read before slot items old bytes is none holds = ap (head_of before) (shown_alone items old bytes is none ∙ sym (append-nil bytes)) ∙ holds.head []
 
-pub shown_spelled : (before : Persist) (choices : Choices) (slot : ℕ) (items old bytes : List ℕ) → items ≡ old ++ bytes → old ≡ [] → IsSpelled before choices (ShowExisting slot) bytes
-    → IsSpelled before choices (ShowExisting slot) items
-shown_spelled before choices slot items old bytes is none spelled = rw (shown_alone items old bytes is none) spelled
+pub shown_spelled : (before : Persist) (choices : Choices) (slot : ℕ) (items old bytes : List ℕ) → items ≡ old ++ bytes → old ≡ [] → IsBytes items → IsSpelled before choices (ShowExisting slot) bytes
+    → items ≡ header_bytes before choices (ShowExisting slot)
+shown_spelled before choices slot items old bytes is none low spelled =
+    header_are before choices (ShowExisting slot) items (subst (λ items. IsSpelled before choices (ShowExisting slot) items) (sym (shown_alone items old bytes is none)) spelled) low
 
 apart : (header : Header) (slot : ℕ) → Coded header ≡ ShowExisting slot → ⊥
 apart header slot is = cc

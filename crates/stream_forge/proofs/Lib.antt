@@ -3,3 +3,4 @@ pub mod DrawnReads
 pub mod Behind
 pub mod Heads
 pub mod Streams
+pub mod MadeFrames

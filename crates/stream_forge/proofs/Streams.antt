@@ -1,5 +1,5 @@
 -- A stream, as its frames are made one after another.
-use Rattle.std.proofs.Common.{◌≡◌, ◌∙◌, ℕ, suc, ◌+◌, ◌-◌, ◌<◌, ◌≤◌, List, [], ◌∷◌, ◌++◌, length, true, false, refl, sym, ap, append_assoc, arith, subst}
+use Rattle.std.proofs.Common.{◌≡◌, ◌∙◌, ℕ, suc, ◌+◌, ◌-◌, ◌^◌, ◌<◌, ◌≤◌, List, [], ◌∷◌, ◌++◌, length, true, false, refl, sym, ap, append_assoc, arith, subst}
 use Rattle.std.specs.Prelude.{IfOk, is_some, Option, Some, None, Result, Ok, Err}
 use Rattle.std.proofs.lemmas.List.{append-nil, length-append}
 use Rattle.vp9_types.specs.declared.rule.Rule.{Rule}
@@ -16,7 +16,8 @@ use Rattle.seq_decoder.specs.Code.{StandsFor}
 use Rattle.seq_decoder.specs.State.{State, start_state}
 use Rattle.seq_decoder.specs.declared.decoder.Decoder.{Decoder}
 use Rattle.stream_forge.specs.Code.{Gives, GivesTo, IsLost, IsMadeAfter, IsSoFar, Passes}
-use Rattle.stream_forge.specs.Made.{AreMade, EndsBefore, IsFrameOf, IsMade, IsMadeFrame, IsNone, behind_head, choices_at, head_at, packets_from}
+use Rattle.stream_forge.specs.Made.{behind_head, choices_at, head_at, packets_from}
+use Rattle.stream_forge.specs.Reads.{AreMade, EndsBefore, IsFrameOf, IsMadeFrame, IsNone, IsReadAsDrawn}
 use Rattle.stream_forge.proofs.Heads.{made_next}
 
 none_less : (n : ℕ) → n - 0 ≡ n
@@ -46,9 +47,9 @@ one_left : (count n : ℕ) → n < count → count - n ≡ suc (count - (n + 1))
 one_left count n below = omega (arith, below)
 
 pub one_made : (number count n : ℕ) (decoder after_it : Decoder) (draws rest : Draws) (out more bytes : List ℕ) → n < count → (far : IsSoFar number count n decoder draws out)
-    → ((state : State) → StandsFor decoder state → IsMadeFrame n state draws.x bytes rest.x) → Passes n decoder bytes after_it → more ≡ out ++ written_bytes (packet_of n bytes)
+    → ((state : State) → StandsFor decoder state → IsMadeFrame n state draws.x bytes rest.x) → length bytes < 2 ^ 32 → Passes n decoder bytes after_it → more ≡ out ++ written_bytes (packet_of n bytes)
     → IsSoFar number count (n + 1) after_it rest more
-one_made number count n decoder after_it draws rest out more bytes below far gives passes put =
+one_made number count n decoder after_it draws rest out more bytes below far gives small passes put =
     let p = passes far.state far.stands in
     let header = file_header 520 136 30 1 count in
     let at : 0 + length far.frames ≡ n = omega (arith, far.many) in record {
@@ -59,7 +60,7 @@ one_made number count n decoder after_it draws rest out more bytes below far giv
           ∙ ap (λ l. header ++ l) (ap (λ n. packets_from 0 far.frames ++ written_bytes (packet_of n bytes)) (sym at) ∙ sym (packets_more 0 far.frames bytes));
       many = length-append far.frames (bytes ∷ []) ∙ ap (λ n. n + 1) far.many;
       rest = λ others made.
-          rw (append_assoc far.frames (bytes ∷ []) others) (far.rest (bytes ∷ others) (rw (one_left count n below) (rest.x, gives far.state far.stands, (p.0, p.1, made))));
+          rw (append_assoc far.frames (bytes ∷ []) others) (far.rest (bytes ∷ others) (rw (one_left count n below) (rest.x, gives far.state far.stands, small, (p.0, p.1, made))));
     }
 
 -- it ends before a frame that there can't be
@@ -67,7 +68,7 @@ ends_at : (count n : ℕ) (state : State) (x : ℕ) → n < count → EndsBefore
 ends_at count n state x below ends = rw (one_left count n below) ends
 
 pub ends_here : (number count n : ℕ) (decoder : Decoder) (draws : Draws) (out : List ℕ) → n < count → (far : IsSoFar number count n decoder draws out)
-    → ((state : State) → StandsFor decoder state → EndsBefore n state draws.x) → IsMade number count out
+    → ((state : State) → StandsFor decoder state → EndsBefore n state draws.x) → IsReadAsDrawn number count out
 ends_here number count n decoder draws out below far ends = record {
   frames = far.frames;
   made = rw (append-nil far.frames) at (far.rest [] (ends_at count n far.state draws.x below (ends far.state far.stands)));
@@ -77,7 +78,7 @@ ends_here number count n decoder draws out below far ends = record {
 none_left : (count n : ℕ) → count ≤ n → count - n ≡ 0
 none_left count n all = omega (arith, all)
 
-pub all_made : (number count n : ℕ) (decoder : Decoder) (draws : Draws) (out : List ℕ) → count ≤ n → (far : IsSoFar number count n decoder draws out) → IsMade number count out
+pub all_made : (number count n : ℕ) (decoder : Decoder) (draws : Draws) (out : List ℕ) → count ≤ n → (far : IsSoFar number count n decoder draws out) → IsReadAsDrawn number count out
 all_made number count n decoder draws out all far = record {
   frames = far.frames;
   made = rw (append-nil far.frames) at (far.rest [] (rw (none_left count n all) tt));

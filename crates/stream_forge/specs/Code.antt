@@ -28,7 +28,8 @@ use Rattle.seq_decoder.specs.SavedContexts.{context_before, loses_past}
 use Rattle.seq_decoder.specs.State.{State, persist_of, start_state}
 use Rattle.seq_decoder.specs.declared.decoder.Decoder.{Decoder}
 use Rattle.stream_forge.specs.declared.coded.CodedFrame.{CodedFrame}
-use Rattle.stream_forge.specs.Made.{AreMade, IsFrameOf, IsNone, packets_from}
+use Rattle.stream_forge.specs.Made.{packets_from}
+use Rattle.stream_forge.specs.Reads.{AreMade, IsFrameOf, IsNone}
 
 -- it stands for the segments that a frame starts with, and has its places
 pub record AreSegmentsOf (header : Header) (last : Option FrameSize) (before : Map) (m : SegmentMap) : Type 0 where

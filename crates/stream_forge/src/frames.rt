@@ -4,7 +4,7 @@ ghost use Rattle.std.specs.Prelude.{◌≡◌, None, Ok, IfOk};
 ghost use Rattle.frame_headers.specs.Header.{head_of};
 ghost use Rattle.frame_headers.specs.declared.header.FrameHead.TheVariants as head;
 ghost use Rattle.frame_headers.specs.declared.header.Uncompressed.TheVariants.{Coded, ShowExisting};
-ghost use Rattle.header_writer.specs.Spelling.{IsSpelled};
+ghost use Rattle.frame_writer.specs.Bytes.{header_bytes};
 ghost use Rattle.header_writer.specs.WellFormed.{CanChoose, IsWellFormed};
 ghost use Rattle.drawn_headers.specs.Code.{sized};
 ghost use Rattle.drawn_headers.specs.Heads.{draw_head};
@@ -31,7 +31,7 @@ fn write_shown(
 ) -> Result<Written, AllocError>
     requires { IsWellFormed decoder.now.persist (ShowExisting slot) }
     ensures { IfOk result (λ w. (w.broken ≡ None) × (head_of decoder.now.persist w.bytes.items ≡ Ok (head.ShowExisting slot))
-        × IsSpelled decoder.now.persist choices (ShowExisting slot) w.bytes.items) }
+        × (w.bytes.items ≡ header_bytes decoder.now.persist choices (ShowExisting slot))) }
 {
     let mut bytes = Vec::new(alloc);
     let header = Uncompressed::ShowExisting { slot };

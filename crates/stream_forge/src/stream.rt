@@ -6,7 +6,8 @@ ghost use Rattle.seq_decoder.specs.After.{step};
 ghost use Rattle.seq_decoder.specs.Code.{MayDecode, StandsFor};
 ghost use Rattle.seq_decoder.specs.State.{State};
 ghost use Rattle.stream_forge.specs.Code.{IsLost, Passes};
-ghost use Rattle.stream_forge.specs.Made.{IsMade};
+ghost use Rattle.stream_forge.specs.Made.{made};
+ghost use Rattle.stream_forge.specs.Reads.{IsReadAsDrawn};
 ghost use Rattle.stream_forge.specs.declared.stream.NotMade.TheVariants as not_made;
 
 use crate::discard::Discard;
@@ -64,7 +65,8 @@ fn ended(out: Vec<u8>, why: NotWritten) -> Result<Vec<u8>, NotMade>
 /// The file of `frames` frames that is generated from a number. It ends before a frame whose blocks, as they are drawn, break a
 /// rule.
 pub fn make_stream(alloc: Global, number: u32, frames: u32) -> Result<Vec<u8>, NotMade>
-    ensures { IfOk result (λ file. IsMade number frames file.items) }
+    ensures made { IfOk result (λ file. file.items ≡ made number frames) }
+    ensures read { IfOk result (λ file. IsReadAsDrawn number frames file.items) }
 {
     let mut draws = Draws {
         x: u64::from(number),

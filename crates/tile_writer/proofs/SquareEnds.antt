@@ -1,6 +1,6 @@
 -- How a square is put, by its level and by whether it starts inside the frame.
 use Rattle.std.proofs.Common.{◌≡◌, ◌∙◌, ℕ, zero, suc, ◌+◌, ◌-◌, ◌*◌, ◌/◌, ◌%◌, ◌^◌, ◌<◌, ◌≤◌, refl, sym, subst, ap, arith, true, false, rules, Bool}
-use Rattle.std.specs.Prelude.{Result, Ok, Err, Option, Some, None, nat_lt}
+use Rattle.std.specs.Prelude.{Result, Ok, Err, Option, Some, None, nat_lt, ◌++◌}
 use Rattle.std.proofs.Math.Nat.{one-le-pow, pow-suc}
 use Rattle.vp9_types.specs.Syntax.{Syntax}
 use Rattle.vp9_types.specs.declared.block.BlockSize.{BlockSize}
@@ -9,16 +9,19 @@ use Rattle.vp9_types.specs.declared.block.Partition.TheVariants.{Whole, Horizont
 use Rattle.vp9_types.specs.declared.rule.Rule.{Rule}
 use Rattle.block_geometry.specs.Partitions.{part_size}
 use Rattle.block_plan.specs.declared.block.BlockAt.{BlockAt}
+use Rattle.bool_lists.specs.Lists.{BoolList, HasPut}
+use Rattle.block_lists.specs.Partitions.{spelled_partition_at}
+use Rattle.block_lists.proofs.IntraWays.{at_way}
 use Rattle.counting_reader.specs.Counting.{Settled, in_order, settle}
 use Rattle.counting_writer.specs.Counted.{PutsValue}
 use Rattle.mode_syntax.specs.Partitions.{half_of, partition_at}
 use Rattle.mode_syntax.specs.Walk.{Walk, block_at, square_at, starts_inside, block_inside, smallest_parts, parts, decode_partition, quarter}
 use Rattle.mode_syntax.specs.declared.square_at.SquareAt.{SquareAt}
-use Rattle.tile_writer.specs.Said.{Said, Teller, said_inside, said_parts, said_square, told_partition, behind}
+use Rattle.tile_writer.specs.Said.{SaidSoFar, Said, Teller, so_far, with_partition, said_inside, said_parts, said_square, told_partition, behind}
 use Rattle.tile_writer.specs.Code.{Tile, SameTile, Rest, EndsTile, GivesPartition, StandsIn, block_rest, inside_rest, then_rest, parts_rest, square_rest}
 use Rattle.tile_writer.specs.declared.unwritten.Unwritten.{Unwritten}
 use Rattle.tile_writer.specs.declared.unwritten.Unwritten.TheVariants.{Broken, Unsaid, OutOfMemory}
-use Rattle.tile_writer.proofs.Endings.{as_rest, ends_here, ends_more, symbol_rest, symbol_ends, then_ends, same_here}
+use Rattle.tile_writer.proofs.Endings.{IsPut, as_rest, ends_here, ends_more, symbol_rest, symbol_ends, then_ends, same_here}
 
 inside : {S : Type 0} (walk : Walk S) (r c : ℕ) → r < walk.frame.rows → c < walk.frame.cols → starts_inside walk r c ≡ true
 inside walk r c row col = search rules
@@ -45,8 +48,8 @@ inside_is : {S T : Type 0} (walk : Walk S) (teller : Teller S T) (r c : ℕ) (si
 unfolding block_inside
 inside_is walk teller r c size s is = rw is refl
 
-inside_says : {S T : Type 0} (walk : Walk S) (teller : Teller S T) (r c : ℕ) (size : BlockSize) (p : S × T) → starts_inside walk r c ≡ true
-    → teller.block (block_at walk r c size) p.0 p.1 ≡ said_inside walk teller r c size p
+inside_says : {S T : Type 0} (walk : Walk S) (teller : Teller S T) (r c : ℕ) (size : BlockSize) (p : SaidSoFar S T) → starts_inside walk r c ≡ true
+    → teller.block (block_at walk r c size) p ≡ said_inside walk teller r c size p
 unfolding said_inside
 inside_says walk teller r c size p is = rw is refl
 
@@ -62,7 +65,7 @@ outside_is : {S : Type 0} (walk : Walk S) (r c : ℕ) (size : BlockSize) (s : S)
 unfolding block_inside
 outside_is walk r c size s none = rw none refl
 
-outside_says : {S T : Type 0} (walk : Walk S) (teller : Teller S T) (r c : ℕ) (size : BlockSize) (p : S × T) → starts_inside walk r c ≡ false → said_inside walk teller r c size p ≡ Ok p
+outside_says : {S T : Type 0} (walk : Walk S) (teller : Teller S T) (r c : ℕ) (size : BlockSize) (p : SaidSoFar S T) → starts_inside walk r c ≡ false → said_inside walk teller r c size p ≡ Ok p
 unfolding said_inside
 outside_says walk teller r c size p none = rw none refl
 
@@ -83,7 +86,7 @@ unfolding decode_partition
 square_is_none walk zero r c s none = rw none refl
 square_is_none walk (suc k) r c s none = rw none refl
 
-square_says_none : {S T : Type 0} (walk : Walk S) (teller : Teller S T) (level r c : ℕ) (p : S × T) → starts_inside walk r c ≡ false → said_square walk teller level r c p ≡ Ok p
+square_says_none : {S T : Type 0} (walk : Walk S) (teller : Teller S T) (level r c : ℕ) (p : SaidSoFar S T) → starts_inside walk r c ≡ false → said_square walk teller level r c p ≡ Ok p
 unfolding said_square
 square_says_none walk teller zero r c p none = rw none refl
 square_says_none walk teller (suc k) r c p none = rw none refl
@@ -221,15 +224,27 @@ square_is t at of = λ i. record { row = at.row; col = at.col; level = at.level;
 abbrev asked : {S : Type 0} → Walk S → SquareAt → S → Syntax ℕ Rule (Settled Partition)
 asked walk at s = partition_at walk.intra walk.probs (walk.blocks s) walk.frame at
 
+abbrev spelled_at : {S : Type 0} → Walk S → SquareAt → S → Partition → BoolList
+spelled_at walk at s p = spelled_partition_at walk.intra walk.probs (walk.blocks s) walk.frame at p
+
 -- its partition, and what stands behind it
 abbrev opened_rest : {S H T : Type 0} → Tile S H T → ℕ → ℕ → ℕ → (Partition → Rest S T) → Rest S T
-opened_rest t level r c f = symbol_rest (asked t.walk (square_at t.walk level r c)) (told_partition t.walk t.teller level r c) f
+opened_rest t level r c f = symbol_rest (asked t.walk (square_at t.walk level r c)) (spelled_at t.walk (square_at t.walk level r c)) (told_partition t.walk t.teller level r c) f
 
 opened_ends : {S H T : Type 0} (old mid new : Tile S H T) (at : SquareAt) (p : Partition) (f : Partition → Rest S T) (n : ℕ) (result : Result (Unit {0}) Unwritten)
     → IsOf old at → IsOpened old at p mid → EndsTile (f p) n mid result new → EndsTile (opened_rest old at.level at.row at.col f) n old result new
 opened_ends {S = S} old mid new at p f n result of opened h =
-    symbol_ends old mid new (asked old.walk (square_at old.walk at.level at.row at.col)) (told_partition old.walk old.teller at.level at.row at.col) p f n result
-    (λ s holds. subst (λ (q : SquareAt). PutsValue (asked old.walk q s) old.part p mid.part) (square_is old at of) (opened.put s holds)) opened.said opened.held opened.room opened.same h
+    let here : SquareAt = square_at old.walk at.level at.row at.col in
+    let put = λ s holds. subst (λ (q : SquareAt). PutsValue (asked old.walk q s) old.part p mid.part) (square_is old at of) (opened.put s holds) in
+    symbol_ends old mid new (asked old.walk here) (spelled_at old.walk here) (told_partition old.walk old.teller at.level at.row at.col) p f n result
+    (record {
+      put = put;
+      spelled = λ s holds. at_way old.walk.intra old.walk.probs (old.walk.blocks s) old.walk.frame here p old.part mid.part (put s holds);
+      said = opened.said;
+      held = opened.held;
+      room = opened.room;
+      same = opened.same;
+    }) h
 
 -- a square of 8x8
 smallest_by : {S H T : Type 0} (t new : Tile S H T) (level r c n : ℕ) (result : Result (Unit {0}) Unwritten) → level ≡ 0 → starts_inside t.walk r c ≡ true
@@ -274,7 +289,7 @@ larger_ends old mid new at p n result some row col of opened h =
     (opened_ends old mid new at p f n result of opened (moved (λ w u. parts_rest w u (at.level - 1) at.row at.col p) n old mid new result opened.same h)))
 
 -- a partition that isn't put
-unsaid_by : {S T : Type 0} (walk : Walk S) (teller : Teller S T) (level r c : ℕ) (q : S × T) → starts_inside walk r c ≡ true → told_partition walk teller level r c q.1 ≡ None
+unsaid_by : {S T : Type 0} (walk : Walk S) (teller : Teller S T) (level r c : ℕ) (q : SaidSoFar S T) → starts_inside walk r c ≡ true → told_partition walk teller level r c q.told ≡ None
     → said_square walk teller level r c q ≡ Err Unsaid
 unfolding said_square
 unsaid_by walk teller zero r c q is none = rw (is, none) refl
@@ -284,7 +299,7 @@ pub square_stopped : {S H T : Type 0} (old new : Tile S H T) (at : SquareAt) (n 
     → GivesPartition at (nat_lt (at.row + half_of at.level) old.walk.frame.rows) (nat_lt (at.col + half_of at.level) old.walk.frame.cols) old (Err e) new
     → SquareEnds old.walk old.teller at.level at.row at.col old n (Err e) new
 square_stopped old new at n (Broken rule) row col h = absurd h
-square_stopped old new at n Unsaid row col h = λ s holds. unsaid_by old.walk old.teller at.level at.row at.col (s, old.told) (inside old.walk at.row at.col row col) h
+square_stopped old new at n Unsaid row col h = λ s bools holds. unsaid_by old.walk old.teller at.level at.row at.col (so_far s old.told bools) (inside old.walk at.row at.col row col) h
 square_stopped old new at n OutOfMemory row col h = tt
 
 ---- Room ----

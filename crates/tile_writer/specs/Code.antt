@@ -4,7 +4,8 @@ use Rattle.vp9_types.specs.Syntax.{Syntax}
 use Rattle.vp9_types.specs.declared.block.BlockSize.{BlockSize}
 use Rattle.vp9_types.specs.declared.block.Partition.{Partition}
 use Rattle.vp9_types.specs.declared.rule.Rule.{Rule}
-use Rattle.bool_encoder.specs.Part.{Part}
+use Rattle.bool_encoder.specs.Part.{Part, marked}
+use Rattle.bool_lists.specs.Lists.{BoolList, HasPut}
 use Rattle.block_geometry.specs.Sizes.{width_8}
 use Rattle.block_plan.specs.declared.block.BlockAt.{BlockAt}
 use Rattle.counting_reader.specs.Counting.{Settled, in_order}
@@ -12,7 +13,7 @@ use Rattle.counting_writer.specs.Counted.{PutsValue, PutsTo}
 use Rattle.mode_syntax.specs.Partitions.{partition_at}
 use Rattle.mode_syntax.specs.Walk.{Walk, block_inside, parts, decode_partition, decode_row, decode_tile}
 use Rattle.mode_syntax.specs.declared.square_at.SquareAt.{SquareAt}
-use Rattle.tile_writer.specs.Said.{Teller, Said, then_said, said_inside, said_parts, said_square, said_row, said_tile}
+use Rattle.tile_writer.specs.Said.{SaidSoFar, Teller, Said, so_far, then_said, said_inside, said_parts, said_square, said_row, said_tile}
 use Rattle.tile_writer.specs.declared.unwritten.Unwritten.{Unwritten}
 use Rattle.tile_writer.specs.declared.unwritten.Unwritten.TheVariants.{Broken, Unsaid, OutOfMemory}
 
@@ -38,27 +39,34 @@ pub record SameTile {S H T : Type 0} (old new : Tile S H T) : Type 0 where
 -- what is to be put of a tile, from what reading keeps on, and what that says
 pub record Rest (S T : Type 0) : Type 0 where
   pub syntax : S → Syntax ℕ Rule (Settled S)
-  pub said : S × T → Said S T
+  pub said : SaidSoFar S T → Said S T
 
--- what reading keeps next: bools that lead to it were put, and it is what is said
-pub record IsNext {S H T : Type 0} (rest : Rest S T) (old new : Tile S H T) (s : S) : Type 0 where
+-- behind the bools that the tile's are so far: what reading keeps next, bools that lead to it being put; what is said then, and
+-- the bools that the tile's are with that
+pub record IsNext {S H T : Type 0} (rest : Rest S T) (old new : Tile S H T) (s : S) (bools : BoolList) : Type 0 where
   pub next : S
+  pub all : BoolList
   pub held : old.view next ≡ new.held
   pub put : PutsValue (rest.syntax s) old.part next new.part
-  pub said : rest.said (s, old.told) ≡ Ok (next, new.told)
+  pub list : HasPut marked all new.part
+  pub said : rest.said (so_far s old.told bools) ≡ Ok (so_far next new.told all)
+
+-- what reading keeps is what the code holds, and the bools are the tile's so far
+abbrev pub HoldsSoFar : {S H T : Type 0} → Tile S H T → S → BoolList → Type 0
+HoldsSoFar t s bools = (t.view s ≡ t.held) × HasPut marked bools t.part
 
 -- It was written to its end, with at most n blocks: to what is said, or to the rule that it breaks; or what is to be said isn't
 -- there. Want of memory has no cause.
 abbrev pub EndsTile : {S H T : Type 0} → Rest S T → ℕ → Tile S H T → Result (Unit {0}) Unwritten → Tile S H T → Type 0
-EndsTile {S = S} rest n old (Ok u) new = ((s : S) → old.view s ≡ old.held → IsNext rest old new s) × SameTile old new × (old.room ≤ new.room + n)
+EndsTile {S = S} rest n old (Ok u) new = ((s : S) (bools : BoolList) → HoldsSoFar old s bools → IsNext rest old new s bools) × SameTile old new × (old.room ≤ new.room + n)
 EndsTile {S = S} rest n old (Err (Broken rule)) new =
-    ((s : S) → old.view s ≡ old.held → PutsTo (rest.syntax s) old.part (Err rule) new.part × (rest.said (s, old.told) ≡ Err (Broken rule))) × SameTile old new
-EndsTile {S = S} rest n old (Err Unsaid) new = (s : S) → old.view s ≡ old.held → rest.said (s, old.told) ≡ Err Unsaid
+    ((s : S) (bools : BoolList) → HoldsSoFar old s bools → PutsTo (rest.syntax s) old.part (Err rule) new.part × (rest.said (so_far s old.told bools) ≡ Err (Broken rule))) × SameTile old new
+EndsTile {S = S} rest n old (Err Unsaid) new = (s : S) (bools : BoolList) → HoldsSoFar old s bools → rest.said (so_far s old.told bools) ≡ Err Unsaid
 EndsTile rest n old (Err OutOfMemory) new = Unit {0}
 
 -- a block
 abbrev pub block_rest : {S T : Type 0} → Walk S → Teller S T → BlockAt → Rest S T
-block_rest walk teller at = record { syntax = walk.block at; said = λ p. teller.block at p.0 p.1 }
+block_rest walk teller at = record { syntax = walk.block at; said = teller.block at }
 
 -- a partition was put that was told, and nothing else changes
 pub record TellsPartition {S H T : Type 0} (at : SquareAt) (has_rows has_cols : Bool) (old new : Tile S H T) (p : Partition) : Type 0 where

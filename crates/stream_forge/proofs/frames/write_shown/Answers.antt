@@ -8,5 +8,5 @@ returns c =
     let items = c.write_uncompressed_header.new.out.items in (
       refl,
       shown_read c.args.decoder.now.persist c.args.slot items c.new-bytes.result.items put.0 put.1 c.new-bytes.ensures.items put.2,
-      shown_spelled c.args.decoder.now.persist c.args.choices c.args.slot items c.new-bytes.result.items put.0 put.1 c.new-bytes.ensures.items put.3,
+      shown_spelled c.args.decoder.now.persist c.args.choices c.args.slot items c.new-bytes.result.items put.0 put.1 c.new-bytes.ensures.items ? put.3,
     )

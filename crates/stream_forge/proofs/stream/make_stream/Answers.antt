@@ -5,8 +5,9 @@ use Rattle.seq_decoder.specs.Code.{StandsFor}
 use Rattle.seq_decoder.specs.State.{State}
 use Rattle.seq_decoder.specs.declared.form.OutputForm.{OutputForm}
 use Rattle.stream_forge.specs.Code.{IsMadeAfter, Passes}
-use Rattle.stream_forge.specs.Made.{IsMadeFrame}
+use Rattle.stream_forge.specs.Reads.{IsMadeFrame}
 use Rattle.stream_forge.proofs.DrawnReads.{frame_steps}
+use Rattle.stream_forge.proofs.MadeFrames.{file_is}
 use Rattle.stream_forge.proofs.Streams.{all_made, ends_here, frame_breaks, frame_made, if_ended, none_made, not_written, one_made, persists}
 use Rattle.stream_forge.proofs.stream.make_stream.Goals as goal
 
@@ -37,21 +38,27 @@ loop-n-preserved c =
       may = c.in_ok-pass.ensures.may;
       raw = c.in_ok-pass.ensures.raw;
       made = λ later. persists c.args.number c.args.frames c.loop-n.n c.loop-n.decoder c.pass.new.decoder c.loop-n.draws rest c.loop-n.out.items bytes c.loop-n.invariant.far gives passes after;
-      far = one_made c.args.number c.args.frames c.loop-n.n c.loop-n.decoder c.pass.new.decoder c.loop-n.draws rest c.loop-n.out.items c.write_packet.new.out.items bytes c.loop-n-test.true c.loop-n.invariant.far gives passes
+      far = one_made c.args.number c.args.frames c.loop-n.n c.loop-n.decoder c.pass.new.decoder c.loop-n.draws rest c.loop-n.out.items c.write_packet.new.out.items bytes c.loop-n-test.true c.loop-n.invariant.far gives (omega (arith, c.if-len.false)) passes
           (rw (c.from-in-loop-n.ensures, c.deref.ensures.value) at c.in_ok-write_packet.ensures.put);
     }
 
-pub returns : goal.returns
-returns c =
+pub returns-clause-read : goal.returns-clause-read
+returns-clause-read c =
     all_made c.args.number c.args.frames c.loop-n.n c.loop-n.decoder c.loop-n.draws c.loop-n.out.items (omega (arith, c.loop-n-test.false)) c.loop-n.invariant.far
 
-pub returns-then-is_some : goal.returns-then-is_some
-returns-then-is_some c =
+pub returns-clause-made : goal.returns-clause-made
+returns-clause-made c = file_is c.args.number c.args.frames c.loop-n.out.items (returns-clause-read c)
+
+pub returns-then-is_some-clause-read : goal.returns-then-is_some-clause-read
+returns-then-is_some-clause-read c =
     ends_here c.args.number c.args.frames c.loop-n.n c.loop-n.decoder c.loop-n.draws c.loop-n.out.items c.loop-n-test.true c.loop-n.invariant.far
     (λ state stands. inl (frame_breaks state _ _ _ c.in-Ok.written c.write_next-written.result.1.x (sym c.is_some.ensures ∙ c.if-is_some.true) (rw c.in-Ok.is at (c.write_next-written.ensures.gives state stands))))
 
-pub returns-then-len : goal.returns-then-len
-returns-then-len c =
+pub returns-then-is_some-clause-made : goal.returns-then-is_some-clause-made
+returns-then-is_some-clause-made c = file_is c.args.number c.args.frames c.loop-n.out.items (returns-then-is_some-clause-read c)
+
+pub returns-then-len-clause-read : goal.returns-then-len-clause-read
+returns-then-len-clause-read c =
     ends_here c.args.number c.args.frames c.loop-n.n c.loop-n.decoder c.loop-n.draws c.loop-n.out.items c.loop-n-test.true c.loop-n.invariant.far
     (λ state stands. inr (
       c.in-Ok.written.bytes.items,
@@ -60,8 +67,14 @@ returns-then-len c =
       omega (arith, c.if-len.true),
     ))
 
-pub returns-in-Err : goal.returns-in-Err
-returns-in-Err c =
+pub returns-then-len-clause-made : goal.returns-then-len-clause-made
+returns-then-len-clause-made c = file_is c.args.number c.args.frames c.loop-n.out.items (returns-then-len-clause-read c)
+
+pub returns-in_Err-clause-read : goal.returns-in_Err-clause-read
+returns-in_Err-clause-read c =
     if_ended _ _ c.ended.result c.ended.ensures
     (λ file ends. rw ends.0 (ends_here c.args.number c.args.frames c.loop-n.n c.loop-n.decoder c.loop-n.draws c.loop-n.out.items c.loop-n-test.true c.loop-n.invariant.far
     (λ state stands. inl (not_written state _ _ _ c.write_next-written.result.0 c.in-Err.why c.write_next-written.result.1.x c.in-Err.is ends.1 (c.write_next-written.ensures.gives state stands)))))
+
+pub returns-in_Err-clause-made : goal.returns-in_Err-clause-made
+returns-in_Err-clause-made c = if_ended _ _ c.ended.result (returns-in_Err-clause-read c) (λ file read. file_is c.args.number c.args.frames file.items read)

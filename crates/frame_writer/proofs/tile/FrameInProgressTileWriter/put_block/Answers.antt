@@ -5,12 +5,12 @@ use Rattle.frame_state.specs.Code.{sources_of}
 use Rattle.frame_state.proofs.BlockSteps.{all_have_small, fits_more, lies_more, small_more, starts_more, vectors_small}
 use Rattle.frame_writer.specs.Code.{held_by}
 use Rattle.frame_writer.specs.Symbols.{with_block}
-use Rattle.frame_writer.proofs.BlockTells.{block_said_so, held_more, is_listed, levels_untold, limit_same, modes_stop, nothing_told, of_here, residue_stops, room_less, to_here}
+use Rattle.frame_writer.proofs.BlockTells.{block_bools, block_said_so, held_more, is_listed, levels_untold, limit_same, modes_stop, nothing_told, of_here, residue_stops, room_less, to_here}
 use Rattle.frame_writer.proofs.tile.FrameInProgressTileWriter.put_block.Goals as goal
 
 pub returns-in_default-clause-ends : goal.returns-in_default-clause-ends
-returns-in_default-clause-ends g c = λ s here.
-    nothing_told g.S.FrameSymbols.speaker (sources_of c.args.self.now.by.now) c.args.at s _ c.args.self.now.symbols (of_here c.args.self.now.by.now c.args.self.now.places c.args.self.now.columns.items s (record { held = held_by c.args.self.now.column; by = c.args.self.now.by.now; places = c.args.self.now.places; columns = c.args.self.now.columns.items }) here) c.in_default.ensures.tells
+returns-in_default-clause-ends g c = λ s bools here.
+    nothing_told g.S.FrameSymbols.speaker (sources_of c.args.self.now.by.now) c.args.at s bools _ c.args.self.now.symbols (of_here c.args.self.now.by.now c.args.self.now.places c.args.self.now.columns.items s (record { held = held_by c.args.self.now.column; by = c.args.self.now.by.now; places = c.args.self.now.places; columns = c.args.self.now.columns.items }) here.0) c.in_default.ensures.tells
 
 pub put_mode_info-requires-clause-small : goal.put_mode_info-requires-clause-small
 put_mode_info-requires-clause-small g c = let ready = c.requires.ready in all_have_small _ ready.1.ready.small
@@ -22,8 +22,8 @@ put_mode_info-requires-clause-small_before g c =
 
 pub returns-in-Err-clause-ends : goal.returns-in-Err-clause-ends
 returns-in-Err-clause-ends g c = (
-  λ s here.
-      modes_stop g.S.FrameSymbols.speaker (sources_of c.args.self.now.by.now) c.args.at s _ c.args.self.now.symbols c.block.new.self c.in-Err.rule c.args.self.now.encoder c.put_mode_info.new.encoder (of_here c.args.self.now.by.now c.args.self.now.places c.args.self.now.columns.items s (record { held = held_by c.args.self.now.column; by = c.args.self.now.by.now; places = c.args.self.now.places; columns = c.args.self.now.columns.items }) here)
+  λ s bools here.
+      modes_stop g.S.FrameSymbols.speaker (sources_of c.args.self.now.by.now) c.args.at s bools _ c.args.self.now.symbols c.block.new.self c.in-Err.rule c.args.self.now.encoder c.put_mode_info.new.encoder (of_here c.args.self.now.by.now c.args.self.now.places c.args.self.now.columns.items s (record { held = held_by c.args.self.now.column; by = c.args.self.now.by.now; places = c.args.self.now.places; columns = c.args.self.now.columns.items }) here.0)
       (record {
         symbols = c.in-Some.symbols;
         told = c.in-Some.ensures.tells;
@@ -34,8 +34,8 @@ returns-in-Err-clause-ends g c = (
 )
 
 pub returns-then-not-levels-clause-ends : goal.returns-then-not-levels-clause-ends
-returns-then-not-levels-clause-ends g c = λ s here.
-    levels_untold g.S.FrameSymbols.speaker (sources_of c.args.self.now.by.now) c.args.at s _ c.args.self.now.symbols c.block.new.self c.in-Ok.block c.args.self.now.encoder c.put_mode_info.new.encoder (of_here c.args.self.now.by.now c.args.self.now.places c.args.self.now.columns.items s (record { held = held_by c.args.self.now.column; by = c.args.self.now.by.now; places = c.args.self.now.places; columns = c.args.self.now.columns.items }) here)
+returns-then-not-levels-clause-ends g c = λ s bools here.
+    levels_untold g.S.FrameSymbols.speaker (sources_of c.args.self.now.by.now) c.args.at s bools _ c.args.self.now.symbols c.block.new.self c.in-Ok.block c.args.self.now.encoder c.put_mode_info.new.encoder (of_here c.args.self.now.by.now c.args.self.now.places c.args.self.now.columns.items s (record { held = held_by c.args.self.now.column; by = c.args.self.now.by.now; places = c.args.self.now.places; columns = c.args.self.now.columns.items }) here.0)
     (record {
       symbols = c.in-Some.symbols;
       told = c.in-Some.ensures.tells;
@@ -47,8 +47,8 @@ returns-then-not-levels-clause-ends g c = λ s here.
 pub returns-in-Err-2-clause-ends : goal.returns-in-Err-2-clause-ends
 returns-in-Err-2-clause-ends g c =
     let tells = rw c.in-Err-2.is at (c.in_ok-listed.ensures.tells c.args.at.tile_from) in (
-      λ s here.
-          residue_stops g.S.FrameSymbols.speaker (sources_of c.args.self.now.by.now) c.args.at s _ c.args.self.now.symbols c.block.new.self c.levels.new.self c.in-Ok.block c.in-Err-2.rule c.args.self.now.encoder c.put_mode_info.new.encoder c.put_block.new.encoder (of_here c.args.self.now.by.now c.args.self.now.places c.args.self.now.columns.items s (record { held = held_by c.args.self.now.column; by = c.args.self.now.by.now; places = c.args.self.now.places; columns = c.args.self.now.columns.items }) here)
+      λ s bools here.
+          residue_stops g.S.FrameSymbols.speaker (sources_of c.args.self.now.by.now) c.args.at s bools _ c.args.self.now.symbols c.block.new.self c.levels.new.self c.in-Ok.block c.in-Err-2.rule c.args.self.now.encoder c.put_mode_info.new.encoder c.put_block.new.encoder (of_here c.args.self.now.by.now c.args.self.now.places c.args.self.now.columns.items s (record { held = held_by c.args.self.now.column; by = c.args.self.now.by.now; places = c.args.self.now.places; columns = c.args.self.now.columns.items }) here.0)
           (record {
             symbols = c.in-Some.symbols;
             told = c.in-Some.ensures.tells;
@@ -69,8 +69,8 @@ returns-clause-ends g c =
     let tells = rw c.in-Ok-2.is at (c.in_ok-listed.ensures.tells c.args.at.tile_from) in
     let sides = c.put_block.new.sides in
     let grid = c.put.ensures in (
-      λ s here.
-          let all = block_said_so g.S.FrameSymbols.speaker (sources_of c.args.self.now.by.now) c.args.at s _ c.args.self.now.symbols c.block.new.self c.levels.new.self c.in-Ok.block (tells.0, sides) c.args.self.now.encoder c.put_mode_info.new.encoder c.put_block.new.encoder (of_here c.args.self.now.by.now c.args.self.now.places c.args.self.now.columns.items s (record { held = held_by c.args.self.now.column; by = c.args.self.now.by.now; places = c.args.self.now.places; columns = c.args.self.now.columns.items }) here)
+      λ s bools here.
+          let all = block_said_so g.S.FrameSymbols.speaker (sources_of c.args.self.now.by.now) c.args.at s bools _ c.args.self.now.symbols c.block.new.self c.levels.new.self c.in-Ok.block (tells.0, sides) c.args.self.now.encoder c.put_mode_info.new.encoder c.put_block.new.encoder (of_here c.args.self.now.by.now c.args.self.now.places c.args.self.now.columns.items s (record { held = held_by c.args.self.now.column; by = c.args.self.now.by.now; places = c.args.self.now.places; columns = c.args.self.now.columns.items }) here.0) here.1
           (record {
             symbols = c.in-Some.symbols;
             told = c.in-Some.ensures.tells;
@@ -82,11 +82,13 @@ returns-clause-ends g c =
             told = c.if-not-levels.ensures.tells;
             are = tells.1;
             put = rw tells.1 at (c.in_ok-listed.ensures.puts c.args.at.tile_from);
-          }) in record {
+          }) (rw c.in-Ok-2.is at c.in_ok-listed.ensures.list) in record {
             next = with_block s (tells.0, sides);
-            held = to_here c.args.self.now.by.now c.args.self.now.places c.args.self.now.columns.items (with_block s (tells.0, sides)) (record { blocks = c.put.new.self.blocks; sides = sides }) (held_more s (held_by c.args.self.now.column) tells.0 sides c.in-Ok-2.listed c.put.new.self.blocks (of_here c.args.self.now.by.now c.args.self.now.places c.args.self.now.columns.items s (record { held = held_by c.args.self.now.column; by = c.args.self.now.by.now; places = c.args.self.now.places; columns = c.args.self.now.columns.items }) here) tells.2 (ap (λ (g : GridOf). g.blocks) grid));
+            all = block_bools (sources_of c.args.self.now.by.now) c.args.at s c.in-Ok.block c.levels.new.levels bools;
+            held = to_here c.args.self.now.by.now c.args.self.now.places c.args.self.now.columns.items (with_block s (tells.0, sides)) (record { blocks = c.put.new.self.blocks; sides = sides }) (held_more s (held_by c.args.self.now.column) tells.0 sides c.in-Ok-2.listed c.put.new.self.blocks (of_here c.args.self.now.by.now c.args.self.now.places c.args.self.now.columns.items s (record { held = held_by c.args.self.now.column; by = c.args.self.now.by.now; places = c.args.self.now.places; columns = c.args.self.now.columns.items }) here.0) tells.2 (ap (λ (g : GridOf). g.blocks) grid));
             put = all.0;
-            said = all.1;
+            list = all.1;
+            said = all.2;
           },
       record { walk = refl; teller = refl; view = refl; limit = limit_same c.args.self.now.column.grid c.put.new.self c.args.self.now.column.sides sides (ap (λ (g : GridOf). g.from) grid) (ap (λ (g : GridOf). g.to) grid) },
       room_less c.args.self.now.column.grid.room c.put.new.self.room (ap (λ (g : GridOf). g.room) grid),
