@@ -1,7 +1,8 @@
 -- The lists of a block's transform blocks, put one behind another.
-use Rattle.std.proofs.Common.{◌≡◌, ◌<◌, ◌≤◌, ◌+◌, ◌-◌, ◌*◌, ◌++◌, ℕ, true, false, List, length, get_or, take, drop}
-use Rattle.std.specs.Prelude.{slice_index, nat_lt}
+use Rattle.std.proofs.Common.{◌≡◌, ◌<◌, ◌≤◌, ◌+◌, ◌-◌, ◌*◌, ℕ, Bool, true, false, List, length, get_or, take, drop}
+use Rattle.std.specs.Prelude.{Result, IfOk, slice_index, nat_lt}
 use Rattle.std.proofs.lemmas.List.{drop_more, drop_all}
+use Rattle.vp9_types.specs.declared.rule.Rule.{Rule}
 use Rattle.vp9_types.specs.declared.shape.Plane.{Plane}
 use Rattle.vp9_types.specs.declared.shape.Plane.TheVariants.{Y, U, V}
 use Rattle.vp9_tables.specs.Scans.{area}
@@ -61,10 +62,11 @@ pub plane_none : (header : Header) (contexts : ContextLists) (b : BlockInfo) (p 
 unfolding spelled_plane
 plane_none header contexts b p levels s old skips = rw skips (spells_none old)
 
-pub plane_some : (header : Header) (contexts : ContextLists) (b : BlockInfo) (p : Plane) (levels : PlaneLevels) (s : Sides) (old new : Part) → b.skip ≡ false
-    → HasPut old (spelled_residues contexts (block_in header b p) levels (places_in (shape_of header) b p) 0 s) new → HasPut old (spelled_plane header contexts b p levels s) new
+pub plane_some : (header : Header) (contexts : ContextLists) (b : BlockInfo) (p : Plane) (levels : PlaneLevels) (s : Sides) (old new : Part) (told : Result Bool Rule) → b.skip ≡ false
+    → IfOk told (λ _. HasPut old (spelled_residues contexts (block_in header b p) levels (places_in (shape_of header) b p) 0 s) new)
+    → IfOk told (λ _. HasPut old (spelled_plane header contexts b p levels s) new)
 unfolding spelled_plane
-plane_some header contexts b p levels s old new codes put = rw codes put
+plane_some header contexts b p levels s old new told codes put = rw codes put
 
 ---- In all planes ----
 
