@@ -1,6 +1,6 @@
 //! A block in all planes of its frame.
 
-ghost use Rattle.std.specs.Prelude.{◌≡◌, ℕ, IfOk};
+ghost use Rattle.std.specs.Prelude.{ℕ, IfOk};
 ghost use Rattle.frame_headers.specs.State.{shape_of};
 ghost use Rattle.prob_contexts.specs.Lists.{lists_of};
 ghost use Rattle.bool_lists.specs.Lists.{HasPut};

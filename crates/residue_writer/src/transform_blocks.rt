@@ -1,6 +1,6 @@
 //! A transform block: its tokens, and whether they have a residue.
 
-ghost use Rattle.std.specs.Prelude.{◌≡◌, ◌<◌, ◌≤◌, ℕ, IfOk, length, nat_lt, unsigned_abs};
+ghost use Rattle.std.specs.Prelude.{◌≡◌, ◌<◌, ℕ, IfOk, length, nat_lt, unsigned_abs};
 ghost use Rattle.std.specs.List.{All};
 ghost use Rattle.prob_contexts.specs.Lists.{lists_of};
 ghost use Rattle.vp9_types.specs.Results.{map_ok};
