@@ -1,4 +1,5 @@
 pub mod ResiduePuts
 pub mod PlanePuts
 pub mod BlockPuts
+pub mod Spellings
 pub mod Lone

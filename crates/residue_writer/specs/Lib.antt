@@ -1,3 +1,4 @@
 pub mod Said
+pub mod Lists
 pub mod Fits
 pub mod Code

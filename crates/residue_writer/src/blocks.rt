@@ -1,12 +1,14 @@
 //! A block in all planes of its frame.
 
-ghost use Rattle.std.specs.Prelude.{◌≡◌, ℕ, IfOk};
+ghost use Rattle.std.specs.Prelude.{ℕ, IfOk};
 ghost use Rattle.frame_headers.specs.State.{shape_of};
 ghost use Rattle.prob_contexts.specs.Lists.{lists_of};
+ghost use Rattle.bool_lists.specs.Lists.{HasPut};
 ghost use Rattle.counting_writer.specs.Counted.{PutsTo};
 ghost use Rattle.block_residue.specs.Residues.{read_plane, read_block};
 ghost use Rattle.block_residue.specs.Code.{FitPlane, FitPlanes, IsInFrame};
 ghost use Rattle.residue_writer.specs.Said.{said_in_plane, block_said};
+ghost use Rattle.residue_writer.specs.Lists.{spelled_plane, spelled_residue};
 ghost use Rattle.residue_writer.specs.Fits.{CanPutIn, CanPutBlock};
 ghost use Rattle.residue_writer.specs.Code.{TellsPlane, TellsBlock};
 
@@ -35,6 +37,7 @@ fn put_plane(
     ensures puts { IfOk result (λ _. PutsTo (read_plane setting.now.header (lists_of setting.now.contexts) block.now plane sides.old) encoder.old
         (said_in_plane setting.now.header block.now plane levels.now sides.old) encoder.new) }
     ensures tells { IfOk result (λ told. TellsPlane (said_in_plane setting.now.header block.now plane levels.now sides.old) told sides.new) }
+    ensures spells { IfOk result (λ told. IfOk told (λ _. HasPut encoder.old (spelled_plane setting.now.header (lists_of setting.now.contexts) block.now plane levels.now sides.old) encoder.new)) }
     ensures fit { FitPlane (shape_of setting.now.header) plane sides.new }
 {
     let b = BlockInPlane::of(&setting.header, block, plane);
@@ -63,6 +66,7 @@ pub fn put_block(
     ensures puts { IfOk result (λ _. (tile_from : ℕ) → PutsTo (read_block setting.now.header (lists_of setting.now.contexts) tile_from block.now sides.old) encoder.old
         (block_said setting.now.header tile_from block.now levels.now sides.old) encoder.new) }
     ensures tells { IfOk result (λ told. (tile_from : ℕ) → TellsBlock (block_said setting.now.header tile_from block.now levels.now sides.old) told sides.new) }
+    ensures spells { IfOk result (λ told. IfOk told (λ _. HasPut encoder.old (spelled_residue setting.now.header (lists_of setting.now.contexts) block.now levels.now sides.old) encoder.new)) }
     ensures fit { FitPlanes (shape_of setting.now.header) sides.new }
 {
     let luma = match put_plane(encoder, setting, block, Plane::Y, &mut sides.y, &levels.y)? {

@@ -4,12 +4,14 @@ ghost use Rattle.std.specs.Prelude.{◌≡◌, IfOk, []};
 ghost use Rattle.std.specs.List.{All};
 ghost use Rattle.block_geometry.specs.Code.{IsSmallGrid};
 ghost use Rattle.block_geometry.specs.TransformBlocks.{grid_blocks, tx_step};
+ghost use Rattle.bool_lists.specs.Lists.{HasPut};
 ghost use Rattle.counting_reader.specs.Counting.{through};
 ghost use Rattle.counting_writer.specs.Counted.{PutsTo};
 ghost use Rattle.prob_contexts.specs.Lists.{lists_of};
 ghost use Rattle.block_residue.specs.Residues.{read_next};
 ghost use Rattle.block_residue.specs.Code.{IsBeside, KeepsLengths};
 ghost use Rattle.residue_writer.specs.Said.{residues_said};
+ghost use Rattle.residue_writer.specs.Lists.{spelled_residues};
 ghost use Rattle.residue_writer.specs.Fits.{CanPutAll};
 ghost use Rattle.residue_writer.specs.Code.{TellsPlane};
 
@@ -40,6 +42,7 @@ pub(crate) fn put_residues(
     ensures puts { IfOk result (λ _. PutsTo (through (read_next (lists_of contexts.now) b.now) (grid_blocks grid.now) (record { residues = []; sides = sides.old })) encoder.old
         (residues_said b.now levels.now (grid_blocks grid.now) 0 (record { residues = []; sides = sides.old })) encoder.new) }
     ensures tells { IfOk result (λ told. TellsPlane (residues_said b.now levels.now (grid_blocks grid.now) 0 (record { residues = []; sides = sides.old })) told sides.new) }
+    ensures spells { IfOk result (λ told. IfOk told (λ _. HasPut encoder.old (spelled_residues (lists_of contexts.now) b.now levels.now (grid_blocks grid.now) 0 sides.old) encoder.new)) }
     ensures lengths { KeepsLengths sides.old sides.new }
 {
     let area = area_of(b.block.tx);

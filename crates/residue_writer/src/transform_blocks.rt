@@ -1,16 +1,18 @@
 //! A transform block: its tokens, and whether they have a residue.
 
-ghost use Rattle.std.specs.Prelude.{◌≡◌, ◌<◌, ◌≤◌, ℕ, IfOk, length, nat_lt, unsigned_abs};
+ghost use Rattle.std.specs.Prelude.{◌≡◌, ◌<◌, ℕ, IfOk, length, nat_lt, unsigned_abs};
 ghost use Rattle.std.specs.List.{All};
 ghost use Rattle.prob_contexts.specs.Lists.{lists_of};
 ghost use Rattle.vp9_types.specs.Results.{map_ok};
 ghost use Rattle.vp9_tables.specs.Scans.{area};
+ghost use Rattle.bool_lists.specs.Lists.{HasPut};
 ghost use Rattle.counting_writer.specs.Counted.{PutsTo};
 ghost use Rattle.token_writer.specs.Fits.{IsCoded};
 ghost use Rattle.block_residue.specs.BlocksInPlanes.{type_at};
 ghost use Rattle.block_residue.specs.Residues.{read_residue, with_sides};
 ghost use Rattle.block_residue.specs.Code.{IsBeside, KeepsLengths};
 ghost use Rattle.residue_writer.specs.Said.{residue_said};
+ghost use Rattle.residue_writer.specs.Lists.{spelled_at};
 ghost use Rattle.residue_writer.specs.Fits.{CanPutAt};
 ghost use Rattle.residue_writer.specs.Code.{TellsAny};
 
@@ -58,6 +60,7 @@ pub(crate) fn put_residue(
     ensures puts { IfOk result (λ _. PutsTo (read_residue (lists_of contexts.now) b.now at.0 at.1 sides.old) encoder.old
         (map_ok (λ r. (r, with_sides b.now.block at.0 at.1 (nat_lt 0 coded.now.count) sides.old)) (residue_said b.now at.0 at.1 coded.now.count coded.now.levels.now)) encoder.new) }
     ensures tells { IfOk result (λ told. TellsAny (residue_said b.now at.0 at.1 coded.now.count coded.now.levels.now) told) }
+    ensures spells { IfOk result (λ _. HasPut encoder.old (spelled_at (lists_of contexts.now) b.now at coded.now.count coded.now.levels.now sides.old) encoder.new) }
     ensures sides { IfOk result (λ _. sides.new ≡ with_sides b.now.block at.0 at.1 (nat_lt 0 coded.now.count) sides.old) }
     ensures lengths { KeepsLengths sides.old sides.new }
 {

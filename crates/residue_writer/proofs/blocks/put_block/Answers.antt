@@ -1,6 +1,7 @@
 use Rattle.prob_contexts.specs.Lists.{lists_of}
 use Rattle.block_residue.specs.declared.sides.TileSides.{TileSides}
 use Rattle.residue_writer.proofs.BlockPuts.{first_broken, second_broken, third_broken, all_put}
+use Rattle.residue_writer.proofs.Spellings.{three_spelled}
 use Rattle.residue_writer.proofs.blocks.put_block.Goals as goal
 
 pub returns-in-Err-clause-puts : goal.returns-in-Err-clause-puts
@@ -62,3 +63,11 @@ returns-clause-tells c = λ tile_from.
     let t : TileSides = record { y = c.put_plane.new.sides; u = c.put_plane-2.new.sides; v = c.put_plane-3.new.sides } in
     (all_put c.args.setting.now.header (lists_of c.args.setting.now.contexts) tile_from c.args.block.now c.listed.result c.args.levels.now c.args.sides.now t c.args.encoder.now c.put_plane.new.encoder c.put_plane-2.new.encoder c.put_plane-3.new.encoder
     c.in-Ok.any c.in-Ok-2.any c.in-Ok-3.any c.in_ok-any.ensures.puts y c.in_ok-any-2.ensures.puts u c.in_ok-any-3.ensures.puts v c.listed.ensures).1
+
+pub returns-clause-spells : goal.returns-clause-spells
+returns-clause-spells c =
+    let y = rw c.in-Ok.is at c.in_ok-any.ensures.spells in
+    let u = rw c.in-Ok-2.is at c.in_ok-any-2.ensures.spells in
+    let v = rw c.in-Ok-3.is at c.in_ok-any-3.ensures.spells in
+    three_spelled c.args.setting.now.header (lists_of c.args.setting.now.contexts) c.args.block.now c.args.levels.now c.args.sides.now c.args.encoder.now c.put_plane.new.encoder c.put_plane-2.new.encoder c.put_plane-3.new.encoder
+    y u v

@@ -5,6 +5,7 @@ use Rattle.frame_headers.specs.State.{shape_of}
 use Rattle.prob_contexts.specs.Lists.{lists_of}
 use Rattle.block_residue.proofs.BlockReads.{all_beside}
 use Rattle.residue_writer.proofs.BlockPuts.{plane_skipped, plane_coded}
+use Rattle.residue_writer.proofs.Spellings.{plane_none, plane_some}
 use Rattle.residue_writer.proofs.blocks.put_plane.Goals as goal
 
 pub returns-then-block-clause-puts : goal.returns-then-block-clause-puts
@@ -42,3 +43,16 @@ returns-clause-tells c =
     sym c.transform_grid-grid.ensures.blocks ∙ (λ i. transform_blocks (c.args.setting.now.whole i) (is i).block) in
     (plane_coded c.args.setting.now.header (lists_of c.args.setting.now.contexts) c.args.block.now c.args.plane c.args.levels.now c.args.sides.now _ _ _ c.in_ok-any.any
     c.if-block.false (rw (is, same) at c.in_ok-any.ensures.puts) (rw (is, same) at c.in_ok-any.ensures.tells)).1
+
+pub returns-then-block-clause-spells : goal.returns-then-block-clause-spells
+returns-then-block-clause-spells c =
+    plane_none c.args.setting.now.header (lists_of c.args.setting.now.contexts) c.args.block.now c.args.plane c.args.levels.now c.args.sides.now c.args.encoder.now c.if-block.true
+
+pub returns-clause-spells : goal.returns-clause-spells
+returns-clause-spells c =
+    let shape = shape_of c.args.setting.now.header in
+    let is = c.of-b.ensures in
+    let same : grid_blocks c.transform_grid-grid.result ≡ places_in shape c.args.block.now c.args.plane =
+    sym c.transform_grid-grid.ensures.blocks ∙ (λ i. transform_blocks (c.args.setting.now.whole i) (is i).block) in
+    plane_some c.args.setting.now.header (lists_of c.args.setting.now.contexts) c.args.block.now c.args.plane c.args.levels.now c.args.sides.now c.args.encoder.now _ c.in_ok-any.any
+    c.if-block.false (rw (is, same) at c.in_ok-any.ensures.spells)

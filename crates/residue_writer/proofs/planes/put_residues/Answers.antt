@@ -6,12 +6,14 @@ use Rattle.block_plan.proofs.Held.{one_long}
 use Rattle.prob_contexts.specs.Lists.{lists_of}
 use Rattle.block_residue.proofs.PlaneReads.{beside_at}
 use Rattle.residue_writer.proofs.PlanePuts.{passes_none, passes_on, breaks_here, ends_all, put_at, told_at}
+use Rattle.residue_writer.proofs.Spellings.{spelled_here, spells_begin, spells_go, spells_end}
 use Rattle.residue_writer.proofs.planes.put_residues.Goals as goal
 
 pub loop-k-init : goal.loop-k-init
 loop-k-init c = record {
   lengths = record { above = refl; left = refl };
   passes = passes_none (lists_of c.args.contexts.now) c.args.b.now c.args.levels.now (grid_blocks c.args.grid.now) c.args.sides.now c.args.encoder.now;
+  spells = spells_begin (lists_of c.args.contexts.now) c.args.b.now c.args.levels.now (grid_blocks c.args.grid.now) c.args.sides.now c.args.encoder.now;
 }
 
 pub put_residue-requires-clause-beside : goal.put_residue-requires-clause-beside
@@ -45,6 +47,9 @@ loop-k-preserved c =
     let told = told_at c.args.b.now c.args.levels.now _ c.loop-k.k _ _ _ (Ok c.in-Ok.some) c.area_of-area.ensures.value c.place.ensures.place (rw c.in-Ok.is at c.in_ok-some.ensures.tells) in record {
       lengths = record { above = c.in_ok-some.ensures.lengths.above ∙ c.loop-k.invariant.lengths.above; left = c.in_ok-some.ensures.lengths.left ∙ c.loop-k.invariant.lengths.left };
       passes = passes_on (lists_of c.args.contexts.now) c.args.b.now c.args.levels.now (grid_blocks c.args.grid.now) c.args.sides.now _ _ _ _ _ c.loop-k.k c.loop-k.any c.in-Ok.some low c.loop-k.invariant.passes put told (rw c.place.ensures.place c.in_ok-some.ensures.sides);
+      spells = spells_go (lists_of c.args.contexts.now) c.args.b.now c.args.levels.now (grid_blocks c.args.grid.now) c.args.sides.now _ _ _ _ _ c.loop-k.k low c.loop-k.invariant.spells
+          (spelled_here (lists_of c.args.contexts.now) c.args.b.now c.args.levels.now _ _ c.loop-k.k _ _ _ _ c.area_of-area.ensures.value c.place.ensures.place c.in_ok-some.ensures.spells)
+          (rw c.place.ensures.place c.in_ok-some.ensures.sides);
     }
 
 pub returns-clause-puts : goal.returns-clause-puts
@@ -56,3 +61,8 @@ pub returns-clause-tells : goal.returns-clause-tells
 returns-clause-tells c =
     let all : length (grid_blocks c.args.grid.now) ≤ c.loop-k.k = rw (length_grid c.args.grid.now) (omega (arith, c.loop-k-test.false, c.count-k-end.ensures.count)) in
     (ends_all (lists_of c.args.contexts.now) c.args.b.now c.args.levels.now (grid_blocks c.args.grid.now) c.args.sides.now _ _ _ c.loop-k.k c.loop-k.any all c.loop-k.invariant.passes).1
+
+pub returns-clause-spells : goal.returns-clause-spells
+returns-clause-spells c =
+    let all : length (grid_blocks c.args.grid.now) ≤ c.loop-k.k = rw (length_grid c.args.grid.now) (omega (arith, c.loop-k-test.false, c.count-k-end.ensures.count)) in
+    spells_end (lists_of c.args.contexts.now) c.args.b.now c.args.levels.now (grid_blocks c.args.grid.now) c.args.sides.now _ _ _ c.loop-k.k all c.loop-k.invariant.spells

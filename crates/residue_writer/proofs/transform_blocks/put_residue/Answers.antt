@@ -2,6 +2,10 @@ use Rattle.std.proofs.Common.{ap}
 use Rattle.prob_contexts.specs.Lists.{lists_of}
 use Rattle.coef_tokens.specs.Blocks.{block_tables}
 use Rattle.coef_tokens.specs.declared.tables.TokenKind.{TokenKind}
+use Rattle.block_residue.specs.BlocksInPlanes.{token_kind}
+use Rattle.block_residue.specs.Residues.{first_context}
+use Rattle.level_lists.proofs.PlaceWays.{kinds_way}
+use Rattle.residue_writer.specs.Lists.{spelled_at}
 use Rattle.residue_writer.proofs.ResiduePuts.{residue_put}
 use Rattle.residue_writer.proofs.transform_blocks.put_residue.Goals as goal
 
@@ -17,3 +21,10 @@ returns-clause-puts c =
 
 pub returns-clause-tells : goal.returns-clause-tells
 returns-clause-tells c = c.residue_said.ensures c.args.at.0 c.args.at.1 (ap (λ (k : TokenKind). k.kind) c.token_kind-kind.ensures)
+
+pub returns-clause-spells : goal.returns-clause-spells
+unfolding spelled_at
+returns-clause-spells c =
+    let a = c.args in
+    kinds_way (lists_of a.contexts.now) (token_kind a.b.now a.at.0 a.at.1) (first_context a.b.now.block a.at.0 a.at.1 a.sides.now) a.coded.now.levels.now a.coded.now.count _ _
+    (rw (c.new-tables.ensures.are, c.token_kind-kind.ensures, c.first_context-first.ensures.value) at c.in_ok-put_tokens.ensures)

@@ -82,7 +82,7 @@ returns-clause-ends g c =
             told = c.if-not-levels.ensures.tells;
             are = tells.1;
             put = rw tells.1 at (c.in_ok-listed.ensures.puts c.args.at.tile_from);
-          }) (rw c.in-Ok-2.is at c.in_ok-listed.ensures.list) in record {
+          }) (rw c.in-Ok-2.is at c.in_ok-listed.ensures.spells) in record {
             next = with_block s (tells.0, sides);
             all = block_bools (sources_of c.args.self.now.by.now) c.args.at s c.in-Ok.block c.levels.new.levels bools;
             held = to_here c.args.self.now.by.now c.args.self.now.places c.args.self.now.columns.items (with_block s (tells.0, sides)) (record { blocks = c.put.new.self.blocks; sides = sides }) (held_more s (held_by c.args.self.now.column) tells.0 sides c.in-Ok-2.listed c.put.new.self.blocks (of_here c.args.self.now.by.now c.args.self.now.places c.args.self.now.columns.items s (record { held = held_by c.args.self.now.column; by = c.args.self.now.by.now; places = c.args.self.now.places; columns = c.args.self.now.columns.items }) here.0) tells.2 (ap (λ (g : GridOf). g.blocks) grid));
