@@ -235,7 +235,7 @@ opened_ends : {S H T : Type 0} (old mid new : Tile S H T) (at : SquareAt) (p : P
     → IsOf old at → IsOpened old at p mid → EndsTile (f p) n mid result new → EndsTile (opened_rest old at.level at.row at.col f) n old result new
 opened_ends {S = S} old mid new at p f n result of opened h =
     let here : SquareAt = square_at old.walk at.level at.row at.col in
-    let put = λ s holds. subst (λ (q : SquareAt). PutsValue (asked old.walk q s) old.part p mid.part) (square_is old at of) (opened.put s holds) in
+    let put : (s : S) → old.view s ≡ old.held → PutsValue (asked old.walk here s) old.part p mid.part = λ s holds. subst (λ (q : SquareAt). PutsValue (asked old.walk q s) old.part p mid.part) (square_is old at of) (opened.put s holds) in
     symbol_ends old mid new (asked old.walk here) (spelled_at old.walk here) (told_partition old.walk old.teller at.level at.row at.col) p f n result
     (record {
       put = put;
