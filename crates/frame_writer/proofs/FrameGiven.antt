@@ -1,6 +1,6 @@
 -- A frame's bytes are read back as its header and its tiles.
 use Rattle.std.proofs.Common.{◌≡◌, ◌∙◌, ℕ, zero, suc, ◌+◌, ◌-◌, ◌*◌, ◌/◌, ◌^◌, ◌<◌, ◌≤◌, List, [], ◌∷◌, ◌++◌, Bool, true, false, length, refl, sym, ap, subst, inr, append_assoc, arith}
-use Rattle.std.specs.Prelude.{IfOk, IfSome, Option, Some, None, Result, Ok, Err, ◌==◌, nat_le, nat_lt, slice_index, slice_range, if◌then◌else◌}
+use Rattle.std.specs.Prelude.{IfSome, Option, Some, None, Result, Ok, Err, ◌==◌, nat_le, nat_lt, slice_index, slice_range, if◌then◌else◌}
 use Rattle.std.proofs.lemmas.Bool.{le-ltb}
 use Rattle.std.proofs.lemmas.List.{append-nil, length-append}
 use Rattle.vp9_types.specs.declared.block.Modes.{Modes}
@@ -25,13 +25,13 @@ use Rattle.prob_contexts.specs.declared.contexts.Contexts.{Contexts}
 use Rattle.frame_state.specs.Reading.{read_all_tiles, FrameRead}
 use Rattle.frame_state.specs.Sources.{FramePast, FrameSources}
 use Rattle.frame_writer.specs.Bytes.{IsLaidOut, frame_bytes, tile_bytes, with_size, without_index}
-use Rattle.frame_writer.specs.Code.{AreHeaders, AreTiles, GivesAll, GivesFrame, GivesRest, IsFrame, IsTooLong, IsUntold, ReadsFrame, compressed_size, input_with, sources_with}
+use Rattle.frame_writer.specs.Code.{AreHeaders, AreTiles, GivesAll, GivesFrame, GivesRest, IsBytes, IsFrame, IsTooLong, IsUntold, ReadsFrame, compressed_size, input_with, sources_with}
 use Rattle.frame_writer.specs.Symbols.{Speaker}
 use Rattle.frame_writer.specs.declared.frame.FrameToWrite.{FrameToWrite}
 use Rattle.frame_writer.specs.declared.written.NotWritten.{NotWritten}
 use Rattle.frame_writer.specs.declared.written.NotWritten.TheVariants.{Unsaid, TooLong, OutOfMemory}
 use Rattle.frame_writer.specs.declared.written.Written.{Written}
-use Rattle.frame_writer.proofs.OneBytes.{IsBytes, laid_is}
+use Rattle.frame_writer.proofs.OneBytes.{laid_is}
 use Rattle.frame_writer.proofs.SpansRead.{all_read, in_middle}
 use Rattle.frame_state.proofs.TileSpans.{frame_reads, tiles_break}
 
@@ -59,7 +59,7 @@ abbrev span_at : List ℕ → List ℕ → Span
 span_at front compressed = record { from = length front; to = length front + length compressed }
 
 -- the lists of bools of its tiles, where they break no rule
-lists_in : {T : Type 0} (speaker : Speaker T) (by : FrameSources) (t new : T) (front out : List ℕ) (broken : Option Rule) → GivesAll speaker by t front broken out new → Option (List BoolList)
+abbrev lists_in : {T : Type 0} (speaker : Speaker T) (by : FrameSources) (t new : T) (front out : List ℕ) (broken : Option Rule) → GivesAll speaker by t front broken out new → Option (List BoolList)
 lists_in speaker by t new front out None gives = Some gives.1
 lists_in speaker by t new front out (Some rule) gives = None
 
@@ -163,23 +163,23 @@ sized_so : (before : Persist) (frame : FrameToWrite) (past : FramePast) (old : C
 sized_so before frame past old header bytes from h = sources_are before frame past old header bytes h ∙ ap (sources_with frame past) (size_is before frame past old header bytes from h)
 
 frame_by : {T : Type 0} (speaker : Speaker T) (before : Persist) (frame : FrameToWrite) (past : FramePast) (t new : T) (old : Contexts) (header : Header) (bytes : List ℕ) (result : Result Written NotWritten)
-    → past.contexts ≡ lists_of old → AreHeaders before frame old header bytes → IfOk result (λ w. IsBytes w.bytes.items) → GivesRest speaker (sources_by header frame past) t bytes result new
+    → past.contexts ≡ lists_of old → AreHeaders before frame old header bytes → GivesRest speaker (sources_by header frame past) t bytes result new
     → GivesFrame speaker before frame past t result new
-frame_by speaker before frame past t new old header bytes (Ok w) from h low gives =
+frame_by speaker before frame past t new old header bytes (Ok w) from h gives =
     let holds = rw h.size at h.holds in
     let spelled = rw h.size at h.spelled in
-    let all = subst (λ by. GivesAll speaker by t bytes w.broken gives.0 new) (sources_are before frame past old header bytes h) gives.2 in
+    let all = subst (λ by. GivesAll speaker by t bytes w.broken gives.0 new) (sources_are before frame past old header bytes h) gives.3 in
     subst (λ size. IsFrame speaker before frame past size t w.bytes.items w.broken new) (size_is before frame past old header bytes from h)
-    (rw gives.1 (frame_is speaker before frame past t new h.front h.compressed gives.0 w.broken old from h.makes h.bools holds spelled h.short (subst IsBytes gives.1 low) (rw h.put at all)))
-frame_by speaker before frame past t new old header bytes (Err Unsaid) from h low gives = subst (λ by. IsUntold speaker by t) (sized_so before frame past old header bytes from h) gives
-frame_by speaker before frame past t new old header bytes (Err TooLong) from h low gives = inr (subst (λ by. IsTooLong speaker by t) (sized_so before frame past old header bytes from h) gives)
-frame_by speaker before frame past t new old header bytes (Err OutOfMemory) from h low gives = tt
+    (rw gives.1 (frame_is speaker before frame past t new h.front h.compressed gives.0 w.broken old from h.makes h.bools holds spelled h.short (subst IsBytes gives.1 gives.2) (rw h.put at all)))
+frame_by speaker before frame past t new old header bytes (Err Unsaid) from h gives = subst (λ by. IsUntold speaker by t) (sized_so before frame past old header bytes from h) gives
+frame_by speaker before frame past t new old header bytes (Err TooLong) from h gives = inr (subst (λ by. IsTooLong speaker by t) (sized_so before frame past old header bytes from h) gives)
+frame_by speaker before frame past t new old header bytes (Err OutOfMemory) from h gives = tt
 
 pub frame_given : {T : Type 0} (speaker : Speaker T) (before : Persist) (frame : FrameToWrite) (past : FramePast) (by : FrameSources) (t new : T) (old : Contexts) (header : Header) (bytes : List ℕ) (result : Result Written NotWritten)
-    → past.contexts ≡ lists_of old → AreHeaders before frame old header bytes → by ≡ sources_by header frame past → IfOk result (λ w. IsBytes w.bytes.items) → GivesRest speaker by t bytes result new
+    → past.contexts ≡ lists_of old → AreHeaders before frame old header bytes → by ≡ sources_by header frame past → GivesRest speaker by t bytes result new
     → GivesFrame speaker before frame past t result new
-frame_given speaker before frame past by t new old header bytes result from h is low gives =
-    frame_by speaker before frame past t new old header bytes result from h low (subst (λ by. GivesRest speaker by t bytes result new) is gives)
+frame_given speaker before frame past by t new old header bytes result from h is gives =
+    frame_by speaker before frame past t new old header bytes result from h (subst (λ by. GivesRest speaker by t bytes result new) is gives)
 
 least_low : (test : ℕ → Bool) (k n : ℕ) → least test k n ≤ n + k
 least_low test zero n = omega arith

@@ -3,6 +3,7 @@ use Rattle.std.proofs.Common.{◌≡◌, ◌∙◌, ℕ, zero, suc, ◌+◌, ◌
 use Rattle.std.specs.Prelude.{Some, map, get_or, slice_index, ◌==◌, if◌then◌else◌}
 use Rattle.std.specs.List.{flat_map}
 use Rattle.std.proofs.lemmas.List.{append-nil, length-append}
+use Rattle.byteorder.specs.Endian.{big_bytes}
 use Rattle.vp9_types.specs.Bits.{bits_of, bits_of_byte, number_of, spelled}
 use Rattle.vp9_types.proofs.Spells.{length-spelled}
 use Rattle.bool_encoder.specs.Part.{Part, Finishes, marked}
@@ -15,11 +16,8 @@ use Rattle.header_writer.specs.Fields.{IsPadded}
 use Rattle.header_writer.specs.Spelling.{IsSpelled, bits_put, spelled_header}
 use Rattle.header_writer.specs.declared.choices.Choices.{Choices}
 use Rattle.frame_state.specs.Sources.{FrameSources}
+use Rattle.frame_writer.specs.Code.{IsBytes}
 use Rattle.frame_writer.specs.Bytes.{AreAllBytesOf, AreBytesOf, IsLaidOut, bytes_of, bytes_of_bits, compressed_bools, frame_bytes, header_bytes, joined, padded, sized, tile_bytes, without_index}
-
--- numbers of eight bits
-abbrev pub IsBytes : List ℕ → Type 0
-IsBytes bytes = (i : ℕ) → get_or bytes i 0 < 256
 
 first_bytes : (a b : List ℕ) → IsBytes (a ++ b) → IsBytes a
 first_bytes [] b h zero = omega arith
@@ -87,7 +85,7 @@ tiles_are (bools ∷ []) (tile ∷ other ∷ tiles) last h low = absurd h.1
 tiles_are (bools ∷ next ∷ lists) (tile ∷ tiles) last h low =
     let split : tile_bytes (tile ∷ tiles) last ≡ sized tile ++ tile_bytes tiles last = append_assoc (sized tile) (flat_map sized tiles) last in
     let both : IsBytes (sized tile ++ tile_bytes tiles last) = subst IsBytes split low in
-    let own = last_bytes _ tile (first_bytes (sized tile) (tile_bytes tiles last) both) in
+    let own = last_bytes (big_bytes 4 (length tile)) tile (first_bytes (sized tile) (tile_bytes tiles last) both) in
     let rest = tiles_are (next ∷ lists) tiles last h.1 (last_bytes (sized tile) (tile_bytes tiles last) both) in
     split ∙ (λ i. sized (bools_are bools tile h.0 own i) ++ rest i)
 
@@ -106,10 +104,10 @@ pub laid_is : (before : Persist) (choices : Choices) (by : FrameSources) (lists 
 unfolding frame_bytes
 laid_is before choices by lists bytes laid low =
     let rest = tile_bytes laid.tiles laid.last in
-    let all : IsBytes (laid.front ++ (laid.compressed ++ rest)) = indexed (laid.front ++ (laid.compressed ++ rest)) (subst IsBytes laid.put low) in
-    let behind = last_bytes laid.front (laid.compressed ++ rest) all in
-    let front = header_are before choices (Coded by.header) laid.front laid.spelled (first_bytes laid.front (laid.compressed ++ rest) all) in
+    let all : IsBytes (laid.front ++ laid.compressed ++ rest) = indexed (laid.front ++ laid.compressed ++ rest) (subst IsBytes laid.put low) in
+    let headers = first_bytes (laid.front ++ laid.compressed) rest all in
+    let front = header_are before choices (Coded by.header) laid.front laid.spelled (first_bytes laid.front laid.compressed headers) in
     let updates = laid.updates in
-    let compressed = put_are (compressed_bools by) updates.part laid.compressed updates.spelled updates.ends (first_bytes laid.compressed rest behind) in
-    let tiles = tiles_are lists laid.tiles laid.last laid.exact (last_bytes laid.compressed rest behind) in
-    laid.put ∙ (λ i. without_index (front i ++ (compressed i ++ tiles i)))
+    let compressed = put_are (compressed_bools by) updates.part laid.compressed updates.spelled updates.ends (last_bytes laid.front laid.compressed headers) in
+    let tiles = tiles_are lists laid.tiles laid.last laid.exact (last_bytes (laid.front ++ laid.compressed) rest all) in
+    laid.put ∙ (λ i. without_index (front i ++ compressed i ++ tiles i))

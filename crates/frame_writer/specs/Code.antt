@@ -1,5 +1,5 @@
 -- What a frame's writer keeps, and what its calls answer.
-use Rattle.std.specs.Prelude.{◌≡◌, ◌≤◌, ◌<◌, ◌⊎◌, ℕ, ◌+◌, ◌-◌, ◌^◌, Bool, true, false, List, [], ◌∷◌, ◌++◌, map, length, Option, Some, None, IfSome, Result, Ok, Err}
+use Rattle.std.specs.Prelude.{◌≡◌, ◌≤◌, ◌<◌, ◌⊎◌, ℕ, ◌+◌, ◌-◌, ◌^◌, Bool, true, false, List, [], ◌∷◌, ◌++◌, map, length, get_or, Option, Some, None, IfSome, Result, Ok, Err}
 use Rattle.std.specs.List.{flat_map, All}
 use Rattle.vp9_types.specs.Syntax.{Syntax}
 use Rattle.vp9_types.specs.declared.rule.Rule.{Rule}
@@ -188,9 +188,13 @@ GivesTiles speaker by t front (Err Unsaid) out new = IsUntold speaker by t
 GivesTiles speaker by t front (Err TooLong) out new = IsTooLong speaker by t
 GivesTiles speaker by t front (Err OutOfMemory) out new = Unit {0}
 
+-- numbers of eight bits
+abbrev pub IsBytes : List ℕ → Type 0
+IsBytes bytes = (i : ℕ) → get_or bytes i 0 < 256
+
 -- with the end of the frame behind them
 abbrev pub GivesRest : {T : Type 0} → Speaker T → FrameSources → T → List ℕ → Result Written NotWritten → T → Type 0
-GivesRest speaker by t front (Ok w) new = (out : List ℕ) × (w.bytes.items ≡ without_index out) × GivesAll speaker by t front w.broken out new
+GivesRest speaker by t front (Ok w) new = (out : List ℕ) × (w.bytes.items ≡ without_index out) × IsBytes w.bytes.items × GivesAll speaker by t front w.broken out new
 GivesRest speaker by t front (Err Unsaid) new = IsUntold speaker by t
 GivesRest speaker by t front (Err TooLong) new = IsTooLong speaker by t
 GivesRest speaker by t front (Err OutOfMemory) new = Unit {0}

@@ -13,7 +13,7 @@ ghost use Rattle.frame_state.specs.Columns.{AreTileColumns};
 ghost use Rattle.frame_state.specs.Past.{IsPastOf, past_of};
 ghost use Rattle.frame_state.specs.Reading.{nothing_read};
 ghost use Rattle.frame_writer.specs.Bytes.{with_size, without_index};
-ghost use Rattle.frame_writer.specs.Code.{GivesFrame, GivesHeaders, GivesRest, HoldsColumns};
+ghost use Rattle.frame_writer.specs.Code.{GivesFrame, GivesHeaders, GivesRest, HoldsColumns, IsBytes};
 
 use crate::symbols::FrameSymbols;
 use crate::tile::FrameInProgress;
@@ -115,7 +115,8 @@ fn write_headers(
 #[tactic(auto, unfolding(crate::specs::Bytes::without_index))]
 fn end_frame(bytes: &mut Vec<u8>) -> Result<(), AllocError>
     requires { 1 ≤ length bytes.old.items }
-    ensures { OnOk result (bytes.new.items ≡ without_index bytes.old.items) }
+    ensures ends { OnOk result (bytes.new.items ≡ without_index bytes.old.items) }
+    ensures bytes { OnOk result (IsBytes bytes.new.items) }
 {
     if bytes[bytes.len() - 1] / 32 == 6 {
         bytes.extend_from_slice(&[0])?;

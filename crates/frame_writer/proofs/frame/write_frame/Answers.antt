@@ -17,4 +17,4 @@ returns g c =
     frame_given g.S.FrameSymbols.speaker c.args.persist.now c.args.frame.now (past_of c.args.past) (sources_of (record { setting = c.new-setting.result; past = c.args.past })) c.args.symbols c.write_behind.result.1
     c.args.past.contexts.now c.in-Ok.headers.header c.in-Ok.headers.bytes.items c.write_behind.result.0 refl c.in-Ok.ensures
     (λ i. record { header = c.new-setting.ensures.header i; modes = c.new-setting.ensures.modes i; contexts = lists_of (c.new-setting.ensures.contexts i); past = past_of c.args.past })
-    ? c.write_behind.ensures
+    c.write_behind.ensures
