@@ -19,7 +19,8 @@ use Rattle.seq_decoder.proofs.Slots.{coded_persists, shown_stays}
 use Rattle.stream_forge.specs.Code.{IsMadeAfter}
 use Rattle.stream_forge.specs.Reads.{IsFrameOf}
 use Rattle.frame_writer.specs.Bytes.{header_bytes}
-use Rattle.frame_writer.proofs.OneBytes.{IsBytes, header_are}
+use Rattle.frame_writer.specs.Code.{IsBytes}
+use Rattle.frame_writer.proofs.OneBytes.{header_are}
 
 shown_alone : (items old bytes : List ℕ) → items ≡ old ++ bytes → old ≡ [] → items ≡ bytes
 shown_alone items old bytes is none = is ∙ ap (λ l. l ++ bytes) none

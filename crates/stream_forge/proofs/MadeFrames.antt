@@ -25,7 +25,7 @@ use Rattle.frame_state.specs.Tiles.{column_of}
 use Rattle.tile_writer.specs.Said.{Said, SaidSoFar}
 use Rattle.tile_writer.specs.declared.unwritten.Unwritten.{Unwritten}
 use Rattle.tile_writer.specs.declared.unwritten.Unwritten.TheVariants as unwritten
-use Rattle.frame_writer.specs.Bytes.{bytes_of, bytes_of_bits, frame_bytes, joined, padded, sized, without_index}
+use Rattle.frame_writer.specs.Bytes.{bytes_of, bytes_of_bits, compressed_bools, frame_bytes, header_bytes, joined, padded, sized, without_index}
 use Rattle.frame_writer.specs.Code.{IsLong, IsLongTile, IsTooLong}
 use Rattle.frame_writer.specs.Frames.{FrameTold, frame_told, nth_syntax, nth_tile_told, nth_told, said_of, tiles_told, told_so_far, with_tile_said}
 use Rattle.frame_writer.specs.Symbols.{Speaker}
@@ -121,11 +121,9 @@ index_long bytes = by_test (slice_index bytes (length bytes - 1) / 32 == 6)
 frame_long : (before : Persist) (choices : Choices) (by : FrameSources) (b : BoolList) (lists : List BoolList) → Has b lists → bytes_taken b ≤ length (frame_bytes before choices by lists)
 unfolding frame_bytes
 frame_long before choices by b lists has =
-    let rest = tiles_long b lists has in
-    let two = length-append (bytes_of _) (joined (map bytes_of lists)) in
-    let three = length-append _ (bytes_of _ ++ joined (map bytes_of lists)) in
-    let all = index_long _ in
-    omega (arith, rest, two, three, all)
+    let headers = header_bytes before choices (Coded by.header) ++ bytes_of (compressed_bools by) in
+    let tiles = joined (map bytes_of lists) in
+    omega (arith, tiles_long b lists has, length-append headers tiles, index_long (headers ++ tiles))
 
 ---- A frame that can't be ----
 
@@ -146,15 +144,17 @@ nth_keeps : {T : Type 0} (speaker : Speaker T) (by : FrameSources) (n : ℕ) (p 
 unfolding nth_told
 nth_keeps speaker by n p b has = one_more _ b _ (λ s. has_more b s.bools p.tiles has)
 
+then_keeps : {T : Type 0} (b : BoolList) (r : Result (FrameTold T) Unwritten) (f : FrameTold T → Result (FrameTold T) Unwritten) → HasTile b r → ((q : FrameTold T) → Has b q.tiles → HasTile b (f q))
+    → HasTile b (r >>= f)
+then_keeps b (Ok q) f has keeps = keeps q has
+then_keeps b (Err why) f has keeps = tt
+
 -- those before stay, whatever is told behind them
 tiles_keep : {T : Type 0} (speaker : Speaker T) (by : FrameSources) (m n : ℕ) (p : FrameTold T) (b : BoolList) → Has b p.tiles → HasTile b (tiles_told speaker by n m p)
 unfolding tiles_told
 tiles_keep speaker by zero n p b has = has
-tiles_keep speaker by (suc m) n p b has = by_next (nth_told speaker by n p) (nth_keeps speaker by n p b has)
-  where
-    by_next : (r : Result (FrameTold _) Unwritten) → HasTile b r → HasTile b (r >>= tiles_told speaker by (n + 1) m)
-    by_next (Ok q) has = tiles_keep speaker by m (n + 1) q b has
-    by_next (Err why) has = tt
+tiles_keep speaker by (suc m) n p b has =
+    then_keeps b (nth_told speaker by n p) (tiles_told speaker by (n + 1) m) (nth_keeps speaker by n p b has) (λ q has. tiles_keep speaker by m (n + 1) q b has)
 
 held_not : (state : State) (choices : Choices) (by : FrameSources) (b : BoolList) (r : Result (FrameTold DrawnSymbols) Unwritten) → HasTile b r → 2 ^ 32 ≤ bytes_taken b → NoPacket (frame_from state choices by r)
 held_not state choices by b (Ok q) has long = let all = frame_long (persist_of state) choices by b q.tiles has in omega (arith, all, long)

@@ -1,6 +1,6 @@
 //! Drawn frames.
 
-ghost use Rattle.std.specs.Prelude.{◌≡◌, None, Ok, IfOk};
+ghost use Rattle.std.specs.Prelude.{◌≡◌, [], None, Ok, IfOk, OnOk};
 ghost use Rattle.frame_headers.specs.Header.{head_of};
 ghost use Rattle.frame_headers.specs.declared.header.FrameHead.TheVariants as head;
 ghost use Rattle.frame_headers.specs.declared.header.Uncompressed.TheVariants.{Coded, ShowExisting};
@@ -22,6 +22,24 @@ use header_writer::{Choices, write_uncompressed_header};
 use seq_decoder::Decoder;
 use std::alloc::{AllocError, Global};
 
+/// Puts the bytes of a frame that shows a slot again.
+fn put_shown(
+    alloc: Global,
+    bytes: &mut Vec<u8>,
+    decoder: &Decoder,
+    slot: u8,
+    choices: Choices,
+) -> Result<(), AllocError>
+    requires well { IsWellFormed decoder.now.persist (ShowExisting slot) }
+    requires none { bytes.old.items ≡ [] }
+    ensures head { OnOk result (head_of decoder.now.persist bytes.new.items ≡ Ok (head.ShowExisting slot)) }
+    ensures bytes { OnOk result (bytes.new.items ≡ header_bytes decoder.now.persist choices (ShowExisting slot)) }
+{
+    let header = Uncompressed::ShowExisting { slot };
+    write_uncompressed_header(alloc, bytes, &decoder.persist, &header, choices)?;
+    Ok(())
+}
+
 /// The bytes of a frame that shows a slot again.
 fn write_shown(
     alloc: Global,
@@ -34,8 +52,7 @@ fn write_shown(
         × (w.bytes.items ≡ header_bytes decoder.now.persist choices (ShowExisting slot))) }
 {
     let mut bytes = Vec::new(alloc);
-    let header = Uncompressed::ShowExisting { slot };
-    write_uncompressed_header(alloc, &mut bytes, &decoder.persist, &header, choices)?;
+    put_shown(alloc, &mut bytes, decoder, slot, choices)?;
     Ok(Written {
         bytes,
         broken: None,

@@ -70,11 +70,11 @@ returns-then-len-clause-read c =
 pub returns-then-len-clause-made : goal.returns-then-len-clause-made
 returns-then-len-clause-made c = file_is c.args.number c.args.frames c.loop-n.out.items (returns-then-len-clause-read c)
 
-pub returns-in_Err-clause-read : goal.returns-in_Err-clause-read
-returns-in_Err-clause-read c =
+pub returns-in-Err-clause-read : goal.returns-in-Err-clause-read
+returns-in-Err-clause-read c =
     if_ended _ _ c.ended.result c.ended.ensures
     (λ file ends. rw ends.0 (ends_here c.args.number c.args.frames c.loop-n.n c.loop-n.decoder c.loop-n.draws c.loop-n.out.items c.loop-n-test.true c.loop-n.invariant.far
     (λ state stands. inl (not_written state _ _ _ c.write_next-written.result.0 c.in-Err.why c.write_next-written.result.1.x c.in-Err.is ends.1 (c.write_next-written.ensures.gives state stands)))))
 
-pub returns-in_Err-clause-made : goal.returns-in_Err-clause-made
-returns-in_Err-clause-made c = if_ended _ _ c.ended.result (returns-in_Err-clause-read c) (λ file read. file_is c.args.number c.args.frames file.items read)
+pub returns-in-Err-clause-made : goal.returns-in-Err-clause-made
+returns-in-Err-clause-made c = if_ended _ _ c.ended.result (returns-in-Err-clause-read c) (λ file read. file_is c.args.number c.args.frames file.items read)
