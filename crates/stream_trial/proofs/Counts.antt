@@ -1,6 +1,6 @@
 -- The frames that are shown so far, by their headers.
 use Rattle.std.proofs.Common.{◌≡◌, ◌∙◌, ℕ, ◌+◌, ◌≤◌, List, [], ◌∷◌, ◌++◌, length, refl, ap, sym, subst, Bool, true, false, arith}
-use Rattle.std.specs.Prelude.{Result, Ok, Err, Option, Some, None, get_or, if◌then◌else◌}
+use Rattle.std.specs.Prelude.{Result, Ok, Err, Option, Some, None, if◌then◌else◌}
 use Rattle.std.proofs.lemmas.List.{length-append}
 use Rattle.vp9_types.specs.declared.job.Span.{Span}
 use Rattle.vp9_types.specs.declared.outcome.Stop.{Stop}
@@ -113,6 +113,10 @@ pub one_counted : (file frame : List ℕ) (number : ℕ) (a rest : Ahead) (old n
     → IsFrame a number frame rest → IsCounted frame old new shown → Counts file a old count → Counts file rest new (count + shown)
 one_counted file frame number a rest old new count shown is counted h = λ whole.
     more_counted file frame number a rest old new count shown (step number (h whole).state frame) is counted whole (h whole) refl
+
+-- no more are shown than there are
+pub few_more : (frame : List ℕ) (number : ℕ) (a rest : Ahead) (count shown : ℕ) → IsFrame a number frame rest → count ≤ a.number → shown ≤ 1 → count + shown ≤ rest.number
+few_more frame number a rest count shown is few one = omega (arith, ap (λ (a : Ahead). a.number) is.0, is.1, few, one)
 
 pub all_counted : (file : List ℕ) (a : Ahead) (persist : Persist) (count : ℕ) → a ≡ record { number = a.number; frames = []; ending = None } → Counts file a persist count
     → (run_of file).ending ≡ None → count ≡ shown_count file

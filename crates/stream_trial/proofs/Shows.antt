@@ -1,6 +1,6 @@
 -- A slot that a header shows holds a picture, so the frame shows one.
 use Rattle.std.proofs.Common.{◌≡◌, ◌∙◌, ℕ, List, length, refl, ap, sym, subst, Bool, true, false}
-use Rattle.std.specs.Prelude.{Result, Ok, Err, Option, Some, None, map, get_or, slice_index_or, nat_lt, ◌/◌, if◌then◌else◌}
+use Rattle.std.specs.Prelude.{Result, Ok, Err, Option, Some, None, get_or, slice_index_or, nat_lt, ◌/◌, if◌then◌else◌}
 use Rattle.std.proofs.Math.ListN.{get_or-map}
 use Rattle.vp9_types.specs.Bits.{bits_of}
 use Rattle.vp9_types.specs.Reading.{after, run, field_at, read_bits}

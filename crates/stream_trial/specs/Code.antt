@@ -1,5 +1,5 @@
 -- What the calls answer.
-use Rattle.std.specs.Prelude.{◌≡◌, ℕ, List, length, String, string_bytes, Some, None, Result, Ok, Err}
+use Rattle.std.specs.Prelude.{◌≡◌, ℕ, List, length, Some, None, Result, Ok, Err}
 use Rattle.vp9_types.specs.declared.outcome.Outcome.{Outcome}
 use Rattle.vp9_types.specs.declared.outcome.Outcome.TheVariants as outcome
 use Rattle.vp9_types.specs.declared.rule.Rule.{Rule}
@@ -12,7 +12,7 @@ use Rattle.stream_trial.specs.declared.trial.NoLine.{NoLine}
 use Rattle.stream_trial.specs.declared.trial.NoLine.TheVariants.{Broken, OutOfMemory}
 use Rattle.stream_trial.specs.declared.trial.Sum.{Sum}
 use Rattle.stream_trial.specs.Lines.{sum_of}
-use Rattle.stream_trial.specs.Trials.{BreaksAt, IsTrialLine}
+use Rattle.stream_trial.specs.Trials.{BreaksAt}
 
 -- what headers read before a frame that breaks no rule and behind it, and how many frames it shows
 abbrev pub IsCounted : List ℕ → Persist → Persist → ℕ → Type 0
@@ -41,8 +41,7 @@ Tells output (Ok s) = (output.ending ≡ None) × IsSumOf output.adds s
 Tells output (Err (Broken stop)) = output.ending ≡ Some (stop.frame, stop.rule)
 Tells output (Err OutOfMemory) = Unit {0}
 
--- a trial's answer
-abbrev pub AnswersTrial : ℕ → ℕ → Result String NoLine → Type 0
-AnswersTrial number count (Ok line) = IsTrialLine number count (string_bytes line)
-AnswersTrial number count (Err (Broken stop)) = BreaksAt number count stop
-AnswersTrial number count (Err OutOfMemory) = Unit {0}
+-- why a trial has no line. Want of memory has no cause
+abbrev pub HasNoLine : ℕ → ℕ → NoLine → Type 0
+HasNoLine number count (Broken stop) = BreaksAt number count stop
+HasNoLine number count OutOfMemory = Unit {0}

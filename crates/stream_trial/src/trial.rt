@@ -1,9 +1,10 @@
 //! A trial of the decoder.
 
-ghost use Rattle.std.specs.Prelude.{◌≡◌};
+ghost use Rattle.std.specs.Prelude.{◌≡◌, IfOk, IfErr, string_bytes};
 ghost use Rattle.frame_output.specs.declared.rendering.Format.TheVariants.{Raw};
 ghost use Rattle.seq_decoder.specs.Outputs.{output_of};
-ghost use Rattle.stream_trial.specs.Code.{AnswersTrial, IsNoFault, Sums, Tells};
+ghost use Rattle.stream_trial.specs.Code.{HasNoLine, IsNoFault, Sums, Tells};
+ghost use Rattle.stream_trial.specs.Trials.{IsTrialLine};
 ghost use Rattle.stream_trial.specs.declared.trial.NoLine.TheVariants as no_line;
 
 use crate::count::count_shown;
@@ -99,7 +100,8 @@ pub fn trial_line<R: Threads + Wait + Sync, G: Gate + Sync>(
     frames: u32,
     gate: &G,
 ) -> Result<String, NoLine>
-    ensures { AnswersTrial number frames result }
+    ensures line { IfOk result (λ line. IsTrialLine number frames (string_bytes line)) }
+    ensures none { IfErr result (λ why. HasNoLine number frames why) }
 {
     let file = match make_stream(alloc, number, frames) {
         Ok(file) => file,
