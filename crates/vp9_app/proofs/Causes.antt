@@ -89,7 +89,7 @@ cause_made stream s o n status.Usage u h q t = absurd h
 cause_tried : (stream : MadeStream) (s : OfSource) (o n : OfSink) (told : Status) → Unread s → Trials stream o told → SinkQuiet n → Takes n.before n.after (note_line told)
     → HasCause (Some (command.Trial stream)) s o n told
 cause_tried stream s o n status.Done u h q t = (command.Trial stream, refl, record { source = u.0; out = h.0; note = q }, (u, h.1), t)
-cause_tried stream s o n (status.Broken stop) u h q t = (command.Trial stream, refl, record { source = u.0; out = h.0; note = q }, (u, h.1, h.2), t)
+cause_tried stream s o n (status.Broken stop) u h q t = (command.Trial stream, refl, record { source = u.0; out = h.0; note = q }, (u, (h.1, h.2)), t)
 cause_tried stream s o n status.ReadFault u h q t = absurd h
 cause_tried stream s o n status.WriteFault u h q t = inl h.0
 cause_tried stream s o n status.OutOfMemory u h q t = (h.0, q)
