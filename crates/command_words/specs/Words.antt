@@ -57,15 +57,15 @@ decode_app =
 abbrev pub given_rule : Text → ℕ → ℕ → Rule
 given_rule name low high = record (new_rule name) { required = true; parser = Some (value.Signed (pos low) (pos high)) }
 
--- the command `make NUMBER FRAMES`
-abbrev pub make_app : App
-make_app = with_rule (with_rule (new_app (codes "make")) (given_rule (codes "number") 0 4294967295)) (given_rule (codes "frames") 1 1000)
+-- a command that is told which stream is generated, as `make NUMBER FRAMES` and `trial NUMBER FRAMES`
+abbrev pub stream_app : Text → App
+stream_app name = with_rule (with_rule (new_app name) (given_rule (codes "number") 0 4294967295)) (given_rule (codes "frames") 1 1000)
 
 -- the program, which has to be given one of its commands
 abbrev pub vp9dec_app : App
 vp9dec_app =
-    with_subcommand (with_subcommand (with_subcommand (on_top (λ program. record program { subcommand_required = true }) (new_app (codes "vp9dec")))
-    list_app.top) decode_app.top) make_app.top
+    with_subcommand (with_subcommand (with_subcommand (with_subcommand (on_top (λ program. record program { subcommand_required = true }) (new_app (codes "vp9dec")))
+    list_app.top) decode_app.top) (stream_app (codes "make")).top) (stream_app (codes "trial")).top
 
 -- what was found of an option without a value, and of a number, which each has in its range or by its default
 abbrev pub is_set : Text → List Row → Bool
@@ -110,7 +110,8 @@ abbrev pub named : Text × List Row → Option Command
 named used =
     if bytes_eq used.0 (codes "list") then Some command.List
     else (if bytes_eq used.0 (codes "decode") then option_map command.Decode (options_of used.1)
-    else (if bytes_eq used.0 (codes "make") then Some (command.Make (stream_of used.1)) else None))
+    else (if bytes_eq used.0 (codes "make") then Some (command.Make (stream_of used.1))
+    else (if bytes_eq used.0 (codes "trial") then Some (command.Trial (stream_of used.1)) else None)))
 
 -- none where a parse has a fault, and else what it found
 abbrev pub unless_fault : Kinds → Option Command → Option Command
@@ -129,6 +130,10 @@ decode_by plain workers window format = Some (command.Decode (record { plain = p
 -- the command `make` with these numbers
 abbrev pub make_of : ℕ → ℕ → Option Command
 make_of number frames = Some (command.Make (record { number = number; frames = frames }))
+
+-- the command `trial` with these numbers
+abbrev pub trial_of : ℕ → ℕ → Option Command
+trial_of number frames = Some (command.Trial (record { number = number; frames = frames }))
 
 -- what the code makes of a parse
 

@@ -9,6 +9,8 @@ pub enum Command {
     Decode(DecodeOptions),
     /// A generated stream.
     Make(MadeStream),
+    /// What a generated stream is decoded to, in a line.
+    Trial(MadeStream),
 }
 
 /// How a file is decoded and its frames are written. All but the format changes nothing of what is written.

@@ -1,7 +1,7 @@
 //! Laws of the definitions, as contracts of functions that do nothing.
 
 ghost use Rattle.std.specs.Prelude.{◌≡◌, ◌∷◌, [], List, ℕ, Some, None, codes, false, true};
-ghost use Rattle.command_words.specs.Words.{command_of, decode_by, make_of};
+ghost use Rattle.command_words.specs.Words.{command_of, decode_by, make_of, trial_of};
 
 use crate::Command;
 use frame_output::Format;
@@ -63,4 +63,10 @@ pub fn worked_rows()
     ensures three_numbers { (name : List ℕ) → command_of (name ∷ codes "make" ∷ codes "7" ∷ codes "1" ∷ codes "1" ∷ []) ≡ None }
     ensures less_than_0 { (name : List ℕ) → command_of (name ∷ codes "make" ∷ codes "-1" ∷ codes "1" ∷ []) ≡ None }
     ensures make_no_number { (name : List ℕ) → command_of (name ∷ codes "make" ∷ codes "x" ∷ codes "1" ∷ []) ≡ None }
+    ensures trial { (name : List ℕ) → command_of (name ∷ codes "trial" ∷ codes "7" ∷ codes "40" ∷ []) ≡ trial_of 7 40 }
+    ensures greatest_trial { (name : List ℕ) → command_of (name ∷ codes "trial" ∷ codes "4294967295" ∷ codes "1000" ∷ []) ≡ trial_of 4294967295 1000 }
+    ensures trial_without_frames { (name : List ℕ) → command_of (name ∷ codes "trial" ∷ codes "7" ∷ codes "0" ∷ []) ≡ None }
+    ensures trial_of_many_frames { (name : List ℕ) → command_of (name ∷ codes "trial" ∷ codes "7" ∷ codes "1001" ∷ []) ≡ None }
+    ensures number_alone_of_a_trial { (name : List ℕ) → command_of (name ∷ codes "trial" ∷ codes "7" ∷ []) ≡ None }
+    ensures trial_alone { (name : List ℕ) → command_of (name ∷ codes "trial" ∷ []) ≡ None }
 {}

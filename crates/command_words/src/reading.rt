@@ -1,7 +1,7 @@
 ghost use Rattle.std.specs.Prelude.{◌≡◌, IfOk, codes, false, map, option_and_then, string_bytes};
-ghost use Rattle.clap.specs.Words.{app_of, found_of, rows_of, rule_of, subcommand_rows_of};
+ghost use Rattle.clap.specs.Words.{app_of, found_of, rows_of, rule_of, subcommand_rows_of, with_subcommand};
 ghost use Rattle.command_words.specs.Words.{answer_of, command_of, flag_rule, format_at, format_named, given_at, given_rule, is_set};
-ghost use Rattle.command_words.specs.Words.{named, number_at, number_rule, options_of, stream_of, vp9dec_app, word_rule};
+ghost use Rattle.command_words.specs.Words.{named, number_at, number_rule, options_of, stream_app, stream_of, vp9dec_app, word_rule};
 
 use crate::{Command, DecodeOptions, MadeStream};
 use clap::error::ErrorKind;
@@ -76,6 +76,20 @@ fn frames_word<'a>(alloc: Global) -> Arg<'a>
         .value_parser(frames)
 }
 
+/// The program with one command more, which is told which stream is generated.
+fn with_stream_command<'a>(
+    alloc: Global,
+    program: clap::Command<'a>,
+    name: &'a str,
+) -> Result<clap::Command<'a>, AllocError>
+    ensures { IfOk result (λ more. app_of more ≡ with_subcommand (app_of program.entry) (stream_app name.now).top) }
+{
+    let command = clap::Command::new(alloc, name)
+        .arg(number_word(alloc))?
+        .arg(frames_word(alloc))?;
+    program.subcommand(command)
+}
+
 /// The program and its commands, as the parser is told of them.
 fn vp9dec<'a>(alloc: Global) -> Result<clap::Command<'a>, AllocError>
     ensures { IfOk result (λ program. app_of program ≡ vp9dec_app) }
@@ -86,14 +100,12 @@ fn vp9dec<'a>(alloc: Global) -> Result<clap::Command<'a>, AllocError>
         .arg(workers_option(alloc))?
         .arg(window_option(alloc))?
         .arg(format_option(alloc))?;
-    let make = clap::Command::new(alloc, "make")
-        .arg(number_word(alloc))?
-        .arg(frames_word(alloc))?;
-    clap::Command::new(alloc, "vp9dec")
+    let program = clap::Command::new(alloc, "vp9dec")
         .subcommand_required(true)
         .subcommand(list)?
-        .subcommand(decode)?
-        .subcommand(make)
+        .subcommand(decode)?;
+    let program = with_stream_command(alloc, program, "make")?;
+    with_stream_command(alloc, program, "trial")
 }
 
 fn flag(matches: &ArgMatches<'_>, id: &str) -> bool
@@ -160,6 +172,7 @@ fn command_in(matches: &ArgMatches<'_>) -> Option<Command>
         Some(("list", _)) => Some(Command::List),
         Some(("decode", options)) => Some(Command::Decode(options_in(options)?)),
         Some(("make", words)) => Some(Command::Make(stream_in(words))),
+        Some(("trial", words)) => Some(Command::Trial(stream_in(words))),
         _ => None,
     }
 }

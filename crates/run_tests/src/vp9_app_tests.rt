@@ -307,6 +307,46 @@ fn a_stream_is_made_without_a_source(rt: HostRuntime) -> Result<(), Fail> {
     Ok(())
 }
 
+// What another generator and decoder come to.
+const TRIALS: [(&str, &str); 3] = [
+    ("1", "frames 1 bytes 106080 sum a4a6587ac0e64811\n"),
+    ("3", "frames 3 bytes 318240 sum c9c3bf55fcdf6f30\n"),
+    ("40", "frames 28 bytes 2970240 sum 27a6521e5b16b378\n"),
+];
+
+#[test]
+fn trials_are_told_without_a_source(rt: HostRuntime) -> Result<(), Fail> {
+    let failing = Fails {
+        source: &[1],
+        ..NONE
+    };
+    for (frames, line) in TRIALS {
+        let ran = run_words(&rt, rt.alloc(), &["trial", "7", frames], &[], &failing)?;
+        assert_eq!(rt; ran.status.code(), 0, "{frames}");
+        assert_eq!(rt; ran.note.bytes(), b"".as_slice(), "{frames}");
+        assert_eq!(rt; ran.out.bytes(), line.as_bytes(), "{frames}");
+    }
+    Ok(())
+}
+
+#[test]
+fn a_trial_has_a_frame(rt: HostRuntime) -> Result<(), Fail> {
+    let ran = run_words(&rt, rt.alloc(), &["trial", "7", "0"], &[], &NONE)?;
+    assert_eq!(rt; ran.status.code(), 2);
+    assert_eq!(rt; ran.out.bytes().len(), 0);
+    Ok(())
+}
+
+#[test]
+fn a_write_fault_ends_a_trial(rt: HostRuntime) -> Result<(), Fail> {
+    let failing = Fails { out: &[1], ..NONE };
+    let ran = run_words(&rt, rt.alloc(), &["trial", "7", "1"], &[], &failing)?;
+    assert_eq!(rt; ran.status.code(), 5);
+    assert_eq!(rt; ran.note.bytes(), b"write fault\n".as_slice());
+    assert_eq!(rt; ran.out.bytes().len(), 0);
+    Ok(())
+}
+
 #[test]
 fn a_write_fault_ends_a_stream(rt: HostRuntime) -> Result<(), Fail> {
     let failing = Fails { out: &[1], ..NONE };

@@ -9,9 +9,9 @@ use Rattle.command_words.specs.declared.command.MadeStream.{MadeStream}
 use Rattle.vp9_app.specs.declared.status.Status.{Status}
 use Rattle.vp9_app.specs.declared.status.Status.TheVariants as status
 use Rattle.vp9_app.specs.Notes.{note_line}
-use Rattle.vp9_app.specs.Answers.{OfSource, OfSink, Output, SinkQuiet, Completes, WritesFront, Reads, Unread, Makes, Works, without_memory, Reports, Runs, listed, decoded}
+use Rattle.vp9_app.specs.Answers.{OfSource, OfSink, Output, SinkQuiet, Completes, WritesFront, Reads, Unread, Makes, Trials, Works, without_memory, Reports, Runs, listed, decoded}
 use Rattle.vp9_app.specs.Code.{MayLackMemory}
-use Rattle.vp9_app.specs.Laws.{AllQuiet, EndsAs, HasCause, IsComplete, IsDone}
+use Rattle.vp9_app.specs.Laws.{AllQuiet, EndsAs, EndsAsTrial, HasCause, IsComplete, IsDone}
 
 ---- Want of memory in place of a rule's line ----
 
@@ -41,6 +41,15 @@ makes_told stream o status.Usage told h e = absurd h
 makes_told stream o status.ReadFault told h e = absurd h
 makes_told stream o (status.Broken stop) told h e = absurd h
 
+trial_told : (stream : MadeStream) (o : OfSink) (first told : Status) → Trials stream o first → MayLackMemory first told → Trials stream o told
+trial_told stream o (status.Broken stop) told h (inl e) = subst (λ st. Trials stream o st) (sym e) h
+trial_told stream o (status.Broken stop) told h (inr e) = subst (λ st. Trials stream o st) (sym e) (h.0, inl h.1)
+trial_told stream o status.Done told h e = subst (λ st. Trials stream o st) (sym e) h
+trial_told stream o status.WriteFault told h e = subst (λ st. Trials stream o st) (sym e) h
+trial_told stream o status.OutOfMemory told h e = subst (λ st. Trials stream o st) (sym e) h
+trial_told stream o status.Usage told h e = absurd h
+trial_told stream o status.ReadFault told h e = absurd h
+
 none_told : (s : OfSource) (o : OfSink) (first told : Status) → Works None s o first → MayLackMemory first told → Works None s o told
 none_told s o status.Usage told h e = subst (λ st. Works None s o st) (sym e) h
 none_told s o status.Done told h e = absurd h
@@ -54,6 +63,7 @@ works_told None = none_told
 works_told (Some command.List) = reads_told listed
 works_told (Some (command.Decode options)) = reads_told (decoded options)
 works_told (Some (command.Make stream)) = λ s o first told h m. (h.0, makes_told stream o first told h.1 m)
+works_told (Some (command.Trial stream)) = λ s o first told h m. (h.0, trial_told stream o first told h.1 m)
 
 ---- Causes ----
 
@@ -76,6 +86,15 @@ cause_made stream s o n status.WriteFault u h q t = inl h.0
 cause_made stream s o n status.OutOfMemory u h q t = (h.0, q)
 cause_made stream s o n status.Usage u h q t = absurd h
 
+cause_tried : (stream : MadeStream) (s : OfSource) (o n : OfSink) (told : Status) → Unread s → Trials stream o told → SinkQuiet n → Takes n.before n.after (note_line told)
+    → HasCause (Some (command.Trial stream)) s o n told
+cause_tried stream s o n status.Done u h q t = (command.Trial stream, refl, record { source = u.0; out = h.0; note = q }, (u, h.1), t)
+cause_tried stream s o n (status.Broken stop) u h q t = (command.Trial stream, refl, record { source = u.0; out = h.0; note = q }, (u, (h.1, h.2)), t)
+cause_tried stream s o n status.ReadFault u h q t = absurd h
+cause_tried stream s o n status.WriteFault u h q t = inl h.0
+cause_tried stream s o n status.OutOfMemory u h q t = (h.0, q)
+cause_tried stream s o n status.Usage u h q t = absurd h
+
 cause_none : (s : OfSource) (o n : OfSink) (told : Status) → Works None s o told → SinkQuiet n → Takes n.before n.after (note_line told) → HasCause None s o n told
 cause_none s o n status.Usage h q t = (refl, record { source = h.0; out = h.1; note = q }, t)
 cause_none s o n status.Done h q t = absurd h
@@ -89,6 +108,7 @@ cause_told None s o n told h q t = cause_none s o n told h q t
 cause_told (Some command.List) s o n told h q t = cause_read command.List listed s o n told (λ st d. d) h q t
 cause_told (Some (command.Decode options)) s o n told h q t = cause_read (command.Decode options) (decoded options) s o n told (λ st d. d) h q t
 cause_told (Some (command.Make stream)) s o n told h q t = cause_made stream s o n told h.0 h.1 q t
+cause_told (Some (command.Trial stream)) s o n told h q t = cause_tried stream s o n told h.0 h.1 q t
 
 -- the cause where the note wanted memory
 lacking_read : (c : Option Command) (output : List ℕ → Output) (s : OfSource) (o n : OfSink) (told : Status) → Reads output s o told → SinkQuiet n → HasCause c s o n (without_memory told)
@@ -107,6 +127,14 @@ lacking_made c stream s o n status.WriteFault h q = inl h.0
 lacking_made c stream s o n status.OutOfMemory h q = (h.0, q)
 lacking_made c stream s o n status.Usage h q = absurd h
 
+lacking_tried : (c : Option Command) (stream : MadeStream) (s : OfSource) (o n : OfSink) (told : Status) → Trials stream o told → SinkQuiet n → HasCause c s o n (without_memory told)
+lacking_tried c stream s o n status.Done h q = (h.0, q)
+lacking_tried c stream s o n (status.Broken stop) h q = (h.0, q)
+lacking_tried c stream s o n status.ReadFault h q = absurd h
+lacking_tried c stream s o n status.WriteFault h q = inl h.0
+lacking_tried c stream s o n status.OutOfMemory h q = (h.0, q)
+lacking_tried c stream s o n status.Usage h q = absurd h
+
 lacking_none : (s : OfSource) (o n : OfSink) (told : Status) → Works None s o told → SinkQuiet n → HasCause None s o n (without_memory told)
 lacking_none s o n status.Usage h q = (h.1, q)
 lacking_none s o n status.Done h q = absurd h
@@ -120,6 +148,7 @@ cause_lacking None s o n told h q = lacking_none s o n told h q
 cause_lacking (Some command.List) s o n told h q = lacking_read (Some command.List) listed s o n told h q
 cause_lacking (Some (command.Decode options)) s o n told h q = lacking_read (Some (command.Decode options)) (decoded options) s o n told h q
 cause_lacking (Some (command.Make stream)) s o n told h q = lacking_made (Some (command.Make stream)) stream s o n told h.1 q
+cause_lacking (Some (command.Trial stream)) s o n told h q = lacking_tried (Some (command.Trial stream)) stream s o n told h.1 q
 
 pub cause_of : (c : Option Command) (s : OfSource) (o n : OfSink) (told last : Status) → Works c s o told → Reports n told last → HasCause c s o n last
 cause_of c s o n told last h (inl r) = subst (λ st. HasCause c s o n st) (sym r.1) (cause_told c s o n told h r.0 r.2)
@@ -172,6 +201,29 @@ complete_made stream s o n told last h (inl r) = λ a. subst (λ st. (st ≡ sta
 complete_made stream s o n told last h (inr (inl r)) = λ a. absurd (clash n.faults n.faults_now r.0 a.note)
 complete_made stream s o n told last h (inr (inr r)) = λ a. inr (r.2 ∙ lacks_for_file told (made_by_output stream s o n told h a))
 
+-- a trial ends as a made file does, or there is no memory for it
+tried_by_output : (stream : MadeStream) (s : OfSource) (o n : OfSink) (told : Status) → Trials stream o told → AllQuiet s o n → EndsAsTrial stream told
+tried_by_output stream s o n status.Done h a = let line = h.1.1 in inl (None, record { file = line.file; made = line.made; ends = line.ends }, refl)
+tried_by_output stream s o n (status.Broken stop) h a = inl (Some (stop.frame, stop.rule), h.2, refl)
+tried_by_output stream s o n status.ReadFault h a = absurd h
+tried_by_output stream s o n status.WriteFault h a = absurd (clash o.faults o.faults_now h.0 a.out)
+tried_by_output stream s o n status.OutOfMemory h a = inr refl
+tried_by_output stream s o n status.Usage h a = absurd h
+
+-- a write fault aside, a note that wants memory leaves that answer
+trial_lacking : (stream : MadeStream) (s : OfSource) (o n : OfSink) (told : Status) → Trials stream o told → AllQuiet s o n → without_memory told ≡ status.OutOfMemory
+trial_lacking stream s o n status.Done h a = refl
+trial_lacking stream s o n (status.Broken stop) h a = refl
+trial_lacking stream s o n status.ReadFault h a = refl
+trial_lacking stream s o n status.WriteFault h a = absurd (clash o.faults o.faults_now h.0 a.out)
+trial_lacking stream s o n status.OutOfMemory h a = refl
+trial_lacking stream s o n status.Usage h a = absurd h
+
+complete_tried : (stream : MadeStream) (s : OfSource) (o n : OfSink) (told last : Status) → Trials stream o told → Reports n told last → AllQuiet s o n → EndsAsTrial stream last
+complete_tried stream s o n told last h (inl r) = λ a. subst (λ st. EndsAsTrial stream st) (sym r.1) (tried_by_output stream s o n told h a)
+complete_tried stream s o n told last h (inr (inl r)) = λ a. absurd (clash n.faults n.faults_now r.0 a.note)
+complete_tried stream s o n told last h (inr (inr r)) = λ a. inr (r.2 ∙ trial_lacking stream s o n told h a)
+
 -- words that are no command leave the usage line, or want of memory
 no_command : (s : OfSource) (o : OfSink) (told : Status) → Works None s o told → (told ≡ status.Usage) ⊎ (told ≡ status.OutOfMemory)
 no_command s o status.Usage h = inl refl
@@ -195,6 +247,7 @@ complete_of None = complete_none
 complete_of (Some command.List) = λ s o n told last h r. complete_read listed s o n told last h r
 complete_of (Some (command.Decode options)) = λ s o n told last h r. complete_read (decoded options) s o n told last h r
 complete_of (Some (command.Make stream)) = λ s o n told last h r. complete_made stream s o n told last h.1 r
+complete_of (Some (command.Trial stream)) = λ s o n told last h r. complete_tried stream s o n told last h.1 r
 
 pub runs : (c : Option Command) (s : OfSource) (o n : OfSink) (first told last : Status) → Works c s o first → MayLackMemory first told → Reports n told last → Runs c s o n last
 runs c s o n first told last h m r = record { first = told; work = works_told c s o first told h m; note = r }

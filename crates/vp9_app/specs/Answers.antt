@@ -8,6 +8,7 @@ use Rattle.vp9_app.specs.declared.status.Status.{Status}
 use Rattle.vp9_app.specs.declared.status.Status.TheVariants as status
 use Rattle.seq_decoder.specs.Outputs.{output_of}
 use Rattle.stream_forge.specs.Made.{IsMade}
+use Rattle.stream_trial.specs.Trials.{BreaksAt, IsTrialLine}
 use Rattle.command_words.specs.declared.command.DecodeOptions.{DecodeOptions}
 use Rattle.command_words.specs.declared.command.MadeStream.{MadeStream}
 use Rattle.vp9_app.specs.Listing.{listing}
@@ -104,6 +105,23 @@ Makes stream o status.WriteFault = SinkFailed o × WritesFrontOfMade stream o
 Makes stream o status.OutOfMemory = SinkQuiet o × ((o.after ≡ o.before) ⊎ WritesFrontOfMade stream o)
 Makes stream o status = ⊥
 
+---- The command that tries one ----
+
+-- the line of a file that is generated from the number was written, and one of which a front was, which may be empty
+abbrev pub WritesTrial : MadeStream → OfSink → Type 0
+WritesTrial stream o = (line : List ℕ) × IsTrialLine stream.number stream.frames line × Takes o.before o.after line
+
+abbrev pub WritesFrontOfTrial : MadeStream → OfSink → Type 0
+WritesFrontOfTrial stream o = (line : List ℕ) × (n : ℕ) × IsTrialLine stream.number stream.frames line × Takes o.before o.after (take n line)
+
+-- How its work may end. Without memory for the file, or to decode it, nothing is written.
+abbrev pub Trials : MadeStream → OfSink → Status → Type 0
+Trials stream o status.Done = SinkQuiet o × WritesTrial stream o
+Trials stream o (status.Broken stop) = SinkQuiet o × (o.after ≡ o.before) × BreaksAt stream.number stream.frames stop
+Trials stream o status.WriteFault = SinkFailed o × WritesFrontOfTrial stream o
+Trials stream o status.OutOfMemory = SinkQuiet o × ((o.after ≡ o.before) ⊎ WritesFrontOfTrial stream o)
+Trials stream o status = ⊥
+
 ---- All commands ----
 
 -- nothing was read or written
@@ -118,6 +136,7 @@ Works None s o status = ⊥
 Works (Some command.List) s o status = Reads listed s o status
 Works (Some (command.Decode options)) s o status = Reads (decoded options) s o status
 Works (Some (command.Make stream)) s o status = Unread s × Makes stream o status
+Works (Some (command.Trial stream)) s o status = Unread s × Trials stream o status
 
 -- the status where the note wants memory: a write fault goes first
 abbrev pub without_memory : Status → Status

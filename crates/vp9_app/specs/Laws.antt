@@ -1,13 +1,17 @@
 -- The causes of the answers of a run, and where it is complete.
 use Rattle.std.specs.Prelude.{◌≡◌, ◌⊎◌, ℕ, List, [], Option, Some, None}
+use Rattle.vp9_types.specs.declared.rule.Rule.{Rule}
 use Rattle.edge_io.specs.Filling.{WhereTold}
 use Rattle.edge_io.specs.Putting.{Takes}
 use Rattle.command_words.specs.declared.command.Command.{Command}
 use Rattle.command_words.specs.declared.command.Command.TheVariants as command
+use Rattle.command_words.specs.declared.command.MadeStream.{MadeStream}
+use Rattle.stream_trial.specs.Trials.{BreaksAt, MadeEnds}
 use Rattle.vp9_app.specs.declared.status.Status.{Status}
 use Rattle.vp9_app.specs.declared.status.Status.TheVariants as status
-use Rattle.vp9_app.specs.Answers.{OfSource, OfSink, Output, SourceQuiet, SourceFailed, SinkQuiet, SinkFailed, Completes, Unread, WritesMade, listed, decoded}
+use Rattle.vp9_app.specs.Answers.{OfSource, OfSink, Output, SourceQuiet, SourceFailed, SinkQuiet, SinkFailed, Completes, Unread, WritesMade, WritesTrial, listed, decoded}
 use Rattle.vp9_app.specs.Notes.{note_line}
+use Rattle.vp9_app.specs.Statuses.{ended}
 
 -- no count rose
 pub record AllQuiet (s : OfSource) (o n : OfSink) : Type 0 where
@@ -15,11 +19,18 @@ pub record AllQuiet (s : OfSource) (o n : OfSink) : Type 0 where
   pub out : SinkQuiet o
   pub note : SinkQuiet n
 
+-- a stream is tried: its line is written, or nothing of a stream that breaks a rule
+abbrev pub IsTried : MadeStream → OfSink → Status → Type 0
+IsTried stream o status.Done = WritesTrial stream o
+IsTried stream o (status.Broken stop) = (o.after ≡ o.before) × BreaksAt stream.number stream.frames stop
+IsTried stream o last = ⊥
+
 -- all of its work is done: what it reads is read, and its whole output is written
 abbrev pub IsDone : Command → OfSource → OfSink → Status → Type 0
 IsDone command.List s o last = Completes listed s o last
 IsDone (command.Decode options) s o last = Completes (decoded options) s o last
 IsDone (command.Make stream) s o last = Unread s × WritesMade stream o × (last ≡ status.Done)
+IsDone (command.Trial stream) s o last = Unread s × IsTried stream o last
 
 -- the cause of each answer
 abbrev pub HasCause : Option Command → OfSource → OfSink → OfSink → Status → Type 0
@@ -36,9 +47,15 @@ HasCause c s o n status.OutOfMemory = SinkQuiet o × SinkQuiet n
 abbrev pub EndsAs : (List ℕ → Output) → OfSource → Status → Type 0
 EndsAs output s last = WhereTold s.rest (λ bytes. (last ≡ (output bytes).status) ⊎ (last ≡ status.OutOfMemory))
 
+-- a trial ends as the output of a file that is generated from the number
+abbrev pub EndsAsTrial : MadeStream → Status → Type 0
+EndsAsTrial stream last =
+    ((ending : Option (ℕ × Rule)) × MadeEnds stream.number stream.frames ending × (last ≡ ended ending)) ⊎ (last ≡ status.OutOfMemory)
+
 -- where no count rises, the answer is that of the words and the output, or want of memory
 abbrev pub IsComplete : Option Command → OfSource → OfSink → OfSink → Status → Type 0
 IsComplete None s o n last = AllQuiet s o n → (last ≡ status.Usage) ⊎ (last ≡ status.OutOfMemory)
 IsComplete (Some command.List) s o n last = AllQuiet s o n → EndsAs listed s last
 IsComplete (Some (command.Decode options)) s o n last = AllQuiet s o n → EndsAs (decoded options) s last
 IsComplete (Some (command.Make stream)) s o n last = AllQuiet s o n → (last ≡ status.Done) ⊎ (last ≡ status.OutOfMemory)
+IsComplete (Some (command.Trial stream)) s o n last = AllQuiet s o n → EndsAsTrial stream last

@@ -1,5 +1,5 @@
-ghost use Rattle.std.specs.Prelude.{◌≡◌, Some, None, map, string_bytes};
-ghost use Rattle.vp9_app.specs.Answers.{source_seen, sink_seen, Makes, Works, Runs};
+ghost use Rattle.std.specs.Prelude.{◌≡◌, ◌⊎◌, Some, None, map, string_bytes};
+ghost use Rattle.vp9_app.specs.Answers.{source_seen, sink_seen, Makes, Trials, Works, Runs};
 ghost use Rattle.command_words.specs.declared.command.Command.TheVariants as command;
 ghost use Rattle.command_words.specs.declared.command.MadeStream.{MadeStream};
 ghost use Rattle.command_words.specs.Words.{command_of};
@@ -17,6 +17,7 @@ use std::alloc::Global;
 use std::sync::Wait;
 use std::thread::Threads;
 use stream_forge::{NotMade, make_stream};
+use stream_trial::{NoLine, trial_line};
 
 /// What is left of a run: how it ended, and the objects that it was given.
 #[derive(Drop)]
@@ -143,6 +144,31 @@ fn make<K: Sink>(alloc: Global, stream: MadeStream, out: &mut K) -> Status
     }
 }
 
+/// Tries a generated stream, and writes the line of what it shows.
+fn trial<R: Threads + Wait + Sync, K: Sink, G: Gate + Sync>(
+    rt: &R,
+    alloc: Global,
+    stream: MadeStream,
+    out: &mut K,
+    gate: &G,
+) -> Status
+    requires { K.can_put out.old }
+    ensures work { Trials stream (sink_seen (K.grows out.old) (K.taken out.old) (K.taken out.new) (K.faults out.old) (K.faults out.new)) result }
+    ensures grows { K.grows out.new ≡ K.grows out.old }
+    ensures out_again { K.faults out.new ≡ K.faults out.old → K.can_put out.new }
+{
+    let line = match trial_line(rt, alloc, stream.number, stream.frames, gate) {
+        Ok(line) => line,
+        Err(NoLine::Broken(stop)) => return Status::Broken(stop),
+        Err(NoLine::OutOfMemory) => return Status::OutOfMemory,
+    };
+    match put_all(out, line.as_bytes()) {
+        Ok(()) => Status::Done,
+        Err(PutFault::Failed) => Status::WriteFault,
+        Err(PutFault::OutOfMemory) => Status::OutOfMemory,
+    }
+}
+
 /// Does what the words ask for.
 fn work<R: Threads + Wait + Sync, S: Source, K: Sink + Send + Drop, G: Gate + Sync>(
     rt: &R,
@@ -158,7 +184,7 @@ fn work<R: Threads + Wait + Sync, S: Source, K: Sink + Send + Drop, G: Gate + Sy
         (source_seen (S.rest source.old) (S.rest source.new) (S.faults source.old) (S.faults source.new))
         (sink_seen (K.grows out) (K.taken out) (K.taken result.out) (K.faults out) (K.faults result.out)) result.status }
     ensures untouched { command_of (map string_bytes words.now) ≡ None → (source.new ≡ source.old) × (result.out ≡ out) }
-    ensures unread { (stream : MadeStream) → command_of (map string_bytes words.now) ≡ Some (command.Make stream) → source.new ≡ source.old }
+    ensures unread { (stream : MadeStream) → (command_of (map string_bytes words.now) ≡ Some (command.Make stream)) ⊎ (command_of (map string_bytes words.now) ≡ Some (command.Trial stream)) → source.new ≡ source.old }
     ensures source_again { S.faults source.new ≡ S.faults source.old → S.can_fill source.new }
     ensures grows { K.grows result.out ≡ K.grows out }
     ensures out_again { K.faults result.out ≡ K.faults out → K.can_put result.out }
@@ -167,6 +193,7 @@ fn work<R: Threads + Wait + Sync, S: Source, K: Sink + Send + Drop, G: Gate + Sy
         Ok(Some(Command::List)) => list(alloc, source, &mut out),
         Ok(Some(Command::Decode(options))) => return decode(rt, alloc, options, source, out, gate),
         Ok(Some(Command::Make(stream))) => make(alloc, stream, &mut out),
+        Ok(Some(Command::Trial(stream))) => trial(rt, alloc, stream, &mut out, gate),
         Ok(None) => Status::Usage,
         Err(_) => Status::OutOfMemory,
     };
@@ -176,7 +203,7 @@ fn work<R: Threads + Wait + Sync, S: Source, K: Sink + Send + Drop, G: Gate + Sy
 /// Runs the command that the words ask for, the program's name first. What a command reads comes from `source`, what
 /// it writes goes to `out`, and how it ended is told to `note` in a line. All three are handed back.
 ///
-/// `rt` and `gate` serve `decode`, which starts threads unless it is asked for a plain decode.
+/// `rt` and `gate` serve `decode`, which starts threads unless it is asked for a plain decode, and `trial`.
 pub fn run<
     R: Threads + Wait + Sync,
     S: Source + Send + Drop,
@@ -206,7 +233,7 @@ pub fn run<
     ensures untouched { command_of (map string_bytes words.now) ≡ None → (result.source ≡ source) × (result.out ≡ out) }
 
     // A generated stream needs no source.
-    ensures unread { (stream : MadeStream) → command_of (map string_bytes words.now) ≡ Some (command.Make stream) → result.source ≡ source }
+    ensures unread { (stream : MadeStream) → (command_of (map string_bytes words.now) ≡ Some (command.Make stream)) ⊎ (command_of (map string_bytes words.now) ≡ Some (command.Trial stream)) → result.source ≡ source }
 
     // What didn't fail may be used on.
     ensures source_again { S.faults result.source ≡ S.faults source → S.can_fill result.source }

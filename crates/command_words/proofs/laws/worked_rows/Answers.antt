@@ -222,3 +222,27 @@ returns-clause-format_without_value c = λ name. refl
 pub returns-clause-empty_format : goal.returns-clause-empty_format
 unfolding command_of clap_on_literals
 returns-clause-empty_format c = λ name. refl
+
+pub returns-clause-trial : goal.returns-clause-trial
+unfolding command_of clap_on_literals
+returns-clause-trial c = λ name. refl
+
+pub returns-clause-greatest_trial : goal.returns-clause-greatest_trial
+unfolding command_of clap_on_literals
+returns-clause-greatest_trial c = λ name. refl
+
+pub returns-clause-trial_without_frames : goal.returns-clause-trial_without_frames
+unfolding command_of clap_on_literals
+returns-clause-trial_without_frames c = λ name. refl
+
+pub returns-clause-trial_of_many_frames : goal.returns-clause-trial_of_many_frames
+unfolding command_of clap_on_literals
+returns-clause-trial_of_many_frames c = λ name. refl
+
+pub returns-clause-number_alone_of_a_trial : goal.returns-clause-number_alone_of_a_trial
+unfolding command_of clap_on_literals
+returns-clause-number_alone_of_a_trial c = λ name. refl
+
+pub returns-clause-trial_alone : goal.returns-clause-trial_alone
+unfolding command_of clap_on_literals
+returns-clause-trial_alone c = λ name. refl
