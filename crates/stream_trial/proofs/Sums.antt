@@ -13,7 +13,7 @@ use Rattle.seq_decoder.specs.Outputs.{form_from, output_of}
 use Rattle.seq_decoder.specs.Runs.{picture_text, run_of}
 use Rattle.seq_decoder.specs.State.{start_state}
 use Rattle.seq_decoder.proofs.OutputLemmas.{output_follows}
-use Rattle.stream_forge.specs.Made.{IsMade}
+use Rattle.stream_forge.specs.Made.{made}
 use Rattle.stream_trial.specs.declared.trial.NoLine.{NoLine}
 use Rattle.stream_trial.specs.declared.trial.NoLine.TheVariants.{Broken, OutOfMemory}
 use Rattle.stream_trial.specs.declared.trial.Sum.{Sum}
@@ -50,12 +50,16 @@ run_ends file =
     ap (λ w. w.ending)
     (output_follows Raw picture_text (λ rate first picture. refl) (λ first shape. refl) (rate_of_file file) (form_from Raw (rate_of_file file)) (frames_in (frames_of_file file)) 0 (frames_of_file file).ending start_state None)
 
+-- a made file, as the definitions have it
+made_told : (number count : ℕ) (file : List ℕ) (s : Sum) → file ≡ made number count → Tells (output_of Raw file) (Ok s) → Tells (output_of Raw (made number count)) (Ok s)
+made_told number count file s is told = subst (λ file. Tells (output_of Raw file) (Ok s)) is told
+
 -- the line of a file that breaks no rule
-pub tells_line : (number count : ℕ) (file line : List ℕ) (s : Sum) (shown : ℕ) → IsMade number count file → Tells (output_of Raw file) (Ok s)
+pub tells_line : (number count : ℕ) (file line : List ℕ) (s : Sum) (shown : ℕ) → file ≡ made number count → Tells (output_of Raw file) (Ok s)
     → ((run_of file).ending ≡ None → shown ≡ shown_count file) → line ≡ line_of shown s.bytes s.sum → IsTrialLine number count line
-tells_line number count file line s shown made told counts is = record {
-  file = file;
-  made = made;
-  ends = told.0;
-  told = is ∙ (λ i. line_of (counts (sym (run_ends file) ∙ told.0) i) (told.1.0 i) (told.1.1 i));
-}
+tells_line number count file line s shown is told counts line_is =
+    let so = made_told number count file s is told in
+    let count_is = counts (sym (run_ends file) ∙ told.0) ∙ ap shown_count is in record {
+      ends = so.0;
+      told = line_is ∙ (λ i. line_of (count_is i) (so.1.0 i) (so.1.1 i));
+    }

@@ -203,7 +203,7 @@ complete_made stream s o n told last h (inr (inr r)) = λ a. inr (r.2 ∙ lacks_
 
 -- a trial ends as a made file does, or there is no memory for it
 tried_by_output : (stream : MadeStream) (s : OfSource) (o n : OfSink) (told : Status) → Trials stream o told → AllQuiet s o n → EndsAsTrial stream told
-tried_by_output stream s o n status.Done h a = let line = h.1.1 in inl (None, record { file = line.file; made = line.made; ends = line.ends }, refl)
+tried_by_output stream s o n status.Done h a = inl (None, h.1.0, refl)
 tried_by_output stream s o n (status.Broken stop) h a = inl (Some (stop.frame, stop.rule), h.2, refl)
 tried_by_output stream s o n status.ReadFault h a = absurd h
 tried_by_output stream s o n status.WriteFault h a = absurd (clash o.faults o.faults_now h.0 a.out)

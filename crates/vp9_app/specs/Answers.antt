@@ -7,8 +7,8 @@ use Rattle.command_words.specs.declared.command.Command.TheVariants as command
 use Rattle.vp9_app.specs.declared.status.Status.{Status}
 use Rattle.vp9_app.specs.declared.status.Status.TheVariants as status
 use Rattle.seq_decoder.specs.Outputs.{output_of}
-use Rattle.stream_forge.specs.Made.{IsMade}
-use Rattle.stream_trial.specs.Trials.{BreaksAt, IsTrialLine}
+use Rattle.stream_forge.specs.Made.{made}
+use Rattle.stream_trial.specs.Trials.{BreaksAt, MadeEnds, made_line}
 use Rattle.command_words.specs.declared.command.DecodeOptions.{DecodeOptions}
 use Rattle.command_words.specs.declared.command.MadeStream.{MadeStream}
 use Rattle.vp9_app.specs.Listing.{listing}
@@ -91,12 +91,12 @@ Reads output s o status.Usage = ⊥
 abbrev pub Unread : OfSource → Type 0
 Unread s = SourceQuiet s × (s.left ≡ s.rest)
 
--- a file that is generated from the number was written, and one of which a front was, which may be empty
+-- the file that is generated from the number was written, and a front of it, which may be empty
 abbrev pub WritesMade : MadeStream → OfSink → Type 0
-WritesMade stream o = (file : List ℕ) × IsMade stream.number stream.frames file × Takes o.before o.after file
+WritesMade stream o = Takes o.before o.after (made stream.number stream.frames)
 
 abbrev pub WritesFrontOfMade : MadeStream → OfSink → Type 0
-WritesFrontOfMade stream o = (file : List ℕ) × (n : ℕ) × IsMade stream.number stream.frames file × Takes o.before o.after (take n file)
+WritesFrontOfMade stream o = (n : ℕ) × Takes o.before o.after (take n (made stream.number stream.frames))
 
 -- How its work may end. Without memory for the whole file nothing is written.
 abbrev pub Makes : MadeStream → OfSink → Status → Type 0
@@ -107,12 +107,12 @@ Makes stream o status = ⊥
 
 ---- The command that tries one ----
 
--- the line of a file that is generated from the number was written, and one of which a front was, which may be empty
+-- the line of the file that is generated from the number was written, and a front of it, which may be empty: the file breaks no rule
 abbrev pub WritesTrial : MadeStream → OfSink → Type 0
-WritesTrial stream o = (line : List ℕ) × IsTrialLine stream.number stream.frames line × Takes o.before o.after line
+WritesTrial stream o = MadeEnds stream.number stream.frames None × Takes o.before o.after (made_line stream.number stream.frames)
 
 abbrev pub WritesFrontOfTrial : MadeStream → OfSink → Type 0
-WritesFrontOfTrial stream o = (line : List ℕ) × (n : ℕ) × IsTrialLine stream.number stream.frames line × Takes o.before o.after (take n line)
+WritesFrontOfTrial stream o = MadeEnds stream.number stream.frames None × ((n : ℕ) × Takes o.before o.after (take n (made_line stream.number stream.frames)))
 
 -- How its work may end. Without memory for the file, or to decode it, nothing is written.
 abbrev pub Trials : MadeStream → OfSink → Status → Type 0

@@ -12,7 +12,7 @@ pub returns-clause-line : goal.returns-clause-line
 returns-clause-line g c =
     let sum = c.in_ok-told.told in
     let shown = c.count_shown-shown.result in
-    tells_line c.args.number c.args.frames c.in-Ok.file.items (string_bytes c.in_ok-line_of.field-0) sum shown c.in-Ok.ensures
+    tells_line c.args.number c.args.frames c.in-Ok.file.items (string_bytes c.in_ok-line_of.field-0) sum shown c.in-Ok.ensures.made
     (subst (λ file. Tells (output_of Raw file) (Ok sum)) c.deref-3.ensures.value c.in_ok-told.ensures)
     (subst (λ file. (run_of file).ending ≡ None → shown ≡ shown_count file) c.deref-4.ensures.value c.count_shown-shown.ensures)
     c.in_ok-line_of.ensures
