@@ -193,7 +193,7 @@ block_said_so speaker by at s bools h t next last info read old mid new holds be
     let first = mode_info_way by.header by.modes by.contexts by.past.segments (before_it s) by.past.vectors at info old mid modes in (
       block_puts by at s old mid new info read modes (residue_from by at s h mid new info (Ok read) holds r.put),
       spells_on marked mid new (bools ++ modes_spelled by at s info) (levels_spelled by s info r.levels) (levels_from by s h info r.levels mid new holds spelled)
-      (spells_on marked old mid bools (modes_spelled by at s info) first before),
+          (spells_on marked old mid bools (modes_spelled by at s info) first before),
       rw (said_from speaker by at s h t (Some (m.symbols, next)) holds m.told) (rw (modes_of_state speaker by at s h t next (Ok info) old mid holds m)
           (rw r.told (rw (residue_of_state speaker by at s h info next last (Ok read) mid new holds r) refl))),
     )

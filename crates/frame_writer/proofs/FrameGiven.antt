@@ -67,7 +67,7 @@ reads_so : {T : Type 0} (speaker : Speaker T) (frame : FrameToWrite) (past : Fra
     → bytes ≡ out ++ tail → forward (with_size frame.header (length compressed)) past.contexts (slice_range bytes (length front) (length front + length compressed)) ≡ Ok (lists_of frame.contexts, frame.modes)
     → (gives : GivesAll speaker (sources_with frame past (length compressed)) t (front ++ compressed) broken out new)
     → ReadsFrame speaker (input_with frame past (length compressed) (span_at front compressed) bytes) (sources_with frame past (length compressed)) t broken
-        (lists_in speaker (sources_with frame past (length compressed)) t new (front ++ compressed) out broken gives) new
+    (lists_in speaker (sources_with frame past (length compressed)) t new (front ++ compressed) out broken gives) new
 reads_so speaker frame past t new front compressed out tail bytes None is made gives =
     let by = sources_with frame past (length compressed) in
     let f = input_with frame past (length compressed) (span_at front compressed) bytes in

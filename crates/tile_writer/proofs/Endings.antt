@@ -1,6 +1,6 @@
 -- What is put one after another in a tile, to its end or to what stops it.
-use Rattle.std.proofs.Common.{◌≡◌, ◌∙◌, ℕ, ◌+◌, ◌≤◌, refl, sym, subst, ap, arith}
-use Rattle.std.specs.Prelude.{Result, Ok, Err, Option, Some, List, ◌++◌}
+use Rattle.std.proofs.Common.{◌≡◌, ◌∙◌, ℕ, ◌+◌, ◌≤◌, refl, sym, subst, arith}
+use Rattle.std.specs.Prelude.{Result, Ok, Err, Option, Some, ◌++◌}
 use Rattle.vp9_types.specs.Syntax.{Syntax}
 use Rattle.vp9_types.specs.declared.rule.Rule.{Rule}
 use Rattle.bool_encoder.specs.Part.{Part, marked}
@@ -9,8 +9,8 @@ use Rattle.bool_lists.proofs.Ways.{spells_on}
 use Rattle.counting_reader.specs.Counting.{Settled, in_order, settle}
 use Rattle.counting_writer.specs.Counted.{PutsValue, PutsTo}
 use Rattle.counting_writer.proofs.CountedPuts.{puts_broken, puts_on, puts_value, value_put, valued_settle}
-use Rattle.tile_writer.specs.Said.{SaidSoFar, Said, behind, so_far}
-use Rattle.tile_writer.specs.Code.{Tile, SameTile, Rest, IsNext, EndsTile, then_rest}
+use Rattle.tile_writer.specs.Said.{SaidSoFar, behind, so_far}
+use Rattle.tile_writer.specs.Code.{Tile, SameTile, Rest, EndsTile, then_rest}
 use Rattle.tile_writer.specs.declared.unwritten.Unwritten.{Unwritten}
 use Rattle.tile_writer.specs.declared.unwritten.Unwritten.TheVariants.{Broken, Unsaid, OutOfMemory}
 

@@ -1,6 +1,6 @@
 -- How a square is put, by its level and by whether it starts inside the frame.
-use Rattle.std.proofs.Common.{◌≡◌, ◌∙◌, ℕ, zero, suc, ◌+◌, ◌-◌, ◌*◌, ◌/◌, ◌%◌, ◌^◌, ◌<◌, ◌≤◌, refl, sym, subst, ap, arith, true, false, rules, Bool}
-use Rattle.std.specs.Prelude.{Result, Ok, Err, Option, Some, None, nat_lt, ◌++◌}
+use Rattle.std.proofs.Common.{◌≡◌, ◌∙◌, ℕ, zero, suc, ◌+◌, ◌-◌, ◌*◌, ◌/◌, ◌%◌, ◌^◌, ◌<◌, ◌≤◌, refl, subst, ap, arith, true, false, rules}
+use Rattle.std.specs.Prelude.{Result, Ok, Err, None, nat_lt}
 use Rattle.std.proofs.Math.Nat.{one-le-pow, pow-suc}
 use Rattle.vp9_types.specs.Syntax.{Syntax}
 use Rattle.vp9_types.specs.declared.block.BlockSize.{BlockSize}
@@ -9,19 +9,19 @@ use Rattle.vp9_types.specs.declared.block.Partition.TheVariants.{Whole, Horizont
 use Rattle.vp9_types.specs.declared.rule.Rule.{Rule}
 use Rattle.block_geometry.specs.Partitions.{part_size}
 use Rattle.block_plan.specs.declared.block.BlockAt.{BlockAt}
-use Rattle.bool_lists.specs.Lists.{BoolList, HasPut}
+use Rattle.bool_lists.specs.Lists.{BoolList}
 use Rattle.block_lists.specs.Partitions.{spelled_partition_at}
 use Rattle.block_lists.proofs.IntraWays.{at_way}
-use Rattle.counting_reader.specs.Counting.{Settled, in_order, settle}
+use Rattle.counting_reader.specs.Counting.{Settled, settle}
 use Rattle.counting_writer.specs.Counted.{PutsValue}
 use Rattle.mode_syntax.specs.Partitions.{half_of, partition_at}
 use Rattle.mode_syntax.specs.Walk.{Walk, block_at, square_at, starts_inside, block_inside, smallest_parts, parts, decode_partition, quarter}
 use Rattle.mode_syntax.specs.declared.square_at.SquareAt.{SquareAt}
-use Rattle.tile_writer.specs.Said.{SaidSoFar, Said, Teller, so_far, with_partition, said_inside, said_parts, said_square, told_partition, behind}
+use Rattle.tile_writer.specs.Said.{SaidSoFar, Teller, so_far, said_inside, said_parts, said_square, told_partition}
 use Rattle.tile_writer.specs.Code.{Tile, SameTile, Rest, EndsTile, GivesPartition, StandsIn, block_rest, inside_rest, then_rest, parts_rest, square_rest}
 use Rattle.tile_writer.specs.declared.unwritten.Unwritten.{Unwritten}
 use Rattle.tile_writer.specs.declared.unwritten.Unwritten.TheVariants.{Broken, Unsaid, OutOfMemory}
-use Rattle.tile_writer.proofs.Endings.{IsPut, as_rest, ends_here, ends_more, symbol_rest, symbol_ends, then_ends, same_here}
+use Rattle.tile_writer.proofs.Endings.{as_rest, ends_here, symbol_rest, symbol_ends, then_ends, same_here}
 
 inside : {S : Type 0} (walk : Walk S) (r c : ℕ) → r < walk.frame.rows → c < walk.frame.cols → starts_inside walk r c ≡ true
 inside walk r c row col = search rules

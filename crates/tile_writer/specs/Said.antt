@@ -78,12 +78,12 @@ unfoldable pub said_square : {S T : Type 0} → Walk S → Teller S T → ℕ �
 said_square walk teller zero r c p =
     if starts_inside walk r c
     then behind (told_partition walk teller 0 r c p.told)
-        (λ partition t. told_block walk teller r c (part_size partition 0) (with_partition walk (square_at walk 0 r c) p partition t))
+    (λ partition t. told_block walk teller r c (part_size partition 0) (with_partition walk (square_at walk 0 r c) p partition t))
     else Ok p
 said_square walk teller (suc n) r c p =
     if starts_inside walk r c
     then behind (told_partition walk teller (suc n) r c p.told)
-        (λ partition t. said_parts walk teller (said_square walk teller n) n r c partition (with_partition walk (square_at walk (suc n) r c) p partition t))
+    (λ partition t. said_parts walk teller (said_square walk teller n) n r c partition (with_partition walk (square_at walk (suc n) r c) p partition t))
     else Ok p
 
 -- a row of n superblocks from a column on, and n rows of them

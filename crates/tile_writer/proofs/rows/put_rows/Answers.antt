@@ -1,5 +1,4 @@
-use Rattle.std.proofs.Common.{◌≡◌, ◌<◌, ◌≤◌, ◌+◌, ◌*◌, ap, arith}
-use Rattle.std.specs.Prelude.{Ok, Err}
+use Rattle.std.proofs.Common.{◌*◌}
 use Rattle.std.proofs.lemmas.Result.{err_from_is_err_and}
 use Rattle.tile_writer.specs.Code.{tile_rest}
 use Rattle.tile_writer.proofs.RowEnds.{row_turn, tile_turns, tile_end, goes_on, stops, ends, counted_to}
