@@ -1,6 +1,7 @@
 -- A generated file: frame after frame, each as it is drawn from a number, in the state that the frames before leave. There is one
 -- such file for each number and count of frames.
 use Rattle.std.specs.Prelude.{ℕ, zero, suc, ◌+◌, ◌^◌, nat_eq, nat_lt, List, [], ◌∷◌, ◌++◌, length, Option, Some, None, Result, Ok, Err, if◌then◌else◌}
+use Rattle.vp9_types.specs.declared.block.Modes.{Modes}
 use Rattle.vp9_types.specs.declared.rule.Rule.{Rule}
 use Rattle.frame_headers.specs.declared.header.Header.{Header}
 use Rattle.frame_headers.specs.declared.header.Uncompressed.{Uncompressed}
@@ -16,23 +17,35 @@ use Rattle.frame_writer.specs.Bytes.{frame_bytes, header_bytes, with_size}
 use Rattle.frame_writer.specs.Frames.{FrameTold, frame_told}
 use Rattle.drawn_headers.specs.Heads.{draw_head}
 use Rattle.drawn_headers.specs.Modes.{draw_modes}
+use Rattle.drawn_headers.specs.declared.heads.DrawnHead.{DrawnHead}
 use Rattle.drawn_frames.specs.Symbols.{drawing}
 use Rattle.drawn_frames.specs.declared.symbols.DrawnSymbols.{DrawnSymbols}
 use Rattle.seq_decoder.specs.After.{Stepped, past_of, step}
 use Rattle.seq_decoder.specs.SavedContexts.{context_before}
 use Rattle.seq_decoder.specs.State.{State, persist_of, start_state}
 
+-- a lot: what is drawn, and the number from which more is drawn
+pub record Lot (A : Type 0) : Type 0 where
+  pub it : A
+  pub left : ℕ
+
+abbrev pub lot : {A : Type 0} → A × ℕ → Lot A
+lot p = record { it = p.0; left = p.1 }
+
 ---- A coded frame ----
+
+abbrev pub modes_drawn : Header → ℕ → Lot Modes
+modes_drawn header x = lot (draw_modes header x)
 
 -- the bools of its compressed header, which updates no probability
 abbrev pub drawn_updates : State → Header → ℕ → BoolList
-drawn_updates state header x = spelled_compressed header (context_before header state.contexts) (context_before header state.contexts) (draw_modes header x).0
+drawn_updates state header x = spelled_compressed header (context_before header state.contexts) (context_before header state.contexts) (modes_drawn header x).it
 
 -- what its blocks are read by: its header with the size of the compressed one, and the modes that are drawn
 abbrev pub drawn_sources : State → Header → ℕ → FrameSources
 drawn_sources state header x = record {
   header = with_size header (bytes_taken (drawn_updates state header x));
-  modes = (draw_modes header x).0;
+  modes = (modes_drawn header x).it;
   contexts = context_before header state.contexts;
   past = past_of state header;
 }
@@ -43,7 +56,7 @@ symbols_from x = record { draws = record { x = x } }
 
 -- its blocks as they are drawn, or why they end before
 abbrev pub drawn_blocks : State → Header → ℕ → Result (FrameTold DrawnSymbols) Unwritten
-drawn_blocks state header x = frame_told drawing (drawn_sources state header x) (symbols_from (draw_modes header x).1)
+drawn_blocks state header x = frame_told drawing (drawn_sources state header x) (symbols_from (modes_drawn header x).left)
 
 ---- A frame ----
 
@@ -63,15 +76,18 @@ frame_of state choices (ShowExisting slot) x = Some (record { bytes = header_byt
 frame_of state choices (Coded header) x =
     if nat_lt (bytes_taken (drawn_updates state header x)) (2 ^ 16) then frame_from state choices (drawn_sources state header x) (drawn_blocks state header x) else None
 
--- the header of the n-th frame, how it is spelled, and the number from which its blocks are drawn
+-- the header of the n-th frame, how it is spelled, and the number from which its modes are drawn
+abbrev pub head_drawn : ℕ → State → ℕ → Lot DrawnHead
+head_drawn n state x = lot (draw_head (nat_eq n 0) (persist_of state) x)
+
 abbrev pub head_at : ℕ → State → ℕ → Uncompressed
-head_at n state x = (draw_head (nat_eq n 0) (persist_of state) x).0.header
+head_at n state x = (head_drawn n state x).it.header
 
 abbrev pub choices_at : ℕ → State → ℕ → Choices
-choices_at n state x = (draw_head (nat_eq n 0) (persist_of state) x).0.choices
+choices_at n state x = (head_drawn n state x).it.choices
 
 abbrev pub behind_head : ℕ → State → ℕ → ℕ
-behind_head n state x = (draw_head (nat_eq n 0) (persist_of state) x).1
+behind_head n state x = (head_drawn n state x).left
 
 abbrev pub made_frame : ℕ → State → ℕ → Option MadeFrame
 made_frame n state x = frame_of state (choices_at n state x) (head_at n state x) (behind_head n state x)

@@ -14,11 +14,10 @@ use Rattle.tile_writer.specs.declared.unwritten.Unwritten.{Unwritten}
 use Rattle.frame_writer.specs.Bytes.{frame_bytes, header_bytes}
 use Rattle.frame_writer.specs.Code.{IsTooLong}
 use Rattle.frame_writer.specs.Frames.{said_of, told_so_far}
-use Rattle.drawn_headers.specs.Modes.{draw_modes}
 use Rattle.drawn_frames.specs.Symbols.{drawing}
 use Rattle.seq_decoder.specs.After.{Stepped, input_of, step}
 use Rattle.seq_decoder.specs.State.{State, persist_of, start_state}
-use Rattle.stream_forge.specs.Made.{behind_head, choices_at, drawn_blocks, drawn_sources, drawn_updates, head_at, packets_from, symbols_from}
+use Rattle.stream_forge.specs.Made.{behind_head, choices_at, drawn_blocks, drawn_sources, drawn_updates, head_at, modes_drawn, packets_from, symbols_from}
 
 ---- A coded frame ----
 
@@ -46,7 +45,7 @@ HasLongHeader state header x = 2 ^ 16 ≤ bytes_taken (drawn_updates state heade
 
 -- nor does a tile
 abbrev pub HasLongTile : State → Header → ℕ → Type 0
-HasLongTile state header x = IsTooLong drawing (drawn_sources state header x) (symbols_from (draw_modes header x).1)
+HasLongTile state header x = IsTooLong drawing (drawn_sources state header x) (symbols_from (modes_drawn header x).left)
 
 abbrev pub IsNone : State → Uncompressed → ℕ → Type 0
 IsNone state (ShowExisting slot) x = ⊥
