@@ -4,22 +4,19 @@ use Rattle.std.specs.Prelude.{IfOk, OnOk, Option, Some, None, Result, Ok, Err}
 use Rattle.vp9_types.specs.Sizes.{superblocks_along}
 use Rattle.vp9_types.specs.declared.rule.Rule.{Rule}
 use Rattle.bool_encoder.specs.Part.{Part, Finishes, marked}
-use Rattle.bool_encoder.specs.Laws.{after_bools}
-use Rattle.bool_lists.specs.Lists.{BoolList, HasPut, bytes_taken}
+use Rattle.bool_lists.specs.Lists.{BoolList, HasPut}
 use Rattle.bool_lists.proofs.Ways.{bytes_are, spells_none}
 use Rattle.counting_writer.proofs.CountedPuts.{puts_value}
-use Rattle.block_geometry.specs.declared.transform_blocks.FramePlaces.{FramePlaces}
 use Rattle.frame_state.specs.Columns.{limit_of}
 use Rattle.frame_state.specs.Reading.{TileRead, read_walk}
 use Rattle.frame_state.specs.Code.{sources_of}
-use Rattle.frame_state.specs.Sources.{FrameSources}
 use Rattle.frame_state.specs.declared.sources.FrameSources as code
 use Rattle.frame_state.specs.declared.columns.TileColumn.{TileColumn}
 use Rattle.frame_state.specs.declared.tile_places.TilePlaces.{TilePlaces}
 use Rattle.tile_writer.specs.Code.{EndsTile, HoldsSoFar, Tile, tile_rest}
 use Rattle.tile_writer.specs.declared.unwritten.Unwritten.{Unwritten}
 use Rattle.tile_writer.specs.declared.unwritten.Unwritten.TheVariants as unwritten
-use Rattle.frame_writer.specs.Bytes.{AreBytesOf, IsWritten}
+use Rattle.frame_writer.specs.Bytes.{AreBytesOf}
 use Rattle.frame_writer.specs.Code.{GivesBytes, GivesTile, GivesTileTo, IsLong, IsReadyFor, TileHere, ending_of, held_by, held_of, here_of}
 use Rattle.frame_writer.specs.Frames.{tile_syntax, tile_told}
 use Rattle.frame_writer.specs.Symbols.{Speaker, teller_of}

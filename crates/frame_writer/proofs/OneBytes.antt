@@ -1,8 +1,8 @@
 -- Bytes are spelled in one way.
 use Rattle.std.proofs.Common.{◌≡◌, ◌∙◌, ℕ, zero, suc, ◌+◌, ◌-◌, ◌*◌, ◌/◌, ◌%◌, ◌<◌, List, [], ◌∷◌, ◌++◌, length, refl, sym, ap, append_assoc, arith, Bool, true, false, subst}
-use Rattle.std.specs.Prelude.{Some, map, get_or, slice_index, ◌==◌, if◌then◌else◌}
+use Rattle.std.specs.Prelude.{Some, map, slice_index, ◌==◌, if◌then◌else◌}
 use Rattle.std.specs.List.{flat_map}
-use Rattle.std.proofs.lemmas.List.{append-nil, length-append}
+use Rattle.std.proofs.lemmas.List.{length-append}
 use Rattle.byteorder.specs.Endian.{big_bytes}
 use Rattle.vp9_types.specs.Bits.{bits_of, bits_of_byte, number_of, spelled}
 use Rattle.vp9_types.proofs.Spells.{length-spelled}

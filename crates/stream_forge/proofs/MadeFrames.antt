@@ -1,20 +1,16 @@
 -- What is read as it was drawn is the file that is generated.
-use Rattle.std.proofs.Common.{◌≡◌, ◌∙◌, ◌⊎◌, inl, inr, ℕ, zero, suc, ◌+◌, ◌-◌, ◌*◌, ◌/◌, ◌%◌, ◌^◌, ◌<◌, ◌≤◌, List, [], ◌∷◌, ◌++◌, length, Bool, true, false, refl, sym, ap, subst, arith}
+use Rattle.std.proofs.Common.{◌≡◌, ◌∙◌, ◌⊎◌, inl, inr, ℕ, zero, suc, ◌+◌, ◌-◌, ◌*◌, ◌/◌, ◌%◌, ◌^◌, ◌≤◌, List, [], ◌∷◌, ◌++◌, length, Bool, true, false, refl, sym, ap, subst, arith}
 use Rattle.std.specs.Prelude.{IfOk, Option, Some, None, Result, Ok, Err, map, nat_lt, slice_index, ◌==◌, if◌then◌else◌}
 use Rattle.std.proofs.lemmas.Bool.{le-ltb, lt-ltb}
 use Rattle.std.proofs.lemmas.List.{length-append}
 use Rattle.byteorder.specs.Endian.{big_bytes}
 use Rattle.vp9_types.specs.Bits.{spelled}
 use Rattle.vp9_types.specs.Results.{◌>>=◌}
-use Rattle.vp9_types.specs.Syntax.{Syntax}
-use Rattle.vp9_types.specs.declared.rule.Rule.{Rule}
 use Rattle.vp9_types.proofs.Spells.{length-spelled}
 use Rattle.bool_encoder.specs.Part.{marked}
 use Rattle.bool_encoder.specs.Laws.{after_bools}
 use Rattle.bool_lists.specs.Lists.{BoolList, bytes_taken}
-use Rattle.counting_reader.specs.Counting.{Settled}
 use Rattle.frame_headers.specs.Spans.{tile_count}
-use Rattle.frame_headers.specs.declared.header.Header.{Header}
 use Rattle.frame_headers.specs.declared.header.Uncompressed.{Uncompressed}
 use Rattle.frame_headers.specs.declared.header.Uncompressed.TheVariants.{ShowExisting, Coded}
 use Rattle.frame_headers.specs.declared.persist.Persist.{Persist}
@@ -24,7 +20,6 @@ use Rattle.frame_state.specs.Sources.{FrameSources}
 use Rattle.frame_state.specs.Tiles.{column_of}
 use Rattle.tile_writer.specs.Said.{Said, SaidSoFar}
 use Rattle.tile_writer.specs.declared.unwritten.Unwritten.{Unwritten}
-use Rattle.tile_writer.specs.declared.unwritten.Unwritten.TheVariants as unwritten
 use Rattle.frame_writer.specs.Bytes.{bytes_of, bytes_of_bits, compressed_bools, frame_bytes, header_bytes, joined, padded, sized, without_index}
 use Rattle.frame_writer.specs.Code.{IsLong, IsLongTile, IsTooLong}
 use Rattle.frame_writer.specs.Frames.{FrameTold, frame_told, nth_syntax, nth_tile_told, nth_told, said_of, tiles_told, told_so_far, with_tile_said}
@@ -32,9 +27,9 @@ use Rattle.frame_writer.specs.Symbols.{Speaker}
 use Rattle.drawn_frames.specs.Symbols.{drawing}
 use Rattle.drawn_frames.specs.declared.symbols.DrawnSymbols.{DrawnSymbols}
 use Rattle.container_writer.specs.Files.{file_header}
-use Rattle.seq_decoder.specs.After.{Stepped, step}
+use Rattle.seq_decoder.specs.After.{step}
 use Rattle.seq_decoder.specs.State.{State, persist_of, start_state}
-use Rattle.stream_forge.specs.Made.{MadeFrame, behind_head, choices_at, drawn_blocks, drawn_sources, drawn_updates, frame_from, frame_of, head_at, made, made_frame, made_frames, packets_from, rest_behind, symbols_from, with_rest}
+use Rattle.stream_forge.specs.Made.{MadeFrame, behind_head, choices_at, drawn_blocks, drawn_sources, drawn_updates, frame_from, frame_of, head_at, made, made_frame, made_frames, packets_from, rest_behind, with_rest}
 use Rattle.stream_forge.specs.Reads.{AreMade, EndsBefore, IsFrameOf, IsNone, IsReadAsDrawn}
 
 ---- A frame that is made ----
