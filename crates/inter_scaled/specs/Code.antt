@@ -29,6 +29,6 @@ pub record IsCopied (a : Axis) (n : ℕ) : Type 0 where
   pub inside : AreInside a (n + 7)
 
 -- a line of n values is filtered from samples one after another, read by sixteens
-pub record IsRun {T : Type 0} (f : LineFilter T) (n : ℕ) : Type 0 where
-  pub step : f.axis.step ≡ 16
-  pub inside : AreInside f.axis (16 * ((n + 15) / 16) + 7)
+pub record IsRun (a : Axis) (n : ℕ) : Type 0 where
+  pub step : a.step ≡ 16
+  pub inside : AreInside a (16 * ((n + 15) / 16) + 7)

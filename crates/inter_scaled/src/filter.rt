@@ -1,11 +1,10 @@
 //! A filter along one direction.
 
-ghost use Rattle.std.specs.Prelude.{◌≡◌, ◌≤◌, true};
+ghost use Rattle.std.specs.Prelude.{◌≡◌, true};
 ghost use Rattle.std.specs.Bool.{OnTrue};
 ghost use Rattle.inter_places.specs.Axes.{IsAxis};
-ghost use Rattle.inter_scaled.specs.Code.{IsFilter, IsRun};
+ghost use Rattle.inter_scaled.specs.Code.{IsFilter};
 
-use crate::places::is_inside;
 use inter_lanes::FilterSample;
 use inter_places::{Axis, phase_of};
 use vp9_tables::taps;
@@ -56,15 +55,5 @@ impl<T> LineFilter<T> {
         ensures { OnTrue result (self.now.axis.step ≡ 16) }
     {
         self.axis.step == 16
-    }
-
-    /// Whether lines of n values are filtered from samples inside the plane.
-    #[inline(always)]
-    pub(crate) fn is_run(&self, n: usize) -> bool
-        requires axis { IsAxis self.now.axis }
-        requires few { n ≤ 64 }
-        ensures { OnTrue result (IsRun self.now n) }
-    {
-        self.is_unscaled() && is_inside(&self.axis, 16 * n.div_ceil(16) + 7)
     }
 }

@@ -4,7 +4,7 @@ ghost use Rattle.std.specs.Prelude.{◌≡◌, ℕ, ◌+◌, ◌*◌, ◌/◌, �
 ghost use Rattle.inter_lanes.specs.Filter.{filtered};
 ghost use Rattle.inter_places.specs.Axes.{straight, IsAxis};
 ghost use Rattle.inter_scaled.specs.Inter.{along};
-ghost use Rattle.inter_scaled.specs.Code.{IsFilter, IsRun};
+ghost use Rattle.inter_scaled.specs.Code.{IsFilter};
 
 use crate::filter::LineFilter;
 use crate::kept::{put_at, sample_at};
@@ -82,45 +82,15 @@ fn fill_line<P: FilterSample>(out: &mut [P], n: usize, row: &[P], filter: &LineF
     }
 }
 
-/// A line of n values: of kind 0 filtered from samples one after another, the first of which stands at place `from` of the
-/// row; of kind 1 whatever they are.
+/// Line i of lines of n values, whatever they are.
 #[inline(always)]
-fn fill_by<P: FilterSample, const KIND: usize>(
-    out: &mut [P],
-    n: usize,
-    row: &[P],
-    from: usize,
-    filter: &LineFilter<P::Taps>,
-)
-    requires run { KIND ≡ 0 → IsRun filter.now n }
-    requires from { from ≡ straight filter.now.axis 0 }
-    requires filter { IsFilter P.stand_for P.hold P.takes filter.now }
-    requires few { n ≤ 64 }
-    requires room { n ≤ length out.old }
-    requires row { filter.now.axis.size ≤ length row.now }
-    requires samples { (k : ℕ) → slice_index (map P.value row.now) k ≤ filter.now.most }
-    ensures value { (j : ℕ) → j < n → slice_index (map P.value out.new) j ≡ along filter.now.most filter.now.kind filter.now.axis (slice_index (map P.value row.now)) j }
-    ensures after { (j : ℕ) → n ≤ j → slice_index (map P.value out.new) j ≡ slice_index (map P.value out.old) j }
-{
-    if KIND == 0 {
-        P::filter_along(out, n, row, from, &filter.taps, filter.most);
-    } else {
-        fill_line::<P>(out, n, row, filter);
-    }
-}
-
-/// Line i of lines of n values.
-#[inline(always)]
-pub(crate) fn put_line<P: FilterSample, const KIND: usize>(
+pub(crate) fn put_line<P: FilterSample>(
     lines: &mut [P],
     i: usize,
     n: usize,
     row: &[P],
-    from: usize,
     filter: &LineFilter<P::Taps>,
 )
-    requires run { KIND ≡ 0 → IsRun filter.now n }
-    requires from { from ≡ straight filter.now.axis 0 }
     requires filter { IsFilter P.stand_for P.hold P.takes filter.now }
     requires low { i ≤ 256 }
     requires few { n ≤ 64 }
@@ -131,5 +101,5 @@ pub(crate) fn put_line<P: FilterSample, const KIND: usize>(
     ensures before { (k : ℕ) → k < i * n → slice_index (map P.value lines.new) k ≡ slice_index (map P.value lines.old) k }
 {
     let at = i * n;
-    fill_by::<P, KIND>(&mut lines[at..at + n], n, row, from, filter);
+    fill_line::<P>(&mut lines[at..at + n], n, row, filter);
 }

@@ -3,7 +3,7 @@
 ghost use Rattle.std.specs.Prelude.{◌≡◌, ◌+◌, ◌≤◌};
 ghost use Rattle.std.specs.Bool.{OnTrue};
 ghost use Rattle.inter_places.specs.Axes.{fraction, IsAxis};
-ghost use Rattle.inter_scaled.specs.Code.{AreInside, IsCopied};
+ghost use Rattle.inter_scaled.specs.Code.{AreInside, IsCopied, IsRun};
 
 use inter_places::{Axis, phase_of};
 
@@ -36,4 +36,14 @@ pub(crate) fn is_copied(a: &Axis, n: usize) -> bool
     ensures { OnTrue result (IsCopied a.now n) }
 {
     is_whole(a) && is_inside(a, n + 7)
+}
+
+/// Whether lines of n values are filtered from samples inside the plane.
+#[inline(always)]
+pub(crate) fn is_run(a: &Axis, n: usize) -> bool
+    requires axis { IsAxis a.now }
+    requires few { n ≤ 64 }
+    ensures { OnTrue result (IsRun a.now n) }
+{
+    a.step == 16 && is_inside(a, 16 * n.div_ceil(16) + 7)
 }

@@ -8,7 +8,7 @@ ghost use Rattle.inter_scaled.specs.Code.{IsFilter, IsCopied, IsRun};
 
 use crate::filter::{Interpolation, LineFilter, filter_of};
 use crate::lines::put_line;
-use crate::places::is_copied;
+use crate::places::{is_copied, is_run};
 use inter_lanes::FilterSample;
 use inter_places::{Place, straight};
 use vp9_types::{Sample, Samples};
@@ -33,64 +33,133 @@ fn read_row<'a, P: Sample, S: Samples<Kept = P>>(
     view.row(place.plane, straight(&place.down, n) as u32)
 }
 
-/// Lines along so many rows of the reference, from the one on that lies `first` after the third before the first, of a kind
-/// as `put_line` has it.
-fn fill_by<P: FilterSample, S: Samples<Kept = P>, const KIND: usize>(
+/// Row i of N values filtered from samples one after another, the first of which stands at place `from` of a row.
+#[inline(always)]
+fn put_filtered<P: FilterSample, const N: usize>(
+    lines: &mut [P],
+    i: usize,
+    row: &[P],
+    from: usize,
+    across: &LineFilter<P::Taps>,
+)
+    requires run { IsRun across.now.axis N }
+    requires from { from ≡ straight across.now.axis 0 }
+    requires filter { IsFilter P.stand_for P.hold P.takes across.now }
+    requires low { i ≤ 256 }
+    requires few { N ≤ 64 }
+    requires room { i * N + N ≤ length lines.old }
+    requires row { across.now.axis.size ≤ length row.now }
+    requires samples { (k : ℕ) → slice_index (map P.value row.now) k ≤ across.now.most }
+    ensures row { (j : ℕ) → j < N → slice_index (map P.value lines.new) (i * N + j) ≡ along across.now.most across.now.kind across.now.axis (slice_index (map P.value row.now)) j }
+    ensures before { (k : ℕ) → k < i * N → slice_index (map P.value lines.new) k ≡ slice_index (map P.value lines.old) k }
+{
+    let at = i * N;
+    P::filter_along(&mut lines[at..at + N], N, row, from, &across.taps, across.most);
+}
+
+/// Lines of N filtered values: each width has a loop of its own, and the filter beside it.
+fn run_lines<P: FilterSample, S: Samples<Kept = P>, const N: usize>(
     lines: &mut [P],
     view: &S,
     place: &Place,
-    across: &LineFilter<P::Taps>,
+    by: Interpolation,
     first: usize,
     count: usize,
 )
-    requires run { KIND ≡ 0 → IsRun across.now place.now.columns }
+    requires width { N ≡ place.now.columns }
+    requires run { IsRun place.now.across place.now.columns }
     requires place { IsPlace place.now }
-    requires filter { IsFilter P.stand_for P.hold P.takes across.now }
-    requires axis { across.now.axis ≡ place.now.across }
+    requires most { P.takes by.most }
     requires low { count ≤ 134 }
     requires near { first ≤ 3 }
     requires room { count * place.now.columns ≤ length lines.old }
     requires held { (r : ℕ) → r < count → S.holds view.now place.now.plane (straight place.now.down (first + r)) }
     requires wide { place.now.across.size ≤ S.width view.now place.now.plane }
-    requires samples { IsAtMost across.now.most (S.map view.now place.now.plane) }
+    requires samples { IsAtMost by.most (S.map view.now place.now.plane) }
     ensures { HoldsRows (map P.value lines.new) place.now.columns count
-        (λ r j. along across.now.most across.now.kind across.now.axis (S.map view.now place.now.plane (straight place.now.down (first + r))) j) }
+        (λ r j. along by.most by.kind place.now.across (S.map view.now place.now.plane (straight place.now.down (first + r))) j) }
 {
     // a copy stays in registers
     let place = *place;
-    let n = place.columns;
-    let from = straight(&across.axis, 0);
+    let across = filter_of::<P>(&place.across, by.kind, by.most);
+    let from = straight(&place.across, 0);
     for r in 0..count {
-        let row = read_row::<P, S>(view, &place, first + r, across.most);
-        put_line::<P, KIND>(lines, r, n, row, from, across);
+        let row = read_row::<P, S>(view, &place, first + r, by.most);
+        put_filtered::<P, N>(lines, r, row, from, &across);
+    }
+}
+
+/// Lines along so many rows of the reference, whatever they are.
+fn other_lines<P: FilterSample, S: Samples<Kept = P>>(
+    lines: &mut [P],
+    view: &S,
+    place: &Place,
+    by: Interpolation,
+    first: usize,
+    count: usize,
+)
+    requires place { IsPlace place.now }
+    requires most { P.takes by.most }
+    requires low { count ≤ 134 }
+    requires near { first ≤ 3 }
+    requires room { count * place.now.columns ≤ length lines.old }
+    requires held { (r : ℕ) → r < count → S.holds view.now place.now.plane (straight place.now.down (first + r)) }
+    requires wide { place.now.across.size ≤ S.width view.now place.now.plane }
+    requires samples { IsAtMost by.most (S.map view.now place.now.plane) }
+    ensures { HoldsRows (map P.value lines.new) place.now.columns count
+        (λ r j. along by.most by.kind place.now.across (S.map view.now place.now.plane (straight place.now.down (first + r))) j) }
+{
+    // a copy stays in registers
+    let place = *place;
+    let across = filter_of::<P>(&place.across, by.kind, by.most);
+    for r in 0..count {
+        let row = read_row::<P, S>(view, &place, first + r, by.most);
+        put_line::<P>(lines, r, place.columns, row, &across);
+    }
+}
+
+/// A block's columns, if its lines are filtered from samples one after another, else 0.
+#[inline(always)]
+fn run_columns(place: &Place) -> usize
+    requires { IsPlace place.now }
+    ensures width { 0 < result → result ≡ place.now.columns }
+    ensures run { 0 < result → IsRun place.now.across place.now.columns }
+{
+    if is_run(&place.across, place.columns) {
+        place.columns
+    } else {
+        0
     }
 }
 
 /// Filtered lines along so many rows of the reference, from the one on that lies `first` after the third before the first.
+#[inline(always)]
 fn filter_lines<P: FilterSample, S: Samples<Kept = P>>(
     lines: &mut [P],
     view: &S,
     place: &Place,
-    across: &LineFilter<P::Taps>,
+    by: Interpolation,
     first: usize,
     count: usize,
 )
     requires place { IsPlace place.now }
-    requires filter { IsFilter P.stand_for P.hold P.takes across.now }
-    requires axis { across.now.axis ≡ place.now.across }
+    requires most { P.takes by.most }
     requires low { count ≤ 134 }
     requires near { first ≤ 3 }
     requires room { count * place.now.columns ≤ length lines.old }
     requires held { (r : ℕ) → r < count → S.holds view.now place.now.plane (straight place.now.down (first + r)) }
     requires wide { place.now.across.size ≤ S.width view.now place.now.plane }
-    requires samples { IsAtMost across.now.most (S.map view.now place.now.plane) }
+    requires samples { IsAtMost by.most (S.map view.now place.now.plane) }
     ensures { HoldsRows (map P.value lines.new) place.now.columns count
-        (λ r j. along across.now.most across.now.kind across.now.axis (S.map view.now place.now.plane (straight place.now.down (first + r))) j) }
+        (λ r j. along by.most by.kind place.now.across (S.map view.now place.now.plane (straight place.now.down (first + r))) j) }
 {
-    if across.is_run(place.columns) {
-        fill_by::<P, S, 0>(lines, view, place, across, first, count);
-    } else {
-        fill_by::<P, S, 1>(lines, view, place, across, first, count);
+    match run_columns(place) {
+        4 => run_lines::<P, S, 4>(lines, view, place, by, first, count),
+        8 => run_lines::<P, S, 8>(lines, view, place, by, first, count),
+        16 => run_lines::<P, S, 16>(lines, view, place, by, first, count),
+        32 => run_lines::<P, S, 32>(lines, view, place, by, first, count),
+        64 => run_lines::<P, S, 64>(lines, view, place, by, first, count),
+        _ => other_lines::<P, S>(lines, view, place, by, first, count),
     }
 }
 
@@ -180,9 +249,6 @@ pub(crate) fn fill_lines<P: FilterSample, S: Samples<Kept = P>>(
         16 => copy_lines::<P, S, 16>(lines, view, place, by.most, first, count),
         32 => copy_lines::<P, S, 32>(lines, view, place, by.most, first, count),
         64 => copy_lines::<P, S, 64>(lines, view, place, by.most, first, count),
-        _ => {
-            let across = filter_of::<P>(&place.across, by.kind, by.most);
-            filter_lines::<P, S>(lines, view, place, &across, first, count);
-        }
+        _ => filter_lines::<P, S>(lines, view, place, by, first, count),
     }
 }
