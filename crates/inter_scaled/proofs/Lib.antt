@@ -1,5 +1,6 @@
 pub mod Agree
 pub mod Blocks
+pub mod Pieces
 pub mod RowLemmas
 pub mod Values
 pub mod Whole

@@ -2,7 +2,7 @@
 use Rattle.std.proofs.Common.{◌≡◌, ◌<◌, ◌≤◌, ◌+◌, ◌-◌, ℕ, List, length, get_or, take, drop, map, ◌++◌, set, replicate, ap, sym, subst, ◌∙◌, refl, arith, inl, inr}
 use Rattle.std.proofs.lemmas.Bool.{cases_lt, cases_order}
 use Rattle.std.proofs.lemmas.Bool.Decides.{nat_tests}
-use Rattle.std.proofs.lemmas.List.{places, map-set, get_or-set_same, get_or-set_other, take-map, drop-map, map-append, length-map, get_or-take, get_or-drop, get_or_past, get_or-replicate, length-take, length-replicate}
+use Rattle.std.proofs.lemmas.List.{places, map-set, get_or-set_same, get_or-set_other, take-map, drop-map, map-append, length-map, map-id, get_or-take, get_or-drop, get_or_past, get_or-replicate, length-take, length-replicate}
 use borrow.Rule.Slice.PartMut.{put_mid}
 
 pub put_here : {X : Type 0} (f : X → ℕ) (xs : List X) (i : ℕ) (y : X) → i < length xs → get_or (map f (set xs i y)) i 0 ≡ f y
@@ -46,11 +46,14 @@ map_mid f a k xs ys =
     ∙ ap (λ (q : List ℕ). take a (map f xs) ++ q)
     (map-append f ys (drop k (drop a xs)) ∙ ap (λ (l : List ℕ). map f ys ++ l) (sym (drop-map f k (drop a xs)) ∙ ap (drop k) (sym (drop-map f a xs))))
 
-mid_here : (a k : ℕ) (xs ys : List ℕ) (j : ℕ) → a ≤ length xs → j < length ys → get_or (put_mid a k xs ys) (a + j) 0 ≡ get_or ys j 0
+pub mid_here : (a k : ℕ) (xs ys : List ℕ) (j : ℕ) → a ≤ length xs → j < length ys → get_or (put_mid a k xs ys) (a + j) 0 ≡ get_or ys j 0
 mid_here a k xs ys j fits low = grind (arith, places, nat_tests)
 
 mid_before : (a k : ℕ) (xs ys : List ℕ) (j : ℕ) → a ≤ length xs → j < a → get_or (put_mid a k xs ys) j 0 ≡ get_or xs j 0
 mid_before a k xs ys j fits low = grind (arith, places, nat_tests)
+
+mid_after : (a k : ℕ) (xs ys : List ℕ) (j : ℕ) → a + k ≤ length xs → length ys ≡ k → a + k ≤ j → get_or (put_mid a k xs ys) j 0 ≡ get_or xs j 0
+mid_after a k xs ys j fits long past = grind (arith, places, nat_tests)
 
 -- after a write to a part
 pub part_here : {X : Type 0} (f : X → ℕ) (a k : ℕ) (xs ys : List X) (j : ℕ) → a ≤ length xs → j < length ys
@@ -61,6 +64,11 @@ part_here f a k xs ys j fits low =
 pub part_before : {X : Type 0} (f : X → ℕ) (a k : ℕ) (xs ys : List X) (j : ℕ) → a ≤ length xs → j < a
     → get_or (map f (put_mid a k xs ys)) j 0 ≡ get_or (map f xs) j 0
 part_before f a k xs ys j fits low = rw (map_mid f a k xs ys) (mid_before a k (map f xs) (map f ys) j (omega (arith, fits, length-map xs f)) low)
+
+pub part_after : {X : Type 0} (f : X → ℕ) (a k : ℕ) (xs ys : List X) (j : ℕ) → a + k ≤ length xs → length ys ≡ k → a + k ≤ j
+    → get_or (map f (put_mid a k xs ys)) j 0 ≡ get_or (map f xs) j 0
+part_after f a k xs ys j fits long past =
+    rw (map_mid f a k xs ys) (mid_after a k (map f xs) (map f ys) j (omega (arith, fits, length-map xs f)) (length-map ys f ∙ long) past)
 
 -- a part that is read
 map_part : {X : Type 0} (f : X → ℕ) (n at : ℕ) (xs : List X) → map f (take n (drop at xs)) ≡ take n (drop at (map f xs))
@@ -83,6 +91,13 @@ taken_is f xs m t u is low = ap (λ (ys : List ℕ). get_or ys t 0) (sym (take-m
 
 pub taken_past : {X : Type 0} (f : X → ℕ) (xs : List X) (m t : ℕ) → m ≤ t → get_or (map f (take m xs)) t 0 ≡ 0
 taken_past f xs m t past = get_or_past (map f (take m xs)) t 0 (omega (arith, past, length-map (take m xs) f, length-take m xs))
+
+-- numbers stand for themselves
+pub itself : (xs : List ℕ) (k : ℕ) → get_or (map (λ (n : ℕ). n) xs) k 0 ≡ get_or xs k 0
+itself xs k = ap (λ (ys : List ℕ). get_or ys k 0) (map-id xs)
+
+pub itself_same : (xs ys : List ℕ) (k : ℕ) → get_or (map (λ (n : ℕ). n) xs) k 0 ≡ get_or (map (λ (n : ℕ). n) ys) k 0 → get_or xs k 0 ≡ get_or ys k 0
+itself_same xs ys k same = sym (itself xs k) ∙ same ∙ itself ys k
 
 pub zeros : (n k : ℕ) → ◌≡◌ {A = ℕ} (get_or (replicate n 0) k 0) 0
 zeros n k = elim (cases_lt k n) [

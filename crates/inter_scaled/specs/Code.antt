@@ -4,6 +4,7 @@ use Rattle.vp9_tables.specs.Filters.{taps_of}
 use Rattle.inter_places.specs.declared.axis.Axis.{Axis}
 use Rattle.inter_places.specs.Axes.{IsAxis, fraction, offset, straight}
 use Rattle.inter_scaled.specs.declared.filter.LineFilter.{LineFilter}
+use Rattle.inter_scaled.specs.declared.places.Span.{Span}
 
 -- an axis with the taps of its first phase, in the form T that lines are filtered by: which taps that stands for, whether it
 -- holds eight of a filter, and which greatest samples there may be
@@ -32,3 +33,12 @@ pub record IsCopied (a : Axis) (n : ℕ) : Type 0 where
 pub record IsRun (a : Axis) (n : ℕ) : Type 0 where
   pub step : a.step ≡ 16
   pub inside : AreInside a (16 * ((n + 15) / 16) + 7)
+
+-- how n places lie in the plane: left of it, one after another in it, and right of it
+pub record IsSpan (a : Axis) (first n : ℕ) (s : Span) : Type 0 where
+  pub left : (t : ℕ) → t < s.left → straight a (first + t) ≡ 0
+  pub inside : (k : ℕ) → s.left + k < s.end → straight a (first + (s.left + k)) ≡ s.from + k
+  pub right : (t : ℕ) → s.end ≤ t → t < n → straight a (first + t) ≡ a.size - 1
+  pub order : s.left ≤ s.end
+  pub few : s.end ≤ n
+  pub room : s.from + (s.end - s.left) ≤ a.size

@@ -7,11 +7,11 @@ ghost use Rattle.inter_scaled.specs.Inter.{along};
 ghost use Rattle.inter_scaled.specs.Code.{IsFilter};
 
 use crate::filter::LineFilter;
-use crate::kept::{put_at, sample_at};
-use crate::places::is_whole;
+use crate::kept::{copy_part, fill_part, sample_at, widen_part};
+use crate::places::{is_whole, span_of};
 use crate::scaled::scale_line;
 use inter_lanes::FilterSample;
-use inter_places::{Axis, straight};
+use inter_places::Axis;
 use vp9_types::Sample;
 
 /// Samples of a row at n places that follow one another, from the place on that lies `first` after the third before the
@@ -26,10 +26,10 @@ pub(crate) fn read_places<P: Sample>(out: &mut [P], n: usize, row: &[P], a: &Axi
     ensures value { (t : ℕ) → t < n → slice_index (map P.value out.new) t ≡ slice_index (map P.value row.now) (straight a.now (first + t)) }
     ensures after { (t : ℕ) → n ≤ t → slice_index (map P.value out.new) t ≡ slice_index (map P.value out.old) t }
 {
-    for t in 0..n {
-        let sample = sample_at(row, straight(a, first + t));
-        put_at(out, t, sample);
-    }
+    let span = span_of(a, first, n);
+    fill_part(out, 0, span.left, sample_at(row, 0));
+    copy_part(out, span.left, row, span.from, span.end - span.left);
+    fill_part(out, span.end, n, sample_at(row, a.size as usize - 1));
 }
 
 /// The numbers of n samples at places that follow one another, from the third before the first on.
@@ -42,9 +42,15 @@ pub(crate) fn read_numbers<P: Sample>(out: &mut [u16], n: usize, row: &[P], a: &
     ensures value { (t : ℕ) → t < n → slice_index out.new t ≡ slice_index (map P.value row.now) (straight a.now t) }
     ensures after { (t : ℕ) → n ≤ t → slice_index out.new t ≡ slice_index out.old t }
 {
-    for t in 0..n {
-        out[t] = sample_at(row, straight(a, t)).widen();
-    }
+    let span = span_of(a, 0, n);
+    fill_part(out, 0, span.left, sample_at(row, 0).widen());
+    widen_part(out, span.left, row, span.from, span.end - span.left);
+    fill_part(
+        out,
+        span.end,
+        n,
+        sample_at(row, a.size as usize - 1).widen(),
+    );
 }
 
 /// A line of n values, where the reference has the frame's size.

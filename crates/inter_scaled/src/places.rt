@@ -1,11 +1,58 @@
-//! Places in a reference that are copied, or lie inside of it.
+//! Places in a reference: how they lie in it, and whether they are copied or filtered in a run.
 
-ghost use Rattle.std.specs.Prelude.{◌≡◌, ◌+◌, ◌≤◌};
+ghost use Rattle.std.specs.Prelude.{◌≡◌, ◌+◌, ◌^◌, ◌≤◌, pos, ◌+ℤ◌, ◌-ℤ◌, unsigned_abs};
 ghost use Rattle.std.specs.Bool.{OnTrue};
-ghost use Rattle.inter_places.specs.Axes.{fraction, IsAxis};
-ghost use Rattle.inter_scaled.specs.Code.{AreInside, IsCopied, IsRun};
+ghost use Rattle.inter_places.specs.Axes.{fraction, whole, IsAxis};
+ghost use Rattle.inter_scaled.specs.Code.{AreInside, IsCopied, IsRun, IsSpan};
 
 use inter_places::{Axis, phase_of};
+
+/// Of places that follow one another, those below `left` lie left of the plane, those below `end` follow one another in it,
+/// the first of them at `from`, and the rest lie right of it.
+#[derive(Clone, Copy)]
+pub(crate) struct Span {
+    pub(crate) left: usize,
+    pub(crate) end: usize,
+    pub(crate) from: usize,
+}
+
+/// Where the place would lie that is `first` after the third before the first, if the plane had no ends.
+#[inline(always)]
+fn place_from(a: &Axis, first: usize) -> i32
+    requires axis { IsAxis a.now }
+    requires near { first ≤ 64 }
+    ensures value { result ≡ (whole a.now +ℤ pos first) -ℤ pos 3 }
+    ensures near { unsigned_abs result ≤ 2 ^ 24 }
+{
+    (a.start >> 4) + first as i32 - 3
+}
+
+/// How n places lie in the plane, from the one on that lies `first` after the third before the first.
+#[inline(always)]
+pub(crate) fn span_of(a: &Axis, first: usize, n: usize) -> Span
+    requires axis { IsAxis a.now }
+    requires near { first ≤ 64 }
+    requires few { n ≤ 136 }
+    ensures { IsSpan a.now first n result }
+{
+    let at = place_from(a, first);
+    let size = a.size as usize;
+    if at < 0 {
+        let before = -at as usize;
+        Span {
+            left: before.min(n),
+            end: (before + size).min(n),
+            from: 0,
+        }
+    } else {
+        let from = size.min(at as usize);
+        Span {
+            left: 0,
+            end: n.min(size - from),
+            from,
+        }
+    }
+}
 
 /// Whether the first n places follow one another in the plane.
 #[inline(always)]

@@ -54,7 +54,14 @@ fn put_filtered<P: FilterSample, const N: usize>(
     ensures before { (k : ℕ) → k < i * N → slice_index (map P.value lines.new) k ≡ slice_index (map P.value lines.old) k }
 {
     let at = i * N;
-    P::filter_along(&mut lines[at..at + N], N, row, from, &across.taps, across.most);
+    P::filter_along(
+        &mut lines[at..at + N],
+        N,
+        row,
+        from,
+        &across.taps,
+        across.most,
+    );
 }
 
 /// Lines of N filtered values: each width has a loop of its own, and the filter beside it.

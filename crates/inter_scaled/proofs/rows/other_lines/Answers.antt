@@ -1,4 +1,4 @@
-use Rattle.std.proofs.Common.{◌+◌, ◌<◌, ◌∙◌, ℕ, get_or, map}
+use Rattle.std.proofs.Common.{◌+◌, ◌∙◌, ℕ, get_or, map}
 use Rattle.inter_places.specs.Axes.{straight}
 use Rattle.inter_scaled.specs.Inter.{along}
 use Rattle.inter_scaled.proofs.Agree.{along_inside}
