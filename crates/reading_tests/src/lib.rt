@@ -14,6 +14,8 @@ mod geometry;
 #[cfg(test)]
 mod packets;
 #[cfg(test)]
+mod readers;
+#[cfg(test)]
 mod superframes;
 #[cfg(test)]
 mod tables;

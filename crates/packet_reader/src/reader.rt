@@ -1,0 +1,115 @@
+//! The reader.
+
+ghost use Rattle.std.specs.Prelude.{◌≡◌};
+ghost use Rattle.packet_reader.specs.declared.reader.PacketRefusal.TheVariants as refused;
+ghost use Rattle.packet_reader.specs.declared.reader.Stage.TheVariants.{Header};
+ghost use Rattle.packet_reader.specs.Packets.{source_of, stage_of, CountsNext, GivesNext, IsAgain, IsReady, stage_after};
+
+use crate::packets::{take_first, take_packet};
+use edge_io::{ReadError, Source};
+use std::alloc::Global;
+use thiserror::Error;
+use vp9_types::Rule;
+
+/// Why a source gives no next packet.
+#[derive(Clone, Copy, Debug, PartialEq, Eq, Error)]
+pub enum PacketRefusal {
+    #[error("{0}")]
+    Rule(Rule),
+    /// The source failed.
+    #[error("read fault")]
+    Failed,
+    #[error("out of memory")]
+    OutOfMemory,
+}
+
+impl From<Rule> for PacketRefusal {
+    ghost from_gives = { λ rule e. e ≡ refused.Rule rule };
+
+    fn from(rule: Rule) -> Self {
+        PacketRefusal::Rule(rule)
+    }
+}
+
+impl From<ReadError> for PacketRefusal {
+    ghost use Rattle.packet_reader.specs.Packets.{refusal_of};
+
+    ghost from_gives = { λ error e. e ≡ refusal_of error };
+
+    fn from(error: ReadError) -> Self {
+        match error {
+            ReadError::Failed => PacketRefusal::Failed,
+            ReadError::OutOfMemory => PacketRefusal::OutOfMemory,
+        }
+    }
+}
+
+/// Where a reader stands: before the file header, before a packet, or at its end, with the refusal if there was one.
+#[derive(Clone, Copy, Debug, PartialEq, Eq)]
+pub enum Stage {
+    Header,
+    Packet,
+    Ended(Option<PacketRefusal>),
+}
+
+/// The packets of an IVF file, taken from a source one after another.
+#[derive(Drop)]
+pub struct PacketReader<S> {
+    alloc: Global,
+    source: S,
+    stage: Stage,
+}
+
+impl<S> PacketReader<S> {
+    /// A reader of the file that the source gives from here on. Nothing is read yet.
+    pub fn new(alloc: Global, source: S) -> PacketReader<S>
+        ensures source { source_of result ≡ source }
+        ensures stage { stage_of result ≡ Header }
+    {
+        PacketReader {
+            alloc,
+            source,
+            stage: Stage::Header,
+        }
+    }
+
+    /// The source as it stands, behind what was taken of it.
+    pub fn into_source(self) -> S
+        ensures { result ≡ source_of self }
+    {
+        self.source
+    }
+}
+
+impl<S: Source> PacketReader<S> {
+    /// The payload of the next packet, or None at the end of the file. After the end or a refusal it answers the same again, and
+    /// doesn't ask the source.
+    pub fn next(&mut self) -> Result<Option<Vec<u8>>, PacketRefusal>
+        requires { IsReady S.can_fill self.old }
+        ensures next { GivesNext (stage_of self.old) (S.rest (source_of self.old)) (S.rest (source_of self.new)) result }
+        ensures stage { stage_of self.new ≡ stage_after result }
+        ensures again { IsAgain self.old self.new result }
+        ensures faults { CountsNext (stage_of self.old) (S.faults (source_of self.old)) (S.faults (source_of self.new)) result }
+        ensures ready { IsReady S.can_fill self.new }
+    {
+        let answer = match self.stage {
+            Stage::Header => take_first(self.alloc, &mut self.source),
+            Stage::Packet => take_packet(self.alloc, &mut self.source),
+            Stage::Ended(None) => return Ok(None),
+            Stage::Ended(Some(refusal)) => return Err(refusal),
+        };
+        self.stage = stage_after(&answer);
+        answer
+    }
+}
+
+/// Where a reader stands after an answer.
+fn stage_after(answer: &Result<Option<Vec<u8>>, PacketRefusal>) -> Stage
+    ensures { result ≡ stage_after answer.now }
+{
+    match answer {
+        Ok(Some(_)) => Stage::Packet,
+        Ok(None) => Stage::Ended(None),
+        Err(refusal) => Stage::Ended(Some(*refusal)),
+    }
+}
