@@ -1,5 +1,5 @@
 -- What the code asks of a block and of planes.
-use Rattle.std.specs.Prelude.{◌≡◌, ◌<◌, ◌≤◌, ◌+◌, ◌*◌, ℕ, min, false, Option, Some, None, IfSome}
+use Rattle.std.specs.Prelude.{◌≡◌, ◌<◌, ◌≤◌, ◌+◌, ◌*◌, ℕ, min, Option, Some, None, IfSome}
 use Rattle.vp9_types.specs.Maps.{Map, FrameMap, IsAtMost}
 use Rattle.vp9_types.specs.Shapes.{halved, mi_rows, mi_cols, plane_height, plane_width}
 use Rattle.vp9_types.specs.Sizes.{greatest}
@@ -24,14 +24,12 @@ use Rattle.intra_predict.specs.declared.block.IntraBlock.{IntraBlock}
 use Rattle.planes.specs.declared.frame_planes.FramePlanes.{FramePlanes}
 use Rattle.planes.specs.Planes.{PlaneSamples, lower_end, plane_map, right_end}
 use Rattle.planes.specs.declared.area.Area.{Area}
-use Rattle.planes.specs.Pictures.{blank}
 use Rattle.vp9_types.specs.declared.block.ReferenceFrame.{ReferenceFrame}
 use Rattle.vp9_types.specs.declared.block.ReferenceFrame.TheVariants.{Last, Golden, Altref}
 use Rattle.vp9_types.specs.declared.shape.Depth.{Depth}
-use Rattle.vp9_types.specs.declared.shape.Depth.TheVariants.{Eight}
 use Rattle.block_geometry.specs.declared.transform_blocks.PlaneBlock.{PlaneBlock}
 use Rattle.block_rebuild.specs.Blocks.{put_residue}
-use Rattle.block_rebuild.specs.InterBlocks.{ReferencePicture, Rebuilding, add_residue, part_of}
+use Rattle.block_rebuild.specs.InterBlocks.{ReferencePicture, Rebuilding, add_residue, no_picture, part_of}
 use Rattle.block_rebuild.specs.declared.references.ReferencePicture as code_picture
 use Rattle.block_rebuild.specs.declared.references.Rebuilding as code
 use Rattle.block_rebuild.specs.declared.in_plane.IntraInPlane.{IntraInPlane}
@@ -83,10 +81,6 @@ abbrev pub add_more : Area → Depth → PlaneBlock → Map → (ℕ × ℕ) × 
 add_more a depth b m r = add_residue (right_end a) (lower_end a) depth b r.0 r.1 m
 
 ---- Pictures that blocks refer to ----
-
--- where there is none
-abbrev pub no_picture : ReferencePicture
-no_picture = record { shape = record { w = 0; h = 0; depth = Eight; ss_x = false; ss_y = false }; map = blank }
 
 abbrev pub picture_of : {S : Type 0} → (S → FrameMap) → Option (code_picture.ReferencePicture S) → ReferencePicture
 picture_of map None = no_picture

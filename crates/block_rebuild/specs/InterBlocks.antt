@@ -1,12 +1,13 @@
 -- An inter block, put into a plane of its frame: it is predicted from pictures, part by part, and then the residue of its
 -- transform blocks is added (8.5.2 and 8.6.2 of the standard).
-use Rattle.std.specs.Prelude.{ℕ, ◌+◌, ◌*◌, Option, Some, None}
+use Rattle.std.specs.Prelude.{ℕ, ◌+◌, ◌*◌, false, Option, Some, None}
 use Rattle.std.specs.List.{fold, range_with_len}
 use Rattle.vp9_types.specs.Maps.{Map, FrameMap, with_block}
 use Rattle.vp9_types.specs.Shapes.{halved, coded_width, coded_height}
 use Rattle.vp9_types.specs.Sizes.{side, greatest}
 use Rattle.vp9_types.specs.declared.block.ReferenceFrame.{ReferenceFrame}
 use Rattle.vp9_types.specs.declared.shape.Depth.{Depth}
+use Rattle.vp9_types.specs.declared.shape.Depth.TheVariants.{Eight}
 use Rattle.vp9_types.specs.declared.shape.Plane.{Plane}
 use Rattle.vp9_types.specs.declared.shape.Shape.{Shape}
 use Rattle.block_geometry.specs.declared.transform_blocks.PlaneBlock.{PlaneBlock}
@@ -19,6 +20,7 @@ use Rattle.inter_places.specs.declared.part.BlockPart.{BlockPart}
 use Rattle.inter_places.specs.declared.part.Direction.TheVariants.{Down, Across}
 use Rattle.inter_scaled.specs.Inter.{both, predicted_at}
 use Rattle.intra_predict.specs.Steps.{plus_residue, with_square}
+use Rattle.planes.specs.Pictures.{blank}
 
 ---- What is predicted from ----
 
@@ -26,6 +28,10 @@ use Rattle.intra_predict.specs.Steps.{plus_residue, with_square}
 pub record ReferencePicture : Type 0 where
   pub shape : Shape
   pub map : FrameMap
+
+-- where there is none
+abbrev pub no_picture : ReferencePicture
+no_picture = record { shape = record { w = 0; h = 0; depth = Eight; ss_x = false; ss_y = false }; map = blank }
 
 -- what the blocks of a frame are put in by, the same for all of them: its shape, and the pictures that they refer to
 pub record Rebuilding : Type 0 where

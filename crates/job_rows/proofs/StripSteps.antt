@@ -28,8 +28,8 @@ use Rattle.band_needs.specs.declared.ranges.BandRange.{BandRange}
 use Rattle.band_references.proofs.Inside.{bands_inside}
 use Rattle.band_references.proofs.Served.{blocks_served}
 use Rattle.band_references.specs.References.{IsThere}
-use Rattle.block_rebuild.specs.Code.{AreServed, no_picture, picture_of, reference_of, rebuilding_of}
-use Rattle.block_rebuild.specs.InterBlocks.{Rebuilding, ReferencePicture}
+use Rattle.block_rebuild.specs.Code.{AreServed, picture_of, reference_of, rebuilding_of}
+use Rattle.block_rebuild.specs.InterBlocks.{Rebuilding, ReferencePicture, no_picture}
 use Rattle.block_rebuild.specs.declared.references.Rebuilding as code
 use Rattle.block_rebuild.specs.declared.references.ReferencePicture as code_picture
 use Rattle.counting_reader.specs.Counting.{Settled}

@@ -14,8 +14,7 @@ use Rattle.frame_headers.specs.Header.{head_of}
 use Rattle.frame_headers.specs.State.{refreshed, shape_of}
 use Rattle.block_geometry.specs.Frames.{places_of}
 use Rattle.block_plan.specs.declared.block.BlockInfo.{BlockInfo}
-use Rattle.block_rebuild.specs.Code.{no_picture}
-use Rattle.block_rebuild.specs.InterBlocks.{ReferencePicture}
+use Rattle.block_rebuild.specs.InterBlocks.{ReferencePicture, no_picture}
 use Rattle.frame_state.specs.Reading.{FrameInput, all_blocks}
 use Rattle.frame_decoder.specs.Frames.{FrameResult, decoded}
 use Rattle.frame_state.specs.Sources.{FramePast}
