@@ -7,7 +7,8 @@ use vp9_types::Rule;
 const HEADER: &[u8] = b"DKIF\0\0 \0VP90\0\0\0\0\0\0\0\0\0\0\0\0\0\0\0\0\0\0\0\0";
 
 // A real stream of six packets. `tools/check_packets.py` reads it and larger ones apart from this crate.
-pub(crate) const STREAM: &[u8] = b"DKIF\0\0 \0VP90\x01\0\x01\0\x1e\0\0\0\x01\0\0\0\x06\0\0\0\0\0\0\0\
+pub(crate) const STREAM: &[u8] =
+    b"DKIF\0\0 \0VP90\x01\0\x01\0\x1e\0\0\0\x01\0\0\0\x06\0\0\0\0\0\0\0\
 (\0\0\0\0\0\0\0\0\0\0\0\x83I\x83B\0\0\0\0\0\0\xe0\x90p`\0\0\0\x80\0\0\x11\xbf\xff\xff\xde\x8baM\xff\xff\xfeM\xc3\xff\xff\xff\xfd\x0c\xa0\0\
 (\0\0\0\x01\0\0\0\0\0\0\0\x83I\x83B\0\0\0\0\0\0\xe0\x90p`\0\0\0\x80\0\0\x11\xbf\xff\xff\xdf\xccAM\xff\xff\xfekc\xff\xff\xff\xfd\xb4\x80\0\
 (\0\0\0\x02\0\0\0\0\0\0\0\x83I\x83B\0\0\0\0\0\0\xe0\x90p`\0\0\0\x80\0\0\x11\xbf\xff\xff\xdf\x01\xc1M\xff\xff\xfeM\xc3\xff\xff\xff\xfd\x90 \0\

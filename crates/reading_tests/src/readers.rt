@@ -77,7 +77,10 @@ fn cut_anywhere(rt: HostRuntime) -> Result<(), Fail> {
         };
         match reader.next() {
             Ok(None) => assert!(rt; is_end, "the end at {end}"),
-            Err(refusal) => assert!(rt; !is_end && refusal == PacketRefusal::Rule(rule), "at {end}"),
+            Err(refusal) => assert!(rt;
+                !is_end && refusal == PacketRefusal::Rule(rule),
+                "at {end}"
+            ),
             Ok(Some(_)) => return Err(Fail::new(format_args!("too many packets before {end}"))),
         }
     }
@@ -94,7 +97,10 @@ fn failing_calls(rt: HostRuntime) -> Result<(), Fail> {
             assert!(rt; matches!(reader.next(), Ok(Some(_))), "before call {call}");
         }
         for _ in 0..3 {
-            assert!(rt; matches!(reader.next(), Err(PacketRefusal::Failed)), "at call {call}");
+            assert!(rt;
+                matches!(reader.next(), Err(PacketRefusal::Failed)),
+                "at call {call}"
+            );
         }
         let mut source = reader.into_source();
         assert!(rt; source.fill(&mut [0; 4]).is_ok());
