@@ -6,8 +6,9 @@ vp9_app/specs/Answers.antt lead to, and the types of the sources that these name
     tools/closure.py --files COMMAND     the files that its definitions stand in, with their lines
     tools/closure.py --long LINES        the definitions of a run that have more lines
 
-Lines are those of definitions and types, without comments, blank lines and imports. What std, the kit's crates and the prover's library define isn't
-counted.
+Lines are those of definitions and types, without comments, blank lines and imports; tables of numbers are counted by name alone. A word of a definition counts
+as what its file has or imports under that name, also where it names a field, so the count may be a little too high. What std, the kit's crates and the
+prover's library define isn't counted.
 """
 import collections
 import functools
@@ -24,6 +25,8 @@ COMMANDS = {
     "trial": ("Trials", "Unread", "Reports"),
     "a run": ("Runs",),
 }
+# where the tables of numbers stand
+TABLES = "crates/vp9_tables/src/data"
 HEAD = re.compile(r"(?:unfoldable\s+|abbrev\s+|pub\s+|record\s+|data\s+)*([^\s:]+)")
 WORDS = re.compile(r"[^\s(){}\[\],;]+")
 USE = re.compile(r"use Rattle\.([\w.]+?)(?:\.\{(.*)\}| as (\S+))?$")
@@ -94,20 +97,21 @@ def named_in(here, line):
 
 
 def closure(roots):
-    """Returns the lines of all that these definitions lead to, by file and name."""
+    """Returns the lines of all that these definitions lead to, by file and name. A table of numbers is a name without lines."""
     found, left = {}, [(ANSWERS, name) for name in roots]
     while left:
         at, name = left.pop()
-        if ".specs.declared." in f"{at}.":
+        if at.endswith(".TheConstants"):
+            found[TABLES, name] = 0
+        elif ".specs.declared." in f"{at}.":
             told = declared(at.removesuffix(".TheVariants"))
             if told:
                 found[told[0], at.removesuffix(".TheVariants").split(".")[-1]] = len(told[1])
-            continue
-        here = module(at)
-        if not here or name not in here.lines or (here.path, name) in found:
-            continue
-        found[here.path, name] = len(here.lines[name])
-        left += [it for line in here.lines[name] for it in named_in(here, line)]
+        else:
+            here = module(at)
+            if here and name in here.lines and (here.path, name) not in found:
+                found[here.path, name] = len(here.lines[name])
+                left += [it for line in here.lines[name] for it in named_in(here, line)]
     return found
 
 
@@ -116,8 +120,9 @@ def main():
     if not words:
         for command, roots in COMMANDS.items():
             found = closure(roots)
-            files = {path for path, _ in found}
-            print(f"{command}: {len(found)} definitions and types in {len(files)} files, {sum(found.values())} lines")
+            tables = sum(path == TABLES for path, _ in found)
+            files = {path for path, _ in found} - {TABLES}
+            print(f"{command}: {len(found) - tables} definitions and types in {len(files)} files, {sum(found.values())} lines, and {tables} tables")
     elif words[0] == "--files" and words[1:] and words[1] in COMMANDS:
         lines = collections.Counter()
         for (path, _), count in closure(COMMANDS[words[1]]).items():
