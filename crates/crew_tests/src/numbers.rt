@@ -1,7 +1,7 @@
 ghost use Rattle.std.specs.Prelude.{◌≡◌};
 
 use crate::tally::{Number, Tally};
-use job_crew::{Building, Jobs, LIVE, Layout, Output, Results, Start};
+use job_crew::{Building, Jobs, LIVE, LastResult, Layout, Output, Results, Start};
 use job_order::{Meaning, Shown};
 use vp9_types::{BandSpan, JobName};
 
@@ -113,11 +113,10 @@ impl<'a, const FRAMES: u64, const COLUMNS: u32, const ROWS: u32> Jobs<
         ]
     }
 
-    fn run<R: Results<Number<'a>, Numbers<FRAMES, COLUMNS, ROWS>>>(
-        &self,
-        job: JobName,
-        results: &R,
-    ) -> Number<'a> {
+    fn run<
+        R: Results<Number<'a>, Numbers<FRAMES, COLUMNS, ROWS>>
+            + LastResult<Number<'a>, Numbers<FRAMES, COLUMNS, ROWS>>,
+    >(&self, job: JobName, results: &R) -> Number<'a> {
         let value = match job {
             JobName::Head { frame } => {
                 if frame > 0 {

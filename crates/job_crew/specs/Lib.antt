@@ -1,2 +1,3 @@
 pub mod Runs
 pub mod Code
+pub mod Left

@@ -14,11 +14,11 @@ pub(crate) type Cell<X, M> = OnceLock<Finished<X, M>>;
 /// The results of a frame's jobs that later frames may ask for, and its write's, each set once.
 #[derive(Drop)]
 pub(crate) struct FrameCells<X: Drop, M: Meaning<X>> {
-    frame: u64,
-    rows: u32,
+    pub(crate) frame: u64,
+    pub(crate) rows: u32,
     head: Cell<X, M>,
-    close: Cell<X, M>,
-    filters: Vec<Cell<X, M>>,
+    pub(crate) close: Cell<X, M>,
+    pub(crate) filters: Vec<Cell<X, M>>,
     write: Cell<X, M>,
     ghost filters_are: { length filters.items ≡ rows },
 }
@@ -114,7 +114,7 @@ pub(crate) fn get<'c, X: Drop, M: Meaning<X>>(
 }
 
 /// The frame of a job.
-pub(crate) fn frame_of(job: JobName) -> u64
+pub fn frame_of(job: JobName) -> u64
     ensures { result ≡ frame_of job }
 {
     match job {

@@ -6,12 +6,14 @@ ghost use Rattle.job_order.specs.Sound.{texts_below};
 ghost use Rattle.job_crew.specs.Runs.{IsDue, IsEnded};
 ghost use Rattle.edge_io.specs.Putting.{Takes};
 ghost use Rattle.job_crew.specs.Code.{AreDue, TakesOut, IsSeated, IsSeatedStill, IsAway};
+ghost use Rattle.job_crew.specs.Left.{HasRightResults};
 
 use crate::cells::Cell;
 use crate::finished::Finished;
 use crate::frame::Frame;
 use crate::frames::Frames;
 use crate::jobs::{Jobs, LIVE, Layout, Output, Start};
+use crate::left::{Ran, left_of};
 use crate::lent::Lent;
 use crate::outlet::{Content, Ending, Outlet, Over, Placed, Told};
 use crate::pool::Pool;
@@ -655,8 +657,8 @@ fn given_back<X: Drop, M: Meaning<X> + Start, K: Output<X> + Drop>(
     outlet.output()
 }
 
-/// Does the jobs of a run, and hands the output back: what it has taken, and how the run ended. With no memory to begin, nothing was done.
-/// With none for a seat there are fewer workers.
+/// Does the jobs of a run, and hands the output back: what it has taken, how the run ended, and what it leaves for one behind it. With no memory
+/// to begin, nothing was done. With none for a seat there are fewer workers.
 pub fn run_jobs<
     X: Drop + Send + Sync,
     M: Meaning<X> + Start + Send + Sync,
@@ -664,12 +666,13 @@ pub fn run_jobs<
     J: Jobs<X, M, K> + Sync,
     G: Gate + Sync,
     R: Threads + Wait + Sync,
->(rt: &R, run: &Run<'_, J, G>, output: K) -> Result<Told<X, K>, K>
+>(rt: &R, run: &Run<'_, J, G>, output: K) -> Result<Ran<X, K>, K>
     requires workers { (1 ≤ run.now.workers) × (run.now.workers ≤ 64) }
     requires window { (2 ≤ run.now.window) × (run.now.window ≤ 16) }
     requires taken { K.taken output ≡ M.taken }
     requires may { K.may_put output }
-    ensures told { IfOk result (λ told. IsEnded M.rules M.truth M.taken told.ending (K.taken told.output) (K.may_put told.output) (K.has_refused told.output)) }
+    ensures ended { IfOk result (λ ran. IsEnded M.rules M.truth M.taken ran.ending (K.taken ran.output) (K.may_put ran.output) (K.has_refused ran.output)) }
+    ensures results { IfOk result (λ ran. IfSome ran.results (λ all. All (HasRightResults M.truth) all.items)) }
     ensures refused { IfErr result (λ k. (K.taken k ≡ M.taken) × K.may_put k) }
 {
     let Ok(pool) = Pool::<X, M>::new(run.alloc, POOL_ROOM) else {
@@ -700,7 +703,12 @@ pub fn run_jobs<
     };
     work_all(rt, &crew, seats.as_mut_slice(), run.workers);
     join_all(&board, &mut first, seats);
-    let told = crew.finish(rt, &mut first);
+    let Told { ending, output } = crew.finish(rt, &mut first);
     board.close(first);
-    Ok(told)
+    let Shop { frames, .. } = shop.into_inner();
+    Ok(Ran {
+        ending,
+        output,
+        results: left_of(run.alloc, frames.into_last()),
+    })
 }

@@ -44,4 +44,14 @@ impl<X: Drop, M: Meaning<X>> Finished<X, M> {
             None
         }
     }
+
+    /// The result by itself, where it is this job's.
+    pub(crate) fn into_value(self, job: JobName) -> Option<X>
+        ensures { IfSome result (λ x. M.truth.right job x) }
+    {
+        let Finished {
+            job: own, value, ..
+        } = self;
+        if own == job { Some(value) } else { None }
+    }
 }

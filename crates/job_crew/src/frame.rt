@@ -17,8 +17,8 @@ pub(crate) type Shared<T> = Arc<T, Global>;
 /// that may ask for it isn't done, and goes with the last frame that has it.
 #[derive(Drop)]
 pub(crate) struct Frame<X: Drop, M: Meaning<X>> {
-    own: Shared<FrameCells<X, M>>,
-    before: Vec<Shared<FrameCells<X, M>>>,
+    pub(crate) own: Shared<FrameCells<X, M>>,
+    pub(crate) before: Vec<Shared<FrameCells<X, M>>>,
 }
 
 fn is_live(live: &[Option<u64>], frame: u64) -> bool

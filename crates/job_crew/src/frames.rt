@@ -27,6 +27,13 @@ impl<X: Drop, M: Meaning<X>> Frames<X, M> {
         }
     }
 
+    /// The last frame at work. The others are let go.
+    pub(crate) fn into_last(self) -> Option<FrameWork<X, M>> {
+        let Frames { frames, .. } = self;
+        let mut frames = frames;
+        frames.pop()
+    }
+
     /// Takes room for one frame more.
     pub(crate) fn make_room(&mut self) -> Result<(), AllocError> {
         self.frames.reserve(1)

@@ -57,8 +57,11 @@ pub trait Results<X, M: Meaning<X>> {
     fn result(&self, job: JobName) -> &X
         ensures right { M.truth.right job result.now }
         ensures goes_on { GoesOn M.rules job result.now };
+}
 
-    /// The result that says that the run ends at this frame, of its head or its close. An end alone asks for it.
+/// The result by which a run ends, lent to its end.
+pub trait LastResult<X, M: Meaning<X>> {
+    /// The one that says that the run ends at this frame, of its head or its close.
     fn last(&self, frame: u64) -> &X
         ensures { IsLast M.rules M.truth frame result.now };
 }
@@ -91,7 +94,7 @@ pub trait Jobs<X, M: Meaning<X>, K: Output<X>> {
         requires { IsDue M.rules M.truth (Rows frame column row) };
 
     /// Does a job that is no write.
-    fn run<R: Results<X, M>>(&self, job: JobName, results: &R) -> X
+    fn run<R: Results<X, M> + LastResult<X, M>>(&self, job: JobName, results: &R) -> X
         requires due { IsDue M.rules M.truth job }
         requires no_write { IsNoWrite job }
         ensures { M.truth.right job result };

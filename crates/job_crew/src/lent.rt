@@ -2,7 +2,7 @@ ghost use Rattle.std.specs.Prelude.{◌≡◌, true, IfSome};
 ghost use Rattle.job_crew.specs.Runs.{GoesOn, IsLast};
 
 use crate::cells::Cell;
-use crate::jobs::{Jobs, Output, Results};
+use crate::jobs::{Jobs, LastResult, Output, Results};
 use crate::work::{AtWork, Strips, find};
 use job_order::Meaning;
 use std::marker::PhantomData;
@@ -76,7 +76,10 @@ impl<'r, 'c, 'f, X: Drop, M: Meaning<X>, K: Output<X>, J: Jobs<X, M, K>, R: Wait
         }
         unreachable!()
     }
+}
 
+impl<'r, 'c, 'f, X: Drop, M: Meaning<X>, K: Output<X>, J: Jobs<X, M, K>, R: Wait> LastResult<X, M>
+    for Lent<'r, 'c, 'f, X, M, K, J, R> {
     fn last(&self, frame: u64) -> &X {
         for _ in self.rt.forever() {
             if let Some(value) = self.find_last(frame) {

@@ -7,11 +7,14 @@ mod finished;
 mod frame;
 mod frames;
 mod jobs;
+mod left;
 mod lent;
 mod outlet;
 mod pool;
 mod work;
 
+pub use cells::frame_of;
 pub use crew::{Run, run_jobs};
-pub use jobs::{Building, Jobs, LIVE, Layout, Output, Results, Start};
-pub use outlet::{Ending, Told};
+pub use jobs::{Building, Jobs, LIVE, LastResult, Layout, Output, Results, Start};
+pub use left::{FrameResults, Ran};
+pub use outlet::Ending;

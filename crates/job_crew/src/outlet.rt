@@ -17,11 +17,11 @@ pub enum Ending<X> {
     Refused { frame: u64, value: X },
 }
 
-/// What a run leaves.
+/// How a run ended, and its output.
 #[derive(Drop)]
-pub struct Told<X, K> {
-    pub ending: Ending<X>,
-    pub output: K,
+pub(crate) struct Told<X, K> {
+    pub(crate) ending: Ending<X>,
+    pub(crate) output: K,
 }
 
 /// The output, between two writes: it has taken the texts of the frames below a number, and may be written to.

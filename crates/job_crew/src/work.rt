@@ -198,6 +198,13 @@ impl<X: Drop, M: Meaning<X>> FrameWork<X, M> {
         })
     }
 
+    /// The frame alone. What none but its jobs ask for goes.
+    pub(crate) fn into_frame(self) -> Shared<Frame<X, M>> {
+        let FrameWork { at_work, .. } = self;
+        let AtWork { frame, .. } = at_work;
+        frame
+    }
+
     pub(crate) fn at_work(&self) -> &AtWork<X, M>
         ensures { result.now ≡ self.now.at_work }
     {

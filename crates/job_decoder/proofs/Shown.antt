@@ -31,37 +31,38 @@ use Rattle.edge_io.proofs.Fronts.{takes_none}
 use Rattle.picture_range.proofs.Ranges.{picture_small}
 use Rattle.seq_decoder.proofs.ShowingLemmas.{small_at}
 use Rattle.job_results.specs.Results.{IsReadFrame, IsShown}
+use Rattle.numbered_frames.specs.Films.{Film}
 
 ---- The frame that is shown ----
 
-pub shape_is : (format : Format) (bytes : List ℕ) (f : ℕ) (c : CodedFrame) (read : FrameRead) → coded format bytes f ≡ Some c → read_of c ≡ Ok read → (pictures format bytes f).shape ≡ shape_of c.header
+pub shape_is : (format : Format) (film : Film) (f : ℕ) (c : CodedFrame) (read : FrameRead) → coded format film f ≡ Some c → read_of c ≡ Ok read → (pictures format film f).shape ≡ shape_of c.header
 unfolding pictures
-shape_is format bytes f c read is reads = ap (λ o. (picture_from o).shape) is ∙ ap (λ r. (picture_read c r).shape) reads
+shape_is format film f c read is reads = ap (λ o. (picture_from o).shape) is ∙ ap (λ r. (picture_read c r).shape) reads
 
 rows_are : (n : ℕ) (shape other : Shape) → n ≡ superblocks_along (mi_rows shape) → shape ≡ other → n ≤ superblocks_along (mi_rows other)
 rows_are n shape other is same = let now = is ∙ ap (λ (s : Shape). superblocks_along (mi_rows s)) same in omega (arith, now)
 
 -- its planes keep samples as its depth asks
-keeps_read : (Keeps : Depth → Type 0) (format : Format) (bytes : List ℕ) (f : ℕ) (shape : Shape) → IsReadFrame format bytes f → shape ≡ (pictures format bytes f).shape → Keeps shape.depth
-    → (c : CodedFrame) × (coded format bytes f ≡ Some c) × Keeps c.header.color.depth
-keeps_read Keeps format bytes f shape read same keeps =
-    (read.0, read.1, subst Keeps (ap (λ (s : Shape). s.depth) (same ∙ shape_is format bytes f read.0 read.2.0 read.1 read.2.1)) keeps)
+keeps_read : (Keeps : Depth → Type 0) (format : Format) (film : Film) (f : ℕ) (shape : Shape) → IsReadFrame format film f → shape ≡ (pictures format film f).shape → Keeps shape.depth
+    → (c : CodedFrame) × (coded format film f ≡ Some c) × Keeps c.header.color.depth
+keeps_read Keeps format film f shape read same keeps =
+    (read.0, read.1, subst Keeps (ap (λ (s : Shape). s.depth) (same ∙ shape_is format film f read.0 read.2.0 read.1 read.2.1)) keeps)
 
-pub rows_asked : (Keeps : Depth → Type 0) (format : Format) (bytes : List ℕ) (f n : ℕ) (shape : Shape) → IsReadFrame format bytes f × (shape ≡ (pictures format bytes f).shape) → n ≡ superblocks_along (mi_rows shape)
+pub rows_asked : (Keeps : Depth → Type 0) (format : Format) (film : Film) (f n : ℕ) (shape : Shape) → IsReadFrame format film f × (shape ≡ (pictures format film f).shape) → n ≡ superblocks_along (mi_rows shape)
     → Keeps shape.depth
-    → (0 ≤ n) × ((n ≤ superblocks_along (mi_rows (pictures format bytes f).shape)) × ((c : CodedFrame) × (coded format bytes f ≡ Some c) × Keeps c.header.color.depth))
-rows_asked Keeps format bytes f n shape shown is keeps =
-    (omega arith, (rows_are n shape (pictures format bytes f).shape is shown.1, keeps_read Keeps format bytes f shape shown.0 shown.1 keeps))
+    → (0 ≤ n) × ((n ≤ superblocks_along (mi_rows (pictures format film f).shape)) × ((c : CodedFrame) × (coded format film f ≡ Some c) × Keeps c.header.color.depth))
+rows_asked Keeps format film f n shape shown is keeps =
+    (omega arith, (rows_are n shape (pictures format film f).shape is shown.1, keeps_read Keeps format film f shape shown.0 shown.1 keeps))
 
-small_of : (format : Format) (bytes : List ℕ) (f : ℕ) (shape : Shape) (p : Plane) (y x : ℕ) → shape ≡ (pictures format bytes f).shape → shape.depth ≡ Eight → (pictures format bytes f).map p y x < 256
-small_of format bytes f shape p y x same eight =
-    small_at _ ((pictures format bytes f).map p) y x (ap (λ (s : Shape). s.depth) (sym same) ∙ eight) (picture_small format bytes f p)
+small_of : (format : Format) (film : Film) (f : ℕ) (shape : Shape) (p : Plane) (y x : ℕ) → shape ≡ (pictures format film f).shape → shape.depth ≡ Eight → (pictures format film f).map p y x < 256
+small_of format film f shape p y x same eight =
+    small_at _ ((pictures format film f).map p) y x (ap (λ (s : Shape). s.depth) (sym same) ∙ eight) (picture_small format film f p)
 
 -- by the rows that it is read from
-pub small_sample : (format : Format) (bytes : List ℕ) (f n : ℕ) (rows : RowSpan) (shape : Shape) (p : Plane) (y x : ℕ) → rows ≡ rows_from f 0 n → shape ≡ (pictures format bytes f).shape → shape.depth ≡ Eight
-    → map_in (pictures format bytes) rows p y x < 256
-small_sample format bytes f n rows shape p y x is same eight =
-    subst (λ (r : RowSpan). map_in (pictures format bytes) r p y x < 256) (sym is) (small_of format bytes f shape p y x same eight)
+pub small_sample : (format : Format) (film : Film) (f n : ℕ) (rows : RowSpan) (shape : Shape) (p : Plane) (y x : ℕ) → rows ≡ rows_from f 0 n → shape ≡ (pictures format film f).shape → shape.depth ≡ Eight
+    → map_in (pictures format film) rows p y x < 256
+small_sample format film f n rows shape p y x is same eight =
+    subst (λ (r : RowSpan). map_in (pictures format film) r p y x < 256) (sym is) (small_of format film f shape p y x same eight)
 
 ---- What is put ----
 
@@ -77,7 +78,7 @@ none_put old text faults fault is =
     subst (λ (e : PutFault). Shows text old old faults faults (Err e)) (sym is) ((0, omega arith, takes_none old), refl)
 
 -- the text by the rendering of a form
-pub text_by : (format : Format) (bytes : List ℕ) (f n : ℕ) (rows : RowSpan) (how : Rendering) (form : OutputForm) (shape : Shape) → rows ≡ rows_from f 0 n
+pub text_by : (format : Format) (film : Film) (f n : ℕ) (rows : RowSpan) (how : Rendering) (form : OutputForm) (shape : Shape) → rows ≡ rows_from f 0 n
     → how ≡ record { format = form.format; rate = form.rate; first = is_first form.first }
-    → output_text how.format how.rate how.first shape (map_in (pictures format bytes) rows) ≡ output_text form.format form.rate (is_first form.first) shape (pictures format bytes f).map
-text_by format bytes f n rows how form shape same is = λ i. output_text (is i).format (is i).rate (is i).first shape (map_in (pictures format bytes) (same i))
+    → output_text how.format how.rate how.first shape (map_in (pictures format film) rows) ≡ output_text form.format form.rate (is_first form.first) shape (pictures format film f).map
+text_by format film f n rows how form shape same is = λ i. output_text (is i).format (is i).rate (is i).first shape (map_in (pictures format film) (same i))

@@ -1,50 +1,145 @@
 //! Who does the jobs of a decode.
 
-ghost use Rattle.std.specs.Prelude.{◌≡◌};
-ghost use Rattle.job_results.specs.Meaning.{shown_as};
+ghost use Rattle.std.specs.Prelude.{◌≡◌, ◌≤◌, All};
+ghost use Rattle.vp9_types.specs.declared.job.JobName.TheVariants.{Head, Rows};
+ghost use Rattle.job_order.specs.Sound.{frame_of};
+ghost use Rattle.job_crew.specs.Left.{HasRightResults};
+ghost use Rattle.job_crew.specs.Runs.{IsDue, IsNoWrite};
+ghost use Rattle.job_results.specs.Groups.{IsNoEnd, in_film, group_rules, group_truth, shown_in};
+ghost use Rattle.job_results.specs.Meaning.{decode_rules, decode_truth};
+ghost use Rattle.job_results.specs.Results.{IsRight};
 
+use crate::lookup::{FilmResults, in_film};
 use crate::output::DecodeSink;
 use crate::writes::write;
 use edge_io::Sink;
-use job_crew::{Building, Jobs, LIVE, Layout, Results};
+use job_crew::{Building, FrameResults, Jobs, LIVE, LastResult, Layout, Results};
 use job_heads::{FrameList, do_close, do_column, do_head};
 use job_order::Shown;
-use job_results::{ClosedFrame, Decode, DecodeRun, JobResult, ended};
+use job_results::{ClosedFrame, Decode, DecodeRun, Group, JobResult, ended};
 use job_rows::{do_filter, do_rows, reads};
 use std::alloc::Global;
+use std::marker::PhantomData;
+use std::sync::Wait;
 use vp9_types::{BandSpan, JobName, Outcome};
 
-/// What all jobs of a decode are done by.
+/// What all jobs of a group of frames are done by: its frames, and the results that are kept of those before it.
 #[derive(Drop)]
-pub struct JobDecoder<'a, B: DecodeRun> {
-    pub alloc: Global,
-    pub list: FrameList<'a, B>,
+pub struct JobDecoder<'j, 'a, B: DecodeRun, T> {
+    rt: &'j T,
+    alloc: Global,
+    list: FrameList<'a, B>,
+    kept: Vec<FrameResults<JobResult<'a>>>,
+    ghost kept_are: { All (HasRightResults (decode_truth B.format B.film)) kept.items },
+    ghost starts: { IsDue (decode_rules B.format B.film) (decode_truth B.format B.film) (Head B.first) },
 }
 
-/// What a frame shows, with its number of bands.
-fn shown_as(closed: &ClosedFrame) -> Option<Shown>
-    ensures { result ≡ shown_as closed.now.shown }
+/// What a frame shows, with its number of bands, where that is a frame of the group.
+fn shown_in(first: u64, closed: &ClosedFrame) -> Option<Shown>
+    ensures { result ≡ shown_in first closed.now.shown }
 {
-    match &closed.shown {
-        Some(shown) => Some(Shown {
-            frame: shown.frame,
-            bands: shown.shape.superblock_rows(),
-        }),
-        None => None,
-    }
+    let Some(shown) = &closed.shown else {
+        return None;
+    };
+    Some(Shown {
+        frame: shown.frame.checked_sub(first)?,
+        bands: shown.shape.superblock_rows(),
+    })
 }
 
-/// The frames that slots hold.
-fn live_frames(slots: &[Option<u64>; 8]) -> [Option<u64>; LIVE] {
+/// The frame by its number in the group, where it is one of the group.
+fn number_in(first: u64, frame: Option<u64>) -> Option<u64> {
+    frame?.checked_sub(first)
+}
+
+/// The frames of the group that slots hold.
+fn live_frames(first: u64, slots: &[Option<u64>; 8]) -> [Option<u64>; LIVE] {
     let mut live = [None; LIVE];
     for at in 0..slots.len() {
-        live[at] = slots[at];
+        live[at] = number_in(first, slots[at]);
     }
     live
 }
 
-impl<'a, B: DecodeRun, K: Sink> Jobs<JobResult<'a>, Decode<B>, DecodeSink<K, B>>
-    for JobDecoder<'a, B> {
+/// The bands, where they are of a frame of the group. Those of one before it are there.
+fn span_in(first: u64, span: Option<BandSpan>) -> Option<BandSpan> {
+    let span = span?;
+    Some(BandSpan {
+        frame: span.frame.checked_sub(first)?,
+        ..span
+    })
+}
+
+impl<'j, 'a, B: DecodeRun, T> JobDecoder<'j, 'a, B, T> {
+    /// Who does the jobs of these frames, behind the frames of which these results are kept.
+    pub(crate) fn new(
+        rt: &'j T,
+        alloc: Global,
+        list: FrameList<'a, B>,
+        kept: Vec<FrameResults<JobResult<'a>>>,
+    ) -> JobDecoder<'j, 'a, B, T>
+        requires kept { All (HasRightResults (decode_truth B.format B.film)) kept.items }
+        requires starts { IsDue (decode_rules B.format B.film) (decode_truth B.format B.film) (Head B.first) }
+    {
+        JobDecoder {
+            rt,
+            alloc,
+            list,
+            kept,
+        }
+    }
+
+    /// The results that a job may ask for.
+    fn seen<'l, R>(&'l self, results: &'l R) -> FilmResults<'l, 'a, B, R, T> {
+        FilmResults {
+            rt: self.rt,
+            first: self.list.first(),
+            kept: &self.kept,
+            results,
+            of: PhantomData,
+        }
+    }
+
+    /// The job by its number in the film.
+    fn named(&self, job: JobName) -> JobName
+        requires due { IsDue (group_rules B.first B.format B.film) (group_truth B.first B.format B.film) job }
+        requires no_end { IsNoEnd job }
+        ensures is { result ≡ in_film B.first job }
+        ensures due { IsDue (decode_rules B.format B.film) (decode_truth B.format B.film) result }
+        ensures first { B.first ≤ frame_of result }
+    {
+        in_film(self.list.first(), job)
+    }
+
+    /// Does a job of the film that is no write and no end.
+    fn run_named<R: Results<JobResult<'a>, Decode<B>>>(
+        &self,
+        job: JobName,
+        results: &R,
+    ) -> JobResult<'a>
+        requires due { IsDue (decode_rules B.format B.film) (decode_truth B.format B.film) job }
+        requires first { B.first ≤ frame_of job }
+        requires no_write { IsNoWrite job }
+        requires no_end { IsNoEnd job }
+        ensures { IsRight B.format B.film job result }
+    {
+        match job {
+            JobName::Head { frame } => do_head(self.alloc, &self.list, frame, results),
+            JobName::Column { frame, column } => {
+                do_column::<B, R>(self.alloc, frame, column, results)
+            }
+            JobName::Close { frame } => do_close(self.alloc, &self.list, frame, results),
+            JobName::Rows { frame, column, row } => {
+                do_rows::<B, R>(self.alloc, frame, column, row, results)
+            }
+            JobName::Filter { frame, row } => do_filter::<B, R>(self.alloc, frame, row, results),
+            JobName::Write { .. } | JobName::End { .. } => unreachable!(),
+        }
+    }
+}
+
+impl<'j, 'a, B: DecodeRun, K: Sink, T: Wait> Jobs<JobResult<'a>, Group<B>, DecodeSink<K, B>>
+    for JobDecoder<'j, 'a, B, T> {
     fn layout(&self, head: &JobResult<'a>) -> Option<Layout> {
         match head {
             JobResult::Begun(frame) => {
@@ -70,7 +165,7 @@ impl<'a, B: DecodeRun, K: Sink> Jobs<JobResult<'a>, Decode<B>, DecodeSink<K, B>>
             JobResult::Closed(closed) => Some(Building {
                 columns: closed.columns,
                 rows: closed.rows,
-                shown: shown_as(closed),
+                shown: shown_in(self.list.first(), closed),
             }),
             _ => None,
         }
@@ -78,52 +173,60 @@ impl<'a, B: DecodeRun, K: Sink> Jobs<JobResult<'a>, Decode<B>, DecodeSink<K, B>>
 
     fn live(&self, close: &JobResult<'a>) -> [Option<u64>; LIVE] {
         match close {
-            JobResult::Closed(closed) => live_frames(&closed.kept.slots),
+            JobResult::Closed(closed) => live_frames(self.list.first(), &closed.kept.slots),
             _ => [None; LIVE],
         }
     }
 
-    fn reads<R: Results<JobResult<'a>, Decode<B>>>(
+    fn reads<R: Results<JobResult<'a>, Group<B>>>(
         &self,
         frame: u64,
         column: u32,
         row: u32,
         results: &R,
     ) -> [Option<BandSpan>; 3] {
-        reads::<B, R>(frame, column, row, results)
+        let seen = self.seen(results);
+        let first = self.list.first();
+        let [last, golden, altref] = reads::<B, FilmResults<'_, 'a, B, R, T>>(
+            first + frame,
+            column,
+            row,
+            &seen,
+        );
+        [
+            span_in(first, last),
+            span_in(first, golden),
+            span_in(first, altref),
+        ]
     }
 
-    fn run<R: Results<JobResult<'a>, Decode<B>>>(
+    fn run<R: Results<JobResult<'a>, Group<B>> + LastResult<JobResult<'a>, Group<B>>>(
         &self,
         job: JobName,
         results: &R,
     ) -> JobResult<'a> {
-        match job {
-            JobName::Head { frame } => do_head(self.alloc, &self.list, frame, results),
-            JobName::Column { frame, column } => {
-                do_column::<B, R>(self.alloc, frame, column, results)
-            }
-            JobName::Close { frame } => do_close(self.alloc, &self.list, frame, results),
-            JobName::Rows { frame, column, row } => {
-                do_rows::<B, R>(self.alloc, frame, column, row, results)
-            }
-            JobName::Filter { frame, row } => do_filter::<B, R>(self.alloc, frame, row, results),
-            JobName::Write { .. } => unreachable!(),
-            JobName::End { frame } => JobResult::Ended(*ended::<B, R>(results, frame)),
+        if let JobName::End { frame } = job {
+            return JobResult::Ended(*ended::<B, R>(results, frame));
         }
+        self.run_named(self.named(job), &self.seen(results))
     }
 
     fn starved(&self, _frame: u64) -> JobResult<'a> {
         JobResult::Ended(Outcome::OutOfMemory)
     }
 
-    fn write<R: Results<JobResult<'a>, Decode<B>>>(
+    fn write<R: Results<JobResult<'a>, Group<B>>>(
         &self,
         frame: u64,
         results: &R,
         output: &mut DecodeSink<K, B>,
     ) -> JobResult<'a> {
-        match write::<B, K, R>(self.alloc, frame, results, &mut output.sink) {
+        match write::<B, K, FilmResults<'_, 'a, B, R, T>>(
+            self.alloc,
+            self.list.first() + frame,
+            &self.seen(results),
+            &mut output.sink,
+        ) {
             Ok(()) => JobResult::Written,
             Err(fault) => JobResult::Refused(fault),
         }

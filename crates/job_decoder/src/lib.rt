@@ -2,6 +2,7 @@
 #![tactic(auto)]
 
 mod decoder;
+mod lookup;
 mod output;
 mod whole;
 mod writes;

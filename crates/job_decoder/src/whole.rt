@@ -2,6 +2,7 @@
 
 ghost use Rattle.std.specs.Prelude.{◌≡◌};
 ghost use Rattle.seq_decoder.specs.Outcomes.{Decodes};
+ghost use Rattle.numbered_frames.specs.Films.{film_of};
 ghost use Rattle.seq_decoder.specs.Outputs.{output_of};
 ghost use Rattle.job_results.specs.Endings.{IsOutcome};
 ghost use Rattle.job_decoder.specs.Outputs.{TellsOutcome};
@@ -9,11 +10,12 @@ ghost use Rattle.job_decoder.specs.Outputs.{TellsOutcome};
 use crate::decoder::JobDecoder;
 use crate::output::DecodeSink;
 use edge_io::{Gate, Sink};
+use file_frames::rate_of_file;
 use frame_output::Format;
-use job_crew::{Ending, Run, Told, run_jobs};
-use job_heads::FrameList;
-use job_results::{Decode, DecodeRun, JobResult};
-use seq_decoder::refusal_outcome;
+use job_crew::{Ending, Ran, Run, run_jobs};
+use job_heads::{FrameList, find_frames};
+use job_results::{DecodeRun, Group, JobResult};
+use seq_decoder::{OutputForm, refusal_outcome};
 use std::alloc::Global;
 use std::marker::Brand;
 use std::sync::Wait;
@@ -73,7 +75,8 @@ fn decode_as<
     R: Threads + Wait + Sync,
 >(rt: &R, alloc: Global, crew: &Crew<'_, G>, format: Format, bytes: &[u8], sink: K) -> Decoded<K>
     requires format { B.format ≡ format }
-    requires bytes { B.bytes ≡ bytes.now }
+    requires film { B.film ≡ film_of bytes.now }
+    requires first { B.first ≡ 0 }
     requires taken { B.taken ≡ K.taken sink }
     requires faults { B.faults ≡ K.faults sink }
     requires grows { B.grows ≡ K.grows sink }
@@ -83,10 +86,15 @@ fn decode_as<
     ensures again { K.faults result.sink ≡ K.faults sink → K.can_put result.sink }
 {
     let output: DecodeSink<K, B> = DecodeSink::new(sink);
-    let Ok(list) = FrameList::<B>::new(alloc, format, bytes) else {
+    let Ok(found) = find_frames(alloc, bytes) else {
         return without_memory(output);
     };
-    let jobs = JobDecoder { alloc, list };
+    let list: FrameList<'_, B> = FrameList::new(
+        0,
+        found,
+        OutputForm::new(format, rate_of_file(bytes)),
+    );
+    let jobs = JobDecoder::new(rt, alloc, list, Vec::new(alloc));
     let run = Run {
         alloc,
         jobs: &jobs,
@@ -94,16 +102,16 @@ fn decode_as<
         workers: crew.workers.clamp(1, 64),
         window: crew.window.clamp(2, 16),
     };
-    let Told { ending, output } = match run_jobs::<
+    let Ran { ending, output, .. } = match run_jobs::<
         JobResult<'_>,
-        Decode<B>,
+        Group<B>,
         DecodeSink<K, B>,
-        JobDecoder<'_, B>,
+        JobDecoder<'_, '_, B, R>,
         G,
         R,
     >(rt, &run, output)
     {
-        Ok(told) => told,
+        Ok(ran) => ran,
         Err(output) => return without_memory(output),
     };
     let outcome = outcome_of(&ending);

@@ -33,10 +33,10 @@ fn write_shown<'a, P: PlaneSample, B: DecodeRun, K: Sink, R: Results<JobResult<'
     shown: &ShownFrame,
     sink: &mut K,
 ) -> Result<(), PutFault>
-    requires shown { IsShown B.format B.bytes (Some shown.now) }
+    requires shown { IsShown B.format B.film (Some shown.now) }
     requires keeps { P.keeps shown.now.shape.depth }
     requires sink { K.can_put sink.old }
-    ensures shows { Shows (output_text form.now.format form.now.rate (is_first form.now.first) shown.now.shape (pictures B.format B.bytes shown.now.frame).map)
+    ensures shows { Shows (output_text form.now.format form.now.rate (is_first form.now.first) shown.now.shape (pictures B.format B.film shown.now.frame).map)
         (K.taken sink.old) (K.taken sink.new) (K.faults sink.old) (K.faults sink.new) result }
     ensures grows { K.grows sink.new ≡ K.grows sink.old }
     ensures again { K.faults sink.new ≡ K.faults sink.old → K.can_put sink.new }
@@ -72,7 +72,7 @@ pub fn write<'a, B: DecodeRun, K: Sink, R: Results<JobResult<'a>, Decode<B>>>(
     sink: &mut K,
 ) -> Result<(), PutFault>
     requires { K.can_put sink.old }
-    ensures shows { Shows (text B.format B.bytes number) (K.taken sink.old) (K.taken sink.new) (K.faults sink.old) (K.faults sink.new) result }
+    ensures shows { Shows (text B.format B.film number) (K.taken sink.old) (K.taken sink.new) (K.faults sink.old) (K.faults sink.new) result }
     ensures grows { K.grows sink.new ≡ K.grows sink.old }
     ensures again { K.faults sink.new ≡ K.faults sink.old → K.can_put sink.new }
 {

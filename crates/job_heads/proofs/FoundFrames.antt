@@ -1,5 +1,5 @@
 -- The frames of a file, as a cursor gives them one after another.
-use Rattle.std.proofs.Common.{◌≡◌, ℕ, ◌+◌, List, [], ◌∷◌, ◌++◌, map, ap, sym, ◌∙◌, append_assoc}
+use Rattle.std.proofs.Common.{◌≡◌, ◌≤◌, ℕ, zero, suc, ◌+◌, ◌-◌, List, [], ◌∷◌, ◌++◌, map, drop, ap, sym, refl, ◌∙◌, append_assoc, arith}
 use Rattle.std.specs.Prelude.{Option, Some, None, slice_get}
 use Rattle.std.specs.Option.{option_map}
 use Rattle.std.proofs.lemmas.List.{append-nil, map_push}
@@ -8,6 +8,7 @@ use Rattle.vp9_types.specs.declared.outcome.Outcome.TheVariants as outcome
 use Rattle.vp9_types.specs.declared.rule.Rule.{Rule}
 use Rattle.file_frames.specs.Code.{Ahead, all_ahead}
 use Rattle.file_frames.specs.FileFrames.{frames_in, frames_of_file}
+use Rattle.numbered_frames.specs.Films.{Film}
 use Rattle.numbered_frames.specs.Numbers.{file_ending, frame_at}
 use Rattle.seq_decoder.specs.Outcomes.{outcome_at}
 use Rattle.job_results.specs.Results.{outcome_of}
@@ -41,8 +42,15 @@ all_found bytes number found a ending is h = record {
 }
 
 -- a frame of the code's list
-pub frame_there : {X : Type 0} (now : X → List ℕ) (bytes : List ℕ) (found : List X) (f : ℕ) → map now found ≡ frames_in (frames_of_file bytes) → option_map now (slice_get found f) ≡ frame_at bytes f
-frame_there now bytes found f is = sym (slice_get-map now found f) ∙ ap (λ xs. slice_get xs f) is
+got_behind : {X : Type 0} (xs : List X) (n f : ℕ) → n ≤ f → slice_get (drop n xs) (f - n) ≡ slice_get xs f
+got_behind xs zero f h = refl
+got_behind [] (suc n) f h = refl
+got_behind (x ∷ xs) (suc n) zero h = absurd (omega (arith, h))
+got_behind (x ∷ xs) (suc n) (suc f) h = got_behind xs n f (omega (arith, h))
+
+pub frame_there : {X : Type 0} (now : X → List ℕ) (film : Film) (found : List X) (first f : ℕ) → first ≤ f → map now found ≡ drop first film.frames
+    → option_map now (slice_get found (f - first)) ≡ frame_at film f
+frame_there now film found first f h is = sym (slice_get-map now found (f - first)) ∙ (ap (λ xs. slice_get xs (f - first)) is ∙ got_behind film.frames first f h)
 
 pub ends_by_rule : (f : ℕ) (rule : Rule) (own ending : Option Rule) → own ≡ Some rule → own ≡ ending → outcome_at f rule ≡ outcome_of (file_ending f ending)
 ends_by_rule f rule own ending some is = ap (λ e. outcome_of (file_ending f e)) (sym some ∙ is)

@@ -4,11 +4,12 @@ use Rattle.frame_output.specs.declared.rendering.Format.{Format}
 use Rattle.frame_steps.specs.Frames.{sources_by}
 use Rattle.frame_steps.specs.declared.beginning.BegunFrame.{BegunFrame}
 use Rattle.numbered_frames.specs.Coded.{CodedFrame, coded}
+use Rattle.numbered_frames.specs.Films.{Film}
 
 -- what has begun has the coded frame's bytes and headers, and what its blocks are read by
 abbrev pub IsMadeOf : CodedFrame → BegunFrame → Type 0
 IsMadeOf c b = (b.bytes.now ≡ c.bytes) × (b.setting.header ≡ c.header) × (b.compressed ≡ c.compressed) × (sources_by b ≡ c.by)
 
 -- where the frame is coded, this is it
-abbrev pub IsItsBegun : Format → List ℕ → ℕ → BegunFrame → Type 0
-IsItsBegun format bytes f b = (c : CodedFrame) → coded format bytes f ≡ Some c → IsMadeOf c b
+abbrev pub IsItsBegun : Format → Film → ℕ → BegunFrame → Type 0
+IsItsBegun format film f b = (c : CodedFrame) → coded format film f ≡ Some c → IsMadeOf c b

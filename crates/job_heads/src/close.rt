@@ -29,7 +29,7 @@ struct LentColumns<'r, 'a: 'r, B: DecodeRun, R: Results<JobResult<'a>, Decode<B>
     number: u64,
     frame: &'r BegunFrame<'a>,
     of: PhantomData<B>,
-    ghost is_begun: { IsItsBegun B.format B.bytes number frame.now },
+    ghost is_begun: { IsItsBegun B.format B.film number frame.now },
 }
 
 impl<'r, 'a: 'r, B: DecodeRun, R: Results<JobResult<'a>, Decode<B>>> PlannedColumns
@@ -100,9 +100,9 @@ fn close_shown<'a, B: DecodeRun>(
     slot: u8,
     before: &Kept,
 ) -> JobResult<'a>
-    requires shows { ShowsSlot B.format B.bytes number slot }
-    requires kept { IsKeptBefore B.format B.bytes number before.now }
-    ensures { IsClose B.format B.bytes number result }
+    requires shows { ShowsSlot B.format B.film number slot }
+    requires kept { IsKeptBefore B.format B.film number before.now }
+    ensures { IsClose B.format B.film number result }
 {
     let shown = shown_in(before, slot);
     if !admits(&before.form, &shown) {
@@ -164,10 +164,10 @@ fn close_coded<'a, B: DecodeRun, C: PlannedColumns>(
     planned: &C,
     before: &Kept,
 ) -> JobResult<'a>
-    requires begun { IsBegunFrame B.format B.bytes number frame.now }
+    requires begun { IsBegunFrame B.format B.film number frame.now }
     requires frame { C.frame planned.now ≡ frame.now }
-    requires kept { IsKeptBefore B.format B.bytes number before.now }
-    ensures { IsClose B.format B.bytes number result }
+    requires kept { IsKeptBefore B.format B.film number before.now }
+    ensures { IsClose B.format B.film number result }
 {
     let header = &frame.setting.header;
     let decoded = match close(alloc, frame, planned) {
@@ -197,8 +197,8 @@ fn close_behind<'r, 'a: 'r, B: DecodeRun, R: Results<JobResult<'a>, Decode<B>>>(
     results: &'r R,
     before: &Kept,
 ) -> JobResult<'a>
-    requires { IsKeptBefore B.format B.bytes number before.now }
-    ensures { IsClose B.format B.bytes number result }
+    requires { IsKeptBefore B.format B.film number before.now }
+    ensures { IsClose B.format B.film number result }
 {
     match head_read::<B, R>(results, number) {
         HeadRead::Shows(slot) => close_shown::<B>(alloc, number, slot, before),
@@ -220,7 +220,7 @@ fn close_first<'a, B: DecodeRun, R: Results<JobResult<'a>, Decode<B>>>(
     list: &FrameList<'a, B>,
     results: &R,
 ) -> JobResult<'a>
-    ensures { IsClose B.format B.bytes 0 result }
+    ensures { IsClose B.format B.film 0 result }
 {
     let form = list.form();
     match Kept::start(alloc, form.format, form.rate) {
@@ -236,8 +236,8 @@ pub fn do_close<'a, B: DecodeRun, R: Results<JobResult<'a>, Decode<B>>>(
     number: u64,
     results: &R,
 ) -> JobResult<'a>
-    requires { IsDue (decode_rules B.format B.bytes) (decode_truth B.format B.bytes) (Close number) }
-    ensures { IsClose B.format B.bytes number result }
+    requires { IsDue (decode_rules B.format B.film) (decode_truth B.format B.film) (Close number) }
+    ensures { IsClose B.format B.film number result }
 {
     match number.checked_sub(1) {
         None => close_first(alloc, list, results),

@@ -19,8 +19,8 @@ fn planned<'a, B: DecodeRun, R: Results<JobResult<'a>, Decode<B>>>(
     column: u32,
     results: &R,
 ) -> Result<PlannedColumn, Unplanned>
-    requires { IsDue (decode_rules B.format B.bytes) (decode_truth B.format B.bytes) (Column frame column) }
-    ensures { IsColumnOf B.format B.bytes frame column result }
+    requires { IsDue (decode_rules B.format B.film) (decode_truth B.format B.film) (Column frame column) }
+    ensures { IsColumnOf B.format B.film frame column result }
 {
     let begun = begun::<B, R>(results, frame);
     plan_column(alloc, begun, column)
@@ -33,8 +33,8 @@ pub fn do_column<'a, B: DecodeRun, R: Results<JobResult<'a>, Decode<B>>>(
     column: u32,
     results: &R,
 ) -> JobResult<'a>
-    requires { IsDue (decode_rules B.format B.bytes) (decode_truth B.format B.bytes) (Column frame column) }
-    ensures { IsColumn B.format B.bytes frame column result }
+    requires { IsDue (decode_rules B.format B.film) (decode_truth B.format B.film) (Column frame column) }
+    ensures { IsColumn B.format B.film frame column result }
 {
     JobResult::Column(planned::<B, R>(alloc, frame, column, results))
 }

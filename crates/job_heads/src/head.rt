@@ -1,6 +1,6 @@
 //! The head of a frame.
 
-ghost use Rattle.std.specs.Prelude.{◌≡◌, Some, Ok, length};
+ghost use Rattle.std.specs.Prelude.{◌≡◌, ◌≤◌, Some, Ok, length};
 ghost use Rattle.vp9_types.specs.declared.job.JobName.TheVariants.{Head};
 ghost use Rattle.frame_headers.specs.Header.{head_of};
 ghost use Rattle.frame_headers.specs.Sizes.{IsFrameSize};
@@ -31,13 +31,13 @@ fn begin_coded<'a, B: DecodeRun>(
     compressed: Span,
     before: &Kept,
 ) -> JobResult<'a>
-    requires kept { IsKeptBefore B.format B.bytes number before.now }
-    requires frame { frame_at B.bytes number ≡ Some bytes.now }
+    requires kept { IsKeptBefore B.format B.film number before.now }
+    requires frame { frame_at B.film number ≡ Some bytes.now }
     requires head { head_of before.now.persist bytes.now ≡ Ok (head.Coded header.now compressed) }
     requires size { IsFrameSize header.now.size }
     requires few { AreFewTiles header.now.params.tiles }
     requires placed { LiesWithin (length bytes.now) compressed }
-    ensures { IsHead B.format B.bytes number result }
+    ensures { IsHead B.format B.film number result }
 {
     let begun = match begin(alloc, bytes, header, compressed, before) {
         Ok(begun) => begun,
@@ -56,8 +56,9 @@ fn read_head<'a, B: DecodeRun>(
     number: u64,
     before: &Kept,
 ) -> JobResult<'a>
-    requires { IsKeptBefore B.format B.bytes number before.now }
-    ensures { IsHead B.format B.bytes number result }
+    requires kept { IsKeptBefore B.format B.film number before.now }
+    requires first { B.first ≤ number }
+    ensures { IsHead B.format B.film number result }
 {
     let Some(bytes) = list.frame(number) else {
         return JobResult::Ended(list.outcome(number));
@@ -73,7 +74,8 @@ fn read_head<'a, B: DecodeRun>(
 
 /// Reads the head of the first frame.
 fn read_first<'a, B: DecodeRun>(alloc: Global, list: &FrameList<'a, B>) -> JobResult<'a>
-    ensures { IsHead B.format B.bytes 0 result }
+    requires { B.first ≡ 0 }
+    ensures { IsHead B.format B.film 0 result }
 {
     let form = list.form();
     match Kept::start(alloc, form.format, form.rate) {
@@ -90,8 +92,9 @@ pub fn do_head<'a, B: DecodeRun, R: Results<JobResult<'a>, Decode<B>>>(
     number: u64,
     results: &R,
 ) -> JobResult<'a>
-    requires { IsDue (decode_rules B.format B.bytes) (decode_truth B.format B.bytes) (Head number) }
-    ensures { IsHead B.format B.bytes number result }
+    requires due { IsDue (decode_rules B.format B.film) (decode_truth B.format B.film) (Head number) }
+    requires first { B.first ≤ number }
+    ensures { IsHead B.format B.film number result }
 {
     match number.checked_sub(1) {
         None => read_first(alloc, list),

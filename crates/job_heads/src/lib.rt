@@ -8,5 +8,5 @@ mod head;
 
 pub use close::do_close;
 pub use columns::do_column;
-pub use frames::FrameList;
+pub use frames::{FoundFrames, FrameList, find_frames};
 pub use head::do_head;

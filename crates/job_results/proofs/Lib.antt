@@ -1,2 +1,4 @@
 pub mod Decoding
 pub mod Variants
+pub mod Later
+pub mod GroupDue

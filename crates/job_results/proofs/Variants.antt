@@ -11,14 +11,15 @@ use Rattle.numbered_frames.specs.Numbers.{frame_at}
 use Rattle.seq_decoder.specs.Outputs.{Putting}
 use Rattle.seq_decoder.specs.State.{persist_of}
 use Rattle.job_results.specs.Results.{ShowsSlot}
+use Rattle.numbered_frames.specs.Films.{Film}
 
 none_coded : (p : Putting) (frame : List ℕ) (slot : ℕ) (read : Result FrameHead Rule) → read ≡ Ok (head.ShowExisting slot) → headed_from p frame read ≡ None
 none_coded p frame slot read is = ap (headed_from p frame) is
 
-pub shows_none : (format : Format) (bytes : List ℕ) (f slot : ℕ) → ShowsSlot format bytes f slot → coded format bytes f ≡ None
+pub shows_none : (format : Format) (film : Film) (f slot : ℕ) → ShowsSlot format film f slot → coded format film f ≡ None
 unfolding coded
-shows_none format bytes f slot h =
-    ap (λ o. coded_from o (frame_at bytes f)) h.reached ∙ (ap (coded_from (Some h.kept)) h.there ∙ none_coded h.kept h.frame slot (head_of (persist_of h.kept.state) h.frame) h.head)
+shows_none format film f slot h =
+    ap (λ o. coded_from o (frame_at film f)) h.reached ∙ (ap (coded_from (Some h.kept)) h.there ∙ none_coded h.kept h.frame slot (head_of (persist_of h.kept.state) h.frame) h.head)
 
-pub not_shown : (format : Format) (bytes : List ℕ) (f slot : ℕ) (c : CodedFrame) → ShowsSlot format bytes f slot → coded format bytes f ≡ Some c → ⊥
-not_shown format bytes f slot c h is = let none = shows_none format bytes f slot h in absurd cc
+pub not_shown : (format : Format) (film : Film) (f slot : ℕ) (c : CodedFrame) → ShowsSlot format film f slot → coded format film f ≡ Some c → ⊥
+not_shown format film f slot c h is = let none = shows_none format film f slot h in absurd cc

@@ -1,5 +1,6 @@
 pub mod Planes
 pub mod Results
 pub mod Meaning
+pub mod Groups
 pub mod Endings
 pub mod Lent

@@ -14,6 +14,7 @@ use Rattle.job_results.specs.Results.{IsRight}
 use Rattle.job_results.specs.declared.result.JobResult.{JobResult}
 use Rattle.job_results.specs.declared.result.JobResult.TheVariants as result
 use Rattle.job_results.specs.declared.result.ShownFrame.{ShownFrame}
+use Rattle.numbered_frames.specs.Films.{Film}
 
 -- so many tile columns, of which a frame has no more than 256
 abbrev pub columns_by : ℕ → Option ℕ
@@ -41,9 +42,9 @@ fails (result.Refused fault) = true
 fails _ = false
 
 -- What a write has put isn't told by its result, and what a row reads by no list of results: whoever runs the jobs asks for neither.
-abbrev pub decode_rules : Format → List ℕ → Rules JobResult
-decode_rules format bytes = record {
-  does = λ job uses x. IsRight format bytes job x;
+abbrev pub decode_rules : Format → Film → Rules JobResult
+decode_rules format film = record {
+  does = λ job uses x. IsRight format film job x;
   parses = parses;
   builds = builds;
   reads = λ job results. [];
@@ -60,10 +61,10 @@ abbrev pub slots_of : Option Putting → List ℕ
 slots_of None = []
 slots_of (Some p) = numbers_in p.state.slots
 
-abbrev pub decode_truth : Format → List ℕ → Truth JobResult
-decode_truth format bytes = record {
-  right = IsRight format bytes;
-  bands = λ f. superblocks_along (mi_rows (pictures format bytes f).shape);
-  slots = λ f. slots_of (before format bytes f);
-  text = text format bytes;
+abbrev pub decode_truth : Format → Film → Truth JobResult
+decode_truth format film = record {
+  right = IsRight format film;
+  bands = λ f. superblocks_along (mi_rows (pictures format film f).shape);
+  slots = λ f. slots_of (before format film f);
+  text = text format film;
 }

@@ -42,6 +42,7 @@ use Rattle.job_results.specs.declared.result.ClosedFrame.{ClosedFrame}
 use Rattle.job_results.specs.declared.result.JobResult.{JobResult}
 use Rattle.job_results.specs.declared.result.JobResult.TheVariants as result
 use Rattle.job_results.specs.declared.result.ShownFrame.{ShownFrame}
+use Rattle.numbered_frames.specs.Films.{Film}
 
 ---- The end of a run ----
 
@@ -50,8 +51,8 @@ outcome_of None = outcome.Done
 outcome_of (Some stop) = outcome_at stop.0 stop.1
 
 -- the run ends so at the frame, or memory is wanting
-abbrev pub IsEnd : Format → List ℕ → ℕ → Outcome → Type 0
-IsEnd format bytes f o = (o ≡ outcome.OutOfMemory) ⊎ ((ending : Option (ℕ × Rule)) × EndsAt format bytes f ending × (o ≡ outcome_of ending))
+abbrev pub IsEnd : Format → Film → ℕ → Outcome → Type 0
+IsEnd format film f o = (o ≡ outcome.OutOfMemory) ⊎ ((ending : Option (ℕ × Rule)) × EndsAt format film f ending × (o ≡ outcome_of ending))
 
 ---- Heads ----
 
@@ -65,18 +66,18 @@ pub record IsBegunAs (c : CodedFrame) (b : BegunFrame) : Type 0 where
   pub begins : BeginsIn c.kept.state b
 
 -- the frame shows what a slot holds
-pub record ShowsSlot (format : Format) (bytes : List ℕ) (f slot : ℕ) : Type 0 where
+pub record ShowsSlot (format : Format) (film : Film) (f slot : ℕ) : Type 0 where
   pub kept : Putting
-  pub reached : before format bytes f ≡ Some kept
+  pub reached : before format film f ≡ Some kept
   pub frame : List ℕ
-  pub there : frame_at bytes f ≡ Some frame
+  pub there : frame_at film f ≡ Some frame
   pub head : head_of (persist_of kept.state) frame ≡ Ok (head.ShowExisting slot)
 
-abbrev pub IsHead : Format → List ℕ → ℕ → JobResult → Type 0
-IsHead format bytes f (result.Begun b) = (c : CodedFrame) × (coded format bytes f ≡ Some c) × IsBegunAs c b.value
-IsHead format bytes f (result.Existing slot) = ShowsSlot format bytes f slot
-IsHead format bytes f (result.Ended o) = IsEnd format bytes f o
-IsHead format bytes f _ = ⊥
+abbrev pub IsHead : Format → Film → ℕ → JobResult → Type 0
+IsHead format film f (result.Begun b) = (c : CodedFrame) × (coded format film f ≡ Some c) × IsBegunAs c b.value
+IsHead format film f (result.Existing slot) = ShowsSlot format film f slot
+IsHead format film f (result.Ended o) = IsEnd format film f o
+IsHead format film f _ = ⊥
 
 ---- Tile columns ----
 
@@ -88,25 +89,25 @@ IsPlannedAs c k (Err e) = Unit {0}
 abbrev pub IsColumnAs : CodedFrame → ℕ → Result PlannedColumn Unplanned → Type 0
 IsColumnAs c k r = GivesColumn (adapts c.header) (plan_of c.by (tile_bytes c.bytes c.spans) k) (counts_of r) × IsPlannedAs c k r
 
-abbrev pub IsColumn : Format → List ℕ → ℕ → ℕ → JobResult → Type 0
-IsColumn format bytes f k (result.Column r) = (c : CodedFrame) × (coded format bytes f ≡ Some c) × IsColumnAs c k r
-IsColumn format bytes f k _ = ⊥
+abbrev pub IsColumn : Format → Film → ℕ → ℕ → JobResult → Type 0
+IsColumn format film f k (result.Column r) = (c : CodedFrame) × (coded format film f ≡ Some c) × IsColumnAs c k r
+IsColumn format film f k _ = ⊥
 
 ---- Closes ----
 
 -- what it shows has this text
-abbrev pub shown_text : Format → List ℕ → ClosedFrame → Option ShownFrame → List ℕ
-shown_text format bytes k None = []
-shown_text format bytes k (Some s) = output_text k.form.format k.form.rate (is_first k.form.first) s.shape (pictures format bytes s.frame).map
+abbrev pub shown_text : Format → Film → ClosedFrame → Option ShownFrame → List ℕ
+shown_text format film k None = []
+shown_text format film k (Some s) = output_text k.form.format k.form.rate (is_first k.form.first) s.shape (pictures format film s.frame).map
 
 -- frame f is coded, and its tiles are all read
-abbrev pub IsReadFrame : Format → List ℕ → ℕ → Type 0
-IsReadFrame format bytes f = (c : CodedFrame) × (coded format bytes f ≡ Some c) × ((read : FrameRead) × (read_of c ≡ Ok read))
+abbrev pub IsReadFrame : Format → Film → ℕ → Type 0
+IsReadFrame format film f = (c : CodedFrame) × (coded format film f ≡ Some c) × ((read : FrameRead) × (read_of c ≡ Ok read))
 
 -- it shows a frame as that was decoded
-abbrev pub IsShown : Format → List ℕ → Option ShownFrame → Type 0
-IsShown format bytes None = Unit {0}
-IsShown format bytes (Some s) = IsReadFrame format bytes s.frame × (s.shape ≡ (pictures format bytes s.frame).shape)
+abbrev pub IsShown : Format → Film → Option ShownFrame → Type 0
+IsShown format film None = Unit {0}
+IsShown format film (Some s) = IsReadFrame format film s.frame × (s.shape ≡ (pictures format film s.frame).shape)
 
 -- it is of as many tile columns and rows of superblocks as the frame; of none where that shows a slot
 abbrev pub IsBuiltAs : Option CodedFrame → ClosedFrame → Type 0
@@ -114,20 +115,20 @@ IsBuiltAs None k = (k.columns ≡ 0) × (k.rows ≡ 0)
 IsBuiltAs (Some c) k = (k.columns ≡ 2 ^ c.header.params.tiles.columns_log2) × (k.rows ≡ superblocks_along (mi_rows (shape_of c.header)))
     × ((read : FrameRead) × (read_of c ≡ Ok read))
 
-pub record IsClosedAs (format : Format) (bytes : List ℕ) (f : ℕ) (k : ClosedFrame) : Type 0 where
+pub record IsClosedAs (format : Format) (film : Film) (f : ℕ) (k : ClosedFrame) : Type 0 where
   pub next : Putting
-  pub reached : before format bytes (suc f) ≡ Some next
+  pub reached : before format film (suc f) ≡ Some next
   pub stands : StandsFor k.kept next.state
   pub form : k.kept.form ≡ next.form
   pub may : MayFollow k.kept
-  pub built : IsBuiltAs (coded format bytes f) k
-  pub shown : IsShown format bytes k.shown
-  pub puts : text format bytes f ≡ shown_text format bytes k k.shown
+  pub built : IsBuiltAs (coded format film f) k
+  pub shown : IsShown format film k.shown
+  pub puts : text format film f ≡ shown_text format film k k.shown
 
-abbrev pub IsClose : Format → List ℕ → ℕ → JobResult → Type 0
-IsClose format bytes f (result.Closed k) = IsClosedAs format bytes f k.value
-IsClose format bytes f (result.Ended o) = IsEnd format bytes f o
-IsClose format bytes f _ = ⊥
+abbrev pub IsClose : Format → Film → ℕ → JobResult → Type 0
+IsClose format film f (result.Closed k) = IsClosedAs format film f k.value
+IsClose format film f (result.Ended o) = IsEnd format film f o
+IsClose format film f _ = ⊥
 
 ---- Rows of superblocks ----
 
@@ -141,10 +142,10 @@ abbrev pub IsAnyStrip : CodedFrame → ℕ → ℕ → AnyPlanes → Type 0
 IsAnyStrip c k r (Bytes f) = IsStripAs c k r f
 IsAnyStrip c k r (Words f) = IsStripAs c k r f
 
-abbrev pub IsStrip : Format → List ℕ → ℕ → ℕ → ℕ → JobResult → Type 0
-IsStrip format bytes f k r (result.Strip planes) = (c : CodedFrame) × (coded format bytes f ≡ Some c) × Keeps c.header.color.depth planes × IsAnyStrip c k r planes
-IsStrip format bytes f k r result.Starved = Unit {0}
-IsStrip format bytes f k r _ = ⊥
+abbrev pub IsStrip : Format → Film → ℕ → ℕ → ℕ → JobResult → Type 0
+IsStrip format film f k r (result.Strip planes) = (c : CodedFrame) × (coded format film f ≡ Some c) × Keeps c.header.color.depth planes × IsAnyStrip c k r planes
+IsStrip format film f k r result.Starved = Unit {0}
+IsStrip format film f k r _ = ⊥
 
 -- planes hold the rows that a row of superblocks leaves when it is filtered
 pub record IsFilteredAs {X : Type 0} (c : CodedFrame) (r : ℕ) (f : FramePlanes X) : Type 0 where
@@ -156,10 +157,10 @@ abbrev pub IsAnyFiltered : CodedFrame → ℕ → AnyPlanes → Type 0
 IsAnyFiltered c r (Bytes f) = IsFilteredAs c r f
 IsAnyFiltered c r (Words f) = IsFilteredAs c r f
 
-abbrev pub IsFiltered : Format → List ℕ → ℕ → ℕ → JobResult → Type 0
-IsFiltered format bytes f r (result.Filtered planes) = (c : CodedFrame) × (coded format bytes f ≡ Some c) × Keeps c.header.color.depth planes × IsAnyFiltered c r planes
-IsFiltered format bytes f r result.Starved = Unit {0}
-IsFiltered format bytes f r _ = ⊥
+abbrev pub IsFiltered : Format → Film → ℕ → ℕ → JobResult → Type 0
+IsFiltered format film f r (result.Filtered planes) = (c : CodedFrame) × (coded format film f ≡ Some c) × Keeps c.header.color.depth planes × IsAnyFiltered c r planes
+IsFiltered format film f r result.Starved = Unit {0}
+IsFiltered format film f r _ = ⊥
 
 ---- All jobs ----
 
@@ -168,15 +169,15 @@ IsWrite result.Written = Unit {0}
 IsWrite (result.Refused fault) = Unit {0}
 IsWrite _ = ⊥
 
-abbrev pub IsEndResult : Format → List ℕ → ℕ → JobResult → Type 0
-IsEndResult format bytes f (result.Ended o) = IsEnd format bytes f o
-IsEndResult format bytes f _ = ⊥
+abbrev pub IsEndResult : Format → Film → ℕ → JobResult → Type 0
+IsEndResult format film f (result.Ended o) = IsEnd format film f o
+IsEndResult format film f _ = ⊥
 
-abbrev pub IsRight : Format → List ℕ → JobName → JobResult → Type 0
-IsRight format bytes (job.Head f) x = IsHead format bytes f x
-IsRight format bytes (job.Column f k) x = IsColumn format bytes f k x
-IsRight format bytes (job.Close f) x = IsClose format bytes f x
-IsRight format bytes (job.Rows f k r) x = IsStrip format bytes f k r x
-IsRight format bytes (job.Filter f r) x = IsFiltered format bytes f r x
-IsRight format bytes (job.Write f) x = IsWrite x
-IsRight format bytes (job.End f) x = IsEndResult format bytes f x
+abbrev pub IsRight : Format → Film → JobName → JobResult → Type 0
+IsRight format film (job.Head f) x = IsHead format film f x
+IsRight format film (job.Column f k) x = IsColumn format film f k x
+IsRight format film (job.Close f) x = IsClose format film f x
+IsRight format film (job.Rows f k r) x = IsStrip format film f k r x
+IsRight format film (job.Filter f r) x = IsFiltered format film f r x
+IsRight format film (job.Write f) x = IsWrite x
+IsRight format film (job.End f) x = IsEndResult format film f x

@@ -1,20 +1,41 @@
 //! Laws of the definitions, as contracts of functions that do nothing.
 
-ghost use Rattle.std.specs.Prelude.{◌≡◌, ℕ, List, Option};
+ghost use Rattle.std.specs.Prelude.{◌≡◌, ◌<◌, ◌+◌, ℕ, List, ◌++◌, Option, length};
 ghost use Rattle.frame_output.specs.declared.rendering.Format.{Format};
 ghost use Rattle.vp9_types.specs.declared.outcome.Outcome.{Outcome};
-ghost use Rattle.job_crew.specs.Runs.{IsEnded};
+ghost use Rattle.vp9_types.specs.declared.job.JobName.{JobName};
+ghost use Rattle.vp9_types.specs.declared.job.JobName.TheVariants.{Head};
+ghost use Rattle.job_order.specs.Sound.{frame_of, texts_below};
+ghost use Rattle.job_crew.specs.Runs.{IsDue, IsEnded};
 ghost use Rattle.job_crew.specs.declared.outlet.Ending.{Ending};
 ghost use Rattle.seq_decoder.specs.Outcomes.{Decodes};
-ghost use Rattle.seq_decoder.specs.Outputs.{output_of};
+ghost use Rattle.numbered_frames.specs.Films.{Film, GoesOn};
+ghost use Rattle.numbered_frames.specs.Numbers.{film_output};
 ghost use Rattle.job_results.specs.Endings.{HasRefused, IsOutcome};
 ghost use Rattle.job_results.specs.Meaning.{decode_rules, decode_truth};
+ghost use Rattle.job_results.specs.Groups.{IsCounted, group_rules, group_truth, in_film};
+ghost use Rattle.job_results.specs.Results.{IsRight};
 ghost use Rattle.job_results.specs.declared.result.JobResult.{JobResult as AnyResult};
 
-/// A run of right results that has ended is the decode of its bytes: whatever jobs were done by whom and when, the sink has taken the
+/// A run of right results that has ended is the decode of its film: whatever jobs were done by whom and when, the sink has taken the
 /// decode's output, or a front of it, and the outcome is the decode's.
 pub fn ended_runs_are_decodes()
-    ensures { (format : Format) (bytes : List ℕ) (ending : Ending AnyResult) (outcome : Outcome) (old new : Option (List ℕ)) (faults now : ℕ) →
-        IsEnded (decode_rules format bytes) (decode_truth format bytes) old ending new (now ≡ faults) (HasRefused faults now) → IsOutcome ending outcome →
-        Decodes (output_of format bytes) old new faults now outcome }
+    ensures { (format : Format) (film : Film) (ending : Ending AnyResult) (outcome : Outcome) (old new : Option (List ℕ)) (faults now : ℕ) →
+        IsEnded (decode_rules format film) (decode_truth format film) old ending new (now ≡ faults) (HasRefused faults now) → IsOutcome ending outcome →
+        Decodes (film_output format film) old new faults now outcome }
+{}
+
+/// A result that is right stays right when more frames come behind those of the film.
+pub fn right_results_stay_right()
+    ensures { (format : Format) (film more : Film) (job : JobName) (x : AnyResult) → GoesOn film more → frame_of job < length film.frames →
+        IsRight format film job x → IsRight format more job x }
+{}
+
+/// What is due in a group of frames is due in the film, where the group's first head is, and is of a frame that the film has; and the texts of a
+/// group come behind those before it.
+pub fn groups_are_of_the_film()
+    ensures due { (n : ℕ) (format : Format) (film : Film) (job : JobName) → IsDue (decode_rules format film) (decode_truth format film) (Head n) →
+        IsDue (group_rules n format film) (group_truth n format film) job → IsDue (decode_rules format film) (decode_truth format film) (in_film n job) }
+    ensures counted { (format : Format) (film : Film) (job : JobName) → IsDue (decode_rules format film) (decode_truth format film) job → IsCounted (length film.frames) job }
+    ensures texts { (text : ℕ → List ℕ) (n k : ℕ) → texts_below text (n + k) ≡ texts_below text n ++ texts_below (λ f. text (n + f)) k }
 {}

@@ -1,15 +1,15 @@
 //! Results that a job is lent, by what they are results of.
 
-ghost use Rattle.std.specs.Prelude.{◌≡◌, Some, IfSome};
+ghost use Rattle.std.specs.Prelude.{◌≡◌, ◌+◌, Some, IfSome};
 ghost use Rattle.numbered_frames.specs.Coded.{CodedFrame, coded};
 ghost use Rattle.job_results.specs.Results.{IsClosedAs, IsEnd};
 ghost use Rattle.job_results.specs.Lent.{IsBegunFrame, IsColumnOf, IsFilteredOf, IsHeadRead, IsStripOf};
 
 use crate::any_planes::AnyPlanes;
-use crate::meaning::{Decode, DecodeRun};
+use crate::meaning::{Decode, DecodeRun, Group};
 use crate::result::{ClosedFrame, JobResult};
 use frame_steps::{BegunFrame, PlannedColumn};
-use job_crew::Results;
+use job_crew::{LastResult, Results};
 use tile_syntax::Unplanned;
 use vp9_types::{JobName, Outcome};
 
@@ -25,7 +25,7 @@ pub fn head_read<'r, 'a: 'r, B: DecodeRun, R: Results<JobResult<'a>, Decode<B>>>
     results: &'r R,
     frame: u64,
 ) -> HeadRead<'r, 'a>
-    ensures { IsHeadRead B.format B.bytes frame result }
+    ensures { IsHeadRead B.format B.film frame result }
 {
     match results.result(JobName::Head { frame }) {
         JobResult::Begun(begun) => HeadRead::Coded(begun),
@@ -39,8 +39,8 @@ pub fn begun<'r, 'a: 'r, B: DecodeRun, R: Results<JobResult<'a>, Decode<B>>>(
     results: &'r R,
     frame: u64,
 ) -> &'r BegunFrame<'a>
-    requires { (c : CodedFrame) × (coded B.format B.bytes frame ≡ Some c) }
-    ensures { IsBegunFrame B.format B.bytes frame result.now }
+    requires { (c : CodedFrame) × (coded B.format B.film frame ≡ Some c) }
+    ensures { IsBegunFrame B.format B.film frame result.now }
 {
     match head_read::<B, R>(results, frame) {
         HeadRead::Coded(begun) => begun,
@@ -54,7 +54,7 @@ pub fn column<'r, 'a: 'r, B: DecodeRun, R: Results<JobResult<'a>, Decode<B>>>(
     frame: u64,
     column: u32,
 ) -> &'r Result<PlannedColumn, Unplanned>
-    ensures { IsColumnOf B.format B.bytes frame column result.now }
+    ensures { IsColumnOf B.format B.film frame column result.now }
 {
     match results.result(JobName::Column { frame, column }) {
         JobResult::Column(planned) => planned,
@@ -67,7 +67,7 @@ pub fn closed<'r, 'a: 'r, B: DecodeRun, R: Results<JobResult<'a>, Decode<B>>>(
     results: &'r R,
     frame: u64,
 ) -> &'r ClosedFrame
-    ensures { IsClosedAs B.format B.bytes frame result.now }
+    ensures { IsClosedAs B.format B.film frame result.now }
 {
     match results.result(JobName::Close { frame }) {
         JobResult::Closed(closed) => closed,
@@ -82,7 +82,7 @@ pub fn strip<'r, 'a: 'r, B: DecodeRun, R: Results<JobResult<'a>, Decode<B>>>(
     column: u32,
     row: u32,
 ) -> Option<&'r AnyPlanes>
-    ensures { IfSome result (λ planes. IsStripOf B.format B.bytes frame column row planes.now) }
+    ensures { IfSome result (λ planes. IsStripOf B.format B.film frame column row planes.now) }
 {
     match results.result(JobName::Rows { frame, column, row }) {
         JobResult::Strip(planes) => Some(planes),
@@ -97,7 +97,7 @@ pub fn filtered<'r, 'a: 'r, B: DecodeRun, R: Results<JobResult<'a>, Decode<B>>>(
     frame: u64,
     row: u32,
 ) -> Option<&'r AnyPlanes>
-    ensures { IfSome result (λ planes. IsFilteredOf B.format B.bytes frame row planes.now) }
+    ensures { IfSome result (λ planes. IsFilteredOf B.format B.film frame row planes.now) }
 {
     match results.result(JobName::Filter { frame, row }) {
         JobResult::Filtered(planes) => Some(planes),
@@ -106,12 +106,12 @@ pub fn filtered<'r, 'a: 'r, B: DecodeRun, R: Results<JobResult<'a>, Decode<B>>>(
     }
 }
 
-/// The end of a run at a frame, as the frame's head or its close has told it.
-pub fn ended<'r, 'a: 'r, B: DecodeRun, R: Results<JobResult<'a>, Decode<B>>>(
+/// The end of a run at a frame of its group, as the frame's head or its close has told it.
+pub fn ended<'r, 'a: 'r, B: DecodeRun, R: LastResult<JobResult<'a>, Group<B>>>(
     results: &'r R,
     frame: u64,
 ) -> &'r Outcome
-    ensures { IsEnd B.format B.bytes frame result.now }
+    ensures { IsEnd B.format B.film (B.first + frame) result.now }
 {
     match results.last(frame) {
         JobResult::Ended(outcome) => outcome,

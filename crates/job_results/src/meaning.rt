@@ -6,14 +6,18 @@ use job_crew::Start;
 use job_order::Meaning;
 use std::marker::{Brand, PhantomData};
 
-/// What is decoded, and what its sink had taken when that began. It holds nothing at run time.
+/// What is decoded, and what its sink had taken when the run began. It holds nothing at run time.
 pub trait DecodeRun {
     ghost use Rattle.std.specs.Prelude.{ℕ, Bool, List, Option};
     ghost use Rattle.frame_output.specs.declared.rendering.Format.{Format};
+    ghost use Rattle.numbered_frames.specs.Films.{Film};
 
     ghost format: { Format };
 
-    ghost bytes: { List ℕ };
+    ghost film: { Film };
+
+    /// The number of the first frame of the group that a run decodes.
+    ghost first: { ℕ };
 
     ghost taken: { Option (List ℕ) };
 
@@ -26,12 +30,15 @@ pub trait DecodeRun {
 
 /// A call that begins a decode picks its own.
 impl DecodeRun for Brand {
-    ghost use Rattle.std.specs.Prelude.{[], None, false};
+    ghost use Rattle.std.specs.Prelude.{None, false};
+    ghost use Rattle.numbered_frames.specs.Films.{no_film};
     ghost use Rattle.frame_output.specs.declared.rendering.Format.TheVariants.{Raw};
 
     ghost format = { Raw };
 
-    ghost bytes = { [] };
+    ghost film = { no_film };
+
+    ghost first = { 0 };
 
     ghost taken = { None };
 
@@ -49,17 +56,31 @@ pub struct Decode<B> {
 impl<'a, B: DecodeRun> Meaning<JobResult<'a>> for Decode<B> {
     ghost use Rattle.job_results.specs.Meaning.{decode_rules, decode_truth};
 
-    ghost rules = { decode_rules B.format B.bytes };
+    ghost rules = { decode_rules B.format B.film };
 
-    ghost truth = { decode_truth B.format B.bytes };
-}
-
-impl<B: DecodeRun> Start for Decode<B> {
-    ghost taken = { B.taken };
+    ghost truth = { decode_truth B.format B.film };
 }
 
 impl<B: DecodeRun> Pictures for Decode<B> {
     ghost use Rattle.numbered_frames.specs.Pictures.{pictures};
 
-    ghost pictures = { pictures B.format B.bytes };
+    ghost pictures = { pictures B.format B.film };
+}
+
+/// The same of a run that decodes the frames from one on, and numbers them from 0.
+#[derive(Drop)]
+pub struct Group<B> {
+    of: PhantomData<B>,
+}
+
+impl<'a, B: DecodeRun> Meaning<JobResult<'a>> for Group<B> {
+    ghost use Rattle.job_results.specs.Groups.{group_rules, group_truth};
+
+    ghost rules = { group_rules B.first B.format B.film };
+
+    ghost truth = { group_truth B.first B.format B.film };
+}
+
+impl<B: DecodeRun> Start for Group<B> {
+    ghost taken = { B.taken };
 }

@@ -29,6 +29,7 @@ use Rattle.numbered_frames.specs.Coded.{CodedFrame, IsFrameBefore, begun_from, c
 use Rattle.numbered_frames.specs.Numbers.{before, frame_at}
 use Rattle.numbered_frames.specs.Pictures.{picture_from, picture_read, pictures}
 use Rattle.numbered_frames.proofs.Ways.{passed}
+use Rattle.numbered_frames.specs.Films.{Film}
 
 pub inner : {A : Type 0} (a b : A) → Some a ≡ Some b → a ≡ b
 inner a b is = cc
@@ -84,9 +85,9 @@ by_frame None frame c is = absurd cc
 by_frame (Some p) None c is = absurd cc
 by_frame (Some p) (Some frame) c is = by_head p frame (head_of (persist_of p.state) frame) c refl is
 
-pub coded_by : (format : Format) (bytes : List ℕ) (f : ℕ) (c : CodedFrame) → coded format bytes f ≡ Some c → CodedBy (before format bytes f) (frame_at bytes f) c
+pub coded_by : (format : Format) (film : Film) (f : ℕ) (c : CodedFrame) → coded format film f ≡ Some c → CodedBy (before format film f) (frame_at film f) c
 unfolding coded
-coded_by format bytes f c is = by_frame (before format bytes f) (frame_at bytes f) c is
+coded_by format film f c is = by_frame (before format film f) (frame_at film f) c is
 
 -- its blocks are read by its header
 pub same_header : (from : Option Putting) (frame : Option (List ℕ)) (c : CodedFrame) → CodedBy from frame c → c.by.header ≡ c.header
@@ -126,11 +127,11 @@ stepped_to f c r heads is =
     (stepped, ap (behind_head f c.kept.state c.bytes) heads ∙ ap (after_coded f c.kept.state c.header) is, refl)
 
 -- what is kept of the last frame behind it
-pub last_is : (format : Format) (bytes : List ℕ) (f : ℕ) (c : CodedFrame) (read : FrameRead) (next : Putting) → coded format bytes f ≡ Some c → read_of c ≡ Ok read → before format bytes (suc f) ≡ Some next
+pub last_is : (format : Format) (film : Film) (f : ℕ) (c : CodedFrame) (read : FrameRead) (next : Putting) → coded format film f ≡ Some c → read_of c ≡ Ok read → before format film (suc f) ≡ Some next
     → next.state.last ≡ Some (last_of c.header (result_of c read))
-last_is format bytes f c read next is reads behind =
-    let by = coded_by format bytes f c is in
-    let h = passed format bytes f next behind in
+last_is format film f c read next is reads behind =
+    let by = coded_by format film f c is in
+    let h = passed format film f next behind in
     let kept : h.kept ≡ c.kept = inner h.kept c.kept (sym h.before ∙ by.before) in
     let frame : h.bytes ≡ c.bytes = inner h.bytes c.bytes (sym h.there ∙ by.there) in
     let s = stepped_to f c (result_of c read) by.head (decoded_to c read _ _ by reads) in
@@ -140,19 +141,19 @@ last_is format bytes f c read next is reads behind =
 
 ---- Its picture ----
 
-pub picture_is : (format : Format) (bytes : List ℕ) (f : ℕ) (c : CodedFrame) (read : FrameRead) → coded format bytes f ≡ Some c → read_of c ≡ Ok read
-    → pictures format bytes f ≡ record { shape = shape_of c.header; map = (result_of c read).map }
+pub picture_is : (format : Format) (film : Film) (f : ℕ) (c : CodedFrame) (read : FrameRead) → coded format film f ≡ Some c → read_of c ≡ Ok read
+    → pictures format film f ≡ record { shape = shape_of c.header; map = (result_of c read).map }
 unfolding pictures
-picture_is format bytes f c read is reads = ap picture_from is ∙ ap (picture_read c) reads
+picture_is format film f c read is reads = ap picture_from is ∙ ap (picture_read c) reads
 
 -- a picture that a slot holds is its frame's
 pub record IsPictureOf (picture : Picture) (of : bands.Picture) : Type 0 where
   pub shape : picture.shape ≡ of.shape
   pub map : picture.map ≡ of.map
 
-pub before_is : (format : Format) (bytes : List ℕ) (f : ℕ) (picture : Picture) → IsFrameBefore format bytes f picture → IsPictureOf picture (pictures format bytes picture.frame)
-before_is format bytes f picture h =
-    let of = picture_is format bytes picture.frame h.frame h.read h.is h.reads in record {
+pub before_is : (format : Format) (film : Film) (f : ℕ) (picture : Picture) → IsFrameBefore format film f picture → IsPictureOf picture (pictures format film picture.frame)
+before_is format film f picture h =
+    let of = picture_is format film picture.frame h.frame h.read h.is h.reads in record {
       shape = ap (λ (p : Picture). p.shape) h.same ∙ sym (ap (λ (p : bands.Picture). p.shape) of);
       map = ap (λ (p : Picture). p.map) h.same ∙ sym (ap (λ (p : bands.Picture). p.map) of);
     }

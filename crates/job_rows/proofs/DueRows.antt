@@ -20,16 +20,17 @@ use Rattle.job_results.specs.declared.result.JobResult.{JobResult}
 use Rattle.job_results.specs.declared.result.JobResult.TheVariants as result
 use Rattle.job_rows.specs.Rows.{HasRow, HasStrip, OfFrame}
 use Rattle.job_rows.proofs.CodedFrames.{same_coded}
+use Rattle.numbered_frames.specs.Films.{Film}
 
 -- a right close that builds a frame
-record IsBuilding (format : Format) (bytes : List ℕ) (f : ℕ) (b : Building) : Type 0 where
+record IsBuilding (format : Format) (film : Film) (f : ℕ) (b : Building) : Type 0 where
   close : ClosedFrame
-  right : IsClosedAs format bytes f close
+  right : IsClosedAs format film f close
   columns : b.columns ≡ close.columns
   rows : b.rows ≡ close.rows
 
-building : (format : Format) (bytes : List ℕ) (f : ℕ) (x : JobResult) (b : Building) → IsClose format bytes f x → builds x ≡ Some b → IsBuilding format bytes f b
-building format bytes f (result.Closed k) b right is =
+building : (format : Format) (film : Film) (f : ℕ) (x : JobResult) (b : Building) → IsClose format film f x → builds x ≡ Some b → IsBuilding format film f b
+building format film f (result.Closed k) b right is =
     let own : Building = record { columns = k.value.columns; rows = k.value.rows; shown = shown_as k.value.shown } in
     let all : Some own ≡ Some b = is in
     let same : own ≡ b = cc in
@@ -39,15 +40,15 @@ building format bytes f (result.Closed k) b right is =
       columns = ap (λ (x : Building). x.columns) (sym same);
       rows = ap (λ (x : Building). x.rows) (sym same);
     }
-building format bytes f (result.Ended o) b right is = absurd cc
-building format bytes f (result.Begun x) b right is = absurd right
-building format bytes f (result.Existing slot) b right is = absurd right
-building format bytes f (result.Column r) b right is = absurd right
-building format bytes f (result.Strip planes) b right is = absurd right
-building format bytes f (result.Filtered planes) b right is = absurd right
-building format bytes f result.Starved b right is = absurd right
-building format bytes f result.Written b right is = absurd right
-building format bytes f (result.Refused fault) b right is = absurd right
+building format film f (result.Ended o) b right is = absurd cc
+building format film f (result.Begun x) b right is = absurd right
+building format film f (result.Existing slot) b right is = absurd right
+building format film f (result.Column r) b right is = absurd right
+building format film f (result.Strip planes) b right is = absurd right
+building format film f (result.Filtered planes) b right is = absurd right
+building format film f result.Starved b right is = absurd right
+building format film f result.Written b right is = absurd right
+building format film f (result.Refused fault) b right is = absurd right
 
 -- a frame with a row of superblocks is coded, and its tiles are all read
 record IsWhole (o : Option CodedFrame) (k : ClosedFrame) : Type 0 where
@@ -62,27 +63,27 @@ whole : (o : Option CodedFrame) (k : ClosedFrame) (row : ℕ) → IsBuiltAs o k 
 whole None k row built low = absurd (omega (arith, low, built.1))
 whole (Some c) k row built low = record { frame = c; is = refl; read = built.2.0; reads = built.2.1; columns = built.0; rows = built.1 }
 
-has_row : (format : Format) (bytes : List ℕ) (f row : ℕ) (k : ClosedFrame) → IsWhole (coded format bytes f) k → row < k.rows → HasRow format bytes f row
-has_row format bytes f row k w low = record { frame = w.frame; is = w.is; read = w.read; reads = w.reads; inside = omega (arith, low, w.rows) }
+has_row : (format : Format) (film : Film) (f row : ℕ) (k : ClosedFrame) → IsWhole (coded format film f) k → row < k.rows → HasRow format film f row
+has_row format film f row k w low = record { frame = w.frame; is = w.is; read = w.read; reads = w.reads; inside = omega (arith, low, w.rows) }
 
-has_strip : (format : Format) (bytes : List ℕ) (f k row : ℕ) (close : ClosedFrame) → IsWhole (coded format bytes f) close → row < close.rows → k < close.columns → HasStrip format bytes f k row
+has_strip : (format : Format) (film : Film) (f k row : ℕ) (close : ClosedFrame) → IsWhole (coded format film f) close → row < close.rows → k < close.columns → HasStrip format film f k row
 unfolding has_row
-has_strip format bytes f k row close w low across =
+has_strip format film f k row close w low across =
     let below : k < 2 ^ w.frame.header.params.tiles.columns_log2 = omega (arith, across, w.columns) in
-    record { has = has_row format bytes f row close w low; column = below }
+    record { has = has_row format film f row close w low; column = below }
 
-pub filter_due : (format : Format) (bytes : List ℕ) (f row : ℕ) → IsDue (decode_rules format bytes) (decode_truth format bytes) (Filter f row) → HasRow format bytes f row
-filter_due format bytes f row due =
-    let b = building format bytes f due.1.0 due.0 due.1.1 due.1.2 in
+pub filter_due : (format : Format) (film : Film) (f row : ℕ) → IsDue (decode_rules format film) (decode_truth format film) (Filter f row) → HasRow format film f row
+filter_due format film f row due =
+    let b = building format film f due.1.0 due.0 due.1.1 due.1.2 in
     let low : row < b.close.rows = omega (arith, due.2, b.rows) in
-    has_row format bytes f row b.close (whole (coded format bytes f) b.close row b.right.built low) low
+    has_row format film f row b.close (whole (coded format film f) b.close row b.right.built low) low
 
-pub rows_due : (format : Format) (bytes : List ℕ) (f k row : ℕ) → IsDue (decode_rules format bytes) (decode_truth format bytes) (Rows f k row) → HasStrip format bytes f k row
-rows_due format bytes f k row due =
-    let b = building format bytes f due.1.0 due.0 due.1.1 due.1.2 in
+pub rows_due : (format : Format) (film : Film) (f k row : ℕ) → IsDue (decode_rules format film) (decode_truth format film) (Rows f k row) → HasStrip format film f k row
+rows_due format film f k row due =
+    let b = building format film f due.1.0 due.0 due.1.1 due.1.2 in
     let low : row < b.close.rows = omega (arith, due.3, b.rows) in
-    let w = whole (coded format bytes f) b.close row b.right.built low in
-    has_strip format bytes f k row b.close w low (omega (arith, due.2, b.columns))
+    let w = whole (coded format film f) b.close row b.right.built low in
+    has_strip format film f k row b.close w low (omega (arith, due.2, b.columns))
 
 -- samples of other depths than 8 are kept in words
 pub in_words : (depth own : Depth) → own ≡ depth → (own ≡ Ten) ⊎ (own ≡ Twelve) → KeepInWords depth
@@ -101,5 +102,5 @@ if_ok (Ok x) P Q so p = so x p
 if_ok (Err e) P Q so p = tt
 
 -- of a frame that is coded, as it is of that frame
-pub of_frame : (P : CodedFrame → Type 0) (format : Format) (bytes : List ℕ) (f : ℕ) (c : CodedFrame) → coded format bytes f ≡ Some c → P c → OfFrame format bytes f P
-of_frame P format bytes f c is p = λ d also. subst P (same_coded (coded format bytes f) c d is also) p
+pub of_frame : (P : CodedFrame → Type 0) (format : Format) (film : Film) (f : ℕ) (c : CodedFrame) → coded format film f ≡ Some c → P c → OfFrame format film f P
+of_frame P format film f c is p = λ d also. subst P (same_coded (coded format film f) c d is also) p

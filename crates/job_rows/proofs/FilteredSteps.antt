@@ -55,6 +55,7 @@ use Rattle.job_results.specs.Results.{IsBuiltAs, IsClosedAs, IsFilteredAs, IsStr
 use Rattle.job_results.specs.declared.result.ClosedFrame.{ClosedFrame}
 use Rattle.job_rows.specs.Rows.{AreStrips, IsFilteredOver, raw_from, raw_frame, raw_read}
 use Rattle.job_rows.proofs.CodedFrames.{CodedBy, coded_by, inner, last_is, picture_is, same_coded, same_header}
+use Rattle.numbered_frames.specs.Films.{Film}
 
 same_read : (c : CodedFrame) (a b : FrameRead) → read_of c ≡ Ok a → read_of c ≡ Ok b → a ≡ b
 same_read c a b is also = let same : ◌≡◌ {A = _} (Ok a) (Ok b) = sym is ∙ also in cc
@@ -65,18 +66,18 @@ result_by : (c : CodedFrame) (read : FrameRead) (h : Header) → h ≡ c.header
     → filtered_frame (setting_of h) (all_blocks (blocks_read read)) (raw (rebuilding h (references c)) read.blocks) ≡ filtered_frame (setting_of c.header) (all_blocks (blocks_read read)) (raw (rebuilding c.header (references c)) read.blocks)
 result_by c read h same = ap (λ (x : Header). filtered_frame (setting_of x) (all_blocks (blocks_read read)) (raw (rebuilding x (references c)) read.blocks)) same
 
-pub row_is_final : {X : Type 0} (format : Format) (bytes : List ℕ) (f : ℕ) (c : CodedFrame) (row : ℕ) (planes : FramePlanes X) → coded format bytes f ≡ Some c → IsFilteredAs c row planes
-    → HasFinalRows (pictures format bytes f) row planes
-row_is_final format bytes f c row planes is h =
-    let by = coded_by format bytes f c is in
-    let picture = picture_is format bytes f c h.read is h.reads in
-    let samples : (pictures format bytes f).map ≡ filtered_frame (setting_of c.header) (all_blocks (blocks_read h.read)) (raw (rebuilding c.header (references c)) h.read.blocks) =
+pub row_is_final : {X : Type 0} (format : Format) (film : Film) (f : ℕ) (c : CodedFrame) (row : ℕ) (planes : FramePlanes X) → coded format film f ≡ Some c → IsFilteredAs c row planes
+    → HasFinalRows (pictures format film f) row planes
+row_is_final format film f c row planes is h =
+    let by = coded_by format film f c is in
+    let picture = picture_is format film f c h.read is h.reads in
+    let samples : (pictures format film f).map ≡ filtered_frame (setting_of c.header) (all_blocks (blocks_read h.read)) (raw (rebuilding c.header (references c)) h.read.blocks) =
     ap (λ (p : bands.Picture). p.map) picture ∙ result_by c h.read c.by.header (same_header _ _ c by) in
-    let of : IsFiltered (setting_of c.header) (all_blocks (blocks_read h.read)) (raw (rebuilding c.header (references c)) h.read.blocks) (pictures format bytes f) = record {
+    let of : IsFiltered (setting_of c.header) (all_blocks (blocks_read h.read)) (raw (rebuilding c.header (references c)) h.read.blocks) (pictures format film f) = record {
       shape = sym (ap (λ (p : bands.Picture). p.shape) picture);
       map = λ plane y x low inner. ap (λ (m : FrameMap). m plane y x) samples;
     } in
-    filtered_is_final (setting_of c.header) (all_blocks (blocks_read h.read)) (raw (rebuilding c.header (references c)) h.read.blocks) (pictures format bytes f) row planes of h.holds
+    filtered_is_final (setting_of c.header) (all_blocks (blocks_read h.read)) (raw (rebuilding c.header (references c)) h.read.blocks) (pictures format film f) row planes of h.holds
 
 lent_more : {X : Type 0} (lent all : List (Bor (FramePlanes X))) (one : Bor (FramePlanes X)) → all ≡ lent ++ one ∷ [] → map (λ b. b.now) all ≡ map (λ b. b.now) lent ++ one.now ∷ []
 lent_more {X} lent all one is = ap (λ (l : List (Bor (FramePlanes X))). map (λ b. b.now) l) is ∙ map_push (λ (b : Bor (FramePlanes X)). b.now) lent one
@@ -153,23 +154,23 @@ some_last : (o : Option code_last.LastFrame) (last : LastFrame) → last_held o 
 some_last None last is = absurd cc
 some_last (Some x) last is = refl
 
-held_last : (format : Format) (bytes : List ℕ) (f : ℕ) (c : CodedFrame) (read : FrameRead) (k : ClosedFrame) → coded format bytes f ≡ Some c → read_of c ≡ Ok read → IsClosedAs format bytes f k
+held_last : (format : Format) (film : Film) (f : ℕ) (c : CodedFrame) (read : FrameRead) (k : ClosedFrame) → coded format film f ≡ Some c → read_of c ≡ Ok read → IsClosedAs format film f k
     → last_held (arc_value k.kept.last) ≡ Some (last_of c.header (result_of c read))
-held_last format bytes f c read k is reads right = right.stands.last ∙ last_is format bytes f c read right.next is reads right.reached
+held_last format film f c read k is reads right = right.stands.last ∙ last_is format film f c read right.next is reads right.reached
 
-pub last_there : (format : Format) (bytes : List ℕ) (f : ℕ) (c : CodedFrame) (read : FrameRead) (k : ClosedFrame) → coded format bytes f ≡ Some c → read_of c ≡ Ok read → IsClosedAs format bytes f k
+pub last_there : (format : Format) (film : Film) (f : ℕ) (c : CodedFrame) (read : FrameRead) (k : ClosedFrame) → coded format film f ≡ Some c → read_of c ≡ Ok read → IsClosedAs format film f k
     → IsSome (arc_value k.kept.last)
-last_there format bytes f c read k is reads right = some_last (arc_value k.kept.last) _ (held_last format bytes f c read k is reads right)
+last_there format film f c read k is reads right = some_last (arc_value k.kept.last) _ (held_last format film f c read k is reads right)
 
-pub last_of_frame : (format : Format) (bytes : List ℕ) (f : ℕ) (c : CodedFrame) (read : FrameRead) (k : ClosedFrame) (last : code_last.LastFrame) → coded format bytes f ≡ Some c → read_of c ≡ Ok read → IsClosedAs format bytes f k
+pub last_of_frame : (format : Format) (film : Film) (f : ℕ) (c : CodedFrame) (read : FrameRead) (k : ClosedFrame) (last : code_last.LastFrame) → coded format film f ≡ Some c → read_of c ≡ Ok read → IsClosedAs format film f k
     → arc_value k.kept.last ≡ Some last → IsLastOf c read last
-last_of_frame format bytes f c read k last is reads right there =
-    let all : Some (last_of_code last) ≡ Some (last_of c.header (result_of c read)) = sym (ap last_held there) ∙ held_last format bytes f c read k is reads right in
+last_of_frame format film f c read k last is reads right there =
+    let all : Some (last_of_code last) ≡ Some (last_of c.header (result_of c read)) = sym (ap last_held there) ∙ held_last format film f c read k is reads right in
     let same : last_of_code last ≡ last_of c.header (result_of c read) = inner (last_of_code last) (last_of c.header (result_of c read)) all in
     record { size = ap (λ (l : LastFrame). l.size) same; blocks = ap (λ (l : LastFrame). l.blocks) same }
 
-pub columns_of_close : (format : Format) (bytes : List ℕ) (f : ℕ) (c : CodedFrame) (k : ClosedFrame) → coded format bytes f ≡ Some c → IsClosedAs format bytes f k → k.columns ≡ 2 ^ c.header.params.tiles.columns_log2
-columns_of_close format bytes f c k is right = built (coded format bytes f) is right.built
+pub columns_of_close : (format : Format) (film : Film) (f : ℕ) (c : CodedFrame) (k : ClosedFrame) → coded format film f ≡ Some c → IsClosedAs format film f k → k.columns ≡ 2 ^ c.header.params.tiles.columns_log2
+columns_of_close format film f c k is right = built (coded format film f) is right.built
   where
     built : (o : Option CodedFrame) → o ≡ Some c → IsBuiltAs o k → k.columns ≡ 2 ^ c.header.params.tiles.columns_log2
     built None same h = absurd cc
@@ -178,12 +179,12 @@ columns_of_close format bytes f c k is right = built (coded format bytes f) is r
 ---- Filtering ----
 
 -- how a frame has begun is by its header
-pub header_of : (format : Format) (bytes : List ℕ) (f : ℕ) (c : CodedFrame) (b : BegunFrame) → coded format bytes f ≡ Some c → IsBegunFrame format bytes f b → b.setting.header ≡ c.header
-header_of format bytes f c b is begun = begun.2.header ∙ ap (λ (d : CodedFrame). d.header) (same_coded (coded format bytes f) begun.0 c begun.1 is)
+pub header_of : (format : Format) (film : Film) (f : ℕ) (c : CodedFrame) (b : BegunFrame) → coded format film f ≡ Some c → IsBegunFrame format film f b → b.setting.header ≡ c.header
+header_of format film f c b is begun = begun.2.header ∙ ap (λ (d : CodedFrame). d.header) (same_coded (coded format film f) begun.0 c begun.1 is)
 
-pub raw_is : (format : Format) (bytes : List ℕ) (f : ℕ) (c : CodedFrame) (read : FrameRead) → coded format bytes f ≡ Some c → read_of c ≡ Ok read → raw_frame format bytes f ≡ raw (rebuilding c.header (references c)) read.blocks
+pub raw_is : (format : Format) (film : Film) (f : ℕ) (c : CodedFrame) (read : FrameRead) → coded format film f ≡ Some c → read_of c ≡ Ok read → raw_frame format film f ≡ raw (rebuilding c.header (references c)) read.blocks
 unfolding raw_frame
-raw_is format bytes f c read is reads = ap raw_from is ∙ ap (raw_read c) reads
+raw_is format film f c read is reads = ap raw_from is ∙ ap (raw_read c) reads
 
 pub stands_above : {X : Type 0} (c : CodedFrame) (row : ℕ) (shape : Shape) (above : Option (FramePlanes X)) → shape ≡ shape_of c.header → IsFilteredOver c row above → StandsAbove shape row above
 stands_above c row shape None same over = over

@@ -30,6 +30,7 @@ use Rattle.job_results.specs.declared.result.ClosedFrame.{ClosedFrame}
 use Rattle.job_rows.specs.References.{HaveBands, IsInside, IsNumberOf, IsReferred, Names, NamesAll}
 use Rattle.job_rows.specs.Rows.{IsOfDepth}
 use Rattle.job_rows.proofs.CodedFrames.{CodedBy, IsPictureOf, before_is, coded_by, inner, same_coded, slot_at}
+use Rattle.numbered_frames.specs.Films.{Film}
 
 ---- Slots ----
 
@@ -81,12 +82,12 @@ named_in from frame c fields reference by kind =
 pub is_named : (from : Option Putting) (frame : Option (List ℕ)) (c : CodedFrame) (r : Reference) → CodedBy from frame c → Names c.header.kind r → IsNamed c r
 is_named from frame c r by names = subst (IsNamed c) names.2.1 (named_in from frame c names.0 names.2.0 by names.1)
 
-pub one_named : (format : Format) (bytes : List ℕ) (f : ℕ) (fields : InterFields) (reference : ReferenceFrame) → NamesAll format bytes f fields → IsReferred format bytes f (reference_in fields.references reference)
-one_named format bytes f fields reference names = (names.0, names.1, (fields, names.2, (reference, refl)))
+pub one_named : (format : Format) (film : Film) (f : ℕ) (fields : InterFields) (reference : ReferenceFrame) → NamesAll format film f fields → IsReferred format film f (reference_in fields.references reference)
+one_named format film f fields reference names = (names.0, names.1, (fields, names.2, (reference, refl)))
 
 -- a frame that has begun names the references of its header
-pub names_begun : (format : Format) (bytes : List ℕ) (f : ℕ) (b : BegunFrame) (fields : InterFields) → IsBegunFrame format bytes f b → b.setting.header.kind ≡ Inter fields → NamesAll format bytes f fields
-names_begun format bytes f b fields begun kind = (begun.0, begun.1, sym (ap (λ (h : Header). h.kind) begun.2.header) ∙ kind)
+pub names_begun : (format : Format) (film : Film) (f : ℕ) (b : BegunFrame) (fields : InterFields) → IsBegunFrame format film f b → b.setting.header.kind ≡ Inter fields → NamesAll format film f fields
+names_begun format film f b fields begun kind = (begun.0, begun.1, sym (ap (λ (h : Header). h.kind) begun.2.header) ∙ kind)
 
 ---- The frame of a number ----
 
@@ -94,31 +95,31 @@ not_there : (picture : Picture) → None ≡ Some picture → ⊥
 not_there picture is = absurd cc
 
 -- before the first frame the slots hold nothing
-pub none_named : (format : Format) (bytes : List ℕ) (f : ℕ) (r : Reference) → f ≡ 0 → IsReferred format bytes f r → ⊥
+pub none_named : (format : Format) (film : Film) (f : ℕ) (r : Reference) → f ≡ 0 → IsReferred format film f r → ⊥
 unfolding before
-none_named format bytes f r first named =
+none_named format film f r first named =
     let c = named.0 in
-    let by = coded_by format bytes f c named.1 in
-    let h = is_named (before format bytes f) (frame_at bytes f) c r by named.2 in
-    let at : before format bytes 0 ≡ Some c.kept = ap (before format bytes) (sym first) ∙ by.before in
-    let same : start format bytes ≡ c.kept = inner (start format bytes) c.kept at in
+    let by = coded_by format film f c named.1 in
+    let h = is_named (before format film f) (frame_at film f) c r by named.2 in
+    let at : before format film 0 ≡ Some c.kept = ap (before format film) (sym first) ∙ by.before in
+    let same : start format film ≡ c.kept = inner (start format film) c.kept at in
     let none : slice_index_or c.kept.state.slots r.slot None ≡ None = subst (λ (p : Putting). slice_index_or p.state.slots r.slot None ≡ None) same (none_at 8 r.slot) in
     not_there h.picture (sym none ∙ h.held)
 
 -- the close of the frame before has the numbers that the slots hold
-pub record IsNumbered (format : Format) (bytes : List ℕ) (f : ℕ) (r : Reference) (slots : List (Option ℕ)) : Type 0 where
+pub record IsNumbered (format : Format) (film : Film) (f : ℕ) (r : Reference) (slots : List (Option ℕ)) : Type 0 where
   pub number : ℕ
   pub held : slice_index_or slots r.slot None ≡ Some number
   pub low : r.slot < length slots
-  pub is : IsNumberOf format bytes f r number
+  pub is : IsNumberOf format film f r number
 
-pub numbered : (format : Format) (bytes : List ℕ) (f g : ℕ) (r : Reference) (k : ClosedFrame) → f ≡ g + 1 → IsReferred format bytes f r → IsClosedAs format bytes g k → IsNumbered format bytes f r k.kept.slots
-numbered format bytes f g r k next named right =
+pub numbered : (format : Format) (film : Film) (f g : ℕ) (r : Reference) (k : ClosedFrame) → f ≡ g + 1 → IsReferred format film f r → IsClosedAs format film g k → IsNumbered format film f r k.kept.slots
+numbered format film f g r k next named right =
     let c = named.0 in
-    let by = coded_by format bytes f c named.1 in
-    let h = is_named (before format bytes f) (frame_at bytes f) c r by named.2 in
+    let by = coded_by format film f c named.1 in
+    let h = is_named (before format film f) (frame_at film f) c r by named.2 in
     let at : f ≡ suc g = omega (arith, next) in
-    let kept : right.next ≡ c.kept = inner right.next c.kept (sym right.reached ∙ ap (before format bytes) (sym at) ∙ by.before) in
+    let kept : right.next ≡ c.kept = inner right.next c.kept (sym right.reached ∙ ap (before format film) (sym at) ∙ by.before) in
     let slots : k.kept.slots ≡ map number_in c.kept.state.slots = right.stands.slots ∙ ap (λ (p : Putting). map number_in p.state.slots) kept in
     let held : slice_index_or k.kept.slots r.slot None ≡ Some h.picture.frame =
     ap (λ xs. slice_index_or xs r.slot None) slots ∙ at_mapped number_in refl c.kept.state.slots r.slot ∙ ap number_in h.held in
@@ -129,31 +130,31 @@ numbered format bytes f g r k next named right =
       is = record { frame = c; is = named.1; picture = h.picture; held = h.held; shape = h.shape; number = refl };
     }
 
-frame_of : (format : Format) (bytes : List ℕ) (f : ℕ) (r : Reference) (n : ℕ) (h : IsNumberOf format bytes f r n) → IsFrameBefore format bytes f h.picture
-frame_of format bytes f r n h =
-    slot_at (λ slot. IfSome slot (IsFrameBefore format bytes f)) h.frame.kept.state.slots r.slot h.picture (slots_hold format bytes f h.frame.kept (coded_by format bytes f h.frame h.is).before) h.held
+frame_of : (format : Format) (film : Film) (f : ℕ) (r : Reference) (n : ℕ) (h : IsNumberOf format film f r n) → IsFrameBefore format film f h.picture
+frame_of format film f r n h =
+    slot_at (λ slot. IfSome slot (IsFrameBefore format film f)) h.frame.kept.state.slots r.slot h.picture (slots_hold format film f h.frame.kept (coded_by format film f h.frame h.is).before) h.held
 
 -- what that frame's picture is
-pub picture_of_number : (format : Format) (bytes : List ℕ) (f : ℕ) (r : Reference) (n : ℕ) (h : IsNumberOf format bytes f r n) → IsPictureOf h.picture (pictures format bytes n)
-picture_of_number format bytes f r n h = subst (λ m. IsPictureOf h.picture (pictures format bytes m)) h.number (before_is format bytes f h.picture (frame_of format bytes f r n h))
+pub picture_of_number : (format : Format) (film : Film) (f : ℕ) (r : Reference) (n : ℕ) (h : IsNumberOf format film f r n) → IsPictureOf h.picture (pictures format film n)
+picture_of_number format film f r n h = subst (λ m. IsPictureOf h.picture (pictures format film m)) h.number (before_is format film f h.picture (frame_of format film f r n h))
 
-pub shape_of_number : (format : Format) (bytes : List ℕ) (f : ℕ) (r : Reference) (n : ℕ) → IsNumberOf format bytes f r n → r.shape ≡ (pictures format bytes n).shape
-shape_of_number format bytes f r n h = sym h.shape ∙ (picture_of_number format bytes f r n h).shape
+pub shape_of_number : (format : Format) (film : Film) (f : ℕ) (r : Reference) (n : ℕ) → IsNumberOf format film f r n → r.shape ≡ (pictures format film n).shape
+shape_of_number format film f r n h = sym h.shape ∙ (picture_of_number format film f r n h).shape
 
 -- it is coded, and of the reference's depth
-pub depth_of_number : (P : Depth → Type 0) (format : Format) (bytes : List ℕ) (f : ℕ) (r : Reference) (n : ℕ) → IsNumberOf format bytes f r n → P r.shape.depth → IsOfDepth P format bytes n
-depth_of_number P format bytes f r n h p =
-    let of = frame_of format bytes f r n h in
+pub depth_of_number : (P : Depth → Type 0) (format : Format) (film : Film) (f : ℕ) (r : Reference) (n : ℕ) → IsNumberOf format film f r n → P r.shape.depth → IsOfDepth P format film n
+depth_of_number P format film f r n h p =
+    let of = frame_of format film f r n h in
     let same : r.shape.depth ≡ of.frame.header.color.depth = ap (λ (s : Shape). s.depth) (sym h.shape ∙ ap (λ (q : Picture). q.shape) of.same) in
-    (of.frame, subst (λ m. coded format bytes m ≡ Some of.frame) h.number of.is, subst P same p)
+    (of.frame, subst (λ m. coded format film m ≡ Some of.frame) h.number of.is, subst P same p)
 
 -- a reference is of the depth of the frame that names it
-pub depth_of_named : (P : Depth → Type 0) (format : Format) (bytes : List ℕ) (f : ℕ) (fields : InterFields) (reference : ReferenceFrame) → NamesAll format bytes f fields → IsOfDepth P format bytes f
+pub depth_of_named : (P : Depth → Type 0) (format : Format) (film : Film) (f : ℕ) (fields : InterFields) (reference : ReferenceFrame) → NamesAll format film f fields → IsOfDepth P format film f
     → P (reference_in fields.references reference).shape.depth
-depth_of_named P format bytes f fields reference names of =
+depth_of_named P format film f fields reference names of =
     let c = names.0 in
-    let h = named_in (before format bytes f) (frame_at bytes f) c fields reference (coded_by format bytes f c names.1) names.2 in
-    let same : of.0 ≡ c = same_coded (coded format bytes f) of.0 c of.1 names.1 in
+    let h = named_in (before format film f) (frame_at film f) c fields reference (coded_by format film f c names.1) names.2 in
+    let same : of.0 ≡ c = same_coded (coded format film f) of.0 c of.1 names.1 in
     subst P (ap (λ (d : CodedFrame). d.header.color.depth) same ∙ sym h.depth) of.2
 
 pub zero_of : (n : ℕ) → (1 ≤ n → ⊥) → n ≡ 0
@@ -161,20 +162,20 @@ zero_of zero none = refl
 zero_of (suc n) none = absurd (none (omega arith))
 
 -- what the slot of a number holds is there
-pub number_there : (format : Format) (bytes : List ℕ) (f g : ℕ) (r : Reference) (k : ClosedFrame) (found : Option ℕ) → (1 ≤ f) × (g ≡ f - 1) → IsReferred format bytes f r → IsClosedAs format bytes g k → found ≡ slice_index_or k.kept.slots r.slot None
+pub number_there : (format : Format) (film : Film) (f g : ℕ) (r : Reference) (k : ClosedFrame) (found : Option ℕ) → (1 ≤ f) × (g ≡ f - 1) → IsReferred format film f r → IsClosedAs format film g k → found ≡ slice_index_or k.kept.slots r.slot None
     → found ≡ None → ⊥
-number_there format bytes f g r k found next named right is none =
-    let all = numbered format bytes f g r k (omega (arith, next.0, next.1)) named right in
+number_there format film f g r k found next named right is none =
+    let all = numbered format film f g r k (omega (arith, next.0, next.1)) named right in
     not_at all.number (sym none ∙ is ∙ all.held)
   where
     not_at : (n : ℕ) → None ≡ Some n → ⊥
     not_at n same = absurd cc
 
-pub number_is : (format : Format) (bytes : List ℕ) (f g : ℕ) (r : Reference) (k : ClosedFrame) (found : Option ℕ) (n : ℕ) → (1 ≤ f) × (g ≡ f - 1) → IsReferred format bytes f r → IsClosedAs format bytes g k
-    → found ≡ slice_index_or k.kept.slots r.slot None → found ≡ Some n → IsNumberOf format bytes f r n
-number_is format bytes f g r k found n next named right is there =
-    let all = numbered format bytes f g r k (omega (arith, next.0, next.1)) named right in
-    subst (IsNumberOf format bytes f r) (inner all.number n (sym all.held ∙ sym is ∙ there)) all.is
+pub number_is : (format : Format) (film : Film) (f g : ℕ) (r : Reference) (k : ClosedFrame) (found : Option ℕ) (n : ℕ) → (1 ≤ f) × (g ≡ f - 1) → IsReferred format film f r → IsClosedAs format film g k
+    → found ≡ slice_index_or k.kept.slots r.slot None → found ≡ Some n → IsNumberOf format film f r n
+number_is format film f g r k found n next named right is there =
+    let all = numbered format film f g r k (omega (arith, next.0, next.1)) named right in
+    subst (IsNumberOf format film f r) (inner all.number n (sym all.held ∙ sym is ∙ there)) all.is
 
 ---- Rows of bands ----
 

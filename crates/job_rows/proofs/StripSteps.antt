@@ -84,6 +84,7 @@ use Rattle.job_rows.specs.declared.references.ReferenceRows.{ReferenceRows}
 use Rattle.job_rows.specs.declared.strips.AllRows.{AllRows}
 use Rattle.job_rows.proofs.CodedFrames.{coded_by, same_coded, same_header}
 use Rattle.job_rows.proofs.NamedFrames.{named_in, picture_of_number}
+use Rattle.numbered_frames.specs.Films.{Film}
 
 ---- A plan ----
 
@@ -91,14 +92,14 @@ ok_is_none : {A E : Type 0} (a : A) (e : E) → ◌≡◌ {A = Result A E} (Ok a
 ok_is_none a e is = absurd cc
 
 -- a tile column of a frame whose tiles are all read breaks no rule
-pub none_broken : (format : Format) (bytes : List ℕ) (f k row n : ℕ) (rule : Rule) (c : CodedFrame) (r : Result PlannedColumn Unplanned) (why : Unplanned) → HasStrip format bytes f k row → coded format bytes f ≡ Some c → IsColumnAs c k r
+pub none_broken : (format : Format) (film : Film) (f k row n : ℕ) (rule : Rule) (c : CodedFrame) (r : Result PlannedColumn Unplanned) (why : Unplanned) → HasStrip format film f k row → coded format film f ≡ Some c → IsColumnAs c k r
     → r ≡ Err why → why ≡ unplanned.Broken n rule → ⊥
-none_broken format bytes f k row n rule c r why has is column err which =
+none_broken format film f k row n rule c r why has is column err which =
     let broken : r ≡ Err (unplanned.Broken n rule) = subst (λ (e : Unplanned). r ≡ Err e) which err in
     let at = has.has in
-    let same : at.frame ≡ c = same_coded (coded format bytes f) at.frame c at.is is in
+    let same : at.frame ≡ c = same_coded (coded format film f) at.frame c at.is is in
     let reads : read_of c ≡ Ok at.read = subst (λ (d : CodedFrame). read_of d ≡ Ok at.read) same at.reads in
-    let by = coded_by format bytes f c is in
+    let by = coded_by format film f c is in
     let own = same_header _ _ c by in
     let cut : tile_spans c.bytes c.by.header c.compressed ≡ Ok c.spans = ap (λ (h : Header). tile_spans c.bytes h c.compressed) own ∙ by.spans in
     let plans = reads_columns c.by c.bytes c.compressed c.spans at.read cut reads in
@@ -114,17 +115,17 @@ needs_of_row c p of k row needs is low at plan found =
     found ∙ is.1.each row needs (omega (arith, low, is.1.many)) ∙ (λ i. row_needs_of c.header (sym at i) (sym plan i).column.grid.blocks)
 
 -- what a planned row is made from
-pub planned_row : (format : Format) (bytes : List ℕ) (f k row : ℕ) (c : CodedFrame) (b : BegunFrame) (p : PlannedColumn) (of : PlannedRow) → HasStrip format bytes f k row → coded format bytes f ≡ Some c → IsBegunFrame format bytes f b
+pub planned_row : (format : Format) (film : Film) (f k row : ℕ) (c : CodedFrame) (b : BegunFrame) (p : PlannedColumn) (of : PlannedRow) → HasStrip format film f k row → coded format film f ≡ Some c → IsBegunFrame format film f b
     → IsPlannedAs c k (Ok p) → of.setting.now ≡ b.setting → of.column ≡ k → of.row ≡ row → of.plan.now ≡ p.plan → IsPlannedRow c of
-planned_row format bytes f k row c b p of has is begun planned setting column at plan =
-    let same : has.has.frame ≡ c = same_coded (coded format bytes f) has.has.frame c has.has.is is in
-    let header : b.setting.header ≡ c.header = begun.2.header ∙ ap (λ (d : CodedFrame). d.header) (same_coded (coded format bytes f) begun.0 c begun.1 is) in
+planned_row format film f k row c b p of has is begun planned setting column at plan =
+    let same : has.has.frame ≡ c = same_coded (coded format film f) has.has.frame c has.has.is is in
+    let header : b.setting.header ≡ c.header = begun.2.header ∙ ap (λ (d : CodedFrame). d.header) (same_coded (coded format film f) begun.0 c begun.1 is) in
     let sound = begun.2.sound in
     record {
       size = subst (λ (h : Header). IsFrameSize h.size) header sound.size;
       few = subst (λ (h : Header). AreFewTiles h.params.tiles) header sound.few;
       references = subst (λ (h : Header). HaveSizes h.kind) header sound.references;
-      by = same_header _ _ c (coded_by format bytes f c is);
+      by = same_header _ _ c (coded_by format film f c is);
       header = ap (λ (s : FrameSetting). s.header) setting ∙ header;
       column = subst (λ (n : ℕ). n < 2 ^ c.header.params.tiles.columns_log2) (sym column) (subst (λ (d : CodedFrame). k < 2 ^ d.header.params.tiles.columns_log2) same has.column);
       row = subst (λ (n : ℕ). n < superblocks_along (mi_rows (shape_of c.header))) (sym at) (subst (λ (d : CodedFrame). row < superblocks_along (mi_rows (shape_of d.header))) same has.has.inside);
@@ -148,8 +149,8 @@ pub none_of : (kind own : FrameKind) → own ≡ kind → (own ≡ Key) ⊎ (own
 none_of kind own same (inl key) = none_of_key kind (sym same ∙ key)
 none_of kind own same (inr only) = none_of_intra_only kind (sym same ∙ only)
 
-pub kind_of : (format : Format) (bytes : List ℕ) (f : ℕ) (c : CodedFrame) (b : BegunFrame) → coded format bytes f ≡ Some c → IsBegunFrame format bytes f b → b.setting.header.kind ≡ c.header.kind
-kind_of format bytes f c b is begun = ap (λ (h : Header). h.kind) begun.2.header ∙ ap (λ (d : CodedFrame). d.header.kind) (same_coded (coded format bytes f) begun.0 c begun.1 is)
+pub kind_of : (format : Format) (film : Film) (f : ℕ) (c : CodedFrame) (b : BegunFrame) → coded format film f ≡ Some c → IsBegunFrame format film f b → b.setting.header.kind ≡ c.header.kind
+kind_of format film f c b is begun = ap (λ (h : Header). h.kind) begun.2.header ∙ ap (λ (d : CodedFrame). d.header.kind) (same_coded (coded format film f) begun.0 c begun.1 is)
 
 ---- A strip by its plan ----
 
@@ -370,82 +371,82 @@ one_of rows by Last all = one_by rows by Last by.last refl all.last
 one_of rows by Golden all = one_by rows by Golden by.golden refl all.golden
 one_of rows by Altref all = one_by rows by Altref by.altref refl all.altref
 
-one_read : {X : Type 0} (format : Format) (bytes : List ℕ) (f : ℕ) (fields : InterFields) (needs : BandNeeds) (rows : AllRows X) (reference : ReferenceFrame) → AreAllRows format bytes f fields needs rows
-    → IsReferenceRows format bytes f (reference_in fields.references reference) (needs_at needs reference) (rows_at rows reference)
+one_read : {X : Type 0} (format : Format) (film : Film) (f : ℕ) (fields : InterFields) (needs : BandNeeds) (rows : AllRows X) (reference : ReferenceFrame) → AreAllRows format film f fields needs rows
+    → IsReferenceRows format film f (reference_in fields.references reference) (needs_at needs reference) (rows_at rows reference)
 unfolding rows_at
-one_read format bytes f fields needs rows Last all = all.last
-one_read format bytes f fields needs rows Golden all = all.golden
-one_read format bytes f fields needs rows Altref all = all.altref
+one_read format film f fields needs rows Last all = all.last
+one_read format film f fields needs rows Golden all = all.golden
+one_read format film f fields needs rows Altref all = all.altref
 
 same_picture : (s t : Shape) (m n : FrameMap) → s ≡ t → m ≡ n → ◌≡◌ {A = ReferencePicture} (record { shape = s; map = m }) (record { shape = t; map = n })
 same_picture s t m n shape map = λ i. record { shape = shape i; map = map i }
 
-module _ {X : Type 0} (format : Format) (bytes : List ℕ) (f : ℕ) (c : CodedFrame) (of : PlannedRow) (rows : AllRows X) (by : code.Rebuilding RowSpan) where
+module _ {X : Type 0} (format : Format) (film : Film) (f : ℕ) (c : CodedFrame) (of : PlannedRow) (rows : AllRows X) (by : code.Rebuilding RowSpan) where
   abbrev needs : BandNeeds
   needs = row_needs_of c.header of.row of.plan.now.column.grid.blocks
 
-  there : (fields : InterFields) (reference : ReferenceFrame) (bands : BandRange) (own : ReferenceRows X) (x : code_picture.ReferencePicture RowSpan) → coded format bytes f ≡ Some c → IsPlannedRow c of → c.header.kind ≡ Inter fields
-      → by.shape ≡ shape_of c.header → needs_at needs reference ≡ Some bands → IsReferenceRows format bytes f (reference_in fields.references reference) (Some bands) own
+  there : (fields : InterFields) (reference : ReferenceFrame) (bands : BandRange) (own : ReferenceRows X) (x : code_picture.ReferencePicture RowSpan) → coded format film f ≡ Some c → IsPlannedRow c of → c.header.kind ≡ Inter fields
+      → by.shape ≡ shape_of c.header → needs_at needs reference ≡ Some bands → IsReferenceRows format film f (reference_in fields.references reference) (Some bands) own
       → reference_of by reference ≡ Some x → x.samples.now ≡ rows_from own.frame own.first (length own.rows.items) → x.shape ≡ own.shape
-      → IsThere (held_in (pictures format bytes)) (width_in (pictures format bytes)) (map_in (pictures format bytes)) by reference (shapes_of (shapes_by c.header.kind) reference) bands
+      → IsThere (held_in (pictures format film)) (width_in (pictures format film)) (map_in (pictures format film)) by reference (shapes_of (shapes_by c.header.kind) reference) bands
   there fields reference bands own x is planned kind shape need read named samples same =
       let frame = shape_of c.header in
       let need_of = needed c.header fields frame (shapes_of (shapes_by c.header.kind)) (blocks_between frame of.row of.plan.now.column.grid.blocks) reference bands kind (refer c of frame planned) (inside c of frame planned) need in
       let r = reference_in fields.references reference in
       let told : x.shape ≡ r.shape = same ∙ read.same in
       let number : x.samples.now.frame ≡ own.frame = ap (λ (s : RowSpan). s.frame) samples in
-      let depth : (pictures format bytes x.samples.now.frame).shape.depth ≡ by.shape.depth =
-      ap (λ (n : ℕ). (pictures format bytes n).shape.depth) number ∙ ap (λ (s : Shape). s.depth) (sym read.shape ∙ read.same)
-      ∙ (named_in _ _ c fields reference (coded_by format bytes f c is) kind).depth ∙ ap (λ (s : Shape). s.depth) (sym shape) in (
+      let depth : (pictures format film x.samples.now.frame).shape.depth ≡ by.shape.depth =
+      ap (λ (n : ℕ). (pictures format film n).shape.depth) number ∙ ap (λ (s : Shape). s.depth) (sym read.shape ∙ read.same)
+      ∙ (named_in _ _ c fields reference (coded_by format film f c is) kind).depth ∙ ap (λ (s : Shape). s.depth) (sym shape) in (
         x,
         named,
         told ∙ sym (shapes_are c.header.kind fields reference kind),
-        rows_have_bands (pictures format bytes) by.shape bands x (record {
-          same = same ∙ read.shape ∙ sym (ap (λ (n : ℕ). (pictures format bytes n).shape) number);
+        rows_have_bands (pictures format film) by.shape bands x (record {
+          same = same ∙ read.shape ∙ sym (ap (λ (n : ℕ). (pictures format film n).shape) number);
           from = subst (λ (s : RowSpan). s.first ≤ bands.first) (sym samples) read.have.from;
           to = subst (λ (s : Shape). min (bands.last + 1) (superblocks_along (mi_rows s) - 1) < x.samples.now.end) (sym same)
               (subst (λ (s : RowSpan). min (bands.last + 1) (superblocks_along (mi_rows own.shape) - 1) < s.end) (sym samples) read.have.to);
           reference = subst (λ (s : Shape). IsReference s x.shape) (sym shape) (referred c.header fields reference x.shape planned.size planned.references kind need_of.range told);
-          range = λ p. subst (λ (d : Depth). IsAtMost (greatest d) ((pictures format bytes x.samples.now.frame).map p)) depth (picture_small format bytes x.samples.now.frame p);
+          range = λ p. subst (λ (d : Depth). IsAtMost (greatest d) ((pictures format film x.samples.now.frame).map p)) depth (picture_small format film x.samples.now.frame p);
         }),
       )
 
-  one_there : (fields : InterFields) (reference : ReferenceFrame) (needed : Option BandRange) → coded format bytes f ≡ Some c → IsPlannedRow c of → c.header.kind ≡ Inter fields → by.shape ≡ shape_of c.header
-      → needs_at needs reference ≡ needed → IsReferenceRows format bytes f (reference_in fields.references reference) needed (rows_at rows reference) → IsOne rows by reference
-      → IfSome needed (IsThere (held_in (pictures format bytes)) (width_in (pictures format bytes)) (map_in (pictures format bytes)) by reference (shapes_of (shapes_by c.header.kind) reference))
+  one_there : (fields : InterFields) (reference : ReferenceFrame) (needed : Option BandRange) → coded format film f ≡ Some c → IsPlannedRow c of → c.header.kind ≡ Inter fields → by.shape ≡ shape_of c.header
+      → needs_at needs reference ≡ needed → IsReferenceRows format film f (reference_in fields.references reference) needed (rows_at rows reference) → IsOne rows by reference
+      → IfSome needed (IsThere (held_in (pictures format film)) (width_in (pictures format film)) (map_in (pictures format film)) by reference (shapes_of (shapes_by c.header.kind) reference))
   one_there fields reference None is planned kind shape need read one = tt
   one_there fields reference (Some bands) is planned kind shape need read one = there fields reference bands (rows_at rows reference) one.picture is planned kind shape need read one.is one.samples one.shape
 
-  pub inter_row_served : coded format bytes f ≡ Some c → IsPlannedRow c of → by.shape ≡ shape_of c.header → ReadsRows format bytes f c of rows → ArePictures rows by
-      → All (λ b. AreServed (held_in (pictures format bytes)) (width_in (pictures format bytes)) (map_in (pictures format bytes)) by b b.prediction) (blocks_between by.shape of.row of.plan.now.column.grid.blocks)
+  pub inter_row_served : coded format film f ≡ Some c → IsPlannedRow c of → by.shape ≡ shape_of c.header → ReadsRows format film f c of rows → ArePictures rows by
+      → All (λ b. AreServed (held_in (pictures format film)) (width_in (pictures format film)) (map_in (pictures format film)) by b b.prediction) (blocks_between by.shape of.row of.plan.now.column.grid.blocks)
   inter_row_served is planned shape reads all =
       let shapes = shapes_of (shapes_by c.header.kind) in
-      blocks_served (held_in (pictures format bytes)) (width_in (pictures format bytes)) (map_in (pictures format bytes)) by shapes (blocks_between by.shape of.row of.plan.now.column.grid.blocks)
+      blocks_served (held_in (pictures format film)) (width_in (pictures format film)) (map_in (pictures format film)) by shapes (blocks_between by.shape of.row of.plan.now.column.grid.blocks)
       (subst (λ (s : Shape). All (λ b. b.row < mi_rows s) (blocks_between by.shape of.row of.plan.now.column.grid.blocks)) (sym shape) (inside c of by.shape planned))
       (λ reference.
       subst (λ (s : Shape). IfSome (needs_at (needs_of s shapes (blocks_between s of.row of.plan.now.column.grid.blocks)) reference)
-      (IsThere (held_in (pictures format bytes)) (width_in (pictures format bytes)) (map_in (pictures format bytes)) by reference (shapes reference))) (sym shape)
+      (IsThere (held_in (pictures format film)) (width_in (pictures format film)) (map_in (pictures format film)) by reference (shapes reference))) (sym shape)
       (one_there reads.fields reference (needs_at needs reference) is planned reads.kind shape refl
-      (one_read format bytes f reads.fields needs rows reference reads.read) (one_of rows by reference all)))
+      (one_read format film f reads.fields needs rows reference reads.read) (one_of rows by reference all)))
 
-  picture_same : (fields : InterFields) (reference : ReferenceFrame) → IsReferenceRows format bytes f (reference_in fields.references reference) (needs_at needs reference) (rows_at rows reference) → coded format bytes f ≡ Some c
-      → IsOne rows by reference → picture_of (map_in (pictures format bytes)) (reference_of by reference) ≡ picture_in (slice_index_or c.kept.state.slots (reference_in fields.references reference).slot None)
+  picture_same : (fields : InterFields) (reference : ReferenceFrame) → IsReferenceRows format film f (reference_in fields.references reference) (needs_at needs reference) (rows_at rows reference) → coded format film f ≡ Some c
+      → IsOne rows by reference → picture_of (map_in (pictures format film)) (reference_of by reference) ≡ picture_in (slice_index_or c.kept.state.slots (reference_in fields.references reference).slot None)
   picture_same fields reference read is one =
       let number = read.number in
-      let own : number.frame ≡ c = same_coded (coded format bytes f) number.frame c number.is is in
+      let own : number.frame ≡ c = same_coded (coded format film f) number.frame c number.is is in
       let held : slice_index_or c.kept.state.slots (reference_in fields.references reference).slot None ≡ Some number.picture =
       subst (λ (d : CodedFrame). slice_index_or d.kept.state.slots (reference_in fields.references reference).slot None ≡ Some number.picture) own number.held in
-      let of = picture_of_number format bytes f (reference_in fields.references reference) (rows_at rows reference).frame number in
+      let of = picture_of_number format film f (reference_in fields.references reference) (rows_at rows reference).frame number in
       let shape : one.picture.shape ≡ number.picture.shape = one.shape ∙ read.same ∙ sym number.shape in
-      let map : map_in (pictures format bytes) one.picture.samples.now ≡ number.picture.map = ap (map_in (pictures format bytes)) one.samples ∙ sym of.map in
-      ap (picture_of (map_in (pictures format bytes))) one.is ∙ same_picture one.picture.shape number.picture.shape (map_in (pictures format bytes) one.picture.samples.now) number.picture.map shape map ∙ ap picture_in (sym held)
+      let map : map_in (pictures format film) one.picture.samples.now ≡ number.picture.map = ap (map_in (pictures format film)) one.samples ∙ sym of.map in
+      ap (picture_of (map_in (pictures format film))) one.is ∙ same_picture one.picture.shape number.picture.shape (map_in (pictures format film) one.picture.samples.now) number.picture.map shape map ∙ ap picture_in (sym held)
 
-  pub inter_named : coded format bytes f ≡ Some c → IsPlannedRow c of → by.shape ≡ shape_of of.setting.now.header → ReadsRows format bytes f c of rows → ArePictures rows by
-      → rebuilding_of (map_in (pictures format bytes)) by ≡ rebuilding c.header (references c)
+  pub inter_named : coded format film f ≡ Some c → IsPlannedRow c of → by.shape ≡ shape_of of.setting.now.header → ReadsRows format film f c of rows → ArePictures rows by
+      → rebuilding_of (map_in (pictures format film)) by ≡ rebuilding c.header (references c)
   inter_named is planned shape reads all = λ i. record {
     shape = (shape ∙ ap shape_of planned.header) i;
     references = (fun_ext each ∙ ap (references_of c.kept.state.slots) (sym reads.kind)) i;
   }
     where
-      each : (reference : ReferenceFrame) → picture_of (map_in (pictures format bytes)) (reference_of by reference) ≡ references_of c.kept.state.slots (Inter reads.fields) reference
-      each reference = picture_same reads.fields reference (one_read format bytes f reads.fields needs rows reference reads.read) is (one_of rows by reference all)
+      each : (reference : ReferenceFrame) → picture_of (map_in (pictures format film)) (reference_of by reference) ≡ references_of c.kept.state.slots (Inter reads.fields) reference
+      each reference = picture_same reads.fields reference (one_read format film f reads.fields needs rows reference reads.read) is (one_of rows by reference all)

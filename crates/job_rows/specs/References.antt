@@ -18,18 +18,19 @@ use Rattle.numbered_frames.specs.Coded.{CodedFrame, coded}
 use Rattle.numbered_frames.specs.Pictures.{pictures}
 use Rattle.seq_decoder.specs.State.{Picture}
 use Rattle.job_rows.specs.declared.references.ReferenceRows.{ReferenceRows}
+use Rattle.numbered_frames.specs.Films.{Film}
 
 -- a frame of this kind names the reference
 abbrev pub Names : FrameKind → Reference → Type 0
 Names kind r = (fields : InterFields) × (kind ≡ Inter fields) × ((reference : ReferenceFrame) × (reference_in fields.references reference ≡ r))
 
 -- the header of frame f does
-abbrev pub IsReferred : Format → List ℕ → ℕ → Reference → Type 0
-IsReferred format bytes f r = (c : CodedFrame) × (coded format bytes f ≡ Some c) × Names c.header.kind r
+abbrev pub IsReferred : Format → Film → ℕ → Reference → Type 0
+IsReferred format film f r = (c : CodedFrame) × (coded format film f ≡ Some c) × Names c.header.kind r
 
 -- the frame is coded, and names these
-abbrev pub NamesAll : Format → List ℕ → ℕ → InterFields → Type 0
-NamesAll format bytes f fields = (c : CodedFrame) × (coded format bytes f ≡ Some c) × (c.header.kind ≡ Inter fields)
+abbrev pub NamesAll : Format → Film → ℕ → InterFields → Type 0
+NamesAll format film f fields = (c : CodedFrame) × (coded format film f ≡ Some c) × (c.header.kind ≡ Inter fields)
 
 -- bands lie in a frame of this shape
 abbrev pub IsInside : Shape → BandRange → Type 0
@@ -42,9 +43,9 @@ pub record AreInside (refs : References) (needs : BandNeeds) : Type 0 where
   pub altref : IfSome needs.altref (IsInside refs.altref.shape)
 
 -- the slot of the reference holds the frame of this number
-pub record IsNumberOf (format : Format) (bytes : List ℕ) (f : ℕ) (r : Reference) (n : ℕ) : Type 0 where
+pub record IsNumberOf (format : Format) (film : Film) (f : ℕ) (r : Reference) (n : ℕ) : Type 0 where
   pub frame : CodedFrame
-  pub is : coded format bytes f ≡ Some frame
+  pub is : coded format film f ≡ Some frame
   pub picture : Picture
   pub held : slice_index_or frame.kept.state.slots r.slot None ≡ Some picture
   pub shape : picture.shape ≡ r.shape
@@ -56,9 +57,9 @@ pub record HaveBands (rows first count : ℕ) (bands : BandRange) : Type 0 where
   pub to : min (bands.last + 1) (rows - 1) < first + count
 
 -- rows of superblocks of the frame that a reference is, and what bands they have
-pub record IsReferenceRows {X : Type 0} (format : Format) (bytes : List ℕ) (f : ℕ) (r : Reference) (bands : Option BandRange) (rows : ReferenceRows X) : Type 0 where
-  pub number : IsNumberOf format bytes f r rows.frame
+pub record IsReferenceRows {X : Type 0} (format : Format) (film : Film) (f : ℕ) (r : Reference) (bands : Option BandRange) (rows : ReferenceRows X) : Type 0 where
+  pub number : IsNumberOf format film f r rows.frame
   pub same : rows.shape ≡ r.shape
-  pub shape : rows.shape ≡ (pictures format bytes rows.frame).shape
-  pub held : HoldRows (pictures format bytes rows.frame) rows.first (map (λ b. b.now) rows.rows.items)
+  pub shape : rows.shape ≡ (pictures format film rows.frame).shape
+  pub held : HoldRows (pictures format film rows.frame) rows.first (map (λ b. b.now) rows.rows.items)
   pub have : IfSome bands (HaveBands (superblocks_along (mi_rows rows.shape)) rows.first (length rows.rows.items))

@@ -13,6 +13,7 @@ use Rattle.frame_output.specs.declared.rendering.Format.{Format}
 use Rattle.frame_state.specs.Reading.{FrameRead}
 use Rattle.numbered_frames.specs.Coded.{CodedFrame, coded, read_of, references}
 use Rattle.job_results.specs.Results.{IsFilteredAs, IsStripAs}
+use Rattle.numbered_frames.specs.Films.{Film}
 
 ---- A frame ----
 
@@ -25,30 +26,30 @@ raw_from None = blank
 raw_from (Some c) = raw_read c (read_of c)
 
 -- frame f before the loop filter
-unfoldable pub raw_frame : Format → List ℕ → ℕ → FrameMap
-raw_frame format bytes f = raw_from (coded format bytes f)
+unfoldable pub raw_frame : Format → Film → ℕ → FrameMap
+raw_frame format film f = raw_from (coded format film f)
 
 -- it is coded, and of a depth so
-abbrev pub IsOfDepth : (Depth → Type 0) → Format → List ℕ → ℕ → Type 0
-IsOfDepth P format bytes f = (c : CodedFrame) × (coded format bytes f ≡ Some c) × P c.header.color.depth
+abbrev pub IsOfDepth : (Depth → Type 0) → Format → Film → ℕ → Type 0
+IsOfDepth P format film f = (c : CodedFrame) × (coded format film f ≡ Some c) × P c.header.color.depth
 
 -- where it is coded, this is so of it
-abbrev pub OfFrame : Format → List ℕ → ℕ → (CodedFrame → Type 0) → Type 0
-OfFrame format bytes f P = (c : CodedFrame) → coded format bytes f ≡ Some c → P c
+abbrev pub OfFrame : Format → Film → ℕ → (CodedFrame → Type 0) → Type 0
+OfFrame format film f P = (c : CodedFrame) → coded format film f ≡ Some c → P c
 
 ---- Its rows of superblocks ----
 
 -- it is coded, its tiles are all read, and it has this row of superblocks
-pub record HasRow (format : Format) (bytes : List ℕ) (f row : ℕ) : Type 0 where
+pub record HasRow (format : Format) (film : Film) (f row : ℕ) : Type 0 where
   pub frame : CodedFrame
-  pub is : coded format bytes f ≡ Some frame
+  pub is : coded format film f ≡ Some frame
   pub read : FrameRead
   pub reads : read_of frame ≡ Ok read
   pub inside : row < superblocks_along (mi_rows (shape_of frame.header))
 
 -- and this tile column
-pub record HasStrip (format : Format) (bytes : List ℕ) (f k row : ℕ) : Type 0 where
-  pub has : HasRow format bytes f row
+pub record HasStrip (format : Format) (film : Film) (f k row : ℕ) : Type 0 where
+  pub has : HasRow format film f row
   pub column : k < 2 ^ has.frame.header.params.tiles.columns_log2
 
 ---- What is lent of them ----

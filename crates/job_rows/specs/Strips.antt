@@ -19,6 +19,7 @@ use Rattle.band_needs.specs.declared.ranges.BandNeeds.{BandNeeds}
 use Rattle.numbered_frames.specs.Coded.{CodedFrame}
 use Rattle.job_rows.specs.References.{IsReferenceRows}
 use Rattle.job_rows.specs.declared.strips.AllRows.{AllRows}
+use Rattle.numbered_frames.specs.Films.{Film}
 
 -- a row of superblocks of a tile column of a coded frame, which is planned
 pub record IsPlannedRow (c : CodedFrame) (of : PlannedRow) : Type 0 where
@@ -41,13 +42,13 @@ IsPicture samples shape None = ⊥
 IsPicture samples shape (Some picture) = (picture.samples.now ≡ samples) × (picture.shape ≡ shape)
 
 -- rows of superblocks of the three references of frame f, which have some bands of each
-pub record AreAllRows {X : Type 0} (format : Format) (bytes : List ℕ) (f : ℕ) (fields : InterFields) (needs : BandNeeds) (rows : AllRows X) : Type 0 where
-  pub last : IsReferenceRows format bytes f fields.references.last needs.last rows.last
-  pub golden : IsReferenceRows format bytes f fields.references.golden needs.golden rows.golden
-  pub altref : IsReferenceRows format bytes f fields.references.altref needs.altref rows.altref
+pub record AreAllRows {X : Type 0} (format : Format) (film : Film) (f : ℕ) (fields : InterFields) (needs : BandNeeds) (rows : AllRows X) : Type 0 where
+  pub last : IsReferenceRows format film f fields.references.last needs.last rows.last
+  pub golden : IsReferenceRows format film f fields.references.golden needs.golden rows.golden
+  pub altref : IsReferenceRows format film f fields.references.altref needs.altref rows.altref
 
 -- those that a planned row is predicted from
-pub record ReadsRows {X : Type 0} (format : Format) (bytes : List ℕ) (f : ℕ) (c : CodedFrame) (of : PlannedRow) (rows : AllRows X) : Type 0 where
+pub record ReadsRows {X : Type 0} (format : Format) (film : Film) (f : ℕ) (c : CodedFrame) (of : PlannedRow) (rows : AllRows X) : Type 0 where
   pub fields : InterFields
   pub kind : c.header.kind ≡ Inter fields
-  pub read : AreAllRows format bytes f fields (row_needs_of c.header of.row of.plan.now.column.grid.blocks) rows
+  pub read : AreAllRows format film f fields (row_needs_of c.header of.row of.plan.now.column.grid.blocks) rows

@@ -20,7 +20,7 @@ fn span_of<'a, B: DecodeRun, R: Results<JobResult<'a>, Decode<B>>>(
     reference: &Reference,
     bands: Option<BandRange>,
 ) -> Option<BandSpan>
-    requires { IsReferred B.format B.bytes frame reference.now }
+    requires { IsReferred B.format B.film frame reference.now }
 {
     let bands = bands?;
     Some(BandSpan {
@@ -38,7 +38,7 @@ pub fn reads<'a, B: DecodeRun, R: Results<JobResult<'a>, Decode<B>>>(
     row: u32,
     results: &R,
 ) -> [Option<BandSpan>; 3]
-    requires { IsDue (decode_rules B.format B.bytes) (decode_truth B.format B.bytes) (Rows frame k row) }
+    requires { IsDue (decode_rules B.format B.film) (decode_truth B.format B.film) (Rows frame k row) }
 {
     match &begun::<B, R>(results, frame).setting.header.kind {
         FrameKind::Key | FrameKind::IntraOnly => [None, None, None],

@@ -45,8 +45,8 @@ fn strips_of<'r, 'a: 'r, P: PlaneSample, B: DecodeRun, R: Results<JobResult<'a>,
     row: u32,
     columns: u32,
 ) -> Result<Vec<&'r FramePlanes<P>>, AllocError>
-    requires { IsOfDepth P.keeps B.format B.bytes frame }
-    ensures { IfOk result (λ strips. OfFrame B.format B.bytes frame (λ c. AreStrips c columns row (map (λ b. b.now) strips.items))) }
+    requires { IsOfDepth P.keeps B.format B.film frame }
+    ensures { IfOk result (λ strips. OfFrame B.format B.film frame (λ c. AreStrips c columns row (map (λ b. b.now) strips.items))) }
 {
     let mut strips = Vec::with_capacity(alloc, columns as usize)?;
     for k in 0..columns {
@@ -61,8 +61,8 @@ fn filtered_above<'r, 'a: 'r, P: PlaneSample, B: DecodeRun, R: Results<JobResult
     frame: u64,
     row: u32,
 ) -> Result<Option<&'r FramePlanes<P>>, AllocError>
-    requires { IsOfDepth P.keeps B.format B.bytes frame }
-    ensures { IfOk result (λ above. OfFrame B.format B.bytes frame (λ c. IsFilteredOver c row (option_copied above))) }
+    requires { IsOfDepth P.keeps B.format B.film frame }
+    ensures { IfOk result (λ above. OfFrame B.format B.film frame (λ c. IsFilteredOver c row (option_copied above))) }
 {
     match row.checked_sub(1) {
         None => Ok(None),
@@ -122,10 +122,10 @@ fn filtered_as<'a, P: PlaneSample + EdgeSample, B: DecodeRun, R: Results<JobResu
     row: u32,
     results: &R,
 ) -> Result<FramePlanes<P>, AllocError>
-    requires row { HasRow B.format B.bytes frame row }
-    requires keeps { IsOfDepth P.keeps B.format B.bytes frame }
-    requires fits { IsOfDepth (λ depth. greatest depth ≤ P.greatest) B.format B.bytes frame }
-    ensures { IfOk result (λ f. OfFrame B.format B.bytes frame (λ c. IsFilteredAs c row f)) }
+    requires row { HasRow B.format B.film frame row }
+    requires keeps { IsOfDepth P.keeps B.format B.film frame }
+    requires fits { IsOfDepth (λ depth. greatest depth ≤ P.greatest) B.format B.film frame }
+    ensures { IfOk result (λ f. OfFrame B.format B.film frame (λ c. IsFilteredAs c row f)) }
 {
     let header = &begun::<B, R>(results, frame).setting.header;
     let closed = closed::<B, R>(results, frame);
@@ -143,8 +143,8 @@ fn filtered_as<'a, P: PlaneSample + EdgeSample, B: DecodeRun, R: Results<JobResu
 
 /// What a row of superblocks leaves, in bytes, or that there was no memory for it.
 fn filtered_in_bytes<'a>(rows: Result<FramePlanes<u8>, AllocError>) -> JobResult<'a>
-    ensures { (format : Format) (bytes : List ℕ) (f row : ℕ) → IsOfDepth KeepInBytes format bytes f →
-        IfOk rows (λ planes. OfFrame format bytes f (λ c. IsFilteredAs c row planes)) → IsFiltered format bytes f row result }
+    ensures { (format : Format) (film : Film) (f row : ℕ) → IsOfDepth KeepInBytes format film f →
+        IfOk rows (λ planes. OfFrame format film f (λ c. IsFilteredAs c row planes)) → IsFiltered format film f row result }
 {
     match rows {
         Ok(planes) => JobResult::Filtered(AnyPlanes::Bytes(planes)),
@@ -154,8 +154,8 @@ fn filtered_in_bytes<'a>(rows: Result<FramePlanes<u8>, AllocError>) -> JobResult
 
 /// What a row of superblocks leaves, in words, or that there was no memory for it.
 fn filtered_in_words<'a>(rows: Result<FramePlanes<u16>, AllocError>) -> JobResult<'a>
-    ensures { (format : Format) (bytes : List ℕ) (f row : ℕ) → IsOfDepth KeepInWords format bytes f →
-        IfOk rows (λ planes. OfFrame format bytes f (λ c. IsFilteredAs c row planes)) → IsFiltered format bytes f row result }
+    ensures { (format : Format) (film : Film) (f row : ℕ) → IsOfDepth KeepInWords format film f →
+        IfOk rows (λ planes. OfFrame format film f (λ c. IsFilteredAs c row planes)) → IsFiltered format film f row result }
 {
     match rows {
         Ok(planes) => JobResult::Filtered(AnyPlanes::Words(planes)),
@@ -170,8 +170,8 @@ pub fn do_filter<'a, B: DecodeRun, R: Results<JobResult<'a>, Decode<B>>>(
     row: u32,
     results: &R,
 ) -> JobResult<'a>
-    requires { IsDue (decode_rules B.format B.bytes) (decode_truth B.format B.bytes) (Filter frame row) }
-    ensures { IsFiltered B.format B.bytes frame row result }
+    requires { IsDue (decode_rules B.format B.film) (decode_truth B.format B.film) (Filter frame row) }
+    ensures { IsFiltered B.format B.film frame row result }
 {
     let depth = depth_of::<B, R>(results, frame);
     match depth {

@@ -21,8 +21,8 @@ pub(crate) fn depth_of<'a, B: DecodeRun, R: Results<JobResult<'a>, Decode<B>>>(
     results: &R,
     frame: u64,
 ) -> Depth
-    requires { (c : CodedFrame) × (coded B.format B.bytes frame ≡ Some c) }
-    ensures { OfFrame B.format B.bytes frame (λ c. result ≡ c.header.color.depth) }
+    requires { (c : CodedFrame) × (coded B.format B.film frame ≡ Some c) }
+    ensures { OfFrame B.format B.film frame (λ c. result ≡ c.header.color.depth) }
 {
     begun::<B, R>(results, frame).setting.header.color.depth
 }
@@ -35,8 +35,8 @@ pub(crate) fn strip_planes<
     B: DecodeRun,
     R: Results<JobResult<'a>, Decode<B>>,
 >(results: &'r R, frame: u64, column: u32, row: u32) -> Result<&'r FramePlanes<P>, AllocError>
-    requires { IsOfDepth P.keeps B.format B.bytes frame }
-    ensures { IfOk result (λ f. OfFrame B.format B.bytes frame (λ c. IsStripAs c column row f.now)) }
+    requires { IsOfDepth P.keeps B.format B.film frame }
+    ensures { IfOk result (λ f. OfFrame B.format B.film frame (λ c. IsStripAs c column row f.now)) }
 {
     let Some(any) = strip::<B, R>(results, frame, column, row) else {
         return Err(AllocError);
@@ -55,8 +55,8 @@ pub(crate) fn filtered_planes<
     B: DecodeRun,
     R: Results<JobResult<'a>, Decode<B>>,
 >(results: &'r R, frame: u64, row: u32) -> Result<&'r FramePlanes<P>, AllocError>
-    requires { IsOfDepth P.keeps B.format B.bytes frame }
-    ensures { IfOk result (λ f. OfFrame B.format B.bytes frame (λ c. IsFilteredAs c row f.now)) }
+    requires { IsOfDepth P.keeps B.format B.film frame }
+    ensures { IfOk result (λ f. OfFrame B.format B.film frame (λ c. IsFilteredAs c row f.now)) }
 {
     let Some(any) = filtered::<B, R>(results, frame, row) else {
         return Err(AllocError);
@@ -76,9 +76,9 @@ pub fn rows_of<'r, 'a: 'r, P: PlaneSample, B: DecodeRun, R: Results<JobResult<'a
     end: u32,
 ) -> Result<Vec<&'r FramePlanes<P>>, AllocError>
     requires order { first ≤ end }
-    requires inside { end ≤ superblocks_along (mi_rows (pictures B.format B.bytes frame).shape) }
-    requires keeps { (c : CodedFrame) × (coded B.format B.bytes frame ≡ Some c) × P.keeps c.header.color.depth }
-    ensures rows { IfOk result (λ rows. HoldRows (pictures B.format B.bytes frame) first (map (λ b. b.now) rows.items)) }
+    requires inside { end ≤ superblocks_along (mi_rows (pictures B.format B.film frame).shape) }
+    requires keeps { (c : CodedFrame) × (coded B.format B.film frame ≡ Some c) × P.keeps c.header.color.depth }
+    ensures rows { IfOk result (λ rows. HoldRows (pictures B.format B.film frame) first (map (λ b. b.now) rows.items)) }
     ensures many { IfOk result (λ rows. length rows.items ≡ end - first) }
 {
     let mut rows = Vec::with_capacity(alloc, (end - first) as usize)?;

@@ -45,8 +45,8 @@ pub(crate) fn number_of<'a, B: DecodeRun, R: Results<JobResult<'a>, Decode<B>>>(
     frame: u64,
     reference: &Reference,
 ) -> u64
-    requires { IsReferred B.format B.bytes frame reference.now }
-    ensures { IsNumberOf B.format B.bytes frame reference.now result }
+    requires { IsReferred B.format B.film frame reference.now }
+    ensures { IsNumberOf B.format B.film frame reference.now result }
 {
     let Some(before) = frame.checked_sub(1) else {
         unreachable!()
@@ -82,10 +82,10 @@ pub(crate) fn reference_rows<
     reference: &Reference,
     bands: Option<BandRange>,
 ) -> Result<ReferenceRows<'r, P>, AllocError>
-    requires referred { IsReferred B.format B.bytes frame reference.now }
+    requires referred { IsReferred B.format B.film frame reference.now }
     requires keeps { P.keeps reference.now.shape.depth }
     requires inside { IfSome bands (IsInside reference.now.shape) }
-    ensures { IfOk result (IsReferenceRows B.format B.bytes frame reference.now bands) }
+    ensures { IfOk result (IsReferenceRows B.format B.film frame reference.now bands) }
 {
     let number = number_of::<B, R>(results, frame, reference);
     let shape = reference.shape;
@@ -104,8 +104,8 @@ pub(crate) fn reference_rows<
 impl<'r, P: Sample> ReferenceRows<'r, P> {
     /// The frame, by these rows.
     pub(crate) fn filtered<B: DecodeRun>(&self) -> FilteredFrame<'_, P, Decode<B>>
-        requires shape { self.now.shape ≡ (pictures B.format B.bytes self.now.frame).shape }
-        requires rows { HoldRows (pictures B.format B.bytes self.now.frame) self.now.first (map (λ b. b.now) self.now.rows.items) }
+        requires shape { self.now.shape ≡ (pictures B.format B.film self.now.frame).shape }
+        requires rows { HoldRows (pictures B.format B.film self.now.frame) self.now.first (map (λ b. b.now) self.now.rows.items) }
         ensures { result ≡ rows_from self.now.frame self.now.first (length self.now.rows.items) }
     {
         FilteredFrame::new(self.frame, self.shape, self.first, &self.rows)

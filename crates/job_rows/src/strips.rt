@@ -39,8 +39,8 @@ pub(crate) fn planned<'r, 'a: 'r, B: DecodeRun, R: Results<JobResult<'a>, Decode
     k: u32,
     row: u32,
 ) -> Result<&'r PlannedColumn, AllocError>
-    requires { HasStrip B.format B.bytes frame k row }
-    ensures { IfOk result (λ p. OfFrame B.format B.bytes frame (λ c. IsPlannedAs c k (Ok p.now))) }
+    requires { HasStrip B.format B.film frame k row }
+    ensures { IfOk result (λ p. OfFrame B.format B.film frame (λ c. IsPlannedAs c k (Ok p.now))) }
 {
     match column::<B, R>(results, frame, k) {
         Ok(planned) => Ok(planned),
@@ -58,8 +58,8 @@ fn strip_above<'r, 'a: 'r, P: PlaneSample, B: DecodeRun, R: Results<JobResult<'a
     k: u32,
     row: u32,
 ) -> Result<Option<&'r FramePlanes<P>>, AllocError>
-    requires { IsOfDepth P.keeps B.format B.bytes frame }
-    ensures { IfOk result (λ above. OfFrame B.format B.bytes frame (λ c. IsStripOver c k row (option_copied above))) }
+    requires { IsOfDepth P.keeps B.format B.film frame }
+    ensures { IfOk result (λ above. OfFrame B.format B.film frame (λ c. IsStripOver c k row (option_copied above))) }
 {
     match row.checked_sub(1) {
         None => Ok(None),
@@ -102,10 +102,10 @@ fn all_rows<'r, 'a: 'r, P: PlaneSample, B: DecodeRun, R: Results<JobResult<'a>, 
     fields: &InterFields,
     needs: &BandNeeds,
 ) -> Result<AllRows<'r, P>, AllocError>
-    requires named { NamesAll B.format B.bytes frame fields.now }
-    requires keeps { IsOfDepth P.keeps B.format B.bytes frame }
+    requires named { NamesAll B.format B.film frame fields.now }
+    requires keeps { IsOfDepth P.keeps B.format B.film frame }
     requires inside { AreInside fields.now.references needs.now }
-    ensures { IfOk result (AreAllRows B.format B.bytes frame fields.now needs.now) }
+    ensures { IfOk result (AreAllRows B.format B.film frame fields.now needs.now) }
 {
     let refs = &fields.references;
     Ok(AllRows {
@@ -132,10 +132,10 @@ fn inter_strip<P: PlaneSample + RoomSample, B: DecodeRun>(
     above: Option<&FramePlanes<P>>,
     rows: &AllRows<'_, P>,
 ) -> Result<FramePlanes<P>, AllocError>
-    requires row { (f : ℕ) × (c : CodedFrame) × (coded B.format B.bytes f ≡ Some c) × IsPlannedRow c of.now × ReadsRows B.format B.bytes f c of.now rows.now
+    requires row { (f : ℕ) × (c : CodedFrame) × (coded B.format B.film f ≡ Some c) × IsPlannedRow c of.now × ReadsRows B.format B.film f c of.now rows.now
         × IsStripOver c of.now.column of.now.row (option_copied above) }
     requires takes { P.takes (greatest (shape_of of.now.setting.now.header).depth) }
-    ensures { IfOk result (λ planes. (f : ℕ) (c : CodedFrame) → coded B.format B.bytes f ≡ Some c → IsPlannedRow c of.now → ReadsRows B.format B.bytes f c of.now rows.now →
+    ensures { IfOk result (λ planes. (f : ℕ) (c : CodedFrame) → coded B.format B.film f ≡ Some c → IsPlannedRow c of.now → ReadsRows B.format B.film f c of.now rows.now →
         IsStripAs c of.now.column of.now.row planes) }
 {
     let last = rows.last.filtered::<B>();
@@ -178,10 +178,10 @@ fn strip_as<'a, P: PlaneSample + RoomSample, B: DecodeRun, R: Results<JobResult<
     row: u32,
     results: &R,
 ) -> Result<FramePlanes<P>, AllocError>
-    requires row { HasStrip B.format B.bytes frame k row }
-    requires keeps { IsOfDepth P.keeps B.format B.bytes frame }
-    requires takes { IsOfDepth (λ depth. P.takes (greatest depth)) B.format B.bytes frame }
-    ensures { IfOk result (λ f. OfFrame B.format B.bytes frame (λ c. IsStripAs c k row f)) }
+    requires row { HasStrip B.format B.film frame k row }
+    requires keeps { IsOfDepth P.keeps B.format B.film frame }
+    requires takes { IsOfDepth (λ depth. P.takes (greatest depth)) B.format B.film frame }
+    ensures { IfOk result (λ f. OfFrame B.format B.film frame (λ c. IsStripAs c k row f)) }
 {
     let begun = begun::<B, R>(results, frame);
     let planned = planned::<B, R>(results, frame, k, row)?;
@@ -199,8 +199,8 @@ fn strip_as<'a, P: PlaneSample + RoomSample, B: DecodeRun, R: Results<JobResult<
 
 /// What a row of superblocks is, in bytes, or that there was no memory for it.
 fn strip_in_bytes<'a>(strip: Result<FramePlanes<u8>, AllocError>) -> JobResult<'a>
-    ensures { (format : Format) (bytes : List ℕ) (f k row : ℕ) → IsOfDepth KeepInBytes format bytes f →
-        IfOk strip (λ planes. OfFrame format bytes f (λ c. IsStripAs c k row planes)) → IsStrip format bytes f k row result }
+    ensures { (format : Format) (film : Film) (f k row : ℕ) → IsOfDepth KeepInBytes format film f →
+        IfOk strip (λ planes. OfFrame format film f (λ c. IsStripAs c k row planes)) → IsStrip format film f k row result }
 {
     match strip {
         Ok(planes) => JobResult::Strip(AnyPlanes::Bytes(planes)),
@@ -210,8 +210,8 @@ fn strip_in_bytes<'a>(strip: Result<FramePlanes<u8>, AllocError>) -> JobResult<'
 
 /// What a row of superblocks is, in words, or that there was no memory for it.
 fn strip_in_words<'a>(strip: Result<FramePlanes<u16>, AllocError>) -> JobResult<'a>
-    ensures { (format : Format) (bytes : List ℕ) (f k row : ℕ) → IsOfDepth KeepInWords format bytes f →
-        IfOk strip (λ planes. OfFrame format bytes f (λ c. IsStripAs c k row planes)) → IsStrip format bytes f k row result }
+    ensures { (format : Format) (film : Film) (f k row : ℕ) → IsOfDepth KeepInWords format film f →
+        IfOk strip (λ planes. OfFrame format film f (λ c. IsStripAs c k row planes)) → IsStrip format film f k row result }
 {
     match strip {
         Ok(planes) => JobResult::Strip(AnyPlanes::Words(planes)),
@@ -227,8 +227,8 @@ pub fn do_rows<'a, B: DecodeRun, R: Results<JobResult<'a>, Decode<B>>>(
     row: u32,
     results: &R,
 ) -> JobResult<'a>
-    requires { IsDue (decode_rules B.format B.bytes) (decode_truth B.format B.bytes) (Rows frame k row) }
-    ensures { IsStrip B.format B.bytes frame k row result }
+    requires { IsDue (decode_rules B.format B.film) (decode_truth B.format B.film) (Rows frame k row) }
+    ensures { IsStrip B.format B.film frame k row result }
 {
     let depth = depth_of::<B, R>(results, frame);
     match depth {

@@ -26,6 +26,7 @@ use Rattle.seq_decoder.specs.declared.form.OutputForm.{OutputForm}
 use Rattle.numbered_frames.specs.Coded.{CodedFrame, IsFrameBefore, begun_from, coded, coded_from, headed_from, read_of, result_of}
 use Rattle.numbered_frames.specs.Numbers.{before, frame_at, start}
 use Rattle.numbered_frames.proofs.Ways.{passed}
+use Rattle.numbered_frames.specs.Films.{Film}
 
 bind_ok : {A B : Type 0} (r : Result A Rule) (k : A → Result B Rule) (y : B) → (r >>= k) ≡ Ok y → (x : A) × (r ≡ Ok x) × (k x ≡ Ok y)
 bind_ok (Ok x) k y is = (x, refl, is)
@@ -80,24 +81,24 @@ is_coded p frame header compressed r is =
     coded_to p frame header compressed first.0 cut.0 second.0 r first.1 cut.1 second.1 (ap (rebuilt (references_of p.state.slots header.kind)) pair ∙ all.2)
 
 -- the frame of this number is it
-pub coded_is : (format : Format) (bytes : List ℕ) (f : ℕ) (p : Putting) (frame : List ℕ) (header : Header) (compressed : Span) (r : FrameResult) → before format bytes f ≡ Some p → frame_at bytes f ≡ Some frame
-    → head_of (persist_of p.state) frame ≡ Ok (head.Coded header compressed) → (h : IsCodedTo p frame header compressed r) → coded format bytes f ≡ Some h.coded
+pub coded_is : (format : Format) (film : Film) (f : ℕ) (p : Putting) (frame : List ℕ) (header : Header) (compressed : Span) (r : FrameResult) → before format film f ≡ Some p → frame_at film f ≡ Some frame
+    → head_of (persist_of p.state) frame ≡ Ok (head.Coded header compressed) → (h : IsCodedTo p frame header compressed r) → coded format film f ≡ Some h.coded
 unfolding coded
-coded_is format bytes f p frame header compressed r from there heads h =
-    ap (λ o. coded_from o (frame_at bytes f)) from ∙ ap (coded_from (Some p)) there ∙ ap (headed_from p frame) heads ∙ h.is
+coded_is format film f p frame header compressed r from there heads h =
+    ap (λ o. coded_from o (frame_at film f)) from ∙ ap (coded_from (Some p)) there ∙ ap (headed_from p frame) heads ∙ h.is
 
 ---- What a frame leaves in the slots ----
 
-abbrev Hold : Format → List ℕ → ℕ → List (Option Picture) → Type 0
-Hold format bytes f slots = All (λ slot. IfSome slot (IsFrameBefore format bytes f)) slots
+abbrev Hold : Format → Film → ℕ → List (Option Picture) → Type 0
+Hold format film f slots = All (λ slot. IfSome slot (IsFrameBefore format film f)) slots
 
-later : (format : Format) (bytes : List ℕ) (f : ℕ) (slot : Option Picture) → IfSome slot (IsFrameBefore format bytes f) → IfSome slot (IsFrameBefore format bytes (suc f))
-later format bytes f None h = tt
-later format bytes f (Some picture) h =
+later : (format : Format) (film : Film) (f : ℕ) (slot : Option Picture) → IfSome slot (IsFrameBefore format film f) → IfSome slot (IsFrameBefore format film (suc f))
+later format film f None h = tt
+later format film f (Some picture) h =
     record { earlier = omega (arith, h.earlier); frame = h.frame; is = h.is; read = h.read; reads = h.reads; same = h.same }
 
-all_later : (format : Format) (bytes : List ℕ) (f : ℕ) (slots : List (Option Picture)) → Hold format bytes f slots → Hold format bytes (suc f) slots
-all_later format bytes f slots h = λ k d low. later format bytes f (get_or slots k d) (h k d low)
+all_later : (format : Format) (film : Film) (f : ℕ) (slots : List (Option Picture)) → Hold format film f slots → Hold format film (suc f) slots
+all_later format film f slots h = λ k d low. later format film f (get_or slots k d) (h k d low)
 
 none_hold : (P : Option Picture → Type 0) → All P []
 none_hold P = λ k d low. absurd (omega (arith, low))
@@ -106,18 +107,18 @@ one_more_holds : (P : Option Picture → Type 0) (slot : Option Picture) (slots 
 one_more_holds P slot slots p ps zero d low = p
 one_more_holds P slot slots p ps (suc k) d low = ps k d (omega (arith, low))
 
-one_held : (format : Format) (bytes : List ℕ) (f : ℕ) (taken : Bool) (picture : Picture) (slot : Option Picture) → IsFrameBefore format bytes (suc f) picture → IfSome slot (IsFrameBefore format bytes f)
-    → IfSome (if taken then Some picture else slot) (IsFrameBefore format bytes (suc f))
-one_held format bytes f true picture slot new old = new
-one_held format bytes f false picture slot new old = later format bytes f slot old
+one_held : (format : Format) (film : Film) (f : ℕ) (taken : Bool) (picture : Picture) (slot : Option Picture) → IsFrameBefore format film (suc f) picture → IfSome slot (IsFrameBefore format film f)
+    → IfSome (if taken then Some picture else slot) (IsFrameBefore format film (suc f))
+one_held format film f true picture slot new old = new
+one_held format film f false picture slot new old = later format film f slot old
 
-all_held : (format : Format) (bytes : List ℕ) (f flags : ℕ) (picture : Picture) (slots : List (Option Picture)) → IsFrameBefore format bytes (suc f) picture → Hold format bytes f slots
-    → Hold format bytes (suc f) (refreshed flags picture slots)
-all_held format bytes f flags picture [] new h = none_hold (λ slot. IfSome slot (IsFrameBefore format bytes (suc f)))
-all_held format bytes f flags picture (slot ∷ slots) new h =
-    one_more_holds (λ s. IfSome s (IsFrameBefore format bytes (suc f))) (if flags % 2 == 1 then Some picture else slot) (refreshed (flags / 2) picture slots)
-    (one_held format bytes f (flags % 2 == 1) picture slot new (h 0 slot (omega arith)))
-    (all_held format bytes f (flags / 2) picture slots new (λ k d low. h (suc k) d (omega (arith, low))))
+all_held : (format : Format) (film : Film) (f flags : ℕ) (picture : Picture) (slots : List (Option Picture)) → IsFrameBefore format film (suc f) picture → Hold format film f slots
+    → Hold format film (suc f) (refreshed flags picture slots)
+all_held format film f flags picture [] new h = none_hold (λ slot. IfSome slot (IsFrameBefore format film (suc f)))
+all_held format film f flags picture (slot ∷ slots) new h =
+    one_more_holds (λ s. IfSome s (IsFrameBefore format film (suc f))) (if flags % 2 == 1 then Some picture else slot) (refreshed (flags / 2) picture slots)
+    (one_held format film f (flags % 2 == 1) picture slot new (h 0 slot (omega arith)))
+    (all_held format film f (flags / 2) picture slots new (λ k d low. h (suc k) d (omega (arith, low))))
 
 ---- One frame ----
 
@@ -140,37 +141,37 @@ after_decoded : (number : ℕ) (state : State) (header : Header) (d : Result Fra
 after_decoded number state header (Ok r) stepped is = (r, refl, cc)
 after_decoded number state header (Err rule) stepped is = absurd cc
 
-behind_it : (format : Format) (bytes : List ℕ) (f : ℕ) (p : Putting) (frame : List ℕ) (heads : Result FrameHead Rule) (stepped : Stepped) → before format bytes f ≡ Some p → frame_at bytes f ≡ Some frame
-    → head_of (persist_of p.state) frame ≡ heads → behind_head f p.state frame heads ≡ Ok stepped → Hold format bytes f p.state.slots → Hold format bytes (suc f) stepped.state.slots
-behind_it format bytes f p frame (Err rule) stepped from there is steps h = absurd cc
-behind_it format bytes f p frame (Ok (head.ShowExisting slot)) stepped from there is steps h =
+behind_it : (format : Format) (film : Film) (f : ℕ) (p : Putting) (frame : List ℕ) (heads : Result FrameHead Rule) (stepped : Stepped) → before format film f ≡ Some p → frame_at film f ≡ Some frame
+    → head_of (persist_of p.state) frame ≡ heads → behind_head f p.state frame heads ≡ Ok stepped → Hold format film f p.state.slots → Hold format film (suc f) stepped.state.slots
+behind_it format film f p frame (Err rule) stepped from there is steps h = absurd cc
+behind_it format film f p frame (Ok (head.ShowExisting slot)) stepped from there is steps h =
     let same : p.state ≡ stepped.state = cc in
-    subst (λ (s : State). Hold format bytes (suc f) s.slots) same (all_later format bytes f p.state.slots h)
-behind_it format bytes f p frame (Ok (head.Coded header compressed)) stepped from there is steps h =
+    subst (λ (s : State). Hold format film (suc f) s.slots) same (all_later format film f p.state.slots h)
+behind_it format film f p frame (Ok (head.Coded header compressed)) stepped from there is steps h =
     let d = after_decoded f p.state header (decoded_in p.state frame header compressed) stepped steps in
     let c = is_coded p frame header compressed d.0 d.1 in
-    let new : IsFrameBefore format bytes (suc f) (picture_of f header d.0) = record {
+    let new : IsFrameBefore format film (suc f) (picture_of f header d.0) = record {
       earlier = omega arith;
       frame = c.coded;
-      is = coded_is format bytes f p frame header compressed d.0 from there is c;
+      is = coded_is format film f p frame header compressed d.0 from there is c;
       read = c.read;
       reads = c.reads;
       same = (λ i. picture_of f (sym c.head i) (sym c.result i));
     } in
-    subst (λ (s : State). Hold format bytes (suc f) s.slots) (sym d.2) (all_held format bytes f header.refresh (picture_of f header d.0) p.state.slots new h)
+    subst (λ (s : State). Hold format film (suc f) s.slots) (sym d.2) (all_held format film f header.refresh (picture_of f header d.0) p.state.slots new h)
 
-nothing_holds : (format : Format) (bytes : List ℕ) (n : ℕ) → Hold format bytes 0 (replicate n None)
-nothing_holds format bytes zero = none_hold (λ slot. IfSome slot (IsFrameBefore format bytes 0))
-nothing_holds format bytes (suc n) = one_more_holds (λ slot. IfSome slot (IsFrameBefore format bytes 0)) None (replicate n None) tt (nothing_holds format bytes n)
+nothing_holds : (format : Format) (film : Film) (n : ℕ) → Hold format film 0 (replicate n None)
+nothing_holds format film zero = none_hold (λ slot. IfSome slot (IsFrameBefore format film 0))
+nothing_holds format film (suc n) = one_more_holds (λ slot. IfSome slot (IsFrameBefore format film 0)) None (replicate n None) tt (nothing_holds format film n)
 
-pub slots_hold : (format : Format) (bytes : List ℕ) (f : ℕ) (p : Putting) → before format bytes f ≡ Some p → Hold format bytes f p.state.slots
+pub slots_hold : (format : Format) (film : Film) (f : ℕ) (p : Putting) → before format film f ≡ Some p → Hold format film f p.state.slots
 unfolding before step
-slots_hold format bytes zero p is =
-    let same : start format bytes ≡ p = cc in
-    subst (λ (q : Putting). Hold format bytes 0 q.state.slots) same (nothing_holds format bytes 8)
-slots_hold format bytes (suc f) p is =
-    let h = passed format bytes f p is in
+slots_hold format film zero p is =
+    let same : start format film ≡ p = cc in
+    subst (λ (q : Putting). Hold format film 0 q.state.slots) same (nothing_holds format film 8)
+slots_hold format film (suc f) p is =
+    let h = passed format film f p is in
     let s = stepped_by h.kept.form (step f h.kept.state h.bytes) h.added h.put in
     let steps : behind_head f h.kept.state h.bytes (head_of (persist_of h.kept.state) h.bytes) ≡ Ok s.0 = s.1 in
-    let held = behind_it format bytes f h.kept h.bytes (head_of (persist_of h.kept.state) h.bytes) s.0 h.before h.there refl steps (slots_hold format bytes f h.kept h.before) in
-    subst (λ (q : Putting). Hold format bytes (suc f) q.state.slots) h.is (subst (λ (st : State). Hold format bytes (suc f) st.slots) (sym s.2) held)
+    let held = behind_it format film f h.kept h.bytes (head_of (persist_of h.kept.state) h.bytes) s.0 h.before h.there refl steps (slots_hold format film f h.kept h.before) in
+    subst (λ (q : Putting). Hold format film (suc f) q.state.slots) h.is (subst (λ (st : State). Hold format film (suc f) st.slots) (sym s.2) held)

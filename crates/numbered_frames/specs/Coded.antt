@@ -20,6 +20,7 @@ use Rattle.seq_decoder.specs.After.{input_of, picture_of, references_of}
 use Rattle.seq_decoder.specs.Outputs.{Putting}
 use Rattle.seq_decoder.specs.State.{Picture, persist_of}
 use Rattle.numbered_frames.specs.Numbers.{before, frame_at}
+use Rattle.numbered_frames.specs.Films.{Film}
 
 -- a coded frame whose headers and tiles' sizes break no rule: what is kept before it, its bytes and its header, what its blocks are
 -- read by, and where its tiles lie
@@ -56,8 +57,8 @@ coded_from (Some p) None = None
 coded_from (Some p) (Some frame) = headed_from p frame (head_of (persist_of p.state) frame)
 
 -- frame f, if it is such a frame
-unfoldable pub coded : Format → List ℕ → ℕ → Option CodedFrame
-coded format bytes f = coded_from (before format bytes f) (frame_at bytes f)
+unfoldable pub coded : Format → Film → ℕ → Option CodedFrame
+coded format film f = coded_from (before format film f) (frame_at film f)
 
 -- what its tiles are read to
 abbrev pub read_of : CodedFrame → Result FrameRead Rule
@@ -72,10 +73,10 @@ abbrev pub result_of : CodedFrame → FrameRead → FrameResult
 result_of c read = rebuilt (references c) (read, c.by)
 
 -- a picture is the frame of its number, which comes before frame f
-pub record IsFrameBefore (format : Format) (bytes : List ℕ) (f : ℕ) (picture : Picture) : Type 0 where
+pub record IsFrameBefore (format : Format) (film : Film) (f : ℕ) (picture : Picture) : Type 0 where
   pub earlier : picture.frame < f
   pub frame : CodedFrame
-  pub is : coded format bytes picture.frame ≡ Some frame
+  pub is : coded format film picture.frame ≡ Some frame
   pub read : FrameRead
   pub reads : read_of frame ≡ Ok read
   pub same : picture ≡ picture_of picture.frame frame.header (result_of frame read)

@@ -1,3 +1,4 @@
+pub mod Films
 pub mod Numbers
 pub mod Coded
 pub mod Pictures

@@ -8,6 +8,7 @@ use Rattle.frame_output.specs.declared.rendering.Format.{Format}
 use Rattle.frame_state.specs.Reading.{FrameRead}
 use Rattle.planes.specs.Pictures.{blank}
 use Rattle.numbered_frames.specs.Coded.{CodedFrame, coded, read_of, result_of}
+use Rattle.numbered_frames.specs.Films.{Film}
 
 -- of a frame that isn't decoded
 abbrev pub no_picture : Picture
@@ -22,5 +23,5 @@ picture_from None = no_picture
 picture_from (Some c) = picture_read c (read_of c)
 
 -- the shape of frame f, and its samples behind the loop filter
-unfoldable pub pictures : Format → List ℕ → ℕ → Picture
-pictures format bytes f = picture_from (coded format bytes f)
+unfoldable pub pictures : Format → Film → ℕ → Picture
+pictures format film f = picture_from (coded format film f)

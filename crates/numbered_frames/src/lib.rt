@@ -3,4 +3,4 @@
 
 mod laws;
 
-pub use laws::{frames_are_the_output, slots_hold_frames};
+pub use laws::{frames_are_the_output, later_frames_change_no_earlier_one, slots_hold_frames};

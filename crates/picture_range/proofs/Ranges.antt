@@ -61,6 +61,7 @@ use Rattle.seq_decoder.specs.State.{persist_of}
 use Rattle.numbered_frames.specs.Coded.{CodedFrame, begun_from, coded, coded_from, headed_from, read_of, references}
 use Rattle.numbered_frames.specs.Numbers.{before, frame_at}
 use Rattle.numbered_frames.specs.Pictures.{picture_from, picture_read, pictures}
+use Rattle.numbered_frames.specs.Films.{Film}
 
 ---- Blocks put in ----
 
@@ -256,10 +257,10 @@ from_small : (o : Option CodedFrame) (p : Plane) → IsOwn o → IsAtMost (great
 from_small None p own = blank_small (greatest Eight) p
 from_small (Some c) p own = read_small c (read_of c) p own
 
-own_frame : (format : Format) (bytes : List ℕ) (f : ℕ) → IsOwn (coded format bytes f)
+own_frame : (format : Format) (film : Film) (f : ℕ) → IsOwn (coded format film f)
 unfolding coded
-own_frame format bytes f = coded_own (before format bytes f) (frame_at bytes f)
+own_frame format film f = coded_own (before format film f) (frame_at film f)
 
-pub picture_small : (format : Format) (bytes : List ℕ) (f : ℕ) (p : Plane) → IsAtMost (greatest (pictures format bytes f).shape.depth) ((pictures format bytes f).map p)
+pub picture_small : (format : Format) (film : Film) (f : ℕ) (p : Plane) → IsAtMost (greatest (pictures format film f).shape.depth) ((pictures format film f).map p)
 unfolding pictures
-picture_small format bytes f p = from_small (coded format bytes f) p (own_frame format bytes f)
+picture_small format film f p = from_small (coded format film f) p (own_frame format film f)

@@ -19,6 +19,6 @@ pub fn samples_are_in_range()
     ensures raw { (put : Rebuilding) (blocks : List PlannedBlock) (p : Plane) → IsAtMost (greatest put.shape.depth) (raw put blocks p) }
     ensures filtered { (f : EdgeSetting) (blocks : List BlockInfo) (m : FrameMap) (p : Plane) →
         IsAtMost (greatest f.shape.depth) (m p) → IsAtMost (greatest f.shape.depth) (filtered_frame f blocks m p) }
-    ensures pictures { (format : Format) (bytes : List ℕ) (f : ℕ) (p : Plane) →
-        IsAtMost (greatest (pictures format bytes f).shape.depth) ((pictures format bytes f).map p) }
+    ensures pictures { (format : Format) (film : Film) (f : ℕ) (p : Plane) →
+        IsAtMost (greatest (pictures format film f).shape.depth) ((pictures format film f).map p) }
 {}

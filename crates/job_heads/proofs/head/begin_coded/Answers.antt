@@ -10,13 +10,13 @@ begin-requires-clause-references g c = have_sizes c.args.before.now.persist c.ar
 pub returns-in-Err : goal.returns-in-Err
 returns-in-Err g c =
     rw c.halt_outcome.ensures
-    (begin_ends g.B.DecodeRun.format g.B.DecodeRun.bytes c.args.number c.args.before.now c.args.bytes.now c.args.header.now c.args.compressed c.in-Err.halt c.requires.kept c.requires.frame c.requires.head
+    (begin_ends g.B.DecodeRun.format g.B.DecodeRun.film c.args.number c.args.before.now c.args.bytes.now c.args.header.now c.args.compressed c.in-Err.halt c.requires.kept c.requires.frame c.requires.head
     (c.in-Err.ensures.begun c.requires.kept.kept.state c.requires.kept.stands))
 
 pub returns-in-Ok-new : goal.returns-in-Ok-new
 returns-in-Ok-new g c =
-    let it : IsBegunFrame g.B.DecodeRun.format g.B.DecodeRun.bytes c.args.number c.in-Ok-new.begun.value =
+    let it : IsBegunFrame g.B.DecodeRun.format g.B.DecodeRun.film c.args.number c.in-Ok-new.begun.value =
     rw c.in-Ok-new.ensures.ok
-    (begins_behind g.B.DecodeRun.format g.B.DecodeRun.bytes c.args.number c.args.before.now c.args.bytes.now c.args.header.now c.args.compressed c.in-Ok.begun c.requires.kept c.requires.frame c.requires.head
+    (begins_behind g.B.DecodeRun.format g.B.DecodeRun.film c.args.number c.args.before.now c.args.bytes.now c.args.header.now c.args.compressed c.in-Ok.begun c.requires.kept c.requires.frame c.requires.head
     c.in-Ok.ensures.bytes c.in-Ok.ensures.sound (c.in-Ok.ensures.begun c.requires.kept.kept.state c.requires.kept.stands)) in
     it

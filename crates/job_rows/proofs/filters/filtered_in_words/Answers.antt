@@ -5,6 +5,6 @@ use Rattle.job_rows.specs.Rows.{OfFrame}
 use Rattle.job_rows.proofs.filters.filtered_in_words.Goals as goal
 
 pub returns-in-Ok : goal.returns-in-Ok
-returns-in-Ok c = λ format bytes f row of right.
-    let all = subst (λ r. IfOk r (λ planes. OfFrame format bytes f (λ d. IsFilteredAs d row planes))) c.in-Ok.is right in
+returns-in-Ok c = λ format film f row of right.
+    let all = subst (λ r. IfOk r (λ planes. OfFrame format film f (λ d. IsFilteredAs d row planes))) c.in-Ok.is right in
     (of.0, of.1, of.2, all of.0 of.1)

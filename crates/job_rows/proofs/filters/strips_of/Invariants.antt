@@ -7,5 +7,5 @@ abbrev pub invariant-loop-k : goal.invariant-loop-k
 invariant-loop-k g l = record {
   many : length l.strips.items ≡ l.k;
   room : l.columns ≤ vec_capacity l.strips;
-  are : OfFrame g.B.DecodeRun.format g.B.DecodeRun.bytes l.frame (λ c. AreStrips c l.k l.row (map (λ b. b.now) l.strips.items));
+  are : OfFrame g.B.DecodeRun.format g.B.DecodeRun.film l.frame (λ c. AreStrips c l.k l.row (map (λ b. b.now) l.strips.items));
 }

@@ -8,5 +8,5 @@ abbrev pub invariant-loop-row : goal.invariant-loop-row
 invariant-loop-row g l = record {
   many : length l.rows.items ≡ l.row - l.first;
   room : l.end - l.first ≤ vec_capacity l.rows;
-  held : HoldRows (pictures g.B.DecodeRun.format g.B.DecodeRun.bytes l.frame) l.first (map (λ b. b.now) l.rows.items);
+  held : HoldRows (pictures g.B.DecodeRun.format g.B.DecodeRun.film l.frame) l.first (map (λ b. b.now) l.rows.items);
 }

@@ -9,7 +9,7 @@ use Rattle.job_rows.proofs.references.reference_rows.Goals as goal
 pub rows_of-requires : goal.rows_of-requires
 rows_of-requires g c κs =
     let format = g.B.DecodeRun.format in
-    let bytes = g.B.DecodeRun.bytes in
+    let film = g.B.DecodeRun.film in
     let n = c.number_of-number.result in
     let is = c.number_of-number.ensures in
     let t : TakesRows (superblocks_along (mi_rows c.args.reference.now.shape)) c.match-bands.first.0 c.match-bands.first.1 c.args.bands = elim c.match-bands.branch [
@@ -20,8 +20,8 @@ rows_of-requires g c κs =
       (
         t.order,
         (
-          subst (λ (s : Shape). c.match-bands.first.1 ≤ superblocks_along (mi_rows s)) (shape_of_number format bytes c.args.frame c.args.reference.now n is) t.inside,
-          depth_of_number g.P.PlaneSample.keeps format bytes c.args.frame c.args.reference.now n is c.requires.keeps,
+          subst (λ (s : Shape). c.match-bands.first.1 ≤ superblocks_along (mi_rows s)) (shape_of_number format film c.args.frame c.args.reference.now n is) t.inside,
+          depth_of_number g.P.PlaneSample.keeps format film c.args.frame c.args.reference.now n is c.requires.keeps,
         ),
       ),
     )
@@ -29,7 +29,7 @@ rows_of-requires g c κs =
 pub returns : goal.returns
 returns g c =
     let format = g.B.DecodeRun.format in
-    let bytes = g.B.DecodeRun.bytes in
+    let film = g.B.DecodeRun.film in
     let n = c.number_of-number.result in
     let is = c.number_of-number.ensures in
     let t : TakesRows (superblocks_along (mi_rows c.args.reference.now.shape)) c.match-bands.first.0 c.match-bands.first.1 c.args.bands = elim c.match-bands.branch [
@@ -39,7 +39,7 @@ returns g c =
     record {
       number = is;
       same = refl;
-      shape = shape_of_number format bytes c.args.frame c.args.reference.now n is;
+      shape = shape_of_number format film c.args.frame c.args.reference.now n is;
       held = c.in_ok-rows_of.ensures.rows;
       have = t.have (length c.in_ok-rows_of.field-0.items) c.in_ok-rows_of.ensures.many;
     }

@@ -7,8 +7,8 @@ pub reference_rows-requires : goal.reference_rows-requires
 reference_rows-requires g c κs = (
   (refl, (refl, tt)),
   (
-    one_named g.B.DecodeRun.format g.B.DecodeRun.bytes c.args.frame c.args.fields.now Last c.requires.named,
-    (depth_of_named g.P.PlaneSample.keeps g.B.DecodeRun.format g.B.DecodeRun.bytes c.args.frame c.args.fields.now Last c.requires.named c.requires.keeps, c.requires.inside.last),
+    one_named g.B.DecodeRun.format g.B.DecodeRun.film c.args.frame c.args.fields.now Last c.requires.named,
+    (depth_of_named g.P.PlaneSample.keeps g.B.DecodeRun.format g.B.DecodeRun.film c.args.frame c.args.fields.now Last c.requires.named c.requires.keeps, c.requires.inside.last),
   ),
 )
 
@@ -16,8 +16,8 @@ pub reference_rows-requires-2 : goal.reference_rows-requires-2
 reference_rows-requires-2 g c κs = (
   (refl, (refl, tt)),
   (
-    one_named g.B.DecodeRun.format g.B.DecodeRun.bytes c.args.frame c.args.fields.now Golden c.requires.named,
-    (depth_of_named g.P.PlaneSample.keeps g.B.DecodeRun.format g.B.DecodeRun.bytes c.args.frame c.args.fields.now Golden c.requires.named c.requires.keeps, c.requires.inside.golden),
+    one_named g.B.DecodeRun.format g.B.DecodeRun.film c.args.frame c.args.fields.now Golden c.requires.named,
+    (depth_of_named g.P.PlaneSample.keeps g.B.DecodeRun.format g.B.DecodeRun.film c.args.frame c.args.fields.now Golden c.requires.named c.requires.keeps, c.requires.inside.golden),
   ),
 )
 
@@ -25,7 +25,7 @@ pub reference_rows-requires-3 : goal.reference_rows-requires-3
 reference_rows-requires-3 g c κs = (
   (refl, (refl, tt)),
   (
-    one_named g.B.DecodeRun.format g.B.DecodeRun.bytes c.args.frame c.args.fields.now Altref c.requires.named,
-    (depth_of_named g.P.PlaneSample.keeps g.B.DecodeRun.format g.B.DecodeRun.bytes c.args.frame c.args.fields.now Altref c.requires.named c.requires.keeps, c.requires.inside.altref),
+    one_named g.B.DecodeRun.format g.B.DecodeRun.film c.args.frame c.args.fields.now Altref c.requires.named,
+    (depth_of_named g.P.PlaneSample.keeps g.B.DecodeRun.format g.B.DecodeRun.film c.args.frame c.args.fields.now Altref c.requires.named c.requires.keeps, c.requires.inside.altref),
   ),
 )

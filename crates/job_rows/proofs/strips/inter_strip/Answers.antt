@@ -23,7 +23,7 @@ put_strip-requires-clause-served g c =
     let r = c.requires.row in
     let of = c.args.of.now in
     let format = g.B.DecodeRun.format in
-    let bytes = g.B.DecodeRun.bytes in
+    let film = g.B.DecodeRun.film in
     let rows = c.args.rows.now in
     let by : Rebuilding RowSpan = record { shape = c.shape.result; last = c.picture.result; golden = c.picture-2.result; altref = c.picture-3.result } in
     let all : ArePictures rows by = record {
@@ -31,14 +31,14 @@ put_strip-requires-clause-served g c =
       golden = is_by rows.golden c.filtered-golden.result c.picture-2.result c.picture-2.ensures c.filtered-golden.ensures;
       altref = is_by rows.altref c.filtered-altref.result c.picture-3.result c.picture-3.ensures c.filtered-altref.ensures;
     } in
-    inter_row_served format bytes r.0 r.1 of rows by r.2 r.3 (c.shape.ensures ∙ ap shape_of r.3.header) r.4 all
+    inter_row_served format film r.0 r.1 of rows by r.2 r.3 (c.shape.ensures ∙ ap shape_of r.3.header) r.4 all
 
 pub put_strip-requires-clause-above : goal.put_strip-requires-clause-above
 put_strip-requires-clause-above g c =
     let r = c.requires.row in
     let of = c.args.of.now in
     let format = g.B.DecodeRun.format in
-    let bytes = g.B.DecodeRun.bytes in
+    let film = g.B.DecodeRun.film in
     let rows = c.args.rows.now in
     let by : Rebuilding RowSpan = record { shape = c.shape.result; last = c.picture.result; golden = c.picture-2.result; altref = c.picture-3.result } in
     let all : ArePictures rows by = record {
@@ -46,14 +46,14 @@ put_strip-requires-clause-above g c =
       golden = is_by rows.golden c.filtered-golden.result c.picture-2.result c.picture-2.ensures c.filtered-golden.ensures;
       altref = is_by rows.altref c.filtered-altref.result c.picture-3.result c.picture-3.ensures c.filtered-altref.ensures;
     } in
-    is_above r.1 of (rebuilding_of (map_in (pictures format bytes)) by) (option_copied c.args.above) r.3 (inter_named format bytes r.0 r.1 of rows by r.2 r.3 c.shape.ensures r.4 all) r.5
+    is_above r.1 of (rebuilding_of (map_in (pictures format film)) by) (option_copied c.args.above) r.3 (inter_named format film r.0 r.1 of rows by r.2 r.3 c.shape.ensures r.4 all) r.5
 
 pub returns : goal.returns
 returns g c =
     let r = c.requires.row in
     let of = c.args.of.now in
     let format = g.B.DecodeRun.format in
-    let bytes = g.B.DecodeRun.bytes in
+    let film = g.B.DecodeRun.film in
     let rows = c.args.rows.now in
     let by : Rebuilding RowSpan = record { shape = c.shape.result; last = c.picture.result; golden = c.picture-2.result; altref = c.picture-3.result } in
     let all : ArePictures rows by = record {
@@ -61,6 +61,6 @@ returns g c =
       golden = is_by rows.golden c.filtered-golden.result c.picture-2.result c.picture-2.ensures c.filtered-golden.ensures;
       altref = is_by rows.altref c.filtered-altref.result c.picture-3.result c.picture-3.ensures c.filtered-altref.ensures;
     } in
-    if_ok c.put_strip.result (HoldsRowOf (rebuilding_of (map_in (pictures format bytes)) by) of.plan.now of.row)
-    (λ planes. (f : ℕ) (d : CodedFrame) → coded format bytes f ≡ Some d → IsPlannedRow d of → ReadsRows format bytes f d of rows → IsStripAs d of.column of.row planes)
-    (λ planes holds. λ f d is planned reads. strip_is d of (rebuilding_of (map_in (pictures format bytes)) by) planes planned (inter_named format bytes f d of rows by is planned c.shape.ensures reads all) holds) c.put_strip.ensures
+    if_ok c.put_strip.result (HoldsRowOf (rebuilding_of (map_in (pictures format film)) by) of.plan.now of.row)
+    (λ planes. (f : ℕ) (d : CodedFrame) → coded format film f ≡ Some d → IsPlannedRow d of → ReadsRows format film f d of rows → IsStripAs d of.column of.row planes)
+    (λ planes holds. λ f d is planned reads. strip_is d of (rebuilding_of (map_in (pictures format film)) by) planes planned (inter_named format film f d of rows by is planned c.shape.ensures reads all) holds) c.put_strip.ensures

@@ -18,14 +18,14 @@ pub all_rows-requires : goal.all_rows-requires
 all_rows-requires g c κs =
     let at = c.requires.row.has in
     let format = g.B.DecodeRun.format in
-    let bytes = g.B.DecodeRun.bytes in
+    let film = g.B.DecodeRun.film in
     let of = c.planned_row-of.result in
     let by = c.planned_row-of.ensures in
     let plan = c.in_ok-planned.ensures at.frame at.is in
     let row : IsPlannedRow at.frame of =
-    planned_row format bytes c.args.frame c.args.k c.args.row at.frame c.begun-begun.result.now c.in_ok-planned.planned.now of c.requires.row at.is c.begun-begun.ensures plan by.setting by.column by.row by.plan in
-    let names = names_begun format bytes c.args.frame c.begun-begun.result.now c.in-Inter.fields c.begun-begun.ensures c.in-Inter.is in
-    let kind : at.frame.header.kind ≡ Inter c.in-Inter.fields = ap (λ (d : CodedFrame). d.header.kind) (same_coded (coded format bytes c.args.frame) at.frame names.0 at.is names.1) ∙ names.2 in
+    planned_row format film c.args.frame c.args.k c.args.row at.frame c.begun-begun.result.now c.in_ok-planned.planned.now of c.requires.row at.is c.begun-begun.ensures plan by.setting by.column by.row by.plan in
+    let names = names_begun format film c.args.frame c.begun-begun.result.now c.in-Inter.fields c.begun-begun.ensures c.in-Inter.is in
+    let kind : at.frame.header.kind ≡ Inter c.in-Inter.fields = ap (λ (d : CodedFrame). d.header.kind) (same_coded (coded format film c.args.frame) at.frame names.0 at.is names.1) ∙ names.2 in
     let needs : c.index-needs.result.now ≡ row_needs_of at.frame.header of.row of.plan.now.column.grid.blocks =
     needs_of_row at.frame c.in_ok-planned.planned.now of c.args.k c.args.row c.index-needs.result.now plan at.inside by.row by.plan c.index-needs.ensures in
     ((refl, (refl, tt)), (names, (c.requires.keeps, row_inside at.frame of c.in-Inter.fields c.index-needs.result.now row kind needs)))
@@ -34,51 +34,51 @@ pub inter_strip-requires-clause-row : goal.inter_strip-requires-clause-row
 inter_strip-requires-clause-row g c =
     let at = c.requires.row.has in
     let format = g.B.DecodeRun.format in
-    let bytes = g.B.DecodeRun.bytes in
+    let film = g.B.DecodeRun.film in
     let of = c.planned_row-of.result in
     let by = c.planned_row-of.ensures in
     let plan = c.in_ok-planned.ensures at.frame at.is in
     let row : IsPlannedRow at.frame of =
-    planned_row format bytes c.args.frame c.args.k c.args.row at.frame c.begun-begun.result.now c.in_ok-planned.planned.now of c.requires.row at.is c.begun-begun.ensures plan by.setting by.column by.row by.plan in
-    let names = names_begun format bytes c.args.frame c.begun-begun.result.now c.in-Inter.fields c.begun-begun.ensures c.in-Inter.is in
-    let kind : at.frame.header.kind ≡ Inter c.in-Inter.fields = ap (λ (d : CodedFrame). d.header.kind) (same_coded (coded format bytes c.args.frame) at.frame names.0 at.is names.1) ∙ names.2 in
+    planned_row format film c.args.frame c.args.k c.args.row at.frame c.begun-begun.result.now c.in_ok-planned.planned.now of c.requires.row at.is c.begun-begun.ensures plan by.setting by.column by.row by.plan in
+    let names = names_begun format film c.args.frame c.begun-begun.result.now c.in-Inter.fields c.begun-begun.ensures c.in-Inter.is in
+    let kind : at.frame.header.kind ≡ Inter c.in-Inter.fields = ap (λ (d : CodedFrame). d.header.kind) (same_coded (coded format film c.args.frame) at.frame names.0 at.is names.1) ∙ names.2 in
     let needs : c.index-needs.result.now ≡ row_needs_of at.frame.header of.row of.plan.now.column.grid.blocks =
     needs_of_row at.frame c.in_ok-planned.planned.now of c.args.k c.args.row c.index-needs.result.now plan at.inside by.row by.plan c.index-needs.ensures in
-    let rows = subst (λ (n : BandNeeds). AreAllRows format bytes c.args.frame c.in-Inter.fields n c.in_ok-rows-in-Inter.rows) needs c.in_ok-rows-in-Inter.ensures in
+    let rows = subst (λ (n : BandNeeds). AreAllRows format film c.args.frame c.in-Inter.fields n c.in_ok-rows-in-Inter.rows) needs c.in_ok-rows-in-Inter.ensures in
     (c.args.frame, at.frame, at.is, row, record { fields = c.in-Inter.fields; kind = kind; read = rows }, over_by at.frame of c.args.k c.args.row (option_copied c.in_ok-above.above) by.column by.row (c.in_ok-above.ensures at.frame at.is))
 
 pub returns-in_ok-rows-in-Inter : goal.returns-in_ok-rows-in-Inter
 returns-in_ok-rows-in-Inter g c =
     let at = c.requires.row.has in
     let format = g.B.DecodeRun.format in
-    let bytes = g.B.DecodeRun.bytes in
+    let film = g.B.DecodeRun.film in
     let of = c.planned_row-of.result in
     let by = c.planned_row-of.ensures in
     let plan = c.in_ok-planned.ensures at.frame at.is in
     let row : IsPlannedRow at.frame of =
-    planned_row format bytes c.args.frame c.args.k c.args.row at.frame c.begun-begun.result.now c.in_ok-planned.planned.now of c.requires.row at.is c.begun-begun.ensures plan by.setting by.column by.row by.plan in
-    let names = names_begun format bytes c.args.frame c.begun-begun.result.now c.in-Inter.fields c.begun-begun.ensures c.in-Inter.is in
-    let kind : at.frame.header.kind ≡ Inter c.in-Inter.fields = ap (λ (d : CodedFrame). d.header.kind) (same_coded (coded format bytes c.args.frame) at.frame names.0 at.is names.1) ∙ names.2 in
+    planned_row format film c.args.frame c.args.k c.args.row at.frame c.begun-begun.result.now c.in_ok-planned.planned.now of c.requires.row at.is c.begun-begun.ensures plan by.setting by.column by.row by.plan in
+    let names = names_begun format film c.args.frame c.begun-begun.result.now c.in-Inter.fields c.begun-begun.ensures c.in-Inter.is in
+    let kind : at.frame.header.kind ≡ Inter c.in-Inter.fields = ap (λ (d : CodedFrame). d.header.kind) (same_coded (coded format film c.args.frame) at.frame names.0 at.is names.1) ∙ names.2 in
     let needs : c.index-needs.result.now ≡ row_needs_of at.frame.header of.row of.plan.now.column.grid.blocks =
     needs_of_row at.frame c.in_ok-planned.planned.now of c.args.k c.args.row c.index-needs.result.now plan at.inside by.row by.plan c.index-needs.ensures in
-    let rows = subst (λ (n : BandNeeds). AreAllRows format bytes c.args.frame c.in-Inter.fields n c.in_ok-rows-in-Inter.rows) needs c.in_ok-rows-in-Inter.ensures in
-    if_ok c.inter_strip.result (λ planes. (f : ℕ) (d : CodedFrame) → coded format bytes f ≡ Some d → IsPlannedRow d of → ReadsRows format bytes f d of c.in_ok-rows-in-Inter.rows → IsStripAs d of.column of.row planes)
-    (λ planes. OfFrame format bytes c.args.frame (λ d. IsStripAs d c.args.k c.args.row planes))
-    (λ planes holds. of_frame (λ d. IsStripAs d c.args.k c.args.row planes) format bytes c.args.frame at.frame at.is
+    let rows = subst (λ (n : BandNeeds). AreAllRows format film c.args.frame c.in-Inter.fields n c.in_ok-rows-in-Inter.rows) needs c.in_ok-rows-in-Inter.ensures in
+    if_ok c.inter_strip.result (λ planes. (f : ℕ) (d : CodedFrame) → coded format film f ≡ Some d → IsPlannedRow d of → ReadsRows format film f d of c.in_ok-rows-in-Inter.rows → IsStripAs d of.column of.row planes)
+    (λ planes. OfFrame format film c.args.frame (λ d. IsStripAs d c.args.k c.args.row planes))
+    (λ planes holds. of_frame (λ d. IsStripAs d c.args.k c.args.row planes) format film c.args.frame at.frame at.is
     (strip_by at.frame of c.args.k c.args.row planes by.column by.row (holds c.args.frame at.frame at.is row (record { fields = c.in-Inter.fields; kind = kind; read = rows })))) c.inter_strip.ensures
 
 pub returns-in-Key : goal.returns-in-Key
 returns-in-Key g c =
     let at = c.requires.row.has in
     let format = g.B.DecodeRun.format in
-    let bytes = g.B.DecodeRun.bytes in
+    let film = g.B.DecodeRun.film in
     let of = c.planned_row-of.result in
     let by = c.planned_row-of.ensures in
     let plan = c.in_ok-planned.ensures at.frame at.is in
     let row : IsPlannedRow at.frame of =
-    planned_row format bytes c.args.frame c.args.k c.args.row at.frame c.begun-begun.result.now c.in_ok-planned.planned.now of c.requires.row at.is c.begun-begun.ensures plan by.setting by.column by.row by.plan in
-    let none : RefersToNone at.frame.header.kind = none_of at.frame.header.kind c.begun-begun.result.now.setting.header.kind (kind_of format bytes c.args.frame at.frame c.begun-begun.result.now at.is c.begun-begun.ensures) c.in-Key.is in
+    planned_row format film c.args.frame c.args.k c.args.row at.frame c.begun-begun.result.now c.in_ok-planned.planned.now of c.requires.row at.is c.begun-begun.ensures plan by.setting by.column by.row by.plan in
+    let none : RefersToNone at.frame.header.kind = none_of at.frame.header.kind c.begun-begun.result.now.setting.header.kind (kind_of format film c.args.frame at.frame c.begun-begun.result.now at.is c.begun-begun.ensures) c.in-Key.is in
     if_ok c.intra_strip.result (λ planes. (d : CodedFrame) → IsPlannedRow d of → RefersToNone d.header.kind → IsStripAs d of.column of.row planes)
-    (λ planes. OfFrame format bytes c.args.frame (λ d. IsStripAs d c.args.k c.args.row planes))
-    (λ planes holds. of_frame (λ d. IsStripAs d c.args.k c.args.row planes) format bytes c.args.frame at.frame at.is
+    (λ planes. OfFrame format film c.args.frame (λ d. IsStripAs d c.args.k c.args.row planes))
+    (λ planes holds. of_frame (λ d. IsStripAs d c.args.k c.args.row planes) format film c.args.frame at.frame at.is
     (strip_by at.frame of c.args.k c.args.row planes by.column by.row (holds at.frame row none))) c.intra_strip.ensures

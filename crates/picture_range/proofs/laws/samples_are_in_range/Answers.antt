@@ -8,4 +8,4 @@ pub returns-clause-filtered : goal.returns-clause-filtered
 returns-clause-filtered c = λ f blocks m p small. filtered_small f blocks m p small
 
 pub returns-clause-pictures : goal.returns-clause-pictures
-returns-clause-pictures c = λ format bytes f p. picture_small format bytes f p
+returns-clause-pictures c = λ format film f p. picture_small format film f p

@@ -1,0 +1,134 @@
+//! The results that the jobs of a group of frames may ask for, by their numbers in the film.
+
+ghost use Rattle.std.specs.Prelude.{◌≡◌, ◌+◌, ◌<◌, ◌≤◌, ◌^◌, All, IfNone, IfSome};
+ghost use Rattle.vp9_types.specs.declared.job.JobName.TheVariants.{Close, Filter};
+ghost use Rattle.job_order.specs.Sound.{frame_of};
+ghost use Rattle.job_crew.specs.Left.{HasRightResults};
+ghost use Rattle.job_crew.specs.Runs.{GoesOn};
+ghost use Rattle.job_results.specs.Groups.{in_film, numbered};
+ghost use Rattle.job_results.specs.Meaning.{decode_rules, decode_truth};
+ghost use Rattle.job_results.specs.Results.{IsRight};
+
+use job_crew::{FrameResults, Results, frame_of};
+use job_results::{Decode, DecodeRun, Group, JobResult};
+use std::marker::PhantomData;
+use std::sync::Wait;
+use std::thread;
+use vp9_types::JobName;
+
+/// The results of the group's jobs, and those that are kept of the frames before it. A frame that a later one asks for is kept, so each is there
+/// and no job waits for one.
+#[derive(Drop)]
+pub(crate) struct FilmResults<'r, 'a: 'r, B: DecodeRun, R, T> {
+    pub(crate) rt: &'r T,
+    pub(crate) first: u64,
+    pub(crate) kept: &'r [FrameResults<JobResult<'a>>],
+    pub(crate) results: &'r R,
+    pub(crate) of: PhantomData<B>,
+    ghost first_is: { first ≡ B.first },
+    ghost kept_are: { All (HasRightResults (decode_truth B.format B.film)) kept.now },
+}
+
+/// The job of a frame by another number of it.
+fn with_number(job: JobName, number: u64) -> JobName
+    ensures { result ≡ numbered number job }
+{
+    match job {
+        JobName::Head { .. } => JobName::Head { frame: number },
+        JobName::Column { column, .. } => JobName::Column {
+            frame: number,
+            column,
+        },
+        JobName::Close { .. } => JobName::Close { frame: number },
+        JobName::Rows { column, row, .. } => JobName::Rows {
+            frame: number,
+            column,
+            row,
+        },
+        JobName::Filter { row, .. } => JobName::Filter { frame: number, row },
+        JobName::Write { .. } => JobName::Write { frame: number },
+        JobName::End { .. } => JobName::End { frame: number },
+    }
+}
+
+/// The job of a frame of a group, by its number in the film.
+pub(crate) fn in_film(first: u64, job: JobName) -> JobName
+    requires { first + frame_of job < 2 ^ 64 }
+    ensures { result ≡ in_film first job }
+{
+    with_number(job, first + frame_of(job))
+}
+
+/// The job by its number in the group, where it is of one of the group's frames.
+fn in_group(first: u64, job: JobName) -> Option<JobName>
+    ensures { IfSome result (λ own. in_film first own ≡ job) }
+{
+    Some(with_number(job, frame_of(job).checked_sub(first)?))
+}
+
+impl<'r, 'a: 'r, B: DecodeRun, R, T> FilmResults<'r, 'a, B, R, T> {
+    fn kept_frame(&self, frame: u64) -> Option<&FrameResults<JobResult<'a>>>
+        ensures frame { IfSome result (λ r. r.now.frame ≡ frame) }
+        ensures right { IfSome result (λ r. HasRightResults (decode_truth B.format B.film) r.now) }
+    {
+        for at in 0..self.kept.len() {
+            let results = &self.kept[at];
+            if results.frame == frame {
+                return Some(results);
+            }
+        }
+        None
+    }
+
+    fn kept_close(&self, frame: u64) -> Option<&JobResult<'a>>
+        ensures right { IfSome result (λ x. IsRight B.format B.film (Close frame) x.now) }
+        ensures goes_on { IfSome result (λ x. GoesOn (decode_rules B.format B.film) (Close frame) x.now) }
+    {
+        match &self.kept_frame(frame)?.close {
+            Some(close) => {
+                if matches!(close, JobResult::Closed(_)) {
+                    Some(close)
+                } else {
+                    None
+                }
+            }
+            None => None,
+        }
+    }
+
+    fn kept_row(&self, frame: u64, row: u32) -> Option<&JobResult<'a>>
+        ensures { IfSome result (λ x. IsRight B.format B.film (Filter frame row) x.now) }
+    {
+        match self.kept_frame(frame)?.filters.get(row as usize)? {
+            Some(filtered) => Some(filtered),
+            None => None,
+        }
+    }
+
+    fn kept_result(&self, job: JobName) -> Option<&JobResult<'a>>
+        ensures right { IfSome result (λ x. IsRight B.format B.film job x.now) }
+        ensures goes_on { IfSome result (λ x. GoesOn (decode_rules B.format B.film) job x.now) }
+    {
+        match job {
+            JobName::Close { frame } => self.kept_close(frame),
+            JobName::Filter { frame, row } => self.kept_row(frame, row),
+            _ => None,
+        }
+    }
+}
+
+impl<'r, 'a: 'r, B: DecodeRun, R: Results<JobResult<'a>, Group<B>>, T: Wait> Results<JobResult<'a>, Decode<B>>
+    for FilmResults<'r, 'a, B, R, T> {
+    fn result(&self, job: JobName) -> &JobResult<'a> {
+        if let Some(own) = in_group(self.first, job) {
+            return self.results.result(own);
+        }
+        for _ in self.rt.forever() {
+            if let Some(kept) = self.kept_result(job) {
+                return kept;
+            }
+            thread::yield_now();
+        }
+        unreachable!()
+    }
+}
