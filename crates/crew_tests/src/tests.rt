@@ -2,7 +2,7 @@ ghost use Rattle.std.specs.Prelude.{◌≤◌, ◌≡◌};
 
 use super::*;
 use edge_io::{Gate, OpenGate};
-use job_crew::{Ending, Run, run_jobs};
+use job_crew::{Ending, FrameResults, Run, run_jobs};
 use std::alloc::Global;
 use std::sync::Wait;
 use std::sync::atomic::{AtomicU64, Ordering};
@@ -68,7 +68,38 @@ fn most_of(columns: u32, rows: u32, workers: u8, window: u8) -> u64 {
         .saturating_add(lasting)
 }
 
-// Whether a run writes the numbers of all frames below the one at which it ends, and keeps the results of few frames.
+fn are_there(results: &[Option<Number<'_>>]) -> bool {
+    for at in 0..results.len() {
+        if results[at].is_none() {
+            return false;
+        }
+    }
+    true
+}
+
+// Whether these are results of a frame, with those of its close and of so many rows.
+fn are_of(results: &FrameResults<Number<'_>>, frame: u64, rows: u32) -> bool {
+    results.frame == frame
+        && results.close.is_some()
+        && results.filters.len() == rows as usize
+        && are_there(&results.filters)
+}
+
+// Whether a run leaves the results of this frame.
+fn leaves(left: &Option<Vec<FrameResults<Number<'_>>>>, frame: u64, rows: u32) -> bool {
+    let Some(left) = left else {
+        return false;
+    };
+    for at in 0..left.len() {
+        if are_of(&left[at], frame, rows) {
+            return true;
+        }
+    }
+    false
+}
+
+// Whether a run writes the numbers of all frames below the one at which it ends, keeps the results of few frames, and leaves those of the
+// last one.
 fn is_right<
     const FRAMES: u64,
     const COLUMNS: u32,
@@ -107,6 +138,7 @@ fn is_right<
         && is_refused == told.output.is_torn
         && are_below(&told.output.numbers, all)
         && jobs.tally.most() <= kept
+        && (all < FRAMES || leaves(&told.results, all - 1, ROWS))
 }
 
 fn until(tally: &Tally, refused: u64, starved: u64) -> NumberJobs<'_> {

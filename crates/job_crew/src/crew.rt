@@ -451,10 +451,13 @@ impl<'a, X: Drop, M: Meaning<X> + Start, K: Output<X>, J: Jobs<X, M, K>, G: Gate
         self.shop.lock(rt).pool.end();
     }
 
-    // Lets the frame before one go that is to be written. What nobody else has is dropped here, and not under the lock.
+    // Lets a frame go that is written, and the one before it where that is still there. What nobody else has is dropped here, and not under the
+    // lock.
     fn retire<R: Wait>(&self, rt: &R, frame: u64) {
-        let gone = self.shop.lock(rt).frames.retire(frame);
-        drop(gone);
+        for _ in 0..2 {
+            let gone = self.shop.lock(rt).frames.retire(frame);
+            drop(gone);
+        }
     }
 
     fn do_write<R: Wait>(
@@ -482,8 +485,8 @@ impl<'a, X: Drop, M: Meaning<X> + Start, K: Output<X>, J: Jobs<X, M, K>, G: Gate
             self.end(rt, seat, Ending::Refused { frame, value }, output);
         } else {
             self.give_outlet(seat, Content::Open(Outlet::new(next, output)));
-            self.retire(rt, frame);
             self.complete(rt, held, JobName::Write { frame }, value);
+            self.retire(rt, frame);
         }
     }
 

@@ -1,6 +1,6 @@
 //! The frames at work.
 
-ghost use Rattle.std.specs.Prelude.{◌≡◌, ℕ, ◌+◌, ◌*◌, ◌<◌, length, Option, Some, IfSome, slice_get};
+ghost use Rattle.std.specs.Prelude.{◌≡◌, ℕ, ◌+◌, ◌*◌, ◌<◌, ◌≤◌, length, Option, Some, IfSome, slice_get};
 ghost use Rattle.std.specs.Arc.{arc_value};
 ghost use Rattle.job_order.specs.declared.segment.Segment.TheVariants.{Build};
 ghost use Rattle.job_order.specs.declared.segment.Shown.{Shown};
@@ -11,7 +11,7 @@ use job_order::{JobSpan, Meaning, Segment};
 use std::alloc::{AllocError, Global};
 use vp9_types::{BandSpan, JobName};
 
-/// The frames at work in order: from the last one that is written to the last that its head has found.
+/// The frames at work in order: from the first one that isn't written, or the last one, to the last that its head has found.
 #[derive(Drop)]
 pub(crate) struct Frames<X: Drop, M: Meaning<X>> {
     frames: Vec<FrameWork<X, M>>,
@@ -44,11 +44,13 @@ impl<X: Drop, M: Meaning<X>> Frames<X, M> {
         let _ = self.frames.push(frame);
     }
 
-    /// Takes out the frame before one that is to be written: all its jobs are done, and the frame to be written has what the next head asks for.
+    /// Takes out the first frame, where it is one of those up to a frame that is written, and another is behind it: all its jobs are done, and the
+    /// other has what later ones ask for.
     pub(crate) fn retire(&mut self, frame: u64) -> Option<FrameWork<X, M>>
-        ensures { IfSome result (λ gone. (arc_value (arc_value gone.at_work.frame).own).frame < frame) }
+        ensures done { IfSome result (λ gone. (arc_value (arc_value gone.at_work.frame).own).frame ≤ frame) }
+        ensures stays { 0 < length self.old.frames.items → 0 < length self.new.frames.items }
     {
-        if self.frames.len() > 0 && self.frames[0].at_work().frame().number() < frame {
+        if self.frames.len() > 1 && self.frames[0].at_work().frame().number() <= frame {
             Some(self.frames.remove(0))
         } else {
             None
