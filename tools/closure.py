@@ -98,7 +98,8 @@ def named_in(here, line):
 
 def closure(roots):
     """Returns the lines of all that these definitions lead to, by file and name. A table of numbers is a name without lines."""
-    found, left = {}, [(ANSWERS, name) for name in roots]
+    answers = module(ANSWERS)
+    found, left = {}, [answers.names.get(name, (ANSWERS, name)) for name in roots]
     while left:
         at, name = left.pop()
         if at.endswith(".TheConstants"):

@@ -9,7 +9,10 @@ use Rattle.command_words.specs.declared.command.MadeStream.{MadeStream}
 use Rattle.vp9_app.specs.declared.status.Status.{Status}
 use Rattle.vp9_app.specs.declared.status.Status.TheVariants as status
 use Rattle.vp9_app.specs.Notes.{note_line}
-use Rattle.vp9_app.specs.Answers.{OfSource, OfSink, Output, SinkQuiet, Completes, WritesFront, Reads, Unread, Makes, Trials, Works, without_memory, Reports, Runs, listed, decoded}
+use Rattle.vp9_app.specs.Answers.{Reports, Runs, Works, without_memory}
+use Rattle.vp9_app.specs.Making.{Makes, Trials}
+use Rattle.vp9_app.specs.Reading.{Completes, Output, Reads, WritesFront, decoded, listed}
+use Rattle.vp9_app.specs.Seen.{OfSink, OfSource, SinkQuiet, Unread}
 use Rattle.vp9_app.specs.Code.{MayLackMemory}
 use Rattle.vp9_app.specs.Laws.{AllQuiet, EndsAs, EndsAsTrial, HasCause, IsComplete, IsDone}
 

@@ -8,7 +8,8 @@ use Rattle.command_words.specs.declared.command.DecodeOptions.{DecodeOptions}
 use Rattle.seq_decoder.specs.Outputs.{output_of}
 use Rattle.seq_decoder.specs.Outcomes as of_run
 use Rattle.vp9_app.specs.Statuses.{ended}
-use Rattle.vp9_app.specs.Answers.{OfSource, OfSink, SourceQuiet, Completes, WritesFront, decoded}
+use Rattle.vp9_app.specs.Reading.{Completes, WritesFront, decoded}
+use Rattle.vp9_app.specs.Seen.{OfSink, OfSource, SourceQuiet}
 
 -- these bytes are all that the source had, and none is left
 abbrev pub WasRead : OfSource → List ℕ → Type 0

@@ -7,7 +7,8 @@ use Rattle.frame_headers.specs.declared.persist.Persist.{Persist}
 use Rattle.vp9_app.specs.declared.listing.Listed.{Listed}
 use Rattle.vp9_app.specs.declared.status.Status.{Status}
 use Rattle.vp9_app.specs.declared.status.Status.TheVariants as status
-use Rattle.vp9_app.specs.Answers.{OfSink, Reports}
+use Rattle.vp9_app.specs.Answers.{Reports}
+use Rattle.vp9_app.specs.Seen.{OfSink}
 
 -- a listing that ends so
 abbrev pub ending_of : Option Stop → Option (ℕ × Rule)

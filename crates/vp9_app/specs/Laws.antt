@@ -9,7 +9,9 @@ use Rattle.command_words.specs.declared.command.MadeStream.{MadeStream}
 use Rattle.stream_trial.specs.Trials.{BreaksAt, MadeEnds}
 use Rattle.vp9_app.specs.declared.status.Status.{Status}
 use Rattle.vp9_app.specs.declared.status.Status.TheVariants as status
-use Rattle.vp9_app.specs.Answers.{OfSource, OfSink, Output, SourceQuiet, SourceFailed, SinkQuiet, SinkFailed, Completes, Unread, WritesMade, WritesTrial, listed, decoded}
+use Rattle.vp9_app.specs.Making.{WritesMade, WritesTrial}
+use Rattle.vp9_app.specs.Reading.{Completes, Output, decoded, listed}
+use Rattle.vp9_app.specs.Seen.{OfSink, OfSource, SinkFailed, SinkQuiet, SourceFailed, SourceQuiet, Unread}
 use Rattle.vp9_app.specs.Notes.{note_line}
 use Rattle.vp9_app.specs.Statuses.{ended}
 

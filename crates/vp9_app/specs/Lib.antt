@@ -2,6 +2,9 @@ pub mod Lines
 pub mod Listing
 pub mod Statuses
 pub mod Notes
+pub mod Seen
+pub mod Reading
+pub mod Making
 pub mod Answers
 pub mod Laws
 pub mod Code

@@ -2,7 +2,8 @@
 
 ghost use Rattle.std.specs.Prelude.{Option};
 ghost use Rattle.command_words.specs.declared.command.Command.{Command};
-ghost use Rattle.vp9_app.specs.Answers.{OfSource, OfSink, Runs};
+ghost use Rattle.vp9_app.specs.Answers.{Runs};
+ghost use Rattle.vp9_app.specs.Seen.{OfSink, OfSource};
 ghost use Rattle.vp9_app.specs.Laws.{HasCause, IsComplete};
 ghost use Rattle.vp9_app.specs.declared.status.Status.{Status};
 

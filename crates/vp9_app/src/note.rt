@@ -1,6 +1,7 @@
 ghost use Rattle.std.specs.Prelude.{◌≡◌, IfOk, string_bytes};
 ghost use Rattle.std.specs.Result.{ForOk};
-ghost use Rattle.vp9_app.specs.Answers.{sink_seen, Reports};
+ghost use Rattle.vp9_app.specs.Answers.{Reports};
+ghost use Rattle.vp9_app.specs.Seen.{sink_seen};
 ghost use Rattle.vp9_app.specs.Code.{Tells, MayLackMemory};
 ghost use Rattle.vp9_app.specs.Notes.{note_line, stop_line};
 
