@@ -23,6 +23,11 @@ use Rattle.job_results.specs.declared.result.JobResult.{JobResult}
 use Rattle.job_results.specs.declared.result.JobResult.TheVariants as result
 use Rattle.job_results.specs.declared.result.ShownFrame.{ShownFrame}
 
+no_none : {X : Type 0} (xs : List X) (k : ℕ) → k < length xs → slice_get xs k ≡ None → ⊥
+no_none [] k low none = omega (arith, low)
+no_none (x ∷ xs) zero low none = absurd cc
+no_none (x ∷ xs) (suc k) low none = no_none xs k (omega (arith, low)) none
+
 -- a coded frame is one of the film's
 there : (from : Option Putting) (frame : Option (List ℕ)) (c : CodedFrame) → coded_from from frame ≡ Some c → (bytes : List ℕ) × (frame ≡ Some bytes)
 there None frame c is = absurd cc
@@ -42,18 +47,10 @@ module _ (format : Format) (film more : Film) (h : GoesOn film more) where
         kept = e.kept;
         reached = before_same format film more f h (omega (arith, low)) ∙ e.reached;
         ends = elim e.ends [
-          | inl at ↦ absurd (no_end f low at.0)
+          | inl at ↦ absurd (no_none film.frames f low at.0)
           | inr at ↦ inr (at.0, at.1, frame_same film more f h low ∙ at.2, at.3, at.4)
         ];
       }
-    where
-      no_end : (f : ℕ) → f < length film.frames → frame_at film f ≡ None → ⊥
-      no_end f low none = got film.frames f low none
-        where
-          got : (xs : List (List ℕ)) (k : ℕ) → k < length xs → slice_get xs k ≡ None → ⊥
-          got [] k low none = omega (arith, low)
-          got (x ∷ xs) zero low none = cc
-          got (x ∷ xs) (suc k) low none = got xs k (omega (arith, low)) none
 
   is_end : (f : ℕ) (o : Outcome) → f < length film.frames → IsEnd format film f o → IsEnd format more f o
   is_end f o low e = elim e [
