@@ -1,19 +1,19 @@
 -- What is due in a group of frames is due in the film.
-use Rattle.std.proofs.Common.{◌≡◌, ◌⊎◌, inl, inr, ◌<◌, ◌≤◌, ℕ, zero, suc, ◌+◌, List, ◌++◌, ap, sym, subst, refl, ◌∙◌, arith, append_assoc}
+use Rattle.std.proofs.Common.{◌≡◌, ◌⊎◌, inl, inr, ◌<◌, ◌≤◌, ℕ, zero, suc, ◌+◌, ◌-◌, List, ◌++◌, ap, sym, subst, refl, ◌∙◌, arith, append_assoc}
 use Rattle.std.specs.Prelude.{Option, Some, None, length}
 use Rattle.std.proofs.lemmas.Option.{slice_get_within}
 use Rattle.std.proofs.lemmas.List.{append-nil}
 use Rattle.vp9_types.specs.declared.job.JobName.{JobName}
 use Rattle.vp9_types.specs.declared.job.JobName.TheVariants.{Head, Column, Close, Rows, Filter, Write, End}
 use Rattle.frame_output.specs.declared.rendering.Format.{Format}
-use Rattle.job_order.specs.Sound.{texts_below}
+use Rattle.job_order.specs.Sound.{frame_of, texts_below}
 use Rattle.job_order.specs.Worlds.{Building}
 use Rattle.job_crew.specs.Runs.{IsBuiltSo, IsDue, IsLastOne, IsParsedSo}
 use Rattle.numbered_frames.specs.Films.{Film}
 use Rattle.numbered_frames.proofs.Ways.{passed}
 use Rattle.job_results.proofs.Later.{coded_within}
 use Rattle.job_results.specs.Results.{IsClose, IsHead}
-use Rattle.job_results.specs.Groups.{IsCounted, builds_in, group_rules, group_truth, in_film}
+use Rattle.job_results.specs.Groups.{IsCounted, IsNoEnd, builds_in, group_rules, group_truth, in_film, numbered}
 use Rattle.job_results.specs.Meaning.{builds, decode_rules, decode_truth, parses}
 use Rattle.job_results.specs.declared.result.JobResult.{JobResult}
 use Rattle.job_results.specs.declared.result.JobResult.TheVariants as result
@@ -130,3 +130,33 @@ module _ (format : Format) (film : Film) where
   due_counted (Filter f r) h = built_there f h.0 h.1
   due_counted (Write f) h = built_there f h.0 h.1
   due_counted (End f) h = tt
+
+---- Numbers ----
+
+pub frame_in_film : (n : ℕ) (job : JobName) → frame_of (in_film n job) ≡ n + frame_of job
+frame_in_film n (Head f) = refl
+frame_in_film n (Column f c) = refl
+frame_in_film n (Close f) = refl
+frame_in_film n (Rows f c r) = refl
+frame_in_film n (Filter f r) = refl
+frame_in_film n (Write f) = refl
+frame_in_film n (End f) = refl
+
+-- a job of a frame from n on is that of the group again
+pub back_in_film : (n : ℕ) (job : JobName) → n ≤ frame_of job → in_film n (numbered (frame_of job - n) job) ≡ job
+back_in_film n (Head f) h = let same : n + (f - n) ≡ f = omega (arith, h) in ap Head same
+back_in_film n (Column f c) h = let same : n + (f - n) ≡ f = omega (arith, h) in ap (λ k. Column k c) same
+back_in_film n (Close f) h = let same : n + (f - n) ≡ f = omega (arith, h) in ap Close same
+back_in_film n (Rows f c r) h = let same : n + (f - n) ≡ f = omega (arith, h) in ap (λ k. Rows k c r) same
+back_in_film n (Filter f r) h = let same : n + (f - n) ≡ f = omega (arith, h) in ap (λ k. Filter k r) same
+back_in_film n (Write f) h = let same : n + (f - n) ≡ f = omega (arith, h) in ap Write same
+back_in_film n (End f) h = let same : n + (f - n) ≡ f = omega (arith, h) in ap End same
+
+pub counted_below : (n count : ℕ) (job : JobName) → IsNoEnd job → IsCounted count (in_film n job) → n + frame_of job ≤ count
+counted_below n count (Head f) no h = h
+counted_below n count (Column f c) no h = omega (arith, h)
+counted_below n count (Close f) no h = omega (arith, h)
+counted_below n count (Rows f c r) no h = omega (arith, h)
+counted_below n count (Filter f r) no h = omega (arith, h)
+counted_below n count (Write f) no h = omega (arith, h)
+counted_below n count (End f) no h = absurd no
