@@ -698,7 +698,7 @@ pub fn run_jobs<
     let moved = Condvar::new();
     let mut seats = make_seats(run.alloc, &board, &mut first, run.workers);
     let crew = Crew {
-        run,
+        run: &*run,
         shop: &shop,
         last: &last,
         moved: &moved,

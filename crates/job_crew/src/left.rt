@@ -36,6 +36,12 @@ fn value_in<X: Drop, M: Meaning<X>>(cell: Cell<X, M>, job: JobName) -> Option<X>
     cell.into_inner()?.into_value(job)
 }
 
+fn row_in<X: Drop, M: Meaning<X>>(cell: &mut Cell<X, M>, frame: u64, row: u32) -> Option<X>
+    ensures { IfSome result (λ x. M.truth.right (Filter frame row) x) }
+{
+    cell.take()?.into_value(JobName::Filter { frame, row })
+}
+
 // The results of a frame's filters.
 fn rows_in<X: Drop, M: Meaning<X>>(
     alloc: Global,
@@ -50,11 +56,7 @@ fn rows_in<X: Drop, M: Meaning<X>>(
     let mut values = Vec::new(alloc);
     values.reserve(rows as usize)?;
     for row in 0..rows {
-        let value = match cells[row as usize].take() {
-            Some(finished) => finished.into_value(JobName::Filter { frame, row }),
-            None => None,
-        };
-        values.push_reserved(value);
+        values.push(row_in(&mut cells[row as usize], frame, row))?;
     }
     Ok(values)
 }

@@ -1,6 +1,6 @@
 -- What is due in a group of frames is due in the film.
-use Rattle.std.proofs.Common.{◌≡◌, ◌⊎◌, inl, inr, ◌<◌, ◌≤◌, ℕ, zero, suc, ◌+◌, ◌-◌, List, ◌++◌, ap, sym, subst, refl, ◌∙◌, arith, append_assoc}
-use Rattle.std.specs.Prelude.{Option, Some, None, length}
+use Rattle.std.proofs.Common.{◌≡◌, inl, inr, ◌<◌, ◌≤◌, ℕ, zero, suc, ◌+◌, ◌-◌, List, ◌++◌, ap, sym, subst, refl, ◌∙◌, arith, append_assoc}
+use Rattle.std.specs.Prelude.{Some, None, length}
 use Rattle.std.proofs.lemmas.Option.{slice_get_within}
 use Rattle.std.proofs.lemmas.List.{append-nil}
 use Rattle.vp9_types.specs.declared.job.JobName.{JobName}
@@ -13,8 +13,8 @@ use Rattle.numbered_frames.specs.Films.{Film}
 use Rattle.numbered_frames.proofs.Ways.{passed}
 use Rattle.job_results.proofs.Later.{coded_within}
 use Rattle.job_results.specs.Results.{IsClose, IsHead}
-use Rattle.job_results.specs.Groups.{IsCounted, IsNoEnd, builds_in, group_rules, group_truth, in_film, numbered}
-use Rattle.job_results.specs.Meaning.{builds, decode_rules, decode_truth, parses}
+use Rattle.job_results.specs.Groups.{IsCounted, IsNoEnd, builds_in, group_rules, group_truth, in_film, numbered, shown_in}
+use Rattle.job_results.specs.Meaning.{builds, decode_rules, decode_truth, parses, shown_as}
 use Rattle.job_results.specs.declared.result.JobResult.{JobResult}
 use Rattle.job_results.specs.declared.result.JobResult.TheVariants as result
 
@@ -23,7 +23,8 @@ told : (n : ℕ) (x : JobResult) (b : Building) → builds_in n x ≡ Some b →
 told n (result.Begun b0) b is = absurd cc
 told n (result.Existing slot) b is = absurd cc
 told n (result.Column c0) b is = absurd cc
-told n (result.Closed k) b is = let same : record { columns = k.value.columns; rows = k.value.rows; shown = _ } ≡ b = cc in (_, refl, ap (λ (c : Building). c.columns) same, ap (λ (c : Building). c.rows) same)
+told n (result.Closed k) b is = let made : Building = record { columns = k.value.columns; rows = k.value.rows; shown = shown_in n k.value.shown } in let same : made ≡ b = cc in
+    (record { columns = k.value.columns; rows = k.value.rows; shown = shown_as k.value.shown }, refl, ap (λ (c : Building). c.columns) same, ap (λ (c : Building). c.rows) same)
 told n (result.Strip planes) b is = absurd cc
 told n (result.Filtered planes) b is = absurd cc
 told n result.Starved b is = absurd cc
@@ -153,10 +154,10 @@ back_in_film n (Write f) h = let same : n + (f - n) ≡ f = omega (arith, h) in 
 back_in_film n (End f) h = let same : n + (f - n) ≡ f = omega (arith, h) in ap End same
 
 pub counted_below : (n count : ℕ) (job : JobName) → IsNoEnd job → IsCounted count (in_film n job) → n + frame_of job ≤ count
-counted_below n count (Head f) no h = h
-counted_below n count (Column f c) no h = omega (arith, h)
-counted_below n count (Close f) no h = omega (arith, h)
-counted_below n count (Rows f c r) no h = omega (arith, h)
-counted_below n count (Filter f r) no h = omega (arith, h)
-counted_below n count (Write f) no h = omega (arith, h)
-counted_below n count (End f) no h = absurd no
+counted_below n count (Head f) none_end h = h
+counted_below n count (Column f c) none_end h = omega (arith, h)
+counted_below n count (Close f) none_end h = omega (arith, h)
+counted_below n count (Rows f c r) none_end h = omega (arith, h)
+counted_below n count (Filter f r) none_end h = omega (arith, h)
+counted_below n count (Write f) none_end h = omega (arith, h)
+counted_below n count (End f) none_end h = absurd none_end

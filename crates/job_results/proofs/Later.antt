@@ -1,7 +1,7 @@
 -- A result that is right stays right when more frames come behind those of the film.
-use Rattle.std.proofs.Common.{◌≡◌, ◌<◌, ◌≤◌, ◌⊎◌, inl, inr, ℕ, zero, suc, List, [], ◌∷◌, ap, sym, subst, refl, ◌∙◌, arith}
+use Rattle.std.proofs.Common.{◌≡◌, ◌<◌, inl, inr, ℕ, zero, suc, List, [], ◌∷◌, ap, sym, subst, refl, ◌∙◌, arith}
 use Rattle.std.specs.Prelude.{Option, Some, None, length, slice_get}
-use Rattle.std.proofs.lemmas.Option.{none-some, slice_get_within}
+use Rattle.std.proofs.lemmas.Option.{slice_get_within}
 use Rattle.vp9_types.specs.declared.job.JobName.{JobName}
 use Rattle.vp9_types.specs.declared.job.JobName.TheVariants as job
 use Rattle.vp9_types.specs.declared.outcome.Outcome.{Outcome}
@@ -11,13 +11,12 @@ use Rattle.frame_output.specs.declared.rendering.Format.{Format}
 use Rattle.job_order.specs.Sound.{frame_of}
 use Rattle.numbered_frames.specs.Coded.{CodedFrame, coded, coded_from}
 use Rattle.numbered_frames.specs.Films.{Film, GoesOn}
-use Rattle.numbered_frames.specs.Numbers.{EndsAt, before, frame_at, text}
+use Rattle.numbered_frames.specs.Numbers.{EndsAt, before, frame_at}
 use Rattle.numbered_frames.specs.Pictures.{pictures}
 use Rattle.numbered_frames.proofs.LaterFrames.{before_same, coded_same, frame_same, pictures_same, text_same}
 use Rattle.band_cells.specs.Bands.{Picture}
 use Rattle.seq_decoder.specs.Outputs.{Putting, is_first}
-use Rattle.job_results.specs.Results.{IsAnyFiltered, IsAnyStrip, IsBegunAs, IsBuiltAs, IsClose, IsClosedAs, IsColumn, IsColumnAs, IsEnd, IsEndResult, IsFiltered, IsHead, IsReadFrame, IsRight, IsShown, IsStrip, ShowsSlot, shown_text}
-use Rattle.job_results.specs.Planes.{Keeps}
+use Rattle.job_results.specs.Results.{IsBegunAs, IsBuiltAs, IsClose, IsClosedAs, IsColumn, IsColumnAs, IsEnd, IsEndResult, IsFiltered, IsHead, IsReadFrame, IsRight, IsShown, IsStrip, ShowsSlot, shown_text}
 use Rattle.job_results.specs.declared.result.ClosedFrame.{ClosedFrame}
 use Rattle.job_results.specs.declared.result.JobResult.{JobResult}
 use Rattle.job_results.specs.declared.result.JobResult.TheVariants as result
@@ -58,9 +57,12 @@ module _ (format : Format) (film more : Film) (h : GoesOn film more) where
     | inr at ↦ inr (at.0, ends f at.0 low at.1, at.2)
   ]
 
+  still : (f : ℕ) (c : CodedFrame) → coded format film f ≡ Some c → coded format more f ≡ Some c
+  still f c is = coded_same format film more f h (coded_within format film f c is) ∙ is
+
   -- what is said of a coded frame
   of_coded : (P : CodedFrame → Type 0) (f : ℕ) → (c : CodedFrame) × (coded format film f ≡ Some c) × P c → (c : CodedFrame) × (coded format more f ≡ Some c) × P c
-  of_coded P f at = (at.0, coded_same format film more f h (coded_within format film f at.0 at.1) ∙ at.1, at.2)
+  of_coded P f at = (at.0, still f at.0 at.1, at.2)
 
   shows : (f slot : ℕ) → f < length film.frames → ShowsSlot format film f slot → ShowsSlot format more f slot
   shows f slot low s =
@@ -73,7 +75,7 @@ module _ (format : Format) (film more : Film) (h : GoesOn film more) where
       }
 
   read_frame : (f : ℕ) → IsReadFrame format film f → IsReadFrame format more f
-  read_frame f r = (r.0, coded_same format film more f h (coded_within format film f r.0 r.1) ∙ r.1, r.2)
+  read_frame f r = (r.0, still f r.0 r.1, r.2)
 
   picture : (f : ℕ) → IsReadFrame format film f → pictures format more f ≡ pictures format film f
   picture f r = pictures_same format film more f h (coded_within format film f r.0 r.1)
@@ -145,7 +147,7 @@ module _ (format : Format) (film more : Film) (h : GoesOn film more) where
   strip f n q (result.Existing slot) r = absurd r
   strip f n q (result.Column x) r = absurd r
   strip f n q (result.Closed k) r = absurd r
-  strip f n q (result.Strip planes) r = of_coded (λ c. Keeps c.header.color.depth planes × IsAnyStrip c n q planes) f r
+  strip f n q (result.Strip planes) r = (r.0, still f r.0 r.1, r.2, r.3)
   strip f n q (result.Filtered planes) r = absurd r
   strip f n q result.Starved r = tt
   strip f n q result.Written r = absurd r
@@ -158,7 +160,7 @@ module _ (format : Format) (film more : Film) (h : GoesOn film more) where
   filtered f q (result.Column x) r = absurd r
   filtered f q (result.Closed k) r = absurd r
   filtered f q (result.Strip planes) r = absurd r
-  filtered f q (result.Filtered planes) r = of_coded (λ c. Keeps c.header.color.depth planes × IsAnyFiltered c q planes) f r
+  filtered f q (result.Filtered planes) r = (r.0, still f r.0 r.1, r.2, r.3)
   filtered f q result.Starved r = tt
   filtered f q result.Written r = absurd r
   filtered f q (result.Refused fault) r = absurd r

@@ -54,7 +54,7 @@ group_rules n format film = record {
 -- the frames of the group among these
 abbrev pub numbers_in : ℕ → List ℕ → List ℕ
 numbers_in n [] = []
-numbers_in n (f ∷ frames) = if nat_lt f n then numbers_in n frames else f - n ∷ numbers_in n frames
+numbers_in n (f ∷ frames) = if nat_lt f n then numbers_in n frames else (f - n) ∷ numbers_in n frames
 
 abbrev pub group_truth : ℕ → Format → Film → Truth JobResult
 group_truth n format film = record {

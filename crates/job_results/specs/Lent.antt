@@ -1,5 +1,5 @@
 -- What right results say, by what they are results of.
-use Rattle.std.specs.Prelude.{◌≡◌, ℕ, List, Result, Some}
+use Rattle.std.specs.Prelude.{◌≡◌, ℕ, Result, Some}
 use Rattle.frame_output.specs.declared.rendering.Format.{Format}
 use Rattle.frame_steps.specs.Kept.{MayFollow, StandsFor}
 use Rattle.frame_steps.specs.declared.beginning.BegunFrame.{BegunFrame}

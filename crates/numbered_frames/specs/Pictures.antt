@@ -1,5 +1,5 @@
 -- The pictures of a decode, by the numbers of their frames.
-use Rattle.std.specs.Prelude.{ℕ, List, false, Option, Some, None, Result, Ok, Err}
+use Rattle.std.specs.Prelude.{ℕ, false, Option, Some, None, Result, Ok, Err}
 use Rattle.vp9_types.specs.declared.rule.Rule.{Rule}
 use Rattle.vp9_types.specs.declared.shape.Depth.TheVariants.{Eight}
 use Rattle.band_cells.specs.Bands.{Picture}
