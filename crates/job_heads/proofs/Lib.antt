@@ -1,4 +1,4 @@
-pub mod FoundFrames
+pub mod Lists
 pub mod HeadSteps
 pub mod ReferenceSizes
 pub mod CodedFrames

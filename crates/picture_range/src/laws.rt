@@ -11,6 +11,7 @@ ghost use Rattle.frame_decoder.specs.Frames.{raw};
 ghost use Rattle.frame_output.specs.declared.rendering.Format.{Format};
 ghost use Rattle.loop_edges.specs.Edges.{filtered_frame};
 ghost use Rattle.loop_edges.specs.declared.setting.EdgeSetting.{EdgeSetting};
+ghost use Rattle.numbered_frames.specs.Films.{Film};
 ghost use Rattle.numbered_frames.specs.Pictures.{pictures};
 
 /// Samples are in the range of their frame's depth: before the loop filter, whatever the blocks and the pictures that they refer to are;

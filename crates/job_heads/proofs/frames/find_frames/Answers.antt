@@ -1,7 +1,7 @@
 use Rattle.std.proofs.Common.{subst}
 use Rattle.std.specs.Prelude.{Ok}
 use Rattle.file_frames.specs.Code.{IsNext, ahead}
-use Rattle.job_heads.proofs.FoundFrames.{all_found, none_found, one_kept}
+use Rattle.job_heads.proofs.Lists.{all_found, none_found, one_kept}
 use Rattle.job_heads.proofs.frames.find_frames.Goals as goal
 
 pub frames-init : goal.frames-init

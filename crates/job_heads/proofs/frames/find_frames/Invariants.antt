@@ -1,6 +1,6 @@
 use Rattle.std.proofs.Common.{length, map}
 use Rattle.file_frames.specs.Code.{ahead}
-use Rattle.job_heads.proofs.FoundFrames.{AreFound}
+use Rattle.job_heads.proofs.Lists.{AreFound}
 use Rattle.job_heads.proofs.frames.find_frames.Given as goal
 
 abbrev pub invariant-frames : goal.invariant-frames

@@ -1,9 +1,9 @@
 -- The frames of a file, as a cursor gives them one after another.
-use Rattle.std.proofs.Common.{◌≡◌, ◌≤◌, ℕ, zero, suc, ◌+◌, ◌-◌, List, [], ◌∷◌, ◌++◌, map, drop, ap, sym, refl, ◌∙◌, append_assoc, arith}
-use Rattle.std.specs.Prelude.{Option, Some, None, slice_get}
+use Rattle.std.proofs.Common.{◌≡◌, ◌<◌, ◌≤◌, ℕ, zero, suc, ◌+◌, ◌-◌, List, [], ◌∷◌, ◌++◌, map, drop, ap, sym, refl, ◌∙◌, append_assoc, arith}
+use Rattle.std.specs.Prelude.{Option, Some, None, get_or, length, slice_get}
 use Rattle.std.specs.Option.{option_map}
 use Rattle.std.proofs.lemmas.List.{append-nil, map_push}
-use Rattle.std.proofs.lemmas.Option.{slice_get-map}
+use Rattle.std.proofs.lemmas.Option.{slice_get-map, slice_get_past, slice_get_read}
 use Rattle.vp9_types.specs.declared.outcome.Outcome.TheVariants as outcome
 use Rattle.vp9_types.specs.declared.rule.Rule.{Rule}
 use Rattle.file_frames.specs.Code.{Ahead, all_ahead}
@@ -43,14 +43,29 @@ all_found bytes number found a ending is h = record {
 
 -- a frame of the code's list
 got_behind : {X : Type 0} (xs : List X) (n f : ℕ) → n ≤ f → slice_get (drop n xs) (f - n) ≡ slice_get xs f
-got_behind xs zero f h = refl
+got_behind xs zero f h = let same : f - 0 ≡ f = omega arith in ap (λ k. slice_get xs k) same
 got_behind [] (suc n) f h = refl
 got_behind (x ∷ xs) (suc n) zero h = absurd (omega (arith, h))
-got_behind (x ∷ xs) (suc n) (suc f) h = got_behind xs n f (omega (arith, h))
+got_behind (x ∷ xs) (suc n) (suc f) h =
+    let same : suc f - suc n ≡ f - n = omega arith in
+    ap (λ k. slice_get (drop n xs) k) same ∙ got_behind xs n f (omega (arith, h))
 
 pub frame_there : {X : Type 0} (now : X → List ℕ) (film : Film) (found : List X) (first f : ℕ) → first ≤ f → map now found ≡ drop first film.frames
     → option_map now (slice_get found (f - first)) ≡ frame_at film f
 frame_there now film found first f h is = sym (slice_get-map now found (f - first)) ∙ (ap (λ xs. slice_get xs (f - first)) is ∙ got_behind film.frames first f h)
+
+-- the same, by what the list gives
+pub frame_is : {X : Type 0} (now : X → List ℕ) (film : Film) (found : List X) (own first f : ℕ) (x : X) → own ≡ first → first ≤ f → map now found ≡ drop first film.frames
+    → f - own < length found → x ≡ get_or found (f - own) x → Some (now x) ≡ frame_at film f
+frame_is now film found own first f x is h all low got =
+    let same : f - own ≡ f - first = omega (arith, is) in
+    sym (ap (option_map now) (sym (ap (λ k. slice_get found k) same) ∙ slice_get_read found (length found) (f - own) x refl low got)) ∙ frame_there now film found first f h all
+
+pub frame_none : {X : Type 0} (now : X → List ℕ) (film : Film) (found : List X) (own first f : ℕ) → own ≡ first → first ≤ f → map now found ≡ drop first film.frames
+    → length found ≤ f - own → None ≡ frame_at film f
+frame_none now film found own first f is h all past =
+    let same : f - own ≡ f - first = omega (arith, is) in
+    sym (ap (option_map now) (sym (ap (λ k. slice_get found k) same) ∙ slice_get_past found (f - own) past)) ∙ frame_there now film found first f h all
 
 pub ends_by_rule : (f : ℕ) (rule : Rule) (own ending : Option Rule) → own ≡ Some rule → own ≡ ending → outcome_at f rule ≡ outcome_of (file_ending f ending)
 ends_by_rule f rule own ending some is = ap (λ e. outcome_of (file_ending f e)) (sym some ∙ is)
