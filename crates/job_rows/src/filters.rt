@@ -19,6 +19,7 @@ ghost use Rattle.frame_output.specs.declared.rendering.Format.{Format};
 ghost use Rattle.job_results.specs.Meaning.{decode_rules, decode_truth};
 ghost use Rattle.job_results.specs.Results.{IsFiltered, IsFilteredAs};
 ghost use Rattle.job_rows.specs.Rows.{AreStrips, HasRow, IsFilteredOver, IsOfDepth, OfFrame};
+ghost use Rattle.numbered_frames.specs.Films.{Film};
 
 use crate::lent::{depth_of, filtered_planes, strip_planes};
 use crate::sample::PlaneSample;

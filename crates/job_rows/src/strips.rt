@@ -14,6 +14,7 @@ ghost use Rattle.job_results.specs.Results.{IsPlannedAs, IsStrip, IsStripAs};
 ghost use Rattle.job_rows.specs.References.{AreInside, NamesAll};
 ghost use Rattle.job_rows.specs.Rows.{HasStrip, IsOfDepth, IsStripOver, OfFrame};
 ghost use Rattle.job_rows.specs.Strips.{AreAllRows, IsPicture, IsPlannedRow, ReadsRows, RefersToNone};
+ghost use Rattle.numbered_frames.specs.Films.{Film};
 
 use crate::lent::{depth_of, strip_planes};
 use crate::references::{ReferenceRows, reference_rows};
