@@ -138,7 +138,7 @@ fn is_right<
         && is_refused == told.output.is_torn
         && are_below(&told.output.numbers, all)
         && jobs.tally.most() <= kept
-        && (all < FRAMES || leaves(&told.results, all - 1, ROWS))
+        && (all == 0 || all < FRAMES || leaves(&told.results, all - 1, ROWS))
 }
 
 fn until(tally: &Tally, refused: u64, starved: u64) -> NumberJobs<'_> {

@@ -50,7 +50,9 @@ impl<X: Drop, M: Meaning<X>> Finished<X, M> {
         ensures { IfSome result (λ x. M.truth.right job x) }
     {
         let Finished {
-            job: own, value, ..
+            job: own,
+            value,
+            ..
         } = self;
         if own == job { Some(value) } else { None }
     }

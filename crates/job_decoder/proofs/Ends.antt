@@ -1,8 +1,10 @@
 -- How a run by jobs ends.
-use Rattle.std.proofs.Common.{◌≡◌, ℕ, List, Bool, true, subst, sym, refl, inl}
+use Rattle.std.proofs.Common.{◌≡◌, ℕ, List, Bool, true, subst, sym, inl, ◌+◌, ◌++◌, arith}
 use Rattle.std.specs.Prelude.{Option}
 use Rattle.frame_output.specs.declared.rendering.Format.{Format}
-use Rattle.job_crew.specs.Runs.{IsEnded}
+use Rattle.edge_io.specs.Putting.{Takes}
+use Rattle.job_crew.specs.Runs.{IsDue, IsEnded}
+use Rattle.job_order.specs.Truths.{IsFront}
 use Rattle.job_crew.specs.declared.outlet.Ending.{Ending}
 use Rattle.job_crew.specs.declared.outlet.Ending.TheVariants.{Whole, Refused}
 use Rattle.vp9_types.specs.declared.outcome.Outcome.{Outcome}
@@ -10,7 +12,7 @@ use Rattle.seq_decoder.specs.Outcomes.{Decodes}
 use Rattle.seq_decoder.specs.Outputs.{output_of}
 use Rattle.vp9_types.specs.declared.rule.Rule.{Rule}
 use Rattle.file_frames.specs.Walks.{Walked}
-use Rattle.numbered_frames.specs.Numbers.{film_output}
+use Rattle.numbered_frames.specs.Numbers.{film_output, text}
 use Rattle.numbered_frames.proofs.Ways.{files_are_films}
 use Rattle.vp9_types.specs.declared.job.JobName.TheVariants.{End, Write}
 use Rattle.job_results.proofs.Decoding.{decodes}
@@ -20,7 +22,8 @@ use Rattle.job_results.specs.Endings.{HasRefused, IsOutcome}
 use Rattle.job_results.specs.Meaning.{decode_rules, decode_truth, fails}
 use Rattle.job_results.specs.declared.result.JobResult.{JobResult}
 use Rattle.job_results.specs.declared.result.JobResult.TheVariants as result
-use Rattle.job_results.specs.Results.{IsEndResult}
+use Rattle.job_results.specs.Results.{IsEndResult, IsRight}
+use Rattle.job_decoder.proofs.Groups.{same_texts}
 use Rattle.job_decoder.specs.Outputs.{HasRefusedSo, IsQuiet, TellsOutcome}
 use Rattle.numbered_frames.specs.Films.{Film, film_of}
 
@@ -74,13 +77,23 @@ is_over format film old (Refused f x) new may faults now grows grows_now h = rec
 -- a run of the whole film, as its only group, is one of the film
 of_film : (format : Format) (film : Film) (n : ℕ) (old : Option (List ℕ)) (ending : Ending JobResult) (new : Option (List ℕ)) (may : Type 0) (refused : JobResult → Type 0) → n ≡ 0
     → IsEnded (group_rules n format film) (group_truth n format film) old ending new may refused → IsEnded (decode_rules format film) (decode_truth format film) old ending new may refused
-of_film format film n old ending new may refused is h =
-    in_first format film old ending new may refused (subst (λ k. IsEnded (group_rules k format film) (group_truth k format film) old ending new may refused) is h)
-  where
-    in_first : (format : Format) (film : Film) (old : Option (List ℕ)) (ending : Ending JobResult) (new : Option (List ℕ)) (may : Type 0) (refused : JobResult → Type 0)
-        → IsEnded (group_rules 0 format film) (group_truth 0 format film) old ending new may refused → IsEnded (decode_rules format film) (decode_truth format film) old ending new may refused
-    in_first format film old (Whole f x) new may refused h = (due_in_film 0 format film (End f) (inl refl) h.0, h.1, h.2, h.3)
-    in_first format film old (Refused f x) new may refused h = (due_in_film 0 format film (Write f) (inl refl) h.0, h.1, h.2, h.3, h.4)
+of_film format film n old (Whole f x) new may refused is h =
+    let same : n + f ≡ f = omega (arith, is) in
+    let texts = same_texts (text format film) n f is in (
+      subst (λ k. IsDue (decode_rules format film) (decode_truth format film) (End k)) same (due_in_film n format film (End f) (inl is) h.0),
+      subst (λ k. IsRight format film (End k) x) same h.1,
+      subst (λ (t : List ℕ). Takes old new t) texts h.2,
+      h.3,
+    )
+of_film format film n old (Refused f x) new may refused is h =
+    let same : n + f ≡ f = omega (arith, is) in
+    let texts = same_texts (text format film) n f is in (
+      subst (λ k. IsDue (decode_rules format film) (decode_truth format film) (Write k)) same (due_in_film n format film (Write f) (inl is) h.0),
+      h.1,
+      h.2,
+      h.3,
+      (h.4.0, subst (λ k. IsFront h.4.0 (text format film k)) same h.4.1, subst (λ (t : List ℕ). Takes old new (t ++ h.4.0)) texts h.4.2),
+    )
 
 -- so the run is the decode, by what its marker names
 pub decodes_so : (format own_format : Format) (film own_film : Film) (first : ℕ) (old own_old : Option (List ℕ)) (ending : Ending JobResult) (new : Option (List ℕ)) (may : Type 0) (faults own_faults now : ℕ) (grew grows : Bool) (o : Outcome)

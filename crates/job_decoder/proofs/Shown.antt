@@ -1,14 +1,12 @@
 -- What a write puts.
-use Rattle.std.proofs.Common.{◌≡◌, ◌⊎◌, ◌≤◌, ◌<◌, ℕ, List, [], ◌++◌, Bool, true, false, length, take, drop, ap, subst, sym, ◌∙◌, refl, arith}
-use Rattle.std.specs.Prelude.{Option, Some, None, Result, Ok, Err}
+use Rattle.std.proofs.Common.{◌≡◌, ◌≤◌, ◌<◌, ℕ, List, take, drop, ap, subst, sym, ◌∙◌, refl, arith}
+use Rattle.std.specs.Prelude.{Option, Some, Ok, Err}
 use Rattle.std.proofs.lemmas.List.{take-append-drop}
-use Rattle.edge_io.specs.Putting.{Takes, TakesFront}
+use Rattle.edge_io.specs.Putting.{Takes}
 use Rattle.edge_io.specs.declared.sink.PutFault.{PutFault}
 use Rattle.edge_io.specs.declared.sink.PutFault.TheVariants as refused
-use Rattle.vp9_types.specs.Maps.{FrameMap, IsAtMost}
-use Rattle.vp9_types.specs.Shapes.{mi_rows, plane_height, plane_width}
-use Rattle.vp9_types.specs.Sizes.{greatest, superblocks_along}
-use Rattle.vp9_types.specs.declared.rule.Rule.{Rule}
+use Rattle.vp9_types.specs.Shapes.{mi_rows}
+use Rattle.vp9_types.specs.Sizes.{superblocks_along}
 use Rattle.vp9_types.specs.declared.shape.Depth.{Depth}
 use Rattle.vp9_types.specs.declared.shape.Depth.TheVariants.{Eight}
 use Rattle.vp9_types.specs.declared.shape.Plane.{Plane}
@@ -18,19 +16,18 @@ use Rattle.frame_output.specs.Formats.{output_text}
 use Rattle.frame_output.specs.declared.rendering.Format.{Format}
 use Rattle.frame_output.specs.declared.rendering.Rendering.{Rendering}
 use Rattle.frame_state.specs.Reading.{FrameRead}
-use Rattle.job_order.specs.Truths.{IsFront, IsRightText}
+use Rattle.job_order.specs.Truths.{IsFront}
 use Rattle.numbered_frames.specs.Coded.{CodedFrame, coded, read_of}
 use Rattle.numbered_frames.specs.Pictures.{picture_from, picture_read, pictures}
 use Rattle.seq_decoder.specs.Code.{Shows}
 use Rattle.seq_decoder.specs.Outputs.{is_first}
 use Rattle.seq_decoder.specs.declared.form.OutputForm.{OutputForm}
-use Rattle.filtered_rows.specs.Code.{held_in, map_in, rows_from, width_in}
-use Rattle.filtered_rows.specs.Laws.{HasAllRows}
+use Rattle.filtered_rows.specs.Code.{map_in, rows_from}
 use Rattle.filtered_rows.specs.Rows.{RowSpan}
 use Rattle.edge_io.proofs.Fronts.{takes_none}
 use Rattle.picture_range.proofs.Ranges.{picture_small}
 use Rattle.seq_decoder.proofs.ShowingLemmas.{small_at}
-use Rattle.job_results.specs.Results.{IsReadFrame, IsShown}
+use Rattle.job_results.specs.Results.{IsReadFrame}
 use Rattle.numbered_frames.specs.Films.{Film}
 
 ---- The frame that is shown ----

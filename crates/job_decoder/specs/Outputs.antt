@@ -1,6 +1,5 @@
 -- What a sink is in a decode, and what the run's end tells.
 use Rattle.std.specs.Prelude.{◌≡◌, ℕ, Bool}
-use Rattle.edge_io.specs.declared.sink.PutFault.{PutFault}
 use Rattle.job_crew.specs.declared.outlet.Ending.{Ending}
 use Rattle.job_crew.specs.declared.outlet.Ending.TheVariants.{Whole, Refused}
 use Rattle.job_results.specs.Endings.{HasRefused}

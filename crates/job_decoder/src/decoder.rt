@@ -19,7 +19,7 @@ use job_order::Shown;
 use job_results::{ClosedFrame, Decode, DecodeRun, Group, JobResult, ended};
 use job_rows::{do_filter, do_rows, reads};
 use std::alloc::Global;
-use std::marker::PhantomData;
+use std::marker::{Model, PhantomData};
 use std::sync::Wait;
 use vp9_types::{BandSpan, JobName, Outcome};
 
@@ -30,8 +30,21 @@ pub struct JobDecoder<'j, 'a, B: DecodeRun, T> {
     alloc: Global,
     list: FrameList<'a, B>,
     kept: Vec<FrameResults<JobResult<'a>>>,
-    ghost kept_are: { All (HasRightResults (decode_truth B.format B.film)) kept.items },
-    ghost starts: { IsDue (decode_rules B.format B.film) (decode_truth B.format B.film) (Head B.first) },
+}
+
+impl<'j, 'a, B: DecodeRun, T> Model for JobDecoder<'j, 'a, B, T> {
+    ghost use Rattle.std.specs.Prelude.{ℕ, All};
+    ghost use Rattle.vp9_types.specs.declared.job.JobName.TheVariants.{Head};
+    ghost use Rattle.job_crew.specs.Left.{HasRightResults};
+    ghost use Rattle.job_crew.specs.Runs.{IsDue};
+    ghost use Rattle.job_results.specs.Meaning.{decode_rules, decode_truth};
+
+    ghost Value = { ℕ };
+
+    ghost view = { λ d. 0 };
+
+    ghost invariant = { λ d. All (HasRightResults (decode_truth B.format B.film)) d.kept.items
+        × IsDue (decode_rules B.format B.film) (decode_truth B.format B.film) (Head B.first) };
 }
 
 /// What a frame shows, with its number of bands, where that is a frame of the group.

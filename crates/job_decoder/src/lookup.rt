@@ -11,7 +11,7 @@ ghost use Rattle.job_results.specs.Results.{IsRight};
 
 use job_crew::{FrameResults, Results, frame_of};
 use job_results::{Decode, DecodeRun, Group, JobResult};
-use std::marker::PhantomData;
+use std::marker::{Model, PhantomData};
 use std::sync::Wait;
 use std::thread;
 use vp9_types::JobName;
@@ -25,8 +25,18 @@ pub(crate) struct FilmResults<'r, 'a: 'r, B: DecodeRun, R, T> {
     pub(crate) kept: &'r [FrameResults<JobResult<'a>>],
     pub(crate) results: &'r R,
     pub(crate) of: PhantomData<B>,
-    ghost first_is: { first ≡ B.first },
-    ghost kept_are: { All (HasRightResults (decode_truth B.format B.film)) kept.now },
+}
+
+impl<'r, 'a: 'r, B: DecodeRun, R, T> Model for FilmResults<'r, 'a, B, R, T> {
+    ghost use Rattle.std.specs.Prelude.{◌≡◌, ℕ, All};
+    ghost use Rattle.job_crew.specs.Left.{HasRightResults};
+    ghost use Rattle.job_results.specs.Meaning.{decode_truth};
+
+    ghost Value = { ℕ };
+
+    ghost view = { λ r. r.first };
+
+    ghost invariant = { λ r. (r.first ≡ B.first) × All (HasRightResults (decode_truth B.format B.film)) r.kept.now };
 }
 
 /// The job of a frame by another number of it.
@@ -85,13 +95,10 @@ impl<'r, 'a: 'r, B: DecodeRun, R, T> FilmResults<'r, 'a, B, R, T> {
         ensures goes_on { IfSome result (λ x. GoesOn (decode_rules B.format B.film) (Close frame) x.now) }
     {
         match &self.kept_frame(frame)?.close {
-            Some(close) => {
-                if matches!(close, JobResult::Closed(_)) {
-                    Some(close)
-                } else {
-                    None
-                }
-            }
+            Some(close) => match close {
+                JobResult::Closed(_) => Some(close),
+                _ => None,
+            },
             None => None,
         }
     }
@@ -117,8 +124,10 @@ impl<'r, 'a: 'r, B: DecodeRun, R, T> FilmResults<'r, 'a, B, R, T> {
     }
 }
 
-impl<'r, 'a: 'r, B: DecodeRun, R: Results<JobResult<'a>, Group<B>>, T: Wait> Results<JobResult<'a>, Decode<B>>
-    for FilmResults<'r, 'a, B, R, T> {
+impl<'r, 'a: 'r, B: DecodeRun, R: Results<JobResult<'a>, Group<B>>, T: Wait> Results<
+    JobResult<'a>,
+    Decode<B>,
+> for FilmResults<'r, 'a, B, R, T> {
     fn result(&self, job: JobName) -> &JobResult<'a> {
         if let Some(own) = in_group(self.first, job) {
             return self.results.result(own);
