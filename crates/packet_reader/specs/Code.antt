@@ -4,7 +4,7 @@ use Rattle.std.specs.declared.alloc.Global.{Global}
 use Rattle.edge_io.specs.Filling.{WhereTold}
 use Rattle.edge_io.specs.Reading.{Gave}
 use Rattle.edge_io.specs.declared.read.ReadError.{ReadError}
-use Rattle.ivf_container.specs.Packets.{IsHeader, header_length, no_packets, packets_of}
+use Rattle.ivf_container.specs.Packets.{IsHeader, header_end, header_length, packets_of, rate_of}
 use Rattle.packet_reader.specs.declared.reader.PacketRefusal.{PacketRefusal}
 use Rattle.packet_reader.specs.declared.reader.PacketRefusal.TheVariants as refused
 
@@ -29,13 +29,13 @@ TakesHeader old new (Ok header) =
     Gave old new header.items × (IsEnough header.items ⊎ (IsShort header.items × WhereTold old (λ bytes. new ≡ Some [])))
 TakesHeader old new (Err e) = (front : List ℕ) × Gave old new front × IsShort front
 
--- a front was taken that is the file header, or breaks a rule, or is less than a header
-abbrev pub IsPassed : List ℕ → List ℕ → Result ⊤ PacketRefusal → Type 0
-IsPassed front rest (Ok x) = IsHeader front
-IsPassed front rest (Err (refused.Rule rule)) = packets_of (front ++ rest) ≡ no_packets (Some rule)
+-- a front was taken that is the file header, with this rate, or breaks a rule, or is less than a header
+abbrev pub IsPassed : List ℕ → List ℕ → Result (ℕ × ℕ) PacketRefusal → Type 0
+IsPassed front rest (Ok rate) = IsHeader front × (rate ≡ rate_of front)
+IsPassed front rest (Err (refused.Rule rule)) = header_end (front ++ rest) ≡ Err rule
 IsPassed front rest (Err refused.Failed) = (packets_of front).payloads ≡ []
 IsPassed front rest (Err refused.OutOfMemory) = (packets_of front).payloads ≡ []
 
-abbrev pub PassesHeader : Option (List ℕ) → Option (List ℕ) → Result ⊤ PacketRefusal → Type 0
+abbrev pub PassesHeader : Option (List ℕ) → Option (List ℕ) → Result (ℕ × ℕ) PacketRefusal → Type 0
 PassesHeader old new result =
     WhereTold old (λ bytes. (front : List ℕ) × (rest : List ℕ) × (bytes ≡ front ++ rest) × (new ≡ Some rest) × IsPassed front rest result)

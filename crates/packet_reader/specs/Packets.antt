@@ -4,7 +4,8 @@ use Rattle.std.specs.declared.alloc.Global.{Global}
 use Rattle.edge_io.specs.Filling.{WhereTold}
 use Rattle.edge_io.specs.declared.read.ReadError.{ReadError}
 use Rattle.edge_io.specs.declared.read.ReadError.TheVariants as read
-use Rattle.ivf_container.specs.Packets.{Packets, no_packets, packets_from, packets_of, with_payload}
+use Rattle.vp9_types.specs.declared.rule.Rule.{Rule}
+use Rattle.ivf_container.specs.Packets.{Packets, header_end, no_packets, packets_from, packets_of, rate_of, with_payload}
 use Rattle.packet_reader.specs.declared.reader.PacketReader.{PacketReader}
 use Rattle.packet_reader.specs.declared.reader.PacketRefusal.{PacketRefusal}
 use Rattle.packet_reader.specs.declared.reader.PacketRefusal.TheVariants as refused
@@ -16,6 +17,10 @@ source_of r = r.source
 
 abbrev pub stage_of : {S : Type 0} → PacketReader S → Stage
 stage_of r = r.stage
+
+-- the frame rate that a reader tells
+abbrev pub rate_told : {S : Type 0} → PacketReader S → ℕ × ℕ
+rate_told r = r.rate
 
 abbrev pub Answer : Type 0
 Answer = Result (Option (Vec ℕ Global)) PacketRefusal
@@ -54,6 +59,24 @@ abbrev pub GivesNext : Stage → Option (List ℕ) → Option (List ℕ) → Ans
 GivesNext (Ended refusal) old new answer = answer ≡ answer_of refusal
 GivesNext Header old new answer = TakesNext Header old new answer
 GivesNext Packet old new answer = TakesNext Packet old new answer
+
+-- the rate of a file: what its header names, and 0 and 0 where that breaks a rule
+abbrev pub rate_with : List ℕ → Result ℕ Rule → ℕ × ℕ
+rate_with bytes (Ok end) = rate_of bytes
+rate_with bytes (Err rule) = (0, 0)
+
+abbrev pub HasRate : List ℕ → ℕ × ℕ → Type 0
+HasRate bytes rate = rate ≡ rate_with bytes (header_end bytes)
+
+-- The rate that is told, before an answer and after it. The first answer tells that of the file, whose bytes are those that were
+-- left before, unless the source failed or memory was wanting. Each other one leaves it.
+abbrev pub TellsRate : Stage → Option (List ℕ) → ℕ × ℕ → ℕ × ℕ → Answer → Type 0
+TellsRate Header told before now (Ok payload) = WhereTold told (λ bytes. HasRate bytes now)
+TellsRate Header told before now (Err (refused.Rule rule)) = WhereTold told (λ bytes. HasRate bytes now)
+TellsRate Header told before now (Err refused.Failed) = ⊤
+TellsRate Header told before now (Err refused.OutOfMemory) = ⊤
+TellsRate Packet told before now answer = now ≡ before
+TellsRate (Ended refusal) told before now answer = now ≡ before
 
 -- it stays as it is
 abbrev pub IsAgain : {S : Type 0} → PacketReader S → PacketReader S → Answer → Type 0

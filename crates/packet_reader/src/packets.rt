@@ -2,7 +2,7 @@
 
 ghost use Rattle.std.specs.Prelude.{◌≡◌, ◌⊎◌, ◌<◌, ◌≤◌, ◌^◌, max, length, take, codes};
 ghost use Rattle.ivf_container.specs.Packets.{header_length};
-ghost use Rattle.packet_reader.specs.Packets.{CountsRefusals, TakesNext};
+ghost use Rattle.packet_reader.specs.Packets.{CountsRefusals, TakesNext, TellsRate};
 ghost use Rattle.packet_reader.specs.declared.reader.Stage.TheVariants.{Header, Packet};
 ghost use Rattle.edge_io.specs.Reading.{CountsReadFaults};
 ghost use Rattle.packet_reader.specs.Code.{PassesHeader, TakesHeader};
@@ -11,7 +11,7 @@ use crate::filled::fill_up;
 use crate::reader::PacketRefusal;
 use byteorder::{ByteOrder, LittleEndian};
 use edge_io::{ReadError, Source};
-use ivf_container::read_header;
+use ivf_container::{rate, read_header};
 use std::alloc::Global;
 use vp9_types::Rule;
 
@@ -50,8 +50,11 @@ fn take_header<S: Source>(alloc: Global, source: &mut S) -> Result<Vec<u8>, Read
     Ok(header)
 }
 
-/// Takes the file header from a source.
-pub(crate) fn pass_header<S: Source>(alloc: Global, source: &mut S) -> Result<(), PacketRefusal>
+/// Takes the file header from a source, and gives the rate that it names.
+pub(crate) fn pass_header<S: Source>(
+    alloc: Global,
+    source: &mut S,
+) -> Result<(u32, u32), PacketRefusal>
     requires { S.can_fill source.old }
     ensures bytes { PassesHeader (S.rest source.old) (S.rest source.new) result }
     ensures faults { CountsRefusals (S.faults source.old) (S.faults source.new) result }
@@ -59,7 +62,7 @@ pub(crate) fn pass_header<S: Source>(alloc: Global, source: &mut S) -> Result<()
 {
     let header = take_header(alloc, source)?;
     read_header(&header)?;
-    Ok(())
+    Ok(rate(&header))
 }
 
 /// Takes the next packet from a source that stands behind the header or another packet, and gives its payload.
@@ -89,16 +92,19 @@ pub(crate) fn take_packet<S: Source>(
     Ok(Some(payload))
 }
 
-/// Takes the file header and the first packet.
+/// Takes the file header, whose rate it puts down, and the first packet.
 pub(crate) fn take_first<S: Source>(
     alloc: Global,
     source: &mut S,
+    told: &mut (u32, u32),
 ) -> Result<Option<Vec<u8>>, PacketRefusal>
     requires { S.can_fill source.old }
     ensures bytes { TakesNext Header (S.rest source.old) (S.rest source.new) result }
+    ensures rate { TellsRate Header (S.rest source.old) told.old told.new result }
     ensures faults { CountsRefusals (S.faults source.old) (S.faults source.new) result }
     ensures again { S.faults source.new ≡ S.faults source.old → S.can_fill source.new }
 {
-    pass_header(alloc, source)?;
+    *told = (0, 0);
+    *told = pass_header(alloc, source)?;
     take_packet(alloc, source)
 }

@@ -3,7 +3,7 @@
 ghost use Rattle.std.specs.Prelude.{◌≡◌};
 ghost use Rattle.packet_reader.specs.declared.reader.PacketRefusal.TheVariants as refused;
 ghost use Rattle.packet_reader.specs.declared.reader.Stage.TheVariants.{Header};
-ghost use Rattle.packet_reader.specs.Packets.{source_of, stage_of, CountsNext, GivesNext, IsAgain, IsReady, stage_after};
+ghost use Rattle.packet_reader.specs.Packets.{source_of, stage_of, rate_told, CountsNext, GivesNext, IsAgain, IsReady, IsReadyAt, TellsRate, stage_after};
 
 use crate::packets::{take_first, take_packet};
 use edge_io::{ReadError, Source};
@@ -58,6 +58,7 @@ pub struct PacketReader<S> {
     alloc: Global,
     source: S,
     stage: Stage,
+    rate: (u32, u32),
 }
 
 impl<S> PacketReader<S> {
@@ -65,12 +66,22 @@ impl<S> PacketReader<S> {
     pub fn new(alloc: Global, source: S) -> PacketReader<S>
         ensures source { source_of result ≡ source }
         ensures stage { stage_of result ≡ Header }
+        ensures rate { rate_told result ≡ (0, 0) }
     {
         PacketReader {
             alloc,
             source,
             stage: Stage::Header,
+            rate: (0, 0),
         }
+    }
+
+    /// The frame rate that the file header names: frames for each so many seconds. It is 0 and 0 before the header is passed, and
+    /// where that breaks a rule.
+    pub fn rate(&self) -> (u32, u32)
+        ensures { result ≡ rate_told self.now }
+    {
+        self.rate
     }
 
     /// The source as it stands, behind what was taken of it.
@@ -91,9 +102,11 @@ impl<S: Source> PacketReader<S> {
         ensures again { IsAgain self.old self.new result }
         ensures faults { CountsNext (stage_of self.old) (S.faults (source_of self.old)) (S.faults (source_of self.new)) result }
         ensures ready { IsReady S.can_fill self.new }
+        ensures asked { IsReadyAt (stage_of self.old) (S.faults (source_of self.new) ≡ S.faults (source_of self.old) → S.can_fill (source_of self.new)) }
+        ensures rate { TellsRate (stage_of self.old) (S.rest (source_of self.old)) (rate_told self.old) (rate_told self.new) result }
     {
         let answer = match self.stage {
-            Stage::Header => take_first(self.alloc, &mut self.source),
+            Stage::Header => take_first(self.alloc, &mut self.source, &mut self.rate),
             Stage::Packet => take_packet(self.alloc, &mut self.source),
             Stage::Ended(None) => return Ok(None),
             Stage::Ended(Some(refusal)) => return Err(refusal),
