@@ -1,0 +1,131 @@
+-- Groups, packet by packet.
+use Rattle.std.proofs.Common.{◌≡◌, ℕ, List, [], ◌∷◌, ◌++◌, map, refl, sym, ap, subst, ◌∙◌, append_assoc}
+use Rattle.std.specs.Prelude.{Option, Some, None, Result, Ok, Err, Vec, slice_range}
+use Rattle.std.specs.List.{flat_map}
+use Rattle.std.specs.declared.alloc.Global.{Global}
+use Rattle.std.proofs.lemmas.Grind.{flat_map-append}
+use Rattle.std.proofs.lemmas.List.{append-nil}
+use Rattle.vp9_types.specs.declared.job.Span.{Span}
+use Rattle.vp9_types.specs.declared.rule.Rule.{Rule}
+use Rattle.ivf_container.specs.Packets.{Packets, header_end, no_packets, packets_of, with_payload}
+use Rattle.superframe_index.specs.Frames.{at_spans, frames_of}
+use Rattle.file_frames.specs.FileFrames.{FileFrames, frames_in, joined, split_all, split_packets, with_frames}
+use Rattle.packet_reader.proofs.PacketLemmas.{none_left}
+use Rattle.packet_reader.specs.Packets.{Answer, GivesNext, TakesNext, packets_in, source_of, stage_of}
+use Rattle.packet_reader.specs.declared.reader.PacketReader.{PacketReader}
+use Rattle.packet_reader.specs.declared.reader.PacketRefusal.TheVariants as refused
+use Rattle.packet_reader.specs.declared.reader.Stage.{Stage}
+use Rattle.packet_reader.specs.declared.reader.Stage.TheVariants.{Header, Packet, Ended}
+use Rattle.frame_groups.specs.declared.group.Behind.{Behind}
+use Rattle.frame_groups.specs.declared.group.Behind.TheVariants.{More, End, Broken, Failed, OutOfMemory}
+use Rattle.frame_groups.specs.Groups.{IsGroup, IsReadyAt, LeadTo, TakesGroup, frames_ahead, payload_frames}
+use Rattle.frame_groups.specs.Code.{AddsGroup}
+use Rattle.frame_groups.specs.declared.group.FramePayload.{FramePayload}
+use Rattle.frame_groups.proofs.PacketSteps.{packet_stays}
+
+---- One packet ----
+
+-- a reader that hasn't ended is asked
+pub asked : (stage : Stage) (P : Type 0) (old new : Option (List ℕ)) (answer : Answer) → IsReadyAt stage P → GivesNext stage old new answer → TakesNext stage old new answer
+asked Header P old new answer ready gives = gives
+asked Packet P old new answer ready gives = gives
+asked (Ended refusal) P old new answer ready gives = absurd ready
+
+abbrev pub at_parts : List ℕ → List Span → List (List ℕ)
+at_parts payload spans = map (λ span. slice_range payload span.from span.to) spans
+
+pub leads : (stage : Stage) (front payload : List ℕ) (spans : List Span) → packets_in stage front ≡ with_payload payload (no_packets None) → frames_of payload ≡ Ok spans
+    → LeadTo stage front (at_parts payload spans) Packet
+leads stage front payload spans is parts =
+    record { frames_are = λ more. ap frames_in (with_more more); ending_is = λ more. ap (λ (f : FileFrames). f.ending) (with_more more) } where
+      with_more : (more : List ℕ) → frames_ahead stage (front ++ more) ≡ with_frames (at_parts payload spans) (frames_ahead Packet more)
+      with_more more =
+          ap split_packets (packet_stays stage front payload more is)
+          ∙ ap (λ (r : Result (List Span) Rule). joined (at_spans payload r) (frames_ahead Packet more)) parts
+
+none_ahead : (stage : Stage) → frames_in (frames_ahead stage []) ≡ []
+unfolding packets_of header_end
+none_ahead Header = refl
+none_ahead Packet = ap (λ (p : Packets). frames_in (split_packets p)) none_left
+none_ahead (Ended refusal) = refl
+
+pub no_room : (stage : Stage) (told : Option (List ℕ)) → TakesGroup stage told told [] OutOfMemory
+no_room stage told = λ bytes is. ([], bytes, refl, is, none_ahead stage)
+
+pub at_end : (stage : Stage) (old new : Option (List ℕ)) → TakesNext stage old new (Ok None) → TakesGroup stage old new [] End
+at_end stage old new takes = λ bytes told. let h = takes bytes told in
+    (h.0, h.1, h.2, h.3, (ap (λ (p : Packets). frames_in (split_packets p)) h.4.0, ap (λ (p : Packets). (split_packets p).ending) h.4.0, h.4.1))
+
+broken_at : (stage : Stage) (bytes : List ℕ) (packets : Packets) (rule : Rule) → packets_in stage bytes ≡ packets → frames_in (split_packets packets) ≡ [] → (split_packets packets).ending ≡ Some rule
+    → (frames_in (frames_ahead stage bytes) ≡ []) × ((frames_ahead stage bytes).ending ≡ Some rule)
+broken_at stage bytes packets rule is frames ending =
+    (ap (λ (p : Packets). frames_in (split_packets p)) is ∙ frames, ap (λ (p : Packets). (split_packets p).ending) is ∙ ending)
+
+pub at_rule : (stage : Stage) (old new : Option (List ℕ)) (rule : Rule) → TakesNext stage old new (Err (refused.Rule rule)) → TakesGroup stage old new [] (Broken rule)
+at_rule stage old new rule takes = λ bytes told. let h = takes bytes told in
+    (h.0, h.1, h.2, h.3, broken_at stage (h.0 ++ h.1) (no_packets (Some rule)) rule h.4 refl refl)
+
+no_frames_yet : (stage : Stage) (front : List ℕ) → (packets_in stage front).payloads ≡ [] → frames_in (frames_ahead stage front) ≡ []
+no_frames_yet stage front none = ap (λ (payloads : List (List ℕ)). frames_in (split_all payloads (packets_in stage front).ending)) none
+
+pub at_fault : (stage : Stage) (old new : Option (List ℕ)) → TakesNext stage old new (Err refused.Failed) → TakesGroup stage old new [] Failed
+at_fault stage old new takes = λ bytes told. let h = takes bytes told in (h.0, h.1, h.2, h.3, no_frames_yet stage h.0 h.4)
+
+pub at_memory : (stage : Stage) (old new : Option (List ℕ)) → TakesNext stage old new (Err refused.OutOfMemory) → TakesGroup stage old new [] OutOfMemory
+at_memory stage old new takes = λ bytes told. let h = takes bytes told in (h.0, h.1, h.2, h.3, no_frames_yet stage h.0 h.4)
+
+-- a payload whose sizes break a rule
+pub at_sizes : (stage : Stage) (old new : Option (List ℕ)) (payload : Vec ℕ Global) (rule : Rule) → TakesNext stage old new (Ok (Some payload)) → frames_of payload.items ≡ Err rule
+    → TakesGroup stage old new [] (Broken rule)
+at_sizes stage old new payload rule takes sizes = λ bytes told. let h = takes bytes told in
+    let rest = packets_in Packet h.1 in
+    let split : split_packets (with_payload payload.items rest) ≡ record { payloads = []; ending = Some rule } = ap (λ (r : Result (List Span) Rule). joined (at_spans payload.items r) (split_packets rest)) sizes in
+    (h.0, h.1, h.2, h.3, broken_at stage (h.0 ++ h.1) (with_payload payload.items rest) rule h.4.1 (ap frames_in split) (ap (λ (f : FileFrames). f.ending) split))
+
+pub at_payload : (stage : Stage) (old new : Option (List ℕ)) (payload : Vec ℕ Global) (spans : List Span) → TakesNext stage old new (Ok (Some payload)) → frames_of payload.items ≡ Ok spans
+    → TakesGroup stage old new (at_parts payload.items spans ++ []) More
+at_payload stage old new payload spans takes parts =
+    subst (λ (frames : List (List ℕ)). TakesGroup stage old new frames More) (sym (append-nil (at_parts payload.items spans)))
+    (λ bytes told. let h = takes bytes told in (h.0, h.1, h.2, h.3, leads stage h.0 payload.items spans h.4.0 parts))
+
+---- One packet more ----
+
+group_more : (stage next : Stage) (a b rest : List ℕ) (first frames : List (List ℕ)) (behind : Behind) → LeadTo stage a first next → IsGroup next b rest frames behind
+    → IsGroup stage (a ++ b) rest (first ++ frames) behind
+group_more stage next a b rest first frames More lead group =
+    record {
+      frames_are = λ more. ap (λ (xs : List ℕ). frames_in (frames_ahead stage xs)) (append_assoc a b more) ∙ lead.frames_are (b ++ more)
+          ∙ ap (λ (xs : List (List ℕ)). first ++ xs) (group.frames_are more) ∙ sym (append_assoc first frames (frames_in (frames_ahead Packet more)));
+      ending_is = λ more. ap (λ (xs : List ℕ). (frames_ahead stage xs).ending) (append_assoc a b more) ∙ lead.ending_is (b ++ more) ∙ group.ending_is more;
+    }
+group_more stage next a b rest first frames End lead group =
+    (lead.frames_are b ∙ ap (λ (xs : List (List ℕ)). first ++ xs) group.0, lead.ending_is b ∙ group.1, group.2)
+group_more stage next a b rest first frames (Broken rule) lead group = (
+  ap (λ (xs : List ℕ). frames_in (frames_ahead stage xs)) (append_assoc a b rest) ∙ lead.frames_are (b ++ rest) ∙ ap (λ (xs : List (List ℕ)). first ++ xs) group.0,
+  ap (λ (xs : List ℕ). (frames_ahead stage xs).ending) (append_assoc a b rest) ∙ lead.ending_is (b ++ rest) ∙ group.1,
+)
+group_more stage next a b rest first frames Failed lead group = lead.frames_are b ∙ ap (λ (xs : List (List ℕ)). first ++ xs) group
+group_more stage next a b rest first frames OutOfMemory lead group = lead.frames_are b ∙ ap (λ (xs : List (List ℕ)). first ++ xs) group
+
+pub takes_more : (stage : Stage) (old mid new : Option (List ℕ)) (first frames : List (List ℕ)) (behind : Behind) → TakesGroup stage old mid first More → TakesGroup Packet mid new frames behind
+    → TakesGroup stage old new (first ++ frames) behind
+takes_more stage old mid new first frames behind takes next = λ bytes told. let h = takes bytes told in let k = next h.1 h.3 in
+    (h.0 ++ k.0, k.1, h.2 ∙ ap (λ (xs : List ℕ). h.0 ++ xs) k.2 ∙ sym (append_assoc h.0 k.0 k.1), k.3, group_more stage Packet h.0 k.0 k.1 first frames behind h.4 k.4)
+
+---- What is added ----
+
+-- the payload of a packet
+pub adds_one : (stage : Stage) (old new : Option (List ℕ)) (before mid after : List FramePayload) (p : FramePayload) → mid ≡ before → after ≡ mid ++ p ∷ [] → TakesGroup stage old new (payload_frames p ++ []) More
+    → (more : List FramePayload) × (after ≡ before ++ more) × TakesGroup stage old new (flat_map payload_frames more) More
+adds_one stage old new before mid after p same is takes = (p ∷ [], is ∙ ap (λ (xs : List FramePayload). xs ++ p ∷ []) same, takes)
+
+-- one group behind another
+pub adds_more : {S : Type 0} (rest : S → Option (List ℕ)) (old mid new : PacketReader S) (before between after : List FramePayload) (behind : Behind) → AddsGroup old mid rest before between More
+    → stage_of mid ≡ Packet → AddsGroup mid new rest between after behind → AddsGroup old new rest before after behind
+adds_more rest old mid new before between after behind first stands next =
+    let takes = subst (λ (s : Stage). TakesGroup s (rest (source_of mid)) (rest (source_of new)) (flat_map payload_frames next.0) behind) stands next.2 in (
+      first.0 ++ next.0,
+      next.1 ∙ ap (λ (xs : List FramePayload). xs ++ next.0) first.1 ∙ append_assoc before first.0 next.0,
+      subst (λ (frames : List (List ℕ)). TakesGroup (stage_of old) (rest (source_of old)) (rest (source_of new)) frames behind) (sym (flat_map-append payload_frames first.0 next.0))
+          (takes_more (stage_of old) (rest (source_of old)) (rest (source_of mid)) (rest (source_of new)) (flat_map payload_frames first.0) (flat_map payload_frames next.0) behind first.2 takes),
+    )

@@ -1,0 +1,4 @@
+pub mod PacketSteps
+pub mod Fronts
+pub mod GroupLemmas
+pub mod RateLemmas

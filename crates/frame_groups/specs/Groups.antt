@@ -1,0 +1,103 @@
+-- The frames of an IVF file, taken from a source in groups of whole packets. What a file's frames are stands in file_frames, and
+-- where a reader of packets stands in packet_reader.
+use Rattle.std.specs.Prelude.{◌≡◌, ℕ, ◌<◌, List, [], ◌++◌, map, slice_range, false, Option, Some, None, ⊤}
+use Rattle.std.specs.List.{flat_map}
+use Rattle.edge_io.specs.Filling.{WhereTold}
+use Rattle.file_frames.specs.Containers.{is_webm, rate_of_file}
+use Rattle.file_frames.specs.FileFrames.{FileFrames, frames_in, split_packets}
+use Rattle.packet_reader.specs.Packets as packets
+use Rattle.packet_reader.specs.declared.reader.Stage.{Stage}
+use Rattle.packet_reader.specs.declared.reader.Stage.TheVariants.{Header, Packet, Ended}
+use Rattle.frame_groups.specs.declared.group.Behind.{Behind}
+use Rattle.frame_groups.specs.declared.group.Behind.TheVariants.{More, End, Broken, Failed, OutOfMemory}
+use Rattle.frame_groups.specs.declared.group.FrameGroup.{FrameGroup}
+use Rattle.frame_groups.specs.declared.group.FramePayload.{FramePayload}
+use Rattle.frame_groups.specs.declared.reader.GroupReader.{GroupReader}
+
+---- The reader ----
+
+abbrev pub source_of : {S : Type 0} → GroupReader S → S
+source_of r = packets.source_of r.packets
+
+-- where it stands
+abbrev pub stage_of : {S : Type 0} → GroupReader S → Stage
+stage_of r = packets.stage_of r.packets
+
+-- the frame rate that it tells
+abbrev pub rate_told : {S : Type 0} → GroupReader S → ℕ × ℕ
+rate_told r = packets.rate_told r.packets
+
+-- it hasn't ended, and the source may be asked
+abbrev pub IsReadyAt : Stage → Type 0 → Type 0
+IsReadyAt Header can_fill = can_fill
+IsReadyAt Packet can_fill = can_fill
+IsReadyAt (Ended refusal) can_fill = ⊥
+
+abbrev pub IsReady : {S : Type 0} → (S → Type 0) → GroupReader S → Type 0
+IsReady can_fill r = IsReadyAt (stage_of r) (can_fill (source_of r))
+
+---- A group ----
+
+-- the frames of a payload, by where they lie
+abbrev pub payload_frames : FramePayload → List (List ℕ)
+payload_frames p = map (λ span. slice_range p.bytes.items span.from span.to) p.parts.items
+
+-- the frames of a group
+abbrev pub group_frames : FrameGroup → List (List ℕ)
+group_frames g = flat_map payload_frames g.payloads.items
+
+-- the frames that bytes hold: from the beginning of a file on, or from the beginning of a packet on
+abbrev pub frames_ahead : Stage → List ℕ → FileFrames
+frames_ahead stage bytes = split_packets (packets.packets_in stage bytes)
+
+-- Whatever comes behind these bytes: what they hold together begins with these frames, and what is behind those is what the others
+-- hold, where they begin at this stage.
+pub record LeadTo (stage : Stage) (front : List ℕ) (frames : List (List ℕ)) (next : Stage) : Type 0 where
+  pub frames_are : (more : List ℕ) → frames_in (frames_ahead stage (front ++ more)) ≡ frames ++ frames_in (frames_ahead next more)
+  pub ending_is : (more : List ℕ) → (frames_ahead stage (front ++ more)).ending ≡ (frames_ahead next more).ending
+
+-- Of the bytes that were left a front was taken. It is whole packets with these frames, or all up to the end, or a rule is broken
+-- behind the frames; or the source failed, or memory was wanting, behind those of the packets that are whole in it.
+abbrev pub IsGroup : Stage → List ℕ → List ℕ → List (List ℕ) → Behind → Type 0
+IsGroup stage front rest frames More = LeadTo stage front frames Packet
+IsGroup stage front rest frames End = (frames_in (frames_ahead stage front) ≡ frames) × ((frames_ahead stage front).ending ≡ None) × (rest ≡ [])
+IsGroup stage front rest frames (Broken rule) =
+    (frames_in (frames_ahead stage (front ++ rest)) ≡ frames) × ((frames_ahead stage (front ++ rest)).ending ≡ Some rule)
+IsGroup stage front rest frames Failed = frames_in (frames_ahead stage front) ≡ frames
+IsGroup stage front rest frames OutOfMemory = frames_in (frames_ahead stage front) ≡ frames
+
+-- what a source has left, before and after, where it tells that
+abbrev pub TakesGroup : Stage → Option (List ℕ) → Option (List ℕ) → List (List ℕ) → Behind → Type 0
+TakesGroup stage old new frames behind =
+    WhereTold old (λ bytes. (front : List ℕ) × (rest : List ℕ) × (bytes ≡ front ++ rest) × (new ≡ Some rest) × IsGroup stage front rest frames behind)
+
+-- where a reader stands behind a group that has more behind it
+abbrev pub StandsBehind : Behind → Stage → Type 0
+StandsBehind More stage = stage ≡ Packet
+StandsBehind End stage = ⊤
+StandsBehind (Broken rule) stage = ⊤
+StandsBehind Failed stage = ⊤
+StandsBehind OutOfMemory stage = ⊤
+
+-- a source's count of faults, before and after: it rises exactly where the source failed
+abbrev pub CountsGroup : ℕ → ℕ → Behind → Type 0
+CountsGroup before now More = now ≡ before
+CountsGroup before now End = now ≡ before
+CountsGroup before now (Broken rule) = now ≡ before
+CountsGroup before now Failed = before < now
+CountsGroup before now OutOfMemory = now ≡ before
+
+-- the rate is that of a file with these bytes, if it isn't a WebM file
+abbrev pub HasRateOf : List ℕ → ℕ × ℕ → Type 0
+HasRateOf bytes rate = is_webm bytes ≡ false → rate ≡ rate_of_file bytes
+
+-- The rate that is told, before a group and behind it. The first group tells that of the file, whose bytes are those that were left
+-- before, unless the source failed or memory was wanting. Each other one leaves it.
+abbrev pub TellsGroupRate : Stage → Option (List ℕ) → ℕ × ℕ → ℕ × ℕ → Behind → Type 0
+TellsGroupRate Header told before now More = WhereTold told (λ bytes. HasRateOf bytes now)
+TellsGroupRate Header told before now End = WhereTold told (λ bytes. HasRateOf bytes now)
+TellsGroupRate Header told before now (Broken rule) = WhereTold told (λ bytes. HasRateOf bytes now)
+TellsGroupRate Header told before now Failed = ⊤
+TellsGroupRate Header told before now OutOfMemory = ⊤
+TellsGroupRate Packet told before now behind = now ≡ before
+TellsGroupRate (Ended refusal) told before now behind = now ≡ before

@@ -1,0 +1,10 @@
+//! The frames of an IVF file, taken from a source in groups of whole packets; and which container a source has.
+#![tactic(auto)]
+
+mod group;
+mod opening;
+mod reader;
+
+pub use group::{Behind, FrameGroup, FramePayload};
+pub use opening::{Opened, open};
+pub use reader::GroupReader;

@@ -1,0 +1,139 @@
+//! The reader.
+
+ghost use Rattle.std.specs.Prelude.{◌≡◌, ◌<◌, length};
+ghost use Rattle.packet_reader.specs.Packets as packets;
+ghost use Rattle.packet_reader.specs.declared.reader.Stage.TheVariants.{Header};
+ghost use Rattle.frame_groups.specs.Groups.{CountsGroup, StandsBehind, IsReady, TakesGroup, TellsGroupRate, group_frames, rate_told, source_of, stage_of};
+ghost use Rattle.frame_groups.specs.Code.{AddsGroup, CanGoOn};
+
+use crate::group::{Behind, FrameGroup, FramePayload};
+use edge_io::Source;
+use packet_reader::{PacketReader, PacketRefusal};
+use std::alloc::Global;
+use superframe_index::split;
+
+/// So many bytes of payloads are enough for a group, however few frames they have.
+const GROUP_BYTES: usize = 4 << 20;
+
+/// And so many packets, however few bytes they have.
+const GROUP_PACKETS: u32 = 1 << 16;
+
+/// The frames of an IVF file, taken from a source in groups of whole packets.
+#[derive(Drop)]
+pub struct GroupReader<S> {
+    alloc: Global,
+    packets: PacketReader<S>,
+}
+
+impl<S> GroupReader<S> {
+    /// A reader of the file that the source gives from here on. Nothing is read yet.
+    pub fn new(alloc: Global, source: S) -> GroupReader<S>
+        ensures source { source_of result ≡ source }
+        ensures stage { stage_of result ≡ Header }
+        ensures rate { rate_told result ≡ (0, 0) }
+    {
+        GroupReader {
+            alloc,
+            packets: PacketReader::new(alloc, source),
+        }
+    }
+
+    /// The frame rate that the file header names: frames for each so many seconds. It is 0 and 0 before the header is passed, and
+    /// where that breaks a rule.
+    pub fn rate(&self) -> (u32, u32)
+        ensures { result ≡ rate_told self.now }
+    {
+        self.packets.rate()
+    }
+
+    /// The source as it stands, behind what was taken of it.
+    pub fn into_source(self) -> S
+        ensures { result ≡ source_of self }
+    {
+        self.packets.into_source()
+    }
+}
+
+impl<S: Source> GroupReader<S> {
+    /// The frames of the next packets: of one, and then of more until there are `least` frames, or 4 MiB of payloads, or 65,536
+    /// packets. What was wholly taken before a fault or want of memory is in the group.
+    pub fn next_group(&mut self, least: usize) -> FrameGroup
+        requires { IsReady S.can_fill self.old }
+        ensures group { TakesGroup (stage_of self.old) (S.rest (source_of self.old)) (S.rest (source_of self.new)) (group_frames result) result.behind }
+        ensures stage { StandsBehind result.behind (stage_of self.new) }
+        ensures faults { CountsGroup (S.faults (source_of self.old)) (S.faults (source_of self.new)) result.behind }
+        ensures again { S.faults (source_of self.new) ≡ S.faults (source_of self.old) → S.can_fill (source_of self.new) }
+        ensures rate { TellsGroupRate (stage_of self.old) (S.rest (source_of self.old)) (rate_told self.old) (rate_told self.new) result.behind }
+    {
+        let mut payloads = Vec::new(self.alloc);
+        let behind = take_payloads(&mut self.packets, &mut payloads, least);
+        FrameGroup { payloads, behind }
+    }
+}
+
+/// Takes the next packet, and adds its payload to those before it. Room for it is there before the packet is taken: so none is
+/// lost for want of memory.
+fn take_payload<S: Source>(reader: &mut PacketReader<S>, payloads: &mut Vec<FramePayload>) -> Behind
+    requires { CanGoOn S.can_fill reader.old }
+    ensures group { AddsGroup reader.old reader.new S.rest payloads.old.items payloads.new.items result }
+    ensures stage { StandsBehind result (packets.stage_of reader.new) }
+    ensures faults { CountsGroup (S.faults (packets.source_of reader.old)) (S.faults (packets.source_of reader.new)) result }
+    ensures again { S.faults (packets.source_of reader.new) ≡ S.faults (packets.source_of reader.old) → S.can_fill (packets.source_of reader.new) }
+    ensures rate { TellsGroupRate (packets.stage_of reader.old) (S.rest (packets.source_of reader.old)) (packets.rate_told reader.old) (packets.rate_told reader.new) result }
+{
+    if payloads.reserve(1).is_err() {
+        return Behind::OutOfMemory;
+    }
+    let bytes = match reader.next() {
+        Ok(Some(bytes)) => bytes,
+        Ok(None) => return Behind::End,
+        Err(PacketRefusal::Rule(rule)) => return Behind::Broken(rule),
+        Err(PacketRefusal::Failed) => return Behind::Failed,
+        Err(PacketRefusal::OutOfMemory) => return Behind::OutOfMemory,
+    };
+    match split(&bytes) {
+        Ok(parts) => payloads.push_reserved(FramePayload { bytes, parts }),
+        Err(rule) => return Behind::Broken(rule),
+    }
+    Behind::More
+}
+
+/// How many frames and how many bytes the last of some payloads has.
+fn last_counts(payloads: &[FramePayload]) -> (usize, usize) {
+    match payloads.last() {
+        Some(last) => (last.parts.len(), last.bytes.len()),
+        None => (0, 0),
+    }
+}
+
+/// Takes packets until they are enough for a group.
+fn take_payloads<S: Source>(
+    reader: &mut PacketReader<S>,
+    payloads: &mut Vec<FramePayload>,
+    least: usize,
+) -> Behind
+    requires { CanGoOn S.can_fill reader.old }
+    ensures group { AddsGroup reader.old reader.new S.rest payloads.old.items payloads.new.items result }
+    ensures stage { StandsBehind result (packets.stage_of reader.new) }
+    ensures faults { CountsGroup (S.faults (packets.source_of reader.old)) (S.faults (packets.source_of reader.new)) result }
+    ensures again { S.faults (packets.source_of reader.new) ≡ S.faults (packets.source_of reader.old) → S.can_fill (packets.source_of reader.new) }
+    ensures rate { TellsGroupRate (packets.stage_of reader.old) (S.rest (packets.source_of reader.old)) (packets.rate_told reader.old) (packets.rate_told reader.new) result }
+{
+    let mut behind = take_payload(reader, payloads);
+    let mut frames: usize = 0;
+    let mut bytes: usize = 0;
+    'packets: for _ in 1..GROUP_PACKETS {
+        match behind {
+            Behind::More => {}
+            _ => return behind,
+        }
+        let (more_frames, more_bytes) = last_counts(payloads);
+        frames = frames.saturating_add(more_frames);
+        bytes = bytes.saturating_add(more_bytes);
+        if frames >= least || bytes >= GROUP_BYTES {
+            return behind;
+        }
+        behind = take_payload(reader, payloads);
+    }
+    behind
+}
