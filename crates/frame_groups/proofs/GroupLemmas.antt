@@ -129,3 +129,13 @@ adds_more rest old mid new before between after behind first stands next =
       subst (λ (frames : List (List ℕ)). TakesGroup (stage_of old) (rest (source_of old)) (rest (source_of new)) frames behind) (sym (flat_map-append payload_frames first.0 next.0))
           (takes_more (stage_of old) (rest (source_of old)) (rest (source_of mid)) (rest (source_of new)) (flat_map payload_frames first.0) (flat_map payload_frames next.0) behind first.2 takes),
     )
+
+---- Nothing more ----
+
+pub frames_alone : (stage : Stage) (front : List ℕ) (frames : List (List ℕ)) → LeadTo stage front frames Packet → frames_in (frames_ahead stage front) ≡ frames
+frames_alone stage front frames lead =
+    ap (λ (xs : List ℕ). frames_in (frames_ahead stage xs)) (sym (append-nil front)) ∙ lead.frames_are [] ∙ ap (λ (xs : List (List ℕ)). frames ++ xs) (none_ahead Packet) ∙ append-nil frames
+
+pub ends_alone : (stage : Stage) (front : List ℕ) (frames : List (List ℕ)) → LeadTo stage front frames Packet → (frames_ahead stage front).ending ≡ None
+ends_alone stage front frames lead =
+    ap (λ (xs : List ℕ). (frames_ahead stage xs).ending) (sym (append-nil front)) ∙ lead.ending_is [] ∙ ap (λ (p : Packets). (split_packets p).ending) none_left

@@ -1,3 +1,4 @@
+pub mod Files
 pub mod PacketSteps
 pub mod Fronts
 pub mod GroupLemmas

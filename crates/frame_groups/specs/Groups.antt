@@ -71,13 +71,13 @@ abbrev pub TakesGroup : Stage → Option (List ℕ) → Option (List ℕ) → Li
 TakesGroup stage old new frames behind =
     WhereTold old (λ bytes. (front : List ℕ) × (rest : List ℕ) × (bytes ≡ front ++ rest) × (new ≡ Some rest) × IsGroup stage front rest frames behind)
 
--- where a reader stands behind a group that has more behind it
-abbrev pub StandsBehind : Behind → Stage → Type 0
-StandsBehind More stage = stage ≡ Packet
-StandsBehind End stage = ⊤
-StandsBehind (Broken rule) stage = ⊤
-StandsBehind Failed stage = ⊤
-StandsBehind OutOfMemory stage = ⊤
+-- behind a group that has more behind it a reader stands before a packet, and its source may be asked
+abbrev pub StandsBehind : Behind → Stage → Type 0 → Type 0
+StandsBehind More stage can_fill = (stage ≡ Packet) × can_fill
+StandsBehind End stage can_fill = ⊤
+StandsBehind (Broken rule) stage can_fill = ⊤
+StandsBehind Failed stage can_fill = ⊤
+StandsBehind OutOfMemory stage can_fill = ⊤
 
 -- a source's count of faults, before and after: it rises exactly where the source failed
 abbrev pub CountsGroup : ℕ → ℕ → Behind → Type 0

@@ -1,3 +1,4 @@
 pub mod Groups
 pub mod Openings
 pub mod Code
+pub mod Laws

@@ -2,9 +2,11 @@
 #![tactic(auto)]
 
 mod group;
+mod laws;
 mod opening;
 mod reader;
 
 pub use group::{Behind, FrameGroup, FramePayload};
+pub use laws::{file_has_frames_ahead, front_has_these_frames};
 pub use opening::{Opened, open};
 pub use reader::GroupReader;

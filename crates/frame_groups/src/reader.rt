@@ -60,7 +60,7 @@ impl<S: Source> GroupReader<S> {
     pub fn next_group(&mut self, least: usize) -> FrameGroup
         requires { IsReady S.can_fill self.old }
         ensures group { TakesGroup (stage_of self.old) (S.rest (source_of self.old)) (S.rest (source_of self.new)) (group_frames result) result.behind }
-        ensures stage { StandsBehind result.behind (stage_of self.new) }
+        ensures stage { StandsBehind result.behind (stage_of self.new) (S.can_fill (source_of self.new)) }
         ensures faults { CountsGroup (S.faults (source_of self.old)) (S.faults (source_of self.new)) result.behind }
         ensures again { S.faults (source_of self.new) ≡ S.faults (source_of self.old) → S.can_fill (source_of self.new) }
         ensures rate { TellsGroupRate (stage_of self.old) (S.rest (source_of self.old)) (rate_told self.old) (rate_told self.new) result.behind }
@@ -76,7 +76,7 @@ impl<S: Source> GroupReader<S> {
 fn take_payload<S: Source>(reader: &mut PacketReader<S>, payloads: &mut Vec<FramePayload>) -> Behind
     requires { CanGoOn S.can_fill reader.old }
     ensures group { AddsGroup reader.old reader.new S.rest payloads.old.items payloads.new.items result }
-    ensures stage { StandsBehind result (packets.stage_of reader.new) }
+    ensures stage { StandsBehind result (packets.stage_of reader.new) (S.can_fill (packets.source_of reader.new)) }
     ensures faults { CountsGroup (S.faults (packets.source_of reader.old)) (S.faults (packets.source_of reader.new)) result }
     ensures again { S.faults (packets.source_of reader.new) ≡ S.faults (packets.source_of reader.old) → S.can_fill (packets.source_of reader.new) }
     ensures rate { TellsGroupRate (packets.stage_of reader.old) (S.rest (packets.source_of reader.old)) (packets.rate_told reader.old) (packets.rate_told reader.new) result }
@@ -114,7 +114,7 @@ fn take_payloads<S: Source>(
 ) -> Behind
     requires { CanGoOn S.can_fill reader.old }
     ensures group { AddsGroup reader.old reader.new S.rest payloads.old.items payloads.new.items result }
-    ensures stage { StandsBehind result (packets.stage_of reader.new) }
+    ensures stage { StandsBehind result (packets.stage_of reader.new) (S.can_fill (packets.source_of reader.new)) }
     ensures faults { CountsGroup (S.faults (packets.source_of reader.old)) (S.faults (packets.source_of reader.new)) result }
     ensures again { S.faults (packets.source_of reader.new) ≡ S.faults (packets.source_of reader.old) → S.can_fill (packets.source_of reader.new) }
     ensures rate { TellsGroupRate (packets.stage_of reader.old) (S.rest (packets.source_of reader.old)) (packets.rate_told reader.old) (packets.rate_told reader.new) result }

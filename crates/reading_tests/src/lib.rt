@@ -12,6 +12,8 @@ mod frames;
 #[cfg(test)]
 mod geometry;
 #[cfg(test)]
+mod groups;
+#[cfg(test)]
 mod packets;
 #[cfg(test)]
 mod readers;

@@ -18,9 +18,9 @@ const PAYLOADS: [(usize, usize); 6] = [
 
 // Gives at most so many bytes at a call, and tells none beforehand.
 #[derive(Drop)]
-struct Pieces {
-    source: MemSource,
-    size: usize,
+pub(crate) struct Pieces {
+    pub source: MemSource,
+    pub size: usize,
 }
 
 impl Source for Pieces {

@@ -19,13 +19,13 @@ packets-preserved g c =
     let t = c.take_payload-behind-in-packets.ensures in
     let more = c.in-More.is in
     let group = subst (λ (b : Behind). AddsGroup fresh old rest c.args.payloads.now.items c.packets.payloads.items b) more h.group in
-    let stands = subst (λ (b : Behind). StandsBehind b (stage_of old)) more h.stage in
+    let stands = subst (λ (b : Behind). StandsBehind b (stage_of old) (g.S.Source.can_fill (source_of old))) more h.stage in
     let counts = subst (λ (b : Behind). CountsGroup (faults (source_of fresh)) (faults (source_of old)) b) more h.faults in
     let rate = subst (λ (b : Behind). TellsGroupRate (stage_of fresh) (rest (source_of fresh)) (rate_told fresh) (rate_told old) b) more h.rate in
     record {
-      group = adds_more rest fresh old new c.args.payloads.now.items c.packets.payloads.items c.take_payload-behind-in-packets.new.payloads.items behind group stands t.group;
+      group = adds_more rest fresh old new c.args.payloads.now.items c.packets.payloads.items c.take_payload-behind-in-packets.new.payloads.items behind group stands.0 t.group;
       stage = t.stage;
       faults = subst (λ (n : ℕ). CountsGroup n (faults (source_of new)) behind) counts t.faults;
       again = λ same. t.again (same ∙ sym counts);
-      rate = rate_again (stage_of old) (stage_of fresh) (rest (source_of fresh)) (rest (source_of old)) (rate_told fresh) (rate_told old) (rate_told new) behind rate stands t.rate;
+      rate = rate_again (stage_of old) (stage_of fresh) (rest (source_of fresh)) (rest (source_of old)) (rate_told fresh) (rate_told old) (rate_told new) behind rate stands.0 t.rate;
     }

@@ -9,7 +9,7 @@ abbrev pub invariant-packets : goal.invariant-packets
 invariant-packets g l =
     record {
       group : AddsGroup l.fn.reader l.reader g.S.Source.rest l.fn.payloads.items l.payloads.items l.behind;
-      stage : StandsBehind l.behind (stage_of l.reader);
+      stage : StandsBehind l.behind (stage_of l.reader) (g.S.Source.can_fill (source_of l.reader));
       faults : CountsGroup (g.S.Source.faults (source_of l.fn.reader)) (g.S.Source.faults (source_of l.reader)) l.behind;
       again : g.S.Source.faults (source_of l.reader) ≡ g.S.Source.faults (source_of l.fn.reader) → g.S.Source.can_fill (source_of l.reader);
       rate : TellsGroupRate (stage_of l.fn.reader) (g.S.Source.rest (source_of l.fn.reader)) (rate_told l.fn.reader) (rate_told l.reader) l.behind;

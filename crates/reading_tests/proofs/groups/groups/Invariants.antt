@@ -1,0 +1,5 @@
+use Rattle.frame_groups.specs.Groups.{IsReady}
+use Rattle.reading_tests.proofs.groups.groups.Given as goal
+
+abbrev pub invariant-groups : goal.invariant-groups
+invariant-groups l = IsReady (λ _. Unit {0}) l.reader

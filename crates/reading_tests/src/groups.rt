@@ -1,0 +1,136 @@
+//! Frames taken in groups from sources that give their bytes in pieces, or fail; and which container a source has.
+
+use crate::packets::STREAM;
+use crate::readers::Pieces;
+use edge_io::{Failed, MemSource, Source};
+use file_frames::{FrameCursor, rate_of_file};
+use frame_groups::{Behind, FrameGroup, GroupReader, Opened, open};
+use std::alloc::{AllocError, Global};
+use std::test::Fail;
+use vp9_types::Rule;
+
+// A payload of two frames and their index, an empty one, one of one frame, and three bytes of a packet's header. The rate is 25 to 2.
+const CUT_SHORT: &[u8] = b"DKIF\0\0 \0VP90\0\0\0\0\x19\0\0\0\x02\0\0\0\0\0\0\0\0\0\0\0\
+\x07\0\0\0\0\0\0\0\0\0\0\0abc\xc1\x02\x01\xc1\
+\0\0\0\0\0\0\0\0\0\0\0\0\
+\x01\0\0\0\0\0\0\0\0\0\0\0d\
+\x01\0\0";
+
+// A frame, a payload whose index has a size larger than what lies before it, and another frame.
+const WRONG_SIZES: &[u8] = b"DKIF\0\0 \0VP90\0\0\0\0\0\0\0\0\0\0\0\0\0\0\0\0\0\0\0\0\
+\x01\0\0\0\0\0\0\0\0\0\0\0a\
+\x07\0\0\0\0\0\0\0\0\0\0\0\0\0\0\xc1\x10\x01\xc1\
+\x01\0\0\0\0\0\0\0\0\0\0\0b";
+
+const WEBM: &[u8] = b"\x1aE\xdf\xa3\x80\x18S\x80g\xff";
+
+// The frames of the group are the next ones of the file.
+fn are_next(
+    alloc: Global,
+    group: &FrameGroup,
+    cursor: &mut FrameCursor<'_>,
+) -> Result<bool, AllocError> {
+    for frame in group.frames(alloc)? {
+        if !matches!(cursor.next_frame(), Ok(Some(next)) if next.bytes == frame) {
+            return Ok(false);
+        }
+    }
+    Ok(true)
+}
+
+// How many groups a file has, by a source that gives so many bytes at a call, and what is behind the last one. Their frames are those of
+// the file.
+fn groups(alloc: Global, bytes: &[u8], size: usize, least: usize) -> Result<(u32, Behind), Fail> {
+    let source = MemSource::new(alloc, bytes, &[])?;
+    let mut reader = GroupReader::new(alloc, Pieces { source, size });
+    let mut cursor = FrameCursor::new(bytes);
+    'groups: for number in 1..20 {
+        let group = reader.next_group(least);
+        if !are_next(alloc, &group, &mut cursor)? || reader.rate() != rate_of_file(bytes) {
+            return Err(Fail::new(format_args!("at group {number}")));
+        }
+        match group.behind {
+            Behind::More => {}
+            behind => return Ok((number, behind)),
+        }
+    }
+    Err(Fail::new(format_args!("there is no end")))
+}
+
+#[test]
+fn any_pieces(rt: HostRuntime) -> Result<(), Fail> {
+    let alloc = rt.alloc();
+    for size in [1, 7, 4096] {
+        for (least, number) in [(0, 7), (1, 7), (4, 2), (6, 2), (7, 1)] {
+            assert_eq!(rt; groups(alloc, STREAM, size, least)?, (number, Behind::End));
+        }
+        let cut = Behind::Broken(Rule::IvfTruncated);
+        for (least, number) in [(0, 4), (1, 3), (2, 2), (3, 2), (4, 1)] {
+            assert_eq!(rt; groups(alloc, CUT_SHORT, size, least)?, (number, cut));
+        }
+        let sizes = Behind::Broken(Rule::SuperframeSizes);
+        for (least, number) in [(1, 2), (2, 1)] {
+            assert_eq!(rt; groups(alloc, WRONG_SIZES, size, least)?, (number, sizes));
+        }
+        let header = Behind::Broken(Rule::IvfSignature);
+        assert_eq!(rt; groups(alloc, b"DKIX", size, 1)?, (1, header));
+    }
+    Ok(())
+}
+
+// The header is one call, and each packet two. What was taken before a fault is in the group.
+#[test]
+fn failing_calls(rt: HostRuntime) -> Result<(), Fail> {
+    for call in 1..14u64 {
+        let source = MemSource::new(rt.alloc(), STREAM, &[call])?;
+        let mut reader = GroupReader::new(rt.alloc(), source);
+        let group = reader.next_group(100);
+        assert_eq!(rt; group.behind, Behind::Failed);
+        let frames = group.frames(rt.alloc())?;
+        assert_eq!(rt;
+            frames.len() as u64,
+            call.saturating_sub(2) / 2,
+            "at call {call}"
+        );
+        assert!(rt; reader.into_source().fill(&mut [0; 4]).is_ok());
+    }
+    Ok(())
+}
+
+fn first_of<S: Source>(source: &mut S) -> u8
+    requires { S.can_fill source.old }
+{
+    let mut byte = [0];
+    match source.fill(&mut byte) {
+        Ok(1) => byte[0],
+        _ => 0,
+    }
+}
+
+#[test]
+fn containers(rt: HostRuntime) -> Result<(), Fail> {
+    for size in [1, 3, 4096] {
+        for (bytes, kind) in [
+            (STREAM, 'D'),
+            (WEBM, '\x1a'),
+            (b"DKIX", 'D'),
+            (&WEBM[..3], ' '),
+            (b"", ' '),
+        ] {
+            let source = MemSource::new(rt.alloc(), bytes, &[])?;
+            match open(Pieces { source, size }) {
+                Opened::Webm(mut source) => assert!(rt;
+                    kind == '\x1a' && first_of(&mut source) == 0x1a
+                ),
+                Opened::Ivf(mut source) => assert!(rt;
+                    kind == 'D' && first_of(&mut source) == b'D'
+                ),
+                Opened::Short(_) => assert_eq!(rt; kind, ' '),
+                Opened::Failed(_) => return Err(Fail::new(format_args!("a fault"))),
+            }
+        }
+    }
+    let source = MemSource::new(rt.alloc(), STREAM, &[2])?;
+    assert!(rt; matches!(open(Pieces { source, size: 2 }), Opened::Failed(_)));
+    Ok(())
+}
