@@ -50,8 +50,8 @@ group_frames g = flat_map payload_frames g.payloads.items
 abbrev pub frames_ahead : Stage → List ℕ → FileFrames
 frames_ahead stage bytes = split_packets (packets.packets_in stage bytes)
 
--- Whatever comes behind these bytes: what they hold together begins with these frames, and what is behind those is what the others
--- hold, where they begin at this stage.
+-- Whatever comes behind these bytes: what they hold together are these frames, and then what the others hold by themselves, read from
+-- the second stage on; and it ends as that does.
 pub record LeadTo (stage : Stage) (front : List ℕ) (frames : List (List ℕ)) (next : Stage) : Type 0 where
   pub frames_are : (more : List ℕ) → frames_in (frames_ahead stage (front ++ more)) ≡ frames ++ frames_in (frames_ahead next more)
   pub ending_is : (more : List ℕ) → (frames_ahead stage (front ++ more)).ending ≡ (frames_ahead next more).ending

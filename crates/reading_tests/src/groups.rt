@@ -107,30 +107,32 @@ fn first_of<S: Source>(source: &mut S) -> u8
     }
 }
 
+// What a source is opened as, and its first byte then.
+fn opened(
+    alloc: Global,
+    bytes: &[u8],
+    size: usize,
+    fails: &[u64],
+) -> Result<(char, u8), AllocError> {
+    let source = MemSource::new(alloc, bytes, fails)?;
+    match open(Pieces { source, size }) {
+        Opened::Webm(mut source) => Ok(('w', first_of(&mut source))),
+        Opened::Ivf(mut source) => Ok(('i', first_of(&mut source))),
+        Opened::Short(_source) => Ok(('s', 0)),
+        Opened::Failed(_source) => Ok(('f', 0)),
+    }
+}
+
 #[test]
 fn containers(rt: HostRuntime) -> Result<(), Fail> {
+    let alloc = rt.alloc();
     for size in [1, 3, 4096] {
-        for (bytes, kind) in [
-            (STREAM, 'D'),
-            (WEBM, '\x1a'),
-            (b"DKIX", 'D'),
-            (&WEBM[..3], ' '),
-            (b"", ' '),
-        ] {
-            let source = MemSource::new(rt.alloc(), bytes, &[])?;
-            match open(Pieces { source, size }) {
-                Opened::Webm(mut source) => assert!(rt;
-                    kind == '\x1a' && first_of(&mut source) == 0x1a
-                ),
-                Opened::Ivf(mut source) => assert!(rt;
-                    kind == 'D' && first_of(&mut source) == b'D'
-                ),
-                Opened::Short(_) => assert_eq!(rt; kind, ' '),
-                Opened::Failed(_) => return Err(Fail::new(format_args!("a fault"))),
-            }
-        }
+        assert_eq!(rt; opened(alloc, STREAM, size, &[])?, ('i', b'D'));
+        assert_eq!(rt; opened(alloc, WEBM, size, &[])?, ('w', 0x1a));
+        assert_eq!(rt; opened(alloc, b"DKIX", size, &[])?, ('i', b'D'));
+        assert_eq!(rt; opened(alloc, &WEBM[..3], size, &[])?, ('s', 0));
+        assert_eq!(rt; opened(alloc, b"", size, &[])?, ('s', 0));
     }
-    let source = MemSource::new(rt.alloc(), STREAM, &[2])?;
-    assert!(rt; matches!(open(Pieces { source, size: 2 }), Opened::Failed(_)));
+    assert_eq!(rt; opened(alloc, STREAM, 2, &[2])?, ('f', 0));
     Ok(())
 }
