@@ -1,5 +1,5 @@
 -- Groups, packet by packet.
-use Rattle.std.proofs.Common.{◌≡◌, ℕ, List, [], ◌∷◌, ◌++◌, map, refl, sym, ap, subst, ◌∙◌, append_assoc}
+use Rattle.std.proofs.Common.{◌≡◌, ◌≤◌, ℕ, List, [], ◌∷◌, ◌++◌, length, map, refl, sym, ap, subst, ◌∙◌, arith, append_assoc, inl}
 use Rattle.std.specs.Prelude.{Option, Some, None, Result, Ok, Err, Vec, slice_range}
 use Rattle.std.specs.List.{flat_map}
 use Rattle.std.specs.declared.alloc.Global.{Global}
@@ -10,8 +10,9 @@ use Rattle.vp9_types.specs.declared.rule.Rule.{Rule}
 use Rattle.ivf_container.specs.Packets.{Packets, header_end, no_packets, packets_of, with_payload}
 use Rattle.superframe_index.specs.Frames.{at_spans, frames_of}
 use Rattle.file_frames.specs.FileFrames.{FileFrames, frames_in, joined, split_all, split_packets, with_frames}
-use Rattle.packet_reader.proofs.PacketLemmas.{none_left}
-use Rattle.packet_reader.specs.Packets.{Answer, GivesNext, TakesNext, packets_in, source_of, stage_of}
+use Rattle.packet_reader.proofs.PacketLemmas.{left_behind, none_left, packet_ahead}
+use Rattle.packet_reader.proofs.HeaderLemmas.{no_payload_yet}
+use Rattle.packet_reader.specs.Packets.{Answer, GivesNext, TakesNext, ahead, begun_at, begun_of, packets_in, rate_told, source_of, stage_of}
 use Rattle.packet_reader.specs.declared.reader.PacketReader.{PacketReader}
 use Rattle.packet_reader.specs.declared.reader.PacketRefusal.TheVariants as refused
 use Rattle.packet_reader.specs.declared.reader.Stage.{Stage}
@@ -22,6 +23,7 @@ use Rattle.frame_groups.specs.Groups.{IsGroup, IsReadyAt, LeadTo, TakesGroup, fr
 use Rattle.frame_groups.specs.Code.{AddsGroup}
 use Rattle.frame_groups.specs.declared.group.FramePayload.{FramePayload}
 use Rattle.frame_groups.proofs.PacketSteps.{packet_stays}
+use Rattle.frame_groups.proofs.RateLemmas.{rate_again}
 
 ---- One packet ----
 
@@ -49,8 +51,18 @@ none_ahead Header = refl
 none_ahead Packet = ap (λ (p : Packets). frames_in (split_packets p)) none_left
 none_ahead (Ended refusal) = refl
 
-pub no_room : (stage : Stage) (told : Option (List ℕ)) → TakesGroup stage told told [] OutOfMemory
-no_room stage told = λ bytes is. ([], bytes, refl, is, none_ahead stage)
+no_frames_yet : (stage : Stage) (front : List ℕ) → (packets_in stage front).payloads ≡ [] → frames_in (frames_ahead stage front) ≡ []
+no_frames_yet stage front none = ap (λ (payloads : List (List ℕ)). frames_in (split_all payloads (packets_in stage front).ending)) none
+
+begun_ahead : (stage : Stage) (begun : Option (List ℕ)) → length (begun_at stage begun) ≤ 4 → frames_in (frames_ahead stage (begun_at stage begun)) ≡ []
+begun_ahead Header (Some begun) few = no_frames_yet Header begun (no_payload_yet begun (inl (omega (arith, few))))
+begun_ahead Header None few = none_ahead Header
+begun_ahead Packet begun few = none_ahead Packet
+begun_ahead (Ended refusal) begun few = refl
+
+-- nothing was asked: the bytes in front hold no frame
+pub no_room : {S : Type 0} (rest : S → Option (List ℕ)) (r : PacketReader S) → length (begun_of r) ≤ 4 → TakesGroup (stage_of r) (ahead rest r) (rest (source_of r)) [] OutOfMemory
+no_room rest r few = λ bytes is. let l = left_behind (begun_of r) (rest (source_of r)) bytes is in (begun_of r, l.0, l.2, l.1, begun_ahead (stage_of r) r.front few)
 
 pub at_end : (stage : Stage) (old new : Option (List ℕ)) → TakesNext stage old new (Ok None) → TakesGroup stage old new [] End
 at_end stage old new takes = λ bytes told. let h = takes bytes told in
@@ -64,9 +76,6 @@ broken_at stage bytes packets rule is frames ending =
 pub at_rule : (stage : Stage) (old new : Option (List ℕ)) (rule : Rule) → TakesNext stage old new (Err (refused.Rule rule)) → TakesGroup stage old new [] (Broken rule)
 at_rule stage old new rule takes = λ bytes told. let h = takes bytes told in
     (h.0, h.1, h.2, h.3, broken_at stage (h.0 ++ h.1) (no_packets (Some rule)) rule h.4 refl refl)
-
-no_frames_yet : (stage : Stage) (front : List ℕ) → (packets_in stage front).payloads ≡ [] → frames_in (frames_ahead stage front) ≡ []
-no_frames_yet stage front none = ap (λ (payloads : List (List ℕ)). frames_in (split_all payloads (packets_in stage front).ending)) none
 
 pub at_fault : (stage : Stage) (old new : Option (List ℕ)) → TakesNext stage old new (Err refused.Failed) → TakesGroup stage old new [] Failed
 at_fault stage old new takes = λ bytes told. let h = takes bytes told in (h.0, h.1, h.2, h.3, no_frames_yet stage h.0 h.4)
@@ -123,11 +132,16 @@ adds_one stage old new before mid after p same is takes = (p ∷ [], is ∙ ap (
 pub adds_more : {S : Type 0} (rest : S → Option (List ℕ)) (old mid new : PacketReader S) (before between after : List FramePayload) (behind : Behind) → AddsGroup old mid rest before between More
     → stage_of mid ≡ Packet → AddsGroup mid new rest between after behind → AddsGroup old new rest before after behind
 adds_more rest old mid new before between after behind first stands next =
-    let takes = subst (λ (s : Stage). TakesGroup s (rest (source_of mid)) (rest (source_of new)) (flat_map payload_frames next.0) behind) stands next.2 in (
+    let one = flat_map payload_frames first.0 in
+    let more = flat_map payload_frames next.0 in
+    let here = subst (λ (s : Stage). TakesGroup s (ahead rest mid) (rest (source_of new)) more behind) stands next.2 in
+    let takes = subst (λ (told : Option (List ℕ)). TakesGroup Packet told (rest (source_of new)) more behind) (packet_ahead rest mid stands) here in (
       first.0 ++ next.0,
       next.1 ∙ ap (λ (xs : List FramePayload). xs ++ next.0) first.1 ∙ append_assoc before first.0 next.0,
-      subst (λ (frames : List (List ℕ)). TakesGroup (stage_of old) (rest (source_of old)) (rest (source_of new)) frames behind) (sym (flat_map-append payload_frames first.0 next.0))
-          (takes_more (stage_of old) (rest (source_of old)) (rest (source_of mid)) (rest (source_of new)) (flat_map payload_frames first.0) (flat_map payload_frames next.0) behind first.2 takes),
+      subst (λ (frames : List (List ℕ)). TakesGroup (stage_of old) (ahead rest old) (rest (source_of new)) frames behind) (sym (flat_map-append payload_frames first.0 next.0))
+          (takes_more (stage_of old) (ahead rest old) (rest (source_of mid)) (rest (source_of new)) one more behind first.2 takes),
+      rate_again (stage_of mid) (stage_of old) (ahead rest old) (ahead rest mid) (rate_told old) (rate_told mid) (rate_told new) one more (flat_map payload_frames (first.0 ++ next.0)) behind
+          first.3 stands next.3,
     )
 
 ---- Nothing more ----

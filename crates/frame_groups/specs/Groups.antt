@@ -23,6 +23,14 @@ source_of r = packets.source_of r.packets
 abbrev pub stage_of : {S : Type 0} → GroupReader S → Stage
 stage_of r = packets.stage_of r.packets
 
+-- bytes that the source gave before the reader had it: they count as long as it stands before the header
+abbrev pub begun_of : {S : Type 0} → GroupReader S → List ℕ
+begun_of r = packets.begun_of r.packets
+
+-- what is ahead of it: the bytes in front that weren't taken, and then what its source has left
+abbrev pub ahead : {S : Type 0} → (S → Option (List ℕ)) → GroupReader S → Option (List ℕ)
+ahead rest r = packets.ahead rest r.packets
+
 -- the frame rate that it tells
 abbrev pub rate_told : {S : Type 0} → GroupReader S → ℕ × ℕ
 rate_told r = packets.rate_told r.packets
@@ -66,7 +74,7 @@ IsGroup stage front rest frames (Broken rule) =
 IsGroup stage front rest frames Failed = frames_in (frames_ahead stage front) ≡ frames
 IsGroup stage front rest frames OutOfMemory = frames_in (frames_ahead stage front) ≡ frames
 
--- what a source has left, before and after, where it tells that
+-- what is ahead, and what the source has left then, where it tells that
 abbrev pub TakesGroup : Stage → Option (List ℕ) → Option (List ℕ) → List (List ℕ) → Behind → Type 0
 TakesGroup stage old new frames behind =
     WhereTold old (λ bytes. (front : List ℕ) × (rest : List ℕ) × (bytes ≡ front ++ rest) × (new ≡ Some rest) × IsGroup stage front rest frames behind)
@@ -78,6 +86,14 @@ StandsBehind End stage can_fill = ⊤
 StandsBehind (Broken rule) stage can_fill = ⊤
 StandsBehind Failed stage can_fill = ⊤
 StandsBehind OutOfMemory stage can_fill = ⊤
+
+-- nothing but the source is ahead behind a group; but want of memory may come before anything was asked
+abbrev pub NoneBegun : Behind → Option (List ℕ) → Option (List ℕ) → Type 0
+NoneBegun More now told = now ≡ told
+NoneBegun End now told = now ≡ told
+NoneBegun (Broken rule) now told = now ≡ told
+NoneBegun Failed now told = now ≡ told
+NoneBegun OutOfMemory now told = ⊤
 
 -- a source's count of faults, before and after: it rises exactly where the source failed
 abbrev pub CountsGroup : ℕ → ℕ → Behind → Type 0
@@ -91,13 +107,13 @@ CountsGroup before now OutOfMemory = now ≡ before
 abbrev pub HasRateOf : List ℕ → ℕ × ℕ → Type 0
 HasRateOf bytes rate = is_webm bytes ≡ false → rate ≡ rate_of_file bytes
 
--- The rate that is told, before a group and behind it. The first group tells that of the file, whose bytes are those that were left
--- before, unless the source failed or memory was wanting. Each other one leaves it.
-abbrev pub TellsGroupRate : Stage → Option (List ℕ) → ℕ × ℕ → ℕ × ℕ → Behind → Type 0
-TellsGroupRate Header told before now More = WhereTold told (λ bytes. HasRateOf bytes now)
-TellsGroupRate Header told before now End = WhereTold told (λ bytes. HasRateOf bytes now)
-TellsGroupRate Header told before now (Broken rule) = WhereTold told (λ bytes. HasRateOf bytes now)
-TellsGroupRate Header told before now Failed = ⊤
-TellsGroupRate Header told before now OutOfMemory = ⊤
-TellsGroupRate Packet told before now behind = now ≡ before
-TellsGroupRate (Ended refusal) told before now behind = now ≡ before
+-- The rate that is told, before a group and behind it. The first group tells that of the file, whose bytes are those that were ahead
+-- before, unless the source failed or memory was wanting before its first frame. Each other one leaves it.
+abbrev pub TellsGroupRate : Stage → Option (List ℕ) → ℕ × ℕ → ℕ × ℕ → List (List ℕ) → Behind → Type 0
+TellsGroupRate Header told before now frames More = WhereTold told (λ bytes. HasRateOf bytes now)
+TellsGroupRate Header told before now frames End = WhereTold told (λ bytes. HasRateOf bytes now)
+TellsGroupRate Header told before now frames (Broken rule) = WhereTold told (λ bytes. HasRateOf bytes now)
+TellsGroupRate Header told before now frames Failed = (frames ≡ [] → ⊥) → WhereTold told (λ bytes. HasRateOf bytes now)
+TellsGroupRate Header told before now frames OutOfMemory = (frames ≡ [] → ⊥) → WhereTold told (λ bytes. HasRateOf bytes now)
+TellsGroupRate Packet told before now frames behind = now ≡ before
+TellsGroupRate (Ended refusal) told before now frames behind = now ≡ before

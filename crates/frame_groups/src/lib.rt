@@ -8,5 +8,5 @@ mod reader;
 
 pub use group::{Behind, FrameGroup, FramePayload};
 pub use laws::{file_has_frames_ahead, front_has_these_frames};
-pub use opening::{Opened, open};
+pub use opening::{Looked, Opened, open};
 pub use reader::GroupReader;

@@ -1,12 +1,12 @@
 //! Which container a source has.
 
-ghost use Rattle.std.specs.Prelude.{◌≡◌, ◌+◌, ◌<◌, ◌≤◌, ◌^◌, length};
+ghost use Rattle.std.specs.Prelude.{◌≡◌, length};
 ghost use Rattle.edge_io.specs.Filling.{CountsFaults};
 ghost use Rattle.file_frames.specs.Containers.{is_webm};
-ghost use Rattle.frame_groups.specs.Code.{CountsFront, TakesFront};
+ghost use Rattle.frame_groups.specs.Code.{TakesFront};
 ghost use Rattle.frame_groups.specs.Openings.{CountsOpened, MayAsk, OpensAs};
 
-use edge_io::{Failed, Prefixed, Source};
+use edge_io::{Failed, Source};
 
 /// How many bytes tell the container.
 const FRONT: usize = 4;
@@ -14,12 +14,19 @@ const FRONT: usize = 4;
 /// What a WebM file begins with: the id of its first element.
 const WEBM: [u8; 4] = [0x1a, 0x45, 0xdf, 0xa3];
 
+/// A source, and the first four bytes that it gave.
+#[derive(Drop)]
+pub struct Looked<S> {
+    pub front: [u8; FRONT],
+    pub source: S,
+}
+
 /// A source, by what its first bytes are.
 #[derive(Drop)]
 pub enum Opened<S> {
-    Webm(Prefixed<S>),
+    Webm(Looked<S>),
     /// It is read as an IVF file, which it may not be.
-    Ivf(Prefixed<S>),
+    Ivf(Looked<S>),
     /// It had fewer than four bytes. They are lost.
     Short(S),
     /// It failed before the fourth byte.
@@ -37,7 +44,6 @@ fn take_front<S: Source>(source: &mut S, front: &mut [u8]) -> Result<usize, Fail
     requires fill { S.can_fill source.old }
     requires four { length front.old ≡ 4 }
     ensures bytes { TakesFront (S.rest source.old) (S.rest source.new) front.new result }
-    ensures given { CountsFront (S.given source.new) result }
     ensures faults { CountsFaults (S.faults source.old) (S.faults source.new) result }
     ensures again { S.faults source.new ≡ S.faults source.old → S.can_fill source.new }
 {
@@ -52,12 +58,12 @@ fn take_front<S: Source>(source: &mut S, front: &mut [u8]) -> Result<usize, Fail
     Ok(at)
 }
 
-/// Looks at what a source begins with, and puts it back in front.
+/// Looks at what a source begins with, and hands that on beside the source.
 pub fn open<S: Source>(source: S) -> Opened<S>
     requires { S.can_fill source }
     ensures bytes { OpensAs S.rest source result }
     ensures faults { CountsOpened S.faults source result }
-    ensures again { MayAsk S.given S.can_fill result }
+    ensures again { MayAsk S.can_fill result }
 {
     let mut source = source;
     let mut front = [0; FRONT];
@@ -66,11 +72,9 @@ pub fn open<S: Source>(source: S) -> Opened<S>
         Ok(_) => return Opened::Short(source),
         Err(Failed) => return Opened::Failed(source),
     }
-    let webm = is_webm(&front);
-    let source = Prefixed::new(front, source);
-    if webm {
-        Opened::Webm(source)
+    if is_webm(&front) {
+        Opened::Webm(Looked { front, source })
     } else {
-        Opened::Ivf(source)
+        Opened::Ivf(Looked { front, source })
     }
 }

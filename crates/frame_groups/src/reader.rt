@@ -1,12 +1,13 @@
 //! The reader.
 
-ghost use Rattle.std.specs.Prelude.{◌≡◌, ◌<◌, length};
+ghost use Rattle.std.specs.Prelude.{◌≡◌, [], length};
 ghost use Rattle.packet_reader.specs.Packets as packets;
 ghost use Rattle.packet_reader.specs.declared.reader.Stage.TheVariants.{Header};
-ghost use Rattle.frame_groups.specs.Groups.{CountsGroup, StandsBehind, IsReady, TakesGroup, TellsGroupRate, group_frames, rate_told, source_of, stage_of};
+ghost use Rattle.frame_groups.specs.Groups.{CountsGroup, NoneBegun, StandsBehind, IsReady, TakesGroup, TellsGroupRate, ahead, begun_of, group_frames, rate_told, source_of, stage_of};
 ghost use Rattle.frame_groups.specs.Code.{AddsGroup, CanGoOn};
 
 use crate::group::{Behind, FrameGroup, FramePayload};
+use crate::opening::Looked;
 use edge_io::Source;
 use packet_reader::{PacketReader, PacketRefusal};
 use std::alloc::Global;
@@ -29,12 +30,27 @@ impl<S> GroupReader<S> {
     /// A reader of the file that the source gives from here on. Nothing is read yet.
     pub fn new(alloc: Global, source: S) -> GroupReader<S>
         ensures source { source_of result ≡ source }
+        ensures begun { begun_of result ≡ [] }
         ensures stage { stage_of result ≡ Header }
         ensures rate { rate_told result ≡ (0, 0) }
     {
         GroupReader {
             alloc,
             packets: PacketReader::new(alloc, source),
+        }
+    }
+
+    /// A reader of the file that begins with the bytes that were looked at.
+    pub fn behind(alloc: Global, looked: Looked<S>) -> GroupReader<S>
+        ensures source { source_of result ≡ looked.source }
+        ensures begun { begun_of result ≡ looked.front }
+        ensures stage { stage_of result ≡ Header }
+        ensures rate { rate_told result ≡ (0, 0) }
+    {
+        let Looked { front, source } = looked;
+        GroupReader {
+            alloc,
+            packets: PacketReader::behind(alloc, front, source),
         }
     }
 
@@ -59,11 +75,12 @@ impl<S: Source> GroupReader<S> {
     /// packets. What was wholly taken before a fault or want of memory is in the group.
     pub fn next_group(&mut self, least: usize) -> FrameGroup
         requires { IsReady S.can_fill self.old }
-        ensures group { TakesGroup (stage_of self.old) (S.rest (source_of self.old)) (S.rest (source_of self.new)) (group_frames result) result.behind }
+        ensures group { TakesGroup (stage_of self.old) (ahead S.rest self.old) (S.rest (source_of self.new)) (group_frames result) result.behind }
+        ensures begun { NoneBegun result.behind (ahead S.rest self.new) (S.rest (source_of self.new)) }
         ensures stage { StandsBehind result.behind (stage_of self.new) (S.can_fill (source_of self.new)) }
         ensures faults { CountsGroup (S.faults (source_of self.old)) (S.faults (source_of self.new)) result.behind }
         ensures again { S.faults (source_of self.new) ≡ S.faults (source_of self.old) → S.can_fill (source_of self.new) }
-        ensures rate { TellsGroupRate (stage_of self.old) (S.rest (source_of self.old)) (rate_told self.old) (rate_told self.new) result.behind }
+        ensures rate { TellsGroupRate (stage_of self.old) (ahead S.rest self.old) (rate_told self.old) (rate_told self.new) (group_frames result) result.behind }
     {
         let mut payloads = Vec::new(self.alloc);
         let behind = take_payloads(&mut self.packets, &mut payloads, least);
@@ -76,12 +93,14 @@ impl<S: Source> GroupReader<S> {
 fn take_payload<S: Source>(reader: &mut PacketReader<S>, payloads: &mut Vec<FramePayload>) -> Behind
     requires { CanGoOn S.can_fill reader.old }
     ensures group { AddsGroup reader.old reader.new S.rest payloads.old.items payloads.new.items result }
+    ensures begun { NoneBegun result (packets.ahead S.rest reader.new) (S.rest (packets.source_of reader.new)) }
     ensures stage { StandsBehind result (packets.stage_of reader.new) (S.can_fill (packets.source_of reader.new)) }
     ensures faults { CountsGroup (S.faults (packets.source_of reader.old)) (S.faults (packets.source_of reader.new)) result }
     ensures again { S.faults (packets.source_of reader.new) ≡ S.faults (packets.source_of reader.old) → S.can_fill (packets.source_of reader.new) }
-    ensures rate { TellsGroupRate (packets.stage_of reader.old) (S.rest (packets.source_of reader.old)) (packets.rate_told reader.old) (packets.rate_told reader.new) result }
 {
     if payloads.reserve(1).is_err() {
+        // Nothing was asked, and what is in front is too little for a frame.
+        reader.begun();
         return Behind::OutOfMemory;
     }
     let bytes = match reader.next() {
@@ -114,10 +133,10 @@ fn take_payloads<S: Source>(
 ) -> Behind
     requires { CanGoOn S.can_fill reader.old }
     ensures group { AddsGroup reader.old reader.new S.rest payloads.old.items payloads.new.items result }
+    ensures begun { NoneBegun result (packets.ahead S.rest reader.new) (S.rest (packets.source_of reader.new)) }
     ensures stage { StandsBehind result (packets.stage_of reader.new) (S.can_fill (packets.source_of reader.new)) }
     ensures faults { CountsGroup (S.faults (packets.source_of reader.old)) (S.faults (packets.source_of reader.new)) result }
     ensures again { S.faults (packets.source_of reader.new) ≡ S.faults (packets.source_of reader.old) → S.can_fill (packets.source_of reader.new) }
-    ensures rate { TellsGroupRate (packets.stage_of reader.old) (S.rest (packets.source_of reader.old)) (packets.rate_told reader.old) (packets.rate_told reader.new) result }
 {
     let mut behind = take_payload(reader, payloads);
     let mut frames: usize = 0;

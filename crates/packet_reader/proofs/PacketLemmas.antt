@@ -14,7 +14,8 @@ use Rattle.ivf_container.specs.declared.packet.Packet.{Packet}
 use Rattle.ivf_container.specs.Packets.{Packets, Written, IsWritten, written_bytes, size_at, next_packet_at, go_on, fewer_from, packets_from, no_packets, with_payload}
 use Rattle.ivf_container.proofs.Walks.{IsStep, is_step, next_from}
 use Rattle.ivf_container.proofs.Bodies.{has_body, only_body}
-use Rattle.packet_reader.specs.Packets.{TakesNext, refusal_of}
+use Rattle.packet_reader.specs.Packets.{TakesNext, ahead, begun_at, refusal_of, source_of, stage_of, with_front}
+use Rattle.packet_reader.specs.declared.reader.PacketReader.{PacketReader}
 use Rattle.packet_reader.specs.declared.reader.Stage.TheVariants as stage
 
 -- bytes that a written packet begins
@@ -89,3 +90,22 @@ refused_next read.OutOfMemory old new front gave none = λ bytes told. let h = g
 pub ended_still : (old mid new : Option (List ℕ)) (front more : List ℕ) → Gave old mid front → WhereTold old (λ bytes. mid ≡ Some []) → Gave mid new more → WhereTold old (λ bytes. new ≡ Some [])
 ended_still old mid new front more first ended next = λ bytes told. let h = next [] (ended bytes told) in
     h.2 ∙ ap Some (nil_of h.0 (omega (arith, ap length h.1, length-append more h.0)))
+
+---- Bytes that were given before ----
+
+-- what is left behind bytes in front
+pub left_behind : (front : List ℕ) (told : Option (List ℕ)) (bytes : List ℕ) → with_front front told ≡ Some bytes → (left : List ℕ) × (told ≡ Some left) × (bytes ≡ front ++ left)
+left_behind [] told bytes is = (bytes, is, refl)
+left_behind (b ∷ front) None bytes is = cc
+left_behind (b ∷ front) (Some left) bytes is = (left, refl, ap or_none (sym is))
+
+pub gave_behind : (begun : List ℕ) (old new : Option (List ℕ)) (front : List ℕ) → Gave old new front → Gave (with_front begun old) new (begun ++ front)
+gave_behind begun old new front gave = λ bytes told. let l = left_behind begun old bytes told in let h = gave l.0 l.1 in
+    (h.0, l.2 ∙ ap (λ xs. begun ++ xs) h.1 ∙ sym (append_assoc begun front h.0), h.2)
+
+pub ended_behind : (begun : List ℕ) (old new : Option (List ℕ)) → WhereTold old (λ bytes. new ≡ Some []) → WhereTold (with_front begun old) (λ bytes. new ≡ Some [])
+ended_behind begun old new ended = λ bytes told. let l = left_behind begun old bytes told in ended l.0 l.1
+
+-- a reader that stands before a packet has none in front
+pub packet_ahead : {S : Type 0} (rest : S → Option (List ℕ)) (r : PacketReader S) → stage_of r ≡ stage.Packet → ahead rest r ≡ rest (source_of r)
+packet_ahead rest r is = ap (λ s. with_front (begun_at s r.front) (rest r.source)) is

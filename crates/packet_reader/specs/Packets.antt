@@ -1,5 +1,5 @@
 -- The packets of an IVF file, taken one after another from a source. What a file's packets are stands in ivf_container.
-use Rattle.std.specs.Prelude.{◌≡◌, ℕ, ◌<◌, List, [], ◌++◌, Option, Some, None, Result, Ok, Err, Vec, ⊤}
+use Rattle.std.specs.Prelude.{◌≡◌, ℕ, ◌<◌, List, [], ◌∷◌, ◌++◌, Option, Some, None, Result, Ok, Err, Vec, ⊤}
 use Rattle.std.specs.declared.alloc.Global.{Global}
 use Rattle.edge_io.specs.Filling.{WhereTold}
 use Rattle.edge_io.specs.declared.read.ReadError.{ReadError}
@@ -17,6 +17,26 @@ source_of r = r.source
 
 abbrev pub stage_of : {S : Type 0} → PacketReader S → Stage
 stage_of r = r.stage
+
+-- bytes that the source gave before the reader had it: they count as long as it stands before the header
+abbrev pub begun_at : Stage → Option (List ℕ) → List ℕ
+begun_at Header (Some front) = front
+begun_at Header None = []
+begun_at Packet front = []
+begun_at (Ended refusal) front = []
+
+abbrev pub begun_of : {S : Type 0} → PacketReader S → List ℕ
+begun_of r = begun_at r.stage r.front
+
+-- bytes, and behind them what a source has left, where it tells that
+abbrev pub with_front : List ℕ → Option (List ℕ) → Option (List ℕ)
+with_front [] told = told
+with_front (b ∷ front) None = None
+with_front (b ∷ front) (Some bytes) = Some (b ∷ front ++ bytes)
+
+-- what is ahead of a reader: the bytes in front that weren't taken, and then what its source has left
+abbrev pub ahead : {S : Type 0} → (S → Option (List ℕ)) → PacketReader S → Option (List ℕ)
+ahead rest r = with_front (begun_of r) (rest (source_of r))
 
 -- the frame rate that a reader tells
 abbrev pub rate_told : {S : Type 0} → PacketReader S → ℕ × ℕ
@@ -45,7 +65,7 @@ IsNext stage front rest (Err (refused.Rule rule)) = packets_in stage (front ++ r
 IsNext stage front rest (Err refused.Failed) = (packets_in stage front).payloads ≡ []
 IsNext stage front rest (Err refused.OutOfMemory) = (packets_in stage front).payloads ≡ []
 
--- what a source has left, before and after, where it tells that
+-- what is ahead, and what the source has left then, where it tells that
 abbrev pub TakesNext : Stage → Option (List ℕ) → Option (List ℕ) → Answer → Type 0
 TakesNext stage old new answer =
     WhereTold old (λ bytes. (front : List ℕ) × (rest : List ℕ) × (bytes ≡ front ++ rest) × (new ≡ Some rest) × IsNext stage front rest answer)

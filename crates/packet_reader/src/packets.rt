@@ -2,7 +2,7 @@
 
 ghost use Rattle.std.specs.Prelude.{◌≡◌, ◌⊎◌, ◌<◌, ◌≤◌, ◌^◌, max, length, take, codes};
 ghost use Rattle.ivf_container.specs.Packets.{header_length};
-ghost use Rattle.packet_reader.specs.Packets.{CountsRefusals, TakesNext, TellsRate};
+ghost use Rattle.packet_reader.specs.Packets.{CountsRefusals, TakesNext, TellsRate, with_front};
 ghost use Rattle.packet_reader.specs.declared.reader.Stage.TheVariants.{Header, Packet};
 ghost use Rattle.edge_io.specs.Reading.{CountsReadFaults};
 ghost use Rattle.packet_reader.specs.Code.{PassesHeader, TakesHeader};
@@ -36,14 +36,17 @@ fn whole_header(header: &[u8]) -> usize
     }
 }
 
-/// Takes what may be a file header from a source: as many bytes as it says that it has, and no more than its tests need.
-fn take_header<S: Source>(alloc: Global, source: &mut S) -> Result<Vec<u8>, ReadError>
-    requires { S.can_fill source.old }
-    ensures bytes { TakesHeader (S.rest source.old) (S.rest source.new) result }
+/// Takes what may be a file header from a source, which gave its first bytes: as many as it says that it has, and no more than its
+/// tests need.
+fn take_header<S: Source>(alloc: Global, begun: &[u8], source: &mut S) -> Result<Vec<u8>, ReadError>
+    requires fill { S.can_fill source.old }
+    requires few { length begun.now ≤ 4 }
+    ensures bytes { TakesHeader (with_front begun.now (S.rest source.old)) (S.rest source.new) result }
     ensures faults { CountsReadFaults (S.faults source.old) (S.faults source.new) result }
     ensures again { S.faults source.new ≡ S.faults source.old → S.can_fill source.new }
 {
     let mut header = Vec::new(alloc);
+    header.extend_from_slice(begun)?;
     fill_up(source, &mut header, FILE_HEADER)?;
     let whole = whole_header(&header);
     fill_up(source, &mut header, whole)?;
@@ -53,14 +56,16 @@ fn take_header<S: Source>(alloc: Global, source: &mut S) -> Result<Vec<u8>, Read
 /// Takes the file header from a source, and gives the rate that it names.
 pub(crate) fn pass_header<S: Source>(
     alloc: Global,
+    begun: &[u8],
     source: &mut S,
 ) -> Result<(u32, u32), PacketRefusal>
-    requires { S.can_fill source.old }
-    ensures bytes { PassesHeader (S.rest source.old) (S.rest source.new) result }
+    requires fill { S.can_fill source.old }
+    requires few { length begun.now ≤ 4 }
+    ensures bytes { PassesHeader (with_front begun.now (S.rest source.old)) (S.rest source.new) result }
     ensures faults { CountsRefusals (S.faults source.old) (S.faults source.new) result }
     ensures again { S.faults source.new ≡ S.faults source.old → S.can_fill source.new }
 {
-    let header = take_header(alloc, source)?;
+    let header = take_header(alloc, begun, source)?;
     read_header(&header)?;
     Ok(rate(&header))
 }
@@ -95,16 +100,18 @@ pub(crate) fn take_packet<S: Source>(
 /// Takes the file header, whose rate it puts down, and the first packet.
 pub(crate) fn take_first<S: Source>(
     alloc: Global,
+    begun: &[u8],
     source: &mut S,
     told: &mut (u32, u32),
 ) -> Result<Option<Vec<u8>>, PacketRefusal>
-    requires { S.can_fill source.old }
-    ensures bytes { TakesNext Header (S.rest source.old) (S.rest source.new) result }
-    ensures rate { TellsRate Header (S.rest source.old) told.old told.new result }
+    requires fill { S.can_fill source.old }
+    requires few { length begun.now ≤ 4 }
+    ensures bytes { TakesNext Header (with_front begun.now (S.rest source.old)) (S.rest source.new) result }
+    ensures rate { TellsRate Header (with_front begun.now (S.rest source.old)) told.old told.new result }
     ensures faults { CountsRefusals (S.faults source.old) (S.faults source.new) result }
     ensures again { S.faults source.new ≡ S.faults source.old → S.can_fill source.new }
 {
     *told = (0, 0);
-    *told = pass_header(alloc, source)?;
+    *told = pass_header(alloc, begun, source)?;
     take_packet(alloc, source)
 }

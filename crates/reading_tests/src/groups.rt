@@ -1,5 +1,7 @@
 //! Frames taken in groups from sources that give their bytes in pieces, or fail; and which container a source has.
 
+ghost use Rattle.frame_groups.specs.Groups.{IsReady};
+
 use crate::packets::STREAM;
 use crate::readers::Pieces;
 use edge_io::{Failed, MemSource, Source};
@@ -38,11 +40,16 @@ fn are_next(
     Ok(true)
 }
 
-// How many groups a file has, by a source that gives so many bytes at a call, and what is behind the last one. Their frames are those of
-// the file.
-fn groups(alloc: Global, bytes: &[u8], size: usize, least: usize) -> Result<(u32, Behind), Fail> {
-    let source = MemSource::new(alloc, bytes, &[])?;
-    let mut reader = GroupReader::new(alloc, Pieces { source, size });
+// How many groups a file has, and what is behind the last one. Their frames are those of the file.
+fn groups<S: Source + Drop>(
+    alloc: Global,
+    bytes: &[u8],
+    reader: GroupReader<S>,
+    least: usize,
+) -> Result<(u32, Behind), Fail>
+    requires { IsReady S.can_fill reader }
+{
+    let mut reader = reader;
     let mut cursor = FrameCursor::new(bytes);
     'groups: for number in 1..20 {
         let group = reader.next_group(least);
@@ -57,23 +64,53 @@ fn groups(alloc: Global, bytes: &[u8], size: usize, least: usize) -> Result<(u32
     Err(Fail::new(format_args!("there is no end")))
 }
 
+// The same by a source that gives so many bytes at a call; and behind the first four, which were looked at.
+fn groups_in_pieces(
+    alloc: Global,
+    bytes: &[u8],
+    size: usize,
+    least: usize,
+) -> Result<(u32, Behind), Fail> {
+    let source = MemSource::new(alloc, bytes, &[])?;
+    let reader = GroupReader::new(alloc, Pieces { source, size });
+    let counts = groups(alloc, bytes, reader, least)?;
+    let source = MemSource::new(alloc, bytes, &[])?;
+    let Opened::Ivf(looked) = open(Pieces { source, size }) else {
+        return Err(Fail::new(format_args!("it isn't opened as an IVF file")));
+    };
+    let reader = GroupReader::behind(alloc, looked);
+    if groups(alloc, bytes, reader, least)? != counts {
+        return Err(Fail::new(format_args!("other groups behind four bytes")));
+    }
+    Ok(counts)
+}
+
 #[test]
 fn any_pieces(rt: HostRuntime) -> Result<(), Fail> {
     let alloc = rt.alloc();
     for size in [1, 7, 4096] {
         for (least, number) in [(0, 7), (1, 7), (4, 2), (6, 2), (7, 1)] {
-            assert_eq!(rt; groups(alloc, STREAM, size, least)?, (number, Behind::End));
+            assert_eq!(rt;
+                groups_in_pieces(alloc, STREAM, size, least)?,
+                (number, Behind::End)
+            );
         }
         let cut = Behind::Broken(Rule::IvfTruncated);
         for (least, number) in [(0, 4), (1, 3), (2, 2), (3, 2), (4, 1)] {
-            assert_eq!(rt; groups(alloc, CUT_SHORT, size, least)?, (number, cut));
+            assert_eq!(rt;
+                groups_in_pieces(alloc, CUT_SHORT, size, least)?,
+                (number, cut)
+            );
         }
         let sizes = Behind::Broken(Rule::SuperframeSizes);
         for (least, number) in [(1, 2), (2, 1)] {
-            assert_eq!(rt; groups(alloc, WRONG_SIZES, size, least)?, (number, sizes));
+            assert_eq!(rt;
+                groups_in_pieces(alloc, WRONG_SIZES, size, least)?,
+                (number, sizes)
+            );
         }
         let header = Behind::Broken(Rule::IvfSignature);
-        assert_eq!(rt; groups(alloc, b"DKIX", size, 1)?, (1, header));
+        assert_eq!(rt; groups_in_pieces(alloc, b"DKIX", size, 1)?, (1, header));
     }
     Ok(())
 }
@@ -92,34 +129,38 @@ fn failing_calls(rt: HostRuntime) -> Result<(), Fail> {
             call.saturating_sub(2) / 2,
             "at call {call}"
         );
+        if !frames.is_empty() {
+            assert_eq!(rt; reader.rate(), rate_of_file(STREAM), "at call {call}");
+        }
         assert!(rt; reader.into_source().fill(&mut [0; 4]).is_ok());
     }
     Ok(())
 }
 
-fn first_of<S: Source>(source: &mut S) -> u8
-    requires { S.can_fill source.old }
+fn next_of<S: Source + Drop>(source: S) -> Option<u8>
+    requires { S.can_fill source }
 {
+    let mut source = source;
     let mut byte = [0];
     match source.fill(&mut byte) {
-        Ok(1) => byte[0],
-        _ => 0,
+        Ok(1) => Some(byte[0]),
+        _ => None,
     }
 }
 
-// What a source is opened as, and its first byte then.
+// What a source is opened as, what it gave for that, and the next byte.
 fn opened(
     alloc: Global,
     bytes: &[u8],
     size: usize,
     fails: &[u64],
-) -> Result<(char, u8), AllocError> {
+) -> Result<(char, [u8; 4], Option<u8>), AllocError> {
     let source = MemSource::new(alloc, bytes, fails)?;
     match open(Pieces { source, size }) {
-        Opened::Webm(mut source) => Ok(('w', first_of(&mut source))),
-        Opened::Ivf(mut source) => Ok(('i', first_of(&mut source))),
-        Opened::Short(_source) => Ok(('s', 0)),
-        Opened::Failed(_source) => Ok(('f', 0)),
+        Opened::Webm(looked) => Ok(('w', looked.front, next_of(looked.source))),
+        Opened::Ivf(looked) => Ok(('i', looked.front, next_of(looked.source))),
+        Opened::Short(source) => Ok(('s', [0; 4], next_of(source))),
+        Opened::Failed(_source) => Ok(('f', [0; 4], None)),
     }
 }
 
@@ -127,12 +168,15 @@ fn opened(
 fn containers(rt: HostRuntime) -> Result<(), Fail> {
     let alloc = rt.alloc();
     for size in [1, 3, 4096] {
-        assert_eq!(rt; opened(alloc, STREAM, size, &[])?, ('i', b'D'));
-        assert_eq!(rt; opened(alloc, WEBM, size, &[])?, ('w', 0x1a));
-        assert_eq!(rt; opened(alloc, b"DKIX", size, &[])?, ('i', b'D'));
-        assert_eq!(rt; opened(alloc, &WEBM[..3], size, &[])?, ('s', 0));
-        assert_eq!(rt; opened(alloc, b"", size, &[])?, ('s', 0));
+        assert_eq!(rt; opened(alloc, STREAM, size, &[])?, ('i', *b"DKIF", Some(0)));
+        assert_eq!(rt;
+            opened(alloc, WEBM, size, &[])?,
+            ('w', [0x1a, 0x45, 0xdf, 0xa3], Some(0x80))
+        );
+        assert_eq!(rt; opened(alloc, b"DKIX", size, &[])?, ('i', *b"DKIX", None));
+        assert_eq!(rt; opened(alloc, &WEBM[..3], size, &[])?, ('s', [0; 4], None));
+        assert_eq!(rt; opened(alloc, b"", size, &[])?, ('s', [0; 4], None));
     }
-    assert_eq!(rt; opened(alloc, STREAM, 2, &[2])?, ('f', 0));
+    assert_eq!(rt; opened(alloc, STREAM, 2, &[2])?, ('f', [0; 4], None));
     Ok(())
 }

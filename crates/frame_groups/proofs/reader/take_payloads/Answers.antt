@@ -1,10 +1,9 @@
 use Rattle.std.proofs.Common.{◌∙◌, ℕ, subst, sym}
-use Rattle.packet_reader.specs.Packets.{rate_told, source_of, stage_of}
+use Rattle.packet_reader.specs.Packets.{source_of, stage_of}
 use Rattle.frame_groups.specs.declared.group.Behind.{Behind}
 use Rattle.frame_groups.specs.Code.{AddsGroup}
-use Rattle.frame_groups.specs.Groups.{CountsGroup, StandsBehind, TellsGroupRate}
+use Rattle.frame_groups.specs.Groups.{CountsGroup, StandsBehind}
 use Rattle.frame_groups.proofs.GroupLemmas.{adds_more}
-use Rattle.frame_groups.proofs.RateLemmas.{rate_again}
 use Rattle.frame_groups.proofs.reader.take_payloads.Goals as goal
 
 pub packets-preserved : goal.packets-preserved
@@ -21,11 +20,10 @@ packets-preserved g c =
     let group = subst (λ (b : Behind). AddsGroup fresh old rest c.args.payloads.now.items c.packets.payloads.items b) more h.group in
     let stands = subst (λ (b : Behind). StandsBehind b (stage_of old) (g.S.Source.can_fill (source_of old))) more h.stage in
     let counts = subst (λ (b : Behind). CountsGroup (faults (source_of fresh)) (faults (source_of old)) b) more h.faults in
-    let rate = subst (λ (b : Behind). TellsGroupRate (stage_of fresh) (rest (source_of fresh)) (rate_told fresh) (rate_told old) b) more h.rate in
     record {
       group = adds_more rest fresh old new c.args.payloads.now.items c.packets.payloads.items c.take_payload-behind-in-packets.new.payloads.items behind group stands.0 t.group;
+      begun = t.begun;
       stage = t.stage;
       faults = subst (λ (n : ℕ). CountsGroup n (faults (source_of new)) behind) counts t.faults;
       again = λ same. t.again (same ∙ sym counts);
-      rate = rate_again (stage_of old) (stage_of fresh) (rest (source_of fresh)) (rest (source_of old)) (rate_told fresh) (rate_told old) (rate_told new) behind rate stands.0 t.rate;
     }

@@ -4,6 +4,7 @@ use Rattle.std.proofs.lemmas.Result.{err_from_is_err_and}
 use Rattle.ivf_container.specs.Packets.{header_end, rate_of}
 use Rattle.packet_reader.proofs.PacketLemmas.{gave_last}
 use Rattle.packet_reader.proofs.HeaderLemmas.{enough_fails, enough_is, fails_alone, never_short, refused_header}
+use Rattle.packet_reader.specs.Packets.{with_front}
 use Rattle.packet_reader.proofs.packets.pass_header.Goals as goal
 
 pub returns-in_err-header-clause-bytes : goal.returns-in_err-header-clause-bytes
@@ -11,7 +12,7 @@ returns-in_err-header-clause-bytes g c =
     let rest = g.S.Source.rest in
     let p = err_from_is_err_and c.from_residual.result c.from_residual.ensures.1 in
     let f = c.in_err-header.ensures.bytes in
-    rw (p.1 ∙ ap Err p.2) (refused_header c.in_err-header.field-0.0 (rest c.args.source.now) (rest c.take_header.new.source) f.0 f.1 f.2)
+    rw (p.1 ∙ ap Err p.2) (refused_header c.in_err-header.field-0.0 (with_front c.args.begun.now (rest c.args.source.now)) (rest c.take_header.new.source) f.0 f.1 f.2)
 
 pub returns-in_err-read_header-clause-bytes : goal.returns-in_err-read_header-clause-bytes
 returns-in_err-read_header-clause-bytes g c =
@@ -24,7 +25,7 @@ returns-in_err-read_header-clause-bytes g c =
     rw (p.1 ∙ ap Err p.2) (λ bytes told. let h = f.0 bytes told in elim f.1 [
       | inl enough ↦ (header, h.0, h.1, h.2, enough_fails header h.0 e enough fails)
       | inr short ↦
-          (header, [], gave_last (rest c.args.source.now) (rest c.take_header.new.source) header bytes f.0 short.1 told, short.1 bytes told, fails_alone header e fails)
+          (header, [], gave_last (with_front c.args.begun.now (rest c.args.source.now)) (rest c.take_header.new.source) header bytes f.0 short.1 told, short.1 bytes told, fails_alone header e fails)
     ])
 
 pub returns-clause-bytes : goal.returns-clause-bytes
