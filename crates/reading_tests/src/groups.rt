@@ -157,8 +157,14 @@ fn opened(
 ) -> Result<(char, [u8; 4], Option<u8>), AllocError> {
     let source = MemSource::new(alloc, bytes, fails)?;
     match open(Pieces { source, size }) {
-        Opened::Webm(looked) => Ok(('w', looked.front, next_of(looked.source))),
-        Opened::Ivf(looked) => Ok(('i', looked.front, next_of(looked.source))),
+        Opened::Webm(looked) => {
+            let front = looked.front;
+            Ok(('w', front, next_of(looked.source)))
+        }
+        Opened::Ivf(looked) => {
+            let front = looked.front;
+            Ok(('i', front, next_of(looked.source)))
+        }
         Opened::Short(source) => Ok(('s', [0; 4], next_of(source))),
         Opened::Failed(_source) => Ok(('f', [0; 4], None)),
     }
