@@ -20,7 +20,7 @@ never : (b : Bool) → (b && false) ≡ false
 never true = refl
 never false = refl
 
-too_short : (bytes : List ℕ) → length bytes < 4 → is_webm bytes ≡ false
+pub too_short : (bytes : List ℕ) → length bytes < 4 → is_webm bytes ≡ false
 too_short [] few = refl
 too_short (a ∷ []) few = never (nat_eq 26 a)
 too_short (a ∷ (b ∷ [])) few = ap (λ (t : Bool). nat_eq 26 a && t) (never (nat_eq 69 b)) ∙ never (nat_eq 26 a)

@@ -1,9 +1,12 @@
 -- The first bytes of a source, in a buffer.
-use Rattle.std.proofs.Common.{◌≡◌, ◌+◌, ◌≤◌, ℕ, List, [], ◌∷◌, ◌++◌, length, take, refl, sym, ap, ◌∙◌}
-use Rattle.std.specs.Prelude.{Option, Some}
+use Rattle.std.proofs.Common.{◌≡◌, ◌+◌, ◌≤◌, ℕ, List, [], ◌∷◌, ◌++◌, length, take, refl, sym, ap, ◌∙◌, arith}
+use Rattle.std.specs.Prelude.{Bool, Option, Some}
 use Rattle.std.proofs.lemmas.List.{append-nil, length-take-le, take-append-le, take_at}
 use Rattle.std.proofs.Math.Seq.{take-append-add}
+use Rattle.edge_io.specs.Filling.{WhereTold}
 use Rattle.edge_io.specs.Reading.{Gave, GaveAll}
+use Rattle.file_frames.specs.Containers.{is_webm}
+use Rattle.packet_reader.proofs.PacketLemmas.{left_behind}
 use Rattle.packet_reader.specs.Packets.{with_front}
 use Rattle.frame_groups.specs.Groups.{ahead, begun_of, source_of}
 use Rattle.frame_groups.specs.declared.reader.GroupReader.{GroupReader}
@@ -25,8 +28,23 @@ told_front : (front more : List ℕ) → with_front front (Some more) ≡ Some (
 told_front [] more = refl
 told_front (b ∷ front) more = refl
 
+-- four bytes tell the container
+pub front_tells : (front more : List ℕ) → 4 ≤ length front → is_webm (front ++ more) ≡ is_webm front
+front_tells [] more long = absurd (omega (arith, long))
+front_tells (a ∷ []) more long = absurd (omega (arith, long))
+front_tells (a ∷ (b ∷ [])) more long = absurd (omega (arith, long))
+front_tells (a ∷ (b ∷ (c ∷ []))) more long = absurd (omega (arith, long))
+front_tells (a ∷ (b ∷ (c ∷ (d ∷ front)))) more long = refl
+
 -- a reader behind what was looked at has the whole file ahead: for who has opened a source
 pub looked_ahead : {S : Type 0} (rest : S → Option (List ℕ)) (r : GroupReader S) (source : S) (front more : List ℕ) → source_of r ≡ source → begun_of r ≡ front → rest source ≡ Some more
     → ahead rest r ≡ Some (front ++ more)
 looked_ahead {S} rest r source front more sources begun told =
     ap (λ (b : List ℕ). with_front b (rest (source_of r))) begun ∙ ap (λ (s : S). with_front front (rest s)) sources ∙ ap (with_front front) told ∙ told_front front more
+
+-- and four bytes tell which container that is
+pub ahead_tells : {S : Type 0} (rest : S → Option (List ℕ)) (r : GroupReader S) (front : List ℕ) (webm : Bool) → begun_of r ≡ front → 4 ≤ length front → is_webm front ≡ webm
+    → WhereTold (ahead rest r) (λ bytes. is_webm bytes ≡ webm)
+ahead_tells rest r front webm begun long is = λ bytes told.
+    let l = left_behind (begun_of r) (rest (source_of r)) bytes told in
+    ap is_webm (l.2 ∙ ap (λ (xs : List ℕ). xs ++ l.0) begun) ∙ front_tells front l.0 long ∙ is

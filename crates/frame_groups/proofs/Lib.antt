@@ -3,3 +3,4 @@ pub mod PacketSteps
 pub mod Fronts
 pub mod GroupLemmas
 pub mod RateLemmas
+pub mod HeaderFronts

@@ -14,7 +14,7 @@ use Rattle.frame_groups.specs.declared.group.Behind.{Behind}
 use Rattle.frame_groups.specs.declared.group.Behind.TheVariants.{More, End, Broken, Failed, OutOfMemory}
 use Rattle.frame_groups.specs.Groups.{HasRateOf, TellsGroupRate}
 
-same_rate : (bytes : List ℕ) (r : Result ℕ Rule) → packets.rate_with bytes r ≡ rate_with bytes r
+pub same_rate : (bytes : List ℕ) (r : Result ℕ Rule) → packets.rate_with bytes r ≡ rate_with bytes r
 same_rate bytes (Ok end) = refl
 same_rate bytes (Err rule) = refl
 

@@ -1,5 +1,5 @@
 -- What is taken of a source on the way to a group, or to its container.
-use Rattle.std.specs.Prelude.{◌≡◌, ℕ, ◌<◌, ◌≤◌, List, [], ◌++◌, length, take, Option, Some, Result, Ok, Err}
+use Rattle.std.specs.Prelude.{◌≡◌, ℕ, ◌+◌, ◌<◌, ◌≤◌, ◌^◌, List, [], ◌++◌, length, take, Option, Some, Result, Ok, Err, ⊤}
 use Rattle.std.specs.List.{flat_map}
 use Rattle.edge_io.specs.Filling.{WhereTold}
 use Rattle.edge_io.specs.Reading.{Gave}
@@ -24,3 +24,8 @@ AddsGroup old new rest before after behind =
 abbrev pub TakesFront : {E : Type 0} → Option (List ℕ) → Option (List ℕ) → List ℕ → Result ℕ E → Type 0
 TakesFront old new buf (Ok n) = (n ≤ 4) × Gave old new (take n buf) × (n < 4 → WhereTold old (λ bytes. new ≡ Some []))
 TakesFront old new buf (Err e) = (front : List ℕ) × Gave old new front × (length front < 4)
+
+-- how many bytes a source has given, before and after it gave n; where it gave some, that is less than 2 ^ 63
+abbrev pub CountsFront : {E : Type 0} → ℕ → ℕ → Result ℕ E → Type 0
+CountsFront before now (Ok n) = (now ≡ before + n) × (0 < n → now < 2 ^ 63)
+CountsFront before now (Err e) = ⊤

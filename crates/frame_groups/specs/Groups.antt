@@ -1,6 +1,6 @@
 -- The frames of an IVF file, taken from a source in groups of whole packets. What a file's frames are stands in file_frames, and
 -- where a reader of packets stands in packet_reader.
-use Rattle.std.specs.Prelude.{◌≡◌, ℕ, ◌<◌, List, [], ◌++◌, map, slice_range, false, Option, Some, None, ⊤}
+use Rattle.std.specs.Prelude.{◌≡◌, ℕ, ◌<◌, List, [], ◌++◌, length, map, slice_range, false, Option, Some, None, ⊤}
 use Rattle.std.specs.List.{flat_map}
 use Rattle.edge_io.specs.Filling.{WhereTold}
 use Rattle.file_frames.specs.Containers.{is_webm, rate_of_file}
@@ -64,15 +64,20 @@ pub record LeadTo (stage : Stage) (front : List ℕ) (frames : List (List ℕ)) 
   pub frames_are : (more : List ℕ) → frames_in (frames_ahead stage (front ++ more)) ≡ frames ++ frames_in (frames_ahead next more)
   pub ending_is : (more : List ℕ) → (frames_ahead stage (front ++ more)).ending ≡ (frames_ahead next more).ending
 
--- Of the bytes that were left a front was taken. It is whole packets with these frames, or all up to the end, or a rule is broken
--- behind the frames; or the source failed, or memory was wanting, behind those of the packets that are whole in it.
+-- These bytes hold these frames, and whatever comes behind the bytes, the frames stay the first ones.
+pub record LeadAlong (stage : Stage) (front : List ℕ) (frames : List (List ℕ)) : Type 0 where
+  pub frames_are : frames_in (frames_ahead stage front) ≡ frames
+  pub behind_it : (more : List ℕ) → (behind : List (List ℕ)) × (frames_in (frames_ahead stage (front ++ more)) ≡ frames ++ behind)
+
+-- Of the bytes that were left a front was taken. It is whole packets with these frames, one of them at least; or all up to the end, or a
+-- rule is broken behind the frames; or the source failed, or memory was wanting, behind those of the packets that are whole in it.
 abbrev pub IsGroup : Stage → List ℕ → List ℕ → List (List ℕ) → Behind → Type 0
-IsGroup stage front rest frames More = LeadTo stage front frames Packet
+IsGroup stage front rest frames More = LeadTo stage front frames Packet × (0 < length front)
 IsGroup stage front rest frames End = (frames_in (frames_ahead stage front) ≡ frames) × ((frames_ahead stage front).ending ≡ None) × (rest ≡ [])
 IsGroup stage front rest frames (Broken rule) =
     (frames_in (frames_ahead stage (front ++ rest)) ≡ frames) × ((frames_ahead stage (front ++ rest)).ending ≡ Some rule)
-IsGroup stage front rest frames Failed = frames_in (frames_ahead stage front) ≡ frames
-IsGroup stage front rest frames OutOfMemory = frames_in (frames_ahead stage front) ≡ frames
+IsGroup stage front rest frames Failed = LeadAlong stage front frames
+IsGroup stage front rest frames OutOfMemory = LeadAlong stage front frames
 
 -- what is ahead, and what the source has left then, where it tells that
 abbrev pub TakesGroup : Stage → Option (List ℕ) → Option (List ℕ) → List (List ℕ) → Behind → Type 0

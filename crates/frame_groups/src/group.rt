@@ -35,12 +35,13 @@ pub struct FrameGroup {
 }
 
 impl FramePayload {
-    ghost use Rattle.std.specs.Prelude.{◌++◌, OnOk};
+    ghost use Rattle.std.specs.Prelude.{◌++◌, OnErr, OnOk, []};
     ghost use Rattle.frame_groups.specs.Groups.{payload_frames};
 
     /// Adds its frames to those of the payloads before it.
     fn add_frames<'a>(&'a self, frames: &mut Vec<&'a [u8]>) -> Result<(), AllocError>
-        ensures { OnOk result (map (λ frame. frame.now) frames.new.items ≡ map (λ frame. frame.now) frames.old.items ++ payload_frames self.now) }
+        ensures frames { OnOk result (map (λ frame. frame.now) frames.new.items ≡ map (λ frame. frame.now) frames.old.items ++ payload_frames self.now) }
+        ensures some { OnErr result (payload_frames self.now ≡ [] → ⊥) }
     {
         for part in self.parts.as_slice() {
             frames.push(&self.bytes[part.from..part.to])?;
@@ -50,12 +51,13 @@ impl FramePayload {
 }
 
 impl FrameGroup {
-    ghost use Rattle.std.specs.Prelude.{IfOk};
+    ghost use Rattle.std.specs.Prelude.{IfOk, OnErr, []};
     ghost use Rattle.frame_groups.specs.Groups.{group_frames};
 
-    /// The frames, in order.
+    /// The frames, in order. A group that has none needs no memory for them.
     pub fn frames(&self, alloc: Global) -> Result<Vec<&[u8]>, AllocError>
-        ensures { IfOk result (λ frames. map (λ frame. frame.now) frames.items ≡ group_frames self.now) }
+        ensures frames { IfOk result (λ frames. map (λ frame. frame.now) frames.items ≡ group_frames self.now) }
+        ensures some { OnErr result (group_frames self.now ≡ [] → ⊥) }
     {
         let mut frames = Vec::new(alloc);
         for payload in &self.payloads {

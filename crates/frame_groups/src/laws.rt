@@ -1,6 +1,6 @@
 //! Laws of the definitions, as contracts of functions that do nothing.
 
-ghost use Rattle.std.specs.Prelude.{◌≡◌, ◌<◌, ℕ, List, None, false, length};
+ghost use Rattle.std.specs.Prelude.{◌≡◌, ◌<◌, ◌≤◌, ◌++◌, ℕ, List, None, false, length};
 ghost use Rattle.file_frames.specs.FileFrames.{frames_in, frames_of_file};
 ghost use Rattle.packet_reader.specs.declared.reader.Stage.{Stage};
 ghost use Rattle.packet_reader.specs.declared.reader.Stage.TheVariants.{Header, Packet};
@@ -18,4 +18,9 @@ pub fn file_has_frames_ahead()
 pub fn front_has_these_frames()
     ensures frames { (stage : Stage) (front : List ℕ) (frames : List (List ℕ)) → LeadTo stage front frames Packet → frames_in (frames_ahead stage front) ≡ frames }
     ensures ending { (stage : Stage) (front : List ℕ) (frames : List (List ℕ)) → LeadTo stage front frames Packet → (frames_ahead stage front).ending ≡ None }
+{}
+
+/// Four bytes tell the container, whatever comes behind them.
+pub fn four_bytes_tell_the_container()
+    ensures { (front more : List ℕ) → 4 ≤ length front → is_webm (front ++ more) ≡ is_webm front }
 {}

@@ -7,6 +7,6 @@ mod opening;
 mod reader;
 
 pub use group::{Behind, FrameGroup, FramePayload};
-pub use laws::{file_has_frames_ahead, front_has_these_frames};
+pub use laws::{file_has_frames_ahead, four_bytes_tell_the_container, front_has_these_frames};
 pub use opening::{Looked, Opened, open};
 pub use reader::GroupReader;

@@ -3,8 +3,8 @@
 ghost use Rattle.std.specs.Prelude.{◌≡◌, length};
 ghost use Rattle.edge_io.specs.Filling.{CountsFaults};
 ghost use Rattle.file_frames.specs.Containers.{is_webm};
-ghost use Rattle.frame_groups.specs.Code.{TakesFront};
-ghost use Rattle.frame_groups.specs.Openings.{CountsOpened, MayAsk, OpensAs};
+ghost use Rattle.frame_groups.specs.Code.{CountsFront, TakesFront};
+ghost use Rattle.frame_groups.specs.Openings.{CountsOpened, HasGiven, MayAsk, OpensAs};
 
 use edge_io::{Failed, Source};
 
@@ -44,6 +44,7 @@ fn take_front<S: Source>(source: &mut S, front: &mut [u8]) -> Result<usize, Fail
     requires fill { S.can_fill source.old }
     requires four { length front.old ≡ 4 }
     ensures bytes { TakesFront (S.rest source.old) (S.rest source.new) front.new result }
+    ensures given { CountsFront (S.given source.old) (S.given source.new) result }
     ensures faults { CountsFaults (S.faults source.old) (S.faults source.new) result }
     ensures again { S.faults source.new ≡ S.faults source.old → S.can_fill source.new }
 {
@@ -64,6 +65,7 @@ pub fn open<S: Source>(source: S) -> Opened<S>
     ensures bytes { OpensAs S.rest source result }
     ensures faults { CountsOpened S.faults source result }
     ensures again { MayAsk S.can_fill result }
+    ensures given { HasGiven S.given result }
 {
     let mut source = source;
     let mut front = [0; FRONT];

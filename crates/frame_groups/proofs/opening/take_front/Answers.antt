@@ -27,6 +27,8 @@ pieces-preserved g c =
       few = search rules;
       gave = rw (front_more c.pieces.front c.fill.new.buf _ c.pieces.at c.in-Ok.more long i.0)
           (gave_more (rest c.args.source.now) (rest c.pieces.source) (rest c.fill.new.self) (take c.pieces.at c.pieces.front) c.fill.new.buf c.in-Ok.more h.gave i.1);
+      given = omega (arith, h.given, c.in-Ok.ensures.given);
+      most = λ some. c.in-Ok.ensures.most;
       faults = search rules;
       again = c.in-Ok.ensures.again c.in-Ok.ensures.faults;
     }
