@@ -27,7 +27,7 @@ use Rattle.job_decoder.proofs.Groups.{same_texts}
 use Rattle.job_decoder.specs.Outputs.{HasRefusedSo, IsQuiet, TellsOutcome}
 use Rattle.numbered_frames.specs.Films.{Film, film_of}
 
-end_tells : (format : Format) (film : Film) (f : ℕ) (x : JobResult) → IsEndResult format film f x → TellsOutcome (Whole f x)
+pub end_tells : (format : Format) (film : Film) (f : ℕ) (x : JobResult) → IsEndResult format film f x → TellsOutcome (Whole f x)
 end_tells format film f (result.Ended o) is = tt
 end_tells format film f (result.Begun b) is = absurd is
 end_tells format film f (result.Existing slot) is = absurd is
@@ -39,7 +39,7 @@ end_tells format film f result.Starved is = absurd is
 end_tells format film f result.Written is = absurd is
 end_tells format film f (result.Refused fault) is = absurd is
 
-refusal_tells : (f : ℕ) (x : JobResult) → fails x ≡ true → TellsOutcome (Refused f x)
+pub refusal_tells : (f : ℕ) (x : JobResult) → fails x ≡ true → TellsOutcome (Refused f x)
 refusal_tells f (result.Refused fault) is = tt
 refusal_tells f (result.Ended o) is = absurd cc
 refusal_tells f (result.Begun b) is = absurd cc

@@ -1,3 +1,9 @@
 pub mod Groups
 pub mod Ends
 pub mod Shown
+pub mod GroupEnds
+pub mod GroupOver
+pub mod PastFrames
+pub mod Reaching
+pub mod RowsTaken
+pub mod Behind

@@ -1,1 +1,4 @@
 pub mod Outputs
+pub mod Pasts
+pub mod Reaches
+pub mod Code

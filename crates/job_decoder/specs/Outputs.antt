@@ -1,5 +1,7 @@
 -- What a sink is in a decode, and what the run's end tells.
-use Rattle.std.specs.Prelude.{◌≡◌, ℕ, Bool}
+use Rattle.std.specs.Prelude.{◌≡◌, ℕ, Bool, true, false}
+use Rattle.vp9_types.specs.declared.outcome.Outcome.{Outcome}
+use Rattle.vp9_types.specs.declared.outcome.Outcome.TheVariants as outcome
 use Rattle.job_crew.specs.declared.outlet.Ending.{Ending}
 use Rattle.job_crew.specs.declared.outlet.Ending.TheVariants.{Whole, Refused}
 use Rattle.job_results.specs.Endings.{HasRefused}
@@ -20,3 +22,11 @@ TellsOutcome (Whole f (result.Ended told)) = Unit {0}
 TellsOutcome (Whole f _) = ⊥
 TellsOutcome (Refused f (result.Refused fault)) = Unit {0}
 TellsOutcome (Refused f _) = ⊥
+
+-- all is decoded
+abbrev pub is_done : Outcome → Bool
+is_done outcome.Done = true
+is_done (outcome.Broken stop) = false
+is_done outcome.ReadFault = false
+is_done outcome.WriteFault = false
+is_done outcome.OutOfMemory = false

@@ -1,6 +1,6 @@
 //! Who does the jobs of a decode.
 
-ghost use Rattle.std.specs.Prelude.{◌≡◌, ◌≤◌, All};
+ghost use Rattle.std.specs.Prelude.{◌≡◌, ◌≤◌, All, IfOk};
 ghost use Rattle.vp9_types.specs.declared.job.JobName.TheVariants.{Head, Rows};
 ghost use Rattle.job_order.specs.Sound.{frame_of};
 ghost use Rattle.job_crew.specs.Left.{HasRightResults};
@@ -9,6 +9,7 @@ ghost use Rattle.job_results.specs.Groups.{IsNoEnd, in_film, group_rules, group_
 ghost use Rattle.job_results.specs.Meaning.{decode_rules, decode_truth};
 ghost use Rattle.job_results.specs.Results.{IsRight};
 
+use crate::kept_frames::{KeptFrames, Shared, Slots};
 use crate::lookup::{FilmResults, in_film};
 use crate::output::DecodeSink;
 use crate::writes::write;
@@ -16,11 +17,11 @@ use edge_io::Sink;
 use job_crew::{Building, FrameResults, Jobs, LIVE, LastResult, Layout, Results};
 use job_heads::{FrameList, do_close, do_column, do_head};
 use job_order::Shown;
-use job_results::{ClosedFrame, Decode, DecodeRun, Group, JobResult, ended};
+use job_results::{ClosedFrame, Decode, DecodeRun, Group, JobResult, closed, ended};
 use job_rows::{do_filter, do_rows, reads};
-use std::alloc::Global;
-use std::marker::{Model, PhantomData};
-use std::sync::Wait;
+use std::alloc::{AllocError, Global};
+use std::marker::Model;
+use std::sync::{Arc, Mutex, OnceLock, Wait};
 use vp9_types::{BandSpan, JobName, Outcome};
 
 /// What all jobs of a group of frames are done by: its frames, and the results that are kept of those before it.
@@ -29,13 +30,12 @@ pub struct JobDecoder<'j, 'a, B: DecodeRun, T> {
     rt: &'j T,
     alloc: Global,
     list: FrameList<'a, B>,
-    kept: Vec<FrameResults<JobResult<'a>>>,
+    kept: Mutex<Shared<KeptFrames<'a, B>>>,
 }
 
 impl<'j, 'a, B: DecodeRun, T> Model for JobDecoder<'j, 'a, B, T> {
-    ghost use Rattle.std.specs.Prelude.{ℕ, All};
+    ghost use Rattle.std.specs.Prelude.{ℕ};
     ghost use Rattle.vp9_types.specs.declared.job.JobName.TheVariants.{Head};
-    ghost use Rattle.job_crew.specs.Left.{HasRightResults};
     ghost use Rattle.job_crew.specs.Runs.{IsDue};
     ghost use Rattle.job_results.specs.Meaning.{decode_rules, decode_truth};
 
@@ -43,8 +43,7 @@ impl<'j, 'a, B: DecodeRun, T> Model for JobDecoder<'j, 'a, B, T> {
 
     ghost view = { λ d. 0 };
 
-    ghost invariant = { λ d. All (HasRightResults (decode_truth B.format B.film)) d.kept.items
-        × IsDue (decode_rules B.format B.film) (decode_truth B.format B.film) (Head B.first) };
+    ghost invariant = { λ d. IsDue (decode_rules B.format B.film) (decode_truth B.format B.film) (Head B.first) };
 }
 
 /// What a frame shows, with its number of bands, where that is a frame of the group.
@@ -89,16 +88,26 @@ impl<'j, 'a, B: DecodeRun, T> JobDecoder<'j, 'a, B, T> {
         rt: &'j T,
         alloc: Global,
         list: FrameList<'a, B>,
-        kept: Vec<FrameResults<JobResult<'a>>>,
+        kept: Shared<KeptFrames<'a, B>>,
     ) -> JobDecoder<'j, 'a, B, T>
-        requires kept { All (HasRightResults (decode_truth B.format B.film)) kept.items }
         requires starts { IsDue (decode_rules B.format B.film) (decode_truth B.format B.film) (Head B.first) }
     {
         JobDecoder {
             rt,
             alloc,
             list,
-            kept,
+            kept: Mutex::new(kept),
+        }
+    }
+
+    /// What is still kept of the frames before the group.
+    pub(crate) fn into_kept(self) -> Result<Vec<FrameResults<JobResult<'a>>>, AllocError>
+        ensures { IfOk result (λ all. All (HasRightResults (decode_truth B.format B.film)) all.items) }
+    {
+        let JobDecoder { alloc, kept, .. } = self;
+        match Arc::into_inner(kept.into_inner()) {
+            Some(kept) => kept.into_results(alloc),
+            None => Ok(Vec::new(alloc)),
         }
     }
 
@@ -108,8 +117,8 @@ impl<'j, 'a, B: DecodeRun, T> JobDecoder<'j, 'a, B, T> {
             rt: self.rt,
             first: self.list.first(),
             kept: &self.kept,
+            held: OnceLock::new(),
             results,
-            of: PhantomData,
         }
     }
 
@@ -147,6 +156,20 @@ impl<'j, 'a, B: DecodeRun, T> JobDecoder<'j, 'a, B, T> {
             }
             JobName::Filter { frame, row } => do_filter::<B, R>(self.alloc, frame, row, results),
             JobName::Write { .. } | JobName::End { .. } => unreachable!(),
+        }
+    }
+}
+
+impl<'j, 'a, B: DecodeRun, T: Wait> JobDecoder<'j, 'a, B, T> {
+    /// Lets go of the frames before the group that no slot holds behind a frame that is written: the jobs of that frame and of those before
+    /// it are done, and later ones ask for none of these.
+    fn keep_named(&self, slots: &Slots) {
+        let mut kept = self.kept.lock(self.rt);
+        if kept.are_named(slots) {
+            return;
+        }
+        if let Ok(named) = kept.named(self.alloc, slots) {
+            *kept = named;
         }
     }
 }
@@ -234,15 +257,22 @@ impl<'j, 'a, B: DecodeRun, K: Sink, T: Wait> Jobs<JobResult<'a>, Group<B>, Decod
         results: &R,
         output: &mut DecodeSink<K, B>,
     ) -> JobResult<'a> {
+        let number = self.list.first() + frame;
+        let seen = self.seen(results);
         match write::<B, K, FilmResults<'_, 'a, B, R, T>>(
             self.alloc,
-            self.list.first() + frame,
-            &self.seen(results),
+            number,
+            &seen,
             &mut output.sink,
         ) {
-            Ok(()) => JobResult::Written,
-            Err(fault) => JobResult::Refused(fault),
+            Ok(()) => {}
+            Err(fault) => return JobResult::Refused(fault),
         }
+        let slots = closed::<B, FilmResults<'_, 'a, B, R, T>>(&seen, number)
+            .kept
+            .slots;
+        self.keep_named(&slots);
+        JobResult::Written
     }
 
     fn is_refused(&self, write: &JobResult<'a>) -> bool {

@@ -2,9 +2,16 @@
 #![tactic(auto)]
 
 mod decoder;
+mod group;
+mod group_run;
+mod kept;
+mod kept_frames;
 mod lookup;
 mod output;
+mod past;
 mod whole;
 mod writes;
 
+pub use group::{NextFrames, Reached, decode_group};
+pub use past::Past;
 pub use whole::{Crew, Decoded, decode_by_jobs};

@@ -1,42 +1,39 @@
 //! The results that the jobs of a group of frames may ask for, by their numbers in the film.
 
-ghost use Rattle.std.specs.Prelude.{◌≡◌, ◌+◌, ◌<◌, ◌≤◌, ◌^◌, All, IfNone, IfSome};
-ghost use Rattle.vp9_types.specs.declared.job.JobName.TheVariants.{Close, Filter};
+ghost use Rattle.std.specs.Prelude.{◌≡◌, ◌+◌, ◌<◌, ◌≤◌, ◌^◌, IfNone, IfSome};
 ghost use Rattle.job_order.specs.Sound.{frame_of};
-ghost use Rattle.job_crew.specs.Left.{HasRightResults};
 ghost use Rattle.job_crew.specs.Runs.{GoesOn};
 ghost use Rattle.job_results.specs.Groups.{in_film, numbered};
-ghost use Rattle.job_results.specs.Meaning.{decode_rules, decode_truth};
+ghost use Rattle.job_results.specs.Meaning.{decode_rules};
 ghost use Rattle.job_results.specs.Results.{IsRight};
 
-use job_crew::{FrameResults, Results, frame_of};
+use crate::kept_frames::{KeptFrames, Shared};
+use job_crew::{Results, frame_of};
 use job_results::{Decode, DecodeRun, Group, JobResult};
-use std::marker::{Model, PhantomData};
-use std::sync::Wait;
+use std::marker::Model;
+use std::sync::{Arc, Mutex, OnceLock, Wait};
 use std::thread;
 use vp9_types::JobName;
 
 /// The results of the group's jobs, and those that are kept of the frames before it. A frame that a later one asks for is kept, so each is there
-/// and no job waits for one.
+/// and no job waits for one. What is kept as a job first asks stays as long as it has these.
 #[derive(Drop)]
 pub(crate) struct FilmResults<'r, 'a: 'r, B: DecodeRun, R, T> {
     pub(crate) rt: &'r T,
     pub(crate) first: u64,
-    pub(crate) kept: &'r [FrameResults<JobResult<'a>>],
+    pub(crate) kept: &'r Mutex<Shared<KeptFrames<'a, B>>>,
+    pub(crate) held: OnceLock<Shared<KeptFrames<'a, B>>>,
     pub(crate) results: &'r R,
-    pub(crate) of: PhantomData<B>,
 }
 
 impl<'r, 'a: 'r, B: DecodeRun, R, T> Model for FilmResults<'r, 'a, B, R, T> {
-    ghost use Rattle.std.specs.Prelude.{◌≡◌, ℕ, All};
-    ghost use Rattle.job_crew.specs.Left.{HasRightResults};
-    ghost use Rattle.job_results.specs.Meaning.{decode_truth};
+    ghost use Rattle.std.specs.Prelude.{◌≡◌, ℕ};
 
     ghost Value = { ℕ };
 
     ghost view = { λ r. r.first };
 
-    ghost invariant = { λ r. (r.first ≡ B.first) × All (HasRightResults (decode_truth B.format B.film)) r.kept.now };
+    ghost invariant = { λ r. r.first ≡ B.first };
 }
 
 /// The job of a frame by another number of it.
@@ -76,51 +73,22 @@ fn in_group(first: u64, job: JobName) -> Option<JobName>
     Some(with_number(job, frame_of(job).checked_sub(first)?))
 }
 
-impl<'r, 'a: 'r, B: DecodeRun, R, T> FilmResults<'r, 'a, B, R, T> {
-    fn kept_frame(&self, frame: u64) -> Option<&FrameResults<JobResult<'a>>>
-        ensures frame { IfSome result (λ r. r.now.frame ≡ frame) }
-        ensures right { IfSome result (λ r. HasRightResults (decode_truth B.format B.film) r.now) }
-    {
-        for at in 0..self.kept.len() {
-            let results = &self.kept[at];
-            if results.frame == frame {
-                return Some(results);
-            }
+impl<'r, 'a: 'r, B: DecodeRun, R, T: Wait> FilmResults<'r, 'a, B, R, T> {
+    /// What is kept, as it was when this was first asked.
+    fn held(&self) -> Option<&KeptFrames<'a, B>> {
+        if self.held.get().is_none() {
+            let kept = Arc::try_clone(&*self.kept.lock(self.rt)).ok()?;
+            let _ = self.held.try_set(kept);
         }
-        None
-    }
-
-    fn kept_close(&self, frame: u64) -> Option<&JobResult<'a>>
-        ensures right { IfSome result (λ x. IsRight B.format B.film (Close frame) x.now) }
-        ensures goes_on { IfSome result (λ x. GoesOn (decode_rules B.format B.film) (Close frame) x.now) }
-    {
-        match &self.kept_frame(frame)?.close {
-            Some(close) => match close {
-                JobResult::Closed(_) => Some(close),
-                _ => None,
-            },
-            None => None,
-        }
-    }
-
-    fn kept_row(&self, frame: u64, row: u32) -> Option<&JobResult<'a>>
-        ensures { IfSome result (λ x. IsRight B.format B.film (Filter frame row) x.now) }
-    {
-        match self.kept_frame(frame)?.filters.get(row as usize)? {
-            Some(filtered) => Some(filtered),
-            None => None,
-        }
+        let held = self.held.get()?;
+        Some(&**held)
     }
 
     fn kept_result(&self, job: JobName) -> Option<&JobResult<'a>>
         ensures right { IfSome result (λ x. IsRight B.format B.film job x.now) }
         ensures goes_on { IfSome result (λ x. GoesOn (decode_rules B.format B.film) job x.now) }
     {
-        match job {
-            JobName::Close { frame } => self.kept_close(frame),
-            JobName::Filter { frame, row } => self.kept_row(frame, row),
-            _ => None,
-        }
+        self.held()?.result(job)
     }
 }
 

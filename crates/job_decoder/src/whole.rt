@@ -8,6 +8,7 @@ ghost use Rattle.job_results.specs.Endings.{IsOutcome};
 ghost use Rattle.job_decoder.specs.Outputs.{TellsOutcome};
 
 use crate::decoder::JobDecoder;
+use crate::kept_frames::KeptFrames;
 use crate::output::DecodeSink;
 use edge_io::{Gate, Sink};
 use file_frames::rate_of_file;
@@ -39,7 +40,7 @@ pub struct Decoded<K> {
 }
 
 /// The outcome that an ending tells.
-fn outcome_of(ending: &Ending<JobResult<'_>>) -> Outcome
+pub(crate) fn outcome_of(ending: &Ending<JobResult<'_>>) -> Outcome
     requires { TellsOutcome ending.now }
     ensures { IsOutcome ending.now result }
 {
@@ -94,7 +95,10 @@ fn decode_as<
         found,
         OutputForm::new(format, rate_of_file(bytes)),
     );
-    let jobs = JobDecoder::new(rt, alloc, list, Vec::new(alloc));
+    let Ok(none) = KeptFrames::shared(alloc, Vec::new(alloc)) else {
+        return without_memory(output);
+    };
+    let jobs = JobDecoder::new(rt, alloc, list, none);
     let run = Run {
         alloc,
         jobs: &jobs,

@@ -7,10 +7,10 @@ use Rattle.job_decoder.proofs.Groups.{fits_in_film}
 use Rattle.job_decoder.proofs.Shown.{put_by}
 use Rattle.job_decoder.proofs.decoder.JobDecoderJobsJobResultGroupDecodeSink.write.Goals as goal
 
-pub overflow_add-first : goal.overflow_add-first
-overflow_add-first g c =
+pub overflow_add-number : goal.overflow_add-number
+overflow_add-number g c =
     let below =
-    fits_in_film g.B.DecodeRun.first c.first.result g.B.DecodeRun.format g.B.DecodeRun.film (Write c.args.frame) c.first.ensures.is c.first.ensures.few c.self.invariant.1 c.requires.due tt
+    fits_in_film g.B.DecodeRun.first c.first.result g.B.DecodeRun.format g.B.DecodeRun.film (Write c.args.frame) c.first.ensures.is c.first.ensures.few c.self.invariant c.requires.due tt
     in
     omega (arith, below)
 

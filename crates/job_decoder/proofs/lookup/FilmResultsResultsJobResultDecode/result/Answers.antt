@@ -10,5 +10,5 @@ returns-in-Some-clause-goes_on g c =
     let format = g.B.DecodeRun.format in
     let film = g.B.DecodeRun.film in
     let first = g.B.DecodeRun.first in
-    subst (λ j. GoesOn (decode_rules format film) j c.result.result.now) (ap (λ n. in_film n c.in-Some.own) (sym c.self.invariant.0) ∙ c.in-Some.ensures)
+    subst (λ j. GoesOn (decode_rules format film) j c.result.result.now) (ap (λ n. in_film n c.in-Some.own) (sym c.self.invariant) ∙ c.in-Some.ensures)
     (goes_on_in_film first format film c.in-Some.own c.result.result.now c.result.ensures.goes_on)

@@ -1,6 +1,6 @@
 use Rattle.std.proofs.Common.{ap}
 use Rattle.job_results.specs.Meaning.{builds, shown_as}
-use Rattle.job_decoder.proofs.lookup.FilmResults.kept_close.Goals as goal
+use Rattle.job_decoder.proofs.kept_frames.KeptFrames.close.Goals as goal
 
 pub returns-in-Closed-clause-goes_on : goal.returns-in-Closed-clause-goes_on
 returns-in-Closed-clause-goes_on g c =

@@ -1,0 +1,9 @@
+use Rattle.std.proofs.Common.{All, length}
+use Rattle.job_decoder.specs.Pasts.{IsKept}
+use Rattle.job_decoder.proofs.kept.rebuilt.Given as goal
+
+abbrev pub invariant-loop-results : goal.invariant-loop-results
+invariant-loop-results g l = All (IsKept g.B.DecodeRun.format g.B.DecodeRun.film) l.old.items × All (IsKept g.B.DecodeRun.format g.B.DecodeRun.film) l.kept.items
+
+abbrev pub decreases-loop-results : goal.decreases-loop-results
+decreases-loop-results g l = length l.old.items
