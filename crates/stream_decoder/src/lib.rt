@@ -1,0 +1,11 @@
+//! A decode that takes its source as it goes.
+#![tactic(auto)]
+
+mod packets;
+mod steps;
+mod stream;
+mod streamed;
+mod whole;
+
+pub use stream::decode_source;
+pub use streamed::Streamed;
