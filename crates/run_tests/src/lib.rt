@@ -6,6 +6,8 @@ mod files;
 #[cfg(test)]
 mod odd_values;
 #[cfg(test)]
+mod read_faults;
+#[cfg(test)]
 mod runs;
 #[cfg(test)]
 mod sizes;

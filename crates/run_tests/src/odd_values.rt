@@ -11,7 +11,7 @@ use std::thread::Threads;
 use vp9_app::Status;
 
 // Key frames whose every bool is 0, so that each sample is grey: by tools/vectors.py grey.
-const GREY_4099_BY_3: &[u8] = b"\x83I\x83B\x01\0 \0 \0\0\0\0\x02\0\0\0\0\x01\0\0";
+pub const GREY_4099_BY_3: &[u8] = b"\x83I\x83B\x01\0 \0 \0\0\0\0\x02\0\0\0\0\x01\0\0";
 
 const GREY_60001_BY_1: &[u8] =
     b"\x83I\x83B\x0e\xa6\0\0\0\0\0\0\0\x02\0\0\0\0\x01\0\0\0\0\x01\0\0\0\0\x01\0\0\0\0\x01\0\0\0\0\
@@ -19,7 +19,7 @@ const GREY_60001_BY_1: &[u8] =
 \x01\0\0\0\0\x01\0\0\0\0\x01\0\0";
 
 // A packet of two such frames of 1x1, of which the first is hidden, and their index.
-const HIDDEN_THEN_SHOWN: &[u8] =
+pub const HIDDEN_THEN_SHOWN: &[u8] =
     b"\x81I\x83B\0\0\0\0\0\0\0\0\0\x04\0\0\x83I\x83B\0\0\0\0\0\0\0\0\0\x04\0\0\xc1\x10\x10\xc1";
 
 // A drawn key frame of 357x50 in 4:4:0, and the digest of what another decoder writes of it.

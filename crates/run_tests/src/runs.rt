@@ -1,6 +1,6 @@
 //! Runs of the program's commands over memory.
 
-use edge_io::{MemSink, MemSource, OpenGate};
+use edge_io::{MemSink, MemSource, OpenGate, Source};
 use std::alloc::{AllocError, Global};
 use std::sync::Wait;
 use std::thread::Threads;
@@ -23,7 +23,27 @@ pub const NONE: Fails = Fails {
     note: &[],
 };
 
-/// What the program's name and these words do with an input.
+/// What the program's name and these words do with a source.
+pub fn run_source<R: Threads + Wait + Sync, S: Source + Send + Drop>(
+    rt: &R,
+    alloc: Global,
+    given: &[&'static str],
+    source: S,
+    fails: &Fails,
+) -> Result<Ran<S, MemSink, MemSink>, AllocError>
+    requires { S.can_fill source }
+{
+    let mut words = Vec::new(alloc);
+    words.push(String::from_str(alloc, "vp9dec")?)?;
+    for word in given {
+        words.push(String::from_str(alloc, word)?)?;
+    }
+    let out = MemSink::new(alloc, fails.out)?;
+    let note = MemSink::new(alloc, fails.note)?;
+    Ok(run(rt, alloc, words.as_slice(), source, out, note, &OpenGate))
+}
+
+/// What they do with an input in memory.
 pub fn run_words<R: Threads + Wait + Sync>(
     rt: &R,
     alloc: Global,
@@ -31,13 +51,6 @@ pub fn run_words<R: Threads + Wait + Sync>(
     input: &[u8],
     fails: &Fails,
 ) -> Result<MemRan, AllocError> {
-    let mut words = Vec::new(alloc);
-    words.push(String::from_str(alloc, "vp9dec")?)?;
-    for word in given {
-        words.push(String::from_str(alloc, word)?)?;
-    }
     let source = MemSource::new(alloc, input, fails.source)?;
-    let out = MemSink::new(alloc, fails.out)?;
-    let note = MemSink::new(alloc, fails.note)?;
-    Ok(run(rt, alloc, words.as_slice(), source, out, note, &OpenGate))
+    run_source(rt, alloc, given, source, fails)
 }

@@ -1,4 +1,4 @@
-mod rows;
+pub mod rows;
 
 use crate::runs::{Fails, MemRan, NONE, run_words};
 use md5::{Digest, Md5};

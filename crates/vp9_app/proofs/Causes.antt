@@ -1,28 +1,34 @@
 -- From how the work ended and what the note took to the cause of the answer.
 use Rattle.std.proofs.Common.{◌≡◌, ℕ, ◌<◌, List, length, refl, ap, sym, subst, ◌∙◌, inl, inr, arith}
-use Rattle.std.specs.Prelude.{◌⊎◌, Option, Some, None}
+use Rattle.std.specs.Prelude.{◌⊎◌, Bool, true, false, Option, Some, None, take}
 use Rattle.std.proofs.lemmas.List.{take_all}
+use Rattle.vp9_types.specs.declared.outcome.Stop.{Stop}
 use Rattle.edge_io.specs.Putting.{Takes}
 use Rattle.command_words.specs.declared.command.Command.{Command}
 use Rattle.command_words.specs.declared.command.Command.TheVariants as command
+use Rattle.command_words.specs.declared.command.DecodeOptions.{DecodeOptions}
 use Rattle.command_words.specs.declared.command.MadeStream.{MadeStream}
 use Rattle.vp9_app.specs.declared.status.Status.{Status}
 use Rattle.vp9_app.specs.declared.status.Status.TheVariants as status
 use Rattle.vp9_app.specs.Notes.{note_line}
 use Rattle.vp9_app.specs.Answers.{Reports, Runs, Works, without_memory}
 use Rattle.vp9_app.specs.Making.{Makes, Trials}
-use Rattle.vp9_app.specs.Reading.{Completes, Output, Reads, WritesFront, decoded, listed}
+use Rattle.vp9_app.specs.Reading.{BreaksOff, Completes, DecodesBy, Output, Reads, Streams, WritesFront, decoded, listed}
 use Rattle.vp9_app.specs.Seen.{OfSink, OfSource, SinkQuiet, Unread}
 use Rattle.vp9_app.specs.Code.{MayLackMemory}
-use Rattle.vp9_app.specs.Laws.{AllQuiet, EndsAs, EndsAsTrial, HasCause, IsComplete, IsDone}
+use Rattle.vp9_app.specs.Laws.{AllQuiet, EndsAs, EndsAsTrial, HasCause, IsComplete, IsDecodedBy, IsDone, IsLeftBy, IsLeftByFault}
 
 ---- Want of memory in place of a rule's line ----
 
--- a whole output is a front of it
+-- a whole text is a front of it
+whole_front : (o : OfSink) (text : List ℕ) → Takes o.before o.after text → (n : ℕ) × Takes o.before o.after (take n text)
+whole_front o text h = (length text, subst (λ t. Takes o.before o.after t) (sym (take_all (length text) text (omega arith))) h)
+
 completes_front : (output : List ℕ → Output) (s : OfSource) (o : OfSink) (st : Status) → Completes output s o st → WritesFront output s o
-completes_front output s o st h = λ bytes told.
-    let text = (output bytes).text in
-    (length text, subst (λ t. Takes o.before o.after t) (sym (take_all (length text) text (omega arith))) (h.told bytes told).1)
+completes_front output s o st h = λ bytes told. whole_front o (output bytes).text (h.told bytes told).1
+
+breaks_front : (output : List ℕ → Output) (s : OfSource) (o : OfSink) (stop : Stop) → BreaksOff output s o stop → WritesFront output s o
+breaks_front output s o stop h = λ bytes told. whole_front o (output bytes).text (h.told bytes told).1
 
 lacks : (output : List ℕ → Output) (s : OfSource) (o : OfSink) (st : Status) → Completes output s o st → Reads output s o status.OutOfMemory
 lacks output s o st h = (h.source, h.out, completes_front output s o st h)
@@ -35,6 +41,19 @@ reads_told output s o status.Usage told h e = absurd h
 reads_told output s o status.ReadFault told h e = subst (λ st. Reads output s o st) (sym e) h
 reads_told output s o status.WriteFault told h e = subst (λ st. Reads output s o st) (sym e) h
 reads_told output s o status.OutOfMemory told h e = subst (λ st. Reads output s o st) (sym e) h
+
+streams_told : (options : DecodeOptions) (s : OfSource) (o : OfSink) (first told : Status) → Streams options s o first → MayLackMemory first told → Streams options s o told
+streams_told options s o (status.Broken stop) told h (inl e) = subst (λ st. Streams options s o st) (sym e) h
+streams_told options s o (status.Broken stop) told h (inr e) = subst (λ st. Streams options s o st) (sym e) (inl h.source, h.out, breaks_front (decoded options) s o stop h)
+streams_told options s o status.Done told h e = subst (λ st. Streams options s o st) (sym e) h
+streams_told options s o status.Usage told h e = absurd h
+streams_told options s o status.ReadFault told h e = subst (λ st. Streams options s o st) (sym e) h
+streams_told options s o status.WriteFault told h e = subst (λ st. Streams options s o st) (sym e) h
+streams_told options s o status.OutOfMemory told h e = subst (λ st. Streams options s o st) (sym e) h
+
+decodes_told : (plain : Bool) (options : DecodeOptions) (s : OfSource) (o : OfSink) (first told : Status) → DecodesBy plain options s o first → MayLackMemory first told → DecodesBy plain options s o told
+decodes_told true options = reads_told (decoded options)
+decodes_told false options = streams_told options
 
 makes_told : (stream : MadeStream) (o : OfSink) (first told : Status) → Makes stream o first → MayLackMemory first told → Makes stream o told
 makes_told stream o status.Done told h e = subst (λ st. Makes stream o st) (sym e) h
@@ -64,7 +83,7 @@ none_told s o status.OutOfMemory told h e = subst (λ st. Works None s o st) (sy
 pub works_told : (c : Option Command) (s : OfSource) (o : OfSink) (first told : Status) → Works c s o first → MayLackMemory first told → Works c s o told
 works_told None = none_told
 works_told (Some command.List) = reads_told listed
-works_told (Some (command.Decode options)) = reads_told (decoded options)
+works_told (Some (command.Decode options)) = decodes_told options.plain options
 works_told (Some (command.Make stream)) = λ s o first told h m. (h.0, makes_told stream o first told h.1 m)
 works_told (Some (command.Trial stream)) = λ s o first told h m. (h.0, trial_told stream o first told h.1 m)
 
@@ -72,13 +91,32 @@ works_told (Some (command.Trial stream)) = λ s o first told h m. (h.0, trial_to
 
 -- the cause where the note took the line, of a command that reads its source
 cause_read : (c : Command) (output : List ℕ → Output) (s : OfSource) (o n : OfSink) (told : Status) → ((st : Status) → Completes output s o st → IsDone c s o st)
-    → Reads output s o told → SinkQuiet n → Takes n.before n.after (note_line told) → HasCause (Some c) s o n told
-cause_read c output s o n status.Done done h q t = (c, refl, record { source = h.source; out = h.out; note = q }, done status.Done h, t)
-cause_read c output s o n (status.Broken stop) done h q t = (c, refl, record { source = h.source; out = h.out; note = q }, done (status.Broken stop) h, t)
-cause_read c output s o n status.ReadFault done h q t = (c, refl, h.0, h.1, q, h.2, t)
-cause_read c output s o n status.WriteFault done h q t = inl h.1
-cause_read c output s o n status.OutOfMemory done h q t = (h.1, q)
-cause_read c output s o n status.Usage done h q t = absurd h
+    → (o.after ≡ o.before → IsLeftByFault c s o) → Reads output s o told → SinkQuiet n → Takes n.before n.after (note_line told) → HasCause (Some c) s o n told
+cause_read c output s o n status.Done done left h q t = (c, refl, record { source = h.source; out = h.out; note = q }, done status.Done h, t)
+cause_read c output s o n (status.Broken stop) done left h q t = (c, refl, record { source = h.source; out = h.out; note = q }, done (status.Broken stop) h, t)
+cause_read c output s o n status.ReadFault done left h q t = (c, refl, h.0, h.1, q, left h.2, t)
+cause_read c output s o n status.WriteFault done left h q t = inl h.1
+cause_read c output s o n status.OutOfMemory done left h q t = (h.1, q)
+cause_read c output s o n status.Usage done left h q t = absurd h
+
+-- the same of a decode by a crew
+cause_streamed : (options : DecodeOptions) (s : OfSource) (o n : OfSink) (told : Status) → options.plain ≡ false → Streams options s o told → SinkQuiet n → Takes n.before n.after (note_line told)
+    → HasCause (Some (command.Decode options)) s o n told
+cause_streamed options s o n status.Done crew h q t =
+    (command.Decode options, refl, record { source = h.source; out = h.out; note = q }, subst (λ plain. IsDecodedBy plain options s o status.Done) (sym crew) h, t)
+cause_streamed options s o n (status.Broken stop) crew h q t =
+    (command.Decode options, refl, record { source = h.source; out = h.out; note = q }, subst (λ plain. IsDecodedBy plain options s o (status.Broken stop)) (sym crew) h, t)
+cause_streamed options s o n status.ReadFault crew h q t = (command.Decode options, refl, h.0, h.1, q, subst (λ plain. IsLeftBy plain options s o) (sym crew) h.2, t)
+cause_streamed options s o n status.WriteFault crew h q t = inl h.1
+cause_streamed options s o n status.OutOfMemory crew h q t = (h.1, q)
+cause_streamed options s o n status.Usage crew h q t = absurd h
+
+cause_decoded : (plain : Bool) (options : DecodeOptions) (s : OfSource) (o n : OfSink) (told : Status) → options.plain ≡ plain → DecodesBy plain options s o told → SinkQuiet n
+    → Takes n.before n.after (note_line told) → HasCause (Some (command.Decode options)) s o n told
+cause_decoded true options s o n told is h q t =
+    cause_read (command.Decode options) (decoded options) s o n told (λ st d. subst (λ plain. IsDecodedBy plain options s o st) (sym is) d)
+    (λ kept. subst (λ plain. IsLeftBy plain options s o) (sym is) kept) h q t
+cause_decoded false options s o n told is h q t = cause_streamed options s o n told is h q t
 
 cause_made : (stream : MadeStream) (s : OfSource) (o n : OfSink) (told : Status) → Unread s → Makes stream o told → SinkQuiet n → Takes n.before n.after (note_line told)
     → HasCause (Some (command.Make stream)) s o n told
@@ -108,8 +146,8 @@ cause_none s o n status.OutOfMemory h q t = (h.1, q)
 
 cause_told : (c : Option Command) (s : OfSource) (o n : OfSink) (told : Status) → Works c s o told → SinkQuiet n → Takes n.before n.after (note_line told) → HasCause c s o n told
 cause_told None s o n told h q t = cause_none s o n told h q t
-cause_told (Some command.List) s o n told h q t = cause_read command.List listed s o n told (λ st d. d) h q t
-cause_told (Some (command.Decode options)) s o n told h q t = cause_read (command.Decode options) (decoded options) s o n told (λ st d. d) h q t
+cause_told (Some command.List) s o n told h q t = cause_read command.List listed s o n told (λ st d. d) (λ kept. kept) h q t
+cause_told (Some (command.Decode options)) s o n told h q t = cause_decoded options.plain options s o n told refl h q t
 cause_told (Some (command.Make stream)) s o n told h q t = cause_made stream s o n told h.0 h.1 q t
 cause_told (Some (command.Trial stream)) s o n told h q t = cause_tried stream s o n told h.0 h.1 q t
 
@@ -121,6 +159,19 @@ lacking_read c output s o n status.ReadFault h q = (h.1, q)
 lacking_read c output s o n status.WriteFault h q = inl h.1
 lacking_read c output s o n status.OutOfMemory h q = (h.1, q)
 lacking_read c output s o n status.Usage h q = absurd h
+
+lacking_streamed : (c : Option Command) (options : DecodeOptions) (s : OfSource) (o n : OfSink) (told : Status) → Streams options s o told → SinkQuiet n → HasCause c s o n (without_memory told)
+lacking_streamed c options s o n status.Done h q = (h.out, q)
+lacking_streamed c options s o n (status.Broken stop) h q = (h.out, q)
+lacking_streamed c options s o n status.ReadFault h q = (h.1, q)
+lacking_streamed c options s o n status.WriteFault h q = inl h.1
+lacking_streamed c options s o n status.OutOfMemory h q = (h.1, q)
+lacking_streamed c options s o n status.Usage h q = absurd h
+
+lacking_decoded : (plain : Bool) (c : Option Command) (options : DecodeOptions) (s : OfSource) (o n : OfSink) (told : Status) → DecodesBy plain options s o told → SinkQuiet n
+    → HasCause c s o n (without_memory told)
+lacking_decoded true c options s o n told h q = lacking_read c (decoded options) s o n told h q
+lacking_decoded false c options s o n told h q = lacking_streamed c options s o n told h q
 
 lacking_made : (c : Option Command) (stream : MadeStream) (s : OfSource) (o n : OfSink) (told : Status) → Makes stream o told → SinkQuiet n → HasCause c s o n (without_memory told)
 lacking_made c stream s o n status.Done h q = (h.0, q)
@@ -149,7 +200,7 @@ lacking_none s o n status.OutOfMemory h q = (h.1, q)
 cause_lacking : (c : Option Command) (s : OfSource) (o n : OfSink) (told : Status) → Works c s o told → SinkQuiet n → HasCause c s o n (without_memory told)
 cause_lacking None s o n told h q = lacking_none s o n told h q
 cause_lacking (Some command.List) s o n told h q = lacking_read (Some command.List) listed s o n told h q
-cause_lacking (Some (command.Decode options)) s o n told h q = lacking_read (Some (command.Decode options)) (decoded options) s o n told h q
+cause_lacking (Some (command.Decode options)) s o n told h q = lacking_decoded options.plain (Some (command.Decode options)) options s o n told h q
 cause_lacking (Some (command.Make stream)) s o n told h q = lacking_made (Some (command.Make stream)) stream s o n told h.1 q
 cause_lacking (Some (command.Trial stream)) s o n told h q = lacking_tried (Some (command.Trial stream)) stream s o n told h.1 q
 
@@ -185,6 +236,33 @@ complete_read : (output : List ℕ → Output) (s : OfSource) (o n : OfSink) (to
 complete_read output s o n told last h (inl r) = λ a. subst (λ st. EndsAs output s st) (sym r.1) (read_by_output output s o n told h a)
 complete_read output s o n told last h (inr (inl r)) = λ a. absurd (clash n.faults n.faults_now r.0 a.note)
 complete_read output s o n told last h (inr (inr r)) = λ a bytes t. inr (r.2 ∙ read_lacking output s o n told h a)
+
+-- the same of a decode by a crew
+streamed_by_output : (options : DecodeOptions) (s : OfSource) (o n : OfSink) (told : Status) → Streams options s o told → AllQuiet s o n → EndsAs (decoded options) s told
+streamed_by_output options s o n status.Done h a = λ bytes t. inl (sym (h.told bytes t).0)
+streamed_by_output options s o n (status.Broken stop) h a = λ bytes t. inl (sym (h.told bytes t).0)
+streamed_by_output options s o n status.ReadFault h a = λ bytes t. absurd (clash s.faults s.faults_now h.0 a.source)
+streamed_by_output options s o n status.WriteFault h a = λ bytes t. absurd (clash o.faults o.faults_now h.1 a.out)
+streamed_by_output options s o n status.OutOfMemory h a = λ bytes t. inr refl
+streamed_by_output options s o n status.Usage h a = absurd h
+
+streamed_lacking : (options : DecodeOptions) (s : OfSource) (o n : OfSink) (told : Status) → Streams options s o told → AllQuiet s o n → without_memory told ≡ status.OutOfMemory
+streamed_lacking options s o n status.Done h a = refl
+streamed_lacking options s o n (status.Broken stop) h a = refl
+streamed_lacking options s o n status.ReadFault h a = refl
+streamed_lacking options s o n status.WriteFault h a = absurd (clash o.faults o.faults_now h.1 a.out)
+streamed_lacking options s o n status.OutOfMemory h a = refl
+streamed_lacking options s o n status.Usage h a = absurd h
+
+complete_streamed : (options : DecodeOptions) (s : OfSource) (o n : OfSink) (told last : Status) → Streams options s o told → Reports n told last → AllQuiet s o n → EndsAs (decoded options) s last
+complete_streamed options s o n told last h (inl r) = λ a. subst (λ st. EndsAs (decoded options) s st) (sym r.1) (streamed_by_output options s o n told h a)
+complete_streamed options s o n told last h (inr (inl r)) = λ a. absurd (clash n.faults n.faults_now r.0 a.note)
+complete_streamed options s o n told last h (inr (inr r)) = λ a bytes t. inr (r.2 ∙ streamed_lacking options s o n told h a)
+
+complete_decoded : (plain : Bool) (options : DecodeOptions) (s : OfSource) (o n : OfSink) (told last : Status) → DecodesBy plain options s o told → Reports n told last → AllQuiet s o n
+    → EndsAs (decoded options) s last
+complete_decoded true options = complete_read (decoded options)
+complete_decoded false options = complete_streamed options
 
 -- a stream is made, or there is no memory for it
 made_by_output : (stream : MadeStream) (s : OfSource) (o n : OfSink) (told : Status) → Makes stream o told → AllQuiet s o n → (told ≡ status.Done) ⊎ (told ≡ status.OutOfMemory)
@@ -248,7 +326,7 @@ complete_none s o n told last h (inr (inr r)) = λ a. inr (r.2 ∙ lacks_memory 
 pub complete_of : (c : Option Command) (s : OfSource) (o n : OfSink) (told last : Status) → Works c s o told → Reports n told last → IsComplete c s o n last
 complete_of None = complete_none
 complete_of (Some command.List) = λ s o n told last h r. complete_read listed s o n told last h r
-complete_of (Some (command.Decode options)) = λ s o n told last h r. complete_read (decoded options) s o n told last h r
+complete_of (Some (command.Decode options)) = λ s o n told last h r. complete_decoded options.plain options s o n told last h r
 complete_of (Some (command.Make stream)) = λ s o n told last h r. complete_made stream s o n told last h.1 r
 complete_of (Some (command.Trial stream)) = λ s o n told last h r. complete_tried stream s o n told last h.1 r
 

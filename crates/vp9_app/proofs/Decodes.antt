@@ -1,33 +1,35 @@
--- From how the decoder ended to how the work of `decode` did.
-use Rattle.std.proofs.Common.{◌≡◌, ◌∙◌, ℕ, List, [], ap, sym, subst}
-use Rattle.std.specs.Prelude.{Option, Some, take}
-use Rattle.vp9_types.specs.declared.rule.Rule.{Rule}
-use Rattle.edge_io.specs.Filling.{WhereTold}
-use Rattle.edge_io.specs.Putting.{Takes}
+-- From how a decode ended to how the work of `decode` did.
+use Rattle.std.proofs.Common.{◌≡◌, ap, sym, subst}
+use Rattle.std.specs.Prelude.{false}
+use Rattle.vp9_types.specs.declared.outcome.Outcome.{Outcome}
+use Rattle.vp9_types.specs.declared.outcome.Outcome.TheVariants as outcome
 use Rattle.command_words.specs.declared.command.DecodeOptions.{DecodeOptions}
-use Rattle.seq_decoder.specs.Outputs.{output_of}
-use Rattle.seq_decoder.specs.Outcomes as of_run
-use Rattle.vp9_app.specs.Statuses.{ended}
-use Rattle.vp9_app.specs.Reading.{Completes, WritesFront, decoded}
-use Rattle.vp9_app.specs.Seen.{OfSink, OfSource, SourceQuiet}
+use Rattle.stream_decoder.specs.Streams.{DecodesSource}
+use Rattle.vp9_app.specs.declared.status.Status.{Status}
+use Rattle.vp9_app.specs.Reading.{DecodesBy, DecodesSo, Streams}
+use Rattle.vp9_app.specs.Seen.{OfSink, OfSource}
+use Rattle.vp9_app.specs.Statuses.{decode_ended, ended}
 
--- these bytes are all that the source had, and none is left
-abbrev pub WasRead : OfSource → List ℕ → Type 0
-WasRead s bytes = WhereTold s.rest (λ all. (bytes ≡ all) × (s.left ≡ Some []))
+-- a decode of a source, as it is seen
+abbrev pub DecodesSeen : DecodeOptions → OfSource → OfSink → Outcome → Type 0
+DecodesSeen options s o outcome = DecodesSource options.format s.rest s.left s.faults s.faults_now o.before o.after o.faults o.faults_now outcome
 
-completes : (options : DecodeOptions) (s : OfSource) (o : OfSink) (bytes : List ℕ) (e : Option (ℕ × Rule)) → SourceQuiet s → WasRead s bytes
-    → of_run.Completes (output_of options.format bytes) o.before o.after o.faults o.faults_now e → Completes (decoded options) s o (ended e)
-completes options s o bytes e quiet read d = record {
-  source = quiet;
-  out = d.quiet;
-  told = λ all told.
-      let same = (read all told).0 in (
-        ap (λ b. ended (output_of options.format b).ending) (sym same) ∙ ap ended d.ends,
-        subst (λ b. Takes o.before o.after (output_of options.format b).adds) same d.writes,
-        (read all told).1,
-      );
+streams : (options : DecodeOptions) (s : OfSource) (o : OfSink) (end : Outcome) → DecodesSeen options s o end → Streams options s o (decode_ended end)
+streams options s o outcome.Done h = record {
+  source = h.0;
+  out = h.1;
+  told = λ bytes t. (ap ended (h.2 bytes t).0.0, (h.2 bytes t).0.1, (h.2 bytes t).1);
 }
+streams options s o (outcome.Broken stop) h = record {
+  source = h.0;
+  out = h.1;
+  taken = h.2;
+  told = λ bytes t. (ap ended (h.3 bytes t).0, (h.3 bytes t).1);
+}
+streams options s o outcome.ReadFault h = h
+streams options s o outcome.WriteFault h = h
+streams options s o outcome.OutOfMemory h = h
 
-front : (options : DecodeOptions) (s : OfSource) (o : OfSink) (bytes : List ℕ) → WasRead s bytes
-    → of_run.WritesFront (output_of options.format bytes) o.before o.after → WritesFront (decoded options) s o
-front options s o bytes read d = λ all told. (d.0, subst (λ b. Takes o.before o.after (take d.0 (output_of options.format b).adds)) (read all told).0 d.1)
+pub crew_decodes : (options : DecodeOptions) (s : OfSource) (o : OfSink) (end : Outcome) (st : Status) → options.plain ≡ false → DecodesSeen options s o end → st ≡ decode_ended end → DecodesSo options s o st
+crew_decodes options s o end st crew h is =
+    subst (λ plain. DecodesBy plain options s o st) (sym crew) (subst (λ st. Streams options s o st) (sym is) (streams options s o end h))

@@ -1,16 +1,17 @@
 -- The causes of the answers of a run, and where it is complete.
-use Rattle.std.specs.Prelude.{◌≡◌, ◌⊎◌, ℕ, List, [], Option, Some, None}
+use Rattle.std.specs.Prelude.{◌≡◌, ◌⊎◌, ℕ, Bool, true, false, List, [], Option, Some, None}
 use Rattle.vp9_types.specs.declared.rule.Rule.{Rule}
 use Rattle.edge_io.specs.Filling.{WhereTold}
 use Rattle.edge_io.specs.Putting.{Takes}
 use Rattle.command_words.specs.declared.command.Command.{Command}
 use Rattle.command_words.specs.declared.command.Command.TheVariants as command
+use Rattle.command_words.specs.declared.command.DecodeOptions.{DecodeOptions}
 use Rattle.command_words.specs.declared.command.MadeStream.{MadeStream}
 use Rattle.stream_trial.specs.Trials.{BreaksAt, MadeEnds}
 use Rattle.vp9_app.specs.declared.status.Status.{Status}
 use Rattle.vp9_app.specs.declared.status.Status.TheVariants as status
 use Rattle.vp9_app.specs.Making.{WritesMade, WritesTrial}
-use Rattle.vp9_app.specs.Reading.{Completes, Output, decoded, listed}
+use Rattle.vp9_app.specs.Reading.{BreaksOff, Completes, LeavesTaken, Output, decoded, listed}
 use Rattle.vp9_app.specs.Seen.{OfSink, OfSource, SinkFailed, SinkQuiet, SourceFailed, SourceQuiet, Unread}
 use Rattle.vp9_app.specs.Notes.{note_line}
 use Rattle.vp9_app.specs.Statuses.{ended}
@@ -27,12 +28,31 @@ IsTried stream o status.Done = WritesTrial stream o
 IsTried stream o (status.Broken stop) = (o.after ≡ o.before) × BreaksAt stream.number stream.frames stop
 IsTried stream o last = ⊥
 
+-- A decode is done, by whether it is plain: one by a crew needn't have read what is behind a frame that breaks a rule.
+abbrev pub IsDecodedBy : Bool → DecodeOptions → OfSource → OfSink → Status → Type 0
+IsDecodedBy true options s o last = Completes (decoded options) s o last
+IsDecodedBy false options s o (status.Broken stop) = BreaksOff (decoded options) s o stop
+IsDecodedBy false options s o last = Completes (decoded options) s o last
+
+abbrev pub IsDecoded : DecodeOptions → OfSource → OfSink → Status → Type 0
+IsDecoded options = IsDecodedBy options.plain options
+
 -- all of its work is done: what it reads is read, and its whole output is written
 abbrev pub IsDone : Command → OfSource → OfSink → Status → Type 0
 IsDone command.List s o last = Completes listed s o last
-IsDone (command.Decode options) s o last = Completes (decoded options) s o last
+IsDone (command.Decode options) s o last = IsDecoded options s o last
 IsDone (command.Make stream) s o last = Unread s × WritesMade stream o × (last ≡ status.Done)
 IsDone (command.Trial stream) s o last = Unread s × IsTried stream o last
+
+-- What a decode leaves written where its source failed, by whether it is plain: nothing, or by a crew what the front that was taken shows.
+abbrev pub IsLeftBy : Bool → DecodeOptions → OfSource → OfSink → Type 0
+IsLeftBy true options s o = o.after ≡ o.before
+IsLeftBy false options s o = LeavesTaken options s o
+
+-- what a command leaves written where its source failed: nothing, but for a decode by a crew
+abbrev pub IsLeftByFault : Command → OfSource → OfSink → Type 0
+IsLeftByFault (command.Decode options) s o = IsLeftBy options.plain options s o
+IsLeftByFault used s o = o.after ≡ o.before
 
 -- the cause of each answer
 abbrev pub HasCause : Option Command → OfSource → OfSink → OfSink → Status → Type 0
@@ -41,7 +61,7 @@ HasCause c s o n (status.Broken stop) =
     (used : Command) × (c ≡ Some used) × AllQuiet s o n × IsDone used s o (status.Broken stop) × Takes n.before n.after (note_line (status.Broken stop))
 HasCause c s o n status.Usage = (c ≡ None) × AllQuiet s o n × Takes n.before n.after (note_line status.Usage)
 HasCause c s o n status.ReadFault =
-    (used : Command) × (c ≡ Some used) × SourceFailed s × SinkQuiet o × SinkQuiet n × (o.after ≡ o.before) × Takes n.before n.after (note_line status.ReadFault)
+    (used : Command) × (c ≡ Some used) × SourceFailed s × SinkQuiet o × SinkQuiet n × IsLeftByFault used s o × Takes n.before n.after (note_line status.ReadFault)
 HasCause c s o n status.WriteFault = SinkFailed o ⊎ SinkFailed n
 HasCause c s o n status.OutOfMemory = SinkQuiet o × SinkQuiet n
 

@@ -1,23 +1,23 @@
 ghost use Rattle.std.specs.Prelude.{◌≡◌, ◌⊎◌, Some, None, map, string_bytes};
 ghost use Rattle.vp9_app.specs.Answers.{Runs, Works};
 ghost use Rattle.vp9_app.specs.Making.{Makes, Trials};
+ghost use Rattle.vp9_app.specs.Reading.{Reads, decoded};
 ghost use Rattle.vp9_app.specs.Seen.{sink_seen, source_seen};
 ghost use Rattle.command_words.specs.declared.command.Command.TheVariants as command;
 ghost use Rattle.command_words.specs.declared.command.MadeStream.{MadeStream};
 ghost use Rattle.command_words.specs.Words.{command_of};
-ghost use Rattle.seq_decoder.specs.Outcomes.{Decodes};
-ghost use Rattle.seq_decoder.specs.Outputs.{output_of};
 
 use crate::listing::list_file;
 use crate::note::report;
 use crate::status::{Status, listing_status};
 use command_words::{Command, DecodeOptions, MadeStream, read_words};
 use edge_io::{Gate, PutFault, ReadError, Sink, Source, put_all, read_all};
-use job_decoder::{Crew, Decoded, decode_by_jobs};
+use job_decoder::Crew;
 use seq_decoder::decode_plain;
 use std::alloc::Global;
 use std::sync::Wait;
 use std::thread::Threads;
+use stream_decoder::{Streamed, decode_source};
 use stream_forge::{NotMade, make_stream};
 use stream_trial::{NoLine, trial_line};
 
@@ -56,75 +56,79 @@ fn list<S: Source, K: Sink>(alloc: Global, source: &mut S, out: &mut K) -> Statu
     }
 }
 
-/// How the work of a command ended, and the sink that it wrote to.
+/// How the work of a command ended, its source, and the sink that it wrote to.
 #[derive(Drop)]
-struct Worked<K> {
+struct Worked<S, K> {
     status: Status,
+    source: S,
     out: K,
 }
 
-/// Decodes a file on this thread, or by a crew.
-fn decode_bytes<R: Threads + Wait + Sync, K: Sink + Send + Drop, G: Gate + Sync>(
+/// Decodes what a source has on this thread, when all of it is read.
+fn decode_whole<S: Source, K: Sink>(
+    alloc: Global,
+    options: DecodeOptions,
+    source: &mut S,
+    out: &mut K,
+) -> Status
+    requires source { S.can_fill source.old }
+    requires out { K.can_put out.old }
+    ensures work { Reads (decoded options)
+        (source_seen (S.rest source.old) (S.rest source.new) (S.faults source.old) (S.faults source.new))
+        (sink_seen (K.grows out.old) (K.taken out.old) (K.taken out.new) (K.faults out.old) (K.faults out.new)) result }
+    ensures source_again { S.faults source.new ≡ S.faults source.old → S.can_fill source.new }
+    ensures grows { K.grows out.new ≡ K.grows out.old }
+    ensures out_again { K.faults out.new ≡ K.faults out.old → K.can_put out.new }
+{
+    let bytes = match read_all(alloc, source) {
+        Ok(bytes) => bytes,
+        Err(ReadError::Failed) => return Status::ReadFault,
+        Err(ReadError::OutOfMemory) => return Status::OutOfMemory,
+    };
+    let outcome = decode_plain(alloc, options.format, bytes.as_slice(), out);
+    Status::from(outcome)
+}
+
+/// Decodes what a source has, on this thread or, as it comes, by a crew.
+fn decode<R: Threads + Wait + Sync, S: Source, K: Sink + Send + Drop, G: Gate + Sync>(
     rt: &R,
     alloc: Global,
     options: DecodeOptions,
-    bytes: &[u8],
+    mut source: S,
     mut out: K,
     gate: &G,
-) -> Decoded<K>
-    requires { K.can_put out }
-    ensures decodes { Decodes (output_of options.format bytes.now) (K.taken out) (K.taken result.sink) (K.faults out) (K.faults result.sink) result.outcome }
-    ensures grows { K.grows result.sink ≡ K.grows out }
-    ensures again { K.faults result.sink ≡ K.faults out → K.can_put result.sink }
+) -> Worked<S, K>
+    requires source { S.can_fill source }
+    requires out { K.can_put out }
+    ensures work { Works (Some (Command.Decode options))
+        (source_seen (S.rest source) (S.rest result.source) (S.faults source) (S.faults result.source))
+        (sink_seen (K.grows out) (K.taken out) (K.taken result.out) (K.faults out) (K.faults result.out)) result.status }
+    ensures source_again { S.faults result.source ≡ S.faults source → S.can_fill result.source }
+    ensures grows { K.grows result.out ≡ K.grows out }
+    ensures out_again { K.faults result.out ≡ K.faults out → K.can_put result.out }
 {
     if options.plain {
-        let outcome = decode_plain(alloc, options.format, bytes, &mut out);
-        return Decoded { outcome, sink: out };
+        let status = decode_whole(alloc, options, &mut source, &mut out);
+        return Worked {
+            status,
+            source,
+            out,
+        };
     }
     let crew = Crew {
         workers: options.workers,
         window: options.window,
         gate,
     };
-    decode_by_jobs(rt, alloc, &crew, options.format, bytes, out)
-}
-
-fn decode<R: Threads + Wait + Sync, S: Source, K: Sink + Send + Drop, G: Gate + Sync>(
-    rt: &R,
-    alloc: Global,
-    options: DecodeOptions,
-    source: &mut S,
-    out: K,
-    gate: &G,
-) -> Worked<K>
-    requires source { S.can_fill source.old }
-    requires out { K.can_put out }
-    ensures work { Works (Some (Command.Decode options))
-        (source_seen (S.rest source.old) (S.rest source.new) (S.faults source.old) (S.faults source.new))
-        (sink_seen (K.grows out) (K.taken out) (K.taken result.out) (K.faults out) (K.faults result.out)) result.status }
-    ensures source_again { S.faults source.new ≡ S.faults source.old → S.can_fill source.new }
-    ensures grows { K.grows result.out ≡ K.grows out }
-    ensures out_again { K.faults result.out ≡ K.faults out → K.can_put result.out }
-{
-    let bytes = match read_all(alloc, source) {
-        Ok(bytes) => bytes,
-        Err(ReadError::Failed) => {
-            return Worked {
-                status: Status::ReadFault,
-                out,
-            };
-        }
-        Err(ReadError::OutOfMemory) => {
-            return Worked {
-                status: Status::OutOfMemory,
-                out,
-            };
-        }
-    };
-    let decoded = decode_bytes(rt, alloc, options, bytes.as_slice(), out, gate);
+    let Streamed {
+        outcome,
+        source,
+        sink,
+    } = decode_source(rt, alloc, &crew, options.format, source, out);
     Worked {
-        status: Status::from(decoded.outcome),
-        out: decoded.sink,
+        status: Status::from(outcome),
+        source,
+        out: sink,
     }
 }
 
@@ -176,30 +180,34 @@ fn work<R: Threads + Wait + Sync, S: Source, K: Sink + Send + Drop, G: Gate + Sy
     rt: &R,
     alloc: Global,
     words: &[String],
-    source: &mut S,
+    mut source: S,
     mut out: K,
     gate: &G,
-) -> Worked<K>
-    requires source { S.can_fill source.old }
+) -> Worked<S, K>
+    requires source { S.can_fill source }
     requires out { K.can_put out }
     ensures work { Works (command_of (map string_bytes words.now))
-        (source_seen (S.rest source.old) (S.rest source.new) (S.faults source.old) (S.faults source.new))
+        (source_seen (S.rest source) (S.rest result.source) (S.faults source) (S.faults result.source))
         (sink_seen (K.grows out) (K.taken out) (K.taken result.out) (K.faults out) (K.faults result.out)) result.status }
-    ensures untouched { command_of (map string_bytes words.now) ≡ None → (source.new ≡ source.old) × (result.out ≡ out) }
-    ensures unread { (stream : MadeStream) → (command_of (map string_bytes words.now) ≡ Some (command.Make stream)) ⊎ (command_of (map string_bytes words.now) ≡ Some (command.Trial stream)) → source.new ≡ source.old }
-    ensures source_again { S.faults source.new ≡ S.faults source.old → S.can_fill source.new }
+    ensures untouched { command_of (map string_bytes words.now) ≡ None → (result.source ≡ source) × (result.out ≡ out) }
+    ensures unread { (stream : MadeStream) → (command_of (map string_bytes words.now) ≡ Some (command.Make stream)) ⊎ (command_of (map string_bytes words.now) ≡ Some (command.Trial stream)) → result.source ≡ source }
+    ensures source_again { S.faults result.source ≡ S.faults source → S.can_fill result.source }
     ensures grows { K.grows result.out ≡ K.grows out }
     ensures out_again { K.faults result.out ≡ K.faults out → K.can_put result.out }
 {
     let status = match read_words(alloc, words) {
-        Ok(Some(Command::List)) => list(alloc, source, &mut out),
+        Ok(Some(Command::List)) => list(alloc, &mut source, &mut out),
         Ok(Some(Command::Decode(options))) => return decode(rt, alloc, options, source, out, gate),
         Ok(Some(Command::Make(stream))) => make(alloc, stream, &mut out),
         Ok(Some(Command::Trial(stream))) => trial(rt, alloc, stream, &mut out, gate),
         Ok(None) => Status::Usage,
         Err(_) => Status::OutOfMemory,
     };
-    Worked { status, out }
+    Worked {
+        status,
+        source,
+        out,
+    }
 }
 
 /// Runs the command that the words ask for, the program's name first. What a command reads comes from `source`, what
@@ -212,15 +220,7 @@ pub fn run<
     K: Sink + Send + Drop,
     N: Sink + Drop,
     G: Gate + Sync,
->(
-    rt: &R,
-    alloc: Global,
-    words: &[String],
-    mut source: S,
-    out: K,
-    mut note: N,
-    gate: &G,
-) -> Ran<S, K, N>
+>(rt: &R, alloc: Global, words: &[String], source: S, out: K, mut note: N, gate: &G) -> Ran<S, K, N>
     requires source { S.can_fill source }
     requires out { K.can_put out }
     requires note { N.can_put note }
@@ -242,7 +242,11 @@ pub fn run<
     ensures out_again { (K.grows result.out ≡ K.grows out) × (K.faults result.out ≡ K.faults out → K.can_put result.out) }
     ensures note_again { (N.grows result.note ≡ N.grows note) × (N.faults result.note ≡ N.faults note → N.can_put result.note) }
 {
-    let Worked { status: first, out } = work(rt, alloc, words, &mut source, out, gate);
+    let Worked {
+        status: first,
+        source,
+        out,
+    } = work(rt, alloc, words, source, out, gate);
     let status = report(alloc, first, &mut note);
     Ran {
         status,
