@@ -19,7 +19,7 @@ import sys
 TOP = os.path.dirname(os.path.dirname(os.path.abspath(__file__)))
 ANSWERS = "vp9_app.specs.Answers"
 COMMANDS = {
-    "decode": ("decoded", "Reads", "Reports"),
+    "decode": ("DecodesSo", "Reports"),
     "list": ("listed", "Reads", "Reports"),
     "make": ("Makes", "Unread", "Reports"),
     "trial": ("Trials", "Unread", "Reports"),
