@@ -17,8 +17,8 @@ use std::alloc::Global;
 use std::sync::Wait;
 use std::thread::Threads;
 
-/// So many frames are enough for a group, once groups have grown.
-const MOST_FRAMES: usize = 64;
+/// So many frames are enough for a group behind the first frame.
+const ENOUGH_FRAMES: usize = 64;
 
 /// Decodes the file that a reader has ahead, group by group.
 pub(crate) fn decode_packets<
@@ -54,14 +54,14 @@ pub(crate) fn decode_packets<
         past: Past::none(alloc),
         sink,
     };
-    // The first frame is shown as soon as it is there, and then groups grow.
+    // The first frame is shown as soon as it is there.
     let mut least = 1;
     'turns: for _ in rt.forever() {
         way = match take_turn(rt, &work, way, least) {
             Turn::On(next) => next,
             Turn::Over(streamed) => return streamed,
         };
-        least = (least * 2).min(MOST_FRAMES);
+        least = ENOUGH_FRAMES;
     }
     unreachable!()
 }
