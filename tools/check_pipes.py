@@ -64,13 +64,10 @@ def in_pieces(data, size, words):
 
 
 def group_end(data, ends):
-    """Returns how many of these packets are in whole groups of 1, 2, 4, .. 64 frames; of packets with several frames the first one alone is told."""
+    """Returns how many of these packets are in whole groups: of one frame first, and then of 64; of packets with several frames the first one alone is told."""
     if any(data[end - 1] & 0xE0 == 0xC0 for end in ends[1:]):
         return 1
-    end, least = 0, 1
-    while end + least < len(ends):
-        end, least = end + least, min(2 * least, 64)
-    return end
+    return 1 + (len(ends) - 2) // 64 * 64
 
 
 def stopped(data, seconds):
