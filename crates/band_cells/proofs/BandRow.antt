@@ -1,7 +1,7 @@
 -- A row of a band, and its samples.
 use Rattle.std.proofs.Common.{◌≡◌, ℕ, zero, suc, ◌+◌, ◌-◌, ◌*◌, ◌/◌, ◌<◌, ◌≤◌, ◌∷◌, min, Bool, true, false, List, length, get_or, Option, Some, IfSome, map, refl, sym, ◌∙◌, ap, arith, subst}
 use Rattle.std.specs.List.{range_with_len}
-use Rattle.vp9_types.specs.Maps.{row_of}
+use Rattle.vp9_types.specs.Maps.{IsPiece, row_of}
 use Rattle.vp9_types.specs.Shapes.{halved, coded_width, coded_height}
 use Rattle.vp9_types.specs.declared.job.BandSpan.{BandSpan}
 use Rattle.vp9_types.specs.declared.shape.Plane.{Plane}
@@ -13,7 +13,7 @@ use Rattle.band_cells.specs.declared.samples.BandName.{BandName}
 use Rattle.band_cells.specs.declared.samples.BandSamples.{BandSamples}
 use Rattle.band_cells.specs.Bands.{Picture, band_height, IsRowOf}
 use Rattle.band_cells.proofs.Names.{same_length, found_name}
-use Rattle.band_cells.specs.Code.{AreBandsOf, span_length, AreSamplesOf, IsPlaneOf, IsRowWithin, HasRow as HasBandRow, name_of, picture_row}
+use Rattle.band_cells.specs.Code.{AreBandsOf, span_length, AreSamplesOf, IsPlaneOf, IsPieceOf, IsRowWithin, HasRow as HasBandRow, name_of, picture_row}
 
 pub plane_is : {X : Type 0} (picture : Picture) (index : ℕ) (samples : BandSamples X) (plane : Plane) → AreSamplesOf picture index samples
     → IsPlaneOf picture plane index (plane_of samples.planes plane)
@@ -52,6 +52,30 @@ pub plane_row : {X : Type 0} (picture : Picture) (index : ℕ) (samples : BandSa
 plane_row picture index samples s plane y n are row is wide =
     row_is picture plane index y n s (subst (λ z. IsPlaneOf picture plane index z) (sym is) (plane_is picture index samples plane are)) row wide
 
+---- Rows of a band in one piece ----
+
+abbrev AreRowsOf : Picture → Plane → ℕ → ℕ → ℕ → Type 0
+AreRowsOf picture plane index y n = (r : ℕ) → r < n → IsRowOf picture.shape plane index (y + r)
+
+piece_is : (picture : Picture) (plane : Plane) (index y n stride : ℕ) (s : PlaneSamples) (ys : List ℕ) → IsPlaneOf picture plane index s → AreRowsOf picture plane index y n
+    → IsPiece (plane_map s) s.area.columns y n ys stride → IsPieceOf picture plane y n ys stride
+piece_is picture plane index y n stride s ys is rows piece =
+    let wide : s.area.columns ≡ coded_width picture.shape plane = ap (λ a. a.columns) is.0 in
+    record {
+      value = λ r c high low. piece.value r c high (rw wide low) ∙ is.1 (y + r) c (rows r high) low;
+      room = λ r high. omega (arith, piece.room r high, wide);
+      near = piece.near;
+    }
+
+pub plane_held_at : {X : Type 0} (picture : Picture) (index : ℕ) (samples : BandSamples X) (s : PlaneSamples) (plane : Plane) (y n : ℕ) → AreSamplesOf picture index samples
+    → AreRowsOf picture plane index y n → s ≡ plane_of samples.planes plane → (r : ℕ) → r < n → HasRow s.area (y + r) 0 s.area.columns
+plane_held_at picture index samples s plane y n are rows is r low = plane_held picture index samples s plane (y + r) s.area.columns are (rows r low) is refl
+
+pub plane_piece : {X : Type 0} (picture : Picture) (index : ℕ) (samples : BandSamples X) (s : PlaneSamples) (plane : Plane) (y n stride : ℕ) (ys : List ℕ) → AreSamplesOf picture index samples
+    → AreRowsOf picture plane index y n → s ≡ plane_of samples.planes plane → IsPiece (plane_map s) s.area.columns y n ys stride → IsPieceOf picture plane y n ys stride
+plane_piece picture index samples s plane y n stride ys are rows is piece =
+    piece_is picture plane index y n stride s ys (subst (λ z. IsPlaneOf picture plane index z) (sym is) (plane_is picture index samples plane are)) rows piece
+
 ---- Of a span ----
 
 some_height : (sub : Bool) (end y : ℕ) → y < end → (y / halved sub 64 * halved sub 64 ≤ y) × (y < y / halved sub 64 * halved sub 64 + min (halved sub 64) (end - y / halved sub 64 * halved sub 64))
@@ -86,6 +110,45 @@ module _ (pictures : ℕ → Picture) (shape : Shape) (span : BandSpan) (plane :
   band_has band same row is named =
       let high : height ≡ band_height (pictures span.frame).shape plane = is ∙ ap (λ (s : Shape). band_height s plane) same in
       rw (named, high) (row_of_band (pictures span.frame).shape plane y row.inside)
+
+---- Rows of a span in one piece ----
+
+no_band_between : (sub : Bool) (y n r : ℕ) → r < n → (y + n - 1) / halved sub 64 ≡ y / halved sub 64 → (y + r) / halved sub 64 ≡ y / halved sub 64
+no_band_between true y n r low same = omega (arith, low, same)
+no_band_between false y n r low same = omega (arith, low, same)
+
+in_band : (shape : Shape) (plane : Plane) (y n r : ℕ) → r < n → (y + n - 1) / band_height shape plane ≡ y / band_height shape plane
+    → (y + r) / band_height shape plane ≡ y / band_height shape plane
+in_band shape Y y n r low same = no_band_between false y n r low same
+in_band shape U y n r low same = no_band_between shape.ss_y y n r low same
+in_band shape V y n r low same = no_band_between shape.ss_y y n r low same
+
+abbrev AreRowsWithin : (ℕ → Picture) → BandSpan → Plane → ℕ → ℕ → Type 0
+AreRowsWithin pictures span plane y n = (r : ℕ) → r < n → IsRowWithin (pictures span.frame).shape span plane (y + r)
+
+from_none : (y : ℕ) → y + 0 ≡ y
+from_none y = omega arith
+
+pub first_within : (pictures : ℕ → Picture) (given span : BandSpan) (plane : Plane) (y n : ℕ) → AreRowsWithin pictures given plane y n → 0 < n → span ≡ given
+    → IsRowWithin (pictures span.frame).shape span plane y
+first_within pictures given span plane y n rows some same =
+    subst (λ (s : BandSpan). IsRowWithin (pictures s.frame).shape s plane y) (sym same)
+    (subst (λ (k : ℕ). IsRowWithin (pictures given.frame).shape given plane k) (from_none y) (rows 0 some))
+
+pub band_has_rows : (pictures : ℕ → Picture) (given span : BandSpan) (plane : Plane) (y n height : ℕ) (shape : Shape) (band : Option BandName) → AreRowsWithin pictures given plane y n
+    → span ≡ given → shape ≡ (pictures span.frame).shape → height ≡ band_height shape plane → (y + n - 1) / height ≡ y / height
+    → band ≡ Some (name_of span.frame (y / height)) → (r : ℕ) → r < n → HasBandRow pictures band plane (y + r)
+band_has_rows pictures given span plane y n height shape band rows held same is one named r low =
+    let high : height ≡ band_height (pictures span.frame).shape plane = is ∙ ap (λ (s : Shape). band_height s plane) same in
+    let row : IsRowWithin (pictures span.frame).shape span plane (y + r) = subst (λ (s : BandSpan). IsRowWithin (pictures s.frame).shape s plane (y + r)) (sym held) (rows r low) in
+    let here = in_band (pictures span.frame).shape plane y n r low (rw high at one) in
+    rw (named, high) (subst (λ (k : ℕ). IsRowOf (pictures span.frame).shape plane k (y + r)) here (row_of_band (pictures span.frame).shape plane (y + r) row.inside))
+
+pub band_piece : (pictures : ℕ → Picture) (span given : BandSpan) (plane : Plane) (y n index stride : ℕ) (band : Option BandName) (ys : List ℕ)
+    → IfSome band (λ name. IsPieceOf (pictures name.frame) plane y n ys stride) → band ≡ Some (name_of span.frame index) → span ≡ given → IsPieceOf (pictures given.frame) plane y n ys stride
+band_piece pictures span given plane y n index stride band ys some named same =
+    let found : IsPieceOf (pictures span.frame) plane y n ys stride = subst (λ b. IfSome b (λ name. IsPieceOf (pictures name.frame) plane y n ys stride)) named some in
+    subst (λ (s : BandSpan). IsPieceOf (pictures s.frame) plane y n ys stride) same found
 
 -- and its row is the picture's
 pub band_row : (pictures : ℕ → Picture) (span given : BandSpan) (plane : Plane) (y index : ℕ) (band : Option BandName) (row : List ℕ)

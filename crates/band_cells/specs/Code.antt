@@ -5,7 +5,7 @@ use Rattle.vp9_types.specs.declared.job.BandSpan.{BandSpan}
 use Rattle.vp9_types.specs.declared.shape.Plane.{Plane}
 use Rattle.vp9_types.specs.declared.shape.Plane.TheVariants.{Y, U, V}
 use Rattle.vp9_types.specs.declared.shape.Shape.{Shape}
-use Rattle.vp9_types.specs.Maps.{row_of}
+use Rattle.vp9_types.specs.Maps.{IsPiece, row_of}
 use Rattle.band_cells.specs.declared.samples.BandName.{BandName}
 use Rattle.band_cells.specs.declared.samples.BandSamples.{BandSamples}
 use Rattle.band_cells.specs.Bands.{Picture, band_height, band_area, IsRowOf}
@@ -41,6 +41,10 @@ HasRow pictures (Some name) plane y = IsRowOf (pictures name.frame).shape plane 
 -- the row of a picture
 abbrev pub picture_row : Picture → Plane → ℕ → List ℕ
 picture_row picture plane y = row_of (picture.map plane) y 0 (coded_width picture.shape plane)
+
+-- rows of a picture in one piece
+abbrev pub IsPieceOf : Picture → Plane → ℕ → ℕ → List ℕ → ℕ → Type 0
+IsPieceOf picture plane y rows samples stride = IsPiece (picture.map plane) (coded_width picture.shape plane) y rows samples stride
 
 -- a cell: the name of its band, and which cell it is
 pub record CellParts : Type 0 where

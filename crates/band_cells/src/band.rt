@@ -1,6 +1,6 @@
-ghost use Rattle.std.specs.Prelude.{◌≡◌, Some, None, IfSome, map};
+ghost use Rattle.std.specs.Prelude.{◌≡◌, ◌+◌, ◌≤◌, ◌<◌, ℕ, Some, None, IfSome, map};
 ghost use Rattle.band_cells.specs.Bands.{IsRowOf};
-ghost use Rattle.band_cells.specs.Code.{AreSamplesOf, HasRow, picture_row, name_of};
+ghost use Rattle.band_cells.specs.Code.{AreSamplesOf, HasRow, IsPieceOf, picture_row, name_of};
 
 use crate::meaning::Meaning;
 use crate::samples::{BandName, BandSamples};
@@ -36,6 +36,16 @@ impl<M: Meaning, P: Sample> Filled<M, P> {
         let samples = self.samples.planes.plane(plane);
         let columns = samples.area().columns;
         samples.row(y as usize, 0, columns)
+    }
+
+    #[inline(always)]
+    fn rows(&self, plane: Plane, y: u32, count: usize) -> (&[P], usize)
+        requires some { 0 < count }
+        requires few { count ≤ 256 }
+        requires rows { (r : ℕ) → r < count → IsRowOf (M.pictures self.now.name.frame).shape plane self.now.name.index (y + r) }
+        ensures { IsPieceOf (M.pictures self.now.name.frame) plane y count (map P.value result.0.now) result.1 }
+    {
+        self.samples.planes.plane(plane).rows(y as usize, count)
     }
 }
 
@@ -89,6 +99,20 @@ impl<M: Meaning, P: Sample> Band<M, P> {
     {
         match &self.filled {
             Some(filled) => filled.row(plane, y),
+            None => unreachable!(),
+        }
+    }
+
+    /// So many rows of a plane from row `y` on, which the band has, and how far each begins behind the one above.
+    #[inline(always)]
+    pub fn rows(&self, plane: Plane, y: u32, count: usize) -> (&[P], usize)
+        requires some { 0 < count }
+        requires few { count ≤ 256 }
+        requires rows { (r : ℕ) → r < count → HasRow M.pictures self.now plane (y + r) }
+        ensures { IfSome self.now (λ name. IsPieceOf (M.pictures name.frame) plane y count (map P.value result.0.now) result.1) }
+    {
+        match &self.filled {
+            Some(filled) => filled.rows(plane, y, count),
             None => unreachable!(),
         }
     }

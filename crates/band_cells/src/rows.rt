@@ -65,4 +65,17 @@ impl<'a, M: Meaning, P: Sample> Samples for BandRows<'a, M, P> {
         let band = y / band_height(&self.shape, plane) - self.span.first;
         self.bands[band as usize].row(plane, y)
     }
+
+    #[inline(always)]
+    fn rows(&self, plane: Plane, y: u32, count: usize) -> Option<(&[P], usize)> {
+        let height = band_height(&self.shape, plane);
+        let band = y / height;
+        let last = (y as usize + count - 1) / height as usize;
+        if last == band as usize {
+            let band = band - self.span.first;
+            Some(self.bands[band as usize].rows(plane, y, count))
+        } else {
+            None
+        }
+    }
 }

@@ -1,9 +1,10 @@
 -- Which rows the buffers of some rows of superblocks have.
-use Rattle.std.proofs.Common.{◌≡◌, ◌∙◌, ◌<◌, ◌≤◌, ◌+◌, ◌*◌, ◌-◌, ◌/◌, inl, inr, ℕ, Bool, true, false, List, [], ◌∷◌, ◌++◌, length, get_or, map, sym, ap, arith, min, subst, Bor}
+use Rattle.std.proofs.Common.{◌≡◌, ◌∙◌, ◌<◌, ◌≤◌, ◌+◌, ◌*◌, ◌-◌, ◌/◌, inl, inr, ℕ, Bool, true, false, List, [], ◌∷◌, ◌++◌, length, get_or, map, sym, ap, arith, min, subst, refl, Bor}
 use Rattle.std.proofs.Math.ListN.{get_or-append, get_or-map}
 use Rattle.std.proofs.lemmas.Bool.{cases_lt}
 use Rattle.std.proofs.lemmas.List.{get_or_push, length-append, length-map}
-use Rattle.vp9_types.specs.Maps.{row_of}
+use Rattle.std.proofs.lemmas.List.FromFn.{get_or-map-range_with_len, length-map-range_with_len}
+use Rattle.vp9_types.specs.Maps.{Map, IsPiece, row_of}
 use Rattle.vp9_types.specs.Shapes.{halved, subsampled_size, mi_rows, plane_width, plane_height, coded_width, coded_height}
 use Rattle.vp9_types.specs.Sizes.{superblocks_along}
 use Rattle.vp9_types.specs.declared.shape.Plane.{Plane}
@@ -167,4 +168,49 @@ row_read pictures shape frame first last filled row n lent one s plane y rows ho
       there = row_there picture (row_with picture.shape plane y) y n one.now plane s has final plane_is wide;
       is = subst (λ r. row_of (plane_map s) y 0 n ≡ row_of (map_in pictures r plane) y 0 (width_in pictures r plane)) are
           (row_is_there picture (row_with picture.shape plane y) y n one.now plane s has final plane_is wide);
+    }
+
+---- Rows in one piece ----
+
+mid_by : (sub : Bool) (y r n : ℕ) → r < n → ((y + 8) / halved sub 64 ≤ (y + r + 8) / halved sub 64) × ((y + r + 8) / halved sub 64 ≤ (y + 8 + n - 1) / halved sub 64)
+mid_by true y r n low = (omega (arith, low), omega (arith, low))
+mid_by false y r n low = (omega (arith, low), omega (arith, low))
+
+mid_of : (low mid high last row : ℕ) → low ≤ mid → mid ≤ high → row ≡ min low last → row ≡ min high last → row ≡ min mid last
+mid_of low mid high last row up down first end = omega (arith, up, down, first, end)
+
+-- those between the first and the last are made final with them
+with_both : (shape : Shape) (plane : Plane) (y r n low high last row : ℕ) → r < n → low ≡ (y + 8) / band_height shape plane → high ≡ (y + 8 + n - 1) / band_height shape plane
+    → row ≡ min low last → row ≡ min high last → row ≡ min ((y + r + 8) / band_height shape plane) last
+with_both shape plane y r n low high last row less low_is high_is first end =
+    let height : band_height shape plane ≡ halved (sub_y shape plane) 64 = same_height shape plane in
+    let mid = rw (sym height) at (mid_by (sub_y shape plane) y r n less) in
+    mid_of ((y + 8) / band_height shape plane) ((y + r + 8) / band_height shape plane) ((y + 8 + n - 1) / band_height shape plane) last row mid.0 mid.1
+    (first ∙ ap (λ k. min k last) low_is) (end ∙ ap (λ k. min k last) high_is)
+
+pub rows_read : {X : Type 0} (pictures : ℕ → Picture) (shape : Shape) (frame first last low high row : ℕ) (lent : List (Bor (FramePlanes X))) (one : Bor (FramePlanes X)) (s : PlaneSamples) (plane : Plane) (y n : ℕ) (rows : RowSpan)
+    → HoldRows (pictures frame) first (map (λ b. b.now) lent) → rows_from frame first (length lent) ≡ rows → ((r : ℕ) → r < n → held_in pictures rows plane (y + r)) → shape ≡ (pictures frame).shape
+    → last ≡ superblocks_along (mi_rows shape) - 1 → low ≡ (y + 8) / band_height shape plane → high ≡ (y + 8 + n - 1) / band_height shape plane → row ≡ min low last → row ≡ min high last
+    → one ≡ get_or lent (row - first) one → s ≡ plane_of (get_or lent (row - first) one).now plane
+    → (r : ℕ) → r < n → IsRead s (y + r) s.area.columns (row_of (map_in pictures rows plane) (y + r) 0 (width_in pictures rows plane))
+rows_read pictures shape frame first last low high row lent one s plane y n rows hold are held same last_is low_is high_is first_is end_is is samples r less =
+    row_read pictures shape frame first last ((y + r + 8) / band_height shape plane) row s.area.columns lent one s plane (y + r) rows hold are (held r less) same last_is refl
+    (with_both shape plane y r n low high last row less low_is high_is first_is end_is) is samples refl
+
+row_long : (m : Map) (y w : ℕ) → length (row_of m y 0 w) ≡ w
+row_long m y w = length-map-range_with_len (m y) 0 w
+
+row_entry : (m : Map) (y w c : ℕ) → c < w → get_or (row_of m y 0 w) c 0 ≡ m y c
+row_entry m y w c low = get_or-map-range_with_len (m y) 0 w c c 0 low (omega arith)
+
+pub read_piece : (m : Map) (s : PlaneSamples) (w y n stride : ℕ) (ys : List ℕ) → 0 < n → ((r : ℕ) → r < n → IsRead s (y + r) s.area.columns (row_of m (y + r) 0 w))
+    → IsPiece (plane_map s) s.area.columns y n ys stride → IsPiece m w y n ys stride
+read_piece m s w y n stride ys some rows piece =
+    let wide : s.area.columns ≡ w = sym (row_long (plane_map s) (y + 0) s.area.columns) ∙ ap (λ (l : List ℕ). length l) (rows 0 some).is ∙ row_long m (y + 0) w in
+    record {
+      value = λ r c high low.
+          let near : c < s.area.columns = omega (arith, wide, low) in
+          piece.value r c high near ∙ sym (row_entry (plane_map s) (y + r) s.area.columns c near) ∙ ap (λ (l : List ℕ). get_or l c 0) (rows r high).is ∙ row_entry m (y + r) w c low;
+      room = λ r high. omega (arith, wide, piece.room r high);
+      near = piece.near;
     }

@@ -90,4 +90,18 @@ impl<'a, P: Sample, M: Meaning> Samples for FilteredFrame<'a, P, M> {
         let columns = samples.area().columns;
         samples.row(y as usize, 0, columns)
     }
+
+    #[inline(always)]
+    fn rows(&self, plane: Plane, y: u32, count: usize) -> Option<(&[P], usize)> {
+        let last = self.last as usize;
+        let from = y as usize + 8;
+        let row = filled_rows(&self.shape, plane, from).min(last);
+        let end = filled_rows(&self.shape, plane, from + count - 1).min(last);
+        if row == end {
+            let samples = self.buffers[row - self.first as usize].plane(plane);
+            Some(samples.rows(y as usize, count))
+        } else {
+            None
+        }
+    }
 }

@@ -71,14 +71,18 @@ along_straight most kind a f j step =
     rw (phase_straight a j step) (filtered_same most (taps_of kind (fraction a)) _ _ (λ k few. rw (place_straight a j k step) refl))
 
 -- and phase 0
-pub along_whole : (most : ℕ) (kind : InterpFilter) (a : Axis) (f : ℕ → ℕ) (j : ℕ) → a.step ≡ 16 → fraction a ≡ 0 → ((n : ℕ) → f n ≤ most) →
+pub along_copied : (most : ℕ) (kind : InterpFilter) (a : Axis) (f : ℕ → ℕ) (j : ℕ) → a.step ≡ 16 → fraction a ≡ 0 → f (straight a (j + 3)) ≤ most →
     f (straight a (3 + j)) ≡ along most kind a f j
-along_whole most kind a f j step zero small =
-    ap (λ (n : ℕ). f (straight a n)) (order j) ∙ sym (whole_copies most kind (λ k. f (straight a (j + k))) (small (straight a (j + 3))))
+along_copied most kind a f j step zero small =
+    ap (λ (n : ℕ). f (straight a n)) (order j) ∙ sym (whole_copies most kind (λ k. f (straight a (j + k))) small)
     ∙ ap (λ (p : ℕ). filtered most (taps_of kind p) (λ k. f (straight a (j + k)))) (sym zero) ∙ along_straight most kind a f j step
   where
     order : (j : ℕ) → 3 + j ≡ j + 3
     order j = omega arith
+
+pub along_whole : (most : ℕ) (kind : InterpFilter) (a : Axis) (f : ℕ → ℕ) (j : ℕ) → a.step ≡ 16 → fraction a ≡ 0 → ((n : ℕ) → f n ≤ most) →
+    f (straight a (3 + j)) ≡ along most kind a f j
+along_whole most kind a f j step zero small = along_copied most kind a f j step zero (small (straight a (j + 3)))
 
 pub along_small : (most : ℕ) (kind : InterpFilter) (a : Axis) (f : ℕ → ℕ) (j : ℕ) → along most kind a f j ≤ most
 unfolding along

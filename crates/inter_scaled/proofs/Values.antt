@@ -2,7 +2,7 @@
 use Rattle.std.proofs.Common.{◌≡◌, ◌<◌, ◌≤◌, ◌+◌, ◌-◌, ℕ, List, length, get_or, take, drop, map, ◌++◌, set, replicate, ap, sym, subst, ◌∙◌, refl, arith, inl, inr}
 use Rattle.std.proofs.lemmas.Bool.{cases_lt, cases_order}
 use Rattle.std.proofs.lemmas.Bool.Decides.{nat_tests}
-use Rattle.std.proofs.lemmas.List.{places, map-set, get_or-set_same, get_or-set_other, take-map, drop-map, map-append, length-map, map-id, get_or-take, get_or-drop, get_or_past, get_or-replicate, length-take, length-replicate}
+use Rattle.std.proofs.lemmas.List.{places, map-set, get_or-set_same, get_or-set_other, take-map, drop-map, map-append, length-map, map-id, get_or-take, get_or-drop, get_or_past, get_or-replicate, length-take, length-drop, length-replicate}
 use borrow.Rule.Slice.PartMut.{put_mid}
 
 pub put_here : {X : Type 0} (f : X → ℕ) (xs : List X) (i : ℕ) (y : X) → i < length xs → get_or (map f (set xs i y)) i 0 ≡ f y
@@ -103,4 +103,18 @@ pub zeros : (n k : ℕ) → ◌≡◌ {A = ℕ} (get_or (replicate n 0) k 0) 0
 zeros n k = elim (cases_lt k n) [
   | inl low ↦ get_or-replicate n k 0 0 low
   | inr past ↦ get_or_past (replicate n 0) k 0 (omega (arith, past, length-replicate {A = ℕ} n 0))
+]
+
+-- a part that is read whole
+pub part_long : {X : Type 0} (xs : List X) (at n : ℕ) → at + n ≤ length xs → length (take (at + n - at) (drop at xs)) ≡ n
+part_long xs at n fits = rw (less_back at n) (omega (arith, fits, length-take n (drop at xs), length-drop at xs))
+
+past_part : {X : Type 0} (f : X → ℕ) (ys : List X) (m n k : ℕ) → m ≡ n → n ≤ k → get_or (map f (take m ys)) k 0 ≡ 0
+past_part f ys m n k is past = get_or_past (map f (take m ys)) k 0 (omega (arith, past, is, length-map (take m ys) f, length-take m ys))
+
+pub part_small : {X : Type 0} (f : X → ℕ) (xs : List X) (at n most k : ℕ) → ((c : ℕ) → c < n → get_or (map f xs) (at + c) 0 ≤ most)
+    → get_or (map f (take (at + n - at) (drop at xs))) k 0 ≤ most
+part_small f xs at n most k small = elim (cases_lt k n) [
+  | inl low ↦ rw (copied_is f xs (take (at + n - at) (drop at xs)) at n k refl low) (small k low)
+  | inr past ↦ rw (past_part f (drop at xs) (at + n - at) n k (less_back at n) past) (omega arith)
 ]

@@ -1,5 +1,6 @@
 -- What the code keeps while it predicts.
-use Rattle.std.specs.Prelude.{ℕ, ℤ, List, ◌+◌, ◌*◌, ◌/◌, ◌-◌, ◌≤◌, ◌<◌, ◌≡◌}
+use Rattle.std.specs.Prelude.{ℕ, ℤ, List, length, slice_index, ◌+◌, ◌*◌, ◌/◌, ◌-◌, ◌≤◌, ◌<◌, ◌≡◌}
+use Rattle.vp9_types.specs.Maps.{Map}
 use Rattle.vp9_tables.specs.Filters.{taps_of}
 use Rattle.inter_places.specs.declared.axis.Axis.{Axis}
 use Rattle.inter_places.specs.Axes.{IsAxis, fraction, offset, straight}
@@ -23,6 +24,11 @@ pub record AreInside (a : Axis) (n : ℕ) : Type 0 where
   pub places : (t : ℕ) → t < n → straight a t ≡ straight a 0 + t
   pub room : straight a 0 + n ≤ a.size
 
+-- n places follow one another in the plane, from the one on that lies `first` after the third before the first
+pub record AreAmong (a : Axis) (first n : ℕ) : Type 0 where
+  pub places : (t : ℕ) → t < n → straight a (first + t) ≡ straight a first + t
+  pub room : straight a first + n ≤ a.size
+
 -- a line of n values is samples as they are, one after another
 pub record IsCopied (a : Axis) (n : ℕ) : Type 0 where
   pub step : a.step ≡ 16
@@ -42,3 +48,13 @@ pub record IsSpan (a : Axis) (first n : ℕ) (s : Span) : Type 0 where
   pub order : s.left ≤ s.end
   pub few : s.end ≤ n
   pub room : s.from + (s.end - s.left) ≤ a.size
+
+-- rows of samples, each of which begins `stride` samples behind the one above
+abbrev pub strided : ℕ → List ℕ → Map
+strided stride samples = λ r c. slice_index samples (r * stride + c)
+
+-- so many of them have w samples, and none above the greatest
+pub record AreRows (most w rows stride : ℕ) (samples : List ℕ) : Type 0 where
+  pub room : (r : ℕ) → r < rows → r * stride + w ≤ length samples
+  pub small : (r c : ℕ) → r < rows → c < w → strided stride samples r c ≤ most
+  pub near : stride ≤ 65536

@@ -7,6 +7,7 @@ mod kept;
 mod laws;
 mod lines;
 mod means;
+mod piece_lines;
 mod places;
 mod prediction;
 mod rows;

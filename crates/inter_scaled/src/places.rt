@@ -1,11 +1,11 @@
 //! Places in a reference: how they lie in it, and whether they are copied or filtered in a run.
 
-ghost use Rattle.std.specs.Prelude.{◌≡◌, ◌+◌, ◌^◌, ◌≤◌, pos, ◌+ℤ◌, ◌-ℤ◌, unsigned_abs};
+ghost use Rattle.std.specs.Prelude.{◌≡◌, ◌+◌, ◌^◌, ◌≤◌, ◌<◌, pos, ◌+ℤ◌, ◌-ℤ◌, unsigned_abs};
 ghost use Rattle.std.specs.Bool.{OnTrue};
-ghost use Rattle.inter_places.specs.Axes.{fraction, whole, IsAxis};
-ghost use Rattle.inter_scaled.specs.Code.{AreInside, IsCopied, IsRun, IsSpan};
+ghost use Rattle.inter_places.specs.Axes.{fraction, whole, IsAxis, IsPlace};
+ghost use Rattle.inter_scaled.specs.Code.{AreAmong, AreInside, IsCopied, IsRun, IsSpan};
 
-use inter_places::{Axis, phase_of};
+use inter_places::{Axis, Place, phase_of};
 
 /// Of places that follow one another, those below `left` lie left of the plane, those below `end` follow one another in it,
 /// the first of them at `from`, and the rest lie right of it.
@@ -65,6 +65,18 @@ pub(crate) fn is_inside(a: &Axis, n: usize) -> bool
     0 <= at && at as usize + n <= a.size as usize
 }
 
+/// Whether n places follow one another in the plane, from the one on that lies `first` after the third before the first.
+#[inline(always)]
+pub(crate) fn is_among(a: &Axis, first: usize, n: usize) -> bool
+    requires axis { IsAxis a.now }
+    requires near { first ≤ 64 }
+    requires few { n ≤ 256 }
+    ensures { OnTrue result (AreAmong a.now first n) }
+{
+    let at = place_from(a, first);
+    0 <= at && at as usize + n <= a.size as usize
+}
+
 /// Whether each value is a sample as it is.
 #[inline(always)]
 pub(crate) fn is_whole(a: &Axis) -> bool
@@ -93,4 +105,32 @@ pub(crate) fn is_run(a: &Axis, n: usize) -> bool
     ensures { OnTrue result (IsRun a.now n) }
 {
     a.step == 16 && is_inside(a, 16 * n.div_ceil(16) + 7)
+}
+
+/// A block's columns, if its lines are filtered from samples one after another, else 0.
+#[inline(always)]
+pub(crate) fn run_columns(place: &Place) -> usize
+    requires { IsPlace place.now }
+    ensures width { 0 < result → result ≡ place.now.columns }
+    ensures run { 0 < result → IsRun place.now.across place.now.columns }
+{
+    if is_run(&place.across, place.columns) {
+        place.columns
+    } else {
+        0
+    }
+}
+
+/// A block's columns, if its lines are samples as they are, else 0.
+#[inline(always)]
+pub(crate) fn copied_columns(place: &Place) -> usize
+    requires { IsPlace place.now }
+    ensures width { 0 < result → result ≡ place.now.columns }
+    ensures copied { 0 < result → IsCopied place.now.across place.now.columns }
+{
+    if is_copied(&place.across, place.columns) {
+        place.columns
+    } else {
+        0
+    }
 }

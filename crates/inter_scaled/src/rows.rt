@@ -1,14 +1,15 @@
 //! Lines along rows of the reference.
 
-ghost use Rattle.std.specs.Prelude.{◌≡◌, ℕ, ◌+◌, ◌*◌, ◌<◌, ◌≤◌, length, map, slice_index};
+ghost use Rattle.std.specs.Prelude.{◌≡◌, ℕ, ◌+◌, ◌*◌, ◌<◌, ◌≤◌, IfSome, length, map, slice_index};
 ghost use Rattle.vp9_types.specs.Maps.{HoldsRows, IsAtMost};
 ghost use Rattle.inter_places.specs.Axes.{straight, IsPlace};
 ghost use Rattle.inter_scaled.specs.Inter.{along};
-ghost use Rattle.inter_scaled.specs.Code.{IsFilter, IsCopied, IsRun};
+ghost use Rattle.inter_scaled.specs.Code.{AreRows, IsFilter, IsCopied, IsRun, strided};
 
 use crate::filter::{Interpolation, LineFilter, filter_of};
 use crate::lines::put_line;
-use crate::places::{is_copied, is_run};
+use crate::piece_lines::fill_piece;
+use crate::places::{copied_columns, is_among, run_columns};
 use inter_lanes::FilterSample;
 use inter_places::{Place, straight};
 use vp9_types::{Sample, Samples};
@@ -35,7 +36,7 @@ fn read_row<'a, P: Sample, S: Samples<Kept = P>>(
 
 /// Row i of N values filtered from samples one after another, the first of which stands at place `from` of a row.
 #[inline(always)]
-fn put_filtered<P: FilterSample, const N: usize>(
+pub(crate) fn put_filtered<P: FilterSample, const N: usize>(
     lines: &mut [P],
     i: usize,
     row: &[P],
@@ -125,20 +126,6 @@ fn other_lines<P: FilterSample, S: Samples<Kept = P>>(
     }
 }
 
-/// A block's columns, if its lines are filtered from samples one after another, else 0.
-#[inline(always)]
-fn run_columns(place: &Place) -> usize
-    requires { IsPlace place.now }
-    ensures width { 0 < result → result ≡ place.now.columns }
-    ensures run { 0 < result → IsRun place.now.across place.now.columns }
-{
-    if is_run(&place.across, place.columns) {
-        place.columns
-    } else {
-        0
-    }
-}
-
 /// Filtered lines along so many rows of the reference, from the one on that lies `first` after the third before the first.
 #[inline(always)]
 fn filter_lines<P: FilterSample, S: Samples<Kept = P>>(
@@ -172,7 +159,7 @@ fn filter_lines<P: FilterSample, S: Samples<Kept = P>>(
 
 /// Row i of N samples as they are.
 #[inline(always)]
-fn put_run<P: Sample, const N: usize>(lines: &mut [P], i: usize, row: &[P], from: usize)
+pub(crate) fn put_run<P: Sample, const N: usize>(lines: &mut [P], i: usize, row: &[P], from: usize)
     requires low { i ≤ 256 }
     requires few { N ≤ 64 }
     requires near { from ≤ 65536 }
@@ -215,23 +202,9 @@ fn copy_lines<P: FilterSample, S: Samples<Kept = P>, const N: usize>(
     }
 }
 
-/// A block's columns, if its lines are samples as they are, else 0.
+/// Lines along so many rows of the reference one by one, from the one on that lies `first` after the third before the first.
 #[inline(always)]
-fn copied_columns(place: &Place) -> usize
-    requires { IsPlace place.now }
-    ensures width { 0 < result → result ≡ place.now.columns }
-    ensures copied { 0 < result → IsCopied place.now.across place.now.columns }
-{
-    if is_copied(&place.across, place.columns) {
-        place.columns
-    } else {
-        0
-    }
-}
-
-/// Lines along so many rows of the reference, from the one on that lies `first` after the third before the first.
-#[inline(always)]
-pub(crate) fn fill_lines<P: FilterSample, S: Samples<Kept = P>>(
+fn fill_rows<P: FilterSample, S: Samples<Kept = P>>(
     lines: &mut [P],
     view: &S,
     place: &Place,
@@ -257,5 +230,60 @@ pub(crate) fn fill_lines<P: FilterSample, S: Samples<Kept = P>>(
         32 => copy_lines::<P, S, 32>(lines, view, place, by.most, first, count),
         64 => copy_lines::<P, S, 64>(lines, view, place, by.most, first, count),
         _ => filter_lines::<P, S>(lines, view, place, by, first, count),
+    }
+}
+
+/// So many rows of the reference, from the one on that lies `first` after the third before the first, and how far each begins
+/// behind the one above, if they are inside of it and lie in one piece.
+#[inline(always)]
+fn piece_of<'a, P: Sample, S: Samples<Kept = P>>(
+    view: &'a S,
+    place: &Place,
+    first: usize,
+    count: usize,
+    most: u16,
+) -> Option<(&'a [P], usize)>
+    requires place { IsPlace place.now }
+    requires some { 0 < count }
+    requires low { count ≤ 134 }
+    requires near { first ≤ 3 }
+    requires held { (r : ℕ) → r < count → S.holds view.now place.now.plane (straight place.now.down (first + r)) }
+    requires wide { place.now.across.size ≤ S.width view.now place.now.plane }
+    requires samples { IsAtMost most (S.map view.now place.now.plane) }
+    ensures rows { IfSome result (λ p. AreRows most place.now.across.size count p.1 (map P.value p.0.now)) }
+    ensures samples { IfSome result (λ p. (r c : ℕ) → r < count → c < place.now.across.size → strided p.1 (map P.value p.0.now) r c ≡ S.map view.now place.now.plane (straight place.now.down (first + r)) c) }
+{
+    if is_among(&place.down, first, count) {
+        view.rows(place.plane, straight(&place.down, first) as u32, count)
+    } else {
+        None
+    }
+}
+
+/// Lines along so many rows of the reference, from the one on that lies `first` after the third before the first.
+#[inline(always)]
+pub(crate) fn fill_lines<P: FilterSample, S: Samples<Kept = P>>(
+    lines: &mut [P],
+    view: &S,
+    place: &Place,
+    by: Interpolation,
+    first: usize,
+    count: usize,
+)
+    requires place { IsPlace place.now }
+    requires most { P.takes by.most }
+    requires some { 0 < count }
+    requires low { count ≤ 134 }
+    requires near { first ≤ 3 }
+    requires room { count * place.now.columns ≤ length lines.old }
+    requires held { (r : ℕ) → r < count → S.holds view.now place.now.plane (straight place.now.down (first + r)) }
+    requires wide { place.now.across.size ≤ S.width view.now place.now.plane }
+    requires samples { IsAtMost by.most (S.map view.now place.now.plane) }
+    ensures { HoldsRows (map P.value lines.new) place.now.columns count
+        (λ r j. along by.most by.kind place.now.across (S.map view.now place.now.plane (straight place.now.down (first + r))) j) }
+{
+    match piece_of::<P, S>(view, place, first, count, by.most) {
+        Some((samples, stride)) => fill_piece::<P>(lines, samples, stride, place, by, count),
+        None => fill_rows::<P, S>(lines, view, place, by, first, count),
     }
 }

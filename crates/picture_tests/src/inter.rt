@@ -42,6 +42,10 @@ impl<P: Sample> Samples for Luma<P> {
     fn row(&self, plane: Plane, y: u32) -> &[P] {
         self.plane.row(y as usize, 0, self.plane.area().columns)
     }
+
+    fn rows(&self, plane: Plane, y: u32, count: usize) -> Option<(&[P], usize)> {
+        Some(self.plane.rows(y as usize, count))
+    }
 }
 
 /// Puts a number among samples.

@@ -6,9 +6,9 @@ use Rattle.std.proofs.lemmas.Bool.{cases_lt, cases_Bool}
 use Rattle.std.proofs.lemmas.Bool.Decides.{nat_tests}
 use Rattle.std.proofs.lemmas.List.{get_or-take, get_or-drop, get_or-replicate, get_or_past, get_or_default, get_or-map, length-map, take-map, drop-map, map-append, same_lists, take_at, length-replicate, length-take, length-drop}
 use Rattle.std.proofs.lemmas.List.FromFn.{length-map-range_with_len, get_or-map-range_with_len}
-use Rattle.vp9_types.specs.Maps.{Map, IsAtMost, rows_of, row_of, with_block}
+use Rattle.vp9_types.specs.Maps.{Map, IsAtMost, IsPiece, rows_of, row_of, with_block}
 use Rattle.planes.specs.declared.area.Area.{Area}
-use Rattle.planes.specs.Planes.{PlaneSamples, moved_to, with_part, HasRow, lower_end, right_end}
+use Rattle.planes.specs.Planes.{PlaneSamples, IsArea, moved_to, with_part, HasRow, lower_end, right_end}
 use Rattle.planes.specs.Code.{place_in}
 use Rattle.planes.specs.Code.{written_over, with_row}
 use Rattle.planes.proofs.RowLemmas.{next, place, add-sub_left, row_put, map_mid}
@@ -232,3 +232,46 @@ values_lent f a xs p row column at len is long here w =
     ap (λ (l : List ℕ). plane_by a l) (loan_values f xs (put_mid at (length w) xs w) len
     ∙ rw (← length-map (put_mid at (length w) xs w) f, map_mid f at (length w) xs w, long, ← length-map xs f, ← length-map w f) refl)
     ∙ row_lent a (map f xs) p row column at (length (map f xs)) is refl here (map f w)
+
+---- Rows in one piece ----
+
+abbrev AreIn : Area → ℕ → ℕ → Type 0
+AreIn a row n = (r : ℕ) → r < n → HasRow a (row + r) 0 a.columns
+
+last_below : (row n end : ℕ) → 0 < n → row + (n - 1) < end → row + n ≤ end
+last_below row n end some low = omega (arith, some, low)
+
+rows_within : (first row n rows : ℕ) → first ≤ row → row + n ≤ first + rows → (row - first) + n ≤ rows
+rows_within first row n rows above below = omega (arith, above, below)
+
+pub rows_fit : (a : Area) (row n long : ℕ) → 0 < n → AreIn a row n → long ≡ a.rows * a.columns → place_in a row 0 + n * a.columns ≤ long
+rows_fit a row n long some inside whole =
+    let top = inside 0 some in
+    let last = inside (n - 1) (omega (arith, some)) in
+    let above : a.first_row ≤ row = omega (arith, top.above) in
+    let low = rows_within a.first_row row n a.rows above (last_below row n (lower_end a) some last.below) in
+    omega (arith, whole, mul-le-mul_right a.columns low)
+
+in_rows : (r c n w : ℕ) → r < n → c < w → r * w + c < n * w
+in_rows r c n w high low = omega (arith, low, next w r n high)
+
+pub rows_are : {X : Type 0} (f : X → ℕ) (a : Area) (xs : List X) (row n : ℕ) → IsArea a → 0 < n → AreIn a row n → length xs ≡ a.rows * a.columns
+    → IsPiece (area_map a (map f xs)) a.columns row n (map f (take (place_in a row 0 + n * a.columns - place_in a row 0) (drop (place_in a row 0) xs))) a.columns
+rows_are f a xs row n near some inside whole =
+    let at : ℕ = place_in a row 0 in
+    let w : ℕ = a.columns in
+    let ys : List ℕ = map f xs in
+    let top = inside 0 some in
+    let part : map f (take (at + n * w - at) (drop at xs)) ≡ take (at + n * w - at) (drop at ys) =
+    sym (take-map f (at + n * w - at) (drop at xs)) ∙ ap (take (at + n * w - at)) (sym (drop-map f at xs)) in
+    let fits : at + n * w ≤ length ys = rows_fit a row n (length ys) some inside (length-map xs f ∙ whole) in
+    let long = length_part at (n * w) ys fits in
+    record {
+      value = λ r c high low.
+          let here : at + (r * w + c) ≡ place_in a row c + r * w = omega (arith, top.left) in
+          ap (λ (l : List ℕ). get_or l (r * w + c) 0) part
+          ∙ part_at at (n * w) ys (r * w + c) (in_rows r c n w high low)
+          ∙ rw here (column_sample a ys row c r (omega (arith, top.above)) (omega (arith, top.left)) (omega (arith, low)));
+      room = λ r high. rw (part, long) (next w r n high);
+      near = omega (arith, near.wide);
+    }

@@ -95,4 +95,9 @@ impl<P: Sample> Samples for Picture<P> {
         let columns = plane.area().columns;
         plane.row(y as usize, 0, columns)
     }
+
+    #[inline(always)]
+    fn rows(&self, plane: Plane, y: u32, count: usize) -> Option<(&[P], usize)> {
+        Some(self.planes.plane(plane).rows(y as usize, count))
+    }
 }

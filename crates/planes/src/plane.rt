@@ -1,6 +1,6 @@
 ghost use Rattle.std.specs.Prelude.{◌≡◌, ◌≤◌, ◌<◌, ◌+◌, ◌-◌, ◌*◌, ℕ, List, IfOk, length, map, slice_index};
 ghost use Rattle.std.specs.Borrow.{sem};
-ghost use Rattle.vp9_types.specs.Maps.{IsAtMost, rows_of, row_of, with_block};
+ghost use Rattle.vp9_types.specs.Maps.{IsAtMost, IsPiece, rows_of, row_of, with_block};
 ghost use Rattle.planes.specs.Planes.{PlaneSamples, IsArea, StartsIn, HasRow, HasColumn, lower_end, right_end, from_row, plane_map, with_part};
 
 use crate::area::Area;
@@ -75,6 +75,19 @@ impl<P: Sample> SamplePlane<P> {
     {
         let at = self.area.place_of(row, column);
         &self.samples[at..at + count]
+    }
+
+    /// So many whole rows, and how far each of them begins behind the one above.
+    #[inline(always)]
+    pub fn rows(&self, row: usize, count: usize) -> (&[P], usize)
+        requires some { 0 < count }
+        requires few { count ≤ 256 }
+        requires inside { (r : ℕ) → r < count → HasRow self.now.area (row + r) 0 self.now.area.columns }
+        ensures { IsPiece (plane_map self.now) self.now.area.columns row count (map P.value result.0.now) result.1 }
+    {
+        let columns = self.area.columns;
+        let at = self.area.place_of(row, 0);
+        (&self.samples[at..at + count * columns], columns)
     }
 
     /// As `row`, of the row above.

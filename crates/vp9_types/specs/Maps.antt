@@ -1,5 +1,5 @@
 -- Words on planes: a plane is a map from row and column to sample, 0 outside of the plane.
-use Rattle.std.specs.Prelude.{ℕ, ◌+◌, ◌-◌, ◌*◌, ◌≡◌, ◌≤◌, ◌<◌, ◌&&◌, Bool, List, map, slice_index, nat_lt, nat_le, if◌then◌else◌}
+use Rattle.std.specs.Prelude.{ℕ, ◌+◌, ◌-◌, ◌*◌, ◌≡◌, ◌≤◌, ◌<◌, ◌&&◌, Bool, List, length, map, slice_index, nat_lt, nat_le, if◌then◌else◌}
 use Rattle.std.specs.List.{range_with_len}
 use Rattle.vp9_types.specs.declared.shape.Plane.{Plane}
 use Rattle.vp9_types.specs.declared.shape.Plane.TheVariants.{Y, U, V}
@@ -53,3 +53,9 @@ Holds block size f = HoldsRows block size size f
 
 abbrev pub IsAtMost : ℕ → Map → Type 0
 IsAtMost most m = (y x : ℕ) → m y x ≤ most
+
+-- rows of w samples of a plane, row y and those below it: each begins `stride` samples behind the one above
+pub record IsPiece (m : Map) (w y rows : ℕ) (samples : List ℕ) (stride : ℕ) : Type 0 where
+  pub value : (r c : ℕ) → r < rows → c < w → slice_index samples (r * stride + c) ≡ m (y + r) c
+  pub room : (r : ℕ) → r < rows → r * stride + w ≤ length samples
+  pub near : stride ≤ 65536

@@ -23,4 +23,8 @@ impl Samples for Luma {
     fn row(&self, plane: Plane, y: u32) -> &[u8] {
         self.plane.row(y as usize, 0, self.plane.area().columns)
     }
+
+    fn rows(&self, plane: Plane, y: u32, count: usize) -> Option<(&[u8], usize)> {
+        Some(self.plane.rows(y as usize, count))
+    }
 }
