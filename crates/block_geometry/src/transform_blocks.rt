@@ -69,6 +69,10 @@ impl TransformGrid {
         ensures low { result.0 < 16 }
         ensures near { result.1 < 16 }
     {
+        // a division is slow, and most blocks have one transform block
+        if k == 0 {
+            return (0, 0);
+        }
         let row = k / self.columns;
         let column = k % self.columns;
         ((self.step * row) as usize, (self.step * column) as usize)

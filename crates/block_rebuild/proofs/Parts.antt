@@ -29,7 +29,8 @@ use Rattle.planes.specs.declared.area.Area.{Area}
 use Rattle.planes.proofs.PlaneLemmas.{with_block_small}
 use Rattle.planes.proofs.RowLemmas.{with_block_same, place}
 use Rattle.block_rebuild.specs.InterBlocks.{Rebuilding, part_of, predicted_from, predicted_part, put_part, second_from, with_second}
-use Rattle.block_rebuild.specs.Code.{HasReference, HasReferences, IsUsable, HoldsPart, Serves, IsServed, AreServed, reference_of}
+use Rattle.block_rebuild.specs.Code.{AreTwoPlaces, HasReference, HasReferences, IsUsable, HoldsPart, Serves, IsServed, AreServed, reference_of}
+use Rattle.block_rebuild.specs.declared.inter_in_plane.TwoPlaces.{TwoPlaces}
 use Rattle.block_rebuild.specs.declared.references.ReferencePicture as code_picture
 use Rattle.block_rebuild.specs.declared.references.Rebuilding as code
 
@@ -161,6 +162,49 @@ pub one_predicted : (by : Rebuilding) (b : BlockInfo) (modes : InterPrediction) 
     → HoldsRows block at.columns at.rows (predicted_from by.shape b modes (part_of p n 0) (by.references modes.references.first))
     → HoldsRows block at.columns at.rows (predicted_part by b modes p n)
 one_predicted by b modes p n at block none holds = subst (λ (h : Map). HoldsRows block at.columns at.rows h) (by_one by b modes p n none) holds
+
+---- Places in U and V ----
+
+pub plane_is : (shape reference : Shape) (b : BlockInfo) (modes : InterPrediction) (part : BlockPart) (at : Place) → at ≡ place_of shape b modes part reference → at.plane ≡ part.plane
+unfolding place_of
+plane_is shape reference b modes part at is = λ i. (is i).plane
+
+pub second_is_served : {S : Type 0} (holds : S → Plane → ℕ → Type 0) (width : S → Plane → ℕ) (map : S → FrameMap) (by : code.Rebuilding S) (b : BlockInfo) (modes : InterPrediction)
+    (second : Option ReferenceFrame) (reference : ReferenceFrame) → IfSome second (IsServed holds width map by b modes 1) → second ≡ Some reference → IsServed holds width map by b modes 1 reference
+second_is_served holds width map by b modes second reference served is = subst (λ (o : Option ReferenceFrame). IfSome o (IsServed holds width map by b modes 1)) is served
+
+-- one place in V, by that in U
+abbrev pub GoesToV : Place → Place → Type 0
+GoesToV u v = (shape : Shape) (b : BlockInfo) (modes : InterPrediction) (n list : ℕ) (reference : Shape)
+    → u ≡ place_of shape b modes (part_of U n list) reference → v ≡ place_of shape b modes (part_of V n list) reference
+
+pub two_in_v : (by : Rebuilding) (b : BlockInfo) (modes : InterPrediction) (n : ℕ) (u v : TwoPlaces) → u.at.plane ≡ U → v.at.plane ≡ V → v.second ≡ u.second
+    → GoesToV u.at v.at → GoesToV u.other v.other → (IsPlace u.at → IsPlace v.at) → (IsPlace u.other → IsPlace v.other)
+    → AreTwoPlaces by b modes n u → AreTwoPlaces by b modes n v
+two_in_v by b modes n u v in_u in_v same at other fits other_fits are =
+    let one : u.at ≡ place_of by.shape b modes (part_of U n 0) (by.references modes.references.first).shape =
+    are.at ∙ (λ i. place_of by.shape b modes (part_of (in_u i) n 0) (by.references modes.references.first).shape) in
+    let two : u.other ≡ place_of by.shape b modes (part_of U n 1) (by.references u.second).shape =
+    are.other ∙ (λ i. place_of by.shape b modes (part_of (in_u i) n 1) (by.references u.second).shape) in
+    record {
+      second = are.second ∙ ap Some (sym same);
+      at = at by.shape b modes n 0 _ one ∙ (λ i. place_of by.shape b modes (part_of (sym in_v i) n 0) (by.references modes.references.first).shape);
+      other = other by.shape b modes n 1 _ two ∙ (λ i. place_of by.shape b modes (part_of (sym in_v i) n 1) (by.references (sym same i)).shape);
+      fits = fits are.fits;
+      other_fits = other_fits are.other_fits;
+    }
+
+pub two_places : (by : Rebuilding) (b : BlockInfo) (modes : InterPrediction) (p : Plane) (n : ℕ) (second : ReferenceFrame) (at other : Place)
+    → modes.references.second ≡ Some second → at.plane ≡ p → at ≡ place_of by.shape b modes (part_of p n 0) (by.references modes.references.first).shape
+    → other ≡ place_of by.shape b modes (part_of p n 1) (by.references second).shape → IsPlace at → IsPlace other
+    → AreTwoPlaces by b modes n (record { second = second; at = at; other = other })
+two_places by b modes p n second at other some plane is also fits other_fits = record {
+  second = some;
+  at = is ∙ (λ i. place_of by.shape b modes (part_of (sym plane i) n 0) (by.references modes.references.first).shape);
+  other = also ∙ (λ i. place_of by.shape b modes (part_of (sym plane i) n 1) (by.references second).shape);
+  fits = fits;
+  other_fits = other_fits;
+}
 
 ---- A part in its plane ----
 

@@ -14,7 +14,7 @@ use Rattle.block_plan.specs.declared.block.BlockInfo.{BlockInfo}
 use Rattle.block_plan.specs.declared.block.Prediction.{Prediction}
 use Rattle.block_plan.specs.declared.block.Prediction.TheVariants.{Intra, Inter}
 use Rattle.block_plan.specs.declared.block.InterPrediction.{InterPrediction}
-use Rattle.inter_places.specs.Axes.{first_place, last_place}
+use Rattle.inter_places.specs.Axes.{IsPlace, first_place, last_place}
 use Rattle.inter_places.specs.Places.{IsReference, parts_of, place_of, subsampling, coded_length}
 use Rattle.inter_places.specs.declared.part.Direction.TheVariants.{Down, Across}
 use Rattle.block_geometry.specs.Sizes.{width_8, height_8}
@@ -33,6 +33,7 @@ use Rattle.block_rebuild.specs.InterBlocks.{ReferencePicture, Rebuilding, add_re
 use Rattle.block_rebuild.specs.declared.references.ReferencePicture as code_picture
 use Rattle.block_rebuild.specs.declared.references.Rebuilding as code
 use Rattle.block_rebuild.specs.declared.in_plane.IntraInPlane.{IntraInPlane}
+use Rattle.block_rebuild.specs.declared.inter_in_plane.TwoPlaces.{TwoPlaces}
 
 -- a block that starts inside its frame and its tile, with a transform that fits
 pub record IsPlaced (shape : Shape) (tile_from : ℕ) (b : BlockInfo) : Type 0 where
@@ -139,3 +140,17 @@ abbrev pub AreServed : {S : Type 0} → (S → Plane → ℕ → Type 0) → (S 
 AreServed holds width map by b (Intra modes) = Unit {0}
 AreServed holds width map by b (Inter modes) =
     IsServed holds width map by b modes 0 modes.references.first × IfSome modes.references.second (IsServed holds width map by b modes 1)
+
+---- Parts with two references ----
+
+-- the places of a part of a block in its first reference and in its second
+pub record AreTwoPlaces (by : Rebuilding) (b : BlockInfo) (modes : InterPrediction) (n : ℕ) (places : TwoPlaces) : Type 0 where
+  pub second : modes.references.second ≡ Some places.second
+  pub at : places.at ≡ place_of by.shape b modes (part_of places.at.plane n 0) (by.references modes.references.first).shape
+  pub other : places.other ≡ place_of by.shape b modes (part_of places.at.plane n 1) (by.references places.second).shape
+  pub fits : IsPlace places.at
+  pub other_fits : IsPlace places.other
+
+-- places in U, and those of the part of V with the same number
+abbrev pub AreInV : TwoPlaces → TwoPlaces → Type 0
+AreInV u v = (by : Rebuilding) (b : BlockInfo) (modes : InterPrediction) (n : ℕ) → AreTwoPlaces by b modes n u → AreTwoPlaces by b modes n v

@@ -41,6 +41,10 @@ abbrev pub IsWhole : ℕ → Residue → Type 0
 IsWhole n None = Unit {0}
 IsWhole n (Some values) = length values ≡ n
 
+-- all residues of a block in a plane are there
+abbrev pub HoldsAll : (Plane → ℕ → ℕ → Type 0) → Shape → BlockInfo → Plane → Type 0
+HoldsAll holds shape b p = (k : ℕ) → k < length (places_in shape b p) → holds p (area (tx_in shape b p)) k
+
 -- all residues of a block are there
 abbrev pub AreHeld : (Plane → ℕ → ℕ → Type 0) → Shape → BlockInfo → Type 0
 AreHeld holds shape b = (p : Plane) (k : ℕ) → k < length (places_in shape b p) → holds p (area (tx_in shape b p)) k

@@ -10,7 +10,7 @@ ghost use Rattle.block_rebuild.specs.Code.{HasAreasOf, HasReferences, HoldsBlock
 ghost use Rattle.block_rebuild.specs.Residues.{AreHeld, planned_by};
 
 use crate::in_plane::{IntraCoded, put_in_plane};
-use crate::inter_in_plane::{InterCoded, put_inter};
+use crate::inter_in_plane::{InterCoded, put_chroma, put_luma};
 use crate::references::Rebuilding;
 use crate::residues::TransformResidues;
 use crate::room::{GREATEST_BLOCK, RebuildRoom, RoomSample};
@@ -62,9 +62,8 @@ pub fn put_block_in_part<P: RoomSample, S: Samples<Kept = P>, R: TransformResidu
                 modes: &modes,
             };
             let (first, rest) = P::buffer(room).split_at_mut(GREATEST_BLOCK);
-            put_inter(&mut planes.y, &b, Plane::Y, residues, first, rest);
-            put_inter(&mut planes.u, &b, Plane::U, residues, first, rest);
-            put_inter(&mut planes.v, &b, Plane::V, residues, first, rest);
+            put_luma(&mut planes.y, &b, residues, first, rest);
+            put_chroma(&mut planes.u, &mut planes.v, &b, residues, first, rest);
         }
     }
 }

@@ -12,6 +12,7 @@ mod room;
 
 pub use blocks::{put_block, put_block_in_part};
 pub use in_plane::IntraInPlane;
+pub use inter_in_plane::TwoPlaces;
 pub use laws::{blocks_stay_in_their_tile_column, strips_side_by_side_are_the_frame};
 pub use references::{Rebuilding, ReferencePicture};
 pub use residues::TransformResidues;

@@ -1,6 +1,6 @@
 //! Residue added to the samples that stand in a plane (8.6.2 of the standard).
 
-ghost use Rattle.std.specs.Prelude.{◌≡◌, ◌<◌, ◌≤◌, ◌+◌, ◌*◌, ◌^◌, ℕ, pos, length, map, slice_index, slice_index_or, unsigned_abs};
+ghost use Rattle.std.specs.Prelude.{◌≡◌, ◌<◌, ◌≤◌, ◌+◌, ◌*◌, ◌^◌, ℕ, pos, get_or, length, map, slice_index, slice_index_or, unsigned_abs};
 ghost use Rattle.std.specs.List.{All, fold};
 ghost use Rattle.std.specs.Option.{option_copied};
 ghost use Rattle.vp9_types.specs.Maps.{IsAtMost, with_block};
@@ -27,13 +27,7 @@ use vp9_types::{Depth, Plane, Sample, TxSize, halved};
 fn clipped(sum: i32, most: u16) -> u16
     ensures { result ≡ clip most sum }
 {
-    if sum < 0 {
-        0
-    } else if sum > i32::from(most) {
-        most
-    } else {
-        sum as u16
-    }
+    sum.max(0).min(i32::from(most)) as u16
 }
 
 /// A sample with residue added to it, clipped.
@@ -93,9 +87,9 @@ fn add_row<P: Sample>(
     add_line(line, residue, most);
 }
 
-/// Adds the residue of a transform block to the samples at a row and column. What lies below or right of the plane is left
-/// out.
-fn add_square<P: Sample>(
+/// Adds the residue of a transform block that goes past an end of the plane to the samples at a row and column. What lies
+/// below or right of the plane is left out.
+fn add_at_end<P: Sample>(
     samples: &mut SamplePlane<P>,
     row: usize,
     column: usize,
@@ -128,6 +122,91 @@ fn add_square<P: Sample>(
     }
 }
 
+/// Adds residue to N samples of a row. The sums are made in a line of their own, since what is read by reference might be
+/// what is written.
+#[inline(always)]
+fn add_short<P: Sample, const N: usize>(
+    samples: &mut SamplePlane<P>,
+    row: usize,
+    column: usize,
+    residue: &[i32],
+    most: u16,
+)
+    requires fits { most ≤ P.greatest }
+    requires inside { HasRow samples.old.area row column N }
+    requires long { length residue.now ≡ N }
+    requires residue { IsResidue N residue.now }
+    ensures map { plane_map samples.new ≡ with_block (plane_map samples.old) row column 1 N
+        (λ _ j. with_residue most (plane_map samples.old row (column + j)) (slice_index_or residue.now j (pos 0))) }
+    ensures area { samples.new.area ≡ samples.old.area }
+{
+    let line = samples.row_mut(row, column, N);
+    let mut sums = [P::narrow(0); N];
+    sums.copy_from_slice(line);
+    add_line(&mut sums, residue, most);
+    line.copy_from_slice(&sums);
+}
+
+/// Adds the residue of a transform block of N rows of N samples, all of them inside of the plane.
+#[inline(always)]
+fn add_inside<P: Sample, const N: usize>(
+    samples: &mut SamplePlane<P>,
+    row: usize,
+    column: usize,
+    depth: Depth,
+    values: &[i32],
+)
+    requires fits { greatest depth ≤ P.greatest }
+    requires low { N ≤ 32 }
+    requires inside { HasRow samples.old.area row column N }
+    requires below { row + N ≤ lower_end samples.old.area }
+    requires high { lower_end samples.old.area ≤ 65536 }
+    requires long { length values.now ≡ N * N }
+    requires small { All (λ x. unsigned_abs x < 2 ^ 24) values.now }
+    ensures map { plane_map samples.new ≡ with_square (right_end samples.old.area) (lower_end samples.old.area) (plane_map samples.old) row column N
+        (plus_residue depth N (samples_from (plane_map samples.old) row column) values.now) }
+    ensures area { samples.new.area ≡ samples.old.area }
+{
+    let most = depth.greatest();
+    for i in 0..N {
+        let from = i * N;
+        add_short::<P, N>(samples, row + i, column, &values[from..from + N], most);
+    }
+}
+
+/// Adds the residue of a transform block to the samples at a row and column. What lies below or right of the plane is left
+/// out.
+#[inline(never)]
+fn add_square<P: Sample>(
+    samples: &mut SamplePlane<P>,
+    row: usize,
+    column: usize,
+    tx: TxSize,
+    depth: Depth,
+    values: &[i32],
+)
+    requires fits { greatest depth ≤ P.greatest }
+    requires inside { HasRow samples.old.area row column 1 }
+    requires long { length values.now ≡ area tx }
+    requires small { All (λ x. unsigned_abs x < 2 ^ 24) values.now }
+    ensures map { plane_map samples.new ≡ with_square (right_end samples.old.area) (lower_end samples.old.area) (plane_map samples.old) row column (side tx)
+        (plus_residue depth (side tx) (samples_from (plane_map samples.old) row column) values.now) }
+    ensures area { samples.new.area ≡ samples.old.area }
+{
+    let area = samples.area();
+    let side = side_of(tx);
+    if side > area.lower_end() - row || side > area.right_end() - column {
+        add_at_end(samples, row, column, tx, depth, values);
+        return;
+    }
+    match tx {
+        TxSize::T4x4 => add_inside::<P, 4>(samples, row, column, depth, values),
+        TxSize::T8x8 => add_inside::<P, 8>(samples, row, column, depth, values),
+        TxSize::T16x16 => add_inside::<P, 16>(samples, row, column, depth, values),
+        TxSize::T32x32 => add_inside::<P, 32>(samples, row, column, depth, values),
+    }
+}
+
 /// The first row and column of the transform block at a row and column in 4s.
 fn first_sample(block: &PlaneBlock, at: (usize, usize)) -> (usize, usize)
     requires low { block.now.row ≤ 8192 }
@@ -144,29 +223,31 @@ fn first_sample(block: &PlaneBlock, at: (usize, usize)) -> (usize, usize)
     )
 }
 
-/// Adds the residue of a transform block, if it has any, to the samples at its place.
+/// Adds the residue of the k-th transform block of a grid, if it has any, to the samples at its place.
+#[inline(always)]
 fn add_any<P: Sample>(
     samples: &mut SamplePlane<P>,
     block: &PlaneBlock,
-    at: (usize, usize),
+    grid: &TransformGrid,
+    k: u32,
     depth: Depth,
     residue: Option<&[i32]>,
 )
     requires low { block.now.row ≤ 8192 }
     requires near { block.now.col ≤ 8192 }
-    requires y { at.0 < 16 }
-    requires x { at.1 < 16 }
+    requires small_grid { IsSmallGrid grid.now }
+    requires count { k < grid.now.rows * grid.now.columns }
     requires fits { greatest depth ≤ P.greatest }
-    requires inside { HasRow samples.old.area (tx_row block.now at.0) (tx_column block.now at.1) 1 }
+    requires inside { HasRow samples.old.area (tx_row block.now (get_or (grid_blocks grid.now) k (0, 0)).0) (tx_column block.now (get_or (grid_blocks grid.now) k (0, 0)).1) 1 }
     requires range { IsAtMost (greatest depth) (plane_map samples.old) }
     requires whole { IsWhole (area block.now.tx) (option_copied residue) }
     requires small { IsSmall (option_copied residue) }
-    ensures map { plane_map samples.new ≡ add_residue (right_end samples.old.area) (lower_end samples.old.area) depth block.now at (option_copied residue.entry) (plane_map samples.old) }
+    ensures map { plane_map samples.new ≡ add_residue (right_end samples.old.area) (lower_end samples.old.area) depth block.now (get_or (grid_blocks grid.now) k (0, 0)) (option_copied residue.entry) (plane_map samples.old) }
     ensures area { samples.new.area ≡ samples.old.area }
     ensures range { IsAtMost (greatest depth) (plane_map samples.new) }
 {
     if let Some(values) = residue {
-        let (row, column) = first_sample(block, at);
+        let (row, column) = first_sample(block, grid.place(k));
         add_square(samples, row, column, block.tx, depth, values);
     }
 }
@@ -196,6 +277,6 @@ pub(crate) fn add_residues<P: Sample, R: TransformResidues>(
     let area = area_of(block.tx);
     for k in 0..grid.count() {
         let residue = residues.get(plane, area, k as usize);
-        add_any(samples, block, grid.place(k), depth, residue);
+        add_any(samples, block, grid, k, depth, residue);
     }
 }

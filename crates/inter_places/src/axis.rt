@@ -1,5 +1,13 @@
 //! Places in a reference.
 
+ghost use Rattle.std.specs.Prelude.{◌≡◌, ℕ};
+ghost use Rattle.vp9_types.specs.declared.shape.Plane.TheVariants.{U, V};
+ghost use Rattle.vp9_types.specs.declared.shape.Shape.{Shape};
+ghost use Rattle.block_plan.specs.declared.block.BlockInfo.{BlockInfo};
+ghost use Rattle.block_plan.specs.declared.block.InterPrediction.{InterPrediction};
+ghost use Rattle.inter_places.specs.Axes.{IsPlace};
+ghost use Rattle.inter_places.specs.Places.{place_of};
+
 use vp9_types::Plane;
 
 /// Where the samples of a block are predicted from along one direction: the place of the first in sixteenths of a sample,
@@ -22,4 +30,22 @@ pub struct Place {
     pub columns: usize,
     pub down: Axis,
     pub across: Axis,
+}
+
+impl Place {
+    /// The place in V of the part that has this place in U: only the plane is another.
+    #[inline(always)]
+    #[tactic(auto, unfolding(crate::specs::Places::place_of))]
+    pub fn in_v(&self) -> Place
+        ensures part { (shape : Shape) (b : BlockInfo) (modes : InterPrediction) (n list : ℕ) (reference : Shape) →
+            self.now ≡ place_of shape b modes (record { plane = U; number = n; list = list }) reference →
+            result ≡ place_of shape b modes (record { plane = V; number = n; list = list }) reference }
+        ensures fits { IsPlace self.now → IsPlace result }
+        ensures plane { result.plane ≡ V }
+    {
+        Place {
+            plane: Plane::V,
+            ..*self
+        }
+    }
 }

@@ -15,14 +15,17 @@ use block_geometry::{height_8, is_below_8x8, width_8};
 use block_plan::{BlockInfo, InterPrediction};
 use vp9_types::{BlockSize, Plane, Shape};
 
+/// Whether a plane is subsampled along a direction. The shape's flag is read for each plane, so that there is nothing to jump
+/// over.
 #[inline(always)]
 fn subsampling(shape: &Shape, plane: Plane, along: Direction) -> bool
     ensures { result ≡ subsampling shape.now plane along }
 {
-    match along {
-        Direction::Down => plane != Plane::Y && shape.ss_y,
-        Direction::Across => plane != Plane::Y && shape.ss_x,
-    }
+    let ss = match along {
+        Direction::Down => shape.ss_y,
+        Direction::Across => shape.ss_x,
+    };
+    plane != Plane::Y && ss
 }
 
 #[inline(always)]
@@ -46,7 +49,7 @@ pub fn part_count(shape: &Shape, size: BlockSize, plane: Plane) -> usize
     }
 }
 
-/// How far a part begins behind its block.
+/// How far a part begins behind its block. Only a block below 8x8 has more than one.
 #[inline(always)]
 fn behind(shape: &Shape, size: BlockSize, part: BlockPart, along: Direction) -> u32
     requires { part.number < parts_of shape.now size part.plane }
@@ -54,7 +57,7 @@ fn behind(shape: &Shape, size: BlockSize, part: BlockPart, along: Direction) -> 
     ensures inside { result + 4 ≤ halved (subsampling shape.now part.plane along) 8 }
     ensures fours { result ≡ 4 * (result / 4) }
 {
-    if part.number == 0 {
+    if !is_below_8x8(size) {
         return 0;
     }
     let across = fours(subsampling(shape, part.plane, Direction::Across));
@@ -126,10 +129,11 @@ fn luma_length(shape: &Shape, along: Direction) -> u32
 fn plane_length(shape: &Shape, plane: Plane, along: Direction) -> u32
     ensures { result ≡ plane_length shape.now plane along }
 {
-    let (width, height) = shape.plane_size(plane);
-    match along {
-        Direction::Down => height,
-        Direction::Across => width,
+    let luma = luma_length(shape, along);
+    if subsampling(shape, plane, along) {
+        luma - luma / 2
+    } else {
+        luma
     }
 }
 
@@ -163,10 +167,15 @@ fn coded_length(shape: &Shape, plane: Plane, along: Direction) -> u32
     requires high { shape.now.h ≤ 65536 }
     ensures { result ≡ coded_length shape.now plane along }
 {
-    let (columns, rows) = shape.coded_size(plane);
-    match along {
-        Direction::Down => rows as u32,
-        Direction::Across => columns as u32,
+    let luma = 8
+        * match along {
+            Direction::Down => shape.place_rows(),
+            Direction::Across => shape.place_cols(),
+        };
+    if subsampling(shape, plane, along) {
+        luma / 2
+    } else {
+        luma
     }
 }
 
@@ -217,9 +226,9 @@ fn part_start(shape: &Shape, block: &BlockInfo, part: BlockPart, along: Directio
 }
 
 /// Where a part of a block is predicted from in a reference.
-#[inline(never)]
+#[inline(always)]
 #[tactic(auto, unfolding(crate::specs::Places::place_of))]
-pub fn place(
+fn find_place(
     shape: &Shape,
     block: &BlockInfo,
     inter: &InterPrediction,
@@ -240,6 +249,43 @@ pub fn place(
         down: part_axis(shape, block, inter, part, reference, Direction::Down),
         across: part_axis(shape, block, inter, part, reference, Direction::Across),
     }
+}
+
+/// The same of a block below 8x8, which few are: so that where others are predicted from is found without its tests.
+#[inline(never)]
+fn place_below(
+    shape: &Shape,
+    block: &BlockInfo,
+    inter: &InterPrediction,
+    part: BlockPart,
+    reference: &Shape,
+) -> Place
+    requires part { IsPart shape.now block.now part }
+    requires reference { IsReference shape.now reference.now }
+    ensures value { result ≡ place_of shape.now block.now inter.now part reference.now }
+    ensures fits { IsPlace result }
+{
+    find_place(shape, block, inter, part, reference)
+}
+
+/// Where a part of a block is predicted from in a reference.
+#[inline(never)]
+pub fn place(
+    shape: &Shape,
+    block: &BlockInfo,
+    inter: &InterPrediction,
+    part: BlockPart,
+    reference: &Shape,
+) -> Place
+    requires part { IsPart shape.now block.now part }
+    requires reference { IsReference shape.now reference.now }
+    ensures value { result ≡ place_of shape.now block.now inter.now part reference.now }
+    ensures fits { IsPlace result }
+{
+    if is_below_8x8(block.size) {
+        return place_below(shape, block, inter, part, reference);
+    }
+    find_place(shape, block, inter, part, reference)
 }
 
 /// The rows of a reference that a part of a block is predicted from, and where.

@@ -3,7 +3,7 @@
 ghost use Rattle.std.specs.Prelude.{◌≡◌, ◌+◌, ◌*◌, ◌/◌, ◌%◌, ◌^◌, ◌≤◌, pos, ◌*ℤ◌, unsigned_abs};
 ghost use Rattle.std.specs.Int.{int_shr};
 ghost use Rattle.inter_places.specs.Axes.{IsAxis};
-ghost use Rattle.inter_places.specs.Vectors.{IsSpan};
+ghost use Rattle.inter_places.specs.Vectors.{IsSpan, clamped_vector};
 ghost use Rattle.inter_places.specs.Scaling.{IsInScale, scale, step, start, axis_of, span_start};
 
 use crate::axis::Axis;
@@ -65,6 +65,25 @@ pub(crate) fn first_sample(span: &BlockSpan) -> u32
     if span.ss { luma / 2 } else { luma }
 }
 
+/// The start of a part that begins so many samples behind the block's first.
+#[inline(always)]
+fn start_of(span: &BlockSpan, behind: u32, mv: i32, scale: u32) -> i32
+    requires span { IsSpan span.now }
+    requires behind { behind ≤ 64 }
+    requires near { unsigned_abs mv ≤ 2 ^ 16 }
+    requires most { scale ≤ 2 ^ 15 }
+    ensures value { result ≡ start scale (span_start span.now + behind) (8 * span.now.first + behind) (clamped_vector span.now mv) }
+    ensures near { unsigned_abs result ≤ 2 ^ 24 }
+{
+    let first = first_sample(span) + behind;
+    let vector = clamp_mv(span, mv);
+    if scale == 16384 {
+        return 16 * first as i32 + vector;
+    }
+    let fraction = fraction_of(scale, 8 * span.first + behind);
+    whole_of(scale, first) + scaled_vector(scale, vector) + fraction
+}
+
 /// Where a part of a block is predicted from along one direction, which begins so many samples behind the block's first.
 #[inline(always)]
 pub(crate) fn axis_of(span: &BlockSpan, behind: u32, mv: i32, scale: u32, size: u32) -> Axis
@@ -78,18 +97,8 @@ pub(crate) fn axis_of(span: &BlockSpan, behind: u32, mv: i32, scale: u32, size: 
     ensures value { result ≡ axis_of span.now behind mv scale size }
     ensures fits { IsAxis result }
 {
-    if scale == 16384 {
-        return Axis {
-            start: 16 * (first_sample(span) + behind) as i32 + clamp_mv(span, mv),
-            step: 16,
-            size,
-        };
-    }
-    let whole = whole_of(scale, first_sample(span) + behind);
-    let vector = scaled_vector(scale, clamp_mv(span, mv));
-    let fraction = fraction_of(scale, 8 * span.first + behind);
     Axis {
-        start: whole + vector + fraction,
+        start: start_of(span, behind, mv, scale),
         step: (16 * scale / 16384) as u8,
         size,
     }

@@ -5,14 +5,14 @@ use Rattle.block_rebuild.specs.Residues.{planned_by}
 use Rattle.block_rebuild.proofs.Areas.{holds_own, intra_all, inter_all}
 use Rattle.block_rebuild.proofs.blocks.put_block_in_part.Goals as goal
 
-pub put_inter-requires-in-Inter-clause-is : goal.put_inter-requires-in-Inter-clause-is
-put_inter-requires-in-Inter-clause-is g c = let a = c.args in record {
+pub put_chroma-requires-clause-u : goal.put_chroma-requires-clause-u
+put_chroma-requires-clause-u g c = let a = c.args in record {
   area = holds_own a.by.now.shape U a.tile_from a.block.now a.planes.now.u.area c.requires.placed.tile c.requires.part.u;
   range = c.requires.range.u;
 }
 
-pub put_inter-requires-in-Inter-2-clause-is : goal.put_inter-requires-in-Inter-2-clause-is
-put_inter-requires-in-Inter-2-clause-is g c = let a = c.args in record {
+pub put_chroma-requires-clause-v : goal.put_chroma-requires-clause-v
+put_chroma-requires-clause-v g c = let a = c.args in record {
   area = holds_own a.by.now.shape V a.tile_from a.block.now a.planes.now.v.area c.requires.placed.tile c.requires.part.v;
   range = c.requires.range.v;
 }
@@ -25,4 +25,4 @@ returns-in-Intra-clause-map g c = let a = c.args in
 pub returns-in-Inter-clause-map : goal.returns-in-Inter-clause-map
 returns-in-Inter-clause-map g c = let a = c.args in
     inter_all (rebuilding_of g.S.Samples.map a.by.now) (planned_by (g.R.TransformResidues.residue a.residues.now) a.by.now.shape a.tile_from a.block.now) a.block.now.prediction c.in-Inter.modes (samples_of a.planes.now) _ _ _
-    c.in-Inter.is c.put_inter.ensures.map c.put_inter-in-Inter.ensures.map c.put_inter-in-Inter-2.ensures.map
+    c.in-Inter.is c.put_luma.ensures.map c.put_chroma.ensures.u c.put_chroma.ensures.v

@@ -19,8 +19,7 @@ get-residue-requires-clause-held g c =
 pub add_any-requires-clause-inside : goal.add_any-requires-clause-inside
 add_any-requires-clause-inside g c =
     let low : c.loop-k.k < c.args.grid.now.rows * c.args.grid.now.columns = omega (arith, c.loop-k-test.true, c.count-k-end.ensures.count, c.loop-k.auto.k-end) in
-    let here = rw c.place.ensures.place at (c.requires.inside c.loop-k.k (0, 0) (rw (length_grid c.args.grid.now) low)) in
-    rw c.loop-k.invariant.same here
+    rw c.loop-k.invariant.same (c.requires.inside c.loop-k.k (0, 0) (rw (length_grid c.args.grid.now) low))
 
 pub add_any-requires-clause-small : goal.add_any-requires-clause-small
 add_any-requires-clause-small g c =
@@ -34,7 +33,7 @@ loop-k-preserved g c = record {
   same = c.add_any.ensures.area ∙ c.loop-k.invariant.same;
   range = c.add_any.ensures.range;
   so_far = add_one_more c.args.samples.now.area c.loop-k.samples.area c.args.depth c.args.block.now (grid_blocks c.args.grid.now) (g.R.TransformResidues.residue c.args.residues.now c.args.plane (area c.args.block.now.tx)) c.loop-k.k
-      _ _ _ _ _ c.place.ensures.place (rw c.area_of-area.ensures.value at c.get-residue.ensures.value) c.loop-k.invariant.so_far c.loop-k.invariant.same c.add_any.ensures.map;
+      _ _ _ _ _ refl (rw c.area_of-area.ensures.value at c.get-residue.ensures.value) c.loop-k.invariant.so_far c.loop-k.invariant.same c.add_any.ensures.map;
 }
 
 pub returns-clause-map : goal.returns-clause-map

@@ -3,11 +3,11 @@ use Rattle.vp9_types.specs.Maps.{with_block}
 use Rattle.planes.specs.Planes.{plane_map}
 use Rattle.block_rebuild.specs.InterBlocks.{samples_from}
 use Rattle.block_rebuild.proofs.Sums.{added}
-use Rattle.block_rebuild.proofs.residue.add_square.Given as goal
+use Rattle.block_rebuild.proofs.residue.add_inside.Given as goal
 
 abbrev pub invariant-loop-i : goal.invariant-loop-i
 invariant-loop-i g l = record {
   same : l.samples.area ≡ l.initial.samples.area;
-  so_far : plane_map l.samples ≡ with_block (plane_map l.initial.samples) l.row l.column l.i l.columns
-      (added l.most l.side (samples_from (plane_map l.initial.samples) l.row l.column) l.values);
+  so_far : plane_map l.samples ≡ with_block (plane_map l.initial.samples) l.row l.column l.i g.row.N
+      (added l.most g.row.N (samples_from (plane_map l.initial.samples) l.row l.column) l.values);
 }

@@ -2,10 +2,11 @@ use Rattle.std.proofs.Common.{◌≡◌, length}
 use Rattle.std.specs.List.{fold, range_with_len}
 use Rattle.vp9_types.specs.Maps.{IsAtMost}
 use Rattle.vp9_types.specs.Sizes.{greatest}
+use Rattle.vp9_types.specs.declared.shape.Plane.TheVariants.{Y}
 use Rattle.planes.specs.Planes.{plane_map}
 use Rattle.block_rebuild.specs.InterBlocks.{put_part}
 use Rattle.block_rebuild.specs.Code.{rebuilding_of}
-use Rattle.block_rebuild.proofs.inter_in_plane.put_prediction.Given as goal
+use Rattle.block_rebuild.proofs.inter_in_plane.predict_luma.Given as goal
 
 abbrev pub invariant-loop-number : goal.invariant-loop-number
 invariant-loop-number g l = record {
@@ -13,5 +14,5 @@ invariant-loop-number g l = record {
   room : length l.first ≡ length l.initial.first;
   rest : length l.rest ≡ length l.initial.rest;
   range : IsAtMost (greatest l.b.by.now.shape.depth) (plane_map l.samples);
-  so_far : plane_map l.samples ≡ fold (put_part (rebuilding_of g.S.Samples.map l.b.by.now) l.b.block.now l.b.modes.now l.plane) (plane_map l.initial.samples) (range_with_len 0 l.number);
+  so_far : plane_map l.samples ≡ fold (put_part (rebuilding_of g.S.Samples.map l.b.by.now) l.b.block.now l.b.modes.now Y) (plane_map l.initial.samples) (range_with_len 0 l.number);
 }

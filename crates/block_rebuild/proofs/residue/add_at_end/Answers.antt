@@ -3,7 +3,7 @@ use Rattle.planes.specs.Planes.{lower_end, plane_map, right_end}
 use Rattle.planes.proofs.RowLemmas.{no_rows}
 use Rattle.block_rebuild.specs.InterBlocks.{samples_from}
 use Rattle.block_rebuild.proofs.Sums.{added, long_part, part_residue, row_added, row_fits, row_inside, square_added}
-use Rattle.block_rebuild.proofs.residue.add_square.Goals as goal
+use Rattle.block_rebuild.proofs.residue.add_at_end.Goals as goal
 
 pub loop-i-init : goal.loop-i-init
 loop-i-init g c = let a = c.args in let m = plane_map a.samples.now in record {

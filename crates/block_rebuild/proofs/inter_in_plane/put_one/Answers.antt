@@ -1,0 +1,27 @@
+use Rattle.std.proofs.Common.{◌∙◌, map}
+use Rattle.planes.specs.Planes.{plane_map}
+use Rattle.block_rebuild.specs.Code.{rebuilding_of}
+use Rattle.block_rebuild.proofs.Areas.{part_put, starts_in}
+use Rattle.block_rebuild.proofs.Parts.{one_predicted, part_small}
+use Rattle.block_rebuild.proofs.inter_in_plane.put_one.Goals as goal
+
+pub put_rows-requires-clause-inside : goal.put_rows-requires-clause-inside
+put_rows-requires-clause-inside g c = let a = c.args in let b = a.b.now in let at = a.place.now in
+    starts_in b.by.now.shape _ b.block.now b.modes.now at.plane a.number 0 a.samples.now.area at
+    c.requires.part.number c.requires.is.area c.requires.place c.requires.fits
+
+pub returns-clause-map : goal.returns-clause-map
+returns-clause-map g c = let a = c.args in let b = a.b.now in let at = a.place.now in let by = rebuilding_of g.S.Samples.map b.by.now in
+    let block = map g.P.Sample.value c.predict_part.new.block in
+    c.put_rows.ensures.map
+    ∙ part_put by _ b.block.now b.modes.now at.plane a.number a.samples.now.area (plane_map a.samples.now) at block
+    c.requires.part.number c.requires.is.area c.requires.place c.requires.fits
+    (one_predicted by b.block.now b.modes.now at.plane a.number at block c.requires.one (rw c.part_of-part.ensures at c.predict_part.ensures.samples))
+
+pub returns-clause-range : goal.returns-clause-range
+returns-clause-range g c = let a = c.args in let b = a.b.now in let at = a.place.now in
+    part_small (rebuilding_of g.S.Samples.map b.by.now) b.block.now b.modes.now at.plane a.number (plane_map a.samples.now) (plane_map c.put_rows.new.samples)
+    c.requires.is.range (returns-clause-map g c)
+
+pub predict_part-requires-clause-reference : goal.predict_part-requires-clause-reference
+predict_part-requires-clause-reference g c = rw c.part_of-part.ensures c.requires.references.0
