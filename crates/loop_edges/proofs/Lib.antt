@@ -1,1 +1,3 @@
 pub mod Products
+pub mod ByKind
+pub mod Widths

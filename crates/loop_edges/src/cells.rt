@@ -1,13 +1,13 @@
 //! The edges of a cell of 8x8 samples of a plane.
 
-ghost use Rattle.std.specs.Prelude.{◌≡◌, ◌≤◌, ◌+◌, ◌-◌, ◌%◌, ◌&&◌, nat_eq};
+ghost use Rattle.std.specs.Prelude.{◌≡◌, ◌≤◌, ◌<◌, ◌+◌, ◌*◌, ◌%◌, ◌&&◌, Some, nat_eq, length, slice_get};
 ghost use Rattle.vp9_types.specs.Shapes.{halved};
 ghost use Rattle.vp9_tables.specs.Blocks.{greatest_of};
 ghost use Rattle.vp9_tables.specs.Numbers.{tx_number};
 ghost use Rattle.block_plan.specs.InPlanes.{tx_in};
 ghost use Rattle.line_filter.specs.declared.edge.Pass.TheVariants.{Vertical, Horizontal};
 ghost use Rattle.loop_edges.specs.Cells.{is_smooth, across, outer_width, outer_edge, has_outer, has_inner, sub_x, sub_y};
-ghost use Rattle.loop_edges.specs.Code.{IsSideOfBlock, cells_of, is_large, width_at};
+ghost use Rattle.loop_edges.specs.Code.{IsSideOfBlock, is_inside, narrowed};
 
 use block_geometry::{height_8, width_8};
 use block_plan::{BlockInfo, Prediction, plane_block};
@@ -41,11 +41,13 @@ pub struct Crossing {
     pub is_last: bool,
 }
 
+/// Without a jump, so that it is found once for all of a place's cells.
 #[inline(always)]
 fn is_smooth(block: &BlockInfo) -> bool
     ensures { result ≡ is_smooth block.now }
 {
-    block.skip && matches!(block.prediction, Prediction::Inter(_))
+    let is_inter = matches!(block.prediction, Prediction::Inter(_));
+    block.skip & is_inter
 }
 
 /// Whether a place is a multiple of a block's size, by its low bits: a division, or a jump to one by a constant, is slow.
@@ -62,6 +64,7 @@ fn crossed_at(place: u32, size: u8, sub: bool, end: u32) -> Crossing
     requires size { IsSideOfBlock size }
     requires place { place ≤ 8192 }
     ensures k { result.k ≡ halved sub (place % 8) }
+    ensures few { result.k < 8 }
     ensures border { result.is_border ≡ nat_eq (place % size) 0 }
     ensures first { result.is_first ≡ nat_eq place 0 }
     ensures last { result.is_last ≡ (sub && nat_eq (place + 1) end) }
@@ -81,7 +84,8 @@ fn across(shape: &Shape, plane: Plane, pass: Pass, block: &BlockInfo, at: CellAt
     requires high { shape.now.h ≤ 65536 }
     requires row { at.row ≤ 8192 }
     requires col { at.col ≤ 8192 }
-    ensures { result ≡ across shape.now plane pass block.now at.row at.col }
+    ensures is { result ≡ across shape.now plane pass block.now at.row at.col }
+    ensures few { result.k < 8 }
 {
     let is_chroma = plane != Plane::Y;
     match pass {
@@ -104,63 +108,95 @@ fn across(shape: &Shape, plane: Plane, pass: Pass, block: &BlockInfo, at: CellAt
     }
 }
 
-/// The last of the cells that a transform block lies in, from 0 on.
+/// Whether a place of a smooth block has no edge in any plane, since none of the block's sides is there.
 #[inline(always)]
-fn last_cell(tx: TxSize) -> u32
-    ensures { result ≡ cells_of tx - 1 }
+pub fn is_inside(block: &BlockInfo, at: CellAt) -> bool
+    ensures { result ≡ is_inside block.now at.row at.col }
 {
-    match tx {
-        TxSize::T32x32 => 3,
-        TxSize::T16x16 => 1,
-        TxSize::T8x8 | TxSize::T4x4 => 0,
-    }
+    let is_left = is_multiple(at.col, width_8(block.size));
+    let is_top = is_multiple(at.row, height_8(block.size));
+    is_smooth(block) & !is_left & !is_top
 }
 
-/// Whether a transform block begins at a cell.
-#[inline(always)]
-fn begins(tx: TxSize, k: u32) -> bool
-    ensures { result ≡ nat_eq (k % cells_of tx) 0 }
-{
-    k & last_cell(tx) == 0
-}
+/// The widths of the filter at the eight cells of a superblock, by the size of the transform.
+static OUTER_WIDTHS: [Option<FilterWidth>; 32] = [
+    Some(FilterWidth::Eight),
+    Some(FilterWidth::Four),
+    Some(FilterWidth::Four),
+    Some(FilterWidth::Four),
+    Some(FilterWidth::Eight),
+    Some(FilterWidth::Four),
+    Some(FilterWidth::Four),
+    Some(FilterWidth::Four),
+    Some(FilterWidth::Eight),
+    Some(FilterWidth::Eight),
+    Some(FilterWidth::Eight),
+    Some(FilterWidth::Eight),
+    Some(FilterWidth::Eight),
+    Some(FilterWidth::Eight),
+    Some(FilterWidth::Eight),
+    Some(FilterWidth::Eight),
+    Some(FilterWidth::Sixteen),
+    None,
+    Some(FilterWidth::Sixteen),
+    None,
+    Some(FilterWidth::Sixteen),
+    None,
+    Some(FilterWidth::Sixteen),
+    None,
+    Some(FilterWidth::Sixteen),
+    None,
+    None,
+    None,
+    Some(FilterWidth::Sixteen),
+    None,
+    None,
+    None,
+];
 
+/// The width in a last cell of which half is in the plane.
 #[inline(always)]
-fn is_large(tx: TxSize) -> bool
-    ensures { result ≡ is_large tx }
+fn narrowed(width: Option<FilterWidth>, is_last: bool) -> Option<FilterWidth>
+    ensures { result ≡ narrowed width is_last }
 {
-    matches!(tx, TxSize::T16x16 | TxSize::T32x32)
-}
-
-/// The width of the filter where a transform block begins. By its parts, since a choice among four is a jump.
-#[inline(always)]
-fn width_at(tx: TxSize, a: Crossing) -> FilterWidth
-    ensures { result ≡ width_at tx a }
-{
-    if is_large(tx) && !a.is_last {
-        FilterWidth::Sixteen
-    } else if tx == TxSize::T4x4 && a.k % 4 != 0 {
-        FilterWidth::Four
+    if is_last && width == Some(FilterWidth::Sixteen) {
+        Some(FilterWidth::Eight)
     } else {
-        FilterWidth::Eight
+        width
     }
 }
 
+#[inline(always)]
+fn width_at(table: &[Option<FilterWidth>], place: usize) -> Option<FilterWidth>
+    requires { place < length table.now }
+    ensures { slice_get table.now place ≡ Some result }
+{
+    table[place]
+}
+
+#[inline(always)]
+fn whole_width(tx: TxSize, k: u32) -> Option<FilterWidth>
+    requires { k < 8 }
+    ensures { slice_get OUTER_WIDTHS (8 * tx_number tx + k) ≡ Some result }
+{
+    width_at(&OUTER_WIDTHS, 8 * tx as usize + k as usize)
+}
+
+/// The width of the filter at the side of a cell, where a transform block begins there: looked up, since a choice among
+/// them is slow.
 #[inline(always)]
 fn outer_width(tx: TxSize, a: Crossing) -> Option<FilterWidth>
+    requires { a.k < 8 }
     ensures { result ≡ outer_width tx a }
 {
-    if begins(tx, a.k) {
-        Some(width_at(tx, a))
-    } else {
-        None
-    }
+    narrowed(whole_width(tx, a.k), a.is_last)
 }
 
 #[inline(always)]
 fn has_outer(block: &BlockInfo, a: Crossing) -> bool
     ensures { result ≡ has_outer block.now a }
 {
-    (!is_smooth(block) || a.is_border) && !a.is_first
+    (!is_smooth(block) | a.is_border) & !a.is_first
 }
 
 /// The edges of a cell of a plane, by the block there.

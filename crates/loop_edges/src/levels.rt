@@ -31,7 +31,7 @@ fn with_feature(absolute: bool, level: u8, feature: Option<i16>) -> u8
 
 /// The level of a segment's blocks, without the deltas.
 #[inline(always)]
-fn segment_level(f: &EdgeSetting, segment: u8) -> u8
+pub(crate) fn segment_level(f: &EdgeSetting, segment: u8) -> u8
     ensures { result ≡ segment_level f.now segment }
 {
     if !f.segmentation.enabled {
@@ -70,7 +70,7 @@ fn mode_delta(deltas: &LoopDeltas, mode: InterMode) -> i16
 }
 
 #[inline(always)]
-fn sum_of(x: i16, y: i16) -> i32
+pub(crate) fn sum_of(x: i16, y: i16) -> i32
     ensures value { result ≡ x +ℤ y }
     ensures size { unsigned_abs result ≤ 65536 }
 {
@@ -96,7 +96,7 @@ fn delta_of(deltas: &LoopDeltas, prediction: &Prediction) -> i32
 
 /// What the deltas are multiplied by.
 #[inline(always)]
-fn scale_of(level: u8) -> i32
+pub(crate) fn scale_of(level: u8) -> i32
     ensures value { result ≡ pos (2 ^ (level / 32)) }
     ensures size { unsigned_abs result ≤ 128 }
 {
@@ -104,7 +104,7 @@ fn scale_of(level: u8) -> i32
 }
 
 #[inline(always)]
-fn scaled(delta: i32, scale: i32) -> i32
+pub(crate) fn scaled(delta: i32, scale: i32) -> i32
     requires delta { unsigned_abs delta ≤ 65536 }
     requires scale { unsigned_abs scale ≤ 128 }
     ensures value { result ≡ delta *ℤ scale }
@@ -115,7 +115,7 @@ fn scaled(delta: i32, scale: i32) -> i32
 
 /// A level with a delta added.
 #[inline(always)]
-fn changed(level: u8, delta: i32) -> u8
+pub(crate) fn changed(level: u8, delta: i32) -> u8
     requires { unsigned_abs delta ≤ 65536 * 128 }
     ensures { result ≡ to_level (pos level +ℤ delta) }
 {

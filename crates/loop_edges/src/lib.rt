@@ -5,7 +5,9 @@
 mod cells;
 mod levels;
 mod setting;
+mod tables;
 
-pub use cells::{CellAt, CellEdges, cell_edges};
+pub use cells::{CellAt, CellEdges, cell_edges, is_inside};
 pub use levels::{filter_level, limits_of};
 pub use setting::EdgeSetting;
+pub use tables::EdgeTables;

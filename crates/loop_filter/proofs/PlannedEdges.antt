@@ -1,6 +1,6 @@
 -- What is planned for a cell is what the definition has there.
 use Rattle.std.proofs.Common.{◌≡◌, ◌<◌, ◌+◌, ◌*◌, ◌%◌, ℕ, inl, inr, Bool, true, false, refl, sym, ◌∙◌, arith, ap, subst, List, [], nat_eq, length, get_or, set}
-use Rattle.std.specs.Prelude.{Option, Some, None, not, ◌&&◌}
+use Rattle.std.specs.Prelude.{Option, Some, None, not, ◌&&◌, ◌||◌, if◌then◌else◌}
 use Rattle.std.proofs.lemmas.Bool.{cases_Bool, cases_lt}
 use Rattle.std.proofs.lemmas.Grind.{get_or-set_at}
 use Rattle.std.proofs.lemmas.List.{get_or-set_other}
@@ -13,13 +13,17 @@ use Rattle.block_plan.specs.declared.block.BlockInfo.{BlockInfo}
 use Rattle.line_filter.specs.declared.edge.Limits.{Limits}
 use Rattle.line_filter.specs.declared.edge.Pass.{Pass}
 use Rattle.line_filter.specs.declared.edge.Pass.TheVariants.{Vertical, Horizontal}
-use Rattle.loop_edges.specs.Cells.{sub_x, sub_y, outer_edge, has_inner}
+use Rattle.block_plan.specs.InPlanes.{tx_in}
+use Rattle.line_filter.specs.declared.edge.FilterWidth.{FilterWidth}
+use Rattle.loop_edges.specs.Cells.{sub_x, sub_y, across, is_smooth, is_4x4, outer_width, outer_edge, has_inner}
+use Rattle.loop_edges.specs.Code.{is_inside}
 use Rattle.loop_edges.specs.Edges.{both_edges, block_edges, edges_of, cell_edges, step_of}
 use Rattle.loop_edges.specs.Levels.{filter_level, limits_of}
 use Rattle.loop_edges.specs.declared.cells.CellAt.{CellAt}
 use Rattle.loop_edges.specs.declared.setting.EdgeSetting.{EdgeSetting}
 use Rattle.loop_filter.specs.Code.{IsCellIn, CanFilterSide, CanFilterMiddle}
-use Rattle.loop_filter.specs.Plans.{nowhere, crossed_by, plan_by, plan_from, plan_of, edges_of_plane, edges_in, planned_edges, has_cell, IsPlanned, ArePlansOf, IsAllPlanned}
+use Rattle.loop_filter.specs.Plans.{nowhere, crossed_by, has_chroma, chroma_by, plan_by, plan_from, plan_of, edges_of_plane, edges_in, planned_edges, has_cell, IsPlanned, ArePlansOf, IsAllPlanned}
+use Rattle.loop_filter.specs.declared.plans.CrossedEdges.{CrossedEdges}
 use Rattle.loop_filter.specs.declared.plans.PlacePlan.{PlacePlan}
 use Rattle.loop_filter.specs.declared.way.PlanePass.{PlanePass}
 use Rattle.loop_filter.proofs.Sides.{side_fits, middle_fits}
@@ -93,6 +97,46 @@ planned_by f plane pass r c b here = elim (cases_Bool (nat_eq (filter_level f b)
       planned_some f plane pass r c b (plan_by f r c b) (level_is f r c b some) (outer_some f.shape plane pass r c b (plan_by f r c b) is)
       (inner_some f.shape plane pass r c b (plan_by f r c b) is) ∙ sym (block_on f plane pass r c b some)
 ]
+
+---- Places inside of smooth blocks ----
+
+inside_parts : (s l t : Bool) → (s && not l && not t) ≡ true → (s ≡ true) × (l ≡ false) × (t ≡ false)
+inside_parts true false false is = (refl, refl, refl)
+inside_parts true false true is = let no : ⊥ = cc in absurd no
+inside_parts true true t is = let no : ⊥ = cc in absurd no
+inside_parts false l t is = let no : ⊥ = cc in absurd no
+
+outer_inside : (s border first : Bool) (o : Option FilterWidth) → s ≡ true → border ≡ false → (if (not s || border) && not first then o else None) ≡ None
+outer_inside true false first o smooth no_border = refl
+outer_inside true true first o smooth no_border = let no : ⊥ = cc in absurd no
+outer_inside false border first o smooth no_border = let no : ⊥ = cc in absurd no
+
+inner_inside : (p s u v : Bool) → s ≡ true → (p && not s && not u && not v) ≡ false
+inner_inside true true u v smooth = refl
+inner_inside false true u v smooth = refl
+inner_inside p false u v smooth = let no : ⊥ = cc in absurd no
+
+crossed_none : (o q : Option FilterWidth) (p r : Bool) → o ≡ None → p ≡ false → q ≡ None → r ≡ false
+    → ◌≡◌ {A = CrossedEdges} (record { vertical = record { outer = o; inner = p }; horizontal = record { outer = q; inner = r } }) nowhere
+crossed_none o q p r one two three four = rw (one, two, three, four) refl
+
+pub inside_is : (shape : Shape) (plane : Plane) (r c : ℕ) (b : BlockInfo) → is_inside b r c ≡ true → crossed_by shape plane r c b ≡ nowhere
+unfolding outer_edge has_inner
+inside_is shape plane r c b is =
+    let parts = inside_parts (is_smooth b) (across shape plane Vertical b r c).is_border (across shape plane Horizontal b r c).is_border is in
+    let v = outer_inside (is_smooth b) (across shape plane Vertical b r c).is_border (across shape plane Vertical b r c).is_first (outer_width (tx_in shape b plane) (across shape plane Vertical b r c)) parts.0 parts.1 in
+    let h = outer_inside (is_smooth b) (across shape plane Horizontal b r c).is_border (across shape plane Horizontal b r c).is_first (outer_width (tx_in shape b plane) (across shape plane Horizontal b r c)) parts.0 parts.2 in
+    let p = inner_inside (is_4x4 (tx_in shape b plane)) (is_smooth b) (across shape plane Vertical b r c).is_last (across shape plane Vertical b r c).is_last parts.0 in
+    let q = inner_inside (is_4x4 (tx_in shape b plane)) (is_smooth b) (across shape plane Vertical b r c).is_last (across shape plane Horizontal b r c).is_last parts.0 in
+    crossed_none (outer_edge shape plane Vertical b r c) (outer_edge shape plane Horizontal b r c) (has_inner shape plane Vertical b r c)
+    (has_inner shape plane Horizontal b r c) v p h q
+
+same_choice : (t : Bool) (x y : CrossedEdges) → x ≡ y → (if t then x else y) ≡ y
+same_choice true x y is = is
+same_choice false x y is = refl
+
+pub chroma_inside : (shape : Shape) (r c : ℕ) (b : BlockInfo) → is_inside b r c ≡ true → chroma_by shape r c b ≡ nowhere
+chroma_inside shape r c b is = same_choice (has_chroma shape r c) (crossed_by shape U r c b) nowhere (inside_is shape U r c b is)
 
 unfiltered_is : (f : EdgeSetting) (plane : Plane) (r c : ℕ) → edges_of_plane (plan_from f r c None) plane ≡ nowhere
 unfiltered_is f Y r c = refl

@@ -18,7 +18,7 @@ use crate::blocks::filter_edges;
 use crate::plans::{PlacePlan, RowPlans, SuperblockPlans};
 use crate::way::{PlanePass, cells_along, step_of, sub_x, sub_y};
 use line_filter::{EdgeSample, Pass};
-use loop_edges::{CellAt, CellEdges, EdgeSetting, limits_of};
+use loop_edges::{CellAt, CellEdges, EdgeTables};
 use planes::SamplePlane;
 use vp9_types::Plane;
 
@@ -41,25 +41,25 @@ fn edges_in(plan: &PlacePlan, way: PlanePass) -> CellEdges
 #[tactic(auto, unfolding(crate::specs::Plans::planned_edges))]
 fn filter_cell<P: EdgeSample>(
     samples: &mut SamplePlane<P>,
-    f: &EdgeSetting,
+    f: &EdgeTables,
     way: PlanePass,
     plan: &PlacePlan,
     at: CellAt,
 )
-    requires size { FitsPlanes f.now.shape }
-    requires cell { IsCellIn f.now.shape way.plane samples.old.area at.row at.col }
-    requires plan { IsPlanned f.now at.row at.col plan.now }
-    requires there { has_cell f.now.shape way.plane at.row at.col ≡ true }
-    requires kept { greatest f.now.shape.depth ≤ P.greatest }
-    requires range { IsAtMost (greatest f.now.shape.depth) (plane_map samples.old) }
+    requires size { FitsPlanes f.now.setting.shape }
+    requires cell { IsCellIn f.now.setting.shape way.plane samples.old.area at.row at.col }
+    requires plan { IsPlanned f.now.setting at.row at.col plan.now }
+    requires there { has_cell f.now.setting.shape way.plane at.row at.col ≡ true }
+    requires kept { greatest f.now.setting.shape.depth ≤ P.greatest }
+    requires range { IsAtMost (greatest f.now.setting.shape.depth) (plane_map samples.old) }
     ensures area { samples.new.area ≡ samples.old.area }
-    ensures map { plane_map samples.new ≡ fold with_edge (plane_map samples.old) (planned_edges f.now way.plane way.pass at.row at.col plan.now) }
-    ensures range { IsAtMost (greatest f.now.shape.depth) (plane_map samples.new) }
+    ensures map { plane_map samples.new ≡ fold with_edge (plane_map samples.old) (planned_edges f.now.setting way.plane way.pass at.row at.col plan.now) }
+    ensures range { IsAtMost (greatest f.now.setting.shape.depth) (plane_map samples.new) }
 {
     let edges = edges_in(plan, way);
     if edges.outer.is_some() || edges.inner {
-        let limits = limits_of(f.shape.depth, f.filter.sharpness, plan.level);
-        filter_edges(samples, &f.shape, way, at, edges, limits);
+        let limits = f.limits(plan.level);
+        filter_edges(samples, &f.setting.shape, way, at, edges, limits);
     }
 }
 
@@ -67,27 +67,27 @@ fn filter_cell<P: EdgeSample>(
 #[inline(always)]
 fn filter_cell_row<P: EdgeSample>(
     samples: &mut SamplePlane<P>,
-    f: &EdgeSetting,
+    f: &EdgeTables,
     way: PlanePass,
     plans: &RowPlans,
     row: u32,
     sc: u32,
 )
-    requires size { FitsPlanes f.now.shape }
-    requires row { IsRowIn f.now.shape way.plane samples.old.area row }
-    requires column { 8 * sc ≤ mi_cols f.now.shape }
-    requires planned { IsRowPlanned f.now row sc plans.now }
-    requires even { sub_y f.now.shape way.plane ≡ true → row % 2 ≡ 0 }
-    requires kept { greatest f.now.shape.depth ≤ P.greatest }
-    requires range { IsAtMost (greatest f.now.shape.depth) (plane_map samples.old) }
+    requires size { FitsPlanes f.now.setting.shape }
+    requires row { IsRowIn f.now.setting.shape way.plane samples.old.area row }
+    requires column { 8 * sc ≤ mi_cols f.now.setting.shape }
+    requires planned { IsRowPlanned f.now.setting row sc plans.now }
+    requires even { sub_y f.now.setting.shape way.plane ≡ true → row % 2 ≡ 0 }
+    requires kept { greatest f.now.setting.shape.depth ≤ P.greatest }
+    requires range { IsAtMost (greatest f.now.setting.shape.depth) (plane_map samples.old) }
     ensures area { samples.new.area ≡ samples.old.area }
-    ensures map { (blocks : List BlockInfo) → ArePlansOfRow f.now blocks row sc plans.now → plane_map samples.new ≡ fold with_edge (plane_map samples.old)
-        (cell_row f.now blocks way.plane way.pass row (cells_of (sub_x f.now.shape way.plane) (mi_cols f.now.shape) sc)) }
-    ensures range { IsAtMost (greatest f.now.shape.depth) (plane_map samples.new) }
+    ensures map { (blocks : List BlockInfo) → ArePlansOfRow f.now.setting blocks row sc plans.now → plane_map samples.new ≡ fold with_edge (plane_map samples.old)
+        (cell_row f.now.setting blocks way.plane way.pass row (cells_of (sub_x f.now.setting.shape way.plane) (mi_cols f.now.setting.shape) sc)) }
+    ensures range { IsAtMost (greatest f.now.setting.shape.depth) (plane_map samples.new) }
 {
-    let sub = sub_x(&f.shape, way.plane);
+    let sub = sub_x(&f.setting.shape, way.plane);
     let step = step_of(sub);
-    let count = cells_along(sub, f.shape.place_cols(), sc);
+    let count = cells_along(sub, f.setting.shape.place_cols(), sc);
     for j in 0..count {
         let k = step * j;
         let col = 8 * sc + k;
@@ -99,27 +99,27 @@ fn filter_cell_row<P: EdgeSample>(
 #[inline(always)]
 pub fn filter_pass<P: EdgeSample>(
     samples: &mut SamplePlane<P>,
-    f: &EdgeSetting,
+    f: &EdgeTables,
     way: PlanePass,
     plans: &SuperblockPlans,
     sr: u32,
     sc: u32,
 )
-    requires size { FitsPlanes f.now.shape }
-    requires rows { HasFilterRows f.now.shape way.plane sr samples.old.area }
-    requires row { 8 * sr ≤ mi_rows f.now.shape }
-    requires column { 8 * sc ≤ mi_cols f.now.shape }
-    requires planned { IsAllPlanned f.now sr sc plans.now }
-    requires kept { greatest f.now.shape.depth ≤ P.greatest }
-    requires range { IsAtMost (greatest f.now.shape.depth) (plane_map samples.old) }
+    requires size { FitsPlanes f.now.setting.shape }
+    requires rows { HasFilterRows f.now.setting.shape way.plane sr samples.old.area }
+    requires row { 8 * sr ≤ mi_rows f.now.setting.shape }
+    requires column { 8 * sc ≤ mi_cols f.now.setting.shape }
+    requires planned { IsAllPlanned f.now.setting sr sc plans.now }
+    requires kept { greatest f.now.setting.shape.depth ≤ P.greatest }
+    requires range { IsAtMost (greatest f.now.setting.shape.depth) (plane_map samples.old) }
     ensures area { samples.new.area ≡ samples.old.area }
-    ensures map { (blocks : List BlockInfo) → ArePlansOf f.now blocks sr sc plans.now → plane_map samples.new ≡ fold with_edge (plane_map samples.old)
-        (pass_edges f.now blocks way.plane way.pass sr sc) }
-    ensures range { IsAtMost (greatest f.now.shape.depth) (plane_map samples.new) }
+    ensures map { (blocks : List BlockInfo) → ArePlansOf f.now.setting blocks sr sc plans.now → plane_map samples.new ≡ fold with_edge (plane_map samples.old)
+        (pass_edges f.now.setting blocks way.plane way.pass sr sc) }
+    ensures range { IsAtMost (greatest f.now.setting.shape.depth) (plane_map samples.new) }
 {
-    let sub = sub_y(&f.shape, way.plane);
+    let sub = sub_y(&f.setting.shape, way.plane);
     let step = step_of(sub);
-    let count = cells_along(sub, f.shape.place_rows(), sr);
+    let count = cells_along(sub, f.setting.shape.place_rows(), sr);
     for i in 0..count {
         let k = step * i;
         filter_cell_row(samples, f, way, &plans[k as usize], 8 * sr + k, sc);

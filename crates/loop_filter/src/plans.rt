@@ -2,6 +2,7 @@
 
 ghost use Rattle.std.specs.Prelude.{◌≡◌, ◌≤◌, ◌<◌, ◌*◌, ◌+◌, ℕ};
 ghost use Rattle.vp9_types.specs.Shapes.{mi_rows, mi_cols};
+ghost use Rattle.vp9_types.specs.declared.shape.Plane.TheVariants.{Y};
 ghost use Rattle.vp9_tables.specs.Blocks.{greatest_of};
 ghost use Rattle.vp9_tables.specs.Numbers.{tx_number};
 ghost use Rattle.planes.specs.Pictures.{FitsPlanes};
@@ -10,7 +11,7 @@ ghost use Rattle.loop_filter.specs.Plans.{no_edges, nowhere, unfiltered, has_chr
 
 use block_plan::{BlockInfo, Neighbours};
 use line_filter::Pass;
-use loop_edges::{CellAt, CellEdges, EdgeSetting, cell_edges, filter_level};
+use loop_edges::{CellAt, CellEdges, EdgeTables, cell_edges, is_inside};
 use vp9_types::{Plane, Shape};
 
 /// The edges of a cell in both passes.
@@ -87,72 +88,75 @@ fn crossed_by(shape: &Shape, plane: Plane, block: &BlockInfo, at: CellAt) -> Cro
     }
 }
 
+/// The edges at a place of a block, put into its plan.
 #[inline(always)]
-fn chroma_by(shape: &Shape, block: &BlockInfo, at: CellAt) -> CrossedEdges
+fn put_edges(shape: &Shape, block: &BlockInfo, at: CellAt, place: &mut PlacePlan)
     requires size { FitsPlanes shape.now }
     requires row { at.row ≤ 8192 }
     requires col { at.col ≤ 8192 }
     requires fits { tx_number block.now.tx ≤ greatest_of block.now.size }
-    ensures { result ≡ chroma_by shape.now at.row at.col block.now }
+    requires luma { place.old.luma ≡ nowhere }
+    requires chroma { place.old.chroma ≡ nowhere }
+    ensures level { place.new.level ≡ place.old.level }
+    ensures luma { place.new.luma ≡ crossed_by shape.now Y at.row at.col block.now }
+    ensures chroma { place.new.chroma ≡ chroma_by shape.now at.row at.col block.now }
 {
-    if has_chroma(shape, at) {
-        crossed_by(shape, Plane::U, block, at)
-    } else {
-        nowhere()
+    if !is_inside(block, at) {
+        place.luma = crossed_by(shape, Plane::Y, block, at);
+        if has_chroma(shape, at) {
+            place.chroma = crossed_by(shape, Plane::U, block, at);
+        }
     }
 }
 
-/// What the filter does at a place of a block.
+/// What the filter does at a place of a block, put into the plan of the place.
 #[inline(always)]
 #[tactic(auto, unfolding(crate::specs::Plans::plan_by))]
-fn plan_by(f: &EdgeSetting, block: &BlockInfo, at: CellAt) -> PlacePlan
-    requires size { FitsPlanes f.now.shape }
+fn put_plan(f: &EdgeTables, block: &BlockInfo, at: CellAt, place: &mut PlacePlan)
+    requires size { FitsPlanes f.now.setting.shape }
     requires row { at.row ≤ 8192 }
     requires col { at.col ≤ 8192 }
     requires fits { tx_number block.now.tx ≤ greatest_of block.now.size }
-    ensures { result ≡ plan_by f.now at.row at.col block.now }
+    requires clear { place.old ≡ unfiltered }
+    ensures { place.new ≡ plan_by f.now.setting at.row at.col block.now }
 {
-    let level = filter_level(f, block);
-    if level == 0 {
-        return unfiltered();
-    }
-    PlacePlan {
-        level,
-        luma: crossed_by(&f.shape, Plane::Y, block, at),
-        chroma: chroma_by(&f.shape, block, at),
+    let level = f.level(block);
+    if level > 0 {
+        place.level = level;
+        put_edges(&f.setting.shape, block, at, place);
     }
 }
 
 #[inline(always)]
 #[tactic(auto, unfolding(crate::specs::Plans::plan_of))]
-fn plan_of<N: Neighbours>(f: &EdgeSetting, blocks: &N, at: CellAt) -> PlacePlan
-    requires size { FitsPlanes f.now.shape }
+fn put_plan_of<N: Neighbours>(f: &EdgeTables, blocks: &N, at: CellAt, place: &mut PlacePlan)
+    requires size { FitsPlanes f.now.setting.shape }
     requires row { at.row ≤ 8192 }
     requires col { at.col ≤ 8192 }
     requires held { N.holds blocks.now at.row at.col }
     requires fit { AllFit (N.blocks blocks.now) }
-    ensures { result ≡ plan_of f.now (N.blocks blocks.now) at.row at.col }
+    requires clear { place.old ≡ unfiltered }
+    ensures { place.new ≡ plan_of f.now.setting (N.blocks blocks.now) at.row at.col }
 {
-    match blocks.at(at.row, at.col) {
-        Some(block) => plan_by(f, block, at),
-        None => unfiltered(),
+    if let Some(block) = blocks.at(at.row, at.col) {
+        put_plan(f, block, at, place);
     }
 }
 
 #[inline(always)]
-fn plan_row<N: Neighbours>(f: &EdgeSetting, blocks: &N, row: u32, sc: u32) -> RowPlans
-    requires size { FitsPlanes f.now.shape }
-    requires row { row < mi_rows f.now.shape }
-    requires column { 8 * sc ≤ mi_cols f.now.shape }
-    requires held { (c : ℕ) → c < mi_cols f.now.shape → N.holds blocks.now row c }
+fn plan_row<N: Neighbours>(f: &EdgeTables, blocks: &N, row: u32, sc: u32) -> RowPlans
+    requires size { FitsPlanes f.now.setting.shape }
+    requires row { row < mi_rows f.now.setting.shape }
+    requires column { 8 * sc ≤ mi_cols f.now.setting.shape }
+    requires held { (c : ℕ) → c < mi_cols f.now.setting.shape → N.holds blocks.now row c }
     requires fit { AllFit (N.blocks blocks.now) }
-    ensures { ArePlansOfRow f.now (N.blocks blocks.now) row sc result }
+    ensures { ArePlansOfRow f.now.setting (N.blocks blocks.now) row sc result }
 {
-    let count = (f.shape.place_cols() - 8 * sc).min(8);
+    let count = (f.setting.shape.place_cols() - 8 * sc).min(8);
     let mut places = [unfiltered(); 8];
     for j in 0..count {
         let col = 8 * sc + j;
-        places[j as usize] = plan_of(f, blocks, CellAt { row, col });
+        put_plan_of(f, blocks, CellAt { row, col }, &mut places[j as usize]);
     }
     places
 }
@@ -160,19 +164,19 @@ fn plan_row<N: Neighbours>(f: &EdgeSetting, blocks: &N, row: u32, sc: u32) -> Ro
 /// What the filter does at the places of a superblock.
 #[inline(never)]
 pub fn plan_superblock<N: Neighbours>(
-    f: &EdgeSetting,
+    f: &EdgeTables,
     blocks: &N,
     sr: u32,
     sc: u32,
 ) -> SuperblockPlans
-    requires size { FitsPlanes f.now.shape }
-    requires row { 8 * sr ≤ mi_rows f.now.shape }
-    requires column { 8 * sc ≤ mi_cols f.now.shape }
-    requires held { (r c : ℕ) → 8 * sr ≤ r → r < 8 * (sr + 1) → r < mi_rows f.now.shape → c < mi_cols f.now.shape → N.holds blocks.now r c }
+    requires size { FitsPlanes f.now.setting.shape }
+    requires row { 8 * sr ≤ mi_rows f.now.setting.shape }
+    requires column { 8 * sc ≤ mi_cols f.now.setting.shape }
+    requires held { (r c : ℕ) → 8 * sr ≤ r → r < 8 * (sr + 1) → r < mi_rows f.now.setting.shape → c < mi_cols f.now.setting.shape → N.holds blocks.now r c }
     requires fit { AllFit (N.blocks blocks.now) }
-    ensures { ArePlansOf f.now (N.blocks blocks.now) sr sc result }
+    ensures { ArePlansOf f.now.setting (N.blocks blocks.now) sr sc result }
 {
-    let count = (f.shape.place_rows() - 8 * sr).min(8);
+    let count = (f.setting.shape.place_rows() - 8 * sr).min(8);
     let mut rows = [[unfiltered(); 8]; 8];
     for i in 0..count {
         rows[i as usize] = plan_row(f, blocks, 8 * sr + i, sc);

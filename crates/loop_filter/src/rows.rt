@@ -19,7 +19,7 @@ use crate::plans::{SuperblockPlans, plan_superblock};
 use crate::way::PlanePass;
 use block_plan::Neighbours;
 use line_filter::{EdgeSample, Pass};
-use loop_edges::EdgeSetting;
+use loop_edges::{EdgeSetting, EdgeTables};
 use planes::{FramePlanes, SamplePlane};
 use vp9_types::Plane;
 
@@ -28,23 +28,23 @@ use vp9_types::Plane;
 #[inline(always)]
 fn filter_superblock<P: EdgeSample, const SITE: usize>(
     samples: &mut SamplePlane<P>,
-    f: &EdgeSetting,
+    f: &EdgeTables,
     plane: Plane,
     plans: &SuperblockPlans,
     sr: u32,
     sc: u32,
 )
-    requires size { FitsPlanes f.now.shape }
-    requires rows { HasFilterRows f.now.shape plane sr samples.old.area }
-    requires row { 8 * sr ≤ mi_rows f.now.shape }
-    requires column { 8 * sc ≤ mi_cols f.now.shape }
-    requires planned { IsAllPlanned f.now sr sc plans.now }
-    requires kept { greatest f.now.shape.depth ≤ P.greatest }
-    requires range { IsAtMost (greatest f.now.shape.depth) (plane_map samples.old) }
+    requires size { FitsPlanes f.now.setting.shape }
+    requires rows { HasFilterRows f.now.setting.shape plane sr samples.old.area }
+    requires row { 8 * sr ≤ mi_rows f.now.setting.shape }
+    requires column { 8 * sc ≤ mi_cols f.now.setting.shape }
+    requires planned { IsAllPlanned f.now.setting sr sc plans.now }
+    requires kept { greatest f.now.setting.shape.depth ≤ P.greatest }
+    requires range { IsAtMost (greatest f.now.setting.shape.depth) (plane_map samples.old) }
     ensures area { samples.new.area ≡ samples.old.area }
-    ensures map { (blocks : List BlockInfo) → ArePlansOf f.now blocks sr sc plans.now → plane_map samples.new ≡ fold with_edge (plane_map samples.old)
-        (superblock_edges f.now blocks plane sr sc) }
-    ensures range { IsAtMost (greatest f.now.shape.depth) (plane_map samples.new) }
+    ensures map { (blocks : List BlockInfo) → ArePlansOf f.now.setting blocks sr sc plans.now → plane_map samples.new ≡ fold with_edge (plane_map samples.old)
+        (superblock_edges f.now.setting blocks plane sr sc) }
+    ensures range { IsAtMost (greatest f.now.setting.shape.depth) (plane_map samples.new) }
 {
     filter_pass(
         samples,
@@ -73,24 +73,24 @@ fn filter_superblock<P: EdgeSample, const SITE: usize>(
 /// A superblock of all planes.
 fn filter_planes<P: EdgeSample, N: Neighbours>(
     planes: &mut FramePlanes<P>,
-    f: &EdgeSetting,
+    f: &EdgeTables,
     blocks: &N,
     sr: u32,
     sc: u32,
 )
-    requires size { FitsPlanes f.now.shape }
-    requires rows { HoldsFilterRows f.now.shape sr planes.old }
-    requires row { 8 * sr ≤ mi_rows f.now.shape }
-    requires column { 8 * sc ≤ mi_cols f.now.shape }
-    requires held { (r c : ℕ) → 8 * sr ≤ r → r < 8 * (sr + 1) → r < mi_rows f.now.shape → c < mi_cols f.now.shape → N.holds blocks.now r c }
+    requires size { FitsPlanes f.now.setting.shape }
+    requires rows { HoldsFilterRows f.now.setting.shape sr planes.old }
+    requires row { 8 * sr ≤ mi_rows f.now.setting.shape }
+    requires column { 8 * sc ≤ mi_cols f.now.setting.shape }
+    requires held { (r c : ℕ) → 8 * sr ≤ r → r < 8 * (sr + 1) → r < mi_rows f.now.setting.shape → c < mi_cols f.now.setting.shape → N.holds blocks.now r c }
     requires fit { AllFit (N.blocks blocks.now) }
-    requires kept { greatest f.now.shape.depth ≤ P.greatest }
-    requires range { IsInRange f.now.shape.depth planes.old }
+    requires kept { greatest f.now.setting.shape.depth ≤ P.greatest }
+    requires range { IsInRange f.now.setting.shape.depth planes.old }
     ensures areas { HasAreasOf planes.old planes.new }
-    ensures y { plane_map planes.new.y ≡ fold with_edge (plane_map planes.old.y) (superblock_edges f.now (N.blocks blocks.now) Y sr sc) }
-    ensures u { plane_map planes.new.u ≡ fold with_edge (plane_map planes.old.u) (superblock_edges f.now (N.blocks blocks.now) U sr sc) }
-    ensures v { plane_map planes.new.v ≡ fold with_edge (plane_map planes.old.v) (superblock_edges f.now (N.blocks blocks.now) V sr sc) }
-    ensures range { IsInRange f.now.shape.depth planes.new }
+    ensures y { plane_map planes.new.y ≡ fold with_edge (plane_map planes.old.y) (superblock_edges f.now.setting (N.blocks blocks.now) Y sr sc) }
+    ensures u { plane_map planes.new.u ≡ fold with_edge (plane_map planes.old.u) (superblock_edges f.now.setting (N.blocks blocks.now) U sr sc) }
+    ensures v { plane_map planes.new.v ≡ fold with_edge (plane_map planes.old.v) (superblock_edges f.now.setting (N.blocks blocks.now) V sr sc) }
+    ensures range { IsInRange f.now.setting.shape.depth planes.new }
 {
     let plans = plan_superblock(f, blocks, sr, sc);
     filter_superblock::<P, 0>(&mut planes.y, f, Plane::Y, &plans, sr, sc);
@@ -101,23 +101,23 @@ fn filter_planes<P: EdgeSample, N: Neighbours>(
 /// A row of superblocks of all planes, from left to right.
 fn filter_superblocks<P: EdgeSample, N: Neighbours>(
     planes: &mut FramePlanes<P>,
-    f: &EdgeSetting,
+    f: &EdgeTables,
     blocks: &N,
     sr: u32,
 )
-    requires size { FitsPlanes f.now.shape }
-    requires on { nat_eq f.now.filter.level 0 ≡ false }
-    requires rows { HoldsFilterRows f.now.shape sr planes.old }
-    requires row { 8 * sr ≤ mi_rows f.now.shape }
-    requires held { (r c : ℕ) → 8 * sr ≤ r → r < 8 * (sr + 1) → r < mi_rows f.now.shape → c < mi_cols f.now.shape → N.holds blocks.now r c }
+    requires size { FitsPlanes f.now.setting.shape }
+    requires on { nat_eq f.now.setting.filter.level 0 ≡ false }
+    requires rows { HoldsFilterRows f.now.setting.shape sr planes.old }
+    requires row { 8 * sr ≤ mi_rows f.now.setting.shape }
+    requires held { (r c : ℕ) → 8 * sr ≤ r → r < 8 * (sr + 1) → r < mi_rows f.now.setting.shape → c < mi_cols f.now.setting.shape → N.holds blocks.now r c }
     requires fit { AllFit (N.blocks blocks.now) }
-    requires kept { greatest f.now.shape.depth ≤ P.greatest }
-    requires range { IsInRange f.now.shape.depth planes.old }
+    requires kept { greatest f.now.setting.shape.depth ≤ P.greatest }
+    requires range { IsInRange f.now.setting.shape.depth planes.old }
     ensures areas { HasAreasOf planes.old planes.new }
-    ensures map { samples_of planes.new ≡ with_row f.now (N.blocks blocks.now) (samples_of planes.old) sr }
-    ensures range { IsInRange f.now.shape.depth planes.new }
+    ensures map { samples_of planes.new ≡ with_row f.now.setting (N.blocks blocks.now) (samples_of planes.old) sr }
+    ensures range { IsInRange f.now.setting.shape.depth planes.new }
 {
-    for sc in 0..f.shape.superblock_cols() {
+    for sc in 0..f.setting.shape.superblock_cols() {
         filter_planes(planes, f, blocks, sr, sc);
     }
 }
@@ -143,7 +143,8 @@ pub fn filter_row<P: EdgeSample, N: Neighbours>(
     ensures range { IsInRange f.now.shape.depth planes.new }
 {
     if f.filter.level > 0 {
-        filter_superblocks(planes, f, blocks, sr);
+        let tables = EdgeTables::new(f);
+        filter_superblocks(planes, &tables, blocks, sr);
     }
 }
 

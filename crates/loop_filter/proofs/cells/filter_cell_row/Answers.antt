@@ -17,15 +17,15 @@ loop-j-init g c = record { area = refl; range = c.requires.range; map = λ block
 pub loop-j-preserved : goal.loop-j-preserved
 unfolding cell_row
 loop-j-preserved g c = let a = c.args in let i = c.loop-j.invariant in
-    let sub = sub_x a.f.now.shape a.way.plane in
+    let sub = sub_x a.f.now.setting.shape a.way.plane in
     let step : c.step_of-step.result ≡ step_of sub = c.step_of-step.ensures.value ∙ ap step_of c.sub_x-sub.ensures in
-    let count : c.cells_along-count.result ≡ cells_along sub (mi_cols a.f.now.shape) a.sc = c.cells_along-count.ensures.value ∙ rw (c.sub_x-sub.ensures, c.place_cols.ensures) refl in
+    let count : c.cells_along-count.result ≡ cells_along sub (mi_cols a.f.now.setting.shape) a.sc = c.cells_along-count.ensures.value ∙ rw (c.sub_x-sub.ensures, c.place_cols.ensures) refl in
     let k : ℕ = c.step_of-step.result * c.loop-j.j in
-    let low : k < min 8 (mi_cols a.f.now.shape - 8 * a.sc) = within_by sub (mi_cols a.f.now.shape) a.sc c.loop-j.j _ _ count step c.loop-j-test.true in
+    let low : k < min 8 (mi_cols a.f.now.setting.shape - 8 * a.sc) = within_by sub (mi_cols a.f.now.setting.shape) a.sc c.loop-j.j _ _ count step c.loop-j-test.true in
     let at : 8 * a.sc + k ≡ 8 * a.sc + step_of sub * c.loop-j.j = ap (λ (n : ℕ). 8 * a.sc + n * c.loop-j.j) step in
-    let here : has_cell a.f.now.shape a.way.plane a.row (8 * a.sc + k) ≡ true = rw at (has_its_cell a.f.now.shape a.way.plane a.row a.sc c.loop-j.j c.requires.even) in record {
+    let here : has_cell a.f.now.setting.shape a.way.plane a.row (8 * a.sc + k) ≡ true = rw at (has_its_cell a.f.now.setting.shape a.way.plane a.row a.sc c.loop-j.j c.requires.even) in record {
       area = c.filter_cell.ensures.area ∙ i.area;
       range = c.filter_cell.ensures.range;
-      map = λ blocks are. walk_more (cell_edges a.f.now blocks a.way.plane a.way.pass a.row) (λ (j : ℕ). 8 * a.sc + step_of sub * j) (plane_map a.samples.now) _ _ c.loop-j.j (8 * a.sc + k) at
-          (i.map blocks are) (c.filter_cell.ensures.map ∙ ap (fold with_edge (plane_map c.loop-j.samples)) (planned_is a.f.now blocks a.way.plane a.way.pass a.row (8 * a.sc + k) _ here (are k low)));
+      map = λ blocks are. walk_more (cell_edges a.f.now.setting blocks a.way.plane a.way.pass a.row) (λ (j : ℕ). 8 * a.sc + step_of sub * j) (plane_map a.samples.now) _ _ c.loop-j.j (8 * a.sc + k) at
+          (i.map blocks are) (c.filter_cell.ensures.map ∙ ap (fold with_edge (plane_map c.loop-j.samples)) (planned_is a.f.now.setting blocks a.way.plane a.way.pass a.row (8 * a.sc + k) _ here (are k low)));
     }

@@ -13,7 +13,7 @@ use Rattle.loop_filter.proofs.cells.filter_cell_row.Given as goal
 abbrev pub invariant-loop-j : goal.invariant-loop-j
 invariant-loop-j g l = record {
   area : l.samples.area ≡ l.initial.samples.area;
-  range : IsAtMost (greatest l.f.shape.depth) (plane_map l.samples);
-  map : (blocks : List BlockInfo) → ArePlansOfRow l.f blocks l.row l.sc l.plans → plane_map l.samples ≡ fold with_edge (plane_map l.initial.samples)
-      (cell_row l.f blocks l.way.plane l.way.pass l.row (cells_from (sub_x l.f.shape l.way.plane) l.sc l.j));
+  range : IsAtMost (greatest l.f.setting.shape.depth) (plane_map l.samples);
+  map : (blocks : List BlockInfo) → ArePlansOfRow l.f.setting blocks l.row l.sc l.plans → plane_map l.samples ≡ fold with_edge (plane_map l.initial.samples)
+      (cell_row l.f.setting blocks l.way.plane l.way.pass l.row (cells_from (sub_x l.f.setting.shape l.way.plane) l.sc l.j));
 }

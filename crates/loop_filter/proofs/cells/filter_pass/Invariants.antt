@@ -14,8 +14,8 @@ use Rattle.loop_filter.proofs.cells.filter_pass.Given as goal
 abbrev pub invariant-loop-i : goal.invariant-loop-i
 invariant-loop-i g l = record {
   area : l.samples.area ≡ l.initial.samples.area;
-  range : IsAtMost (greatest l.f.shape.depth) (plane_map l.samples);
-  map : (blocks : List BlockInfo) → ArePlansOf l.f blocks l.sr l.sc l.plans → plane_map l.samples ≡ fold with_edge (plane_map l.initial.samples)
-      (flat_map (λ r. cell_row l.f blocks l.way.plane l.way.pass r (cells_of (sub_x l.f.shape l.way.plane) (mi_cols l.f.shape) l.sc))
-      (cells_from (sub_y l.f.shape l.way.plane) l.sr l.i));
+  range : IsAtMost (greatest l.f.setting.shape.depth) (plane_map l.samples);
+  map : (blocks : List BlockInfo) → ArePlansOf l.f.setting blocks l.sr l.sc l.plans → plane_map l.samples ≡ fold with_edge (plane_map l.initial.samples)
+      (flat_map (λ r. cell_row l.f.setting blocks l.way.plane l.way.pass r (cells_of (sub_x l.f.setting.shape l.way.plane) (mi_cols l.f.setting.shape) l.sc))
+      (cells_from (sub_y l.f.setting.shape l.way.plane) l.sr l.i));
 }

@@ -5,5 +5,5 @@ use Rattle.loop_filter.proofs.plans.plan_superblock.Given as goal
 abbrev pub invariant-loop-i : goal.invariant-loop-i
 invariant-loop-i g l = record {
   long : length l.rows ≡ 8;
-  first : AreFirstRows l.f (g.N.Neighbours.blocks l.blocks) l.sr l.sc l.i l.rows;
+  first : AreFirstRows l.f.setting (g.N.Neighbours.blocks l.blocks) l.sr l.sc l.i l.rows;
 }

@@ -7,5 +7,5 @@ use Rattle.loop_filter.proofs.rows.filter_superblock.Goals as goal
 pub returns-clause-map : goal.returns-clause-map
 unfolding superblock_edges
 returns-clause-map g c = let a = c.args in λ blocks are.
-    two_lists (plane_map a.samples.now) _ _ (pass_edges a.f.now blocks a.plane Vertical a.sr a.sc) (pass_edges a.f.now blocks a.plane Horizontal a.sr a.sc)
+    two_lists (plane_map a.samples.now) _ _ (pass_edges a.f.now.setting blocks a.plane Vertical a.sr a.sc) (pass_edges a.f.now.setting blocks a.plane Horizontal a.sr a.sc)
     (c.filter_pass.ensures.map blocks are) (c.filter_pass-2.ensures.map blocks are)

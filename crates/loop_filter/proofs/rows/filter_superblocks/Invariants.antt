@@ -11,8 +11,8 @@ use Rattle.loop_filter.proofs.rows.filter_superblocks.Given as goal
 abbrev pub invariant-loop-sc : goal.invariant-loop-sc
 invariant-loop-sc g l = record {
   areas : HasAreasOf l.initial.planes l.planes;
-  range : IsInRange l.f.shape.depth l.planes;
-  y : plane_map l.planes.y ≡ fold with_edge (plane_map l.initial.planes.y) (flat_map (superblock_edges l.f (g.N.Neighbours.blocks l.blocks) Y l.sr) (range_with_len 0 l.sc));
-  u : plane_map l.planes.u ≡ fold with_edge (plane_map l.initial.planes.u) (flat_map (superblock_edges l.f (g.N.Neighbours.blocks l.blocks) U l.sr) (range_with_len 0 l.sc));
-  v : plane_map l.planes.v ≡ fold with_edge (plane_map l.initial.planes.v) (flat_map (superblock_edges l.f (g.N.Neighbours.blocks l.blocks) V l.sr) (range_with_len 0 l.sc));
+  range : IsInRange l.f.setting.shape.depth l.planes;
+  y : plane_map l.planes.y ≡ fold with_edge (plane_map l.initial.planes.y) (flat_map (superblock_edges l.f.setting (g.N.Neighbours.blocks l.blocks) Y l.sr) (range_with_len 0 l.sc));
+  u : plane_map l.planes.u ≡ fold with_edge (plane_map l.initial.planes.u) (flat_map (superblock_edges l.f.setting (g.N.Neighbours.blocks l.blocks) U l.sr) (range_with_len 0 l.sc));
+  v : plane_map l.planes.v ≡ fold with_edge (plane_map l.initial.planes.v) (flat_map (superblock_edges l.f.setting (g.N.Neighbours.blocks l.blocks) V l.sr) (range_with_len 0 l.sc));
 }
