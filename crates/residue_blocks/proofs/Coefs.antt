@@ -41,7 +41,7 @@ one_more quant tx old now n v low s fit is =
       rest = λ k h. get_or-set_other now n k v (pos 0) (λ same. omega arith) ∙ s.rest k (omega arith);
     }
 
-at_coefficients : (quant : Quant) (tx : TxSize) (old : List ℤ) (k : ℕ) → k < length old →
+pub at_coefficients : (quant : Quant) (tx : TxSize) (old : List ℤ) (k : ℕ) → k < length old →
     at (coefficients quant tx old) k ≡ coefficient quant tx k (at old k)
 at_coefficients quant tx old k low =
     get_or-map-range_with_len (λ place. coefficient quant tx place (at old place)) 0 (length old) k k (pos 0) low (omega arith)

@@ -8,3 +8,5 @@ pub mod Turns
 pub mod GroupTurns
 pub mod Twice
 pub mod RepeatedGroups
+pub mod Roots
+pub mod Flats

@@ -13,7 +13,7 @@ use Rattle.residue_blocks.specs.declared.kind.Kind.{Kind}
 use Rattle.residue_blocks.specs.declared.kind.Kind.TheVariants.{Cosines, Sines, LiftsOfRows, LiftsOfColumns}
 use Rattle.residue_blocks.specs.Residue.{transform, has_size}
 
-some_limit : (depth : Depth) → 0 < limit_of depth
+pub some_limit : (depth : Depth) → 0 < limit_of depth
 some_limit Eight = omega arith
 some_limit Ten = omega arith
 some_limit Twelve = omega arith

@@ -1,3 +1,4 @@
 pub mod Blocks
+pub mod First
 pub mod Fours
 pub mod Residue

@@ -54,7 +54,7 @@ fn step_of(quant: Quant, place: usize) -> u16
 /// What a level becomes.
 #[inline(always)]
 #[tactic(auto, unfolding(crate::specs::Residue::coefficient))]
-fn coefficient(level: i32, place: usize, tx: TxSize, quant: Quant) -> Result<i32, Rule>
+pub fn coefficient(level: i32, place: usize, tx: TxSize, quant: Quant) -> Result<i32, Rule>
     requires { IsLevel level }
     ensures { Fitting (limit_of quant.depth) (coefficient quant tx place level) result }
 {

@@ -41,7 +41,7 @@ pub fn half_of(bits: u8) -> i32
 /// Round2 by a number of bits, of which half is added.
 #[inline(always)]
 #[tactic(auto, unfolding(crate::specs::Residue::round))]
-fn rounded(x: i32, half: i32, bits: u8) -> i32
+pub fn rounded(x: i32, half: i32, bits: u8) -> i32
     requires x { IsSmall x }
     requires half { half ≡ pos (2 ^ bits / 2) }
     requires size { unsigned_abs half ≤ 32 }

@@ -8,6 +8,7 @@ ghost use Rattle.vp9_types.specs.Sizes.{side};
 ghost use Rattle.residue_blocks.specs.Residue.{IsLevel, has_size, log2_of, rounding_bits, kind_of_rows, kind_of_columns, reconstructed, residue};
 
 use crate::dequantise::dequantise;
+use crate::first::{flatten, is_flat};
 use crate::kind::{kind_of_columns, kind_of_rows, log2_of, rounding_bits};
 use crate::quant::Quant;
 use crate::turn::{Pass, turn_rows};
@@ -93,6 +94,9 @@ fn residue_of(block: &mut [i32], tx: TxSize, kind: TxType, quant: Quant) -> Resu
     ensures gives { Gives (residue quant tx kind block.old) result block.new }
     ensures small { OnOk result (All (λ x. unsigned_abs x < 2 ^ 24) block.new) }
 {
+    if is_flat(block, tx, kind, quant) {
+        return flatten(block, tx, quant);
+    }
     dequantise(block, tx, quant)?;
     reconstruct(block, tx, kind, quant)
 }

@@ -4,6 +4,7 @@
 
 mod cross;
 mod dequantise;
+mod first;
 mod group;
 mod kind;
 mod levels;
