@@ -3,18 +3,13 @@ use Rattle.std.proofs.Common.{◌≡◌, ◌∙◌, ◌<◌, ◌≤◌, ◌+◌,
 use Rattle.std.specs.Prelude.{slice_index_or}
 use Rattle.std.proofs.Math.ListN.{get_or-map}
 use Rattle.std.proofs.lemmas.List.{length-map}
-use Rattle.vp9_types.specs.Shapes.{mi_cols, mi_rows}
-use Rattle.vp9_types.specs.Sizes.{superblocks_along}
 use Rattle.frame_headers.specs.Spans.{tile_count}
 use Rattle.frame_headers.specs.State.{shape_of}
 use Rattle.frame_headers.specs.declared.header.Header.{Header}
 use Rattle.frame_state.specs.Columns.{AreColumnsOf, IsTileColumn}
-use Rattle.frame_state.specs.Tiles.{superblocks_before, tile_offset}
 use Rattle.frame_state.specs.declared.columns.TileColumn.{TileColumn}
-use Rattle.frame_state.proofs.TileOffsets.{before_grows, part_at, place_below, place_from, place_to}
 use Rattle.tile_syntax.specs.declared.plans.ColumnPlan.{ColumnPlan}
 use Rattle.frame_plans.specs.Plans.{columns_of}
-use Rattle.frame_plans.proofs.Steps.{begins_at}
 
 pub column_of_plan : (plans : List ColumnPlan) (k : ℕ) (d : ColumnPlan) → slice_index_or (columns_of plans) k d.column ≡ (slice_index_or plans k d).column
 column_of_plan plans k d = get_or-map (λ (p : ColumnPlan). p.column) plans k d
@@ -29,19 +24,3 @@ plan_is header plans k d are there = rw (sym (column_of_plan plans k d)) (are.ar
 
 pub many_plans : (header : Header) (plans : List ColumnPlan) → AreColumnsOf header (columns_of plans) → length plans ≡ 2 ^ header.params.tiles.columns_log2
 many_plans header plans are = sym (many_columns plans) ∙ are.are.many
-
--- a place lies behind where the first tile column begins, and before where one behind the last would
-pub first_low : (places log2 c : ℕ) → c < places → tile_offset places log2 0 ≤ c
-first_low places log2 c low =
-    let k = part_at (superblocks_along places) (2 ^ log2) (c / 8) in
-    let from : tile_offset places log2 k ≤ c = place_from places log2 c low in
-    let grows : superblocks_before places log2 0 ≤ superblocks_before places log2 k = before_grows places log2 0 k (omega arith) in
-    omega (arith, from, grows, low)
-
-pub last_high : (places log2 c : ℕ) → c < places → c < tile_offset places log2 (2 ^ log2)
-last_high places log2 c low =
-    let k = part_at (superblocks_along places) (2 ^ log2) (c / 8) in
-    let to : c < tile_offset places log2 (k + 1) = place_to places log2 c low in
-    let below : k < 2 ^ log2 = place_below places log2 c low in
-    let grows : superblocks_before places log2 (k + 1) ≤ superblocks_before places log2 (2 ^ log2) = before_grows places log2 (k + 1) (2 ^ log2) (omega (arith, below)) in
-    omega (arith, to, grows, low)

@@ -4,7 +4,6 @@ use Rattle.std.specs.Prelude.{Result, Ok, Err, OnOk, Contains, ◌==◌, slice_i
 use Rattle.std.proofs.lemmas.Bool.{cases_Bool, eqb-false, eqb-true}
 use Rattle.std.proofs.lemmas.List.{get_or_append_left, get_or-set_same, get_or-set_other, length-append, length-map, get_or-map}
 use Rattle.std.proofs.Math.Seq.{get_or-append_seam}
-use Rattle.vp9_types.specs.Shapes.{mi_cols}
 use Rattle.vp9_types.specs.declared.rule.Rule.{Rule}
 use Rattle.vp9_types.specs.declared.shape.Shape.{Shape}
 use Rattle.frame_headers.specs.Spans.{tile_count}
@@ -14,7 +13,6 @@ use Rattle.counting_reader.specs.Counting.{Settled}
 use Rattle.frame_state.specs.Columns.{IsTileColumn}
 use Rattle.frame_state.specs.Plans.{ColumnRead, plan_of}
 use Rattle.frame_state.specs.Sources.{FrameSources}
-use Rattle.frame_state.specs.Tiles.{tile_offset}
 use Rattle.tile_syntax.specs.Code.{GivesPlan, IsKept}
 use Rattle.tile_syntax.specs.declared.plans.ColumnPlan.{ColumnPlan}
 use Rattle.tile_syntax.specs.declared.plans.Unplanned.{Unplanned}
@@ -22,10 +20,6 @@ use Rattle.tile_syntax.specs.declared.plans.Unplanned.TheVariants as unplanned
 use Rattle.frame_close.specs.Code.{GivesColumn, result_at}
 use Rattle.frame_close.proofs.Joined.{column_gives}
 use Rattle.frame_plans.specs.Plans.{AreFirstPlans, IsPlanAsRead}
-
--- the first column of a tile column
-abbrev pub begins_at : Header → ℕ → ℕ
-begins_at header k = tile_offset (mi_cols (shape_of header)) header.params.tiles.columns_log2 k
 
 is_planned : (counting : Bool) (by : FrameSources) (bytes : ℕ → List ℕ) (n : ℕ) (r : Result (List ℕ) Unplanned) (plan : ColumnPlan) (counts : List ℕ) → r ≡ Ok counts
     → GivesPlan counting (plan_of by bytes n) r (shape_of by.header) plan → OnOk r (IsTileColumn by.header (tile_count by.header) n plan.column) → OnOk r (IsKept by.header plan)

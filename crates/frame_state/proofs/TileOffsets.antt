@@ -1,11 +1,13 @@
 -- Where tiles lie.
-use Rattle.std.proofs.Common.{◌≡◌, ◌∙◌, ℕ, ◌+◌, ◌-◌, ◌*◌, ◌/◌, ◌%◌, ◌^◌, ◌<◌, ◌≤◌, refl, sym, ap, subst, arith}
+use Rattle.std.proofs.Common.{◌≡◌, ◌∙◌, ℕ, ◌+◌, ◌-◌, ◌*◌, ◌/◌, ◌^◌, ◌<◌, ◌≤◌, refl, sym, ap, subst, arith}
 use Rattle.std.specs.Prelude.{min}
 use Rattle.std.proofs.lemmas.Nat.{div_below, le-div, pow_pos}
-use Rattle.std.proofs.Math.Nat.{div-lt_iff_lt-mul, mod-lt, div-add-mod, mul-add, mul-div_cancel_left, mul-le-mul_left, mul-le-mul_right, mul_comm, pow-le-pow_right}
+use Rattle.std.proofs.Math.Nat.{div-lt_iff_lt-mul, mod-lt, div-add-mod, mul-add, mul-div_cancel_left, mul-le-mul_left, mul-le-mul_right, mul_comm}
 use Rattle.std.proofs.Math.Pow.{shr_mono}
-use Rattle.std.specs.Int.{div_ceil}
+use Rattle.vp9_types.specs.Shapes.{mi_cols}
 use Rattle.vp9_types.specs.Sizes.{superblocks_along}
+use Rattle.frame_headers.specs.State.{shape_of}
+use Rattle.frame_headers.specs.declared.header.Header.{Header}
 use Rattle.frame_headers.specs.declared.tiles.TileInfo.{TileInfo}
 use Rattle.frame_state.specs.Tiles.{column_of, row_of, superblocks_before, tile_offset}
 
@@ -75,22 +77,6 @@ part_begins all parts s some many =
 pub part_ends : (all parts s : ℕ) → 0 < all → 0 < parts → s + 1 ≤ (part_at all parts s + 1) * all / parts
 part_ends all parts s some many = le-div (s + 1) ((part_at all parts s + 1) * all) parts many (omega (arith, part_high all parts s some))
 
--- in 32 bits it is the same
-whole_product : (a log2 : ℕ) → a ≤ 1024 → log2 ≤ 8 → a * 2 ^ log2 % 4294967296 ≡ a * 2 ^ log2
-whole_product a log2 few low =
-    let power : 2 ^ log2 ≤ 2 ^ 8 = pow-le-pow_right {n = 2} (omega arith) low in
-    let most : a * 2 ^ log2 ≤ 1024 * 2 ^ log2 = mul-le-mul_right (2 ^ log2) few in
-    mod_small (omega (arith, power, most))
-  where
-    mod_small : {n : ℕ} → n < 4294967296 → n % 4294967296 ≡ n
-    mod_small low = omega (arith, low)
-
-pub part_as_computed : (places place log2 all : ℕ) → places ≤ 8192 → place < places → log2 ≤ 8 → all ≡ div_ceil places 8
-    → ((place / 8 + 1) * 2 ^ log2 % 4294967296 - 1) / all ≡ part_at (superblocks_along places) (2 ^ log2) (place / 8)
-part_as_computed places place log2 all few there low is =
-    let whole : all ≡ superblocks_along places = omega (arith, is) in
-    rw (whole, whole_product (place / 8 + 1) log2 (omega (arith, few, there)) low) refl
-
 pub place_from : (places log2 place : ℕ) → place < places → tile_offset places log2 (part_at (superblocks_along places) (2 ^ log2) (place / 8)) ≤ place
 place_from places log2 place there =
     let begins : superblocks_before places log2 (part_at (superblocks_along places) (2 ^ log2) (place / 8)) ≤ place / 8 =
@@ -105,6 +91,26 @@ place_to places log2 place there =
 
 pub place_below : (places log2 place : ℕ) → place < places → part_at (superblocks_along places) (2 ^ log2) (place / 8) < 2 ^ log2
 place_below places log2 place there = part_below (superblocks_along places) (2 ^ log2) (place / 8) (omega (arith, there)) (pow_pos log2) (omega (arith, there))
+
+-- the first column of a tile column
+abbrev pub begins_at : Header → ℕ → ℕ
+begins_at header k = tile_offset (mi_cols (shape_of header)) header.params.tiles.columns_log2 k
+
+-- a place lies behind where the first tile column begins, and before where one behind the last would
+pub first_low : (places log2 c : ℕ) → c < places → tile_offset places log2 0 ≤ c
+first_low places log2 c low =
+    let k = part_at (superblocks_along places) (2 ^ log2) (c / 8) in
+    let from : tile_offset places log2 k ≤ c = place_from places log2 c low in
+    let grows : superblocks_before places log2 0 ≤ superblocks_before places log2 k = before_grows places log2 0 k (omega arith) in
+    omega (arith, from, grows, low)
+
+pub last_high : (places log2 c : ℕ) → c < places → c < tile_offset places log2 (2 ^ log2)
+last_high places log2 c low =
+    let k = part_at (superblocks_along places) (2 ^ log2) (c / 8) in
+    let to : c < tile_offset places log2 (k + 1) = place_to places log2 c low in
+    let below : k < 2 ^ log2 = place_below places log2 c low in
+    let grows : superblocks_before places log2 (k + 1) ≤ superblocks_before places log2 (2 ^ log2) = before_grows places log2 (k + 1) (2 ^ log2) (omega (arith, below)) in
+    omega (arith, to, grows, low)
 
 ---- A tile's row and column ----
 

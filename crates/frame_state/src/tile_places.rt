@@ -38,20 +38,6 @@ pub(crate) fn tile_offset(places: u32, log2: u8, i: u32) -> u32
     (8 * (i * superblocks >> log2)).min(places)
 }
 
-/// Which of 2 to the power of `log2` tiles a place lies in, along so many places: the last one that doesn't begin behind
-/// its superblock.
-pub(crate) fn tile_at(places: u32, log2: u8, place: u32) -> u32
-    requires few { places ≤ 8192 }
-    requires low { log2 ≤ 8 }
-    requires there { place < places }
-    ensures below { result < 2 ^ log2 }
-    ensures from { tile_offset places log2 result ≤ place }
-    ensures to { place < tile_offset places log2 (result + 1) }
-{
-    let superblocks = places.div_ceil(8);
-    (((place / 8 + 1) << log2) - 1) / superblocks
-}
-
 impl TilePlaces {
     /// The `n`-th tile of a frame of such a size.
     #[tactic(auto, unfolding(crate::specs::Tiles::tile_places))]

@@ -2,9 +2,8 @@ use Rattle.std.proofs.Common.{◌≡◌, ◌∙◌, ◌<◌, ◌≤◌, ◌+◌,
 use Rattle.std.proofs.lemmas.Bool.{cases_lt}
 use Rattle.vp9_types.specs.Shapes.{mi_cols}
 use Rattle.frame_headers.specs.State.{shape_of}
-use Rattle.frame_state.proofs.TileOffsets.{place_below}
-use Rattle.frame_plans.proofs.Places.{first_low, last_high, many_plans, plan_is}
-use Rattle.frame_plans.proofs.Steps.{begins_at}
+use Rattle.frame_state.proofs.TileOffsets.{begins_at, first_low, last_high, place_below}
+use Rattle.frame_plans.proofs.Places.{many_plans, plan_is}
 use Rattle.frame_plans.proofs.planned_blocks.PlannedBlocks.column_at.Goals.{then-first_col-col, else-first_col-col}
 use Rattle.frame_plans.proofs.planned_blocks.PlannedBlocks.column_at.Goals as goal
 

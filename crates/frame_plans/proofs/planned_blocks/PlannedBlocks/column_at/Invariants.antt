@@ -1,5 +1,5 @@
 use Rattle.std.proofs.Common.{◌<◌, ◌≤◌, ℕ, length}
-use Rattle.frame_plans.proofs.Steps.{begins_at}
+use Rattle.frame_state.proofs.TileOffsets.{begins_at}
 use Rattle.frame_plans.proofs.planned_blocks.PlannedBlocks.column_at.Given as goal
 
 abbrev pub invariant-loop-k : goal.invariant-loop-k
