@@ -1,8 +1,8 @@
 -- Short levels are scaled one place after another.
-use Rattle.std.proofs.Common.{◌≡◌, ℕ, ◌+◌, ◌<◌, ◌≤◌, ℤ, pos, ◌*ℤ◌, Bool, true, false, ◌&&◌, List, length, set, refl, sym, ◌∙◌, ap, subst, arith, inl, inr, nat_eq, Ok, length-set, All, to_z, of_z}
+use Rattle.std.proofs.Common.{◌≡◌, ℕ, ◌+◌, ◌<◌, ◌≤◌, ℤ, pos, ◌*ℤ◌, Bool, true, false, ◌&&◌, List, length, set, refl, sym, ◌∙◌, ap, subst, arith, inl, inr, nat_eq, Ok, length-set, All, to_z, of_z, unsigned_abs, bit_or, below_more}
 use mir.Syntax.{w32}
 use mir.Val.{SFits}
-use Rattle.std.specs.Bool.{OnTrue}
+use Rattle.std.proofs.lemmas.Nat.{le_or_l, le_or_r}
 use Rattle.std.proofs.lemmas.Int.{to_z-of_z}
 use Rattle.std.proofs.lemmas.Grind.{get_or-set_at}
 use Rattle.std.proofs.lemmas.List.{get_or-set_other, get_or_default, get_or_past}
@@ -22,9 +22,16 @@ use Rattle.residue_blocks.specs.Residue.{IsShort, Fitting, scaled, quantiser, co
 use Rattle.residue_blocks.specs.declared.quant.Quant.{Quant}
 use Rattle.residue_blocks.proofs.Coefs.{misfit_at, all_done}
 
-pub all_short : (levels : List ℤ) (n : ℕ) (all : Bool) → length levels ≤ n → OnTrue all ((k : ℕ) → k < n → IsShort (at levels k)) → OnTrue all (All IsShort levels)
-all_short levels n true past so_far = λ k d low. rw (get_or_default levels k d (pos 0) low) (so_far k (omega arith))
-all_short levels n false past so_far = tt
+pub all_under : (levels : List ℤ) (n whole : ℕ) → length levels ≤ n → ((k : ℕ) → k < n → unsigned_abs (at levels k) ≤ whole) →
+    All (λ x. unsigned_abs x ≤ whole) levels
+all_under levels n whole past so_far = λ k d low. rw (get_or_default levels k d (pos 0) low) (so_far k (omega arith))
+
+-- one more magnitude, whose bits are put in
+pub under_more : (levels : List ℤ) (n whole m : ℕ) → unsigned_abs (at levels n) ≡ m → ((k : ℕ) → k < n → unsigned_abs (at levels k) ≤ whole) →
+    (k : ℕ) → k < n + 1 → unsigned_abs (at levels k) ≤ bit_or whole m
+under_more levels n whole m is so_far =
+    below_more (λ k. unsigned_abs (at levels k) ≤ bit_or whole m) n (λ k low. omega (arith, so_far k low, le_or_l whole m))
+    (omega (arith, is, le_or_r whole m))
 
 -- what a level becomes
 abbrev made : TxSize → ℕ → List ℤ → ℕ → ℤ

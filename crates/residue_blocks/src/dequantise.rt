@@ -5,7 +5,7 @@ ghost use Rattle.inverse_transforms.specs.Ranges.{fits, limit_of};
 ghost use Rattle.residue_blocks.specs.Residue.{IsLevel, IsShort, scaled, quantiser, coefficient, Fitting, Dequantises};
 
 use crate::quant::Quant;
-use crate::scale::{are_short, scale};
+use crate::scale::scale;
 use inverse_transforms::limit_of;
 use vp9_types::{Depth, Rule, TxSize};
 
@@ -92,14 +92,15 @@ fn dequantise_short(block: &mut [i32], tx: TxSize, quant: Quant) -> Result<(), R
     Err(Rule::CoefRange)
 }
 
-/// The coefficients of levels, in their places.
+/// The coefficients of levels, in their places. None has a magnitude above `whole`.
 #[inline(always)]
-pub fn dequantise(block: &mut [i32], tx: TxSize, quant: Quant) -> Result<(), Rule>
+pub fn dequantise(block: &mut [i32], whole: u32, tx: TxSize, quant: Quant) -> Result<(), Rule>
     requires some { 0 < length block.old }
     requires levels { All IsLevel block.old }
+    requires whole { All (λ x. unsigned_abs x ≤ whole) block.old }
     ensures { Dequantises quant tx block.old result block.new }
 {
-    if are_short(block) {
+    if whole <= 16384 {
         return dequantise_short(block, tx, quant);
     }
     dequantise_any(block, tx, quant)

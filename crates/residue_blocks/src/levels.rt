@@ -11,6 +11,7 @@ use crate::dequantise::dequantise;
 use crate::first::{flatten, is_flat};
 use crate::kind::{kind_of_columns, kind_of_rows, log2_of, rounding_bits};
 use crate::quant::Quant;
+use crate::scale::whole_of;
 use crate::turn::{Pass, turn_rows};
 use vp9_types::{Rule, TxSize, TxType};
 
@@ -94,10 +95,11 @@ fn residue_of(block: &mut [i32], tx: TxSize, kind: TxType, quant: Quant) -> Resu
     ensures gives { Gives (residue quant tx kind block.old) result block.new }
     ensures small { OnOk result (All (λ x. unsigned_abs x < 2 ^ 24) block.new) }
 {
-    if is_flat(block, tx, kind, quant) {
+    let whole = whole_of(block);
+    if is_flat(block, whole, tx, kind, quant) {
         return flatten(block, tx, quant);
     }
-    dequantise(block, tx, quant)?;
+    dequantise(block, whole, tx, quant)?;
     reconstruct(block, tx, kind, quant)
 }
 

@@ -1,7 +1,6 @@
 //! Levels that are short, as nearly all are: they are multiplied in 32 bits, and tested all at once.
 
 ghost use Rattle.std.specs.Prelude.{◌≡◌, ℕ, ◌^◌, ◌<◌, ◌≤◌, ◌*ℤ◌, pos, unsigned_abs, length, All};
-ghost use Rattle.std.specs.Bool.{OnTrue};
 ghost use Rattle.inverse_transforms.specs.Flow.{at};
 ghost use Rattle.inverse_transforms.specs.Columns.{AllHold};
 ghost use Rattle.inverse_transforms.specs.Ranges.{fits};
@@ -10,23 +9,17 @@ ghost use Rattle.residue_blocks.specs.Residue.{IsShort, scaled};
 use inverse_transforms::is_fit;
 use vp9_types::TxSize;
 
+/// The bits of all magnitudes.
 #[inline(always)]
-fn is_short(x: i32) -> bool
-    ensures { OnTrue result (IsShort x) }
+pub fn whole_of(levels: &[i32]) -> u32
+    ensures { All (λ x. unsigned_abs x ≤ result) levels.now }
 {
-    (-16384 <= x) & (x <= 16384)
-}
-
-#[inline(always)]
-pub fn are_short(levels: &[i32]) -> bool
-    ensures { OnTrue result (All IsShort levels.now) }
-{
-    let mut all = true;
+    let mut whole = 0;
     for place in 0..levels.len() {
-        let here = is_short(levels[place]);
-        all = all & here;
+        let level = levels[place];
+        whole = whole | level.unsigned_abs();
     }
-    all
+    whole
 }
 
 #[inline(always)]
