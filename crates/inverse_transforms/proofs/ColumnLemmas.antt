@@ -121,7 +121,7 @@ two_hold limit f g t a b same a_low b_low fits = λ j low.
     ∙ two_fits limit (column j t) given.0 a b (g (at (column j t) a) (at (column j t) b)) given.1))
 
 -- the same of four rows
-four_of_column : (f : ℤ → ℤ → ℤ → ℤ → Four) (t : List (List ℤ)) (a b c d : ℕ) →
+pub four_of_column : (f : ℤ → ℤ → ℤ → ℤ → Four) (t : List (List ℤ)) (a b c d : ℕ) →
     a < length t → b < length t → c < length t → d < length t → (j : ℕ) →
     f (at (column j t) a) (at (column j t) b) (at (column j t) c) (at (column j t) d)
     ≡ f (at (get_or t a []) j) (at (get_or t b []) j) (at (get_or t c []) j) (at (get_or t d []) j)
@@ -136,7 +136,7 @@ store_four_given : (limit : ℕ) (xs : List ℤ) (a b c d : ℕ) (w : Four) (p q
     store_four limit xs a b c d w ≡ Ok (set (set (set (set xs a p) b q) c r) d s)
 store_four_given limit xs a b c d w p q r s fit p_is q_is r_is s_is = rw (fit, p_is, q_is, r_is, s_is) refl
 
-column_set_four : (j : ℕ) (t : List (List ℤ)) (a b c d : ℕ) (p q r s : List ℤ) →
+pub column_set_four : (j : ℕ) (t : List (List ℤ)) (a b c d : ℕ) (p q r s : List ℤ) →
     column j (set (set (set (set t a p) b q) c r) d s) ≡ set (set (set (set (column j t) a (at p j)) b (at q j)) c (at r j)) d (at s j)
 column_set_four j t a b c d p q r s =
     column_set j (set (set (set t a p) b q) c r) d s

@@ -10,3 +10,4 @@ pub mod Bounds
 pub mod CalmColumns
 pub mod RenamedTables
 pub mod CalmTables
+pub mod Straight

@@ -48,7 +48,7 @@ pub permuted_small : (m : ℕ) (order : List ℕ) (xs : List ℤ) → All (AtMos
 permuted_small m order xs h = All-map (AtMost m) (λ i. at xs i) (take (length xs) order) (λ k d low. at_small m xs (get_or (take (length xs) order) k d) h)
 
 -- what is stored is stored under its test
-kept : (b : Bool) (zs ys : List ℤ) (rule : Rule) → cond {A = Result (List ℤ) Rule} b (Ok zs) (Err rule) ≡ Ok ys → (b ≡ true) × (zs ≡ ys)
+pub kept : (b : Bool) (zs ys : List ℤ) (rule : Rule) → cond {A = Result (List ℤ) Rule} b (Ok zs) (Err rule) ≡ Ok ys → (b ≡ true) × (zs ≡ ys)
 kept true zs ys rule h = (refl, cc)
 kept false zs ys rule h = let no : ⊥ = cc in absurd no
 

@@ -3,3 +3,4 @@ pub mod Ranges
 pub mod Flow
 pub mod Transforms
 pub mod Columns
+pub mod Straight

@@ -2,13 +2,14 @@
 
 ghost use Rattle.std.specs.Prelude.{◌≡◌, ℕ, ◌^◌, ◌≤◌, ◌<◌, length, IsTrue, All, Ok};
 ghost use Rattle.std.specs.List.{list_all};
-ghost use Rattle.inverse_transforms.specs.Flow.{at, step, run, store_two, rotated, added, is_within};
+ghost use Rattle.inverse_transforms.specs.Flow.{at, step, run, store_two, rotated, added, is_within, magnitude};
+ghost use Rattle.inverse_transforms.specs.Transforms.{dct};
 ghost use Rattle.inverse_transforms.specs.Columns.{GivesColumns, FitsAll, column};
 ghost use Rattle.inverse_transforms.specs.Ranges.{IsSmall, IsNarrow};
 
 use crate::lane_steps;
 use crate::lanes::{Lanes, added_lanes};
-use crate::narrow::{LIMIT, rotated_lanes};
+use crate::narrow::{LIMIT, dct_lanes, rotated_lanes};
 use crate::turn::Turn;
 use vp9_tables::FlowRow;
 use vp9_types::Rule;
@@ -84,4 +85,24 @@ pub fn flow(t: &mut [Lanes], rows: &[FlowRow]) -> Result<(), Rule>
         apply(t, row)?;
     }
     Ok(())
+}
+
+/// The DCT of 4 of eight columns, by its formula.
+#[inline(always)]
+pub fn dct_of_4(t: &mut [Lanes])
+    requires size { length t.old ≡ 4 }
+    requires few { (j : ℕ) → j < 8 → magnitude (column j t.old) ≤ 2 ^ 15 }
+    requires small { All (All IsSmall) t.old }
+    ensures gives { (limit j : ℕ) → 2 ^ 15 ≤ limit → j < 8 → dct limit 2 (column j t.old) ≡ Ok (column j t.new) }
+    ensures small { All (All IsSmall) t.new }
+{
+    let a = t[0];
+    let b = t[1];
+    let c = t[2];
+    let d = t[3];
+    let (p, q, r, s, _) = dct_lanes(&a, &b, &c, &d);
+    t[0] = p;
+    t[1] = q;
+    t[2] = r;
+    t[3] = s;
 }

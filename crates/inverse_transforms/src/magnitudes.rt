@@ -30,6 +30,7 @@ fn with_magnitudes(sums: u32x8, row: &Lanes) -> u32x8
 }
 
 /// The sum of the magnitudes of each column.
+#[inline(always)]
 fn column_sums(t: &[Lanes]) -> u32x8
     requires size { length t.now ≤ 32 }
     requires small { All (All IsSmall) t.now }
@@ -42,6 +43,7 @@ fn column_sums(t: &[Lanes]) -> u32x8
     sums
 }
 
+#[inline(always)]
 fn greatest(sums: &[u32; 8]) -> u32
     ensures { (j : ℕ) → j < 8 → slice_index_or sums.now j 0 ≤ result }
 {
@@ -53,6 +55,7 @@ fn greatest(sums: &[u32; 8]) -> u32
 }
 
 /// What the magnitudes of each column add up to at most.
+#[inline(always)]
 pub fn heaviest(t: &[Lanes]) -> u32
     requires size { length t.now ≤ 32 }
     requires small { All (All IsSmall) t.now }

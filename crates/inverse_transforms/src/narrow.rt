@@ -4,14 +4,16 @@ ghost use Rattle.std.specs.Prelude.{◌≡◌, ℕ, ◌^◌, ◌≤◌, ◌<◌,
 ghost use Rattle.std.specs.List.{list_all};
 ghost use Rattle.std.specs.Bool.{OnTrue};
 ghost use Rattle.inverse_transforms.specs.Flow.{at, step, run, store_two, rotated, turned_x, turned_y, is_within};
-ghost use Rattle.inverse_transforms.specs.Columns.{GivesColumns, TwoLanes, AllHold, column};
-ghost use Rattle.inverse_transforms.specs.Flow.{two_fit};
+ghost use Rattle.inverse_transforms.specs.Columns.{GivesColumns, TwoLanes, FourLanes, AllHold, column};
+ghost use Rattle.inverse_transforms.specs.Flow.{two_fit, four_fit};
+ghost use Rattle.inverse_transforms.specs.Straight.{dct_quad};
 ghost use Rattle.inverse_transforms.specs.Ranges.{IsSmall, IsNarrow};
 
-use crate::kernels::two_fit;
+use crate::kernels::{four_fit, two_fit};
 use crate::lane_steps;
-use crate::lanes::{Lanes, TwoRows};
+use crate::lanes::{FourRows, Lanes, TwoRows};
 use crate::numbers::{minus, narrow_product, narrow_rounded, plus};
+use crate::quads::dct_quad;
 use crate::turn::Turn;
 use crate::values::Two;
 use vp9_tables::FlowRow;
@@ -44,10 +46,12 @@ fn second_turned(x: i32, y: i32, turn: Turn) -> i32
 
 #[inline(always)]
 #[tactic(auto, unfolding(crate::specs::Flow::rotated))]
-fn rotated(x: i32, y: i32, turn: Turn) -> Two
+pub fn rotated(x: i32, y: i32, turn: Turn) -> Two
     requires x { IsNarrow x }
     requires y { IsNarrow y }
-    ensures { result ≡ rotated turn.angle x y }
+    ensures value { result ≡ rotated turn.angle x y }
+    ensures first { IsSmall result.first }
+    ensures second { IsSmall result.second }
 {
     Two {
         first: narrow_rounded(first_turned(x, y, turn)),
@@ -72,6 +76,31 @@ pub fn rotated_lanes(x: &Lanes, y: &Lanes, turn: Turn) -> TwoRows
         fit = fit & two_fit(r, LIMIT);
     }
     (u, v, fit)
+}
+
+#[inline(always)]
+pub fn dct_lanes(a: &Lanes, b: &Lanes, c: &Lanes, d: &Lanes) -> FourRows
+    requires a { (j : ℕ) → j < 8 → IsNarrow (at a.now j) }
+    requires b { (j : ℕ) → j < 8 → IsNarrow (at b.now j) }
+    requires c { (j : ℕ) → j < 8 → IsNarrow (at c.now j) }
+    requires d { (j : ℕ) → j < 8 → IsNarrow (at d.now j) }
+    ensures made { FourLanes dct_quad a.now b.now c.now d.now result.0 result.1 result.2 result.3 8 }
+    ensures fit { AllHold (λ j. four_fit (2 ^ 15) (dct_quad (at a.now j) (at b.now j) (at c.now j) (at d.now j))) 8 result.4 }
+{
+    let mut p = [0; 8];
+    let mut q = [0; 8];
+    let mut r = [0; 8];
+    let mut s = [0; 8];
+    let mut fit = true;
+    for j in 0..8usize {
+        let v = dct_quad(a[j], b[j], c[j], d[j]);
+        p[j] = v.first;
+        q[j] = v.second;
+        r[j] = v.third;
+        s[j] = v.fourth;
+        fit = fit & four_fit(v, LIMIT);
+    }
+    (p, q, r, s, fit)
 }
 
 #[inline(always)]

@@ -2,7 +2,7 @@
 
 ghost use Rattle.std.specs.Prelude.{◌≡◌, ◌+◌, ◌*◌, ◌^◌, ◌≤◌, ◌+ℤ◌, ◌-ℤ◌, ◌*ℤ◌, neg_ℤ, unsigned_abs};
 ghost use Rattle.std.specs.Int.{int_shr};
-ghost use Rattle.inverse_transforms.specs.Ranges.{fits, round14, IsNarrow};
+ghost use Rattle.inverse_transforms.specs.Ranges.{fits, round14, IsNarrow, IsSmall};
 ghost use Rattle.inverse_transforms.specs.Flow.{wide};
 
 /// Round2 by 14 bits.
@@ -30,7 +30,8 @@ pub fn product(x: i32, c: i32) -> i64
 #[tactic(auto, unfolding(crate::specs::Ranges::round14))]
 pub fn narrow_rounded(x: i32) -> i32
     requires { unsigned_abs x ≤ 2 ^ 30 }
-    ensures { result ≡ round14 x }
+    ensures value { result ≡ round14 x }
+    ensures small { IsSmall result }
 {
     (x + 8192) >> 14
 }

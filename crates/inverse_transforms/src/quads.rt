@@ -4,10 +4,14 @@ ghost use Rattle.std.specs.Prelude.{◌≡◌, ◌+◌, ◌*◌, ◌^◌, ◌≤
 ghost use Rattle.std.specs.Int.{int_shr};
 ghost use Rattle.inverse_transforms.specs.Flow.{wide, Gives};
 ghost use Rattle.inverse_transforms.specs.Transforms.{even_part, odd_part, middle_part, difference_part, adst_quad, adst_of_4, last_lifts, middle_lifts, lifted, wht_quad, wht};
-ghost use Rattle.inverse_transforms.specs.Ranges.{IsSmall, fits};
+ghost use Rattle.inverse_transforms.specs.Straight.{dct_quad};
+ghost use Rattle.inverse_transforms.specs.Ranges.{IsSmall, IsNarrow, fits};
 
+use crate::kernels::added;
+use crate::narrow::rotated;
 use crate::numbers::{difference, half, is_fit, is_wide, minus, plus, product, rounded, sum};
 use crate::steps::store_four;
+use crate::turn::Turn;
 use crate::values::Four;
 use vp9_tables::sinpi;
 use vp9_types::Rule;
@@ -80,6 +84,29 @@ pub fn adst_quad(x0: i32, x1: i32, x2: i32, x3: i32, limit: u32) -> Four
         second: rounded(sum(q, t)),
         third: rounded(product(d, sinpi(3))),
         fourth: rounded(difference(sum(p, q), t)),
+    }
+}
+
+/// The DCT of narrow values.
+#[inline(always)]
+#[tactic(auto, unfolding(crate::specs::Straight::dct_quad))]
+pub fn dct_quad(x0: i32, x1: i32, x2: i32, x3: i32) -> Four
+    requires x0 { IsNarrow x0 }
+    requires x1 { IsNarrow x1 }
+    requires x2 { IsNarrow x2 }
+    requires x3 { IsNarrow x3 }
+    ensures { result ≡ dct_quad x0 x1 x2 x3 }
+{
+    let even = rotated(x0, x2, Turn::by(16));
+    let odd = rotated(x1, x3, Turn::by(24));
+    let outer = added(even.second, odd.second);
+    let inner = added(even.first, odd.first);
+    Four {
+        in_range: true,
+        first: outer.first,
+        second: inner.first,
+        third: inner.second,
+        fourth: outer.second,
     }
 }
 

@@ -39,6 +39,22 @@ pub fn dct(log2: u8, t: &mut [i32], depth: Depth) -> Result<(), Rule>
     steps::flow(t, dct_rows(log2), limit_of(depth))
 }
 
+/// The DCTs of eight columns of four rows. It is called: in place, where it is seen that a block of 4x4 leaves four lanes 0,
+/// the others would be computed one by one.
+#[inline(never)]
+fn dct_columns_of_4(t: &mut [Lanes], depth: Depth) -> Result<(), Rule>
+    requires size { length t.old ≡ 4 }
+    requires small { All (All IsSmall) t.old }
+    ensures gives { GivesColumns (dct (limit_of depth) 2) result t.old t.new }
+    ensures small { All (All IsSmall) t.new }
+{
+    if heaviest(&t[..4]) <= 32768 {
+        calm::dct_of_4(t);
+        return Ok(());
+    }
+    flow_columns(t, rows::dct_rows(2), rows::dct_calm(2), depth)
+}
+
 /// The DCTs of eight columns of `2 ^ log2` rows.
 pub fn dct_columns(log2: u8, t: &mut [Lanes], depth: Depth) -> Result<(), Rule>
     requires least { 2 ≤ log2 }
@@ -48,6 +64,9 @@ pub fn dct_columns(log2: u8, t: &mut [Lanes], depth: Depth) -> Result<(), Rule>
     ensures gives { GivesColumns (dct (limit_of depth) log2) result t.old t.new }
     ensures small { All (All IsSmall) t.new }
 {
+    if log2 == 2 {
+        return dct_columns_of_4(t, depth);
+    }
     flow_columns(t, rows::dct_rows(log2), rows::dct_calm(log2), depth)
 }
 

@@ -10,4 +10,4 @@ loop-j-init c = two_begin _ _ _ _ _ _ refl refl
 pub loop-j-preserved : goal.loop-j-preserved
 loop-j-preserved c =
     two_step (2 ^ 15) (rotated c.args.turn.angle) c.args.x.now c.args.y.now _ _ _ _ _ c.rotated-r.result (search rules) (search rules)
-    c.loop-j-test.true (narrow_small (at c.args.x.now c.loop-j.j) (c.requires.x c.loop-j.j c.loop-j-test.true)) (narrow_small (at c.args.y.now c.loop-j.j) (c.requires.y c.loop-j.j c.loop-j-test.true)) c.rotated-r.ensures c.two_fit-fit.ensures c.loop-j.invariant
+    c.loop-j-test.true (narrow_small (at c.args.x.now c.loop-j.j) (c.requires.x c.loop-j.j c.loop-j-test.true)) (narrow_small (at c.args.y.now c.loop-j.j) (c.requires.y c.loop-j.j c.loop-j-test.true)) c.rotated-r.ensures.value c.two_fit-fit.ensures c.loop-j.invariant
