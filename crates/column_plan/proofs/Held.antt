@@ -197,6 +197,27 @@ pub pushed_as : (shape : Shape) (b : BlockInfo) (p : Plane) (r : PlaneResidues) 
     → old ++ pieces_held size r.some r.values count ≡ old ++ plane_pieces shape b p r
 pushed_as shape b p r old count size many long = λ i. old ++ pieces_held (long i) r.some r.values (many i)
 
+pub block_pushed : {A E : Type 0} (result : Result A E) (s shape : Shape) (b : BlockInfo) (r : BlockResidues) (old one two new : List (List ℤ)) (luma luma_area chroma chroma_area : ℕ) → s ≡ shape
+    → luma ≡ count_in s b Y → luma_area ≡ area (tx_in s b Y) → chroma ≡ count_in s b U → chroma_area ≡ area (tx_in s b U)
+    → one ≡ old ++ pieces_held luma_area r.y.some r.y.values luma → two ≡ one ++ pieces_held chroma_area r.u.some r.u.values chroma
+    → OnOk result (new ≡ two ++ pieces_held chroma_area r.v.some r.v.values chroma) → OnOk result (new ≡ old ++ block_pieces shape b r)
+block_pushed (Ok a) s shape b r old one two new luma luma_area chroma chroma_area is many long few short first second third =
+    let y = plane_pieces s b Y r.y in
+    let u = plane_pieces s b U r.u in
+    let v = plane_pieces s b V r.v in
+    let after_y : one ≡ old ++ y = first ∙ pushed_as s b Y r.y old luma luma_area many long in
+    let after_u : two ≡ old ++ (y ++ u) = second ∙ pushed_as s b U r.u one chroma chroma_area few short ∙ ap (λ xs. xs ++ u) after_y ∙ append_assoc old y u in
+    third ∙ pushed_as s b V r.v two chroma chroma_area few short ∙ ap (λ xs. xs ++ v) after_u ∙ append_assoc old (y ++ u) v ∙ ap (λ (t : Shape). old ++ block_pieces t b r) is
+block_pushed (Err e) s shape b r old one two new luma luma_area chroma chroma_area is many long few short first second third = tt
+
+-- what is counted so fits
+pub counted_fits : (s : Shape) (b : BlockInfo) (p : Plane) (count size long : ℕ) → count ≡ count_in s b p → size ≡ area (tx_in s b p) → count * size ≤ 4096 → long ≡ 4096
+    → count_in s b p * area (tx_in s b p) ≤ long
+counted_fits s b p count size long many wide room is = rw (is, sym many, sym wide) room
+
+abbrev pub BlockStands : Shape → BlockInfo → BlockResidues → Type 0
+BlockStands shape b r = (tile_from : ℕ) (behind : List (List ℤ)) → planned_from shape tile_from b (block_pieces shape b r ++ behind) ≡ planned_with shape tile_from b b r
+
 pub stands_where : {A E X : Type 0} (result : Result A E) → X → OnOk result X
 stands_where (Ok a) x = x
 stands_where (Err e) x = tt

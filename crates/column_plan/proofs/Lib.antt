@@ -1,3 +1,3 @@
-pub mod Cuts
 pub mod Held
+pub mod Pieces
 pub mod RowStarts

@@ -1,5 +1,5 @@
 -- What the code keeps, and what it takes of a block's buffer.
-use Rattle.std.specs.Prelude.{◌≡◌, All, ◌≤◌, ◌<◌, ℕ, zero, suc, ◌*◌, ℤ, Bool, false, List, [], ◌∷◌, ◌++◌, length, map, get_or, take, drop, slice_range, Some, None, if◌then◌else◌}
+use Rattle.std.specs.Prelude.{◌≡◌, All, ◌≤◌, ◌<◌, ℕ, ◌+◌, ◌*◌, ℤ, Bool, false, List, [], ◌∷◌, ◌++◌, length, map, get_or, take, drop, slice_range, Some, None, if◌then◌else◌}
 use Rattle.std.specs.List.{range_with_len}
 use Rattle.vp9_types.specs.declared.shape.Plane.{Plane}
 use Rattle.vp9_types.specs.declared.shape.Plane.TheVariants.{Y, U, V}
@@ -11,24 +11,26 @@ use Rattle.block_plan.specs.declared.block.BlockInfo.{BlockInfo}
 use Rattle.block_plan.specs.declared.residues.BlockResidues.{BlockResidues}
 use Rattle.block_plan.specs.declared.residues.PlaneResidues.{PlaneResidues}
 use Rattle.column_plan.specs.Rows.{before_row, place_of_row, row_of}
+use Rattle.column_plan.specs.declared.chunks.Piece.{Piece}
 use Rattle.column_plan.specs.declared.rows.RowPlace.{RowPlace}
 
----- Pieces one behind another ----
+---- Pieces among chunks ----
 
--- the pieces of a list of values, each from the end of the one before it
-unfoldable pub pieces : ℕ → List ℕ → List ℤ → List (List ℤ)
-pieces from [] values = []
-pieces from (to ∷ ends) values = slice_range values from to ∷ pieces to ends values
+-- its chunk has the values of a piece
+abbrev pub LiesIn : List (List ℤ) → Piece → Type 0
+LiesIn chunks p = p.from + p.count ≤ length (get_or chunks p.chunk [])
 
--- the ends rise, and the last piece ends the list
-abbrev pub IsCut : ℕ → List ℕ → ℕ → Type 0
-IsCut from [] n = from ≡ n
-IsCut from (to ∷ ends) n = (from ≤ to) × IsCut to ends n
+-- the values of a piece
+abbrev pub values_in : List (List ℤ) → Piece → List ℤ
+values_in chunks p = slice_range (get_or chunks p.chunk []) p.from (p.from + p.count)
 
--- where the k-th piece begins
-abbrev pub start_of : ℕ → List ℕ → ℕ → ℕ
-start_of from ends zero = from
-start_of from ends (suc k) = get_or ends k 0
+-- those of pieces, one behind another
+unfoldable pub pieces_in : List (List ℤ) → List Piece → List (List ℤ)
+pieces_in chunks pieces = map (values_in chunks) pieces
+
+-- values may have come behind those of each chunk
+abbrev pub GoOn : List (List ℤ) → List (List ℤ) → Type 0
+GoOn old new = (k : ℕ) → (more : List ℤ) × (get_or new k [] ≡ get_or old k [] ++ more)
 
 ---- The pieces of a block ----
 

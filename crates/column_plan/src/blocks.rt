@@ -7,14 +7,14 @@ ghost use Rattle.block_geometry.specs.Frames.{places_of};
 ghost use Rattle.vp9_tables.specs.Scans.{area};
 ghost use Rattle.vp9_tables.specs.Blocks.{greatest_of};
 ghost use Rattle.vp9_tables.specs.Numbers.{tx_number};
-ghost use Rattle.block_plan.specs.Code.{held_in, planned_with};
-ghost use Rattle.block_plan.specs.InPlanes.{places_in, tx_in};
-ghost use Rattle.column_plan.specs.Code.{AreWhole, HoldsWhole, piece_held, pieces_held, plane_pieces, block_pieces};
-ghost use Rattle.column_plan.specs.Planned.{count_in, planned_from, residues_from};
+ghost use Rattle.block_plan.specs.Code.{planned_with};
+ghost use Rattle.block_plan.specs.InPlanes.{tx_in};
+ghost use Rattle.column_plan.specs.Code.{HoldsWhole, piece_held, pieces_held, block_pieces};
+ghost use Rattle.column_plan.specs.Planned.{count_in, planned_from};
 
 use crate::residues::PlanResidues;
 use block_geometry::{FramePlaces, transform_grid};
-use block_plan::{BlockInfo, BlockResidues, PlaneResidues, plane_block};
+use block_plan::{BlockInfo, BlockResidues, plane_block};
 use frame_setting::FrameSetting;
 use std::alloc::AllocError;
 use vp9_tables::area_of;
@@ -87,26 +87,6 @@ pub fn transform_count(places: FramePlaces, shape: &Shape, block: &BlockInfo, pl
     transform_blocks(places, shape, block, plane).0
 }
 
-/// Adds the residues of a block in a plane.
-fn push_plane(
-    residues: &mut PlanResidues,
-    setting: &FrameSetting,
-    block: &BlockInfo,
-    plane: Plane,
-    held: &PlaneResidues,
-) -> Result<(), AllocError>
-    requires row { block.now.row < setting.now.places.rows }
-    requires column { block.now.col < setting.now.places.cols }
-    requires fits { tx_number block.now.tx ≤ greatest_of block.now.size }
-    ensures pushed { OnOk result (residues.new ≡ residues.old ++ plane_pieces (shape_of setting.now.header) block.now plane held.now) }
-    ensures stands { (behind : List (List ℤ)) → residues_from (places_in (shape_of setting.now.header) block.now plane) (plane_pieces (shape_of setting.now.header) block.now plane held.now ++ behind) ≡ held_in (shape_of setting.now.header) block.now plane held.now }
-    ensures whole { AreWhole (area (tx_in (shape_of setting.now.header) block.now plane)) (held_in (shape_of setting.now.header) block.now plane held.now) }
-{
-    let shape = setting.header.shape();
-    let (count, area) = transform_blocks(setting.places, &shape, block, plane);
-    push_held(residues, &held.some, &held.values, count, area)
-}
-
 /// Adds the residues of a block, plane by plane. Where memory is refused, some of them may have been added.
 pub fn push_block(
     residues: &mut PlanResidues,
@@ -121,7 +101,12 @@ pub fn push_block(
     ensures stands { OnOk result ((tile_from : ℕ) (behind : List (List ℤ)) → planned_from (shape_of setting.now.header) tile_from block.now (block_pieces (shape_of setting.now.header) block.now held.now ++ behind) ≡ planned_with (shape_of setting.now.header) tile_from block.now block.now held.now) }
     ensures whole { OnOk result (HoldsWhole (shape_of setting.now.header) (planned_with (shape_of setting.now.header) 0 block.now block.now held.now)) }
 {
-    push_plane(residues, setting, block, Plane::Y, &held.y)?;
-    push_plane(residues, setting, block, Plane::U, &held.u)?;
-    push_plane(residues, setting, block, Plane::V, &held.v)
+    let shape = setting.header.shape();
+    let (luma, luma_area) = transform_blocks(setting.places, &shape, block, Plane::Y);
+    // both chroma planes are alike
+    let (chroma, chroma_area) = transform_blocks(setting.places, &shape, block, Plane::U);
+    let (y, u, v) = (&held.y, &held.u, &held.v);
+    push_held(residues, &y.some, &y.values, luma, luma_area)?;
+    push_held(residues, &u.some, &u.values, chroma, chroma_area)?;
+    push_held(residues, &v.some, &v.values, chroma, chroma_area)
 }

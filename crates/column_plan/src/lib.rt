@@ -2,6 +2,7 @@
 #![tactic(auto)]
 
 mod blocks;
+mod chunks;
 mod laws;
 mod residues;
 mod rows;

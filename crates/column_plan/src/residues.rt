@@ -1,108 +1,133 @@
 //! Residues of transform blocks.
 
-ghost use Rattle.column_plan.specs.Code.{IsCut, pieces, start_of};
-ghost use Rattle.std.specs.Prelude.{◌≡◌, ◌<◌, ◌≤◌, ◌++◌, ◌∷◌, [], length, get_or, OnOk, OnErr};
+ghost use Rattle.column_plan.specs.Code.{GoOn, LiesIn, values_in};
+ghost use Rattle.std.specs.Prelude.{◌≡◌, ◌<◌, ◌++◌, ◌∷◌, [], length, get_or, IfOk, OnOk, OnErr};
 
+use crate::chunks::{Chunk, Piece};
 use std::alloc::{AllocError, Global};
 use std::marker::Model;
 
-/// The residues of transform blocks one behind another: where each ends, and the values of those that have any.
+/// How many values a chunk has room for, if a transform block hasn't more.
+const CHUNK: usize = 16384;
+
+/// The place of no values.
+const NOWHERE: Piece = Piece {
+    chunk: 0,
+    from: 0,
+    count: 0,
+};
+
+/// The residues of transform blocks one behind another: where each lies, and the values of those that have any, in chunks, so
+/// that no value is moved when more come.
 #[derive(Drop)]
 pub struct PlanResidues {
-    ends: Vec<usize>,
-    values: Vec<i32>,
+    alloc: Global,
+    pieces: Vec<Piece>,
+    chunks: Vec<Chunk>,
 }
 
 impl Model for PlanResidues {
-    ghost use Rattle.std.specs.Prelude.{List, ℤ, length, vec_len};
-    ghost use Rattle.column_plan.specs.Code.{IsCut, pieces};
+    ghost use Rattle.std.specs.Prelude.{List, ℤ};
+    ghost use Rattle.std.specs.List.{All};
+    ghost use Rattle.column_plan.specs.Code.{LiesIn, pieces_in};
 
     ghost Value = { List (List ℤ) };
 
-    ghost view = { λ r. pieces 0 r.ends.items r.values.items };
+    ghost view = { λ r. pieces_in r.chunks.items r.pieces.items };
 
-    ghost invariant = { λ r. IsCut 0 r.ends.items (length r.values.items) };
+    ghost invariant = { λ r. All (LiesIn r.chunks.items) r.pieces.items };
 }
 
-/// Where the `k`-th piece begins.
-fn start_of(ends: &[usize], k: usize) -> usize
-    requires { k ≤ length ends.now }
-    ensures { result ≡ start_of 0 ends.now k }
+/// Opens another chunk, if the last one has no room for so many values.
+#[tactic(auto, using(crate::proofs::Pieces::same_go_on, crate::proofs::Pieces::one_opened, crate::proofs::Pieces::some_chunk))]
+fn make_room(chunks: &mut Vec<Chunk>, alloc: Global, count: usize) -> Result<(), AllocError>
+    ensures some { OnOk result (0 < length chunks.new.items) }
+    ensures go_on { GoOn chunks.old.items chunks.new.items }
 {
-    if k == 0 { 0 } else { ends[k - 1] }
+    if let Some(last) = chunks.last() {
+        if last.has_room(count) {
+            return Ok(());
+        }
+    }
+    chunks.push(Chunk::new(alloc, count.max(CHUNK))?)?;
+    Ok(())
 }
 
-/// Where the `k`-th piece begins and ends.
-#[tactic(auto, using(crate::proofs::Cuts::piece_order, crate::proofs::Cuts::piece_low))]
-fn bounds_of(ends: &[usize], values: &[i32], k: usize) -> (usize, usize)
-    requires within { k < length ends.now }
-    requires cut { IsCut 0 ends.now (length values.now) }
-    ensures from { result.0 ≡ start_of 0 ends.now k }
-    ensures to { result.1 ≡ get_or ends.now k 0 }
-    ensures order { result.0 ≤ result.1 }
-    ensures low { result.1 ≤ length values.now }
+/// Puts values behind those of the last chunk, or into another one, and answers where they lie.
+fn put(chunks: &mut Vec<Chunk>, alloc: Global, values: &[i32]) -> Result<Piece, AllocError>
+    ensures go_on { GoOn chunks.old.items chunks.new.items }
+    ensures lies { IfOk result (λ p. LiesIn chunks.new.items p) }
+    ensures values { IfOk result (λ p. values_in chunks.new.items p ≡ values.now) }
 {
-    (start_of(ends, k), ends[k])
+    if values.is_empty() {
+        return Ok(NOWHERE);
+    }
+    make_room(chunks, alloc, values.len())?;
+    let last = chunks.len() - 1;
+    chunks[last].put(last, values)
 }
 
-/// The `k`-th piece.
-fn piece<'a>(ends: &[usize], values: &'a [i32], k: usize) -> &'a [i32]
-    requires within { k < length ends.now }
-    requires cut { IsCut 0 ends.now (length values.now) }
-    ensures { result.now ≡ get_or (pieces 0 ends.now values.now) k [] }
+/// The values of a piece.
+#[tactic(auto, using(crate::proofs::Pieces::in_chunk, crate::proofs::Pieces::no_values))]
+fn values_of(chunks: &[Chunk], piece: Piece) -> &[i32]
+    requires { LiesIn chunks.now piece }
+    ensures { result.now ≡ values_in chunks.now piece }
 {
-    let (from, to) = bounds_of(ends, values, k);
-    &values[from..to]
+    if piece.count == 0 {
+        return &[];
+    }
+    chunks[piece.chunk as usize].get(piece.from as usize, piece.count as usize)
 }
 
 impl PlanResidues {
     /// None.
-    #[tactic(auto, unfolding(crate::specs::Code::pieces))]
+    #[tactic(auto, unfolding(crate::specs::Code::pieces_in), using(crate::proofs::Pieces::none_lie))]
     pub fn new(alloc: Global) -> PlanResidues
         ensures { result ≡ [] }
     {
         PlanResidues {
-            ends: Vec::new(alloc),
-            values: Vec::new(alloc),
+            alloc,
+            pieces: Vec::new(alloc),
+            chunks: Vec::new(alloc),
         }
     }
 
     /// How many there are.
-    #[tactic(auto, using(crate::proofs::Cuts::pieces_long))]
+    #[tactic(auto, using(crate::proofs::Pieces::pieces_long))]
     pub fn len(&self) -> usize
         ensures { result ≡ length self.now }
     {
-        self.ends.len()
+        self.pieces.len()
     }
 
     /// Adds those of one more transform block: no values if it has no coefficient. Where memory is refused they stay as they
     /// were.
-    #[tactic(auto, using(crate::proofs::Cuts::cut_more, crate::proofs::Cuts::pieces_more))]
+    #[tactic(auto, using(crate::proofs::Pieces::one_pushed, crate::proofs::Pieces::pushed_lie, crate::proofs::Pieces::same_pieces, crate::proofs::Pieces::same_lie))]
     pub fn push(&mut self, values: &[i32]) -> Result<(), AllocError>
         ensures one_more { OnOk result (self.new ≡ self.old ++ values.now ∷ []) }
         ensures kept { OnErr result (self.new ≡ self.old) }
     {
-        self.ends.reserve(1)?;
-        self.values.extend_from_slice(values)?;
-        self.ends.push_reserved(self.values.len());
+        self.pieces.reserve(1)?;
+        let piece = put(&mut self.chunks, self.alloc, values)?;
+        self.pieces.push_reserved(piece);
         Ok(())
     }
 
     /// The values of the `k`-th.
-    #[tactic(auto, using(crate::proofs::Cuts::pieces_long))]
+    #[tactic(auto, using(crate::proofs::Pieces::pieces_long, crate::proofs::Pieces::piece_at))]
     pub fn get(&self, k: usize) -> &[i32]
         requires { k < length self.now }
         ensures { result.now ≡ get_or self.now k [] }
     {
-        piece(&self.ends, &self.values, k)
+        values_of(&self.chunks, self.pieces[k])
     }
 
-    /// Drops all of them. Their memory stays for others.
-    #[tactic(auto, unfolding(crate::specs::Code::pieces))]
+    /// Drops all of them.
+    #[tactic(auto, unfolding(crate::specs::Code::pieces_in), using(crate::proofs::Pieces::none_lie))]
     pub fn clear(&mut self)
         ensures { self.new ≡ [] }
     {
-        self.ends.clear();
-        self.values.clear();
+        self.pieces.clear();
+        self.chunks.clear();
     }
 }

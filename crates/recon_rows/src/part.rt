@@ -55,9 +55,12 @@ impl<'a> PlanPart<'a> {
     {
         // Their number bounds the sums.
         let _all = residues.len();
-        let u = first + transform_count(places, shape, block, Plane::Y) as usize;
-        let v = u + transform_count(places, shape, block, Plane::U) as usize;
-        let end = v + transform_count(places, shape, block, Plane::V) as usize;
+        let luma = transform_count(places, shape, block, Plane::Y) as usize;
+        // both chroma planes are alike
+        let chroma = transform_count(places, shape, block, Plane::U) as usize;
+        let u = first + luma;
+        let v = u + chroma;
+        let end = v + chroma;
         PlanPart {
             residues,
             y: first,
