@@ -8,9 +8,9 @@ use std::marker::Model;
 /// Where values lie among chunks: in which one, from which of its values on, and how many they are.
 #[derive(Clone, Copy, Debug, PartialEq, Eq)]
 pub struct Piece {
-    pub chunk: u32,
-    pub from: u32,
-    pub count: u32,
+    pub chunk: usize,
+    pub from: usize,
+    pub count: usize,
 }
 
 /// Values in memory that isn't moved as long as there is room for more.
@@ -25,17 +25,6 @@ impl Model for Chunk {
     ghost Value = { List ℤ };
 
     ghost view = { λ c. c.values.items };
-}
-
-/// A number of 32 bits.
-fn narrow(n: usize) -> Result<u32, AllocError>
-    ensures { IfOk result (λ m. m ≡ n) }
-{
-    if n <= u32::MAX as usize {
-        Ok(n as u32)
-    } else {
-        Err(AllocError)
-    }
 }
 
 impl Chunk {
@@ -60,9 +49,9 @@ impl Chunk {
         ensures kept { OnErr result (self.new ≡ self.old) }
     {
         let piece = Piece {
-            chunk: narrow(number)?,
-            from: narrow(self.values.len())?,
-            count: narrow(values.len())?,
+            chunk: number,
+            from: self.values.len(),
+            count: values.len(),
         };
         self.values.extend_from_slice(values)?;
         Ok(piece)

@@ -76,7 +76,7 @@ fn values_of(chunks: &[Chunk], piece: Piece) -> &[i32]
     if piece.count == 0 {
         return &[];
     }
-    chunks[piece.chunk as usize].get(piece.from as usize, piece.count as usize)
+    chunks[piece.chunk].get(piece.from, piece.count)
 }
 
 impl PlanResidues {
