@@ -136,3 +136,26 @@ values_copied f m width stride xs block now y x i n rows so lt wide high narrow 
     ∙ row_copied m width stride (map f xs) (map f block) (map f now) y x i n rows so lt wide
     (omega (arith, high, length-map xs f)) narrow (omega (arith, whole, length-map block f))
     (ap (map f) is ∙ map_part f (i * stride + n - i * stride) (i * stride) block)
+
+-- the same where a row is made in its place
+row_made : (m : Map) (width : ℕ) (xs now : List ℕ) (y x i n rows : ℕ) (b : Map)
+    → rows_of width xs ≡ with_block m y x i n b → i < rows → x + n ≤ width → (y + rows) * width ≤ length xs
+    → length now ≡ n → ((j : ℕ) → j < n → get_or now j 0 ≡ b i j)
+    → rows_of width (put_mid ((y + i) * width + x) ((y + i) * width + x + n - ((y + i) * width + x)) xs now) ≡ with_block m y x (i + 1) n b
+row_made m width xs now y x i n rows b so lt wide high long is =
+    let row : (y + i) * width + width ≤ length xs = omega (arith, mul-le-mul_right width (above y i rows lt)) in
+    rw add-sub_left
+    (row_put width xs now (y + i) x n wide row long
+    ∙ rw so (with_block_same _ (y + i) x 1 n _ _ (λ a j _ low. is j low) ∙ one_row_more m y x i n b))
+
+pub values_made : {X : Type 0} (f : X → ℕ) (m : Map) (width : ℕ) (xs now : List X) (y x i n rows : ℕ) (b : Map)
+    → rows_of width (map f xs) ≡ with_block m y x i n b → i < rows → x + n ≤ width → (y + rows) * width ≤ length xs
+    → length now ≡ length (take ((y + i) * width + x + n - ((y + i) * width + x)) (drop ((y + i) * width + x) xs)) → ((j : ℕ) → j < n → get_or (map f now) j 0 ≡ b i j)
+    → rows_of width (map f (put_mid ((y + i) * width + x) ((y + i) * width + x + n - ((y + i) * width + x)) xs now)) ≡ with_block m y x (i + 1) n b
+values_made f m width xs now y x i n rows b so lt wide high same is =
+    let at : ℕ = (y + i) * width + x in
+    let fits : at + n ≤ length xs = omega (arith, wide, high, mul-le-mul_right width (above y i rows lt)) in
+    let long : length now ≡ n = omega (arith, same, add-sub_left at n, length-take (at + n - at) (drop at xs), length-drop at xs) in
+    ap (rows_of width) (map_mid f at (at + n - at) xs now)
+    ∙ row_made m width (map f xs) (map f now) y x i n rows b so lt wide
+    (omega (arith, high, length-map xs f)) (length-map now f ∙ long) is

@@ -4,10 +4,12 @@
 mod area;
 mod copies;
 mod frame_planes;
+mod makers;
 mod picture;
 mod plane;
 
 pub use area::Area;
 pub use frame_planes::{FramePlanes, coded_area};
+pub use makers::RowMaker;
 pub use picture::Picture;
 pub use plane::SamplePlane;

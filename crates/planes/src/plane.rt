@@ -5,6 +5,7 @@ ghost use Rattle.planes.specs.Planes.{PlaneSamples, IsArea, StartsIn, HasRow, Ha
 
 use crate::area::Area;
 use crate::copies::{copy_columns, copy_rows, read_apart};
+use crate::makers::{RowMaker, make_rows};
 use std::alloc::{AllocError, Global};
 use std::marker::Model;
 use vp9_types::Sample;
@@ -197,6 +198,35 @@ impl<P: Sample> SamplePlane<P> {
         } else {
             self.put_block(row, column, rows, N, block);
         }
+    }
+
+    /// Puts rows of N samples at a row and column, all of them inside of the plane, each of which is made where it stands.
+    #[inline(always)]
+    pub fn put_made<const N: usize, M: RowMaker<P, N>>(
+        &mut self,
+        row: usize,
+        column: usize,
+        rows: usize,
+        maker: &M,
+    )
+        requires inside { StartsIn self.old.area row column }
+        requires few { N ≤ 64 }
+        requires low { rows ≤ 64 }
+        requires below { row + rows ≤ lower_end self.old.area }
+        requires right { column + N ≤ right_end self.old.area }
+        requires makes { (i : ℕ) → i < rows → M.makes maker.now i }
+        ensures area { self.new.area ≡ self.old.area }
+        ensures map { plane_map self.new ≡ with_part self.old.area (plane_map self.old) row column rows N (M.made maker.now) }
+    {
+        let area = self.area;
+        make_rows::<P, N, M>(
+            &mut self.samples,
+            area.columns,
+            row - area.first_row,
+            column - area.first_column,
+            rows,
+            maker,
+        );
     }
 
     /// Puts a square block at a row and column, as `put_block` does.
