@@ -1,5 +1,5 @@
 -- What the code keeps, and what it takes of a block's buffer.
-use Rattle.std.specs.Prelude.{◌≡◌, All, ◌≤◌, ◌<◌, ℕ, ◌+◌, ◌*◌, ℤ, Bool, false, List, [], ◌∷◌, ◌++◌, length, map, get_or, take, drop, slice_range, Some, None, if◌then◌else◌}
+use Rattle.std.specs.Prelude.{◌≡◌, All, ◌≤◌, ◌<◌, ℕ, ◌+◌, ◌*◌, ℤ, Bool, false, List, [], ◌++◌, length, map, get_or, take, drop, slice_range, Some, None, if◌then◌else◌}
 use Rattle.std.specs.List.{range_with_len}
 use Rattle.vp9_types.specs.declared.shape.Plane.{Plane}
 use Rattle.vp9_types.specs.declared.shape.Plane.TheVariants.{Y, U, V}

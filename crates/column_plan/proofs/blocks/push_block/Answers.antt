@@ -1,12 +1,9 @@
-use Rattle.std.proofs.Common.{◌≡◌, ◌≤◌, ◌*◌, length, subst, rules}
+use Rattle.std.proofs.Common.{◌≡◌, length, subst, rules}
 use Rattle.vp9_types.specs.declared.shape.Plane.TheVariants.{Y, U, V}
 use Rattle.vp9_types.specs.declared.shape.Shape.{Shape}
-use Rattle.vp9_tables.specs.Scans.{area}
 use Rattle.block_plan.specs.Code.{planned_with}
-use Rattle.block_plan.specs.InPlanes.{tx_in}
 use Rattle.frame_headers.specs.State.{shape_of}
 use Rattle.column_plan.specs.Code.{HoldsWhole}
-use Rattle.column_plan.specs.Planned.{count_in}
 use Rattle.column_plan.proofs.Held.{BlockStands, block_pushed, block_stands, counted_fits, plane_stands, plane_whole, stands_where}
 use Rattle.column_plan.proofs.blocks.push_block.Goals as goal
 
