@@ -48,6 +48,7 @@ use Rattle.block_rebuild.specs.InterBlocks.{Rebuilding, part_of, predicted_part,
 use Rattle.block_rebuild.specs.Code.{HoldsBlock, put_more, add_more}
 use Rattle.block_rebuild.specs.Residues.{residues_at}
 use Rattle.block_rebuild.specs.declared.in_plane.IntraInPlane.{IntraInPlane}
+use Rattle.inter_scaled.specs.Code.{LiesIn as LiesInArea, with_place}
 use Rattle.block_rebuild.proofs.Parts.{whole_part, place_put}
 use Rattle.block_rebuild.proofs.Puts.{first_is, length_first}
 use Rattle.block_rebuild.proofs.Fits.{LiesInBlock, all_fit}
@@ -358,6 +359,27 @@ part_put by reference b modes p n a m at block low holds is fits rows =
     let lie = part_fits by.shape reference b modes p n 0 a at low holds is fits in
     whole_part a m at.row at.column at.rows at.columns block (predicted_part by b modes p n) lie.low lie.narrow rows
     ∙ place_put by reference b modes p n m at is
+
+-- a part put in its place
+pub lies_in : (shape reference : Shape) (b : BlockInfo) (modes : InterPrediction) (p : Plane) (n list : ℕ) (a : Area) (at : places.Place) → n < parts_of shape b.size p → HoldsBlock shape p b.col b a
+    → at ≡ place_of shape b modes (part_of p n list) reference → IsPlace at → LiesInArea a at
+lies_in shape reference b modes p n list a at low holds is fits =
+    let lie = part_fits shape reference b modes p n list a at low holds is fits in
+    record {
+      start = record { above = lie.top; below = lie.below; left = lie.begin; right = lie.right };
+      below = omega (arith, lie.low, lie.below);
+      right = omega (arith, lie.narrow, lie.right);
+    }
+
+pub part_in_place : (by : Rebuilding) (reference : Shape) (b : BlockInfo) (modes : InterPrediction) (p : Plane) (n : ℕ) (a : Area) (m : Map) (at : places.Place) (f : Map)
+    → n < parts_of by.shape b.size p → HoldsBlock by.shape p b.col b a
+    → at ≡ place_of by.shape b modes (part_of p n 0) reference → IsPlace at → f ≡ predicted_part by b modes p n
+    → with_place a m at f ≡ put_part by b modes p m n
+part_in_place by reference b modes p n a m at f low holds is fits same =
+    let lie = part_fits by.shape reference b modes p n 0 a at low holds is fits in
+    let high : min at.rows (lower_end a - at.row) ≡ at.rows = omega (arith, lie.low) in
+    let wide : min at.columns (right_end a - at.column) ≡ at.columns = omega (arith, lie.narrow) in
+    rw (high, wide, same) (place_put by reference b modes p n m at is)
 
 ---- Whole planes ----
 

@@ -1,6 +1,7 @@
 //! An inter block put into a plane.
 
 ghost use Rattle.std.specs.Prelude.{◌≡◌, ◌+◌, ◌<◌, ◌≤◌, ◌*◌, None, length, map};
+ghost use Rattle.std.specs.Bool.{OnTrue, OnFalse};
 ghost use Rattle.vp9_types.specs.Maps.{HoldsRows, IsAtMost, rows_of};
 ghost use Rattle.vp9_types.specs.Shapes.{mi_rows, mi_cols};
 ghost use Rattle.vp9_types.specs.Sizes.{greatest};
@@ -13,6 +14,7 @@ ghost use Rattle.block_plan.specs.declared.block.Prediction.TheVariants.{Inter};
 ghost use Rattle.inter_places.specs.Axes.{IsPlace};
 ghost use Rattle.inter_places.specs.Places.{IsPart, place_of};
 ghost use Rattle.planes.specs.Planes.{StartsIn, plane_map, with_part};
+ghost use Rattle.inter_scaled.specs.Code.{LiesIn, with_place};
 ghost use Rattle.block_rebuild.specs.InterBlocks.{part_of, predicted_from, predicted_part, put_part, put_prediction, put_inter};
 ghost use Rattle.block_rebuild.specs.Code.{IsPartOf, IsServed, AreInV, AreServed, AreTwoPlaces, picture_of, reference_of, rebuilding_of};
 ghost use Rattle.block_rebuild.specs.Residues.{HoldsAll, residues_of};
@@ -25,7 +27,7 @@ use block_geometry::{FramePlaces, transform_grid};
 use block_plan::{BlockInfo, InterPrediction, plane_block};
 use inter_lanes::FilterSample;
 use inter_places::{BlockPart, Place, part_count, place};
-use inter_scaled::{LINES, average, predict};
+use inter_scaled::{LINES, average, predict, predict_in_plane};
 use planes::SamplePlane;
 use vp9_types::{Plane, ReferenceFrame, Sample, Samples};
 
@@ -101,6 +103,35 @@ fn predict_part<P: FilterSample, S: Samples<Kept = P>>(
     predict(picture.samples, place, b.modes.filter, most, lines, block);
 }
 
+/// Predicts a part of a block from a reference where it stands in a plane, and says whether it did.
+fn predict_in_place<P: FilterSample, S: Samples<Kept = P>>(
+    b: &InterCoded<'_, S>,
+    reference: ReferenceFrame,
+    part: BlockPart,
+    place: &Place,
+    lines: &mut [P],
+    samples: &mut SamplePlane<P>,
+) -> bool
+    requires part { IsPart b.now.by.now.shape b.now.block.now part }
+    requires takes { P.takes (greatest b.now.by.now.shape.depth) }
+    requires reference { IsServed S.holds S.width S.map b.now.by.now b.now.block.now b.now.modes.now part.list reference }
+    requires place { place.now ≡ place_of b.now.by.now.shape b.now.block.now b.now.modes.now part (picture_of S.map (reference_of b.now.by.now reference)).shape }
+    requires fits { IsPlace place.now }
+    requires lines { LINES ≤ length lines.old }
+    requires inside { LiesIn samples.old.area place.now }
+    ensures rest { length lines.new ≡ length lines.old }
+    ensures kept { OnFalse result (samples.new ≡ samples.old) }
+    ensures area { samples.new.area ≡ samples.old.area }
+    ensures map { OnTrue result (plane_map samples.new ≡ with_place samples.old.area (plane_map samples.old) place.now
+        (predicted_from b.now.by.now.shape b.now.block.now b.now.modes.now part (picture_of S.map (reference_of b.now.by.now reference)))) }
+{
+    let Some(picture) = b.by.reference(reference) else {
+        unreachable!()
+    };
+    let most = b.by.shape.depth.greatest();
+    predict_in_plane(picture.samples, place, b.modes.filter, most, lines, samples)
+}
+
 /// Puts rows of samples at their place in a plane. Rows of each width are copied by a loop of their own.
 fn put_rows<P: Sample>(samples: &mut SamplePlane<P>, place: &Place, rows: &[P])
     requires place { IsPlace place.now }
@@ -146,7 +177,11 @@ fn put_one<P: FilterSample, S: Samples<Kept = P>>(
     ensures rest { length rest.new ≡ length rest.old }
 {
     let part = part_of(place.plane, number, 0);
-    predict_part(b, b.modes.references.first, part, place, rest, first);
+    let reference = b.modes.references.first;
+    if predict_in_place(b, reference, part, place, rest, samples) {
+        return;
+    }
+    predict_part(b, reference, part, place, rest, first);
     put_rows(samples, place, first);
 }
 

@@ -2,8 +2,12 @@
 use Rattle.std.specs.Prelude.{ℕ, ℤ, List, length, slice_index, ◌+◌, ◌*◌, ◌/◌, ◌-◌, ◌≤◌, ◌<◌, ◌≡◌}
 use Rattle.vp9_types.specs.Maps.{Map}
 use Rattle.vp9_tables.specs.Filters.{taps_of}
+use Rattle.inter_lanes.specs.Filter.{filtered}
 use Rattle.inter_places.specs.declared.axis.Axis.{Axis}
+use Rattle.inter_places.specs.declared.axis.Place.{Place}
 use Rattle.inter_places.specs.Axes.{IsAxis, fraction, offset, straight}
+use Rattle.planes.specs.declared.area.Area.{Area}
+use Rattle.planes.specs.Planes.{StartsIn, lower_end, right_end, with_part}
 use Rattle.inter_scaled.specs.declared.filter.LineFilter.{LineFilter}
 use Rattle.inter_scaled.specs.declared.places.Span.{Span}
 
@@ -58,3 +62,39 @@ pub record AreRows (most w rows stride : ℕ) (samples : List ℕ) : Type 0 wher
   pub room : (r : ℕ) → r < rows → r * stride + w ≤ length samples
   pub small : (r c : ℕ) → r < rows → c < w → strided stride samples r c ≤ most
   pub near : stride ≤ 65536
+
+---- Blocks put in a plane ----
+
+-- all of a block lies in an area
+pub record LiesIn (a : Area) (p : Place) : Type 0 where
+  pub start : StartsIn a p.row p.column
+  pub below : p.row + p.rows ≤ lower_end a
+  pub right : p.column + p.columns ≤ right_end a
+
+-- a block put in at its place
+abbrev pub with_place : Area → Map → Place → Map → Map
+with_place a m p block = with_part a m p.row p.column p.rows p.columns block
+
+-- row i of n samples is among so many, of which each row begins `stride` behind the one above, the first at `from`
+pub record HasCopy (long stride from n i : ℕ) : Type 0 where
+  pub room : i * stride + (from + n) ≤ long
+  pub low : i ≤ 256
+  pub apart : stride ≤ 65536
+  pub near : from ≤ 65536
+  pub few : n ≤ 64
+
+abbrev pub copied_from : List ℕ → ℕ → ℕ → Map
+copied_from samples stride from = λ i j. strided stride samples i (from + j)
+
+-- row i of n values has its eight lines of n
+pub record HasColumns {T : Type 0} (stand_for : T → List ℤ) (hold : T → Type 0) (takes : ℕ → Type 0) (f : LineFilter T) (lines : List ℕ) (n i : ℕ) : Type 0 where
+  pub filter : IsFilter stand_for hold takes f
+  pub room : (i + 8) * n ≤ length lines
+  pub small : (k : ℕ) → slice_index lines k ≤ f.most
+  pub low : i < 64
+  pub few : n ≤ 64
+  pub sixteens : n ≡ 16 * (n / 16)
+
+-- values filtered down columns of lines of n, tap k in the line that lies k below the value's own
+abbrev pub filtered_below : ℕ → List ℤ → List ℕ → ℕ → Map
+filtered_below most taps lines n = λ i j. filtered most taps (λ k. slice_index lines ((i + k) * n + j))

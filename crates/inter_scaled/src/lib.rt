@@ -3,6 +3,7 @@
 
 mod down;
 mod filter;
+mod in_plane;
 mod kept;
 mod laws;
 mod lines;
@@ -13,6 +14,7 @@ mod prediction;
 mod rows;
 mod scaled;
 
+pub use in_plane::predict_in_plane;
 pub use laws::{phase_zero_copies, rows_suffice, samples_stay_in_range};
 pub use means::average;
 pub use prediction::{LINES, predict};

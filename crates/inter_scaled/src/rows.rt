@@ -236,7 +236,7 @@ fn fill_rows<P: FilterSample, S: Samples<Kept = P>>(
 /// So many rows of the reference, from the one on that lies `first` after the third before the first, and how far each begins
 /// behind the one above, if they are inside of it and lie in one piece.
 #[inline(always)]
-fn piece_of<'a, P: Sample, S: Samples<Kept = P>>(
+pub(crate) fn piece_of<'a, P: Sample, S: Samples<Kept = P>>(
     view: &'a S,
     place: &Place,
     first: usize,
