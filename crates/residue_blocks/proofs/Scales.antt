@@ -2,6 +2,7 @@
 use Rattle.std.proofs.Common.{◌≡◌, ℕ, ◌+◌, ◌<◌, ◌≤◌, ℤ, pos, ◌*ℤ◌, Bool, true, false, ◌&&◌, List, length, set, refl, sym, ◌∙◌, ap, subst, arith, inl, inr, nat_eq, Ok, length-set, All, to_z, of_z, unsigned_abs, bit_or, below_more}
 use mir.Syntax.{w32}
 use mir.Val.{SFits}
+use Rattle.std.specs.Bool.{OnTrue}
 use Rattle.std.proofs.lemmas.Nat.{le_or_l, le_or_r}
 use Rattle.std.proofs.lemmas.Int.{to_z-of_z}
 use Rattle.std.proofs.lemmas.Grind.{get_or-set_at}
@@ -21,6 +22,10 @@ use Rattle.inverse_transforms.proofs.LaneLemmas.{hold_more, place_more, kept}
 use Rattle.residue_blocks.specs.Residue.{IsShort, Fitting, scaled, quantiser, coefficient, coefficients}
 use Rattle.residue_blocks.specs.declared.quant.Quant.{Quant}
 use Rattle.residue_blocks.proofs.Coefs.{misfit_at, all_done}
+
+pub all_short : (levels : List ℤ) (n : ℕ) (all : Bool) → length levels ≤ n → OnTrue all ((k : ℕ) → k < n → IsShort (at levels k)) → OnTrue all (All IsShort levels)
+all_short levels n true past so_far = λ k d low. rw (get_or_default levels k d (pos 0) low) (so_far k (omega arith))
+all_short levels n false past so_far = tt
 
 pub all_under : (levels : List ℤ) (n whole : ℕ) → length levels ≤ n → ((k : ℕ) → k < n → unsigned_abs (at levels k) ≤ whole) →
     All (λ x. unsigned_abs x ≤ whole) levels

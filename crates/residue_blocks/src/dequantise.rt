@@ -1,6 +1,7 @@
 //! From levels to coefficients.
 
 ghost use Rattle.std.specs.Prelude.{◌≡◌, ℕ, ◌+◌, ◌*◌, ◌^◌, ◌<◌, ◌≤◌, ◌*ℤ◌, pos, unsigned_abs, length, All};
+ghost use Rattle.std.specs.Bool.{OnTrue};
 ghost use Rattle.inverse_transforms.specs.Ranges.{fits, limit_of};
 ghost use Rattle.residue_blocks.specs.Residue.{IsLevel, IsShort, scaled, quantiser, coefficient, Fitting, Dequantises};
 
@@ -92,15 +93,15 @@ fn dequantise_short(block: &mut [i32], tx: TxSize, quant: Quant) -> Result<(), R
     Err(Rule::CoefRange)
 }
 
-/// The coefficients of levels, in their places. None has a magnitude above `whole`.
+/// The coefficients of levels, in their places. Where `short` is true, all are short.
 #[inline(always)]
-pub fn dequantise(block: &mut [i32], whole: u32, tx: TxSize, quant: Quant) -> Result<(), Rule>
+pub fn dequantise(block: &mut [i32], short: bool, tx: TxSize, quant: Quant) -> Result<(), Rule>
     requires some { 0 < length block.old }
     requires levels { All IsLevel block.old }
-    requires whole { All (λ x. unsigned_abs x ≤ whole) block.old }
+    requires short { OnTrue short (All IsShort block.old) }
     ensures { Dequantises quant tx block.old result block.new }
 {
-    if whole <= 16384 {
+    if short {
         return dequantise_short(block, tx, quant);
     }
     dequantise_any(block, tx, quant)

@@ -46,15 +46,13 @@ fn are_cosines(tx: TxSize, kind: TxType, quant: Quant) -> bool
     rows & columns
 }
 
-/// Whether the residue is one value everywhere. Where `whole`, the bits of all magnitudes, has others than the first level
-/// has, the rest isn't looked at.
+/// Whether the residue is one value everywhere.
 #[inline(always)]
-pub fn is_flat(block: &[i32], whole: u32, tx: TxSize, kind: TxType, quant: Quant) -> bool
-    requires some { 0 < length block.now }
+pub fn is_flat(block: &[i32], tx: TxSize, kind: TxType, quant: Quant) -> bool
     ensures alone { OnTrue result (IsFirstAlone block.now) }
     ensures cosines { OnTrue result (AreCosines quant.lossless tx kind) }
 {
-    are_cosines(tx, kind, quant) && block[0].unsigned_abs() == whole && is_first_alone(block)
+    are_cosines(tx, kind, quant) && is_first_alone(block)
 }
 
 #[inline(always)]

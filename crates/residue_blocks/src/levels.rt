@@ -1,17 +1,19 @@
 //! From levels to residue.
 
 ghost use Rattle.std.specs.Prelude.{◌≡◌, ◌+◌, ◌*◌, ◌^◌, ◌≤◌, ◌<◌, length, unsigned_abs, All, IsTrue, OnOk};
+ghost use Rattle.std.specs.Bool.{OnTrue};
 ghost use Rattle.inverse_transforms.specs.Flow.{Gives};
 ghost use Rattle.inverse_transforms.specs.Ranges.{IsSmall};
 ghost use Rattle.vp9_tables.specs.Scans.{area};
 ghost use Rattle.vp9_types.specs.Sizes.{side};
-ghost use Rattle.residue_blocks.specs.Residue.{IsLevel, has_size, log2_of, rounding_bits, kind_of_rows, kind_of_columns, reconstructed, residue};
+ghost use Rattle.residue_blocks.specs.Residue.{IsLevel, IsShort, has_size, log2_of, rounding_bits, kind_of_rows, kind_of_columns, reconstructed, residue};
+ghost use Rattle.residue_blocks.specs.First.{IsFirstAlone, AreCosines};
 
 use crate::dequantise::dequantise;
 use crate::first::{flatten, is_flat};
 use crate::kind::{kind_of_columns, kind_of_rows, log2_of, rounding_bits};
 use crate::quant::Quant;
-use crate::scale::whole_of;
+use crate::scale::{are_short, whole_of};
 use crate::turn::{Pass, turn_rows};
 use vp9_types::{Rule, TxSize, TxType};
 
@@ -87,23 +89,55 @@ fn reconstruct(block: &mut [i32], tx: TxSize, kind: TxType, quant: Quant) -> Res
     }
 }
 
+/// The residue of a first level alone.
+#[inline(always)]
+fn flat_residue(block: &mut [i32], tx: TxSize, kind: TxType, quant: Quant) -> Result<(), Rule>
+    requires size { length block.old ≡ area tx }
+    requires levels { All IsLevel block.old }
+    requires alone { IsFirstAlone block.old }
+    requires cosines { AreCosines quant.lossless tx kind }
+    ensures gives { Gives (residue quant tx kind block.old) result block.new }
+    ensures small { OnOk result (All (λ x. unsigned_abs x < 2 ^ 24) block.new) }
+{
+    flatten(block, tx, quant)
+}
+
+/// The residue of any levels, which are short where `short` is true.
 #[inline(always)]
 #[tactic(auto, unfolding(crate::specs::Residue::residue))]
-fn residue_of(block: &mut [i32], tx: TxSize, kind: TxType, quant: Quant) -> Result<(), Rule>
+fn whole_residue(
+    block: &mut [i32],
+    short: bool,
+    tx: TxSize,
+    kind: TxType,
+    quant: Quant,
+) -> Result<(), Rule>
+    requires size { length block.old ≡ area tx }
+    requires levels { All IsLevel block.old }
+    requires short { OnTrue short (All IsShort block.old) }
+    ensures gives { Gives (residue quant tx kind block.old) result block.new }
+    ensures small { OnOk result (All (λ x. unsigned_abs x < 2 ^ 24) block.new) }
+{
+    dequantise(block, short, tx, quant)?;
+    reconstruct(block, tx, kind, quant)
+}
+
+/// Looks at the levels twice, which costs little where they are few.
+#[inline(always)]
+fn small_residue(block: &mut [i32], tx: TxSize, kind: TxType, quant: Quant) -> Result<(), Rule>
     requires size { length block.old ≡ area tx }
     requires levels { All IsLevel block.old }
     ensures gives { Gives (residue quant tx kind block.old) result block.new }
     ensures small { OnOk result (All (λ x. unsigned_abs x < 2 ^ 24) block.new) }
 {
-    let whole = whole_of(block);
-    if is_flat(block, whole, tx, kind, quant) {
-        return flatten(block, tx, quant);
+    if is_flat(block, tx, kind, quant) {
+        return flat_residue(block, tx, kind, quant);
     }
-    dequantise(block, whole, tx, quant)?;
-    reconstruct(block, tx, kind, quant)
+    let short = are_short(block);
+    whole_residue(block, short, tx, kind, quant)
 }
 
-/// The same, away from the caller.
+/// Looks at the levels once, and again only where the first has all bits that any magnitude has, as it has if it is alone.
 #[inline(never)]
 fn large_residue(block: &mut [i32], tx: TxSize, kind: TxType, quant: Quant) -> Result<(), Rule>
     requires size { length block.old ≡ area tx }
@@ -111,7 +145,11 @@ fn large_residue(block: &mut [i32], tx: TxSize, kind: TxType, quant: Quant) -> R
     ensures gives { Gives (residue quant tx kind block.old) result block.new }
     ensures small { OnOk result (All (λ x. unsigned_abs x < 2 ^ 24) block.new) }
 {
-    residue_of(block, tx, kind, quant)
+    let whole = whole_of(block);
+    if block[0].unsigned_abs() == whole && is_flat(block, tx, kind, quant) {
+        return flat_residue(block, tx, kind, quant);
+    }
+    whole_residue(block, whole <= 16384, tx, kind, quant)
 }
 
 /// Makes the residue of a block's levels, both row by row. A value that doesn't fit before the transforms is
@@ -125,7 +163,7 @@ pub fn residue(block: &mut [i32], tx: TxSize, kind: TxType, quant: Quant) -> Res
 {
     // Most blocks are the smallest, and their loops are of known length where the caller knows the size.
     match tx {
-        TxSize::T4x4 => residue_of(block, tx, kind, quant),
+        TxSize::T4x4 => small_residue(block, tx, kind, quant),
         TxSize::T8x8 | TxSize::T16x16 | TxSize::T32x32 => large_residue(block, tx, kind, quant),
     }
 }

@@ -1,6 +1,7 @@
 //! Levels that are short, as nearly all are: they are multiplied in 32 bits, and tested all at once.
 
 ghost use Rattle.std.specs.Prelude.{◌≡◌, ℕ, ◌^◌, ◌<◌, ◌≤◌, ◌*ℤ◌, pos, unsigned_abs, length, All};
+ghost use Rattle.std.specs.Bool.{OnTrue};
 ghost use Rattle.inverse_transforms.specs.Flow.{at};
 ghost use Rattle.inverse_transforms.specs.Columns.{AllHold};
 ghost use Rattle.inverse_transforms.specs.Ranges.{fits};
@@ -8,6 +9,26 @@ ghost use Rattle.residue_blocks.specs.Residue.{IsShort, scaled};
 
 use inverse_transforms::is_fit;
 use vp9_types::TxSize;
+
+#[inline(always)]
+fn is_short(x: i32) -> bool
+    ensures { OnTrue result (IsShort x) }
+{
+    (-16384 <= x) & (x <= 16384)
+}
+
+/// Whether all are short.
+#[inline(always)]
+pub fn are_short(levels: &[i32]) -> bool
+    ensures { OnTrue result (All IsShort levels.now) }
+{
+    let mut all = true;
+    for place in 0..levels.len() {
+        let here = is_short(levels[place]);
+        all = all & here;
+    }
+    all
+}
 
 /// The bits of all magnitudes.
 #[inline(always)]
