@@ -1,4 +1,4 @@
-/* The inter predictor of crates/inter_scaled in C: blocks out of a plane of 512x512 samples, in two passes, each loop
+/* The inter predictor of crates/inter_predict in C: blocks out of a plane of 512x512 samples, in two passes, each loop
    compiled for each size; one pass where the other's phase is 0, and copies where both are. It predicts what
    crates/bench predicts, and prints the same checksums. */
 #include <inttypes.h>

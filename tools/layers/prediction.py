@@ -1,4 +1,4 @@
-"""Prediction: blocks and planes of `intra_predict`, places of `inter_places` and blocks of `inter_scaled`."""
+"""Prediction: blocks and planes of `intra_predict`, places of `inter_places` and blocks of `inter_predict`."""
 import random
 
 from vp9model.blocks import SIZES

@@ -1,4 +1,4 @@
-"""Transforms: what `inverse_transforms` gives of lists, and `residue_blocks` of blocks. Each flow of a DCT is compared with the sum
+"""Transforms: what `inverse_transforms` gives of lists, and `residue_transforms` of blocks. Each flow of a DCT is compared with the sum
 of cosines that it stands for."""
 import math
 

@@ -11,7 +11,7 @@ use Rattle.block_plan.specs.declared.block.InterPrediction.{InterPrediction}
 use Rattle.block_plan.specs.declared.block.Prediction.{Prediction}
 use Rattle.block_plan.specs.declared.block.Prediction.TheVariants.{Intra, Inter}
 use Rattle.inter_places.specs.Places.{IsReference, place_of}
-use Rattle.inter_scaled.proofs.Agree.{place_below}
+use Rattle.inter_predict.proofs.Agree.{place_below}
 use Rattle.band_cells.specs.Bands.{band_height}
 use Rattle.band_needs.proofs.Exact.{needs_are}
 use Rattle.band_needs.specs.Needs.{needs_of}

@@ -5,11 +5,11 @@
 ghost use Rattle.std.specs.Prelude.{◌≡◌, ◌≤◌, ◌^◌, unsigned_abs, length, All};
 ghost use Rattle.std.specs.Bool.{OnTrue};
 ghost use Rattle.inverse_transforms.specs.Ranges.{IsSmall};
-ghost use Rattle.residue_blocks.specs.Residue.{IsLevel};
+ghost use Rattle.residue_transforms.specs.Residue.{IsLevel};
 
 use crate::numbers::drawn;
 use inverse_transforms::{Lanes, dct_columns};
-use residue_blocks::{Quant, residue};
+use residue_transforms::{Quant, residue};
 use std::alloc::{AllocError, Global};
 use vp9_types::{Depth, Rule, TxSize, TxType};
 

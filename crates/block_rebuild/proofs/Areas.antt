@@ -48,7 +48,7 @@ use Rattle.block_rebuild.specs.InterBlocks.{Rebuilding, part_of, predicted_part,
 use Rattle.block_rebuild.specs.Code.{HoldsBlock, put_more, add_more}
 use Rattle.block_rebuild.specs.Residues.{residues_at}
 use Rattle.block_rebuild.specs.declared.in_plane.IntraInPlane.{IntraInPlane}
-use Rattle.inter_scaled.specs.Code.{LiesIn as LiesInArea, with_place}
+use Rattle.inter_predict.specs.Code.{LiesIn as LiesInArea, with_place}
 use Rattle.block_rebuild.proofs.Parts.{whole_part, place_put}
 use Rattle.block_rebuild.proofs.Puts.{first_is, length_first}
 use Rattle.block_rebuild.proofs.Fits.{LiesInBlock, all_fit}

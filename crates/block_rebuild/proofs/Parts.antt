@@ -21,9 +21,9 @@ use Rattle.inter_places.specs.Axes.{IsPlace, first_place, last_place}
 use Rattle.inter_places.specs.Places.{IsReference, place_of}
 use Rattle.inter_places.specs.declared.axis.Place.{Place}
 use Rattle.inter_places.specs.declared.part.BlockPart.{BlockPart}
-use Rattle.inter_scaled.specs.Inter.{average, both}
-use Rattle.inter_scaled.proofs.Agree.{place_below, predicted_small}
-use Rattle.inter_scaled.proofs.Blocks.{place_below as entry_below}
+use Rattle.inter_predict.specs.Inter.{average, both}
+use Rattle.inter_predict.proofs.Agree.{place_below, predicted_small}
+use Rattle.inter_predict.proofs.Blocks.{place_below as entry_below}
 use Rattle.planes.specs.Planes.{lower_end, right_end, with_part}
 use Rattle.planes.specs.declared.area.Area.{Area}
 use Rattle.planes.proofs.PlaneLemmas.{with_block_small}

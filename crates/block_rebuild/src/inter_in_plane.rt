@@ -14,7 +14,7 @@ ghost use Rattle.block_plan.specs.declared.block.Prediction.TheVariants.{Inter};
 ghost use Rattle.inter_places.specs.Axes.{IsPlace};
 ghost use Rattle.inter_places.specs.Places.{IsPart, place_of};
 ghost use Rattle.planes.specs.Planes.{StartsIn, plane_map, with_part};
-ghost use Rattle.inter_scaled.specs.Code.{LiesIn, with_place};
+ghost use Rattle.inter_predict.specs.Code.{LiesIn, with_place};
 ghost use Rattle.block_rebuild.specs.InterBlocks.{part_of, predicted_from, predicted_part, put_part, put_prediction, put_inter};
 ghost use Rattle.block_rebuild.specs.Code.{IsPartOf, IsServed, AreInV, AreServed, AreTwoPlaces, picture_of, reference_of, rebuilding_of};
 ghost use Rattle.block_rebuild.specs.Residues.{HoldsAll, residues_of};
@@ -25,10 +25,10 @@ use crate::residues::TransformResidues;
 use crate::room::GREATEST_BLOCK;
 use block_geometry::{FramePlaces, transform_grid};
 use block_plan::{BlockInfo, InterPrediction, plane_block};
-use inter_lanes::FilterSample;
 use inter_places::{BlockPart, Place, part_count, place};
-use inter_scaled::{LINES, average, predict, predict_in_plane};
+use inter_predict::{LINES, average, predict, predict_in_plane};
 use planes::SamplePlane;
+use tap_filter::FilterSample;
 use vp9_types::{Plane, ReferenceFrame, Sample, Samples};
 
 /// An inter block: what its planes share.

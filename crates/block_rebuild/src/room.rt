@@ -1,8 +1,8 @@
 ghost use Rattle.std.specs.Prelude.{◌≡◌, length};
 
-use inter_lanes::FilterSample;
-use inter_scaled::LINES;
+use inter_predict::LINES;
 use intra_predict::Scratch;
+use tap_filter::FilterSample;
 
 /// How many samples the greatest block has.
 pub(crate) const GREATEST_BLOCK: usize = 4096;

@@ -12,10 +12,10 @@ use Rattle.block_plan.specs.Planned.{PlannedBlock, Residue, Residues, residues_i
 use Rattle.block_plan.specs.declared.block.BlockInfo.{BlockInfo}
 use Rattle.counting_reader.specs.Counting.{Yields, settle, through}
 use Rattle.counting_reader.proofs.Yields.{yields_bind, yields_map}
-use Rattle.block_residue.specs.Residues.{ReadPlane, planned, read_block, read_in_plane, read_next, read_plane, read_residue, read_skipped}
-use Rattle.block_residue.specs.Sides.{Sides}
-use Rattle.block_residue.specs.declared.in_plane.BlockInPlane.{BlockInPlane}
-use Rattle.block_residue.specs.declared.sides.TileSides.{TileSides}
+use Rattle.residue_syntax.specs.Residues.{ReadPlane, planned, read_block, read_in_plane, read_next, read_plane, read_residue, read_skipped}
+use Rattle.residue_syntax.specs.Sides.{Sides}
+use Rattle.residue_syntax.specs.declared.in_plane.BlockInPlane.{BlockInPlane}
+use Rattle.residue_syntax.specs.declared.sides.TileSides.{TileSides}
 use Rattle.column_order.proofs.TxFits.{any_bind, either}
 
 abbrev places : Residues → List (ℕ × ℕ)

@@ -12,7 +12,7 @@ use Rattle.block_plan.specs.declared.block.BlockAt.{BlockAt}
 use Rattle.block_plan.specs.declared.block.BlockInfo.{BlockInfo}
 use Rattle.block_rebuild.specs.Laws.{IsInColumn, IsRead}
 use Rattle.block_rebuild.specs.Strips.{Region, superblock_row}
-use Rattle.block_residue.specs.Residues as residues
+use Rattle.residue_syntax.specs.Residues as residues
 use Rattle.counting_reader.specs.Counting.{Yields, lifted, settle}
 use Rattle.counting_reader.proofs.Yields.{yields_bind, yields_map}
 use Rattle.inter_modes.specs.ModeInfo.{mode_info}

@@ -11,9 +11,9 @@ use Rattle.block_geometry.specs.Code.{IsSmallGrid}
 use Rattle.block_geometry.specs.TransformBlocks.{tx_step}
 use Rattle.block_geometry.specs.declared.transform_blocks.TransformGrid.{TransformGrid}
 use Rattle.block_plan.proofs.Held.{one_long}
-use Rattle.block_residue.specs.BlocksInPlanes.{token_kind, type_at}
-use Rattle.block_residue.specs.declared.in_plane.BlockInPlane.{BlockInPlane}
-use Rattle.block_residue.proofs.PlaneReads.{all_fit, room_for}
+use Rattle.residue_syntax.specs.BlocksInPlanes.{token_kind, type_at}
+use Rattle.residue_syntax.specs.declared.in_plane.BlockInPlane.{BlockInPlane}
+use Rattle.residue_syntax.proofs.PlaneReads.{all_fit, room_for}
 use Rattle.residue_writer.specs.Fits.{CanPutAt}
 use Rattle.residue_writer.specs.Said.{levels_at}
 use Rattle.residue_writer.specs.declared.levels.PlaneLevels.{PlaneLevels}

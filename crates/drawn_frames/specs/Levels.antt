@@ -8,8 +8,8 @@ use Rattle.frame_headers.specs.State.{shape_of}
 use Rattle.frame_headers.specs.declared.header.Header.{Header}
 use Rattle.block_plan.specs.InPlanes.{places_in}
 use Rattle.block_plan.specs.declared.block.BlockInfo.{BlockInfo}
-use Rattle.block_residue.specs.BlocksInPlanes.{block_in, type_at}
-use Rattle.block_residue.specs.declared.in_plane.BlockInPlane.{BlockInPlane}
+use Rattle.residue_syntax.specs.BlocksInPlanes.{block_in, type_at}
+use Rattle.residue_syntax.specs.declared.in_plane.BlockInPlane.{BlockInPlane}
 use Rattle.residue_writer.specs.declared.levels.BlockLevels.{BlockLevels}
 use Rattle.residue_writer.specs.declared.levels.PlaneLevels.{PlaneLevels}
 use Rattle.drawn_symbols.specs.Draws.{Drawn, stay, ◌>>=◌}

@@ -5,16 +5,16 @@ ghost use Rattle.frame_headers.specs.State.{shape_of};
 ghost use Rattle.prob_contexts.specs.Lists.{ContextLists};
 ghost use Rattle.block_geometry.specs.Code.{IsSmallGrid};
 ghost use Rattle.block_geometry.specs.TransformBlocks.{grid_blocks, tx_step};
-ghost use Rattle.block_residue.specs.Code.{IsInFrame};
+ghost use Rattle.residue_syntax.specs.Code.{IsInFrame};
 ghost use Rattle.residue_writer.specs.Fits.{CanPutAll, CanPutBlock, CanPutIn};
 ghost use Rattle.drawn_symbols.specs.Draws.{IsDrawn};
 ghost use Rattle.drawn_frames.specs.Levels.{draw_block_levels, draw_from, draw_plane, no_plane};
 
 use block_geometry::{TransformGrid, transform_grid};
 use block_plan::BlockInfo;
-use block_residue::BlockInPlane;
 use drawn_symbols::{Draws, draw_levels_at};
 use frame_setting::FrameSetting;
+use residue_syntax::BlockInPlane;
 use residue_writer::{BlockLevels, PlaneLevels};
 use vp9_tables::area_of;
 use vp9_types::Plane;

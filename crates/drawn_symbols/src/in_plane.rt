@@ -6,12 +6,12 @@ ghost use Rattle.vp9_tables.specs.Scans.{area, scan_of};
 ghost use Rattle.prob_contexts.specs.Lists.{ContextLists};
 ghost use Rattle.coef_tokens.specs.Blocks.{block_tables};
 ghost use Rattle.token_writer.specs.Fits.{CanPut};
-ghost use Rattle.block_residue.specs.BlocksInPlanes.{token_kind, type_at};
+ghost use Rattle.residue_syntax.specs.BlocksInPlanes.{token_kind, type_at};
 ghost use Rattle.drawn_symbols.specs.Levels.{draw_levels, placed_from};
 
 use crate::draws::Draws;
 use crate::levels::draw_levels;
-use block_residue::BlockInPlane;
+use residue_syntax::BlockInPlane;
 use vp9_tables::scan;
 
 /// Draws the levels of the transform block at a row and column, in 4s, by position, and how many places of its scan are coded.

@@ -13,9 +13,9 @@ use Rattle.block_plan.specs.declared.block.BlockInfo.{BlockInfo}
 use Rattle.block_plan.specs.declared.block.Prediction.{Prediction}
 use Rattle.block_plan.specs.declared.block.Prediction.TheVariants.{Intra, Inter}
 use Rattle.block_plan.specs.declared.residues.BlockResidues.{BlockResidues}
-use Rattle.block_residue.specs.Residues.{listed}
-use Rattle.block_residue.specs.Residues as residues
-use Rattle.block_residue.specs.declared.sides.TileSides.{TileSides}
+use Rattle.residue_syntax.specs.Residues.{listed}
+use Rattle.residue_syntax.specs.Residues as residues
+use Rattle.residue_syntax.specs.declared.sides.TileSides.{TileSides}
 use Rattle.block_rebuild.specs.Blocks.{put_planned, put_by, put_intra}
 use Rattle.block_rebuild.specs.InterBlocks.{Rebuilding, predicted_part, put_inter, put_prediction}
 use Rattle.inter_modes.specs.ModeInfo.{mode_info}

@@ -19,8 +19,8 @@ use Rattle.counting_reader.proofs.Mapped.{mapped_after}
 use Rattle.block_geometry.specs.declared.transform_blocks.FramePlaces.{FramePlaces}
 use Rattle.block_plan.specs.Planned.{PlannedBlock}
 use Rattle.block_plan.specs.declared.block.BlockAt.{BlockAt}
-use Rattle.block_residue.specs.Residues as residues
-use Rattle.block_residue.specs.declared.sides.TileSides.{TileSides}
+use Rattle.residue_syntax.specs.Residues as residues
+use Rattle.residue_syntax.specs.declared.sides.TileSides.{TileSides}
 use Rattle.mode_syntax.proofs.Mapped.{tile_everywhere}
 use Rattle.inter_modes.specs.ModeInfo.{mode_info}
 use Rattle.mode_syntax.specs.Walk.{Walk, decode_tile}

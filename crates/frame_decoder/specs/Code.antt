@@ -17,8 +17,8 @@ use Rattle.counting_reader.specs.declared.reader.CountingReader.{CountingReader}
 use Rattle.block_geometry.specs.declared.transform_blocks.FramePlaces.{FramePlaces}
 use Rattle.block_plan.specs.declared.block.BlockAt.{BlockAt}
 use Rattle.block_plan.specs.declared.block.BlockInfo.{BlockInfo}
-use Rattle.block_residue.specs.Residues as residues
-use Rattle.block_residue.specs.declared.sides.TileSides.{TileSides}
+use Rattle.residue_syntax.specs.Residues as residues
+use Rattle.residue_syntax.specs.declared.sides.TileSides.{TileSides}
 use Rattle.inter_modes.specs.ModeInfo.{mode_info}
 use Rattle.mode_syntax.specs.Walk.{Walk}
 use Rattle.planes.specs.Pictures.{HasSizes, IsInRange, map_of, samples_of}

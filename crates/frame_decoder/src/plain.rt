@@ -11,12 +11,12 @@ ghost use Rattle.frame_decoder.specs.Code.{plain_block, pictures_of, tile_of, Ar
 use block_geometry::FramePlaces;
 use block_plan::{BlockAt, BlockResidues};
 use block_rebuild::{RebuildRoom, Rebuilding, RoomSample, put_block};
-use block_residue::read_block;
 use counting_reader::CountingReader;
 use frame_state::{FrameSources, TileColumn, frame_is_intra};
 use inter_modes::mode_info;
 use mode_syntax::{SquareAt, read_partition};
 use planes::{FramePlanes, Picture};
+use residue_syntax::read_block;
 use tile_reader::TileReader;
 use vp9_types::{Partition, Rule, Sample};
 

@@ -10,7 +10,7 @@ use Rattle.block_plan.specs.declared.block.BlockAt.{BlockAt}
 use Rattle.block_plan.specs.declared.block.BlockInfo.{BlockInfo}
 use Rattle.block_plan.specs.declared.block.Prediction.{Prediction}
 use Rattle.block_plan.specs.declared.block.Prediction.TheVariants.{Intra, Inter}
-use Rattle.block_residue.specs.Residues.{listed}
+use Rattle.residue_syntax.specs.Residues.{listed}
 use Rattle.block_plan.specs.declared.block.InterPrediction.{InterPrediction}
 use Rattle.mv_prediction.specs.Candidates.{vector_of}
 use Rattle.mv_prediction.specs.Code.{HasSmallVectors, PredictsSmall}

@@ -21,9 +21,9 @@ use Rattle.counting_reader.specs.Counting.{counted_if}
 use Rattle.std.proofs.lemmas.List.Sums.{fold-append}
 use Rattle.block_geometry.specs.Frames.{places_of}
 use Rattle.block_geometry.specs.declared.transform_blocks.FramePlaces.{FramePlaces}
-use Rattle.block_residue.specs.Code.{FitPlane, FitPlanes}
-use Rattle.block_residue.specs.Sides.{Sides, nothing_left}
-use Rattle.block_residue.specs.declared.sides.TileSides.{TileSides}
+use Rattle.residue_syntax.specs.Code.{FitPlane, FitPlanes}
+use Rattle.residue_syntax.specs.Sides.{Sides, nothing_left}
+use Rattle.residue_syntax.specs.declared.sides.TileSides.{TileSides}
 use Rattle.frame_setting.specs.declared.setting.FrameSetting.{FrameSetting}
 use Rattle.frame_state.specs.Columns.{AllFit, AllLie, AllSmall, AllStart, AreTileColumns, IsTileColumn, blocks_of, limit_of}
 use Rattle.frame_state.specs.Code.{IsReady, SameColumns, column_as_listed, column_of_code, counts_if}

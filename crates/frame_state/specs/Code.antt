@@ -16,7 +16,7 @@ use Rattle.prob_contexts.specs.Lists.{ContextLists, lists_of}
 use Rattle.prob_contexts.specs.declared.kind.CountedBool.{CountedBool}
 use Rattle.counting_reader.specs.Counting.{Settled}
 use Rattle.block_plan.specs.declared.block.BlockInfo.{BlockInfo}
-use Rattle.block_residue.specs.Code.{FitPlanes}
+use Rattle.residue_syntax.specs.Code.{FitPlanes}
 use Rattle.frame_state.specs.Columns.{AllFit, AllLie, AllSmall, AllStart, limit_of}
 use Rattle.frame_state.specs.Past.{past_of}
 use Rattle.frame_state.specs.Reading.{Column, infos, read_frame}

@@ -11,7 +11,7 @@ use Rattle.frame_headers.specs.Tiles.{AreFewTiles}
 use Rattle.frame_headers.specs.declared.header.Header.{Header}
 use Rattle.block_geometry.specs.Sizes.{width_8}
 use Rattle.block_plan.specs.declared.block.BlockInfo.{BlockInfo}
-use Rattle.block_residue.specs.Code.{FitPlanes}
+use Rattle.residue_syntax.specs.Code.{FitPlanes}
 use Rattle.block_plan.specs.declared.block.InterPrediction.{InterPrediction}
 use Rattle.block_plan.specs.declared.block.Prediction.TheVariants.{Inter}
 use Rattle.mv_prediction.specs.Candidates.{vector_of}

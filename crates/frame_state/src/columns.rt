@@ -8,8 +8,8 @@ ghost use Rattle.frame_state.specs.Columns.{AreTileColumns, IsTileColumn};
 use crate::tile_places::tile_offset;
 use block_geometry::FramePlaces;
 use block_plan::BlockGrid;
-use block_residue::TileSides;
 use frame_setting::FrameSetting;
+use residue_syntax::TileSides;
 use std::alloc::{AllocError, Global};
 
 /// A tile column of a frame: its blocks so far, and where those above and at the left have coefficients.

@@ -15,7 +15,7 @@ use Rattle.frame_headers.specs.State.{SlotsHaveSizes, shape_of, start_persist}
 use Rattle.frame_headers.specs.declared.header.Header.{Header}
 use Rattle.block_geometry.specs.Sizes.{width_8}
 use Rattle.block_plan.specs.declared.block.BlockInfo.{BlockInfo}
-use Rattle.block_residue.specs.Code.{FitPlanes}
+use Rattle.residue_syntax.specs.Code.{FitPlanes}
 use Rattle.block_geometry.specs.declared.transform_blocks.FramePlaces.{FramePlaces}
 use Rattle.column_plan.specs.Rows.{place_of_row}
 use Rattle.column_plan.specs.declared.rows.RowPlace.{RowPlace}

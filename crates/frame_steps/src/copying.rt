@@ -7,10 +7,10 @@ ghost use Rattle.frame_state.specs.Columns.{IsTileColumn};
 ghost use Rattle.prob_contexts.specs.Counted.{joined_counts, no_counts};
 
 use block_plan::BlockGrid;
-use block_residue::TileSides;
 use frame_setting::FrameSetting;
 use frame_state::{TileColumn, TilePlaces};
 use prob_contexts::Counts;
+use residue_syntax::TileSides;
 use std::alloc::{AllocError, Global};
 
 /// Counts once more.

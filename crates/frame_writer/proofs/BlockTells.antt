@@ -19,9 +19,9 @@ use Rattle.block_plan.specs.Grid.{GridOf}
 use Rattle.block_plan.specs.Planned.{PlannedBlock}
 use Rattle.block_plan.specs.declared.block.BlockAt.{BlockAt}
 use Rattle.block_plan.specs.declared.block.BlockInfo.{BlockInfo}
-use Rattle.block_residue.specs.Residues.{ReadPlane, any_coded, listed, planned}
-use Rattle.block_residue.specs.Residues as residues
-use Rattle.block_residue.specs.declared.sides.TileSides.{TileSides}
+use Rattle.residue_syntax.specs.Residues.{ReadPlane, any_coded, listed, planned}
+use Rattle.residue_syntax.specs.Residues as residues
+use Rattle.residue_syntax.specs.declared.sides.TileSides.{TileSides}
 use Rattle.inter_modes.specs.ModeInfo.{mode_info}
 use Rattle.frame_state.specs.Columns.{limit_of}
 use Rattle.frame_state.specs.Reading.{TileRead, infos, read_block}

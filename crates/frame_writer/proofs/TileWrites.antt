@@ -16,8 +16,8 @@ use Rattle.frame_headers.specs.State.{shape_of}
 use Rattle.frame_headers.specs.declared.header.Header.{Header}
 use Rattle.block_geometry.specs.Frames.{places_of}
 use Rattle.block_plan.specs.declared.block.BlockInfo.{BlockInfo}
-use Rattle.block_residue.specs.Code.{FitPlanes}
-use Rattle.block_residue.specs.declared.sides.TileSides.{TileSides}
+use Rattle.residue_syntax.specs.Code.{FitPlanes}
+use Rattle.residue_syntax.specs.declared.sides.TileSides.{TileSides}
 use Rattle.frame_setting.specs.declared.setting.FrameSetting.{FrameSetting}
 use Rattle.frame_state.specs.Code.{column_as_listed, column_of_code, read_whole, settled_of, sources_of}
 use Rattle.frame_state.specs.Columns.{AreTileColumns, IsTileColumn}

@@ -22,7 +22,7 @@ use Rattle.prob_contexts.specs.declared.contexts.Contexts.{Contexts}
 use Rattle.vp9_types.specs.declared.job.Span.{Span}
 use Rattle.block_geometry.specs.declared.transform_blocks.FramePlaces.{FramePlaces}
 use Rattle.block_plan.specs.declared.block.BlockInfo.{BlockInfo}
-use Rattle.block_residue.specs.declared.sides.TileSides.{TileSides}
+use Rattle.residue_syntax.specs.declared.sides.TileSides.{TileSides}
 use Rattle.frame_setting.specs.declared.setting.FrameSetting.{FrameSetting}
 use Rattle.frame_state.specs.Columns.{IsTileColumn}
 use Rattle.frame_state.specs.Code.{IsReady, column_as_listed, column_of_code}

@@ -11,7 +11,7 @@ use Rattle.block_plan.specs.Planned.{PlannedBlock}
 use Rattle.block_plan.specs.declared.block.BlockAt.{BlockAt}
 use Rattle.block_plan.specs.declared.block.BlockInfo.{BlockInfo}
 use Rattle.block_plan.specs.declared.block.Prediction.TheVariants as prediction
-use Rattle.block_residue.specs.declared.sides.TileSides.{TileSides}
+use Rattle.residue_syntax.specs.declared.sides.TileSides.{TileSides}
 use Rattle.inter_modes.specs.ModeInfo.{InterFrame, block_with, sources_of}
 use Rattle.inter_modes.specs.declared.starts.BlockStart.{BlockStart}
 use Rattle.frame_state.specs.Reading.{TileRead, infos}

@@ -6,7 +6,7 @@ ghost use Rattle.frame_headers.specs.State.{shape_of};
 ghost use Rattle.vp9_types.specs.declared.block.Partition.{Partition};
 ghost use Rattle.block_plan.specs.declared.block.BlockAt.{BlockAt};
 ghost use Rattle.block_plan.specs.declared.block.BlockInfo.{BlockInfo};
-ghost use Rattle.block_residue.specs.Code.{IsInFrame};
+ghost use Rattle.residue_syntax.specs.Code.{IsInFrame};
 ghost use Rattle.frame_state.specs.Code.{sources_of};
 ghost use Rattle.frame_state.specs.Past.{IsPastOf};
 ghost use Rattle.frame_state.specs.Columns.{AllSmall};

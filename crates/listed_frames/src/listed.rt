@@ -12,7 +12,7 @@ ghost use Rattle.listed_frames.specs.Code.{GivesListed};
 
 use frame_headers::{Persist, Uncompressed};
 use frame_writer::{NotWritten, Written};
-use header_tests::{can_choose, can_say_modes, is_well_formed};
+use header_checks::{can_choose, can_say_modes, is_well_formed};
 use listed_symbols::ListedSymbols;
 use seq_decoder::Decoder;
 use std::alloc::Global;

@@ -14,8 +14,8 @@ use Rattle.prob_contexts.specs.Lists.{ContextLists}
 use Rattle.coef_tokens.specs.Blocks.{block_tables}
 use Rattle.coef_tokens.specs.Places.{Tables}
 use Rattle.block_plan.proofs.Held.{one_long}
-use Rattle.block_residue.specs.BlocksInPlanes.{token_kind, type_at}
-use Rattle.block_residue.specs.declared.in_plane.BlockInPlane.{BlockInPlane}
+use Rattle.residue_syntax.specs.BlocksInPlanes.{token_kind, type_at}
+use Rattle.residue_syntax.specs.declared.in_plane.BlockInPlane.{BlockInPlane}
 use Rattle.token_writer.specs.Fits.{CanPut, IsCoded, level_of}
 use Rattle.residue_writer.specs.Fits.{CanPutAll, CanPutAt}
 use Rattle.residue_writer.specs.Said.{levels_at}

@@ -12,7 +12,7 @@ use Rattle.frame_headers.specs.declared.header.Header.{Header}
 use Rattle.block_plan.specs.InPlanes.{places_in}
 use Rattle.block_plan.specs.declared.block.BlockAt.{BlockAt}
 use Rattle.block_plan.specs.declared.block.BlockInfo.{BlockInfo}
-use Rattle.block_residue.specs.BlocksInPlanes.{block_in}
+use Rattle.residue_syntax.specs.BlocksInPlanes.{block_in}
 use Rattle.inter_modes.specs.ModeInfo.{InterFrame, sources_of, least_before}
 use Rattle.inter_modes.specs.declared.starts.BlockStart.{BlockStart}
 use Rattle.inter_writer.specs.declared.frame_blocks.BlockSymbols.{BlockSymbols}

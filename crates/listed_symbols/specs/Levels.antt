@@ -4,8 +4,8 @@ use Rattle.std.specs.List.{list_all}
 use Rattle.vp9_types.specs.declared.shape.Depth.{Depth}
 use Rattle.vp9_tables.specs.Coefficients.{category_of}
 use Rattle.vp9_tables.specs.Scans.{area, scan_of}
-use Rattle.block_residue.specs.BlocksInPlanes.{type_at}
-use Rattle.block_residue.specs.declared.in_plane.BlockInPlane.{BlockInPlane}
+use Rattle.residue_syntax.specs.BlocksInPlanes.{type_at}
+use Rattle.residue_syntax.specs.declared.in_plane.BlockInPlane.{BlockInPlane}
 use Rattle.residue_writer.specs.declared.levels.PlaneLevels.{PlaneLevels}
 
 ---- Of a transform block ----

@@ -8,13 +8,13 @@ ghost use Rattle.planes.specs.Planes.{HasRow, plane_map, whole_area};
 
 mod rows;
 
-use inter_lanes::FilterSample;
 use inter_places::{Axis, Place};
-use inter_scaled::{LINES, average, predict};
+use inter_predict::{LINES, average, predict};
 use planes::{Area, SamplePlane};
 use rows::{BlockRow, DEPTH_8, DEPTH_10, DEPTH_12, Line};
 use std::alloc::{AllocError, Global};
 use std::test::Fail;
+use tap_filter::FilterSample;
 use test_draws::{Digest, Draws};
 use vp9_types::{InterpFilter, Plane, Sample, Samples};
 

@@ -5,11 +5,11 @@
 ghost use Rattle.std.specs.Prelude.{◌≡◌, ◌≤◌, ◌<◌, length, All};
 ghost use Rattle.std.specs.Bool.{OnTrue};
 ghost use Rattle.vp9_tables.specs.Scans.{area};
-ghost use Rattle.residue_blocks.specs.Residue.{IsLevel};
+ghost use Rattle.residue_transforms.specs.Residue.{IsLevel};
 
 mod vectors;
 
-use residue_blocks::residue;
+use residue_transforms::residue;
 use std::process::Abort;
 use vectors::{
     HEADS_4, HEADS_8, HEADS_16, HEADS_32, Head, LEVELS_4, LEVELS_8, LEVELS_16, LEVELS_32, PLACES_4,

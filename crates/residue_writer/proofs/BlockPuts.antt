@@ -16,10 +16,10 @@ use Rattle.block_plan.specs.declared.block.BlockInfo.{BlockInfo}
 use Rattle.counting_reader.specs.Counting.{through}
 use Rattle.counting_writer.specs.Counted.{PutsTo}
 use Rattle.counting_writer.proofs.CountedPuts.{puts_on, puts_broken, puts_settle}
-use Rattle.block_residue.specs.BlocksInPlanes.{block_in}
-use Rattle.block_residue.specs.Residues.{ReadPlane, read_next, read_skipped, skipped_sides, read_in_plane, read_plane, read_block, listed, planned, is_coded}
-use Rattle.block_residue.specs.Sides.{Sides}
-use Rattle.block_residue.specs.declared.sides.TileSides.{TileSides}
+use Rattle.residue_syntax.specs.BlocksInPlanes.{block_in}
+use Rattle.residue_syntax.specs.Residues.{ReadPlane, read_next, read_skipped, skipped_sides, read_in_plane, read_plane, read_block, listed, planned, is_coded}
+use Rattle.residue_syntax.specs.Sides.{Sides}
+use Rattle.residue_syntax.specs.declared.sides.TileSides.{TileSides}
 use Rattle.residue_writer.specs.Said.{residues_said, said_in_plane, block_said}
 use Rattle.residue_writer.specs.Code.{TellsPlane, TellsBlock}
 use Rattle.residue_writer.specs.declared.levels.BlockLevels.{BlockLevels}

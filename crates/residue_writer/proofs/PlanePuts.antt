@@ -15,9 +15,9 @@ use Rattle.block_plan.proofs.Held.{one_long}
 use Rattle.counting_reader.specs.Counting.{through}
 use Rattle.counting_writer.specs.Counted.{PutsTo}
 use Rattle.counting_writer.proofs.CountedPuts.{LeftOf, puts_on, puts_broken, puts_settle, through_begins, through_goes, through_breaks, through_ends}
-use Rattle.block_residue.specs.Residues.{ReadPlane, read_residue, read_next, with_sides, is_coded}
-use Rattle.block_residue.specs.Sides.{Sides}
-use Rattle.block_residue.specs.declared.in_plane.BlockInPlane.{BlockInPlane}
+use Rattle.residue_syntax.specs.Residues.{ReadPlane, read_residue, read_next, with_sides, is_coded}
+use Rattle.residue_syntax.specs.Sides.{Sides}
+use Rattle.residue_syntax.specs.declared.in_plane.BlockInPlane.{BlockInPlane}
 use Rattle.residue_writer.specs.Said.{levels_at, residue_said, residues_said, with_residue}
 use Rattle.residue_writer.specs.Code.{TellsAny, TellsPlane}
 use Rattle.residue_writer.specs.declared.levels.PlaneLevels.{PlaneLevels}

@@ -14,13 +14,13 @@ use Rattle.counting_reader.specs.Counting.{settle, lifted, in_order}
 use Rattle.counting_writer.specs.Counted.{PutsTo}
 use Rattle.counting_writer.proofs.CountedPuts.{puts_value, value_by_counting, puts_on, puts_broken, puts_lifted, puts_settle}
 use Rattle.token_writer.specs.Fits.{PutsLevels}
-use Rattle.residue_blocks.specs.Residue.{residue}
+use Rattle.residue_transforms.specs.Residue.{residue}
 use Rattle.block_plan.specs.Planned.{Residue}
-use Rattle.block_residue.specs.BlocksInPlanes.{type_at, token_kind}
-use Rattle.block_residue.specs.Residues.{first_context, with_sides, residue_of, read_residue}
-use Rattle.block_residue.specs.Sides.{Sides}
-use Rattle.block_residue.specs.declared.in_plane.BlockInPlane.{BlockInPlane}
-use Rattle.block_residue.proofs.ResidueReads.{levels_are}
+use Rattle.residue_syntax.specs.BlocksInPlanes.{type_at, token_kind}
+use Rattle.residue_syntax.specs.Residues.{first_context, with_sides, residue_of, read_residue}
+use Rattle.residue_syntax.specs.Sides.{Sides}
+use Rattle.residue_syntax.specs.declared.in_plane.BlockInPlane.{BlockInPlane}
+use Rattle.residue_syntax.proofs.ResidueReads.{levels_are}
 use Rattle.residue_writer.specs.Said.{residue_said}
 use Rattle.residue_writer.specs.Code.{TellsAny}
 

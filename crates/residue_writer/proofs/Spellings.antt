@@ -15,11 +15,11 @@ use Rattle.frame_headers.specs.declared.header.Header.{Header}
 use Rattle.block_plan.specs.InPlanes.{places_in}
 use Rattle.block_plan.specs.declared.block.BlockInfo.{BlockInfo}
 use Rattle.block_plan.proofs.Held.{one_long}
-use Rattle.block_residue.specs.BlocksInPlanes.{block_in}
-use Rattle.block_residue.specs.Residues.{with_sides}
-use Rattle.block_residue.specs.Sides.{Sides}
-use Rattle.block_residue.specs.declared.in_plane.BlockInPlane.{BlockInPlane}
-use Rattle.block_residue.specs.declared.sides.TileSides.{TileSides}
+use Rattle.residue_syntax.specs.BlocksInPlanes.{block_in}
+use Rattle.residue_syntax.specs.Residues.{with_sides}
+use Rattle.residue_syntax.specs.Sides.{Sides}
+use Rattle.residue_syntax.specs.declared.in_plane.BlockInPlane.{BlockInPlane}
+use Rattle.residue_syntax.specs.declared.sides.TileSides.{TileSides}
 use Rattle.residue_writer.specs.Said.{levels_at}
 use Rattle.residue_writer.specs.Lists.{spelled_at, spelled_plane, spelled_residue, spelled_residues}
 use Rattle.residue_writer.specs.declared.levels.BlockLevels.{BlockLevels}

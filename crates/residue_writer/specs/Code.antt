@@ -5,9 +5,9 @@ use Rattle.std.specs.Option.{is_some}
 use Rattle.vp9_types.specs.declared.rule.Rule.{Rule}
 use Rattle.block_plan.specs.Planned.{Residue, PlannedBlock}
 use Rattle.block_plan.specs.declared.block.BlockInfo.{BlockInfo}
-use Rattle.block_residue.specs.Residues.{ReadPlane, is_coded}
-use Rattle.block_residue.specs.Sides.{Sides}
-use Rattle.block_residue.specs.declared.sides.TileSides.{TileSides}
+use Rattle.residue_syntax.specs.Residues.{ReadPlane, is_coded}
+use Rattle.residue_syntax.specs.Sides.{Sides}
+use Rattle.residue_syntax.specs.declared.sides.TileSides.{TileSides}
 
 -- whether there is a residue, or the rule
 abbrev pub TellsAny : Result Residue Rule → Result Bool Rule → Type 0

@@ -12,11 +12,11 @@ use Rattle.coef_tokens.specs.Blocks.{block_tables}
 use Rattle.level_lists.specs.Levels.{spelled_levels}
 use Rattle.block_plan.specs.InPlanes.{places_in}
 use Rattle.block_plan.specs.declared.block.BlockInfo.{BlockInfo}
-use Rattle.block_residue.specs.BlocksInPlanes.{block_in, token_kind}
-use Rattle.block_residue.specs.Residues.{first_context, with_sides}
-use Rattle.block_residue.specs.Sides.{Sides}
-use Rattle.block_residue.specs.declared.in_plane.BlockInPlane.{BlockInPlane}
-use Rattle.block_residue.specs.declared.sides.TileSides.{TileSides}
+use Rattle.residue_syntax.specs.BlocksInPlanes.{block_in, token_kind}
+use Rattle.residue_syntax.specs.Residues.{first_context, with_sides}
+use Rattle.residue_syntax.specs.Sides.{Sides}
+use Rattle.residue_syntax.specs.declared.in_plane.BlockInPlane.{BlockInPlane}
+use Rattle.residue_syntax.specs.declared.sides.TileSides.{TileSides}
 use Rattle.residue_writer.specs.Said.{levels_at}
 use Rattle.residue_writer.specs.declared.levels.BlockLevels.{BlockLevels}
 use Rattle.residue_writer.specs.declared.levels.PlaneLevels.{PlaneLevels}

@@ -11,12 +11,12 @@ use Rattle.frame_headers.specs.declared.header.Header.{Header}
 use Rattle.block_plan.specs.InPlanes.{places_in}
 use Rattle.block_plan.specs.Planned.{Residue, PlannedBlock}
 use Rattle.block_plan.specs.declared.block.BlockInfo.{BlockInfo}
-use Rattle.residue_blocks.specs.Residue.{residue}
-use Rattle.block_residue.specs.BlocksInPlanes.{block_in, type_at}
-use Rattle.block_residue.specs.Residues.{ReadPlane, with_sides, read_skipped, planned}
-use Rattle.block_residue.specs.Sides.{Sides}
-use Rattle.block_residue.specs.declared.in_plane.BlockInPlane.{BlockInPlane}
-use Rattle.block_residue.specs.declared.sides.TileSides.{TileSides}
+use Rattle.residue_transforms.specs.Residue.{residue}
+use Rattle.residue_syntax.specs.BlocksInPlanes.{block_in, type_at}
+use Rattle.residue_syntax.specs.Residues.{ReadPlane, with_sides, read_skipped, planned}
+use Rattle.residue_syntax.specs.Sides.{Sides}
+use Rattle.residue_syntax.specs.declared.in_plane.BlockInPlane.{BlockInPlane}
+use Rattle.residue_syntax.specs.declared.sides.TileSides.{TileSides}
 use Rattle.residue_writer.specs.declared.levels.BlockLevels.{BlockLevels}
 use Rattle.residue_writer.specs.declared.levels.PlaneLevels.{PlaneLevels}
 

@@ -16,7 +16,7 @@ use Rattle.counting_reader.specs.Code.{standing_of}
 use Rattle.counting_reader.specs.Counting.{Settled, counted_if, mapped}
 use Rattle.counting_reader.specs.declared.reader.CountingReader.{CountingReader}
 use Rattle.block_geometry.specs.Frames.{places_of}
-use Rattle.block_residue.specs.Code.{FitPlanes}
+use Rattle.residue_syntax.specs.Code.{FitPlanes}
 use Rattle.mode_syntax.specs.Walk.{decode_tile}
 use Rattle.tile_reader.specs.Code.{Breaks}
 use Rattle.frame_state.specs.Code.{IsReady, SameColumns, read_whole, settled_of, sources_of}

@@ -12,9 +12,9 @@ use Rattle.block_plan.specs.Planned.{PlannedBlock}
 use Rattle.block_plan.specs.declared.block.BlockAt.{BlockAt}
 use Rattle.block_plan.specs.declared.block.BlockInfo.{BlockInfo}
 use Rattle.block_plan.specs.declared.residues.BlockResidues.{BlockResidues}
-use Rattle.block_residue.specs.Residues.{listed}
-use Rattle.block_residue.specs.Residues as residues
-use Rattle.block_residue.specs.declared.sides.TileSides.{TileSides}
+use Rattle.residue_syntax.specs.Residues.{listed}
+use Rattle.residue_syntax.specs.Residues as residues
+use Rattle.residue_syntax.specs.declared.sides.TileSides.{TileSides}
 use Rattle.inter_modes.specs.ModeInfo.{mode_info}
 use Rattle.frame_state.specs.Reading.{infos}
 use Rattle.frame_state.specs.Sources.{FrameSources}

@@ -11,12 +11,12 @@ ghost use Rattle.tile_syntax.specs.Code.{GivesTile, IsKept, plan_block, tile_hel
 use crate::plans::ColumnPlan;
 use block_geometry::FramePlaces;
 use block_plan::{BlockAt, BlockResidues};
-use block_residue::read_block;
 use column_plan::push_block;
 use counting_reader::CountingReader;
 use frame_state::{FrameSources, Halt, frame_is_intra};
 use inter_modes::mode_info;
 use mode_syntax::{SquareAt, read_partition};
+use residue_syntax::read_block;
 use tile_reader::TileReader;
 use vp9_types::Partition;
 

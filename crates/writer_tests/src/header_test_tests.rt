@@ -5,7 +5,7 @@ use frame_headers::{
     FrameSize, Header, InterFields, LoopDeltas, LoopFilter, Persist, Quantizer, Reference,
     References, Segmentation, TileInfo, Uncompressed,
 };
-use header_tests::{can_choose, can_say_modes, is_well_formed};
+use header_checks::{can_choose, can_say_modes, is_well_formed};
 use header_writer::Choices;
 use std::process::Abort;
 use vp9_types::{Depth, Modes, ReferenceMode, Shape, TxMode};

@@ -7,7 +7,6 @@ ghost use Rattle.token_writer.specs.Fits.{CanPut};
 ghost use Rattle.residue_writer.specs.Said.{levels_at};
 
 use block_plan::{BlockInfo, IntraPrediction, Prediction};
-use block_residue::TileSides;
 use bool_encoder::BoolEncoder;
 use frame_headers::{
     ColorConfig, Features, FrameContexts, FrameKind, FrameParams, FrameSize, Header, LoopDeltas,
@@ -15,6 +14,7 @@ use frame_headers::{
 };
 use frame_setting::FrameSetting;
 use prob_contexts::default_contexts;
+use residue_syntax::TileSides;
 use residue_writer::{BlockLevels, PlaneLevels, put_block};
 use std::alloc::Global;
 use std::process::Abort;

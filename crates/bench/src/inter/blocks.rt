@@ -8,7 +8,7 @@ ghost use Rattle.inter_places.specs.Axes.{IsPlace};
 use super::luma::Luma;
 use crate::numbers::{SEED, drawn};
 use inter_places::{Axis, Place};
-use inter_scaled::{LINES, predict};
+use inter_predict::{LINES, predict};
 use planes::{Area, SamplePlane};
 use std::alloc::{AllocError, Global};
 use vp9_types::{InterpFilter, Plane};

@@ -1,7 +1,7 @@
 //! Written by tools/vectors.py residue: for each size some blocks, with their levels by position, and the residue that
 //! they give, one after another. Where a rule comes of it, zeros stand for the residue.
 
-use residue_blocks::Quant;
+use residue_transforms::Quant;
 use vp9_types::{Depth, Rule, TxType};
 
 pub struct Head {

@@ -1,6 +1,6 @@
 use Rattle.std.proofs.Common.{ℕ, ◌<◌, ℤ, get_or}
 use Rattle.inverse_transforms.specs.Ranges.{IsSmall}
-use Rattle.residue_blocks.specs.Residue.{IsLevel}
+use Rattle.residue_transforms.specs.Residue.{IsLevel}
 use Rattle.bench.proofs.transforms.are_small.Given as goal
 
 abbrev pub invariant-loop-x : goal.invariant-loop-x

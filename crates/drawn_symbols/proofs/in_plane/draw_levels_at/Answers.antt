@@ -1,6 +1,6 @@
 use Rattle.std.proofs.Common.{refl}
 use Rattle.coef_tokens.specs.Blocks.{block_tables}
-use Rattle.block_residue.specs.BlocksInPlanes.{token_kind}
+use Rattle.residue_syntax.specs.BlocksInPlanes.{token_kind}
 use Rattle.drawn_symbols.proofs.in_plane.draw_levels_at.Goals as goal
 
 pub returns-clause-can : goal.returns-clause-can

@@ -1,7 +1,7 @@
 use Rattle.std.proofs.Common.{◌<◌, ◌≤◌, ◌*◌, ◌∙◌, [], refl, sym, arith, length}
 use Rattle.block_geometry.specs.TransformBlocks.{grid_blocks}
 use Rattle.block_geometry.proofs.Rasters.{length_grid}
-use Rattle.block_residue.proofs.PlaneReads.{all_fit, room_for}
+use Rattle.residue_syntax.proofs.PlaneReads.{all_fit, room_for}
 use Rattle.listed_symbols.proofs.Planes.{can_more, each_ends, each_more, each_unsayable, each_without_place, none_can}
 use Rattle.listed_symbols.proofs.in_planes.put_each.Goals as goal
 

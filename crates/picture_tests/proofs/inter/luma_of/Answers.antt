@@ -1,5 +1,5 @@
 use Rattle.std.proofs.Common.{arith}
-use Rattle.inter_scaled.proofs.Values.{zeros}
+use Rattle.inter_predict.proofs.Values.{zeros}
 use Rattle.planes.specs.Planes.{plane_map}
 use Rattle.planes.proofs.PlaneLemmas.{zeros_small}
 use Rattle.picture_tests.proofs.inter.luma_of.Goals as goal

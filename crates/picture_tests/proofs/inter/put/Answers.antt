@@ -1,6 +1,6 @@
 use Rattle.std.proofs.Common.{arith, map}
 use Rattle.std.proofs.lemmas.List.{map-set, length-map}
-use Rattle.inter_scaled.proofs.Values.{numbers_small}
+use Rattle.inter_predict.proofs.Values.{numbers_small}
 use Rattle.picture_tests.proofs.inter.put.Goals as goal
 
 pub returns : goal.returns

@@ -1,5 +1,5 @@
 use Rattle.std.proofs.Common.{◌-◌, arith}
-use Rattle.inter_scaled.proofs.Agree.{place_below}
+use Rattle.inter_predict.proofs.Agree.{place_below}
 use Rattle.picture_tests.proofs.inter.sum_of.Goals as goal
 
 pub predict-requires-clause-held : goal.predict-requires-clause-held

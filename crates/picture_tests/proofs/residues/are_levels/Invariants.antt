@@ -1,5 +1,5 @@
 use Rattle.std.proofs.Common.{ℕ, ◌<◌, ℤ, get_or}
-use Rattle.residue_blocks.specs.Residue.{IsLevel}
+use Rattle.residue_transforms.specs.Residue.{IsLevel}
 use Rattle.picture_tests.proofs.residues.are_levels.Given as goal
 
 abbrev pub invariant-loop-x : goal.invariant-loop-x

@@ -1,6 +1,6 @@
 use Rattle.block_geometry.specs.TransformBlocks.{grid_blocks}
 use Rattle.prob_contexts.specs.Lists.{lists_of}
-use Rattle.block_residue.specs.Code.{KeepsLengths}
+use Rattle.residue_syntax.specs.Code.{KeepsLengths}
 use Rattle.residue_writer.proofs.PlanePuts.{Passes}
 use Rattle.residue_writer.proofs.Spellings.{SpellsLeft}
 use Rattle.residue_writer.proofs.planes.put_residues.Given as goal

@@ -2,8 +2,8 @@ use Rattle.std.proofs.Common.{ap}
 use Rattle.prob_contexts.specs.Lists.{lists_of}
 use Rattle.coef_tokens.specs.Blocks.{block_tables}
 use Rattle.coef_tokens.specs.declared.tables.TokenKind.{TokenKind}
-use Rattle.block_residue.specs.BlocksInPlanes.{token_kind}
-use Rattle.block_residue.specs.Residues.{first_context}
+use Rattle.residue_syntax.specs.BlocksInPlanes.{token_kind}
+use Rattle.residue_syntax.specs.Residues.{first_context}
 use Rattle.level_lists.proofs.PlaceWays.{kinds_way}
 use Rattle.residue_writer.specs.Lists.{spelled_at}
 use Rattle.residue_writer.proofs.ResiduePuts.{residue_put}

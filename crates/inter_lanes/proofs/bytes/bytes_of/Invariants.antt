@@ -1,8 +1,0 @@
-use Rattle.std.proofs.Common.{◌≡◌, ◌<◌, ℕ, get_or, length}
-use Rattle.inter_lanes.proofs.bytes.bytes_of.Given as goal
-
-abbrev pub invariant-loop-k : goal.invariant-loop-k
-invariant-loop-k l = record {
-  long : length l.bytes ≡ 71;
-  value : (k : ℕ) → k < l.k → get_or l.bytes k 0 ≡ get_or l.numbers k 0;
-}

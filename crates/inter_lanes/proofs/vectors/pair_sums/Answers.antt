@@ -1,8 +1,0 @@
-use Rattle.inter_lanes.proofs.LaneLemmas.{sums_small, sums_are}
-use Rattle.inter_lanes.proofs.vectors.pair_sums.Goals as goal
-
-pub returns-clause-lanes : goal.returns-clause-lanes
-returns-clause-lanes c = sums_small c.args.taps c.args.p c.requires.taps c.requires.p
-
-pub returns-clause-value : goal.returns-clause-value
-returns-clause-value c = sums_are c.args.taps c.args.p c.requires.taps c.requires.p

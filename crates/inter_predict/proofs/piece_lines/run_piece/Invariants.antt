@@ -1,0 +1,8 @@
+use Rattle.std.proofs.Common.{map}
+use Rattle.vp9_types.specs.Maps.{HoldsRows}
+use Rattle.inter_predict.specs.Code.{strided}
+use Rattle.inter_predict.specs.Inter.{along}
+use Rattle.inter_predict.proofs.piece_lines.run_piece.Given as goal
+
+abbrev pub invariant-loop-r : goal.invariant-loop-r
+invariant-loop-r g l = HoldsRows (map g.P.Sample.value l.lines) l.place.columns l.r (λ r j. along l.by.most l.by.kind l.place.across (strided l.stride (map g.P.Sample.value l.samples) r) j)

@@ -1,5 +1,0 @@
-use Rattle.inter_scaled.proofs.Agree.{rows_agree}
-use Rattle.inter_scaled.proofs.laws.rows_suffice.Goals as goal
-
-pub returns : goal.returns
-returns c = rows_agree

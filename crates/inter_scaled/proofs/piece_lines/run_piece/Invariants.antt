@@ -1,8 +1,0 @@
-use Rattle.std.proofs.Common.{map}
-use Rattle.vp9_types.specs.Maps.{HoldsRows}
-use Rattle.inter_scaled.specs.Code.{strided}
-use Rattle.inter_scaled.specs.Inter.{along}
-use Rattle.inter_scaled.proofs.piece_lines.run_piece.Given as goal
-
-abbrev pub invariant-loop-r : goal.invariant-loop-r
-invariant-loop-r g l = HoldsRows (map g.P.Sample.value l.lines) l.place.columns l.r (λ r j. along l.by.most l.by.kind l.place.across (strided l.stride (map g.P.Sample.value l.samples) r) j)

@@ -1,5 +1,0 @@
-use Rattle.residue_blocks.proofs.Crossings.{chunk_kept}
-use Rattle.residue_blocks.proofs.cross.four_at.Goals as goal
-
-pub returns : goal.returns
-returns c = chunk_kept c.args.place c.args.from.now c.requires.room c.requires.small

@@ -1,6 +1,0 @@
-use Rattle.std.proofs.Common.{◌*◌}
-use Rattle.residue_blocks.specs.Fours.{AreLoaded}
-use Rattle.residue_blocks.proofs.cross.load.Given as goal
-
-abbrev pub invariant-loop-k : goal.invariant-loop-k
-invariant-loop-k l = AreLoaded l.n l.from (l.first * l.n) l.t (4 * l.k)

@@ -1,6 +1,0 @@
-use Rattle.std.proofs.Common.{arith}
-use Rattle.residue_blocks.proofs.Flats.{alone_to_end}
-use Rattle.residue_blocks.proofs.first.is_first_alone.Goals as goal
-
-pub returns : goal.returns
-returns c = alone_to_end c.args.block.now c.loop-place.place c.loop-place.all (omega arith) c.loop-place.invariant

@@ -1,8 +1,0 @@
-use Rattle.std.proofs.Common.{get_or, []}
-use Rattle.inverse_transforms.specs.Flow.{at}
-use Rattle.residue_blocks.specs.Residue.{round}
-use Rattle.residue_blocks.proofs.Pieces.{Stored}
-use Rattle.residue_blocks.proofs.group.store.Given as goal
-
-abbrev pub invariant-loop-k : goal.invariant-loop-k
-invariant-loop-k l = Stored l.n l.first 8 (λ k j. round l.bits (at (get_or l.t k []) j)) l.initial.to l.to l.k

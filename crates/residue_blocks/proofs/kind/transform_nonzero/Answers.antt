@@ -1,8 +1,0 @@
-use Rattle.std.proofs.Common.{length}
-use Rattle.inverse_transforms.specs.Columns.{column}
-use Rattle.residue_blocks.proofs.Skips.{skipped}
-use Rattle.residue_blocks.proofs.kind.transform_nonzero.Goals as goal
-
-pub returns-then-is_zero-clause-gives : goal.returns-then-is_zero-clause-gives
-returns-then-is_zero-clause-gives c = λ j low.
-    skipped c.args.kind c.args.depth c.args.log2 (column j c.args.t.now) (length c.args.t.now) c.requires.kind c.requires.size (c.if-is_zero.ensures j)

@@ -1,7 +1,0 @@
-use Rattle.std.proofs.Common.{◌+◌, ◌-◌}
-use Rattle.inverse_transforms.specs.Flow.{at}
-use Rattle.residue_blocks.specs.Blocks.{HasPiece}
-use Rattle.residue_blocks.proofs.repeats.repeat_values.Given as goal
-
-abbrev pub invariant-loop-j : goal.invariant-loop-j
-invariant-loop-j l = HasPiece l.place l.j (λ j. at l.initial.to (l.place - l.width + j)) l.initial.to l.to

@@ -1,0 +1,9 @@
+use Rattle.std.proofs.Common.{◌≡◌, ◌<◌, ◌≤◌, ◌+◌, ◌*◌, ℕ, get_or}
+use Rattle.tap_filter.specs.Filter.{filtered}
+use Rattle.tap_filter.proofs.runs.filter_line.Given as goal
+
+abbrev pub invariant-loop-b : goal.invariant-loop-b
+invariant-loop-b l = record {
+  value : (j : ℕ) → j < 16 * l.b → get_or l.out j 0 ≡ filtered l.most l.taps (λ k. get_or l.samples (l.from + (j + k)) 0);
+  after : (j : ℕ) → 16 * l.b ≤ j → get_or l.out j 0 ≡ get_or l.initial.out j 0;
+}
