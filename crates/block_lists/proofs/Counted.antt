@@ -11,8 +11,8 @@ use Rattle.bool_encoder.specs.Part.{Part}
 use Rattle.bool_encoder.specs.Bools.{Puts}
 use Rattle.bool_lists.specs.Lists.{HasPut, has_leaf, is_distinct, one_bool, tree_bools}
 use Rattle.bool_lists.proofs.Ways.{between, flag_way, has_one, tree_way}
-use Rattle.counting_writer.specs.Counted.{valued, PutsValue}
-use Rattle.counting_writer.proofs.CountedPuts.{valued_settle, valued_flag, valued_count, valued_uncounted, valued_in_order, valued_tree}
+use Rattle.bool_encoder.specs.CountedBools.{valued, PutsValue}
+use Rattle.bool_encoder.proofs.CountedPuts.{valued_settle, valued_flag, valued_count, valued_uncounted, valued_in_order, valued_tree}
 
 -- one was put, and then the other
 pub record OneThenOther {A B : Type 0} (s : Syntax ℕ Rule (Settled A)) (f : A → Syntax ℕ Rule (Settled B)) (old : Part) (y : B) (new : Part) : Type 0 where

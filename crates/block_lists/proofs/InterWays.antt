@@ -28,7 +28,7 @@ use Rattle.frame_headers.specs.declared.header.Header.{Header}
 use Rattle.frame_headers.specs.declared.header.References as header
 use Rattle.prob_contexts.specs.Lists.{ContextLists, InterLists}
 use Rattle.counting_reader.specs.Counting.{Settled, settle}
-use Rattle.counting_writer.specs.Counted.{PutsValue}
+use Rattle.bool_encoder.specs.CountedBools.{PutsValue}
 use Rattle.block_geometry.specs.Sizes.{is_below_8x8}
 use Rattle.block_plan.specs.declared.block.BlockAt.{BlockAt}
 use Rattle.block_plan.specs.declared.block.BlockInfo.{BlockInfo}

@@ -35,7 +35,7 @@ use Rattle.bool_encoder.specs.Part.{Part}
 use Rattle.bool_encoder.specs.Bools.{Puts}
 use Rattle.bool_lists.specs.Lists.{HasPut, has_leaf, is_distinct, one_bool, tree_bools}
 use Rattle.bool_lists.proofs.Ways.{between, of_leaf, flag_way, has_one, tree_way, spells_on, spells_none}
-use Rattle.counting_writer.specs.Counted.{PutsValue}
+use Rattle.bool_encoder.specs.CountedBools.{PutsValue}
 use Rattle.counting_reader.specs.Counting.{settle, uncounted}
 use Rattle.mode_syntax.specs.Partitions.{edge_symbol, partition, partition_at, partition_of, partition_value, split_or, whole_symbol}
 use Rattle.block_lists.specs.Partitions.{is_split, spelled_partition, spelled_partition_at}

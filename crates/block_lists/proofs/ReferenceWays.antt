@@ -14,7 +14,7 @@ use Rattle.frame_headers.specs.declared.segments.FeatureReference.{FeatureRefere
 use Rattle.prob_contexts.specs.Lists.{InterLists}
 use Rattle.block_plan.specs.declared.block.BlockInfo.{BlockInfo}
 use Rattle.block_plan.specs.declared.block.References.{References}
-use Rattle.counting_writer.specs.Counted.{PutsValue}
+use Rattle.bool_encoder.specs.CountedBools.{PutsValue}
 use Rattle.mv_prediction.specs.Candidates.{bias_of}
 use Rattle.mv_prediction.specs.declared.search.SignBiases.{SignBiases}
 use Rattle.inter_contexts.specs.Contexts.{reference_context}

@@ -16,7 +16,7 @@ use Rattle.frame_headers.specs.declared.segments.Segmentation.{Segmentation}
 use Rattle.prob_contexts.specs.Lists.{ContextLists, TxLists}
 use Rattle.block_plan.specs.declared.block.BlockInfo.{BlockInfo}
 use Rattle.counting_reader.specs.Counting.{settle}
-use Rattle.counting_writer.specs.Counted.{PutsValue}
+use Rattle.bool_encoder.specs.CountedBools.{PutsValue}
 use Rattle.mode_syntax.specs.Elements.{skip_context, tx_context}
 use Rattle.inter_contexts.specs.Contexts.{is_inter_context, predicted_context}
 use Rattle.inter_modes.specs.Starts.{block_start, coded_segment, inter_segment_id, is_inter_by, read_is_inter, segment_by, segment_of, segment_reference, temporal_segment, tx_size, updated_segment}

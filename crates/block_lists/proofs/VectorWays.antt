@@ -18,7 +18,7 @@ use Rattle.bool_lists.proofs.Ways.{of_leaf, spells_on, spells_none}
 use Rattle.prob_contexts.specs.Lists.{VectorLists}
 use Rattle.prob_contexts.specs.declared.kind.ProbKind.{ProbKind}
 use Rattle.counting_reader.specs.Counting.{through}
-use Rattle.counting_writer.specs.Counted.{PutsValue}
+use Rattle.bool_encoder.specs.CountedBools.{PutsValue}
 use Rattle.block_plan.specs.declared.block.Mv.{Mv}
 use Rattle.mv_prediction.specs.Vectors.{is_precise}
 use Rattle.mv_syntax.specs.Components.{eighths, high_bit, large_magnitude, magnitude, next_bit, read_mv_component, signed, small_magnitude}

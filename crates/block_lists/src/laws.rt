@@ -7,7 +7,7 @@ ghost use Rattle.frame_headers.specs.declared.header.Header.{Header};
 ghost use Rattle.prob_contexts.specs.Lists.{ContextLists};
 ghost use Rattle.bool_encoder.specs.Part.{Part};
 ghost use Rattle.bool_lists.specs.Lists.{HasPut};
-ghost use Rattle.counting_writer.specs.Counted.{PutsValue};
+ghost use Rattle.bool_encoder.specs.CountedBools.{PutsValue};
 ghost use Rattle.block_geometry.specs.declared.transform_blocks.FramePlaces.{FramePlaces};
 ghost use Rattle.block_plan.specs.declared.block.BlockAt.{BlockAt};
 ghost use Rattle.block_plan.specs.declared.block.BlockInfo.{BlockInfo};

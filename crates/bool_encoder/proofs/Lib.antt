@@ -6,3 +6,4 @@ pub mod Starts
 pub mod Literals
 pub mod TreeWays
 pub mod LedLaws
+pub mod CountedPuts

@@ -3,3 +3,4 @@ pub mod Bools
 pub mod Entries
 pub mod Code
 pub mod Laws
+pub mod CountedBools

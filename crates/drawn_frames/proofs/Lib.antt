@@ -1,3 +1,4 @@
+pub mod Next
 pub mod DrawnKinds
 pub mod LevelDraws
 pub mod Rooms

@@ -1,3 +1,9 @@
+pub mod Made
+pub mod Starts
+pub mod Params
+pub mod Heads
+pub mod Modes
+pub mod Code
 pub mod Frames
 pub mod Levels
 pub mod Symbols

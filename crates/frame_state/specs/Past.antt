@@ -4,7 +4,7 @@ use Rattle.vp9_types.specs.Shapes.{mi_cols, mi_rows}
 use Rattle.frame_headers.specs.State.{shape_of}
 use Rattle.frame_headers.specs.declared.header.Header.{Header}
 use Rattle.prob_contexts.specs.Lists.{lists_of}
-use Rattle.segment_map.specs.Segments.{id_map}
+use Rattle.block_plan.specs.Segments.{id_map}
 use Rattle.block_plan.specs.declared.block.BlockInfo.{BlockInfo}
 use Rattle.mv_prediction.specs.Code as vectors
 use Rattle.frame_state.specs.Columns.{AllSmall, blocks_of}

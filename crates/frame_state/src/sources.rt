@@ -4,10 +4,10 @@ ghost use Rattle.std.specs.Prelude.{◌≡◌};
 ghost use Rattle.frame_state.specs.Sources.{adapts, frame_is_intra};
 
 use crate::frame_blocks::FrameBlocks;
+use block_plan::SegmentMap;
 use frame_headers::{FrameKind, Header};
 use frame_setting::FrameSetting;
 use prob_contexts::Contexts;
-use segment_map::SegmentMap;
 
 /// What the frames before a frame leave to the reading of it: the contexts that it starts from, the map of segments that it
 /// starts with, and the blocks of the frame before if its vectors may be taken. No sample is needed to read a frame.

@@ -13,11 +13,11 @@ ghost use Rattle.frame_state.specs.Code.{sources_of};
 ghost use Rattle.frame_state.specs.Past.{IsPastOf};
 
 use crate::kept::Kept;
+use block_plan::SegmentMap;
 use frame_headers::{FrameSize, Header};
 use frame_setting::FrameSetting;
 use frame_state::{FramePast, FrameSources, Halt, begin_frame};
 use prob_contexts::Contexts;
-use segment_map::SegmentMap;
 use seq_decoder::{
     LastFrame, SavedContexts, begin_segments, has_size, loses_past, place_of, segments_of,
     vectors_before,

@@ -16,10 +16,10 @@ ghost use Rattle.frame_steps.specs.Kept.{MayFollow, StandsFor};
 
 use crate::beginning::BegunFrame;
 use crate::kept::Kept;
+use block_plan::SegmentMap;
 use frame_decoder::Decoded;
 use frame_headers::{Header, refresh_slots};
 use frame_state::TileColumn;
-use segment_map::SegmentMap;
 use seq_decoder::{LastFrame, after_key, keep_segments, own_contexts, segments_of};
 use std::alloc::{AllocError, Global};
 use std::sync::Arc;

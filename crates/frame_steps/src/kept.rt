@@ -4,9 +4,9 @@ ghost use Rattle.std.specs.Prelude.{◌≡◌, IfOk};
 ghost use Rattle.seq_decoder.specs.Outputs.{form_from};
 ghost use Rattle.seq_decoder.specs.State.{State, start_state};
 
+use block_plan::SegmentMap;
 use frame_headers::Persist;
 use frame_output::Format;
-use segment_map::SegmentMap;
 use seq_decoder::{LastFrame, OutputForm, SavedContexts};
 use std::alloc::{AllocError, Global};
 use std::sync::Arc;

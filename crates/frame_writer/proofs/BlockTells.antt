@@ -11,8 +11,8 @@ use Rattle.bool_lists.specs.Lists.{BoolList, HasPut}
 use Rattle.bool_lists.proofs.Ways.{spells_on}
 use Rattle.block_lists.proofs.InterWays.{mode_info_way}
 use Rattle.counting_reader.specs.Counting.{Settled, lifted}
-use Rattle.counting_writer.specs.Counted.{PutsTo, PutsValue}
-use Rattle.counting_writer.proofs.CountedPuts.{puts_broken, puts_lifted, puts_on, puts_settle, puts_value, value_put}
+use Rattle.bool_encoder.specs.CountedBools.{PutsTo, PutsValue}
+use Rattle.bool_encoder.proofs.CountedPuts.{puts_broken, puts_lifted, puts_on, puts_settle, puts_value, value_put}
 use Rattle.frame_headers.specs.declared.header.FrameKind.{FrameKind}
 use Rattle.frame_headers.specs.declared.header.FrameKind.TheVariants.{Key, IntraOnly, Inter as InterFrame}
 use Rattle.block_plan.specs.Grid.{GridOf}

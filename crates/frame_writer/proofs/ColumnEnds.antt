@@ -6,7 +6,7 @@ use Rattle.vp9_types.specs.declared.rule.Rule.{Rule}
 use Rattle.bool_encoder.specs.Part.{Part, Finishes, marked}
 use Rattle.bool_lists.specs.Lists.{BoolList, HasPut}
 use Rattle.bool_lists.proofs.Ways.{bytes_are, spells_none}
-use Rattle.counting_writer.proofs.CountedPuts.{puts_value}
+use Rattle.bool_encoder.proofs.CountedPuts.{puts_value}
 use Rattle.frame_state.specs.Columns.{limit_of}
 use Rattle.frame_state.specs.Reading.{TileRead, read_walk}
 use Rattle.frame_state.specs.Code.{sources_of}

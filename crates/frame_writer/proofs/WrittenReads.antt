@@ -19,8 +19,8 @@ use Rattle.bool_encoder.proofs.Parts.{put_zero}
 use Rattle.bool_encoder.proofs.Starts.{Sound, writes_sound}
 use Rattle.bool_encoder.proofs.WriteLaws.{written_is_read}
 use Rattle.counting_reader.specs.Counting.{Settled}
-use Rattle.counting_writer.specs.Counted.{valued}
-use Rattle.counting_writer.proofs.CountedPuts.{value_counts, value_put}
+use Rattle.bool_encoder.specs.CountedBools.{valued}
+use Rattle.bool_encoder.proofs.CountedPuts.{value_counts, value_put}
 use Rattle.frame_state.specs.Code.{read_whole, settled_of}
 use Rattle.frame_writer.specs.Bytes.{IsWritten}
 

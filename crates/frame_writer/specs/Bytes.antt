@@ -10,7 +10,7 @@ use Rattle.bool_encoder.specs.Part.{Part, Finishes, marked}
 use Rattle.bool_encoder.specs.Laws.{after_bools}
 use Rattle.bool_lists.specs.Lists.{BoolList}
 use Rattle.counting_reader.specs.Counting.{Settled}
-use Rattle.counting_writer.specs.Counted.{PutsTo}
+use Rattle.bool_encoder.specs.CountedBools.{PutsTo}
 use Rattle.frame_headers.specs.Spans.{tile_count}
 use Rattle.frame_headers.specs.declared.header.Header.{Header}
 use Rattle.frame_headers.specs.declared.header.Uncompressed.{Uncompressed}

@@ -19,7 +19,7 @@ use Rattle.block_plan.specs.declared.block.References.{References}
 use Rattle.mv_prediction.specs.Code.{AreSmall, HasSmallVectors, IsSite, blocks_of}
 use Rattle.mv_prediction.specs.declared.search.MvSearch.{MvSearch}
 use Rattle.mv_prediction.specs.SubBlocks.{vector_at}
-use Rattle.segment_map.specs.Segments.{SegmentIds, id_map, least_id}
+use Rattle.block_plan.specs.Segments.{SegmentIds, id_map, least_id}
 use Rattle.inter_contexts.specs.References.{reference_in, second_in_range}
 use Rattle.inter_modes.specs.ModeInfo.{InterFrame}
 use Rattle.inter_modes.specs.Vectors.{row_at}

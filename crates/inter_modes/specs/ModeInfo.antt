@@ -37,7 +37,7 @@ use Rattle.mode_syntax.specs.ModeInfo.{intra_frame_mode_info}
 use Rattle.mv_prediction.specs.Candidates.{mode_context, sign_biases}
 use Rattle.mv_prediction.specs.declared.search.MvSearch.{MvSearch}
 use Rattle.mv_prediction.specs.declared.search.SignBiases.{SignBiases}
-use Rattle.segment_map.specs.Segments.{least_id}
+use Rattle.block_plan.specs.Segments.{least_id}
 use Rattle.inter_contexts.specs.Contexts.{filter_context}
 use Rattle.inter_modes.specs.IntraBlocks.{intra_block_mode_info}
 use Rattle.inter_contexts.specs.References.{ref_frames, in_range_or_rule}

@@ -10,7 +10,7 @@ ghost use Rattle.block_plan.specs.declared.block.Prediction.TheVariants.{Intra};
 ghost use Rattle.counting_reader.specs.Code.{Reads};
 ghost use Rattle.mv_prediction.specs.Candidates.{mode_context, sign_biases};
 ghost use Rattle.mv_prediction.specs.Code.{HasSmallVectors, IsSite, blocks_of};
-ghost use Rattle.segment_map.specs.Segments.{id_map};
+ghost use Rattle.block_plan.specs.Segments.{id_map};
 ghost use Rattle.inter_modes.specs.Code.{MaySearch, IsBlockAt, AreInRange, PredictsInRange, RefersInRange, frame_in, least_of};
 ghost use Rattle.inter_modes.specs.ModeInfo.{checked_references, inter_block, intra_block, inter_frame_block, inter_frame_mode_info, intra_frame_block, mode_info, block_with};
 
@@ -18,14 +18,15 @@ use crate::blocks::read_inter_prediction;
 use crate::intra_blocks::read_intra_prediction;
 use crate::starts::{BlockStart, read_block_start, segment_reference};
 use crate::vectors::Sources;
-use block_plan::{BlockAt, BlockInfo, Neighbours, Prediction, References, above_place, left_place};
+use block_plan::{
+    BlockAt, BlockInfo, Neighbours, Prediction, References, SegmentMap, above_place, left_place,
+};
 use counting_reader::CountingReader;
 use frame_headers::{FrameKind, InterFields};
 use frame_setting::FrameSetting;
 use inter_contexts::{filter_context, in_range_or_rule, read_references};
 use mode_syntax::{intra_frame_mode_info, skips_segment};
 use mv_prediction::{MvSearch, SignBiases, mode_context};
-use segment_map::SegmentMap;
 use vp9_types::Rule;
 
 /// An inter frame.

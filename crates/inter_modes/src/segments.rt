@@ -2,13 +2,12 @@
 
 ghost use Rattle.std.specs.Prelude.{◌≡◌, ◌<◌, ◌≤◌};
 ghost use Rattle.std.specs.List.{All};
-ghost use Rattle.segment_map.specs.Segments.{id_map};
+ghost use Rattle.block_plan.specs.Segments.{id_map};
 ghost use Rattle.inter_modes.specs.Code.{IsMapped};
 ghost use Rattle.inter_modes.specs.Segments.{segments_of, segments_after};
 
-use block_plan::BlockInfo;
+use block_plan::{BlockInfo, SegmentMap};
 use frame_headers::Segmentation;
-use segment_map::SegmentMap;
 
 /// Puts the segment of each block of a frame at its places, block after block.
 fn put_segments(map: &mut SegmentMap, blocks: &[BlockInfo])

@@ -7,19 +7,18 @@ ghost use Rattle.vp9_tables.specs.Numbers.{tx_number};
 ghost use Rattle.prob_contexts.specs.Lists.{lists_of, tx_lists};
 ghost use Rattle.block_geometry.specs.Parts.{part_inside};
 ghost use Rattle.counting_reader.specs.Code.{Reads};
-ghost use Rattle.segment_map.specs.Segments.{id_map, least_id};
+ghost use Rattle.block_plan.specs.Segments.{id_map, least_id};
 ghost use Rattle.inter_contexts.specs.Contexts.{predicted_context};
 ghost use Rattle.inter_modes.specs.Starts.{coded_segment, temporal_segment, updated_segment, segment_by, inter_segment_id, segment_reference, is_inter_feature, is_inter_by, read_is_inter, tx_size, block_start};
 ghost use Rattle.inter_modes.specs.Code.{least_of};
 
-use block_plan::{BlockAt, BlockInfo};
+use block_plan::{BlockAt, BlockInfo, SegmentMap};
 use counting_reader::CountingReader;
 use frame_headers::{FeatureReference, MapUpdate, Segmentation};
 use frame_setting::FrameSetting;
 use inter_contexts::{is_inter_context, predicted_context};
 use mode_syntax::{greatest_allowed, read_skip, read_tx_size, skip_context, tx_context};
 use prob_contexts::{ProbKind, TxProbs};
-use segment_map::SegmentMap;
 use vp9_tables::segment_tree;
 use vp9_types::{BlockSize, TxMode, TxSize};
 

@@ -11,7 +11,7 @@ use Rattle.frame_headers.specs.declared.segments.MapUpdate.{MapUpdate}
 use Rattle.frame_headers.specs.declared.segments.Segmentation.{Segmentation}
 use Rattle.block_geometry.specs.Sizes.{greatest_allowed}
 use Rattle.block_geometry.specs.declared.parts.Part.{Part}
-use Rattle.segment_map.specs.Segments.{least_id}
+use Rattle.block_plan.specs.Segments.{least_id}
 use Rattle.inter_modes.specs.declared.starts.SegmentOf.{SegmentOf}
 use Rattle.inter_modes.proofs.Least.{least_below}
 use Rattle.mode_writer.specs.Fits.{CanSegment, CanTx, says_tx}

@@ -7,10 +7,10 @@ ghost use Rattle.vp9_tables.specs.Blocks.{greatest_of};
 ghost use Rattle.vp9_tables.specs.Numbers.{tx_number};
 ghost use Rattle.prob_contexts.specs.Lists.{lists_of, vector_lists};
 ghost use Rattle.block_plan.specs.declared.block.Prediction.TheVariants as predicted;
-ghost use Rattle.counting_writer.specs.Counted.{PutsValue};
+ghost use Rattle.bool_encoder.specs.CountedBools.{PutsValue};
 ghost use Rattle.mv_prediction.specs.Candidates.{mode_context, sign_biases};
 ghost use Rattle.mv_prediction.specs.Code.{HasSmallVectors, IsSite, blocks_of};
-ghost use Rattle.segment_map.specs.Segments.{id_map};
+ghost use Rattle.block_plan.specs.Segments.{id_map};
 ghost use Rattle.inter_modes.specs.Code.{MaySearch, IsBlockAt, AreInRange, PredictsInRange, RefersInRange, frame_in, least_of};
 ghost use Rattle.inter_modes.specs.ModeInfo.{checked_references, inter_block, intra_block, inter_frame_block, inter_frame_mode_info, intra_frame_block, mode_info, block_with, sources_of, least_before};
 ghost use Rattle.inter_contexts.specs.References.{in_range_or_rule};
@@ -23,8 +23,8 @@ use crate::intra_blocks::put_intra_prediction;
 use crate::references::{ReferenceChoice, put_references};
 use crate::starts::put_block_start;
 use block_plan::{
-    BlockAt, BlockInfo, IntraPrediction, Neighbours, Prediction, References, above_place,
-    left_place,
+    BlockAt, BlockInfo, IntraPrediction, Neighbours, Prediction, References, SegmentMap,
+    above_place, left_place,
 };
 use bool_encoder::BoolEncoder;
 use frame_headers::FrameKind;
@@ -34,7 +34,6 @@ use inter_modes::{BlockStart, Frame, Sources, block_with, segment_reference};
 use mode_syntax::skips_segment;
 use mode_writer::put_intra_frame_mode_info;
 use mv_prediction::{MvSearch, SignBiases, mode_context};
-use segment_map::SegmentMap;
 use std::alloc::AllocError;
 use vector_writer::{InterSymbols, put_inter_prediction};
 use vp9_types::Rule;
@@ -68,7 +67,7 @@ pub(crate) struct Beside<'a> {
 }
 
 /// An intra block of an inter frame.
-#[tactic(auto, unfolding(inter_modes::specs::ModeInfo::intra_block), using(counting_writer::proofs::CountedPuts::valued_in_order, counting_writer::proofs::CountedPuts::valued_settle, vp9_types::proofs::Binds::writes_bind))]
+#[tactic(auto, unfolding(inter_modes::specs::ModeInfo::intra_block), using(bool_encoder::proofs::CountedPuts::valued_in_order, bool_encoder::proofs::CountedPuts::valued_settle, vp9_types::proofs::Binds::writes_bind))]
 fn put_intra_block(
     encoder: &mut BoolEncoder,
     frame: &Frame<'_>,
@@ -91,7 +90,7 @@ fn put_intra_block(
 }
 
 /// The references of an inter block, which must be in range.
-#[tactic(auto, unfolding(inter_modes::specs::ModeInfo::checked_references), using(counting_writer::proofs::CountedPuts::valued_in_order, counting_writer::proofs::CountedPuts::valued_settle, vp9_types::proofs::Binds::writes_bind, inter_modes::proofs::InRange::tested, crate::proofs::InRange::tested_same))]
+#[tactic(auto, unfolding(inter_modes::specs::ModeInfo::checked_references), using(bool_encoder::proofs::CountedPuts::valued_in_order, bool_encoder::proofs::CountedPuts::valued_settle, vp9_types::proofs::Binds::writes_bind, inter_modes::proofs::InRange::tested, crate::proofs::InRange::tested_same))]
 fn put_checked_references(
     encoder: &mut BoolEncoder,
     frame: &Frame<'_>,
@@ -126,7 +125,7 @@ fn put_checked_references(
 }
 
 /// An inter block, by the blocks above it and at its left.
-#[tactic(auto, unfolding(inter_modes::specs::ModeInfo::inter_block, crate::specs::Said::inter_block_said), using(counting_writer::proofs::CountedPuts::valued_in_order, counting_writer::proofs::CountedPuts::valued_settle, vp9_types::proofs::Binds::writes_bind))]
+#[tactic(auto, unfolding(inter_modes::specs::ModeInfo::inter_block, crate::specs::Said::inter_block_said), using(bool_encoder::proofs::CountedPuts::valued_in_order, bool_encoder::proofs::CountedPuts::valued_settle, vp9_types::proofs::Binds::writes_bind))]
 fn put_inter_block<N: Neighbours, Q: Neighbours>(
     encoder: &mut BoolEncoder,
     src: &Sources<'_, N, Q>,
@@ -173,7 +172,7 @@ fn put_inter_block<N: Neighbours, Q: Neighbours>(
 
 /// A block of an inter frame, by the blocks above it and at its left, whatever the least id is that the map before the frame
 /// has over it.
-#[tactic(auto, unfolding(inter_modes::specs::ModeInfo::inter_frame_block), using(counting_writer::proofs::CountedPuts::valued_in_order, counting_writer::proofs::CountedPuts::valued_settle, vp9_types::proofs::Binds::writes_bind, crate::proofs::Below::tx_fits))]
+#[tactic(auto, unfolding(inter_modes::specs::ModeInfo::inter_frame_block), using(bool_encoder::proofs::CountedPuts::valued_in_order, bool_encoder::proofs::CountedPuts::valued_settle, vp9_types::proofs::Binds::writes_bind, crate::proofs::Below::tx_fits))]
 fn put_beside<N: Neighbours, Q: Neighbours>(
     encoder: &mut BoolEncoder,
     src: &Sources<'_, N, Q>,
@@ -262,7 +261,7 @@ fn put_inter_frame_mode_info<N: Neighbours, Q: Neighbours>(
 }
 
 /// A block of an intra frame.
-#[tactic(auto, unfolding(inter_modes::specs::ModeInfo::intra_frame_block), using(counting_writer::proofs::CountedPuts::valued_in_order, counting_writer::proofs::CountedPuts::valued_settle, vp9_types::proofs::Binds::writes_bind, crate::proofs::Below::intra_fits, crate::proofs::Below::coded_below))]
+#[tactic(auto, unfolding(inter_modes::specs::ModeInfo::intra_frame_block), using(bool_encoder::proofs::CountedPuts::valued_in_order, bool_encoder::proofs::CountedPuts::valued_settle, vp9_types::proofs::Binds::writes_bind, crate::proofs::Below::intra_fits, crate::proofs::Below::coded_below))]
 fn put_intra_frame_block<N: Neighbours>(
     encoder: &mut BoolEncoder,
     setting: &FrameSetting,

@@ -1,7 +1,7 @@
 //! Intra blocks of inter frames.
 
 ghost use Rattle.std.specs.Prelude.{◌≡◌, ◌≤◌, ◌∷◌, [], IfOk, length};
-ghost use Rattle.counting_writer.specs.Counted.{PutsValue};
+ghost use Rattle.bool_encoder.specs.CountedBools.{PutsValue};
 ghost use Rattle.inter_modes.specs.IntraBlocks.{intra_mode, uv_mode, one_mode, two_rows, two_columns, four_modes, luma_modes, intra_block_mode_info};
 ghost use Rattle.mode_writer.specs.Fits.{CanLuma};
 
@@ -12,7 +12,7 @@ use std::alloc::AllocError;
 use vp9_tables::{intra_mode_tree, size_group};
 use vp9_types::{BlockSize, IntraMode};
 
-#[tactic(auto, unfolding(inter_modes::specs::IntraBlocks::intra_mode), using(counting_writer::proofs::CountedPuts::valued_in_order, counting_writer::proofs::CountedPuts::valued_settle, counting_writer::proofs::CountedPuts::valued_tree, vp9_types::proofs::Binds::writes_bind, crate::proofs::Modes::intra_of_number))]
+#[tactic(auto, unfolding(inter_modes::specs::IntraBlocks::intra_mode), using(bool_encoder::proofs::CountedPuts::valued_in_order, bool_encoder::proofs::CountedPuts::valued_settle, bool_encoder::proofs::CountedPuts::valued_tree, vp9_types::proofs::Binds::writes_bind, crate::proofs::Modes::intra_of_number))]
 fn put_mode(
     encoder: &mut BoolEncoder,
     probs: &[u8; 36],
@@ -26,7 +26,7 @@ fn put_mode(
     put_tree(encoder, intra_mode_tree(), nodes, mode as u8)
 }
 
-#[tactic(auto, unfolding(inter_modes::specs::IntraBlocks::uv_mode), using(counting_writer::proofs::CountedPuts::valued_in_order, counting_writer::proofs::CountedPuts::valued_settle, counting_writer::proofs::CountedPuts::valued_tree, vp9_types::proofs::Binds::writes_bind, crate::proofs::Modes::intra_of_number))]
+#[tactic(auto, unfolding(inter_modes::specs::IntraBlocks::uv_mode), using(bool_encoder::proofs::CountedPuts::valued_in_order, bool_encoder::proofs::CountedPuts::valued_settle, bool_encoder::proofs::CountedPuts::valued_tree, vp9_types::proofs::Binds::writes_bind, crate::proofs::Modes::intra_of_number))]
 fn put_uv_mode(
     encoder: &mut BoolEncoder,
     probs: &[u8; 90],
@@ -39,7 +39,7 @@ fn put_uv_mode(
     put_tree(encoder, intra_mode_tree(), nodes, mode as u8)
 }
 
-#[tactic(auto, unfolding(inter_modes::specs::IntraBlocks::one_mode), using(counting_writer::proofs::CountedPuts::valued_in_order, counting_writer::proofs::CountedPuts::valued_settle, vp9_types::proofs::Binds::writes_bind))]
+#[tactic(auto, unfolding(inter_modes::specs::IntraBlocks::one_mode), using(bool_encoder::proofs::CountedPuts::valued_in_order, bool_encoder::proofs::CountedPuts::valued_settle, vp9_types::proofs::Binds::writes_bind))]
 fn put_one_mode(
     encoder: &mut BoolEncoder,
     probs: &[u8; 36],
@@ -53,7 +53,7 @@ fn put_one_mode(
 }
 
 /// 8x4: an upper and a lower one.
-#[tactic(auto, unfolding(inter_modes::specs::IntraBlocks::two_rows), using(counting_writer::proofs::CountedPuts::valued_in_order, counting_writer::proofs::CountedPuts::valued_settle, vp9_types::proofs::Binds::writes_bind))]
+#[tactic(auto, unfolding(inter_modes::specs::IntraBlocks::two_rows), using(bool_encoder::proofs::CountedPuts::valued_in_order, bool_encoder::proofs::CountedPuts::valued_settle, vp9_types::proofs::Binds::writes_bind))]
 fn put_two_rows(
     encoder: &mut BoolEncoder,
     probs: &[u8; 36],
@@ -67,7 +67,7 @@ fn put_two_rows(
 }
 
 /// 4x8: one at the left and one at the right.
-#[tactic(auto, unfolding(inter_modes::specs::IntraBlocks::two_columns), using(counting_writer::proofs::CountedPuts::valued_in_order, counting_writer::proofs::CountedPuts::valued_settle, vp9_types::proofs::Binds::writes_bind))]
+#[tactic(auto, unfolding(inter_modes::specs::IntraBlocks::two_columns), using(bool_encoder::proofs::CountedPuts::valued_in_order, bool_encoder::proofs::CountedPuts::valued_settle, vp9_types::proofs::Binds::writes_bind))]
 fn put_two_columns(
     encoder: &mut BoolEncoder,
     probs: &[u8; 36],
@@ -81,7 +81,7 @@ fn put_two_columns(
 }
 
 /// 4x4: one for each quarter.
-#[tactic(auto, unfolding(inter_modes::specs::IntraBlocks::four_modes), using(counting_writer::proofs::CountedPuts::valued_in_order, counting_writer::proofs::CountedPuts::valued_settle, vp9_types::proofs::Binds::writes_bind))]
+#[tactic(auto, unfolding(inter_modes::specs::IntraBlocks::four_modes), using(bool_encoder::proofs::CountedPuts::valued_in_order, bool_encoder::proofs::CountedPuts::valued_settle, vp9_types::proofs::Binds::writes_bind))]
 fn put_four_modes(
     encoder: &mut BoolEncoder,
     probs: &[u8; 36],
@@ -117,7 +117,7 @@ fn put_luma_modes(
 }
 
 /// Puts the modes of an intra block of an inter frame.
-#[tactic(auto, unfolding(inter_modes::specs::IntraBlocks::intra_block_mode_info), using(counting_writer::proofs::CountedPuts::valued_in_order, counting_writer::proofs::CountedPuts::valued_settle, vp9_types::proofs::Binds::writes_bind))]
+#[tactic(auto, unfolding(inter_modes::specs::IntraBlocks::intra_block_mode_info), using(bool_encoder::proofs::CountedPuts::valued_in_order, bool_encoder::proofs::CountedPuts::valued_settle, vp9_types::proofs::Binds::writes_bind))]
 pub(crate) fn put_intra_prediction(
     encoder: &mut BoolEncoder,
     y_modes: &[u8; 36],

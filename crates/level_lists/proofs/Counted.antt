@@ -9,8 +9,8 @@ use Rattle.bool_encoder.specs.Part.{Part}
 use Rattle.bool_encoder.specs.Bools.{Puts}
 use Rattle.bool_lists.specs.Lists.{HasPut, one_bool}
 use Rattle.bool_lists.proofs.Ways.{Between, between, flag_way}
-use Rattle.counting_writer.specs.Counted.{valued, PutsValue}
-use Rattle.counting_writer.proofs.CountedPuts.{valued_settle, valued_flag, valued_uncounted, valued_in_order}
+use Rattle.bool_encoder.specs.CountedBools.{valued, PutsValue}
+use Rattle.bool_encoder.proofs.CountedPuts.{valued_settle, valued_flag, valued_uncounted, valued_in_order}
 
 -- one was put, and then the other
 pub two_put : {A B : Type 0} (s : Syntax ℕ Rule (Settled A)) (f : A → Syntax ℕ Rule (Settled B)) (old new : Part) (y : B) → PutsValue (in_order s f) old y new

@@ -21,7 +21,7 @@ use Rattle.coef_tokens.specs.Steps.{more_coefs, step, token, token_from_one}
 use Rattle.coef_tokens.specs.declared.step.Step.{Step}
 use Rattle.coef_tokens.specs.declared.step.Step.TheVariants.{End, Zero, Level}
 use Rattle.counting_reader.specs.Counting.{in_order, settle, uncounted}
-use Rattle.counting_writer.specs.Counted.{PutsValue}
+use Rattle.bool_encoder.specs.CountedBools.{PutsValue}
 use Rattle.level_lists.specs.Levels.{bits_at, spelled_coef, spelled_level, spelled_more, spelled_rest, spelled_token, token_of}
 use Rattle.level_lists.proofs.Counted.{flag_put, settle_put, two_put, uncounted_put}
 

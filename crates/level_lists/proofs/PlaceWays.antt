@@ -14,8 +14,8 @@ use Rattle.coef_tokens.specs.Code.{HoldsLevels}
 use Rattle.coef_tokens.specs.declared.step.Step.{Step}
 use Rattle.coef_tokens.specs.declared.step.Step.TheVariants.{End, Zero, Level}
 use Rattle.coef_tokens.specs.declared.tables.TokenKind.{TokenKind}
-use Rattle.counting_writer.specs.Counted.{PutsValue}
-use Rattle.counting_writer.proofs.CountedPuts.{value_by_counting}
+use Rattle.bool_encoder.specs.CountedBools.{PutsValue}
+use Rattle.bool_encoder.proofs.CountedPuts.{value_by_counting}
 use Rattle.token_writer.specs.Fits.{PutsLevels, level_of}
 use Rattle.level_lists.specs.Levels.{spelled_from, spelled_levels, spelled_place}
 use Rattle.level_lists.proofs.Counted.{settle_put, two_put}

@@ -15,13 +15,12 @@ use crate::intra::can_luma;
 use crate::references::can_refer;
 use crate::starts::can_start_inter;
 use crate::vectors::{Best, can_say_inter};
-use block_plan::{BlockAt, Neighbours};
+use block_plan::{BlockAt, Neighbours, SegmentMap};
 use inter_contexts::in_range_or_rule;
 use inter_modes::{BlockStart, Frame, Sources, best_vectors, least_id, segment_reference};
 use inter_writer::{BlockSymbols, PredictionSymbols};
 use mode_syntax::skips_segment;
 use mv_prediction::{MvSearch, SignBiases, mode_context};
-use segment_map::SegmentMap;
 use vector_writer::InterSymbols;
 
 /// Whether an inter block of a segment can say this.

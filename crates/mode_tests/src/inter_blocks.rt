@@ -8,7 +8,9 @@ ghost use Rattle.mv_prediction.specs.Code.{HasSmallVectors, blocks_of};
 
 use crate::counted::{add_counts, add_vector_counts};
 use crate::drawn_blocks::{FROM, ROWS, TO, add_blocks, drawn_size};
-use block_plan::{BlockAt, BlockGrid, BlockInfo, InterPrediction, IntraPrediction, Prediction};
+use block_plan::{
+    BlockAt, BlockGrid, BlockInfo, InterPrediction, IntraPrediction, Prediction, SegmentMap,
+};
 use counting_reader::CountingReader;
 use frame_headers::{
     ColorConfig, FeatureReference, Features, FrameContexts, FrameFilter, FrameKind, FrameParams,
@@ -18,7 +20,6 @@ use frame_headers::{
 use frame_setting::FrameSetting;
 use inter_modes::mode_info;
 use prob_contexts::{Counts, ProbKind, default_contexts};
-use segment_map::SegmentMap;
 use std::alloc::Global;
 use std::test::Fail;
 use test_draws::{Digest, Draws};

@@ -2,7 +2,7 @@
 
 ghost use Rattle.std.specs.Prelude.{◌≡◌, ◌≤◌, IfOk};
 ghost use Rattle.bool_encoder.specs.Bools.{Puts};
-ghost use Rattle.counting_writer.specs.Counted.{PutsValue};
+ghost use Rattle.bool_encoder.specs.CountedBools.{PutsValue};
 ghost use Rattle.mode_syntax.specs.Elements.{intra_segment_id, read_skip};
 ghost use Rattle.mode_writer.specs.Fits.{CanSegment, CanSkip};
 
@@ -33,7 +33,7 @@ pub fn put_intra_segment_id(
 
 /// Puts `read_skip` (6.4.8 of the standard): whether a block is skipped, in a context of 0 to 2. The blocks of a segment
 /// that skips put nothing.
-#[tactic(auto, unfolding(mode_syntax::specs::Elements::read_skip), using(counting_writer::proofs::CountedPuts::valued_settle, counting_writer::proofs::CountedPuts::valued_flag))]
+#[tactic(auto, unfolding(mode_syntax::specs::Elements::read_skip), using(bool_encoder::proofs::CountedPuts::valued_settle, bool_encoder::proofs::CountedPuts::valued_flag))]
 pub fn put_skip(
     encoder: &mut BoolEncoder,
     segmentation: &Segmentation,

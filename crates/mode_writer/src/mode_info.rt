@@ -3,7 +3,7 @@
 ghost use Rattle.std.specs.Prelude.{◌≡◌, ◌-◌, ◌<◌, ◌≤◌, IfOk};
 ghost use Rattle.std.specs.Option.{option_copied};
 ghost use Rattle.prob_contexts.specs.Lists.{lists_of};
-ghost use Rattle.counting_writer.specs.Counted.{PutsValue};
+ghost use Rattle.bool_encoder.specs.CountedBools.{PutsValue};
 ghost use Rattle.mode_syntax.specs.ModeInfo.{mode_info_beside, intra_frame_mode_info};
 ghost use Rattle.mode_writer.specs.Fits.{CanPutIntraFrame};
 
@@ -17,7 +17,7 @@ use mode_syntax::{edge_modes, skip_context, tx_context};
 use std::alloc::AllocError;
 
 /// What a block says beside the blocks above it and at its left.
-#[tactic(auto, unfolding(mode_syntax::specs::ModeInfo::mode_info_beside), using(counting_writer::proofs::CountedPuts::valued_in_order, counting_writer::proofs::CountedPuts::valued_settle, counting_writer::proofs::CountedPuts::valued_uncounted, vp9_types::proofs::Binds::writes_bind))]
+#[tactic(auto, unfolding(mode_syntax::specs::ModeInfo::mode_info_beside), using(bool_encoder::proofs::CountedPuts::valued_in_order, bool_encoder::proofs::CountedPuts::valued_settle, bool_encoder::proofs::CountedPuts::valued_uncounted, vp9_types::proofs::Binds::writes_bind))]
 fn put_beside(
     encoder: &mut BoolEncoder,
     setting: &FrameSetting,

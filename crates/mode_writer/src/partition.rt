@@ -3,7 +3,7 @@
 ghost use Rattle.std.specs.Prelude.{◌≡◌, ◌+◌, ◌<◌, ◌≤◌, ◌⊎◌, ℕ, IfOk, length};
 ghost use Rattle.vp9_types.specs.declared.block.Partition.TheVariants.{Split};
 ghost use Rattle.prob_contexts.specs.Lists.{lists_of};
-ghost use Rattle.counting_writer.specs.Counted.{PutsValue};
+ghost use Rattle.bool_encoder.specs.CountedBools.{PutsValue};
 ghost use Rattle.mode_syntax.specs.Partitions.{whole_symbol, edge_symbol, partition_value, partition, partition_at};
 ghost use Rattle.mode_writer.specs.Fits.{CanPartition, CanPartitionAt};
 
@@ -15,7 +15,7 @@ use std::alloc::AllocError;
 use vp9_tables::partition_tree;
 use vp9_types::Partition;
 
-#[tactic(auto, unfolding(mode_syntax::specs::Partitions::whole_symbol), using(counting_writer::proofs::CountedPuts::valued_in_order, counting_writer::proofs::CountedPuts::valued_settle, counting_writer::proofs::CountedPuts::valued_uncounted, vp9_types::proofs::Binds::writes_bind, crate::proofs::Numbers::partition_of_its_number))]
+#[tactic(auto, unfolding(mode_syntax::specs::Partitions::whole_symbol), using(bool_encoder::proofs::CountedPuts::valued_in_order, bool_encoder::proofs::CountedPuts::valued_settle, bool_encoder::proofs::CountedPuts::valued_uncounted, vp9_types::proofs::Binds::writes_bind, crate::proofs::Numbers::partition_of_its_number))]
 fn put_whole(
     encoder: &mut BoolEncoder,
     probs: &[u8],
@@ -28,7 +28,7 @@ fn put_whole(
 }
 
 /// Whether a square is split. It is partitioned in the other way if not.
-#[tactic(auto, unfolding(mode_syntax::specs::Partitions::edge_symbol), using(counting_writer::proofs::CountedPuts::valued_in_order, counting_writer::proofs::CountedPuts::valued_settle, counting_writer::proofs::CountedPuts::valued_uncounted, vp9_types::proofs::Binds::writes_bind))]
+#[tactic(auto, unfolding(mode_syntax::specs::Partitions::edge_symbol), using(bool_encoder::proofs::CountedPuts::valued_in_order, bool_encoder::proofs::CountedPuts::valued_settle, bool_encoder::proofs::CountedPuts::valued_uncounted, vp9_types::proofs::Binds::writes_bind))]
 fn put_edge(
     encoder: &mut BoolEncoder,
     p: u8,
@@ -41,7 +41,7 @@ fn put_edge(
     put_flag(encoder, p, partition == Partition::Split)
 }
 
-#[tactic(auto, unfolding(mode_syntax::specs::Partitions::partition_value), using(counting_writer::proofs::CountedPuts::valued_settle))]
+#[tactic(auto, unfolding(mode_syntax::specs::Partitions::partition_value), using(bool_encoder::proofs::CountedPuts::valued_settle))]
 fn put_value(
     encoder: &mut BoolEncoder,
     has_rows: bool,
@@ -65,7 +65,7 @@ fn put_value(
     Ok(())
 }
 
-#[tactic(auto, unfolding(mode_syntax::specs::Partitions::partition), using(counting_writer::proofs::CountedPuts::valued_in_order, counting_writer::proofs::CountedPuts::valued_settle, counting_writer::proofs::CountedPuts::valued_count, vp9_types::proofs::Binds::writes_bind))]
+#[tactic(auto, unfolding(mode_syntax::specs::Partitions::partition), using(bool_encoder::proofs::CountedPuts::valued_in_order, bool_encoder::proofs::CountedPuts::valued_settle, bool_encoder::proofs::CountedPuts::valued_count, vp9_types::proofs::Binds::writes_bind))]
 fn put_counted(
     encoder: &mut BoolEncoder,
     has_rows: bool,

@@ -4,7 +4,7 @@ ghost use Rattle.std.specs.Prelude.{◌≡◌, ◌*◌, ◌≤◌, ℕ, IfOk, dr
 ghost use Rattle.vp9_types.specs.declared.block.TxSize.TheVariants as size;
 ghost use Rattle.vp9_tables.specs.Numbers.{tx_number};
 ghost use Rattle.prob_contexts.specs.Lists.{tx_lists};
-ghost use Rattle.counting_writer.specs.Counted.{PutsValue};
+ghost use Rattle.bool_encoder.specs.CountedBools.{PutsValue};
 ghost use Rattle.mode_syntax.specs.Elements.{tx_symbol, read_tx_size};
 ghost use Rattle.mode_writer.specs.Fits.{CanTx};
 
@@ -16,7 +16,7 @@ use std::alloc::AllocError;
 use vp9_tables::{max_tx_size, tx8_tree, tx16_tree, tx32_tree};
 use vp9_types::{BlockSize, TxMode, TxSize};
 
-#[tactic(auto, unfolding(mode_syntax::specs::Elements::tx_symbol), using(counting_writer::proofs::CountedPuts::valued_in_order, counting_writer::proofs::CountedPuts::valued_settle, counting_writer::proofs::CountedPuts::valued_tree, vp9_types::proofs::Binds::writes_bind, block_plan::proofs::Transforms::tx_of_number))]
+#[tactic(auto, unfolding(mode_syntax::specs::Elements::tx_symbol), using(bool_encoder::proofs::CountedPuts::valued_in_order, bool_encoder::proofs::CountedPuts::valued_settle, bool_encoder::proofs::CountedPuts::valued_tree, vp9_types::proofs::Binds::writes_bind, block_plan::proofs::Transforms::tx_of_number))]
 fn put_up_to_8x8(
     encoder: &mut BoolEncoder,
     probs: &TxProbs,
@@ -31,7 +31,7 @@ fn put_up_to_8x8(
     put_tree(encoder, tx8_tree(), probs, tx as u8)
 }
 
-#[tactic(auto, unfolding(mode_syntax::specs::Elements::tx_symbol), using(counting_writer::proofs::CountedPuts::valued_in_order, counting_writer::proofs::CountedPuts::valued_settle, counting_writer::proofs::CountedPuts::valued_tree, vp9_types::proofs::Binds::writes_bind, block_plan::proofs::Transforms::tx_of_number))]
+#[tactic(auto, unfolding(mode_syntax::specs::Elements::tx_symbol), using(bool_encoder::proofs::CountedPuts::valued_in_order, bool_encoder::proofs::CountedPuts::valued_settle, bool_encoder::proofs::CountedPuts::valued_tree, vp9_types::proofs::Binds::writes_bind, block_plan::proofs::Transforms::tx_of_number))]
 fn put_up_to_16x16(
     encoder: &mut BoolEncoder,
     probs: &TxProbs,
@@ -46,7 +46,7 @@ fn put_up_to_16x16(
     put_tree(encoder, tx16_tree(), probs, tx as u8)
 }
 
-#[tactic(auto, unfolding(mode_syntax::specs::Elements::tx_symbol), using(counting_writer::proofs::CountedPuts::valued_in_order, counting_writer::proofs::CountedPuts::valued_settle, counting_writer::proofs::CountedPuts::valued_tree, vp9_types::proofs::Binds::writes_bind, block_plan::proofs::Transforms::tx_of_number))]
+#[tactic(auto, unfolding(mode_syntax::specs::Elements::tx_symbol), using(bool_encoder::proofs::CountedPuts::valued_in_order, bool_encoder::proofs::CountedPuts::valued_settle, bool_encoder::proofs::CountedPuts::valued_tree, vp9_types::proofs::Binds::writes_bind, block_plan::proofs::Transforms::tx_of_number))]
 fn put_up_to_32x32(
     encoder: &mut BoolEncoder,
     probs: &TxProbs,
@@ -82,7 +82,7 @@ fn put_tx_symbol(
 
 /// Puts `read_tx_size` (6.4.10 of the standard) in a context of 0 or 1, nothing where the frame or the block's size settles
 /// the transform size.
-#[tactic(auto, unfolding(mode_syntax::specs::Elements::read_tx_size), using(counting_writer::proofs::CountedPuts::valued_settle))]
+#[tactic(auto, unfolding(mode_syntax::specs::Elements::read_tx_size), using(bool_encoder::proofs::CountedPuts::valued_settle))]
 pub fn put_tx_size(
     encoder: &mut BoolEncoder,
     mode: TxMode,

@@ -14,8 +14,8 @@ use Rattle.frame_headers.specs.declared.header.Header.{Header}
 use Rattle.block_plan.specs.InPlanes.{places_in}
 use Rattle.block_plan.specs.declared.block.BlockInfo.{BlockInfo}
 use Rattle.counting_reader.specs.Counting.{through}
-use Rattle.counting_writer.specs.Counted.{PutsTo}
-use Rattle.counting_writer.proofs.CountedPuts.{puts_on, puts_broken, puts_settle}
+use Rattle.bool_encoder.specs.CountedBools.{PutsTo}
+use Rattle.bool_encoder.proofs.CountedPuts.{puts_on, puts_broken, puts_settle}
 use Rattle.residue_syntax.specs.BlocksInPlanes.{block_in}
 use Rattle.residue_syntax.specs.Residues.{ReadPlane, read_next, read_skipped, skipped_sides, read_in_plane, read_plane, read_block, listed, planned, is_coded}
 use Rattle.residue_syntax.specs.Sides.{Sides}

@@ -13,8 +13,8 @@ use Rattle.bool_encoder.specs.Part.{Part}
 use Rattle.block_plan.specs.Planned.{Residue}
 use Rattle.block_plan.proofs.Held.{one_long}
 use Rattle.counting_reader.specs.Counting.{through}
-use Rattle.counting_writer.specs.Counted.{PutsTo}
-use Rattle.counting_writer.proofs.CountedPuts.{LeftOf, puts_on, puts_broken, puts_settle, through_begins, through_goes, through_breaks, through_ends}
+use Rattle.bool_encoder.specs.CountedBools.{PutsTo}
+use Rattle.bool_encoder.proofs.CountedPuts.{LeftOf, puts_on, puts_broken, puts_settle, through_begins, through_goes, through_breaks, through_ends}
 use Rattle.residue_syntax.specs.Residues.{ReadPlane, read_residue, read_next, with_sides, is_coded}
 use Rattle.residue_syntax.specs.Sides.{Sides}
 use Rattle.residue_syntax.specs.declared.in_plane.BlockInPlane.{BlockInPlane}

@@ -11,8 +11,8 @@ use Rattle.coef_tokens.specs.Blocks.{block_tables}
 use Rattle.coef_tokens.specs.Places.{Read}
 use Rattle.coef_tokens.specs.Code.{HoldsLevels}
 use Rattle.counting_reader.specs.Counting.{settle, lifted, in_order}
-use Rattle.counting_writer.specs.Counted.{PutsTo}
-use Rattle.counting_writer.proofs.CountedPuts.{puts_value, value_by_counting, puts_on, puts_broken, puts_lifted, puts_settle}
+use Rattle.bool_encoder.specs.CountedBools.{PutsTo}
+use Rattle.bool_encoder.proofs.CountedPuts.{puts_value, value_by_counting, puts_on, puts_broken, puts_lifted, puts_settle}
 use Rattle.token_writer.specs.Fits.{PutsLevels}
 use Rattle.residue_transforms.specs.Residue.{residue}
 use Rattle.block_plan.specs.Planned.{Residue}

@@ -4,7 +4,7 @@ ghost use Rattle.std.specs.Prelude.{ℕ, IfOk};
 ghost use Rattle.frame_headers.specs.State.{shape_of};
 ghost use Rattle.prob_contexts.specs.Lists.{lists_of};
 ghost use Rattle.bool_lists.specs.Lists.{HasPut};
-ghost use Rattle.counting_writer.specs.Counted.{PutsTo};
+ghost use Rattle.bool_encoder.specs.CountedBools.{PutsTo};
 ghost use Rattle.residue_syntax.specs.Residues.{read_plane, read_block};
 ghost use Rattle.residue_syntax.specs.Code.{FitPlane, FitPlanes, IsInFrame};
 ghost use Rattle.residue_writer.specs.Said.{said_in_plane, block_said};

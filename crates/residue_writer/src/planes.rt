@@ -6,7 +6,7 @@ ghost use Rattle.block_geometry.specs.Code.{IsSmallGrid};
 ghost use Rattle.block_geometry.specs.TransformBlocks.{grid_blocks, tx_step};
 ghost use Rattle.bool_lists.specs.Lists.{HasPut};
 ghost use Rattle.counting_reader.specs.Counting.{through};
-ghost use Rattle.counting_writer.specs.Counted.{PutsTo};
+ghost use Rattle.bool_encoder.specs.CountedBools.{PutsTo};
 ghost use Rattle.prob_contexts.specs.Lists.{lists_of};
 ghost use Rattle.residue_syntax.specs.Residues.{read_next};
 ghost use Rattle.residue_syntax.specs.Code.{IsBeside, KeepsLengths};

@@ -6,7 +6,7 @@ ghost use Rattle.prob_contexts.specs.Lists.{lists_of};
 ghost use Rattle.vp9_types.specs.Results.{map_ok};
 ghost use Rattle.vp9_tables.specs.Scans.{area};
 ghost use Rattle.bool_lists.specs.Lists.{HasPut};
-ghost use Rattle.counting_writer.specs.Counted.{PutsTo};
+ghost use Rattle.bool_encoder.specs.CountedBools.{PutsTo};
 ghost use Rattle.token_writer.specs.Fits.{IsCoded};
 ghost use Rattle.residue_syntax.specs.BlocksInPlanes.{type_at};
 ghost use Rattle.residue_syntax.specs.Residues.{read_residue, with_sides};

@@ -20,7 +20,7 @@ use Rattle.vp9_types.specs.declared.block.ReferenceFrame.{ReferenceFrame}
 use Rattle.frame_headers.specs.declared.header.Header.{Header}
 use Rattle.frame_headers.specs.State.{SlotsHaveSizes}
 use Rattle.prob_contexts.specs.Lists.{ContextLists, lists_of}
-use Rattle.segment_map.specs.Segments.{SegmentIds, id_map}
+use Rattle.block_plan.specs.Segments.{SegmentIds, id_map}
 use Rattle.picture_table.specs.Code.{held, names, IsTable}
 use Rattle.picture_table.specs.declared.table.PictureTable.{PictureTable}
 use Rattle.planes.specs.Pictures.{FitsPlanes, map_of}

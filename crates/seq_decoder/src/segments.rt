@@ -10,10 +10,10 @@ ghost use Rattle.seq_decoder.specs.After.{has_size, segments_before};
 ghost use Rattle.seq_decoder.specs.Code.{HasPlaces, segments_held};
 
 use crate::saved::loses_past;
+use block_plan::SegmentMap;
 use frame_headers::{FrameSize, Header};
 use frame_state::TileColumn;
 use inter_modes::update_segments;
-use segment_map::SegmentMap;
 use std::alloc::{AllocError, Global};
 
 /// Whether a frame of a size has that of another frame, which there may not be.

@@ -25,8 +25,8 @@ use Rattle.compressed_writer.specs.Spelling.{spelled_compressed}
 use Rattle.tile_writer.specs.declared.unwritten.Unwritten.TheVariants as unwritten
 use Rattle.drawn_frames.specs.Symbols.{drawing}
 use Rattle.drawn_frames.specs.declared.symbols.DrawnSymbols.{DrawnSymbols}
-use Rattle.drawn_headers.specs.Code.{sized}
-use Rattle.drawn_headers.specs.Modes.{draw_modes}
+use Rattle.drawn_frames.specs.Code.{sized}
+use Rattle.drawn_frames.specs.Modes.{draw_modes}
 use Rattle.frame_decoder.proofs.PlainFrames.{frame_decodes}
 use Rattle.seq_decoder.specs.After.{Stepped, after_coded, input_of, past_of, references_of, step}
 use Rattle.seq_decoder.specs.SavedContexts.{context_before, saved_before}

@@ -11,8 +11,8 @@ use Rattle.frame_headers.specs.declared.persist.Persist.{Persist}
 use Rattle.header_writer.specs.Reads.{HoldsHeader}
 use Rattle.header_writer.specs.Spelling.{IsSpelled}
 use Rattle.header_writer.specs.declared.choices.Choices.{Choices}
-use Rattle.drawn_headers.specs.Heads.{draw_coded, draw_head}
-use Rattle.drawn_headers.specs.Made.{IsMade}
+use Rattle.drawn_frames.specs.Heads.{draw_coded, draw_head}
+use Rattle.drawn_frames.specs.Made.{IsMade}
 use Rattle.seq_decoder.specs.After.{Stepped, step}
 use Rattle.seq_decoder.specs.State.{State, persist_of}
 use Rattle.seq_decoder.proofs.Slots.{coded_persists, shown_stays}

@@ -4,7 +4,7 @@ use Rattle.std.specs.Prelude.{◌==◌, Option, Some, None}
 use Rattle.std.proofs.lemmas.Bool.{and_parts, eqb-true}
 use Rattle.frame_headers.specs.declared.header.FrameSize.{FrameSize}
 use Rattle.frame_headers.specs.declared.header.Header.{Header}
-use Rattle.segment_map.specs.declared.map.SegmentMap.{SegmentMap}
+use Rattle.block_plan.specs.declared.segment_map.SegmentMap.{SegmentMap}
 use Rattle.seq_decoder.specs.After.{has_size}
 use Rattle.seq_decoder.specs.Code.{HasPlaces, segments_held}
 use Rattle.seq_decoder.specs.SavedContexts.{loses_past}

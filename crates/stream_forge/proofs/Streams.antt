@@ -8,7 +8,7 @@ use Rattle.header_writer.specs.declared.choices.Choices.{Choices}
 use Rattle.container_writer.specs.Files.{file_header, packet_of}
 use Rattle.ivf_container.specs.Packets.{written_bytes}
 use Rattle.drawn_symbols.specs.declared.draws.Draws.{Draws}
-use Rattle.drawn_headers.specs.Made as headers
+use Rattle.drawn_frames.specs.Made as headers
 use Rattle.frame_writer.specs.declared.written.NotWritten.{NotWritten}
 use Rattle.frame_writer.specs.declared.written.NotWritten.TheVariants.{Unsaid, TooLong, OutOfMemory}
 use Rattle.frame_writer.specs.declared.written.Written.{Written}

@@ -8,8 +8,8 @@ use Rattle.frame_headers.specs.State.{next_persist}
 use Rattle.frame_headers.specs.declared.header.Uncompressed.{Uncompressed}
 use Rattle.frame_headers.specs.declared.header.Uncompressed.TheVariants.{ShowExisting, Coded}
 use Rattle.frame_headers.specs.declared.persist.Persist.{Persist}
-use Rattle.segment_map.specs.Segments.{id_map}
-use Rattle.segment_map.specs.declared.map.SegmentMap.{SegmentMap}
+use Rattle.block_plan.specs.Segments.{id_map}
+use Rattle.block_plan.specs.declared.segment_map.SegmentMap.{SegmentMap}
 use Rattle.frame_writer.specs.Code.{GivesFrame}
 use Rattle.frame_writer.specs.Symbols.{Speaker}
 use Rattle.frame_writer.specs.declared.frame.FrameToWrite.{FrameToWrite}
@@ -17,7 +17,7 @@ use Rattle.frame_writer.specs.declared.written.NotWritten.{NotWritten}
 use Rattle.frame_writer.specs.declared.written.NotWritten.TheVariants.{Unsaid, TooLong, OutOfMemory}
 use Rattle.frame_writer.specs.declared.written.Written.{Written}
 use Rattle.header_writer.specs.declared.choices.Choices.{Choices}
-use Rattle.drawn_headers.specs.Made as headers
+use Rattle.drawn_frames.specs.Made as headers
 use Rattle.drawn_symbols.specs.declared.draws.Draws.{Draws}
 use Rattle.prob_contexts.specs.Lists.{lists_of}
 use Rattle.prob_contexts.specs.declared.contexts.Contexts.{Contexts}

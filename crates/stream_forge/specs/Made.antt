@@ -15,9 +15,9 @@ use Rattle.compressed_writer.specs.Spelling.{spelled_compressed}
 use Rattle.tile_writer.specs.declared.unwritten.Unwritten.{Unwritten}
 use Rattle.frame_writer.specs.Bytes.{frame_bytes, header_bytes, with_size}
 use Rattle.frame_writer.specs.Frames.{FrameTold, frame_told}
-use Rattle.drawn_headers.specs.Heads.{draw_head}
-use Rattle.drawn_headers.specs.Modes.{draw_modes}
-use Rattle.drawn_headers.specs.declared.heads.DrawnHead.{DrawnHead}
+use Rattle.drawn_frames.specs.Heads.{draw_head}
+use Rattle.drawn_frames.specs.Modes.{draw_modes}
+use Rattle.drawn_frames.specs.declared.heads.DrawnHead.{DrawnHead}
 use Rattle.drawn_frames.specs.Symbols.{drawing}
 use Rattle.drawn_frames.specs.declared.symbols.DrawnSymbols.{DrawnSymbols}
 use Rattle.seq_decoder.specs.After.{Stepped, past_of, step}

@@ -6,15 +6,14 @@ ghost use Rattle.frame_headers.specs.declared.header.FrameHead.TheVariants as he
 ghost use Rattle.frame_headers.specs.declared.header.Uncompressed.TheVariants.{Coded, ShowExisting};
 ghost use Rattle.frame_writer.specs.Bytes.{header_bytes};
 ghost use Rattle.header_writer.specs.WellFormed.{CanChoose, IsWellFormed};
-ghost use Rattle.drawn_headers.specs.Code.{sized};
-ghost use Rattle.drawn_headers.specs.Heads.{draw_head};
+ghost use Rattle.drawn_frames.specs.Code.{sized};
+ghost use Rattle.drawn_frames.specs.Heads.{draw_head};
 ghost use Rattle.seq_decoder.specs.Code.{MayDecode, StandsFor};
 ghost use Rattle.seq_decoder.specs.State.{State, persist_of};
 ghost use Rattle.stream_forge.specs.Code.{Gives, IsMadeAfter, MayDraw};
 
 use crate::coded::{CodedFrame, write_coded};
-use drawn_frames::DrawnSymbols;
-use drawn_headers::{draw_head, draw_modes};
+use drawn_frames::{DrawnSymbols, draw_head, draw_modes};
 use drawn_symbols::Draws;
 use frame_headers::{FrameParams, Header, Uncompressed};
 use frame_writer::{NotWritten, Written};

@@ -3,8 +3,8 @@
 ghost use Rattle.std.specs.Prelude.{IfOk};
 ghost use Rattle.stream_forge.specs.Code.{HasOne, IsFresh, IsOneOf};
 
+use block_plan::SegmentMap;
 use frame_headers::{FrameSize, Header};
-use segment_map::SegmentMap;
 use seq_decoder::{has_size, loses_past, segments_of};
 use std::alloc::{AllocError, Global};
 

@@ -7,11 +7,11 @@ ghost use Rattle.frame_state.specs.Past.{IsPastOf};
 
 use crate::listed_frames_tests::Row;
 use crate::listed_frames_tests::rows::ROWS;
+use block_plan::SegmentMap;
 use frame_headers::{FrameHead, Persist, read};
 use frame_setting::FrameSetting;
 use frame_state::{FramePast, FrameSources, begin_frame};
 use prob_contexts::{Contexts, default_contexts};
-use segment_map::SegmentMap;
 use std::alloc::Global;
 use std::test::Fail;
 use tile_syntax::{ColumnPlan, Unplanned, column};

@@ -1,6 +1,6 @@
 //! Lists that can be told, and lists that can't.
 
-use block_plan::{BlockInfo, IntraPrediction, Prediction};
+use block_plan::{BlockInfo, IntraPrediction, Prediction, SegmentMap};
 use frame_headers::{
     ColorConfig, Features, FrameContexts, FrameKind, FrameParams, FrameSize, Header, LoopDeltas,
     LoopFilter, Quantizer, Segmentation, TileInfo,
@@ -13,7 +13,6 @@ use inter_writer::{BlockSymbols, PredictionSymbols};
 use listed_symbols::{ListedBlock, ListedLevels, ListedSymbols};
 use prob_contexts::default_contexts;
 use residue_writer::{BlockLevels, PlaneLevels};
-use segment_map::SegmentMap;
 use std::alloc::{AllocError, Global};
 use std::process::Abort;
 use std::test::Fail;

@@ -7,8 +7,8 @@ use Rattle.bool_encoder.specs.Part.{Part, marked}
 use Rattle.bool_lists.specs.Lists.{BoolList, HasPut}
 use Rattle.bool_lists.proofs.Ways.{spells_on}
 use Rattle.counting_reader.specs.Counting.{Settled, in_order, settle}
-use Rattle.counting_writer.specs.Counted.{PutsValue, PutsTo}
-use Rattle.counting_writer.proofs.CountedPuts.{puts_broken, puts_on, puts_value, value_put, valued_settle}
+use Rattle.bool_encoder.specs.CountedBools.{PutsValue, PutsTo}
+use Rattle.bool_encoder.proofs.CountedPuts.{puts_broken, puts_on, puts_value, value_put, valued_settle}
 use Rattle.tile_writer.specs.Said.{SaidSoFar, behind, so_far}
 use Rattle.tile_writer.specs.Code.{Tile, SameTile, Rest, EndsTile, then_rest}
 use Rattle.tile_writer.specs.declared.unwritten.Unwritten.{Unwritten}

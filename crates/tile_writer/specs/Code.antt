@@ -9,7 +9,7 @@ use Rattle.bool_lists.specs.Lists.{BoolList, HasPut}
 use Rattle.block_geometry.specs.Sizes.{width_8}
 use Rattle.block_plan.specs.declared.block.BlockAt.{BlockAt}
 use Rattle.counting_reader.specs.Counting.{Settled, in_order}
-use Rattle.counting_writer.specs.Counted.{PutsValue, PutsTo}
+use Rattle.bool_encoder.specs.CountedBools.{PutsValue, PutsTo}
 use Rattle.mode_syntax.specs.Partitions.{partition_at}
 use Rattle.mode_syntax.specs.Walk.{Walk, block_inside, parts, decode_partition, decode_row, decode_tile}
 use Rattle.mode_syntax.specs.declared.square_at.SquareAt.{SquareAt}

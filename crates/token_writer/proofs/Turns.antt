@@ -21,10 +21,10 @@ use Rattle.coef_tokens.specs.declared.step.Step.{Step}
 use Rattle.coef_tokens.specs.declared.step.Step.TheVariants.{End, Zero, Level}
 use Rattle.coef_tokens.specs.Places.{Tables, Tokens, Read, no_tokens, block_tokens, tokens_from, step_by, row_at, with_zero, with_level, goes_on, level_at}
 use Rattle.coef_tokens.specs.Code.{HoldsClasses, HoldsLevels, StandsAt}
-use Rattle.counting_writer.specs.Counted.{valued, PutsValue}
+use Rattle.bool_encoder.specs.CountedBools.{valued, PutsValue}
 use Rattle.token_writer.specs.Fits.{CanPut, IsCoded, PutsLevels, level_of}
 use Rattle.token_writer.specs.Code.{PutsStep, AreThree}
-use Rattle.counting_writer.proofs.CountedPuts.{valued_in_order, valued_settle, value_counts}
+use Rattle.bool_encoder.proofs.CountedPuts.{valued_in_order, valued_settle, value_counts}
 
 coded_small : (depth : Depth) (m : ℕ) → IsCoded depth m → m < 2 ^ 19
 coded_small Eight m h = omega arith

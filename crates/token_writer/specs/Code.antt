@@ -7,7 +7,7 @@ use Rattle.coef_tokens.specs.Symbols.{category_base}
 use Rattle.coef_tokens.specs.Places.{Tables}
 use Rattle.coef_tokens.specs.Steps.{step}
 use Rattle.coef_tokens.specs.declared.step.Step.{Step}
-use Rattle.counting_writer.specs.Counted.{PutsValue}
+use Rattle.bool_encoder.specs.CountedBools.{PutsValue}
 
 -- a token from one on stands for the magnitude, or its bits can say it
 pub record IsTokenOf (depth : Depth) (token m : ℕ) : Type 0 where

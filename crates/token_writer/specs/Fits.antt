@@ -6,7 +6,7 @@ use Rattle.vp9_tables.specs.Coefficients.{category_of}
 use Rattle.bool_encoder.specs.Part.{Part}
 use Rattle.coef_tokens.specs.Places.{Tables, Tokens, block_tokens}
 use Rattle.coef_tokens.specs.Code.{HoldsLevels}
-use Rattle.counting_writer.specs.Counted.{PutsCounting}
+use Rattle.bool_encoder.specs.CountedBools.{PutsCounting}
 
 -- what the last category can say: it begins at 67, and has 14, 16 or 18 bits, by the depth
 abbrev pub IsCoded : Depth → ℕ → Type 0

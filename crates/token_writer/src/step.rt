@@ -5,7 +5,7 @@ ghost use Rattle.vp9_types.specs.declared.shape.Depth.{Depth};
 ghost use Rattle.coef_tokens.specs.Symbols.{class_of};
 ghost use Rattle.coef_tokens.specs.Steps.{token_from_one, more_coefs, token};
 ghost use Rattle.coef_tokens.specs.declared.step.Step.TheVariants.{End, Zero, Level};
-ghost use Rattle.counting_writer.specs.Counted.{PutsValue};
+ghost use Rattle.bool_encoder.specs.CountedBools.{PutsValue};
 ghost use Rattle.token_writer.specs.Fits.{IsCoded};
 ghost use Rattle.token_writer.specs.Code.{IsTokenOf, PutsStep};
 
@@ -17,7 +17,7 @@ use vp9_tables::energy_class;
 use vp9_types::Depth;
 
 /// One or more, by the third node's probability.
-#[tactic(auto, unfolding(coef_tokens::specs::Steps::token_from_one), using(counting_writer::proofs::CountedPuts::valued_in_order, counting_writer::proofs::CountedPuts::valued_settle, counting_writer::proofs::CountedPuts::valued_uncounted, counting_writer::proofs::CountedPuts::valued_flag, vp9_types::proofs::Binds::writes_bind))]
+#[tactic(auto, unfolding(coef_tokens::specs::Steps::token_from_one), using(bool_encoder::proofs::CountedPuts::valued_in_order, bool_encoder::proofs::CountedPuts::valued_settle, bool_encoder::proofs::CountedPuts::valued_uncounted, bool_encoder::proofs::CountedPuts::valued_flag, vp9_types::proofs::Binds::writes_bind))]
 fn put_from_one(encoder: &mut BoolEncoder, third: u8, token: u8) -> Result<(), AllocError>
     requires some { 1 ≤ third }
     requires least { 1 ≤ token }
@@ -32,7 +32,7 @@ fn put_from_one(encoder: &mut BoolEncoder, third: u8, token: u8) -> Result<(), A
 }
 
 /// Whether there are more tokens. It isn't put after a zero.
-#[tactic(auto, unfolding(coef_tokens::specs::Steps::more_coefs), using(counting_writer::proofs::CountedPuts::valued_settle, counting_writer::proofs::CountedPuts::valued_flag))]
+#[tactic(auto, unfolding(coef_tokens::specs::Steps::more_coefs), using(bool_encoder::proofs::CountedPuts::valued_settle, bool_encoder::proofs::CountedPuts::valued_flag))]
 fn put_more(encoder: &mut BoolEncoder, check: bool, first: u8) -> Result<(), AllocError>
     ensures { IfOk result (λ _. (node : ℕ) → PutsValue (more_coefs check node first) encoder.old true encoder.new) }
 {
@@ -43,14 +43,14 @@ fn put_more(encoder: &mut BoolEncoder, check: bool, first: u8) -> Result<(), All
 }
 
 /// The end, before the scan's.
-#[tactic(auto, unfolding(coef_tokens::specs::Steps::step, coef_tokens::specs::Steps::more_coefs), using(counting_writer::proofs::CountedPuts::valued_in_order, counting_writer::proofs::CountedPuts::valued_settle, counting_writer::proofs::CountedPuts::valued_flag, vp9_types::proofs::Binds::writes_bind))]
+#[tactic(auto, unfolding(coef_tokens::specs::Steps::step, coef_tokens::specs::Steps::more_coefs), using(bool_encoder::proofs::CountedPuts::valued_in_order, bool_encoder::proofs::CountedPuts::valued_settle, bool_encoder::proofs::CountedPuts::valued_flag, vp9_types::proofs::Binds::writes_bind))]
 pub(crate) fn put_end(encoder: &mut BoolEncoder, probs: [u8; 3]) -> Result<(), AllocError>
     ensures { IfOk result (λ _. (depth : Depth) → PutsStep depth true probs encoder.old End encoder.new) }
 {
     put_flag(encoder, probs[0], false)
 }
 
-#[tactic(auto, unfolding(coef_tokens::specs::Steps::step, coef_tokens::specs::Steps::token), using(counting_writer::proofs::CountedPuts::valued_in_order, counting_writer::proofs::CountedPuts::valued_settle, counting_writer::proofs::CountedPuts::valued_flag, vp9_types::proofs::Binds::writes_bind))]
+#[tactic(auto, unfolding(coef_tokens::specs::Steps::step, coef_tokens::specs::Steps::token), using(bool_encoder::proofs::CountedPuts::valued_in_order, bool_encoder::proofs::CountedPuts::valued_settle, bool_encoder::proofs::CountedPuts::valued_flag, vp9_types::proofs::Binds::writes_bind))]
 pub(crate) fn put_zero(
     encoder: &mut BoolEncoder,
     check: bool,
@@ -63,7 +63,7 @@ pub(crate) fn put_zero(
 }
 
 /// What stands behind more_coefs, for a level by its token.
-#[tactic(auto, unfolding(coef_tokens::specs::Steps::token), using(counting_writer::proofs::CountedPuts::valued_in_order, counting_writer::proofs::CountedPuts::valued_settle, counting_writer::proofs::CountedPuts::valued_uncounted, counting_writer::proofs::CountedPuts::valued_flag, vp9_types::proofs::Binds::writes_bind))]
+#[tactic(auto, unfolding(coef_tokens::specs::Steps::token), using(bool_encoder::proofs::CountedPuts::valued_in_order, bool_encoder::proofs::CountedPuts::valued_settle, bool_encoder::proofs::CountedPuts::valued_uncounted, bool_encoder::proofs::CountedPuts::valued_flag, vp9_types::proofs::Binds::writes_bind))]
 fn put_token(
     encoder: &mut BoolEncoder,
     depth: Depth,
@@ -82,7 +82,7 @@ fn put_token(
 }
 
 /// A level that isn't 0, and the class of its token.
-#[tactic(auto, unfolding(coef_tokens::specs::Steps::step), using(counting_writer::proofs::CountedPuts::valued_in_order, vp9_types::proofs::Binds::writes_bind))]
+#[tactic(auto, unfolding(coef_tokens::specs::Steps::step), using(bool_encoder::proofs::CountedPuts::valued_in_order, vp9_types::proofs::Binds::writes_bind))]
 pub(crate) fn put_some(
     encoder: &mut BoolEncoder,
     depth: Depth,

@@ -11,8 +11,8 @@ use Rattle.bool_encoder.specs.Part.{Part, after_put}
 use Rattle.bool_encoder.specs.Bools.{LeadsBools, Puts, can_put}
 use Rattle.vp9_types.proofs.Binds.{writes_bind, leads_here}
 use Rattle.counting_reader.specs.Counting.{Settled, through}
-use Rattle.counting_writer.specs.Counted.{valued, PutsValue}
-use Rattle.counting_writer.proofs.CountedPuts.{valued_in_order, valued_settle}
+use Rattle.bool_encoder.specs.CountedBools.{valued, PutsValue}
+use Rattle.bool_encoder.proofs.CountedPuts.{valued_in_order, valued_settle}
 
 abbrev Step : Type 0
 Step = ℕ → ℕ → Syntax ℕ Rule (Settled ℕ)

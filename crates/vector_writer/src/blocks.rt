@@ -6,7 +6,7 @@ ghost use Rattle.vp9_types.specs.declared.block.InterMode.TheVariants.{Zero};
 ghost use Rattle.block_geometry.specs.Sizes.{is_below_8x8};
 ghost use Rattle.block_plan.specs.declared.block.Prediction.TheVariants.{Inter};
 ghost use Rattle.prob_contexts.specs.Lists.{InterLists, vector_lists};
-ghost use Rattle.counting_writer.specs.Counted.{PutsValue};
+ghost use Rattle.bool_encoder.specs.CountedBools.{PutsValue};
 ghost use Rattle.mv_prediction.specs.Code.{PredictsSmall, blocks_of};
 ghost use Rattle.mv_prediction.specs.Candidates.{mode_context};
 ghost use Rattle.inter_modes.specs.Code.{MaySearch};
@@ -30,7 +30,7 @@ use vp9_tables::filter_tree;
 use vp9_types::{InterMode, InterpFilter, Rule};
 
 /// Puts the filter of a block, by the context of filters, unless the frame's holds for all its blocks.
-#[tactic(auto, unfolding(inter_modes::specs::ModeInfo::interp_filter), using(counting_writer::proofs::CountedPuts::valued_in_order, counting_writer::proofs::CountedPuts::valued_settle, counting_writer::proofs::CountedPuts::valued_tree, vp9_types::proofs::Binds::writes_bind))]
+#[tactic(auto, unfolding(inter_modes::specs::ModeInfo::interp_filter), using(bool_encoder::proofs::CountedPuts::valued_in_order, bool_encoder::proofs::CountedPuts::valued_settle, bool_encoder::proofs::CountedPuts::valued_tree, vp9_types::proofs::Binds::writes_bind))]
 pub fn put_filter(
     encoder: &mut BoolEncoder,
     filter: FrameFilter,
@@ -52,7 +52,7 @@ pub fn put_filter(
     }
 }
 
-#[tactic(auto, unfolding(inter_modes::specs::ModeInfo::block_mode), using(counting_writer::proofs::CountedPuts::valued_settle))]
+#[tactic(auto, unfolding(inter_modes::specs::ModeInfo::block_mode), using(bool_encoder::proofs::CountedPuts::valued_settle))]
 fn put_block_mode(
     encoder: &mut BoolEncoder,
     skips: bool,
@@ -71,7 +71,7 @@ fn put_block_mode(
 }
 
 /// The prediction of a block of 8x8 or more. `filter` is the frame's, with the block's context.
-#[tactic(auto, unfolding(inter_modes::specs::ModeInfo::whole_block, crate::specs::Said::whole_said), using(counting_writer::proofs::CountedPuts::valued_in_order, counting_writer::proofs::CountedPuts::valued_settle, vp9_types::proofs::Binds::writes_bind))]
+#[tactic(auto, unfolding(inter_modes::specs::ModeInfo::whole_block, crate::specs::Said::whole_said), using(bool_encoder::proofs::CountedPuts::valued_in_order, bool_encoder::proofs::CountedPuts::valued_settle, vp9_types::proofs::Binds::writes_bind))]
 fn put_whole<N: Neighbours, Q: Neighbours>(
     encoder: &mut BoolEncoder,
     src: &Sources<'_, N, Q>,
@@ -105,7 +105,7 @@ fn put_whole<N: Neighbours, Q: Neighbours>(
 }
 
 /// The prediction of a block below 8x8.
-#[tactic(auto, unfolding(inter_modes::specs::ModeInfo::block_of_quarters, crate::specs::Said::of_quarters_said), using(counting_writer::proofs::CountedPuts::valued_in_order, counting_writer::proofs::CountedPuts::valued_settle, vp9_types::proofs::Binds::writes_bind))]
+#[tactic(auto, unfolding(inter_modes::specs::ModeInfo::block_of_quarters, crate::specs::Said::of_quarters_said), using(bool_encoder::proofs::CountedPuts::valued_in_order, bool_encoder::proofs::CountedPuts::valued_settle, vp9_types::proofs::Binds::writes_bind))]
 fn put_block_of_quarters<N: Neighbours, Q: Neighbours>(
     encoder: &mut BoolEncoder,
     src: &Sources<'_, N, Q>,

@@ -8,7 +8,7 @@ ghost use Rattle.prob_contexts.specs.declared.kind.ProbKind.{ProbKind};
 ghost use Rattle.prob_contexts.specs.Lists.{vector_lists};
 ghost use Rattle.counting_reader.specs.Counting.{through};
 ghost use Rattle.counting_reader.specs.Symbols.{counted_tree};
-ghost use Rattle.counting_writer.specs.Counted.{PutsValue};
+ghost use Rattle.bool_encoder.specs.CountedBools.{PutsValue};
 ghost use Rattle.mv_syntax.specs.Components.{eighths, high_bit, small_magnitude, next_bit, large_magnitude, magnitude, read_mv_component};
 ghost use Rattle.vector_writer.specs.Fits.{IsDifference};
 ghost use Rattle.vector_writer.specs.Code.{IsOfClass, CanBeHigh};
@@ -44,7 +44,7 @@ fn eighths_of(size: u16) -> Eighths
 }
 
 /// The bit of high precision.
-#[tactic(auto, unfolding(mv_syntax::specs::Components::high_bit), using(counting_writer::proofs::CountedPuts::valued_in_order, counting_writer::proofs::CountedPuts::valued_settle, counting_writer::proofs::CountedPuts::valued_flag, counting_writer::proofs::CountedPuts::valued_count, vp9_types::proofs::Binds::writes_bind))]
+#[tactic(auto, unfolding(mv_syntax::specs::Components::high_bit), using(bool_encoder::proofs::CountedPuts::valued_in_order, bool_encoder::proofs::CountedPuts::valued_settle, bool_encoder::proofs::CountedPuts::valued_flag, bool_encoder::proofs::CountedPuts::valued_count, vp9_types::proofs::Binds::writes_bind))]
 fn put_high(encoder: &mut BoolEncoder, precise: bool, p: u8, high: bool) -> Result<(), AllocError>
     requires { CanBeHigh precise high }
     ensures { IfOk result (λ _. (kind : ProbKind) (place : ℕ) → PutsValue (high_bit precise kind place p) encoder.old high encoder.new) }
@@ -56,7 +56,7 @@ fn put_high(encoder: &mut BoolEncoder, precise: bool, p: u8, high: bool) -> Resu
 }
 
 /// A number by the tree of fractions.
-#[tactic(auto, using(counting_writer::proofs::CountedPuts::valued_tree))]
+#[tactic(auto, using(bool_encoder::proofs::CountedPuts::valued_tree))]
 fn put_fraction(encoder: &mut BoolEncoder, nodes: &[u8], fraction: u8) -> Result<(), AllocError>
     requires enough { 3 ≤ length nodes.now }
     requires most { fraction ≤ 3 }
@@ -66,7 +66,7 @@ fn put_fraction(encoder: &mut BoolEncoder, nodes: &[u8], fraction: u8) -> Result
 }
 
 /// A component of class 0.
-#[tactic(auto, unfolding(mv_syntax::specs::Components::small_magnitude), using(counting_writer::proofs::CountedPuts::valued_in_order, counting_writer::proofs::CountedPuts::valued_settle, counting_writer::proofs::CountedPuts::valued_flag, vp9_types::proofs::Binds::writes_bind))]
+#[tactic(auto, unfolding(mv_syntax::specs::Components::small_magnitude), using(bool_encoder::proofs::CountedPuts::valued_in_order, bool_encoder::proofs::CountedPuts::valued_settle, bool_encoder::proofs::CountedPuts::valued_flag, vp9_types::proofs::Binds::writes_bind))]
 fn put_small(
     encoder: &mut BoolEncoder,
     probs: &VectorProbs,
@@ -89,7 +89,7 @@ fn put_small(
 }
 
 /// A bit more of the whole samples.
-#[tactic(auto, unfolding(mv_syntax::specs::Components::next_bit), using(counting_writer::proofs::CountedPuts::valued_in_order, counting_writer::proofs::CountedPuts::valued_settle, counting_writer::proofs::CountedPuts::valued_flag, vp9_types::proofs::Binds::writes_bind))]
+#[tactic(auto, unfolding(mv_syntax::specs::Components::next_bit), using(bool_encoder::proofs::CountedPuts::valued_in_order, bool_encoder::proofs::CountedPuts::valued_settle, bool_encoder::proofs::CountedPuts::valued_flag, vp9_types::proofs::Binds::writes_bind))]
 fn put_next_bit(
     encoder: &mut BoolEncoder,
     probs: &VectorProbs,
@@ -125,7 +125,7 @@ fn put_bits(
 }
 
 /// A component of a class from 1 on, `part` being its size less the least one of its class.
-#[tactic(auto, unfolding(mv_syntax::specs::Components::large_magnitude), using(counting_writer::proofs::CountedPuts::valued_in_order, counting_writer::proofs::CountedPuts::valued_settle, vp9_types::proofs::Binds::writes_bind))]
+#[tactic(auto, unfolding(mv_syntax::specs::Components::large_magnitude), using(bool_encoder::proofs::CountedPuts::valued_in_order, bool_encoder::proofs::CountedPuts::valued_settle, vp9_types::proofs::Binds::writes_bind))]
 fn put_large(
     encoder: &mut BoolEncoder,
     probs: &VectorProbs,
@@ -194,7 +194,7 @@ fn put_magnitude(
 }
 
 /// A component that isn't 0.
-#[tactic(auto, unfolding(mv_syntax::specs::Components::read_mv_component), using(counting_writer::proofs::CountedPuts::valued_in_order, counting_writer::proofs::CountedPuts::valued_settle, counting_writer::proofs::CountedPuts::valued_flag, counting_writer::proofs::CountedPuts::valued_tree, vp9_types::proofs::Binds::writes_bind))]
+#[tactic(auto, unfolding(mv_syntax::specs::Components::read_mv_component), using(bool_encoder::proofs::CountedPuts::valued_in_order, bool_encoder::proofs::CountedPuts::valued_settle, bool_encoder::proofs::CountedPuts::valued_flag, bool_encoder::proofs::CountedPuts::valued_tree, vp9_types::proofs::Binds::writes_bind))]
 pub(crate) fn put_component(
     encoder: &mut BoolEncoder,
     probs: &VectorProbs,

@@ -3,7 +3,7 @@
 ghost use Rattle.std.specs.Prelude.{◌≡◌, ◌≢◌, ◌≤◌, ◌||◌, pos, true, false, not, nat_eq, nat_le, IfOk};
 ghost use Rattle.std.specs.Ordering.{int_eq};
 ghost use Rattle.prob_contexts.specs.Lists.{vector_lists};
-ghost use Rattle.counting_writer.specs.Counted.{PutsValue};
+ghost use Rattle.bool_encoder.specs.CountedBools.{PutsValue};
 ghost use Rattle.mv_syntax.specs.Differences.{component_if, read_mv};
 ghost use Rattle.vector_writer.specs.Fits.{IsDifference, CanDiffer};
 
@@ -15,7 +15,7 @@ use std::alloc::AllocError;
 use vp9_tables::{Component, mv_joint_tree};
 
 /// A component, where it isn't 0.
-#[tactic(auto, unfolding(mv_syntax::specs::Differences::component_if), using(counting_writer::proofs::CountedPuts::valued_settle))]
+#[tactic(auto, unfolding(mv_syntax::specs::Differences::component_if), using(bool_encoder::proofs::CountedPuts::valued_settle))]
 fn put_component_if(
     encoder: &mut BoolEncoder,
     coded: bool,
@@ -48,7 +48,7 @@ fn joint_of(difference: Mv) -> u8
 
 /// Puts a difference, which has bits of high precision or not. After want of memory some of the bools were put, and the tile
 /// is given up as a whole.
-#[tactic(auto, unfolding(mv_syntax::specs::Differences::read_mv), using(counting_writer::proofs::CountedPuts::valued_in_order, counting_writer::proofs::CountedPuts::valued_settle, counting_writer::proofs::CountedPuts::valued_tree, vp9_types::proofs::Binds::writes_bind))]
+#[tactic(auto, unfolding(mv_syntax::specs::Differences::read_mv), using(bool_encoder::proofs::CountedPuts::valued_in_order, bool_encoder::proofs::CountedPuts::valued_settle, bool_encoder::proofs::CountedPuts::valued_tree, vp9_types::proofs::Binds::writes_bind))]
 pub fn put_mv(
     encoder: &mut BoolEncoder,
     probs: &VectorProbs,

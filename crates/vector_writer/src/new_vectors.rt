@@ -2,7 +2,7 @@
 
 ghost use Rattle.std.specs.Prelude.{◌≡◌, ◌&&◌, IfOk};
 ghost use Rattle.prob_contexts.specs.Lists.{vector_lists};
-ghost use Rattle.counting_writer.specs.Counted.{PutsValue};
+ghost use Rattle.bool_encoder.specs.CountedBools.{PutsValue};
 ghost use Rattle.mv_prediction.specs.Vectors.{IsSmallVector, is_precise};
 ghost use Rattle.mv_syntax.specs.Differences.{added, in_range_or_rule, new_vector};
 ghost use Rattle.vector_writer.specs.Fits.{CanDiffer};
@@ -18,7 +18,7 @@ use vp9_types::Rule;
 
 /// Puts a vector of the mode new by its difference from the best one, and answers the vector, or the rule that it breaks.
 /// Either way the difference is put.
-#[tactic(auto, unfolding(mv_syntax::specs::Differences::new_vector), using(counting_writer::proofs::CountedPuts::valued_in_order, counting_writer::proofs::CountedPuts::valued_settle, vp9_types::proofs::Binds::writes_bind))]
+#[tactic(auto, unfolding(mv_syntax::specs::Differences::new_vector), using(bool_encoder::proofs::CountedPuts::valued_in_order, bool_encoder::proofs::CountedPuts::valued_settle, vp9_types::proofs::Binds::writes_bind))]
 pub fn put_new_vector(
     encoder: &mut BoolEncoder,
     probs: &VectorProbs,

@@ -4,7 +4,7 @@ ghost use Rattle.std.specs.Prelude.{◌≡◌, ◌<◌, ◌≤◌, ℕ, true, If
 ghost use Rattle.std.specs.Option.{option_copied};
 ghost use Rattle.prob_contexts.specs.Lists.{vector_lists};
 ghost use Rattle.block_geometry.specs.Sizes.{is_below_8x8};
-ghost use Rattle.counting_writer.specs.Counted.{PutsValue};
+ghost use Rattle.bool_encoder.specs.CountedBools.{PutsValue};
 ghost use Rattle.mv_prediction.specs.Code.{AreSmall, blocks_of};
 ghost use Rattle.mv_prediction.specs.SubBlocks.{vector_at};
 ghost use Rattle.mv_prediction.specs.Vectors.{IsSmallVector};
@@ -27,7 +27,7 @@ use std::alloc::AllocError;
 use vp9_types::{BlockSize, InterMode, ReferenceFrame, Rule};
 
 /// A quarter's vector of a reference, of the first list or the second.
-#[tactic(auto, unfolding(inter_modes::specs::Vectors::quarter_vector, inter_modes::specs::Vectors::vector_of_mode, crate::specs::Said::quarter_vector_said, crate::specs::Said::vector_said), using(counting_writer::proofs::CountedPuts::valued_settle))]
+#[tactic(auto, unfolding(inter_modes::specs::Vectors::quarter_vector, inter_modes::specs::Vectors::vector_of_mode, crate::specs::Said::quarter_vector_said, crate::specs::Said::vector_said), using(bool_encoder::proofs::CountedPuts::valued_settle))]
 fn put_quarter_vector<N: Neighbours, Q: Neighbours>(
     encoder: &mut BoolEncoder,
     src: &Sources<'_, N, Q>,
@@ -60,7 +60,7 @@ fn put_quarter_vector<N: Neighbours, Q: Neighbours>(
 }
 
 /// A quarter's vectors of its block's references.
-#[tactic(auto, unfolding(inter_modes::specs::Vectors::quarter_vectors, inter_modes::specs::Vectors::with_second, crate::specs::Said::quarter_vectors_said, crate::specs::Said::second_said), using(counting_writer::proofs::CountedPuts::valued_in_order, counting_writer::proofs::CountedPuts::valued_settle, vp9_types::proofs::Binds::writes_bind))]
+#[tactic(auto, unfolding(inter_modes::specs::Vectors::quarter_vectors, inter_modes::specs::Vectors::with_second, crate::specs::Said::quarter_vectors_said, crate::specs::Said::second_said), using(bool_encoder::proofs::CountedPuts::valued_in_order, bool_encoder::proofs::CountedPuts::valued_settle, vp9_types::proofs::Binds::writes_bind))]
 fn put_quarter_vectors<N: Neighbours, Q: Neighbours>(
     encoder: &mut BoolEncoder,
     src: &Sources<'_, N, Q>,
@@ -93,7 +93,7 @@ fn put_quarter_vectors<N: Neighbours, Q: Neighbours>(
 }
 
 /// A quarter's mode and vectors.
-#[tactic(auto, unfolding(inter_modes::specs::Vectors::quarter, crate::specs::Said::quarter_said), using(counting_writer::proofs::CountedPuts::valued_in_order, counting_writer::proofs::CountedPuts::valued_settle, vp9_types::proofs::Binds::writes_bind))]
+#[tactic(auto, unfolding(inter_modes::specs::Vectors::quarter, crate::specs::Said::quarter_said), using(bool_encoder::proofs::CountedPuts::valued_in_order, bool_encoder::proofs::CountedPuts::valued_settle, vp9_types::proofs::Binds::writes_bind))]
 fn put_quarter<N: Neighbours, Q: Neighbours>(
     encoder: &mut BoolEncoder,
     src: &Sources<'_, N, Q>,
@@ -122,7 +122,7 @@ fn put_quarter<N: Neighbours, Q: Neighbours>(
 }
 
 /// Those of a block of 4x4, one after another.
-#[tactic(auto, unfolding(inter_modes::specs::Vectors::four_quarters, crate::specs::Said::four_said), using(counting_writer::proofs::CountedPuts::valued_in_order, counting_writer::proofs::CountedPuts::valued_settle, vp9_types::proofs::Binds::writes_bind))]
+#[tactic(auto, unfolding(inter_modes::specs::Vectors::four_quarters, crate::specs::Said::four_said), using(bool_encoder::proofs::CountedPuts::valued_in_order, bool_encoder::proofs::CountedPuts::valued_settle, vp9_types::proofs::Binds::writes_bind))]
 fn put_four<N: Neighbours, Q: Neighbours>(
     encoder: &mut BoolEncoder,
     src: &Sources<'_, N, Q>,
@@ -164,7 +164,7 @@ fn put_four<N: Neighbours, Q: Neighbours>(
 }
 
 /// Those of a block of 4x8: one at the left and one at the right.
-#[tactic(auto, unfolding(inter_modes::specs::Vectors::two_columns, crate::specs::Said::columns_said), using(counting_writer::proofs::CountedPuts::valued_in_order, counting_writer::proofs::CountedPuts::valued_settle, vp9_types::proofs::Binds::writes_bind))]
+#[tactic(auto, unfolding(inter_modes::specs::Vectors::two_columns, crate::specs::Said::columns_said), using(bool_encoder::proofs::CountedPuts::valued_in_order, bool_encoder::proofs::CountedPuts::valued_settle, vp9_types::proofs::Binds::writes_bind))]
 fn put_two_columns<N: Neighbours, Q: Neighbours>(
     encoder: &mut BoolEncoder,
     src: &Sources<'_, N, Q>,
@@ -195,7 +195,7 @@ fn put_two_columns<N: Neighbours, Q: Neighbours>(
 }
 
 /// Those of a block of 8x4: an upper and a lower one.
-#[tactic(auto, unfolding(inter_modes::specs::Vectors::two_rows, crate::specs::Said::rows_said), using(counting_writer::proofs::CountedPuts::valued_in_order, counting_writer::proofs::CountedPuts::valued_settle, vp9_types::proofs::Binds::writes_bind))]
+#[tactic(auto, unfolding(inter_modes::specs::Vectors::two_rows, crate::specs::Said::rows_said), using(bool_encoder::proofs::CountedPuts::valued_in_order, bool_encoder::proofs::CountedPuts::valued_settle, vp9_types::proofs::Binds::writes_bind))]
 fn put_two_rows<N: Neighbours, Q: Neighbours>(
     encoder: &mut BoolEncoder,
     src: &Sources<'_, N, Q>,

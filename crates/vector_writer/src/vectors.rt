@@ -3,7 +3,7 @@
 ghost use Rattle.std.specs.Prelude.{◌≡◌, ◌<◌, ◌≤◌, IfOk};
 ghost use Rattle.std.specs.Option.{option_copied};
 ghost use Rattle.prob_contexts.specs.Lists.{vector_lists};
-ghost use Rattle.counting_writer.specs.Counted.{PutsValue};
+ghost use Rattle.bool_encoder.specs.CountedBools.{PutsValue};
 ghost use Rattle.mv_prediction.specs.Code.{AreSmall, blocks_of};
 ghost use Rattle.mv_prediction.specs.SubBlocks.{vector_at};
 ghost use Rattle.mv_prediction.specs.Vectors.{IsSmallVector};
@@ -36,7 +36,7 @@ fn number_of(mode: InterMode) -> u8
 }
 
 /// Puts the mode of a block or a quarter, by the context of modes.
-#[tactic(auto, unfolding(inter_modes::specs::Vectors::inter_mode), using(counting_writer::proofs::CountedPuts::valued_in_order, counting_writer::proofs::CountedPuts::valued_settle, counting_writer::proofs::CountedPuts::valued_tree, vp9_types::proofs::Binds::writes_bind))]
+#[tactic(auto, unfolding(inter_modes::specs::Vectors::inter_mode), using(bool_encoder::proofs::CountedPuts::valued_in_order, bool_encoder::proofs::CountedPuts::valued_settle, bool_encoder::proofs::CountedPuts::valued_tree, vp9_types::proofs::Binds::writes_bind))]
 pub fn put_inter_mode(
     encoder: &mut BoolEncoder,
     probs: &[u8; 21],
@@ -52,7 +52,7 @@ pub fn put_inter_mode(
 }
 
 /// A block's vector of a reference, of the first list or the second.
-#[tactic(auto, unfolding(inter_modes::specs::Vectors::block_vector, inter_modes::specs::Vectors::vector_of_mode, crate::specs::Said::block_vector_said, crate::specs::Said::vector_said), using(counting_writer::proofs::CountedPuts::valued_settle))]
+#[tactic(auto, unfolding(inter_modes::specs::Vectors::block_vector, inter_modes::specs::Vectors::vector_of_mode, crate::specs::Said::block_vector_said, crate::specs::Said::vector_said), using(bool_encoder::proofs::CountedPuts::valued_settle))]
 fn put_block_vector<N: Neighbours, Q: Neighbours>(
     encoder: &mut BoolEncoder,
     src: &Sources<'_, N, Q>,
@@ -80,7 +80,7 @@ fn put_block_vector<N: Neighbours, Q: Neighbours>(
 }
 
 /// A block's vectors of its references.
-#[tactic(auto, unfolding(inter_modes::specs::Vectors::block_vectors, inter_modes::specs::Vectors::with_second, crate::specs::Said::block_vectors_said, crate::specs::Said::second_said), using(counting_writer::proofs::CountedPuts::valued_in_order, counting_writer::proofs::CountedPuts::valued_settle, vp9_types::proofs::Binds::writes_bind))]
+#[tactic(auto, unfolding(inter_modes::specs::Vectors::block_vectors, inter_modes::specs::Vectors::with_second, crate::specs::Said::block_vectors_said, crate::specs::Said::second_said), using(bool_encoder::proofs::CountedPuts::valued_in_order, bool_encoder::proofs::CountedPuts::valued_settle, vp9_types::proofs::Binds::writes_bind))]
 pub(crate) fn put_block_vectors<N: Neighbours, Q: Neighbours>(
     encoder: &mut BoolEncoder,
     src: &Sources<'_, N, Q>,

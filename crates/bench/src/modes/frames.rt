@@ -8,12 +8,11 @@ ghost use Rattle.bench.specs.SmallBlocks.{block_props};
 
 use crate::numbers::drawn;
 use block_geometry::part_size;
-use block_plan::{BlockAt, BlockGrid, BlockInfo, IntraPrediction, Prediction};
+use block_plan::{BlockAt, BlockGrid, BlockInfo, IntraPrediction, Prediction, SegmentMap};
 use counting_reader::CountingReader;
 use frame_setting::FrameSetting;
 use inter_modes::mode_info;
 use mode_syntax::{SquareAt, read_partition, side_of};
-use segment_map::SegmentMap;
 use std::alloc::{AllocError, Global};
 use vp9_types::{BlockSize, IntraMode, Partition, TxSize};
 

@@ -6,10 +6,10 @@ use super::checksums::{of_blocks, of_counts};
 use super::frames::{COLS, Frame, ROWS, next_frame};
 use super::header::header;
 use crate::numbers::bytes;
+use block_plan::SegmentMap;
 use counting_reader::CountingReader;
 use frame_setting::FrameSetting;
 use prob_contexts::{Counts, default_contexts};
-use segment_map::SegmentMap;
 use std::alloc::{AllocError, Global};
 use vp9_types::{Modes, ReferenceMode, TxMode};
 

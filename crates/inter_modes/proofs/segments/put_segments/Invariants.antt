@@ -1,5 +1,5 @@
 use Rattle.std.proofs.Common.{◌≡◌, take}
-use Rattle.segment_map.specs.Segments.{id_map}
+use Rattle.block_plan.specs.Segments.{id_map}
 use Rattle.inter_modes.specs.Segments.{segments_of}
 use Rattle.inter_modes.proofs.segments.put_segments.Given as goal
 

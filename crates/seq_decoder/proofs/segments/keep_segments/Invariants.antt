@@ -4,7 +4,7 @@ use Rattle.frame_headers.specs.State.{shape_of}
 use Rattle.frame_state.specs.Columns.{blocks_of}
 use Rattle.frame_state.specs.Reading.{all_blocks}
 use Rattle.inter_modes.specs.Segments.{segments_after}
-use Rattle.segment_map.specs.Segments.{id_map}
+use Rattle.block_plan.specs.Segments.{id_map}
 use Rattle.seq_decoder.specs.Code.{HasPlaces}
 use Rattle.seq_decoder.proofs.segments.keep_segments.Given as goal
 

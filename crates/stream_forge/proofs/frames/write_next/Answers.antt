@@ -1,5 +1,5 @@
 use Rattle.std.proofs.Common.{ap, subst, ◌∙◌, arith}
-use Rattle.drawn_headers.specs.Heads.{draw_head}
+use Rattle.drawn_frames.specs.Heads.{draw_head}
 use Rattle.stream_forge.specs.Code.{Gives}
 use Rattle.stream_forge.proofs.DrawnReads.{gives_unsized}
 use Rattle.stream_forge.proofs.Heads.{shown_after}

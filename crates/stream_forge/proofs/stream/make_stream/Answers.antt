@@ -1,6 +1,6 @@
 use Rattle.std.proofs.Common.{◌∙◌, sym, ap, subst, inl, inr, arith}
 use Rattle.std.specs.Prelude.{nat_eq}
-use Rattle.drawn_headers.specs.Heads.{draw_head}
+use Rattle.drawn_frames.specs.Heads.{draw_head}
 use Rattle.seq_decoder.specs.Code.{StandsFor}
 use Rattle.seq_decoder.specs.State.{State}
 use Rattle.seq_decoder.specs.declared.form.OutputForm.{OutputForm}
