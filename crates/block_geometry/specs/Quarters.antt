@@ -15,8 +15,8 @@ starting_quarters _ = 0 ∷ []
 -- those of the part that begins at the k-th
 abbrev pub part_quarters : BlockSize → ℕ → List ℕ
 part_quarters B4x4 k = k ∷ []
-part_quarters B4x8 k = k ∷ k + 2 ∷ []
-part_quarters B8x4 k = k ∷ k + 1 ∷ []
+part_quarters B4x8 k = k ∷ (k + 2) ∷ []
+part_quarters B8x4 k = k ∷ (k + 1) ∷ []
 part_quarters _ k = 0 ∷ 1 ∷ 2 ∷ 3 ∷ []
 
 -- what is read for a part holds for each of its quarters
