@@ -1,4 +1,4 @@
-ghost use Rattle.std.specs.Prelude.{◌≡◌, ℕ, ◌<◌, ◌≤◌, ◌++◌, ◌∷◌, [], true, length, All, None, IfSome, IfNone, IfOk, IfErr};
+ghost use Rattle.std.specs.Prelude.{◌≡◌, ℕ, ◌<◌, ◌≤◌, ◌++◌, ◌∷◌, [], true, false, length, All, None, IfSome, IfNone, IfOk, IfErr};
 ghost use Rattle.vp9_types.specs.declared.job.JobName.TheVariants.{Head, Close, Write, End};
 ghost use Rattle.job_order.specs.Segments.{InOrder, IsListed};
 ghost use Rattle.job_crew.specs.declared.outlet.Content.TheVariants.{Open};
@@ -221,10 +221,12 @@ impl<'a, X: Drop, M: Meaning<X> + Start, K: Output<X>, J: Jobs<X, M, K>, G: Gate
         pool.remove(at)
     }
 
-    // Draws a ticket, whose job goes into the pool.
+    // Draws a ticket, whose job goes into the pool. None is drawn once the run is over.
     fn draw(&self, pool: &mut Pool<X, M>, seat: &mut Seat<Placed<X, M, K>>)
         requires room { length pool.old.names < pool.old.room }
+        requires goes_on { pool.old.over ≡ false }
         requires seat { IsSeated self.now.board.now seat.old }
+        ensures goes_on { pool.new.over ≡ false }
         ensures seat { IsSeatedStill seat.old seat.new }
     {
         let ticket = self.board.draw(seat);
@@ -239,6 +241,7 @@ impl<'a, X: Drop, M: Meaning<X> + Start, K: Output<X>, J: Jobs<X, M, K>, G: Gate
         pool: &mut Pool<X, M>,
         seat: &mut Seat<Placed<X, M, K>>,
     ) -> Option<JobName>
+        requires goes_on { pool.old.over ≡ false }
         requires seat { IsSeated self.now.board.now seat.old }
         ensures seat { IsSeatedStill seat.old seat.new }
         ensures due { IfSome result (λ job. IsDue M.rules M.truth job) }

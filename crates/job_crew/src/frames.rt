@@ -15,7 +15,7 @@ use vp9_types::{BandSpan, JobName};
 #[derive(Drop)]
 pub(crate) struct Frames<X: Drop, M: Meaning<X>> {
     frames: Vec<FrameWork<X, M>>,
-    // So many frames are written. A write needs all bands of its own frame and the write before it, so each job of these is finished.
+    // So many frames are written, a number that never falls. A write needs all bands of its own frame and the write before it, so each job of these is finished.
     written: u64,
 }
 
@@ -60,9 +60,10 @@ impl<X: Drop, M: Meaning<X>> Frames<X, M> {
     /// Sets the result of a job, and takes back what the job was lent, with what no job asks for from then on.
     pub(crate) fn finish(&mut self, loan: Option<Loan<X, M>>, job: JobName, value: X) -> Gone<X, M>
         requires { M.truth.right job value }
+        ensures { self.old.written ≤ self.new.written }
     {
         if let JobName::Write { frame } = job {
-            self.written = frame.saturating_add(1);
+            self.written = self.written.max(frame.saturating_add(1));
         }
         if let Some(loan) = loan {
             loan.finish(job, value);
