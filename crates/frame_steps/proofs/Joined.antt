@@ -14,7 +14,7 @@ use Rattle.frame_state.specs.declared.columns.TileColumn.{TileColumn}
 use Rattle.frame_state.specs.declared.halt.Halt.{Halt}
 use Rattle.frame_state.specs.declared.halt.Halt.TheVariants as halt
 use Rattle.frame_state.proofs.PlanReads.{reads_columns}
-use Rattle.frame_plans.proofs.ReadBlocks.{infos_of, many_read}
+use Rattle.frame_steps.proofs.ReadColumns.{infos_of, many_read}
 use Rattle.counting_reader.specs.Counting.{Settled}
 use Rattle.frame_state.specs.Plans.{ColumnRead}
 use Rattle.frame_close.specs.Code.{AreColumnResults, GivesColumn, GivesFrame}

@@ -3,3 +3,4 @@ pub mod Placing
 pub mod Joining
 pub mod Joined
 pub mod ColumnSpans
+pub mod ReadColumns

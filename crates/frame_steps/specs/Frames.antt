@@ -32,7 +32,6 @@ use Rattle.frame_state.specs.declared.columns.TileColumn.{TileColumn}
 use Rattle.frame_state.specs.declared.halt.Halt.{Halt}
 use Rattle.frame_state.specs.declared.halt.Halt.TheVariants as halt
 use Rattle.frame_decoder.specs.declared.decoding.Decoded.{Decoded}
-use Rattle.frame_plans.specs.Plans.{IsPlanAsRead}
 use Rattle.frame_close.specs.Code.{GivesColumn, result_at}
 use Rattle.tile_syntax.specs.declared.plans.Unplanned.{Unplanned}
 use Rattle.seq_decoder.specs.After.{decoded_in, input_of, segments_before, vectors_before}
@@ -41,6 +40,7 @@ use Rattle.seq_decoder.specs.SavedContexts.{saved_before}
 use Rattle.seq_decoder.specs.State.{State, last_size}
 use Rattle.frame_steps.specs.declared.beginning.BegunFrame.{BegunFrame}
 use Rattle.frame_steps.specs.declared.columns.PlannedColumn.{PlannedColumn}
+use Rattle.tile_syntax.specs.Code.{IsPlanAsRead}
 
 ---- How a frame begins ----
 

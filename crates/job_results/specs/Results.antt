@@ -23,7 +23,6 @@ use Rattle.column_order.specs.Columns.{column_from, column_to}
 use Rattle.recon_rows.specs.Strips.{HoldsStrip}
 use Rattle.filter_rows.specs.Buffer.{HasFiltered}
 use Rattle.frame_close.specs.Code.{GivesColumn}
-use Rattle.frame_plans.specs.Plans.{IsPlanAsRead}
 use Rattle.tile_syntax.specs.declared.plans.Unplanned.{Unplanned}
 use Rattle.seq_decoder.specs.Outcomes.{outcome_at}
 use Rattle.seq_decoder.specs.Outputs.{Putting, is_first}
@@ -43,6 +42,7 @@ use Rattle.job_results.specs.declared.result.JobResult.{JobResult}
 use Rattle.job_results.specs.declared.result.JobResult.TheVariants as result
 use Rattle.job_results.specs.declared.result.ShownFrame.{ShownFrame}
 use Rattle.numbered_frames.specs.Films.{Film}
+use Rattle.tile_syntax.specs.Code.{IsPlanAsRead}
 
 ---- The end of a run ----
 

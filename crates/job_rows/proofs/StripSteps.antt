@@ -47,7 +47,6 @@ use Rattle.frame_headers.specs.declared.header.Header.{Header}
 use Rattle.frame_headers.specs.declared.header.InterFields.{InterFields}
 use Rattle.frame_decoder.specs.Frames.{rebuilding}
 use Rattle.frame_output.specs.declared.rendering.Format.{Format}
-use Rattle.frame_plans.specs.Plans.{IsPlanAsRead}
 use Rattle.frame_state.specs.Columns.{IsTileColumn, limit_of}
 use Rattle.frame_state.specs.Plans.{ColumnRead, plan_of, tile_bytes}
 use Rattle.frame_state.specs.Sources.{adapts}
@@ -70,7 +69,7 @@ use Rattle.recon_rows.proofs.StripPlans.{plan_is, plan_read}
 use Rattle.seq_decoder.specs.After.{picture_in, references_of}
 use Rattle.seq_decoder.specs.State.{Picture}
 use Rattle.seq_decoder.proofs.PastLemmas.{is_reference}
-use Rattle.tile_syntax.specs.Code.{IsKept}
+use Rattle.tile_syntax.specs.Code.{IsKept, IsPlanAsRead}
 use Rattle.tile_syntax.specs.declared.plans.ColumnPlan.{ColumnPlan}
 use Rattle.tile_syntax.specs.declared.plans.Unplanned.{Unplanned}
 use Rattle.tile_syntax.specs.declared.plans.Unplanned.TheVariants as unplanned

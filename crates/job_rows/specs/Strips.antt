@@ -11,7 +11,6 @@ use Rattle.frame_headers.specs.declared.header.InterFields.{InterFields}
 use Rattle.frame_output.specs.declared.rendering.Format.{Format}
 use Rattle.vp9_types.specs.declared.shape.Shape.{Shape}
 use Rattle.block_rebuild.specs.declared.references.ReferencePicture.{ReferencePicture}
-use Rattle.frame_plans.specs.Plans.{IsPlanAsRead}
 use Rattle.frame_state.specs.Plans.{tile_bytes}
 use Rattle.frame_steps.specs.Frames.{HaveSizes, row_needs_of}
 use Rattle.frame_steps.specs.declared.strips.PlannedRow.{PlannedRow}
@@ -20,6 +19,7 @@ use Rattle.numbered_frames.specs.Coded.{CodedFrame}
 use Rattle.job_rows.specs.References.{IsReferenceRows}
 use Rattle.job_rows.specs.declared.strips.AllRows.{AllRows}
 use Rattle.numbered_frames.specs.Films.{Film}
+use Rattle.tile_syntax.specs.Code.{IsPlanAsRead}
 
 -- a row of superblocks of a tile column of a coded frame, which is planned
 pub record IsPlannedRow (c : CodedFrame) (of : PlannedRow) : Type 0 where

@@ -17,7 +17,7 @@ use Rattle.prob_contexts.specs.declared.kind.CountedBool.{CountedBool}
 use Rattle.mode_syntax.specs.Walk.{Walk}
 use Rattle.tile_reader.specs.Code.{Breaks}
 use Rattle.frame_state.specs.Code.{counts_if}
-use Rattle.frame_state.specs.Plans.{ColumnRead}
+use Rattle.frame_state.specs.Plans.{ColumnRead, plan_of}
 use Rattle.frame_state.specs.Reading.{Column, TileRead, infos}
 use Rattle.frame_state.specs.Sources.{FrameSources, frame_is_intra}
 use Rattle.frame_state.specs.declared.halt.Halt.{Halt}
@@ -31,6 +31,8 @@ use Rattle.frame_headers.specs.State.{shape_of}
 use Rattle.frame_headers.specs.declared.header.Header.{Header}
 use Rattle.inter_modes.specs.Code.{RefersInRange}
 use Rattle.block_plan.specs.Code.{HoldsSmall}
+use Rattle.frame_headers.specs.Spans.{tile_count}
+use Rattle.frame_state.specs.Columns.{IsTileColumn}
 
 ---- A tile ----
 
@@ -123,3 +125,13 @@ GivesPlan counting computed (Ok counts) shape plan =
     (read : Settled ColumnRead) × (computed ≡ Ok read) × HoldsColumn shape plan read.value.column × (counts ≡ counts_if counting read.counted)
 GivesPlan counting computed (Err (unplanned.Broken n rule)) shape plan = computed ≡ Err (n, rule)
 GivesPlan counting computed (Err unplanned.OutOfMemory) shape plan = Unit {0}
+
+---- A plan of a tile column ----
+
+-- a plan of the k-th tile column, whose tiles are these bytes, is what is read of it
+pub record IsPlanAsRead (by : FrameSources) (bytes : ℕ → List ℕ) (k : ℕ) (plan : ColumnPlan) : Type 0 where
+  pub read : Settled ColumnRead
+  pub says : plan_of by bytes k ≡ Ok read
+  pub held : HoldsColumn (shape_of by.header) plan read.value.column
+  pub column : IsTileColumn by.header (tile_count by.header) k plan.column
+  pub kept : IsKept by.header plan

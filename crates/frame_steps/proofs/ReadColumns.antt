@@ -1,7 +1,7 @@
--- The tile columns that plans come to are those that the frame's tiles say.
-use Rattle.std.proofs.Common.{◌≡◌, ◌∙◌, ◌<◌, ◌+◌, ◌∷◌, [], ℕ, ℤ, List, length, get_or, refl, sym, ap, arith}
+-- How many tile columns are read of a frame, and the blocks that are planned.
+use Rattle.std.proofs.Common.{◌≡◌, ◌∙◌, ◌+◌, ◌∷◌, [], ℕ, ℤ, List, length, refl, sym, ap}
 use Rattle.std.specs.Prelude.{Result, Ok, Err, drop, slice_range}
-use Rattle.std.proofs.lemmas.List.{get_or-map, length-map, length-replicate, length-set, same_lists}
+use Rattle.std.proofs.lemmas.List.{length-replicate, length-set}
 use Rattle.vp9_types.specs.Results.{◌>>=◌}
 use Rattle.vp9_types.specs.Syntax.{Syntax}
 use Rattle.vp9_types.specs.declared.job.Span.{Span}
@@ -15,16 +15,10 @@ use Rattle.counting_reader.specs.Counting.{Settled}
 use Rattle.block_geometry.specs.Frames.{places_of}
 use Rattle.block_plan.specs.declared.block.BlockInfo.{BlockInfo}
 use Rattle.column_plan.specs.Planned.{count_of, planned_blocks}
-use Rattle.frame_state.specs.Columns.{blocks_of}
 use Rattle.frame_state.specs.Laws.{columns_across}
-use Rattle.frame_state.specs.Plans.{ColumnRead, plan_of, tile_bytes}
-use Rattle.frame_state.specs.Reading.{Column, FrameRead, TileRead, blocks_read, column_after, column_at, infos, no_column, nothing_read, read_all_tiles, read_tile, read_tile_of, read_tiles, with_tile}
+use Rattle.frame_state.specs.Reading.{FrameRead, TileRead, column_after, column_at, infos, no_column, nothing_read, read_all_tiles, read_tile, read_tile_of, read_tiles, with_tile}
 use Rattle.frame_state.specs.Tiles.{column_of, tile_places}
 use Rattle.frame_state.specs.Sources.{FrameSources}
-use Rattle.frame_state.specs.declared.columns.TileColumn.{TileColumn}
-use Rattle.frame_state.proofs.PlanReads.{reads_columns}
-use Rattle.tile_syntax.specs.declared.plans.ColumnPlan.{ColumnPlan}
-use Rattle.frame_plans.specs.Plans.{ArePlansAsRead, IsPlanAsRead, columns_of}
 
 ---- How many tile columns are read ----
 
@@ -70,36 +64,3 @@ pub infos_of : (shape : Shape) (tile_from : ℕ) (blocks : List BlockInfo) (piec
 unfolding planned_blocks
 infos_of shape tile_from [] pieces = refl
 infos_of shape tile_from (b ∷ blocks) pieces = ap (λ (bs : List BlockInfo). b ∷ bs) (infos_of shape tile_from blocks (drop (count_of shape b) pieces))
-
-plan_blocks : (by : FrameSources) (bytes : ℕ → List ℕ) (k : ℕ) (plan : ColumnPlan) (read : Settled ColumnRead) → IsPlanAsRead by bytes k plan → plan_of by bytes k ≡ Ok read
-    → plan.column.grid.blocks ≡ infos read.value.column.blocks
-plan_blocks by bytes k plan read is says =
-    let same : is.read ≡ read = cc in
-    sym (infos_of (shape_of by.header) plan.column.grid.from plan.column.grid.blocks plan.residues)
-    ∙ ap infos (is.held.blocks ∙ ap (λ (c : Settled ColumnRead). c.value.column.blocks) same)
-
-any_of : {X : Type 0} (xs : List X) (k : ℕ) → k < length xs → X
-any_of [] k low = absurd (omega (arith, low))
-any_of (x ∷ xs) k low = x
-
-block_of_plan : (plans : List ColumnPlan) (k : ℕ) (p : ColumnPlan) (d : List BlockInfo) → k < length plans → get_or (blocks_of (columns_of plans)) k d ≡ (get_or plans k p).column.grid.blocks
-block_of_plan plans k p d there =
-    get_or-map (λ (c : TileColumn). c.grid.blocks) (columns_of plans) k p.column d (omega (arith, there, length-map plans (λ (q : ColumnPlan). q.column)))
-    ∙ ap (λ (c : TileColumn). c.grid.blocks) (get_or-map (λ (q : ColumnPlan). q.column) plans k p p.column there)
-
--- the blocks of plans are those that are read
-pub blocks_planned : (by : FrameSources) (bytes : List ℕ) (compressed : Span) (spans : List Span) (read : FrameRead) (plans : List ColumnPlan) → tile_spans bytes by.header compressed ≡ Ok spans
-    → read_all_tiles by bytes compressed ≡ Ok read → ArePlansAsRead by (tile_bytes bytes spans) plans → blocks_of (columns_of plans) ≡ blocks_read read
-blocks_planned by bytes compressed spans read plans cut frame are =
-    let reads = reads_columns by bytes compressed spans read cut frame in
-    let many = many_read by bytes compressed spans read cut frame in
-    let planned : length (blocks_of (columns_of plans)) ≡ length plans = length-map (columns_of plans) (λ (c : TileColumn). c.grid.blocks) ∙ length-map plans (λ (q : ColumnPlan). q.column) in
-    let listed : length (blocks_read read) ≡ length read.columns = length-map read.columns (λ (c : Column). infos c.blocks) in
-    same_lists (blocks_of (columns_of plans)) (blocks_read read) (planned ∙ are.many ∙ sym many ∙ sym listed)
-    (λ k d low.
-    let there : k < length plans = omega (arith, low, planned) in
-    let p = any_of plans k there in
-    block_of_plan plans k p d there
-    ∙ plan_blocks by (tile_bytes bytes spans) k (get_or plans k p) (reads.0 k) (are.each k p there) (reads.1 k)
-    ∙ ap (λ (c : Column). infos c.blocks) (sym (reads.2.columns k (omega (arith, there, are.many))))
-    ∙ sym (get_or-map (λ (c : Column). infos c.blocks) read.columns k (no_column (shape_of by.header)) d (omega (arith, there, are.many, many))))

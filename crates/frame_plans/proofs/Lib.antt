@@ -1,4 +1,0 @@
-pub mod Steps
-pub mod Joined
-pub mod Places
-pub mod ReadBlocks
