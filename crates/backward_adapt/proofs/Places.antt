@@ -4,7 +4,7 @@ use Rattle.std.specs.Prelude.{Option}
 use Rattle.std.proofs.lemmas.List.{length-append}
 use Rattle.prob_contexts.specs.declared.kind.ProbKind.{ProbKind}
 use Rattle.prob_contexts.specs.declared.kind.ProbKind.TheVariants as kind
-use Rattle.prob_contexts.specs.Lists.{ContextLists}
+use Rattle.prob_contexts.specs.ProbLists.{ContextLists}
 use Rattle.backward_adapt.specs.declared.merge.Rate.{Rate}
 use Rattle.backward_adapt.specs.declared.kind.AdaptKind.{AdaptKind}
 use Rattle.backward_adapt.specs.Adaptation.{rate_of, adapted_at, adapted_from, adapted_coefs, adapted_tx, adapted_inter, adapted_vectors, adapted_contexts}

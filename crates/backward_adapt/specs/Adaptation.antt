@@ -5,7 +5,7 @@ use Rattle.prob_contexts.specs.declared.kind.CountedBool.{CountedBool}
 use Rattle.prob_contexts.specs.declared.kind.ProbKind.{ProbKind}
 use Rattle.prob_contexts.specs.declared.kind.ProbKind.TheVariants as kind
 use Rattle.prob_contexts.specs.Counted.{no_counts, counts_after}
-use Rattle.prob_contexts.specs.Lists.{ContextLists, CoefLists, TxLists, InterLists, VectorLists}
+use Rattle.prob_contexts.specs.ProbLists.{ContextLists, CoefLists, TxLists, InterLists, VectorLists}
 use Rattle.backward_adapt.specs.declared.merge.Rate.{Rate}
 use Rattle.backward_adapt.specs.declared.merge.Rate.TheVariants.{Coefs, CoefsAfterKey, Others}
 use Rattle.backward_adapt.specs.declared.kind.AdaptKind.{AdaptKind}

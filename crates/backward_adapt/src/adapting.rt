@@ -1,7 +1,7 @@
 //! All probabilities of a frame.
 
 ghost use Rattle.std.specs.Prelude.{◌≡◌};
-ghost use Rattle.prob_contexts.specs.Lists.{lists_of, tx_lists, coef_lists, inter_lists, vector_lists};
+ghost use Rattle.prob_contexts.specs.ProbLists.{lists_of, tx_lists, coef_lists, inter_lists, vector_lists};
 ghost use Rattle.backward_adapt.specs.Adaptation.{adapted_coefs, adapted_tx, adapted_inter, adapted_vectors, adapted_contexts};
 
 use crate::kind::AdaptKind;

@@ -5,7 +5,7 @@ ghost use Rattle.std.specs.List.{AllByRecursion};
 ghost use Rattle.prob_contexts.specs.declared.kind.CountedBool.{CountedBool};
 ghost use Rattle.prob_contexts.specs.declared.kind.ProbKind.{ProbKind};
 ghost use Rattle.prob_contexts.specs.Counted.{IsCounted, no_counts, counts_after, joined_counts, is_same};
-ghost use Rattle.prob_contexts.specs.Lists.{ContextLists, lists_of};
+ghost use Rattle.prob_contexts.specs.ProbLists.{ContextLists, lists_of};
 ghost use Rattle.backward_adapt.specs.declared.kind.AdaptKind.{AdaptKind};
 ghost use Rattle.backward_adapt.specs.Merge.{times};
 ghost use Rattle.backward_adapt.specs.Adaptation.{rate_of, adapted_contexts, adaptation};

@@ -16,12 +16,12 @@ use Rattle.block_plan.specs.declared.block.InterPrediction.{InterPrediction}
 use Rattle.block_plan.specs.declared.block.Prediction.{Prediction}
 use Rattle.block_plan.specs.declared.block.Prediction.TheVariants.{Intra, Inter}
 use Rattle.inter_places.specs.Axes.{first_place, last_place}
-use Rattle.block_geometry.specs.Sizes.{is_below_8x8, height_8}
+use Rattle.block_geometry.specs.BlockSizes.{is_below_8x8, height_8}
 use Rattle.inter_places.specs.Places.{subsampling, parts_of, place_of}
 use Rattle.inter_places.specs.declared.part.Direction.TheVariants.{Down, Across}
 use Rattle.inter_places.specs.declared.axis.Place.{Place}
 use Rattle.band_needs.specs.Ranges.{both_ranges, widened, no_needs, needs_at, with_range}
-use Rattle.band_needs.specs.Reads.{ReadsRow, part_in, ListReads, ReadsBy, Reads, band_height, ReadsBand, BlocksRead, IsRangeOf, AreRead, HasBand, ListLiesIn, BlockLiesIn}
+use Rattle.band_needs.specs.BandReads.{ReadsRow, part_in, ListReads, ReadsBy, Reads, band_height, ReadsBand, BlocksRead, IsRangeOf, AreRead, HasBand, ListLiesIn, BlockLiesIn}
 use Rattle.inter_places.proofs.Orders.{place_order}
 use Rattle.band_needs.proofs.RowLemmas.{bands_rise, fold_more}
 use Rattle.band_needs.specs.Needs.{place_range, part_range, with_part, plane_range, list_range, with_second, with_prediction, with_block, needs_of}

@@ -8,12 +8,12 @@ use Rattle.vp9_types.specs.declared.shape.Shape.{Shape}
 use Rattle.vp9_types.specs.declared.block.BlockSize.{BlockSize}
 use Rattle.block_plan.specs.declared.block.BlockInfo.{BlockInfo}
 use Rattle.block_plan.specs.declared.block.InterPrediction.{InterPrediction}
-use Rattle.block_geometry.specs.Sizes.{is_below_8x8}
+use Rattle.block_geometry.specs.BlockSizes.{is_below_8x8}
 use Rattle.inter_places.specs.Places.{fours, parts_of, place_of, subsampling}
 use Rattle.inter_places.specs.declared.part.Direction.TheVariants.{Across, Down}
 use Rattle.band_needs.specs.Needs.{list_range, part_range, plane_range, with_part}
 use Rattle.band_needs.specs.Ranges.{both_ranges}
-use Rattle.band_needs.specs.Reads.{part_in}
+use Rattle.band_needs.specs.BandReads.{part_in}
 use Rattle.band_needs.specs.declared.ranges.BandRange.{BandRange}
 
 ---- Parts ----

@@ -14,7 +14,7 @@ use Rattle.vp9_types.specs.declared.block.ReferenceFrame.{ReferenceFrame}
 use Rattle.band_needs.specs.Ranges.{no_needs}
 use Rattle.band_needs.specs.declared.ranges.BandNeeds.{BandNeeds}
 use Rattle.band_needs.specs.Needs.{rows_range, part_range, with_block, needs_of}
-use Rattle.band_needs.specs.Reads.{band_height}
+use Rattle.band_needs.specs.BandReads.{band_height}
 use Rattle.band_needs.specs.declared.ranges.BandRange.{BandRange}
 use Rattle.inter_places.specs.declared.axis.Axis.{Axis}
 use Rattle.inter_places.specs.Axes.{straight, place, fraction, first_place}

@@ -1,4 +1,4 @@
 pub mod Ranges
-pub mod Reads
+pub mod BandReads
 pub mod Needs
 pub mod Code

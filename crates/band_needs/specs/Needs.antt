@@ -15,7 +15,7 @@ use Rattle.inter_places.specs.declared.axis.Axis.{Axis}
 use Rattle.inter_places.specs.declared.axis.Place.{Place}
 use Rattle.inter_places.specs.declared.part.BlockPart.{BlockPart}
 use Rattle.band_needs.specs.Ranges.{both_ranges, with_range, no_needs}
-use Rattle.band_needs.specs.Reads.{part_in, band_height}
+use Rattle.band_needs.specs.BandReads.{part_in, band_height}
 use Rattle.band_needs.specs.declared.ranges.BandRange.{BandRange}
 use Rattle.band_needs.specs.declared.ranges.BandNeeds.{BandNeeds}
 

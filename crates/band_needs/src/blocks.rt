@@ -7,7 +7,7 @@ ghost use Rattle.vp9_types.specs.Shapes.{mi_rows, mi_cols};
 ghost use Rattle.vp9_types.specs.declared.block.ReferenceFrame.{ReferenceFrame};
 ghost use Rattle.block_plan.specs.declared.block.Prediction.TheVariants.{Inter};
 ghost use Rattle.inter_places.specs.Places.{IsPart, IsReference, parts_of};
-ghost use Rattle.band_needs.specs.Reads.{part_in, AreRead, BlocksRead};
+ghost use Rattle.band_needs.specs.BandReads.{part_in, AreRead, BlocksRead};
 ghost use Rattle.band_needs.specs.Ranges.{needs_at};
 ghost use Rattle.band_needs.specs.Needs.{part_range, plane_range, list_range, with_inter, with_prediction, with_block, needs_of};
 ghost use Rattle.band_needs.specs.Code.{shape_at, shapes_of, HasShape, HasShapes, CanBePlaced};

@@ -8,7 +8,7 @@ ghost use Rattle.vp9_types.specs.declared.shape.Shape.{Shape};
 ghost use Rattle.block_plan.specs.declared.block.BlockInfo.{BlockInfo};
 ghost use Rattle.band_needs.specs.Needs.{needs_of};
 ghost use Rattle.band_needs.specs.Ranges.{needs_at};
-ghost use Rattle.band_needs.specs.Reads.{AreRead, BlocksRead, BlockLiesIn};
+ghost use Rattle.band_needs.specs.BandReads.{AreRead, BlocksRead, BlockLiesIn};
 
 /// Of each reference the blocks read the first and the last of the bands that are found, and none outside of them. So with
 /// these bands each block can be predicted: all rows from the first to the last that it is predicted from lie in them.

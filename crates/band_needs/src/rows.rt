@@ -2,7 +2,7 @@
 
 ghost use Rattle.std.specs.Prelude.{◌≡◌, ◌<◌, ◌≤◌};
 ghost use Rattle.inter_places.specs.Axes.{IsAxis, first_place, last_place};
-ghost use Rattle.band_needs.specs.Reads.{band_height};
+ghost use Rattle.band_needs.specs.BandReads.{band_height};
 ghost use Rattle.band_needs.specs.Needs.{rows_range};
 
 use crate::ranges::BandRange;

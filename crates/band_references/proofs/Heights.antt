@@ -6,7 +6,7 @@ use Rattle.vp9_types.specs.declared.shape.Plane.TheVariants.{Y, U, V}
 use Rattle.vp9_types.specs.declared.shape.Shape.{Shape}
 use Rattle.inter_places.specs.Places.{IsReference}
 use Rattle.band_cells.specs.Bands.{band_height}
-use Rattle.band_needs.specs.Reads.{band_height as needed_height}
+use Rattle.band_needs.specs.BandReads.{band_height as needed_height}
 
 pub same_height : (shape : Shape) (p : Plane) → needed_height shape p ≡ band_height shape p
 same_height shape Y = refl

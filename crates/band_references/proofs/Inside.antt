@@ -16,7 +16,7 @@ use Rattle.band_cells.specs.Bands.{band_height}
 use Rattle.band_needs.proofs.Exact.{needs_are}
 use Rattle.band_needs.specs.Needs.{needs_of}
 use Rattle.band_needs.specs.Ranges.{needs_at}
-use Rattle.band_needs.specs.Reads.{part_in, ReadsRow, ListReads, ReadsBy, ReadsBand, BlocksRead, IsRangeOf, AreRead}
+use Rattle.band_needs.specs.BandReads.{part_in, ReadsRow, ListReads, ReadsBy, ReadsBand, BlocksRead, IsRangeOf, AreRead}
 use Rattle.band_needs.specs.declared.ranges.BandRange.{BandRange}
 use Rattle.band_references.proofs.Heights.{same_height, band_inside, some_length}
 

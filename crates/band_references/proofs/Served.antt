@@ -12,7 +12,7 @@ use Rattle.vp9_types.specs.declared.job.BandSpan.{BandSpan}
 use Rattle.vp9_types.specs.declared.shape.Plane.{Plane}
 use Rattle.vp9_types.specs.declared.shape.Plane.TheVariants.{Y}
 use Rattle.vp9_types.specs.declared.shape.Shape.{Shape}
-use Rattle.block_geometry.specs.Sizes.{is_below_8x8}
+use Rattle.block_geometry.specs.BlockSizes.{is_below_8x8}
 use Rattle.block_plan.specs.declared.block.BlockInfo.{BlockInfo}
 use Rattle.block_plan.specs.declared.block.InterPrediction.{InterPrediction}
 use Rattle.block_plan.specs.declared.block.Prediction.{Prediction}
@@ -26,7 +26,7 @@ use Rattle.band_cells.specs.Code.{IsRowWithin}
 use Rattle.band_needs.proofs.Exact.{block_lies}
 use Rattle.band_needs.specs.Needs.{needs_of}
 use Rattle.band_needs.specs.Ranges.{needs_at}
-use Rattle.band_needs.specs.Reads.{part_in, ListLiesIn, BlockLiesIn}
+use Rattle.band_needs.specs.BandReads.{part_in, ListLiesIn, BlockLiesIn}
 use Rattle.band_needs.specs.declared.ranges.BandNeeds.{BandNeeds}
 use Rattle.band_needs.specs.declared.ranges.BandRange.{BandRange}
 use Rattle.block_rebuild.proofs.Parts.{row_held}
@@ -34,7 +34,7 @@ use Rattle.block_rebuild.specs.Code.{IsServed, AreServed, reference_of}
 use Rattle.block_rebuild.specs.declared.references.ReferencePicture.{ReferencePicture}
 use Rattle.block_rebuild.specs.declared.references.Rebuilding.{Rebuilding}
 use Rattle.band_references.proofs.Heights.{same_height, shown_rows, shown_columns, some_length}
-use Rattle.band_references.specs.References.{IsRowOfBands, IsThere, AreThere}
+use Rattle.band_references.specs.BandReferences.{IsRowOfBands, IsThere, AreThere}
 use Rattle.band_references.specs.Code.{span_of, spans_of, held_in, width_in, map_in, IsBySpan, AreBySpans}
 use Rattle.band_references.specs.declared.spans.ReferenceNumbers.{ReferenceNumbers}
 

@@ -13,7 +13,7 @@ ghost use Rattle.band_needs.specs.Ranges.{needs_at};
 ghost use Rattle.band_needs.specs.declared.ranges.BandRange.{BandRange};
 ghost use Rattle.block_rebuild.specs.Code.{AreServed};
 ghost use Rattle.block_rebuild.specs.declared.references.Rebuilding.{Rebuilding};
-ghost use Rattle.band_references.specs.References.{AreThere};
+ghost use Rattle.band_references.specs.BandReferences.{AreThere};
 ghost use Rattle.band_references.specs.Code.{spans_of, held_in, width_in, map_in, AreBySpans};
 ghost use Rattle.band_references.specs.declared.spans.ReferenceNumbers.{ReferenceNumbers};
 

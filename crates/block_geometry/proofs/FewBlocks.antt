@@ -5,7 +5,7 @@ use Rattle.vp9_types.specs.declared.block.BlockSize.{BlockSize}
 use Rattle.vp9_types.specs.declared.block.BlockSize.TheVariants.{B4x4, B4x8, B8x4, B8x8, B8x16, B16x8, B16x16, B16x32, B32x16, B32x32, B32x64, B64x32, B64x64}
 use Rattle.vp9_types.specs.declared.block.TxSize.{TxSize}
 use Rattle.vp9_types.specs.declared.block.TxSize.TheVariants.{T4x4, T8x8, T16x16, T32x32}
-use Rattle.vp9_tables.specs.Blocks.{width_of, height_of}
+use Rattle.vp9_tables.specs.BlockTables.{width_of, height_of}
 use Rattle.block_geometry.specs.TransformBlocks.{starts, tx_step, plane_side}
 
 pub wide : (ss : Bool) (size : BlockSize) → plane_side ss (width_of size) ≤ 16

@@ -1,7 +1,7 @@
-pub mod Sizes
-pub mod Partitions
+pub mod BlockSizes
+pub mod SplitSquares
 pub mod Parts
 pub mod TransformBlocks
-pub mod Frames
+pub mod FrameShapes
 pub mod Quarters
 pub mod Code

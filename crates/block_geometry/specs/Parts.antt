@@ -1,7 +1,7 @@
 -- The part of a block that lies inside a frame, in places of 8x8.
 use Rattle.std.specs.Prelude.{ℕ, ◌-◌, min}
 use Rattle.vp9_types.specs.declared.block.BlockSize.{BlockSize}
-use Rattle.block_geometry.specs.Sizes.{width_8, height_8}
+use Rattle.block_geometry.specs.BlockSizes.{width_8, height_8}
 use Rattle.block_geometry.specs.declared.parts.Part.{Part}
 use Rattle.block_geometry.specs.declared.transform_blocks.FramePlaces.{FramePlaces}
 

@@ -5,7 +5,7 @@ use Rattle.std.specs.Int.{div_ceil}
 use Rattle.std.specs.List.{range_with_len, flat_map}
 use Rattle.vp9_types.specs.declared.block.TxSize.{TxSize}
 use Rattle.vp9_tables.specs.Numbers.{tx_number}
-use Rattle.vp9_tables.specs.Blocks.{width_of, height_of}
+use Rattle.vp9_tables.specs.BlockTables.{width_of, height_of}
 use Rattle.vp9_types.specs.Shapes.{halved}
 use Rattle.block_geometry.specs.declared.transform_blocks.PlaneBlock.{PlaneBlock}
 use Rattle.block_geometry.specs.declared.transform_blocks.FramePlaces.{FramePlaces}

@@ -2,8 +2,8 @@
 
 ghost use Rattle.std.specs.Prelude.{◌≡◌, ◌≤◌, ◌<◌, ◌*◌, ◌^◌, nat_lt};
 ghost use Rattle.std.specs.List.{list_any};
-ghost use Rattle.vp9_tables.specs.Blocks.{width_of, height_of, part_width, part_height};
-ghost use Rattle.block_geometry.specs.Partitions.{square, part_size, partition_context, level_of};
+ghost use Rattle.vp9_tables.specs.BlockTables.{width_of, height_of, part_width, part_height};
+ghost use Rattle.block_geometry.specs.SplitSquares.{square, part_size, partition_context, level_of};
 
 use crate::sizes::{height_4, width_4};
 use vp9_types::{BlockSize, Partition};

@@ -2,8 +2,8 @@
 
 ghost use Rattle.std.specs.Prelude.{◌≡◌, ◌≤◌, min, IsTrue};
 ghost use Rattle.vp9_tables.specs.Numbers.{tx_number};
-ghost use Rattle.vp9_tables.specs.Blocks.{greatest_of, uv_number};
-ghost use Rattle.block_geometry.specs.Sizes.{width_4, height_4, width_8, height_8, is_below_8x8, greatest_allowed};
+ghost use Rattle.vp9_tables.specs.BlockTables.{greatest_of, uv_number};
+ghost use Rattle.block_geometry.specs.BlockSizes.{width_4, height_4, width_8, height_8, is_below_8x8, greatest_allowed};
 
 use vp9_tables::{biggest_tx_size, max_tx_size, uv_tx_size};
 use vp9_types::{BlockSize, TxMode, TxSize};

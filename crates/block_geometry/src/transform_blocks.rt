@@ -17,7 +17,7 @@ pub struct FramePlaces {
 }
 
 impl FramePlaces {
-    ghost use Rattle.block_geometry.specs.Frames.{places_of};
+    ghost use Rattle.block_geometry.specs.FrameShapes.{places_of};
 
     /// Those of a frame of this shape.
     #[inline(always)]

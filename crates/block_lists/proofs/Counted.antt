@@ -6,10 +6,10 @@ use Rattle.vp9_types.specs.declared.rule.Rule.{Rule}
 use Rattle.prob_contexts.specs.declared.kind.CountedBool.{CountedBool}
 use Rattle.prob_contexts.specs.declared.kind.ProbKind.{ProbKind}
 use Rattle.counting_reader.specs.Counting.{Settled, settle, count, uncounted, in_order}
-use Rattle.counting_reader.specs.Symbols.{counted_flag, counted_tree}
+use Rattle.counting_reader.specs.CountedSymbols.{counted_flag, counted_tree}
 use Rattle.bool_encoder.specs.Part.{Part}
-use Rattle.bool_encoder.specs.Bools.{Puts}
-use Rattle.bool_lists.specs.Lists.{HasPut, has_leaf, is_distinct, one_bool, tree_bools}
+use Rattle.bool_encoder.specs.WrittenBools.{Puts}
+use Rattle.bool_lists.specs.BoolLists.{HasPut, has_leaf, is_distinct, one_bool, tree_bools}
 use Rattle.bool_lists.proofs.Ways.{between, flag_way, has_one, tree_way}
 use Rattle.bool_encoder.specs.CountedBools.{valued, PutsValue}
 use Rattle.bool_encoder.proofs.CountedPuts.{valued_settle, valued_flag, valued_count, valued_uncounted, valued_in_order, valued_tree}

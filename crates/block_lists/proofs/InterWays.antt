@@ -14,9 +14,9 @@ use Rattle.vp9_types.specs.declared.block.ReferenceFrame.{ReferenceFrame}
 use Rattle.vp9_types.specs.declared.rule.Rule.{Rule}
 use Rattle.vp9_types.specs.declared.rule.Rule.TheVariants.{BlockScale}
 use Rattle.vp9_tables.specs.Numbers.{filter_number, inter_number, intra_number}
-use Rattle.vp9_tables.specs.Trees.{filter_tree, inter_mode_tree, intra_mode_tree}
+use Rattle.vp9_tables.specs.SymbolTrees.{filter_tree, inter_mode_tree, intra_mode_tree}
 use Rattle.bool_encoder.specs.Part.{Part}
-use Rattle.bool_lists.specs.Lists.{BoolList, HasPut, has_leaf, tree_bools}
+use Rattle.bool_lists.specs.BoolLists.{BoolList, HasPut, has_leaf, tree_bools}
 use Rattle.bool_lists.proofs.Ways.{of_leaf, spells_on, spells_none}
 use Rattle.frame_headers.specs.declared.header.FrameFilter.{FrameFilter}
 use Rattle.frame_headers.specs.declared.header.FrameFilter.TheVariants.{Fixed, Switchable}
@@ -26,10 +26,10 @@ use Rattle.frame_headers.specs.declared.header.FrameKind.TheVariants as frame
 use Rattle.frame_headers.specs.declared.header.FrameSize.{FrameSize}
 use Rattle.frame_headers.specs.declared.header.Header.{Header}
 use Rattle.frame_headers.specs.declared.header.References as header
-use Rattle.prob_contexts.specs.Lists.{ContextLists, InterLists}
+use Rattle.prob_contexts.specs.ProbLists.{ContextLists, InterLists}
 use Rattle.counting_reader.specs.Counting.{Settled, settle}
 use Rattle.bool_encoder.specs.CountedBools.{PutsValue}
-use Rattle.block_geometry.specs.Sizes.{is_below_8x8}
+use Rattle.block_geometry.specs.BlockSizes.{is_below_8x8}
 use Rattle.block_plan.specs.declared.block.BlockAt.{BlockAt}
 use Rattle.block_plan.specs.declared.block.BlockInfo.{BlockInfo}
 use Rattle.block_plan.specs.declared.block.InterPrediction.{InterPrediction}
@@ -45,18 +45,18 @@ use Rattle.mv_prediction.specs.Vectors.{no_vector}
 use Rattle.mv_prediction.specs.declared.search.SignBiases.{SignBiases}
 use Rattle.mv_prediction.specs.declared.sub_blocks.NearVectors.{NearVectors}
 use Rattle.inter_contexts.specs.Contexts.{filter_context}
-use Rattle.inter_contexts.specs.References.{in_range_or_rule, reference_in, second_in_range}
+use Rattle.inter_contexts.specs.BlockReferences.{in_range_or_rule, reference_in, second_in_range}
 use Rattle.frame_headers.specs.References.{is_in_range}
 use Rattle.inter_modes.specs.IntraBlocks.{four_modes as intra_four_modes, intra_block_mode_info, intra_mode as coded_intra_mode, luma_modes as intra_luma_modes, one_mode as intra_one_mode, two_columns as intra_two_columns, two_rows as intra_two_rows, uv_mode as coded_uv_mode}
 use Rattle.inter_modes.specs.ModeInfo.{InterFrame, block_mode, block_of_quarters, block_with, by_kind, checked_references, filter_of, inter_block, inter_frame_block, inter_frame_mode_info, inter_prediction, interp_filter, intra_block, intra_frame_block, mode_info, quarters_prediction, whole_block, whole_prediction}
-use Rattle.inter_modes.specs.Starts.{segment_reference}
-use Rattle.inter_modes.specs.Vectors.{Sources, best_vectors, block_vector, block_vectors, carried, four_quarters, inter_mode, inter_of, near_of_block, quarter, quarter_vector, quarter_vectors, quarters, row_at, two_columns, two_rows, vector_of_mode, with_second, ◌>>?◌}
+use Rattle.inter_modes.specs.BlockStarts.{segment_reference}
+use Rattle.inter_modes.specs.BlockVectors.{Sources, best_vectors, block_vector, block_vectors, carried, four_quarters, inter_mode, inter_of, near_of_block, quarter, quarter_vector, quarter_vectors, quarters, row_at, two_columns, two_rows, vector_of_mode, with_second, ◌>>?◌}
 use Rattle.inter_modes.specs.declared.quarters.Quarter.{Quarter}
 use Rattle.inter_modes.specs.declared.quarters.QuartersBefore.{QuartersBefore}
 use Rattle.inter_modes.specs.declared.starts.BlockStart.{BlockStart}
-use Rattle.block_lists.specs.Inter.{inter_mode_of, spelled_block_mode, spelled_by_kind, spelled_by_prediction, spelled_filter, spelled_inter_beside, spelled_inter_mode, spelled_intra, spelled_luma, spelled_mode, spelled_mode_info, spelled_of_quarters, spelled_prediction, spelled_quarter, spelled_quarter_of, spelled_quarters, spelled_second, spelled_vector, spelled_vectors, spelled_whole, start_of}
-use Rattle.block_lists.specs.Intra.{mode_of, spelled_intra_frame}
-use Rattle.block_lists.specs.References.{spelled_references}
+use Rattle.block_lists.specs.InterLists.{inter_mode_of, spelled_block_mode, spelled_by_kind, spelled_by_prediction, spelled_filter, spelled_inter_beside, spelled_inter_mode, spelled_intra, spelled_luma, spelled_mode, spelled_mode_info, spelled_of_quarters, spelled_prediction, spelled_quarter, spelled_quarter_of, spelled_quarters, spelled_second, spelled_vector, spelled_vectors, spelled_whole, start_of}
+use Rattle.block_lists.specs.IntraLists.{mode_of, spelled_intra_frame}
+use Rattle.block_lists.specs.ReferenceLists.{spelled_references}
 use Rattle.block_lists.proofs.Counted.{two_put, settle_put, tree_put}
 use Rattle.block_lists.proofs.IntraWays.{intra_frame_way, intra_numbers}
 use Rattle.block_lists.proofs.ReferenceWays.{references_way}

@@ -12,33 +12,33 @@ use Rattle.vp9_types.specs.declared.block.Modes.{Modes}
 use Rattle.vp9_types.specs.declared.block.TxMode.{TxMode}
 use Rattle.vp9_types.specs.declared.block.TxSize.{TxSize}
 use Rattle.vp9_types.specs.declared.block.TxSize.TheVariants.{T4x4, T8x8, T16x16, T32x32}
-use Rattle.vp9_tables.specs.Blocks.{greatest_of}
+use Rattle.vp9_tables.specs.BlockTables.{greatest_of}
 use Rattle.vp9_tables.specs.Numbers.{partition_number, intra_number, tx_number, tx_of}
-use Rattle.vp9_tables.specs.Trees.{partition_tree, intra_mode_tree, segment_tree, tx8_tree, tx16_tree, tx32_tree}
+use Rattle.vp9_tables.specs.SymbolTrees.{partition_tree, intra_mode_tree, segment_tree, tx8_tree, tx16_tree, tx32_tree}
 use Rattle.frame_headers.specs.declared.header.Header.{Header}
 use Rattle.frame_headers.specs.declared.segments.MapUpdate.{MapUpdate}
 use Rattle.frame_headers.specs.declared.segments.Segmentation.{Segmentation}
-use Rattle.prob_contexts.specs.Lists.{ContextLists, TxLists}
+use Rattle.prob_contexts.specs.ProbLists.{ContextLists, TxLists}
 use Rattle.prob_contexts.specs.declared.kind.ProbKind.TheVariants as kind
-use Rattle.counting_reader.specs.Symbols.{counted_flag}
-use Rattle.block_geometry.specs.Sizes.{greatest_allowed, is_below_8x8}
+use Rattle.counting_reader.specs.CountedSymbols.{counted_flag}
+use Rattle.block_geometry.specs.BlockSizes.{greatest_allowed, is_below_8x8}
 use Rattle.block_geometry.specs.declared.transform_blocks.FramePlaces.{FramePlaces}
 use Rattle.block_plan.specs.declared.block.BlockAt.{BlockAt}
 use Rattle.block_plan.specs.declared.block.BlockInfo.{BlockInfo}
 use Rattle.mode_syntax.specs.Elements.{coded_segment, intra_segment_id, is_selected, read_skip, read_tx_size, skip_context, skips_segment, tx_context, tx_probs, tx_symbol, tx_tree}
 use Rattle.mode_syntax.specs.IntraModes.{default_intra_mode, default_uv_mode, edge_modes, four_modes, intra_mode, intra_of, last_mode, luma_modes, one_mode, two_columns, two_rows}
-use Rattle.mode_syntax.specs.ModeInfo.{intra_frame_mode_info, mode_info_beside}
+use Rattle.mode_syntax.specs.IntraModeInfo.{intra_frame_mode_info, mode_info_beside}
 use Rattle.mode_syntax.specs.declared.intra_modes.EdgeModes.{EdgeModes}
 use Rattle.mode_syntax.specs.declared.square_at.SquareAt.{SquareAt}
-use Rattle.block_lists.specs.Intra.{chroma_of, luma_of, mode_of, spelled_beside, spelled_default, spelled_intra_frame, spelled_luma, spelled_mode, spelled_segment, spelled_skip, spelled_tx, spelled_tx_symbol, spelled_uv}
+use Rattle.block_lists.specs.IntraLists.{chroma_of, luma_of, mode_of, spelled_beside, spelled_default, spelled_intra_frame, spelled_luma, spelled_mode, spelled_segment, spelled_skip, spelled_tx, spelled_tx_symbol, spelled_uv}
 use Rattle.bool_encoder.specs.Part.{Part}
-use Rattle.bool_encoder.specs.Bools.{Puts}
-use Rattle.bool_lists.specs.Lists.{HasPut, has_leaf, is_distinct, one_bool, tree_bools}
+use Rattle.bool_encoder.specs.WrittenBools.{Puts}
+use Rattle.bool_lists.specs.BoolLists.{HasPut, has_leaf, is_distinct, one_bool, tree_bools}
 use Rattle.bool_lists.proofs.Ways.{between, of_leaf, flag_way, has_one, tree_way, spells_on, spells_none}
 use Rattle.bool_encoder.specs.CountedBools.{PutsValue}
 use Rattle.counting_reader.specs.Counting.{settle, uncounted}
 use Rattle.mode_syntax.specs.Partitions.{edge_symbol, partition, partition_at, partition_of, partition_value, split_or, whole_symbol}
-use Rattle.block_lists.specs.Partitions.{is_split, spelled_partition, spelled_partition_at}
+use Rattle.block_lists.specs.PartitionLists.{is_split, spelled_partition, spelled_partition_at}
 use Rattle.block_lists.proofs.Counted.{two_put, settle_put, count_put, uncounted_put, flag_put, tree_put}
 
 ---- Partitions ----

@@ -8,19 +8,19 @@ use Rattle.vp9_types.specs.declared.block.ReferenceMode.{ReferenceMode}
 use Rattle.vp9_types.specs.declared.block.ReferenceMode.TheVariants.{Single, Compound, Selected}
 use Rattle.vp9_tables.specs.declared.kinds.ReferenceBool.TheVariants.{IsCompound, CompoundVariable, SingleFirst, SingleSecond}
 use Rattle.bool_encoder.specs.Part.{Part}
-use Rattle.bool_lists.specs.Lists.{HasPut, one_bool}
+use Rattle.bool_lists.specs.BoolLists.{HasPut, one_bool}
 use Rattle.bool_lists.proofs.Ways.{spells_on, spells_none}
 use Rattle.frame_headers.specs.declared.segments.FeatureReference.{FeatureReference}
-use Rattle.prob_contexts.specs.Lists.{InterLists}
+use Rattle.prob_contexts.specs.ProbLists.{InterLists}
 use Rattle.block_plan.specs.declared.block.BlockInfo.{BlockInfo}
 use Rattle.block_plan.specs.declared.block.References.{References}
 use Rattle.bool_encoder.specs.CountedBools.{PutsValue}
 use Rattle.mv_prediction.specs.Candidates.{bias_of}
 use Rattle.mv_prediction.specs.declared.search.SignBiases.{SignBiases}
 use Rattle.inter_contexts.specs.Contexts.{reference_context}
-use Rattle.inter_contexts.specs.References.{coded_references, compound_references, fixed_of, golden_or_altref, is_compound, of_feature, ref_frames, single, single_reference, variable_by, with_fixed}
+use Rattle.inter_contexts.specs.BlockReferences.{coded_references, compound_references, fixed_of, golden_or_altref, is_compound, of_feature, ref_frames, single, single_reference, variable_by, with_fixed}
 use Rattle.counting_reader.specs.Counting.{settle}
-use Rattle.block_lists.specs.References.{is_second, or_last, spelled_coded_references, spelled_compound, spelled_compound_flag, spelled_references, spelled_single, variable_of}
+use Rattle.block_lists.specs.ReferenceLists.{is_second, or_last, spelled_coded_references, spelled_compound, spelled_compound_flag, spelled_references, spelled_single, variable_of}
 use Rattle.block_lists.proofs.Counted.{two_put, settle_put, flag_put}
 
 compound_flag_way : (mode : ReferenceMode) (probs : List ℕ) (context : ℕ) (compound : Bool) (old new : Part) → PutsValue (is_compound mode probs context) old compound new

@@ -5,25 +5,25 @@ use Rattle.vp9_types.specs.Trees.{tree_symbol}
 use Rattle.vp9_types.specs.declared.block.BlockSize.{BlockSize}
 use Rattle.vp9_types.specs.declared.block.TxMode.{TxMode}
 use Rattle.vp9_types.specs.declared.block.TxSize.{TxSize}
-use Rattle.vp9_tables.specs.Trees.{segment_tree}
+use Rattle.vp9_tables.specs.SymbolTrees.{segment_tree}
 use Rattle.bool_decoder.specs.Bools.{flag}
 use Rattle.bool_encoder.specs.Part.{Part}
-use Rattle.bool_lists.specs.Lists.{HasPut, one_bool, tree_bools}
+use Rattle.bool_lists.specs.BoolLists.{HasPut, one_bool, tree_bools}
 use Rattle.bool_lists.proofs.Ways.{flag_way, tree_way, spells_on, spells_none}
 use Rattle.frame_headers.specs.declared.segments.FeatureReference.{FeatureReference}
 use Rattle.frame_headers.specs.declared.segments.MapUpdate.{MapUpdate}
 use Rattle.frame_headers.specs.declared.segments.Segmentation.{Segmentation}
-use Rattle.prob_contexts.specs.Lists.{ContextLists, TxLists}
+use Rattle.prob_contexts.specs.ProbLists.{ContextLists, TxLists}
 use Rattle.block_plan.specs.declared.block.BlockInfo.{BlockInfo}
 use Rattle.counting_reader.specs.Counting.{settle}
 use Rattle.bool_encoder.specs.CountedBools.{PutsValue}
 use Rattle.mode_syntax.specs.Elements.{skip_context, tx_context}
 use Rattle.inter_contexts.specs.Contexts.{is_inter_context, predicted_context}
-use Rattle.inter_modes.specs.Starts.{block_start, coded_segment, inter_segment_id, is_inter_by, read_is_inter, segment_by, segment_of, segment_reference, temporal_segment, tx_size, updated_segment}
+use Rattle.inter_modes.specs.BlockStarts.{block_start, coded_segment, inter_segment_id, is_inter_by, read_is_inter, segment_by, segment_of, segment_reference, temporal_segment, tx_size, updated_segment}
 use Rattle.inter_modes.specs.declared.starts.BlockStart.{BlockStart}
 use Rattle.inter_modes.specs.declared.starts.SegmentOf.{SegmentOf}
-use Rattle.block_lists.specs.Intra.{spelled_skip}
-use Rattle.block_lists.specs.Starts.{spelled_inter_segment, spelled_is_inter, spelled_segment_by, spelled_start, spelled_temporal, spelled_tx_if, spelled_updated}
+use Rattle.block_lists.specs.IntraLists.{spelled_skip}
+use Rattle.block_lists.specs.StartLists.{spelled_inter_segment, spelled_is_inter, spelled_segment_by, spelled_start, spelled_temporal, spelled_tx_if, spelled_updated}
 use Rattle.block_lists.proofs.Counted.{two_put, settle_put, uncounted_put, flag_put}
 use Rattle.block_lists.proofs.IntraWays.{skip_way, tx_way}
 

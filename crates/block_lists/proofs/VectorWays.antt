@@ -9,13 +9,13 @@ use Rattle.std.proofs.lemmas.Bool.{cases_Bool, lt-ltb, le-ltb, ne_eqb}
 use Rattle.std.proofs.lemmas.Bool.Decides.{Decides-int_eq}
 use Rattle.vp9_types.specs.declared.rule.Rule.{Rule}
 use Rattle.vp9_tables.specs.Numbers.{component_number, flag_number}
-use Rattle.vp9_tables.specs.Trees.{mv_class_tree, mv_fr_tree, mv_joint_tree}
+use Rattle.vp9_tables.specs.SymbolTrees.{mv_class_tree, mv_fr_tree, mv_joint_tree}
 use Rattle.vp9_tables.specs.declared.kinds.Component.{Component}
 use Rattle.vp9_tables.specs.declared.kinds.Component.TheVariants.{Row, Column}
 use Rattle.bool_encoder.specs.Part.{Part}
-use Rattle.bool_lists.specs.Lists.{HasPut, has_leaf, one_bool, tree_bools}
+use Rattle.bool_lists.specs.BoolLists.{HasPut, has_leaf, one_bool, tree_bools}
 use Rattle.bool_lists.proofs.Ways.{of_leaf, spells_on, spells_none}
-use Rattle.prob_contexts.specs.Lists.{VectorLists}
+use Rattle.prob_contexts.specs.ProbLists.{VectorLists}
 use Rattle.prob_contexts.specs.declared.kind.ProbKind.{ProbKind}
 use Rattle.counting_reader.specs.Counting.{through}
 use Rattle.bool_encoder.specs.CountedBools.{PutsValue}
@@ -23,7 +23,7 @@ use Rattle.block_plan.specs.declared.block.Mv.{Mv}
 use Rattle.mv_prediction.specs.Vectors.{is_precise}
 use Rattle.mv_syntax.specs.Components.{eighths, high_bit, large_magnitude, magnitude, next_bit, read_mv_component, signed, small_magnitude}
 use Rattle.mv_syntax.specs.Differences.{added, component_if, in_range_or_rule, is_in_range, new_vector, read_mv}
-use Rattle.block_lists.specs.Vectors.{fraction_of, halvings, high_of, joint_of, spelled_bits, spelled_component, spelled_component_if, spelled_difference, spelled_high, spelled_large, spelled_magnitude, spelled_new, spelled_small, vector_class, whole_of}
+use Rattle.block_lists.specs.VectorLists.{fraction_of, halvings, high_of, joint_of, spelled_bits, spelled_component, spelled_component_if, spelled_difference, spelled_high, spelled_large, spelled_magnitude, spelled_new, spelled_small, vector_class, whole_of}
 use Rattle.block_lists.proofs.Counted.{two_put, settle_put, count_put, flag_put, tree_put}
 
 ---- Sizes ----

@@ -1,6 +1,6 @@
-pub mod Partitions
-pub mod Intra
-pub mod Vectors
-pub mod References
-pub mod Starts
-pub mod Inter
+pub mod PartitionLists
+pub mod IntraLists
+pub mod VectorLists
+pub mod ReferenceLists
+pub mod StartLists
+pub mod InterLists

@@ -4,9 +4,9 @@ ghost use Rattle.std.specs.Prelude.{ℕ, Bool, List, Ok};
 ghost use Rattle.vp9_types.specs.declared.block.Modes.{Modes};
 ghost use Rattle.vp9_types.specs.declared.block.Partition.{Partition};
 ghost use Rattle.frame_headers.specs.declared.header.Header.{Header};
-ghost use Rattle.prob_contexts.specs.Lists.{ContextLists};
+ghost use Rattle.prob_contexts.specs.ProbLists.{ContextLists};
 ghost use Rattle.bool_encoder.specs.Part.{Part};
-ghost use Rattle.bool_lists.specs.Lists.{HasPut};
+ghost use Rattle.bool_lists.specs.BoolLists.{HasPut};
 ghost use Rattle.bool_encoder.specs.CountedBools.{PutsValue};
 ghost use Rattle.block_geometry.specs.declared.transform_blocks.FramePlaces.{FramePlaces};
 ghost use Rattle.block_plan.specs.declared.block.BlockAt.{BlockAt};
@@ -15,8 +15,8 @@ ghost use Rattle.vp9_types.specs.Maps.{Map};
 ghost use Rattle.inter_modes.specs.ModeInfo.{mode_info};
 ghost use Rattle.mode_syntax.specs.Partitions.{partition_at};
 ghost use Rattle.mode_syntax.specs.declared.square_at.SquareAt.{SquareAt};
-ghost use Rattle.block_lists.specs.Inter.{spelled_mode_info};
-ghost use Rattle.block_lists.specs.Partitions.{spelled_partition_at};
+ghost use Rattle.block_lists.specs.InterLists.{spelled_mode_info};
+ghost use Rattle.block_lists.specs.PartitionLists.{spelled_partition_at};
 
 /// Whatever bools lead the syntax of a partition or of a block to a value, they are those of its list.
 pub fn blocks_are_put_in_one_way()

@@ -9,7 +9,7 @@ use Rattle.std.proofs.lemmas.List.Sums.{fold-append}
 use Rattle.std.proofs.lemmas.Grind.{flat_map-append}
 use Rattle.std.specs.List.{fold, flat_map, range_with_len}
 use Rattle.block_geometry.specs.declared.parts.Part.{Part}
-use Rattle.block_plan.specs.Segments.{least_id}
+use Rattle.block_plan.specs.SegmentMaps.{least_id}
 use Rattle.vp9_types.specs.Maps.{rows_of, row_of, with_block, is_within}
 
 more : (a b : ℕ) → a < b → a + 1 ≤ b

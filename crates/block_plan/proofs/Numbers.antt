@@ -4,7 +4,7 @@ use Rattle.std.proofs.lemmas.Bool.Decides.{nat_tests}
 use Rattle.std.proofs.lemmas.List.{get_or_default, length-replicate, get_or-replicate}
 use Rattle.std.proofs.Math.Seq.{take-append_seam}
 use Rattle.vp9_types.specs.Maps.{is_within}
-use Rattle.block_geometry.specs.Sizes.{width_8, height_8}
+use Rattle.block_geometry.specs.BlockSizes.{width_8, height_8}
 use Rattle.block_plan.specs.Blocks.{covers, covering}
 use Rattle.block_plan.specs.Grid.{numbered, AgreesWith, NumbersBelow}
 use Rattle.block_plan.specs.declared.block.BlockInfo.{BlockInfo}

@@ -8,10 +8,10 @@ use Rattle.vp9_types.specs.declared.block.IntraMode.TheVariants.{Dc}
 use Rattle.vp9_types.specs.declared.block.TxSize.{TxSize}
 use Rattle.vp9_types.specs.declared.shape.Plane.{Plane}
 use Rattle.vp9_types.specs.declared.shape.Shape.{Shape}
-use Rattle.vp9_tables.specs.Blocks.{uv_number}
+use Rattle.vp9_tables.specs.BlockTables.{uv_number}
 use Rattle.vp9_tables.specs.Numbers.{tx_of}
-use Rattle.block_geometry.specs.Frames.{places_of}
-use Rattle.block_geometry.specs.Sizes.{is_below_8x8}
+use Rattle.block_geometry.specs.FrameShapes.{places_of}
+use Rattle.block_geometry.specs.BlockSizes.{is_below_8x8}
 use Rattle.block_geometry.specs.TransformBlocks.{transform_blocks}
 use Rattle.block_geometry.specs.declared.transform_blocks.PlaneBlock.{PlaneBlock}
 use Rattle.block_plan.specs.declared.block.BlockInfo.{BlockInfo}

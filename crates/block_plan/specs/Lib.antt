@@ -2,5 +2,5 @@ pub mod Blocks
 pub mod InPlanes
 pub mod Planned
 pub mod Grid
-pub mod Segments
+pub mod SegmentMaps
 pub mod Code

@@ -3,7 +3,7 @@
 ghost use Rattle.std.specs.Prelude.{◌≡◌, ◌+◌, ◌*◌, ◌^◌, ◌<◌, ◌≤◌, length, min};
 ghost use Rattle.std.specs.List.{fold};
 ghost use Rattle.vp9_types.specs.Maps.{rows_of, with_block};
-ghost use Rattle.block_plan.specs.Segments.{least_id};
+ghost use Rattle.block_plan.specs.SegmentMaps.{least_id};
 
 use block_geometry::{Part, fill_part};
 

@@ -4,7 +4,7 @@ ghost use Rattle.std.specs.Prelude.{◌≡◌, ◌*◌, ◌<◌, ◌≤◌, IfOk
 ghost use Rattle.vp9_types.specs.Maps.{with_block};
 ghost use Rattle.block_geometry.specs.Parts.{part_inside};
 ghost use Rattle.block_geometry.specs.declared.transform_blocks.FramePlaces.{FramePlaces};
-ghost use Rattle.block_plan.specs.Segments.{SegmentIds, id_map, least_id};
+ghost use Rattle.block_plan.specs.SegmentMaps.{SegmentIds, id_map, least_id};
 
 use crate::segment_ids::{least_in, put_in};
 use block_geometry::{FramePlaces, part_inside};

@@ -14,18 +14,18 @@ use Rattle.vp9_types.specs.declared.shape.Plane.TheVariants.{Y, U, V}
 use Rattle.vp9_types.specs.declared.shape.Shape.{Shape}
 use Rattle.vp9_types.specs.Maps.{HoldsRows, rows_of}
 use Rattle.vp9_types.specs.declared.block.TxSize.{TxSize}
-use Rattle.vp9_tables.specs.Blocks.{greatest_of}
+use Rattle.vp9_tables.specs.BlockTables.{greatest_of}
 use Rattle.vp9_tables.specs.Numbers.{tx_number}
 use Rattle.vp9_tables.specs.Scans.{area}
 use Rattle.block_geometry.proofs.Rasters.{all_inside}
-use Rattle.block_geometry.specs.Frames.{places_of}
+use Rattle.block_geometry.specs.FrameShapes.{places_of}
 use Rattle.block_geometry.specs.declared.transform_blocks.PlaneBlock.{PlaneBlock}
 use Rattle.block_plan.specs.declared.block.InterPrediction.{InterPrediction}
 use Rattle.inter_places.specs.Axes.{IsPlace}
 use Rattle.inter_places.specs.declared.axis.Place as places
 use Rattle.intra_predict.specs.declared.coded.CodedBlock.{CodedBlock}
 use Rattle.planes.specs.Pictures.{coded_area}
-use Rattle.block_geometry.specs.Sizes.{is_below_8x8, width_8, height_8}
+use Rattle.block_geometry.specs.BlockSizes.{is_below_8x8, width_8, height_8}
 use Rattle.block_plan.specs.InPlanes.{plane_block, places_in, tx_in}
 use Rattle.block_plan.specs.Planned.{Residue, PlannedBlock}
 use Rattle.block_plan.specs.declared.block.Prediction.{Prediction}
@@ -35,15 +35,15 @@ use Rattle.block_plan.specs.declared.block.IntraPrediction.{IntraPrediction}
 use Rattle.inter_places.specs.Places.{subsampling, coded_length, parts_of, place_of}
 use Rattle.inter_places.specs.declared.part.Direction.TheVariants.{Down, Across}
 use Rattle.intra_predict.proofs.EdgeLemmas.{same_edges}
-use Rattle.intra_predict.specs.Edges.{LiesIn, edges_in, reads_right, above_sample, left_sample}
-use Rattle.intra_predict.specs.Modes.{predicted}
+use Rattle.intra_predict.specs.BlockEdges.{LiesIn, edges_in, reads_right, above_sample, left_sample}
+use Rattle.intra_predict.specs.PredictedModes.{predicted}
 use Rattle.intra_predict.specs.Places.{place_in}
 use Rattle.intra_predict.specs.Steps.{prediction, plus_residue}
 use Rattle.intra_predict.specs.declared.block.IntraBlock.{IntraBlock}
 use Rattle.intra_predict.specs.declared.place.Place.{Place}
 use Rattle.planes.specs.Planes.{HasRow, StartsIn, lower_end, right_end, with_part}
 use Rattle.planes.specs.declared.area.Area.{Area}
-use Rattle.block_rebuild.specs.Blocks.{coded_block, intra_at, put_residue, put_next, put_intra, put_by}
+use Rattle.block_rebuild.specs.RebuiltBlocks.{coded_block, intra_at, put_residue, put_next, put_intra, put_by}
 use Rattle.block_rebuild.specs.InterBlocks.{Rebuilding, part_of, predicted_part, put_part, put_prediction, put_inter, tx_row, tx_column, add_residue, add_next, samples_from}
 use Rattle.block_rebuild.specs.Code.{HoldsBlock, put_more, add_more}
 use Rattle.block_rebuild.specs.Residues.{residues_at}

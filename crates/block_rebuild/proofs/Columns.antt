@@ -10,14 +10,14 @@ use Rattle.vp9_types.specs.Shapes.{halved, mi_rows, mi_cols}
 use Rattle.vp9_types.specs.declared.shape.Plane.{Plane}
 use Rattle.vp9_types.specs.declared.shape.Plane.TheVariants.{Y, U, V}
 use Rattle.vp9_types.specs.declared.shape.Shape.{Shape}
-use Rattle.block_geometry.specs.Sizes.{width_8, height_8}
+use Rattle.block_geometry.specs.BlockSizes.{width_8, height_8}
 use Rattle.block_plan.specs.Planned.{PlannedBlock, residues_in}
 use Rattle.block_plan.specs.declared.block.Prediction.{Prediction}
 use Rattle.block_plan.specs.declared.block.Prediction.TheVariants.{Intra, Inter}
 use Rattle.inter_places.specs.Places.{subsampling, coded_length}
 use Rattle.inter_places.specs.declared.part.Direction.TheVariants.{Down, Across}
 use Rattle.planes.specs.Pictures.{blank}
-use Rattle.block_rebuild.specs.Blocks.{put_by, put_planned, put_intra}
+use Rattle.block_rebuild.specs.RebuiltBlocks.{put_by, put_planned, put_intra}
 use Rattle.block_rebuild.specs.InterBlocks.{Rebuilding, put_inter}
 use Rattle.block_rebuild.specs.Strips.{Region, IsIn, IsAround, in_plane, strip_places, superblock_row, is_in_column, is_in_row, column_blocks, row_blocks, with_blocks, last_row_above, strip_below, strip, above_strip}
 use Rattle.block_rebuild.specs.Laws.{StaysIn, FrameStaysIn, IsRead, own_places, places_around, IsInColumn, IsBesideColumn, KeepToColumns, AreInOrder, IsStrip, NeedsLastRow, MakesStrip, StripHolds}

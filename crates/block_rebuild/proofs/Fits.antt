@@ -15,10 +15,10 @@ use Rattle.vp9_types.specs.declared.block.TxSize.TheVariants.{T4x4, T8x8, T16x16
 use Rattle.vp9_types.specs.declared.shape.Plane.{Plane}
 use Rattle.vp9_types.specs.declared.shape.Plane.TheVariants.{Y, U, V}
 use Rattle.vp9_types.specs.declared.shape.Shape.{Shape}
-use Rattle.vp9_tables.specs.Blocks.{width_of, height_of, greatest_of, uv_number}
+use Rattle.vp9_tables.specs.BlockTables.{width_of, height_of, greatest_of, uv_number}
 use Rattle.vp9_tables.specs.Numbers.{tx_number, tx_of}
-use Rattle.block_geometry.specs.Frames.{places_of}
-use Rattle.block_geometry.specs.Sizes.{width_8, height_8}
+use Rattle.block_geometry.specs.FrameShapes.{places_of}
+use Rattle.block_geometry.specs.BlockSizes.{width_8, height_8}
 use Rattle.block_geometry.specs.TransformBlocks.{plane_side, raster, multiples, starts, start_rows, start_columns, tx_step, transform_blocks}
 use Rattle.block_geometry.specs.declared.transform_blocks.FramePlaces.{FramePlaces}
 use Rattle.block_geometry.specs.declared.transform_blocks.PlaneBlock.{PlaneBlock}

@@ -21,7 +21,7 @@ use Rattle.inter_places.specs.Axes.{IsPlace, first_place, last_place}
 use Rattle.inter_places.specs.Places.{IsReference, place_of}
 use Rattle.inter_places.specs.declared.axis.Place.{Place}
 use Rattle.inter_places.specs.declared.part.BlockPart.{BlockPart}
-use Rattle.inter_predict.specs.Inter.{average, both}
+use Rattle.inter_predict.specs.InterSamples.{average, both}
 use Rattle.inter_predict.proofs.Agree.{place_below, predicted_small}
 use Rattle.inter_predict.proofs.Blocks.{place_below as entry_below}
 use Rattle.planes.specs.Planes.{lower_end, right_end, with_part}

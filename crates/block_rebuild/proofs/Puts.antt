@@ -20,7 +20,7 @@ use Rattle.intra_predict.specs.Residue.{IsResidue}
 use Rattle.intra_predict.specs.Steps.{prediction, with_any_residue, with_square}
 use Rattle.intra_predict.specs.declared.block.IntraBlock.{IntraBlock}
 use Rattle.planes.specs.declared.area.Area.{Area}
-use Rattle.block_rebuild.specs.Blocks.{put_residue}
+use Rattle.block_rebuild.specs.RebuiltBlocks.{put_residue}
 use Rattle.block_rebuild.specs.Code.{put_more}
 use Rattle.block_rebuild.specs.Residues.{IsWhole, first_residues, residues_at, planned_by, plane_of, residue_held}
 use Rattle.block_rebuild.specs.declared.in_plane.IntraInPlane.{IntraInPlane}

@@ -15,8 +15,8 @@ use Rattle.vp9_types.specs.declared.shape.Plane.{Plane}
 use Rattle.vp9_types.specs.declared.shape.Plane.TheVariants.{Y, U, V}
 use Rattle.vp9_types.specs.declared.shape.Shape.{Shape}
 use Rattle.block_geometry.proofs.Rasters.{all_inside}
-use Rattle.block_geometry.specs.Frames.{places_of}
-use Rattle.block_geometry.specs.Sizes.{is_below_8x8, width_8, height_8}
+use Rattle.block_geometry.specs.FrameShapes.{places_of}
+use Rattle.block_geometry.specs.BlockSizes.{is_below_8x8, width_8, height_8}
 use Rattle.block_plan.specs.InPlanes.{plane_block, places_in, tx_in}
 use Rattle.block_plan.specs.Planned.{Residue, PlannedBlock, residues_in}
 use Rattle.block_plan.specs.declared.block.BlockInfo.{BlockInfo}
@@ -25,12 +25,12 @@ use Rattle.block_plan.specs.declared.block.IntraPrediction.{IntraPrediction}
 use Rattle.inter_places.specs.Places.{subsampling, parts_of, part_start, predicted_length}
 use Rattle.inter_places.specs.declared.part.Direction.TheVariants.{Down, Across}
 use Rattle.intra_predict.proofs.Around.{edges_agree}
-use Rattle.intra_predict.specs.Edges.{IsInside, AgreeAround, reads_right}
-use Rattle.intra_predict.specs.Modes.{predicted}
+use Rattle.intra_predict.specs.BlockEdges.{IsInside, AgreeAround, reads_right}
+use Rattle.intra_predict.specs.PredictedModes.{predicted}
 use Rattle.intra_predict.specs.Residue.{with_residue}
 use Rattle.intra_predict.specs.Steps.{prediction, plus_residue}
 use Rattle.intra_predict.specs.declared.block.IntraBlock.{IntraBlock}
-use Rattle.block_rebuild.specs.Blocks.{intra_at, put_residue, put_next, put_intra}
+use Rattle.block_rebuild.specs.RebuiltBlocks.{intra_at, put_residue, put_next, put_intra}
 use Rattle.block_rebuild.specs.InterBlocks.{Rebuilding, part_of, predicted_part, put_part, put_prediction, tx_row, tx_column, samples_from, add_residue, add_next, put_inter}
 use Rattle.block_rebuild.specs.Strips.{Region, in_plane}
 use Rattle.block_rebuild.specs.Laws.{SameAround, StaysIn, IsRead, own_places, places_around}

@@ -6,7 +6,7 @@ use Rattle.vp9_types.specs.Sizes.{greatest}
 use Rattle.vp9_types.specs.declared.shape.Plane.{Plane}
 use Rattle.vp9_types.specs.declared.shape.Plane.TheVariants.{Y, U, V}
 use Rattle.vp9_types.specs.declared.shape.Shape.{Shape}
-use Rattle.vp9_tables.specs.Blocks.{greatest_of}
+use Rattle.vp9_tables.specs.BlockTables.{greatest_of}
 use Rattle.vp9_tables.specs.Numbers.{tx_number}
 use Rattle.block_plan.specs.InPlanes.{mode_at}
 use Rattle.block_plan.specs.Planned.{Residue}
@@ -17,7 +17,7 @@ use Rattle.block_plan.specs.declared.block.InterPrediction.{InterPrediction}
 use Rattle.inter_places.specs.Axes.{IsPlace, first_place, last_place}
 use Rattle.inter_places.specs.Places.{IsReference, parts_of, place_of, subsampling, coded_length}
 use Rattle.inter_places.specs.declared.part.Direction.TheVariants.{Down, Across}
-use Rattle.block_geometry.specs.Sizes.{width_8, height_8}
+use Rattle.block_geometry.specs.BlockSizes.{width_8, height_8}
 use Rattle.inter_places.specs.declared.part.BlockPart.{BlockPart}
 use Rattle.intra_predict.specs.Places.{place_in}
 use Rattle.intra_predict.specs.declared.block.IntraBlock.{IntraBlock}
@@ -28,7 +28,7 @@ use Rattle.vp9_types.specs.declared.block.ReferenceFrame.{ReferenceFrame}
 use Rattle.vp9_types.specs.declared.block.ReferenceFrame.TheVariants.{Last, Golden, Altref}
 use Rattle.vp9_types.specs.declared.shape.Depth.{Depth}
 use Rattle.block_geometry.specs.declared.transform_blocks.PlaneBlock.{PlaneBlock}
-use Rattle.block_rebuild.specs.Blocks.{put_residue}
+use Rattle.block_rebuild.specs.RebuiltBlocks.{put_residue}
 use Rattle.block_rebuild.specs.InterBlocks.{ReferencePicture, Rebuilding, add_residue, no_picture, part_of}
 use Rattle.block_rebuild.specs.declared.references.ReferencePicture as code_picture
 use Rattle.block_rebuild.specs.declared.references.Rebuilding as code

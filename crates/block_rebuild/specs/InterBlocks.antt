@@ -18,7 +18,7 @@ use Rattle.block_plan.specs.declared.block.InterPrediction.{InterPrediction}
 use Rattle.inter_places.specs.Places.{parts_of, part_start, place_of, predicted_length}
 use Rattle.inter_places.specs.declared.part.BlockPart.{BlockPart}
 use Rattle.inter_places.specs.declared.part.Direction.TheVariants.{Down, Across}
-use Rattle.inter_predict.specs.Inter.{both, predicted_at}
+use Rattle.inter_predict.specs.InterSamples.{both, predicted_at}
 use Rattle.intra_predict.specs.Steps.{plus_residue, with_square}
 use Rattle.planes.specs.Pictures.{blank}
 

@@ -4,7 +4,7 @@ use Rattle.std.specs.List.{All, AllPairs}
 use Rattle.vp9_types.specs.Maps.{Map, FrameMap}
 use Rattle.vp9_types.specs.declared.shape.Plane.{Plane}
 use Rattle.vp9_types.specs.declared.shape.Shape.{Shape}
-use Rattle.block_geometry.specs.Sizes.{width_8, height_8}
+use Rattle.block_geometry.specs.BlockSizes.{width_8, height_8}
 use Rattle.block_plan.specs.InPlanes.{places_in}
 use Rattle.block_plan.specs.Planned.{PlannedBlock, Residue, residues_in}
 use Rattle.block_plan.specs.declared.block.BlockInfo.{BlockInfo}

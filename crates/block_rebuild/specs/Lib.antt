@@ -1,5 +1,5 @@
 pub mod InterBlocks
-pub mod Blocks
+pub mod RebuiltBlocks
 pub mod Residues
 pub mod Strips
 pub mod Laws

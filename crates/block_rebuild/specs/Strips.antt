@@ -11,7 +11,7 @@ use Rattle.inter_places.specs.Places.{subsampling, coded_length}
 use Rattle.inter_places.specs.declared.part.Direction.TheVariants.{Down, Across}
 use Rattle.planes.specs.Pictures.{blank}
 use Rattle.planes.specs.declared.area.Area.{Area}
-use Rattle.block_rebuild.specs.Blocks.{put_planned}
+use Rattle.block_rebuild.specs.RebuiltBlocks.{put_planned}
 use Rattle.block_rebuild.specs.InterBlocks.{Rebuilding}
 
 ---- Regions ----

@@ -2,10 +2,10 @@
 
 ghost use Rattle.std.specs.Prelude.{◌≡◌};
 ghost use Rattle.vp9_types.specs.Sizes.{greatest};
-ghost use Rattle.frame_headers.specs.Sizes.{HasFrameSize};
+ghost use Rattle.frame_headers.specs.FrameSizes.{HasFrameSize};
 ghost use Rattle.block_plan.specs.Code.{HoldsSmall, planned_with};
 ghost use Rattle.planes.specs.Pictures.{HasSizes, IsInRange, samples_of};
-ghost use Rattle.block_rebuild.specs.Blocks.{put_planned, put_by};
+ghost use Rattle.block_rebuild.specs.RebuiltBlocks.{put_planned, put_by};
 ghost use Rattle.block_rebuild.specs.Code.{HasAreasOf, HasReferences, HoldsBlockIn, IsPlaced, AreServed, rebuilding_of};
 ghost use Rattle.block_rebuild.specs.Residues.{AreHeld, planned_by};
 
@@ -22,7 +22,7 @@ use vp9_types::{Plane, Samples};
 /// in its tile, such as a strip with the row above: an intra block transform block by transform block, an inter block predicted
 /// first. `tile_from` is the first column of its tile, in places of 8x8 luma samples. Of the pictures that it
 /// refers to only the rows that it is predicted from have to be there.
-#[tactic(auto, unfolding(crate::specs::Blocks::put_by))]
+#[tactic(auto, unfolding(crate::specs::RebuiltBlocks::put_by))]
 pub fn put_block_in_part<P: RoomSample, S: Samples<Kept = P>, R: TransformResidues>(
     planes: &mut FramePlanes<P>,
     by: &Rebuilding<'_, S>,

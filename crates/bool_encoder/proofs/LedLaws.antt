@@ -3,7 +3,7 @@ use Rattle.std.proofs.Common.{◌≡◌, ℕ, List, [], ◌∷◌, refl, sym}
 use Rattle.vp9_types.specs.Syntax.{Syntax, done, broken, ask}
 use Rattle.vp9_types.specs.declared.rule.Rule.{Rule}
 use Rattle.bool_encoder.specs.Part.{Part, after_put}
-use Rattle.bool_encoder.specs.Bools.{WritesBools}
+use Rattle.bool_encoder.specs.WrittenBools.{WritesBools}
 use Rattle.bool_encoder.specs.Laws.{AreBools, IsLedBy, after_all, after_bools, asked, values_of}
 use Rattle.bool_encoder.proofs.WriteLaws.{writes_bind}
 

@@ -6,7 +6,7 @@ use Rattle.std.proofs.lemmas.Nat.{shr-shr}
 use Rattle.vp9_types.specs.declared.rule.Rule.{Rule}
 use Rattle.bool_decoder.specs.Bools.{literal, literal_from}
 use Rattle.bool_encoder.specs.Part.{Part, after_put, bool_number}
-use Rattle.bool_encoder.specs.Bools.{LeadsBools, Puts}
+use Rattle.bool_encoder.specs.WrittenBools.{LeadsBools, Puts}
 use Rattle.bool_encoder.proofs.WriteLaws.{leads_on, leads_end, leads_here}
 
 -- the bools of the number's first bits were put, and `left` are still to come

@@ -12,7 +12,7 @@ use Rattle.bool_decoder.specs.Window.{Stands, started, first_window, bit_of, aft
 use Rattle.bool_decoder.proofs.Fronts.{front-spelled}
 use Rattle.bool_decoder.proofs.Stand.{first_stands, bool_stands, step_stands, read_stands}
 use Rattle.bool_encoder.specs.Part.{Part, Finishes, first_part, after_put, doubled_part, marked}
-use Rattle.bool_encoder.specs.Bools.{WritesBools}
+use Rattle.bool_encoder.specs.WrittenBools.{WritesBools}
 use Rattle.bool_encoder.specs.Laws.{Lies, ReadsFrom, coder_at}
 use Rattle.bool_encoder.proofs.Parts.{put_zero, put_wide, split_within}
 use Rattle.bool_encoder.proofs.WriteLaws.{written_is_read}

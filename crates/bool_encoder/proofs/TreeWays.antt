@@ -9,9 +9,9 @@ use Rattle.vp9_types.specs.Syntax.{Syntax, ask}
 use Rattle.vp9_types.specs.Trees.{entry_at, subtree, tree_of, tree_symbol, is_tree}
 use Rattle.vp9_types.proofs.TreeTests.{node_at, tree_holds}
 use Rattle.bool_encoder.specs.Part.{Part, after_put, bool_number}
-use Rattle.bool_encoder.specs.Bools.{LeadsBools, Puts}
+use Rattle.bool_encoder.specs.WrittenBools.{LeadsBools, Puts}
 use Rattle.bool_encoder.specs.Code.{LeadsTo, IsWhole}
-use Rattle.bool_encoder.specs.Entries.{has_entry, has_nodes, has_leaves, is_whole}
+use Rattle.bool_encoder.specs.TreeEntries.{has_entry, has_nodes, has_leaves, is_whole}
 use Rattle.bool_encoder.proofs.WriteLaws.{leads_on, leads_end, leads_here}
 
 branch : ℕ → List ℤ → List ℕ → ℕ → Syntax ℕ Rule ℕ

@@ -9,7 +9,7 @@ use Rattle.bool_decoder.specs.Bools.{run_coder, coder_answer}
 use Rattle.vp9_types.proofs.Binds as binds
 use Rattle.bool_encoder.specs.Part.{Part, after_put}
 use Rattle.bool_encoder.specs.Laws.{Lies, coder_at}
-use Rattle.bool_encoder.specs.Bools.{WritesBools, LeadsBools, can_put}
+use Rattle.bool_encoder.specs.WrittenBools.{WritesBools, LeadsBools, can_put}
 use Rattle.bool_encoder.proofs.Parts.{ReadsPut, put_zero, put_one, put_wide}
 
 pub writes_bind : {E A B : Type 0} (s : Syntax ℕ E A) (f : A → Syntax ℕ E B) (old mid new : Part) (x : A) (y : B)

@@ -3,7 +3,7 @@ use Rattle.std.specs.Prelude.{◌≡◌, ℕ, suc, ◌+◌, ◌*◌, ◌%◌, �
 use Rattle.vp9_types.specs.Trees.{entry_at, subtree, tree_of, tree_symbol}
 use Rattle.vp9_types.specs.declared.rule.Rule.{Rule}
 use Rattle.bool_encoder.specs.Part.{Part}
-use Rattle.bool_encoder.specs.Bools.{LeadsBools}
+use Rattle.bool_encoder.specs.WrittenBools.{LeadsBools}
 
 -- the number of bytes, the first being the highest
 unfoldable pub be_number : List ℕ → ℕ

@@ -7,7 +7,7 @@ use Rattle.prob_contexts.specs.declared.kind.CountedBool.{CountedBool}
 use Rattle.bool_decoder.specs.Window.{Window, started}
 use Rattle.counting_reader.specs.Counting.{Settled, ReadsCounting}
 use Rattle.bool_encoder.specs.Part.{Part, after_put}
-use Rattle.bool_encoder.specs.Bools.{Puts, can_put}
+use Rattle.bool_encoder.specs.WrittenBools.{Puts, can_put}
 
 -- bools that lead the syntax to the value were put
 abbrev pub PutsCounting : {A : Type 0} → Syntax ℕ Rule (Settled A) → Part → A → Part → Type 0

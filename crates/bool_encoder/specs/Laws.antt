@@ -8,7 +8,7 @@ use Rattle.bool_decoder.specs.Coder.{Coder, front_number, first_coder, after_boo
 use Rattle.bool_decoder.specs.Window.{Window, Stands, started}
 use Rattle.bool_decoder.specs.Bools.{run_bools, run_coder}
 use Rattle.bool_encoder.specs.Part.{Part, after_put, marked}
-use Rattle.bool_encoder.specs.Bools.{can_put}
+use Rattle.bool_encoder.specs.WrittenBools.{can_put}
 
 -- the bits spell a number of the part
 pub record Lies (e : Part) (bits : List ℕ) : Type 0 where

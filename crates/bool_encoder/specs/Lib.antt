@@ -1,6 +1,6 @@
 pub mod Part
-pub mod Bools
-pub mod Entries
+pub mod WrittenBools
+pub mod TreeEntries
 pub mod Code
 pub mod Laws
 pub mod CountedBools

@@ -4,7 +4,7 @@ ghost use Rattle.std.specs.Prelude.{◌≡◌, ℕ, List};
 ghost use Rattle.vp9_types.specs.Syntax.{Syntax};
 ghost use Rattle.vp9_types.specs.declared.rule.Rule.{Rule};
 ghost use Rattle.counting_reader.specs.Counting.{Settled, in_order};
-ghost use Rattle.bool_encoder.specs.Bools.{WritesBools};
+ghost use Rattle.bool_encoder.specs.WrittenBools.{WritesBools};
 ghost use Rattle.bool_encoder.specs.CountedBools.{PutsCounting, IsReadFrom};
 ghost use Rattle.bool_encoder.specs.Laws.{AreBools, IsLedBy, ReadsFrom, ReadsBools, after_all, after_bools};
 ghost use Rattle.bool_encoder.specs.Part.{Part, Finishes, marked};

@@ -2,7 +2,7 @@
 
 ghost use Rattle.std.specs.Prelude.{◌≡◌, ◌<◌, ◌≤◌, ◌^◌, IfOk};
 ghost use Rattle.bool_decoder.specs.Bools.{flag, literal, difference};
-ghost use Rattle.bool_encoder.specs.Bools.{Puts};
+ghost use Rattle.bool_encoder.specs.WrittenBools.{Puts};
 
 use crate::encoder::BoolEncoder;
 use std::alloc::AllocError;

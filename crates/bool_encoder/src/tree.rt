@@ -2,9 +2,9 @@
 
 ghost use Rattle.std.specs.Prelude.{ℕ, ◌≡◌, ◌+◌, ◌*◌, ◌%◌, ◌<◌, ◌≤◌, ℤ, pos, neg_ℤ, length, Contains, IsTrue, IfOk};
 ghost use Rattle.vp9_types.specs.Trees.{entry_at, is_tree, tree_of, tree_symbol, greatest_leaf};
-ghost use Rattle.bool_encoder.specs.Bools.{Puts};
+ghost use Rattle.bool_encoder.specs.WrittenBools.{Puts};
 ghost use Rattle.bool_encoder.specs.Code.{IsWhole, LeadsTo};
-ghost use Rattle.bool_encoder.specs.Entries.{is_full};
+ghost use Rattle.bool_encoder.specs.TreeEntries.{is_full};
 
 use crate::encoder::BoolEncoder;
 use std::alloc::AllocError;

@@ -5,7 +5,7 @@ use Rattle.std.specs.Prelude.{flat_map, zip}
 use Rattle.std.proofs.lemmas.List.Concat.{flat_map-append}
 use Rattle.std.proofs.lemmas.Slice.Zip.{length-zip, get_or-zip}
 use Rattle.bool_encoder.specs.Part.{Part}
-use Rattle.bool_lists.specs.Lists.{BoolList, HasPut}
+use Rattle.bool_lists.specs.BoolLists.{BoolList, HasPut}
 use Rattle.bool_lists.proofs.Ways.{spells_on, spells_none}
 
 pub each_spelled_none : {A : Type 0} (s : A → BoolList) (xs : List A) (old : Part) → HasPut old (flat_map s (take 0 xs)) old

@@ -10,8 +10,8 @@ use Rattle.vp9_types.specs.declared.rule.Rule.{Rule}
 use Rattle.bool_decoder.specs.Bools.{flag, literal, literal_from, difference, wide_difference}
 use Rattle.bool_encoder.specs.Part.{Part, Finishes, after_put, bool_number, marked}
 use Rattle.bool_encoder.specs.Laws.{after_bools}
-use Rattle.bool_encoder.specs.Bools.{Puts}
-use Rattle.bool_lists.specs.Lists.{BoolList, HasPut, are_apart, bytes_taken, difference_bools, has_leaf, is_distinct, number_bools, one_bool, tree_bools}
+use Rattle.bool_encoder.specs.WrittenBools.{Puts}
+use Rattle.bool_lists.specs.BoolLists.{BoolList, HasPut, are_apart, bytes_taken, difference_bools, has_leaf, is_distinct, number_bools, one_bool, tree_bools}
 
 pub bytes_are : (bools : BoolList) (part : Part) (bytes : List ℕ) → HasPut marked bools part → Finishes part bytes → length bytes ≡ bytes_taken bools
 unfolding HasPut bytes_taken

@@ -4,8 +4,8 @@ ghost use Rattle.std.specs.Prelude.{◌≡◌, ◌<◌, ◌≤◌, ◌^◌, ℕ,
 ghost use Rattle.vp9_types.specs.Trees.{Tree, tree_symbol};
 ghost use Rattle.bool_decoder.specs.Bools.{flag, literal, difference};
 ghost use Rattle.bool_encoder.specs.Part.{Part, Finishes, marked};
-ghost use Rattle.bool_encoder.specs.Bools.{Puts};
-ghost use Rattle.bool_lists.specs.Lists.{BoolList, HasPut, bytes_taken, difference_bools, is_distinct, number_bools, one_bool, tree_bools};
+ghost use Rattle.bool_encoder.specs.WrittenBools.{Puts};
+ghost use Rattle.bool_lists.specs.BoolLists.{BoolList, HasPut, bytes_taken, difference_bools, is_distinct, number_bools, one_bool, tree_bools};
 
 /// Whatever bools lead the syntax of a symbol to a value, they are those of its list: there is one way to put it. So is a leaf
 /// of a tree that has each leaf once. The bytes of a list are as many as it takes.

@@ -3,7 +3,7 @@ use Rattle.std.proofs.Common.{◌≡◌, ◌<◌, ◌≤◌, ◌+◌, ◌*◌, �
 use Rattle.std.proofs.lemmas.List.{drop_more, drop_all}
 use Rattle.std.proofs.Math.Nat.{pow-le-pow_right}
 use Rattle.std.specs.Prelude.{nat_eq, if◌then◌else◌, Ok}
-use Rattle.coef_tokens.specs.Symbols.{bits_from}
+use Rattle.coef_tokens.specs.TokenSymbols.{bits_from}
 use Rattle.vp9_types.specs.declared.rule.Rule.{Rule}
 use Rattle.vp9_types.specs.Syntax.{Syntax, ask}
 use Rattle.bool_decoder.specs.Bools.{run_bools}

@@ -2,7 +2,7 @@
 use Rattle.std.proofs.Common.{◌≡◌, ◌<◌, ◌≤◌, ◌+◌, ◌-◌, ℕ, Bool, true, [], refl, arith, get_or}
 use Rattle.std.specs.Prelude.{nat_eq, slice_index}
 use Rattle.std.proofs.lemmas.Bool.{agree_below, agree_below_at, eqb-true}
-use Rattle.coef_tokens.specs.Symbols.{tail_prob}
+use Rattle.coef_tokens.specs.TokenSymbols.{tail_prob}
 use Rattle.coef_tokens.specs.declared.tails.TheConstants.{TAILS}
 
 abbrev entry_is : ℕ → ℕ → Bool

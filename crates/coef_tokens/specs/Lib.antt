@@ -1,7 +1,7 @@
-pub mod Symbols
+pub mod TokenSymbols
 pub mod Steps
 pub mod Places
-pub mod Blocks
+pub mod TokenKinds
 pub mod Flags
 pub mod Fit
 pub mod Code

@@ -6,8 +6,8 @@ use Rattle.vp9_types.specs.declared.rule.Rule.{Rule}
 use Rattle.vp9_types.specs.declared.shape.Depth.{Depth}
 use Rattle.prob_contexts.specs.declared.kind.ProbKind.TheVariants.{Coef}
 use Rattle.counting_reader.specs.Counting.{Settled, settle, uncounted, ◌>>=◌}
-use Rattle.counting_reader.specs.Symbols.{counted_flag}
-use Rattle.coef_tokens.specs.Symbols.{tail_token, level}
+use Rattle.counting_reader.specs.CountedSymbols.{counted_flag}
+use Rattle.coef_tokens.specs.TokenSymbols.{tail_token, level}
 use Rattle.coef_tokens.specs.declared.step.Step.{Step}
 use Rattle.coef_tokens.specs.declared.step.Step.TheVariants.{End, Zero}
 

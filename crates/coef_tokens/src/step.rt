@@ -3,7 +3,7 @@
 ghost use Rattle.std.specs.Prelude.{◌≡◌, ◌≤◌, ◌<◌, ◌^◌, ◌+◌, ◌-◌, unsigned_abs, ℕ, length, slice_index};
 ghost use Rattle.bool_decoder.specs.Bools.{Reads};
 ghost use Rattle.bool_decoder.specs.Held.{window_of};
-ghost use Rattle.coef_tokens.specs.Symbols.{bits_from, category_base, magnitude, level};
+ghost use Rattle.coef_tokens.specs.TokenSymbols.{bits_from, category_base, magnitude, level};
 ghost use Rattle.coef_tokens.specs.Steps.{token, token_from_one, more_coefs, step};
 ghost use Rattle.coef_tokens.specs.Code.{IsSmallStep};
 ghost use Rattle.counting_reader.specs.Code.{ReadsAway};
@@ -57,7 +57,7 @@ pub fn category_base(category: u8) -> u32
 
 /// The magnitude of a level, by its token from one on.
 #[inline(always)]
-#[tactic(auto, unfolding(crate::specs::Symbols::magnitude), using(vp9_types::proofs::Runs::run_bind))]
+#[tactic(auto, unfolding(crate::specs::TokenSymbols::magnitude), using(vp9_types::proofs::Runs::run_bind))]
 fn read_magnitude(decoder: &mut BoolDecoder, depth: Depth, token: u8) -> u32
     requires { token ≤ 10 }
     ensures read { Reads (magnitude depth token) (window_of decoder.old) result (window_of decoder.new) }
@@ -72,7 +72,7 @@ fn read_magnitude(decoder: &mut BoolDecoder, depth: Depth, token: u8) -> u32
 
 /// A level, by its token from one on.
 #[inline(always)]
-#[tactic(auto, unfolding(crate::specs::Symbols::level, bool_decoder::specs::Bools::flag), using(vp9_types::proofs::Runs::run_bind))]
+#[tactic(auto, unfolding(crate::specs::TokenSymbols::level, bool_decoder::specs::Bools::flag), using(vp9_types::proofs::Runs::run_bind))]
 fn read_level(decoder: &mut BoolDecoder, depth: Depth, token: u8) -> Step
     requires { token ≤ 10 }
     ensures read { Reads (level depth token) (window_of decoder.old) result (window_of decoder.new) }

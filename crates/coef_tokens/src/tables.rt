@@ -1,10 +1,10 @@
 //! What the tokens of a plane's transform blocks are read by.
 
 ghost use Rattle.std.specs.Prelude.{◌≡◌, ◌+◌, ◌*◌, ◌≤◌};
-ghost use Rattle.prob_contexts.specs.Lists.{lists_of};
+ghost use Rattle.prob_contexts.specs.ProbLists.{lists_of};
 ghost use Rattle.vp9_tables.specs.Numbers.{flag_number, tx_number};
 ghost use Rattle.vp9_tables.specs.Scans.{area};
-ghost use Rattle.coef_tokens.specs.Blocks.{block_tables};
+ghost use Rattle.coef_tokens.specs.TokenKinds.{block_tables};
 ghost use Rattle.coef_tokens.specs.Fit.{tables_by, FitTables, StartsBands};
 ghost use Rattle.vp9_types.specs.Shapes.{is_chroma};
 
@@ -60,7 +60,7 @@ impl<'a> TokenTables<'a> {
     ghost use Rattle.coef_tokens.specs.Code.{tables_of};
 
     #[inline(always)]
-    #[tactic(auto, unfolding(crate::specs::Blocks::block_tables))]
+    #[tactic(auto, unfolding(crate::specs::TokenKinds::block_tables))]
     pub fn new(contexts: &'a Contexts, at: TokenKind) -> Self
         ensures are { tables_of result ≡ block_tables (lists_of contexts.now) at }
         ensures tx { result.tx ≡ at.tx }

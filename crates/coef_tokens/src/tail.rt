@@ -3,7 +3,7 @@
 ghost use Rattle.std.specs.Prelude.{◌≡◌, ◌≤◌, ◌<◌, slice_index, ℕ};
 ghost use Rattle.bool_decoder.specs.Bools.{Reads};
 ghost use Rattle.bool_decoder.specs.Held.{window_of};
-ghost use Rattle.coef_tokens.specs.Symbols.{tail_prob, tail_token};
+ghost use Rattle.coef_tokens.specs.TokenSymbols.{tail_prob, tail_token};
 
 use crate::tails::TAILS;
 use bool_decoder::BoolDecoder;
@@ -20,7 +20,7 @@ pub fn tail_prob(q: u8, node: u8) -> u8
 
 /// The token behind a bool of 1 at the third probability `q`.
 #[inline(always)]
-#[tactic(auto, unfolding(crate::specs::Symbols::tail_token))]
+#[tactic(auto, unfolding(crate::specs::TokenSymbols::tail_token))]
 pub(crate) fn read_tail(decoder: &mut BoolDecoder, q: u8) -> u8
     requires { 1 ≤ q }
     ensures read { Reads (tail_token q) (window_of decoder.old) result (window_of decoder.new) }

@@ -11,19 +11,19 @@ use Rattle.bool_decoder.specs.Bools.{run_bools}
 use Rattle.bool_decoder.specs.Window.{Window, started}
 use Rattle.prob_contexts.specs.declared.kind.CountedBool.{CountedBool}
 use Rattle.frame_headers.specs.Spans.{tile_count}
-use Rattle.frame_headers.specs.State.{shape_of}
+use Rattle.frame_headers.specs.HeaderState.{shape_of}
 use Rattle.frame_headers.specs.declared.header.Header.{Header}
 use Rattle.frame_headers.specs.declared.tiles.TileInfo.{TileInfo}
-use Rattle.block_geometry.specs.Frames.{places_of}
+use Rattle.block_geometry.specs.FrameShapes.{places_of}
 use Rattle.counting_reader.specs.Counting.{Settled, Yields}
 use Rattle.mode_syntax.specs.TileColumns.{read_all, settled_part, then_rest, tiles_of, with_counted}
 use Rattle.mode_syntax.proofs.ModeTiles.{run_yields}
-use Rattle.frame_state.specs.Plans.{ColumnRead, column_tile, no_tiles, plan_of, with_its_tile}
-use Rattle.frame_state.specs.Reading.{TileRead, column_after, read_tile}
+use Rattle.frame_state.specs.ColumnPlans.{ColumnRead, column_tile, no_tiles, plan_of, with_its_tile}
+use Rattle.frame_state.specs.FrameReading.{TileRead, column_after, read_tile}
 use Rattle.frame_state.specs.Sources.{FrameSources}
-use Rattle.frame_state.specs.Tiles.{column_of, row_of, tile_places}
+use Rattle.frame_state.specs.TilePlaces.{column_of, row_of, tile_places}
 use Rattle.frame_state.proofs.TileOffsets.{before_grows, raster}
-use Rattle.column_order.specs.Columns.{column_from, column_to}
+use Rattle.column_order.specs.ColumnStrips.{column_from, column_to}
 use Rattle.column_order.proofs.Follows.{Follow, LieBefore, before_more, nothing_follows}
 use Rattle.column_order.proofs.TileFollows.{Stand, rows_before, rows_behind, tile_follows}
 use Rattle.column_order.proofs.TxFits.{Reads}

@@ -4,15 +4,15 @@ use Rattle.std.proofs.Math.Nat.{le-max_left}
 use Rattle.std.proofs.lemmas.Bool.{cases_eq, cases_lt, eq-eqb, ne_eqb}
 use Rattle.vp9_types.specs.Shapes.{mi_cols}
 use Rattle.vp9_types.specs.Sizes.{superblocks_along}
-use Rattle.vp9_tables.specs.Blocks.{width_of}
-use Rattle.frame_headers.specs.State.{shape_of}
+use Rattle.vp9_tables.specs.BlockTables.{width_of}
+use Rattle.frame_headers.specs.HeaderState.{shape_of}
 use Rattle.frame_headers.specs.declared.header.Header.{Header}
 use Rattle.block_plan.specs.Planned.{PlannedBlock}
 use Rattle.block_rebuild.specs.Laws.{IsBesideColumn, IsInColumn, IsRead}
 use Rattle.block_rebuild.specs.Strips.{is_in_column}
-use Rattle.frame_state.specs.Tiles.{superblocks_before}
+use Rattle.frame_state.specs.TilePlaces.{superblocks_before}
 use Rattle.frame_state.proofs.TileOffsets.{before_grows}
-use Rattle.column_order.specs.Columns.{column_from, column_to}
+use Rattle.column_order.specs.ColumnStrips.{column_from, column_to}
 
 -- by how many superblocks lie before them
 ends_before : (cols a b c d : ℕ) → a ≤ b → b ≤ c → min (8 * c) cols < min (8 * c) cols + 8 * superblocks_along (min (8 * d) cols - min (8 * c) cols)

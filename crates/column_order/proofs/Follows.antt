@@ -8,17 +8,17 @@ use Rattle.std.proofs.lemmas.List.Quantifiers.{all_pairs_push}
 use Rattle.vp9_types.specs.Shapes.{mi_cols, mi_rows}
 use Rattle.vp9_types.specs.declared.block.BlockSize.{BlockSize}
 use Rattle.vp9_types.specs.declared.shape.Shape.{Shape}
-use Rattle.vp9_tables.specs.Blocks.{height_of}
-use Rattle.frame_headers.specs.State.{shape_of}
+use Rattle.vp9_tables.specs.BlockTables.{height_of}
+use Rattle.frame_headers.specs.HeaderState.{shape_of}
 use Rattle.frame_headers.specs.declared.header.Header.{Header}
-use Rattle.block_geometry.specs.Sizes.{width_8, height_8}
+use Rattle.block_geometry.specs.BlockSizes.{width_8, height_8}
 use Rattle.block_plan.specs.Planned.{PlannedBlock}
 use Rattle.block_plan.specs.declared.block.BlockAt.{BlockAt}
 use Rattle.block_plan.specs.declared.block.BlockInfo.{BlockInfo}
 use Rattle.block_rebuild.specs.Laws.{AreInOrder, IsInColumn, IsRead}
 use Rattle.block_rebuild.specs.Strips.{superblock_row}
-use Rattle.column_plan.specs.Rows as rows
-use Rattle.frame_state.specs.Reading.{infos}
+use Rattle.column_plan.specs.PlanRows as rows
+use Rattle.frame_state.specs.FrameReading.{infos}
 use Rattle.column_order.proofs.ResiduePlaces.{IsPlannedOf}
 use Rattle.column_order.proofs.Stands.{StandsAt}
 

@@ -9,7 +9,7 @@ use Rattle.vp9_types.specs.declared.rule.Rule.{Rule}
 use Rattle.vp9_types.specs.declared.shape.Plane.{Plane}
 use Rattle.vp9_types.specs.declared.shape.Shape.{Shape}
 use Rattle.frame_headers.specs.Spans.{tile_count, tile_spans}
-use Rattle.frame_headers.specs.State.{shape_of}
+use Rattle.frame_headers.specs.HeaderState.{shape_of}
 use Rattle.block_plan.specs.Planned.{PlannedBlock}
 use Rattle.block_rebuild.specs.InterBlocks.{Rebuilding, ReferencePicture}
 use Rattle.block_rebuild.specs.Laws.{AreInOrder, IsRead, KeepToColumns}
@@ -17,12 +17,12 @@ use Rattle.block_rebuild.specs.Strips.{IsIn, column_blocks, in_plane, is_in_colu
 use Rattle.block_rebuild.proofs.Columns.{is_strip}
 use Rattle.counting_reader.specs.Counting.{Settled}
 use Rattle.frame_state.specs.Laws.{AreReadAll}
-use Rattle.frame_state.specs.Plans.{ColumnRead, plan_of, tile_bytes}
-use Rattle.frame_state.specs.Reading.{FrameRead, read_all_tiles}
+use Rattle.frame_state.specs.ColumnPlans.{ColumnRead, plan_of, tile_bytes}
+use Rattle.frame_state.specs.FrameReading.{FrameRead, read_all_tiles}
 use Rattle.frame_state.specs.Sources.{FrameSources}
-use Rattle.frame_state.specs.Tiles.{column_of}
+use Rattle.frame_state.specs.TilePlaces.{column_of}
 use Rattle.frame_state.proofs.PlanReads.{reads_columns}
-use Rattle.column_order.specs.Columns.{IsColumnStrip, column_from, column_to}
+use Rattle.column_order.specs.ColumnStrips.{IsColumnStrip, column_from, column_to}
 use Rattle.column_order.proofs.ColumnFollows.{plan_follows}
 use Rattle.column_order.proofs.ColumnsApart.{IsOfColumn, keeps_to, other_column, own_column}
 use Rattle.column_order.proofs.Mixed.{all_mixed, one_of_mixed, own_lists}

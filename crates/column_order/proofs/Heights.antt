@@ -2,8 +2,8 @@
 use Rattle.std.proofs.Common.{ℕ, zero, suc, ◌^◌, ◌≤◌, arith, lit≤}
 use Rattle.vp9_types.specs.declared.block.Partition.{Partition}
 use Rattle.vp9_types.specs.declared.block.Partition.TheVariants.{Whole, Horizontal, Vertical, Split}
-use Rattle.block_geometry.specs.Sizes.{height_8}
-use Rattle.block_geometry.specs.Partitions.{part_size}
+use Rattle.block_geometry.specs.BlockSizes.{height_8}
+use Rattle.block_geometry.specs.SplitSquares.{part_size}
 
 pub low : (n : ℕ) (p : Partition) → suc n ≤ 3 → height_8 (part_size p (suc n)) ≤ 2 ^ suc n
 low zero Whole few = lit≤ tt

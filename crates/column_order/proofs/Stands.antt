@@ -6,21 +6,21 @@ use Rattle.vp9_types.specs.declared.block.BlockSize.{BlockSize}
 use Rattle.vp9_types.specs.declared.block.Modes.{Modes}
 use Rattle.vp9_types.specs.declared.block.TxMode.{TxMode}
 use Rattle.vp9_types.specs.declared.rule.Rule.{Rule}
-use Rattle.vp9_tables.specs.Blocks.{greatest_of}
+use Rattle.vp9_tables.specs.BlockTables.{greatest_of}
 use Rattle.vp9_tables.specs.Numbers.{tx_number}
 use Rattle.frame_headers.specs.declared.header.FrameKind.{FrameKind}
 use Rattle.frame_headers.specs.declared.header.FrameKind.TheVariants as frame
 use Rattle.frame_headers.specs.declared.header.Header.{Header}
 use Rattle.frame_headers.specs.declared.segments.Segmentation.{Segmentation}
-use Rattle.prob_contexts.specs.Lists.{ContextLists}
+use Rattle.prob_contexts.specs.ProbLists.{ContextLists}
 use Rattle.block_plan.specs.declared.block.BlockAt.{BlockAt}
 use Rattle.block_plan.specs.declared.block.BlockInfo.{BlockInfo}
 use Rattle.counting_reader.specs.Counting.{Yields, lifted, settle}
 use Rattle.counting_reader.proofs.Yields.{yields_bind}
-use Rattle.mode_syntax.specs.ModeInfo.{intra_frame_mode_info, mode_info_beside}
+use Rattle.mode_syntax.specs.IntraModeInfo.{intra_frame_mode_info, mode_info_beside}
 use Rattle.inter_modes.specs.ModeInfo.{InterFrame, by_kind, inter_block, inter_frame_block, inter_frame_mode_info, intra_block, intra_frame_block, mode_info}
-use Rattle.inter_modes.specs.Starts.{block_start, tx_size}
-use Rattle.inter_modes.specs.Vectors.{Sources, carried, ◌>>?◌}
+use Rattle.inter_modes.specs.BlockStarts.{block_start, tx_size}
+use Rattle.inter_modes.specs.BlockVectors.{Sources, carried, ◌>>?◌}
 use Rattle.inter_modes.specs.declared.starts.BlockStart.{BlockStart}
 use Rattle.column_order.proofs.TxFits.{Fits, Reads, allowed_fits, any_bind, either, tx_fits}
 

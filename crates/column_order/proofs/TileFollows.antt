@@ -3,10 +3,10 @@ use Rattle.std.proofs.Common.{◌≡◌, ◌∙◌, ◌++◌, ◌∷◌, [], ℕ
 use Rattle.vp9_types.specs.Shapes.{mi_rows}
 use Rattle.vp9_types.specs.Sizes.{superblocks_along}
 use Rattle.vp9_types.specs.declared.shape.Shape.{Shape}
-use Rattle.frame_headers.specs.State.{shape_of}
+use Rattle.frame_headers.specs.HeaderState.{shape_of}
 use Rattle.frame_headers.specs.declared.header.Header.{Header}
-use Rattle.block_geometry.specs.Frames.{places_of}
-use Rattle.block_geometry.specs.Sizes.{width_8, height_8}
+use Rattle.block_geometry.specs.FrameShapes.{places_of}
+use Rattle.block_geometry.specs.BlockSizes.{width_8, height_8}
 use Rattle.block_plan.specs.Planned.{PlannedBlock}
 use Rattle.block_plan.specs.declared.block.BlockAt.{BlockAt}
 use Rattle.block_plan.specs.declared.block.BlockInfo.{BlockInfo}
@@ -17,12 +17,12 @@ use Rattle.counting_reader.specs.Counting.{Yields, lifted, settle}
 use Rattle.counting_reader.proofs.Yields.{yields_bind, yields_map}
 use Rattle.inter_modes.specs.ModeInfo.{mode_info}
 use Rattle.mode_syntax.specs.Walk.{Walk, block_at}
-use Rattle.frame_state.specs.Reading.{Column, TileRead, begun, column_after, infos, read_block, read_tile, read_walk}
+use Rattle.frame_state.specs.FrameReading.{Column, TileRead, begun, column_after, infos, read_block, read_tile, read_walk}
 use Rattle.frame_state.specs.Sources.{FrameSources}
-use Rattle.frame_state.specs.Tiles.{column_of, row_of, superblocks_before, tile_offset, tile_places}
+use Rattle.frame_state.specs.TilePlaces.{column_of, row_of, superblocks_before, tile_offset, tile_places}
 use Rattle.frame_state.specs.declared.tile_places.TilePlaces.{TilePlaces}
 use Rattle.frame_state.proofs.TileOffsets.{before_grows, tile_is_low}
-use Rattle.column_order.specs.Columns.{column_from, column_to}
+use Rattle.column_order.specs.ColumnStrips.{column_from, column_to}
 use Rattle.column_order.proofs.Follows.{Follow, LieBefore, before_more, is_inside, is_read, one_before, one_follows, row_fits, row_is}
 use Rattle.column_order.proofs.ResiduePlaces.{IsPlannedOf, block_places}
 use Rattle.column_order.proofs.RowsKept.{EachKeeps, LiesIn, tile_kept}

@@ -5,18 +5,18 @@ use Rattle.std.specs.List.{flat_map, range_with_len}
 use Rattle.std.proofs.lemmas.Bool.{cases_eq, eq-eqb, ne_eqb}
 use Rattle.vp9_types.specs.Sizes.{superblocks_along}
 use Rattle.frame_headers.specs.Spans.{tile_count}
-use Rattle.frame_headers.specs.State.{shape_of}
-use Rattle.block_geometry.specs.Frames.{places_of}
+use Rattle.frame_headers.specs.HeaderState.{shape_of}
+use Rattle.block_geometry.specs.FrameShapes.{places_of}
 use Rattle.block_plan.specs.declared.block.BlockAt.{BlockAt}
 use Rattle.bool_decoder.specs.Window.{started}
 use Rattle.counting_reader.specs.Counting.{Settled, Yields, settle}
 use Rattle.mode_syntax.specs.TileColumns.{read_all, then_rest, tiles_of}
 use Rattle.mode_syntax.specs.Laws as laws
 use Rattle.mode_syntax.proofs.Kept.{tile_kept}
-use Rattle.frame_state.specs.Plans.{ColumnRead, column_tile, no_tiles, plan_of, with_its_tile}
-use Rattle.frame_state.specs.Reading.{Column, TileRead, begun, read_block, read_tile, read_walk}
+use Rattle.frame_state.specs.ColumnPlans.{ColumnRead, column_tile, no_tiles, plan_of, with_its_tile}
+use Rattle.frame_state.specs.FrameReading.{Column, TileRead, begun, read_block, read_tile, read_walk}
 use Rattle.frame_state.specs.Sources.{FrameSources}
-use Rattle.frame_state.specs.Tiles.{column_of, tile_places}
+use Rattle.frame_state.specs.TilePlaces.{column_of, tile_places}
 use Rattle.frame_state.specs.declared.tile_places.TilePlaces.{TilePlaces}
 use Rattle.column_order.proofs.ColumnFollows.{more_ok, started_so}
 use Rattle.column_order.proofs.TxFits.{any_bind}

@@ -8,13 +8,13 @@ use Rattle.vp9_types.specs.declared.block.BlockSize.TheVariants.{B4x4, B4x8, B8x
 use Rattle.vp9_types.specs.declared.block.TxMode.{TxMode}
 use Rattle.vp9_types.specs.declared.block.TxSize.{TxSize}
 use Rattle.vp9_types.specs.declared.rule.Rule.{Rule}
-use Rattle.vp9_tables.specs.Blocks.{greatest_of}
+use Rattle.vp9_tables.specs.BlockTables.{greatest_of}
 use Rattle.vp9_tables.specs.Numbers.{tx_number, tx_of}
-use Rattle.prob_contexts.specs.Lists.{TxLists}
+use Rattle.prob_contexts.specs.ProbLists.{TxLists}
 use Rattle.prob_contexts.specs.declared.kind.ProbKind.{ProbKind}
-use Rattle.block_geometry.specs.Sizes.{is_below_8x8, greatest_allowed}
+use Rattle.block_geometry.specs.BlockSizes.{is_below_8x8, greatest_allowed}
 use Rattle.counting_reader.specs.Counting.{Settled, Yields, in_order, settle}
-use Rattle.counting_reader.specs.Symbols.{counted_tree}
+use Rattle.counting_reader.specs.CountedSymbols.{counted_tree}
 use Rattle.counting_reader.proofs.Yields.{yields_bind, yields_all}
 use Rattle.mode_syntax.specs.Elements.{is_selected, read_tx_size, tx_symbol, tx_tree}
 

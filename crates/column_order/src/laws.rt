@@ -5,17 +5,17 @@ ghost use Rattle.std.specs.List.{All, flat_map, range_with_len};
 ghost use Rattle.vp9_types.specs.declared.block.ReferenceFrame.{ReferenceFrame};
 ghost use Rattle.vp9_types.specs.declared.job.Span.{Span};
 ghost use Rattle.frame_headers.specs.Spans.{tile_count, tile_spans};
-ghost use Rattle.frame_headers.specs.State.{shape_of};
+ghost use Rattle.frame_headers.specs.HeaderState.{shape_of};
 ghost use Rattle.counting_reader.specs.Counting.{Settled};
 ghost use Rattle.mode_syntax.specs.TileColumns.{tiles_of};
-ghost use Rattle.column_plan.specs.Rows as rows;
+ghost use Rattle.column_plan.specs.PlanRows as rows;
 ghost use Rattle.block_rebuild.specs.InterBlocks.{ReferencePicture};
 ghost use Rattle.block_rebuild.specs.Laws.{AreInOrder, IsInColumn, IsRead};
-ghost use Rattle.frame_state.specs.Plans.{ColumnRead, plan_of, tile_bytes};
-ghost use Rattle.frame_state.specs.Reading.{FrameRead, infos, read_all_tiles};
+ghost use Rattle.frame_state.specs.ColumnPlans.{ColumnRead, plan_of, tile_bytes};
+ghost use Rattle.frame_state.specs.FrameReading.{FrameRead, infos, read_all_tiles};
 ghost use Rattle.frame_state.specs.Sources.{FrameSources};
-ghost use Rattle.frame_state.specs.Tiles.{column_of};
-ghost use Rattle.column_order.specs.Columns.{IsColumnStrip, column_from, column_to};
+ghost use Rattle.frame_state.specs.TilePlaces.{column_of};
+ghost use Rattle.column_order.specs.ColumnStrips.{IsColumnStrip, column_from, column_to};
 
 /// Where a tile column is read to its end, each of its blocks starts inside the frame and the column, lies in one row of
 /// superblocks, has a transform that fits it, and has its residues at its transform blocks; each ends inside the column's

@@ -20,7 +20,7 @@ use Rattle.block_plan.specs.declared.block.BlockInfo.{BlockInfo}
 use Rattle.block_plan.specs.declared.residues.BlockResidues.{BlockResidues}
 use Rattle.block_plan.specs.declared.residues.PlaneResidues.{PlaneResidues}
 use Rattle.column_plan.specs.Code.{AreWhole, IsWhole, piece_held, pieces_held, plane_pieces, block_pieces}
-use Rattle.column_plan.specs.Planned.{residue_of_piece, residues_from, count_in, count_of, planned_from, planned_blocks, total}
+use Rattle.column_plan.specs.PlannedBlocks.{residue_of_piece, residues_from, count_in, count_of, planned_from, planned_blocks, total}
 
 ---- Room ----
 

@@ -9,8 +9,8 @@ use Rattle.std.proofs.lemmas.List.Elements.{All-push}
 use Rattle.vp9_types.specs.declared.shape.Shape.{Shape}
 use Rattle.block_plan.specs.declared.block.BlockInfo.{BlockInfo}
 use Rattle.column_plan.specs.Code.{AreRowPlaces}
-use Rattle.column_plan.specs.Planned.{count_of, planned_blocks, planned_from, total}
-use Rattle.column_plan.specs.Rows.{AreInOrder, before_row, in_row, place_of_row, planned_in_row, row_of}
+use Rattle.column_plan.specs.PlannedBlocks.{count_of, planned_blocks, planned_from, total}
+use Rattle.column_plan.specs.PlanRows.{AreInOrder, before_row, in_row, place_of_row, planned_in_row, row_of}
 use Rattle.column_plan.specs.declared.rows.RowPlace.{RowPlace}
 
 ---- The blocks before a row ----

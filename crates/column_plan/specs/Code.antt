@@ -10,7 +10,7 @@ use Rattle.block_plan.specs.Planned.{PlannedBlock, Residue, Residues}
 use Rattle.block_plan.specs.declared.block.BlockInfo.{BlockInfo}
 use Rattle.block_plan.specs.declared.residues.BlockResidues.{BlockResidues}
 use Rattle.block_plan.specs.declared.residues.PlaneResidues.{PlaneResidues}
-use Rattle.column_plan.specs.Rows.{before_row, place_of_row, row_of}
+use Rattle.column_plan.specs.PlanRows.{before_row, place_of_row, row_of}
 use Rattle.column_plan.specs.declared.chunks.Piece.{Piece}
 use Rattle.column_plan.specs.declared.rows.RowPlace.{RowPlace}
 

@@ -1,3 +1,3 @@
-pub mod Planned
-pub mod Rows
+pub mod PlannedBlocks
+pub mod PlanRows
 pub mod Code

@@ -1,16 +1,16 @@
 //! The residues of a block, taken out of its buffer.
 
 ghost use Rattle.std.specs.Prelude.{◌≡◌, ◌+◌, ◌*◌, ◌<◌, ◌≤◌, ◌++◌, ℕ, ℤ, List, length, OnOk};
-ghost use Rattle.frame_headers.specs.Sizes.{HasFrameSize};
-ghost use Rattle.frame_headers.specs.State.{shape_of};
-ghost use Rattle.block_geometry.specs.Frames.{places_of};
+ghost use Rattle.frame_headers.specs.FrameSizes.{HasFrameSize};
+ghost use Rattle.frame_headers.specs.HeaderState.{shape_of};
+ghost use Rattle.block_geometry.specs.FrameShapes.{places_of};
 ghost use Rattle.vp9_tables.specs.Scans.{area};
-ghost use Rattle.vp9_tables.specs.Blocks.{greatest_of};
+ghost use Rattle.vp9_tables.specs.BlockTables.{greatest_of};
 ghost use Rattle.vp9_tables.specs.Numbers.{tx_number};
 ghost use Rattle.block_plan.specs.Code.{planned_with};
 ghost use Rattle.block_plan.specs.InPlanes.{tx_in};
 ghost use Rattle.column_plan.specs.Code.{HoldsWhole, piece_held, pieces_held, block_pieces};
-ghost use Rattle.column_plan.specs.Planned.{count_in, planned_from};
+ghost use Rattle.column_plan.specs.PlannedBlocks.{count_in, planned_from};
 
 use crate::residues::PlanResidues;
 use block_geometry::{FramePlaces, transform_grid};

@@ -5,8 +5,8 @@ ghost use Rattle.vp9_types.specs.declared.shape.Shape.{Shape};
 ghost use Rattle.block_plan.specs.declared.block.BlockInfo.{BlockInfo};
 ghost use Rattle.block_plan.specs.declared.residues.BlockResidues.{BlockResidues};
 ghost use Rattle.column_plan.specs.Code.{AreRowPlaces, block_pieces};
-ghost use Rattle.column_plan.specs.Planned.{planned_blocks, planned_from, total};
-ghost use Rattle.column_plan.specs.Rows.{AreInOrder, in_row, place_of_row, planned_in_row};
+ghost use Rattle.column_plan.specs.PlannedBlocks.{planned_blocks, planned_from, total};
+ghost use Rattle.column_plan.specs.PlanRows.{AreInOrder, in_row, place_of_row, planned_in_row};
 ghost use Rattle.column_plan.specs.declared.rows.RowPlace.{RowPlace};
 
 /// Blocks and the residues of their transform blocks, one behind another, stand for planned blocks: those of a part of them, as

@@ -21,7 +21,7 @@ use Rattle.block_plan.specs.declared.block.Prediction.TheVariants.{Intra, Inter}
 use Rattle.inter_places.specs.Places.{parts_of}
 use Rattle.intra_predict.specs.declared.block.IntraBlock.{IntraBlock}
 use Rattle.planes.specs.Pictures.{blank}
-use Rattle.block_rebuild.specs.Blocks.{put_by, put_intra, put_next, put_planned, put_residue}
+use Rattle.block_rebuild.specs.RebuiltBlocks.{put_by, put_intra, put_next, put_planned, put_residue}
 use Rattle.block_rebuild.specs.InterBlocks.{Rebuilding, add_next, add_residue, put_inter, put_part, put_prediction}
 use Rattle.block_rebuild.specs.Strips.{with_blocks}
 

@@ -9,7 +9,7 @@ use Rattle.vp9_types.specs.declared.job.Span.{Span}
 use Rattle.vp9_types.specs.declared.shape.Plane.{Plane}
 use Rattle.vp9_types.specs.declared.shape.Plane.TheVariants.{Y, U, V}
 use Rattle.vp9_types.specs.declared.shape.Shape.{Shape}
-use Rattle.frame_headers.specs.State.{shape_of}
+use Rattle.frame_headers.specs.HeaderState.{shape_of}
 use Rattle.frame_headers.specs.declared.header.Header.{Header}
 use Rattle.counting_reader.specs.Counting.{Settled}
 use Rattle.inter_places.specs.Places.{subsampling, coded_length}
@@ -18,19 +18,19 @@ use Rattle.planes.specs.Planes.{right_end}
 use Rattle.planes.specs.Pictures.{IsInRange, blank, plane_of, samples_of}
 use Rattle.planes.specs.declared.area.Area.{Area}
 use Rattle.planes.specs.declared.frame_planes.FramePlanes.{FramePlanes}
-use Rattle.plane_parts.specs.Parts.{IsInArea}
+use Rattle.plane_parts.specs.PlaneParts.{IsInArea}
 use Rattle.block_rebuild.specs.InterBlocks.{Rebuilding, ReferencePicture}
 use Rattle.block_rebuild.specs.Strips.{IsIn, in_plane, strip_area, strip_places, with_blocks}
-use Rattle.frame_state.specs.Plans.{ColumnRead}
-use Rattle.frame_state.specs.Reading.{FrameRead}
+use Rattle.frame_state.specs.ColumnPlans.{ColumnRead}
+use Rattle.frame_state.specs.FrameReading.{FrameRead}
 use Rattle.frame_state.specs.Sources.{FrameSources}
 use Rattle.frame_state.proofs.TileOffsets.{offset_low, part_at, place_below, place_from, place_to}
-use Rattle.column_order.specs.Columns.{column_from, column_to}
+use Rattle.column_order.specs.ColumnStrips.{column_from, column_to}
 use Rattle.column_order.proofs.FrameStrips.{frame_strips}
-use Rattle.recon_rows.specs.Strips.{HasStripAreas}
+use Rattle.recon_rows.specs.OwnStrips.{HasStripAreas}
 use Rattle.loop_filter.specs.Laws.{first_own}
 use Rattle.column_strips.specs.Laws.{AreColumnStrips, AreFrameColumns, rebuilding}
-use Rattle.column_strips.specs.Rows.{AreRow, HasColumn, HasOwnRows, IsPartOfRow, rows_from}
+use Rattle.column_strips.specs.StripRows.{AreRow, HasColumn, HasOwnRows, IsPartOfRow, rows_from}
 use Rattle.column_strips.proofs.FrameEdge.{frame_ends}
 use Rattle.column_strips.proofs.RowSteps.{top_inside}
 

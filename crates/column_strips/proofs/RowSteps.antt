@@ -13,13 +13,13 @@ use Rattle.planes.specs.Planes.{PlaneSamples, lower_end, moved_to, plane_map, ri
 use Rattle.planes.specs.Pictures.{IsInRange, plane_of, samples_of}
 use Rattle.planes.specs.declared.area.Area.{Area}
 use Rattle.planes.specs.declared.frame_planes.FramePlanes.{FramePlanes}
-use Rattle.plane_parts.specs.Parts.{HasPart, IsInArea, LiesIn}
+use Rattle.plane_parts.specs.PlaneParts.{HasPart, IsInArea, LiesIn}
 use Rattle.plane_parts.proofs.PartLemmas.{in_area_or_out}
 use Rattle.loop_edges.specs.Cells.{sub_y}
 use Rattle.loop_filter.specs.Code.{HasFilterRows}
 use Rattle.loop_filter.specs.Laws.{first_own, lower_end_of}
 use Rattle.filter_rows.specs.Code.{HasPut}
-use Rattle.column_strips.specs.Rows.{AreRow, HasOwnRows, IsPartOfRow, rows_from}
+use Rattle.column_strips.specs.StripRows.{AreRow, HasOwnRows, IsPartOfRow, rows_from}
 
 ---- Places ----
 

@@ -3,15 +3,15 @@ use Rattle.std.specs.Prelude.{ℕ, ◌≡◌, ◌<◌, ◌^◌, List, get_or, le
 use Rattle.vp9_types.specs.declared.block.ReferenceFrame.{ReferenceFrame}
 use Rattle.vp9_types.specs.declared.job.Span.{Span}
 use Rattle.frame_headers.specs.Spans.{tile_spans}
-use Rattle.frame_headers.specs.State.{shape_of}
+use Rattle.frame_headers.specs.HeaderState.{shape_of}
 use Rattle.counting_reader.specs.Counting.{Settled}
 use Rattle.planes.specs.declared.frame_planes.FramePlanes.{FramePlanes}
 use Rattle.block_rebuild.specs.InterBlocks.{Rebuilding, ReferencePicture}
-use Rattle.frame_state.specs.Plans.{ColumnRead, plan_of, tile_bytes}
-use Rattle.frame_state.specs.Reading.{FrameRead, read_all_tiles}
+use Rattle.frame_state.specs.ColumnPlans.{ColumnRead, plan_of, tile_bytes}
+use Rattle.frame_state.specs.FrameReading.{FrameRead, read_all_tiles}
 use Rattle.frame_state.specs.Sources.{FrameSources}
-use Rattle.column_order.specs.Columns.{column_from, column_to}
-use Rattle.recon_rows.specs.Strips.{HoldsStrip}
+use Rattle.column_order.specs.ColumnStrips.{column_from, column_to}
+use Rattle.recon_rows.specs.OwnStrips.{HoldsStrip}
 
 -- a frame's blocks and its tile columns, each of them read by itself
 pub record AreFrameColumns (by : FrameSources) (bytes : List ℕ) (compressed : Span) (read : FrameRead) (plans : ℕ → Settled ColumnRead) : Type 0 where

@@ -30,7 +30,7 @@ impl<'a, P: Sample, F: RawFrame> Strips for LentStrips<'a, P, F> {
     type Kept = P;
 
     ghost use Rattle.std.specs.Prelude.{map};
-    ghost use Rattle.column_strips.specs.Rows.{AreRow};
+    ghost use Rattle.column_strips.specs.StripRows.{AreRow};
 
     ghost raw = { λ s. F.raw };
 

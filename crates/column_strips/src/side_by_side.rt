@@ -6,9 +6,9 @@ ghost use Rattle.vp9_types.specs.Shapes.{mi_rows};
 ghost use Rattle.vp9_types.specs.Sizes.{superblocks_along};
 ghost use Rattle.planes.specs.Planes.{lower_end, plane_map};
 ghost use Rattle.planes.specs.Pictures.{FitsPlanes};
-ghost use Rattle.plane_parts.specs.Parts.{HasPart, LiesIn};
+ghost use Rattle.plane_parts.specs.PlaneParts.{HasPart, LiesIn};
 ghost use Rattle.loop_filter.specs.Laws.{first_own};
-ghost use Rattle.column_strips.specs.Rows.{rows_from};
+ghost use Rattle.column_strips.specs.StripRows.{rows_from};
 
 use filter_rows::Strips;
 use loop_filter::sub_y;
@@ -79,7 +79,7 @@ pub(crate) fn put_strip<P: Sample>(
 impl<'a, P: Sample, F: RawFrame> Strips for ColumnStrips<'a, P, F> {
     type Kept = P;
 
-    ghost use Rattle.column_strips.specs.Rows.{AreRow};
+    ghost use Rattle.column_strips.specs.StripRows.{AreRow};
 
     ghost raw = { λ s. F.raw };
 

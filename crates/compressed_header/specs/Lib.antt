@@ -1,6 +1,6 @@
 pub mod Updates
-pub mod Modes
-pub mod Transforms
-pub mod References
-pub mod Vectors
-pub mod Header
+pub mod HeaderModes
+pub mod TransformProbs
+pub mod ReferenceProbs
+pub mod VectorProbs
+pub mod CompressedHeader

@@ -3,7 +3,7 @@
 ghost use Rattle.std.specs.Prelude.{◌≡◌, ◌≤◌};
 ghost use Rattle.bool_decoder.specs.Bools.{Reads};
 ghost use Rattle.bool_decoder.specs.Held.{window_of};
-ghost use Rattle.compressed_header.specs.Modes.{tx_mode_of, read_tx_mode, is_compound_allowed, frame_reference_mode};
+ghost use Rattle.compressed_header.specs.HeaderModes.{tx_mode_of, read_tx_mode, is_compound_allowed, frame_reference_mode};
 
 use bool_decoder::BoolDecoder;
 use frame_headers::References;
@@ -21,7 +21,7 @@ fn tx_mode_of(code: u32) -> TxMode
     }
 }
 
-#[tactic(auto, unfolding(crate::specs::Modes::read_tx_mode), using(vp9_types::proofs::Runs::run_bind))]
+#[tactic(auto, unfolding(crate::specs::HeaderModes::read_tx_mode), using(vp9_types::proofs::Runs::run_bind))]
 pub fn read_tx_mode(decoder: &mut BoolDecoder<'_>, lossless: bool) -> TxMode
     ensures { Reads (read_tx_mode lossless) (window_of decoder.old) result (window_of decoder.new) }
 {
@@ -43,7 +43,7 @@ pub fn is_compound_allowed(references: &References) -> bool
         || references.altref.sign_bias != references.last.sign_bias
 }
 
-#[tactic(auto, unfolding(crate::specs::Modes::frame_reference_mode), using(vp9_types::proofs::Runs::run_bind))]
+#[tactic(auto, unfolding(crate::specs::HeaderModes::frame_reference_mode), using(vp9_types::proofs::Runs::run_bind))]
 pub fn read_reference_mode(decoder: &mut BoolDecoder<'_>, allowed: bool) -> ReferenceMode
     ensures { Reads (frame_reference_mode allowed) (window_of decoder.old) result (window_of decoder.new) }
 {

@@ -3,8 +3,8 @@
 ghost use Rattle.std.specs.Prelude.{◌≡◌};
 ghost use Rattle.bool_decoder.specs.Bools.{Reads};
 ghost use Rattle.bool_decoder.specs.Held.{window_of};
-ghost use Rattle.prob_contexts.specs.Lists.{lists_of};
-ghost use Rattle.compressed_header.specs.Header.{inter_part, kind_part, compressed_header, IsForward};
+ghost use Rattle.prob_contexts.specs.ProbLists.{lists_of};
+ghost use Rattle.compressed_header.specs.CompressedHeader.{inter_part, kind_part, compressed_header, IsForward};
 
 use crate::modes::read_tx_mode;
 use crate::references::read_inter_probs;
@@ -16,7 +16,7 @@ use frame_headers::{FrameKind, Header, InterFields};
 use prob_contexts::Contexts;
 use vp9_types::{Modes, ReferenceMode, Rule};
 
-#[tactic(auto, unfolding(crate::specs::Header::inter_part, crate::specs::References::read_partition_probs), using(vp9_types::proofs::Runs::run_bind))]
+#[tactic(auto, unfolding(crate::specs::CompressedHeader::inter_part, crate::specs::ReferenceProbs::read_partition_probs), using(vp9_types::proofs::Runs::run_bind))]
 fn read_inter_part(
     decoder: &mut BoolDecoder<'_>,
     fields: &InterFields,
@@ -30,7 +30,7 @@ fn read_inter_part(
     mode
 }
 
-#[tactic(auto, unfolding(crate::specs::Header::kind_part))]
+#[tactic(auto, unfolding(crate::specs::CompressedHeader::kind_part))]
 fn read_kind_part(
     decoder: &mut BoolDecoder<'_>,
     kind: &FrameKind,
@@ -44,7 +44,7 @@ fn read_kind_part(
     }
 }
 
-#[tactic(auto, unfolding(crate::specs::Header::compressed_header, crate::specs::Transforms::read_skip_prob), using(vp9_types::proofs::Runs::run_bind))]
+#[tactic(auto, unfolding(crate::specs::CompressedHeader::compressed_header, crate::specs::TransformProbs::read_skip_prob), using(vp9_types::proofs::Runs::run_bind))]
 fn read_modes(decoder: &mut BoolDecoder<'_>, header: &Header, contexts: &mut Contexts) -> Modes
     ensures { Reads (compressed_header header.now (lists_of contexts.old)) (window_of decoder.old) (lists_of contexts.new, result) (window_of decoder.new) }
 {
@@ -60,7 +60,7 @@ fn read_modes(decoder: &mut BoolDecoder<'_>, header: &Header, contexts: &mut Con
 }
 
 /// Reads the compressed header of a frame that starts from the contexts `before`. An intra frame has single references.
-#[tactic(auto, unfolding(crate::specs::Header::forward))]
+#[tactic(auto, unfolding(crate::specs::CompressedHeader::forward))]
 pub fn read(bytes: &[u8], header: &Header, before: &Contexts) -> Result<(Contexts, Modes), Rule>
     ensures { IsForward header.now before.now bytes.now result }
 {

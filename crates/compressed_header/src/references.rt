@@ -3,8 +3,8 @@
 ghost use Rattle.std.specs.Prelude.{◌≡◌, ◌≤◌, not};
 ghost use Rattle.bool_decoder.specs.Bools.{Reads};
 ghost use Rattle.bool_decoder.specs.Held.{window_of};
-ghost use Rattle.prob_contexts.specs.Lists.{inter_lists};
-ghost use Rattle.compressed_header.specs.References.{is_switchable, is_single, is_compound, is_chosen, frame_reference_mode_probs, inter_probs};
+ghost use Rattle.prob_contexts.specs.ProbLists.{inter_lists};
+ghost use Rattle.compressed_header.specs.ReferenceProbs.{is_switchable, is_single, is_compound, is_chosen, frame_reference_mode_probs, inter_probs};
 
 use crate::modes::{is_compound_allowed, read_reference_mode};
 use crate::update::{read_updates, read_updates_if};
@@ -22,7 +22,7 @@ fn is_switchable(filter: FrameFilter) -> bool
     }
 }
 
-#[tactic(auto, unfolding(crate::specs::References::frame_reference_mode_probs), using(vp9_types::proofs::Runs::run_bind))]
+#[tactic(auto, unfolding(crate::specs::ReferenceProbs::frame_reference_mode_probs), using(vp9_types::proofs::Runs::run_bind))]
 fn read_reference_probs(decoder: &mut BoolDecoder<'_>, mode: ReferenceMode, inter: &mut InterProbs)
     ensures { Reads (frame_reference_mode_probs mode (inter_lists inter.old)) (window_of decoder.old) (inter_lists inter.new) (window_of decoder.new) }
 {
@@ -36,7 +36,7 @@ fn read_reference_probs(decoder: &mut BoolDecoder<'_>, mode: ReferenceMode, inte
     read_updates_if(decoder, compound, &mut inter.compound_references);
 }
 
-#[tactic(auto, unfolding(crate::specs::References::inter_probs, crate::specs::References::read_inter_mode_probs, crate::specs::References::read_interp_filter_probs, crate::specs::References::read_is_inter_probs, crate::specs::References::read_y_mode_probs), using(vp9_types::proofs::Runs::run_bind))]
+#[tactic(auto, unfolding(crate::specs::ReferenceProbs::inter_probs, crate::specs::ReferenceProbs::read_inter_mode_probs, crate::specs::ReferenceProbs::read_interp_filter_probs, crate::specs::ReferenceProbs::read_is_inter_probs, crate::specs::ReferenceProbs::read_y_mode_probs), using(vp9_types::proofs::Runs::run_bind))]
 pub fn read_inter_probs(
     decoder: &mut BoolDecoder<'_>,
     fields: &InterFields,

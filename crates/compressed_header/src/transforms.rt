@@ -4,8 +4,8 @@ ghost use Rattle.std.specs.Prelude.{◌≡◌, ◌≤◌};
 ghost use Rattle.std.specs.List.{All};
 ghost use Rattle.bool_decoder.specs.Bools.{Reads};
 ghost use Rattle.bool_decoder.specs.Held.{window_of};
-ghost use Rattle.prob_contexts.specs.Lists.{tx_lists, coef_lists};
-ghost use Rattle.compressed_header.specs.Transforms.{tx_mode_probs, tx_probs_of, size_coef_probs, allows, read_coef_probs};
+ghost use Rattle.prob_contexts.specs.ProbLists.{tx_lists, coef_lists};
+ghost use Rattle.compressed_header.specs.TransformProbs.{tx_mode_probs, tx_probs_of, size_coef_probs, allows, read_coef_probs};
 
 use crate::update::{read_updates, read_updates_if};
 use bool_decoder::BoolDecoder;
@@ -13,7 +13,7 @@ use prob_contexts::{CoefProbs, TxProbs};
 use vp9_tables::biggest_tx_size;
 use vp9_types::{TxMode, TxSize};
 
-#[tactic(auto, unfolding(crate::specs::Transforms::tx_mode_probs), using(vp9_types::proofs::Runs::run_bind))]
+#[tactic(auto, unfolding(crate::specs::TransformProbs::tx_mode_probs), using(vp9_types::proofs::Runs::run_bind))]
 fn read_tx_mode_probs(decoder: &mut BoolDecoder<'_>, tx: &mut TxProbs)
     ensures { Reads (tx_mode_probs (tx_lists tx.old)) (window_of decoder.old) (tx_lists tx.new) (window_of decoder.new) }
 {
@@ -22,7 +22,7 @@ fn read_tx_mode_probs(decoder: &mut BoolDecoder<'_>, tx: &mut TxProbs)
     read_updates(decoder, &mut tx.of_32x32);
 }
 
-#[tactic(auto, unfolding(crate::specs::Transforms::tx_probs_of))]
+#[tactic(auto, unfolding(crate::specs::TransformProbs::tx_probs_of))]
 pub fn read_tx_probs(decoder: &mut BoolDecoder<'_>, mode: TxMode, tx: &mut TxProbs)
     ensures { Reads (tx_probs_of mode (tx_lists tx.old)) (window_of decoder.old) (tx_lists tx.new) (window_of decoder.new) }
 {
@@ -37,7 +37,7 @@ fn allows(mode: TxMode, size: TxSize) -> bool
     size as u8 <= biggest_tx_size(mode) as u8
 }
 
-#[tactic(auto, unfolding(crate::specs::Transforms::size_coef_probs), using(vp9_types::proofs::Runs::run_bind))]
+#[tactic(auto, unfolding(crate::specs::TransformProbs::size_coef_probs), using(vp9_types::proofs::Runs::run_bind))]
 fn read_size(decoder: &mut BoolDecoder<'_>, allowed: bool, probs: &mut [u8])
     requires { All (λ p. 1 ≤ p) probs.old }
     ensures read { Reads (size_coef_probs allowed probs.old) (window_of decoder.old) probs.new (window_of decoder.new) }
@@ -49,7 +49,7 @@ fn read_size(decoder: &mut BoolDecoder<'_>, allowed: bool, probs: &mut [u8])
     }
 }
 
-#[tactic(auto, unfolding(crate::specs::Transforms::read_coef_probs), using(vp9_types::proofs::Runs::run_bind))]
+#[tactic(auto, unfolding(crate::specs::TransformProbs::read_coef_probs), using(vp9_types::proofs::Runs::run_bind))]
 pub fn read_coefficients(decoder: &mut BoolDecoder<'_>, mode: TxMode, coef: &mut CoefProbs)
     ensures { Reads (read_coef_probs mode (coef_lists coef.old)) (window_of decoder.old) (coef_lists coef.new) (window_of decoder.new) }
 {

@@ -3,14 +3,14 @@
 ghost use Rattle.std.specs.Prelude.{◌≡◌, ◌≤◌};
 ghost use Rattle.bool_decoder.specs.Bools.{Reads};
 ghost use Rattle.bool_decoder.specs.Held.{window_of};
-ghost use Rattle.prob_contexts.specs.Lists.{vector_lists};
-ghost use Rattle.compressed_header.specs.Vectors.{joint_probs, component_probs, fraction_probs, high_precision_probs, precise_probs, mv_probs};
+ghost use Rattle.prob_contexts.specs.ProbLists.{vector_lists};
+ghost use Rattle.compressed_header.specs.VectorProbs.{joint_probs, component_probs, fraction_probs, high_precision_probs, precise_probs, mv_probs};
 
 use crate::update::{read_vector_range, read_vector_updates};
 use bool_decoder::BoolDecoder;
 use prob_contexts::VectorProbs;
 
-#[tactic(auto, unfolding(crate::specs::Vectors::component_probs), using(vp9_types::proofs::Runs::run_bind))]
+#[tactic(auto, unfolding(crate::specs::VectorProbs::component_probs), using(vp9_types::proofs::Runs::run_bind))]
 fn read_component(decoder: &mut BoolDecoder<'_>, i: usize, vectors: &mut VectorProbs)
     requires { i ≤ 1 }
     ensures { Reads (component_probs i (vector_lists vectors.old)) (window_of decoder.old) (vector_lists vectors.new) (window_of decoder.new) }
@@ -21,7 +21,7 @@ fn read_component(decoder: &mut BoolDecoder<'_>, i: usize, vectors: &mut VectorP
     read_vector_range(decoder, 10 * i, 10, &mut vectors.bits);
 }
 
-#[tactic(auto, unfolding(crate::specs::Vectors::fraction_probs), using(vp9_types::proofs::Runs::run_bind))]
+#[tactic(auto, unfolding(crate::specs::VectorProbs::fraction_probs), using(vp9_types::proofs::Runs::run_bind))]
 fn read_fractions(decoder: &mut BoolDecoder<'_>, i: usize, vectors: &mut VectorProbs)
     requires { i ≤ 1 }
     ensures { Reads (fraction_probs i (vector_lists vectors.old)) (window_of decoder.old) (vector_lists vectors.new) (window_of decoder.new) }
@@ -30,7 +30,7 @@ fn read_fractions(decoder: &mut BoolDecoder<'_>, i: usize, vectors: &mut VectorP
     read_vector_range(decoder, 3 * i, 3, &mut vectors.fractions);
 }
 
-#[tactic(auto, unfolding(crate::specs::Vectors::high_precision_probs), using(vp9_types::proofs::Runs::run_bind))]
+#[tactic(auto, unfolding(crate::specs::VectorProbs::high_precision_probs), using(vp9_types::proofs::Runs::run_bind))]
 fn read_high_precision(decoder: &mut BoolDecoder<'_>, i: usize, vectors: &mut VectorProbs)
     requires { i ≤ 1 }
     ensures { Reads (high_precision_probs i (vector_lists vectors.old)) (window_of decoder.old) (vector_lists vectors.new) (window_of decoder.new) }
@@ -39,14 +39,14 @@ fn read_high_precision(decoder: &mut BoolDecoder<'_>, i: usize, vectors: &mut Ve
     read_vector_range(decoder, i, 1, &mut vectors.high);
 }
 
-#[tactic(auto, unfolding(crate::specs::Vectors::joint_probs), using(vp9_types::proofs::Runs::run_bind))]
+#[tactic(auto, unfolding(crate::specs::VectorProbs::joint_probs), using(vp9_types::proofs::Runs::run_bind))]
 fn read_joints(decoder: &mut BoolDecoder<'_>, vectors: &mut VectorProbs)
     ensures { Reads (joint_probs (vector_lists vectors.old)) (window_of decoder.old) (vector_lists vectors.new) (window_of decoder.new) }
 {
     read_vector_updates(decoder, &mut vectors.joints);
 }
 
-#[tactic(auto, unfolding(crate::specs::Vectors::precise_probs), using(vp9_types::proofs::Runs::run_bind))]
+#[tactic(auto, unfolding(crate::specs::VectorProbs::precise_probs), using(vp9_types::proofs::Runs::run_bind))]
 fn read_precise(decoder: &mut BoolDecoder<'_>, precise: bool, vectors: &mut VectorProbs)
     ensures { Reads (precise_probs precise (vector_lists vectors.old)) (window_of decoder.old) (vector_lists vectors.new) (window_of decoder.new) }
 {
@@ -56,7 +56,7 @@ fn read_precise(decoder: &mut BoolDecoder<'_>, precise: bool, vectors: &mut Vect
     }
 }
 
-#[tactic(auto, unfolding(crate::specs::Vectors::mv_probs), using(vp9_types::proofs::Runs::run_bind))]
+#[tactic(auto, unfolding(crate::specs::VectorProbs::mv_probs), using(vp9_types::proofs::Runs::run_bind))]
 pub fn read_vectors(decoder: &mut BoolDecoder<'_>, precise: bool, vectors: &mut VectorProbs)
     ensures { Reads (mv_probs precise (vector_lists vectors.old)) (window_of decoder.old) (vector_lists vectors.new) (window_of decoder.new) }
 {

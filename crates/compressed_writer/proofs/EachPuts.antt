@@ -6,7 +6,7 @@ use Rattle.vp9_types.specs.Syntax.{done, ◌>>=◌}
 use Rattle.vp9_types.specs.Each.{each}
 use Rattle.vp9_types.proofs.Binds.{writes_bind}
 use Rattle.bool_encoder.specs.Part.{Part, after_put}
-use Rattle.bool_encoder.specs.Bools.{Puts, can_put}
+use Rattle.bool_encoder.specs.WrittenBools.{Puts, can_put}
 use Rattle.compressed_header.specs.Updates.{Table}
 use Rattle.compressed_writer.specs.Code.{EachLeft}
 

@@ -4,10 +4,10 @@ use Rattle.std.specs.Prelude.{Ok}
 use Rattle.vp9_types.specs.declared.block.Modes.{Modes}
 use Rattle.frame_headers.specs.declared.header.Header.{Header}
 use Rattle.bool_encoder.specs.Part.{Part, Finishes, marked}
-use Rattle.bool_encoder.specs.Bools.{Puts}
+use Rattle.bool_encoder.specs.WrittenBools.{Puts}
 use Rattle.bool_encoder.proofs.Starts.{written_is_read_from}
-use Rattle.prob_contexts.specs.Lists.{ContextLists}
-use Rattle.compressed_header.specs.Header.{compressed_header, forward, read_from, settled}
+use Rattle.prob_contexts.specs.ProbLists.{ContextLists}
+use Rattle.compressed_header.specs.CompressedHeader.{compressed_header, forward, read_from, settled}
 
 pub forwarded : (header : Header) (before after : ContextLists) (modes : Modes) (new : Part) (bytes : List ℕ)
     → Puts (compressed_header header before) marked (after, modes) new → Finishes new bytes → forward header before bytes ≡ Ok (after, modes)

@@ -10,14 +10,14 @@ use Rattle.frame_headers.specs.declared.header.Header.{Header}
 use Rattle.frame_headers.specs.declared.header.InterFields.{InterFields}
 use Rattle.frame_headers.specs.Quantizer.{is_lossless}
 use Rattle.bool_decoder.specs.Window.{Window, started}
-use Rattle.prob_contexts.specs.Lists.{ContextLists}
-use Rattle.compressed_header.specs.Header.{inter_part, kind_part, compressed_header, forward, read_from}
-use Rattle.compressed_header.specs.Modes.{read_tx_mode}
-use Rattle.compressed_header.specs.References.{inter_probs, read_partition_probs}
-use Rattle.compressed_header.specs.Transforms.{tx_probs_of, read_coef_probs, read_skip_prob}
+use Rattle.prob_contexts.specs.ProbLists.{ContextLists}
+use Rattle.compressed_header.specs.CompressedHeader.{inter_part, kind_part, compressed_header, forward, read_from}
+use Rattle.compressed_header.specs.HeaderModes.{read_tx_mode}
+use Rattle.compressed_header.specs.ReferenceProbs.{inter_probs, read_partition_probs}
+use Rattle.compressed_header.specs.TransformProbs.{tx_probs_of, read_coef_probs, read_skip_prob}
 use Rattle.compressed_header.specs.Updates.{Table}
-use Rattle.compressed_header.specs.Vectors.{mv_probs}
-use Rattle.compressed_writer.specs.Updates.{AreCoefUpdates, IsKindUpdate, CanForward}
+use Rattle.compressed_header.specs.VectorProbs.{mv_probs}
+use Rattle.compressed_writer.specs.CodedUpdates.{AreCoefUpdates, IsKindUpdate, CanForward}
 use Rattle.compressed_writer.proofs.Settles.{Settles, settles_bind, read_settles}
 use Rattle.compressed_writer.proofs.ReadUpdates.{tx_mode_read, tx_read, coef_read, inter_read}
 use Rattle.compressed_writer.proofs.VectorReads.{vectors_read}

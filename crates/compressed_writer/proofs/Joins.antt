@@ -5,10 +5,10 @@ use Rattle.std.proofs.lemmas.List.{append-nil, take_all, drop_all, drop-drop, ge
 use Rattle.vp9_types.specs.Syntax.{done}
 use Rattle.vp9_types.specs.Each.{each}
 use Rattle.bool_encoder.specs.Part.{Part}
-use Rattle.bool_encoder.specs.Bools.{Puts}
+use Rattle.bool_encoder.specs.WrittenBools.{Puts}
 use Rattle.compressed_header.specs.Updates.{update_mv_prob, mv_updates}
 use Rattle.compressed_writer.specs.Code.{new_of}
-use Rattle.compressed_writer.specs.Updates.{IsOddUpdate, AreOddUpdates}
+use Rattle.compressed_writer.specs.CodedUpdates.{IsOddUpdate, AreOddUpdates}
 use Rattle.compressed_writer.proofs.EachPuts.{puts_bind}
 
 front_of : (xs ys : List ℕ) (k : ℕ) → length xs ≡ k → take k (xs ++ ys) ≡ xs

@@ -6,7 +6,7 @@ use Rattle.vp9_types.specs.Syntax.{done, ◌>>=◌}
 use Rattle.vp9_types.specs.Each.{each}
 use Rattle.bool_decoder.specs.Bools.{flag, literal}
 use Rattle.compressed_header.specs.Updates.{update_mv_prob, mv_updates}
-use Rattle.compressed_writer.specs.Updates.{IsOddUpdate, AreOddUpdates}
+use Rattle.compressed_writer.specs.CodedUpdates.{IsOddUpdate, AreOddUpdates}
 use Rattle.compressed_writer.proofs.Settles.{Settles, settles_bind}
 
 abbrev pub Odds : List ℕ → List ℕ → Type 0

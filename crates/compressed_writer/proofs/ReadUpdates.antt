@@ -5,13 +5,13 @@ use Rattle.vp9_types.specs.declared.block.TxMode.{TxMode}
 use Rattle.vp9_types.specs.declared.block.TxMode.TheVariants.{Only4x4, UpTo8x8, UpTo16x16, UpTo32x32, Selected}
 use Rattle.vp9_types.specs.declared.block.TxSize.TheVariants.{T4x4, T8x8, T16x16, T32x32}
 use Rattle.compressed_header.specs.Updates.{updates_if}
-use Rattle.compressed_header.specs.Modes.{read_tx_mode, frame_reference_mode}
-use Rattle.compressed_header.specs.Transforms.{tx_probs_of, size_coef_probs, allows, read_coef_probs}
-use Rattle.compressed_header.specs.Modes.{is_compound_allowed}
-use Rattle.compressed_header.specs.References.{is_switchable, is_single, is_compound, is_chosen, frame_reference_mode_probs, inter_probs, read_inter_mode_probs, read_interp_filter_probs, read_is_inter_probs, read_y_mode_probs}
+use Rattle.compressed_header.specs.HeaderModes.{read_tx_mode, frame_reference_mode}
+use Rattle.compressed_header.specs.TransformProbs.{tx_probs_of, size_coef_probs, allows, read_coef_probs}
+use Rattle.compressed_header.specs.HeaderModes.{is_compound_allowed}
+use Rattle.compressed_header.specs.ReferenceProbs.{is_switchable, is_single, is_compound, is_chosen, frame_reference_mode_probs, inter_probs, read_inter_mode_probs, read_interp_filter_probs, read_is_inter_probs, read_y_mode_probs}
 use Rattle.frame_headers.specs.declared.header.InterFields.{InterFields}
-use Rattle.prob_contexts.specs.Lists.{TxLists, CoefLists, InterLists}
-use Rattle.compressed_writer.specs.Updates.{IsTxMode, AreTxUpdates, AreCoefUpdates, IsReferenceMode, AreReferenceUpdates, AreInterUpdates}
+use Rattle.prob_contexts.specs.ProbLists.{TxLists, CoefLists, InterLists}
+use Rattle.compressed_writer.specs.CodedUpdates.{IsTxMode, AreTxUpdates, AreCoefUpdates, IsReferenceMode, AreReferenceUpdates, AreInterUpdates}
 use Rattle.compressed_writer.proofs.Settles.{Settles, settles_bind}
 
 pub tx_mode_read : (lossless : Bool) (mode : TxMode) → Settles (read_tx_mode lossless) mode → IsTxMode lossless mode

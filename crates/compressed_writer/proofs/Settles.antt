@@ -5,7 +5,7 @@ use Rattle.vp9_types.specs.Syntax.{done, broken, ask, ◌>>=◌}
 use Rattle.bool_decoder.specs.Bools.{run_bools}
 use Rattle.bool_decoder.specs.Window.{Window, bit_of, after_bit}
 use Rattle.compressed_header.specs.Updates.{Table}
-use Rattle.compressed_header.specs.Header.{settled}
+use Rattle.compressed_header.specs.CompressedHeader.{settled}
 
 abbrev pub Settles : {A : Type 0} → Table A → A → Type 0
 Settles (done x) y = x ≡ y

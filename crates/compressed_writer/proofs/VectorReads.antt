@@ -2,9 +2,9 @@
 use Rattle.std.proofs.Common.{◌≡◌, ◌∙◌, ◌*◌, ℕ, List, Bool, true, false, refl, subst}
 use Rattle.vp9_types.specs.Each.{each}
 use Rattle.compressed_header.specs.Updates.{update_mv_prob, mv_updates}
-use Rattle.compressed_header.specs.Vectors.{joint_probs, component_probs, fraction_probs, high_precision_probs, precise_probs, mv_probs}
-use Rattle.prob_contexts.specs.Lists.{VectorLists}
-use Rattle.compressed_writer.specs.Updates.{AreVectorUpdates}
+use Rattle.compressed_header.specs.VectorProbs.{joint_probs, component_probs, fraction_probs, high_precision_probs, precise_probs, mv_probs}
+use Rattle.prob_contexts.specs.ProbLists.{VectorLists}
+use Rattle.compressed_writer.specs.CodedUpdates.{AreVectorUpdates}
 use Rattle.compressed_writer.proofs.Settles.{Settles, settles_bind}
 use Rattle.compressed_writer.proofs.OddReads.{Odds, odds_same, odds_on, odds_at, odds_each, odds_range}
 

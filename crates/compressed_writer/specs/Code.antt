@@ -2,9 +2,9 @@
 use Rattle.std.specs.Prelude.{ℕ, zero, suc, List, ◌++◌, take, drop}
 use Rattle.vp9_types.specs.Each.{each}
 use Rattle.bool_encoder.specs.Part.{Part}
-use Rattle.bool_encoder.specs.Bools.{Puts}
+use Rattle.bool_encoder.specs.WrittenBools.{Puts}
 use Rattle.compressed_header.specs.Updates.{Table}
-use Rattle.prob_contexts.specs.Lists.{ContextLists, InterLists, VectorLists}
+use Rattle.prob_contexts.specs.ProbLists.{ContextLists, InterLists, VectorLists}
 
 -- the elements of the back are still to be put
 abbrev pub EachLeft : {A B : Type 0} → (A → Table B) → List A → Part → List B → List A → Part → Type 0

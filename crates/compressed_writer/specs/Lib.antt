@@ -1,4 +1,4 @@
-pub mod Updates
+pub mod CodedUpdates
 pub mod Spelling
-pub mod Bytes
+pub mod HeaderBytes
 pub mod Code

@@ -9,16 +9,16 @@ use Rattle.vp9_types.specs.declared.block.TxMode.{TxMode}
 use Rattle.vp9_types.specs.declared.block.TxMode.TheVariants.{Only4x4, UpTo8x8, UpTo16x16, UpTo32x32, Selected}
 use Rattle.vp9_types.specs.declared.block.TxSize.TheVariants.{T4x4, T8x8, T16x16, T32x32}
 use Rattle.vp9_tables.specs.Numbers.{flag_number}
-use Rattle.bool_lists.specs.Lists.{BoolList, one_bool, number_bools, difference_bools}
+use Rattle.bool_lists.specs.BoolLists.{BoolList, one_bool, number_bools, difference_bools}
 use Rattle.frame_headers.specs.declared.header.FrameKind.{FrameKind}
 use Rattle.frame_headers.specs.declared.header.FrameKind.TheVariants.{Key, IntraOnly, Inter}
 use Rattle.frame_headers.specs.declared.header.Header.{Header}
 use Rattle.frame_headers.specs.declared.header.InterFields.{InterFields}
 use Rattle.frame_headers.specs.Quantizer.{is_lossless}
-use Rattle.prob_contexts.specs.Lists.{TxLists, CoefLists, InterLists, VectorLists, ContextLists}
-use Rattle.compressed_header.specs.Modes.{is_compound_allowed}
-use Rattle.compressed_header.specs.References.{is_switchable, is_single, is_compound, is_chosen}
-use Rattle.compressed_header.specs.Transforms.{allows}
+use Rattle.prob_contexts.specs.ProbLists.{TxLists, CoefLists, InterLists, VectorLists, ContextLists}
+use Rattle.compressed_header.specs.HeaderModes.{is_compound_allowed}
+use Rattle.compressed_header.specs.ReferenceProbs.{is_switchable, is_single, is_compound, is_chosen}
+use Rattle.compressed_header.specs.TransformProbs.{allows}
 
 ---- Updates ----
 

@@ -3,9 +3,9 @@
 ghost use Rattle.std.specs.Prelude.{◌≡◌, ℕ, List, Ok};
 ghost use Rattle.vp9_types.specs.declared.block.Modes.{Modes};
 ghost use Rattle.frame_headers.specs.declared.header.Header.{Header};
-ghost use Rattle.prob_contexts.specs.Lists.{ContextLists};
-ghost use Rattle.compressed_header.specs.Header.{forward};
-ghost use Rattle.compressed_writer.specs.Updates.{CanForward};
+ghost use Rattle.prob_contexts.specs.ProbLists.{ContextLists};
+ghost use Rattle.compressed_header.specs.CompressedHeader.{forward};
+ghost use Rattle.compressed_writer.specs.CodedUpdates.{CanForward};
 
 /// What can be written is all that any compressed header makes of probabilities.
 pub fn what_is_read_can_be_written()

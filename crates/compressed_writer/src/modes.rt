@@ -1,11 +1,11 @@
 //! The modes of a frame.
 
 ghost use Rattle.std.specs.Prelude.{◌≡◌, IfOk};
-ghost use Rattle.bool_encoder.specs.Bools.{Puts};
-ghost use Rattle.bool_lists.specs.Lists.{HasPut};
+ghost use Rattle.bool_encoder.specs.WrittenBools.{Puts};
+ghost use Rattle.bool_lists.specs.BoolLists.{HasPut};
 ghost use Rattle.compressed_writer.specs.Spelling.{spelled_reference_mode, spelled_tx_mode};
-ghost use Rattle.compressed_header.specs.Modes.{read_tx_mode, frame_reference_mode, is_compound_allowed, tx_mode_of};
-ghost use Rattle.compressed_writer.specs.Updates.{IsTxMode, IsReferenceMode};
+ghost use Rattle.compressed_header.specs.HeaderModes.{read_tx_mode, frame_reference_mode, is_compound_allowed, tx_mode_of};
+ghost use Rattle.compressed_writer.specs.CodedUpdates.{IsTxMode, IsReferenceMode};
 
 use bool_encoder::{BoolEncoder, put_literal};
 use frame_headers::References;
@@ -13,7 +13,7 @@ use std::alloc::AllocError;
 use vp9_types::{ReferenceMode, TxMode};
 
 /// Puts `read_tx_mode` (6.3.1 of the standard).
-#[tactic(auto, unfolding(crate::specs::Spelling::spelled_tx_mode, compressed_header::specs::Modes::read_tx_mode), using(bool_lists::proofs::Ways::literal_way, bool_lists::proofs::Ways::numbers_way, bool_lists::proofs::Ways::spells_none, vp9_types::proofs::Binds::writes_bind))]
+#[tactic(auto, unfolding(crate::specs::Spelling::spelled_tx_mode, compressed_header::specs::HeaderModes::read_tx_mode), using(bool_lists::proofs::Ways::literal_way, bool_lists::proofs::Ways::numbers_way, bool_lists::proofs::Ways::spells_none, vp9_types::proofs::Binds::writes_bind))]
 pub fn put_tx_mode(
     encoder: &mut BoolEncoder,
     lossless: bool,
@@ -49,7 +49,7 @@ pub fn is_compound_allowed(references: &References) -> bool
 }
 
 /// Puts `frame_reference_mode` (6.3.12 of the standard).
-#[tactic(auto, unfolding(crate::specs::Spelling::spelled_reference_mode, compressed_header::specs::Modes::frame_reference_mode), using(bool_lists::proofs::Ways::literal_way, bool_lists::proofs::Ways::numbers_way, bool_lists::proofs::Ways::spells_none, vp9_types::proofs::Binds::writes_bind))]
+#[tactic(auto, unfolding(crate::specs::Spelling::spelled_reference_mode, compressed_header::specs::HeaderModes::frame_reference_mode), using(bool_lists::proofs::Ways::literal_way, bool_lists::proofs::Ways::numbers_way, bool_lists::proofs::Ways::spells_none, vp9_types::proofs::Binds::writes_bind))]
 pub fn put_reference_mode(
     encoder: &mut BoolEncoder,
     allowed: bool,

@@ -1,13 +1,13 @@
 //! Inter frames, but for vectors.
 
 ghost use Rattle.std.specs.Prelude.{◌≡◌, ◌≤◌, IfOk};
-ghost use Rattle.bool_encoder.specs.Bools.{Puts};
-ghost use Rattle.bool_lists.specs.Lists.{HasPut};
+ghost use Rattle.bool_encoder.specs.WrittenBools.{Puts};
+ghost use Rattle.bool_lists.specs.BoolLists.{HasPut};
 ghost use Rattle.compressed_writer.specs.Spelling.{spelled_inter_probs, spelled_reference_probs};
-ghost use Rattle.prob_contexts.specs.Lists.{inter_lists};
-ghost use Rattle.compressed_header.specs.References.{is_switchable, frame_reference_mode_probs, inter_probs};
+ghost use Rattle.prob_contexts.specs.ProbLists.{inter_lists};
+ghost use Rattle.compressed_header.specs.ReferenceProbs.{is_switchable, frame_reference_mode_probs, inter_probs};
 ghost use Rattle.compressed_writer.specs.Code.{before_references, after_references};
-ghost use Rattle.compressed_writer.specs.Updates.{AreReferenceUpdates, AreInterUpdates};
+ghost use Rattle.compressed_writer.specs.CodedUpdates.{AreReferenceUpdates, AreInterUpdates};
 
 use crate::modes::{is_compound_allowed, put_reference_mode};
 use crate::update::{put_updates, put_updates_if};
@@ -26,7 +26,7 @@ fn is_switchable(filter: FrameFilter) -> bool
     }
 }
 
-#[tactic(auto, unfolding(crate::specs::Spelling::spelled_reference_probs, compressed_header::specs::References::frame_reference_mode_probs), using(bool_lists::proofs::Ways::spells_on, vp9_types::proofs::Binds::writes_bind))]
+#[tactic(auto, unfolding(crate::specs::Spelling::spelled_reference_probs, compressed_header::specs::ReferenceProbs::frame_reference_mode_probs), using(bool_lists::proofs::Ways::spells_on, vp9_types::proofs::Binds::writes_bind))]
 fn put_reference_probs(
     encoder: &mut BoolEncoder,
     mode: ReferenceMode,
@@ -59,7 +59,7 @@ fn put_reference_probs(
 }
 
 /// Puts those of references and modes, with the frame's reference mode among them.
-#[tactic(auto, unfolding(crate::specs::Spelling::spelled_inter_probs, compressed_header::specs::References::inter_probs, compressed_header::specs::References::read_inter_mode_probs, compressed_header::specs::References::read_interp_filter_probs, compressed_header::specs::References::read_is_inter_probs, compressed_header::specs::References::read_y_mode_probs), using(bool_lists::proofs::Ways::spells_on, vp9_types::proofs::Binds::writes_bind))]
+#[tactic(auto, unfolding(crate::specs::Spelling::spelled_inter_probs, compressed_header::specs::ReferenceProbs::inter_probs, compressed_header::specs::ReferenceProbs::read_inter_mode_probs, compressed_header::specs::ReferenceProbs::read_interp_filter_probs, compressed_header::specs::ReferenceProbs::read_is_inter_probs, compressed_header::specs::ReferenceProbs::read_y_mode_probs), using(bool_lists::proofs::Ways::spells_on, vp9_types::proofs::Binds::writes_bind))]
 pub fn put_inter_probs(
     encoder: &mut BoolEncoder,
     fields: &InterFields,

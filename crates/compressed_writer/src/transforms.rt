@@ -2,12 +2,12 @@
 
 ghost use Rattle.std.specs.Prelude.{◌≡◌, ◌≤◌, IfOk, length, false};
 ghost use Rattle.std.specs.List.{All};
-ghost use Rattle.bool_encoder.specs.Bools.{Puts};
-ghost use Rattle.bool_lists.specs.Lists.{HasPut};
+ghost use Rattle.bool_encoder.specs.WrittenBools.{Puts};
+ghost use Rattle.bool_lists.specs.BoolLists.{HasPut};
 ghost use Rattle.compressed_writer.specs.Spelling.{are_changed, spelled_coefficients, spelled_size, spelled_tx_probs, spelled_tx_updates};
-ghost use Rattle.prob_contexts.specs.Lists.{tx_lists, coef_lists};
-ghost use Rattle.compressed_header.specs.Transforms.{tx_mode_probs, tx_probs_of, size_coef_probs, allows, read_coef_probs};
-ghost use Rattle.compressed_writer.specs.Updates.{AreTxUpdates, AreCoefUpdates};
+ghost use Rattle.prob_contexts.specs.ProbLists.{tx_lists, coef_lists};
+ghost use Rattle.compressed_header.specs.TransformProbs.{tx_mode_probs, tx_probs_of, size_coef_probs, allows, read_coef_probs};
+ghost use Rattle.compressed_writer.specs.CodedUpdates.{AreTxUpdates, AreCoefUpdates};
 
 use crate::update::{put_updates, put_updates_if};
 use bool_encoder::{BoolEncoder, put_literal};
@@ -16,7 +16,7 @@ use std::alloc::AllocError;
 use vp9_tables::biggest_tx_size;
 use vp9_types::{TxMode, TxSize};
 
-#[tactic(auto, unfolding(crate::specs::Spelling::spelled_tx_probs, compressed_header::specs::Transforms::tx_mode_probs), using(bool_lists::proofs::Ways::spells_on, vp9_types::proofs::Binds::writes_bind))]
+#[tactic(auto, unfolding(crate::specs::Spelling::spelled_tx_probs, compressed_header::specs::TransformProbs::tx_mode_probs), using(bool_lists::proofs::Ways::spells_on, vp9_types::proofs::Binds::writes_bind))]
 fn put_tx_mode_probs(
     encoder: &mut BoolEncoder,
     before: &TxProbs,
@@ -31,7 +31,7 @@ fn put_tx_mode_probs(
 }
 
 /// Puts those of transform sizes, where blocks say which size they have.
-#[tactic(auto, unfolding(crate::specs::Spelling::spelled_tx_updates, compressed_header::specs::Transforms::tx_probs_of), using(bool_lists::proofs::Ways::spells_none))]
+#[tactic(auto, unfolding(crate::specs::Spelling::spelled_tx_updates, compressed_header::specs::TransformProbs::tx_probs_of), using(bool_lists::proofs::Ways::spells_none))]
 pub fn put_tx_probs(
     encoder: &mut BoolEncoder,
     mode: TxMode,
@@ -62,7 +62,7 @@ fn changes(before: &[u8], after: &[u8]) -> bool
     before != after
 }
 
-#[tactic(auto, unfolding(crate::specs::Spelling::spelled_size, compressed_header::specs::Transforms::size_coef_probs), using(bool_lists::proofs::Ways::spells_on, bool_lists::proofs::Ways::literal_way, bool_lists::proofs::Ways::flag_way, bool_lists::proofs::Ways::spells_none, vp9_types::proofs::Binds::writes_bind))]
+#[tactic(auto, unfolding(crate::specs::Spelling::spelled_size, compressed_header::specs::TransformProbs::size_coef_probs), using(bool_lists::proofs::Ways::spells_on, bool_lists::proofs::Ways::literal_way, bool_lists::proofs::Ways::flag_way, bool_lists::proofs::Ways::spells_none, vp9_types::proofs::Binds::writes_bind))]
 fn put_size(
     encoder: &mut BoolEncoder,
     allowed: bool,
@@ -85,7 +85,7 @@ fn put_size(
 }
 
 /// Puts `read_coef_probs` (6.3.7 of the standard). A size without a change has no updates.
-#[tactic(auto, unfolding(crate::specs::Spelling::spelled_coefficients, compressed_header::specs::Transforms::read_coef_probs), using(bool_lists::proofs::Ways::spells_on, vp9_types::proofs::Binds::writes_bind))]
+#[tactic(auto, unfolding(crate::specs::Spelling::spelled_coefficients, compressed_header::specs::TransformProbs::read_coef_probs), using(bool_lists::proofs::Ways::spells_on, vp9_types::proofs::Binds::writes_bind))]
 pub fn put_coefficients(
     encoder: &mut BoolEncoder,
     mode: TxMode,

@@ -3,12 +3,12 @@
 ghost use Rattle.std.specs.Prelude.{◌≡◌, ◌+◌, ◌*◌, ◌≤◌, IfOk, length, false};
 ghost use Rattle.std.specs.List.{All};
 ghost use Rattle.vp9_types.specs.Each.{each};
-ghost use Rattle.bool_encoder.specs.Bools.{Puts};
-ghost use Rattle.bool_lists.specs.Lists.{HasPut};
+ghost use Rattle.bool_encoder.specs.WrittenBools.{Puts};
+ghost use Rattle.bool_lists.specs.BoolLists.{HasPut};
 ghost use Rattle.compressed_writer.specs.Spelling.{spelled_from, spelled_update, spelled_updates, spelled_updates_if, spelled_vector_update, spelled_vector_updates};
 ghost use Rattle.compressed_header.specs.Updates.{diff_update_prob, update_mv_prob, updates_if, mv_updates};
 ghost use Rattle.compressed_writer.specs.Code.{new_of};
-ghost use Rattle.compressed_writer.specs.Updates.{IsOddUpdate, AreOddUpdates};
+ghost use Rattle.compressed_writer.specs.CodedUpdates.{IsOddUpdate, AreOddUpdates};
 
 use crate::differences::difference_to;
 use bool_encoder::{BoolEncoder, put_difference, put_flag, put_literal};

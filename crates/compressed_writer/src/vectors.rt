@@ -1,20 +1,20 @@
 //! Vectors, component by component.
 
 ghost use Rattle.std.specs.Prelude.{◌≡◌, ◌+◌, ◌≤◌, IfOk, false};
-ghost use Rattle.bool_encoder.specs.Bools.{Puts};
-ghost use Rattle.bool_lists.specs.Lists.{HasPut};
+ghost use Rattle.bool_encoder.specs.WrittenBools.{Puts};
+ghost use Rattle.bool_lists.specs.BoolLists.{HasPut};
 ghost use Rattle.compressed_writer.specs.Spelling.{spelled_component, spelled_fractions, spelled_high, spelled_precise, spelled_vector_updates, spelled_vectors};
-ghost use Rattle.prob_contexts.specs.Lists.{vector_lists};
-ghost use Rattle.compressed_header.specs.Vectors.{joint_probs, component_probs, fraction_probs, high_precision_probs, precise_probs, mv_probs};
+ghost use Rattle.prob_contexts.specs.ProbLists.{vector_lists};
+ghost use Rattle.compressed_header.specs.VectorProbs.{joint_probs, component_probs, fraction_probs, high_precision_probs, precise_probs, mv_probs};
 ghost use Rattle.compressed_writer.specs.Code.{vectors_at};
-ghost use Rattle.compressed_writer.specs.Updates.{HasOddUpdates, AreVectorUpdates};
+ghost use Rattle.compressed_writer.specs.CodedUpdates.{HasOddUpdates, AreVectorUpdates};
 
 use crate::update::{put_component_updates, put_vector_updates};
 use bool_encoder::BoolEncoder;
 use prob_contexts::VectorProbs;
 use std::alloc::AllocError;
 
-#[tactic(auto, unfolding(compressed_header::specs::Vectors::joint_probs), using(vp9_types::proofs::Binds::writes_bind))]
+#[tactic(auto, unfolding(compressed_header::specs::VectorProbs::joint_probs), using(vp9_types::proofs::Binds::writes_bind))]
 fn put_joints(
     encoder: &mut BoolEncoder,
     before: &VectorProbs,
@@ -28,7 +28,7 @@ fn put_joints(
     put_vector_updates(encoder, &before.joints, &after.joints)
 }
 
-#[tactic(auto, unfolding(crate::specs::Spelling::spelled_component, compressed_header::specs::Vectors::component_probs), using(bool_lists::proofs::Ways::spells_on, vp9_types::proofs::Binds::writes_bind))]
+#[tactic(auto, unfolding(crate::specs::Spelling::spelled_component, compressed_header::specs::VectorProbs::component_probs), using(bool_lists::proofs::Ways::spells_on, vp9_types::proofs::Binds::writes_bind))]
 fn put_component(
     encoder: &mut BoolEncoder,
     i: usize,
@@ -47,7 +47,7 @@ fn put_component(
     put_component_updates(encoder, i, 10 * i, 10, &before.bits, &after.bits)
 }
 
-#[tactic(auto, unfolding(crate::specs::Spelling::spelled_fractions, compressed_header::specs::Vectors::fraction_probs), using(bool_lists::proofs::Ways::spells_on, vp9_types::proofs::Binds::writes_bind))]
+#[tactic(auto, unfolding(crate::specs::Spelling::spelled_fractions, compressed_header::specs::VectorProbs::fraction_probs), using(bool_lists::proofs::Ways::spells_on, vp9_types::proofs::Binds::writes_bind))]
 fn put_fractions(
     encoder: &mut BoolEncoder,
     i: usize,
@@ -71,7 +71,7 @@ fn put_fractions(
     put_component_updates(encoder, i, 3 * i, 3, &before.fractions, &after.fractions)
 }
 
-#[tactic(auto, unfolding(crate::specs::Spelling::spelled_high, compressed_header::specs::Vectors::high_precision_probs), using(bool_lists::proofs::Ways::spells_on, vp9_types::proofs::Binds::writes_bind))]
+#[tactic(auto, unfolding(crate::specs::Spelling::spelled_high, compressed_header::specs::VectorProbs::high_precision_probs), using(bool_lists::proofs::Ways::spells_on, vp9_types::proofs::Binds::writes_bind))]
 fn put_high_precision(
     encoder: &mut BoolEncoder,
     i: usize,
@@ -88,7 +88,7 @@ fn put_high_precision(
     put_component_updates(encoder, i, i, 1, &before.high, &after.high)
 }
 
-#[tactic(auto, unfolding(crate::specs::Spelling::spelled_precise, compressed_header::specs::Vectors::precise_probs), using(bool_lists::proofs::Ways::spells_on, bool_lists::proofs::Ways::spells_none, vp9_types::proofs::Binds::writes_bind))]
+#[tactic(auto, unfolding(crate::specs::Spelling::spelled_precise, compressed_header::specs::VectorProbs::precise_probs), using(bool_lists::proofs::Ways::spells_on, bool_lists::proofs::Ways::spells_none, vp9_types::proofs::Binds::writes_bind))]
 fn put_precise(
     encoder: &mut BoolEncoder,
     precise: bool,
@@ -108,7 +108,7 @@ fn put_precise(
 }
 
 /// Puts `mv_probs` (6.3.16 of the standard).
-#[tactic(auto, unfolding(crate::specs::Spelling::spelled_vectors, compressed_header::specs::Vectors::mv_probs), using(bool_lists::proofs::Ways::spells_on, vp9_types::proofs::Binds::writes_bind))]
+#[tactic(auto, unfolding(crate::specs::Spelling::spelled_vectors, compressed_header::specs::VectorProbs::mv_probs), using(bool_lists::proofs::Ways::spells_on, vp9_types::proofs::Binds::writes_bind))]
 pub fn put_vectors(
     encoder: &mut BoolEncoder,
     precise: bool,

@@ -2,14 +2,14 @@
 
 ghost use Rattle.std.specs.Prelude.{◌≡◌, ◌≤◌, IfOk, length, Ok};
 ghost use Rattle.vp9_types.specs.declared.block.Modes.{Modes};
-ghost use Rattle.bool_encoder.specs.Bools.{Puts};
-ghost use Rattle.bool_lists.specs.Lists.{HasPut};
+ghost use Rattle.bool_encoder.specs.WrittenBools.{Puts};
+ghost use Rattle.bool_lists.specs.BoolLists.{HasPut};
 ghost use Rattle.compressed_writer.specs.Spelling.{spelled_compressed, spelled_inter_part, spelled_kind};
-ghost use Rattle.prob_contexts.specs.Lists.{lists_of};
-ghost use Rattle.compressed_header.specs.Header.{inter_part, kind_part, compressed_header, IsForward};
-ghost use Rattle.compressed_writer.specs.Bytes.{IsWrittenHeader};
+ghost use Rattle.prob_contexts.specs.ProbLists.{lists_of};
+ghost use Rattle.compressed_header.specs.CompressedHeader.{inter_part, kind_part, compressed_header, IsForward};
+ghost use Rattle.compressed_writer.specs.HeaderBytes.{IsWrittenHeader};
 ghost use Rattle.compressed_writer.specs.Code.{before_kind};
-ghost use Rattle.compressed_writer.specs.Updates.{AreInterUpdates, AreVectorUpdates, IsKindUpdate, CanForward};
+ghost use Rattle.compressed_writer.specs.CodedUpdates.{AreInterUpdates, AreVectorUpdates, IsKindUpdate, CanForward};
 
 use crate::modes::put_tx_mode;
 use crate::references::put_inter_probs;
@@ -22,7 +22,7 @@ use prob_contexts::Contexts;
 use std::alloc::{AllocError, Global};
 use vp9_types::{Modes, ReferenceMode};
 
-#[tactic(auto, unfolding(crate::specs::Spelling::spelled_inter_part, compressed_header::specs::Header::inter_part, compressed_header::specs::References::read_partition_probs), using(bool_lists::proofs::Ways::spells_on, vp9_types::proofs::Binds::writes_bind))]
+#[tactic(auto, unfolding(crate::specs::Spelling::spelled_inter_part, compressed_header::specs::CompressedHeader::inter_part, compressed_header::specs::ReferenceProbs::read_partition_probs), using(bool_lists::proofs::Ways::spells_on, vp9_types::proofs::Binds::writes_bind))]
 fn put_inter_part(
     encoder: &mut BoolEncoder,
     fields: &InterFields,
@@ -46,7 +46,7 @@ fn put_inter_part(
     )
 }
 
-#[tactic(auto, unfolding(crate::specs::Spelling::spelled_kind, compressed_header::specs::Header::kind_part), using(bool_lists::proofs::Ways::spells_none))]
+#[tactic(auto, unfolding(crate::specs::Spelling::spelled_kind, compressed_header::specs::CompressedHeader::kind_part), using(bool_lists::proofs::Ways::spells_none))]
 fn put_kind_part(
     encoder: &mut BoolEncoder,
     kind: &FrameKind,
@@ -65,7 +65,7 @@ fn put_kind_part(
     }
 }
 
-#[tactic(auto, unfolding(crate::specs::Spelling::spelled_compressed, compressed_header::specs::Header::compressed_header, compressed_header::specs::Transforms::read_skip_prob), using(bool_lists::proofs::Ways::spells_on, vp9_types::proofs::Binds::writes_bind))]
+#[tactic(auto, unfolding(crate::specs::Spelling::spelled_compressed, compressed_header::specs::CompressedHeader::compressed_header, compressed_header::specs::TransformProbs::read_skip_prob), using(bool_lists::proofs::Ways::spells_on, vp9_types::proofs::Binds::writes_bind))]
 fn put_compressed(
     encoder: &mut BoolEncoder,
     header: &Header,

@@ -9,7 +9,7 @@ use Rattle.std.proofs.lemmas.List.{append-nil, append_assoc, take_more, drop_all
 use Rattle.byteorder.specs.Endian.{little_bytes, little_number}
 use Rattle.byteorder.specs.Numbers.{little_number-reads_back}
 use Rattle.ivf_container.proofs.Walks.{by_test}
-use Rattle.superframe_index.specs.Frames.{HasIndex, IsIndex, size_bytes, frames_of, frames_within}
+use Rattle.superframe_index.specs.PayloadFrames.{HasIndex, IsIndex, size_bytes, frames_of, frames_within}
 use Rattle.superframe_index.proofs.Splits.{within_index}
 use Rattle.container_writer.specs.Indexes.{greatest, width_of, index_header, size_list, index_by, index_bytes}
 

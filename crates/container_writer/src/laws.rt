@@ -3,7 +3,7 @@
 ghost use Rattle.std.specs.Prelude.{◌≡◌, ◌≤◌, ◌<◌, ◌^◌, ◌++◌, ℕ, List, length, map, None};
 ghost use Rattle.std.specs.List.{flat_map, AllByRecursion};
 ghost use Rattle.ivf_container.specs.Packets.{Written, IsHeader, IsWritten, written_bytes, packets_of};
-ghost use Rattle.superframe_index.specs.Frames.{HasIndex, frames_of, frames_within};
+ghost use Rattle.superframe_index.specs.PayloadFrames.{HasIndex, frames_of, frames_within};
 ghost use Rattle.container_writer.specs.Files.{file_header, packet_of};
 ghost use Rattle.container_writer.specs.Indexes.{index_bytes};
 

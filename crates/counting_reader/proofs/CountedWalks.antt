@@ -6,7 +6,7 @@ use Rattle.vp9_types.specs.Trees.{Tree, node, subtree, tree_of, entry_at, is_ent
 use Rattle.vp9_types.proofs.TreeTests.{leaves_at, HoldsTree, IsNode, node_at}
 use Rattle.prob_contexts.specs.declared.kind.ProbKind.{ProbKind}
 use Rattle.counting_reader.specs.Counting.{Standing, settle, run_counting}
-use Rattle.counting_reader.specs.Symbols.{counted_flag, counted_tree}
+use Rattle.counting_reader.specs.CountedSymbols.{counted_flag, counted_tree}
 use Rattle.counting_reader.specs.Code.{branch_of}
 use Rattle.counting_reader.specs.declared.tree.Branch.TheVariants.{Leaf, Node}
 use Rattle.counting_reader.proofs.CountingRuns.{counting_bind, run_settle}

@@ -7,7 +7,7 @@ use Rattle.prob_contexts.specs.declared.kind.CountedBool.{CountedBool}
 use Rattle.prob_contexts.specs.declared.kind.ProbKind.{ProbKind}
 use Rattle.prob_contexts.specs.Counted.{counts_after, with_bool}
 use Rattle.counting_reader.specs.Counting.{Standing, count, run_counting}
-use Rattle.counting_reader.specs.Symbols.{counted_flag}
+use Rattle.counting_reader.specs.CountedSymbols.{counted_flag}
 use Rattle.counting_reader.specs.Code.{counts_by, moved_to}
 use Rattle.counting_reader.proofs.CountedBools.{counts_one}
 

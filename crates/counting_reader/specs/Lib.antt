@@ -1,3 +1,3 @@
 pub mod Counting
-pub mod Symbols
+pub mod CountedSymbols
 pub mod Code

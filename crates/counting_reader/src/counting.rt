@@ -3,7 +3,7 @@
 ghost use Rattle.std.specs.Prelude.{◌≡◌, ◌+◌, ◌*◌, ◌^◌, ◌<◌, ◌≤◌, ℕ};
 ghost use Rattle.prob_contexts.specs.Counted.{counts_after};
 ghost use Rattle.prob_contexts.specs.Kinds.{kind_size};
-ghost use Rattle.counting_reader.specs.Symbols.{unary_bools};
+ghost use Rattle.counting_reader.specs.CountedSymbols.{unary_bools};
 
 use prob_contexts::{Counts, ProbKind};
 

@@ -8,7 +8,7 @@ ghost use Rattle.bool_decoder.specs.Window.{started};
 ghost use Rattle.prob_contexts.specs.declared.kind.CountedBool.{CountedBool};
 ghost use Rattle.prob_contexts.specs.Kinds.{kind_size};
 ghost use Rattle.counting_reader.specs.Counting.{uncounted, count};
-ghost use Rattle.counting_reader.specs.Symbols.{counted_flag, counted_tree, unary_bools};
+ghost use Rattle.counting_reader.specs.CountedSymbols.{counted_flag, counted_tree, unary_bools};
 ghost use Rattle.counting_reader.specs.Code.{Reads, ReadsAway, Starts, standing_of, moved_to};
 
 use crate::counting::count_unary;
@@ -91,7 +91,7 @@ impl<'a, const COUNTS: bool> CountingReader<'a, COUNTS> {
 
     /// One bool, which is counted at a place of a kind.
     #[inline(always)]
-    #[tactic(auto, unfolding(crate::specs::Symbols::counted_flag))]
+    #[tactic(auto, unfolding(crate::specs::CountedSymbols::counted_flag))]
     pub fn counted_bit(&mut self, kind: ProbKind, place: u16, p: u8) -> bool
         requires { place < kind_size kind }
         ensures { Reads (counted_flag kind place p) self.old result self.new }

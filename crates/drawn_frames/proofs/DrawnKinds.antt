@@ -13,8 +13,8 @@ use Rattle.frame_headers.specs.declared.segments.FeatureReference.{FeatureRefere
 use Rattle.frame_headers.specs.declared.segments.MapUpdate.{MapUpdate}
 use Rattle.frame_headers.specs.declared.segments.SegmentFeatures.{SegmentFeatures}
 use Rattle.frame_headers.specs.declared.segments.Segmentation.{Segmentation}
-use Rattle.drawn_symbols.specs.Frames.{AreDrawnSegments, IsDrawnFrame, IsDrawnKind, IsUpdatedAnew}
-use Rattle.drawn_frames.specs.Frames.{draws_segments, is_drawn_frame, is_plain, is_switchable, is_updated_anew, names_filters}
+use Rattle.drawn_symbols.specs.DrawnFor.{AreDrawnSegments, IsDrawnFrame, IsDrawnKind, IsUpdatedAnew}
+use Rattle.drawn_frames.specs.FrameTests.{draws_segments, is_drawn_frame, is_plain, is_switchable, is_updated_anew, names_filters}
 
 abbrev features_of : Option ℤ → Option ℤ → Option FeatureReference → Bool → SegmentFeatures
 features_of quantizer level reference skip = record { quantizer = quantizer; level = level; reference = reference; skip = skip }

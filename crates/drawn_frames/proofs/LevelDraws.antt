@@ -4,9 +4,9 @@ use borrow.Rule.Slice.PartMut.{put_mid}
 use Rattle.std.specs.Prelude.{slice_index, slice_set}
 use Rattle.std.proofs.lemmas.List.{drop_more, drop_all, length-set, length-replicate, get_or-set_same, get_or-set_other}
 use Rattle.vp9_tables.specs.Scans.{area, scan_of}
-use Rattle.prob_contexts.specs.Lists.{ContextLists}
-use Rattle.coef_tokens.specs.Blocks.{block_tables}
-use Rattle.token_writer.specs.Fits.{CanPut}
+use Rattle.prob_contexts.specs.ProbLists.{ContextLists}
+use Rattle.coef_tokens.specs.TokenKinds.{block_tables}
+use Rattle.token_writer.specs.TokenFits.{CanPut}
 use Rattle.block_geometry.specs.Code.{IsSmallGrid}
 use Rattle.block_geometry.specs.TransformBlocks.{tx_step}
 use Rattle.block_geometry.specs.declared.transform_blocks.TransformGrid.{TransformGrid}
@@ -14,12 +14,12 @@ use Rattle.block_plan.proofs.Held.{one_long}
 use Rattle.residue_syntax.specs.BlocksInPlanes.{token_kind, type_at}
 use Rattle.residue_syntax.specs.declared.in_plane.BlockInPlane.{BlockInPlane}
 use Rattle.residue_syntax.proofs.PlaneReads.{all_fit, room_for}
-use Rattle.residue_writer.specs.Fits.{CanPutAt}
-use Rattle.residue_writer.specs.Said.{levels_at}
+use Rattle.residue_writer.specs.ResidueFits.{CanPutAt}
+use Rattle.residue_writer.specs.SaidResidues.{levels_at}
 use Rattle.residue_writer.specs.declared.levels.PlaneLevels.{PlaneLevels}
 use Rattle.vp9_types.specs.declared.block.TxSize.{TxSize}
-use Rattle.drawn_symbols.specs.Levels.{draw_levels, placed_from}
-use Rattle.drawn_frames.specs.Levels.{draw_from, no_plane, placed, with_levels}
+use Rattle.drawn_symbols.specs.LevelDraws.{draw_levels, placed_from}
+use Rattle.drawn_frames.specs.BlockLevelDraws.{draw_from, no_plane, placed, with_levels}
 use Rattle.drawn_frames.proofs.Rooms.{Zeros, put_is, put_long, kept_part, new_part, zero_part, zeros_more}
 
 placed_long : (k : ℕ) (scan : List ℕ) (levels values : List ℤ) → length (placed_from k scan levels values) ≡ length values

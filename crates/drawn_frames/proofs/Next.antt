@@ -3,7 +3,7 @@ use Rattle.std.proofs.Common.{◌≡◌, ◌∙◌, ℕ, zero, suc, ◌+◌, ◌
 use Rattle.std.specs.Prelude.{Option, Some, None, slice_index_or, ◌==◌, if◌then◌else◌}
 use Rattle.std.proofs.lemmas.Nat.{pow-add}
 use Rattle.vp9_types.specs.declared.shape.Shape.{Shape}
-use Rattle.frame_headers.specs.State.{shape_of, held, refreshed, next_persist}
+use Rattle.frame_headers.specs.HeaderState.{shape_of, held, refreshed, next_persist}
 use Rattle.frame_headers.specs.declared.header.FrameFields.{FrameFields}
 use Rattle.frame_headers.specs.declared.header.FrameKind.{FrameKind}
 use Rattle.frame_headers.specs.declared.header.FrameKind.TheVariants.{Key, IntraOnly, Inter}
@@ -13,7 +13,7 @@ use Rattle.frame_headers.specs.declared.header.Uncompressed.TheVariants.{ShowExi
 use Rattle.frame_headers.specs.declared.persist.Persist.{Persist}
 use Rattle.header_writer.specs.Code.{fields_of}
 use Rattle.drawn_frames.specs.Code.{IsMadeKind, IsMadeHeader, IsMadeHead, IfCoded}
-use Rattle.drawn_frames.specs.Made.{IsMadeSize, IsMadeColor, IsMadeShape, IsMadeSlot, IsMade}
+use Rattle.drawn_frames.specs.MadeFrames.{IsMadeSize, IsMadeColor, IsMadeShape, IsMadeSlot, IsMade}
 
 ---- Slots ----
 

@@ -3,7 +3,7 @@ use Rattle.std.specs.Prelude.{◌≡◌, ◌≤◌, ◌<◌, ℕ, Bool, false, S
 use Rattle.vp9_types.specs.declared.shape.Shape.{Shape}
 use Rattle.frame_headers.specs.Color.{default_color}
 use Rattle.frame_headers.specs.Segments.{no_features}
-use Rattle.frame_headers.specs.State.{default_deltas}
+use Rattle.frame_headers.specs.HeaderState.{default_deltas}
 use Rattle.frame_headers.specs.declared.header.FrameFields.{FrameFields}
 use Rattle.frame_headers.specs.declared.header.FrameFilter.TheVariants.{Switchable}
 use Rattle.frame_headers.specs.declared.header.FrameKind.{FrameKind}
@@ -18,8 +18,8 @@ use Rattle.frame_headers.specs.declared.persist.Persist.{Persist}
 use Rattle.frame_headers.specs.declared.segments.Segmentation.{Segmentation}
 use Rattle.header_writer.specs.Code.{fields_of}
 use Rattle.header_writer.specs.WellFormed.{IsReference, AreReferences, IsContexts, IsParams, IsSegmentation}
-use Rattle.drawn_symbols.specs.Frames.{AreDrawnSegments}
-use Rattle.drawn_frames.specs.Made.{key_color, IsMadeSize, IsMadeShape, IsMade}
+use Rattle.drawn_symbols.specs.DrawnFor.{AreDrawnSegments}
+use Rattle.drawn_frames.specs.MadeFrames.{key_color, IsMadeSize, IsMadeShape, IsMade}
 use Rattle.drawn_frames.specs.declared.starts.Start.{Start}
 
 ---- Parts ----

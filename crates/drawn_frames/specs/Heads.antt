@@ -11,7 +11,7 @@ use Rattle.frame_headers.specs.declared.header.Uncompressed.TheVariants.{ShowExi
 use Rattle.frame_headers.specs.declared.persist.Persist.{Persist}
 use Rattle.drawn_symbols.specs.Draws.{Drawn, stay, ◌>>=◌, draw, draw_flag}
 use Rattle.drawn_frames.specs.Params.{draw_params}
-use Rattle.drawn_frames.specs.Starts.{draw_chance, choices_of, key_start, draw_intra_only, draw_inter}
+use Rattle.drawn_frames.specs.FrameStarts.{draw_chance, choices_of, key_start, draw_intra_only, draw_inter}
 use Rattle.drawn_frames.specs.declared.heads.DrawnHead.{DrawnHead}
 use Rattle.drawn_frames.specs.declared.starts.Start.{Start}
 

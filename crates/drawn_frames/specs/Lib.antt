@@ -1,9 +1,9 @@
-pub mod Made
-pub mod Starts
+pub mod MadeFrames
+pub mod FrameStarts
 pub mod Params
 pub mod Heads
-pub mod Modes
+pub mod ModeDraws
 pub mod Code
-pub mod Frames
-pub mod Levels
-pub mod Symbols
+pub mod FrameTests
+pub mod BlockLevelDraws
+pub mod SymbolDraws

@@ -1,12 +1,12 @@
 -- The parameters that end a header (6.2.8 to 6.2.14 of the standard), as they are drawn.
 use Rattle.std.specs.Prelude.{ℕ, pos, true, false, nat_eq, Some, None, replicate, if◌then◌else◌}
 use Rattle.frame_headers.specs.Segments.{no_features}
-use Rattle.frame_headers.specs.State.{default_deltas}
+use Rattle.frame_headers.specs.HeaderState.{default_deltas}
 use Rattle.frame_headers.specs.declared.header.FrameParams.{FrameParams}
 use Rattle.frame_headers.specs.declared.segments.Segmentation.{Segmentation}
 use Rattle.frame_headers.specs.declared.tiles.TileInfo.{TileInfo}
 use Rattle.drawn_symbols.specs.Draws.{Drawn, stay, ◌>>=◌, draw}
-use Rattle.drawn_frames.specs.Starts.{draw_chance}
+use Rattle.drawn_frames.specs.FrameStarts.{draw_chance}
 
 abbrev pub no_segments : Segmentation
 no_segments = record { enabled = false; map = None; features = no_features }

@@ -3,8 +3,8 @@
 ghost use Rattle.std.specs.Prelude.{◌≡◌};
 ghost use Rattle.std.specs.Bool.{OnTrue};
 ghost use Rattle.std.specs.List.{list_all};
-ghost use Rattle.drawn_symbols.specs.Frames.{IsDrawnFrame};
-ghost use Rattle.drawn_frames.specs.Frames.{draws_segments, is_drawn_frame, is_plain, names_filters};
+ghost use Rattle.drawn_symbols.specs.DrawnFor.{IsDrawnFrame};
+ghost use Rattle.drawn_frames.specs.FrameTests.{draws_segments, is_drawn_frame, is_plain, names_filters};
 
 use frame_headers::{FrameFilter, FrameKind, Header, SegmentFeatures, Segmentation};
 
@@ -45,7 +45,7 @@ fn names_filters(kind: &FrameKind) -> bool
 }
 
 /// Whether what the blocks of a frame say can be drawn.
-#[tactic(auto, unfolding(crate::specs::Frames::is_drawn_frame), using(crate::proofs::DrawnKinds::drawn_frame))]
+#[tactic(auto, unfolding(crate::specs::FrameTests::is_drawn_frame), using(crate::proofs::DrawnKinds::drawn_frame))]
 pub fn is_drawn_frame(header: &Header) -> bool
     ensures is { result ≡ is_drawn_frame header.now }
     ensures drawn { OnTrue result (IsDrawnFrame header.now) }

@@ -1,16 +1,16 @@
 //! Uncompressed headers.
 
 ghost use Rattle.std.specs.Prelude.{◌≡◌, ◌≤◌, ℕ, false, length};
-ghost use Rattle.frame_headers.specs.Sizes.{IsFrameSize};
-ghost use Rattle.frame_headers.specs.State.{next_persist};
+ghost use Rattle.frame_headers.specs.FrameSizes.{IsFrameSize};
+ghost use Rattle.frame_headers.specs.HeaderState.{next_persist};
 ghost use Rattle.frame_headers.specs.Tiles.{AreFewTiles};
 ghost use Rattle.frame_headers.specs.declared.persist.Persist.{Persist};
 ghost use Rattle.header_writer.specs.WellFormed.{CanChoose, IsWellFormed};
 ghost use Rattle.drawn_symbols.specs.Draws.{IsDrawn};
-ghost use Rattle.drawn_symbols.specs.Frames.{IsDrawnFrame};
+ghost use Rattle.drawn_symbols.specs.DrawnFor.{IsDrawnFrame};
 ghost use Rattle.drawn_frames.specs.Code.{IfCoded, IsMadeHead, IsMadeHeader, IsStart, with_size};
 ghost use Rattle.drawn_frames.specs.Heads.{draw_coded, draw_head, draw_later, draw_rest, draw_shown};
-ghost use Rattle.drawn_frames.specs.Made.{IsMade, IsMadeSize};
+ghost use Rattle.drawn_frames.specs.MadeFrames.{IsMade, IsMadeSize};
 
 use crate::kinds::{draw_contexts, draw_kind};
 use crate::params::draw_params;

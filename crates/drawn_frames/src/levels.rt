@@ -1,14 +1,14 @@
 //! The levels of blocks.
 
 ghost use Rattle.std.specs.Prelude.{◌≡◌, ◌<◌, ◌≤◌};
-ghost use Rattle.frame_headers.specs.State.{shape_of};
-ghost use Rattle.prob_contexts.specs.Lists.{ContextLists};
+ghost use Rattle.frame_headers.specs.HeaderState.{shape_of};
+ghost use Rattle.prob_contexts.specs.ProbLists.{ContextLists};
 ghost use Rattle.block_geometry.specs.Code.{IsSmallGrid};
 ghost use Rattle.block_geometry.specs.TransformBlocks.{grid_blocks, tx_step};
 ghost use Rattle.residue_syntax.specs.Code.{IsInFrame};
-ghost use Rattle.residue_writer.specs.Fits.{CanPutAll, CanPutBlock, CanPutIn};
+ghost use Rattle.residue_writer.specs.ResidueFits.{CanPutAll, CanPutBlock, CanPutIn};
 ghost use Rattle.drawn_symbols.specs.Draws.{IsDrawn};
-ghost use Rattle.drawn_frames.specs.Levels.{draw_block_levels, draw_from, draw_plane, no_plane};
+ghost use Rattle.drawn_frames.specs.BlockLevelDraws.{draw_block_levels, draw_from, draw_plane, no_plane};
 
 use block_geometry::{TransformGrid, transform_grid};
 use block_plan::BlockInfo;
@@ -48,7 +48,7 @@ fn clear(levels: &mut PlaneLevels)
 }
 
 /// Draws those of a block in a plane, in place of those of the block before it.
-#[tactic(auto, unfolding(crate::specs::Levels::draw_plane))]
+#[tactic(auto, unfolding(crate::specs::BlockLevelDraws::draw_plane))]
 fn draw_plane(
     draws: &mut Draws,
     setting: &FrameSetting,
@@ -71,7 +71,7 @@ fn draw_plane(
 
 /// Draws the levels of a block that starts inside its frame, in place of those of the block before it: such can be put by
 /// `residue_writer::put_block`, whatever the contexts.
-#[tactic(auto, unfolding(crate::specs::Levels::draw_block_levels))]
+#[tactic(auto, unfolding(crate::specs::BlockLevelDraws::draw_block_levels))]
 pub(crate) fn draw_block_levels(
     draws: &mut Draws,
     setting: &FrameSetting,

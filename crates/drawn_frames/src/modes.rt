@@ -1,17 +1,17 @@
 //! The modes of frames.
 
 ghost use Rattle.std.specs.Prelude.{◌≡◌};
-ghost use Rattle.prob_contexts.specs.Lists.{ContextLists};
-ghost use Rattle.compressed_header.specs.Modes.{is_compound_allowed};
-ghost use Rattle.compressed_writer.specs.Updates.{CanForward, IsTxMode};
+ghost use Rattle.prob_contexts.specs.ProbLists.{ContextLists};
+ghost use Rattle.compressed_header.specs.HeaderModes.{is_compound_allowed};
+ghost use Rattle.compressed_writer.specs.CodedUpdates.{CanForward, IsTxMode};
 ghost use Rattle.drawn_symbols.specs.Draws.{IsDrawn};
-ghost use Rattle.drawn_frames.specs.Modes.{draw_modes, draw_tx_mode, reference_mode};
+ghost use Rattle.drawn_frames.specs.ModeDraws.{draw_modes, draw_tx_mode, reference_mode};
 
 use drawn_symbols::Draws;
 use frame_headers::{FrameKind, Header, References};
 use vp9_types::{Modes, ReferenceMode, TxMode};
 
-#[tactic(auto, unfolding(crate::specs::Modes::draw_tx_mode))]
+#[tactic(auto, unfolding(crate::specs::ModeDraws::draw_tx_mode))]
 fn draw_tx_mode(draws: &mut Draws, lossless: bool) -> TxMode
     ensures drawn { IsDrawn (draw_tx_mode lossless) draws.old result draws.new }
     ensures can { IsTxMode lossless result }
@@ -51,7 +51,7 @@ fn reference_mode(kind: &FrameKind) -> ReferenceMode
 }
 
 /// Draws the modes of a frame. A compressed header can say them, and leave all probabilities as they are.
-#[tactic(auto, unfolding(crate::specs::Modes::draw_modes))]
+#[tactic(auto, unfolding(crate::specs::ModeDraws::draw_modes))]
 pub fn draw_modes(draws: &mut Draws, header: &Header) -> Modes
     ensures drawn { IsDrawn (draw_modes header.now) draws.old result draws.new }
     ensures can { (lists : ContextLists) → CanForward header.now lists lists result }

@@ -5,7 +5,7 @@ ghost use Rattle.frame_headers.specs.Tiles.{max_log2, min_log2, superblocks};
 ghost use Rattle.header_writer.specs.WellFormed.{IsTileInfo};
 ghost use Rattle.drawn_symbols.specs.Draws.{IsDrawn};
 ghost use Rattle.drawn_frames.specs.Code.{AreMadeParams, AreMadeSegments};
-ghost use Rattle.drawn_frames.specs.Made.{IsMadeSize};
+ghost use Rattle.drawn_frames.specs.MadeFrames.{IsMadeSize};
 ghost use Rattle.drawn_frames.specs.Params.{draw_columns, draw_params, draw_segmentation, draw_tiles, mapped_segments, no_segments};
 
 use crate::starts::draw_chance;

@@ -3,8 +3,8 @@
 ghost use Rattle.std.specs.Prelude.{◌≡◌, ◌<◌, false, None, Some, slice_index_or};
 ghost use Rattle.drawn_symbols.specs.Draws.{IsDrawn};
 ghost use Rattle.drawn_frames.specs.Code.{AreMadeReferences, IsMadeReference};
-ghost use Rattle.drawn_frames.specs.Made.{IsMade, IsMadeShape, IsMadeSize};
-ghost use Rattle.drawn_frames.specs.Starts.{draw_reference, draw_references, draw_size, shape_in};
+ghost use Rattle.drawn_frames.specs.MadeFrames.{IsMade, IsMadeShape, IsMadeSize};
+ghost use Rattle.drawn_frames.specs.FrameStarts.{draw_reference, draw_references, draw_size, shape_in};
 
 use crate::sizes::{SMALL, WHOLE};
 use drawn_symbols::Draws;
@@ -27,7 +27,7 @@ fn shape_in(slot: Option<Shape>) -> Shape
     }
 }
 
-#[tactic(auto, unfolding(crate::specs::Starts::draw_reference))]
+#[tactic(auto, unfolding(crate::specs::FrameStarts::draw_reference))]
 fn draw_reference(draws: &mut Draws, before: &Persist) -> Reference
     requires { IsMade before.now }
     ensures drawn { IsDrawn (draw_reference before.now) draws.old result draws.new }
@@ -42,7 +42,7 @@ fn draw_reference(draws: &mut Draws, before: &Persist) -> Reference
 }
 
 /// The three references of an inter frame.
-#[tactic(auto, unfolding(crate::specs::Starts::draw_references))]
+#[tactic(auto, unfolding(crate::specs::FrameStarts::draw_references))]
 pub(crate) fn draw_references(draws: &mut Draws, before: &Persist) -> References
     requires { IsMade before.now }
     ensures drawn { IsDrawn (draw_references before.now) draws.old result draws.new }
@@ -64,7 +64,7 @@ pub(crate) fn draw_references(draws: &mut Draws, before: &Persist) -> References
 }
 
 /// The size of an inter frame: one of its own, or that of the first reference.
-#[tactic(auto, unfolding(crate::specs::Starts::draw_size))]
+#[tactic(auto, unfolding(crate::specs::FrameStarts::draw_size))]
 pub(crate) fn draw_size(draws: &mut Draws, own_size: bool, last: &Reference) -> FrameSize
     requires { IsMadeShape last.now.shape }
     ensures drawn { IsDrawn (draw_size own_size last.now) draws.old result draws.new }

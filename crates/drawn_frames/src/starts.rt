@@ -4,8 +4,8 @@ ghost use Rattle.std.specs.Prelude.{◌≡◌, ◌<◌, ◌^◌};
 ghost use Rattle.frame_headers.specs.declared.persist.Persist.{Persist};
 ghost use Rattle.drawn_symbols.specs.Draws.{IsDrawn};
 ghost use Rattle.drawn_frames.specs.Code.{IsStart};
-ghost use Rattle.drawn_frames.specs.Made.{IsMade};
-ghost use Rattle.drawn_frames.specs.Starts.{choices_of, draw_chance, draw_inter, draw_intra_only, intra_start, key_start};
+ghost use Rattle.drawn_frames.specs.MadeFrames.{IsMade};
+ghost use Rattle.drawn_frames.specs.FrameStarts.{choices_of, draw_chance, draw_inter, draw_intra_only, intra_start, key_start};
 
 use crate::references::{draw_references, draw_size};
 use crate::sizes::{KEY_COLOR, WHOLE};
@@ -22,7 +22,7 @@ pub struct Start {
 }
 
 /// Whether it is the first of `n` values.
-#[tactic(auto, unfolding(crate::specs::Starts::draw_chance))]
+#[tactic(auto, unfolding(crate::specs::FrameStarts::draw_chance))]
 pub(crate) fn draw_chance(draws: &mut Draws, n: u32) -> bool
     requires { 0 < n }
     ensures { IsDrawn (draw_chance n) draws.old result draws.new }
@@ -72,7 +72,7 @@ fn flag_of(slot: u8) -> u8
     1 << slot
 }
 
-#[tactic(auto, unfolding(crate::specs::Starts::draw_intra_only))]
+#[tactic(auto, unfolding(crate::specs::FrameStarts::draw_intra_only))]
 pub(crate) fn draw_intra_only(draws: &mut Draws) -> Start
     ensures drawn { IsDrawn draw_intra_only draws.old result draws.new }
     ensures made { (before : Persist) → IsMade before → IsStart before result }
@@ -86,7 +86,7 @@ pub(crate) fn draw_intra_only(draws: &mut Draws) -> Start
     )
 }
 
-#[tactic(auto, unfolding(crate::specs::Starts::draw_inter))]
+#[tactic(auto, unfolding(crate::specs::FrameStarts::draw_inter))]
 pub(crate) fn draw_inter(draws: &mut Draws, before: &Persist) -> Start
     requires { IsMade before.now }
     ensures drawn { IsDrawn (draw_inter before.now) draws.old result draws.new }

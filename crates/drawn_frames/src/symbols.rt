@@ -17,7 +17,7 @@ pub struct DrawnSymbols {
 }
 
 impl FrameSymbols for DrawnSymbols {
-    ghost use Rattle.drawn_frames.specs.Symbols.{drawing};
+    ghost use Rattle.drawn_frames.specs.SymbolDraws.{drawing};
 
     ghost speaker = { drawing };
 

@@ -14,23 +14,23 @@ use Rattle.frame_headers.specs.declared.segments.Segmentation.{Segmentation}
 use Rattle.block_plan.specs.declared.block.References.{References}
 use Rattle.mode_syntax.specs.Elements.{skips_segment}
 use Rattle.mv_prediction.specs.declared.search.SignBiases.{SignBiases}
-use Rattle.inter_contexts.specs.References.{in_range_or_rule}
+use Rattle.inter_contexts.specs.BlockReferences.{in_range_or_rule}
 use Rattle.inter_modes.specs.ModeInfo.{InterFrame}
-use Rattle.inter_modes.specs.Starts.{reference_if, segment_reference}
-use Rattle.inter_modes.specs.Vectors.{Sources, best_vectors}
+use Rattle.inter_modes.specs.BlockStarts.{reference_if, segment_reference}
+use Rattle.inter_modes.specs.BlockVectors.{Sources, best_vectors}
 use Rattle.block_plan.specs.declared.block.BlockAt.{BlockAt}
 use Rattle.block_plan.specs.declared.block.IntraPrediction.{IntraPrediction}
 use Rattle.frame_headers.specs.declared.header.Header.{Header}
 use Rattle.vp9_types.specs.declared.block.Modes.{Modes}
 use Rattle.inter_modes.specs.declared.starts.BlockStart.{BlockStart}
-use Rattle.mode_writer.specs.Fits.{CanSegment, CanSkip, CanTx, CanLuma}
-use Rattle.inter_writer.specs.Fits.{CanCodeReferences, CanReferBy, CanSayInterBlock, CanPutIntra}
+use Rattle.mode_writer.specs.ModeFits.{CanSegment, CanSkip, CanTx, CanLuma}
+use Rattle.inter_writer.specs.InterFits.{CanCodeReferences, CanReferBy, CanSayInterBlock, CanPutIntra}
 use Rattle.inter_writer.specs.declared.frame_blocks.PredictionSymbols.TheVariants.{Intra}
-use Rattle.drawn_symbols.specs.Inter.{references_alone}
-use Rattle.vector_writer.specs.Fits.{CanFilter, CanSayInter}
+use Rattle.drawn_symbols.specs.InterDraws.{references_alone}
+use Rattle.vector_writer.specs.VectorFits.{CanFilter, CanSayInter}
 use Rattle.vector_writer.specs.declared.symbols.InterSymbols.{InterSymbols}
 use Rattle.drawn_symbols.specs.Code.{CanBeSymbols}
-use Rattle.drawn_symbols.specs.Frames.{AreDrawnSegments}
+use Rattle.drawn_symbols.specs.DrawnFor.{AreDrawnSegments}
 use Rattle.drawn_symbols.specs.declared.quarters.Best.{Best}
 
 no_reference : (enabled : Bool) (f : SegmentFeatures) → (enabled ≡ true → f ≡ no_segment_features) → reference_if enabled f.reference ≡ None

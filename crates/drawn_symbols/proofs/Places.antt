@@ -6,8 +6,8 @@ use Rattle.std.proofs.lemmas.List.Elements.{All-cons, All-head, All-tail, All-se
 use Rattle.std.proofs.lemmas.List.{length-set}
 use Rattle.vp9_types.specs.declared.shape.Depth.{Depth}
 use Rattle.coef_tokens.specs.Places.{Tables}
-use Rattle.token_writer.specs.Fits.{IsCoded, level_of, CanPut}
-use Rattle.drawn_symbols.specs.Levels.{IsDrawnLevel, placed_from}
+use Rattle.token_writer.specs.TokenFits.{IsCoded, level_of, CanPut}
+use Rattle.drawn_symbols.specs.LevelDraws.{IsDrawnLevel, placed_from}
 
 beside : (xs : List ℤ) (k j : ℕ) (x : ℤ) → k ≢ j → level_of (slice_set xs k x) j ≡ level_of xs j
 beside [] k j x other = refl

@@ -5,12 +5,12 @@ use Rattle.vp9_types.specs.declared.block.BlockSize.{BlockSize}
 use Rattle.vp9_types.specs.declared.block.BlockSize.TheVariants.{B4x4, B4x8, B8x4, B8x8, B8x16, B16x8, B16x16, B16x32, B32x16, B32x32, B32x64, B64x32, B64x64}
 use Rattle.vp9_types.specs.declared.block.InterpFilter.{InterpFilter}
 use Rattle.vp9_types.specs.declared.block.InterpFilter.TheVariants.{Bilinear}
-use Rattle.block_geometry.specs.Sizes.{is_below_8x8}
-use Rattle.vector_writer.specs.Fits.{quarter_saying}
-use Rattle.vector_writer.specs.Said.{mode_at, symbols_at}
+use Rattle.block_geometry.specs.BlockSizes.{is_below_8x8}
+use Rattle.vector_writer.specs.VectorFits.{quarter_saying}
+use Rattle.vector_writer.specs.SaidVectors.{mode_at, symbols_at}
 use Rattle.vector_writer.specs.declared.symbols.QuarterSymbols.{QuarterSymbols}
 use Rattle.drawn_symbols.specs.Code.{CanBeQuarter, CanBeSymbols}
-use Rattle.drawn_symbols.specs.Inter.{symbols_of}
+use Rattle.drawn_symbols.specs.InterDraws.{symbols_of}
 use Rattle.drawn_symbols.specs.declared.quarters.Best.{Best}
 
 each_four : (P : ℕ → Type 0) → P 0 → P 1 → P 2 → P 3 → (j : ℕ) → j < 4 → P j

@@ -2,8 +2,8 @@
 use Rattle.std.specs.Prelude.{◌≡◌, ◌≢◌, ℕ, ◌<◌}
 use Rattle.vp9_types.specs.declared.block.BlockSize.{BlockSize}
 use Rattle.vp9_types.specs.declared.block.InterpFilter.TheVariants.{Bilinear}
-use Rattle.vector_writer.specs.Fits.{CanSayVectors, quarter_saying}
-use Rattle.vector_writer.specs.Said.{mode_at, symbols_at}
+use Rattle.vector_writer.specs.VectorFits.{CanSayVectors, quarter_saying}
+use Rattle.vector_writer.specs.SaidVectors.{mode_at, symbols_at}
 use Rattle.vector_writer.specs.declared.symbols.InterSymbols.{InterSymbols}
 use Rattle.vector_writer.specs.declared.symbols.QuarterSymbols.{QuarterSymbols}
 use Rattle.drawn_symbols.specs.declared.quarters.Best.{Best}

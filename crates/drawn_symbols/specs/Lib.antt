@@ -1,9 +1,9 @@
-pub mod Blocks
+pub mod BlockDraws
 pub mod Code
 pub mod Draws
-pub mod Frames
-pub mod Intra
-pub mod Inter
-pub mod Levels
-pub mod Starts
-pub mod Vectors
+pub mod DrawnFor
+pub mod IntraDraws
+pub mod InterDraws
+pub mod LevelDraws
+pub mod StartDraws
+pub mod VectorDraws

@@ -4,19 +4,19 @@ ghost use Rattle.std.specs.Prelude.{◌≡◌, ◌<◌, ◌≤◌, ℕ, IfSome};
 ghost use Rattle.std.specs.List.{All};
 ghost use Rattle.std.specs.Option.{option_copied};
 ghost use Rattle.frame_headers.specs.declared.header.FrameFilter.TheVariants.{Switchable};
-ghost use Rattle.prob_contexts.specs.Lists.{lists_of};
+ghost use Rattle.prob_contexts.specs.ProbLists.{lists_of};
 ghost use Rattle.mv_prediction.specs.Candidates.{sign_biases};
 ghost use Rattle.mv_prediction.specs.Code.{HasSmallVectors, IsSite, blocks_of};
 ghost use Rattle.vp9_types.specs.Maps.{Map};
 ghost use Rattle.inter_modes.specs.Code.{MaySearch, frame_in};
 ghost use Rattle.inter_modes.specs.ModeInfo.{sources_of};
-ghost use Rattle.mode_writer.specs.Fits.{CanLuma};
+ghost use Rattle.mode_writer.specs.ModeFits.{CanLuma};
 ghost use Rattle.inter_writer.specs.declared.frame_blocks.PredictionSymbols.TheVariants.{Intra};
-ghost use Rattle.inter_writer.specs.Fits.{CanPredict, CanPut, CanPutInterFrame, CanPutIntra};
+ghost use Rattle.inter_writer.specs.InterFits.{CanPredict, CanPut, CanPutInterFrame, CanPutIntra};
 ghost use Rattle.vector_writer.specs.Code as code;
-ghost use Rattle.drawn_symbols.specs.Blocks.{draw_intra_prediction, draw_inter_prediction, draw_intra_frame_block, draw_prediction, draw_inter_frame_block, draw_block};
+ghost use Rattle.drawn_symbols.specs.BlockDraws.{draw_intra_prediction, draw_inter_prediction, draw_intra_frame_block, draw_prediction, draw_inter_frame_block, draw_block};
 ghost use Rattle.drawn_symbols.specs.Draws.{IsDrawn};
-ghost use Rattle.drawn_symbols.specs.Frames.{AreDrawnSegments, IsDrawnFrame};
+ghost use Rattle.drawn_symbols.specs.DrawnFor.{AreDrawnSegments, IsDrawnFrame};
 
 use crate::draws::Draws;
 use crate::inter::draw_inter;
@@ -30,7 +30,7 @@ use inter_writer::{BlockSymbols, PredictionSymbols};
 use mv_prediction::{MvSearch, SignBiases, mode_context};
 use vp9_types::BlockSize;
 
-#[tactic(auto, unfolding(crate::specs::Blocks::draw_intra_prediction))]
+#[tactic(auto, unfolding(crate::specs::BlockDraws::draw_intra_prediction))]
 fn draw_intra_prediction(draws: &mut Draws, size: BlockSize) -> IntraPrediction
     ensures drawn { draw_intra_prediction size draws.old.x ≡ (Intra result, draws.new.x) }
     ensures can { CanLuma size result.luma }
@@ -39,7 +39,7 @@ fn draw_intra_prediction(draws: &mut Draws, size: BlockSize) -> IntraPrediction
 }
 
 /// A block of an intra frame.
-#[tactic(auto, unfolding(crate::specs::Blocks::draw_intra_frame_block), using(crate::proofs::Frames::intra_can))]
+#[tactic(auto, unfolding(crate::specs::BlockDraws::draw_intra_frame_block), using(crate::proofs::Frames::intra_can))]
 fn draw_intra_frame_block(draws: &mut Draws, setting: &FrameSetting, at: &BlockAt) -> BlockSymbols
     requires segments { AreDrawnSegments setting.now.header.params.segmentation }
     ensures drawn { IsDrawn (draw_intra_frame_block setting.now.header setting.now.modes at.now.size) draws.old result draws.new }
@@ -55,7 +55,7 @@ fn draw_intra_frame_block(draws: &mut Draws, setting: &FrameSetting, at: &BlockA
 }
 
 /// The prediction of a block of an inter frame.
-#[tactic(auto, unfolding(crate::specs::Blocks::draw_prediction, crate::specs::Blocks::draw_inter_prediction))]
+#[tactic(auto, unfolding(crate::specs::BlockDraws::draw_prediction, crate::specs::BlockDraws::draw_inter_prediction))]
 fn draw_prediction<N: Neighbours, Q: Neighbours>(
     draws: &mut Draws,
     src: &Sources<'_, N, Q>,
@@ -76,7 +76,7 @@ fn draw_prediction<N: Neighbours, Q: Neighbours>(
 }
 
 /// A block of an inter frame, by what its vectors are predicted by.
-#[tactic(auto, unfolding(crate::specs::Blocks::draw_inter_frame_block))]
+#[tactic(auto, unfolding(crate::specs::BlockDraws::draw_inter_frame_block))]
 fn draw_from<N: Neighbours, Q: Neighbours>(
     draws: &mut Draws,
     src: &Sources<'_, N, Q>,
@@ -136,7 +136,7 @@ fn draw_inter_frame_block<N: Neighbours, Q: Neighbours>(
 /// Draws what a block says, which starts inside the frame and its tile: such can be put by `inter_writer::put_mode_info`,
 /// whatever the segments before the frame. A block whose references are out of range says nothing behind them. `earlier` has
 /// the frame's blocks before it, and `before` those of the frame before, where its vectors are used.
-#[tactic(auto, unfolding(crate::specs::Blocks::draw_block))]
+#[tactic(auto, unfolding(crate::specs::BlockDraws::draw_block))]
 pub fn draw_block<N: Neighbours, Q: Neighbours>(
     draws: &mut Draws,
     setting: &FrameSetting,

@@ -3,11 +3,11 @@
 ghost use Rattle.std.specs.Prelude.{◌≡◌, ◌<◌, ℤ, pos, List, length};
 ghost use Rattle.std.specs.List.{All};
 ghost use Rattle.vp9_tables.specs.Scans.{area, scan_of};
-ghost use Rattle.prob_contexts.specs.Lists.{ContextLists};
-ghost use Rattle.coef_tokens.specs.Blocks.{block_tables};
-ghost use Rattle.token_writer.specs.Fits.{CanPut};
+ghost use Rattle.prob_contexts.specs.ProbLists.{ContextLists};
+ghost use Rattle.coef_tokens.specs.TokenKinds.{block_tables};
+ghost use Rattle.token_writer.specs.TokenFits.{CanPut};
 ghost use Rattle.residue_syntax.specs.BlocksInPlanes.{token_kind, type_at};
-ghost use Rattle.drawn_symbols.specs.Levels.{draw_levels, placed_from};
+ghost use Rattle.drawn_symbols.specs.LevelDraws.{draw_levels, placed_from};
 
 use crate::draws::Draws;
 use crate::levels::draw_levels;

@@ -4,11 +4,11 @@ ghost use Rattle.std.specs.Prelude.{◌≡◌, ℕ};
 ghost use Rattle.std.specs.Option.{option_copied};
 ghost use Rattle.frame_headers.specs.declared.header.FrameFilter.TheVariants.{Switchable};
 ghost use Rattle.inter_modes.specs.Code.{MaySearch, frame_in};
-ghost use Rattle.inter_writer.specs.Fits.{CanSayInterBlock};
+ghost use Rattle.inter_writer.specs.InterFits.{CanSayInterBlock};
 ghost use Rattle.vector_writer.specs.Code.{sources_of};
 ghost use Rattle.drawn_symbols.specs.Draws.{IsDrawn};
-ghost use Rattle.drawn_symbols.specs.Frames.{AreDrawnSegments};
-ghost use Rattle.drawn_symbols.specs.Inter.{draw_inter, references_alone};
+ghost use Rattle.drawn_symbols.specs.DrawnFor.{AreDrawnSegments};
+ghost use Rattle.drawn_symbols.specs.InterDraws.{draw_inter, references_alone};
 
 use crate::draws::Draws;
 use crate::quarters::{Best, draw_modes, symbols_of};
@@ -31,7 +31,7 @@ fn references_alone(references: References) -> InterSymbols
 }
 
 /// What an inter block of an inter frame says.
-#[tactic(auto, unfolding(crate::specs::Inter::draw_inter), using(crate::proofs::Frames::inter_can, crate::proofs::Frames::references_alone_can))]
+#[tactic(auto, unfolding(crate::specs::InterDraws::draw_inter), using(crate::proofs::Frames::inter_can, crate::proofs::Frames::references_alone_can))]
 pub(crate) fn draw_inter<N: Neighbours, Q: Neighbours>(
     draws: &mut Draws,
     src: &Sources<'_, N, Q>,

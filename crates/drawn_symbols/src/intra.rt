@@ -1,15 +1,15 @@
 //! Partitions and intra modes.
 
 ghost use Rattle.std.specs.Prelude.{◌≡◌, true};
-ghost use Rattle.mode_writer.specs.Fits.{AreColumns, AreRows, CanLuma, CanPartition};
+ghost use Rattle.mode_writer.specs.ModeFits.{AreColumns, AreRows, CanLuma, CanPartition};
 ghost use Rattle.drawn_symbols.specs.Draws.{IsDrawn};
-ghost use Rattle.drawn_symbols.specs.Intra.{draw_partition, draw_intra_mode, draw_one_mode, draw_two_rows, draw_two_columns, draw_four_modes, draw_luma, draw_intra};
+ghost use Rattle.drawn_symbols.specs.IntraDraws.{draw_partition, draw_intra_mode, draw_one_mode, draw_two_rows, draw_two_columns, draw_four_modes, draw_luma, draw_intra};
 
 use crate::draws::Draws;
 use block_plan::IntraPrediction;
 use vp9_types::{BlockSize, IntraMode, Partition};
 
-#[tactic(auto, unfolding(crate::specs::Draws::draw_leaf, crate::specs::Intra::draw_partition))]
+#[tactic(auto, unfolding(crate::specs::Draws::draw_leaf, crate::specs::IntraDraws::draw_partition))]
 fn draw_whole(draws: &mut Draws) -> Partition
     ensures { IsDrawn (draw_partition true true) draws.old result draws.new }
 {
@@ -22,7 +22,7 @@ fn draw_whole(draws: &mut Draws) -> Partition
 }
 
 /// How a square is partitioned whose lower half begins inside the frame, or doesn't, and its right half.
-#[tactic(auto, unfolding(crate::specs::Intra::draw_partition))]
+#[tactic(auto, unfolding(crate::specs::IntraDraws::draw_partition))]
 pub fn draw_partition(draws: &mut Draws, has_rows: bool, has_cols: bool) -> Partition
     ensures drawn { IsDrawn (draw_partition has_rows has_cols) draws.old result draws.new }
     ensures can { CanPartition has_rows has_cols result }
@@ -47,7 +47,7 @@ pub fn draw_partition(draws: &mut Draws, has_rows: bool, has_cols: bool) -> Part
     }
 }
 
-#[tactic(auto, unfolding(crate::specs::Draws::draw_leaf, crate::specs::Intra::draw_intra_mode))]
+#[tactic(auto, unfolding(crate::specs::Draws::draw_leaf, crate::specs::IntraDraws::draw_intra_mode))]
 fn draw_intra_mode(draws: &mut Draws) -> IntraMode
     ensures { IsDrawn draw_intra_mode draws.old result draws.new }
 {
@@ -65,7 +65,7 @@ fn draw_intra_mode(draws: &mut Draws) -> IntraMode
     }
 }
 
-#[tactic(auto, unfolding(crate::specs::Intra::draw_one_mode))]
+#[tactic(auto, unfolding(crate::specs::IntraDraws::draw_one_mode))]
 fn draw_one_mode(draws: &mut Draws) -> [IntraMode; 4]
     ensures drawn { IsDrawn draw_one_mode draws.old result draws.new }
     ensures can { AreRows result × AreColumns result }
@@ -74,7 +74,7 @@ fn draw_one_mode(draws: &mut Draws) -> [IntraMode; 4]
     [mode, mode, mode, mode]
 }
 
-#[tactic(auto, unfolding(crate::specs::Intra::draw_two_rows))]
+#[tactic(auto, unfolding(crate::specs::IntraDraws::draw_two_rows))]
 fn draw_two_rows(draws: &mut Draws) -> [IntraMode; 4]
     ensures drawn { IsDrawn draw_two_rows draws.old result draws.new }
     ensures can { AreRows result }
@@ -84,7 +84,7 @@ fn draw_two_rows(draws: &mut Draws) -> [IntraMode; 4]
     [upper, upper, lower, lower]
 }
 
-#[tactic(auto, unfolding(crate::specs::Intra::draw_two_columns))]
+#[tactic(auto, unfolding(crate::specs::IntraDraws::draw_two_columns))]
 fn draw_two_columns(draws: &mut Draws) -> [IntraMode; 4]
     ensures drawn { IsDrawn draw_two_columns draws.old result draws.new }
     ensures can { AreColumns result }
@@ -94,7 +94,7 @@ fn draw_two_columns(draws: &mut Draws) -> [IntraMode; 4]
     [left, right, left, right]
 }
 
-#[tactic(auto, unfolding(crate::specs::Intra::draw_four_modes))]
+#[tactic(auto, unfolding(crate::specs::IntraDraws::draw_four_modes))]
 fn draw_four_modes(draws: &mut Draws) -> [IntraMode; 4]
     ensures { IsDrawn draw_four_modes draws.old result draws.new }
 {
@@ -106,7 +106,7 @@ fn draw_four_modes(draws: &mut Draws) -> [IntraMode; 4]
 }
 
 /// The modes of the quarters of a block.
-#[tactic(auto, unfolding(crate::specs::Intra::draw_luma))]
+#[tactic(auto, unfolding(crate::specs::IntraDraws::draw_luma))]
 fn draw_luma(draws: &mut Draws, size: BlockSize) -> [IntraMode; 4]
     ensures drawn { IsDrawn (draw_luma size) draws.old result draws.new }
     ensures can { CanLuma size result }
@@ -120,7 +120,7 @@ fn draw_luma(draws: &mut Draws, size: BlockSize) -> [IntraMode; 4]
 }
 
 /// The modes of an intra block.
-#[tactic(auto, unfolding(crate::specs::Intra::draw_intra))]
+#[tactic(auto, unfolding(crate::specs::IntraDraws::draw_intra))]
 pub(crate) fn draw_intra(draws: &mut Draws, size: BlockSize) -> IntraPrediction
     ensures drawn { IsDrawn (draw_intra size) draws.old result draws.new }
     ensures can { CanLuma size result.luma }

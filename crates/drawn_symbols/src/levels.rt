@@ -3,9 +3,9 @@
 ghost use Rattle.std.specs.Prelude.{◌≡◌, ◌<◌, ◌≤◌, ℤ, pos, List, length};
 ghost use Rattle.std.specs.List.{All};
 ghost use Rattle.coef_tokens.specs.Places.{Tables};
-ghost use Rattle.token_writer.specs.Fits.{CanPut};
+ghost use Rattle.token_writer.specs.TokenFits.{CanPut};
 ghost use Rattle.drawn_symbols.specs.Draws.{IsDrawn};
-ghost use Rattle.drawn_symbols.specs.Levels.{IsDrawnLevel, draw_level, draw_levels, draw_run, draw_some, levels_of, placed_from};
+ghost use Rattle.drawn_symbols.specs.LevelDraws.{IsDrawnLevel, draw_level, draw_levels, draw_run, draw_some, levels_of, placed_from};
 
 use crate::draws::Draws;
 
@@ -16,7 +16,7 @@ pub struct Levels {
     pub values: [i32; 3],
 }
 
-#[tactic(auto, unfolding(crate::specs::Levels::draw_level))]
+#[tactic(auto, unfolding(crate::specs::LevelDraws::draw_level))]
 fn draw_level(draws: &mut Draws) -> i32
     ensures drawn { IsDrawn draw_level draws.old result draws.new }
     ensures level { IsDrawnLevel result }
@@ -27,7 +27,7 @@ fn draw_level(draws: &mut Draws) -> i32
     if sign { -level } else { level }
 }
 
-#[tactic(auto, unfolding(crate::specs::Levels::draw_some, crate::specs::Levels::draw_run))]
+#[tactic(auto, unfolding(crate::specs::LevelDraws::draw_some, crate::specs::LevelDraws::draw_run))]
 fn draw_some(draws: &mut Draws) -> Levels
     ensures drawn { draw_some draws.old.x ≡ (levels_of result, draws.new.x) }
     ensures levels { All IsDrawnLevel (levels_of result) }
@@ -62,7 +62,7 @@ fn draw_some(draws: &mut Draws) -> Levels
     }
 }
 
-#[tactic(auto, unfolding(crate::specs::Levels::draw_levels))]
+#[tactic(auto, unfolding(crate::specs::LevelDraws::draw_levels))]
 fn draw_in_order(draws: &mut Draws) -> Levels
     ensures drawn { draw_levels draws.old.x ≡ (levels_of result, draws.new.x) }
     ensures levels { All IsDrawnLevel (levels_of result) }

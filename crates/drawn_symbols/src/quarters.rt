@@ -3,10 +3,10 @@
 ghost use Rattle.std.specs.Prelude.{◌≡◌, ◌≢◌, false, true};
 ghost use Rattle.vp9_types.specs.declared.block.BlockSize.TheVariants.{B4x4, B4x8, B8x4};
 ghost use Rattle.vp9_types.specs.declared.block.InterpFilter.TheVariants.{Bilinear};
-ghost use Rattle.block_geometry.specs.Sizes.{is_below_8x8};
-ghost use Rattle.vector_writer.specs.Fits.{CanBeNew, CanSayVectors};
+ghost use Rattle.block_geometry.specs.BlockSizes.{is_below_8x8};
+ghost use Rattle.vector_writer.specs.VectorFits.{CanBeNew, CanSayVectors};
 ghost use Rattle.drawn_symbols.specs.Draws.{IsDrawn};
-ghost use Rattle.drawn_symbols.specs.Inter.{draw_inter_mode, draw_filter, draw_new, draw_new_if, draw_differences, draw_quarter, symbols_of, draw_whole, draw_four, draw_columns, draw_rows, draw_quarters, draw_modes};
+ghost use Rattle.drawn_symbols.specs.InterDraws.{draw_inter_mode, draw_filter, draw_new, draw_new_if, draw_differences, draw_quarter, symbols_of, draw_whole, draw_four, draw_columns, draw_rows, draw_quarters, draw_modes};
 ghost use Rattle.drawn_symbols.specs.Code.{CanBeSymbols};
 
 use crate::draws::Draws;
@@ -28,7 +28,7 @@ pub struct Best {
     pub size: BlockSize,
 }
 
-#[tactic(auto, unfolding(crate::specs::Draws::draw_leaf, crate::specs::Inter::draw_inter_mode))]
+#[tactic(auto, unfolding(crate::specs::Draws::draw_leaf, crate::specs::InterDraws::draw_inter_mode))]
 fn draw_inter_mode(draws: &mut Draws) -> InterMode
     ensures { IsDrawn draw_inter_mode draws.old result draws.new }
 {
@@ -40,7 +40,7 @@ fn draw_inter_mode(draws: &mut Draws) -> InterMode
     }
 }
 
-#[tactic(auto, unfolding(crate::specs::Draws::draw_leaf, crate::specs::Inter::draw_filter))]
+#[tactic(auto, unfolding(crate::specs::Draws::draw_leaf, crate::specs::InterDraws::draw_filter))]
 fn draw_filter(draws: &mut Draws) -> InterpFilter
     ensures drawn { IsDrawn draw_filter draws.old result draws.new }
     ensures named { result ≢ Bilinear }
@@ -52,7 +52,7 @@ fn draw_filter(draws: &mut Draws) -> InterpFilter
     }
 }
 
-#[tactic(auto, unfolding(crate::specs::Inter::draw_new))]
+#[tactic(auto, unfolding(crate::specs::InterDraws::draw_new))]
 fn draw_new(draws: &mut Draws, allowed: bool, mode: InterMode, best: Mv) -> Mv
     ensures drawn { IsDrawn (draw_new allowed mode best) draws.old result draws.new }
     ensures can { CanBeNew allowed mode best result }
@@ -63,7 +63,7 @@ fn draw_new(draws: &mut Draws, allowed: bool, mode: InterMode, best: Mv) -> Mv
     }
 }
 
-#[tactic(auto, unfolding(crate::specs::Inter::draw_new_if))]
+#[tactic(auto, unfolding(crate::specs::InterDraws::draw_new_if))]
 fn draw_new_if(draws: &mut Draws, coded: bool, allowed: bool, mode: InterMode, best: Mv) -> Mv
     ensures drawn { IsDrawn (draw_new_if coded allowed mode best) draws.old result draws.new }
     ensures can { coded ≡ true → CanBeNew allowed mode best result }
@@ -76,7 +76,7 @@ fn draw_new_if(draws: &mut Draws, coded: bool, allowed: bool, mode: InterMode, b
 }
 
 /// The differences of a block or a quarter of a mode.
-#[tactic(auto, unfolding(crate::specs::Inter::draw_differences))]
+#[tactic(auto, unfolding(crate::specs::InterDraws::draw_differences))]
 fn draw_differences(draws: &mut Draws, best: &Best, mode: InterMode) -> QuarterSymbols
     ensures drawn { (draw_differences best.now.allowed best.now.vectors best.now.references mode) draws.old.x ≡ (result.differences, draws.new.x) }
     ensures mode { result.mode ≡ mode }
@@ -92,7 +92,7 @@ fn draw_differences(draws: &mut Draws, best: &Best, mode: InterMode) -> QuarterS
     }
 }
 
-#[tactic(auto, unfolding(crate::specs::Inter::draw_quarter))]
+#[tactic(auto, unfolding(crate::specs::InterDraws::draw_quarter))]
 fn draw_quarter(draws: &mut Draws, best: &Best) -> QuarterSymbols
     ensures drawn { IsDrawn (draw_quarter best.now.allowed best.now.vectors best.now.references) draws.old result draws.new }
     ensures can { CanSayVectors best.now.allowed best.now.vectors best.now.references result }
@@ -137,7 +137,7 @@ pub(crate) fn symbols_of(
 }
 
 /// A block of 8x8 or more.
-#[tactic(auto, unfolding(crate::specs::Inter::draw_whole))]
+#[tactic(auto, unfolding(crate::specs::InterDraws::draw_whole))]
 fn draw_whole(draws: &mut Draws, best: &Best) -> InterSymbols
     requires { is_below_8x8 best.now.size ≡ false }
     ensures drawn { IsDrawn (draw_whole best.now.allowed best.now.vectors best.now.references) draws.old result draws.new }
@@ -150,7 +150,7 @@ fn draw_whole(draws: &mut Draws, best: &Best) -> InterSymbols
 }
 
 /// A block of 4x4.
-#[tactic(auto, unfolding(crate::specs::Inter::draw_four), using(crate::proofs::Sayings::four_can))]
+#[tactic(auto, unfolding(crate::specs::InterDraws::draw_four), using(crate::proofs::Sayings::four_can))]
 fn draw_four(draws: &mut Draws, best: &Best) -> InterSymbols
     ensures drawn { IsDrawn (draw_four best.now.allowed best.now.vectors best.now.references) draws.old result draws.new }
     ensures can { CanBeSymbols best.now B4x4 result }
@@ -164,7 +164,7 @@ fn draw_four(draws: &mut Draws, best: &Best) -> InterSymbols
 }
 
 /// A block of 4x8.
-#[tactic(auto, unfolding(crate::specs::Inter::draw_columns))]
+#[tactic(auto, unfolding(crate::specs::InterDraws::draw_columns))]
 fn draw_columns(draws: &mut Draws, best: &Best) -> InterSymbols
     ensures drawn { IsDrawn (draw_columns best.now.allowed best.now.vectors best.now.references) draws.old result draws.new }
     ensures can { CanBeSymbols best.now B4x8 result }
@@ -176,7 +176,7 @@ fn draw_columns(draws: &mut Draws, best: &Best) -> InterSymbols
 }
 
 /// A block of 8x4.
-#[tactic(auto, unfolding(crate::specs::Inter::draw_rows))]
+#[tactic(auto, unfolding(crate::specs::InterDraws::draw_rows))]
 fn draw_rows(draws: &mut Draws, best: &Best) -> InterSymbols
     ensures drawn { IsDrawn (draw_rows best.now.allowed best.now.vectors best.now.references) draws.old result draws.new }
     ensures can { CanBeSymbols best.now B8x4 result }
@@ -188,7 +188,7 @@ fn draw_rows(draws: &mut Draws, best: &Best) -> InterSymbols
 }
 
 /// A block below 8x8.
-#[tactic(auto, unfolding(crate::specs::Inter::draw_quarters))]
+#[tactic(auto, unfolding(crate::specs::InterDraws::draw_quarters))]
 fn draw_quarters(draws: &mut Draws, best: &Best) -> InterSymbols
     requires { is_below_8x8 best.now.size ≡ true }
     ensures drawn { IsDrawn (draw_quarters best.now.allowed best.now.vectors best.now.references best.now.size) draws.old result draws.new }
@@ -202,7 +202,7 @@ fn draw_quarters(draws: &mut Draws, best: &Best) -> InterSymbols
 }
 
 /// What an inter block says behind its references.
-#[tactic(auto, unfolding(crate::specs::Inter::draw_modes))]
+#[tactic(auto, unfolding(crate::specs::InterDraws::draw_modes))]
 pub(crate) fn draw_modes(draws: &mut Draws, best: &Best) -> InterSymbols
     ensures drawn { IsDrawn (draw_modes best.now.allowed best.now.vectors best.now.references best.now.size) draws.old result draws.new }
     ensures can { CanBeSymbols best.now best.now.size result }

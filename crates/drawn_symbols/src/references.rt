@@ -2,9 +2,9 @@
 
 ghost use Rattle.std.specs.Prelude.{◌≡◌, false, true};
 ghost use Rattle.std.specs.Option.{is_some};
-ghost use Rattle.inter_writer.specs.Fits.{CanCodeReferences, AreCompound, CanBeCompound};
+ghost use Rattle.inter_writer.specs.InterFits.{CanCodeReferences, AreCompound, CanBeCompound};
 ghost use Rattle.drawn_symbols.specs.Draws.{IsDrawn};
-ghost use Rattle.drawn_symbols.specs.Inter.{draw_is_compound, draw_compound, draw_golden_or_altref, draw_single, draw_references};
+ghost use Rattle.drawn_symbols.specs.InterDraws.{draw_is_compound, draw_compound, draw_golden_or_altref, draw_single, draw_references};
 
 use crate::draws::Draws;
 use block_plan::References;
@@ -12,7 +12,7 @@ use inter_contexts::{fixed_of, single, variable_by, with_fixed};
 use mv_prediction::SignBiases;
 use vp9_types::{ReferenceFrame, ReferenceMode};
 
-#[tactic(auto, unfolding(crate::specs::Inter::draw_is_compound))]
+#[tactic(auto, unfolding(crate::specs::InterDraws::draw_is_compound))]
 fn draw_is_compound(draws: &mut Draws, mode: ReferenceMode) -> bool
     ensures drawn { IsDrawn (draw_is_compound mode) draws.old result draws.new }
     ensures may { CanBeCompound mode result }
@@ -24,7 +24,7 @@ fn draw_is_compound(draws: &mut Draws, mode: ReferenceMode) -> bool
     }
 }
 
-#[tactic(auto, unfolding(crate::specs::Inter::draw_compound))]
+#[tactic(auto, unfolding(crate::specs::InterDraws::draw_compound))]
 fn draw_compound(draws: &mut Draws, biases: &SignBiases) -> References
     ensures drawn { IsDrawn (draw_compound biases.now) draws.old result draws.new }
     ensures second { is_some result.second ≡ true }
@@ -36,7 +36,7 @@ fn draw_compound(draws: &mut Draws, biases: &SignBiases) -> References
     with_fixed(biases, fixed, other)
 }
 
-#[tactic(auto, unfolding(crate::specs::Inter::draw_golden_or_altref))]
+#[tactic(auto, unfolding(crate::specs::InterDraws::draw_golden_or_altref))]
 fn draw_golden_or_altref(draws: &mut Draws) -> References
     ensures drawn { IsDrawn draw_golden_or_altref draws.old result draws.new }
     ensures second { is_some result.second ≡ false }
@@ -48,7 +48,7 @@ fn draw_golden_or_altref(draws: &mut Draws) -> References
     }
 }
 
-#[tactic(auto, unfolding(crate::specs::Inter::draw_single))]
+#[tactic(auto, unfolding(crate::specs::InterDraws::draw_single))]
 fn draw_single(draws: &mut Draws) -> References
     ensures drawn { IsDrawn draw_single draws.old result draws.new }
     ensures second { is_some result.second ≡ false }
@@ -61,7 +61,7 @@ fn draw_single(draws: &mut Draws) -> References
 }
 
 /// The references of a block of a frame that has them by a mode.
-#[tactic(auto, unfolding(crate::specs::Inter::draw_references))]
+#[tactic(auto, unfolding(crate::specs::InterDraws::draw_references))]
 pub(crate) fn draw_references(
     draws: &mut Draws,
     mode: ReferenceMode,

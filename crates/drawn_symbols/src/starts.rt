@@ -1,14 +1,14 @@
 //! What blocks say before their modes.
 
 ghost use Rattle.std.specs.Prelude.{◌≡◌, ◌≤◌, ℕ, false};
-ghost use Rattle.vp9_tables.specs.Blocks.{greatest_of};
+ghost use Rattle.vp9_tables.specs.BlockTables.{greatest_of};
 ghost use Rattle.vp9_tables.specs.Numbers.{tx_number, tx_of};
-ghost use Rattle.vp9_tables.specs.Trees.{segment_tree};
-ghost use Rattle.mode_writer.specs.Fits.{CanSegment, CanSkip, CanTx};
-ghost use Rattle.inter_writer.specs.Fits.{CanStart, CanTxIf, IsSegment};
+ghost use Rattle.vp9_tables.specs.SymbolTrees.{segment_tree};
+ghost use Rattle.mode_writer.specs.ModeFits.{CanSegment, CanSkip, CanTx};
+ghost use Rattle.inter_writer.specs.InterFits.{CanStart, CanTxIf, IsSegment};
 ghost use Rattle.drawn_symbols.specs.Draws.{IsDrawn, draw_leaf};
-ghost use Rattle.drawn_symbols.specs.Frames.{AreDrawnSegments};
-ghost use Rattle.drawn_symbols.specs.Starts.{draw_segment, draw_tx_symbol, draw_tx, draw_tx_if, draw_intra_start, draw_inter_start};
+ghost use Rattle.drawn_symbols.specs.DrawnFor.{AreDrawnSegments};
+ghost use Rattle.drawn_symbols.specs.StartDraws.{draw_segment, draw_tx_symbol, draw_tx, draw_tx_if, draw_intra_start, draw_inter_start};
 
 use crate::draws::Draws;
 use block_geometry::is_below_8x8;
@@ -18,7 +18,7 @@ use mode_syntax::greatest_allowed;
 use vp9_tables::max_tx_size;
 use vp9_types::{BlockSize, TxMode, TxSize};
 
-#[tactic(auto, unfolding(crate::specs::Draws::draw_leaf, crate::specs::Starts::draw_segment))]
+#[tactic(auto, unfolding(crate::specs::Draws::draw_leaf, crate::specs::StartDraws::draw_segment))]
 fn draw_segment(draws: &mut Draws, segmentation: &Segmentation) -> u8
     ensures drawn { IsDrawn (draw_segment segmentation.now) draws.old result draws.new }
     ensures most { result ≤ 7 }
@@ -50,7 +50,7 @@ fn draw_segment_id(draws: &mut Draws) -> u8
     }
 }
 
-#[tactic(auto, unfolding(crate::specs::Draws::draw_leaf, crate::specs::Starts::draw_tx_symbol))]
+#[tactic(auto, unfolding(crate::specs::Draws::draw_leaf, crate::specs::StartDraws::draw_tx_symbol))]
 fn draw_tx_symbol(draws: &mut Draws, greatest: TxSize) -> TxSize
     requires { 1 ≤ tx_number greatest }
     ensures drawn { IsDrawn (draw_tx_symbol greatest) draws.old result draws.new }
@@ -64,7 +64,7 @@ fn draw_tx_symbol(draws: &mut Draws, greatest: TxSize) -> TxSize
     }
 }
 
-#[tactic(auto, unfolding(crate::specs::Starts::draw_tx), using(mode_syntax::proofs::TxSizes::some_transform, block_plan::proofs::Transforms::tx_of_number))]
+#[tactic(auto, unfolding(crate::specs::StartDraws::draw_tx), using(mode_syntax::proofs::TxSizes::some_transform, block_plan::proofs::Transforms::tx_of_number))]
 fn draw_tx(draws: &mut Draws, mode: TxMode, size: BlockSize) -> TxSize
     ensures drawn { IsDrawn (draw_tx mode size) draws.old result draws.new }
     ensures can { CanTx mode size result }
@@ -75,7 +75,7 @@ fn draw_tx(draws: &mut Draws, mode: TxMode, size: BlockSize) -> TxSize
     greatest_allowed(mode, size)
 }
 
-#[tactic(auto, unfolding(crate::specs::Starts::draw_tx_if))]
+#[tactic(auto, unfolding(crate::specs::StartDraws::draw_tx_if))]
 fn draw_tx_if(draws: &mut Draws, coded: bool, mode: TxMode, size: BlockSize) -> TxSize
     ensures drawn { IsDrawn (draw_tx_if coded mode size) draws.old result draws.new }
     ensures can { CanTxIf coded mode size result }
@@ -87,7 +87,7 @@ fn draw_tx_if(draws: &mut Draws, coded: bool, mode: TxMode, size: BlockSize) -> 
 }
 
 /// What a block of an intra frame says first.
-#[tactic(auto, unfolding(crate::specs::Starts::draw_intra_start))]
+#[tactic(auto, unfolding(crate::specs::StartDraws::draw_intra_start))]
 pub(crate) fn draw_intra_start(
     draws: &mut Draws,
     segmentation: &Segmentation,
@@ -117,7 +117,7 @@ pub(crate) fn draw_intra_start(
 }
 
 /// What a block of an inter frame says first.
-#[tactic(auto, unfolding(crate::specs::Starts::draw_inter_start))]
+#[tactic(auto, unfolding(crate::specs::StartDraws::draw_inter_start))]
 pub(crate) fn draw_inter_start(
     draws: &mut Draws,
     segmentation: &Segmentation,

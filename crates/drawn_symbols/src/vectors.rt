@@ -1,10 +1,10 @@
 //! Differences of new vectors.
 
 ghost use Rattle.std.specs.Prelude.{◌≡◌, ◌%◌, ◌≤◌, false, true};
-ghost use Rattle.vp9_tables.specs.Trees.{mv_fr_tree, mv_joint_tree};
-ghost use Rattle.vector_writer.specs.Fits.{CanDiffer, IsDifference};
+ghost use Rattle.vp9_tables.specs.SymbolTrees.{mv_fr_tree, mv_joint_tree};
+ghost use Rattle.vector_writer.specs.VectorFits.{CanDiffer, IsDifference};
 ghost use Rattle.drawn_symbols.specs.Draws.{IsDrawn, draw_leaf};
-ghost use Rattle.drawn_symbols.specs.Vectors.{draw_high, draw_bits, draw_eighths, draw_size, draw_component, draw_component_if, draw_difference};
+ghost use Rattle.drawn_symbols.specs.VectorDraws.{draw_high, draw_bits, draw_eighths, draw_size, draw_component, draw_component_if, draw_difference};
 
 use crate::draws::Draws;
 use block_plan::Mv;
@@ -35,7 +35,7 @@ fn draw_joint(draws: &mut Draws) -> u8
     }
 }
 
-#[tactic(auto, unfolding(crate::specs::Vectors::draw_high))]
+#[tactic(auto, unfolding(crate::specs::VectorDraws::draw_high))]
 fn draw_high(draws: &mut Draws, precise: bool) -> bool
     ensures drawn { IsDrawn (draw_high precise) draws.old result draws.new }
     ensures one { precise ≡ false → result ≡ true }
@@ -43,7 +43,7 @@ fn draw_high(draws: &mut Draws, precise: bool) -> bool
     if precise { draws.flag() } else { true }
 }
 
-#[tactic(auto, unfolding(crate::specs::Vectors::draw_bits))]
+#[tactic(auto, unfolding(crate::specs::VectorDraws::draw_bits))]
 fn draw_bits(draws: &mut Draws, n: u16) -> u16
     requires { n ≤ 2 }
     ensures drawn { IsDrawn (draw_bits n) draws.old result draws.new }
@@ -61,7 +61,7 @@ fn draw_bits(draws: &mut Draws, n: u16) -> u16
 }
 
 /// Above the least size of a class, of which n bits are whole samples.
-#[tactic(auto, unfolding(crate::specs::Vectors::draw_eighths))]
+#[tactic(auto, unfolding(crate::specs::VectorDraws::draw_eighths))]
 fn draw_eighths(draws: &mut Draws, precise: bool, n: u16) -> u16
     requires { n ≤ 2 }
     ensures drawn { IsDrawn (draw_eighths precise (draw_bits n)) draws.old result draws.new }
@@ -74,7 +74,7 @@ fn draw_eighths(draws: &mut Draws, precise: bool, n: u16) -> u16
     8 * whole + 2 * fraction + u16::from(high) + 1
 }
 
-#[tactic(auto, unfolding(crate::specs::Vectors::draw_size))]
+#[tactic(auto, unfolding(crate::specs::VectorDraws::draw_size))]
 fn draw_size(draws: &mut Draws, precise: bool, n: u32) -> u16
     requires { n ≤ 2 }
     ensures drawn { IsDrawn (draw_size precise n) draws.old result draws.new }
@@ -88,7 +88,7 @@ fn draw_size(draws: &mut Draws, precise: bool, n: u32) -> u16
     }
 }
 
-#[tactic(auto, unfolding(crate::specs::Vectors::draw_component))]
+#[tactic(auto, unfolding(crate::specs::VectorDraws::draw_component))]
 fn draw_component(draws: &mut Draws, precise: bool) -> i16
     ensures drawn { IsDrawn (draw_component precise) draws.old result draws.new }
     ensures can { IsDifference precise result }
@@ -99,7 +99,7 @@ fn draw_component(draws: &mut Draws, precise: bool) -> i16
     if sign { -(size as i16) } else { size as i16 }
 }
 
-#[tactic(auto, unfolding(crate::specs::Vectors::draw_component_if))]
+#[tactic(auto, unfolding(crate::specs::VectorDraws::draw_component_if))]
 fn draw_component_if(draws: &mut Draws, coded: bool, precise: bool) -> i16
     ensures drawn { IsDrawn (draw_component_if coded precise) draws.old result draws.new }
     ensures can { IsDifference precise result }
@@ -112,7 +112,7 @@ fn draw_component_if(draws: &mut Draws, coded: bool, precise: bool) -> i16
 }
 
 /// A new vector's difference from the best one, with bits of high precision or without.
-#[tactic(auto, unfolding(crate::specs::Vectors::draw_difference))]
+#[tactic(auto, unfolding(crate::specs::VectorDraws::draw_difference))]
 pub(crate) fn draw_difference(draws: &mut Draws, precise: bool) -> Mv
     ensures drawn { IsDrawn (draw_difference precise) draws.old result draws.new }
     ensures can { CanDiffer precise result }

@@ -3,7 +3,7 @@ use Rattle.std.proofs.Common.{◌≡◌, ℕ, ◌+◌, ◌-◌, ◌<◌, ◌≤�
 use Rattle.std.proofs.lemmas.List.{append_assoc, append-nil, take-append-drop, take_rest, length-drop, length-append, take-append-le}
 use Rattle.std.proofs.Math.Seq.{take-add, take-append-add}
 use Rattle.edge_io.specs.Filling.{Moves, WhereTold, IsKept}
-use Rattle.edge_io.specs.Reading.{Gave, GaveAll}
+use Rattle.edge_io.specs.SourceReading.{Gave, GaveAll}
 use Rattle.edge_io.specs.Putting.{Takes, TakesFront, Puts}
 use Rattle.edge_io.specs.declared.sink.PutFault.{PutFault}
 use Rattle.edge_io.specs.declared.sink.PutFault.TheVariants as refused

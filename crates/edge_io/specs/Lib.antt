@@ -1,5 +1,5 @@
 pub mod Filling
-pub mod Reading
+pub mod SourceReading
 pub mod Putting
 pub mod Memory
 pub mod System

@@ -1,6 +1,6 @@
 ghost use Rattle.std.specs.Prelude.{◌≡◌};
 ghost use Rattle.edge_io.specs.declared.read.ReadError.TheVariants as refused;
-ghost use Rattle.edge_io.specs.Reading.{ReadsAll, CountsReadFaults};
+ghost use Rattle.edge_io.specs.SourceReading.{ReadsAll, CountsReadFaults};
 
 use crate::source::{Failed, Source};
 use std::alloc::{AllocError, Global};

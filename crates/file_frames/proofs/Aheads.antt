@@ -5,7 +5,7 @@ use Rattle.std.proofs.lemmas.List.{drop_more, drop_all, length-drop, length-take
 use Rattle.vp9_types.specs.declared.job.Span.{Span}
 use Rattle.vp9_types.specs.declared.rule.Rule.{Rule}
 use Rattle.ivf_container.specs.Packets.{Packets, with_payload}
-use Rattle.superframe_index.specs.Frames.{LieBetween, at_spans, frames_of}
+use Rattle.superframe_index.specs.PayloadFrames.{LieBetween, at_spans, frames_of}
 use Rattle.file_frames.specs.Containers.{packets_of_file}
 use Rattle.file_frames.specs.FileFrames.{joined, split_packets, frames_of_file}
 use Rattle.file_frames.specs.Code.{ahead_from, all_ahead, span_bytes, ahead_at}

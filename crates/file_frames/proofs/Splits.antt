@@ -2,7 +2,7 @@
 use Rattle.std.proofs.Common.{◌≡◌, ℕ, List, [], ◌∷◌, ap, refl, ◌∙◌, inl, inr}
 use Rattle.std.specs.Prelude.{Option, Result, Ok, Err}
 use Rattle.vp9_types.specs.declared.rule.Rule.{Rule}
-use Rattle.superframe_index.specs.Frames.{IsSplit, at_spans, frames_of}
+use Rattle.superframe_index.specs.PayloadFrames.{IsSplit, at_spans, frames_of}
 use Rattle.file_frames.specs.FileFrames.{FileFrames, with_frames, AreSplit, joined, split_all}
 
 abbrev Split : Type 0

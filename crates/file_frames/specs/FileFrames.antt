@@ -4,7 +4,7 @@ use Rattle.std.specs.List.{flat_map}
 use Rattle.vp9_types.specs.declared.rule.Rule.{Rule}
 use Rattle.ivf_container.specs.Packets.{Packets}
 use Rattle.file_frames.specs.Containers.{HasPackets, packets_of_file}
-use Rattle.superframe_index.specs.Frames.{IsSplit, at_spans, frames_of}
+use Rattle.superframe_index.specs.PayloadFrames.{IsSplit, at_spans, frames_of}
 
 -- the frames of each payload, and the rule that the container or the sizes of a payload's index break at the frame that
 -- would come next, or None at the end of the file

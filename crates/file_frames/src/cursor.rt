@@ -1,6 +1,6 @@
 ghost use Rattle.std.specs.Prelude.{◌≡◌, ◌≤◌, ◌+◌, ◌-◌, length};
 ghost use Rattle.std.specs.List.{All};
-ghost use Rattle.superframe_index.specs.Frames.{IsPart};
+ghost use Rattle.superframe_index.specs.PayloadFrames.{IsPart};
 ghost use Rattle.file_frames.specs.Props.{fits_file_prop};
 ghost use Rattle.file_frames.specs.Cursors.{FitsFile, place_of};
 

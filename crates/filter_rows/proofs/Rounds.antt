@@ -14,7 +14,7 @@ use Rattle.planes.specs.Pictures.{IsInRange, samples_of, blank}
 use Rattle.planes.specs.declared.frame_planes.FramePlanes.{FramePlanes}
 use Rattle.planes.proofs.PictureLemmas.{blank_in_range}
 use Rattle.loop_edges.specs.Cells.{sub_y}
-use Rattle.loop_edges.specs.Edges.{filtered_frame}
+use Rattle.loop_edges.specs.FrameEdges.{filtered_frame}
 use Rattle.loop_edges.specs.declared.setting.EdgeSetting.{EdgeSetting}
 use Rattle.loop_filter.proofs.Sides as sides
 use Rattle.loop_filter.specs.Code.{HasAreasOf}

@@ -5,7 +5,7 @@ ghost use Rattle.vp9_types.specs.declared.shape.Plane.{Plane as InPlane};
 ghost use Rattle.vp9_types.specs.Shapes.{mi_rows, mi_cols, coded_height};
 ghost use Rattle.vp9_types.specs.Sizes.{greatest, superblocks_along};
 ghost use Rattle.planes.specs.Pictures.{FitsPlanes};
-ghost use Rattle.loop_edges.specs.Edges.{filtered_frame};
+ghost use Rattle.loop_edges.specs.FrameEdges.{filtered_frame};
 ghost use Rattle.loop_filter.specs.Code.{AllFit};
 ghost use Rattle.filter_rows.specs.Buffer.{AwaitsRow, HasFiltered};
 

@@ -20,7 +20,7 @@ use Rattle.loop_filter.proofs.Sides as sides
 use Rattle.filter_rows.specs.Buffer.{StandsAt, buffer_area}
 use Rattle.filter_rows.specs.Laws.{BecomesFinal}
 use Rattle.filter_rows.proofs.Bands.{same_height, ends_low, final_rows_held}
-use Rattle.filtered_rows.specs.Rows.{row_with, HasFinalRows}
+use Rattle.filtered_rows.specs.BufferRows.{row_with, HasFinalRows}
 use Rattle.filtered_rows.specs.Laws.{BecomesFinalWith, FilteredIsFinal}
 
 ---- By the height of a row of superblocks ----

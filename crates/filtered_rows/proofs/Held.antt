@@ -16,11 +16,11 @@ use Rattle.planes.specs.declared.frame_planes.FramePlanes.{FramePlanes}
 use Rattle.block_rebuild.specs.declared.references.ReferencePicture.{ReferencePicture}
 use Rattle.band_cells.specs.Bands.{Picture, band_height}
 use Rattle.band_needs.specs.declared.ranges.BandRange.{BandRange}
-use Rattle.band_references.specs.References.{IsRowOfBands}
+use Rattle.band_references.specs.BandReferences.{IsRowOfBands}
 use Rattle.loop_edges.specs.Cells.{sub_y}
 use Rattle.loop_filter.proofs.Sides as sides
 use Rattle.filter_rows.proofs.Bands.{same_height}
-use Rattle.filtered_rows.specs.Rows.{RowSpan, HasFinalRows, HoldRows, IsFinalWithin, row_with}
+use Rattle.filtered_rows.specs.BufferRows.{RowSpan, HasFinalRows, HoldRows, IsFinalWithin, row_with}
 use Rattle.filtered_rows.specs.Code.{held_in, map_in, rows_from, width_in}
 use Rattle.filtered_rows.specs.Laws.{RowsHaveBands, AreAllRows, AllRowsAreHeld, NoneHoldRows, OneMoreHoldsRows}
 use Rattle.filtered_rows.proofs.Finals.{final_with, row_is_there, row_there}

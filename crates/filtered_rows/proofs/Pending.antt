@@ -14,7 +14,7 @@ use Rattle.planes.specs.Planes.{PlaneSamples, moved_to, plane_map, right_end}
 use Rattle.planes.specs.Pictures.{IsInRange, samples_of}
 use Rattle.planes.specs.declared.frame_planes.FramePlanes.{FramePlanes}
 use Rattle.planes.specs.declared.area.Area.{Area}
-use Rattle.plane_parts.specs.Parts.{HasPart}
+use Rattle.plane_parts.specs.PlaneParts.{HasPart}
 use Rattle.loop_edges.specs.Cells.{sub_y}
 use Rattle.loop_edges.specs.declared.setting.EdgeSetting.{EdgeSetting}
 use Rattle.loop_filter.specs.Laws.{HoldsPending}

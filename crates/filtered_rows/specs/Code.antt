@@ -7,7 +7,7 @@ use Rattle.vp9_types.specs.Shapes.{coded_width}
 use Rattle.planes.specs.declared.area.Area.{Area}
 use Rattle.band_cells.specs.Bands.{Picture}
 use Rattle.loop_filter.specs.Laws.{first_changed, first_own}
-use Rattle.filtered_rows.specs.Rows.{RowSpan, IsFinalWithin}
+use Rattle.filtered_rows.specs.BufferRows.{RowSpan, IsFinalWithin}
 
 -- the rows of a plane that are pending for a row of superblocks
 abbrev pub pending_part : Shape → Plane → ℕ → Area

@@ -11,11 +11,11 @@ use Rattle.planes.specs.declared.frame_planes.FramePlanes.{FramePlanes}
 use Rattle.block_rebuild.specs.declared.references.ReferencePicture.{ReferencePicture}
 use Rattle.band_cells.specs.Bands.{Picture}
 use Rattle.band_needs.specs.declared.ranges.BandRange.{BandRange}
-use Rattle.band_references.specs.References.{HasBands}
+use Rattle.band_references.specs.BandReferences.{HasBands}
 use Rattle.loop_edges.specs.declared.setting.EdgeSetting.{EdgeSetting}
 use Rattle.filter_rows.specs.Buffer.{HasFiltered}
 use Rattle.filter_rows.specs.Laws.{BecomesFinal}
-use Rattle.filtered_rows.specs.Rows.{RowSpan, row_with, HasFinalRows, HoldRows, IsFiltered}
+use Rattle.filtered_rows.specs.BufferRows.{RowSpan, row_with, HasFinalRows, HoldRows, IsFiltered}
 use Rattle.filtered_rows.specs.Code.{held_in, width_in, map_in}
 
 -- Each row of a plane is made final by one row of superblocks alone.

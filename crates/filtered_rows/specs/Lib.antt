@@ -1,4 +1,4 @@
-pub mod Rows
+pub mod BufferRows
 pub mod Buffers
 pub mod Code
 pub mod Laws

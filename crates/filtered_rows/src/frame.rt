@@ -2,7 +2,7 @@
 
 ghost use Rattle.std.specs.Prelude.{◌≡◌, ◌/◌, length, map};
 ghost use Rattle.band_cells.specs.Bands.{band_height};
-ghost use Rattle.filtered_rows.specs.Rows.{HoldRows};
+ghost use Rattle.filtered_rows.specs.BufferRows.{HoldRows};
 ghost use Rattle.filtered_rows.specs.Code.{rows_from};
 
 use band_cells::Meaning;
@@ -26,7 +26,7 @@ impl<'a, P: Sample, M: Meaning> Model for FilteredFrame<'a, P, M> {
     ghost use Rattle.std.specs.Prelude.{◌≡◌, ◌-◌, length, map};
     ghost use Rattle.vp9_types.specs.Shapes.{mi_rows};
     ghost use Rattle.vp9_types.specs.Sizes.{superblocks_along};
-    ghost use Rattle.filtered_rows.specs.Rows.{RowSpan, HoldRows};
+    ghost use Rattle.filtered_rows.specs.BufferRows.{RowSpan, HoldRows};
     ghost use Rattle.filtered_rows.specs.Code.{rows_from};
 
     ghost Value = { RowSpan };

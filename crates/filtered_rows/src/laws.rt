@@ -10,7 +10,7 @@ ghost use Rattle.block_rebuild.specs.declared.references.ReferencePicture.{Refer
 ghost use Rattle.band_cells.specs.Bands.{Picture};
 ghost use Rattle.band_needs.specs.declared.ranges.BandRange.{BandRange};
 ghost use Rattle.loop_edges.specs.declared.setting.EdgeSetting.{EdgeSetting};
-ghost use Rattle.filtered_rows.specs.Rows.{RowSpan};
+ghost use Rattle.filtered_rows.specs.BufferRows.{RowSpan};
 ghost use Rattle.filtered_rows.specs.Laws.{AllRowsAreHeld, BecomesFinalWith, FilteredIsFinal, NoneHoldRows, OneMoreHoldsRows, RowsHaveBands};
 
 use vp9_types::Sample;

@@ -11,8 +11,8 @@ use Rattle.prob_contexts.specs.declared.kind.CountedBool.{CountedBool}
 use Rattle.prob_contexts.proofs.Joining.{parts_joined}
 use Rattle.frame_state.specs.Code.{counts_if}
 use Rattle.frame_state.specs.Laws.{IsFrameVerdict, columns_across, counts_of_all, earlier, least_verdict, verdict_of}
-use Rattle.frame_state.specs.Plans.{ColumnRead, plan_of, tile_bytes}
-use Rattle.frame_state.specs.Reading.{FrameRead, read_all_tiles}
+use Rattle.frame_state.specs.ColumnPlans.{ColumnRead, plan_of, tile_bytes}
+use Rattle.frame_state.specs.FrameReading.{FrameRead, read_all_tiles}
 use Rattle.frame_state.specs.Sources.{FrameSources}
 use Rattle.frame_state.proofs.PlanReads.{reads_columns}
 use Rattle.frame_state.proofs.Verdicts.{least_is}

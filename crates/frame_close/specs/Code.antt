@@ -6,8 +6,8 @@ use Rattle.counting_reader.specs.Counting.{Settled}
 use Rattle.prob_contexts.specs.Counted.{joined_counts, no_counts}
 use Rattle.frame_state.specs.Code.{counts_if}
 use Rattle.frame_state.specs.Laws.{columns_across}
-use Rattle.frame_state.specs.Plans.{ColumnRead, plan_of, tile_bytes}
-use Rattle.frame_state.specs.Reading.{FrameRead}
+use Rattle.frame_state.specs.ColumnPlans.{ColumnRead, plan_of, tile_bytes}
+use Rattle.frame_state.specs.FrameReading.{FrameRead}
 use Rattle.frame_state.specs.Sources.{FrameSources}
 use Rattle.frame_state.specs.declared.halt.Halt.{Halt}
 use Rattle.frame_state.specs.declared.halt.Halt.TheVariants as halt

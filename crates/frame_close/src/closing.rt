@@ -6,7 +6,7 @@ ghost use Rattle.vp9_types.specs.declared.job.Span.{Span};
 ghost use Rattle.frame_headers.specs.Spans.{tile_spans};
 ghost use Rattle.prob_contexts.specs.Counted.{no_counts};
 ghost use Rattle.frame_state.specs.Laws.{earlier, least_verdict};
-ghost use Rattle.frame_state.specs.Reading.{read_all_tiles};
+ghost use Rattle.frame_state.specs.FrameReading.{read_all_tiles};
 ghost use Rattle.frame_state.specs.Sources.{FrameSources};
 ghost use Rattle.frame_state.specs.declared.halt.Halt.TheVariants as halt;
 ghost use Rattle.tile_syntax.specs.declared.plans.Unplanned.TheVariants as unplanned;

@@ -16,7 +16,7 @@ use Rattle.block_plan.specs.declared.residues.BlockResidues.{BlockResidues}
 use Rattle.residue_syntax.specs.Residues.{listed}
 use Rattle.residue_syntax.specs.Residues as residues
 use Rattle.residue_syntax.specs.declared.sides.TileSides.{TileSides}
-use Rattle.block_rebuild.specs.Blocks.{put_planned, put_by, put_intra}
+use Rattle.block_rebuild.specs.RebuiltBlocks.{put_planned, put_by, put_intra}
 use Rattle.block_rebuild.specs.InterBlocks.{Rebuilding, predicted_part, put_inter, put_prediction}
 use Rattle.inter_modes.specs.ModeInfo.{mode_info}
 use Rattle.inter_places.specs.Places.{place_of}
@@ -27,12 +27,12 @@ use Rattle.block_rebuild.specs.declared.references.Rebuilding as code
 use Rattle.frame_headers.specs.declared.header.FrameKind.TheVariants as frame
 use Rattle.frame_headers.specs.declared.header.Header.{Header}
 use Rattle.frame_headers.specs.declared.header.InterFields.{InterFields}
-use Rattle.inter_contexts.specs.References.{second_in_range}
+use Rattle.inter_contexts.specs.BlockReferences.{second_in_range}
 use Rattle.inter_modes.specs.Code.{RefersInRange}
 use Rattle.planes.specs.Pictures.{map_of}
 use Rattle.planes.specs.declared.picture.Picture.{Picture}
 use Rattle.vp9_types.specs.declared.block.ReferenceFrame.{ReferenceFrame}
-use Rattle.frame_decoder.specs.Pictures.{HasPictures, has_row, row_width}
+use Rattle.frame_decoder.specs.ReferencePictures.{HasPictures, has_row, row_width}
 use Rattle.frame_decoder.specs.Code.{PlainTile, plain_block}
 
 -- whether a block counts as skipped doesn't matter where it is put in

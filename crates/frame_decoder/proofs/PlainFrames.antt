@@ -7,11 +7,11 @@ use Rattle.vp9_types.specs.declared.block.ReferenceFrame.{ReferenceFrame}
 use Rattle.vp9_types.specs.declared.rule.Rule.{Rule}
 use Rattle.planes.specs.Pictures.{blank}
 use Rattle.loop_edges.specs.Cells.{setting_of}
-use Rattle.loop_edges.specs.Edges.{filtered_frame}
+use Rattle.loop_edges.specs.FrameEdges.{filtered_frame}
 use Rattle.block_rebuild.specs.InterBlocks.{Rebuilding, ReferencePicture}
-use Rattle.frame_state.specs.Reading.{FrameInput, FrameRead, all_blocks, blocks_read, read_frame}
+use Rattle.frame_state.specs.FrameReading.{FrameInput, FrameRead, all_blocks, blocks_read, read_frame}
 use Rattle.frame_state.specs.Sources.{FrameSources}
-use Rattle.frame_decoder.specs.Frames.{FrameResult, decoded, raw, rebuilding, rebuilt}
+use Rattle.frame_decoder.specs.DecodedFrames.{FrameResult, decoded, raw, rebuilding, rebuilt}
 
 pub nothing_put : (put : Rebuilding) → raw put [] ≡ blank
 unfolding raw

@@ -27,20 +27,20 @@ use Rattle.mode_syntax.specs.Walk.{Walk, decode_tile}
 use Rattle.tile_reader.specs.Code.{Breaks, EndsTile, Rest, Tile}
 use Rattle.frame_decoder.specs.Code.{PlainTile, plain_block, plain_walk, tile_of, GivesTile, GivesRead, GivesWhole, HoldsRead, walk_of, pictures_of}
 use Rattle.frame_state.specs.Code.{settled_of, read_whole, column_as_listed, column_of_code, counts_if, sources_of}
-use Rattle.block_rebuild.specs.Blocks.{put_planned}
+use Rattle.block_rebuild.specs.RebuiltBlocks.{put_planned}
 use Rattle.block_rebuild.specs.InterBlocks.{Rebuilding}
-use Rattle.frame_decoder.specs.Frames.{put_more, raw}
+use Rattle.frame_decoder.specs.DecodedFrames.{put_more, raw}
 use Rattle.frame_state.specs.Sources.{FrameSources}
-use Rattle.frame_state.specs.Reading.{TileRead, infos, read_block, read_walk, FrameRead, begun, column_after, column_at, read_tile, read_tile_of, with_tile}
+use Rattle.frame_state.specs.FrameReading.{TileRead, infos, read_block, read_walk, FrameRead, begun, column_after, column_at, read_tile, read_tile_of, with_tile}
 use Rattle.frame_state.specs.declared.tile_places.TilePlaces.{TilePlaces}
 use Rattle.vp9_types.specs.Sizes.{superblocks_along}
 use Rattle.planes.specs.Pictures.{blank, samples_of}
-use Rattle.frame_headers.specs.State.{shape_of}
-use Rattle.block_geometry.specs.Frames.{places_of}
-use Rattle.frame_state.specs.Tiles.{tile_places, column_of}
+use Rattle.frame_headers.specs.HeaderState.{shape_of}
+use Rattle.block_geometry.specs.FrameShapes.{places_of}
+use Rattle.frame_state.specs.TilePlaces.{tile_places, column_of}
 use Rattle.frame_state.proofs.TileBytes.{seen_by, values_mapped}
 use Rattle.vp9_types.specs.declared.shape.Plane.TheVariants.{Y, U, V}
-use Rattle.frame_state.specs.Columns.{IsTileColumn}
+use Rattle.frame_state.specs.KeptColumns.{IsTileColumn}
 use Rattle.frame_decoder.specs.declared.plain.PlainSources.{PlainSources}
 use Rattle.frame_state.proofs.TileSpans.{tile_at}
 use Rattle.frame_state.proofs.ColumnSteps.{begins_there, cleared, column_told, counted_on, ends_there, sides_told, with_sides}

@@ -6,9 +6,9 @@ use Rattle.vp9_types.specs.declared.block.ReferenceFrame.{ReferenceFrame}
 use Rattle.vp9_types.specs.declared.job.Span.{Span}
 use Rattle.vp9_types.specs.declared.rule.Rule.{Rule}
 use Rattle.vp9_types.specs.declared.shape.Shape.{Shape}
-use Rattle.frame_headers.specs.State.{shape_of}
+use Rattle.frame_headers.specs.HeaderState.{shape_of}
 use Rattle.frame_headers.specs.declared.header.Header.{Header}
-use Rattle.prob_contexts.specs.Lists.{lists_of}
+use Rattle.prob_contexts.specs.ProbLists.{lists_of}
 use Rattle.prob_contexts.specs.declared.kind.CountedBool.{CountedBool}
 use Rattle.counting_reader.specs.Code.{Reads, standing_of}
 use Rattle.counting_reader.specs.Counting.{Settled, counted_if, lifted, settle, run_counting}
@@ -24,19 +24,19 @@ use Rattle.mode_syntax.specs.Walk.{Walk}
 use Rattle.planes.specs.Pictures.{HasSizes, IsInRange, map_of, samples_of}
 use Rattle.planes.specs.declared.frame_planes.FramePlanes.{FramePlanes}
 use Rattle.planes.specs.declared.picture.Picture.{Picture}
-use Rattle.block_rebuild.specs.Blocks.{put_planned}
+use Rattle.block_rebuild.specs.RebuiltBlocks.{put_planned}
 use Rattle.block_rebuild.specs.Code.{rebuilding_of}
 use Rattle.block_rebuild.specs.InterBlocks.{Rebuilding, ReferencePicture}
-use Rattle.frame_state.specs.Columns.{AreColumnsOf, HasStarts, blocks_of}
+use Rattle.frame_state.specs.KeptColumns.{AreColumnsOf, HasStarts, blocks_of}
 use Rattle.frame_state.specs.Code.{column_as_listed, column_of_code, counts_if, sources_of}
 use Rattle.frame_state.specs.Past.{IsPastOf, past_of}
-use Rattle.frame_state.specs.Reading.{FrameInput, FrameRead}
+use Rattle.frame_state.specs.FrameReading.{FrameInput, FrameRead}
 use Rattle.frame_state.specs.Sources.{FrameSources, adapts, frame_is_intra}
 use Rattle.frame_state.specs.declared.columns.TileColumn.{TileColumn}
 use Rattle.frame_state.specs.declared.halt.Halt.{Halt}
 use Rattle.frame_state.specs.declared.halt.Halt.TheVariants as halt
-use Rattle.frame_decoder.specs.Frames.{FrameResult, decoded, raw}
-use Rattle.frame_decoder.specs.Pictures.{ArePicturesOf}
+use Rattle.frame_decoder.specs.DecodedFrames.{FrameResult, decoded, raw}
+use Rattle.frame_decoder.specs.ReferencePictures.{ArePicturesOf}
 use Rattle.frame_decoder.specs.declared.decoding.Decoded.{Decoded}
 use Rattle.frame_decoder.specs.declared.plain.PlainSources.{PlainSources}
 

@@ -1,3 +1,3 @@
-pub mod Frames
-pub mod Pictures
+pub mod DecodedFrames
+pub mod ReferencePictures
 pub mod Code

@@ -3,14 +3,14 @@
 ghost use Rattle.std.specs.Prelude.{◌≤◌, ◌≡◌, IsOk, Ok, OnOk, length};
 ghost use Rattle.vp9_types.specs.Sizes.{greatest};
 ghost use Rattle.frame_headers.specs.Spans.{tile_count, tile_spans};
-ghost use Rattle.frame_headers.specs.State.{shape_of};
+ghost use Rattle.frame_headers.specs.HeaderState.{shape_of};
 ghost use Rattle.frame_headers.specs.Tiles.{AreFewTiles};
 ghost use Rattle.planes.specs.Pictures.{IsBlank};
 ghost use Rattle.prob_contexts.specs.Counted.{no_counts};
-ghost use Rattle.prob_contexts.specs.Lists.{lists_of};
+ghost use Rattle.prob_contexts.specs.ProbLists.{lists_of};
 ghost use Rattle.frame_state.specs.Code.{IsBegun, sources_of};
-ghost use Rattle.frame_state.specs.Columns.{AreTileColumns};
-ghost use Rattle.frame_state.specs.Reading.{nothing_read, read_all_tiles};
+ghost use Rattle.frame_state.specs.KeptColumns.{AreTileColumns};
+ghost use Rattle.frame_state.specs.FrameReading.{nothing_read, read_all_tiles};
 ghost use Rattle.frame_state.specs.Sources.{adapts};
 ghost use Rattle.frame_decoder.specs.Code.{ArePlanes, CanPredict, GivesRead, HoldsRead, IsDecoded, input_of, pictures_of};
 

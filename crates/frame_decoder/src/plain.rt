@@ -2,10 +2,10 @@
 
 ghost use Rattle.std.specs.Prelude.{◌≡◌, ◌+◌, ◌<◌, ◌≤◌, OnOk};
 ghost use Rattle.vp9_types.specs.Sizes.{greatest};
-ghost use Rattle.block_geometry.specs.Sizes.{width_8};
-ghost use Rattle.frame_headers.specs.State.{shape_of};
+ghost use Rattle.block_geometry.specs.BlockSizes.{width_8};
+ghost use Rattle.frame_headers.specs.HeaderState.{shape_of};
 ghost use Rattle.frame_state.specs.Code.{IsReady, SameColumns, sources_of};
-ghost use Rattle.frame_state.specs.Columns.{limit_of};
+ghost use Rattle.frame_state.specs.KeptColumns.{limit_of};
 ghost use Rattle.frame_decoder.specs.Code.{plain_block, pictures_of, tile_of, ArePlanes, CanPredict, GivesTile};
 
 use block_geometry::FramePlaces;
@@ -109,9 +109,9 @@ impl<'a, 'b, 'c, P: RoomSample, const COUNTS: bool> TileReader
     ghost use Rattle.counting_reader.specs.Code.{standing_of};
     ghost use Rattle.tile_reader.specs.Code.{Tile};
     ghost use Rattle.vp9_types.specs.Sizes.{greatest};
-    ghost use Rattle.frame_headers.specs.State.{shape_of};
+    ghost use Rattle.frame_headers.specs.HeaderState.{shape_of};
     ghost use Rattle.frame_state.specs.Code.{IsReady};
-    ghost use Rattle.frame_state.specs.Columns.{limit_of};
+    ghost use Rattle.frame_state.specs.KeptColumns.{limit_of};
     ghost use Rattle.frame_decoder.specs.Code.{PlainTile, ArePlanes, CanPredict, tile_of, walk_of};
     ghost use Rattle.frame_decoder.specs.declared.plain.PlainSources.{PlainSources};
 

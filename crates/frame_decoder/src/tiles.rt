@@ -2,14 +2,14 @@
 
 ghost use Rattle.std.specs.Prelude.{◌≡◌, ◌-◌, ◌+◌, ◌*◌, ◌<◌, ◌≤◌, length, IsOk, OnOk};
 ghost use Rattle.frame_headers.specs.Spans.{tile_count, tile_spans};
-ghost use Rattle.frame_headers.specs.State.{shape_of};
+ghost use Rattle.frame_headers.specs.HeaderState.{shape_of};
 ghost use Rattle.frame_headers.specs.Tiles.{AreFewTiles};
 ghost use Rattle.vp9_types.specs.Sizes.{greatest, superblocks_along};
 ghost use Rattle.prob_contexts.specs.Counted.{no_counts};
 ghost use Rattle.mode_syntax.specs.Walk.{decode_row, decode_tile};
 ghost use Rattle.frame_state.specs.Code.{counts_if, sources_of, read_whole, IsReady, SameColumns};
-ghost use Rattle.frame_state.specs.Columns.{AreTileColumns};
-ghost use Rattle.frame_state.specs.Reading.{FrameRead, nothing_read, read_all_tiles, read_tile_of};
+ghost use Rattle.frame_state.specs.KeptColumns.{AreTileColumns};
+ghost use Rattle.frame_state.specs.FrameReading.{FrameRead, nothing_read, read_all_tiles, read_tile_of};
 ghost use Rattle.frame_decoder.specs.Code.{pictures_of, tile_of, walk_of, ArePlanes, CanPredict, HoldsRead, GivesRead, GivesTile, GivesWhole};
 
 use crate::plain::{BlockRoom, PlainReader, PlainSources};

@@ -4,10 +4,10 @@ use Rattle.std.specs.Prelude.{Bool, Option, Some}
 use Rattle.std.proofs.lemmas.List.{append-nil, length-take-le, take-append-le, take_at}
 use Rattle.std.proofs.Math.Seq.{take-append-add}
 use Rattle.edge_io.specs.Filling.{WhereTold}
-use Rattle.edge_io.specs.Reading.{Gave, GaveAll}
+use Rattle.edge_io.specs.SourceReading.{Gave, GaveAll}
 use Rattle.file_frames.specs.Containers.{is_webm}
 use Rattle.packet_reader.proofs.PacketLemmas.{left_behind}
-use Rattle.packet_reader.specs.Packets.{with_front}
+use Rattle.packet_reader.specs.TakenPackets.{with_front}
 use Rattle.frame_groups.specs.Groups.{ahead, begun_of, source_of}
 use Rattle.frame_groups.specs.declared.reader.GroupReader.{GroupReader}
 

@@ -9,11 +9,11 @@ use Rattle.std.proofs.lemmas.List.Folds.{length-flat_map-take}
 use Rattle.vp9_types.specs.declared.job.Span.{Span}
 use Rattle.vp9_types.specs.declared.rule.Rule.{Rule}
 use Rattle.ivf_container.specs.Packets.{Packets, header_end, no_packets, packets_of, with_payload}
-use Rattle.superframe_index.specs.Frames.{at_spans, frames_of}
+use Rattle.superframe_index.specs.PayloadFrames.{at_spans, frames_of}
 use Rattle.file_frames.specs.FileFrames.{FileFrames, frames_in, joined, split_all, split_packets, with_frames}
 use Rattle.packet_reader.proofs.PacketLemmas.{left_behind, none_left, packet_ahead}
 use Rattle.packet_reader.proofs.HeaderLemmas.{no_payload_yet}
-use Rattle.packet_reader.specs.Packets.{Answer, GivesNext, TakesNext, ahead, begun_at, begun_of, packets_in, rate_told, source_of, stage_of}
+use Rattle.packet_reader.specs.TakenPackets.{Answer, GivesNext, TakesNext, ahead, begun_at, begun_of, packets_in, rate_told, source_of, stage_of}
 use Rattle.packet_reader.specs.declared.reader.PacketReader.{PacketReader}
 use Rattle.packet_reader.specs.declared.reader.PacketRefusal.TheVariants as refused
 use Rattle.packet_reader.specs.declared.reader.Stage.{Stage}

@@ -8,7 +8,7 @@ use Rattle.ivf_container.specs.Packets.{IsHeader, header_end, packets_after, pac
 use Rattle.ivf_container.proofs.Headers.{IsTested, is_header, is_tested}
 use Rattle.file_frames.specs.Containers.{is_webm, rate_of_file, rate_with}
 use Rattle.file_frames.specs.FileFrames.{frames_in, split_packets}
-use Rattle.packet_reader.specs.Packets as packets
+use Rattle.packet_reader.specs.TakenPackets as packets
 use Rattle.packet_reader.specs.declared.reader.Stage.TheVariants.{Header, Packet}
 use Rattle.packet_reader.proofs.HeaderLemmas.{tells_first}
 use Rattle.frame_groups.specs.Groups.{LeadAlong, LeadTo, frames_ahead}

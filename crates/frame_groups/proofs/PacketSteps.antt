@@ -8,7 +8,7 @@ use Rattle.ivf_container.proofs.Bodies.{has_body}
 use Rattle.ivf_container.proofs.Files.{has_packets}
 use Rattle.packet_reader.proofs.HeaderLemmas.{packets_behind}
 use Rattle.packet_reader.proofs.PacketLemmas.{one_packet}
-use Rattle.packet_reader.specs.Packets.{packets_in}
+use Rattle.packet_reader.specs.TakenPackets.{packets_in}
 use Rattle.packet_reader.specs.declared.reader.Stage.{Stage}
 use Rattle.packet_reader.specs.declared.reader.Stage.TheVariants.{Header, Packet, Ended}
 

@@ -6,7 +6,7 @@ use Rattle.edge_io.specs.Filling.{WhereTold}
 use Rattle.vp9_types.specs.declared.rule.Rule.{Rule}
 use Rattle.ivf_container.specs.Packets.{header_end}
 use Rattle.file_frames.specs.Containers.{rate_of_file, rate_with}
-use Rattle.packet_reader.specs.Packets as packets
+use Rattle.packet_reader.specs.TakenPackets as packets
 use Rattle.packet_reader.specs.declared.reader.PacketRefusal.TheVariants as refused
 use Rattle.packet_reader.specs.declared.reader.Stage.{Stage}
 use Rattle.packet_reader.specs.declared.reader.Stage.TheVariants.{Header, Packet, Ended}

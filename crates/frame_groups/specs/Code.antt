@@ -2,8 +2,8 @@
 use Rattle.std.specs.Prelude.{◌≡◌, ℕ, ◌+◌, ◌<◌, ◌≤◌, ◌^◌, List, [], ◌++◌, length, take, Option, Some, Result, Ok, Err, ⊤}
 use Rattle.std.specs.List.{flat_map}
 use Rattle.edge_io.specs.Filling.{WhereTold}
-use Rattle.edge_io.specs.Reading.{Gave}
-use Rattle.packet_reader.specs.Packets.{ahead, rate_told, source_of, stage_of}
+use Rattle.edge_io.specs.SourceReading.{Gave}
+use Rattle.packet_reader.specs.TakenPackets.{ahead, rate_told, source_of, stage_of}
 use Rattle.packet_reader.specs.declared.reader.PacketReader.{PacketReader}
 use Rattle.frame_groups.specs.declared.group.Behind.{Behind}
 use Rattle.frame_groups.specs.declared.group.FramePayload.{FramePayload}

@@ -5,7 +5,7 @@ use Rattle.std.specs.List.{flat_map}
 use Rattle.edge_io.specs.Filling.{WhereTold}
 use Rattle.file_frames.specs.Containers.{is_webm, rate_of_file}
 use Rattle.file_frames.specs.FileFrames.{FileFrames, frames_in, split_packets}
-use Rattle.packet_reader.specs.Packets as packets
+use Rattle.packet_reader.specs.TakenPackets as packets
 use Rattle.packet_reader.specs.declared.reader.Stage.{Stage}
 use Rattle.packet_reader.specs.declared.reader.Stage.TheVariants.{Header, Packet, Ended}
 use Rattle.frame_groups.specs.declared.group.Behind.{Behind}

@@ -1,7 +1,7 @@
 -- Which container a source has, by the first four of its bytes.
 use Rattle.std.specs.Prelude.{◌≡◌, ℕ, ◌<◌, ◌≤◌, ◌^◌, Bool, List, [], ◌++◌, length, true, false, Option, Some, ⊤}
 use Rattle.edge_io.specs.Filling.{WhereTold}
-use Rattle.edge_io.specs.Reading.{Gave}
+use Rattle.edge_io.specs.SourceReading.{Gave}
 use Rattle.file_frames.specs.Containers.{is_webm}
 use Rattle.frame_groups.specs.declared.opening.Looked.{Looked}
 use Rattle.frame_groups.specs.declared.opening.Opened.{Opened}

@@ -2,7 +2,7 @@
 
 ghost use Rattle.std.specs.Prelude.{◌≡◌, map};
 ghost use Rattle.std.specs.List.{All};
-ghost use Rattle.superframe_index.specs.Frames.{IsPart};
+ghost use Rattle.superframe_index.specs.PayloadFrames.{IsPart};
 
 use std::alloc::{AllocError, Global};
 use superframe_index::Parts;

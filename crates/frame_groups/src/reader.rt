@@ -1,7 +1,7 @@
 //! The reader.
 
 ghost use Rattle.std.specs.Prelude.{◌≡◌, [], length};
-ghost use Rattle.packet_reader.specs.Packets as packets;
+ghost use Rattle.packet_reader.specs.TakenPackets as packets;
 ghost use Rattle.packet_reader.specs.declared.reader.Stage.TheVariants.{Header};
 ghost use Rattle.frame_groups.specs.Groups.{CountsGroup, NoneBegun, StandsBehind, IsReady, TakesGroup, TellsGroupRate, ahead, begun_of, group_frames, rate_told, source_of, stage_of};
 ghost use Rattle.frame_groups.specs.Code.{AddsGroup, CanGoOn};

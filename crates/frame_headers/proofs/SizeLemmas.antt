@@ -5,8 +5,8 @@ use Rattle.std.proofs.lemmas.List.Elements.{All-nil, All-cons, All-head, All-tai
 use Rattle.vp9_types.specs.declared.shape.Shape.{Shape}
 use Rattle.frame_headers.specs.declared.header.Header.{Header}
 use Rattle.frame_headers.specs.declared.persist.Persist.{Persist}
-use Rattle.frame_headers.specs.Sizes.{IsFrameSize, HasFrameSize}
-use Rattle.frame_headers.specs.State.{held, refreshed, next_persist, start_persist, SlotsHaveSizes}
+use Rattle.frame_headers.specs.FrameSizes.{IsFrameSize, HasFrameSize}
+use Rattle.frame_headers.specs.HeaderState.{held, refreshed, next_persist, start_persist, SlotsHaveSizes}
 
 abbrev IsSized : Option Shape → Type 0
 IsSized slot = IfSome slot HasFrameSize

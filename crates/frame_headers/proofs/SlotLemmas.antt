@@ -5,7 +5,7 @@ use Rattle.std.proofs.lemmas.Bool.{cases_Bool}
 use Rattle.std.proofs.Math.ListN.{set}
 use Rattle.std.proofs.lemmas.Grind.{drop_more_same}
 use Rattle.std.proofs.lemmas.List.{take_more_set, drop-set-lt, take_all, drop_all, append-nil, drop_more}
-use Rattle.frame_headers.specs.State.{held, refreshed}
+use Rattle.frame_headers.specs.HeaderState.{held, refreshed}
 
 -- the first i slots are refreshed, and the others are as they were
 pub record IsRefreshed {A : Type 0} (refresh : ℕ) (frame : A) (before : List (Option A)) (i flags : ℕ) (slots : List (Option A)) : Type 0 where

@@ -28,8 +28,8 @@ use Rattle.frame_headers.specs.Filter.{loop_filter_params}
 use Rattle.frame_headers.specs.Quantizer.{quantization_params}
 use Rattle.frame_headers.specs.References.{inter_fields, slot_shape}
 use Rattle.frame_headers.specs.Segments.{segmentation_params, no_features}
-use Rattle.frame_headers.specs.Sizes.{frame_size, render_size, IsFrameSize}
-use Rattle.frame_headers.specs.State.{default_deltas}
+use Rattle.frame_headers.specs.FrameSizes.{frame_size, render_size, IsFrameSize}
+use Rattle.frame_headers.specs.HeaderState.{default_deltas}
 use Rattle.frame_headers.specs.Tiles.{tile_info, AreFewTiles}
 
 unfoldable pub coded_profile : Table ℕ

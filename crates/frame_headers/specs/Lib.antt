@@ -4,8 +4,8 @@ pub mod Filter
 pub mod Quantizer
 pub mod Segments
 pub mod Tiles
-pub mod State
-pub mod Sizes
+pub mod HeaderState
+pub mod FrameSizes
 pub mod References
 pub mod Header
 pub mod Spans

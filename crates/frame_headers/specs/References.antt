@@ -19,7 +19,7 @@ use Rattle.frame_headers.specs.declared.header.Reference.{Reference}
 use Rattle.frame_headers.specs.declared.header.References.{References}
 use Rattle.frame_headers.specs.declared.persist.Persist.{Persist}
 use Rattle.frame_headers.specs.Fields.{Table, f, flag}
-use Rattle.frame_headers.specs.Sizes.{frame_size, render_size, HasFrameSize}
+use Rattle.frame_headers.specs.FrameSizes.{frame_size, render_size, HasFrameSize}
 
 -- what a slot holds, which is broken where it is empty
 abbrev pub held_by : ℕ → Rule → Option Shape → Table (ℕ × Shape)

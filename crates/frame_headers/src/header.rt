@@ -108,7 +108,7 @@ pub struct Header {
 }
 
 impl Header {
-    ghost use Rattle.frame_headers.specs.State.{shape_of};
+    ghost use Rattle.frame_headers.specs.HeaderState.{shape_of};
 
     /// The shape of the frame.
     pub fn shape(&self) -> Shape

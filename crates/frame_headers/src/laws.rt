@@ -11,7 +11,7 @@ ghost use Rattle.frame_headers.specs.declared.field.FieldName.{FieldName};
 ghost use Rattle.frame_headers.specs.declared.header.Uncompressed.{Uncompressed};
 ghost use Rattle.frame_headers.specs.declared.persist.Persist.{Persist};
 ghost use Rattle.frame_headers.specs.declared.persist.TheConstants.Persist.{START};
-ghost use Rattle.frame_headers.specs.State.{start_persist, SlotsHaveSizes};
+ghost use Rattle.frame_headers.specs.HeaderState.{start_persist, SlotsHaveSizes};
 
 /// A frame's uncompressed header is a list of entries: each is the field that the standard's tables ask for after the
 /// values before it, and their bits, joined, are a front of the frame's bits. There is at most one such list. Where

@@ -1,5 +1,5 @@
 ghost use Rattle.std.specs.Prelude.{◌≡◌};
-ghost use Rattle.frame_headers.specs.State.{held, refreshed};
+ghost use Rattle.frame_headers.specs.HeaderState.{held, refreshed};
 
 use crate::color::ColorConfig;
 use crate::filter::LoopDeltas;
@@ -47,8 +47,8 @@ pub fn refresh_slots<T: Copy>(slots: &mut [Option<T>], refresh: u8, frame: T)
 }
 
 impl Header {
-    ghost use Rattle.frame_headers.specs.Sizes.{IsFrameSize};
-    ghost use Rattle.frame_headers.specs.State.{next_persist, SlotsHaveSizes};
+    ghost use Rattle.frame_headers.specs.FrameSizes.{IsFrameSize};
+    ghost use Rattle.frame_headers.specs.HeaderState.{next_persist, SlotsHaveSizes};
 
     /// What persists after this frame.
     pub fn next(&self, before: &Persist) -> Persist

@@ -1,8 +1,8 @@
 ghost use Rattle.std.specs.Prelude.{◌≡◌, IfOk, length};
 ghost use Rattle.frame_headers.specs.Fields.{Reads};
 ghost use Rattle.frame_headers.specs.Header.{coded_profile, frame_profile, frame_sync_code, key_fields, intra_only_fields, intra_and_reset, other_fields, forgets, kept_deltas, kept_features, frame_fields, frame_start, frame_contexts, frame_params, coded_frame, uncompressed_header, head_of, HasFewTiles, HeadHasFewTiles, HasSize, HeadHasSize, LiesIn};
-ghost use Rattle.frame_headers.specs.Sizes.{IsFrameSize};
-ghost use Rattle.frame_headers.specs.State.{SlotsHaveSizes};
+ghost use Rattle.frame_headers.specs.FrameSizes.{IsFrameSize};
+ghost use Rattle.frame_headers.specs.HeaderState.{SlotsHaveSizes};
 ghost use Rattle.frame_headers.specs.Tiles.{AreFewTiles};
 
 use crate::bits::BitReader;

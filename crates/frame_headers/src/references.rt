@@ -1,8 +1,8 @@
 ghost use Rattle.std.specs.Prelude.{◌≡◌, IfOk};
 ghost use Rattle.frame_headers.specs.Fields.{Reads};
 ghost use Rattle.frame_headers.specs.References.{same_bit, slot_shape, filter_of, reference, references, found_size, interpolation_filter, inter_fields, HaveFrameSizes};
-ghost use Rattle.frame_headers.specs.Sizes.{IsFrameSize, HasFrameSize};
-ghost use Rattle.frame_headers.specs.State.{SlotsHaveSizes};
+ghost use Rattle.frame_headers.specs.FrameSizes.{IsFrameSize, HasFrameSize};
+ghost use Rattle.frame_headers.specs.HeaderState.{SlotsHaveSizes};
 
 use crate::bits::BitReader;
 use crate::color::ColorConfig;

@@ -1,7 +1,7 @@
 ghost use Rattle.std.specs.Prelude.{◌≡◌, ◌≤◌};
-ghost use Rattle.frame_headers.specs.Sizes.{IsFrameSize};
-ghost use Rattle.frame_headers.specs.State.{shape_of};
-ghost use Rattle.block_geometry.specs.Frames.{places_of};
+ghost use Rattle.frame_headers.specs.FrameSizes.{IsFrameSize};
+ghost use Rattle.frame_headers.specs.HeaderState.{shape_of};
+ghost use Rattle.block_geometry.specs.FrameShapes.{places_of};
 
 use block_geometry::FramePlaces;
 use frame_headers::Header;

@@ -2,10 +2,10 @@
 use Rattle.std.proofs.Common.{◌≡◌, ◌++◌, ◌∷◌, [], ℕ, ◌+◌, ◌-◌, ◌≤◌, ◌<◌, refl, arith, Bool, List, get_or, subst}
 use Rattle.std.proofs.lemmas.List.Elements.{All-push}
 use Rattle.std.specs.Prelude.{All, IfSome, None, Option, Some}
-use Rattle.vp9_tables.specs.Blocks.{greatest_of}
+use Rattle.vp9_tables.specs.BlockTables.{greatest_of}
 use Rattle.vp9_tables.specs.Numbers.{tx_number}
 use Rattle.vp9_types.specs.declared.block.BlockSize.{BlockSize}
-use Rattle.block_geometry.specs.Sizes.{width_8}
+use Rattle.block_geometry.specs.BlockSizes.{width_8}
 use Rattle.block_plan.specs.declared.block.BlockAt.{BlockAt}
 use Rattle.block_plan.specs.declared.block.BlockInfo.{BlockInfo}
 use Rattle.block_plan.specs.declared.block.Prediction.{Prediction}
@@ -17,12 +17,12 @@ use Rattle.mv_prediction.specs.Code.{HasSmallVectors, PredictsSmall}
 use Rattle.mv_prediction.specs.Vectors.{IsSmallVector}
 use Rattle.frame_headers.specs.declared.header.FrameKind.TheVariants as frame
 use Rattle.frame_headers.specs.declared.header.Header.{Header}
-use Rattle.frame_headers.specs.State.{shape_of}
+use Rattle.frame_headers.specs.HeaderState.{shape_of}
 use Rattle.vp9_types.specs.Shapes.{mi_cols, mi_rows}
 use Rattle.mv_prediction.specs.Code as vectors
 use Rattle.frame_state.specs.declared.frame_blocks.FrameBlocks.{FrameBlocks}
 use Rattle.frame_state.specs.Past.{AreVectors, blocks_in}
-use Rattle.frame_state.specs.Columns.{AllFit, AllLie, AllSmall, AllStart}
+use Rattle.frame_state.specs.KeptColumns.{AllFit, AllLie, AllSmall, AllStart}
 
 ---- Listed blocks ----
 

@@ -12,23 +12,23 @@ use Rattle.vp9_types.specs.declared.rule.Rule.{Rule}
 use Rattle.vp9_types.specs.declared.shape.Plane.{Plane}
 use Rattle.vp9_types.specs.declared.shape.Plane.TheVariants.{Y, U, V}
 use Rattle.vp9_types.specs.declared.shape.Shape.{Shape}
-use Rattle.frame_headers.specs.State.{shape_of}
+use Rattle.frame_headers.specs.HeaderState.{shape_of}
 use Rattle.frame_headers.specs.declared.header.Header.{Header}
 use Rattle.frame_headers.specs.declared.tiles.TileInfo.{TileInfo}
 use Rattle.prob_contexts.specs.Counted.{counts_after, no_counts, with_bool}
 use Rattle.prob_contexts.specs.declared.kind.CountedBool.{CountedBool}
 use Rattle.counting_reader.specs.Counting.{counted_if}
 use Rattle.std.proofs.lemmas.List.Sums.{fold-append}
-use Rattle.block_geometry.specs.Frames.{places_of}
+use Rattle.block_geometry.specs.FrameShapes.{places_of}
 use Rattle.block_geometry.specs.declared.transform_blocks.FramePlaces.{FramePlaces}
 use Rattle.residue_syntax.specs.Code.{FitPlane, FitPlanes}
 use Rattle.residue_syntax.specs.Sides.{Sides, nothing_left}
 use Rattle.residue_syntax.specs.declared.sides.TileSides.{TileSides}
 use Rattle.frame_setting.specs.declared.setting.FrameSetting.{FrameSetting}
-use Rattle.frame_state.specs.Columns.{AllFit, AllLie, AllSmall, AllStart, AreTileColumns, IsTileColumn, blocks_of, limit_of}
+use Rattle.frame_state.specs.KeptColumns.{AllFit, AllLie, AllSmall, AllStart, AreTileColumns, IsTileColumn, blocks_of, limit_of}
 use Rattle.frame_state.specs.Code.{IsReady, SameColumns, column_as_listed, column_of_code, counts_if}
-use Rattle.frame_state.specs.Reading.{Column, FrameRead, begun, column_at, infos, no_column, sides_below}
-use Rattle.frame_state.specs.Tiles.{column_of, row_of, superblocks_before, tile_offset, tile_places}
+use Rattle.frame_state.specs.FrameReading.{Column, FrameRead, begun, column_at, infos, no_column, sides_below}
+use Rattle.frame_state.specs.TilePlaces.{column_of, row_of, superblocks_before, tile_offset, tile_places}
 use Rattle.frame_state.specs.declared.columns.TileColumn.{TileColumn}
 use Rattle.frame_state.specs.declared.tile_places.TilePlaces.{TilePlaces}
 use Rattle.frame_state.proofs.TileOffsets.{before_grows, before_low, column_ends, offset_grows, offset_low, raster, room_for, room_left, row_below, tile_is_low}

@@ -13,20 +13,20 @@ use Rattle.vp9_types.specs.declared.rule.Rule.{Rule}
 use Rattle.bool_decoder.specs.Bools.{run_bools}
 use Rattle.bool_decoder.specs.Window.{Window, started}
 use Rattle.frame_headers.specs.Spans.{tile_count, tile_spans}
-use Rattle.frame_headers.specs.State.{shape_of}
+use Rattle.frame_headers.specs.HeaderState.{shape_of}
 use Rattle.frame_headers.specs.declared.header.Header.{Header}
 use Rattle.counting_reader.specs.Counting.{Settled}
 use Rattle.prob_contexts.specs.declared.kind.CountedBool.{CountedBool}
-use Rattle.block_geometry.specs.Frames.{places_of}
+use Rattle.block_geometry.specs.FrameShapes.{places_of}
 use Rattle.block_plan.specs.Planned.{PlannedBlock}
 use Rattle.mode_syntax.specs.TileColumns.{AreSeparate, by_column, column_alone, counted_of, read_all, then_rest, viewed, with_column, with_counted}
 use Rattle.mode_syntax.proofs.Columns.{all_read, counts_add, first_broken, columns_separate}
 use Rattle.frame_state.specs.Code.{read_whole, settled_of}
-use Rattle.frame_state.specs.Reading.{read_all_tiles, Column, FrameRead, TileRead, column_after, column_at, no_column, nothing_read, read_tile, read_tile_of, read_tiles, with_tile}
+use Rattle.frame_state.specs.FrameReading.{read_all_tiles, Column, FrameRead, TileRead, column_after, column_at, no_column, nothing_read, read_tile, read_tile_of, read_tiles, with_tile}
 use Rattle.frame_state.specs.Laws.{AreReadAll, IsFirstBroken, columns_across}
-use Rattle.frame_state.specs.Plans.{ColumnRead, column_tile, no_tiles, plan_of, tile_bytes, with_its_tile}
+use Rattle.frame_state.specs.ColumnPlans.{ColumnRead, column_tile, no_tiles, plan_of, tile_bytes, with_its_tile}
 use Rattle.frame_state.specs.Sources.{FrameSources}
-use Rattle.frame_state.specs.Tiles.{column_of, tile_places}
+use Rattle.frame_state.specs.TilePlaces.{column_of, tile_places}
 use Rattle.frame_state.proofs.CountSums.{flat_first, parts_add_up}
 use Rattle.frame_state.proofs.TileSpans.{many_spans}
 

@@ -6,10 +6,10 @@ use Rattle.std.proofs.Math.Nat.{div-lt_iff_lt-mul, mod-lt, div-add-mod, mul-add,
 use Rattle.std.proofs.Math.Pow.{shr_mono}
 use Rattle.vp9_types.specs.Shapes.{mi_cols}
 use Rattle.vp9_types.specs.Sizes.{superblocks_along}
-use Rattle.frame_headers.specs.State.{shape_of}
+use Rattle.frame_headers.specs.HeaderState.{shape_of}
 use Rattle.frame_headers.specs.declared.header.Header.{Header}
 use Rattle.frame_headers.specs.declared.tiles.TileInfo.{TileInfo}
-use Rattle.frame_state.specs.Tiles.{column_of, row_of, superblocks_before, tile_offset}
+use Rattle.frame_state.specs.TilePlaces.{column_of, row_of, superblocks_before, tile_offset}
 
 pub before_grows : (places log2 i j : ℕ) → i ≤ j → superblocks_before places log2 i ≤ superblocks_before places log2 j
 before_grows places log2 i j low = shr_mono log2 (mul-le-mul_right (superblocks_along places) low)

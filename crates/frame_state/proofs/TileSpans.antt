@@ -8,15 +8,15 @@ use Rattle.vp9_types.specs.declared.block.Modes.{Modes}
 use Rattle.vp9_types.specs.declared.job.Span.{Span}
 use Rattle.vp9_types.specs.declared.rule.Rule.{Rule}
 use Rattle.bool_decoder.specs.Window.{started}
-use Rattle.compressed_header.specs.Header.{forward}
+use Rattle.compressed_header.specs.CompressedHeader.{forward}
 use Rattle.frame_headers.specs.Spans.{followed, in_front, tile_count, tile_spans, tiles_from, tile_at as tile_at_place}
-use Rattle.frame_headers.specs.State.{shape_of}
+use Rattle.frame_headers.specs.HeaderState.{shape_of}
 use Rattle.frame_headers.specs.declared.header.Header.{Header}
-use Rattle.prob_contexts.specs.Lists.{ContextLists}
-use Rattle.block_geometry.specs.Frames.{places_of}
-use Rattle.frame_state.specs.Reading.{FrameInput, read_all_tiles, read_frame, sources, FrameRead, nothing_read, read_tile_of, read_tiles}
+use Rattle.prob_contexts.specs.ProbLists.{ContextLists}
+use Rattle.block_geometry.specs.FrameShapes.{places_of}
+use Rattle.frame_state.specs.FrameReading.{FrameInput, read_all_tiles, read_frame, sources, FrameRead, nothing_read, read_tile_of, read_tiles}
 use Rattle.frame_state.specs.Sources.{FrameSources}
-use Rattle.frame_state.specs.Tiles.{tile_places}
+use Rattle.frame_state.specs.TilePlaces.{tile_places}
 use Rattle.frame_state.specs.declared.tile_places.TilePlaces.{TilePlaces}
 
 abbrev pub tile_at : Header → ℕ → TilePlaces

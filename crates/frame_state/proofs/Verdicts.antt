@@ -6,11 +6,11 @@ use Rattle.vp9_types.specs.declared.job.Span.{Span}
 use Rattle.vp9_types.specs.declared.rule.Rule.{Rule}
 use Rattle.frame_headers.specs.Spans.{tile_spans}
 use Rattle.counting_reader.specs.Counting.{Settled}
-use Rattle.frame_state.specs.Reading.{read_all_tiles, FrameRead}
+use Rattle.frame_state.specs.FrameReading.{read_all_tiles, FrameRead}
 use Rattle.frame_state.specs.Laws.{IsFrameVerdict, columns_across, earlier, least_verdict, verdict_of}
-use Rattle.frame_state.specs.Plans.{ColumnRead, plan_of, tile_bytes}
+use Rattle.frame_state.specs.ColumnPlans.{ColumnRead, plan_of, tile_bytes}
 use Rattle.frame_state.specs.Sources.{FrameSources}
-use Rattle.frame_state.specs.Tiles.{column_of}
+use Rattle.frame_state.specs.TilePlaces.{column_of}
 use Rattle.frame_state.proofs.PlanReads.{reads_columns, broken_first, few_columns}
 
 none_broken : (verdict : ℕ → Option (ℕ × Rule)) (n : ℕ) → ((k : ℕ) → verdict k ≡ None) → least_verdict verdict n ≡ None

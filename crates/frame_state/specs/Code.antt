@@ -6,20 +6,20 @@ use Rattle.vp9_types.specs.declared.job.Span.{Span}
 use Rattle.vp9_types.specs.declared.rule.Rule.{Rule}
 use Rattle.bool_decoder.specs.Bools.{run_bools}
 use Rattle.bool_decoder.specs.Window.{Window, started}
-use Rattle.compressed_header.specs.Header.{forward}
+use Rattle.compressed_header.specs.CompressedHeader.{forward}
 use Rattle.frame_headers.specs.Spans.{tile_spans}
-use Rattle.frame_headers.specs.State.{shape_of}
+use Rattle.frame_headers.specs.HeaderState.{shape_of}
 use Rattle.frame_headers.specs.declared.header.Header.{Header}
 use Rattle.frame_setting.specs.declared.setting.FrameSetting.{FrameSetting}
 use Rattle.prob_contexts.specs.Counted.{counts_after, no_counts}
-use Rattle.prob_contexts.specs.Lists.{ContextLists, lists_of}
+use Rattle.prob_contexts.specs.ProbLists.{ContextLists, lists_of}
 use Rattle.prob_contexts.specs.declared.kind.CountedBool.{CountedBool}
 use Rattle.counting_reader.specs.Counting.{Settled}
 use Rattle.block_plan.specs.declared.block.BlockInfo.{BlockInfo}
 use Rattle.residue_syntax.specs.Code.{FitPlanes}
-use Rattle.frame_state.specs.Columns.{AllFit, AllLie, AllSmall, AllStart, limit_of}
+use Rattle.frame_state.specs.KeptColumns.{AllFit, AllLie, AllSmall, AllStart, limit_of}
 use Rattle.frame_state.specs.Past.{past_of}
-use Rattle.frame_state.specs.Reading.{Column, infos, read_frame}
+use Rattle.frame_state.specs.FrameReading.{Column, infos, read_frame}
 use Rattle.frame_state.specs.Sources.{FramePast, FrameSources}
 use Rattle.frame_state.specs.declared.columns.TileColumn.{TileColumn}
 use Rattle.frame_state.specs.declared.sources.FrameSources as code

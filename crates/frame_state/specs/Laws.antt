@@ -7,9 +7,9 @@ use Rattle.frame_headers.specs.declared.header.Header.{Header}
 use Rattle.counting_reader.specs.Counting.{Settled}
 use Rattle.prob_contexts.specs.declared.kind.CountedBool.{CountedBool}
 use Rattle.prob_contexts.specs.Counted.{counts_after, joined_counts, no_counts}
-use Rattle.frame_state.specs.Plans.{ColumnRead}
-use Rattle.frame_state.specs.Reading.{FrameRead, column_at}
-use Rattle.frame_state.specs.Tiles.{column_of}
+use Rattle.frame_state.specs.ColumnPlans.{ColumnRead}
+use Rattle.frame_state.specs.FrameReading.{FrameRead, column_at}
+use Rattle.frame_state.specs.TilePlaces.{column_of}
 
 -- how many tile columns a frame has
 abbrev pub columns_across : Header → ℕ

@@ -1,8 +1,8 @@
 pub mod Sources
-pub mod Tiles
-pub mod Reading
-pub mod Plans
-pub mod Columns
+pub mod TilePlaces
+pub mod FrameReading
+pub mod ColumnPlans
+pub mod KeptColumns
 pub mod Past
 pub mod Code
 pub mod Laws

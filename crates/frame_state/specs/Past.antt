@@ -1,14 +1,14 @@
 -- What the code holds of the frames before a frame, to read it by.
 use Rattle.std.specs.Prelude.{◌≡◌, List, IfSome}
 use Rattle.vp9_types.specs.Shapes.{mi_cols, mi_rows}
-use Rattle.frame_headers.specs.State.{shape_of}
+use Rattle.frame_headers.specs.HeaderState.{shape_of}
 use Rattle.frame_headers.specs.declared.header.Header.{Header}
-use Rattle.prob_contexts.specs.Lists.{lists_of}
-use Rattle.block_plan.specs.Segments.{id_map}
+use Rattle.prob_contexts.specs.ProbLists.{lists_of}
+use Rattle.block_plan.specs.SegmentMaps.{id_map}
 use Rattle.block_plan.specs.declared.block.BlockInfo.{BlockInfo}
 use Rattle.mv_prediction.specs.Code as vectors
-use Rattle.frame_state.specs.Columns.{AllSmall, blocks_of}
-use Rattle.frame_state.specs.Reading.{all_blocks}
+use Rattle.frame_state.specs.KeptColumns.{AllSmall, blocks_of}
+use Rattle.frame_state.specs.FrameReading.{all_blocks}
 use Rattle.frame_state.specs.Sources.{FramePast}
 use Rattle.frame_state.specs.declared.frame_blocks.FrameBlocks.{FrameBlocks}
 use Rattle.frame_state.specs.declared.sources.FramePast as code_past

@@ -5,7 +5,7 @@ use Rattle.vp9_types.specs.declared.block.Modes.{Modes}
 use Rattle.frame_headers.specs.declared.header.FrameKind.{FrameKind}
 use Rattle.frame_headers.specs.declared.header.FrameKind.TheVariants.{Key, IntraOnly, Inter}
 use Rattle.frame_headers.specs.declared.header.Header.{Header}
-use Rattle.prob_contexts.specs.Lists.{ContextLists}
+use Rattle.prob_contexts.specs.ProbLists.{ContextLists}
 use Rattle.block_plan.specs.declared.block.BlockInfo.{BlockInfo}
 
 -- what the frames before a frame leave to the reading of it: the contexts that it starts from, the map of segments that it starts

@@ -1,9 +1,9 @@
 //! What a frame says before its tiles.
 
 ghost use Rattle.std.specs.Prelude.{◌≤◌, length};
-ghost use Rattle.frame_headers.specs.Sizes.{IsFrameSize};
+ghost use Rattle.frame_headers.specs.FrameSizes.{IsFrameSize};
 ghost use Rattle.frame_headers.specs.Tiles.{AreFewTiles};
-ghost use Rattle.prob_contexts.specs.Lists.{lists_of};
+ghost use Rattle.prob_contexts.specs.ProbLists.{lists_of};
 ghost use Rattle.frame_state.specs.Code.{IsBegun};
 
 use compressed_header::read;

@@ -1,9 +1,9 @@
 //! What is kept of a tile column.
 
 ghost use Rattle.std.specs.Prelude.{◌≡◌, ◌<◌, ◌^◌};
-ghost use Rattle.frame_headers.specs.State.{shape_of};
+ghost use Rattle.frame_headers.specs.HeaderState.{shape_of};
 ghost use Rattle.frame_headers.specs.Tiles.{AreFewTiles};
-ghost use Rattle.frame_state.specs.Columns.{AreTileColumns, IsTileColumn};
+ghost use Rattle.frame_state.specs.KeptColumns.{AreTileColumns, IsTileColumn};
 
 use crate::tile_places::tile_offset;
 use block_geometry::FramePlaces;
@@ -22,7 +22,7 @@ pub struct TileColumn {
 impl TileColumn {
     ghost use Rattle.std.specs.Prelude.{◌≡◌, IfOk, OnOk, length, replicate, map};
     ghost use Rattle.frame_state.specs.Code.{column_as_listed, column_of_code};
-    ghost use Rattle.frame_state.specs.Reading.{no_column};
+    ghost use Rattle.frame_state.specs.FrameReading.{no_column};
 
     /// The `k`-th tile column of a frame, of which nothing is read.
     pub fn new(alloc: Global, setting: &FrameSetting, k: u32) -> Result<TileColumn, AllocError>
@@ -114,7 +114,7 @@ struct ColumnSpan {
 impl ColumnSpan {
     ghost use Rattle.std.specs.Prelude.{◌≡◌, ◌-◌, ◌+◌, ◌*◌, ◌≤◌};
     ghost use Rattle.vp9_types.specs.Sizes.{superblocks_along};
-    ghost use Rattle.frame_state.specs.Tiles.{tile_offset};
+    ghost use Rattle.frame_state.specs.TilePlaces.{tile_offset};
 
     /// That of the `k`-th tile column of a frame.
     fn of(setting: &FrameSetting, k: u32) -> ColumnSpan

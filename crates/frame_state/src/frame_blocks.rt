@@ -1,7 +1,7 @@
 //! The blocks of a whole frame, as its tile columns hold them.
 
 ghost use Rattle.std.specs.Prelude.{◌≡◌};
-ghost use Rattle.frame_state.specs.Columns.{AreColumnsOf};
+ghost use Rattle.frame_state.specs.KeptColumns.{AreColumnsOf};
 
 use crate::columns::TileColumn;
 use block_plan::{BlockInfo, Neighbours};
@@ -17,9 +17,9 @@ pub struct FrameBlocks<'a> {
 
 impl<'a> FrameBlocks<'a> {
     ghost use Rattle.std.specs.Prelude.{◌<◌, ◌≤◌, ◌+◌, length};
-    ghost use Rattle.frame_headers.specs.State.{shape_of};
+    ghost use Rattle.frame_headers.specs.HeaderState.{shape_of};
     ghost use Rattle.vp9_types.specs.Shapes.{mi_cols};
-    ghost use Rattle.frame_state.specs.Tiles.{tile_offset};
+    ghost use Rattle.frame_state.specs.TilePlaces.{tile_offset};
 
     pub fn new(header: &'a Header, columns: &'a [TileColumn]) -> FrameBlocks<'a>
         requires { AreColumnsOf header.now columns.now }
@@ -48,7 +48,7 @@ impl<'a> FrameBlocks<'a> {
 
 impl Neighbours for FrameBlocks<'_> {
     ghost use Rattle.std.specs.Prelude.{◌<◌};
-    ghost use Rattle.frame_headers.specs.State.{shape_of};
+    ghost use Rattle.frame_headers.specs.HeaderState.{shape_of};
     ghost use Rattle.vp9_types.specs.Shapes.{mi_cols, mi_rows};
     ghost use Rattle.frame_state.specs.Past.{blocks_in};
 

@@ -6,8 +6,8 @@ ghost use Rattle.vp9_types.specs.declared.rule.Rule.{Rule};
 ghost use Rattle.frame_headers.specs.Spans.{tile_spans};
 ghost use Rattle.counting_reader.specs.Counting.{Settled};
 ghost use Rattle.frame_state.specs.Laws.{AreReadAll, IsFirstBroken, IsFrameVerdict, columns_across, least_verdict, verdict_of};
-ghost use Rattle.frame_state.specs.Plans.{ColumnRead, plan_of, tile_bytes};
-ghost use Rattle.frame_state.specs.Reading.{FrameRead, read_all_tiles};
+ghost use Rattle.frame_state.specs.ColumnPlans.{ColumnRead, plan_of, tile_bytes};
+ghost use Rattle.frame_state.specs.FrameReading.{FrameRead, read_all_tiles};
 ghost use Rattle.frame_state.specs.Sources.{FrameSources};
 
 /// Reading all tiles of a frame in order is reading each of its tile columns by itself: where all are read, the columns come

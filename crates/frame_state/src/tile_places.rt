@@ -3,7 +3,7 @@
 ghost use Rattle.std.specs.Prelude.{◌≡◌, ◌≤◌, ◌<◌, ◌*◌, ◌+◌, ◌-◌, ◌^◌};
 ghost use Rattle.vp9_types.specs.Sizes.{superblocks_along};
 ghost use Rattle.frame_headers.specs.Tiles.{AreFewTiles};
-ghost use Rattle.frame_state.specs.Tiles.{tile_offset, tile_places};
+ghost use Rattle.frame_state.specs.TilePlaces.{tile_offset, tile_places};
 
 use block_geometry::FramePlaces;
 use frame_headers::TileInfo;
@@ -40,7 +40,7 @@ pub(crate) fn tile_offset(places: u32, log2: u8, i: u32) -> u32
 
 impl TilePlaces {
     /// The `n`-th tile of a frame of such a size.
-    #[tactic(auto, unfolding(crate::specs::Tiles::tile_places))]
+    #[tactic(auto, unfolding(crate::specs::TilePlaces::tile_places))]
     pub fn new(frame: FramePlaces, tiles: TileInfo, n: u32) -> TilePlaces
         requires rows { frame.rows ≤ 8192 }
         requires cols { frame.cols ≤ 8192 }

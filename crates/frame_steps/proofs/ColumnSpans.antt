@@ -6,18 +6,18 @@ use Rattle.frame_headers.specs.declared.tiles.TileInfo.{TileInfo}
 use Rattle.vp9_types.specs.Shapes.{mi_cols}
 use Rattle.vp9_types.specs.Sizes.{superblocks_along}
 use Rattle.frame_headers.specs.Spans.{tile_count}
-use Rattle.frame_headers.specs.State.{shape_of}
+use Rattle.frame_headers.specs.HeaderState.{shape_of}
 use Rattle.frame_headers.specs.declared.header.Header.{Header}
 use Rattle.frame_setting.specs.declared.setting.FrameSetting.{FrameSetting}
-use Rattle.frame_state.specs.Columns.{IsTileColumn, limit_of}
-use Rattle.frame_state.specs.Tiles.{tile_offset, tile_places}
+use Rattle.frame_state.specs.KeptColumns.{IsTileColumn, limit_of}
+use Rattle.frame_state.specs.TilePlaces.{tile_offset, tile_places}
 use Rattle.frame_state.specs.declared.tile_places.TilePlaces.{TilePlaces}
 use Rattle.frame_state.proofs.TileOffsets.{offset_grows, offset_low}
 use Rattle.tile_syntax.specs.declared.plans.ColumnPlan.{ColumnPlan}
-use Rattle.column_order.specs.Columns.{column_from, column_to}
+use Rattle.column_order.specs.ColumnStrips.{column_from, column_to}
 use Rattle.vp9_types.specs.declared.shape.Shape.{Shape}
 use Rattle.planes.specs.declared.frame_planes.FramePlanes.{FramePlanes}
-use Rattle.recon_rows.specs.Strips.{HasStripAreas}
+use Rattle.recon_rows.specs.OwnStrips.{HasStripAreas}
 
 pub tile_begins : (frame : FramePlaces) (tiles : TileInfo) (k : ℕ) → k < 2 ^ tiles.columns_log2 → (tile_places frame tiles k).col_from ≡ tile_offset frame.cols tiles.columns_log2 k
 unfolding tile_places

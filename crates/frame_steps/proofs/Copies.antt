@@ -10,17 +10,17 @@ use Rattle.vp9_types.specs.Sizes.{superblocks_along}
 use Rattle.vp9_types.specs.declared.rule.Rule.{Rule}
 use Rattle.vp9_types.specs.declared.shape.Shape.{Shape}
 use Rattle.frame_headers.specs.Spans.{tile_count}
-use Rattle.frame_headers.specs.Sizes.{HasFrameSize}
-use Rattle.frame_headers.specs.State.{SlotsHaveSizes, shape_of, start_persist}
+use Rattle.frame_headers.specs.FrameSizes.{HasFrameSize}
+use Rattle.frame_headers.specs.HeaderState.{SlotsHaveSizes, shape_of, start_persist}
 use Rattle.frame_headers.specs.declared.header.Header.{Header}
-use Rattle.block_geometry.specs.Sizes.{width_8}
+use Rattle.block_geometry.specs.BlockSizes.{width_8}
 use Rattle.block_plan.specs.declared.block.BlockInfo.{BlockInfo}
 use Rattle.residue_syntax.specs.Code.{FitPlanes}
 use Rattle.block_geometry.specs.declared.transform_blocks.FramePlaces.{FramePlaces}
-use Rattle.column_plan.specs.Rows.{place_of_row}
+use Rattle.column_plan.specs.PlanRows.{place_of_row}
 use Rattle.column_plan.specs.declared.rows.RowPlace.{RowPlace}
 use Rattle.frame_headers.specs.declared.segments.Segmentation.{Segmentation}
-use Rattle.inter_modes.specs.Segments.{segments_after, segments_of, updates}
+use Rattle.inter_modes.specs.LeftSegments.{segments_after, segments_of, updates}
 use Rattle.recon_rows.proofs.RowSteps.{in_column}
 use Rattle.vp9_types.specs.Maps.{Map}
 use Rattle.counting_reader.specs.Counting.{Settled}
@@ -29,13 +29,13 @@ use Rattle.prob_contexts.specs.declared.kind.CountedBool.{CountedBool}
 use Rattle.prob_contexts.proofs.Joining.{added}
 use Rattle.frame_setting.specs.declared.setting.FrameSetting.{FrameSetting}
 use Rattle.frame_state.specs.Code.{counts_if}
-use Rattle.frame_state.specs.Columns.{AllFit, AllLie, AllSmall, AllStart, IsTileColumn, limit_of}
-use Rattle.frame_state.specs.Plans.{ColumnRead}
-use Rattle.frame_state.specs.Tiles.{tile_offset}
+use Rattle.frame_state.specs.KeptColumns.{AllFit, AllLie, AllSmall, AllStart, IsTileColumn, limit_of}
+use Rattle.frame_state.specs.ColumnPlans.{ColumnRead}
+use Rattle.frame_state.specs.TilePlaces.{tile_offset}
 use Rattle.frame_state.specs.declared.columns.TileColumn.{TileColumn}
 use Rattle.frame_state.proofs.TileOffsets.{column_ends}
 use Rattle.frame_close.specs.Code.{GivesColumn}
-use Rattle.column_order.specs.Columns.{column_from}
+use Rattle.column_order.specs.ColumnStrips.{column_from}
 
 some_power : (n : ℕ) → 0 < 2 ^ n
 some_power n = pow_pos n

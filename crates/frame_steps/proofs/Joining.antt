@@ -6,16 +6,16 @@ use Rattle.std.proofs.lemmas.List.{get_or_append_left, length-append}
 use Rattle.std.proofs.Math.Seq.{get_or-append_seam}
 use Rattle.vp9_types.specs.declared.job.Span.{Span}
 use Rattle.frame_headers.specs.Spans.{tile_count, tile_spans}
-use Rattle.frame_state.specs.Columns.{IsTileColumn}
+use Rattle.frame_state.specs.KeptColumns.{IsTileColumn}
 use Rattle.frame_state.specs.Laws.{columns_across}
-use Rattle.frame_state.specs.Plans.{plan_of, tile_bytes}
+use Rattle.frame_state.specs.ColumnPlans.{plan_of, tile_bytes}
 use Rattle.frame_state.specs.Sources.{adapts}
 use Rattle.frame_state.specs.declared.columns.TileColumn.{TileColumn}
 use Rattle.frame_close.specs.Code.{GivesColumn, result_at}
 use Rattle.prob_contexts.specs.Counted.{joined_counts, no_counts}
 use Rattle.tile_syntax.specs.declared.plans.Unplanned.{Unplanned}
 use Rattle.tile_syntax.specs.declared.plans.Unplanned.TheVariants as unplanned
-use Rattle.frame_steps.specs.Frames.{AreCopies, IsColumn, IsCopyAsRead, IsSound, sources_by}
+use Rattle.frame_steps.specs.StepResults.{AreCopies, IsColumn, IsCopyAsRead, IsSound, sources_by}
 use Rattle.frame_steps.specs.declared.beginning.BegunFrame.{BegunFrame}
 use Rattle.frame_steps.specs.declared.columns.PlannedColumn.{PlannedColumn}
 use Rattle.frame_steps.proofs.Copies.{told_copied}

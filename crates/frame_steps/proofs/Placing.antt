@@ -5,20 +5,20 @@ use Rattle.vp9_types.specs.declared.block.ReferenceFrame.{ReferenceFrame}
 use Rattle.vp9_types.specs.declared.block.ReferenceFrame.TheVariants.{Last, Golden, Altref}
 use Rattle.vp9_types.specs.declared.job.Span.{Span}
 use Rattle.frame_headers.specs.References.{is_in_range}
-use Rattle.frame_headers.specs.Sizes.{HasFrameSize, IsFrameSize}
+use Rattle.frame_headers.specs.FrameSizes.{HasFrameSize, IsFrameSize}
 use Rattle.frame_headers.specs.Spans.{tile_count, tile_spans}
-use Rattle.frame_headers.specs.State.{shape_of}
+use Rattle.frame_headers.specs.HeaderState.{shape_of}
 use Rattle.frame_headers.specs.declared.header.FrameKind.{FrameKind}
 use Rattle.frame_headers.specs.declared.header.FrameKind.TheVariants as kind
 use Rattle.frame_headers.specs.declared.header.Header.{Header}
 use Rattle.frame_headers.specs.declared.header.InterFields.{InterFields}
 use Rattle.block_plan.specs.declared.block.Prediction.{Prediction}
 use Rattle.block_plan.specs.declared.block.Prediction.TheVariants.{Intra, Inter}
-use Rattle.inter_contexts.specs.References.{reference_in, second_in_range}
+use Rattle.inter_contexts.specs.BlockReferences.{reference_in, second_in_range}
 use Rattle.inter_modes.specs.Code.{RefersInRange}
 use Rattle.band_needs.specs.Code.{CanBePlaced, HasShape, HasShapes}
-use Rattle.frame_state.specs.Columns.{IsTileColumn}
-use Rattle.frame_state.specs.Plans.{plan_of, tile_bytes}
+use Rattle.frame_state.specs.KeptColumns.{IsTileColumn}
+use Rattle.frame_state.specs.ColumnPlans.{plan_of, tile_bytes}
 use Rattle.frame_state.specs.Sources.{FrameSources, adapts}
 use Rattle.frame_state.specs.declared.columns.TileColumn.{TileColumn}
 use Rattle.frame_close.proofs.Joined.{column_gives}
@@ -26,7 +26,7 @@ use Rattle.seq_decoder.proofs.PastLemmas.{is_reference}
 use Rattle.tile_syntax.specs.Code.{GivesPlan, IsKept}
 use Rattle.tile_syntax.specs.declared.plans.ColumnPlan.{ColumnPlan}
 use Rattle.tile_syntax.specs.declared.plans.Unplanned.{Unplanned}
-use Rattle.frame_steps.specs.Frames.{AreRowNeeds, HaveSizes, IsColumn, shapes_by, sources_by}
+use Rattle.frame_steps.specs.StepResults.{AreRowNeeds, HaveSizes, IsColumn, shapes_by, sources_by}
 use Rattle.frame_steps.specs.declared.beginning.BegunFrame.{BegunFrame}
 use Rattle.frame_steps.specs.declared.columns.PlannedColumn.{PlannedColumn}
 

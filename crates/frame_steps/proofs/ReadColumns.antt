@@ -10,14 +10,14 @@ use Rattle.vp9_types.specs.declared.shape.Shape.{Shape}
 use Rattle.bool_decoder.specs.Bools.{run_bools}
 use Rattle.bool_decoder.specs.Window.{Window, started}
 use Rattle.frame_headers.specs.Spans.{tile_spans}
-use Rattle.frame_headers.specs.State.{shape_of}
+use Rattle.frame_headers.specs.HeaderState.{shape_of}
 use Rattle.counting_reader.specs.Counting.{Settled}
-use Rattle.block_geometry.specs.Frames.{places_of}
+use Rattle.block_geometry.specs.FrameShapes.{places_of}
 use Rattle.block_plan.specs.declared.block.BlockInfo.{BlockInfo}
-use Rattle.column_plan.specs.Planned.{count_of, planned_blocks}
+use Rattle.column_plan.specs.PlannedBlocks.{count_of, planned_blocks}
 use Rattle.frame_state.specs.Laws.{columns_across}
-use Rattle.frame_state.specs.Reading.{FrameRead, TileRead, column_after, column_at, infos, no_column, nothing_read, read_all_tiles, read_tile, read_tile_of, read_tiles, with_tile}
-use Rattle.frame_state.specs.Tiles.{column_of, tile_places}
+use Rattle.frame_state.specs.FrameReading.{FrameRead, TileRead, column_after, column_at, infos, no_column, nothing_read, read_all_tiles, read_tile, read_tile_of, read_tiles, with_tile}
+use Rattle.frame_state.specs.TilePlaces.{column_of, tile_places}
 use Rattle.frame_state.specs.Sources.{FrameSources}
 
 ---- How many tile columns are read ----

@@ -1,9 +1,9 @@
 -- What is kept between two frames, and how it stands for the state.
 use Rattle.std.specs.Prelude.{◌≡◌, ℕ, map, Option, Some, None}
 use Rattle.std.specs.Arc.{arc_value}
-use Rattle.frame_headers.specs.State.{SlotsHaveSizes}
+use Rattle.frame_headers.specs.HeaderState.{SlotsHaveSizes}
 use Rattle.seq_decoder.specs.Code.{HasPlaces, last_held, saved_lists, segments_held}
-use Rattle.seq_decoder.specs.State.{Picture, State, persist_of}
+use Rattle.seq_decoder.specs.DecoderState.{Picture, State, persist_of}
 use Rattle.frame_steps.specs.declared.kept.Kept.{Kept}
 
 -- the number of the frame that a slot holds

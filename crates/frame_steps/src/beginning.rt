@@ -2,13 +2,13 @@
 
 ghost use Rattle.std.specs.Prelude.{◌≡◌, IfOk, Some, length};
 ghost use Rattle.std.specs.Arc.{arc_value};
-ghost use Rattle.frame_headers.specs.Sizes.{IsFrameSize};
+ghost use Rattle.frame_headers.specs.FrameSizes.{IsFrameSize};
 ghost use Rattle.frame_headers.specs.Tiles.{AreFewTiles};
 ghost use Rattle.seq_decoder.specs.After.{segments_before};
 ghost use Rattle.seq_decoder.specs.Code.{HasPlaces, LiesWithin, segments_held};
-ghost use Rattle.seq_decoder.specs.State.{State};
+ghost use Rattle.seq_decoder.specs.DecoderState.{State};
 ghost use Rattle.frame_steps.specs.Kept.{MayFollow, StandsFor};
-ghost use Rattle.frame_steps.specs.Frames.{GivesBegun, HaveSizes, IsSound, sources_by};
+ghost use Rattle.frame_steps.specs.StepResults.{GivesBegun, HaveSizes, IsSound, sources_by};
 ghost use Rattle.frame_state.specs.Code.{sources_of};
 ghost use Rattle.frame_state.specs.Past.{IsPastOf};
 

@@ -1,7 +1,7 @@
 //! The end of a frame: its tile columns joined.
 
 ghost use Rattle.std.specs.Prelude.{◌≡◌, IfOk};
-ghost use Rattle.frame_steps.specs.Frames.{AreCopies, GivesDecoded, IsSound};
+ghost use Rattle.frame_steps.specs.StepResults.{AreCopies, GivesDecoded, IsSound};
 
 use crate::beginning::BegunFrame;
 use crate::columns::PlannedColumns;

@@ -1,7 +1,7 @@
 //! The tile columns of a frame, each planned by itself.
 
 ghost use Rattle.std.specs.Prelude.{◌<◌, ◌^◌};
-ghost use Rattle.frame_steps.specs.Frames.{IsColumn, IsSound};
+ghost use Rattle.frame_steps.specs.StepResults.{IsColumn, IsSound};
 
 use crate::beginning::BegunFrame;
 use crate::needs::row_needs;

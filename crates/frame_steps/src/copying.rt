@@ -3,7 +3,7 @@
 ghost use Rattle.std.specs.Prelude.{◌≡◌, ◌<◌, ◌^◌, IfOk};
 ghost use Rattle.frame_headers.specs.Spans.{tile_count};
 ghost use Rattle.frame_headers.specs.Tiles.{AreFewTiles};
-ghost use Rattle.frame_state.specs.Columns.{IsTileColumn};
+ghost use Rattle.frame_state.specs.KeptColumns.{IsTileColumn};
 ghost use Rattle.prob_contexts.specs.Counted.{joined_counts, no_counts};
 
 use block_plan::BlockGrid;

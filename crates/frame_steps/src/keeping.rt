@@ -2,16 +2,16 @@
 
 ghost use Rattle.std.specs.Prelude.{◌≡◌, ◌&&◌, ℕ, Some, All, IfOk};
 ghost use Rattle.std.specs.Arc.{arc_value};
-ghost use Rattle.block_geometry.specs.Frames.{places_of};
-ghost use Rattle.frame_headers.specs.State.{shape_of};
-ghost use Rattle.frame_decoder.specs.Frames.{FrameResult};
-ghost use Rattle.frame_state.specs.Columns.{HasStarts, blocks_of};
-ghost use Rattle.frame_state.specs.Reading.{FrameRead, all_blocks};
-ghost use Rattle.inter_modes.specs.Segments.{segments_after, updates};
+ghost use Rattle.block_geometry.specs.FrameShapes.{places_of};
+ghost use Rattle.frame_headers.specs.HeaderState.{shape_of};
+ghost use Rattle.frame_decoder.specs.DecodedFrames.{FrameResult};
+ghost use Rattle.frame_state.specs.KeptColumns.{HasStarts, blocks_of};
+ghost use Rattle.frame_state.specs.FrameReading.{FrameRead, all_blocks};
+ghost use Rattle.inter_modes.specs.LeftSegments.{segments_after, updates};
 ghost use Rattle.seq_decoder.specs.After.{state_after};
 ghost use Rattle.seq_decoder.specs.Code.{HasPlaces, segments_held};
-ghost use Rattle.seq_decoder.specs.State.{State};
-ghost use Rattle.frame_steps.specs.Frames.{BeginsIn, IsDecoded, IsSound, Leaves};
+ghost use Rattle.seq_decoder.specs.DecoderState.{State};
+ghost use Rattle.frame_steps.specs.StepResults.{BeginsIn, IsDecoded, IsSound, Leaves};
 ghost use Rattle.frame_steps.specs.Kept.{MayFollow, StandsFor};
 
 use crate::beginning::BegunFrame;

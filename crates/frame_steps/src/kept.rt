@@ -2,7 +2,7 @@
 
 ghost use Rattle.std.specs.Prelude.{◌≡◌, IfOk};
 ghost use Rattle.seq_decoder.specs.Outputs.{form_from};
-ghost use Rattle.seq_decoder.specs.State.{State, start_state};
+ghost use Rattle.seq_decoder.specs.DecoderState.{State, start_state};
 
 use block_plan::SegmentMap;
 use frame_headers::Persist;

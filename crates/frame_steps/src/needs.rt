@@ -3,11 +3,11 @@
 ghost use Rattle.std.specs.Prelude.{◌≡◌, ◌<◌, ℕ, All, IfOk, get_or, length};
 ghost use Rattle.vp9_types.specs.Shapes.{mi_rows};
 ghost use Rattle.vp9_types.specs.Sizes.{superblocks_along};
-ghost use Rattle.frame_headers.specs.Sizes.{IsFrameSize};
-ghost use Rattle.frame_headers.specs.State.{shape_of};
+ghost use Rattle.frame_headers.specs.FrameSizes.{IsFrameSize};
+ghost use Rattle.frame_headers.specs.HeaderState.{shape_of};
 ghost use Rattle.band_needs.specs.Code.{CanBePlaced};
 ghost use Rattle.tile_syntax.specs.Code.{IsKept};
-ghost use Rattle.frame_steps.specs.Frames.{AreRowNeeds, row_needs_of, shapes_by};
+ghost use Rattle.frame_steps.specs.StepResults.{AreRowNeeds, row_needs_of, shapes_by};
 
 use band_needs::{BandNeeds, ReferenceShapes, needs};
 use frame_headers::{FrameKind, Header};

@@ -6,13 +6,13 @@ ghost use Rattle.std.specs.Option.{option_copied};
 ghost use Rattle.vp9_types.specs.Shapes.{mi_rows};
 ghost use Rattle.vp9_types.specs.Sizes.{greatest, superblocks_along};
 ghost use Rattle.frame_headers.specs.Spans.{tile_count};
-ghost use Rattle.frame_headers.specs.State.{shape_of};
+ghost use Rattle.frame_headers.specs.HeaderState.{shape_of};
 ghost use Rattle.frame_headers.specs.Tiles.{AreFewTiles};
 ghost use Rattle.block_rebuild.specs.Code.{AreServed, rebuilding_of};
-ghost use Rattle.frame_state.specs.Columns.{IsTileColumn};
+ghost use Rattle.frame_state.specs.KeptColumns.{IsTileColumn};
 ghost use Rattle.tile_syntax.specs.Code.{IsKept};
-ghost use Rattle.recon_rows.specs.Rows.{blocks_between};
-ghost use Rattle.recon_rows.specs.Strips.{HoldsRowOf, IsAbove, IsReadPlan};
+ghost use Rattle.recon_rows.specs.RebuiltRows.{blocks_between};
+ghost use Rattle.recon_rows.specs.OwnStrips.{HoldsRowOf, IsAbove, IsReadPlan};
 
 use block_rebuild::{RebuildRoom, Rebuilding, RoomSample};
 use frame_setting::FrameSetting;

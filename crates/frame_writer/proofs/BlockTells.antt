@@ -7,7 +7,7 @@ use Rattle.vp9_types.specs.Syntax.{Syntax}
 use Rattle.vp9_types.specs.declared.rule.Rule.{Rule}
 use Rattle.vp9_types.specs.declared.shape.Plane.TheVariants.{Y, U, V}
 use Rattle.bool_encoder.specs.Part.{Part, marked}
-use Rattle.bool_lists.specs.Lists.{BoolList, HasPut}
+use Rattle.bool_lists.specs.BoolLists.{BoolList, HasPut}
 use Rattle.bool_lists.proofs.Ways.{spells_on}
 use Rattle.block_lists.proofs.InterWays.{mode_info_way}
 use Rattle.counting_reader.specs.Counting.{Settled, lifted}
@@ -23,19 +23,19 @@ use Rattle.residue_syntax.specs.Residues.{ReadPlane, any_coded, listed, planned}
 use Rattle.residue_syntax.specs.Residues as residues
 use Rattle.residue_syntax.specs.declared.sides.TileSides.{TileSides}
 use Rattle.inter_modes.specs.ModeInfo.{mode_info}
-use Rattle.frame_state.specs.Columns.{limit_of}
-use Rattle.frame_state.specs.Reading.{TileRead, infos, read_block}
+use Rattle.frame_state.specs.KeptColumns.{limit_of}
+use Rattle.frame_state.specs.FrameReading.{TileRead, infos, read_block}
 use Rattle.frame_state.specs.Sources.{FrameSources}
-use Rattle.inter_writer.specs.Said.{IsSaid, IsSaidBy}
+use Rattle.inter_writer.specs.SaidBlocks.{IsSaid, IsSaidBy}
 use Rattle.inter_writer.specs.declared.frame_blocks.BlockSymbols.{BlockSymbols}
 use Rattle.inter_writer.specs.declared.frame_blocks.PredictionSymbols.{PredictionSymbols}
 use Rattle.inter_writer.specs.declared.frame_blocks.PredictionSymbols.TheVariants.{Intra, Inter}
-use Rattle.residue_writer.specs.Lists.{spelled_residue}
-use Rattle.residue_writer.specs.Said as residue
+use Rattle.residue_writer.specs.ResidueLists.{spelled_residue}
+use Rattle.residue_writer.specs.SaidResidues as residue
 use Rattle.residue_writer.specs.declared.levels.BlockLevels.{BlockLevels}
 use Rattle.tile_writer.specs.declared.unwritten.Unwritten.TheVariants.{Broken, Unsaid}
-use Rattle.tile_writer.specs.Said.{so_far}
-use Rattle.frame_writer.specs.Symbols.{Speaker, as_said, block_told, levels_spelled, modes_by, modes_said, modes_spelled, with_block}
+use Rattle.tile_writer.specs.SaidTiles.{so_far}
+use Rattle.frame_writer.specs.FrameSymbols.{Speaker, as_said, block_told, levels_spelled, modes_by, modes_said, modes_spelled, with_block}
 use Rattle.frame_writer.specs.Code.{TileHeld, TileHere, held_of, here_of}
 use Rattle.frame_state.specs.declared.columns.TileColumn.{TileColumn}
 use Rattle.frame_state.specs.declared.sources.FrameSources as code

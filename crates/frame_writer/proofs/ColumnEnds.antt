@@ -4,11 +4,11 @@ use Rattle.std.specs.Prelude.{IfOk, OnOk, Option, Some, None, Result, Ok, Err}
 use Rattle.vp9_types.specs.Sizes.{superblocks_along}
 use Rattle.vp9_types.specs.declared.rule.Rule.{Rule}
 use Rattle.bool_encoder.specs.Part.{Part, Finishes, marked}
-use Rattle.bool_lists.specs.Lists.{BoolList, HasPut}
+use Rattle.bool_lists.specs.BoolLists.{BoolList, HasPut}
 use Rattle.bool_lists.proofs.Ways.{bytes_are, spells_none}
 use Rattle.bool_encoder.proofs.CountedPuts.{puts_value}
-use Rattle.frame_state.specs.Columns.{limit_of}
-use Rattle.frame_state.specs.Reading.{TileRead, read_walk}
+use Rattle.frame_state.specs.KeptColumns.{limit_of}
+use Rattle.frame_state.specs.FrameReading.{TileRead, read_walk}
 use Rattle.frame_state.specs.Code.{sources_of}
 use Rattle.frame_state.specs.declared.sources.FrameSources as code
 use Rattle.frame_state.specs.declared.columns.TileColumn.{TileColumn}
@@ -16,10 +16,10 @@ use Rattle.frame_state.specs.declared.tile_places.TilePlaces.{TilePlaces}
 use Rattle.tile_writer.specs.Code.{EndsTile, HoldsSoFar, Tile, tile_rest}
 use Rattle.tile_writer.specs.declared.unwritten.Unwritten.{Unwritten}
 use Rattle.tile_writer.specs.declared.unwritten.Unwritten.TheVariants as unwritten
-use Rattle.frame_writer.specs.Bytes.{AreBytesOf}
+use Rattle.frame_writer.specs.FrameBytes.{AreBytesOf}
 use Rattle.frame_writer.specs.Code.{GivesBytes, GivesTile, GivesTileTo, IsLong, IsReadyFor, TileHere, ending_of, held_by, held_of, here_of}
-use Rattle.frame_writer.specs.Frames.{tile_syntax, tile_told}
-use Rattle.frame_writer.specs.Symbols.{Speaker, teller_of}
+use Rattle.frame_writer.specs.SaidFrames.{tile_syntax, tile_told}
+use Rattle.frame_writer.specs.FrameSymbols.{Speaker, teller_of}
 use Rattle.frame_writer.specs.declared.written.NotWritten.{NotWritten}
 use Rattle.frame_writer.specs.declared.written.NotWritten.TheVariants.{Unsaid, TooLong, OutOfMemory}
 use Rattle.frame_writer.specs.declared.written.Written.{Written}

@@ -6,27 +6,27 @@ use Rattle.std.proofs.lemmas.List.{append-nil, length-append}
 use Rattle.vp9_types.specs.declared.block.Modes.{Modes}
 use Rattle.vp9_types.specs.declared.job.Span.{Span}
 use Rattle.vp9_types.specs.declared.rule.Rule.{Rule}
-use Rattle.bool_lists.specs.Lists.{BoolList, bytes_taken}
+use Rattle.bool_lists.specs.BoolLists.{BoolList, bytes_taken}
 use Rattle.bool_lists.proofs.Ways.{bytes_are}
-use Rattle.compressed_header.specs.Header.{IsForward, compressed_header, forward}
-use Rattle.compressed_writer.specs.Bytes.{IsWrittenHeader}
+use Rattle.compressed_header.specs.CompressedHeader.{IsForward, compressed_header, forward}
+use Rattle.compressed_writer.specs.HeaderBytes.{IsWrittenHeader}
 use Rattle.compressed_writer.specs.Spelling.{spelled_compressed}
 use Rattle.frame_headers.specs.Header.{head_of}
 use Rattle.frame_headers.specs.Tiles.{AreFewTiles, least, max_log2, min_log2, superblocks}
 use Rattle.frame_headers.specs.declared.header.Header.{Header}
 use Rattle.frame_headers.specs.declared.header.Uncompressed.TheVariants as uncompressed
 use Rattle.frame_headers.specs.declared.persist.Persist.{Persist}
-use Rattle.header_writer.specs.Reads.{HoldsHeader}
+use Rattle.header_writer.specs.HeaderReads.{HoldsHeader}
 use Rattle.header_writer.specs.Spelling.{IsSpelled}
 use Rattle.header_writer.specs.WellFormed.{IsWellFormed}
 use Rattle.header_writer.specs.declared.choices.Choices.{Choices}
-use Rattle.prob_contexts.specs.Lists.{ContextLists, lists_of}
+use Rattle.prob_contexts.specs.ProbLists.{ContextLists, lists_of}
 use Rattle.prob_contexts.specs.declared.contexts.Contexts.{Contexts}
-use Rattle.frame_state.specs.Reading.{read_all_tiles, FrameRead}
+use Rattle.frame_state.specs.FrameReading.{read_all_tiles, FrameRead}
 use Rattle.frame_state.specs.Sources.{FramePast, FrameSources}
-use Rattle.frame_writer.specs.Bytes.{IsLaidOut, frame_bytes, tile_bytes, with_size, without_index}
+use Rattle.frame_writer.specs.FrameBytes.{IsLaidOut, frame_bytes, tile_bytes, with_size, without_index}
 use Rattle.frame_writer.specs.Code.{AreHeaders, AreTiles, GivesAll, GivesFrame, GivesRest, IsBytes, IsFrame, IsTooLong, IsUntold, ReadsFrame, compressed_size, input_with, sources_with}
-use Rattle.frame_writer.specs.Symbols.{Speaker}
+use Rattle.frame_writer.specs.FrameSymbols.{Speaker}
 use Rattle.frame_writer.specs.declared.frame.FrameToWrite.{FrameToWrite}
 use Rattle.frame_writer.specs.declared.written.NotWritten.{NotWritten}
 use Rattle.frame_writer.specs.declared.written.NotWritten.TheVariants.{Unsaid, TooLong, OutOfMemory}

@@ -8,16 +8,16 @@ use Rattle.vp9_types.specs.Bits.{bits_of, bits_of_byte, number_of, spelled}
 use Rattle.vp9_types.proofs.Spells.{length-spelled}
 use Rattle.bool_encoder.specs.Part.{Part, Finishes, marked}
 use Rattle.bool_encoder.specs.Laws.{after_bools}
-use Rattle.bool_lists.specs.Lists.{BoolList, HasPut}
+use Rattle.bool_lists.specs.BoolLists.{BoolList, HasPut}
 use Rattle.frame_headers.specs.declared.header.Uncompressed.{Uncompressed}
 use Rattle.frame_headers.specs.declared.header.Uncompressed.TheVariants.{Coded}
 use Rattle.frame_headers.specs.declared.persist.Persist.{Persist}
-use Rattle.header_writer.specs.Fields.{IsPadded}
+use Rattle.header_writer.specs.WrittenFields.{IsPadded}
 use Rattle.header_writer.specs.Spelling.{IsSpelled, bits_put, spelled_header}
 use Rattle.header_writer.specs.declared.choices.Choices.{Choices}
 use Rattle.frame_state.specs.Sources.{FrameSources}
 use Rattle.frame_writer.specs.Code.{IsBytes}
-use Rattle.frame_writer.specs.Bytes.{AreAllBytesOf, AreBytesOf, IsLaidOut, bytes_of, bytes_of_bits, compressed_bools, frame_bytes, header_bytes, joined, padded, sized, tile_bytes, without_index}
+use Rattle.frame_writer.specs.FrameBytes.{AreAllBytesOf, AreBytesOf, IsLaidOut, bytes_of, bytes_of_bits, compressed_bools, frame_bytes, header_bytes, joined, padded, sized, tile_bytes, without_index}
 
 first_bytes : (a b : List ℕ) → IsBytes (a ++ b) → IsBytes a
 first_bytes [] b h zero = omega arith

@@ -11,11 +11,11 @@ use Rattle.byteorder.specs.Numbers.{big_from-bytes, length-bytes_high_first}
 use Rattle.vp9_types.specs.Results.{◌>>=◌}
 use Rattle.vp9_types.specs.declared.job.Span.{Span}
 use Rattle.vp9_types.specs.declared.rule.Rule.{Rule}
-use Rattle.bool_lists.specs.Lists.{BoolList}
+use Rattle.bool_lists.specs.BoolLists.{BoolList}
 use Rattle.frame_headers.specs.Spans.{in_front, last_tile, sized_tile, tile_at, tile_count, tile_size, tile_spans, tiles_from}
-use Rattle.frame_state.specs.Reading.{read_all_tiles, FrameRead, nothing_read, read_tile_of, read_tiles}
+use Rattle.frame_state.specs.FrameReading.{read_all_tiles, FrameRead, nothing_read, read_tile_of, read_tiles}
 use Rattle.frame_state.specs.Sources.{FrameSources}
-use Rattle.frame_writer.specs.Bytes.{HasSize, read_each, sized, tile_bytes}
+use Rattle.frame_writer.specs.FrameBytes.{HasSize, read_each, sized, tile_bytes}
 use Rattle.frame_writer.specs.Code.{AreTiles}
 
 -- a part in the middle

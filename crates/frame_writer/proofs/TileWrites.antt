@@ -9,32 +9,32 @@ use Rattle.vp9_types.specs.declared.rule.Rule.{Rule}
 use Rattle.vp9_types.specs.declared.shape.Plane.TheVariants.{Y, U, V}
 use Rattle.bool_decoder.specs.Bools.{run_bools}
 use Rattle.bool_decoder.specs.Window.{Window, started}
-use Rattle.bool_lists.specs.Lists.{BoolList}
+use Rattle.bool_lists.specs.BoolLists.{BoolList}
 use Rattle.prob_contexts.specs.declared.kind.CountedBool.{CountedBool}
 use Rattle.counting_reader.specs.Counting.{Settled}
-use Rattle.frame_headers.specs.State.{shape_of}
+use Rattle.frame_headers.specs.HeaderState.{shape_of}
 use Rattle.frame_headers.specs.declared.header.Header.{Header}
-use Rattle.block_geometry.specs.Frames.{places_of}
+use Rattle.block_geometry.specs.FrameShapes.{places_of}
 use Rattle.block_plan.specs.declared.block.BlockInfo.{BlockInfo}
 use Rattle.residue_syntax.specs.Code.{FitPlanes}
 use Rattle.residue_syntax.specs.declared.sides.TileSides.{TileSides}
 use Rattle.frame_setting.specs.declared.setting.FrameSetting.{FrameSetting}
 use Rattle.frame_state.specs.Code.{column_as_listed, column_of_code, read_whole, settled_of, sources_of}
-use Rattle.frame_state.specs.Columns.{AreTileColumns, IsTileColumn}
-use Rattle.frame_state.specs.Reading.{FrameRead, TileRead, begun, column_after, column_at, infos, read_tile, read_tile_of, with_tile}
+use Rattle.frame_state.specs.KeptColumns.{AreTileColumns, IsTileColumn}
+use Rattle.frame_state.specs.FrameReading.{FrameRead, TileRead, begun, column_after, column_at, infos, read_tile, read_tile_of, with_tile}
 use Rattle.frame_state.specs.Sources.{FrameSources}
-use Rattle.frame_state.specs.Tiles.{column_of, tile_places}
+use Rattle.frame_state.specs.TilePlaces.{column_of, tile_places}
 use Rattle.frame_state.specs.declared.columns.TileColumn.{TileColumn}
 use Rattle.frame_state.specs.declared.sources.FrameSources as code
 use Rattle.frame_state.specs.declared.tile_places.TilePlaces.{TilePlaces}
 use Rattle.frame_state.proofs.ColumnSteps.{begins_there, cleared, cleared_fit, column_left, column_told, columns_with, ends_there, has_room, ready_of, sides_told, with_sides}
 use Rattle.frame_state.proofs.TileSpans.{tile_at}
-use Rattle.tile_writer.specs.Said.{so_far}
+use Rattle.tile_writer.specs.SaidTiles.{so_far}
 use Rattle.tile_writer.specs.declared.unwritten.Unwritten.{Unwritten}
 use Rattle.tile_writer.specs.declared.unwritten.Unwritten.TheVariants as unwritten
 use Rattle.frame_writer.specs.Code.{EndsColumn, GivesNth, GivesNthTo, GivesTile, GivesTileTo, HoldsColumns, IsReadyFor, TileHeld, held_by, held_of}
-use Rattle.frame_writer.specs.Frames.{nth_syntax, nth_told, said_of, tile_told, told_so_far}
-use Rattle.frame_writer.specs.Symbols.{Speaker}
+use Rattle.frame_writer.specs.SaidFrames.{nth_syntax, nth_told, said_of, tile_told, told_so_far}
+use Rattle.frame_writer.specs.FrameSymbols.{Speaker}
 use Rattle.frame_writer.specs.declared.written.NotWritten.{NotWritten}
 use Rattle.frame_writer.specs.declared.written.NotWritten.TheVariants.{Unsaid, TooLong, OutOfMemory}
 use Rattle.frame_writer.specs.declared.written.Written.{Written}

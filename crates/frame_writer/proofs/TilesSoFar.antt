@@ -8,18 +8,18 @@ use Rattle.std.proofs.lemmas.List.Elements.{All-append}
 use Rattle.vp9_types.specs.Results.{◌>>=◌}
 use Rattle.vp9_types.specs.declared.rule.Rule.{Rule}
 use Rattle.frame_headers.specs.Spans.{tile_count}
-use Rattle.frame_state.specs.Reading.{FrameRead, nothing_read, read_tile_of}
+use Rattle.frame_state.specs.FrameReading.{FrameRead, nothing_read, read_tile_of}
 use Rattle.frame_state.specs.Code.{sources_of}
 use Rattle.frame_state.specs.Sources.{FrameSources}
 use Rattle.frame_state.specs.declared.sources.FrameSources as code
 use Rattle.frame_state.specs.declared.columns.TileColumn.{TileColumn}
 use Rattle.tile_writer.specs.declared.unwritten.Unwritten.{Unwritten}
 use Rattle.tile_writer.specs.declared.unwritten.Unwritten.TheVariants as unwritten
-use Rattle.bool_lists.specs.Lists.{BoolList}
-use Rattle.frame_writer.specs.Bytes.{AreAllBytesOf, AreBytesOf, HasItsBools, HasSize, HaveTheirBools, read_each, sized}
+use Rattle.bool_lists.specs.BoolLists.{BoolList}
+use Rattle.frame_writer.specs.FrameBytes.{AreAllBytesOf, AreBytesOf, HasItsBools, HasSize, HaveTheirBools, read_each, sized}
 use Rattle.frame_writer.specs.Code.{AreSoFar, GivesAll, GivesNth, GivesNthTo, GivesTiles, HoldsColumns, IsTooLong, IsUntold, StandsAt, first_broken}
-use Rattle.frame_writer.specs.Frames.{FrameTold, nth_told, said_of, tiles_told, told_so_far}
-use Rattle.frame_writer.specs.Symbols.{Speaker}
+use Rattle.frame_writer.specs.SaidFrames.{FrameTold, nth_told, said_of, tiles_told, told_so_far}
+use Rattle.frame_writer.specs.FrameSymbols.{Speaker}
 use Rattle.frame_writer.specs.declared.written.NotWritten.{NotWritten}
 use Rattle.frame_writer.specs.declared.written.NotWritten.TheVariants.{Unsaid, TooLong, OutOfMemory}
 use Rattle.frame_writer.specs.declared.written.Written.{Written}

@@ -13,7 +13,7 @@ use Rattle.bool_decoder.specs.Window.{Window, Stands, started, first_window, bit
 use Rattle.bool_decoder.proofs.Fronts.{front-spelled}
 use Rattle.bool_decoder.proofs.Stand.{first_stands, bool_stands, step_stands, read_stands}
 use Rattle.bool_encoder.specs.Part.{Part, Finishes, first_part, after_put, marked}
-use Rattle.bool_encoder.specs.Bools.{Puts, WritesBools, can_put}
+use Rattle.bool_encoder.specs.WrittenBools.{Puts, WritesBools, can_put}
 use Rattle.bool_encoder.specs.Laws.{Lies, coder_at}
 use Rattle.bool_encoder.proofs.Parts.{put_zero}
 use Rattle.bool_encoder.proofs.Starts.{Sound, writes_sound}
@@ -22,7 +22,7 @@ use Rattle.counting_reader.specs.Counting.{Settled}
 use Rattle.bool_encoder.specs.CountedBools.{valued}
 use Rattle.bool_encoder.proofs.CountedPuts.{value_counts, value_put}
 use Rattle.frame_state.specs.Code.{read_whole, settled_of}
-use Rattle.frame_writer.specs.Bytes.{IsWritten}
+use Rattle.frame_writer.specs.FrameBytes.{IsWritten}
 
 ---- Bytes with more behind them lie in the part ----
 

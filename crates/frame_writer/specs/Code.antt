@@ -11,32 +11,32 @@ use Rattle.frame_headers.specs.declared.header.FrameHead.TheVariants.{Coded}
 use Rattle.frame_headers.specs.declared.header.Header.{Header}
 use Rattle.frame_headers.specs.declared.persist.Persist.{Persist}
 use Rattle.frame_headers.specs.declared.header.Uncompressed.TheVariants as uncompressed
-use Rattle.compressed_header.specs.Header.{IsForward}
-use Rattle.bool_lists.specs.Lists.{BoolList, bytes_taken}
-use Rattle.compressed_writer.specs.Bytes.{IsWrittenHeader}
+use Rattle.compressed_header.specs.CompressedHeader.{IsForward}
+use Rattle.bool_lists.specs.BoolLists.{BoolList, bytes_taken}
+use Rattle.compressed_writer.specs.HeaderBytes.{IsWrittenHeader}
 use Rattle.compressed_writer.specs.Spelling.{spelled_compressed}
-use Rattle.header_writer.specs.Reads.{HoldsHeader}
+use Rattle.header_writer.specs.HeaderReads.{HoldsHeader}
 use Rattle.header_writer.specs.Spelling.{IsSpelled}
-use Rattle.prob_contexts.specs.Lists.{ContextLists, lists_of}
+use Rattle.prob_contexts.specs.ProbLists.{ContextLists, lists_of}
 use Rattle.prob_contexts.specs.declared.contexts.Contexts.{Contexts}
 use Rattle.vp9_types.specs.declared.job.Span.{Span}
 use Rattle.block_geometry.specs.declared.transform_blocks.FramePlaces.{FramePlaces}
 use Rattle.block_plan.specs.declared.block.BlockInfo.{BlockInfo}
 use Rattle.residue_syntax.specs.declared.sides.TileSides.{TileSides}
 use Rattle.frame_setting.specs.declared.setting.FrameSetting.{FrameSetting}
-use Rattle.frame_state.specs.Columns.{IsTileColumn}
+use Rattle.frame_state.specs.KeptColumns.{IsTileColumn}
 use Rattle.frame_state.specs.Code.{IsReady, column_as_listed, column_of_code}
-use Rattle.frame_state.specs.Reading.{FrameInput, read_frame, FrameRead, TileRead, infos, nothing_read, read_tile_of}
+use Rattle.frame_state.specs.FrameReading.{FrameInput, read_frame, FrameRead, TileRead, infos, nothing_read, read_tile_of}
 use Rattle.frame_state.specs.Sources.{FramePast, FrameSources}
 use Rattle.frame_state.specs.declared.columns.TileColumn.{TileColumn}
 use Rattle.frame_state.specs.declared.sources.FrameSources as code
 use Rattle.frame_state.specs.declared.tile_places.TilePlaces.{TilePlaces}
-use Rattle.tile_writer.specs.Said.{Said, so_far}
+use Rattle.tile_writer.specs.SaidTiles.{Said, so_far}
 use Rattle.tile_writer.specs.declared.unwritten.Unwritten.{Unwritten}
 use Rattle.tile_writer.specs.declared.unwritten.Unwritten.TheVariants as unwritten
-use Rattle.frame_writer.specs.Bytes.{AreAllBytesOf, AreBytesOf, HasItsBools, HasSize, HaveTheirBools, IsLaidOut, IsWritten, frame_bytes, read_each, sized, tile_bytes, with_size, without_index}
-use Rattle.frame_writer.specs.Frames.{frame_told, nth_syntax, nth_tile_told, nth_told, said_of, tile_syntax, tile_told, tiles_told, told_so_far}
-use Rattle.frame_writer.specs.Symbols.{Speaker}
+use Rattle.frame_writer.specs.FrameBytes.{AreAllBytesOf, AreBytesOf, HasItsBools, HasSize, HaveTheirBools, IsLaidOut, IsWritten, frame_bytes, read_each, sized, tile_bytes, with_size, without_index}
+use Rattle.frame_writer.specs.SaidFrames.{frame_told, nth_syntax, nth_tile_told, nth_told, said_of, tile_syntax, tile_told, tiles_told, told_so_far}
+use Rattle.frame_writer.specs.FrameSymbols.{Speaker}
 use Rattle.frame_writer.specs.declared.frame.FrameHeaders.{FrameHeaders}
 use Rattle.frame_writer.specs.declared.frame.FrameToWrite.{FrameToWrite}
 use Rattle.frame_writer.specs.declared.written.NotWritten.{NotWritten}

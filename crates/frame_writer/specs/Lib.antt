@@ -1,4 +1,4 @@
-pub mod Symbols
-pub mod Frames
-pub mod Bytes
+pub mod FrameSymbols
+pub mod SaidFrames
+pub mod FrameBytes
 pub mod Code

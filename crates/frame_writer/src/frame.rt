@@ -2,17 +2,17 @@
 
 ghost use Rattle.std.specs.Prelude.{◌≡◌, ◌≤◌, ◌<◌, ◌^◌, ◌++◌, List, ℕ, IfOk, OnOk, length};
 ghost use Rattle.frame_headers.specs.declared.header.Uncompressed.TheVariants.{Coded};
-ghost use Rattle.prob_contexts.specs.Lists.{lists_of};
-ghost use Rattle.compressed_writer.specs.Updates.{CanForward};
-ghost use Rattle.header_writer.specs.Reads.{HoldsHeader};
+ghost use Rattle.prob_contexts.specs.ProbLists.{lists_of};
+ghost use Rattle.compressed_writer.specs.CodedUpdates.{CanForward};
+ghost use Rattle.header_writer.specs.HeaderReads.{HoldsHeader};
 ghost use Rattle.header_writer.specs.Spelling.{IsSpelled};
 ghost use Rattle.header_writer.specs.WellFormed.{CanChoose, IsWellFormed};
 ghost use Rattle.frame_headers.specs.Tiles.{AreFewTiles};
 ghost use Rattle.frame_state.specs.Code.{sources_of};
-ghost use Rattle.frame_state.specs.Columns.{AreTileColumns};
+ghost use Rattle.frame_state.specs.KeptColumns.{AreTileColumns};
 ghost use Rattle.frame_state.specs.Past.{IsPastOf, past_of};
-ghost use Rattle.frame_state.specs.Reading.{nothing_read};
-ghost use Rattle.frame_writer.specs.Bytes.{with_size, without_index};
+ghost use Rattle.frame_state.specs.FrameReading.{nothing_read};
+ghost use Rattle.frame_writer.specs.FrameBytes.{with_size, without_index};
 ghost use Rattle.frame_writer.specs.Code.{GivesFrame, GivesHeaders, GivesRest, HoldsColumns, IsBytes};
 
 use crate::symbols::FrameSymbols;
@@ -112,7 +112,7 @@ fn write_headers(
 }
 
 /// Ends a frame, so that its last byte isn't taken for that of a superframe index.
-#[tactic(auto, unfolding(crate::specs::Bytes::without_index))]
+#[tactic(auto, unfolding(crate::specs::FrameBytes::without_index))]
 fn end_frame(bytes: &mut Vec<u8>) -> Result<(), AllocError>
     requires { 1 ≤ length bytes.old.items }
     ensures ends { OnOk result (bytes.new.items ≡ without_index bytes.old.items) }

@@ -1,19 +1,19 @@
 //! What a frame's blocks say.
 
 ghost use Rattle.std.specs.Prelude.{◌≡◌, ◌<◌, ◌≤◌, ℕ, Bool, true, List, Option, IfSome};
-ghost use Rattle.prob_contexts.specs.Lists.{lists_of};
-ghost use Rattle.frame_headers.specs.State.{shape_of};
+ghost use Rattle.prob_contexts.specs.ProbLists.{lists_of};
+ghost use Rattle.frame_headers.specs.HeaderState.{shape_of};
 ghost use Rattle.vp9_types.specs.declared.block.Partition.{Partition};
 ghost use Rattle.block_plan.specs.declared.block.BlockAt.{BlockAt};
 ghost use Rattle.block_plan.specs.declared.block.BlockInfo.{BlockInfo};
 ghost use Rattle.residue_syntax.specs.Code.{IsInFrame};
 ghost use Rattle.frame_state.specs.Code.{sources_of};
 ghost use Rattle.frame_state.specs.Past.{IsPastOf};
-ghost use Rattle.frame_state.specs.Columns.{AllSmall};
-ghost use Rattle.mode_writer.specs.Fits.{CanPartition};
-ghost use Rattle.inter_writer.specs.Fits.{CanPut};
-ghost use Rattle.residue_writer.specs.Fits.{CanPutBlock};
-ghost use Rattle.frame_writer.specs.Symbols.{Speaker};
+ghost use Rattle.frame_state.specs.KeptColumns.{AllSmall};
+ghost use Rattle.mode_writer.specs.ModeFits.{CanPartition};
+ghost use Rattle.inter_writer.specs.InterFits.{CanPut};
+ghost use Rattle.residue_writer.specs.ResidueFits.{CanPutBlock};
+ghost use Rattle.frame_writer.specs.FrameSymbols.{Speaker};
 ghost use Rattle.frame_writer.specs.Code.{Tells, TellsInto};
 
 use block_plan::{BlockAt, BlockGrid, BlockInfo};

@@ -2,11 +2,11 @@
 
 ghost use Rattle.std.specs.Prelude.{◌≡◌, ◌≤◌};
 ghost use Rattle.frame_state.specs.Code.{sources_of};
-ghost use Rattle.frame_state.specs.Columns.{limit_of};
+ghost use Rattle.frame_state.specs.KeptColumns.{limit_of};
 ghost use Rattle.frame_state.specs.Past.{IsPastOf};
-ghost use Rattle.frame_state.specs.Reading.{TileRead, read_walk};
+ghost use Rattle.frame_state.specs.FrameReading.{TileRead, read_walk};
 ghost use Rattle.tile_writer.specs.Code.{Tile};
-ghost use Rattle.frame_writer.specs.Symbols.{teller_of};
+ghost use Rattle.frame_writer.specs.FrameSymbols.{teller_of};
 ghost use Rattle.frame_writer.specs.Code.{TileHere, IsReadyFor, here_of};
 
 use crate::symbols::FrameSymbols;

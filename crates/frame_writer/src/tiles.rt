@@ -6,10 +6,10 @@ ghost use Rattle.vp9_types.specs.Sizes.{superblocks_along};
 ghost use Rattle.frame_headers.specs.Spans.{tile_count};
 ghost use Rattle.frame_headers.specs.Tiles.{AreFewTiles};
 ghost use Rattle.frame_state.specs.Code.{sources_of};
-ghost use Rattle.frame_state.specs.Columns.{AreTileColumns};
+ghost use Rattle.frame_state.specs.KeptColumns.{AreTileColumns};
 ghost use Rattle.frame_state.specs.Past.{IsPastOf};
-ghost use Rattle.frame_state.specs.Reading.{FrameRead, TileRead, nothing_read};
-ghost use Rattle.frame_writer.specs.Bytes.{HasSize, sized};
+ghost use Rattle.frame_state.specs.FrameReading.{FrameRead, TileRead, nothing_read};
+ghost use Rattle.frame_writer.specs.FrameBytes.{HasSize, sized};
 ghost use Rattle.frame_writer.specs.Code.{EndsColumn, GivesBytes, GivesNth, GivesTile, GivesTiles, HoldsColumns, IsReadyFor, first_broken, held_by, held_of};
 
 use crate::symbols::FrameSymbols;

@@ -11,7 +11,7 @@ use Rattle.frame_headers.specs.declared.field.FieldName.TheVariants as name
 use Rattle.frame_headers.specs.Color.{color_space_of, is_odd_profile, bit_depth, reserved_zero, coded_subsampling, subsampling, yuv_config, rgb_config, color_config, intra_only_color}
 use Rattle.frame_headers.specs.Fields.{f, flag}
 use Rattle.header_writer.specs.WellFormed.{IsColor, IsIntraOnlyColor}
-use Rattle.header_checks.specs.Color.{is_rgb}
+use Rattle.header_checks.specs.ColorTests.{is_rgb}
 use Rattle.header_checks.proofs.Readings.{Yields, yields_bind, yields_map, yields_after, yields_if, yields_check, field_yields, no_true}
 
 ---- Depths ----

@@ -21,8 +21,8 @@ use Rattle.frame_headers.specs.Fields.{f, flag}
 use Rattle.frame_headers.specs.Header.{coded_profile, frame_profile, frame_sync_code, frame_contexts, frame_params, key_fields, intra_only_fields, intra_only_flag, reset_frame_context, intra_and_reset, other_fields, frame_fields, frame_start, forgets, kept_deltas, kept_features, coded_frame, uncompressed_header}
 use Rattle.frame_headers.specs.References.{held_by, slot_shape, reference, references, has_format, is_in_range, all_of, some_of, HaveFrameSizes, found_size, interpolation_filter, inter_fields}
 use Rattle.frame_headers.specs.Segments.{no_segment_features}
-use Rattle.frame_headers.specs.Sizes.{frame_size, render_size, IsFrameSize, HasFrameSize}
-use Rattle.frame_headers.specs.State.{SlotsHaveSizes, next_persist, start_persist}
+use Rattle.frame_headers.specs.FrameSizes.{frame_size, render_size, IsFrameSize, HasFrameSize}
+use Rattle.frame_headers.specs.HeaderState.{SlotsHaveSizes, next_persist, start_persist}
 use Rattle.frame_headers.proofs.SizeLemmas.{next_has_sizes, slot_has_size, start_has_sizes}
 use Rattle.header_writer.specs.WellFormed.{AreSegmentFeatures, IsColor, IsContexts, IsHeader, IsIntraOnlyColor, IsOfKind, IsParams, IsReference, IsReset, IsWellFormed}
 use Rattle.header_checks.specs.Laws.{IsLeftByFrames}

@@ -14,7 +14,7 @@ use Rattle.frame_headers.specs.declared.header.Uncompressed.{Uncompressed}
 use Rattle.frame_headers.specs.declared.header.Uncompressed.TheVariants.{ShowExisting, Coded}
 use Rattle.frame_headers.specs.declared.persist.Persist.{Persist}
 use Rattle.header_writer.specs.declared.choices.Choices.{Choices}
-use Rattle.header_checks.specs.Color.{is_color, is_intra_only_color}
+use Rattle.header_checks.specs.ColorTests.{is_color, is_intra_only_color}
 use Rattle.header_checks.specs.Params.{are_params}
 use Rattle.header_checks.specs.Same.{holds, same_color, same_deltas, same_features}
 

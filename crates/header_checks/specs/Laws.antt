@@ -1,6 +1,6 @@
 -- What the law of headers that are read speaks of.
 use Rattle.std.specs.Prelude.{All}
-use Rattle.frame_headers.specs.State.{SlotsHaveSizes}
+use Rattle.frame_headers.specs.HeaderState.{SlotsHaveSizes}
 use Rattle.frame_headers.specs.declared.persist.Persist.{Persist}
 use Rattle.header_writer.specs.WellFormed.{AreSegmentFeatures}
 

@@ -1,7 +1,7 @@
 pub mod Same
-pub mod Color
+pub mod ColorTests
 pub mod Params
 pub mod Headers
-pub mod Modes
+pub mod ModeTests
 pub mod Code
 pub mod Laws

@@ -5,7 +5,7 @@ ghost use Rattle.vp9_types.specs.declared.shape.Depth.TheVariants as depths;
 ghost use Rattle.frame_headers.specs.Color.{is_odd_profile};
 ghost use Rattle.header_writer.specs.WellFormed.{IsColor, IsIntraOnlyColor};
 ghost use Rattle.header_checks.specs.Code.{IsSampling};
-ghost use Rattle.header_checks.specs.Color.{is_color, is_depth, is_even_sampling, is_intra_only_color, is_odd_sampling, is_sampling};
+ghost use Rattle.header_checks.specs.ColorTests.{is_color, is_depth, is_even_sampling, is_intra_only_color, is_odd_sampling, is_sampling};
 
 use crate::same::same_color;
 use frame_headers::{ColorConfig, ColorSpace};
@@ -40,7 +40,7 @@ fn is_sampling(profile: u8, color: &ColorConfig) -> bool
     }
 }
 
-#[tactic(auto, unfolding(crate::specs::Color::is_color))]
+#[tactic(auto, unfolding(crate::specs::ColorTests::is_color))]
 pub(crate) fn is_color(profile: u8, color: &ColorConfig) -> bool
     ensures is { result ≡ is_color profile color.now }
     ensures color { result ≡ true → IsColor profile color.now }
@@ -50,7 +50,7 @@ pub(crate) fn is_color(profile: u8, color: &ColorConfig) -> bool
 }
 
 /// Whether an intra-only frame can have these colours.
-#[tactic(auto, unfolding(crate::specs::Color::is_intra_only_color))]
+#[tactic(auto, unfolding(crate::specs::ColorTests::is_intra_only_color))]
 pub(crate) fn is_intra_only_color(profile: u8, color: &ColorConfig) -> bool
     ensures is { result ≡ is_intra_only_color profile color.now }
     ensures color { result ≡ true → IsIntraOnlyColor profile color.now }

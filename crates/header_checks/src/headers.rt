@@ -2,7 +2,7 @@
 
 ghost use Rattle.std.specs.Prelude.{◌≡◌, true};
 ghost use Rattle.frame_headers.specs.Header.{forgets, kept_deltas, kept_features};
-ghost use Rattle.frame_headers.specs.Sizes.{IsFrameSize};
+ghost use Rattle.frame_headers.specs.FrameSizes.{IsFrameSize};
 ghost use Rattle.header_writer.specs.WellFormed.{CanChoose, IsContexts, IsHeader, IsOfKind, IsReset, IsWellFormed};
 ghost use Rattle.header_checks.specs.Headers.{are_contexts, can_choose, is_frame_size, is_header, is_of_kind, is_reset, is_well_formed};
 

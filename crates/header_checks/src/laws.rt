@@ -5,7 +5,7 @@ ghost use Rattle.vp9_types.specs.Bits.{AreBits};
 ghost use Rattle.vp9_types.specs.Reading.{read_bits};
 ghost use Rattle.frame_headers.specs.Fields.{past};
 ghost use Rattle.frame_headers.specs.Header.{uncompressed_header};
-ghost use Rattle.frame_headers.specs.State.{next_persist, start_persist};
+ghost use Rattle.frame_headers.specs.HeaderState.{next_persist, start_persist};
 ghost use Rattle.frame_headers.specs.declared.header.Header.{Header};
 ghost use Rattle.frame_headers.specs.declared.header.Uncompressed.{Uncompressed};
 ghost use Rattle.frame_headers.specs.declared.persist.Persist.{Persist};

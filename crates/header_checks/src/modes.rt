@@ -1,10 +1,10 @@
 //! Tests of modes.
 
 ghost use Rattle.std.specs.Prelude.{◌≡◌, true};
-ghost use Rattle.prob_contexts.specs.Lists.{ContextLists};
-ghost use Rattle.compressed_header.specs.Modes.{is_compound_allowed};
-ghost use Rattle.compressed_writer.specs.Updates.{CanForward, IsKindUpdate, IsTxMode};
-ghost use Rattle.header_checks.specs.Modes.{can_say_modes, can_say_references, can_say_tx};
+ghost use Rattle.prob_contexts.specs.ProbLists.{ContextLists};
+ghost use Rattle.compressed_header.specs.HeaderModes.{is_compound_allowed};
+ghost use Rattle.compressed_writer.specs.CodedUpdates.{CanForward, IsKindUpdate, IsTxMode};
+ghost use Rattle.header_checks.specs.ModeTests.{can_say_modes, can_say_references, can_say_tx};
 
 use frame_headers::{FrameKind, Header, References};
 use vp9_types::{Modes, ReferenceMode, TxMode};
@@ -42,7 +42,7 @@ fn can_say_references(kind: &FrameKind, mode: ReferenceMode) -> bool
 }
 
 /// Whether the compressed header of a frame can say its modes, and leave all probabilities as they are.
-#[tactic(auto, unfolding(crate::specs::Modes::can_say_modes))]
+#[tactic(auto, unfolding(crate::specs::ModeTests::can_say_modes))]
 pub fn can_say_modes(header: &Header, modes: Modes) -> bool
     ensures is { result ≡ can_say_modes header.now modes }
     ensures can { result ≡ true → (lists : ContextLists) → CanForward header.now lists lists modes }

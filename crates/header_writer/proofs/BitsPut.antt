@@ -6,7 +6,7 @@ use Rattle.vp9_types.specs.Bits.{bits_of, bits_of_byte, spelled}
 use Rattle.bool_decoder.proofs.Fronts.{spelled-append}
 use Rattle.frame_headers.specs.declared.field.FieldName.{FieldName}
 use Rattle.frame_headers.specs.Fields.{f}
-use Rattle.header_writer.specs.Fields.{Puts, with_field}
+use Rattle.header_writer.specs.WrittenFields.{Puts, with_field}
 
 pub bits_append : (xs ys : List ℕ) → bits_of (xs ++ ys) ≡ bits_of xs ++ bits_of ys
 unfolding bits_of

@@ -6,7 +6,7 @@ use Rattle.vp9_types.specs.Syntax.{done, ◌>>=◌}
 use Rattle.vp9_types.specs.Each.{each}
 use Rattle.vp9_types.proofs.Binds.{writes_bind}
 use Rattle.frame_headers.specs.Fields.{Table}
-use Rattle.header_writer.specs.Fields.{Puts, fits_field, with_field}
+use Rattle.header_writer.specs.WrittenFields.{Puts, fits_field, with_field}
 use Rattle.header_writer.specs.Code.{EachLeft}
 
 pub puts_bind : {A B : Type 0} (s : Table A) (f : A → Table B) (old mid new : List ℕ) (x : A) (y : B)

@@ -7,7 +7,7 @@ use Rattle.vp9_types.specs.Syntax.{done, broken, ask}
 use Rattle.vp9_types.specs.Reading.{after, run, bits_at, field_at, read_bits}
 use Rattle.vp9_types.proofs.EntryLaws.{bits_at-spelled}
 use Rattle.frame_headers.specs.Fields.{Table, past}
-use Rattle.header_writer.specs.Fields.{with_field, Puts}
+use Rattle.header_writer.specs.WrittenFields.{with_field, Puts}
 
 pub fields_read : {A : Type 0} (s : Table A) (old new : List ℕ) (x : A) (more : List ℕ)
     → Puts s old x new → (bits : List ℕ) × (new ≡ old ++ bits) × (read_bits past s (bits ++ more) ≡ Ok (x, more))

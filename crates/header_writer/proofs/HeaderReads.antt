@@ -13,10 +13,10 @@ use Rattle.frame_headers.specs.Header.{uncompressed_header, placed}
 use Rattle.frame_headers.proofs.BitLemmas.{length-bits_of}
 use Rattle.frame_headers.proofs.HeadLemmas.{head_read}
 use Rattle.header_writer.specs.Code.{HasPut}
-use Rattle.header_writer.specs.Fields.{Puts, IsPadded}
+use Rattle.header_writer.specs.WrittenFields.{Puts, IsPadded}
 use Rattle.header_writer.specs.declared.choices.Choices.{Choices}
 use Rattle.header_writer.specs.Spelling.{IsSpelled, spelled_header}
-use Rattle.header_writer.specs.Reads.{HoldsHeader, head_before}
+use Rattle.header_writer.specs.HeaderReads.{HoldsHeader, head_before}
 use Rattle.header_writer.proofs.FieldLaws.{fields_read}
 use Rattle.header_writer.proofs.BitsPut.{bits_append}
 

@@ -13,7 +13,7 @@ use Rattle.frame_headers.specs.declared.persist.Persist.{Persist}
 use Rattle.frame_headers.specs.Fields.{f, flag}
 use Rattle.frame_headers.specs.Header.{uncompressed_header, frame_profile}
 use Rattle.frame_headers.specs.References.{slot_shape, held_by, reference}
-use Rattle.header_writer.specs.Fields.{Puts}
+use Rattle.header_writer.specs.WrittenFields.{Puts}
 use Rattle.header_writer.specs.WellFormed.{IsWellFormed}
 use Rattle.header_writer.proofs.EachPuts.{puts_bind}
 

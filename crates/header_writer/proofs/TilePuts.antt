@@ -5,7 +5,7 @@ use Rattle.vp9_types.specs.Syntax.{done}
 use Rattle.frame_headers.specs.declared.field.FieldName.TheVariants as name
 use Rattle.frame_headers.specs.Fields.{flag}
 use Rattle.frame_headers.specs.Tiles.{more_columns}
-use Rattle.header_writer.specs.Fields.{Puts}
+use Rattle.header_writer.specs.WrittenFields.{Puts}
 use Rattle.header_writer.specs.Code.{LeadsFields}
 use Rattle.header_writer.proofs.EachPuts.{puts_bind}
 

@@ -6,7 +6,7 @@ use Rattle.frame_headers.specs.declared.header.FrameFields.{FrameFields}
 use Rattle.frame_headers.specs.declared.header.FrameStart.{FrameStart}
 use Rattle.frame_headers.specs.declared.header.Header.{Header}
 use Rattle.frame_headers.specs.Fields.{Table}
-use Rattle.header_writer.specs.Fields.{Puts, fits_field, with_field}
+use Rattle.header_writer.specs.WrittenFields.{Puts, fits_field, with_field}
 use Rattle.header_writer.specs.Spelling.{FieldList, bits_put, is_key}
 
 -- the elements of the back are still to be put

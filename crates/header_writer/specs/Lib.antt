@@ -1,5 +1,5 @@
-pub mod Fields
+pub mod WrittenFields
 pub mod WellFormed
-pub mod Reads
+pub mod HeaderReads
 pub mod Spelling
 pub mod Code

@@ -38,7 +38,7 @@ use Rattle.frame_headers.specs.Color.{is_odd_profile}
 use Rattle.frame_headers.specs.Header.{forgets, kept_deltas}
 use Rattle.frame_headers.specs.Tiles.{superblocks, min_log2, max_log2}
 use Rattle.header_writer.specs.declared.choices.Choices.{Choices}
-use Rattle.header_writer.specs.Fields.{IsPadded}
+use Rattle.header_writer.specs.WrittenFields.{IsPadded}
 
 -- fields, each by its width and its value
 abbrev pub FieldList : Type 0

@@ -27,7 +27,7 @@ use Rattle.header_writer.specs.declared.choices.Choices.{Choices}
 use Rattle.frame_headers.specs.Color.{is_odd_profile, default_color}
 use Rattle.frame_headers.specs.Header.{forgets, kept_deltas, kept_features}
 use Rattle.frame_headers.specs.References.{has_format, is_in_range, all_of, some_of}
-use Rattle.frame_headers.specs.Sizes.{IsFrameSize}
+use Rattle.frame_headers.specs.FrameSizes.{IsFrameSize}
 use Rattle.frame_headers.specs.Tiles.{superblocks, min_log2, max_log2}
 
 -- a number of n bits and its sign

@@ -29,7 +29,7 @@ impl BitWriter {
     ghost use Rattle.std.specs.Result.{is_ok};
     ghost use Rattle.frame_headers.specs.Fields.{f, flag, su};
     ghost use Rattle.header_writer.specs.Code.{HasPut};
-    ghost use Rattle.header_writer.specs.Fields.{Puts, IsPadded};
+    ghost use Rattle.header_writer.specs.WrittenFields.{Puts, IsPadded};
     ghost use Rattle.header_writer.specs.Spelling.{number, bit, signed};
     ghost use Rattle.header_writer.specs.WellFormed.{IsSigned};
 

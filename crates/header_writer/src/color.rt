@@ -5,7 +5,7 @@ ghost use Rattle.frame_headers.specs.Color.{color_space_of, is_odd_profile, bit_
 ghost use Rattle.frame_headers.specs.declared.color.ColorSpace.TheVariants as spaces;
 ghost use Rattle.vp9_types.specs.declared.shape.Depth.TheVariants as depths;
 ghost use Rattle.header_writer.specs.Code.{HasPut};
-ghost use Rattle.header_writer.specs.Fields.{Puts};
+ghost use Rattle.header_writer.specs.WrittenFields.{Puts};
 ghost use Rattle.header_writer.specs.Spelling.{bit, space_code, spelled_color, spelled_depth, spelled_intra_only_color, spelled_subsampling};
 ghost use Rattle.header_writer.specs.WellFormed.{IsColor, IsIntraOnlyColor};
 

@@ -4,7 +4,7 @@ ghost use Rattle.std.specs.Prelude.{◌≡◌, ◌≢◌, length, IfOk, false};
 ghost use Rattle.vp9_types.specs.Each.{each};
 ghost use Rattle.frame_headers.specs.Filter.{coded_delta, coded_deltas, delta_changes, loop_filter_params};
 ghost use Rattle.header_writer.specs.Code.{HasPut};
-ghost use Rattle.header_writer.specs.Fields.{Puts};
+ghost use Rattle.header_writer.specs.WrittenFields.{Puts};
 ghost use Rattle.header_writer.specs.Spelling.{spelled_coded_deltas, spelled_delta, spelled_delta_changes, spelled_deltas, spelled_loop_filter};
 ghost use Rattle.header_writer.specs.WellFormed.{IsSigned, AreDeltas, IsLoopFilter};
 

@@ -3,7 +3,7 @@
 ghost use Rattle.std.specs.Prelude.{IfOk};
 ghost use Rattle.frame_headers.specs.Quantizer.{delta_q, quantization_params};
 ghost use Rattle.header_writer.specs.Code.{HasPut};
-ghost use Rattle.header_writer.specs.Fields.{Puts};
+ghost use Rattle.header_writer.specs.WrittenFields.{Puts};
 ghost use Rattle.header_writer.specs.Spelling.{spelled_delta_q, spelled_quantizer};
 ghost use Rattle.header_writer.specs.WellFormed.{IsSigned, IsQuantizer};
 

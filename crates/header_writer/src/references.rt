@@ -3,9 +3,9 @@
 ghost use Rattle.std.specs.Prelude.{◌≡◌, ◌<◌, ◌&&◌, not, IfOk, true, false, if◌then◌else◌};
 ghost use Rattle.frame_headers.specs.declared.header.FrameKind.TheVariants as kinds;
 ghost use Rattle.frame_headers.specs.References.{reference, references, found_size, filter_of, interpolation_filter, inter_fields};
-ghost use Rattle.frame_headers.specs.Sizes.{IsFrameSize};
+ghost use Rattle.frame_headers.specs.FrameSizes.{IsFrameSize};
 ghost use Rattle.header_writer.specs.Code.{HasPut};
-ghost use Rattle.header_writer.specs.Fields.{Puts};
+ghost use Rattle.header_writer.specs.WrittenFields.{Puts};
 ghost use Rattle.header_writer.specs.Spelling.{filter_code, spelled_filter, spelled_found_size, spelled_inter_fields, spelled_own_size, spelled_reference, spelled_references};
 ghost use Rattle.header_writer.specs.WellFormed.{IsReference, AreReferences};
 

@@ -4,7 +4,7 @@ ghost use Rattle.std.specs.Prelude.{◌≡◌, ◌<◌, ◌≤◌, [], Some, IfO
 ghost use Rattle.vp9_types.specs.Each.{each};
 ghost use Rattle.frame_headers.specs.Segments.{probability, probability_for, prediction_probabilities, update_map, signed_feature, reference_of, reference_feature, segment_features, features_for, no_segment_features, update_features, map_or_none, features_or_old, enabled_params, segmentation_params};
 ghost use Rattle.header_writer.specs.Code.{HasPut};
-ghost use Rattle.header_writer.specs.Fields.{Puts};
+ghost use Rattle.header_writer.specs.WrittenFields.{Puts};
 ghost use Rattle.header_writer.specs.Spelling.{reference_code, spelled_enabled, spelled_features, spelled_map, spelled_probability, spelled_reference_feature, spelled_segment_features, spelled_segmentation, spelled_signed_feature};
 ghost use Rattle.header_writer.specs.WellFormed.{IsSigned, AreSegmentFeatures, IsMapUpdate, IsSegmentation};
 

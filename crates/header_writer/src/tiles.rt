@@ -3,7 +3,7 @@
 ghost use Rattle.std.specs.Prelude.{◌≡◌, ◌≤◌, ◌-◌, max, IfOk};
 ghost use Rattle.frame_headers.specs.Tiles.{min_log2, max_log2, more_columns, tile_columns_log2, tile_rows_log2, tile_info};
 ghost use Rattle.header_writer.specs.Code.{HasPut};
-ghost use Rattle.header_writer.specs.Fields.{Puts};
+ghost use Rattle.header_writer.specs.WrittenFields.{Puts};
 ghost use Rattle.header_writer.specs.Spelling.{spelled_columns, spelled_rows, spelled_tiles};
 ghost use Rattle.header_writer.specs.WellFormed.{IsTileInfo};
 

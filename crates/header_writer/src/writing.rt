@@ -4,10 +4,10 @@ ghost use Rattle.std.specs.Prelude.{◌≡◌, ◌<◌, ◌++◌, List, ℕ, IfO
 ghost use Rattle.frame_headers.specs.Header.{coded_profile, frame_profile, frame_sync_code, frame_contexts, frame_params, key_fields, intra_only_fields, intra_and_reset, other_fields, frame_fields, frame_start, forgets, kept_deltas, kept_features, coded_frame, uncompressed_header};
 ghost use Rattle.frame_headers.specs.declared.header.FrameKind.TheVariants as kinds;
 ghost use Rattle.frame_headers.specs.declared.header.Uncompressed.TheVariants as headers;
-ghost use Rattle.frame_headers.specs.Sizes.{IsFrameSize};
+ghost use Rattle.frame_headers.specs.FrameSizes.{IsFrameSize};
 ghost use Rattle.header_writer.specs.Code.{HasPut, fields_of, start_of};
-ghost use Rattle.header_writer.specs.Fields.{Puts};
-ghost use Rattle.header_writer.specs.Reads.{HoldsHeader};
+ghost use Rattle.header_writer.specs.WrittenFields.{Puts};
+ghost use Rattle.header_writer.specs.HeaderReads.{HoldsHeader};
 ghost use Rattle.header_writer.specs.Spelling.{IsSpelled, spelled_coded_frame, spelled_coded_profile, spelled_contexts, spelled_fields, spelled_header, spelled_intra_and_reset, spelled_intra_only_fields, spelled_key_fields, spelled_params, spelled_profile, spelled_start, spelled_sync_code};
 ghost use Rattle.header_writer.specs.WellFormed.{IsColor, IsIntraOnlyColor, IsReset, IsContexts, IsParams, IsOfKind, IsHeader, IsWellFormed, AreKept, CanChoose};
 

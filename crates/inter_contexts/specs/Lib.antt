@@ -1,2 +1,2 @@
 pub mod Contexts
-pub mod References
+pub mod BlockReferences

@@ -2,10 +2,10 @@
 
 ghost use Rattle.std.specs.Prelude.{◌≡◌, ◌<◌, ◌≤◌};
 ghost use Rattle.std.specs.Option.{option_copied};
-ghost use Rattle.prob_contexts.specs.Lists.{inter_lists};
+ghost use Rattle.prob_contexts.specs.ProbLists.{inter_lists};
 ghost use Rattle.counting_reader.specs.Code.{Reads};
 ghost use Rattle.frame_headers.specs.References.{is_in_range};
-ghost use Rattle.inter_contexts.specs.References.{fixed_of, variable_by, with_fixed, single, is_compound, compound_references, golden_or_altref, single_reference, coded_references, of_feature, ref_frames, reference_in, second_in_range, in_range_or_rule};
+ghost use Rattle.inter_contexts.specs.BlockReferences.{fixed_of, variable_by, with_fixed, single, is_compound, compound_references, golden_or_altref, single_reference, coded_references, of_feature, ref_frames, reference_in, second_in_range, in_range_or_rule};
 
 use crate::contexts::kind_of;
 use block_plan::{BlockInfo, References};
@@ -70,7 +70,7 @@ pub fn single(reference: ReferenceFrame) -> References
     }
 }
 
-#[tactic(auto, unfolding(crate::specs::References::is_compound), using(counting_reader::proofs::CountingRuns::run_settle))]
+#[tactic(auto, unfolding(crate::specs::BlockReferences::is_compound), using(counting_reader::proofs::CountingRuns::run_settle))]
 fn read_is_compound<const COUNTS: bool>(
     reader: &mut CountingReader<COUNTS>,
     mode: ReferenceMode,
@@ -91,7 +91,7 @@ fn read_is_compound<const COUNTS: bool>(
     }
 }
 
-#[tactic(auto, unfolding(crate::specs::References::compound_references), using(counting_reader::proofs::CountingRuns::counting_bind, counting_reader::proofs::CountingRuns::run_settle))]
+#[tactic(auto, unfolding(crate::specs::BlockReferences::compound_references), using(counting_reader::proofs::CountingRuns::counting_bind, counting_reader::proofs::CountingRuns::run_settle))]
 fn read_compound<const COUNTS: bool>(
     reader: &mut CountingReader<COUNTS>,
     probs: &[u8; 5],
@@ -107,7 +107,7 @@ fn read_compound<const COUNTS: bool>(
     with_fixed(biases, fixed, variable_by(fixed, one))
 }
 
-#[tactic(auto, unfolding(crate::specs::References::golden_or_altref), using(counting_reader::proofs::CountingRuns::counting_bind, counting_reader::proofs::CountingRuns::run_settle))]
+#[tactic(auto, unfolding(crate::specs::BlockReferences::golden_or_altref), using(counting_reader::proofs::CountingRuns::counting_bind, counting_reader::proofs::CountingRuns::run_settle))]
 fn read_golden_or_altref<const COUNTS: bool>(
     reader: &mut CountingReader<COUNTS>,
     probs: &[u8; 10],
@@ -126,7 +126,7 @@ fn read_golden_or_altref<const COUNTS: bool>(
     }
 }
 
-#[tactic(auto, unfolding(crate::specs::References::single_reference), using(counting_reader::proofs::CountingRuns::counting_bind, counting_reader::proofs::CountingRuns::run_settle))]
+#[tactic(auto, unfolding(crate::specs::BlockReferences::single_reference), using(counting_reader::proofs::CountingRuns::counting_bind, counting_reader::proofs::CountingRuns::run_settle))]
 fn read_single<const COUNTS: bool>(
     reader: &mut CountingReader<COUNTS>,
     probs: &[u8; 10],
@@ -146,7 +146,7 @@ fn read_single<const COUNTS: bool>(
     }
 }
 
-#[tactic(auto, unfolding(crate::specs::References::coded_references, crate::specs::Contexts::reference_context), using(counting_reader::proofs::CountingRuns::counting_bind, counting_reader::proofs::CountingRuns::run_settle))]
+#[tactic(auto, unfolding(crate::specs::BlockReferences::coded_references, crate::specs::Contexts::reference_context), using(counting_reader::proofs::CountingRuns::counting_bind, counting_reader::proofs::CountingRuns::run_settle))]
 fn read_coded<const COUNTS: bool>(
     reader: &mut CountingReader<COUNTS>,
     mode: ReferenceMode,
@@ -182,7 +182,7 @@ pub fn of_feature(reference: FeatureReference) -> ReferenceFrame
 }
 
 /// The references that a block's segment takes, or those that the block codes.
-#[tactic(auto, unfolding(crate::specs::References::ref_frames), using(counting_reader::proofs::CountingRuns::run_settle))]
+#[tactic(auto, unfolding(crate::specs::BlockReferences::ref_frames), using(counting_reader::proofs::CountingRuns::run_settle))]
 pub fn read_references<const COUNTS: bool>(
     reader: &mut CountingReader<COUNTS>,
     feature: Option<FeatureReference>,

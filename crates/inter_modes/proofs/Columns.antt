@@ -13,7 +13,7 @@ use Rattle.frame_headers.specs.declared.header.FrameFilter.{FrameFilter}
 use Rattle.frame_headers.specs.declared.header.FrameKind.{FrameKind}
 use Rattle.frame_headers.specs.declared.header.FrameKind.TheVariants as frame
 use Rattle.frame_headers.specs.declared.header.Header.{Header}
-use Rattle.prob_contexts.specs.Lists.{ContextLists, InterLists}
+use Rattle.prob_contexts.specs.ProbLists.{ContextLists, InterLists}
 use Rattle.block_plan.specs.Blocks.{above_place, left_place, above_of, left_of}
 use Rattle.block_plan.specs.declared.block.BlockAt.{BlockAt}
 use Rattle.block_plan.specs.declared.block.BlockInfo.{BlockInfo}
@@ -29,11 +29,11 @@ use Rattle.mv_prediction.specs.Laws.{SameIn}
 use Rattle.mv_prediction.specs.SubBlocks.{near_vectors, sub_block_vectors, vector_at}
 use Rattle.mv_prediction.specs.declared.sub_blocks.NearVectors.{NearVectors}
 use Rattle.mv_syntax.specs.Differences.{new_vector}
-use Rattle.block_geometry.specs.Sizes.{is_below_8x8}
+use Rattle.block_geometry.specs.BlockSizes.{is_below_8x8}
 use Rattle.inter_contexts.specs.Contexts.{filter_context}
 use Rattle.inter_modes.specs.ModeInfo.{InterFrame, sources_of, block_mode, interp_filter, whole_prediction, quarters_prediction, whole_block, block_of_quarters, inter_prediction, block_with, checked_references, inter_block, intra_block, inter_frame_block, least_before, inter_frame_mode_info, intra_frame_block, by_kind, mode_info}
-use Rattle.inter_modes.specs.Starts.{block_start}
-use Rattle.inter_modes.specs.Vectors.{Sources, inter_mode, vector_of_mode, near_of_block, near_of_quarter, block_vector, with_second, block_vectors, second_best, best_vectors, row_at, of_list, quarter_vector, quarter_vectors, quarter, nothing_before, before_of, four_quarters, two_columns, two_rows, quarters, ◌>>?◌}
+use Rattle.inter_modes.specs.BlockStarts.{block_start}
+use Rattle.inter_modes.specs.BlockVectors.{Sources, inter_mode, vector_of_mode, near_of_block, near_of_quarter, block_vector, with_second, block_vectors, second_best, best_vectors, row_at, of_list, quarter_vector, quarter_vectors, quarter, nothing_before, before_of, four_quarters, two_columns, two_rows, quarters, ◌>>?◌}
 use Rattle.inter_modes.specs.declared.quarters.QuartersBefore.{QuartersBefore}
 use Rattle.inter_modes.specs.declared.starts.BlockStart.{BlockStart}
 

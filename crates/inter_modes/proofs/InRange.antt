@@ -14,7 +14,7 @@ use Rattle.block_plan.specs.declared.block.BlockInfo.{BlockInfo}
 use Rattle.block_plan.specs.declared.block.Prediction.{Prediction}
 use Rattle.block_plan.specs.declared.block.Prediction.TheVariants.{Intra, Inter}
 use Rattle.block_plan.specs.declared.block.References.{References}
-use Rattle.inter_contexts.specs.References.{reference_in, second_in_range, in_range_or_rule}
+use Rattle.inter_contexts.specs.BlockReferences.{reference_in, second_in_range, in_range_or_rule}
 use Rattle.inter_modes.specs.Code.{AreInRange, PredictsInRange, RefersInRange}
 
 where_both : {A E : Type 0} (a b : Bool) (x : A) (e : E) (P : A → Type 0) → (a ≡ true → b ≡ true → P x) → IfOk (if a && b then Ok x else Err e) P

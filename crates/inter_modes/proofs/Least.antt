@@ -3,7 +3,7 @@ use Rattle.std.proofs.Common.{◌≡◌, ℕ, ◌≤◌, List, [], ◌∷◌, ar
 use Rattle.std.specs.List.{fold}
 use Rattle.vp9_types.specs.Maps.{Map}
 use Rattle.block_geometry.specs.declared.parts.Part.{Part}
-use Rattle.block_plan.specs.Segments.{least_id, ids_in}
+use Rattle.block_plan.specs.SegmentMaps.{least_id, ids_in}
 
 below : (most a : ℕ) (ids : List ℕ) → a ≤ most → fold min a ids ≤ most
 below most a [] low = low

@@ -6,12 +6,12 @@ use Rattle.std.proofs.lemmas.Bool.{cases_Bool, ltb-true, ltb-false}
 use Rattle.std.proofs.lemmas.Bool.Decides.{nat_tests}
 use Rattle.vp9_types.specs.Maps.{Map, is_within, with_block}
 use Rattle.block_geometry.specs.Parts.{part_inside}
-use Rattle.block_geometry.specs.Sizes.{width_8, height_8}
+use Rattle.block_geometry.specs.BlockSizes.{width_8, height_8}
 use Rattle.block_geometry.specs.declared.transform_blocks.FramePlaces.{FramePlaces}
 use Rattle.block_plan.specs.Blocks.{covers, covering, or_else}
 use Rattle.block_plan.specs.declared.block.BlockInfo.{BlockInfo}
 use Rattle.block_plan.proofs.Covers.{covering-push}
-use Rattle.inter_modes.specs.Segments.{segment_or, segments_of}
+use Rattle.inter_modes.specs.LeftSegments.{segment_or, segments_of}
 
 cut : (from n end k : ℕ) → k < end → is_within from (min n (end - from)) k ≡ is_within from n k
 cut from n end k low = grind (arith, nat_tests)

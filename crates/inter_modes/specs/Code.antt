@@ -1,7 +1,7 @@
 -- What the code keeps and its calls answer.
 use Rattle.std.specs.Prelude.{◌≡◌, ℕ, ◌<◌, ◌≤◌, Bool, true, List, Option, IfSome}
 use Rattle.std.specs.List.{All}
-use Rattle.vp9_tables.specs.Blocks.{greatest_of}
+use Rattle.vp9_tables.specs.BlockTables.{greatest_of}
 use Rattle.vp9_tables.specs.Numbers.{tx_number}
 use Rattle.frame_headers.specs.References.{is_in_range}
 use Rattle.frame_headers.specs.declared.header.FrameKind.TheVariants as frame
@@ -9,7 +9,7 @@ use Rattle.frame_headers.specs.declared.header.FrameSize.{FrameSize}
 use Rattle.frame_headers.specs.declared.header.Header.{Header}
 use Rattle.frame_headers.specs.declared.header.InterFields.{InterFields}
 use Rattle.frame_headers.specs.declared.header.References as header
-use Rattle.prob_contexts.specs.Lists.{lists_of}
+use Rattle.prob_contexts.specs.ProbLists.{lists_of}
 use Rattle.block_geometry.specs.Parts.{part_inside}
 use Rattle.block_plan.specs.declared.block.BlockAt.{BlockAt}
 use Rattle.block_plan.specs.declared.block.BlockInfo.{BlockInfo}
@@ -19,10 +19,10 @@ use Rattle.block_plan.specs.declared.block.References.{References}
 use Rattle.mv_prediction.specs.Code.{AreSmall, HasSmallVectors, IsSite, blocks_of}
 use Rattle.mv_prediction.specs.declared.search.MvSearch.{MvSearch}
 use Rattle.mv_prediction.specs.SubBlocks.{vector_at}
-use Rattle.block_plan.specs.Segments.{SegmentIds, id_map, least_id}
-use Rattle.inter_contexts.specs.References.{reference_in, second_in_range}
+use Rattle.block_plan.specs.SegmentMaps.{SegmentIds, id_map, least_id}
+use Rattle.inter_contexts.specs.BlockReferences.{reference_in, second_in_range}
 use Rattle.inter_modes.specs.ModeInfo.{InterFrame}
-use Rattle.inter_modes.specs.Vectors.{row_at}
+use Rattle.inter_modes.specs.BlockVectors.{row_at}
 use Rattle.inter_modes.specs.declared.frame_blocks.Frame.{Frame}
 use Rattle.inter_modes.specs.declared.quarters.Quarter.{Quarter}
 use Rattle.inter_modes.specs.declared.quarters.QuartersBefore.{QuartersBefore}

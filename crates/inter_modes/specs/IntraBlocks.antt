@@ -6,12 +6,12 @@ use Rattle.vp9_types.specs.declared.block.BlockSize.TheVariants.{B4x4, B4x8, B8x
 use Rattle.vp9_types.specs.declared.block.IntraMode.{IntraMode}
 use Rattle.vp9_types.specs.declared.rule.Rule.{Rule}
 use Rattle.vp9_tables.specs.Numbers.{block_number, intra_number}
-use Rattle.vp9_tables.specs.Trees.{intra_mode_tree}
+use Rattle.vp9_tables.specs.SymbolTrees.{intra_mode_tree}
 use Rattle.vp9_tables.specs.declared.data.blocks.TheConstants.{SIZE_GROUP}
 use Rattle.prob_contexts.specs.declared.kind.ProbKind.TheVariants as kind
 use Rattle.block_plan.specs.declared.block.IntraPrediction.{IntraPrediction}
 use Rattle.counting_reader.specs.Counting.{Settled, settle, ◌>>=◌}
-use Rattle.counting_reader.specs.Symbols.{counted_tree}
+use Rattle.counting_reader.specs.CountedSymbols.{counted_tree}
 use Rattle.mode_syntax.specs.IntraModes.{intra_of, last_mode}
 
 -- by a group of the block's size

@@ -1,6 +1,6 @@
-pub mod Starts
+pub mod BlockStarts
 pub mod IntraBlocks
-pub mod Vectors
+pub mod BlockVectors
 pub mod ModeInfo
-pub mod Segments
+pub mod LeftSegments
 pub mod Code

@@ -9,19 +9,19 @@ use Rattle.vp9_types.specs.declared.block.InterpFilter.{InterpFilter}
 use Rattle.vp9_types.specs.declared.block.InterpFilter.TheVariants.{Regular, Smooth, Sharp}
 use Rattle.vp9_types.specs.declared.block.Modes.{Modes}
 use Rattle.vp9_types.specs.declared.rule.Rule.{Rule}
-use Rattle.vp9_tables.specs.Trees.{filter_tree}
-use Rattle.frame_headers.specs.State.{shape_of}
+use Rattle.vp9_tables.specs.SymbolTrees.{filter_tree}
+use Rattle.frame_headers.specs.HeaderState.{shape_of}
 use Rattle.frame_headers.specs.declared.header.FrameFilter.{FrameFilter}
 use Rattle.frame_headers.specs.declared.header.FrameFilter.TheVariants.{Fixed, Switchable}
 use Rattle.frame_headers.specs.declared.header.FrameKind.{FrameKind}
 use Rattle.frame_headers.specs.declared.header.FrameKind.TheVariants as frame
 use Rattle.frame_headers.specs.declared.header.Header.{Header}
 use Rattle.frame_headers.specs.declared.header.InterFields.{InterFields}
-use Rattle.prob_contexts.specs.Lists.{ContextLists, InterLists}
+use Rattle.prob_contexts.specs.ProbLists.{ContextLists, InterLists}
 use Rattle.prob_contexts.specs.declared.kind.ProbKind.TheVariants as kind
-use Rattle.block_geometry.specs.Frames.{places_of}
+use Rattle.block_geometry.specs.FrameShapes.{places_of}
 use Rattle.block_geometry.specs.Parts.{part_inside}
-use Rattle.block_geometry.specs.Sizes.{is_below_8x8}
+use Rattle.block_geometry.specs.BlockSizes.{is_below_8x8}
 use Rattle.block_plan.specs.Blocks.{above_of, left_of}
 use Rattle.block_plan.specs.declared.block.BlockAt.{BlockAt}
 use Rattle.block_plan.specs.declared.block.BlockInfo.{BlockInfo}
@@ -31,18 +31,18 @@ use Rattle.block_plan.specs.declared.block.Prediction.{Prediction}
 use Rattle.block_plan.specs.declared.block.Prediction.TheVariants.{Intra, Inter}
 use Rattle.block_plan.specs.declared.block.References.{References}
 use Rattle.counting_reader.specs.Counting.{Settled, settle, ◌>>=◌}
-use Rattle.counting_reader.specs.Symbols.{counted_tree}
+use Rattle.counting_reader.specs.CountedSymbols.{counted_tree}
 use Rattle.mode_syntax.specs.Elements.{skips_segment}
-use Rattle.mode_syntax.specs.ModeInfo.{intra_frame_mode_info}
+use Rattle.mode_syntax.specs.IntraModeInfo.{intra_frame_mode_info}
 use Rattle.mv_prediction.specs.Candidates.{mode_context, sign_biases}
 use Rattle.mv_prediction.specs.declared.search.MvSearch.{MvSearch}
 use Rattle.mv_prediction.specs.declared.search.SignBiases.{SignBiases}
-use Rattle.block_plan.specs.Segments.{least_id}
+use Rattle.block_plan.specs.SegmentMaps.{least_id}
 use Rattle.inter_contexts.specs.Contexts.{filter_context}
 use Rattle.inter_modes.specs.IntraBlocks.{intra_block_mode_info}
-use Rattle.inter_contexts.specs.References.{ref_frames, in_range_or_rule}
-use Rattle.inter_modes.specs.Starts.{segment_reference, block_start}
-use Rattle.inter_modes.specs.Vectors.{Sources, inter_mode, block_vectors, quarters, ◌>>?◌}
+use Rattle.inter_contexts.specs.BlockReferences.{ref_frames, in_range_or_rule}
+use Rattle.inter_modes.specs.BlockStarts.{segment_reference, block_start}
+use Rattle.inter_modes.specs.BlockVectors.{Sources, inter_mode, block_vectors, quarters, ◌>>?◌}
 use Rattle.inter_modes.specs.declared.quarters.Quarter.{Quarter}
 use Rattle.inter_modes.specs.declared.starts.BlockStart.{BlockStart}
 

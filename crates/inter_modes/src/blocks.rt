@@ -4,7 +4,7 @@ ghost use Rattle.std.specs.Prelude.{◌≡◌, ◌<◌, ◌≤◌, ℕ, [], slic
 ghost use Rattle.mv_prediction.specs.Vectors.{no_vector, IsSmallVector};
 ghost use Rattle.std.specs.Option.{option_copied};
 ghost use Rattle.block_plan.specs.declared.block.Prediction.TheVariants.{Inter};
-ghost use Rattle.prob_contexts.specs.Lists.{InterLists, vector_lists, inter_lists};
+ghost use Rattle.prob_contexts.specs.ProbLists.{InterLists, vector_lists, inter_lists};
 ghost use Rattle.counting_reader.specs.Code.{Reads};
 ghost use Rattle.mv_prediction.specs.Code.{AreSmall, PredictsSmall, IsSite, blocks_of};
 ghost use Rattle.mv_prediction.specs.Candidates.{mode_context};
@@ -20,7 +20,7 @@ use frame_headers::FrameFilter;
 use prob_contexts::ProbKind;
 use vp9_types::{InterMode, InterpFilter, Rule};
 
-#[tactic(auto, unfolding(crate::specs::ModeInfo::interp_filter, counting_reader::specs::Symbols::counted_tree), using(counting_reader::proofs::CountingRuns::counting_bind, counting_reader::proofs::CountingRuns::run_settle))]
+#[tactic(auto, unfolding(crate::specs::ModeInfo::interp_filter, counting_reader::specs::CountedSymbols::counted_tree), using(counting_reader::proofs::CountingRuns::counting_bind, counting_reader::proofs::CountingRuns::run_settle))]
 fn read_filter<const COUNTS: bool>(
     reader: &mut CountingReader<COUNTS>,
     filter: FrameFilter,

@@ -4,7 +4,7 @@ ghost use Rattle.std.specs.Prelude.{◌≡◌, ℕ, ◌<◌, ◌≤◌, List};
 ghost use Rattle.vp9_types.specs.Maps.{Map};
 ghost use Rattle.vp9_types.specs.declared.block.Modes.{Modes};
 ghost use Rattle.frame_headers.specs.declared.header.Header.{Header};
-ghost use Rattle.prob_contexts.specs.Lists.{ContextLists};
+ghost use Rattle.prob_contexts.specs.ProbLists.{ContextLists};
 ghost use Rattle.block_plan.specs.declared.block.BlockAt.{BlockAt};
 ghost use Rattle.block_plan.specs.declared.block.BlockInfo.{BlockInfo};
 ghost use Rattle.mv_prediction.specs.Laws.{SameIn};

@@ -3,11 +3,11 @@
 ghost use Rattle.std.specs.Prelude.{◌≡◌, ◌<◌, ◌≤◌, IfOk};
 ghost use Rattle.std.specs.List.{All};
 ghost use Rattle.std.specs.Option.{option_copied};
-ghost use Rattle.prob_contexts.specs.Lists.{vector_lists};
+ghost use Rattle.prob_contexts.specs.ProbLists.{vector_lists};
 ghost use Rattle.counting_reader.specs.Code.{Reads};
 ghost use Rattle.mv_prediction.specs.Code.{AreSmall, blocks_of};
 ghost use Rattle.inter_modes.specs.Code.{MaySearch, AreSmallBefore, AreSmallQuarters};
-ghost use Rattle.inter_modes.specs.Vectors.{before_of, four_quarters, two_columns, two_rows, quarters};
+ghost use Rattle.inter_modes.specs.BlockVectors.{before_of, four_quarters, two_columns, two_rows, quarters};
 
 use crate::vectors::{NO_VECTORS, Sources, best_vectors, read_quarter};
 use block_plan::{Mv, Neighbours, References};
@@ -45,7 +45,7 @@ pub fn before_of(best: [Mv; 2], q: [Mv; 2], r: [Mv; 2], t: [Mv; 2]) -> QuartersB
 }
 
 /// Those of a block of 4x4, one after another.
-#[tactic(auto, unfolding(crate::specs::Vectors::four_quarters), using(counting_reader::proofs::CountingRuns::counting_bind, counting_reader::proofs::CountingRuns::run_settle))]
+#[tactic(auto, unfolding(crate::specs::BlockVectors::four_quarters), using(counting_reader::proofs::CountingRuns::counting_bind, counting_reader::proofs::CountingRuns::run_settle))]
 fn read_four<N: Neighbours, Q: Neighbours, const COUNTS: bool>(
     reader: &mut CountingReader<COUNTS>,
     src: &Sources<'_, N, Q>,
@@ -75,7 +75,7 @@ fn read_four<N: Neighbours, Q: Neighbours, const COUNTS: bool>(
 }
 
 /// Those of a block of 4x8: one at the left and one at the right.
-#[tactic(auto, unfolding(crate::specs::Vectors::two_columns), using(counting_reader::proofs::CountingRuns::counting_bind, counting_reader::proofs::CountingRuns::run_settle))]
+#[tactic(auto, unfolding(crate::specs::BlockVectors::two_columns), using(counting_reader::proofs::CountingRuns::counting_bind, counting_reader::proofs::CountingRuns::run_settle))]
 fn read_two_columns<N: Neighbours, Q: Neighbours, const COUNTS: bool>(
     reader: &mut CountingReader<COUNTS>,
     src: &Sources<'_, N, Q>,
@@ -101,7 +101,7 @@ fn read_two_columns<N: Neighbours, Q: Neighbours, const COUNTS: bool>(
 }
 
 /// Those of a block of 8x4: an upper and a lower one.
-#[tactic(auto, unfolding(crate::specs::Vectors::two_rows), using(counting_reader::proofs::CountingRuns::counting_bind, counting_reader::proofs::CountingRuns::run_settle))]
+#[tactic(auto, unfolding(crate::specs::BlockVectors::two_rows), using(counting_reader::proofs::CountingRuns::counting_bind, counting_reader::proofs::CountingRuns::run_settle))]
 fn read_two_rows<N: Neighbours, Q: Neighbours, const COUNTS: bool>(
     reader: &mut CountingReader<COUNTS>,
     src: &Sources<'_, N, Q>,
@@ -122,7 +122,7 @@ fn read_two_rows<N: Neighbours, Q: Neighbours, const COUNTS: bool>(
 }
 
 /// The quarters of a block below 8x8.
-#[tactic(auto, unfolding(crate::specs::Vectors::quarters))]
+#[tactic(auto, unfolding(crate::specs::BlockVectors::quarters))]
 pub(crate) fn read_quarters<N: Neighbours, Q: Neighbours, const COUNTS: bool>(
     reader: &mut CountingReader<COUNTS>,
     src: &Sources<'_, N, Q>,

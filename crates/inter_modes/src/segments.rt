@@ -2,9 +2,9 @@
 
 ghost use Rattle.std.specs.Prelude.{◌≡◌, ◌<◌, ◌≤◌};
 ghost use Rattle.std.specs.List.{All};
-ghost use Rattle.block_plan.specs.Segments.{id_map};
+ghost use Rattle.block_plan.specs.SegmentMaps.{id_map};
 ghost use Rattle.inter_modes.specs.Code.{IsMapped};
-ghost use Rattle.inter_modes.specs.Segments.{segments_of, segments_after};
+ghost use Rattle.inter_modes.specs.LeftSegments.{segments_of, segments_after};
 
 use block_plan::{BlockInfo, SegmentMap};
 use frame_headers::Segmentation;

@@ -2,14 +2,14 @@
 
 ghost use Rattle.std.specs.Prelude.{◌≡◌, ◌<◌, ◌≤◌, not, ◌&&◌};
 ghost use Rattle.std.specs.Option.{option_copied};
-ghost use Rattle.vp9_tables.specs.Blocks.{greatest_of};
+ghost use Rattle.vp9_tables.specs.BlockTables.{greatest_of};
 ghost use Rattle.vp9_tables.specs.Numbers.{tx_number};
-ghost use Rattle.prob_contexts.specs.Lists.{lists_of, tx_lists};
+ghost use Rattle.prob_contexts.specs.ProbLists.{lists_of, tx_lists};
 ghost use Rattle.block_geometry.specs.Parts.{part_inside};
 ghost use Rattle.counting_reader.specs.Code.{Reads};
-ghost use Rattle.block_plan.specs.Segments.{id_map, least_id};
+ghost use Rattle.block_plan.specs.SegmentMaps.{id_map, least_id};
 ghost use Rattle.inter_contexts.specs.Contexts.{predicted_context};
-ghost use Rattle.inter_modes.specs.Starts.{coded_segment, temporal_segment, updated_segment, segment_by, inter_segment_id, segment_reference, is_inter_feature, is_inter_by, read_is_inter, tx_size, block_start};
+ghost use Rattle.inter_modes.specs.BlockStarts.{coded_segment, temporal_segment, updated_segment, segment_by, inter_segment_id, segment_reference, is_inter_feature, is_inter_by, read_is_inter, tx_size, block_start};
 ghost use Rattle.inter_modes.specs.Code.{least_of};
 
 use block_plan::{BlockAt, BlockInfo, SegmentMap};
@@ -38,7 +38,7 @@ pub struct BlockStart {
     pub tx: TxSize,
 }
 
-#[tactic(auto, unfolding(crate::specs::Starts::coded_segment), using(counting_reader::proofs::CountingRuns::counting_bind, counting_reader::proofs::CountingRuns::run_settle))]
+#[tactic(auto, unfolding(crate::specs::BlockStarts::coded_segment), using(counting_reader::proofs::CountingRuns::counting_bind, counting_reader::proofs::CountingRuns::run_settle))]
 fn read_coded_segment<const COUNTS: bool>(
     reader: &mut CountingReader<COUNTS>,
     tree: &[u8; 7],
@@ -63,7 +63,7 @@ pub fn least_id(map: &SegmentMap, at: BlockAt) -> u8
     map.predicted(at.row, at.col, at.size)
 }
 
-#[tactic(auto, unfolding(crate::specs::Starts::temporal_segment), using(counting_reader::proofs::CountingRuns::counting_bind, counting_reader::proofs::CountingRuns::run_settle))]
+#[tactic(auto, unfolding(crate::specs::BlockStarts::temporal_segment), using(counting_reader::proofs::CountingRuns::counting_bind, counting_reader::proofs::CountingRuns::run_settle))]
 fn read_temporal_segment<const COUNTS: bool>(
     reader: &mut CountingReader<COUNTS>,
     update: &MapUpdate,
@@ -86,7 +86,7 @@ fn read_temporal_segment<const COUNTS: bool>(
     read_coded_segment(reader, &update.tree)
 }
 
-#[tactic(auto, unfolding(crate::specs::Starts::updated_segment))]
+#[tactic(auto, unfolding(crate::specs::BlockStarts::updated_segment))]
 fn read_updated_segment<const COUNTS: bool>(
     reader: &mut CountingReader<COUNTS>,
     update: &MapUpdate,
@@ -108,7 +108,7 @@ fn read_updated_segment<const COUNTS: bool>(
 }
 
 /// The segment of a block of an inter frame.
-#[tactic(auto, unfolding(crate::specs::Starts::inter_segment_id, crate::specs::Starts::segment_by), using(counting_reader::proofs::CountingRuns::run_settle))]
+#[tactic(auto, unfolding(crate::specs::BlockStarts::inter_segment_id, crate::specs::BlockStarts::segment_by), using(counting_reader::proofs::CountingRuns::run_settle))]
 fn read_inter_segment_id<const COUNTS: bool>(
     reader: &mut CountingReader<COUNTS>,
     segmentation: &Segmentation,
@@ -160,7 +160,7 @@ pub fn is_inter_feature(reference: FeatureReference) -> bool
 }
 
 /// Whether a block is inter.
-#[tactic(auto, unfolding(crate::specs::Starts::read_is_inter, crate::specs::Starts::is_inter_by), using(counting_reader::proofs::CountingRuns::run_settle))]
+#[tactic(auto, unfolding(crate::specs::BlockStarts::read_is_inter, crate::specs::BlockStarts::is_inter_by), using(counting_reader::proofs::CountingRuns::run_settle))]
 fn read_is_inter<const COUNTS: bool>(
     reader: &mut CountingReader<COUNTS>,
     segmentation: &Segmentation,
@@ -182,7 +182,7 @@ fn read_is_inter<const COUNTS: bool>(
     }
 }
 
-#[tactic(auto, unfolding(crate::specs::Starts::tx_size), using(counting_reader::proofs::CountingRuns::run_settle))]
+#[tactic(auto, unfolding(crate::specs::BlockStarts::tx_size), using(counting_reader::proofs::CountingRuns::run_settle))]
 fn read_tx<const COUNTS: bool>(
     reader: &mut CountingReader<COUNTS>,
     mode: TxMode,
@@ -203,7 +203,7 @@ fn read_tx<const COUNTS: bool>(
 }
 
 /// What a block of an inter frame says before its modes. `map` is that of the segments before the frame.
-#[tactic(auto, unfolding(crate::specs::Starts::block_start), using(counting_reader::proofs::CountingRuns::counting_bind, counting_reader::proofs::CountingRuns::run_settle))]
+#[tactic(auto, unfolding(crate::specs::BlockStarts::block_start), using(counting_reader::proofs::CountingRuns::counting_bind, counting_reader::proofs::CountingRuns::run_settle))]
 pub(crate) fn read_block_start<const COUNTS: bool>(
     reader: &mut CountingReader<COUNTS>,
     setting: &FrameSetting,

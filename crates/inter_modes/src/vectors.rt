@@ -2,12 +2,12 @@
 
 ghost use Rattle.std.specs.Prelude.{◌≡◌, ◌<◌, ◌≤◌, ◌∷◌, [], Some, IfOk};
 ghost use Rattle.std.specs.Option.{option_copied};
-ghost use Rattle.prob_contexts.specs.Lists.{vector_lists};
+ghost use Rattle.prob_contexts.specs.ProbLists.{vector_lists};
 ghost use Rattle.counting_reader.specs.Code.{Reads};
 ghost use Rattle.mv_prediction.specs.Code.{AreSmall, blocks_of};
 ghost use Rattle.mv_prediction.specs.Vectors.{IsSmallVector};
 ghost use Rattle.inter_modes.specs.Code.{MaySearch, AreSmallBefore};
-ghost use Rattle.inter_modes.specs.Vectors.{inter_mode, vector_of_mode, near_of_block, near_of_quarter, block_vector, block_vectors, second_best, best_vectors, of_list, quarter_vector, quarter_vectors, quarter};
+ghost use Rattle.inter_modes.specs.BlockVectors.{inter_mode, vector_of_mode, near_of_block, near_of_quarter, block_vector, block_vectors, second_best, best_vectors, of_list, quarter_vector, quarter_vectors, quarter};
 
 use crate::quarters::{Quarter, QuartersBefore};
 use block_plan::{Mv, Neighbours, References};
@@ -37,7 +37,7 @@ pub struct Sources<'a, N, Q> {
 }
 
 /// A block's mode, bool by bool: a loop over so small a tree costs more.
-#[tactic(auto, unfolding(crate::specs::Vectors::inter_mode, counting_reader::specs::Symbols::counted_tree), using(counting_reader::proofs::CountingRuns::counting_bind, counting_reader::proofs::CountingRuns::run_settle))]
+#[tactic(auto, unfolding(crate::specs::BlockVectors::inter_mode, counting_reader::specs::CountedSymbols::counted_tree), using(counting_reader::proofs::CountingRuns::counting_bind, counting_reader::proofs::CountingRuns::run_settle))]
 pub(crate) fn read_inter_mode<const COUNTS: bool>(
     reader: &mut CountingReader<COUNTS>,
     probs: &[u8; 21],
@@ -119,7 +119,7 @@ pub fn nearest_of_quarter<N: Neighbours, Q: Neighbours>(
 
 /// A block's vector of a reference.
 #[inline(always)]
-#[tactic(auto, unfolding(crate::specs::Vectors::block_vector, crate::specs::Vectors::vector_of_mode), using(counting_reader::proofs::CountingRuns::run_settle))]
+#[tactic(auto, unfolding(crate::specs::BlockVectors::block_vector, crate::specs::BlockVectors::vector_of_mode), using(counting_reader::proofs::CountingRuns::run_settle))]
 fn read_block_vector<N: Neighbours, Q: Neighbours, const COUNTS: bool>(
     reader: &mut CountingReader<COUNTS>,
     src: &Sources<'_, N, Q>,
@@ -142,7 +142,7 @@ fn read_block_vector<N: Neighbours, Q: Neighbours, const COUNTS: bool>(
 }
 
 /// A block's vectors of its references.
-#[tactic(auto, unfolding(crate::specs::Vectors::block_vectors, crate::specs::Vectors::with_second), using(counting_reader::proofs::CountingRuns::counting_bind, counting_reader::proofs::CountingRuns::run_settle))]
+#[tactic(auto, unfolding(crate::specs::BlockVectors::block_vectors, crate::specs::BlockVectors::with_second), using(counting_reader::proofs::CountingRuns::counting_bind, counting_reader::proofs::CountingRuns::run_settle))]
 pub(crate) fn read_block_vectors<N: Neighbours, Q: Neighbours, const COUNTS: bool>(
     reader: &mut CountingReader<COUNTS>,
     src: &Sources<'_, N, Q>,
@@ -192,7 +192,7 @@ pub fn of_list(list: usize, rows: &[[Mv; 2]; 3]) -> [Mv; 3]
 
 /// A quarter's vector of a reference, of the first list or the second.
 #[inline(always)]
-#[tactic(auto, unfolding(crate::specs::Vectors::quarter_vector, crate::specs::Vectors::vector_of_mode), using(counting_reader::proofs::CountingRuns::run_settle))]
+#[tactic(auto, unfolding(crate::specs::BlockVectors::quarter_vector, crate::specs::BlockVectors::vector_of_mode), using(counting_reader::proofs::CountingRuns::run_settle))]
 fn read_quarter_vector<N: Neighbours, Q: Neighbours, const COUNTS: bool>(
     reader: &mut CountingReader<COUNTS>,
     src: &Sources<'_, N, Q>,
@@ -221,7 +221,7 @@ fn read_quarter_vector<N: Neighbours, Q: Neighbours, const COUNTS: bool>(
 }
 
 /// A quarter's vectors of its block's references.
-#[tactic(auto, unfolding(crate::specs::Vectors::quarter_vectors, crate::specs::Vectors::with_second), using(counting_reader::proofs::CountingRuns::counting_bind, counting_reader::proofs::CountingRuns::run_settle))]
+#[tactic(auto, unfolding(crate::specs::BlockVectors::quarter_vectors, crate::specs::BlockVectors::with_second), using(counting_reader::proofs::CountingRuns::counting_bind, counting_reader::proofs::CountingRuns::run_settle))]
 fn read_quarter_vectors<N: Neighbours, Q: Neighbours, const COUNTS: bool>(
     reader: &mut CountingReader<COUNTS>,
     src: &Sources<'_, N, Q>,
@@ -252,7 +252,7 @@ fn read_quarter_vectors<N: Neighbours, Q: Neighbours, const COUNTS: bool>(
 }
 
 /// A quarter's mode and vectors.
-#[tactic(auto, unfolding(crate::specs::Vectors::quarter), using(counting_reader::proofs::CountingRuns::counting_bind, counting_reader::proofs::CountingRuns::run_settle))]
+#[tactic(auto, unfolding(crate::specs::BlockVectors::quarter), using(counting_reader::proofs::CountingRuns::counting_bind, counting_reader::proofs::CountingRuns::run_settle))]
 pub(crate) fn read_quarter<N: Neighbours, Q: Neighbours, const COUNTS: bool>(
     reader: &mut CountingReader<COUNTS>,
     src: &Sources<'_, N, Q>,

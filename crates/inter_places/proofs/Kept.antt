@@ -2,7 +2,7 @@
 use Rattle.std.proofs.Common.{◌≡◌, ℕ, ◌+◌, ◌≤◌, ◌^◌, ℤ, pos, negsuc, ◌+ℤ◌, ◌*ℤ◌, Bool, unsigned_abs, to_z, of_z, arith, ◌∙◌, ap}
 use Rattle.std.proofs.lemmas.Int.{to_z-of_z, unsigned_abs-mul}
 use mir.Syntax.{w32}
-use Rattle.inter_places.specs.Vectors.{in_sixteenths}
+use Rattle.inter_places.specs.PlaneVectors.{in_sixteenths}
 
 pub kept : (z : ℤ) → unsigned_abs z ≤ 2 ^ 24 → to_z w32 (of_z w32 z) ≡ z
 kept (pos x) small = to_z-of_z w32 (pos x) (record { sfits = omega arith })

@@ -1,4 +1,4 @@
 pub mod Axes
-pub mod Vectors
+pub mod PlaneVectors
 pub mod Scaling
 pub mod Places

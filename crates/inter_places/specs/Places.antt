@@ -4,7 +4,7 @@ use Rattle.vp9_types.specs.Shapes.{halved, is_chroma, plane_width, plane_height,
 use Rattle.vp9_types.specs.declared.block.BlockSize.{BlockSize}
 use Rattle.vp9_types.specs.declared.shape.Plane.{Plane}
 use Rattle.vp9_types.specs.declared.shape.Shape.{Shape}
-use Rattle.block_geometry.specs.Sizes.{is_below_8x8, width_8, height_8}
+use Rattle.block_geometry.specs.BlockSizes.{is_below_8x8, width_8, height_8}
 use Rattle.block_plan.specs.declared.block.BlockInfo.{BlockInfo}
 use Rattle.block_plan.specs.declared.block.InterPrediction.{InterPrediction}
 use Rattle.inter_places.specs.declared.axis.Axis.{Axis}
@@ -13,7 +13,7 @@ use Rattle.inter_places.specs.declared.span.BlockSpan.{BlockSpan}
 use Rattle.inter_places.specs.declared.part.BlockPart.{BlockPart}
 use Rattle.inter_places.specs.declared.part.Direction.{Direction}
 use Rattle.inter_places.specs.declared.part.Direction.TheVariants.{Down, Across}
-use Rattle.inter_places.specs.Vectors.{mean_vector, vector_at, component}
+use Rattle.inter_places.specs.PlaneVectors.{mean_vector, vector_at, component}
 use Rattle.inter_places.specs.Scaling.{scale, axis_of, span_start, IsInScale}
 
 -- whether a plane is subsampled along a direction

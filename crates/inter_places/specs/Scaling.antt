@@ -4,7 +4,7 @@ use Rattle.std.specs.Int.{int_shr}
 use Rattle.vp9_types.specs.Shapes.{halved}
 use Rattle.inter_places.specs.declared.axis.Axis.{Axis}
 use Rattle.inter_places.specs.declared.span.BlockSpan.{BlockSpan}
-use Rattle.inter_places.specs.Vectors.{clamped_vector}
+use Rattle.inter_places.specs.PlaneVectors.{clamped_vector}
 
 -- xScale: a reference's luma size over the frame's, with 14 bits (REF_SCALE_SHIFT)
 abbrev pub scale : ℕ → ℕ → ℕ

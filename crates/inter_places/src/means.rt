@@ -1,7 +1,7 @@
 //! Means of vectors.
 
 ghost use Rattle.std.specs.Prelude.{◌≡◌, ℕ, ◌+◌, ◌^◌, ◌≤◌, ◌<◌, ◌+ℤ◌, true, unsigned_abs};
-ghost use Rattle.inter_places.specs.Vectors.{mean, mean_vector, vector_at, component};
+ghost use Rattle.inter_places.specs.PlaneVectors.{mean, mean_vector, vector_at, component};
 
 use crate::part::Direction;
 use block_plan::InterPrediction;

@@ -2,7 +2,7 @@
 
 ghost use Rattle.std.specs.Prelude.{◌≡◌, ℕ, ◌*◌, ◌/◌, ◌+◌, ◌<◌, ◌≤◌, ◌^◌, unsigned_abs};
 ghost use Rattle.inter_places.specs.Axes.{IsAxis, IsPlace};
-ghost use Rattle.inter_places.specs.Vectors.{IsSpan};
+ghost use Rattle.inter_places.specs.PlaneVectors.{IsSpan};
 ghost use Rattle.inter_places.specs.Places.{IsPart, IsReference, parts_of, place_of, subsampling, fours, behind, part_length, part_vector, part_start, predicted_length, part_axis, span_of, coded_length, luma_length, plane_length};
 ghost use Rattle.vp9_types.specs.Shapes.{mi_rows, mi_cols, halved};
 

@@ -3,7 +3,7 @@
 ghost use Rattle.std.specs.Prelude.{◌≡◌, ◌+◌, ◌*◌, ◌/◌, ◌%◌, ◌^◌, ◌≤◌, pos, ◌*ℤ◌, unsigned_abs};
 ghost use Rattle.std.specs.Int.{int_shr};
 ghost use Rattle.inter_places.specs.Axes.{IsAxis};
-ghost use Rattle.inter_places.specs.Vectors.{IsSpan, clamped_vector};
+ghost use Rattle.inter_places.specs.PlaneVectors.{IsSpan, clamped_vector};
 ghost use Rattle.inter_places.specs.Scaling.{IsInScale, scale, step, start, axis_of, span_start};
 
 use crate::axis::Axis;

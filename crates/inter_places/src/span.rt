@@ -1,7 +1,7 @@
 //! Vectors along one direction.
 
 ghost use Rattle.std.specs.Prelude.{◌≡◌, ◌*◌, ◌^◌, ◌≤◌, pos, ◌-ℤ◌, unsigned_abs};
-ghost use Rattle.inter_places.specs.Vectors.{IsSpan, span_length, clamped_vector, in_sixteenths, reach, least_vector, greatest_vector};
+ghost use Rattle.inter_places.specs.PlaneVectors.{IsSpan, span_length, clamped_vector, in_sixteenths, reach, least_vector, greatest_vector};
 
 /// A block along one direction: its first place of 8x8 luma samples, how many of them it has, how many its frame has, and
 /// whether its plane is subsampled.
@@ -80,7 +80,7 @@ fn greatest_vector(span: &BlockSpan) -> i32
 /// The plane's component of a vector, in sixteenths of the plane's samples, so that it points no further out of the frame
 /// than by the block and four samples more.
 #[inline(always)]
-#[tactic(auto, unfolding(crate::specs::Vectors::clamped_vector))]
+#[tactic(auto, unfolding(crate::specs::PlaneVectors::clamped_vector))]
 pub fn clamp_mv(span: &BlockSpan, mv: i32) -> i32
     requires span { IsSpan span.now }
     requires near { unsigned_abs mv ≤ 2 ^ 16 }

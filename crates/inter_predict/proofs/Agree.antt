@@ -9,7 +9,7 @@ use Rattle.tap_filter.specs.Filter.{weighted, rounded, filtered}
 use Rattle.inter_places.proofs.Orders.{clamped_order, offset_order, place_order}
 use Rattle.inter_places.specs.Axes.{clamped, place, phase, offset, fraction, sixteenth, whole, straight}
 use Rattle.inter_places.specs.Axes.{first_place, last_place}
-use Rattle.inter_predict.specs.Inter.{along, predicted}
+use Rattle.inter_predict.specs.InterSamples.{along, predicted}
 use Rattle.inter_predict.proofs.Whole.{whole_copies}
 use Rattle.inter_predict.proofs.Blocks.{rounded_small}
 

@@ -11,7 +11,7 @@ use Rattle.inter_places.specs.Axes.{fraction, offset, straight}
 use Rattle.planes.specs.declared.area.Area.{Area}
 use Rattle.planes.specs.Planes.{lower_end, right_end, with_part}
 use Rattle.planes.proofs.RowLemmas.{with_block_same}
-use Rattle.inter_predict.specs.Inter.{along, predicted}
+use Rattle.inter_predict.specs.InterSamples.{along, predicted}
 use Rattle.inter_predict.specs.Code.{IsCopied, copied_from, filtered_below, strided}
 use Rattle.inter_predict.proofs.Agree.{along_copied, whole_predicted, both_passes, phase_straight, offset_straight}
 use Rattle.inter_predict.proofs.Blocks.{place_below}

@@ -1,2 +1,2 @@
-pub mod Inter
+pub mod InterSamples
 pub mod Code

@@ -6,7 +6,7 @@ ghost use Rattle.vp9_types.specs.Maps.{IsAtMost};
 ghost use Rattle.inter_places.specs.Axes.{IsPlace, first_place, last_place, fraction};
 ghost use Rattle.planes.specs.Planes.{plane_map};
 ghost use Rattle.inter_predict.specs.Code.{LiesIn, with_place};
-ghost use Rattle.inter_predict.specs.Inter.{predicted_at};
+ghost use Rattle.inter_predict.specs.InterSamples.{predicted_at};
 
 use crate::filter::{Interpolation, LineFilter, filter_of};
 use crate::places::{is_copied, is_whole};

@@ -7,7 +7,7 @@ ghost use Rattle.inter_places.specs.declared.axis.Axis.{Axis};
 ghost use Rattle.inter_places.specs.Axes.{first_place, last_place};
 ghost use Rattle.vp9_tables.specs.Filters.{taps_of};
 ghost use Rattle.tap_filter.specs.Filter.{filtered};
-ghost use Rattle.inter_predict.specs.Inter.{predicted};
+ghost use Rattle.inter_predict.specs.InterSamples.{predicted};
 
 /// A block of so many rows depends only on the reference's rows from its first place to its last, at every scale.
 pub fn rows_suffice()

@@ -3,7 +3,7 @@
 ghost use Rattle.std.specs.Prelude.{◌≡◌, ℕ, ◌+◌, ◌*◌, ◌/◌, ◌<◌, ◌≤◌, length, map, slice_index};
 ghost use Rattle.tap_filter.specs.Filter.{filtered};
 ghost use Rattle.inter_places.specs.Axes.{straight, IsAxis};
-ghost use Rattle.inter_predict.specs.Inter.{along};
+ghost use Rattle.inter_predict.specs.InterSamples.{along};
 ghost use Rattle.inter_predict.specs.Code.{IsFilter};
 
 use crate::filter::LineFilter;

@@ -1,7 +1,7 @@
 //! The mean of two predictions.
 
 ghost use Rattle.std.specs.Prelude.{◌≡◌, ℕ, ◌<◌, ◌≤◌, length, map, slice_index};
-ghost use Rattle.inter_predict.specs.Inter.{average};
+ghost use Rattle.inter_predict.specs.InterSamples.{average};
 
 use crate::kept::{put_at, sample_at};
 use tap_filter::FilterSample;

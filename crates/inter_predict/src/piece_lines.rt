@@ -3,7 +3,7 @@
 ghost use Rattle.std.specs.Prelude.{◌≡◌, ℕ, ◌+◌, ◌*◌, ◌<◌, ◌≤◌, length, map, slice_index};
 ghost use Rattle.vp9_types.specs.Maps.{HoldsRows};
 ghost use Rattle.inter_places.specs.Axes.{straight, IsPlace};
-ghost use Rattle.inter_predict.specs.Inter.{along};
+ghost use Rattle.inter_predict.specs.InterSamples.{along};
 ghost use Rattle.inter_predict.specs.Code.{AreRows, IsCopied, IsRun, strided};
 
 use crate::filter::{Interpolation, filter_of};

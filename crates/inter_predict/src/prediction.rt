@@ -3,7 +3,7 @@
 ghost use Rattle.std.specs.Prelude.{◌≡◌, ℕ, ◌*◌, ◌≤◌, length, map};
 ghost use Rattle.vp9_types.specs.Maps.{HoldsRows, IsAtMost};
 ghost use Rattle.inter_places.specs.Axes.{IsPlace, first_place, last_place};
-ghost use Rattle.inter_predict.specs.Inter.{predicted_at};
+ghost use Rattle.inter_predict.specs.InterSamples.{predicted_at};
 
 use crate::down::filter_down;
 use crate::filter::{Interpolation, filter_of};

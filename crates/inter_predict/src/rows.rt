@@ -3,7 +3,7 @@
 ghost use Rattle.std.specs.Prelude.{◌≡◌, ℕ, ◌+◌, ◌*◌, ◌<◌, ◌≤◌, IfSome, length, map, slice_index};
 ghost use Rattle.vp9_types.specs.Maps.{HoldsRows, IsAtMost};
 ghost use Rattle.inter_places.specs.Axes.{straight, IsPlace};
-ghost use Rattle.inter_predict.specs.Inter.{along};
+ghost use Rattle.inter_predict.specs.InterSamples.{along};
 ghost use Rattle.inter_predict.specs.Code.{AreRows, IsFilter, IsCopied, IsRun, strided};
 
 use crate::filter::{Interpolation, LineFilter, filter_of};

@@ -5,17 +5,17 @@ use Rattle.vp9_types.specs.declared.block.BlockSize.{BlockSize}
 use Rattle.vp9_types.specs.declared.block.TxMode.{TxMode}
 use Rattle.vp9_types.specs.declared.block.TxSize.{TxSize}
 use Rattle.vp9_types.specs.declared.block.TxSize.TheVariants.{T4x4, T8x8, T16x16, T32x32}
-use Rattle.vp9_tables.specs.Blocks.{greatest_of}
+use Rattle.vp9_tables.specs.BlockTables.{greatest_of}
 use Rattle.vp9_tables.specs.Numbers.{tx_number, tx_of}
 use Rattle.frame_headers.specs.declared.segments.MapUpdate.{MapUpdate}
 use Rattle.frame_headers.specs.declared.segments.Segmentation.{Segmentation}
-use Rattle.block_geometry.specs.Sizes.{greatest_allowed}
+use Rattle.block_geometry.specs.BlockSizes.{greatest_allowed}
 use Rattle.block_geometry.specs.declared.parts.Part.{Part}
-use Rattle.block_plan.specs.Segments.{least_id}
+use Rattle.block_plan.specs.SegmentMaps.{least_id}
 use Rattle.inter_modes.specs.declared.starts.SegmentOf.{SegmentOf}
 use Rattle.inter_modes.proofs.Least.{least_below}
-use Rattle.mode_writer.specs.Fits.{CanSegment, CanTx, says_tx}
-use Rattle.inter_writer.specs.Fits.{IsSegment, IsSegmentBy, CanTxIf}
+use Rattle.mode_writer.specs.ModeFits.{CanSegment, CanTx, says_tx}
+use Rattle.inter_writer.specs.InterFits.{IsSegment, IsSegmentBy, CanTxIf}
 
 id_below : (enabled : Bool) (map : Option MapUpdate) (least : ℕ) (s : SegmentOf) → least ≤ 7 → IsSegmentBy enabled map least s → s.id ≤ 7
 id_below true (Some update) least s low h = h.id

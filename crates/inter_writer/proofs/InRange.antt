@@ -7,7 +7,7 @@ use Rattle.frame_headers.specs.References.{is_in_range}
 use Rattle.frame_headers.specs.declared.header.FrameSize.{FrameSize}
 use Rattle.frame_headers.specs.declared.header.References as header
 use Rattle.block_plan.specs.declared.block.References.{References}
-use Rattle.inter_contexts.specs.References.{reference_in, second_in_range, in_range_or_rule}
+use Rattle.inter_contexts.specs.BlockReferences.{reference_in, second_in_range, in_range_or_rule}
 
 the_same : {A E : Type 0} (b : Bool) (x : A) (e : E) → IfOk (if b then Ok x else Err e) (λ y. y ≡ x)
 the_same true x e = refl

@@ -1,2 +1,2 @@
-pub mod Fits
-pub mod Said
+pub mod InterFits
+pub mod SaidBlocks

@@ -3,21 +3,21 @@
 ghost use Rattle.std.specs.Prelude.{◌≡◌, ◌-◌, ◌<◌, ◌≤◌, ℕ, Ok, IfOk, IfSome};
 ghost use Rattle.std.specs.List.{All};
 ghost use Rattle.std.specs.Option.{option_copied};
-ghost use Rattle.vp9_tables.specs.Blocks.{greatest_of};
+ghost use Rattle.vp9_tables.specs.BlockTables.{greatest_of};
 ghost use Rattle.vp9_tables.specs.Numbers.{tx_number};
-ghost use Rattle.prob_contexts.specs.Lists.{lists_of, vector_lists};
+ghost use Rattle.prob_contexts.specs.ProbLists.{lists_of, vector_lists};
 ghost use Rattle.block_plan.specs.declared.block.Prediction.TheVariants as predicted;
 ghost use Rattle.bool_encoder.specs.CountedBools.{PutsValue};
 ghost use Rattle.mv_prediction.specs.Candidates.{mode_context, sign_biases};
 ghost use Rattle.mv_prediction.specs.Code.{HasSmallVectors, IsSite, blocks_of};
-ghost use Rattle.block_plan.specs.Segments.{id_map};
+ghost use Rattle.block_plan.specs.SegmentMaps.{id_map};
 ghost use Rattle.inter_modes.specs.Code.{MaySearch, IsBlockAt, AreInRange, PredictsInRange, RefersInRange, frame_in, least_of};
 ghost use Rattle.inter_modes.specs.ModeInfo.{checked_references, inter_block, intra_block, inter_frame_block, inter_frame_mode_info, intra_frame_block, mode_info, block_with, sources_of, least_before};
-ghost use Rattle.inter_contexts.specs.References.{in_range_or_rule};
-ghost use Rattle.mode_writer.specs.Fits.{CanLuma, CanPutIntraFrame};
-ghost use Rattle.inter_writer.specs.Fits.{CanRefer, choice_of, IsSegment, CanStart, CanSayInterBlock, CanPredict, CanPutInterFrame, CanPutIntra, CanPut};
+ghost use Rattle.inter_contexts.specs.BlockReferences.{in_range_or_rule};
+ghost use Rattle.mode_writer.specs.ModeFits.{CanLuma, CanPutIntraFrame};
+ghost use Rattle.inter_writer.specs.InterFits.{CanRefer, choice_of, IsSegment, CanStart, CanSayInterBlock, CanPredict, CanPutInterFrame, CanPutIntra, CanPut};
 ghost use Rattle.vector_writer.specs.Code.{sources_of as sources_in};
-ghost use Rattle.inter_writer.specs.Said.{inter_block_said, block_said, IsSaidIntra, IsSaid};
+ghost use Rattle.inter_writer.specs.SaidBlocks.{inter_block_said, block_said, IsSaidIntra, IsSaid};
 
 use crate::intra_blocks::put_intra_prediction;
 use crate::references::{ReferenceChoice, put_references};
@@ -125,7 +125,7 @@ fn put_checked_references(
 }
 
 /// An inter block, by the blocks above it and at its left.
-#[tactic(auto, unfolding(inter_modes::specs::ModeInfo::inter_block, crate::specs::Said::inter_block_said), using(bool_encoder::proofs::CountedPuts::valued_in_order, bool_encoder::proofs::CountedPuts::valued_settle, vp9_types::proofs::Binds::writes_bind))]
+#[tactic(auto, unfolding(inter_modes::specs::ModeInfo::inter_block, crate::specs::SaidBlocks::inter_block_said), using(bool_encoder::proofs::CountedPuts::valued_in_order, bool_encoder::proofs::CountedPuts::valued_settle, vp9_types::proofs::Binds::writes_bind))]
 fn put_inter_block<N: Neighbours, Q: Neighbours>(
     encoder: &mut BoolEncoder,
     src: &Sources<'_, N, Q>,

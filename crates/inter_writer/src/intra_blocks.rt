@@ -3,7 +3,7 @@
 ghost use Rattle.std.specs.Prelude.{◌≡◌, ◌≤◌, ◌∷◌, [], IfOk, length};
 ghost use Rattle.bool_encoder.specs.CountedBools.{PutsValue};
 ghost use Rattle.inter_modes.specs.IntraBlocks.{intra_mode, uv_mode, one_mode, two_rows, two_columns, four_modes, luma_modes, intra_block_mode_info};
-ghost use Rattle.mode_writer.specs.Fits.{CanLuma};
+ghost use Rattle.mode_writer.specs.ModeFits.{CanLuma};
 
 use block_plan::IntraPrediction;
 use bool_encoder::{BoolEncoder, put_tree};

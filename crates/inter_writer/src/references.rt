@@ -4,10 +4,10 @@ ghost use Rattle.std.specs.Prelude.{◌≡◌, ◌≤◌, IfOk, Bool, if◌then�
 ghost use Rattle.vp9_types.specs.declared.block.ReferenceFrame.{ReferenceFrame};
 ghost use Rattle.vp9_types.specs.declared.block.ReferenceFrame.TheVariants.{Golden, Altref};
 ghost use Rattle.std.specs.Option.{option_copied};
-ghost use Rattle.prob_contexts.specs.Lists.{inter_lists};
+ghost use Rattle.prob_contexts.specs.ProbLists.{inter_lists};
 ghost use Rattle.bool_encoder.specs.CountedBools.{PutsValue};
-ghost use Rattle.inter_contexts.specs.References.{variable_by, with_fixed, single, is_compound, compound_references, golden_or_altref, single_reference, coded_references, ref_frames};
-ghost use Rattle.inter_writer.specs.Fits.{CanBeCompound, AreCompound, CanCodeReferences, CanRefer};
+ghost use Rattle.inter_contexts.specs.BlockReferences.{variable_by, with_fixed, single, is_compound, compound_references, golden_or_altref, single_reference, coded_references, ref_frames};
+ghost use Rattle.inter_writer.specs.InterFits.{CanBeCompound, AreCompound, CanCodeReferences, CanRefer};
 
 use block_plan::{BlockInfo, References};
 use bool_encoder::{BoolEncoder, put_flag};
@@ -28,7 +28,7 @@ pub struct ReferenceChoice {
     pub biases: SignBiases,
 }
 
-#[tactic(auto, unfolding(inter_contexts::specs::References::is_compound), using(bool_encoder::proofs::CountedPuts::valued_settle, bool_encoder::proofs::CountedPuts::valued_flag))]
+#[tactic(auto, unfolding(inter_contexts::specs::BlockReferences::is_compound), using(bool_encoder::proofs::CountedPuts::valued_settle, bool_encoder::proofs::CountedPuts::valued_flag))]
 fn put_is_compound(
     encoder: &mut BoolEncoder,
     mode: ReferenceMode,
@@ -67,7 +67,7 @@ fn is_second(fixed: ReferenceFrame, other: ReferenceFrame) -> bool
     }
 }
 
-#[tactic(auto, unfolding(inter_contexts::specs::References::compound_references), using(bool_encoder::proofs::CountedPuts::valued_in_order, bool_encoder::proofs::CountedPuts::valued_settle, bool_encoder::proofs::CountedPuts::valued_flag, vp9_types::proofs::Binds::writes_bind))]
+#[tactic(auto, unfolding(inter_contexts::specs::BlockReferences::compound_references), using(bool_encoder::proofs::CountedPuts::valued_in_order, bool_encoder::proofs::CountedPuts::valued_settle, bool_encoder::proofs::CountedPuts::valued_flag, vp9_types::proofs::Binds::writes_bind))]
 fn put_compound(
     encoder: &mut BoolEncoder,
     probs: &[u8; 5],
@@ -84,7 +84,7 @@ fn put_compound(
     put_flag(encoder, probs[context as usize], one)
 }
 
-#[tactic(auto, unfolding(inter_contexts::specs::References::golden_or_altref), using(bool_encoder::proofs::CountedPuts::valued_in_order, bool_encoder::proofs::CountedPuts::valued_settle, bool_encoder::proofs::CountedPuts::valued_flag, vp9_types::proofs::Binds::writes_bind))]
+#[tactic(auto, unfolding(inter_contexts::specs::BlockReferences::golden_or_altref), using(bool_encoder::proofs::CountedPuts::valued_in_order, bool_encoder::proofs::CountedPuts::valued_settle, bool_encoder::proofs::CountedPuts::valued_flag, vp9_types::proofs::Binds::writes_bind))]
 fn put_golden_or_altref(
     encoder: &mut BoolEncoder,
     probs: &[u8; 10],
@@ -97,7 +97,7 @@ fn put_golden_or_altref(
     put_flag(encoder, probs[2 * context as usize + 1], altref)
 }
 
-#[tactic(auto, unfolding(inter_contexts::specs::References::single_reference), using(bool_encoder::proofs::CountedPuts::valued_in_order, bool_encoder::proofs::CountedPuts::valued_settle, bool_encoder::proofs::CountedPuts::valued_flag, vp9_types::proofs::Binds::writes_bind))]
+#[tactic(auto, unfolding(inter_contexts::specs::BlockReferences::single_reference), using(bool_encoder::proofs::CountedPuts::valued_in_order, bool_encoder::proofs::CountedPuts::valued_settle, bool_encoder::proofs::CountedPuts::valued_flag, vp9_types::proofs::Binds::writes_bind))]
 fn put_single(
     encoder: &mut BoolEncoder,
     probs: &[u8; 10],
@@ -123,7 +123,7 @@ fn put_single(
     }
 }
 
-#[tactic(auto, unfolding(inter_contexts::specs::References::coded_references, inter_contexts::specs::Contexts::reference_context), using(bool_encoder::proofs::CountedPuts::valued_in_order, bool_encoder::proofs::CountedPuts::valued_settle, vp9_types::proofs::Binds::writes_bind))]
+#[tactic(auto, unfolding(inter_contexts::specs::BlockReferences::coded_references, inter_contexts::specs::Contexts::reference_context), using(bool_encoder::proofs::CountedPuts::valued_in_order, bool_encoder::proofs::CountedPuts::valued_settle, vp9_types::proofs::Binds::writes_bind))]
 fn put_coded(
     encoder: &mut BoolEncoder,
     choice: &ReferenceChoice,
@@ -154,7 +154,7 @@ fn put_coded(
 }
 
 /// Puts the references of an inter block, where its segment takes none.
-#[tactic(auto, unfolding(inter_contexts::specs::References::ref_frames), using(bool_encoder::proofs::CountedPuts::valued_settle))]
+#[tactic(auto, unfolding(inter_contexts::specs::BlockReferences::ref_frames), using(bool_encoder::proofs::CountedPuts::valued_settle))]
 pub(crate) fn put_references(
     encoder: &mut BoolEncoder,
     choice: &ReferenceChoice,

@@ -2,10 +2,10 @@
 
 ghost use Rattle.std.specs.Prelude.{◌≡◌, ◌≤◌, IfOk, ℕ, true, false};
 ghost use Rattle.bool_encoder.specs.CountedBools.{PutsValue};
-ghost use Rattle.inter_modes.specs.Starts.{segment_of, coded_segment, temporal_segment, updated_segment, segment_by, inter_segment_id, is_inter_by, read_is_inter, tx_size, block_start};
-ghost use Rattle.inter_writer.specs.Fits.{IsUpdated, IsSegment, CanBeInter, CanTxIf, CanStart};
+ghost use Rattle.inter_modes.specs.BlockStarts.{segment_of, coded_segment, temporal_segment, updated_segment, segment_by, inter_segment_id, is_inter_by, read_is_inter, tx_size, block_start};
+ghost use Rattle.inter_writer.specs.InterFits.{IsUpdated, IsSegment, CanBeInter, CanTxIf, CanStart};
 ghost use Rattle.std.specs.Option.{option_copied};
-ghost use Rattle.prob_contexts.specs.Lists.{lists_of};
+ghost use Rattle.prob_contexts.specs.ProbLists.{lists_of};
 
 use block_plan::BlockInfo;
 use bool_encoder::{BoolEncoder, put_flag, put_tree};
@@ -19,7 +19,7 @@ use std::alloc::AllocError;
 use vp9_tables::segment_tree;
 use vp9_types::{BlockSize, TxSize};
 
-#[tactic(auto, unfolding(inter_modes::specs::Starts::coded_segment), using(bool_encoder::proofs::CountedPuts::valued_in_order, bool_encoder::proofs::CountedPuts::valued_settle, bool_encoder::proofs::CountedPuts::valued_uncounted, vp9_types::proofs::Binds::writes_bind))]
+#[tactic(auto, unfolding(inter_modes::specs::BlockStarts::coded_segment), using(bool_encoder::proofs::CountedPuts::valued_in_order, bool_encoder::proofs::CountedPuts::valued_settle, bool_encoder::proofs::CountedPuts::valued_uncounted, vp9_types::proofs::Binds::writes_bind))]
 fn put_coded_segment(encoder: &mut BoolEncoder, tree: &[u8; 7], id: u8) -> Result<(), AllocError>
     requires { id ≤ 7 }
     ensures { IfOk result (λ _. PutsValue (coded_segment tree.now) encoder.old (segment_of false id) encoder.new) }
@@ -27,7 +27,7 @@ fn put_coded_segment(encoder: &mut BoolEncoder, tree: &[u8; 7], id: u8) -> Resul
     put_tree(encoder, segment_tree(), tree, id)
 }
 
-#[tactic(auto, unfolding(inter_modes::specs::Starts::temporal_segment), using(bool_encoder::proofs::CountedPuts::valued_in_order, bool_encoder::proofs::CountedPuts::valued_settle, bool_encoder::proofs::CountedPuts::valued_uncounted, vp9_types::proofs::Binds::writes_bind))]
+#[tactic(auto, unfolding(inter_modes::specs::BlockStarts::temporal_segment), using(bool_encoder::proofs::CountedPuts::valued_in_order, bool_encoder::proofs::CountedPuts::valued_settle, bool_encoder::proofs::CountedPuts::valued_uncounted, vp9_types::proofs::Binds::writes_bind))]
 fn put_temporal_segment(
     encoder: &mut BoolEncoder,
     update: &MapUpdate,
@@ -47,7 +47,7 @@ fn put_temporal_segment(
     put_coded_segment(encoder, &update.tree, segment.id)
 }
 
-#[tactic(auto, unfolding(inter_modes::specs::Starts::updated_segment))]
+#[tactic(auto, unfolding(inter_modes::specs::BlockStarts::updated_segment))]
 fn put_updated_segment(
     encoder: &mut BoolEncoder,
     update: &MapUpdate,
@@ -67,7 +67,7 @@ fn put_updated_segment(
 }
 
 /// Puts the segment of a block of an inter frame.
-#[tactic(auto, unfolding(inter_modes::specs::Starts::inter_segment_id, inter_modes::specs::Starts::segment_by), using(bool_encoder::proofs::CountedPuts::valued_settle))]
+#[tactic(auto, unfolding(inter_modes::specs::BlockStarts::inter_segment_id, inter_modes::specs::BlockStarts::segment_by), using(bool_encoder::proofs::CountedPuts::valued_settle))]
 fn put_inter_segment_id(
     encoder: &mut BoolEncoder,
     segmentation: &Segmentation,
@@ -89,7 +89,7 @@ fn put_inter_segment_id(
 }
 
 /// Puts whether a block is inter, where its segment takes no reference.
-#[tactic(auto, unfolding(inter_modes::specs::Starts::read_is_inter, inter_modes::specs::Starts::is_inter_by), using(bool_encoder::proofs::CountedPuts::valued_settle, bool_encoder::proofs::CountedPuts::valued_flag))]
+#[tactic(auto, unfolding(inter_modes::specs::BlockStarts::read_is_inter, inter_modes::specs::BlockStarts::is_inter_by), using(bool_encoder::proofs::CountedPuts::valued_settle, bool_encoder::proofs::CountedPuts::valued_flag))]
 fn put_is_inter(
     encoder: &mut BoolEncoder,
     segmentation: &Segmentation,
@@ -109,7 +109,7 @@ fn put_is_inter(
     }
 }
 
-#[tactic(auto, unfolding(inter_modes::specs::Starts::tx_size), using(bool_encoder::proofs::CountedPuts::valued_settle))]
+#[tactic(auto, unfolding(inter_modes::specs::BlockStarts::tx_size), using(bool_encoder::proofs::CountedPuts::valued_settle))]
 fn put_tx(
     encoder: &mut BoolEncoder,
     setting: &FrameSetting,
@@ -131,7 +131,7 @@ fn put_tx(
 
 /// Puts what a block of an inter frame says before its modes, by the blocks above it and at its left, whatever the least id is
 /// that the map before the frame has over it.
-#[tactic(auto, unfolding(inter_modes::specs::Starts::block_start), using(bool_encoder::proofs::CountedPuts::valued_in_order, bool_encoder::proofs::CountedPuts::valued_settle, vp9_types::proofs::Binds::writes_bind))]
+#[tactic(auto, unfolding(inter_modes::specs::BlockStarts::block_start), using(bool_encoder::proofs::CountedPuts::valued_in_order, bool_encoder::proofs::CountedPuts::valued_settle, vp9_types::proofs::Binds::writes_bind))]
 pub(crate) fn put_block_start(
     encoder: &mut BoolEncoder,
     setting: &FrameSetting,

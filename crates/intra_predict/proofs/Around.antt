@@ -7,7 +7,7 @@ use Rattle.std.proofs.lemmas.List.FromFn.{fill_by_all, length-map-range_with_len
 use Rattle.vp9_types.specs.Maps.{Map}
 use Rattle.vp9_types.specs.declared.shape.Depth.{Depth}
 use Rattle.intra_predict.specs.declared.place.Place.{Place}
-use Rattle.intra_predict.specs.Edges.{AgreeAround, IsInside, reads_right, above_column, above_sample, left_sample, corner_sample, edges_in}
+use Rattle.intra_predict.specs.BlockEdges.{AgreeAround, IsInside, reads_right, above_column, above_sample, left_sample, corner_sample, edges_in}
 use Rattle.intra_predict.proofs.EdgeLemmas.{same_edges}
 
 same_values : (f g : ℕ → ℕ) (n : ℕ) → ((k : ℕ) → k < n → f k ≡ g k) → map f (range_with_len 0 n) ≡ map g (range_with_len 0 n)

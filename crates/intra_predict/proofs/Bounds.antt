@@ -13,10 +13,10 @@ use Rattle.vp9_types.specs.declared.shape.Depth.TheVariants.{Eight, Ten, Twelve}
 use Rattle.vp9_types.specs.declared.block.IntraMode.{IntraMode}
 use Rattle.vp9_types.specs.declared.block.IntraMode.TheVariants.{Dc, V, H, D45, D135, D117, D153, D207, D63, Tm}
 use Rattle.intra_predict.specs.declared.place.Place.{Place}
-use Rattle.intra_predict.specs.Sizes.{middle}
+use Rattle.intra_predict.specs.SampleSizes.{middle}
 use Rattle.vp9_types.specs.Sizes.{greatest}
-use Rattle.intra_predict.specs.Edges.{EdgeSamples, IsUpTo, has_above, has_left, edges_in}
-use Rattle.intra_predict.specs.Modes.{mean3, mean2_at, mean3_at, mean, rounded_mean, d117, d135, d153, d207, predicted}
+use Rattle.intra_predict.specs.BlockEdges.{EdgeSamples, IsUpTo, has_above, has_left, edges_in}
+use Rattle.intra_predict.specs.PredictedModes.{mean3, mean2_at, mean3_at, mean, rounded_mean, d117, d135, d153, d207, predicted}
 
 abbrev AllUpTo : ℕ → List ℕ → Type 0
 AllUpTo most xs = (k : ℕ) → get_or xs k 0 ≤ most

@@ -7,7 +7,7 @@ use Rattle.std.proofs.lemmas.List.FromFn.{fill_by_all}
 use Rattle.vp9_types.specs.Maps.{Map}
 use Rattle.vp9_types.specs.declared.shape.Depth.{Depth}
 use Rattle.intra_predict.specs.declared.place.Place.{Place}
-use Rattle.intra_predict.specs.Edges.{EdgeSamples, has_above, has_left, above_sample, left_sample, corner_sample, edges_in}
+use Rattle.intra_predict.specs.BlockEdges.{EdgeSamples, has_above, has_left, above_sample, left_sample, corner_sample, edges_in}
 
 pub corner_read : (p : Place) (depth : Depth) (m : Map) → 0 < p.row → p.tile_from < p.column
     → m (p.row - 1) (p.column - 1) ≡ corner_sample depth p m

@@ -1,6 +1,6 @@
 -- Means along an edge that has the left samples from below upwards, the corner, and the samples above.
 use Rattle.std.proofs.Common.{◌≡◌, ◌≤◌, ◌+◌, ◌*◌, ◌/◌, ◌-◌, ℕ, refl, ◌∙◌, arith, List, get_or, ap}
-use Rattle.intra_predict.specs.Modes.{mean2, mean3, mean2_at, mean3_at, corner_mean}
+use Rattle.intra_predict.specs.PredictedModes.{mean2, mean3, mean2_at, mean3_at, corner_mean}
 
 pub record Joined (size : ℕ) (edge up down : List ℕ) : Type 0 where
   pub downs : (k : ℕ) → k ≤ size → get_or edge (size - k) 0 ≡ get_or down k 0

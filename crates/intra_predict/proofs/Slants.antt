@@ -3,7 +3,7 @@ use Rattle.std.proofs.Common.{◌≡◌, ◌≢◌, ◌<◌, ◌≤◌, ◌+◌,
 use Rattle.std.specs.Prelude.{nat_eq, if◌then◌else◌}
 use Rattle.std.proofs.lemmas.Bool.{cases_lt, cases_eq, lt-ltb, le-ltb}
 use Rattle.std.proofs.lemmas.Bool.Decides.{nat_tests}
-use Rattle.intra_predict.specs.Modes.{mean2, mean3, mean2_at, mean3_at, d45, d63, d117, d135, d153, d207}
+use Rattle.intra_predict.specs.PredictedModes.{mean2, mean3, mean2_at, mean3_at, d45, d63, d117, d135, d153, d207}
 use Rattle.intra_predict.proofs.Joins.{Joined, corner_is, up_is, down_is, up_is_2, down_is_2}
 
 pub d45_line : (size : ℕ) (above line : List ℕ) → 4 ≤ size → 2 * size ≤ length line

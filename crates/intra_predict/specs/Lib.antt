@@ -1,6 +1,6 @@
-pub mod Sizes
-pub mod Edges
+pub mod SampleSizes
+pub mod BlockEdges
 pub mod Places
-pub mod Modes
+pub mod PredictedModes
 pub mod Residue
 pub mod Steps

@@ -5,8 +5,8 @@ use Rattle.vp9_types.specs.Maps.{Map, with_block}
 use Rattle.vp9_types.specs.declared.shape.Depth.{Depth}
 use Rattle.intra_predict.specs.declared.block.IntraBlock.{IntraBlock}
 use Rattle.vp9_types.specs.Sizes.{side, greatest}
-use Rattle.intra_predict.specs.Edges.{edges_in}
-use Rattle.intra_predict.specs.Modes.{predicted}
+use Rattle.intra_predict.specs.BlockEdges.{edges_in}
+use Rattle.intra_predict.specs.PredictedModes.{predicted}
 use Rattle.intra_predict.specs.Residue.{with_residue}
 
 -- only the part inside the plane is

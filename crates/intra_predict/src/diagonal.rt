@@ -2,7 +2,7 @@
 
 ghost use Rattle.std.specs.Prelude.{◌≡◌, ℕ, ◌*◌, ◌/◌, ◌≤◌, ◌∷◌, length, slice_index};
 ghost use Rattle.vp9_types.specs.Maps.{Holds};
-ghost use Rattle.intra_predict.specs.Modes.{d45, d63, d117, d135, d153, d207};
+ghost use Rattle.intra_predict.specs.PredictedModes.{d45, d63, d117, d135, d153, d207};
 
 use crate::lines::{average, extend_lanes, interleave, join, smooth, smooth_every_other};
 use crate::rows::{pairs_backward, pairs_forward, rows_backward, rows_forward};

@@ -2,7 +2,7 @@
 
 ghost use Rattle.std.specs.Prelude.{◌≡◌, ℕ, ◌+◌, ◌-◌, ◌*◌, ◌<◌, ◌≤◌, length, min, sum, slice_index};
 ghost use Rattle.vp9_types.specs.Maps.{Holds};
-ghost use Rattle.intra_predict.specs.Modes.{vertical, horizontal, true_motion, rounded_mean};
+ghost use Rattle.intra_predict.specs.PredictedModes.{vertical, horizontal, true_motion, rounded_mean};
 
 use crate::lines::{copy_lanes, fill_from};
 use crate::rows::rows_forward;

@@ -6,8 +6,8 @@ ghost use Rattle.vp9_types.specs.declared.block.IntraMode.{IntraMode};
 ghost use Rattle.vp9_types.specs.declared.shape.Depth.{Depth};
 ghost use Rattle.intra_predict.specs.declared.place.Place.{Place};
 ghost use Rattle.vp9_types.specs.Sizes.{greatest};
-ghost use Rattle.intra_predict.specs.Edges.{EdgeSamples, AgreeAround, IsInside, IsUpTo, edges_in};
-ghost use Rattle.intra_predict.specs.Modes.{predicted};
+ghost use Rattle.intra_predict.specs.BlockEdges.{EdgeSamples, AgreeAround, IsInside, IsUpTo, edges_in};
+ghost use Rattle.intra_predict.specs.PredictedModes.{predicted};
 
 /// The edges of a block depend only on the samples around it: those of its tile in the row above, no further than the
 /// block, or than the one right of it where its coded block goes on there; and those of its rows in the column left of it.

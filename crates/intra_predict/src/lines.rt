@@ -1,7 +1,7 @@
 //! Lines of samples: fronts that are extended, edges that are joined, and means of samples in a row.
 
 ghost use Rattle.std.specs.Prelude.{◌≡◌, ℕ, ◌+◌, ◌-◌, ◌*◌, ◌/◌, ◌%◌, ◌<◌, ◌≤◌, ◌∷◌, length, min, slice_index, nat_eq, if◌then◌else◌};
-ghost use Rattle.intra_predict.specs.Modes.{mean2, mean3, mean2_at, mean3_at};
+ghost use Rattle.intra_predict.specs.PredictedModes.{mean2, mean3, mean2_at, mean3_at};
 
 use std::simd::Simd;
 

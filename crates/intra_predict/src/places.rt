@@ -1,5 +1,5 @@
 ghost use Rattle.std.specs.Prelude.{◌≡◌, ◌+◌, ◌*◌, ◌≤◌};
-ghost use Rattle.intra_predict.specs.Edges.{has_above, has_left, reads_right};
+ghost use Rattle.intra_predict.specs.BlockEdges.{has_above, has_left, reads_right};
 ghost use Rattle.intra_predict.specs.Places.{place_in, is_above_there, is_left_there, is_right_inside};
 ghost use Rattle.vp9_types.specs.Shapes.{halved};
 

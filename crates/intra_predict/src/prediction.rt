@@ -1,8 +1,8 @@
 ghost use Rattle.std.specs.Prelude.{◌≡◌, ℕ, ◌+◌, ◌*◌, ◌/◌, ◌<◌, ◌≤◌, length, slice_index};
 ghost use Rattle.vp9_types.specs.Maps.{Holds};
 ghost use Rattle.vp9_types.specs.Sizes.{side, greatest};
-ghost use Rattle.intra_predict.specs.Edges.{samples_of, IsUpTo};
-ghost use Rattle.intra_predict.specs.Modes.{mean, predicted};
+ghost use Rattle.intra_predict.specs.BlockEdges.{samples_of, IsUpTo};
+ghost use Rattle.intra_predict.specs.PredictedModes.{mean, predicted};
 
 use crate::diagonal::{
     predict_d45, predict_d63, predict_d117, predict_d135, predict_d153, predict_d207,
@@ -29,7 +29,7 @@ pub fn predict(mode: IntraMode, edges: &Edges, size: TxSize, depth: Depth, block
 }
 
 #[inline(always)]
-#[tactic(auto, unfolding(crate::specs::Modes::predicted))]
+#[tactic(auto, unfolding(crate::specs::PredictedModes::predicted))]
 pub(crate) fn predict_sized<const N: usize>(
     mode: IntraMode,
     edges: &Edges,

@@ -4,7 +4,7 @@ ghost use Rattle.std.specs.Prelude.{◌≡◌, ℕ, ◌+◌, ◌*◌, ◌<◌, �
 ghost use Rattle.vp9_types.specs.Maps.{IsAtMost};
 ghost use Rattle.vp9_types.specs.Sizes.{side, greatest};
 ghost use Rattle.planes.specs.Planes.{lower_end, right_end, plane_map};
-ghost use Rattle.intra_predict.specs.Edges.{LiesIn, samples_of, edges_in, above_sample, left_sample, corner_sample, reads_right, IsUpTo};
+ghost use Rattle.intra_predict.specs.BlockEdges.{LiesIn, samples_of, edges_in, above_sample, left_sample, corner_sample, reads_right, IsUpTo};
 
 use crate::edges::Edges;
 use crate::kept::{extend, extend_samples, widen_twice};

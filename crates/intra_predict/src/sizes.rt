@@ -1,5 +1,5 @@
 ghost use Rattle.std.specs.Prelude.{◌≡◌, ◌≤◌};
-ghost use Rattle.intra_predict.specs.Sizes.{middle};
+ghost use Rattle.intra_predict.specs.SampleSizes.{middle};
 ghost use Rattle.vp9_types.specs.Sizes.{side};
 
 use vp9_types::{Depth, TxSize};

@@ -5,8 +5,8 @@ ghost use Rattle.std.specs.Option.{ForSome, option_copied};
 ghost use Rattle.vp9_types.specs.Maps.{IsAtMost, Holds};
 ghost use Rattle.vp9_types.specs.Sizes.{side, greatest};
 ghost use Rattle.planes.specs.Planes.{lower_end, right_end, plane_map};
-ghost use Rattle.intra_predict.specs.Edges.{LiesIn, samples_of, IsUpTo};
-ghost use Rattle.intra_predict.specs.Modes.{predicted};
+ghost use Rattle.intra_predict.specs.BlockEdges.{LiesIn, samples_of, IsUpTo};
+ghost use Rattle.intra_predict.specs.PredictedModes.{predicted};
 ghost use Rattle.intra_predict.specs.Residue.{IsResidue};
 ghost use Rattle.intra_predict.specs.Steps.{with_predicted, with_rebuilt, with_square, with_any_residue, prediction};
 

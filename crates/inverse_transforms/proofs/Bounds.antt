@@ -11,7 +11,7 @@ use Rattle.std.proofs.Math.Pow.{shr_mono}
 use borrow.Author.Tests.{ltb-true}
 use Rattle.vp9_tables.specs.declared.flow_row.FlowRow.{FlowRow}
 use Rattle.vp9_tables.specs.declared.flow_row.FlowRow.TheVariants.{Perm, Rot, Sum, Neg, Wide}
-use Rattle.vp9_tables.specs.Transforms.{cosine_of}
+use Rattle.vp9_tables.specs.TransformTables.{cosine_of}
 use Rattle.std.proofs.lemmas.List.FromFn.{length-range_with_len}
 use Rattle.inverse_transforms.proofs.SameFlows.{range_at}
 use Rattle.inverse_transforms.specs.declared.values.Two.{Two}

@@ -5,7 +5,7 @@ use Rattle.vp9_types.specs.declared.rule.Rule.{Rule}
 use Rattle.vp9_types.specs.declared.shape.Depth.{Depth}
 use Rattle.vp9_types.specs.declared.shape.Depth.TheVariants.{Eight, Ten, Twelve}
 use Rattle.inverse_transforms.specs.Flow.{at, magnitude, IsCalm}
-use Rattle.inverse_transforms.specs.Columns.{column, GivesColumns, FitsAll}
+use Rattle.inverse_transforms.specs.LaneColumns.{column, GivesColumns, FitsAll}
 use Rattle.inverse_transforms.specs.Ranges.{IsSmall, limit_of}
 use Rattle.std.proofs.lemmas.List.Elements.{All-map}
 use Rattle.inverse_transforms.proofs.Small.{at_small}

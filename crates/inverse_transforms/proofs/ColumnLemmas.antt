@@ -9,7 +9,7 @@ use Rattle.inverse_transforms.specs.declared.values.Two.{Two}
 use Rattle.inverse_transforms.specs.declared.values.Four.{Four}
 use Rattle.inverse_transforms.specs.Flow.{at, two_fit, four_fit, rotated_wide, store_one, store_two, store_four, permuted}
 use Rattle.inverse_transforms.specs.Ranges.{fits, IsSmall}
-use Rattle.inverse_transforms.specs.Columns.{column, gathered, GivesColumns, FitsAll, TwoLanes, FourLanes, AllHold}
+use Rattle.inverse_transforms.specs.LaneColumns.{column, gathered, GivesColumns, FitsAll, TwoLanes, FourLanes, AllHold}
 use Rattle.inverse_transforms.proofs.Small.{two_small, two_fits, four_small, fits_small}
 
 pub column_set : (j : ℕ) (t : List (List ℤ)) (a : ℕ) (u : List ℤ) → column j (set t a u) ≡ set (column j t) a (at u j)

@@ -4,7 +4,7 @@ use Rattle.vp9_types.specs.declared.rule.Rule.{Rule}
 use Rattle.vp9_types.specs.declared.rule.Rule.TheVariants.{TransformRange}
 use Rattle.vp9_tables.specs.declared.flow_row.FlowRow.{FlowRow}
 use Rattle.vp9_tables.specs.declared.flow_row.FlowRow.TheVariants.{Perm, Rot, Sum, Neg, Wide}
-use Rattle.vp9_tables.specs.Transforms.{dct_of}
+use Rattle.vp9_tables.specs.TransformTables.{dct_of}
 use Rattle.inverse_transforms.specs.Flow.{at, rotated, added, rotated_wide, two_fit, four_fit, step, run, and_then}
 use Rattle.inverse_transforms.specs.Transforms.{dct, adst, adst_rows, adst_quad, adst_of_4, wht, size_of}
 

@@ -9,7 +9,7 @@ use Rattle.inverse_transforms.specs.declared.values.Two.{Two}
 use Rattle.inverse_transforms.specs.declared.values.Four.{Four}
 use Rattle.inverse_transforms.specs.Flow.{at, two_fit, four_fit}
 use Rattle.inverse_transforms.specs.Ranges.{IsSmall, fits}
-use Rattle.inverse_transforms.specs.Columns.{TwoLanes, FourLanes, AllHold}
+use Rattle.inverse_transforms.specs.LaneColumns.{TwoLanes, FourLanes, AllHold}
 
 -- a list that has g in each of the first n places, with g n put in at n
 pub place_more : (g : ℕ → ℤ) (u : List ℤ) (n : ℕ) (p : ℤ) → n < length u → p ≡ g n →

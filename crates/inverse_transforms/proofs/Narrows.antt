@@ -9,7 +9,7 @@ use Rattle.std.proofs.lemmas.Int.{to_z-of_z, unsigned_abs-mul, fits_signed_mul}
 use Rattle.std.proofs.lemmas.List.Elements.{All-map}
 use mir.Syntax.{w32}
 use Rattle.inverse_transforms.specs.Flow.{at}
-use Rattle.inverse_transforms.specs.Columns.{column}
+use Rattle.inverse_transforms.specs.LaneColumns.{column}
 use Rattle.inverse_transforms.specs.Ranges.{IsSmall, IsNarrow}
 use Rattle.inverse_transforms.proofs.Small.{at_small}
 use Rattle.inverse_transforms.proofs.LaneLemmas.{kept}

@@ -12,7 +12,7 @@ use Rattle.inverse_transforms.specs.declared.values.Two.{Two}
 use Rattle.inverse_transforms.specs.declared.values.Four.{Four}
 use Rattle.inverse_transforms.specs.Flow.{at, two_fit, four_fit, permuted, store_one, store_two, store_four, step, rotated, added, rotated_wide, run, and_then}
 use Rattle.inverse_transforms.specs.Transforms.{dct, adst, adst_rows, adst_of_4, adst_quad, wht, wht_quad, size_of}
-use Rattle.vp9_tables.specs.Transforms.{dct_of}
+use Rattle.vp9_tables.specs.TransformTables.{dct_of}
 use Rattle.inverse_transforms.specs.Ranges.{fits}
 
 abbrev pub AtMost : ℕ → ℤ → Type 0

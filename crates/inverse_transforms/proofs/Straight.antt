@@ -10,7 +10,7 @@ use Rattle.vp9_tables.specs.declared.data.flows.TheConstants.{FLOW_DCT_4}
 use Rattle.inverse_transforms.specs.declared.values.Two.{Two}
 use Rattle.inverse_transforms.specs.declared.values.Four.{Four}
 use Rattle.inverse_transforms.specs.Flow.{at, magnitude, step, run, and_then, permuted, two_fit, four_fit, rotated, added, rotated_wide, IsCalm}
-use Rattle.inverse_transforms.specs.Columns.{column, FourLanes}
+use Rattle.inverse_transforms.specs.LaneColumns.{column, FourLanes}
 use Rattle.inverse_transforms.specs.Ranges.{IsSmall, fits}
 use Rattle.inverse_transforms.specs.Transforms.{dct}
 use Rattle.inverse_transforms.specs.Straight.{dct_quad}

@@ -8,7 +8,7 @@ use borrow.Author.Tests.{leb-true}
 use Rattle.std.proofs.lemmas.Simd.{splat_is_map}
 use Rattle.vp9_tables.specs.declared.flow_row.FlowRow.{FlowRow}
 use Rattle.vp9_tables.specs.declared.flow_row.FlowRow.TheVariants.{Perm, Rot, Sum, Neg, Wide}
-use Rattle.vp9_tables.specs.Transforms.{cosine_of, dct_of, is_order}
+use Rattle.vp9_tables.specs.TransformTables.{cosine_of, dct_of, is_order}
 use Rattle.inverse_transforms.specs.declared.values.Two.{Two}
 use Rattle.inverse_transforms.specs.declared.values.Four.{Four}
 use Rattle.inverse_transforms.specs.Angles.{sine_of}

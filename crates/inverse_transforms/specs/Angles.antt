@@ -1,6 +1,6 @@
 -- Angles.
 use Rattle.std.specs.Prelude.{ℕ, ◌+◌, ◌%◌, ℤ}
-use Rattle.vp9_tables.specs.Transforms.{cosine_of}
+use Rattle.vp9_tables.specs.TransformTables.{cosine_of}
 
 -- sin64
 abbrev pub sine_of : ℕ → ℤ

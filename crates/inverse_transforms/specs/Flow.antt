@@ -6,7 +6,7 @@ use Rattle.vp9_types.specs.declared.rule.Rule.{Rule}
 use Rattle.vp9_types.specs.declared.rule.Rule.TheVariants.{TransformRange}
 use Rattle.vp9_tables.specs.declared.flow_row.FlowRow.{FlowRow}
 use Rattle.vp9_tables.specs.declared.flow_row.FlowRow.TheVariants.{Perm, Rot, Sum, Neg, Wide}
-use Rattle.vp9_tables.specs.Transforms.{cosine_of, is_step}
+use Rattle.vp9_tables.specs.TransformTables.{cosine_of, is_step}
 use Rattle.inverse_transforms.specs.declared.values.Two.{Two}
 use Rattle.inverse_transforms.specs.declared.values.Four.{Four}
 use Rattle.inverse_transforms.specs.Angles.{sine_of}

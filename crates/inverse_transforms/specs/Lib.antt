@@ -2,5 +2,5 @@ pub mod Angles
 pub mod Ranges
 pub mod Flow
 pub mod Transforms
-pub mod Columns
+pub mod LaneColumns
 pub mod Straight

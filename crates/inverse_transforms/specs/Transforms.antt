@@ -7,7 +7,7 @@ use Rattle.vp9_types.specs.declared.block.TxSize.TheVariants.{T4x4, T8x8, T16x16
 use Rattle.vp9_tables.specs.declared.flow_row.FlowRow.{FlowRow}
 use Rattle.vp9_tables.specs.declared.data.cosines.TheConstants.{SINPI}
 use Rattle.vp9_tables.specs.declared.data.flows.TheConstants.{FLOW_ADST_8, FLOW_ADST_16}
-use Rattle.vp9_tables.specs.Transforms.{dct_of}
+use Rattle.vp9_tables.specs.TransformTables.{dct_of}
 use Rattle.inverse_transforms.specs.declared.values.Four.{Four}
 use Rattle.inverse_transforms.specs.Ranges.{fits, round14}
 use Rattle.inverse_transforms.specs.Flow.{at, wide, store_four, run}

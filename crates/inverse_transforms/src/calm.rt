@@ -4,7 +4,7 @@ ghost use Rattle.std.specs.Prelude.{◌≡◌, ℕ, ◌^◌, ◌≤◌, ◌<◌,
 ghost use Rattle.std.specs.List.{list_all};
 ghost use Rattle.inverse_transforms.specs.Flow.{at, step, run, store_two, rotated, added, is_within, magnitude};
 ghost use Rattle.inverse_transforms.specs.Transforms.{dct};
-ghost use Rattle.inverse_transforms.specs.Columns.{GivesColumns, FitsAll, column};
+ghost use Rattle.inverse_transforms.specs.LaneColumns.{GivesColumns, FitsAll, column};
 ghost use Rattle.inverse_transforms.specs.Ranges.{IsSmall, IsNarrow};
 
 use crate::lane_steps;

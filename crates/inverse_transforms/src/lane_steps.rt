@@ -5,7 +5,7 @@ ghost use Rattle.std.specs.List.{list_all};
 ghost use Rattle.std.specs.Bool.{OnTrue};
 ghost use Rattle.inverse_transforms.specs.Flow.{at, step, run, store_one, store_two, store_four, permuted, rotated, added, rotated_wide, is_within};
 ghost use Rattle.inverse_transforms.specs.Transforms.{adst_of_4, wht};
-ghost use Rattle.inverse_transforms.specs.Columns.{GivesColumns, gathered};
+ghost use Rattle.inverse_transforms.specs.LaneColumns.{GivesColumns, gathered};
 ghost use Rattle.inverse_transforms.specs.Ranges.{IsSmall};
 
 use crate::lanes::{

@@ -3,7 +3,7 @@
 ghost use Rattle.std.specs.Prelude.{◌≡◌, ℕ, ◌^◌, ◌≤◌, ◌<◌, All, neg_ℤ};
 ghost use Rattle.inverse_transforms.specs.Flow.{at, rotated, added, rotated_wide, two_fit, four_fit};
 ghost use Rattle.inverse_transforms.specs.Transforms.{adst_quad, wht_quad};
-ghost use Rattle.inverse_transforms.specs.Columns.{TwoLanes, FourLanes, AllHold};
+ghost use Rattle.inverse_transforms.specs.LaneColumns.{TwoLanes, FourLanes, AllHold};
 ghost use Rattle.inverse_transforms.specs.Ranges.{IsSmall, fits};
 
 use crate::kernels::{added, four_fit, negated, rotated, rotated_wide, two_fit};

@@ -2,7 +2,7 @@
 
 ghost use Rattle.std.specs.Prelude.{◌≡◌, ℕ, ◌+◌, ◌^◌, ◌≤◌, ◌<◌, length, slice_index_or, unsigned_abs, All};
 ghost use Rattle.inverse_transforms.specs.Flow.{at, magnitude};
-ghost use Rattle.inverse_transforms.specs.Columns.{column};
+ghost use Rattle.inverse_transforms.specs.LaneColumns.{column};
 ghost use Rattle.inverse_transforms.specs.Ranges.{IsSmall};
 
 use crate::lanes::Lanes;

@@ -4,7 +4,7 @@ ghost use Rattle.std.specs.Prelude.{◌≡◌, ℕ, ◌^◌, ◌≤◌, ◌<◌,
 ghost use Rattle.std.specs.List.{list_all};
 ghost use Rattle.std.specs.Bool.{OnTrue};
 ghost use Rattle.inverse_transforms.specs.Flow.{at, step, run, store_two, rotated, turned_x, turned_y, is_within};
-ghost use Rattle.inverse_transforms.specs.Columns.{GivesColumns, TwoLanes, FourLanes, AllHold, column};
+ghost use Rattle.inverse_transforms.specs.LaneColumns.{GivesColumns, TwoLanes, FourLanes, AllHold, column};
 ghost use Rattle.inverse_transforms.specs.Flow.{two_fit, four_fit};
 ghost use Rattle.inverse_transforms.specs.Straight.{dct_quad};
 ghost use Rattle.inverse_transforms.specs.Ranges.{IsSmall, IsNarrow};

@@ -2,10 +2,10 @@
 
 ghost use Rattle.std.specs.Prelude.{◌≡◌, ◌+◌, ◌^◌, ◌≤◌, length, All, IsTrue};
 ghost use Rattle.std.specs.List.{list_all};
-ghost use Rattle.vp9_tables.specs.Transforms.{dct_of};
+ghost use Rattle.vp9_tables.specs.TransformTables.{dct_of};
 ghost use Rattle.inverse_transforms.specs.Flow.{Gives, IsCalm, run, is_within};
 ghost use Rattle.inverse_transforms.specs.Transforms.{size_of, dct, adst, adst_rows, wht};
-ghost use Rattle.inverse_transforms.specs.Columns.{GivesColumns};
+ghost use Rattle.inverse_transforms.specs.LaneColumns.{GivesColumns};
 ghost use Rattle.inverse_transforms.specs.Ranges.{IsSmall, limit_of};
 
 use crate::lanes::Lanes;

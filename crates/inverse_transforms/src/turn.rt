@@ -1,7 +1,7 @@
 //! Angles.
 
 ghost use Rattle.std.specs.Prelude.{◌≡◌, ◌≤◌, ◌<◌, unsigned_abs};
-ghost use Rattle.vp9_tables.specs.Transforms.{cosine_of};
+ghost use Rattle.vp9_tables.specs.TransformTables.{cosine_of};
 ghost use Rattle.inverse_transforms.specs.Angles.{sine_of};
 
 use vp9_tables::cosine;

@@ -8,7 +8,7 @@ use Rattle.vp9_types.specs.declared.job.JobName.{JobName}
 use Rattle.job_order.specs.declared.segment.Segment.{Segment}
 use Rattle.job_order.specs.declared.segment.Segment.TheVariants.{Last}
 use Rattle.job_order.specs.declared.order.Mark.{Mark}
-use Rattle.job_order.specs.Segments.{jobs_of, jobs_in, job_at, InOrder, IsListed}
+use Rattle.job_order.specs.JobSegments.{jobs_of, jobs_in, job_at, InOrder, IsListed}
 use Rattle.job_order.specs.Code.{IsMark}
 use Rattle.job_order.specs.Worlds.{Rules}
 use Rattle.job_order.specs.Truths.{Truth}

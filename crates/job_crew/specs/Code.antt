@@ -8,7 +8,7 @@ use Rattle.job_order.specs.declared.segment.Segment.{Segment}
 use Rattle.job_order.specs.declared.segment.Segment.TheVariants.{Build, Last}
 use Rattle.job_order.specs.declared.segment.Shown.{Shown}
 use Rattle.job_order.specs.declared.order.Mark.{Mark}
-use Rattle.job_order.specs.Segments.{jobs_of, jobs_in, job_at, InOrder, IsListed, StandsAt}
+use Rattle.job_order.specs.JobSegments.{jobs_of, jobs_in, job_at, InOrder, IsListed, StandsAt}
 use Rattle.job_order.specs.Worlds.{Rules}
 use Rattle.job_order.specs.Truths.{Truth}
 use Rattle.job_order.specs.Code.{IsMark}

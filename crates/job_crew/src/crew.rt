@@ -1,6 +1,6 @@
 ghost use Rattle.std.specs.Prelude.{◌≡◌, ℕ, ◌<◌, ◌≤◌, ◌++◌, ◌∷◌, [], true, false, length, All, None, IfSome, IfNone, IfOk, IfErr};
 ghost use Rattle.vp9_types.specs.declared.job.JobName.TheVariants.{Head, Close, Write, End};
-ghost use Rattle.job_order.specs.Segments.{InOrder, IsListed};
+ghost use Rattle.job_order.specs.JobSegments.{InOrder, IsListed};
 ghost use Rattle.job_crew.specs.declared.outlet.Content.TheVariants.{Open};
 ghost use Rattle.job_order.specs.Sound.{texts_below};
 ghost use Rattle.job_crew.specs.Runs.{IsDue, IsEnded};

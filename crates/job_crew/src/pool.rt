@@ -1,5 +1,5 @@
 ghost use Rattle.std.specs.Prelude.{◌≡◌, ◌+◌, ◌<◌, ◌≤◌, ℕ, [], ◌∷◌, true, false, length, Some, IfSome, IfNone, IfOk, slice_get};
-ghost use Rattle.job_order.specs.Segments.{InOrder, IsListed, StandsAt, jobs_in};
+ghost use Rattle.job_order.specs.JobSegments.{InOrder, IsListed, StandsAt, jobs_in};
 ghost use Rattle.job_order.specs.declared.segment.Segment.TheVariants.{Opening, Build, Last};
 ghost use Rattle.job_order.specs.declared.segment.Shown.{Shown};
 ghost use Rattle.job_crew.specs.Runs.{IsDue};

@@ -11,11 +11,11 @@ use Rattle.job_crew.specs.Runs.{IsDue}
 use Rattle.seq_decoder.specs.Outcomes.{Decodes}
 use Rattle.seq_decoder.specs.Outputs.{form_from}
 use Rattle.numbered_frames.specs.Films.{Film, GoesOn}
-use Rattle.numbered_frames.specs.Numbers.{film_output}
+use Rattle.numbered_frames.specs.FrameNumbers.{film_output}
 use Rattle.job_results.specs.Meaning.{decode_rules, decode_truth}
 use Rattle.job_decoder.specs.declared.past.Past.{Past}
 use Rattle.job_decoder.specs.Code.{HasRun}
-use Rattle.job_decoder.specs.Outputs.{is_done}
+use Rattle.job_decoder.specs.SinkOutputs.{is_done}
 use Rattle.job_decoder.specs.Pasts.{IsKept, IsPast, film_with, frames_behind, numbers_of}
 use Rattle.job_decoder.specs.Reaches.{IsStop, past_texts}
 use Rattle.job_decoder.proofs.PastFrames.{all_kept_on, due_on, goes_on}

@@ -12,7 +12,7 @@ use Rattle.seq_decoder.specs.Outcomes.{Decodes}
 use Rattle.seq_decoder.specs.Outputs.{output_of}
 use Rattle.vp9_types.specs.declared.rule.Rule.{Rule}
 use Rattle.file_frames.specs.Walks.{Walked}
-use Rattle.numbered_frames.specs.Numbers.{film_output, text}
+use Rattle.numbered_frames.specs.FrameNumbers.{film_output, text}
 use Rattle.numbered_frames.proofs.Ways.{files_are_films}
 use Rattle.vp9_types.specs.declared.job.JobName.TheVariants.{End, Write}
 use Rattle.job_results.proofs.Decoding.{decodes}
@@ -22,9 +22,9 @@ use Rattle.job_results.specs.Endings.{HasRefused, IsOutcome}
 use Rattle.job_results.specs.Meaning.{decode_rules, decode_truth, fails}
 use Rattle.job_results.specs.declared.result.JobResult.{JobResult}
 use Rattle.job_results.specs.declared.result.JobResult.TheVariants as result
-use Rattle.job_results.specs.Results.{IsEndResult, IsRight}
+use Rattle.job_results.specs.JobResults.{IsEndResult, IsRight}
 use Rattle.job_decoder.proofs.Groups.{same_texts}
-use Rattle.job_decoder.specs.Outputs.{HasRefusedSo, IsQuiet, TellsOutcome}
+use Rattle.job_decoder.specs.SinkOutputs.{HasRefusedSo, IsQuiet, TellsOutcome}
 use Rattle.numbered_frames.specs.Films.{Film, film_of}
 
 pub end_tells : (format : Format) (film : Film) (f : ℕ) (x : JobResult) → IsEndResult format film f x → TellsOutcome (Whole f x)

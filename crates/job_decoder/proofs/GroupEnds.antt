@@ -23,12 +23,12 @@ use Rattle.seq_decoder.specs.Code.{refusal_outcome}
 use Rattle.seq_decoder.specs.Outcomes.{WritesFront}
 use Rattle.seq_decoder.specs.Outputs.{Putting}
 use Rattle.numbered_frames.specs.Films.{Film, GoesOn}
-use Rattle.numbered_frames.specs.Numbers.{EndsAt, before, file_ending, film_output, frame_at, text, text_from}
+use Rattle.numbered_frames.specs.FrameNumbers.{EndsAt, before, file_ending, film_output, frame_at, text, text_from}
 use Rattle.numbered_frames.proofs.LaterFrames.{before_same, frame_same, text_same}
 use Rattle.numbered_frames.proofs.Ways.{ends, front, passed}
 use Rattle.job_results.specs.Endings.{HasRefused, IsOutcome}
 use Rattle.job_results.specs.Groups.{group_rules, group_truth}
-use Rattle.job_results.specs.Results.{IsEnd, outcome_of}
+use Rattle.job_results.specs.JobResults.{IsEnd, outcome_of}
 use Rattle.job_results.specs.declared.result.JobResult.{JobResult}
 use Rattle.job_results.specs.declared.result.JobResult.TheVariants as result
 use Rattle.job_results.proofs.GroupDue.{texts_behind}

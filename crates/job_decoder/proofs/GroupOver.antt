@@ -13,7 +13,7 @@ use Rattle.job_results.specs.Endings.{HasRefused, IsOutcome}
 use Rattle.job_results.specs.Groups.{group_rules, group_truth}
 use Rattle.job_results.specs.declared.result.JobResult.{JobResult}
 use Rattle.job_decoder.specs.Code.{HasRun}
-use Rattle.job_decoder.specs.Outputs.{HasRefusedSo, IsQuiet, TellsOutcome}
+use Rattle.job_decoder.specs.SinkOutputs.{HasRefusedSo, IsQuiet, TellsOutcome}
 use Rattle.job_decoder.proofs.Ends.{end_tells, refusal_tells}
 use Rattle.job_decoder.proofs.GroupEnds.{has_run}
 

@@ -8,10 +8,10 @@ use Rattle.job_crew.specs.Left.{HasRightResults}
 use Rattle.job_crew.specs.Runs.{IsDue}
 use Rattle.job_crew.specs.declared.left.FrameResults.{FrameResults}
 use Rattle.numbered_frames.specs.Films.{Film, GoesOn}
-use Rattle.numbered_frames.specs.Numbers.{EndsAt, before, start}
+use Rattle.numbered_frames.specs.FrameNumbers.{EndsAt, before, start}
 use Rattle.job_results.specs.Groups.{group_truth}
 use Rattle.job_results.specs.Meaning.{decode_rules, decode_truth}
-use Rattle.job_results.specs.Results.{IsRight}
+use Rattle.job_results.specs.JobResults.{IsRight}
 use Rattle.job_results.specs.declared.result.JobResult.{JobResult}
 use Rattle.job_results.proofs.Later.{right_still}
 use Rattle.job_decoder.specs.declared.past.Past.{Past}

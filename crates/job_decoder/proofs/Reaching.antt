@@ -11,11 +11,11 @@ use Rattle.job_crew.specs.Runs.{IsDue}
 use Rattle.job_order.specs.Sound.{texts_below}
 use Rattle.seq_decoder.specs.Outcomes.{Decodes}
 use Rattle.numbered_frames.specs.Films.{Film, GoesOn}
-use Rattle.numbered_frames.specs.Numbers.{EndsAt, film_output, text}
+use Rattle.numbered_frames.specs.FrameNumbers.{EndsAt, film_output, text}
 use Rattle.job_results.specs.Meaning.{decode_rules, decode_truth}
 use Rattle.job_decoder.specs.declared.past.Past.{Past}
 use Rattle.job_decoder.specs.Code.{HasRun, Stops, TakesOn}
-use Rattle.job_decoder.specs.Outputs.{is_done}
+use Rattle.job_decoder.specs.SinkOutputs.{is_done}
 use Rattle.job_decoder.specs.Pasts.{IsKept, IsPast, film_with, frames_behind, numbers_of}
 use Rattle.job_decoder.specs.Reaches.{IsStop, past_texts}
 use Rattle.job_decoder.proofs.GroupEnds.{same_texts_to, writes_below}

@@ -11,23 +11,23 @@ use Rattle.vp9_types.specs.declared.shape.Depth.{Depth}
 use Rattle.vp9_types.specs.declared.shape.Depth.TheVariants.{Eight}
 use Rattle.vp9_types.specs.declared.shape.Plane.{Plane}
 use Rattle.vp9_types.specs.declared.shape.Shape.{Shape}
-use Rattle.frame_headers.specs.State.{shape_of}
+use Rattle.frame_headers.specs.HeaderState.{shape_of}
 use Rattle.frame_output.specs.Formats.{output_text}
 use Rattle.frame_output.specs.declared.rendering.Format.{Format}
 use Rattle.frame_output.specs.declared.rendering.Rendering.{Rendering}
-use Rattle.frame_state.specs.Reading.{FrameRead}
+use Rattle.frame_state.specs.FrameReading.{FrameRead}
 use Rattle.job_order.specs.Truths.{IsFront}
 use Rattle.numbered_frames.specs.Coded.{CodedFrame, coded, read_of}
-use Rattle.numbered_frames.specs.Pictures.{picture_from, picture_read, pictures}
+use Rattle.numbered_frames.specs.NumberedPictures.{picture_from, picture_read, pictures}
 use Rattle.seq_decoder.specs.Code.{Shows}
 use Rattle.seq_decoder.specs.Outputs.{is_first}
 use Rattle.seq_decoder.specs.declared.form.OutputForm.{OutputForm}
 use Rattle.filtered_rows.specs.Code.{map_in, rows_from}
-use Rattle.filtered_rows.specs.Rows.{RowSpan}
+use Rattle.filtered_rows.specs.BufferRows.{RowSpan}
 use Rattle.edge_io.proofs.Fronts.{takes_none}
 use Rattle.picture_range.proofs.Ranges.{picture_small}
 use Rattle.seq_decoder.proofs.ShowingLemmas.{small_at}
-use Rattle.job_results.specs.Results.{IsReadFrame}
+use Rattle.job_results.specs.JobResults.{IsReadFrame}
 use Rattle.numbered_frames.specs.Films.{Film}
 
 ---- The frame that is shown ----

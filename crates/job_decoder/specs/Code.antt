@@ -8,7 +8,7 @@ use Rattle.job_crew.specs.declared.left.FrameResults.{FrameResults}
 use Rattle.job_order.specs.Sound.{texts_below}
 use Rattle.seq_decoder.specs.Outcomes.{Decodes}
 use Rattle.numbered_frames.specs.Films.{Film, GoesOn}
-use Rattle.numbered_frames.specs.Numbers.{EndsAt, film_output, text}
+use Rattle.numbered_frames.specs.FrameNumbers.{EndsAt, film_output, text}
 use Rattle.job_results.specs.declared.result.JobResult.{JobResult}
 
 -- the results as those of a frame of this number

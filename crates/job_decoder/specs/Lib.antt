@@ -1,4 +1,4 @@
-pub mod Outputs
+pub mod SinkOutputs
 pub mod Pasts
 pub mod Reaches
 pub mod Code

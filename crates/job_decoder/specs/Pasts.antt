@@ -6,7 +6,7 @@ use Rattle.job_crew.specs.Left.{HasRightResults}
 use Rattle.job_crew.specs.Runs.{IsDue}
 use Rattle.job_crew.specs.declared.left.FrameResults.{FrameResults}
 use Rattle.numbered_frames.specs.Films.{Film}
-use Rattle.numbered_frames.specs.Numbers.{EndsAt}
+use Rattle.numbered_frames.specs.FrameNumbers.{EndsAt}
 use Rattle.job_results.specs.Meaning.{decode_rules, decode_truth}
 use Rattle.job_results.specs.declared.result.JobResult.{JobResult}
 use Rattle.job_decoder.specs.declared.past.Past.{Past}

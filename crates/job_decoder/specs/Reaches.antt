@@ -7,7 +7,7 @@ use Rattle.frame_output.specs.declared.rendering.Format.{Format}
 use Rattle.job_order.specs.Sound.{texts_below}
 use Rattle.seq_decoder.specs.Outcomes.{Decodes}
 use Rattle.numbered_frames.specs.Films.{Film, GoesOn}
-use Rattle.numbered_frames.specs.Numbers.{film_output, text}
+use Rattle.numbered_frames.specs.FrameNumbers.{film_output, text}
 use Rattle.job_decoder.specs.declared.group.Reached.{Reached}
 use Rattle.job_decoder.specs.declared.group.Reached.TheVariants.{Further, Ended}
 use Rattle.job_decoder.specs.declared.past.Past.{Past}

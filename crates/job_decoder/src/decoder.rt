@@ -7,7 +7,7 @@ ghost use Rattle.job_crew.specs.Left.{HasRightResults};
 ghost use Rattle.job_crew.specs.Runs.{IsDue, IsNoWrite};
 ghost use Rattle.job_results.specs.Groups.{IsNoEnd, in_film, group_rules, group_truth, shown_in};
 ghost use Rattle.job_results.specs.Meaning.{decode_rules, decode_truth};
-ghost use Rattle.job_results.specs.Results.{IsRight};
+ghost use Rattle.job_results.specs.JobResults.{IsRight};
 
 use crate::kept_frames::{KeptFrames, Shared, Slots};
 use crate::lookup::{FilmResults, in_film};

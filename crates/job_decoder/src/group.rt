@@ -2,7 +2,7 @@
 
 ghost use Rattle.std.specs.Prelude.{◌≡◌, ◌+◌, ◌<◌, ◌^◌, ◌++◌, true, length, map};
 ghost use Rattle.job_decoder.specs.Pasts.{IsPast, film_with, frames_behind};
-ghost use Rattle.job_decoder.specs.Outputs.{is_done};
+ghost use Rattle.job_decoder.specs.SinkOutputs.{is_done};
 ghost use Rattle.job_decoder.specs.Reaches.{HasReached, sink_of};
 
 use crate::group_run::{GroupFrames, GroupRan, run_group};

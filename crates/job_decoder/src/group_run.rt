@@ -6,7 +6,7 @@ ghost use Rattle.job_crew.specs.Runs.{IsDue};
 ghost use Rattle.job_results.specs.Endings.{IsOutcome};
 ghost use Rattle.job_results.specs.Meaning.{decode_rules, decode_truth};
 ghost use Rattle.job_decoder.specs.Code.{HasRun};
-ghost use Rattle.job_decoder.specs.Outputs.{TellsOutcome};
+ghost use Rattle.job_decoder.specs.SinkOutputs.{TellsOutcome};
 ghost use Rattle.job_decoder.specs.Pasts.{IsKept};
 
 use crate::decoder::JobDecoder;

@@ -5,7 +5,7 @@ ghost use Rattle.vp9_types.specs.declared.job.JobName.TheVariants.{Close, Filter
 ghost use Rattle.job_crew.specs.Left.{HasRightResults};
 ghost use Rattle.job_crew.specs.Runs.{GoesOn};
 ghost use Rattle.job_results.specs.Meaning.{decode_rules, decode_truth};
-ghost use Rattle.job_results.specs.Results.{IsRight};
+ghost use Rattle.job_results.specs.JobResults.{IsRight};
 
 use job_crew::FrameResults;
 use job_results::{DecodeRun, JobResult};

@@ -5,7 +5,7 @@ ghost use Rattle.job_order.specs.Sound.{frame_of};
 ghost use Rattle.job_crew.specs.Runs.{GoesOn};
 ghost use Rattle.job_results.specs.Groups.{in_film, numbered};
 ghost use Rattle.job_results.specs.Meaning.{decode_rules};
-ghost use Rattle.job_results.specs.Results.{IsRight};
+ghost use Rattle.job_results.specs.JobResults.{IsRight};
 
 use crate::kept_frames::{KeptFrames, Shared};
 use job_crew::{Results, frame_of};

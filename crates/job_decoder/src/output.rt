@@ -26,7 +26,7 @@ impl<K: Sink, B: DecodeRun> DecodeSink<K, B> {
 }
 
 impl<'a, K: Sink, B: DecodeRun> Output<JobResult<'a>> for DecodeSink<K, B> {
-    ghost use Rattle.job_decoder.specs.Outputs.{HasRefusedSo, IsQuiet};
+    ghost use Rattle.job_decoder.specs.SinkOutputs.{HasRefusedSo, IsQuiet};
 
     ghost taken = { λ o. K.taken o.sink };
 

@@ -5,7 +5,7 @@ ghost use Rattle.seq_decoder.specs.Outcomes.{Decodes};
 ghost use Rattle.numbered_frames.specs.Films.{film_of};
 ghost use Rattle.seq_decoder.specs.Outputs.{output_of};
 ghost use Rattle.job_results.specs.Endings.{IsOutcome};
-ghost use Rattle.job_decoder.specs.Outputs.{TellsOutcome};
+ghost use Rattle.job_decoder.specs.SinkOutputs.{TellsOutcome};
 
 use crate::decoder::JobDecoder;
 use crate::kept_frames::KeptFrames;

@@ -2,11 +2,11 @@
 
 ghost use Rattle.std.specs.Prelude.{◌≡◌, ◌*◌, ◌≤◌, IfOk, Some, length};
 ghost use Rattle.frame_output.specs.Formats.{output_text};
-ghost use Rattle.numbered_frames.specs.Numbers.{text};
-ghost use Rattle.numbered_frames.specs.Pictures.{pictures};
+ghost use Rattle.numbered_frames.specs.FrameNumbers.{text};
+ghost use Rattle.numbered_frames.specs.NumberedPictures.{pictures};
 ghost use Rattle.seq_decoder.specs.Code.{Shows};
 ghost use Rattle.seq_decoder.specs.Outputs.{is_first};
-ghost use Rattle.job_results.specs.Results.{IsShown};
+ghost use Rattle.job_results.specs.JobResults.{IsShown};
 
 use edge_io::{PutFault, Sink};
 use filtered_rows::FilteredFrame;

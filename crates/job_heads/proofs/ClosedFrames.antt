@@ -8,18 +8,18 @@ use Rattle.vp9_types.specs.declared.rule.Rule.TheVariants.{OutputShape}
 use Rattle.vp9_types.specs.declared.shape.Shape.{Shape}
 use Rattle.band_cells.specs.Bands.{Picture as Shown}
 use Rattle.frame_headers.specs.Header.{head_of}
-use Rattle.frame_headers.specs.State.{shape_of}
+use Rattle.frame_headers.specs.HeaderState.{shape_of}
 use Rattle.frame_headers.specs.declared.header.Header.{Header}
 use Rattle.frame_headers.specs.declared.persist.Persist.{Persist}
 use Rattle.frame_output.specs.declared.rendering.Format.{Format}
 use Rattle.frame_output.specs.Formats.{output_text}
-use Rattle.frame_decoder.specs.Frames.{FrameResult}
+use Rattle.frame_decoder.specs.DecodedFrames.{FrameResult}
 use Rattle.frame_decoder.specs.declared.decoding.Decoded.{Decoded}
-use Rattle.frame_state.specs.Reading.{FrameRead, read_all_tiles}
+use Rattle.frame_state.specs.FrameReading.{FrameRead, read_all_tiles}
 use Rattle.frame_state.specs.Sources.{FrameSources}
 use Rattle.frame_state.specs.declared.halt.Halt.{Halt}
 use Rattle.frame_state.specs.declared.halt.Halt.TheVariants as halt
-use Rattle.frame_steps.specs.Frames.{BeginsIn, GivesDecoded, IsDecoded, Leaves, sources_by}
+use Rattle.frame_steps.specs.StepResults.{BeginsIn, GivesDecoded, IsDecoded, Leaves, sources_by}
 use Rattle.frame_steps.specs.Kept.{MayFollow, StandsFor, number_in}
 use Rattle.frame_steps.specs.declared.beginning.BegunFrame.{BegunFrame}
 use Rattle.frame_steps.specs.declared.kept.Kept.{Kept}
@@ -27,15 +27,15 @@ use Rattle.seq_decoder.specs.After.{Stepped, after_coded, picture_of, shown_pict
 use Rattle.seq_decoder.specs.Code.{halt_outcome}
 use Rattle.seq_decoder.specs.Outcomes.{outcome_at}
 use Rattle.seq_decoder.specs.Outputs.{Putting, admits, form_after, is_first, put, shown_text}
-use Rattle.seq_decoder.specs.State.{Picture, State, persist_of, slot_shape}
+use Rattle.seq_decoder.specs.DecoderState.{Picture, State, persist_of, slot_shape}
 use Rattle.seq_decoder.specs.declared.form.OutputForm.{OutputForm}
 use Rattle.numbered_frames.specs.Coded.{CodedFrame, IsFrameBefore, coded, read_of, result_of}
-use Rattle.numbered_frames.specs.Numbers.{before, frame_at}
-use Rattle.numbered_frames.specs.Pictures.{pictures}
+use Rattle.numbered_frames.specs.FrameNumbers.{before, frame_at}
+use Rattle.numbered_frames.specs.NumberedPictures.{pictures}
 use Rattle.numbered_frames.proofs.SlotFrames.{slots_hold}
 use Rattle.numbered_frames.proofs.Ways.{text_is}
 use Rattle.job_results.specs.Lent.{IsBegunFrame, IsKeptBefore}
-use Rattle.job_results.specs.Results.{IsBegunAs, IsBuiltAs, IsClose, IsClosedAs, IsEnd, IsReadFrame, IsShown, ShowsSlot, shown_text as text_shown}
+use Rattle.job_results.specs.JobResults.{IsBegunAs, IsBuiltAs, IsClose, IsClosedAs, IsEnd, IsReadFrame, IsShown, ShowsSlot, shown_text as text_shown}
 use Rattle.job_results.specs.declared.result.ClosedFrame.{ClosedFrame}
 use Rattle.job_results.specs.declared.result.JobResult.{JobResult}
 use Rattle.job_results.specs.declared.result.JobResult.TheVariants as result

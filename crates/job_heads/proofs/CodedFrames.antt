@@ -5,29 +5,29 @@ use Rattle.vp9_types.specs.Results.{map_ok, ◌>>=◌}
 use Rattle.vp9_types.specs.declared.block.Modes.{Modes}
 use Rattle.vp9_types.specs.declared.job.Span.{Span}
 use Rattle.vp9_types.specs.declared.rule.Rule.{Rule}
-use Rattle.compressed_header.specs.Header.{forward}
+use Rattle.compressed_header.specs.CompressedHeader.{forward}
 use Rattle.frame_headers.specs.Header.{head_of}
 use Rattle.frame_headers.specs.Spans.{tile_spans}
-use Rattle.frame_headers.specs.State.{shape_of}
+use Rattle.frame_headers.specs.HeaderState.{shape_of}
 use Rattle.frame_headers.specs.declared.header.FrameHead.{FrameHead}
 use Rattle.frame_headers.specs.declared.header.FrameHead.TheVariants as head
 use Rattle.frame_headers.specs.declared.header.Header.{Header}
 use Rattle.frame_output.specs.declared.rendering.Format.{Format}
-use Rattle.prob_contexts.specs.Lists.{ContextLists, lists_of}
-use Rattle.frame_decoder.specs.Frames.{FrameResult, decoded, rebuilt}
-use Rattle.frame_state.specs.Reading.{FrameInput, FrameRead, read_all_tiles, read_frame, sources}
+use Rattle.prob_contexts.specs.ProbLists.{ContextLists, lists_of}
+use Rattle.frame_decoder.specs.DecodedFrames.{FrameResult, decoded, rebuilt}
+use Rattle.frame_state.specs.FrameReading.{FrameInput, FrameRead, read_all_tiles, read_frame, sources}
 use Rattle.frame_state.specs.Sources.{FrameSources}
-use Rattle.frame_steps.specs.Frames.{BeginsIn, IsSound}
+use Rattle.frame_steps.specs.StepResults.{BeginsIn, IsSound}
 use Rattle.frame_steps.specs.declared.beginning.BegunFrame.{BegunFrame}
 use Rattle.frame_steps.specs.declared.kept.Kept.{Kept}
 use Rattle.seq_decoder.specs.After.{decoded_in, input_of}
 use Rattle.seq_decoder.specs.Outputs.{Putting}
-use Rattle.seq_decoder.specs.State.{persist_of}
+use Rattle.seq_decoder.specs.DecoderState.{persist_of}
 use Rattle.numbered_frames.specs.Coded.{CodedFrame, begun_from, coded, coded_from, headed_from, read_of, references, result_of}
-use Rattle.numbered_frames.specs.Numbers.{before, frame_at}
-use Rattle.numbered_frames.specs.Pictures.{picture_from, picture_read, pictures}
+use Rattle.numbered_frames.specs.FrameNumbers.{before, frame_at}
+use Rattle.numbered_frames.specs.NumberedPictures.{picture_from, picture_read, pictures}
 use Rattle.job_results.specs.Lent.{IsBegunFrame, IsKeptBefore}
-use Rattle.job_results.specs.Results.{IsBegunAs}
+use Rattle.job_results.specs.JobResults.{IsBegunAs}
 use Rattle.job_heads.proofs.HeadSteps.{read_by}
 use Rattle.numbered_frames.specs.Films.{Film}
 

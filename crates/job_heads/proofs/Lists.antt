@@ -9,10 +9,10 @@ use Rattle.vp9_types.specs.declared.rule.Rule.{Rule}
 use Rattle.file_frames.specs.Code.{Ahead, all_ahead}
 use Rattle.file_frames.specs.FileFrames.{frames_in, frames_of_file}
 use Rattle.numbered_frames.specs.Films.{Film}
-use Rattle.numbered_frames.specs.Numbers.{file_ending, frame_at}
+use Rattle.numbered_frames.specs.FrameNumbers.{file_ending, frame_at}
 use Rattle.seq_decoder.specs.Outcomes.{outcome_at}
-use Rattle.job_results.specs.Results.{outcome_of}
-use Rattle.job_heads.specs.Lists.{AreFrames}
+use Rattle.job_results.specs.JobResults.{outcome_of}
+use Rattle.job_heads.specs.FrameLists.{AreFrames}
 
 -- the frames so far, and then those ahead, are all of them
 pub record AreFound (bytes : List ℕ) (found : List (List ℕ)) (a : Ahead) : Type 0 where

@@ -6,8 +6,8 @@ use Rattle.vp9_types.specs.declared.block.ReferenceFrame.TheVariants.{Last, Gold
 use Rattle.vp9_types.specs.declared.job.Span.{Span}
 use Rattle.vp9_types.specs.declared.shape.Shape.{Shape}
 use Rattle.frame_headers.specs.Header.{head_of}
-use Rattle.frame_headers.specs.Sizes.{HasFrameSize}
-use Rattle.frame_headers.specs.State.{SlotsHaveSizes}
+use Rattle.frame_headers.specs.FrameSizes.{HasFrameSize}
+use Rattle.frame_headers.specs.HeaderState.{SlotsHaveSizes}
 use Rattle.frame_headers.specs.declared.color.ColorConfig.{ColorConfig}
 use Rattle.frame_headers.specs.declared.header.FrameHead.TheVariants as head
 use Rattle.frame_headers.specs.declared.header.FrameKind.{FrameKind}
@@ -15,8 +15,8 @@ use Rattle.frame_headers.specs.declared.header.FrameKind.TheVariants.{Key, Intra
 use Rattle.frame_headers.specs.declared.header.Header.{Header}
 use Rattle.frame_headers.specs.declared.header.Reference.{Reference}
 use Rattle.frame_headers.specs.declared.persist.Persist.{Persist}
-use Rattle.frame_steps.specs.Frames.{HaveSizes}
-use Rattle.inter_contexts.specs.References.{reference_in}
+use Rattle.frame_steps.specs.StepResults.{HaveSizes}
+use Rattle.inter_contexts.specs.BlockReferences.{reference_in}
 use Rattle.seq_decoder.proofs.HeaderReferences.{HoldsReference, references_held}
 
 slot_sized : (slots : List (Option Shape)) (n : ℕ) (shape : Shape) → All (λ slot. IfSome slot HasFrameSize) slots → slice_index_or slots n None ≡ Some shape → HasFrameSize shape

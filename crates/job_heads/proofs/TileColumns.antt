@@ -7,8 +7,8 @@ use Rattle.vp9_types.specs.declared.rule.Rule.{Rule}
 use Rattle.frame_headers.specs.Spans.{tile_spans}
 use Rattle.frame_headers.specs.declared.header.Header.{Header}
 use Rattle.frame_output.specs.declared.rendering.Format.{Format}
-use Rattle.frame_steps.specs.Frames.{IsColumn, IsPlanned, sources_by}
-use Rattle.frame_state.specs.Plans.{tile_bytes}
+use Rattle.frame_steps.specs.StepResults.{IsColumn, IsPlanned, sources_by}
+use Rattle.frame_state.specs.ColumnPlans.{tile_bytes}
 use Rattle.frame_steps.specs.declared.beginning.BegunFrame.{BegunFrame}
 use Rattle.frame_steps.specs.declared.columns.PlannedColumn.{PlannedColumn}
 use Rattle.job_crew.specs.Runs.{IsDue}
@@ -17,7 +17,7 @@ use Rattle.numbered_frames.specs.Coded.{CodedFrame, coded}
 use Rattle.seq_decoder.specs.Outputs.{Putting}
 use Rattle.job_results.specs.Lent.{IsBegunFrame, IsColumnOf}
 use Rattle.job_results.specs.Meaning.{decode_rules, decode_truth, parses}
-use Rattle.job_results.specs.Results.{IsBegunAs, IsColumnAs, IsHead, IsPlannedAs}
+use Rattle.job_results.specs.JobResults.{IsBegunAs, IsColumnAs, IsHead, IsPlannedAs}
 use Rattle.job_results.specs.declared.result.JobResult.{JobResult}
 use Rattle.job_results.specs.declared.result.JobResult.TheVariants as result
 use Rattle.job_heads.specs.Begun.{IsItsBegun, IsMadeOf}

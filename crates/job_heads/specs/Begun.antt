@@ -1,7 +1,7 @@
 -- What has begun, by the coded frame that it is.
 use Rattle.std.specs.Prelude.{◌≡◌, ℕ, List, Some}
 use Rattle.frame_output.specs.declared.rendering.Format.{Format}
-use Rattle.frame_steps.specs.Frames.{sources_by}
+use Rattle.frame_steps.specs.StepResults.{sources_by}
 use Rattle.frame_steps.specs.declared.beginning.BegunFrame.{BegunFrame}
 use Rattle.numbered_frames.specs.Coded.{CodedFrame, coded}
 use Rattle.numbered_frames.specs.Films.{Film}

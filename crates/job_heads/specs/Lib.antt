@@ -1,3 +1,3 @@
 pub mod Begun
-pub mod Lists
+pub mod FrameLists
 pub mod Shows

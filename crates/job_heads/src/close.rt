@@ -7,7 +7,7 @@ ghost use Rattle.vp9_types.specs.declared.job.JobName.TheVariants.{Close};
 ghost use Rattle.job_crew.specs.Runs.{IsDue};
 ghost use Rattle.job_results.specs.Meaning.{decode_rules, decode_truth};
 ghost use Rattle.job_results.specs.Lent.{IsBegunFrame, IsKeptBefore};
-ghost use Rattle.job_results.specs.Results.{IsClose, ShowsSlot};
+ghost use Rattle.job_results.specs.JobResults.{IsClose, ShowsSlot};
 
 use crate::frames::FrameList;
 use frame_headers::Header;

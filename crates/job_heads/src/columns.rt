@@ -4,7 +4,7 @@ ghost use Rattle.vp9_types.specs.declared.job.JobName.TheVariants.{Column};
 ghost use Rattle.job_crew.specs.Runs.{IsDue};
 ghost use Rattle.job_results.specs.Meaning.{decode_rules, decode_truth};
 ghost use Rattle.job_results.specs.Lent.{IsColumnOf};
-ghost use Rattle.job_results.specs.Results.{IsColumn};
+ghost use Rattle.job_results.specs.JobResults.{IsColumn};
 
 use frame_steps::{PlannedColumn, plan_column};
 use job_crew::Results;

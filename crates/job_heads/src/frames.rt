@@ -2,10 +2,10 @@
 
 ghost use Rattle.std.specs.Prelude.{◌≡◌, ◌<◌, ◌≤◌, ◌^◌, IfOk, drop, length, map};
 ghost use Rattle.std.specs.Option.{option_map};
-ghost use Rattle.numbered_frames.specs.Numbers.{file_ending, frame_at};
+ghost use Rattle.numbered_frames.specs.FrameNumbers.{file_ending, frame_at};
 ghost use Rattle.seq_decoder.specs.Outputs.{form_from};
-ghost use Rattle.job_heads.specs.Lists.{AreFrames};
-ghost use Rattle.job_results.specs.Results.{outcome_of};
+ghost use Rattle.job_heads.specs.FrameLists.{AreFrames};
+ghost use Rattle.job_results.specs.JobResults.{outcome_of};
 
 use file_frames::FrameCursor;
 use job_results::DecodeRun;

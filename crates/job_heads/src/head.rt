@@ -3,15 +3,15 @@
 ghost use Rattle.std.specs.Prelude.{◌≡◌, ◌≤◌, Some, Ok, length};
 ghost use Rattle.vp9_types.specs.declared.job.JobName.TheVariants.{Head};
 ghost use Rattle.frame_headers.specs.Header.{head_of};
-ghost use Rattle.frame_headers.specs.Sizes.{IsFrameSize};
+ghost use Rattle.frame_headers.specs.FrameSizes.{IsFrameSize};
 ghost use Rattle.frame_headers.specs.Tiles.{AreFewTiles};
 ghost use Rattle.frame_headers.specs.declared.header.FrameHead.TheVariants as head;
 ghost use Rattle.seq_decoder.specs.Code.{LiesWithin};
-ghost use Rattle.numbered_frames.specs.Numbers.{frame_at};
+ghost use Rattle.numbered_frames.specs.FrameNumbers.{frame_at};
 ghost use Rattle.job_crew.specs.Runs.{IsDue};
 ghost use Rattle.job_results.specs.Meaning.{decode_rules, decode_truth};
 ghost use Rattle.job_results.specs.Lent.{IsKeptBefore};
-ghost use Rattle.job_results.specs.Results.{IsHead};
+ghost use Rattle.job_results.specs.JobResults.{IsHead};
 
 use crate::frames::FrameList;
 use frame_headers::{FrameHead, Header, read};

@@ -7,7 +7,7 @@ use Rattle.job_order.specs.declared.segment.Segment.{Segment}
 use Rattle.job_order.specs.declared.segment.Segment.TheVariants.{Opening, Build}
 use Rattle.job_order.specs.declared.segment.Shown.{Shown}
 use Rattle.job_order.specs.declared.event.Done.{Done}
-use Rattle.job_order.specs.Segments.{job_at, IsPublished, InOrder}
+use Rattle.job_order.specs.JobSegments.{job_at, IsPublished, InOrder}
 use Rattle.job_order.specs.Needs.{HasBand, HasOwnBand, ShowsBand, NeedsBand, Publishes}
 use Rattle.job_order.specs.Worlds.{Rules, Building, WorldState, HasResult, published, and_published, parsed, built, segments_of}
 use Rattle.job_order.specs.Truths.{Truth, AreTrue, IsRightBuilding}

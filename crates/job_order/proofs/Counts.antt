@@ -7,7 +7,7 @@ use Rattle.job_order.specs.declared.segment.Segment.{Segment}
 use Rattle.job_order.specs.declared.segment.Segment.TheVariants.{Parse, Build}
 use Rattle.job_order.specs.declared.segment.Shown.{Shown}
 use Rattle.job_order.specs.declared.event.Done.{Done}
-use Rattle.job_order.specs.Segments.{InOrder, StandsAt}
+use Rattle.job_order.specs.JobSegments.{InOrder, StandsAt}
 use Rattle.job_order.specs.Worlds.{Rules, Building, WorldState, IsFinished, IsReady, and_published, published, parsed, built}
 use Rattle.job_order.proofs.Homes.{head_home, close_home}
 use Rattle.job_order.proofs.Finished.{UpTo, up_same, up_next}

@@ -6,7 +6,7 @@ use Rattle.vp9_types.specs.declared.job.JobName.TheVariants.{Filter}
 use Rattle.job_order.specs.declared.segment.Segment.{Segment}
 use Rattle.job_order.specs.declared.segment.Segment.TheVariants.{Build, Last}
 use Rattle.job_order.specs.declared.segment.Shown.{Shown}
-use Rattle.job_order.specs.Segments.{jobs_of, jobs_in, job_at, IsBelow, IsPublished, StandsAt, InOrder}
+use Rattle.job_order.specs.JobSegments.{jobs_of, jobs_in, job_at, IsBelow, IsPublished, StandsAt, InOrder}
 use Rattle.job_order.specs.Needs.{Publishes, IsLastRow}
 use Rattle.job_order.specs.Worlds.{and_published}
 use Rattle.job_order.proofs.Places.{got_left, got_right, got_either, IsBehindIn, only}

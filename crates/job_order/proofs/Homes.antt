@@ -4,7 +4,7 @@ use Rattle.vp9_types.specs.declared.job.JobName.TheVariants.{Head, Column, Close
 use Rattle.job_order.specs.declared.segment.Segment.{Segment}
 use Rattle.job_order.specs.declared.segment.Segment.TheVariants.{Opening, Parse, Build, Last}
 use Rattle.job_order.specs.declared.segment.Shown.{Shown}
-use Rattle.job_order.specs.Segments.{job_at, IsBelow, InOrder}
+use Rattle.job_order.specs.JobSegments.{job_at, IsBelow, InOrder}
 use Rattle.job_order.proofs.Orders.{StandsIn, start, find, earlier_segment}
 
 abbrev pub IsParse : List Segment → ℕ → ℕ → Type 0

@@ -10,7 +10,7 @@ use Rattle.job_order.specs.declared.event.Done.{Done}
 use Rattle.job_order.specs.declared.event.BandName.{BandName}
 use Rattle.job_order.specs.declared.event.Event.{Event}
 use Rattle.job_order.specs.declared.event.Event.TheVariants.{Draw, Finish, Announce, Stop}
-use Rattle.job_order.specs.Segments.{IsBelow, StandsAt, InOrder}
+use Rattle.job_order.specs.JobSegments.{IsBelow, StandsAt, InOrder}
 use Rattle.job_order.specs.Needs.{IsNeed, Publishes}
 use Rattle.job_order.specs.Worlds.{Rules, Building, WorldState, HasResult, IsFinished, IsReady, IsDrawn, Does, IsBehind, IsAllowed, AreAllowed, CanAnnounce, opening, after, run, published, and_published, segments_of}
 use Rattle.job_order.specs.Truths.{Truth, AreTrue, IsFront}

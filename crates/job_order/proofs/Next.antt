@@ -11,7 +11,7 @@ use Rattle.job_order.specs.declared.segment.Segment.TheVariants.{Opening, Parse,
 use Rattle.job_order.specs.declared.event.Done.{Done}
 use Rattle.job_order.specs.declared.event.Event.{Event}
 use Rattle.job_order.specs.declared.event.Event.TheVariants.{Finish}
-use Rattle.job_order.specs.Segments.{job_at, InOrder}
+use Rattle.job_order.specs.JobSegments.{job_at, InOrder}
 use Rattle.job_order.specs.Worlds.{Rules, WorldState, IsFinished, IsReady, IsAllowed, AreAllowed, published, opening, run}
 use Rattle.job_order.specs.Truths.{Truth, AreTrue}
 use Rattle.job_order.specs.Sound.{IsSound, IsLeast, AreTotal, MayRead, frame_of}

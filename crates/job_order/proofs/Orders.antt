@@ -7,7 +7,7 @@ use Rattle.vp9_types.specs.declared.job.JobName.TheVariants.{Head, Column, Close
 use Rattle.job_order.specs.declared.segment.Segment.{Segment}
 use Rattle.job_order.specs.declared.segment.Segment.TheVariants.{Opening, Parse, Build, Last}
 use Rattle.job_order.specs.declared.segment.Shown.{Shown}
-use Rattle.job_order.specs.Segments.{jobs_of, jobs_in, job_at, row_jobs, IsBelow}
+use Rattle.job_order.specs.JobSegments.{jobs_of, jobs_in, job_at, row_jobs, IsBelow}
 use Rattle.job_order.proofs.Places.{got_left, got_right, got_either, IsBehindIn, only, of_range, in_range, length_made, of_rows, in_rows, length_rows}
 
 -- the job has this place in its segment

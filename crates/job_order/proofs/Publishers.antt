@@ -4,7 +4,7 @@ use Rattle.vp9_types.specs.declared.job.JobName.TheVariants.{Filter}
 use Rattle.job_order.specs.declared.segment.Segment.{Segment}
 use Rattle.job_order.specs.declared.segment.Segment.TheVariants.{Build}
 use Rattle.job_order.specs.declared.segment.Shown.{Shown}
-use Rattle.job_order.specs.Segments.{IsListed, IsPublished, InOrder}
+use Rattle.job_order.specs.JobSegments.{IsListed, IsPublished, InOrder}
 use Rattle.job_order.specs.Needs.{IsLastRow, Publishes}
 use Rattle.job_order.proofs.Homes.{IsBuild, filter_home}
 use Rattle.job_order.proofs.Smaller.{same_build}

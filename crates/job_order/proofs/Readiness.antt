@@ -13,7 +13,7 @@ use Rattle.job_order.specs.declared.event.Done.{Done}
 use Rattle.job_order.specs.declared.needs.JobSpan.TheVariants.{One, Columns, RowOf}
 use Rattle.job_order.specs.declared.needs.JobSpan.{JobSpan}
 use Rattle.job_order.specs.declared.needs.Needs.{Needs}
-use Rattle.job_order.specs.Segments.{IsListed, IsBelow, InOrder}
+use Rattle.job_order.specs.JobSegments.{IsListed, IsBelow, InOrder}
 use Rattle.job_order.specs.Needs.{IsNeed, IsInSpan, IsLastRow, Publishes}
 use Rattle.job_order.specs.Worlds.{Rules, WorldState, HasResult, IsFinished, IsReady}
 use Rattle.job_order.specs.Code.{IsIn, IsInIf, IsInOne, PublishesOne, Names}

@@ -8,7 +8,7 @@ use Rattle.job_order.specs.declared.segment.Segment.{Segment}
 use Rattle.job_order.specs.declared.segment.Segment.TheVariants.{Parse, Build}
 use Rattle.job_order.specs.declared.event.Event.{Event}
 use Rattle.job_order.specs.declared.event.Event.TheVariants.{Draw, Finish, Announce, Stop}
-use Rattle.job_order.specs.Segments.{InOrder}
+use Rattle.job_order.specs.JobSegments.{InOrder}
 use Rattle.job_order.specs.Needs.{HasBand, IsNeed, IsLastRow, Publishes}
 use Rattle.job_order.specs.Worlds.{Rules, WorldState, IsFinished, NeedsIn, IsAllowed, AreAllowed, IsReached, opening, after, run, published, and_published}
 use Rattle.job_order.specs.Truths.{Truth, AreTrue}

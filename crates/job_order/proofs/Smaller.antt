@@ -7,7 +7,7 @@ use Rattle.vp9_types.specs.declared.job.BandSpan.{BandSpan}
 use Rattle.job_order.specs.declared.segment.Segment.{Segment}
 use Rattle.job_order.specs.declared.segment.Segment.TheVariants.{Parse, Build, Last}
 use Rattle.job_order.specs.declared.segment.Shown.{Shown}
-use Rattle.job_order.specs.Segments.{job_at, IsListed, IsBelow, InOrder}
+use Rattle.job_order.specs.JobSegments.{job_at, IsListed, IsBelow, InOrder}
 use Rattle.job_order.specs.Needs.{IsNeed, HasBand, ShowsBand}
 use Rattle.job_order.proofs.Orders.{start, earlier_segment, same_segment}
 use Rattle.job_order.proofs.Homes.{ColumnHome, CloseHome, RowsHome, FilterHome, WriteHome, HeadHome, EndHome, IsParse, IsBuild, column_home, close_home, rows_home, filter_home, write_home, head_home, end_home, head_below, close_below, write_below}

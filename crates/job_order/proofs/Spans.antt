@@ -11,7 +11,7 @@ use Rattle.job_order.specs.declared.segment.Shown.{Shown}
 use Rattle.job_order.specs.declared.needs.JobSpan.{JobSpan}
 use Rattle.job_order.specs.declared.needs.JobSpan.TheVariants.{One, Columns, RowOf}
 use Rattle.job_order.specs.declared.needs.Needs.{Needs}
-use Rattle.job_order.specs.Segments.{IsListed, IsPublished, InOrder}
+use Rattle.job_order.specs.JobSegments.{IsListed, IsPublished, InOrder}
 use Rattle.job_order.specs.Needs.{IsNeed, IsInSpan, HasBand, HasOwnBand, ShowsBand, NeedsBand}
 use Rattle.job_order.specs.Code.{IsParsed, IsBuilt, IsIn, IsInIf, IsInOne, PublishesOne, Names, job_before, first_bands, shown_bands, needs, no_bands}
 use Rattle.job_order.proofs.Orders.{start, ticket_of}

@@ -5,7 +5,7 @@ use Rattle.vp9_types.specs.declared.job.JobName.{JobName}
 use Rattle.vp9_types.specs.declared.job.JobName.TheVariants.{Head, Column, Close, Rows, Filter, Write, End}
 use Rattle.job_order.specs.declared.segment.Segment.{Segment}
 use Rattle.job_order.specs.declared.event.Event.TheVariants.{Draw, Finish}
-use Rattle.job_order.specs.Segments.{jobs_in, job_at, InOrder}
+use Rattle.job_order.specs.JobSegments.{jobs_in, job_at, InOrder}
 use Rattle.job_order.specs.Worlds.{Rules, WorldState, IsFinished, IsReady, Does, IsAllowed, opening, after, published, and_published}
 use Rattle.job_order.specs.Truths.{Truth}
 use Rattle.job_order.specs.Sound.{IsSound, IsInTurn}

@@ -9,7 +9,7 @@ use Rattle.vp9_types.specs.declared.job.JobName.TheVariants.{Column, Close, Rows
 use Rattle.job_order.specs.declared.segment.Segment.{Segment}
 use Rattle.job_order.specs.declared.segment.Segment.TheVariants.{Opening, Parse, Build, Last}
 use Rattle.job_order.specs.declared.segment.Shown.{Shown}
-use Rattle.job_order.specs.Segments.{jobs_of, jobs_in, job_at, row_jobs, InOrder}
+use Rattle.job_order.specs.JobSegments.{jobs_of, jobs_in, job_at, row_jobs, InOrder}
 use Rattle.job_order.specs.declared.order.Mark.{Mark}
 use Rattle.job_order.specs.Code.{HasNext, IsMark}
 use Rattle.job_order.specs.Worlds.{and_published}

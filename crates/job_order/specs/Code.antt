@@ -11,7 +11,7 @@ use Rattle.job_order.specs.declared.needs.JobSpan.TheVariants.{One, Columns, Row
 use Rattle.job_order.specs.declared.needs.Needs.{Needs}
 use Rattle.job_order.specs.declared.order.Mark.{Mark}
 use Rattle.job_order.specs.Needs.{HasBand, Publishes}
-use Rattle.job_order.specs.Segments.{jobs_in}
+use Rattle.job_order.specs.JobSegments.{jobs_in}
 
 -- the number of the next frame fits
 abbrev pub HasNext : Segment → Type 0

@@ -1,4 +1,4 @@
-pub mod Segments
+pub mod JobSegments
 pub mod Needs
 pub mod Worlds
 pub mod Truths

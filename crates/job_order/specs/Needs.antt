@@ -6,7 +6,7 @@ use Rattle.vp9_types.specs.declared.job.BandSpan.{BandSpan}
 use Rattle.job_order.specs.declared.segment.Segment.{Segment}
 use Rattle.job_order.specs.declared.segment.Segment.TheVariants.{Build}
 use Rattle.job_order.specs.declared.segment.Shown.{Shown}
-use Rattle.job_order.specs.Segments.{IsListed, IsPublished}
+use Rattle.job_order.specs.JobSegments.{IsListed, IsPublished}
 
 abbrev pub IsLastRow : List Segment → ℕ → ℕ → Type 0
 IsLastRow segments f row = (columns : ℕ) × (shown : Option Shown) × IsPublished segments (Build f columns (row + 1) shown)

@@ -4,7 +4,7 @@ use Rattle.vp9_types.specs.declared.job.JobName.{JobName}
 use Rattle.vp9_types.specs.declared.job.JobName.TheVariants.{Head, Column, Close, Rows, Filter, Write, End}
 use Rattle.job_order.specs.declared.event.Done.{Done}
 use Rattle.job_order.specs.declared.event.Event.{Event}
-use Rattle.job_order.specs.Segments.{job_at, IsBelow, InOrder}
+use Rattle.job_order.specs.JobSegments.{job_at, IsBelow, InOrder}
 use Rattle.job_order.specs.Needs.{IsNeed, NeedsBand, Publishes}
 use Rattle.job_order.specs.Worlds.{Rules, WorldState, HasResult, IsFinished, IsReady, IsDrawn, NeedsIn, Does, IsAllowed, after, segments_of}
 use Rattle.job_order.specs.Truths.{Truth, IsFront}

@@ -10,7 +10,7 @@ use Rattle.job_order.specs.declared.event.Done.{Done}
 use Rattle.job_order.specs.declared.event.BandName.{BandName}
 use Rattle.job_order.specs.declared.event.Event.{Event}
 use Rattle.job_order.specs.declared.event.Event.TheVariants.{Draw, Finish, Announce, Stop}
-use Rattle.job_order.specs.Segments.{IsBelow}
+use Rattle.job_order.specs.JobSegments.{IsBelow}
 use Rattle.job_order.specs.Needs.{IsNeed, Publishes}
 
 -- how a frame is built: its columns, its superblock rows, and the frame that it shows

@@ -8,7 +8,7 @@ ghost use Rattle.job_order.specs.declared.event.Event.TheVariants.{Draw, Finish}
 ghost use Rattle.job_order.specs.declared.segment.Segment.{Segment};
 ghost use Rattle.job_order.specs.declared.segment.Segment.TheVariants.{Build};
 ghost use Rattle.job_order.specs.declared.segment.Shown.{Shown};
-ghost use Rattle.job_order.specs.Segments.{InOrder, IsPublished, job_at};
+ghost use Rattle.job_order.specs.JobSegments.{InOrder, IsPublished, job_at};
 ghost use Rattle.job_order.specs.Needs.{NeedsBand, Publishes};
 ghost use Rattle.job_order.specs.Worlds.{WorldState, HasResult, IsFinished, IsReady, NeedsIn, Does, opening, after, run, IsAllowed, AreAllowed, IsReached, published, and_published};
 ghost use Rattle.job_order.specs.declared.order.Mark.{Mark};

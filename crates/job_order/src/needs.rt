@@ -3,7 +3,7 @@ ghost use Rattle.vp9_types.specs.declared.job.JobName.{JobName};
 ghost use Rattle.vp9_types.specs.declared.job.JobName.TheVariants.{Close, Rows, Filter, Write};
 ghost use Rattle.job_order.specs.declared.segment.Segment.TheVariants.{Parse, Build};
 ghost use Rattle.job_order.specs.declared.segment.Shown.{Shown};
-ghost use Rattle.job_order.specs.Segments.{InOrder, IsListed};
+ghost use Rattle.job_order.specs.JobSegments.{InOrder, IsListed};
 ghost use Rattle.job_order.specs.Needs.{IsNeed};
 ghost use Rattle.job_order.specs.declared.needs.JobSpan.TheVariants.{One, Columns, RowOf};
 ghost use Rattle.job_order.specs.Code.{Names, IsParsed, IsBuilt, job_before, first_bands, shown_bands, needs, no_bands};

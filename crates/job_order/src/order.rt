@@ -1,6 +1,6 @@
 ghost use Rattle.std.specs.Prelude.{◌≡◌, ◌≤◌, List};
 ghost use Rattle.job_order.specs.Code.{IsMark};
-ghost use Rattle.job_order.specs.Segments.{InOrder, job_at};
+ghost use Rattle.job_order.specs.JobSegments.{InOrder, job_at};
 ghost use Rattle.job_order.specs.declared.segment.Segment.{Segment};
 
 use crate::segment::Segment;

@@ -1,7 +1,7 @@
 ghost use Rattle.std.specs.Prelude.{◌≡◌, ◌↔◌, ℕ, ◌+◌, ◌<◌, ◌≤◌, true, false, reverse, Some, None};
 ghost use Rattle.vp9_types.specs.declared.job.JobName.{JobName};
 ghost use Rattle.vp9_types.specs.declared.job.JobName.TheVariants.{Column, Rows, Filter};
-ghost use Rattle.job_order.specs.Segments.{InOrder, IsBelow};
+ghost use Rattle.job_order.specs.JobSegments.{InOrder, IsBelow};
 ghost use Rattle.job_order.specs.Needs.{IsInSpan, Publishes};
 ghost use Rattle.job_order.specs.Worlds.{IsFinished};
 ghost use Rattle.job_order.specs.Code.{IsIn, IsInIf, IsInOne, PublishesOne, Names};

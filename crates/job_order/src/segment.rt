@@ -1,7 +1,7 @@
 ghost use Rattle.std.specs.Prelude.{◌≡◌, ◌+◌, ◌*◌, ◌<◌, ◌^◌, Some, None, length, slice_get};
 ghost use Rattle.job_order.specs.declared.segment.Segment.TheVariants.{Parse, Build};
 ghost use Rattle.job_order.specs.Code.{HasNext};
-ghost use Rattle.job_order.specs.Segments.{jobs_of};
+ghost use Rattle.job_order.specs.JobSegments.{jobs_of};
 
 use vp9_types::JobName;
 

@@ -1,5 +1,5 @@
 ghost use Rattle.std.specs.Prelude.{◌≡◌, ◌+◌, ◌∷◌, true, false, reverse, IfOk, IfErr};
-ghost use Rattle.job_order.specs.Segments.{InOrder};
+ghost use Rattle.job_order.specs.JobSegments.{InOrder};
 ghost use Rattle.job_order.specs.Worlds.{opening, after, and_published, IsAllowed, IsReady};
 
 use crate::event::{BandName, Done, Event};

@@ -15,13 +15,13 @@ use Rattle.job_order.specs.Truths.{IsFront}
 use Rattle.job_crew.specs.Runs.{IsEnded}
 use Rattle.job_crew.specs.declared.outlet.Ending.{Ending}
 use Rattle.job_crew.specs.declared.outlet.Ending.TheVariants.{Whole, Refused}
-use Rattle.numbered_frames.specs.Numbers.{EndsAt, film_output, text}
+use Rattle.numbered_frames.specs.FrameNumbers.{EndsAt, film_output, text}
 use Rattle.numbered_frames.proofs.Ways.{ends, front}
 use Rattle.seq_decoder.specs.Code.{refusal_outcome}
 use Rattle.seq_decoder.specs.Outcomes.{Completes, Decodes, WritesFront}
 use Rattle.job_results.specs.Endings.{HasRefused, IsOutcome}
 use Rattle.job_results.specs.Meaning.{decode_rules, decode_truth}
-use Rattle.job_results.specs.Results.{IsEnd, outcome_of}
+use Rattle.job_results.specs.JobResults.{IsEnd, outcome_of}
 use Rattle.job_results.specs.declared.result.JobResult.{JobResult}
 use Rattle.job_results.specs.declared.result.JobResult.TheVariants as result
 use Rattle.numbered_frames.specs.Films.{Film}

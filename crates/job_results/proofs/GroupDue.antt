@@ -12,7 +12,7 @@ use Rattle.job_crew.specs.Runs.{IsBuiltSo, IsDue, IsLastOne, IsParsedSo}
 use Rattle.numbered_frames.specs.Films.{Film}
 use Rattle.numbered_frames.proofs.Ways.{passed}
 use Rattle.job_results.proofs.Later.{coded_within}
-use Rattle.job_results.specs.Results.{IsClose, IsHead}
+use Rattle.job_results.specs.JobResults.{IsClose, IsHead}
 use Rattle.job_results.specs.Groups.{IsCounted, IsNoEnd, builds_in, group_rules, group_truth, in_film, numbered, shown_in}
 use Rattle.job_results.specs.Meaning.{builds, decode_rules, decode_truth, parses, shown_as}
 use Rattle.job_results.specs.declared.result.JobResult.{JobResult}

@@ -11,12 +11,12 @@ use Rattle.frame_output.specs.declared.rendering.Format.{Format}
 use Rattle.job_order.specs.Sound.{frame_of}
 use Rattle.numbered_frames.specs.Coded.{CodedFrame, coded, coded_from}
 use Rattle.numbered_frames.specs.Films.{Film, GoesOn}
-use Rattle.numbered_frames.specs.Numbers.{EndsAt, before, frame_at}
-use Rattle.numbered_frames.specs.Pictures.{pictures}
+use Rattle.numbered_frames.specs.FrameNumbers.{EndsAt, before, frame_at}
+use Rattle.numbered_frames.specs.NumberedPictures.{pictures}
 use Rattle.numbered_frames.proofs.LaterFrames.{before_same, coded_same, frame_same, pictures_same, text_same}
 use Rattle.band_cells.specs.Bands.{Picture}
 use Rattle.seq_decoder.specs.Outputs.{Putting, is_first}
-use Rattle.job_results.specs.Results.{IsBegunAs, IsBuiltAs, IsClose, IsClosedAs, IsColumn, IsColumnAs, IsEnd, IsEndResult, IsFiltered, IsHead, IsReadFrame, IsRight, IsShown, IsStrip, ShowsSlot, shown_text}
+use Rattle.job_results.specs.JobResults.{IsBegunAs, IsBuiltAs, IsClose, IsClosedAs, IsColumn, IsColumnAs, IsEnd, IsEndResult, IsFiltered, IsHead, IsReadFrame, IsRight, IsShown, IsStrip, ShowsSlot, shown_text}
 use Rattle.job_results.specs.declared.result.ClosedFrame.{ClosedFrame}
 use Rattle.job_results.specs.declared.result.JobResult.{JobResult}
 use Rattle.job_results.specs.declared.result.JobResult.TheVariants as result

@@ -7,10 +7,10 @@ use Rattle.frame_headers.specs.declared.header.FrameHead.{FrameHead}
 use Rattle.frame_headers.specs.declared.header.FrameHead.TheVariants as head
 use Rattle.frame_output.specs.declared.rendering.Format.{Format}
 use Rattle.numbered_frames.specs.Coded.{CodedFrame, coded, coded_from, headed_from}
-use Rattle.numbered_frames.specs.Numbers.{frame_at}
+use Rattle.numbered_frames.specs.FrameNumbers.{frame_at}
 use Rattle.seq_decoder.specs.Outputs.{Putting}
-use Rattle.seq_decoder.specs.State.{persist_of}
-use Rattle.job_results.specs.Results.{ShowsSlot}
+use Rattle.seq_decoder.specs.DecoderState.{persist_of}
+use Rattle.job_results.specs.JobResults.{ShowsSlot}
 use Rattle.numbered_frames.specs.Films.{Film}
 
 none_coded : (p : Putting) (frame : List ℕ) (slot : ℕ) (read : Result FrameHead Rule) → read ≡ Ok (head.ShowExisting slot) → headed_from p frame read ≡ None

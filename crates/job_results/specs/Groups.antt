@@ -10,10 +10,10 @@ use Rattle.job_order.specs.Truths.{Truth}
 use Rattle.job_order.specs.Worlds.{Building, Rules}
 use Rattle.job_order.specs.declared.segment.Shown.{Shown}
 use Rattle.numbered_frames.specs.Films.{Film}
-use Rattle.numbered_frames.specs.Numbers.{before, text}
-use Rattle.numbered_frames.specs.Pictures.{pictures}
+use Rattle.numbered_frames.specs.FrameNumbers.{before, text}
+use Rattle.numbered_frames.specs.NumberedPictures.{pictures}
 use Rattle.job_results.specs.Meaning.{fails, parses, rows_of, slots_of}
-use Rattle.job_results.specs.Results.{IsRight}
+use Rattle.job_results.specs.JobResults.{IsRight}
 use Rattle.job_results.specs.declared.result.JobResult.{JobResult}
 use Rattle.job_results.specs.declared.result.JobResult.TheVariants as result
 use Rattle.job_results.specs.declared.result.ShownFrame.{ShownFrame}

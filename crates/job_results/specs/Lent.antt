@@ -7,10 +7,10 @@ use Rattle.frame_steps.specs.declared.columns.PlannedColumn.{PlannedColumn}
 use Rattle.frame_steps.specs.declared.kept.Kept.{Kept}
 use Rattle.tile_syntax.specs.declared.plans.Unplanned.{Unplanned}
 use Rattle.numbered_frames.specs.Coded.{CodedFrame, coded}
-use Rattle.numbered_frames.specs.Numbers.{before}
+use Rattle.numbered_frames.specs.FrameNumbers.{before}
 use Rattle.seq_decoder.specs.Outputs.{Putting}
-use Rattle.job_results.specs.Planes.{Keeps}
-use Rattle.job_results.specs.Results.{IsAnyFiltered, IsAnyStrip, IsBegunAs, IsColumnAs, ShowsSlot}
+use Rattle.job_results.specs.ResultPlanes.{Keeps}
+use Rattle.job_results.specs.JobResults.{IsAnyFiltered, IsAnyStrip, IsBegunAs, IsColumnAs, ShowsSlot}
 use Rattle.job_results.specs.declared.any_planes.AnyPlanes.{AnyPlanes}
 use Rattle.job_results.specs.declared.lent.HeadRead.{HeadRead}
 use Rattle.job_results.specs.declared.lent.HeadRead.TheVariants as head

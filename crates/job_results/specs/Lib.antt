@@ -1,5 +1,5 @@
-pub mod Planes
-pub mod Results
+pub mod ResultPlanes
+pub mod JobResults
 pub mod Meaning
 pub mod Groups
 pub mod Endings

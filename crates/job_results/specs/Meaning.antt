@@ -4,13 +4,13 @@ use Rattle.vp9_types.specs.Shapes.{mi_rows}
 use Rattle.vp9_types.specs.Sizes.{superblocks_along}
 use Rattle.frame_output.specs.declared.rendering.Format.{Format}
 use Rattle.seq_decoder.specs.Outputs.{Putting}
-use Rattle.seq_decoder.specs.State.{Picture}
+use Rattle.seq_decoder.specs.DecoderState.{Picture}
 use Rattle.job_order.specs.Truths.{Truth}
 use Rattle.job_order.specs.Worlds.{Building, Rules}
 use Rattle.job_order.specs.declared.segment.Shown.{Shown}
-use Rattle.numbered_frames.specs.Numbers.{before, text}
-use Rattle.numbered_frames.specs.Pictures.{pictures}
-use Rattle.job_results.specs.Results.{IsRight}
+use Rattle.numbered_frames.specs.FrameNumbers.{before, text}
+use Rattle.numbered_frames.specs.NumberedPictures.{pictures}
+use Rattle.job_results.specs.JobResults.{IsRight}
 use Rattle.job_results.specs.declared.result.JobResult.{JobResult}
 use Rattle.job_results.specs.declared.result.JobResult.TheVariants as result
 use Rattle.job_results.specs.declared.result.ShownFrame.{ShownFrame}

@@ -10,11 +10,11 @@ ghost use Rattle.job_crew.specs.Runs.{IsDue, IsEnded};
 ghost use Rattle.job_crew.specs.declared.outlet.Ending.{Ending};
 ghost use Rattle.seq_decoder.specs.Outcomes.{Decodes};
 ghost use Rattle.numbered_frames.specs.Films.{Film, GoesOn};
-ghost use Rattle.numbered_frames.specs.Numbers.{film_output};
+ghost use Rattle.numbered_frames.specs.FrameNumbers.{film_output};
 ghost use Rattle.job_results.specs.Endings.{HasRefused, IsOutcome};
 ghost use Rattle.job_results.specs.Meaning.{decode_rules, decode_truth};
 ghost use Rattle.job_results.specs.Groups.{IsCounted, group_rules, group_truth, in_film};
-ghost use Rattle.job_results.specs.Results.{IsRight};
+ghost use Rattle.job_results.specs.JobResults.{IsRight};
 ghost use Rattle.job_results.specs.declared.result.JobResult.{JobResult as AnyResult};
 
 /// A run of right results that has ended is the decode of its film: whatever jobs were done by whom and when, the sink has taken the

@@ -2,7 +2,7 @@
 
 ghost use Rattle.std.specs.Prelude.{◌≡◌, ◌+◌, Some, IfSome};
 ghost use Rattle.numbered_frames.specs.Coded.{CodedFrame, coded};
-ghost use Rattle.job_results.specs.Results.{IsClosedAs, IsEnd};
+ghost use Rattle.job_results.specs.JobResults.{IsClosedAs, IsEnd};
 ghost use Rattle.job_results.specs.Lent.{IsBegunFrame, IsColumnOf, IsFilteredOf, IsHeadRead, IsStripOf};
 
 use crate::any_planes::AnyPlanes;

@@ -62,7 +62,7 @@ impl<'a, B: DecodeRun> Meaning<JobResult<'a>> for Decode<B> {
 }
 
 impl<B: DecodeRun> Pictures for Decode<B> {
-    ghost use Rattle.numbered_frames.specs.Pictures.{pictures};
+    ghost use Rattle.numbered_frames.specs.NumberedPictures.{pictures};
 
     ghost pictures = { pictures B.format B.film };
 }

@@ -8,26 +8,26 @@ use Rattle.vp9_types.specs.declared.job.Span.{Span}
 use Rattle.vp9_types.specs.declared.rule.Rule.{Rule}
 use Rattle.vp9_types.specs.declared.rule.Rule.TheVariants.{OutputShape}
 use Rattle.band_cells.specs.Bands as bands
-use Rattle.compressed_header.specs.Header.{forward}
+use Rattle.compressed_header.specs.CompressedHeader.{forward}
 use Rattle.file_frames.specs.Walks.{Added}
 use Rattle.frame_headers.specs.Header.{head_of}
 use Rattle.frame_headers.specs.Spans.{tile_spans}
-use Rattle.frame_headers.specs.State.{shape_of}
+use Rattle.frame_headers.specs.HeaderState.{shape_of}
 use Rattle.frame_headers.specs.declared.header.FrameHead.{FrameHead}
 use Rattle.frame_headers.specs.declared.header.FrameHead.TheVariants as head
 use Rattle.frame_headers.specs.declared.header.Header.{Header}
 use Rattle.frame_output.specs.declared.rendering.Format.{Format}
-use Rattle.prob_contexts.specs.Lists.{ContextLists}
-use Rattle.frame_decoder.specs.Frames.{FrameResult, decoded, rebuilt}
-use Rattle.frame_state.specs.Reading.{FrameRead, read_all_tiles, read_frame, sources}
+use Rattle.prob_contexts.specs.ProbLists.{ContextLists}
+use Rattle.frame_decoder.specs.DecodedFrames.{FrameResult, decoded, rebuilt}
+use Rattle.frame_state.specs.FrameReading.{FrameRead, read_all_tiles, read_frame, sources}
 use Rattle.frame_state.specs.Sources.{FrameSources}
 use Rattle.seq_decoder.specs.After.{Stepped, after_coded, behind_head, decoded_in, input_of, last_of, shown_picture, state_after, step}
 use Rattle.seq_decoder.specs.Outputs.{Putting, admits, form_after, put, shown_text}
-use Rattle.seq_decoder.specs.State.{Picture, State, persist_of}
+use Rattle.seq_decoder.specs.DecoderState.{Picture, State, persist_of}
 use Rattle.seq_decoder.specs.declared.form.OutputForm.{OutputForm}
 use Rattle.numbered_frames.specs.Coded.{CodedFrame, IsFrameBefore, begun_from, coded, coded_from, headed_from, read_of, references, result_of}
-use Rattle.numbered_frames.specs.Numbers.{before, frame_at}
-use Rattle.numbered_frames.specs.Pictures.{picture_from, picture_read, pictures}
+use Rattle.numbered_frames.specs.FrameNumbers.{before, frame_at}
+use Rattle.numbered_frames.specs.NumberedPictures.{picture_from, picture_read, pictures}
 use Rattle.numbered_frames.proofs.Ways.{passed}
 use Rattle.numbered_frames.specs.Films.{Film}
 

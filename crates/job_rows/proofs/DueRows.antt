@@ -6,19 +6,19 @@ use Rattle.vp9_types.specs.Sizes.{superblocks_along}
 use Rattle.vp9_types.specs.declared.job.JobName.TheVariants.{Rows, Filter}
 use Rattle.vp9_types.specs.declared.shape.Depth.{Depth}
 use Rattle.vp9_types.specs.declared.shape.Depth.TheVariants.{Eight, Ten, Twelve}
-use Rattle.picture_table.specs.Pictures.{KeepInWords}
-use Rattle.frame_headers.specs.State.{shape_of}
+use Rattle.picture_table.specs.KeptPictures.{KeepInWords}
+use Rattle.frame_headers.specs.HeaderState.{shape_of}
 use Rattle.frame_output.specs.declared.rendering.Format.{Format}
-use Rattle.frame_state.specs.Reading.{FrameRead}
+use Rattle.frame_state.specs.FrameReading.{FrameRead}
 use Rattle.job_crew.specs.Runs.{IsDue}
 use Rattle.job_order.specs.Worlds.{Building}
 use Rattle.numbered_frames.specs.Coded.{CodedFrame, coded, read_of}
 use Rattle.job_results.specs.Meaning.{builds, decode_rules, decode_truth, shown_as}
-use Rattle.job_results.specs.Results.{IsBuiltAs, IsClose, IsClosedAs}
+use Rattle.job_results.specs.JobResults.{IsBuiltAs, IsClose, IsClosedAs}
 use Rattle.job_results.specs.declared.result.ClosedFrame.{ClosedFrame}
 use Rattle.job_results.specs.declared.result.JobResult.{JobResult}
 use Rattle.job_results.specs.declared.result.JobResult.TheVariants as result
-use Rattle.job_rows.specs.Rows.{HasRow, HasStrip, OfFrame}
+use Rattle.job_rows.specs.LentRows.{HasRow, HasStrip, OfFrame}
 use Rattle.job_rows.proofs.CodedFrames.{same_coded}
 use Rattle.numbered_frames.specs.Films.{Film}
 

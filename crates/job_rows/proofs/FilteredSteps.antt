@@ -15,45 +15,45 @@ use Rattle.planes.specs.declared.frame_planes.FramePlanes.{FramePlanes}
 use Rattle.band_cells.specs.Bands as bands
 use Rattle.block_rebuild.specs.Strips.{with_blocks}
 use Rattle.counting_reader.specs.Counting.{Settled}
-use Rattle.frame_headers.specs.Sizes.{IsFrameSize}
+use Rattle.frame_headers.specs.FrameSizes.{IsFrameSize}
 use Rattle.frame_headers.specs.Spans.{tile_count, tile_spans}
-use Rattle.frame_headers.specs.State.{shape_of}
+use Rattle.frame_headers.specs.HeaderState.{shape_of}
 use Rattle.frame_headers.specs.declared.header.FrameSize.{FrameSize}
 use Rattle.frame_headers.specs.declared.header.Header.{Header}
 use Rattle.frame_output.specs.declared.rendering.Format.{Format}
-use Rattle.frame_decoder.specs.Frames.{raw, rebuilding}
+use Rattle.frame_decoder.specs.DecodedFrames.{raw, rebuilding}
 use Rattle.loop_edges.specs.Cells.{setting_of}
-use Rattle.loop_edges.specs.Edges.{filtered_frame}
+use Rattle.loop_edges.specs.FrameEdges.{filtered_frame}
 use Rattle.loop_edges.specs.declared.setting.EdgeSetting.{EdgeSetting}
 use Rattle.loop_filter.specs.Code.{AllFit}
 use Rattle.filter_rows.specs.Buffer.{AwaitsRow, HasFiltered}
 use Rattle.filtered_rows.specs.Buffers.{IsFilteredAbove, StandsAbove}
-use Rattle.filtered_rows.specs.Rows.{HasFinalRows, HoldRows, IsFiltered}
+use Rattle.filtered_rows.specs.BufferRows.{HasFinalRows, HoldRows, IsFiltered}
 use Rattle.filtered_rows.proofs.Finals.{filtered_is_final}
 use Rattle.filtered_rows.proofs.Held.{one_more_holds}
-use Rattle.frame_state.specs.Columns.{blocks_of}
+use Rattle.frame_state.specs.KeptColumns.{blocks_of}
 use Rattle.frame_state.specs.declared.columns.TileColumn.{TileColumn}
-use Rattle.frame_state.specs.Plans.{ColumnRead, plan_of, tile_bytes}
-use Rattle.frame_state.specs.Reading.{FrameRead, all_blocks, blocks_read}
+use Rattle.frame_state.specs.ColumnPlans.{ColumnRead, plan_of, tile_bytes}
+use Rattle.frame_state.specs.FrameReading.{FrameRead, all_blocks, blocks_read}
 use Rattle.frame_state.proofs.ColumnBlocks.{all_fit}
 use Rattle.frame_state.proofs.PlanReads.{reads_columns}
-use Rattle.column_order.specs.Columns.{column_from, column_to}
+use Rattle.column_order.specs.ColumnStrips.{column_from, column_to}
 use Rattle.column_strips.specs.Laws.{AreColumnStrips}
-use Rattle.column_strips.specs.Rows.{AreRow}
+use Rattle.column_strips.specs.StripRows.{AreRow}
 use Rattle.column_strips.proofs.RowOfStrips.{row_is}
-use Rattle.recon_rows.specs.Strips.{HoldsStrip}
+use Rattle.recon_rows.specs.OwnStrips.{HoldsStrip}
 use Rattle.seq_decoder.specs.After.{last_of}
 use Rattle.seq_decoder.specs.Code.{last_held, last_of_code}
 use Rattle.seq_decoder.specs.Outputs.{Putting}
-use Rattle.seq_decoder.specs.State.{LastFrame}
+use Rattle.seq_decoder.specs.DecoderState.{LastFrame}
 use Rattle.seq_decoder.specs.declared.last.LastFrame as code_last
 use Rattle.numbered_frames.specs.Coded.{CodedFrame, coded, read_of, references, result_of}
-use Rattle.numbered_frames.specs.Pictures.{pictures}
+use Rattle.numbered_frames.specs.NumberedPictures.{pictures}
 use Rattle.frame_steps.specs.declared.beginning.BegunFrame.{BegunFrame}
 use Rattle.job_results.specs.Lent.{IsBegunFrame}
-use Rattle.job_results.specs.Results.{IsBuiltAs, IsClosedAs, IsFilteredAs, IsStripAs}
+use Rattle.job_results.specs.JobResults.{IsBuiltAs, IsClosedAs, IsFilteredAs, IsStripAs}
 use Rattle.job_results.specs.declared.result.ClosedFrame.{ClosedFrame}
-use Rattle.job_rows.specs.Rows.{AreStrips, IsFilteredOver, raw_from, raw_frame, raw_read}
+use Rattle.job_rows.specs.LentRows.{AreStrips, IsFilteredOver, raw_from, raw_frame, raw_read}
 use Rattle.job_rows.proofs.CodedFrames.{CodedBy, coded_by, inner, last_is, picture_is, same_coded, same_header}
 use Rattle.numbered_frames.specs.Films.{Film}
 

@@ -17,18 +17,18 @@ use Rattle.frame_headers.specs.declared.header.Header.{Header}
 use Rattle.frame_steps.specs.Kept.{number_in}
 use Rattle.frame_steps.specs.declared.beginning.BegunFrame.{BegunFrame}
 use Rattle.job_results.specs.Lent.{IsBegunFrame}
-use Rattle.inter_contexts.specs.References.{reference_in}
+use Rattle.inter_contexts.specs.BlockReferences.{reference_in}
 use Rattle.seq_decoder.specs.Outputs.{Putting}
-use Rattle.seq_decoder.specs.State.{Picture, persist_of, slot_shape}
+use Rattle.seq_decoder.specs.DecoderState.{Picture, persist_of, slot_shape}
 use Rattle.seq_decoder.proofs.HeaderReferences.{HoldsReference, references_held}
 use Rattle.numbered_frames.specs.Coded.{CodedFrame, IsFrameBefore, coded}
-use Rattle.numbered_frames.specs.Numbers.{before, frame_at, start}
-use Rattle.numbered_frames.specs.Pictures.{pictures}
+use Rattle.numbered_frames.specs.FrameNumbers.{before, frame_at, start}
+use Rattle.numbered_frames.specs.NumberedPictures.{pictures}
 use Rattle.numbered_frames.proofs.SlotFrames.{slots_hold}
-use Rattle.job_results.specs.Results.{IsClosedAs}
+use Rattle.job_results.specs.JobResults.{IsClosedAs}
 use Rattle.job_results.specs.declared.result.ClosedFrame.{ClosedFrame}
-use Rattle.job_rows.specs.References.{HaveBands, IsInside, IsNumberOf, IsReferred, Names, NamesAll}
-use Rattle.job_rows.specs.Rows.{IsOfDepth}
+use Rattle.job_rows.specs.LentReferences.{HaveBands, IsInside, IsNumberOf, IsReferred, Names, NamesAll}
+use Rattle.job_rows.specs.LentRows.{IsOfDepth}
 use Rattle.job_rows.proofs.CodedFrames.{CodedBy, IsPictureOf, before_is, coded_by, inner, same_coded, slot_at}
 use Rattle.numbered_frames.specs.Films.{Film}
 

@@ -22,33 +22,33 @@ use Rattle.band_needs.proofs.Exact.{needs_are}
 use Rattle.band_needs.specs.Code.{shapes_of}
 use Rattle.band_needs.specs.Needs.{needs_of}
 use Rattle.band_needs.specs.Ranges.{needs_at}
-use Rattle.band_needs.specs.Reads.{AreRead, BlocksRead, IsRangeOf, ReadsBy}
+use Rattle.band_needs.specs.BandReads.{AreRead, BlocksRead, IsRangeOf, ReadsBy}
 use Rattle.band_needs.specs.declared.ranges.BandNeeds.{BandNeeds}
 use Rattle.band_needs.specs.declared.ranges.BandRange.{BandRange}
 use Rattle.band_references.proofs.Inside.{bands_inside}
 use Rattle.band_references.proofs.Served.{blocks_served}
-use Rattle.band_references.specs.References.{IsThere}
+use Rattle.band_references.specs.BandReferences.{IsThere}
 use Rattle.block_rebuild.specs.Code.{AreServed, picture_of, reference_of, rebuilding_of}
 use Rattle.block_rebuild.specs.InterBlocks.{Rebuilding, ReferencePicture, no_picture}
 use Rattle.block_rebuild.specs.declared.references.Rebuilding as code
 use Rattle.block_rebuild.specs.declared.references.ReferencePicture as code_picture
 use Rattle.counting_reader.specs.Counting.{Settled}
 use Rattle.filtered_rows.specs.Code.{held_in, map_in, rows_from, width_in}
-use Rattle.filtered_rows.specs.Rows.{RowSpan}
+use Rattle.filtered_rows.specs.BufferRows.{RowSpan}
 use Rattle.filtered_rows.proofs.Held.{rows_have_bands}
 use Rattle.frame_close.specs.Code.{GivesColumn}
 use Rattle.frame_headers.specs.References.{is_in_range}
-use Rattle.frame_headers.specs.Sizes.{HasFrameSize, IsFrameSize}
+use Rattle.frame_headers.specs.FrameSizes.{HasFrameSize, IsFrameSize}
 use Rattle.frame_headers.specs.Spans.{tile_count, tile_spans}
-use Rattle.frame_headers.specs.State.{shape_of}
+use Rattle.frame_headers.specs.HeaderState.{shape_of}
 use Rattle.frame_headers.specs.declared.header.FrameKind.{FrameKind}
 use Rattle.frame_headers.specs.declared.header.FrameKind.TheVariants.{Key, IntraOnly, Inter}
 use Rattle.frame_headers.specs.declared.header.Header.{Header}
 use Rattle.frame_headers.specs.declared.header.InterFields.{InterFields}
-use Rattle.frame_decoder.specs.Frames.{rebuilding}
+use Rattle.frame_decoder.specs.DecodedFrames.{rebuilding}
 use Rattle.frame_output.specs.declared.rendering.Format.{Format}
-use Rattle.frame_state.specs.Columns.{IsTileColumn, limit_of}
-use Rattle.frame_state.specs.Plans.{ColumnRead, plan_of, tile_bytes}
+use Rattle.frame_state.specs.KeptColumns.{IsTileColumn, limit_of}
+use Rattle.frame_state.specs.ColumnPlans.{ColumnRead, plan_of, tile_bytes}
 use Rattle.frame_state.specs.Sources.{adapts}
 use Rattle.frame_state.proofs.PlanReads.{reads_columns}
 use Rattle.frame_setting.specs.declared.setting.FrameSetting.{FrameSetting}
@@ -56,29 +56,29 @@ use Rattle.frame_steps.specs.declared.beginning.BegunFrame.{BegunFrame}
 use Rattle.picture_range.proofs.Ranges.{picture_small}
 use Rattle.job_results.specs.Lent.{IsBegunFrame}
 use Rattle.frame_headers.specs.Tiles.{AreFewTiles}
-use Rattle.frame_steps.specs.Frames.{HaveSizes, counts_of, row_needs_of, shapes_by}
+use Rattle.frame_steps.specs.StepResults.{HaveSizes, counts_of, row_needs_of, shapes_by}
 use Rattle.frame_steps.specs.declared.columns.PlannedColumn.{PlannedColumn}
 use Rattle.frame_steps.specs.declared.strips.PlannedRow.{PlannedRow}
-use Rattle.inter_contexts.specs.References.{reference_in, second_in_range}
+use Rattle.inter_contexts.specs.BlockReferences.{reference_in, second_in_range}
 use Rattle.inter_modes.specs.Code.{RefersInRange}
 use Rattle.inter_places.specs.Places.{IsReference}
-use Rattle.column_order.specs.Columns.{column_from, column_to}
-use Rattle.recon_rows.specs.Rows.{blocks_between}
-use Rattle.recon_rows.specs.Strips.{HoldsRowOf, HoldsStrip, IsAbove, IsReadPlan, blocks_of_plan}
+use Rattle.column_order.specs.ColumnStrips.{column_from, column_to}
+use Rattle.recon_rows.specs.RebuiltRows.{blocks_between}
+use Rattle.recon_rows.specs.OwnStrips.{HoldsRowOf, HoldsStrip, IsAbove, IsReadPlan, blocks_of_plan}
 use Rattle.recon_rows.proofs.StripPlans.{plan_is, plan_read}
 use Rattle.seq_decoder.specs.After.{picture_in, references_of}
-use Rattle.seq_decoder.specs.State.{Picture}
+use Rattle.seq_decoder.specs.DecoderState.{Picture}
 use Rattle.seq_decoder.proofs.PastLemmas.{is_reference}
 use Rattle.tile_syntax.specs.Code.{IsKept, IsPlanAsRead}
 use Rattle.tile_syntax.specs.declared.plans.ColumnPlan.{ColumnPlan}
 use Rattle.tile_syntax.specs.declared.plans.Unplanned.{Unplanned}
 use Rattle.tile_syntax.specs.declared.plans.Unplanned.TheVariants as unplanned
 use Rattle.numbered_frames.specs.Coded.{CodedFrame, coded, read_of, references}
-use Rattle.numbered_frames.specs.Pictures.{pictures}
-use Rattle.job_results.specs.Results.{IsColumnAs, IsPlannedAs, IsStripAs}
-use Rattle.job_rows.specs.References.{AreInside, IsInside, IsReferenceRows}
-use Rattle.job_rows.specs.Rows.{HasStrip, IsStripOver}
-use Rattle.job_rows.specs.Strips.{AreAllRows, IsPicture, IsPlannedRow, ReadsRows, RefersToNone}
+use Rattle.numbered_frames.specs.NumberedPictures.{pictures}
+use Rattle.job_results.specs.JobResults.{IsColumnAs, IsPlannedAs, IsStripAs}
+use Rattle.job_rows.specs.LentReferences.{AreInside, IsInside, IsReferenceRows}
+use Rattle.job_rows.specs.LentRows.{HasStrip, IsStripOver}
+use Rattle.job_rows.specs.LentStrips.{AreAllRows, IsPicture, IsPlannedRow, ReadsRows, RefersToNone}
 use Rattle.job_rows.specs.declared.references.ReferenceRows.{ReferenceRows}
 use Rattle.job_rows.specs.declared.strips.AllRows.{AllRows}
 use Rattle.job_rows.proofs.CodedFrames.{coded_by, same_coded, same_header}

@@ -1,3 +1,3 @@
-pub mod Rows
-pub mod References
-pub mod Strips
+pub mod LentRows
+pub mod LentReferences
+pub mod LentStrips

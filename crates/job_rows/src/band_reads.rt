@@ -3,7 +3,7 @@
 ghost use Rattle.vp9_types.specs.declared.job.JobName.TheVariants.{Rows};
 ghost use Rattle.job_crew.specs.Runs.{IsDue};
 ghost use Rattle.job_results.specs.Meaning.{decode_rules, decode_truth};
-ghost use Rattle.job_rows.specs.References.{IsReferred};
+ghost use Rattle.job_rows.specs.LentReferences.{IsReferred};
 
 use crate::references::number_of;
 use crate::strips::planned;

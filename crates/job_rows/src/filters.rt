@@ -4,21 +4,21 @@ ghost use Rattle.std.specs.Prelude.{◌≡◌, ◌≤◌, ◌<◌, ℕ, List, So
 ghost use Rattle.std.specs.Option.{option_copied};
 ghost use Rattle.vp9_types.specs.Shapes.{mi_rows};
 ghost use Rattle.vp9_types.specs.Sizes.{greatest, superblocks_along};
-ghost use Rattle.frame_headers.specs.State.{shape_of};
+ghost use Rattle.frame_headers.specs.HeaderState.{shape_of};
 ghost use Rattle.planes.specs.Pictures.{FitsPlanes};
 ghost use Rattle.loop_edges.specs.Cells.{setting_of};
-ghost use Rattle.frame_state.specs.Columns.{blocks_of};
-ghost use Rattle.frame_state.specs.Reading.{all_blocks};
-ghost use Rattle.column_strips.specs.Rows.{AreRow};
+ghost use Rattle.frame_state.specs.KeptColumns.{blocks_of};
+ghost use Rattle.frame_state.specs.FrameReading.{all_blocks};
+ghost use Rattle.column_strips.specs.StripRows.{AreRow};
 ghost use Rattle.filter_rows.specs.Buffer.{HasFiltered};
 ghost use Rattle.filtered_rows.specs.Buffers.{IsFilteredAbove, StandsAbove};
 ghost use Rattle.vp9_types.specs.declared.job.JobName.TheVariants.{Filter};
-ghost use Rattle.picture_table.specs.Pictures.{KeepInBytes, KeepInWords};
+ghost use Rattle.picture_table.specs.KeptPictures.{KeepInBytes, KeepInWords};
 ghost use Rattle.job_crew.specs.Runs.{IsDue};
 ghost use Rattle.frame_output.specs.declared.rendering.Format.{Format};
 ghost use Rattle.job_results.specs.Meaning.{decode_rules, decode_truth};
-ghost use Rattle.job_results.specs.Results.{IsFiltered, IsFilteredAs};
-ghost use Rattle.job_rows.specs.Rows.{AreStrips, HasRow, IsFilteredOver, IsOfDepth, OfFrame};
+ghost use Rattle.job_results.specs.JobResults.{IsFiltered, IsFilteredAs};
+ghost use Rattle.job_rows.specs.LentRows.{AreStrips, HasRow, IsFilteredOver, IsOfDepth, OfFrame};
 ghost use Rattle.numbered_frames.specs.Films.{Film};
 
 use crate::lent::{depth_of, filtered_planes, strip_planes};

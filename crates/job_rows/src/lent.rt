@@ -3,11 +3,11 @@
 ghost use Rattle.std.specs.Prelude.{◌≡◌, ◌≤◌, ◌-◌, Some, IfOk, length, map};
 ghost use Rattle.vp9_types.specs.Shapes.{mi_rows};
 ghost use Rattle.vp9_types.specs.Sizes.{superblocks_along};
-ghost use Rattle.filtered_rows.specs.Rows.{HasFinalRows, HoldRows};
+ghost use Rattle.filtered_rows.specs.BufferRows.{HasFinalRows, HoldRows};
 ghost use Rattle.numbered_frames.specs.Coded.{CodedFrame, coded};
-ghost use Rattle.numbered_frames.specs.Pictures.{pictures};
-ghost use Rattle.job_results.specs.Results.{IsFilteredAs, IsStripAs};
-ghost use Rattle.job_rows.specs.Rows.{IsOfDepth, OfFrame};
+ghost use Rattle.numbered_frames.specs.NumberedPictures.{pictures};
+ghost use Rattle.job_results.specs.JobResults.{IsFilteredAs, IsStripAs};
+ghost use Rattle.job_rows.specs.LentRows.{IsOfDepth, OfFrame};
 
 use crate::sample::PlaneSample;
 use job_crew::Results;

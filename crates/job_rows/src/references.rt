@@ -4,9 +4,9 @@ ghost use Rattle.std.specs.Prelude.{◌≡◌, ◌<◌, ◌+◌, IfOk, IfSome, N
 ghost use Rattle.vp9_types.specs.Shapes.{mi_rows};
 ghost use Rattle.vp9_types.specs.Sizes.{superblocks_along};
 ghost use Rattle.filtered_rows.specs.Code.{rows_from};
-ghost use Rattle.filtered_rows.specs.Rows.{HoldRows};
-ghost use Rattle.numbered_frames.specs.Pictures.{pictures};
-ghost use Rattle.job_rows.specs.References.{IsInside, IsNumberOf, IsReferenceRows, IsReferred};
+ghost use Rattle.filtered_rows.specs.BufferRows.{HoldRows};
+ghost use Rattle.numbered_frames.specs.NumberedPictures.{pictures};
+ghost use Rattle.job_rows.specs.LentReferences.{IsInside, IsNumberOf, IsReferenceRows, IsReferred};
 
 use crate::lent::rows_of;
 use crate::sample::PlaneSample;

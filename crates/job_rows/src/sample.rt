@@ -2,8 +2,8 @@
 
 ghost use Rattle.std.specs.Prelude.{◌≡◌, Some};
 ghost use Rattle.std.specs.Option.{option_copied};
-ghost use Rattle.picture_table.specs.Pictures.{KeepInBytes, KeepInWords};
-ghost use Rattle.job_results.specs.Planes.{Keeps};
+ghost use Rattle.picture_table.specs.KeptPictures.{KeepInBytes, KeepInWords};
+ghost use Rattle.job_results.specs.ResultPlanes.{Keeps};
 
 use job_results::AnyPlanes;
 use planes::FramePlanes;
@@ -14,7 +14,7 @@ pub trait PlaneSample: Sample {
     ghost use Rattle.std.specs.Prelude.{ℕ};
     ghost use Rattle.vp9_types.specs.declared.shape.Depth.{Depth};
     ghost use Rattle.numbered_frames.specs.Coded.{CodedFrame};
-    ghost use Rattle.job_results.specs.Results.{IsAnyFiltered, IsAnyStrip, IsFilteredAs, IsStripAs};
+    ghost use Rattle.job_results.specs.JobResults.{IsAnyFiltered, IsAnyStrip, IsFilteredAs, IsStripAs};
     ghost use Rattle.job_results.specs.declared.any_planes.AnyPlanes.{AnyPlanes as Planes};
     ghost use Rattle.planes.specs.declared.frame_planes.FramePlanes.{FramePlanes as Kept};
 

@@ -4,10 +4,10 @@ use Rattle.vp9_types.specs.Syntax.{Syntax}
 use Rattle.vp9_types.specs.declared.rule.Rule.{Rule}
 use Rattle.prob_contexts.specs.declared.kind.ProbKind.{ProbKind}
 use Rattle.counting_reader.specs.Counting.{Settled, settle, uncounted, in_order}
-use Rattle.counting_reader.specs.Symbols.{counted_flag}
+use Rattle.counting_reader.specs.CountedSymbols.{counted_flag}
 use Rattle.bool_encoder.specs.Part.{Part}
-use Rattle.bool_encoder.specs.Bools.{Puts}
-use Rattle.bool_lists.specs.Lists.{HasPut, one_bool}
+use Rattle.bool_encoder.specs.WrittenBools.{Puts}
+use Rattle.bool_lists.specs.BoolLists.{HasPut, one_bool}
 use Rattle.bool_lists.proofs.Ways.{Between, between, flag_way}
 use Rattle.bool_encoder.specs.CountedBools.{valued, PutsValue}
 use Rattle.bool_encoder.proofs.CountedPuts.{valued_settle, valued_flag, valued_uncounted, valued_in_order}

@@ -9,20 +9,20 @@ use Rattle.std.proofs.lemmas.Bool.Decides.{Decides-int_eq}
 use Rattle.vp9_types.specs.Syntax.{done, ◌>>=◌}
 use Rattle.vp9_types.specs.declared.shape.Depth.{Depth}
 use Rattle.vp9_tables.specs.Coefficients.{category_of}
-use Rattle.vp9_tables.specs.Trees.{coef_tail_from}
+use Rattle.vp9_tables.specs.SymbolTrees.{coef_tail_from}
 use Rattle.bool_decoder.specs.Bools.{flag}
 use Rattle.bool_encoder.specs.Part.{Part, after_put}
 use Rattle.bool_encoder.specs.Laws.{after_bools}
-use Rattle.bool_encoder.specs.Bools.{Puts}
-use Rattle.bool_lists.specs.Lists.{HasPut, has_leaf, one_bool}
+use Rattle.bool_encoder.specs.WrittenBools.{Puts}
+use Rattle.bool_lists.specs.BoolLists.{HasPut, has_leaf, one_bool}
 use Rattle.bool_lists.proofs.Ways.{between, flag_way, has_one, of_leaf, spells_on, spells_none, tree_way}
-use Rattle.coef_tokens.specs.Symbols.{bits_from, category_base, class_of, level, magnitude, tail_probs, tail_token, with_sign}
+use Rattle.coef_tokens.specs.TokenSymbols.{bits_from, category_base, class_of, level, magnitude, tail_probs, tail_token, with_sign}
 use Rattle.coef_tokens.specs.Steps.{more_coefs, step, token, token_from_one}
 use Rattle.coef_tokens.specs.declared.step.Step.{Step}
 use Rattle.coef_tokens.specs.declared.step.Step.TheVariants.{End, Zero, Level}
 use Rattle.counting_reader.specs.Counting.{in_order, settle, uncounted}
 use Rattle.bool_encoder.specs.CountedBools.{PutsValue}
-use Rattle.level_lists.specs.Levels.{bits_at, spelled_coef, spelled_level, spelled_more, spelled_rest, spelled_token, token_of}
+use Rattle.level_lists.specs.LevelLists.{bits_at, spelled_coef, spelled_level, spelled_more, spelled_rest, spelled_token, token_of}
 use Rattle.level_lists.proofs.Counted.{flag_put, settle_put, two_put, uncounted_put}
 
 ---- A magnitude ----

@@ -4,11 +4,11 @@ use Rattle.std.specs.Prelude.{nat_eq, slice_index}
 use Rattle.std.specs.List.{AllByRecursion, IsDistinct}
 use Rattle.std.proofs.lemmas.Bool.{eq-eqb, eqb-false, ne_eqb}
 use Rattle.vp9_tables.proofs.ScanLaws.{order}
-use Rattle.prob_contexts.specs.Lists.{ContextLists}
+use Rattle.prob_contexts.specs.ProbLists.{ContextLists}
 use Rattle.bool_encoder.specs.Part.{Part}
-use Rattle.bool_lists.specs.Lists.{HasPut}
+use Rattle.bool_lists.specs.BoolLists.{HasPut}
 use Rattle.bool_lists.proofs.Ways.{spells_on, spells_none}
-use Rattle.coef_tokens.specs.Blocks.{block_tables}
+use Rattle.coef_tokens.specs.TokenKinds.{block_tables}
 use Rattle.coef_tokens.specs.Places.{Read, Tables, Tokens, block_tokens, goes_on, level_at, no_tokens, row_at, step_by, tokens_from, with_level, with_zero}
 use Rattle.coef_tokens.specs.Code.{HoldsLevels}
 use Rattle.coef_tokens.specs.declared.step.Step.{Step}
@@ -16,8 +16,8 @@ use Rattle.coef_tokens.specs.declared.step.Step.TheVariants.{End, Zero, Level}
 use Rattle.coef_tokens.specs.declared.tables.TokenKind.{TokenKind}
 use Rattle.bool_encoder.specs.CountedBools.{PutsValue}
 use Rattle.bool_encoder.proofs.CountedPuts.{value_by_counting}
-use Rattle.token_writer.specs.Fits.{PutsLevels, level_of}
-use Rattle.level_lists.specs.Levels.{spelled_from, spelled_levels, spelled_place}
+use Rattle.token_writer.specs.TokenFits.{PutsLevels, level_of}
+use Rattle.level_lists.specs.LevelLists.{spelled_from, spelled_levels, spelled_place}
 use Rattle.level_lists.proofs.Counted.{settle_put, two_put}
 use Rattle.level_lists.proofs.LevelWays.{IsStep, step_way}
 

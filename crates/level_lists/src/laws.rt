@@ -2,14 +2,14 @@
 
 ghost use Rattle.std.specs.Prelude.{ℕ, ℤ, List, nat_eq};
 ghost use Rattle.std.specs.List.{IsDistinct};
-ghost use Rattle.prob_contexts.specs.Lists.{ContextLists};
+ghost use Rattle.prob_contexts.specs.ProbLists.{ContextLists};
 ghost use Rattle.bool_encoder.specs.Part.{Part};
-ghost use Rattle.bool_lists.specs.Lists.{HasPut};
-ghost use Rattle.coef_tokens.specs.Blocks.{block_tables};
+ghost use Rattle.bool_lists.specs.BoolLists.{HasPut};
+ghost use Rattle.coef_tokens.specs.TokenKinds.{block_tables};
 ghost use Rattle.coef_tokens.specs.Places.{Tables};
 ghost use Rattle.coef_tokens.specs.declared.tables.TokenKind.{TokenKind};
-ghost use Rattle.token_writer.specs.Fits.{PutsLevels};
-ghost use Rattle.level_lists.specs.Levels.{spelled_levels};
+ghost use Rattle.token_writer.specs.TokenFits.{PutsLevels};
+ghost use Rattle.level_lists.specs.LevelLists.{spelled_levels};
 
 /// Whatever bools lead the tokens of a transform block to levels, they are those of its list: there is one way to put them, if
 /// the scan takes each position once. The scans of all sizes and kinds do.

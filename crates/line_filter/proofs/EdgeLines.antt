@@ -15,7 +15,7 @@ use Rattle.line_filter.specs.declared.edge.FilterWidth.TheVariants.{Four, Eight}
 use Rattle.line_filter.specs.declared.edge.Limits.{Limits}
 use Rattle.line_filter.specs.declared.edge.Pass.TheVariants.{Vertical, Horizontal}
 use Rattle.line_filter.specs.Lines.{Line, filtered_near, filtered_line}
-use Rattle.line_filter.specs.Edges.{reach, line_at, line_down, line_along, in_order, with_line, with_edge}
+use Rattle.line_filter.specs.FilteredEdges.{reach, line_at, line_down, line_along, in_order, with_line, with_edge}
 use Rattle.line_filter.specs.Code.{IsAcross, IsAlong, down_filtered, along_filtered}
 
 pub one_more : {A : Type 0} (f : A → ℕ → A) (a : A) (n : ℕ) → fold f a (range_with_len 0 (n + 1)) ≡ f (fold f a (range_with_len 0 n)) n

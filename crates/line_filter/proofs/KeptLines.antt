@@ -15,7 +15,7 @@ use Rattle.line_filter.specs.declared.far.Far.{Far}
 use Rattle.line_filter.specs.declared.lanes.Lanes.{Lanes}
 use Rattle.line_filter.specs.declared.near.Near.{Near}
 use Rattle.line_filter.specs.Lines.{Line, p, q, filter_mask, flat_mask, flat_mask2, narrow_filter, wide_filter, filtered_near, filtered_line}
-use Rattle.line_filter.specs.Edges.{line_at, line_down, line_along, in_order}
+use Rattle.line_filter.specs.FilteredEdges.{line_at, line_down, line_along, in_order}
 use Rattle.line_filter.specs.Code.{AreLanes, is_flat_far, line_of, wide_line_of, near_between, far_between, line_between, between, down_filtered, along_filtered}
 use Rattle.line_filter.proofs.FarLines.{extended, near_same, calm_same, flat_same}
 use Rattle.line_filter.proofs.LineBlocks.{wide_line}

@@ -7,7 +7,7 @@ use Rattle.planes.specs.declared.area.Area.{Area}
 use Rattle.planes.specs.Planes.{lower_end, right_end, with_part}
 use Rattle.line_filter.specs.declared.lanes.Lanes.{Lanes}
 use Rattle.line_filter.specs.Lines.{Line, p, q}
-use Rattle.line_filter.specs.Edges.{line_at, in_order}
+use Rattle.line_filter.specs.FilteredEdges.{line_at, in_order}
 use Rattle.line_filter.specs.Code.{AreLanes, AreLanesAtMost, IsNear, IsFar, line_of, near_at, near_between, far_between, down, turned}
 use Rattle.line_filter.proofs.LaneLemmas.{wide_at}
 

@@ -16,7 +16,7 @@ use Rattle.line_filter.specs.declared.edge.Pass.{Pass}
 use Rattle.line_filter.specs.declared.edge.Pass.TheVariants.{Vertical, Horizontal}
 use Rattle.line_filter.specs.Lines as L
 use Rattle.line_filter.specs.Lines.{Line, p, q, place, mean, moved, wide_filter, narrow_filter, filtered_near, filtered_line, filter4_clamp}
-use Rattle.line_filter.specs.Edges.{reach, line_at, in_order, with_line, with_edge}
+use Rattle.line_filter.specs.FilteredEdges.{reach, line_at, in_order, with_line, with_edge}
 use Rattle.line_filter.proofs.EdgeLines.{along_at_once, down_at_once, rows_filtered, columns_filtered}
 
 pub record IsSmall (most : ℕ) (x : Line) : Type 0 where

@@ -11,7 +11,7 @@ use Rattle.line_filter.specs.declared.far.Far.{Far}
 use Rattle.line_filter.specs.declared.lanes.Lanes.{Lanes}
 use Rattle.line_filter.specs.declared.lanes.Rows.{Rows}
 use Rattle.line_filter.specs.declared.near.Near.{Near}
-use Rattle.line_filter.specs.Edges.{reach, line_down, line_along, in_order}
+use Rattle.line_filter.specs.FilteredEdges.{reach, line_down, line_along, in_order}
 use Rattle.line_filter.specs.Lines.{Line, filter_mask, flat_mask, flat_mask2}
 
 -- four samples on each side

@@ -1,3 +1,3 @@
 pub mod Lines
-pub mod Edges
+pub mod FilteredEdges
 pub mod Code

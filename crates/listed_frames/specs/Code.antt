@@ -3,9 +3,9 @@ use Rattle.std.specs.Prelude.{◌≡◌, Bool, true, false, Result, Err}
 use Rattle.frame_writer.specs.declared.written.NotWritten.{NotWritten}
 use Rattle.frame_writer.specs.declared.written.NotWritten.TheVariants.{Unsaid}
 use Rattle.frame_writer.specs.declared.written.Written.{Written}
-use Rattle.listed_symbols.specs.Blocks.{listed}
+use Rattle.listed_symbols.specs.ListedBlocks.{listed}
 use Rattle.listed_symbols.specs.declared.lists.ListedSymbols.{ListedSymbols}
-use Rattle.seq_decoder.specs.State.{State}
+use Rattle.seq_decoder.specs.DecoderState.{State}
 use Rattle.stream_forge.specs.Code.{GivesBehind}
 use Rattle.stream_forge.specs.declared.coded.CodedFrame.{CodedFrame}
 

@@ -3,7 +3,7 @@ use Rattle.std.specs.Prelude.{Bool, ◌&&◌}
 use Rattle.frame_headers.specs.declared.header.Uncompressed.TheVariants.{Coded}
 use Rattle.frame_headers.specs.declared.persist.Persist.{Persist}
 use Rattle.header_checks.specs.Headers.{can_choose, is_well_formed}
-use Rattle.header_checks.specs.Modes.{can_say_modes}
+use Rattle.header_checks.specs.ModeTests.{can_say_modes}
 use Rattle.stream_forge.specs.declared.coded.CodedFrame.{CodedFrame}
 
 -- its header can be read behind what persists, in the way that is chosen, and has these modes

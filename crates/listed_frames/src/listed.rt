@@ -3,10 +3,10 @@
 ghost use Rattle.std.specs.Prelude.{◌≡◌, true};
 ghost use Rattle.frame_headers.specs.declared.header.Uncompressed.TheVariants.{Coded};
 ghost use Rattle.header_writer.specs.WellFormed.{CanChoose, IsWellFormed};
-ghost use Rattle.prob_contexts.specs.Lists.{ContextLists};
-ghost use Rattle.compressed_writer.specs.Updates.{CanForward};
+ghost use Rattle.prob_contexts.specs.ProbLists.{ContextLists};
+ghost use Rattle.compressed_writer.specs.CodedUpdates.{CanForward};
 ghost use Rattle.seq_decoder.specs.Code.{MayDecode, StandsFor};
-ghost use Rattle.seq_decoder.specs.State.{State};
+ghost use Rattle.seq_decoder.specs.DecoderState.{State};
 ghost use Rattle.listed_frames.specs.Headings.{can_say};
 ghost use Rattle.listed_frames.specs.Code.{GivesListed};
 

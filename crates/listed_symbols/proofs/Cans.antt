@@ -9,15 +9,15 @@ use Rattle.block_plan.specs.declared.block.BlockAt.{BlockAt}
 use Rattle.block_plan.specs.declared.block.IntraPrediction.{IntraPrediction}
 use Rattle.block_plan.specs.declared.block.References.{References}
 use Rattle.mode_syntax.specs.Elements.{skips_segment}
-use Rattle.inter_contexts.specs.References.{in_range_or_rule}
+use Rattle.inter_contexts.specs.BlockReferences.{in_range_or_rule}
 use Rattle.inter_modes.specs.ModeInfo.{InterFrame}
-use Rattle.inter_modes.specs.Starts.{segment_of}
-use Rattle.inter_modes.specs.Vectors.{Sources, best_vectors}
+use Rattle.inter_modes.specs.BlockStarts.{segment_of}
+use Rattle.inter_modes.specs.BlockVectors.{Sources, best_vectors}
 use Rattle.inter_modes.specs.declared.starts.BlockStart.{BlockStart}
 use Rattle.inter_modes.specs.declared.starts.SegmentOf.{SegmentOf}
-use Rattle.mode_writer.specs.Fits.{CanLuma}
+use Rattle.mode_writer.specs.ModeFits.{CanLuma}
 use Rattle.vector_writer.specs.declared.symbols.InterSymbols.{InterSymbols}
-use Rattle.inter_writer.specs.Fits.{CanPredict, CanPutInterFrame, CanPutIntra, CanRefer, CanSayInterBlock, IsUpdated, choice_of}
+use Rattle.inter_writer.specs.InterFits.{CanPredict, CanPutInterFrame, CanPutIntra, CanRefer, CanSayInterBlock, IsUpdated, choice_of}
 use Rattle.inter_writer.specs.declared.frame_blocks.PredictionSymbols.{PredictionSymbols}
 use Rattle.inter_writer.specs.declared.frame_blocks.PredictionSymbols.TheVariants.{Intra}
 use Rattle.listed_symbols.specs.Code.{CanSayBehind, CanSayQuarter, CanSayQuarters, CanStartInter, CanStartIntra}

@@ -14,7 +14,7 @@ use Rattle.vp9_types.specs.declared.block.TxSize.TheVariants.{T4x4, T8x8, T16x16
 use Rattle.vp9_tables.specs.Numbers.{filter_number, inter_number, intra_number, reference_number, tx_number, tx_of}
 use Rattle.mode_syntax.specs.IntraModes.{intra_of}
 use Rattle.block_plan.specs.declared.block.References.{References}
-use Rattle.listed_symbols.specs.Intra.{same_intra}
+use Rattle.listed_symbols.specs.IntraTests.{same_intra}
 
 intra_is : (mode : IntraMode) → intra_of (intra_number mode) ≡ mode
 intra_is Dc = refl

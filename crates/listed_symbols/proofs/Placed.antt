@@ -7,8 +7,8 @@ use Rattle.std.proofs.lemmas.List.{drop_all, length-replicate, length-set}
 use Rattle.std.proofs.lemmas.List.Elements.{All-head, All-tail, All-set, All-replicate}
 use Rattle.vp9_types.specs.declared.shape.Depth.{Depth}
 use Rattle.coef_tokens.specs.Places.{Tables}
-use Rattle.token_writer.specs.Fits.{IsCoded, level_of, CanPut}
-use Rattle.listed_symbols.specs.Levels.{by_position, can_levels, ends, is_coded, is_zero, placed_from}
+use Rattle.token_writer.specs.TokenFits.{IsCoded, level_of, CanPut}
+use Rattle.listed_symbols.specs.ListedLevels.{by_position, can_levels, ends, is_coded, is_zero, placed_from}
 
 rest_from : (levels : List ℤ) (k : ℕ) → k < length levels → drop k levels ≡ slice_index_or levels k (pos 0) ∷ drop (suc k) levels
 rest_from [] k low = absurd (omega (arith, low))

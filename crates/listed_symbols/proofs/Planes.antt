@@ -10,16 +10,16 @@ use Rattle.std.proofs.lemmas.Slice.{between-put_mid, take-put_mid_below, drop-pu
 use Rattle.std.proofs.Math.Nat.{mul-le-mul_right}
 use Rattle.vp9_types.specs.declared.shape.Depth.{Depth}
 use Rattle.vp9_tables.specs.Scans.{area, scan_of}
-use Rattle.prob_contexts.specs.Lists.{ContextLists}
-use Rattle.coef_tokens.specs.Blocks.{block_tables}
+use Rattle.prob_contexts.specs.ProbLists.{ContextLists}
+use Rattle.coef_tokens.specs.TokenKinds.{block_tables}
 use Rattle.coef_tokens.specs.Places.{Tables}
 use Rattle.block_plan.proofs.Held.{one_long}
 use Rattle.residue_syntax.specs.BlocksInPlanes.{token_kind, type_at}
 use Rattle.residue_syntax.specs.declared.in_plane.BlockInPlane.{BlockInPlane}
-use Rattle.token_writer.specs.Fits.{CanPut, IsCoded, level_of}
-use Rattle.residue_writer.specs.Fits.{CanPutAll, CanPutAt}
-use Rattle.residue_writer.specs.Said.{levels_at}
-use Rattle.listed_symbols.specs.Levels.{by_position, can_levels, no_levels, placed_from, with_each, with_levels, with_run}
+use Rattle.token_writer.specs.TokenFits.{CanPut, IsCoded, level_of}
+use Rattle.residue_writer.specs.ResidueFits.{CanPutAll, CanPutAt}
+use Rattle.residue_writer.specs.SaidResidues.{levels_at}
+use Rattle.listed_symbols.specs.ListedLevels.{by_position, can_levels, no_levels, placed_from, with_each, with_levels, with_run}
 use Rattle.residue_writer.specs.declared.levels.PlaneLevels.{PlaneLevels}
 
 ---- Regions ----

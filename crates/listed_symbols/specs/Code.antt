@@ -4,13 +4,13 @@ use Rattle.vp9_types.specs.declared.block.BlockSize.{BlockSize}
 use Rattle.vp9_types.specs.declared.block.TxMode.{TxMode}
 use Rattle.frame_headers.specs.declared.segments.Segmentation.{Segmentation}
 use Rattle.inter_modes.specs.declared.starts.BlockStart.{BlockStart}
-use Rattle.mode_writer.specs.Fits.{CanSegment, CanSkip, CanTx}
+use Rattle.mode_writer.specs.ModeFits.{CanSegment, CanSkip, CanTx}
 use Rattle.vp9_types.specs.declared.block.InterMode.TheVariants.{Zero}
 use Rattle.frame_headers.specs.declared.header.FrameFilter.{FrameFilter}
-use Rattle.block_geometry.specs.Sizes.{is_below_8x8}
-use Rattle.inter_writer.specs.Fits.{CanStart, IsSegment}
-use Rattle.vector_writer.specs.Fits.{CanFilter, CanSayVectors, quarter_saying}
-use Rattle.vector_writer.specs.Said.{mode_at, symbols_at}
+use Rattle.block_geometry.specs.BlockSizes.{is_below_8x8}
+use Rattle.inter_writer.specs.InterFits.{CanStart, IsSegment}
+use Rattle.vector_writer.specs.VectorFits.{CanFilter, CanSayVectors, quarter_saying}
+use Rattle.vector_writer.specs.SaidVectors.{mode_at, symbols_at}
 use Rattle.vector_writer.specs.declared.symbols.InterSymbols.{InterSymbols}
 use Rattle.listed_symbols.specs.declared.vectors.Best.{Best}
 

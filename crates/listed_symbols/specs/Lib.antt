@@ -1,6 +1,6 @@
-pub mod Blocks
+pub mod ListedBlocks
 pub mod Code
-pub mod Inter
-pub mod Intra
-pub mod Levels
-pub mod Starts
+pub mod InterTests
+pub mod IntraTests
+pub mod ListedLevels
+pub mod StartTests

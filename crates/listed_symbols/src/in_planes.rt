@@ -2,18 +2,18 @@
 
 ghost use Rattle.std.specs.Prelude.{◌≡◌, ◌≤◌, ◌<◌, ◌*◌, ◌+◌, true, length, map};
 ghost use Rattle.vp9_tables.specs.Scans.{area, scan_of};
-ghost use Rattle.frame_headers.specs.State.{shape_of};
-ghost use Rattle.prob_contexts.specs.Lists.{ContextLists, lists_of};
+ghost use Rattle.frame_headers.specs.HeaderState.{shape_of};
+ghost use Rattle.prob_contexts.specs.ProbLists.{ContextLists, lists_of};
 ghost use Rattle.block_geometry.specs.Code.{IsSmallGrid};
 ghost use Rattle.block_geometry.specs.TransformBlocks.{grid_blocks, tx_step};
 ghost use Rattle.residue_syntax.specs.BlocksInPlanes.{token_kind, type_at};
 ghost use Rattle.residue_syntax.specs.Code.{IsInFrame};
-ghost use Rattle.coef_tokens.specs.Blocks.{block_tables};
-ghost use Rattle.token_writer.specs.Fits.{CanPut};
-ghost use Rattle.residue_writer.specs.Fits.{CanPutAll, CanPutBlock, CanPutIn};
-ghost use Rattle.listed_symbols.specs.Blocks.{listed_levels, plane_told};
+ghost use Rattle.coef_tokens.specs.TokenKinds.{block_tables};
+ghost use Rattle.token_writer.specs.TokenFits.{CanPut};
+ghost use Rattle.residue_writer.specs.ResidueFits.{CanPutAll, CanPutBlock, CanPutIn};
+ghost use Rattle.listed_symbols.specs.ListedBlocks.{listed_levels, plane_told};
 ghost use Rattle.listed_symbols.specs.Code.{IsMade};
-ghost use Rattle.listed_symbols.specs.Levels.{by_position, can_levels, no_levels, with_each, with_levels};
+ghost use Rattle.listed_symbols.specs.ListedLevels.{by_position, can_levels, no_levels, with_each, with_levels};
 
 use crate::levels::{can_levels, place_levels};
 use crate::lists::ListedLevels;
@@ -26,7 +26,7 @@ use vp9_tables::{area_of, scan};
 use vp9_types::Plane;
 
 /// Gives the k-th transform block of a block its levels.
-#[tactic(auto, unfolding(crate::specs::Levels::with_levels))]
+#[tactic(auto, unfolding(crate::specs::ListedLevels::with_levels))]
 fn put_levels(
     levels: &mut PlaneLevels,
     b: &BlockInPlane,
@@ -106,7 +106,7 @@ fn list_plane(
 }
 
 /// The levels of a block whose modes are known, and whether they can be said.
-#[tactic(auto, unfolding(crate::specs::Blocks::listed_levels))]
+#[tactic(auto, unfolding(crate::specs::ListedBlocks::listed_levels))]
 pub(crate) fn list_levels(
     levels: &mut BlockLevels,
     setting: &FrameSetting,

@@ -7,9 +7,9 @@ ghost use Rattle.mv_prediction.specs.Candidates.{sign_biases};
 ghost use Rattle.mv_prediction.specs.Code.{HasSmallVectors, IsSite, blocks_of};
 ghost use Rattle.inter_modes.specs.Code.{MaySearch, frame_in, least_of};
 ghost use Rattle.inter_modes.specs.ModeInfo.{sources_of};
-ghost use Rattle.inter_writer.specs.Fits.{CanPredict, CanPutInterFrame, CanSayInterBlock};
+ghost use Rattle.inter_writer.specs.InterFits.{CanPredict, CanPutInterFrame, CanSayInterBlock};
 ghost use Rattle.vector_writer.specs.Code as code;
-ghost use Rattle.listed_symbols.specs.Inter.{can_predict, can_put_inter, can_say_block};
+ghost use Rattle.listed_symbols.specs.InterTests.{can_predict, can_put_inter, can_say_block};
 
 use crate::intra::can_luma;
 use crate::references::can_refer;
@@ -24,7 +24,7 @@ use mv_prediction::{MvSearch, SignBiases, mode_context};
 use vector_writer::InterSymbols;
 
 /// Whether an inter block of a segment can say this.
-#[tactic(auto, unfolding(crate::specs::Inter::can_say_block), using(crate::proofs::Cans::inter_can, crate::proofs::Cans::references_alone_can))]
+#[tactic(auto, unfolding(crate::specs::InterTests::can_say_block), using(crate::proofs::Cans::inter_can, crate::proofs::Cans::references_alone_can))]
 fn can_say_block<N: Neighbours, Q: Neighbours>(
     src: &Sources<'_, N, Q>,
     frame: &Frame<'_>,
@@ -80,7 +80,7 @@ fn can_predict<N: Neighbours, Q: Neighbours>(
 
 /// Whether a block of an inter frame can say this, by what its vectors are predicted by and the least id that the map before
 /// the frame has over it.
-#[tactic(auto, unfolding(crate::specs::Inter::can_put_inter), using(crate::proofs::Cans::put_inter_can))]
+#[tactic(auto, unfolding(crate::specs::InterTests::can_put_inter), using(crate::proofs::Cans::put_inter_can))]
 fn can_put_by<N: Neighbours, Q: Neighbours>(
     src: &Sources<'_, N, Q>,
     frame: &Frame<'_>,

@@ -1,8 +1,8 @@
 //! Tests of partitions and intra modes.
 
 ghost use Rattle.std.specs.Prelude.{◌≡◌, true};
-ghost use Rattle.mode_writer.specs.Fits.{AreColumns, AreRows, CanLuma, CanPartition};
-ghost use Rattle.listed_symbols.specs.Intra.{are_columns, are_rows, can_luma, can_partition, same_intra};
+ghost use Rattle.mode_writer.specs.ModeFits.{AreColumns, AreRows, CanLuma, CanPartition};
+ghost use Rattle.listed_symbols.specs.IntraTests.{are_columns, are_rows, can_luma, can_partition, same_intra};
 
 use vp9_types::{BlockSize, IntraMode, Partition};
 

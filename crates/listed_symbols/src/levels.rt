@@ -2,7 +2,7 @@
 
 ghost use Rattle.std.specs.Prelude.{◌≡◌, ◌<◌, ◌≤◌, true, length};
 ghost use Rattle.std.specs.List.{All, list_all};
-ghost use Rattle.listed_symbols.specs.Levels.{by_position, can_levels, ends, is_coded, is_zero};
+ghost use Rattle.listed_symbols.specs.ListedLevels.{by_position, can_levels, ends, is_coded, is_zero};
 
 use vp9_types::Depth;
 
@@ -38,7 +38,7 @@ fn ends(levels: &[i32]) -> bool
 }
 
 /// Whether tokens can say levels in the first places of a scan of so many.
-#[tactic(auto, unfolding(crate::specs::Levels::can_levels))]
+#[tactic(auto, unfolding(crate::specs::ListedLevels::can_levels))]
 pub(crate) fn can_levels(depth: Depth, places: usize, levels: &[i32]) -> bool
     ensures is { result ≡ can_levels depth places levels.now }
     ensures few { result ≡ true → length levels.now ≤ places }
@@ -47,7 +47,7 @@ pub(crate) fn can_levels(depth: Depth, places: usize, levels: &[i32]) -> bool
 }
 
 /// Puts levels in the first places of a scan, and zeros in the others.
-#[tactic(auto, unfolding(crate::specs::Levels::by_position), using(crate::proofs::Placed::placed_step, crate::proofs::Placed::placed_all))]
+#[tactic(auto, unfolding(crate::specs::ListedLevels::by_position), using(crate::proofs::Placed::placed_step, crate::proofs::Placed::placed_all))]
 pub(crate) fn place_levels(values: &mut [i32], scan: &[u16], levels: &[i32])
     requires within { All (λ p. p < length values.old) scan.now }
     requires whole { length scan.now ≡ length values.old }

@@ -2,8 +2,8 @@
 
 ghost use Rattle.std.specs.Prelude.{◌≡◌, true};
 ghost use Rattle.std.specs.Option.{is_some};
-ghost use Rattle.inter_writer.specs.Fits.{AreCompound, CanBeCompound, CanCodeReferences, CanReferBy};
-ghost use Rattle.listed_symbols.specs.Inter.{are_compound, can_be_compound, can_code_references, can_refer, compound_by, same_references, same_second};
+ghost use Rattle.inter_writer.specs.InterFits.{AreCompound, CanBeCompound, CanCodeReferences, CanReferBy};
+ghost use Rattle.listed_symbols.specs.InterTests.{are_compound, can_be_compound, can_code_references, can_refer, compound_by, same_references, same_second};
 
 use block_plan::References;
 use frame_headers::FeatureReference;
@@ -49,7 +49,7 @@ fn compound_by(biases: &SignBiases, one: bool) -> References
     with_fixed(biases, fixed, variable_by(fixed, one))
 }
 
-#[tactic(auto, unfolding(crate::specs::Inter::are_compound))]
+#[tactic(auto, unfolding(crate::specs::InterTests::are_compound))]
 fn are_compound(biases: &SignBiases, refs: References) -> bool
     ensures is { result ≡ are_compound biases.now refs }
     ensures are { result ≡ true → AreCompound biases.now refs }
@@ -58,7 +58,7 @@ fn are_compound(biases: &SignBiases, refs: References) -> bool
         || same_references(refs, compound_by(biases, true))
 }
 
-#[tactic(auto, unfolding(crate::specs::Inter::can_code_references))]
+#[tactic(auto, unfolding(crate::specs::InterTests::can_code_references))]
 fn can_code_references(mode: ReferenceMode, biases: &SignBiases, refs: References) -> bool
     ensures is { result ≡ can_code_references mode biases.now refs }
     ensures can { result ≡ true → CanCodeReferences mode biases.now refs }
@@ -68,7 +68,7 @@ fn can_code_references(mode: ReferenceMode, biases: &SignBiases, refs: Reference
 }
 
 /// Whether a block can have these references, by the reference that its segment takes.
-#[tactic(auto, unfolding(crate::specs::Inter::can_refer))]
+#[tactic(auto, unfolding(crate::specs::InterTests::can_refer))]
 pub(crate) fn can_refer(
     feature: Option<FeatureReference>,
     mode: ReferenceMode,

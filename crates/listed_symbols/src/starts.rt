@@ -1,11 +1,11 @@
 //! Tests of what blocks say before their modes.
 
 ghost use Rattle.std.specs.Prelude.{◌≡◌, ◌≤◌, false, true};
-ghost use Rattle.mode_writer.specs.Fits.{CanSegment, CanSkip, CanTx};
-ghost use Rattle.inter_writer.specs.Fits.{CanBeInter, CanTxIf, IsSegment, IsUpdated};
-ghost use Rattle.inter_modes.specs.Starts.{segment_reference};
+ghost use Rattle.mode_writer.specs.ModeFits.{CanSegment, CanSkip, CanTx};
+ghost use Rattle.inter_writer.specs.InterFits.{CanBeInter, CanTxIf, IsSegment, IsUpdated};
+ghost use Rattle.inter_modes.specs.BlockStarts.{segment_reference};
 ghost use Rattle.listed_symbols.specs.Code.{CanStartInter, CanStartIntra};
-ghost use Rattle.listed_symbols.specs.Starts.{can_be_inter_by, can_segment, can_skip, can_start_inter, can_start_intra, can_tx, can_tx_if, is_segment_by, is_updated};
+ghost use Rattle.listed_symbols.specs.StartTests.{can_be_inter_by, can_segment, can_skip, can_start_inter, can_start_intra, can_tx, can_tx_if, is_segment_by, is_updated};
 
 use block_geometry::is_below_8x8;
 use frame_headers::{MapUpdate, Segmentation};
@@ -48,7 +48,7 @@ fn can_tx(mode: TxMode, size: BlockSize, tx: TxSize) -> bool
 }
 
 /// Whether a block of an intra frame can say this first.
-#[tactic(auto, unfolding(crate::specs::Starts::can_start_intra))]
+#[tactic(auto, unfolding(crate::specs::StartTests::can_start_intra))]
 pub(crate) fn can_start_intra(
     segmentation: &Segmentation,
     mode: TxMode,
@@ -71,7 +71,7 @@ pub(crate) fn can_start_intra(
     can_tx(mode, size, start.tx)
 }
 
-#[tactic(auto, unfolding(crate::specs::Starts::is_updated))]
+#[tactic(auto, unfolding(crate::specs::StartTests::is_updated))]
 fn is_updated(update: &MapUpdate, least: u8, segment: SegmentOf) -> bool
     ensures is { result ≡ is_updated update.now least segment }
     ensures can { result ≡ true → IsUpdated update.now least segment }
@@ -128,7 +128,7 @@ fn can_tx_if(coded: bool, mode: TxMode, size: BlockSize, tx: TxSize) -> bool
 }
 
 /// Whether a block of an inter frame can say this first, over which the map before the frame has a least id.
-#[tactic(auto, unfolding(crate::specs::Starts::can_start_inter))]
+#[tactic(auto, unfolding(crate::specs::StartTests::can_start_inter))]
 pub(crate) fn can_start_inter(
     segmentation: &Segmentation,
     mode: TxMode,

@@ -1,12 +1,12 @@
 //! What stands next in the lists.
 
 ghost use Rattle.std.specs.Prelude.{◌≡◌, ◌<◌, ◌≤◌, true};
-ghost use Rattle.prob_contexts.specs.Lists.{lists_of};
+ghost use Rattle.prob_contexts.specs.ProbLists.{lists_of};
 ghost use Rattle.frame_state.specs.Code.{sources_of};
-ghost use Rattle.frame_state.specs.Columns.{AllSmall};
+ghost use Rattle.frame_state.specs.KeptColumns.{AllSmall};
 ghost use Rattle.frame_state.specs.Past.{IsPastOf};
-ghost use Rattle.inter_writer.specs.Fits.{CanPut, CanPutIntra};
-ghost use Rattle.listed_symbols.specs.Blocks.{can_put, can_put_intra, last_told};
+ghost use Rattle.inter_writer.specs.InterFits.{CanPut, CanPutIntra};
+ghost use Rattle.listed_symbols.specs.ListedBlocks.{can_put, can_put_intra, last_told};
 
 use crate::in_planes::list_levels;
 use crate::inter::can_put_inter;
@@ -73,7 +73,7 @@ fn last_told<'a>(symbols: &ListedSymbols<'a>) -> Option<ListedBlock<'a>>
 }
 
 impl<'a> FrameSymbols for ListedSymbols<'a> {
-    ghost use Rattle.listed_symbols.specs.Blocks.{listed};
+    ghost use Rattle.listed_symbols.specs.ListedBlocks.{listed};
 
     ghost speaker = { listed };
 

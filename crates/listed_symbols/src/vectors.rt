@@ -2,9 +2,9 @@
 
 ghost use Rattle.std.specs.Prelude.{◌≡◌, ◌<◌, true};
 ghost use Rattle.vp9_types.specs.declared.block.InterMode.TheVariants.{Zero};
-ghost use Rattle.vector_writer.specs.Fits.{CanBeNew, CanDiffer, CanFilter, CanSayVectors, IsDifference, quarter_saying};
+ghost use Rattle.vector_writer.specs.VectorFits.{CanBeNew, CanDiffer, CanFilter, CanSayVectors, IsDifference, quarter_saying};
 ghost use Rattle.listed_symbols.specs.Code.{CanSayBehind, CanSayQuarter, CanSayQuarters};
-ghost use Rattle.listed_symbols.specs.Inter.{can_be_new, can_differ, can_filter, can_say_inter, can_say_quarter, can_say_quarters, can_say_vectors, is_difference, is_zero_if};
+ghost use Rattle.listed_symbols.specs.InterTests.{can_be_new, can_differ, can_filter, can_say_inter, can_say_quarter, can_say_quarters, can_say_vectors, is_difference, is_zero_if};
 
 use block_geometry::is_below_8x8;
 use block_plan::{Mv, References};
@@ -22,7 +22,7 @@ pub(crate) struct Best {
     pub size: BlockSize,
 }
 
-#[tactic(auto, unfolding(crate::specs::Inter::is_difference))]
+#[tactic(auto, unfolding(crate::specs::InterTests::is_difference))]
 fn is_difference(precise: bool, component: i16) -> bool
     ensures is { result ≡ is_difference precise component }
     ensures can { result ≡ true → IsDifference precise component }
@@ -31,7 +31,7 @@ fn is_difference(precise: bool, component: i16) -> bool
     size <= 16384 && (precise || size % 2 == 0)
 }
 
-#[tactic(auto, unfolding(crate::specs::Inter::can_differ))]
+#[tactic(auto, unfolding(crate::specs::InterTests::can_differ))]
 fn can_differ(precise: bool, difference: Mv) -> bool
     ensures is { result ≡ can_differ precise difference }
     ensures can { result ≡ true → CanDiffer precise difference }
@@ -39,7 +39,7 @@ fn can_differ(precise: bool, difference: Mv) -> bool
     is_difference(precise, difference.row) && is_difference(precise, difference.column)
 }
 
-#[tactic(auto, unfolding(crate::specs::Inter::can_be_new))]
+#[tactic(auto, unfolding(crate::specs::InterTests::can_be_new))]
 fn can_be_new(allowed: bool, mode: InterMode, best: Mv, difference: Mv) -> bool
     ensures is { result ≡ can_be_new allowed mode best difference }
     ensures can { result ≡ true → CanBeNew allowed mode best difference }
@@ -50,7 +50,7 @@ fn can_be_new(allowed: bool, mode: InterMode, best: Mv, difference: Mv) -> bool
     }
 }
 
-#[tactic(auto, unfolding(crate::specs::Inter::can_say_vectors))]
+#[tactic(auto, unfolding(crate::specs::InterTests::can_say_vectors))]
 fn can_say_vectors(best: &Best, refs: References, said: &QuarterSymbols) -> bool
     ensures is { result ≡ can_say_vectors best.now.allowed best.now.vectors refs said.now }
     ensures can { result ≡ true → CanSayVectors best.now.allowed best.now.vectors refs said.now }
@@ -101,7 +101,7 @@ fn quarter_saying(size: BlockSize, k: usize) -> usize
     }
 }
 
-#[tactic(auto, unfolding(crate::specs::Inter::can_say_quarter), using(crate::proofs::Numbers::same_inter_is))]
+#[tactic(auto, unfolding(crate::specs::InterTests::can_say_quarter), using(crate::proofs::Numbers::same_inter_is))]
 fn can_say_quarter(best: &Best, q: &InterSymbols, k: usize) -> bool
     requires { k < 4 }
     ensures is { result ≡ can_say_quarter best.now.allowed best.now.vectors best.now.size q.now k }
@@ -118,7 +118,7 @@ fn can_say_quarter(best: &Best, q: &InterSymbols, k: usize) -> bool
     can_say_vectors(best, q.references, &said)
 }
 
-#[tactic(auto, unfolding(crate::specs::Inter::can_say_quarters), using(crate::proofs::Cans::quarters_can))]
+#[tactic(auto, unfolding(crate::specs::InterTests::can_say_quarters), using(crate::proofs::Cans::quarters_can))]
 fn can_say_quarters(best: &Best, q: &InterSymbols) -> bool
     ensures is { result ≡ can_say_quarters best.now.allowed best.now.vectors best.now.size q.now }
     ensures can { result ≡ true → CanSayQuarters best.now q.now }
@@ -136,7 +136,7 @@ fn can_say_quarters(best: &Best, q: &InterSymbols) -> bool
 }
 
 /// Whether a block can say this behind its references.
-#[tactic(auto, unfolding(crate::specs::Inter::can_say_inter))]
+#[tactic(auto, unfolding(crate::specs::InterTests::can_say_inter))]
 pub(crate) fn can_say_inter(best: &Best, skips: bool, filter: FrameFilter, q: &InterSymbols) -> bool
     ensures is { result ≡ can_say_inter best.now.allowed best.now.vectors skips filter best.now.size q.now }
     ensures can { result ≡ true → CanSayBehind best.now skips filter q.now }

@@ -11,7 +11,7 @@ use Rattle.frame_headers.specs.declared.filter.LoopDeltas.{LoopDeltas}
 use Rattle.block_plan.specs.declared.block.BlockInfo.{BlockInfo}
 use Rattle.block_plan.specs.declared.block.Prediction.{Prediction}
 use Rattle.block_plan.specs.declared.block.Prediction.TheVariants.{Intra, Inter}
-use Rattle.loop_edges.specs.Levels.{reference_delta, mode_number, mode_delta, delta_of, segment_level, to_level, filter_level, limits_of}
+use Rattle.loop_edges.specs.FilterLevels.{reference_delta, mode_number, mode_delta, delta_of, segment_level, to_level, filter_level, limits_of}
 use Rattle.loop_edges.specs.Code.{reference_kind, kind_of, delta_by, level_by}
 use Rattle.loop_edges.specs.declared.setting.EdgeSetting.{EdgeSetting}
 

@@ -6,8 +6,8 @@ use Rattle.vp9_types.specs.declared.block.TxSize.{TxSize}
 use Rattle.vp9_types.specs.declared.block.TxSize.TheVariants.{T4x4, T8x8, T16x16, T32x32}
 use Rattle.vp9_types.specs.declared.shape.Plane.{Plane}
 use Rattle.vp9_types.specs.declared.shape.Shape.{Shape}
-use Rattle.block_geometry.specs.Sizes.{width_8, height_8}
-use Rattle.frame_headers.specs.State.{shape_of}
+use Rattle.block_geometry.specs.BlockSizes.{width_8, height_8}
+use Rattle.frame_headers.specs.HeaderState.{shape_of}
 use Rattle.frame_headers.specs.declared.header.Header.{Header}
 use Rattle.block_plan.specs.InPlanes.{tx_in}
 use Rattle.block_plan.specs.declared.block.BlockInfo.{BlockInfo}

@@ -9,10 +9,10 @@ use Rattle.block_plan.specs.declared.block.Prediction.TheVariants.{Intra, Inter}
 use Rattle.line_filter.specs.declared.edge.FilterWidth.{FilterWidth}
 use Rattle.line_filter.specs.declared.edge.FilterWidth.TheVariants.{Four, Eight, Sixteen}
 use Rattle.line_filter.specs.declared.edge.Limits.{Limits}
-use Rattle.block_geometry.specs.Sizes.{width_8, height_8}
+use Rattle.block_geometry.specs.BlockSizes.{width_8, height_8}
 use Rattle.block_plan.specs.declared.block.BlockInfo.{BlockInfo}
 use Rattle.loop_edges.specs.Cells.{is_smooth}
-use Rattle.loop_edges.specs.Levels.{to_level, segment_level, mode_number, limits_of}
+use Rattle.loop_edges.specs.FilterLevels.{to_level, segment_level, mode_number, limits_of}
 use Rattle.loop_edges.specs.declared.setting.EdgeSetting.{EdgeSetting}
 
 -- a width or height of a block in places of 8x8

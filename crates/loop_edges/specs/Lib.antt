@@ -1,4 +1,4 @@
-pub mod Levels
+pub mod FilterLevels
 pub mod Cells
-pub mod Edges
+pub mod FrameEdges
 pub mod Code

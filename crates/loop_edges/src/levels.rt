@@ -1,7 +1,7 @@
 //! The filter's level at a block, and the limits of a level.
 
 ghost use Rattle.std.specs.Prelude.{◌≡◌, ◌≤◌, ◌-◌, ◌*◌, ◌/◌, ◌^◌, ◌+ℤ◌, ◌*ℤ◌, pos, unsigned_abs, nat_lt, min, if◌then◌else◌};
-ghost use Rattle.loop_edges.specs.Levels.{to_level, with_feature, segment_level, mode_delta, reference_delta, delta_of, filter_level, limit_of, limits_of, one_of};
+ghost use Rattle.loop_edges.specs.FilterLevels.{to_level, with_feature, segment_level, mode_delta, reference_delta, delta_of, filter_level, limit_of, limits_of, one_of};
 
 use crate::setting::EdgeSetting;
 use block_plan::{BlockInfo, Prediction};
@@ -124,7 +124,7 @@ pub(crate) fn changed(level: u8, delta: i32) -> u8
 
 /// The filter's level at a block: 0 for none.
 #[inline(always)]
-#[tactic(auto, unfolding(crate::specs::Levels::filter_level))]
+#[tactic(auto, unfolding(crate::specs::FilterLevels::filter_level))]
 pub fn filter_level(f: &EdgeSetting, block: &BlockInfo) -> u8
     ensures { result ≡ filter_level f.now block.now }
 {
@@ -177,7 +177,7 @@ fn limited(sharpness: u8, shifted: u8) -> u8
 
 /// What the filter compares with at a level, in steps of the depth.
 #[inline(always)]
-#[tactic(auto, unfolding(crate::specs::Levels::limits_of))]
+#[tactic(auto, unfolding(crate::specs::FilterLevels::limits_of))]
 pub fn limits_of(depth: Depth, sharpness: u8, level: u8) -> Limits
     ensures value { result ≡ limits_of depth sharpness level }
     ensures half { result.half ≤ 2048 }

@@ -1,7 +1,7 @@
 //! Levels and limits of a frame, found once.
 
 ghost use Rattle.std.specs.Prelude.{◌≡◌, ◌≤◌, ◌<◌, ◌*◌, ◌/◌, ◌%◌, ◌^◌, ◌+ℤ◌, ◌*ℤ◌, pos, unsigned_abs, nat_lt, length, slice_index_or, if◌then◌else◌};
-ghost use Rattle.loop_edges.specs.Levels.{mode_number, filter_level, limits_of};
+ghost use Rattle.loop_edges.specs.FilterLevels.{mode_number, filter_level, limits_of};
 ghost use Rattle.loop_edges.specs.Code.{reference_kind, kind_of, delta_by, level_by, AreLevelsOfSegment, AreLevels, AreLimits};
 ghost use Rattle.loop_edges.specs.declared.setting.EdgeSetting.{EdgeSetting};
 
@@ -126,7 +126,7 @@ fn other_level(f: &EdgeSetting, block: &BlockInfo) -> u8
 }
 
 impl EdgeTables {
-    ghost use Rattle.loop_edges.specs.Levels.{filter_level, limits_of};
+    ghost use Rattle.loop_edges.specs.FilterLevels.{filter_level, limits_of};
 
     /// Finds them.
     #[inline(never)]

@@ -15,7 +15,7 @@ use Rattle.vp9_types.specs.declared.shape.Shape.{Shape}
 use Rattle.block_plan.specs.Blocks.{covering}
 use Rattle.block_plan.specs.InPlanes.{tx_in}
 use Rattle.block_plan.specs.declared.block.BlockInfo.{BlockInfo}
-use Rattle.line_filter.specs.Edges.{reach, line_at, in_order, with_edge}
+use Rattle.line_filter.specs.FilteredEdges.{reach, line_at, in_order, with_edge}
 use Rattle.line_filter.specs.Lines.{Line, filtered_line}
 use Rattle.line_filter.specs.declared.edge.Edge.{Edge}
 use Rattle.line_filter.specs.declared.edge.FilterWidth.{FilterWidth}
@@ -24,8 +24,8 @@ use Rattle.line_filter.specs.declared.edge.Pass.{Pass}
 use Rattle.line_filter.specs.declared.edge.Pass.TheVariants.{Vertical, Horizontal}
 use Rattle.line_filter.proofs.EdgeLines.{along_at_once, down_at_once, rows_filtered, columns_filtered}
 use Rattle.loop_edges.specs.Cells.{sub_x, sub_y, across, outer_edge, outer_width, has_inner, is_4x4, is_smooth}
-use Rattle.loop_edges.specs.Edges.{side_edge, middle_edge, side_edges, middle_edges, both_edges, block_edges, edges_of, cell_edges, step_of, cells_of, cells_along, cell_row, pass_edges, superblock_edges, row_edges, with_row, filtered_before, filtered_frame}
-use Rattle.loop_edges.specs.Levels.{filter_level, limits_of}
+use Rattle.loop_edges.specs.FrameEdges.{side_edge, middle_edge, side_edges, middle_edges, both_edges, block_edges, edges_of, cell_edges, step_of, cells_of, cells_along, cell_row, pass_edges, superblock_edges, row_edges, with_row, filtered_before, filtered_frame}
+use Rattle.loop_edges.specs.FilterLevels.{filter_level, limits_of}
 use Rattle.loop_edges.specs.declared.setting.EdgeSetting.{EdgeSetting}
 use Rattle.loop_filter.specs.Laws.{first_changed, lower_end_of, LeavesRowsAbove, LeavesRowsBelow, ReadsNoRowAbove, ReadsItsRowsAlone, AreFinal}
 use Rattle.loop_filter.proofs.Sides.{reach_low, narrowed, not_first, there, later, whole_side, half_side, reached, last_of}

@@ -7,7 +7,7 @@ use Rattle.vp9_types.specs.Sizes.{superblocks_along}
 use Rattle.vp9_types.specs.declared.shape.Plane.{Plane}
 use Rattle.block_plan.specs.declared.block.BlockInfo.{BlockInfo}
 use Rattle.loop_edges.specs.Cells.{sub_y}
-use Rattle.loop_edges.specs.Edges.{with_row, filtered_before, filtered_frame}
+use Rattle.loop_edges.specs.FrameEdges.{with_row, filtered_before, filtered_frame}
 use Rattle.loop_edges.specs.declared.setting.EdgeSetting.{EdgeSetting}
 use Rattle.loop_filter.specs.Laws.{first_changed, first_own, lower_end_of, AgreeOver, HoldsPending, HoldsStrips, RowsFollow, BandsAreFinal}
 use Rattle.loop_filter.proofs.Frames.{row_more, no_rows}

@@ -11,7 +11,7 @@ use Rattle.planes.specs.Pictures.{HasSizes, coded_area}
 use Rattle.planes.specs.declared.area.Area.{Area}
 use Rattle.planes.specs.declared.frame_planes.FramePlanes.{FramePlanes}
 use Rattle.block_plan.specs.declared.block.BlockInfo.{BlockInfo}
-use Rattle.loop_edges.specs.Edges.{edges_before, row_edges, with_row, filtered_before, filtered_frame}
+use Rattle.loop_edges.specs.FrameEdges.{edges_before, row_edges, with_row, filtered_before, filtered_frame}
 use Rattle.loop_edges.specs.declared.setting.EdgeSetting.{EdgeSetting}
 use Rattle.loop_filter.specs.Code.{HasFilterRows, HoldsFilterRows, HasAreasOf}
 use Rattle.loop_filter.proofs.Walks.{one_more_plain}

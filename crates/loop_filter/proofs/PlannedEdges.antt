@@ -17,12 +17,12 @@ use Rattle.block_plan.specs.InPlanes.{tx_in}
 use Rattle.line_filter.specs.declared.edge.FilterWidth.{FilterWidth}
 use Rattle.loop_edges.specs.Cells.{sub_x, sub_y, across, is_smooth, is_4x4, outer_width, outer_edge, has_inner}
 use Rattle.loop_edges.specs.Code.{is_inside}
-use Rattle.loop_edges.specs.Edges.{both_edges, block_edges, edges_of, cell_edges, step_of}
-use Rattle.loop_edges.specs.Levels.{filter_level, limits_of}
+use Rattle.loop_edges.specs.FrameEdges.{both_edges, block_edges, edges_of, cell_edges, step_of}
+use Rattle.loop_edges.specs.FilterLevels.{filter_level, limits_of}
 use Rattle.loop_edges.specs.declared.cells.CellAt.{CellAt}
 use Rattle.loop_edges.specs.declared.setting.EdgeSetting.{EdgeSetting}
 use Rattle.loop_filter.specs.Code.{IsCellIn, CanFilterSide, CanFilterMiddle}
-use Rattle.loop_filter.specs.Plans.{nowhere, crossed_by, has_chroma, chroma_by, plan_by, plan_from, plan_of, edges_of_plane, edges_in, planned_edges, has_cell, IsPlanned, ArePlansOf, IsAllPlanned}
+use Rattle.loop_filter.specs.FilterPlans.{nowhere, crossed_by, has_chroma, chroma_by, plan_by, plan_from, plan_of, edges_of_plane, edges_in, planned_edges, has_cell, IsPlanned, ArePlansOf, IsAllPlanned}
 use Rattle.loop_filter.specs.declared.plans.CrossedEdges.{CrossedEdges}
 use Rattle.loop_filter.specs.declared.plans.PlacePlan.{PlacePlan}
 use Rattle.loop_filter.specs.declared.way.PlanePass.{PlanePass}

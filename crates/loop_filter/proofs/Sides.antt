@@ -17,15 +17,15 @@ use Rattle.planes.specs.declared.area.Area.{Area}
 use Rattle.block_plan.specs.InPlanes.{tx_in}
 use Rattle.block_plan.specs.declared.block.BlockInfo.{BlockInfo}
 use Rattle.line_filter.specs.Code.{IsEdgeIn}
-use Rattle.line_filter.specs.Edges.{reach}
+use Rattle.line_filter.specs.FilteredEdges.{reach}
 use Rattle.line_filter.specs.declared.edge.FilterWidth.{FilterWidth}
 use Rattle.line_filter.specs.declared.edge.FilterWidth.TheVariants.{Four, Eight, Sixteen}
 use Rattle.line_filter.specs.declared.edge.Limits.{Limits}
 use Rattle.line_filter.specs.declared.edge.Pass.{Pass}
 use Rattle.line_filter.specs.declared.edge.Pass.TheVariants.{Vertical, Horizontal}
 use Rattle.loop_edges.specs.Cells.{across, widest, outer_width, outer_edge, has_inner, is_4x4, is_smooth, sub_x, sub_y}
-use Rattle.loop_edges.specs.Edges.{side_edge, middle_edge}
-use Rattle.loop_edges.specs.Levels.{limits_of}
+use Rattle.loop_edges.specs.FrameEdges.{side_edge, middle_edge}
+use Rattle.loop_edges.specs.FilterLevels.{limits_of}
 use Rattle.loop_edges.specs.declared.cells.CellAt.{CellAt}
 use Rattle.loop_edges.specs.declared.cells.Crossing.{Crossing}
 use Rattle.loop_filter.specs.Code.{IsCellIn, CanFilterSide, CanFilterMiddle}

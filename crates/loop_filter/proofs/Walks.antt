@@ -13,16 +13,16 @@ use Rattle.vp9_types.specs.Sizes.{superblocks_along}
 use Rattle.vp9_types.specs.declared.shape.Plane.{Plane}
 use Rattle.vp9_types.specs.declared.shape.Plane.TheVariants.{Y, U, V}
 use Rattle.vp9_types.specs.declared.shape.Shape.{Shape}
-use Rattle.vp9_tables.specs.Blocks.{greatest_of}
+use Rattle.vp9_tables.specs.BlockTables.{greatest_of}
 use Rattle.vp9_tables.specs.Numbers.{tx_number}
 use Rattle.planes.specs.declared.area.Area.{Area}
 use Rattle.block_plan.specs.Blocks.{covering, covers, or_else}
 use Rattle.block_plan.specs.declared.block.BlockInfo.{BlockInfo}
-use Rattle.line_filter.specs.Edges.{with_edge}
+use Rattle.line_filter.specs.FilteredEdges.{with_edge}
 use Rattle.line_filter.specs.declared.edge.Edge.{Edge}
 use Rattle.loop_edges.specs.Cells.{sub_y}
 use Rattle.line_filter.specs.declared.edge.Pass.{Pass}
-use Rattle.loop_edges.specs.Edges.{step_of, cells_along, edges_of, cell_edges, row_edges, with_row, superblock_edges}
+use Rattle.loop_edges.specs.FrameEdges.{step_of, cells_along, edges_of, cell_edges, row_edges, with_row, superblock_edges}
 use Rattle.loop_edges.specs.declared.setting.EdgeSetting.{EdgeSetting}
 use Rattle.loop_filter.specs.Code.{IsRowIn, HasFilterRows, AllFit}
 

@@ -3,7 +3,7 @@ use Rattle.std.specs.Prelude.{ℕ, List, All, ◌+◌, ◌-◌, ◌*◌, ◌<◌
 use Rattle.vp9_types.specs.Shapes.{halved, mi_rows, mi_cols, coded_width, coded_height}
 use Rattle.vp9_types.specs.declared.shape.Plane.{Plane}
 use Rattle.vp9_types.specs.declared.shape.Shape.{Shape}
-use Rattle.vp9_tables.specs.Blocks.{greatest_of}
+use Rattle.vp9_tables.specs.BlockTables.{greatest_of}
 use Rattle.vp9_tables.specs.Numbers.{tx_number}
 use Rattle.block_plan.specs.Grid.{GridOf}
 use Rattle.block_plan.specs.declared.block.BlockInfo.{BlockInfo}
@@ -15,7 +15,7 @@ use Rattle.line_filter.specs.Code.{IsEdgeIn}
 use Rattle.line_filter.specs.declared.edge.FilterWidth.{FilterWidth}
 use Rattle.line_filter.specs.declared.edge.Limits.{Limits}
 use Rattle.loop_edges.specs.Cells.{sub_x, sub_y}
-use Rattle.loop_edges.specs.Edges.{side_edge, middle_edge}
+use Rattle.loop_edges.specs.FrameEdges.{side_edge, middle_edge}
 use Rattle.loop_edges.specs.declared.cells.CellAt.{CellAt}
 use Rattle.loop_filter.specs.declared.way.PlanePass.{PlanePass}
 

@@ -1,3 +1,3 @@
 pub mod Code
 pub mod Laws
-pub mod Plans
+pub mod FilterPlans

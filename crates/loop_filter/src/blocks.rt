@@ -5,13 +5,13 @@ ghost use Rattle.std.specs.List.{fold};
 ghost use Rattle.vp9_types.specs.Maps.{IsAtMost};
 ghost use Rattle.vp9_types.specs.Shapes.{halved, coded_width, coded_height};
 ghost use Rattle.vp9_types.specs.Sizes.{greatest};
-ghost use Rattle.vp9_tables.specs.Blocks.{greatest_of};
+ghost use Rattle.vp9_tables.specs.BlockTables.{greatest_of};
 ghost use Rattle.vp9_tables.specs.Numbers.{tx_number};
 ghost use Rattle.planes.specs.Planes.{plane_map};
 ghost use Rattle.planes.specs.Pictures.{FitsPlanes};
-ghost use Rattle.line_filter.specs.Edges.{with_edge};
+ghost use Rattle.line_filter.specs.FilteredEdges.{with_edge};
 ghost use Rattle.loop_edges.specs.Cells.{outer_edge, has_inner, sub_x, sub_y};
-ghost use Rattle.loop_edges.specs.Edges.{side_edge, middle_edge, side_edges, middle_edges, both_edges, block_edges};
+ghost use Rattle.loop_edges.specs.FrameEdges.{side_edge, middle_edge, side_edges, middle_edges, both_edges, block_edges};
 ghost use Rattle.loop_filter.specs.Code.{IsCellIn, CanFilterSide, CanFilterMiddle};
 
 use crate::way::{PlanePass, sub_x, sub_y};

@@ -8,11 +8,11 @@ ghost use Rattle.vp9_types.specs.Sizes.{greatest};
 ghost use Rattle.planes.specs.Planes.{plane_map};
 ghost use Rattle.planes.specs.Pictures.{FitsPlanes};
 ghost use Rattle.block_plan.specs.declared.block.BlockInfo.{BlockInfo};
-ghost use Rattle.line_filter.specs.Edges.{with_edge};
+ghost use Rattle.line_filter.specs.FilteredEdges.{with_edge};
 ghost use Rattle.loop_edges.specs.Cells.{sub_x, sub_y};
-ghost use Rattle.loop_edges.specs.Edges.{cell_row, pass_edges, cells_along, cells_of, step_of};
+ghost use Rattle.loop_edges.specs.FrameEdges.{cell_row, pass_edges, cells_along, cells_of, step_of};
 ghost use Rattle.loop_filter.specs.Code.{IsCellIn, IsRowIn, HasFilterRows};
-ghost use Rattle.loop_filter.specs.Plans.{edges_in, planned_edges, has_cell, IsPlanned, IsRowPlanned, IsAllPlanned, ArePlansOfRow, ArePlansOf};
+ghost use Rattle.loop_filter.specs.FilterPlans.{edges_in, planned_edges, has_cell, IsPlanned, IsRowPlanned, IsAllPlanned, ArePlansOfRow, ArePlansOf};
 
 use crate::blocks::filter_edges;
 use crate::plans::{PlacePlan, RowPlans, SuperblockPlans};
@@ -38,7 +38,7 @@ fn edges_in(plan: &PlacePlan, way: PlanePass) -> CellEdges
 
 /// The edges of a cell in a pass, as planned.
 #[inline(always)]
-#[tactic(auto, unfolding(crate::specs::Plans::planned_edges))]
+#[tactic(auto, unfolding(crate::specs::FilterPlans::planned_edges))]
 fn filter_cell<P: EdgeSample>(
     samples: &mut SamplePlane<P>,
     f: &EdgeTables,

@@ -3,11 +3,11 @@
 ghost use Rattle.std.specs.Prelude.{◌≡◌, ◌≤◌, ◌<◌, ◌*◌, ◌+◌, ℕ};
 ghost use Rattle.vp9_types.specs.Shapes.{mi_rows, mi_cols};
 ghost use Rattle.vp9_types.specs.declared.shape.Plane.TheVariants.{Y};
-ghost use Rattle.vp9_tables.specs.Blocks.{greatest_of};
+ghost use Rattle.vp9_tables.specs.BlockTables.{greatest_of};
 ghost use Rattle.vp9_tables.specs.Numbers.{tx_number};
 ghost use Rattle.planes.specs.Pictures.{FitsPlanes};
 ghost use Rattle.loop_filter.specs.Code.{AllFit};
-ghost use Rattle.loop_filter.specs.Plans.{no_edges, nowhere, unfiltered, has_chroma, crossed_by, chroma_by, plan_by, plan_of, ArePlansOfRow, ArePlansOf};
+ghost use Rattle.loop_filter.specs.FilterPlans.{no_edges, nowhere, unfiltered, has_chroma, crossed_by, chroma_by, plan_by, plan_of, ArePlansOfRow, ArePlansOf};
 
 use block_plan::{BlockInfo, Neighbours};
 use line_filter::Pass;
@@ -111,7 +111,7 @@ fn put_edges(shape: &Shape, block: &BlockInfo, at: CellAt, place: &mut PlacePlan
 
 /// What the filter does at a place of a block, put into the plan of the place.
 #[inline(always)]
-#[tactic(auto, unfolding(crate::specs::Plans::plan_by))]
+#[tactic(auto, unfolding(crate::specs::FilterPlans::plan_by))]
 fn put_plan(f: &EdgeTables, block: &BlockInfo, at: CellAt, place: &mut PlacePlan)
     requires size { FitsPlanes f.now.setting.shape }
     requires row { at.row ≤ 8192 }
@@ -128,7 +128,7 @@ fn put_plan(f: &EdgeTables, block: &BlockInfo, at: CellAt, place: &mut PlacePlan
 }
 
 #[inline(always)]
-#[tactic(auto, unfolding(crate::specs::Plans::plan_of))]
+#[tactic(auto, unfolding(crate::specs::FilterPlans::plan_of))]
 fn put_plan_of<N: Neighbours>(f: &EdgeTables, blocks: &N, at: CellAt, place: &mut PlacePlan)
     requires size { FitsPlanes f.now.setting.shape }
     requires row { at.row ≤ 8192 }

@@ -9,10 +9,10 @@ ghost use Rattle.vp9_types.specs.declared.shape.Plane.TheVariants.{Y, U, V};
 ghost use Rattle.planes.specs.Planes.{plane_map};
 ghost use Rattle.planes.specs.Pictures.{FitsPlanes, HasSizes, IsInRange, samples_of};
 ghost use Rattle.block_plan.specs.declared.block.BlockInfo.{BlockInfo};
-ghost use Rattle.line_filter.specs.Edges.{with_edge};
-ghost use Rattle.loop_edges.specs.Edges.{superblock_edges, row_edges, with_row, filtered_frame};
+ghost use Rattle.line_filter.specs.FilteredEdges.{with_edge};
+ghost use Rattle.loop_edges.specs.FrameEdges.{superblock_edges, row_edges, with_row, filtered_frame};
 ghost use Rattle.loop_filter.specs.Code.{HasFilterRows, HoldsFilterRows, HasAreasOf, AllFit};
-ghost use Rattle.loop_filter.specs.Plans.{IsAllPlanned, ArePlansOf};
+ghost use Rattle.loop_filter.specs.FilterPlans.{IsAllPlanned, ArePlansOf};
 
 use crate::cells::filter_pass;
 use crate::plans::{SuperblockPlans, plan_superblock};

@@ -2,7 +2,7 @@
 
 ghost use Rattle.std.specs.Prelude.{◌≡◌, ◌≤◌, ◌<◌, ◌*◌, ◌+◌, ℕ};
 ghost use Rattle.loop_edges.specs.Cells.{sub_x, sub_y};
-ghost use Rattle.loop_edges.specs.Edges.{cells_along, step_of};
+ghost use Rattle.loop_edges.specs.FrameEdges.{cells_along, step_of};
 
 use line_filter::Pass;
 use vp9_types::{Plane, Shape};

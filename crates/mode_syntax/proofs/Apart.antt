@@ -6,14 +6,14 @@ use Rattle.std.proofs.lemmas.Bool.{cases_Bool, cases_lt, lt-ltb, le-ltb}
 use Rattle.std.proofs.lemmas.Bool.Decides.{nat_tests}
 use Rattle.vp9_types.specs.declared.block.Modes.{Modes}
 use Rattle.frame_headers.specs.declared.header.Header.{Header}
-use Rattle.prob_contexts.specs.Lists.{ContextLists}
-use Rattle.block_geometry.specs.Partitions.{square, partition_context}
+use Rattle.prob_contexts.specs.ProbLists.{ContextLists}
+use Rattle.block_geometry.specs.SplitSquares.{square, partition_context}
 use Rattle.block_geometry.specs.declared.transform_blocks.FramePlaces.{FramePlaces}
 use Rattle.block_plan.specs.Blocks.{covers, or_else, covering, above_place, left_place}
 use Rattle.block_plan.specs.declared.block.BlockAt.{BlockAt}
 use Rattle.block_plan.specs.declared.block.BlockInfo.{BlockInfo}
 use Rattle.mode_syntax.specs.declared.square_at.SquareAt.{SquareAt}
-use Rattle.mode_syntax.specs.ModeInfo.{intra_frame_mode_info, mode_info_beside}
+use Rattle.mode_syntax.specs.IntraModeInfo.{intra_frame_mode_info, mode_info_beside}
 use Rattle.mode_syntax.specs.Partitions.{partition, half_of, partition_probs, width_beside, height_beside, widths_above, heights_left, square_context, partition_at}
 use Rattle.mode_syntax.specs.Laws.{SameIn, reaches_into, in_columns}
 

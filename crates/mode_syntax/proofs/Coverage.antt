@@ -8,10 +8,10 @@ use Rattle.vp9_types.specs.Maps.{is_within}
 use Rattle.vp9_types.specs.declared.block.BlockSize.{BlockSize}
 use Rattle.vp9_types.specs.declared.block.Partition.{Partition}
 use Rattle.vp9_types.specs.declared.block.Partition.TheVariants.{Whole, Horizontal, Vertical, Split}
-use Rattle.block_geometry.specs.Sizes.{is_covered, width_8, height_8}
-use Rattle.block_geometry.specs.Partitions.{part_size}
+use Rattle.block_geometry.specs.BlockSizes.{is_covered, width_8, height_8}
+use Rattle.block_geometry.specs.SplitSquares.{part_size}
 use Rattle.block_geometry.specs.declared.transform_blocks.FramePlaces.{FramePlaces}
-use Rattle.mode_syntax.specs.Tiles.{Leaf, Cut, whole, upper_and_lower, left_and_right, quarters, partition_of_cut, inside, one_leaf, leaves, row_leaves, tile_leaves, times_covered}
+use Rattle.mode_syntax.specs.TileSquares.{Leaf, Cut, whole, upper_and_lower, left_and_right, quarters, partition_of_cut, inside, one_leaf, leaves, row_leaves, tile_leaves, times_covered}
 
 -- 1 where a place lies in a rectangle, which the definitions write so
 abbrev pub box : ℕ → ℕ → ℕ → ℕ → ℕ → ℕ → ℕ

@@ -4,8 +4,8 @@ use Rattle.std.proofs.lemmas.Bool.{cases_Bool}
 use Rattle.vp9_types.specs.declared.block.BlockSize.{BlockSize}
 use Rattle.vp9_types.specs.declared.block.Partition.{Partition}
 use Rattle.vp9_types.specs.declared.block.Partition.TheVariants.{Whole, Horizontal, Vertical, Split}
-use Rattle.block_geometry.specs.Sizes.{width_8}
-use Rattle.block_geometry.specs.Partitions.{part_size}
+use Rattle.block_geometry.specs.BlockSizes.{width_8}
+use Rattle.block_geometry.specs.SplitSquares.{part_size}
 use Rattle.counting_reader.specs.Counting.{settle}
 use Rattle.mode_syntax.specs.Partitions.{partition_at}
 use Rattle.mode_syntax.specs.Walk.{Walk, block_at, square_at, starts_inside, block_inside, smallest_parts, parts, decode_partition, decode_row, decode_tile}

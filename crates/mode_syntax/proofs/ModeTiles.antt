@@ -7,7 +7,7 @@ use Rattle.vp9_types.specs.declared.rule.Rule.{Rule}
 use Rattle.bool_decoder.specs.Window.{Window, bit_of, after_bit}
 use Rattle.bool_decoder.specs.Bools.{run_bools}
 use Rattle.frame_headers.specs.declared.header.Header.{Header}
-use Rattle.prob_contexts.specs.Lists.{ContextLists}
+use Rattle.prob_contexts.specs.ProbLists.{ContextLists}
 use Rattle.block_geometry.specs.declared.transform_blocks.FramePlaces.{FramePlaces}
 use Rattle.counting_reader.specs.Counting.{Settled}
 use Rattle.mode_syntax.specs.Walk.{decode_tile}

@@ -11,14 +11,14 @@ use Rattle.vp9_types.specs.declared.block.Modes.{Modes}
 use Rattle.vp9_types.specs.declared.block.TxMode.{TxMode}
 use Rattle.frame_headers.specs.declared.header.Header.{Header}
 use Rattle.frame_headers.specs.declared.segments.Segmentation.{Segmentation}
-use Rattle.prob_contexts.specs.Lists.{ContextLists}
-use Rattle.vp9_tables.specs.Blocks.{width_of}
-use Rattle.block_geometry.specs.Sizes.{width_8}
+use Rattle.prob_contexts.specs.ProbLists.{ContextLists}
+use Rattle.vp9_tables.specs.BlockTables.{width_of}
+use Rattle.block_geometry.specs.BlockSizes.{width_8}
 use Rattle.block_geometry.specs.declared.transform_blocks.FramePlaces.{FramePlaces}
 use Rattle.block_plan.specs.declared.block.BlockAt.{BlockAt}
 use Rattle.block_plan.specs.declared.block.BlockInfo.{BlockInfo}
 use Rattle.counting_reader.specs.Counting.{settle, behind, in_order}
-use Rattle.mode_syntax.specs.ModeInfo.{intra_frame_mode_info, mode_info_beside}
+use Rattle.mode_syntax.specs.IntraModeInfo.{intra_frame_mode_info, mode_info_beside}
 use Rattle.mode_syntax.specs.Walk.{block_at, square_at}
 use Rattle.counting_reader.specs.Counting.{Yields}
 use Rattle.counting_reader.specs.Counting.{mapped}

@@ -2,7 +2,7 @@
 use Rattle.std.proofs.Common.{◌≡◌, ℕ, zero, suc, ◌+◌, ◌*◌, ◌++◌, ◌∙◌, refl, ap, arith}
 use Rattle.block_geometry.specs.declared.transform_blocks.FramePlaces.{FramePlaces}
 use Rattle.counting_reader.specs.Counting.{settle}
-use Rattle.mode_syntax.specs.Tiles.{Cut, whole, leaves, row_leaves, tile_leaves}
+use Rattle.mode_syntax.specs.TileSquares.{Cut, whole, leaves, row_leaves, tile_leaves}
 use Rattle.mode_syntax.specs.Walk.{Walk, decode_partition, decode_row, decode_tile}
 use Rattle.counting_reader.specs.Counting.{Yields}
 use Rattle.mode_syntax.proofs.Walks.{lists_none, lists_both, lists_as, leaves_listed}

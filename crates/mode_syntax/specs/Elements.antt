@@ -10,18 +10,18 @@ use Rattle.vp9_types.specs.declared.block.TxSize.{TxSize}
 use Rattle.vp9_types.specs.declared.block.TxSize.TheVariants.{T4x4, T8x8, T16x16, T32x32}
 use Rattle.vp9_types.specs.declared.rule.Rule.{Rule}
 use Rattle.vp9_tables.specs.Numbers.{flag_number, tx_number, tx_of}
-use Rattle.vp9_tables.specs.Blocks.{greatest_of}
-use Rattle.vp9_tables.specs.Trees.{segment_tree, tx8_tree, tx16_tree, tx32_tree}
+use Rattle.vp9_tables.specs.BlockTables.{greatest_of}
+use Rattle.vp9_tables.specs.SymbolTrees.{segment_tree, tx8_tree, tx16_tree, tx32_tree}
 use Rattle.frame_headers.specs.Segments.{no_segment_features}
 use Rattle.frame_headers.specs.declared.segments.MapUpdate.{MapUpdate}
 use Rattle.frame_headers.specs.declared.segments.Segmentation.{Segmentation}
 use Rattle.prob_contexts.specs.declared.kind.ProbKind.{ProbKind}
 use Rattle.prob_contexts.specs.declared.kind.ProbKind.TheVariants as kind
-use Rattle.prob_contexts.specs.Lists.{TxLists}
-use Rattle.block_geometry.specs.Sizes.{is_below_8x8, greatest_allowed}
+use Rattle.prob_contexts.specs.ProbLists.{TxLists}
+use Rattle.block_geometry.specs.BlockSizes.{is_below_8x8, greatest_allowed}
 use Rattle.block_plan.specs.declared.block.BlockInfo.{BlockInfo}
 use Rattle.counting_reader.specs.Counting.{Settled, settle, ◌>>=◌}
-use Rattle.counting_reader.specs.Symbols.{counted_flag, counted_tree}
+use Rattle.counting_reader.specs.CountedSymbols.{counted_flag, counted_tree}
 
 -- Segments are coded in frames that have them and update their map; else a block's is 0.
 unfoldable pub coded_segment : Bool → Option MapUpdate → Syntax ℕ Rule ℕ

@@ -8,7 +8,7 @@ use Rattle.vp9_types.specs.declared.block.IntraMode.{IntraMode}
 use Rattle.vp9_types.specs.declared.block.IntraMode.TheVariants.{Dc, V, H, D45, D135, D117, D153, D207, D63, Tm}
 use Rattle.vp9_types.specs.declared.rule.Rule.{Rule}
 use Rattle.vp9_tables.specs.Numbers.{intra_number}
-use Rattle.vp9_tables.specs.Trees.{intra_mode_tree}
+use Rattle.vp9_tables.specs.SymbolTrees.{intra_mode_tree}
 use Rattle.vp9_tables.specs.declared.data.intra.TheConstants.{KF_Y_MODE, KF_UV_MODE}
 use Rattle.block_plan.specs.declared.block.BlockInfo.{BlockInfo}
 use Rattle.block_plan.specs.declared.block.Prediction.{Prediction}

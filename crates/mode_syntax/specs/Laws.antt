@@ -7,17 +7,17 @@ use Rattle.vp9_types.specs.declared.rule.Rule.{Rule}
 use Rattle.bool_decoder.specs.Bools.{run_bools}
 use Rattle.bool_decoder.specs.Window.{Window}
 use Rattle.frame_headers.specs.declared.header.Header.{Header}
-use Rattle.prob_contexts.specs.Lists.{ContextLists}
+use Rattle.prob_contexts.specs.ProbLists.{ContextLists}
 use Rattle.counting_reader.specs.Counting.{Settled, settle, mapped, Yields, ◌>>=◌}
-use Rattle.block_geometry.specs.Sizes.{width_8}
+use Rattle.block_geometry.specs.BlockSizes.{width_8}
 use Rattle.block_geometry.specs.declared.transform_blocks.FramePlaces.{FramePlaces}
 use Rattle.block_plan.specs.Blocks.{covering}
 use Rattle.block_plan.specs.declared.block.BlockAt.{BlockAt}
 use Rattle.block_plan.specs.declared.block.BlockInfo.{BlockInfo}
-use Rattle.mode_syntax.specs.ModeInfo.{intra_frame_mode_info}
+use Rattle.mode_syntax.specs.IntraModeInfo.{intra_frame_mode_info}
 use Rattle.mode_syntax.specs.Partitions.{partition_at}
 use Rattle.mode_syntax.specs.TileColumns.{settled_part}
-use Rattle.mode_syntax.specs.Tiles.{Leaf, Cut, one_leaf, leaves, tile_leaves}
+use Rattle.mode_syntax.specs.TileSquares.{Leaf, Cut, one_leaf, leaves, tile_leaves}
 use Rattle.mode_syntax.specs.Walk.{Walk, block_at, square_at, decode_tile}
 
 ---- Listed blocks ----

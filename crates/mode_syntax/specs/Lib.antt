@@ -1,8 +1,8 @@
 pub mod IntraModes
 pub mod Elements
-pub mod ModeInfo
+pub mod IntraModeInfo
 pub mod Partitions
-pub mod Tiles
+pub mod TileSquares
 pub mod Walk
 pub mod TileColumns
 pub mod Laws

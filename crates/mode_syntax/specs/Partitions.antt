@@ -7,18 +7,18 @@ use Rattle.vp9_types.specs.declared.block.Partition.{Partition}
 use Rattle.vp9_types.specs.declared.block.Partition.TheVariants.{Whole, Horizontal, Vertical, Split}
 use Rattle.vp9_types.specs.declared.rule.Rule.{Rule}
 use Rattle.vp9_tables.specs.Numbers.{partition_number}
-use Rattle.vp9_tables.specs.Trees.{partition_tree}
+use Rattle.vp9_tables.specs.SymbolTrees.{partition_tree}
 use Rattle.vp9_tables.specs.declared.data.intra.TheConstants.{KF_PARTITION}
 use Rattle.bool_decoder.specs.Bools.{flag}
 use Rattle.prob_contexts.specs.declared.kind.ProbKind.TheVariants as kind
-use Rattle.block_geometry.specs.Sizes.{width_4, height_4}
-use Rattle.block_geometry.specs.Partitions.{square, partition_context}
+use Rattle.block_geometry.specs.BlockSizes.{width_4, height_4}
+use Rattle.block_geometry.specs.SplitSquares.{square, partition_context}
 use Rattle.block_geometry.specs.declared.transform_blocks.FramePlaces.{FramePlaces}
 use Rattle.block_plan.specs.Blocks.{above_place, left_place}
 use Rattle.block_plan.specs.declared.block.BlockInfo.{BlockInfo}
 use Rattle.mode_syntax.specs.declared.square_at.SquareAt.{SquareAt}
 use Rattle.counting_reader.specs.Counting.{Settled, settle, count, uncounted, ◌>>=◌, ◌>>◌}
-use Rattle.counting_reader.specs.Symbols.{counted_symbol}
+use Rattle.counting_reader.specs.CountedSymbols.{counted_symbol}
 
 abbrev pub partition_of : ℕ → Partition
 partition_of n = if nat_eq n 0 then Whole else (if nat_eq n 1 then Horizontal else (if nat_eq n 2 then Vertical else Split))

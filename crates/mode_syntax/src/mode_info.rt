@@ -2,12 +2,12 @@
 
 ghost use Rattle.std.specs.Prelude.{◌≡◌, ◌+◌, ◌-◌, ◌^◌, ◌<◌, ◌≤◌, ℕ};
 ghost use Rattle.std.specs.Option.{option_copied};
-ghost use Rattle.vp9_tables.specs.Blocks.{greatest_of};
+ghost use Rattle.vp9_tables.specs.BlockTables.{greatest_of};
 ghost use Rattle.vp9_tables.specs.Numbers.{tx_number};
-ghost use Rattle.prob_contexts.specs.Lists.{lists_of};
+ghost use Rattle.prob_contexts.specs.ProbLists.{lists_of};
 ghost use Rattle.block_plan.specs.Blocks.{IsIntra};
 ghost use Rattle.counting_reader.specs.Code.{Reads};
-ghost use Rattle.mode_syntax.specs.ModeInfo.{mode_info_beside, intra_frame_mode_info};
+ghost use Rattle.mode_syntax.specs.IntraModeInfo.{mode_info_beside, intra_frame_mode_info};
 
 use crate::elements::{read_intra_segment_id, read_skip, skip_context};
 use crate::intra_modes::{edge_modes, read_default_uv_mode, read_luma_modes};
@@ -19,7 +19,7 @@ use counting_reader::CountingReader;
 use frame_setting::FrameSetting;
 
 /// What a block reads beside the blocks above it and at its left.
-#[tactic(auto, unfolding(crate::specs::ModeInfo::mode_info_beside), using(counting_reader::proofs::CountingRuns::counting_bind, counting_reader::proofs::CountingRuns::run_settle))]
+#[tactic(auto, unfolding(crate::specs::IntraModeInfo::mode_info_beside), using(counting_reader::proofs::CountingRuns::counting_bind, counting_reader::proofs::CountingRuns::run_settle))]
 fn read_beside<const COUNTS: bool>(
     reader: &mut CountingReader<COUNTS>,
     setting: &FrameSetting,
@@ -65,7 +65,7 @@ fn read_beside<const COUNTS: bool>(
 
 /// What a block of an intra frame reads. The block starts inside the frame and its tile; `earlier` has the frame's blocks
 /// before it.
-#[tactic(auto, unfolding(crate::specs::ModeInfo::intra_frame_mode_info))]
+#[tactic(auto, unfolding(crate::specs::IntraModeInfo::intra_frame_mode_info))]
 pub fn intra_frame_mode_info<N: Neighbours, const COUNTS: bool>(
     reader: &mut CountingReader<COUNTS>,
     setting: &FrameSetting,

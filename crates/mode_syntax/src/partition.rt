@@ -4,12 +4,12 @@ ghost use Rattle.std.specs.Prelude.{◌≡◌, ◌+◌, ◌-◌, ◌*◌, ◌/�
 ghost use Rattle.std.specs.Option.{option_copied};
 ghost use Rattle.counting_reader.specs.Counting.{count};
 ghost use Rattle.counting_reader.specs.Code.{Reads};
-ghost use Rattle.counting_reader.specs.Symbols.{counted_symbol};
-ghost use Rattle.prob_contexts.specs.Lists.{lists_of};
+ghost use Rattle.counting_reader.specs.CountedSymbols.{counted_symbol};
+ghost use Rattle.prob_contexts.specs.ProbLists.{lists_of};
 ghost use Rattle.mode_syntax.specs.Partitions.{partition_of, split_or, whole_symbol, edge_symbol, partition_value, partition, half_of, partition_probs, width_beside, height_beside, widths_above, heights_left, square_context, partition_at};
 ghost use Rattle.prob_contexts.specs.declared.kind.ProbKind.TheVariants as kind;
 ghost use Rattle.vp9_tables.specs.Numbers.{partition_number};
-ghost use Rattle.vp9_tables.specs.Trees.{partition_tree};
+ghost use Rattle.vp9_tables.specs.SymbolTrees.{partition_tree};
 
 use crate::square_at::SquareAt;
 use block_geometry::{FramePlaces, height_4, partition_context, square, width_4};

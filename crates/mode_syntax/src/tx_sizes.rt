@@ -4,9 +4,9 @@ ghost use Rattle.std.specs.Prelude.{◌≡◌, ◌+◌, ◌*◌, ◌^◌, ◌<�
 ghost use Rattle.std.specs.Option.{option_copied};
 ghost use Rattle.vp9_types.specs.declared.block.TxSize.TheVariants as size;
 ghost use Rattle.vp9_tables.specs.Numbers.{tx_number, tx_of};
-ghost use Rattle.vp9_tables.specs.Blocks.{greatest_of};
-ghost use Rattle.prob_contexts.specs.Lists.{tx_lists};
-ghost use Rattle.block_geometry.specs.Sizes.{greatest_allowed};
+ghost use Rattle.vp9_tables.specs.BlockTables.{greatest_of};
+ghost use Rattle.prob_contexts.specs.ProbLists.{tx_lists};
+ghost use Rattle.block_geometry.specs.BlockSizes.{greatest_allowed};
 ghost use Rattle.counting_reader.specs.Code.{Reads};
 ghost use Rattle.mode_syntax.specs.Elements.{tx_beside, tx_sum, tx_context, tx_symbol, is_selected, read_tx_size};
 

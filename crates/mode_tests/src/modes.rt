@@ -1,7 +1,7 @@
 //! Tiles of intra frames without residue, as tools/vectors.py intra_modes reads them.
 
 ghost use Rattle.std.specs.Prelude.{◌≡◌, ◌<◌, ◌≤◌, ◌^◌};
-ghost use Rattle.frame_headers.specs.Sizes.{IsFrameSize};
+ghost use Rattle.frame_headers.specs.FrameSizes.{IsFrameSize};
 
 use block_geometry::{FramePlaces, part_size};
 use block_plan::{BlockAt, BlockGrid, BlockInfo, IntraPrediction, Prediction};

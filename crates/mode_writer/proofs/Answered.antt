@@ -11,31 +11,31 @@ use Rattle.vp9_types.specs.declared.block.TxMode.{TxMode}
 use Rattle.vp9_types.specs.declared.block.TxSize.{TxSize}
 use Rattle.vp9_types.specs.declared.block.TxSize.TheVariants.{T4x4, T8x8, T16x16, T32x32}
 use Rattle.vp9_types.specs.declared.rule.Rule.{Rule}
-use Rattle.vp9_tables.specs.Blocks.{greatest_of}
+use Rattle.vp9_tables.specs.BlockTables.{greatest_of}
 use Rattle.vp9_tables.specs.Numbers.{partition_number, tx_number, tx_of}
-use Rattle.vp9_tables.specs.Trees.{partition_tree, segment_tree}
+use Rattle.vp9_tables.specs.SymbolTrees.{partition_tree, segment_tree}
 use Rattle.bool_decoder.specs.Bools.{flag}
 use Rattle.frame_headers.specs.declared.header.Header.{Header}
 use Rattle.frame_headers.specs.declared.segments.MapUpdate.{MapUpdate}
 use Rattle.frame_headers.specs.declared.segments.Segmentation.{Segmentation}
-use Rattle.prob_contexts.specs.Lists.{TxLists, ContextLists}
+use Rattle.prob_contexts.specs.ProbLists.{TxLists, ContextLists}
 use Rattle.prob_contexts.specs.declared.kind.ProbKind.TheVariants as kind
-use Rattle.block_geometry.specs.Sizes.{is_below_8x8, greatest_allowed}
+use Rattle.block_geometry.specs.BlockSizes.{is_below_8x8, greatest_allowed}
 use Rattle.block_geometry.specs.declared.transform_blocks.FramePlaces.{FramePlaces}
 use Rattle.block_plan.specs.Blocks.{above_of, left_of}
 use Rattle.block_plan.specs.declared.block.BlockAt.{BlockAt}
 use Rattle.block_plan.specs.declared.block.BlockInfo.{BlockInfo}
 use Rattle.counting_reader.specs.Counting.{Settled, settle, count, uncounted, Yields}
-use Rattle.counting_reader.specs.Symbols.{counted_flag, counted_symbol, counted_tree}
+use Rattle.counting_reader.specs.CountedSymbols.{counted_flag, counted_symbol, counted_tree}
 use Rattle.counting_reader.proofs.Yields.{yields_bind, yields_all, yields_map}
 use Rattle.mode_syntax.specs.Elements.{coded_segment, intra_segment_id, skips_segment, skip_context, read_skip, tx_context, tx_kind, tx_probs, tx_tree, tx_symbol, is_selected, read_tx_size}
 use Rattle.mode_syntax.specs.IntraModes.{default_intra_mode, edge_modes, one_mode, two_rows, two_columns, four_modes, luma_modes, last_mode, default_uv_mode}
-use Rattle.mode_syntax.specs.ModeInfo.{intra_block, mode_info_beside, intra_frame_mode_info}
+use Rattle.mode_syntax.specs.IntraModeInfo.{intra_block, mode_info_beside, intra_frame_mode_info}
 use Rattle.mode_syntax.specs.Partitions.{split_or, edge_symbol, whole_symbol, partition_value, partition, half_of, partition_probs, square_context, partition_at}
 use Rattle.mode_syntax.specs.declared.intra_modes.EdgeModes.{EdgeModes}
 use Rattle.mode_syntax.specs.declared.square_at.SquareAt.{SquareAt}
 use Rattle.mode_syntax.proofs.TxSizes.{some_transform}
-use Rattle.mode_writer.specs.Fits.{CanSegment, CanSkip, says_tx, CanTx, AreRows, AreColumns, CanLuma, CanPutIntraFrame, CanPartition, CanPartitionAt}
+use Rattle.mode_writer.specs.ModeFits.{CanSegment, CanSkip, says_tx, CanTx, AreRows, AreColumns, CanLuma, CanPutIntraFrame, CanPartition, CanPartitionAt}
 use Rattle.mode_writer.proofs.Yielded.{AllLeaves, yields_one, yields_uncounted, yields_after, tree_yields, symbol_yields}
 
 no_true : {P : Type 0} → false ≡ true → P

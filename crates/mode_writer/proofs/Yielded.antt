@@ -6,7 +6,7 @@ use Rattle.vp9_types.specs.Trees.{Tree, leaf, node, tree_symbol}
 use Rattle.vp9_types.specs.declared.rule.Rule.{Rule}
 use Rattle.prob_contexts.specs.declared.kind.ProbKind.{ProbKind}
 use Rattle.counting_reader.specs.Counting.{Settled, settle, uncounted, Yields}
-use Rattle.counting_reader.specs.Symbols.{counted_flag, counted_tree}
+use Rattle.counting_reader.specs.CountedSymbols.{counted_flag, counted_tree}
 use Rattle.counting_reader.proofs.Yields.{yields_bind, yields_all}
 
 pub yields_one : {A : Type 0} (x : A) (P : A → Type 0) → P x → Yields (settle x) P

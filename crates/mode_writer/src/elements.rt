@@ -1,10 +1,10 @@
 //! Segment and skip.
 
 ghost use Rattle.std.specs.Prelude.{◌≡◌, ◌≤◌, IfOk};
-ghost use Rattle.bool_encoder.specs.Bools.{Puts};
+ghost use Rattle.bool_encoder.specs.WrittenBools.{Puts};
 ghost use Rattle.bool_encoder.specs.CountedBools.{PutsValue};
 ghost use Rattle.mode_syntax.specs.Elements.{intra_segment_id, read_skip};
-ghost use Rattle.mode_writer.specs.Fits.{CanSegment, CanSkip};
+ghost use Rattle.mode_writer.specs.ModeFits.{CanSegment, CanSkip};
 
 use bool_encoder::{BoolEncoder, put_flag, put_tree};
 use frame_headers::Segmentation;

@@ -1,9 +1,9 @@
 //! Modes of the blocks of intra frames.
 
 ghost use Rattle.std.specs.Prelude.{◌≡◌, IfOk, ◌∷◌, []};
-ghost use Rattle.bool_encoder.specs.Bools.{Puts};
+ghost use Rattle.bool_encoder.specs.WrittenBools.{Puts};
 ghost use Rattle.mode_syntax.specs.IntraModes.{intra_mode, default_intra_mode, default_uv_mode, one_mode, two_rows, two_columns, four_modes, luma_modes};
-ghost use Rattle.mode_writer.specs.Fits.{CanLuma};
+ghost use Rattle.mode_writer.specs.ModeFits.{CanLuma};
 
 use bool_encoder::{BoolEncoder, put_tree};
 use mode_syntax::EdgeModes;

@@ -2,10 +2,10 @@
 
 ghost use Rattle.std.specs.Prelude.{◌≡◌, ◌-◌, ◌<◌, ◌≤◌, IfOk};
 ghost use Rattle.std.specs.Option.{option_copied};
-ghost use Rattle.prob_contexts.specs.Lists.{lists_of};
+ghost use Rattle.prob_contexts.specs.ProbLists.{lists_of};
 ghost use Rattle.bool_encoder.specs.CountedBools.{PutsValue};
-ghost use Rattle.mode_syntax.specs.ModeInfo.{mode_info_beside, intra_frame_mode_info};
-ghost use Rattle.mode_writer.specs.Fits.{CanPutIntraFrame};
+ghost use Rattle.mode_syntax.specs.IntraModeInfo.{mode_info_beside, intra_frame_mode_info};
+ghost use Rattle.mode_writer.specs.ModeFits.{CanPutIntraFrame};
 
 use crate::elements::{put_intra_segment_id, put_skip};
 use crate::intra_modes::{put_default_uv_mode, put_luma_modes};
@@ -17,7 +17,7 @@ use mode_syntax::{edge_modes, skip_context, tx_context};
 use std::alloc::AllocError;
 
 /// What a block says beside the blocks above it and at its left.
-#[tactic(auto, unfolding(mode_syntax::specs::ModeInfo::mode_info_beside), using(bool_encoder::proofs::CountedPuts::valued_in_order, bool_encoder::proofs::CountedPuts::valued_settle, bool_encoder::proofs::CountedPuts::valued_uncounted, vp9_types::proofs::Binds::writes_bind))]
+#[tactic(auto, unfolding(mode_syntax::specs::IntraModeInfo::mode_info_beside), using(bool_encoder::proofs::CountedPuts::valued_in_order, bool_encoder::proofs::CountedPuts::valued_settle, bool_encoder::proofs::CountedPuts::valued_uncounted, vp9_types::proofs::Binds::writes_bind))]
 fn put_beside(
     encoder: &mut BoolEncoder,
     setting: &FrameSetting,
@@ -63,7 +63,7 @@ fn put_beside(
 /// Puts a block of an intra frame, `intra_frame_mode_info` (6.4.6 of the standard). The block starts inside the frame and
 /// its tile; `earlier` has the frame's blocks before it. After want of memory some of the bools were put, and the tile is
 /// given up as a whole.
-#[tactic(auto, unfolding(mode_syntax::specs::ModeInfo::intra_frame_mode_info))]
+#[tactic(auto, unfolding(mode_syntax::specs::IntraModeInfo::intra_frame_mode_info))]
 pub fn put_intra_frame_mode_info<N: Neighbours>(
     encoder: &mut BoolEncoder,
     setting: &FrameSetting,

@@ -2,10 +2,10 @@
 
 ghost use Rattle.std.specs.Prelude.{◌≡◌, ◌+◌, ◌<◌, ◌≤◌, ◌⊎◌, ℕ, IfOk, length};
 ghost use Rattle.vp9_types.specs.declared.block.Partition.TheVariants.{Split};
-ghost use Rattle.prob_contexts.specs.Lists.{lists_of};
+ghost use Rattle.prob_contexts.specs.ProbLists.{lists_of};
 ghost use Rattle.bool_encoder.specs.CountedBools.{PutsValue};
 ghost use Rattle.mode_syntax.specs.Partitions.{whole_symbol, edge_symbol, partition_value, partition, partition_at};
-ghost use Rattle.mode_writer.specs.Fits.{CanPartition, CanPartitionAt};
+ghost use Rattle.mode_writer.specs.ModeFits.{CanPartition, CanPartitionAt};
 
 use block_plan::Neighbours;
 use bool_encoder::{BoolEncoder, put_flag, put_tree};

@@ -3,10 +3,10 @@
 ghost use Rattle.std.specs.Prelude.{◌≡◌, ◌*◌, ◌≤◌, ℕ, IfOk, drop};
 ghost use Rattle.vp9_types.specs.declared.block.TxSize.TheVariants as size;
 ghost use Rattle.vp9_tables.specs.Numbers.{tx_number};
-ghost use Rattle.prob_contexts.specs.Lists.{tx_lists};
+ghost use Rattle.prob_contexts.specs.ProbLists.{tx_lists};
 ghost use Rattle.bool_encoder.specs.CountedBools.{PutsValue};
 ghost use Rattle.mode_syntax.specs.Elements.{tx_symbol, read_tx_size};
-ghost use Rattle.mode_writer.specs.Fits.{CanTx};
+ghost use Rattle.mode_writer.specs.ModeFits.{CanTx};
 
 use block_geometry::is_below_8x8;
 use bool_encoder::{BoolEncoder, put_tree};

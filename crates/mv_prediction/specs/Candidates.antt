@@ -10,7 +10,7 @@ use Rattle.vp9_tables.specs.Numbers.{block_number, flag_number, inter_number, re
 use Rattle.vp9_tables.specs.declared.data.motion.TheConstants.{COUNTER_TO_CONTEXT, MODE_COUNTERS, MV_REF_OFFSETS, SUBBLOCK_OF_NEIGHBOUR}
 use Rattle.frame_headers.specs.References.{same_bit}
 use Rattle.frame_headers.specs.declared.header.References.{References}
-use Rattle.block_geometry.specs.Sizes.{is_below_8x8}
+use Rattle.block_geometry.specs.BlockSizes.{is_below_8x8}
 use Rattle.block_plan.specs.Blocks.{covering}
 use Rattle.block_plan.specs.declared.block.BlockInfo.{BlockInfo}
 use Rattle.block_plan.specs.declared.block.InterPrediction.{InterPrediction}

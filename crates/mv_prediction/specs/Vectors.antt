@@ -2,7 +2,7 @@
 -- in find_mv_refs, find_best_ref_mvs).
 use Rattle.std.specs.Prelude.{ℕ, ◌+◌, ◌*◌, ◌<◌, ℤ, pos, neg_ℤ, ◌-ℤ◌, ◌*ℤ◌, Bool, ◌&&◌, unsigned_abs, int_lt, int_div, nat_lt, if◌then◌else◌}
 use Rattle.std.specs.Ordering.{int_eq}
-use Rattle.block_geometry.specs.Sizes.{width_8, height_8}
+use Rattle.block_geometry.specs.BlockSizes.{width_8, height_8}
 use Rattle.block_plan.specs.declared.block.Mv.{Mv}
 use Rattle.mv_prediction.specs.declared.search.MvSearch.{MvSearch}
 

@@ -4,13 +4,13 @@ use Rattle.std.specs.List.{range_with_len}
 use Rattle.vp9_types.specs.Syntax.{Syntax}
 use Rattle.vp9_types.specs.declared.rule.Rule.{Rule}
 use Rattle.vp9_tables.specs.Numbers.{component_number, flag_number}
-use Rattle.vp9_tables.specs.Trees.{mv_class_tree, mv_fr_tree}
+use Rattle.vp9_tables.specs.SymbolTrees.{mv_class_tree, mv_fr_tree}
 use Rattle.vp9_tables.specs.declared.kinds.Component.{Component}
-use Rattle.prob_contexts.specs.Lists.{VectorLists}
+use Rattle.prob_contexts.specs.ProbLists.{VectorLists}
 use Rattle.prob_contexts.specs.declared.kind.ProbKind.{ProbKind}
 use Rattle.prob_contexts.specs.declared.kind.ProbKind.TheVariants as kind
 use Rattle.counting_reader.specs.Counting.{Settled, settle, count, through, ◌>>=◌, ◌>>◌}
-use Rattle.counting_reader.specs.Symbols.{counted_flag, counted_tree}
+use Rattle.counting_reader.specs.CountedSymbols.{counted_flag, counted_tree}
 
 -- The bit of high precision. It is 1 where it isn't read, and is counted all the same.
 unfoldable pub high_bit : Bool → ProbKind → ℕ → ℕ → Syntax ℕ Rule (Settled Bool)

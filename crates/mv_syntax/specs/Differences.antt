@@ -3,14 +3,14 @@ use Rattle.std.specs.Prelude.{ℕ, ℤ, pos, ◌+ℤ◌, Bool, ◌&&◌, ◌||�
 use Rattle.vp9_types.specs.Syntax.{Syntax}
 use Rattle.vp9_types.specs.declared.rule.Rule.{Rule}
 use Rattle.vp9_types.specs.declared.rule.Rule.TheVariants.{MvRange}
-use Rattle.vp9_tables.specs.Trees.{mv_joint_tree}
+use Rattle.vp9_tables.specs.SymbolTrees.{mv_joint_tree}
 use Rattle.vp9_tables.specs.declared.kinds.Component.{Component}
 use Rattle.vp9_tables.specs.declared.kinds.Component.TheVariants.{Row, Column}
-use Rattle.prob_contexts.specs.Lists.{VectorLists}
+use Rattle.prob_contexts.specs.ProbLists.{VectorLists}
 use Rattle.prob_contexts.specs.declared.kind.ProbKind.TheVariants as kind
 use Rattle.block_plan.specs.declared.block.Mv.{Mv}
 use Rattle.counting_reader.specs.Counting.{Settled, settle, ◌>>=◌}
-use Rattle.counting_reader.specs.Symbols.{counted_tree}
+use Rattle.counting_reader.specs.CountedSymbols.{counted_tree}
 use Rattle.mv_prediction.specs.Vectors.{is_precise}
 use Rattle.mv_syntax.specs.Components.{read_mv_component}
 

@@ -2,11 +2,11 @@
 
 ghost use Rattle.std.specs.Prelude.{◌≡◌, ◌+◌, ◌*◌, ◌^◌, ◌<◌, ◌≤◌, ℕ, drop, length, unsigned_abs};
 ghost use Rattle.vp9_tables.specs.Numbers.{component_number};
-ghost use Rattle.vp9_tables.specs.Trees.{mv_fr_tree};
+ghost use Rattle.vp9_tables.specs.SymbolTrees.{mv_fr_tree};
 ghost use Rattle.prob_contexts.specs.Kinds.{kind_size};
-ghost use Rattle.prob_contexts.specs.Lists.{vector_lists};
+ghost use Rattle.prob_contexts.specs.ProbLists.{vector_lists};
 ghost use Rattle.counting_reader.specs.Counting.{through};
-ghost use Rattle.counting_reader.specs.Symbols.{counted_tree};
+ghost use Rattle.counting_reader.specs.CountedSymbols.{counted_tree};
 ghost use Rattle.counting_reader.specs.Code.{Reads};
 ghost use Rattle.std.specs.List.{range_with_len};
 ghost use Rattle.mv_syntax.specs.Components.{high_bit, small_magnitude, next_bit, large_magnitude, magnitude, read_mv_component};
@@ -38,7 +38,7 @@ fn read_high<const COUNTS: bool>(
 /// A number by how many ones come before a zero, three at most: the tree of fractions, which is that of joints too. Bool by
 /// bool, since a loop over so small a tree costs more.
 #[inline(always)]
-#[tactic(auto, unfolding(counting_reader::specs::Symbols::counted_tree), using(counting_reader::proofs::CountingRuns::counting_bind, counting_reader::proofs::CountingRuns::run_settle))]
+#[tactic(auto, unfolding(counting_reader::specs::CountedSymbols::counted_tree), using(counting_reader::proofs::CountingRuns::counting_bind, counting_reader::proofs::CountingRuns::run_settle))]
 pub(crate) fn read_ones<const COUNTS: bool>(
     reader: &mut CountingReader<COUNTS>,
     kind: ProbKind,

@@ -1,7 +1,7 @@
 //! Differences of vectors.
 
 ghost use Rattle.std.specs.Prelude.{◌≡◌, ◌≤◌, unsigned_abs};
-ghost use Rattle.prob_contexts.specs.Lists.{vector_lists};
+ghost use Rattle.prob_contexts.specs.ProbLists.{vector_lists};
 ghost use Rattle.counting_reader.specs.Code.{Reads};
 ghost use Rattle.mv_syntax.specs.Differences.{component_if, read_mv};
 

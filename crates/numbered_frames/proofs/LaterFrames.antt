@@ -3,11 +3,11 @@ use Rattle.std.proofs.Common.{◌≡◌, ◌<◌, ◌≤◌, ℕ, zero, suc, Lis
 use Rattle.std.specs.Prelude.{Some, slice_get}
 use Rattle.frame_output.specs.declared.rendering.Format.{Format}
 use Rattle.seq_decoder.specs.Outputs.{form_from}
-use Rattle.seq_decoder.specs.State.{start_state}
+use Rattle.seq_decoder.specs.DecoderState.{start_state}
 use Rattle.numbered_frames.specs.Coded.{coded, coded_from}
 use Rattle.numbered_frames.specs.Films.{Film, GoesOn}
-use Rattle.numbered_frames.specs.Numbers.{before, behind_frame, frame_at, text, text_from}
-use Rattle.numbered_frames.specs.Pictures.{picture_from, pictures}
+use Rattle.numbered_frames.specs.FrameNumbers.{before, behind_frame, frame_at, text, text_from}
+use Rattle.numbered_frames.specs.NumberedPictures.{picture_from, pictures}
 
 got_in_front : {X : Type 0} (xs ys : List X) (k : ℕ) → k < length xs → slice_get (xs ++ ys) k ≡ slice_get xs k
 got_in_front [] ys k low = absurd (omega (arith, low))

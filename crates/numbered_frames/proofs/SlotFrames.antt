@@ -6,25 +6,25 @@ use Rattle.vp9_types.specs.Results.{map_ok, ◌>>=◌}
 use Rattle.vp9_types.specs.declared.block.Modes.{Modes}
 use Rattle.vp9_types.specs.declared.job.Span.{Span}
 use Rattle.vp9_types.specs.declared.rule.Rule.{Rule}
-use Rattle.compressed_header.specs.Header.{forward}
+use Rattle.compressed_header.specs.CompressedHeader.{forward}
 use Rattle.frame_headers.specs.Header.{head_of}
 use Rattle.frame_headers.specs.Spans.{tile_spans}
-use Rattle.frame_headers.specs.State.{refreshed}
+use Rattle.frame_headers.specs.HeaderState.{refreshed}
 use Rattle.frame_headers.specs.declared.header.FrameHead.{FrameHead}
 use Rattle.frame_headers.specs.declared.header.FrameHead.TheVariants as head
 use Rattle.frame_headers.specs.declared.header.Header.{Header}
 use Rattle.file_frames.specs.Walks.{Added}
 use Rattle.frame_output.specs.declared.rendering.Format.{Format}
-use Rattle.prob_contexts.specs.Lists.{ContextLists}
-use Rattle.frame_decoder.specs.Frames.{FrameResult, decoded, rebuilt}
-use Rattle.frame_state.specs.Reading.{FrameRead, read_all_tiles, read_frame, read_tiles, sources}
+use Rattle.prob_contexts.specs.ProbLists.{ContextLists}
+use Rattle.frame_decoder.specs.DecodedFrames.{FrameResult, decoded, rebuilt}
+use Rattle.frame_state.specs.FrameReading.{FrameRead, read_all_tiles, read_frame, read_tiles, sources}
 use Rattle.seq_decoder.specs.After.{Stepped, after_coded, behind_head, decoded_in, input_of, picture_of, references_of, state_after, step}
 use Rattle.vp9_types.specs.declared.rule.Rule.TheVariants.{OutputShape}
 use Rattle.seq_decoder.specs.Outputs.{Putting, admits, form_after, put, shown_text}
-use Rattle.seq_decoder.specs.State.{Picture, State, persist_of}
+use Rattle.seq_decoder.specs.DecoderState.{Picture, State, persist_of}
 use Rattle.seq_decoder.specs.declared.form.OutputForm.{OutputForm}
 use Rattle.numbered_frames.specs.Coded.{CodedFrame, IsFrameBefore, begun_from, coded, coded_from, headed_from, read_of, result_of}
-use Rattle.numbered_frames.specs.Numbers.{before, frame_at, start}
+use Rattle.numbered_frames.specs.FrameNumbers.{before, frame_at, start}
 use Rattle.numbered_frames.proofs.Ways.{passed}
 use Rattle.numbered_frames.specs.Films.{Film}
 

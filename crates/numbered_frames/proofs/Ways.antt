@@ -11,7 +11,7 @@ use Rattle.frame_output.specs.declared.rendering.Format.{Format}
 use Rattle.job_order.specs.Sound.{texts_below}
 use Rattle.seq_decoder.specs.Code.{put_text}
 use Rattle.seq_decoder.specs.Outputs.{Putting, form_from, output_of, putting}
-use Rattle.numbered_frames.specs.Numbers.{EndsAt, before, film_output, behind, behind_frame, file_ending, frame_at, put_frame, start, text, text_from}
+use Rattle.numbered_frames.specs.FrameNumbers.{EndsAt, before, film_output, behind, behind_frame, file_ending, frame_at, put_frame, start, text, text_from}
 use Rattle.numbered_frames.specs.Films.{Film, film_of}
 
 -- the walk from a frame on, behind what is kept before it

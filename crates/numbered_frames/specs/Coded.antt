@@ -9,17 +9,17 @@ use Rattle.frame_headers.specs.Spans.{tile_spans}
 use Rattle.frame_headers.specs.declared.header.FrameHead.{FrameHead}
 use Rattle.frame_headers.specs.declared.header.FrameHead.TheVariants as head
 use Rattle.frame_headers.specs.declared.header.Header.{Header}
-use Rattle.prob_contexts.specs.Lists.{ContextLists}
-use Rattle.compressed_header.specs.Header.{forward}
+use Rattle.prob_contexts.specs.ProbLists.{ContextLists}
+use Rattle.compressed_header.specs.CompressedHeader.{forward}
 use Rattle.frame_output.specs.declared.rendering.Format.{Format}
 use Rattle.block_rebuild.specs.InterBlocks.{ReferencePicture}
-use Rattle.frame_state.specs.Reading.{FrameRead, read_all_tiles, sources}
+use Rattle.frame_state.specs.FrameReading.{FrameRead, read_all_tiles, sources}
 use Rattle.frame_state.specs.Sources.{FrameSources}
-use Rattle.frame_decoder.specs.Frames.{FrameResult, rebuilt}
+use Rattle.frame_decoder.specs.DecodedFrames.{FrameResult, rebuilt}
 use Rattle.seq_decoder.specs.After.{input_of, picture_of, references_of}
 use Rattle.seq_decoder.specs.Outputs.{Putting}
-use Rattle.seq_decoder.specs.State.{Picture, persist_of}
-use Rattle.numbered_frames.specs.Numbers.{before, frame_at}
+use Rattle.seq_decoder.specs.DecoderState.{Picture, persist_of}
+use Rattle.numbered_frames.specs.FrameNumbers.{before, frame_at}
 use Rattle.numbered_frames.specs.Films.{Film}
 
 -- a coded frame whose headers and tiles' sizes break no rule: what is kept before it, its bytes and its header, what its blocks are

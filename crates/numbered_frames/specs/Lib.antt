@@ -1,4 +1,4 @@
 pub mod Films
-pub mod Numbers
+pub mod FrameNumbers
 pub mod Coded
-pub mod Pictures
+pub mod NumberedPictures

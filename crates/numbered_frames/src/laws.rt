@@ -8,8 +8,8 @@ ghost use Rattle.job_order.specs.Sound.{texts_below};
 ghost use Rattle.seq_decoder.specs.Outputs.{Putting, output_of};
 ghost use Rattle.numbered_frames.specs.Films.{Film, film_of, GoesOn};
 ghost use Rattle.numbered_frames.specs.Coded.{IsFrameBefore, coded};
-ghost use Rattle.numbered_frames.specs.Pictures.{pictures};
-ghost use Rattle.numbered_frames.specs.Numbers.{EndsAt, before, film_output, text};
+ghost use Rattle.numbered_frames.specs.NumberedPictures.{pictures};
+ghost use Rattle.numbered_frames.specs.FrameNumbers.{EndsAt, before, film_output, text};
 
 /// The texts of the frames, in order, are what is written of a film: all of it up to where its run ends, and a front of it up to any frame.
 pub fn frames_are_the_output()

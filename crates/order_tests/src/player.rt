@@ -1,7 +1,7 @@
 ghost use Rattle.std.specs.Prelude.{◌≡◌, true, Some, IfOk};
 ghost use Rattle.vp9_types.specs.declared.job.JobName.{JobName};
 ghost use Rattle.vp9_types.specs.declared.job.JobName.TheVariants.{Head};
-ghost use Rattle.job_order.specs.Segments.{job_at};
+ghost use Rattle.job_order.specs.JobSegments.{job_at};
 ghost use Rattle.job_order.specs.Worlds.{published, IsAllowed, IsReached, IsReady};
 ghost use Rattle.job_order.specs.Sound.{frame_of};
 ghost use Rattle.job_order.specs.Example.{example_rules, both_before, reads_before};

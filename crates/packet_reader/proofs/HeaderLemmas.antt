@@ -4,7 +4,7 @@ use Rattle.std.specs.Prelude.{Option, Some, None, Result, Ok, Err, codes, slice_
 use Rattle.std.proofs.lemmas.List.{append-nil, take-append-le, take_all}
 use Rattle.std.proofs.lemmas.Bool.{cases_lt}
 use Rattle.edge_io.specs.Filling.{WhereTold}
-use Rattle.edge_io.specs.Reading.{Gave}
+use Rattle.edge_io.specs.SourceReading.{Gave}
 use Rattle.edge_io.specs.declared.read.ReadError.{ReadError}
 use Rattle.edge_io.specs.declared.read.ReadError.TheVariants as read
 use Rattle.byteorder.specs.Endian.{little_number}
@@ -15,7 +15,7 @@ use Rattle.ivf_container.proofs.Headers.{IsTested, is_tested, is_header, ends_he
 use Rattle.ivf_container.proofs.Bodies.{has_body}
 use Rattle.ivf_container.proofs.Files.{only_packets}
 use Rattle.packet_reader.specs.Code.{IsEnough, IsShort, PassesHeader}
-use Rattle.packet_reader.specs.Packets.{Answer, HasRate, IsNext, TakesNext, TellsRate, rate_with, refusal_of}
+use Rattle.packet_reader.specs.TakenPackets.{Answer, HasRate, IsNext, TakesNext, TellsRate, rate_with, refusal_of}
 use Rattle.packet_reader.specs.declared.reader.PacketRefusal.{PacketRefusal}
 use Rattle.packet_reader.specs.declared.reader.PacketRefusal.TheVariants as refused
 use Rattle.packet_reader.specs.declared.reader.Stage.TheVariants as stage

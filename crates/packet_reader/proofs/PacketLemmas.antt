@@ -5,7 +5,7 @@ use Rattle.std.specs.List.{flat_map}
 use Rattle.std.proofs.lemmas.List.{append-nil, take-append-drop, take-append-le, length-take-le}
 use Rattle.byteorder.specs.Endian.{little_number}
 use Rattle.edge_io.specs.Filling.{WhereTold}
-use Rattle.edge_io.specs.Reading.{Gave}
+use Rattle.edge_io.specs.SourceReading.{Gave}
 use Rattle.edge_io.specs.declared.read.ReadError.{ReadError}
 use Rattle.edge_io.specs.declared.read.ReadError.TheVariants as read
 use Rattle.vp9_types.specs.declared.rule.Rule.{Rule}
@@ -14,7 +14,7 @@ use Rattle.ivf_container.specs.declared.packet.Packet.{Packet}
 use Rattle.ivf_container.specs.Packets.{Packets, Written, IsWritten, written_bytes, size_at, next_packet_at, go_on, fewer_from, packets_from, no_packets, with_payload}
 use Rattle.ivf_container.proofs.Walks.{IsStep, is_step, next_from}
 use Rattle.ivf_container.proofs.Bodies.{has_body, only_body}
-use Rattle.packet_reader.specs.Packets.{TakesNext, ahead, begun_at, refusal_of, source_of, stage_of, with_front}
+use Rattle.packet_reader.specs.TakenPackets.{TakesNext, ahead, begun_at, refusal_of, source_of, stage_of, with_front}
 use Rattle.packet_reader.specs.declared.reader.PacketReader.{PacketReader}
 use Rattle.packet_reader.specs.declared.reader.Stage.TheVariants as stage
 

@@ -2,7 +2,7 @@
 use Rattle.std.specs.Prelude.{◌≡◌, ◌⊎◌, ℕ, ◌+◌, ◌<◌, ◌≤◌, max, List, [], ◌++◌, length, take, codes, Option, Some, Result, Ok, Err, Vec, ⊤}
 use Rattle.std.specs.declared.alloc.Global.{Global}
 use Rattle.edge_io.specs.Filling.{WhereTold}
-use Rattle.edge_io.specs.Reading.{Gave}
+use Rattle.edge_io.specs.SourceReading.{Gave}
 use Rattle.edge_io.specs.declared.read.ReadError.{ReadError}
 use Rattle.ivf_container.specs.Packets.{IsHeader, header_end, header_length, packets_of, rate_of}
 use Rattle.packet_reader.specs.declared.reader.PacketRefusal.{PacketRefusal}

@@ -1,2 +1,2 @@
-pub mod Packets
+pub mod TakenPackets
 pub mod Code

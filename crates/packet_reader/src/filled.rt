@@ -1,7 +1,7 @@
 //! Bytes of a source, so many as are asked for.
 
 ghost use Rattle.std.specs.Prelude.{◌≡◌, ◌<◌, ◌≤◌, ◌^◌, length};
-ghost use Rattle.edge_io.specs.Reading.{CountsReadFaults};
+ghost use Rattle.edge_io.specs.SourceReading.{CountsReadFaults};
 ghost use Rattle.packet_reader.specs.Code.{FillsUp};
 
 use edge_io::{Failed, ReadError, Source};

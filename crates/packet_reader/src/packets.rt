@@ -2,9 +2,9 @@
 
 ghost use Rattle.std.specs.Prelude.{◌≡◌, ◌⊎◌, ◌<◌, ◌≤◌, ◌^◌, max, length, take, codes};
 ghost use Rattle.ivf_container.specs.Packets.{header_length};
-ghost use Rattle.packet_reader.specs.Packets.{CountsRefusals, TakesNext, TellsRate, with_front};
+ghost use Rattle.packet_reader.specs.TakenPackets.{CountsRefusals, TakesNext, TellsRate, with_front};
 ghost use Rattle.packet_reader.specs.declared.reader.Stage.TheVariants.{Header, Packet};
-ghost use Rattle.edge_io.specs.Reading.{CountsReadFaults};
+ghost use Rattle.edge_io.specs.SourceReading.{CountsReadFaults};
 ghost use Rattle.packet_reader.specs.Code.{PassesHeader, TakesHeader};
 
 use crate::filled::fill_up;

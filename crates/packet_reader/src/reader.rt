@@ -3,7 +3,7 @@
 ghost use Rattle.std.specs.Prelude.{◌≡◌, ◌≤◌, [], length};
 ghost use Rattle.packet_reader.specs.declared.reader.PacketRefusal.TheVariants as refused;
 ghost use Rattle.packet_reader.specs.declared.reader.Stage.TheVariants.{Header};
-ghost use Rattle.packet_reader.specs.Packets.{ahead, begun_at, begun_of, source_of, stage_of, rate_told, CountsNext, GivesNext, IsAgain, IsReady, IsReadyAt, TellsRate, stage_after};
+ghost use Rattle.packet_reader.specs.TakenPackets.{ahead, begun_at, begun_of, source_of, stage_of, rate_told, CountsNext, GivesNext, IsAgain, IsReady, IsReadyAt, TellsRate, stage_after};
 
 use crate::packets::{take_first, take_packet};
 use edge_io::{ReadError, Source};
@@ -32,7 +32,7 @@ impl From<Rule> for PacketRefusal {
 }
 
 impl From<ReadError> for PacketRefusal {
-    ghost use Rattle.packet_reader.specs.Packets.{refusal_of};
+    ghost use Rattle.packet_reader.specs.TakenPackets.{refusal_of};
 
     ghost from_gives = { λ error e. e ≡ refusal_of error };
 

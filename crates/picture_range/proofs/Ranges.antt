@@ -18,12 +18,12 @@ use Rattle.vp9_types.specs.declared.shape.Plane.TheVariants.{Y, U, V}
 use Rattle.vp9_types.specs.declared.shape.Shape.{Shape}
 use Rattle.frame_headers.specs.Header.{head_of}
 use Rattle.frame_headers.specs.Spans.{tile_spans}
-use Rattle.frame_headers.specs.State.{shape_of}
+use Rattle.frame_headers.specs.HeaderState.{shape_of}
 use Rattle.frame_headers.specs.declared.header.FrameHead.{FrameHead}
 use Rattle.frame_headers.specs.declared.header.FrameHead.TheVariants as head
 use Rattle.frame_headers.specs.declared.header.Header.{Header}
-use Rattle.prob_contexts.specs.Lists.{ContextLists}
-use Rattle.compressed_header.specs.Header.{forward}
+use Rattle.prob_contexts.specs.ProbLists.{ContextLists}
+use Rattle.compressed_header.specs.CompressedHeader.{forward}
 use Rattle.frame_output.specs.declared.rendering.Format.{Format}
 use Rattle.block_plan.specs.Blocks.{covering}
 use Rattle.block_plan.specs.InPlanes.{plane_block}
@@ -38,11 +38,11 @@ use Rattle.intra_predict.specs.Steps.{plus_residue, prediction}
 use Rattle.intra_predict.specs.declared.block.IntraBlock.{IntraBlock}
 use Rattle.intra_predict.proofs.StepLemmas.{prediction_small, residue_small, square_small}
 use Rattle.planes.specs.Pictures.{blank}
-use Rattle.block_rebuild.specs.Blocks.{put_by, put_intra, put_next, put_planned, put_residue}
+use Rattle.block_rebuild.specs.RebuiltBlocks.{put_by, put_intra, put_next, put_planned, put_residue}
 use Rattle.block_rebuild.specs.InterBlocks.{Rebuilding, ReferencePicture, add_next, put_inter, put_part, put_prediction}
 use Rattle.block_rebuild.proofs.Parts.{part_small}
 use Rattle.block_rebuild.proofs.Sums.{added_small}
-use Rattle.line_filter.specs.Edges.{with_edge}
+use Rattle.line_filter.specs.FilteredEdges.{with_edge}
 use Rattle.line_filter.specs.declared.edge.Edge.{Edge}
 use Rattle.line_filter.specs.declared.edge.FilterWidth.{FilterWidth}
 use Rattle.line_filter.specs.declared.edge.Limits.{Limits}
@@ -50,17 +50,17 @@ use Rattle.line_filter.specs.declared.edge.Pass.{Pass}
 use Rattle.line_filter.specs.declared.edge.Pass.TheVariants.{Vertical, Horizontal}
 use Rattle.line_filter.proofs.SmallLines.{edge_small}
 use Rattle.loop_edges.specs.Cells.{sub_x, sub_y, outer_edge, has_inner, setting_of}
-use Rattle.loop_edges.specs.Edges.{side_edge, middle_edge, side_edges, middle_edges, both_edges, block_edges, edges_of, cell_edges, cells_of, cell_row, pass_edges, superblock_edges, row_edges, edges_before, filtered_before, filtered_frame}
-use Rattle.loop_edges.specs.Levels.{filter_level, limits_of}
+use Rattle.loop_edges.specs.FrameEdges.{side_edge, middle_edge, side_edges, middle_edges, both_edges, block_edges, edges_of, cell_edges, cells_of, cell_row, pass_edges, superblock_edges, row_edges, edges_before, filtered_before, filtered_frame}
+use Rattle.loop_edges.specs.FilterLevels.{filter_level, limits_of}
 use Rattle.loop_edges.specs.declared.setting.EdgeSetting.{EdgeSetting}
-use Rattle.frame_state.specs.Reading.{FrameRead, all_blocks, blocks_read}
-use Rattle.frame_decoder.specs.Frames.{put_more, raw, rebuilding}
+use Rattle.frame_state.specs.FrameReading.{FrameRead, all_blocks, blocks_read}
+use Rattle.frame_decoder.specs.DecodedFrames.{put_more, raw, rebuilding}
 use Rattle.seq_decoder.specs.After.{input_of}
 use Rattle.seq_decoder.specs.Outputs.{Putting}
-use Rattle.seq_decoder.specs.State.{persist_of}
+use Rattle.seq_decoder.specs.DecoderState.{persist_of}
 use Rattle.numbered_frames.specs.Coded.{CodedFrame, begun_from, coded, coded_from, headed_from, read_of, references}
-use Rattle.numbered_frames.specs.Numbers.{before, frame_at}
-use Rattle.numbered_frames.specs.Pictures.{picture_from, picture_read, pictures}
+use Rattle.numbered_frames.specs.FrameNumbers.{before, frame_at}
+use Rattle.numbered_frames.specs.NumberedPictures.{picture_from, picture_read, pictures}
 use Rattle.numbered_frames.specs.Films.{Film}
 
 ---- Blocks put in ----

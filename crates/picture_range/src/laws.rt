@@ -7,12 +7,12 @@ ghost use Rattle.vp9_types.specs.declared.shape.Plane.{Plane};
 ghost use Rattle.block_plan.specs.Planned.{PlannedBlock};
 ghost use Rattle.block_plan.specs.declared.block.BlockInfo.{BlockInfo};
 ghost use Rattle.block_rebuild.specs.InterBlocks.{Rebuilding};
-ghost use Rattle.frame_decoder.specs.Frames.{raw};
+ghost use Rattle.frame_decoder.specs.DecodedFrames.{raw};
 ghost use Rattle.frame_output.specs.declared.rendering.Format.{Format};
-ghost use Rattle.loop_edges.specs.Edges.{filtered_frame};
+ghost use Rattle.loop_edges.specs.FrameEdges.{filtered_frame};
 ghost use Rattle.loop_edges.specs.declared.setting.EdgeSetting.{EdgeSetting};
 ghost use Rattle.numbered_frames.specs.Films.{Film};
-ghost use Rattle.numbered_frames.specs.Pictures.{pictures};
+ghost use Rattle.numbered_frames.specs.NumberedPictures.{pictures};
 
 /// Samples are in the range of their frame's depth: before the loop filter, whatever the blocks and the pictures that they refer to are;
 /// behind it; and in all frames of a file.

@@ -4,8 +4,8 @@ use Rattle.std.specs.Prelude.{All, IfSome, Option, Some, None, if◌then◌else�
 use Rattle.std.proofs.lemmas.List.Elements.{All-cons, All-head, All-tail}
 use Rattle.std.proofs.lemmas.List.{length-append, length-set}
 use Rattle.std.proofs.lemmas.Bool.{cases_Bool, eqb-false, eqb-true}
-use Rattle.frame_headers.specs.State.{held, refreshed}
-use Rattle.picture_table.specs.Pictures.{IsSound}
+use Rattle.frame_headers.specs.HeaderState.{held, refreshed}
+use Rattle.picture_table.specs.KeptPictures.{IsSound}
 use Rattle.picture_table.specs.declared.any.AnyPicture.{AnyPicture}
 use Rattle.picture_table.specs.Code.{IsBelow, IsSoundAt, IsTable, NamesSound, held_in, is_named, names, shown}
 use Rattle.picture_table.specs.declared.table.PictureTable.{PictureTable}

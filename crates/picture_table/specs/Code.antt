@@ -3,7 +3,7 @@ use Rattle.std.specs.Prelude.{◌≡◌, ◌<◌, ◌==◌, ℕ, Bool, false, Li
 use Rattle.std.specs.List.{list_any}
 use Rattle.vp9_types.specs.Maps.{FrameMap}
 use Rattle.vp9_types.specs.declared.shape.Shape.{Shape}
-use Rattle.picture_table.specs.Pictures.{IsSound, map_of_any, shape_of_any}
+use Rattle.picture_table.specs.KeptPictures.{IsSound, map_of_any, shape_of_any}
 use Rattle.picture_table.specs.declared.any.AnyPicture.{AnyPicture}
 use Rattle.picture_table.specs.declared.table.PictureTable.{PictureTable}
 

@@ -1,2 +1,2 @@
-pub mod Pictures
+pub mod KeptPictures
 pub mod Code

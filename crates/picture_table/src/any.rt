@@ -3,7 +3,7 @@
 ghost use Rattle.std.specs.Prelude.{◌≡◌, IfOk, IsOk, OnOk, OnErr};
 ghost use Rattle.planes.specs.Pictures.{FitsPlanes};
 ghost use Rattle.std.specs.Option.{option_copied};
-ghost use Rattle.picture_table.specs.Pictures.{HasRoomFor, IsBlankAs, IsSound, IsThere, KeepInBytes, KeepInWords, depth_of};
+ghost use Rattle.picture_table.specs.KeptPictures.{HasRoomFor, IsBlankAs, IsSound, IsThere, KeepInBytes, KeepInWords, depth_of};
 
 use planes::Picture;
 use std::alloc::{AllocError, Global};

@@ -31,8 +31,8 @@ fn names(slots: &[Option<usize>], place: usize) -> bool
 }
 
 impl PictureTable {
-    ghost use Rattle.picture_table.specs.Pictures.{IsBlankAs};
-    ghost use Rattle.frame_headers.specs.State.{refreshed};
+    ghost use Rattle.picture_table.specs.KeptPictures.{IsBlankAs};
+    ghost use Rattle.frame_headers.specs.HeaderState.{refreshed};
     ghost use Rattle.picture_table.specs.Code.{HasPicture, IsSoundAt, IsTable, held};
 
     /// No picture, and eight slots that hold nothing.

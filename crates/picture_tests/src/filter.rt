@@ -4,7 +4,7 @@ ghost use Rattle.std.specs.Prelude.{◌≡◌, ◌+◌, ℕ, ◌≤◌, ◌<◌,
 ghost use Rattle.vp9_types.specs.Maps.{IsAtMost};
 ghost use Rattle.vp9_types.specs.Shapes.{mi_rows, mi_cols};
 ghost use Rattle.vp9_types.specs.Sizes.{greatest};
-ghost use Rattle.vp9_tables.specs.Blocks.{greatest_of};
+ghost use Rattle.vp9_tables.specs.BlockTables.{greatest_of};
 ghost use Rattle.vp9_tables.specs.Numbers.{tx_number};
 ghost use Rattle.planes.specs.Planes.{plane_map};
 ghost use Rattle.planes.specs.Pictures.{FitsPlanes, HasSizes, IsInRange};

@@ -3,7 +3,7 @@
 ghost use Rattle.std.specs.Prelude.{◌≡◌, ℕ, pos, ◌*◌, ◌^◌, ◌<◌, ◌≤◌, length, slice_index, slice_index_or, unsigned_abs};
 ghost use Rattle.vp9_types.specs.Maps.{IsAtMost};
 ghost use Rattle.planes.specs.Planes.{plane_map, whole_area};
-ghost use Rattle.intra_predict.specs.Edges.{samples_of, IsUpTo};
+ghost use Rattle.intra_predict.specs.BlockEdges.{samples_of, IsUpTo};
 
 mod drawn_rows;
 mod extreme_rows;

@@ -7,7 +7,7 @@ use Rattle.std.proofs.lemmas.List.FromFn.{get_or-map-range_with_len}
 use Rattle.vp9_types.specs.Maps.{Map, IsAtMost, row_of, with_block}
 use Rattle.planes.specs.declared.area.Area.{Area}
 use Rattle.planes.specs.Planes.{HasRow, lower_end, right_end}
-use Rattle.plane_parts.specs.Parts.{HasPart, IsInArea, LiesIn}
+use Rattle.plane_parts.specs.PlaneParts.{HasPart, IsInArea, LiesIn}
 
 pub in_area_or_out : (a : Area) (y x : ℕ) → IsInArea a y x ⊎ (IsInArea a y x → ⊥)
 in_area_or_out a y x = elim (cases_lt y a.first_row) [

@@ -3,7 +3,7 @@
 ghost use Rattle.std.specs.Prelude.{◌≡◌, ℕ, slice_index};
 ghost use Rattle.vp9_types.specs.Maps.{IsAtMost, row_of, with_block};
 ghost use Rattle.planes.specs.Planes.{HasRow, plane_map};
-ghost use Rattle.plane_parts.specs.Parts.{HasPart, LiesIn};
+ghost use Rattle.plane_parts.specs.PlaneParts.{HasPart, LiesIn};
 
 use planes::{Area, SamplePlane};
 use vp9_types::Sample;

@@ -1,7 +1,7 @@
 -- The probabilities that a decoder starts with (setup_past_independence in 7.2, section 10.5 of the standard).
 use Rattle.std.specs.Prelude.{ℕ, ◌*◌, List, take, drop}
 use Rattle.vp9_tables.specs.declared.data.defaults.TheConstants.{PROB_COEF, PROB_COMP_FLAG, PROB_COMP_REF, PROB_FILTER, PROB_INTER_MODE, PROB_IS_INTER, PROB_MV_BITS, PROB_MV_CLASS, PROB_MV_CLASS0, PROB_MV_CLASS0_FR, PROB_MV_CLASS0_HP, PROB_MV_FR, PROB_MV_HP, PROB_MV_JOINT, PROB_MV_SIGN, PROB_PARTITION, PROB_SINGLE_REF, PROB_SKIP, PROB_TX16, PROB_TX32, PROB_TX8, PROB_UV_MODE, PROB_Y_MODE}
-use Rattle.prob_contexts.specs.Lists.{ContextLists, CoefLists}
+use Rattle.prob_contexts.specs.ProbLists.{ContextLists, CoefLists}
 
 -- the coefficients of a size, by its number, are a quarter of the table
 abbrev pub quarter : ℕ → List ℕ

@@ -1,4 +1,4 @@
-pub mod Lists
+pub mod ProbLists
 pub mod Kinds
 pub mod Counted
 pub mod Defaults

@@ -21,7 +21,7 @@ pub struct Contexts {
 }
 
 impl CoefProbs {
-    ghost use Rattle.prob_contexts.specs.Lists.{coef_of, coef_lists};
+    ghost use Rattle.prob_contexts.specs.ProbLists.{coef_of, coef_lists};
 
     /// Those of a transform size.
     #[inline(always)]

@@ -11,10 +11,10 @@ use Rattle.block_plan.specs.Planned.{Residue}
 use Rattle.block_plan.specs.declared.block.BlockInfo.{BlockInfo}
 use Rattle.block_rebuild.specs.Residues.{IsWhole, residues_at, planned_by}
 use Rattle.block_rebuild.proofs.Puts.{first_is, length_first}
-use Rattle.column_plan.specs.Planned.{residue_of_piece, residues_from, planned_from, count_in, count_of}
+use Rattle.column_plan.specs.PlannedBlocks.{residue_of_piece, residues_from, planned_from, count_in, count_of}
 use Rattle.column_plan.specs.Code as plan
 use Rattle.column_plan.specs.Code.{AreWhole, HoldsWhole}
-use Rattle.recon_rows.specs.Parts.{first_in, has_piece, piece_residue}
+use Rattle.recon_rows.specs.BlockParts.{first_in, has_piece, piece_residue}
 
 length_from : (ats : List (ℕ × ℕ)) (pieces : List (List ℤ)) → length ats ≤ length pieces → length (residues_from ats pieces) ≡ length ats
 unfolding residues_from

@@ -10,19 +10,19 @@ use Rattle.vp9_types.specs.declared.shape.Shape.{Shape}
 use Rattle.block_plan.specs.Planned.{PlannedBlock}
 use Rattle.block_plan.specs.declared.block.BlockInfo.{BlockInfo}
 use Rattle.block_plan.specs.Code.{HoldsSmall}
-use Rattle.block_rebuild.specs.Blocks.{put_planned}
+use Rattle.block_rebuild.specs.RebuiltBlocks.{put_planned}
 use Rattle.block_rebuild.specs.InterBlocks.{Rebuilding}
 use Rattle.block_rebuild.specs.Strips.{with_blocks}
-use Rattle.column_plan.specs.Planned.{count_of, planned_blocks, planned_from, total}
+use Rattle.column_plan.specs.PlannedBlocks.{count_of, planned_blocks, planned_from, total}
 use Rattle.column_plan.specs.Code.{HoldsWhole}
 use Rattle.column_plan.proofs.Held.{parts_are}
-use Rattle.frame_headers.specs.State.{shape_of}
+use Rattle.frame_headers.specs.HeaderState.{shape_of}
 use Rattle.frame_headers.specs.declared.header.Header.{Header}
 use Rattle.tile_syntax.specs.Code.{IsKept}
 use Rattle.tile_syntax.specs.declared.plans.ColumnPlan.{ColumnPlan}
-use Rattle.recon_rows.specs.Rows.{blocks_between, planned_between}
+use Rattle.recon_rows.specs.RebuiltRows.{blocks_between, planned_between}
 use Rattle.column_plan.proofs.RowStarts.{before_few, fewer_before, first_taken, row_between, rows_lie}
-use Rattle.column_plan.specs.Rows.{AreInOrder, before_row, place_of_row, planned_in_row}
+use Rattle.column_plan.specs.PlanRows.{AreInOrder, before_row, place_of_row, planned_in_row}
 use Rattle.column_plan.specs.declared.rows.RowPlace.{RowPlace}
 
 ---- One of a column's blocks ----

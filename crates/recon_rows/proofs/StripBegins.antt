@@ -18,13 +18,13 @@ use Rattle.planes.specs.Pictures.{IsInRange, blank, samples_of}
 use Rattle.planes.specs.declared.area.Area.{Area}
 use Rattle.planes.specs.declared.frame_planes.FramePlanes.{FramePlanes}
 use Rattle.planes.proofs.PlaneLemmas.{zeros_small}
-use Rattle.plane_parts.specs.Parts.{HasPart, IsInArea, LiesIn}
+use Rattle.plane_parts.specs.PlaneParts.{HasPart, IsInArea, LiesIn}
 use Rattle.plane_parts.proofs.PartLemmas.{in_area_or_out, part_small}
 use Rattle.block_rebuild.specs.InterBlocks.{Rebuilding}
 use Rattle.block_rebuild.specs.Laws.{SameFrameAround}
 use Rattle.block_rebuild.specs.Strips.{IsAround, IsIn, above_strip, in_plane, strip, strip_area, strip_places}
 use Rattle.recon_rows.specs.Code.{Begins, BeginsBelow, ShareFirstRows, SharesFirstRow, first_row_of}
-use Rattle.recon_rows.specs.Strips.{HasStripAreas, HoldsStrip}
+use Rattle.recon_rows.specs.OwnStrips.{HasStripAreas, HoldsStrip}
 
 ---- Where strips lie ----
 

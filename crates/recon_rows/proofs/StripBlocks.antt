@@ -14,12 +14,12 @@ use Rattle.block_rebuild.specs.Code.{HoldsBlock, HoldsBlockIn, IsPlaced}
 use Rattle.block_rebuild.specs.Laws.{IsInColumn, IsRead, StripHolds}
 use Rattle.block_rebuild.specs.Strips.{strip_area, superblock_row}
 use Rattle.block_rebuild.proofs.Columns.{strip_holds}
-use Rattle.column_plan.specs.Planned.{count_of, planned_blocks, planned_from}
-use Rattle.column_plan.specs.Rows.{place_of_row, planned_in_row}
-use Rattle.recon_rows.specs.Rows.{blocks_between, planned_between}
-use Rattle.recon_rows.specs.Strips.{HasStripAreas}
+use Rattle.column_plan.specs.PlannedBlocks.{count_of, planned_blocks, planned_from}
+use Rattle.column_plan.specs.PlanRows.{place_of_row, planned_in_row}
+use Rattle.recon_rows.specs.RebuiltRows.{blocks_between, planned_between}
+use Rattle.recon_rows.specs.OwnStrips.{HasStripAreas}
 use Rattle.recon_rows.proofs.RowSteps.{row_planned}
-use Rattle.column_plan.specs.Rows as rows
+use Rattle.column_plan.specs.PlanRows as rows
 
 -- what holds of planned blocks by their places and modes holds of the blocks
 pub of_infos : (P : ℕ → BlockInfo → Type 0) (shape : Shape) (tile_from : ℕ) (blocks : List BlockInfo) (pieces : List (List ℤ))

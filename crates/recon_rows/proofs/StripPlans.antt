@@ -5,24 +5,24 @@ use Rattle.std.specs.List.{All}
 use Rattle.vp9_types.specs.Sizes.{superblocks_along}
 use Rattle.vp9_types.specs.declared.shape.Shape.{Shape}
 use Rattle.frame_headers.specs.Spans.{tile_count}
-use Rattle.frame_headers.specs.State.{shape_of}
+use Rattle.frame_headers.specs.HeaderState.{shape_of}
 use Rattle.counting_reader.specs.Counting.{Settled}
 use Rattle.block_plan.specs.Planned.{PlannedBlock}
 use Rattle.block_plan.specs.declared.block.BlockInfo.{BlockInfo}
 use Rattle.block_rebuild.specs.Laws.{IsInColumn, IsRead}
-use Rattle.column_plan.specs.Planned.{count_of, planned_blocks}
-use Rattle.column_plan.specs.Rows as rows
-use Rattle.frame_state.specs.Columns.{IsTileColumn, limit_of}
-use Rattle.frame_state.specs.Plans.{ColumnRead, plan_of}
-use Rattle.frame_state.specs.Reading.{infos}
+use Rattle.column_plan.specs.PlannedBlocks.{count_of, planned_blocks}
+use Rattle.column_plan.specs.PlanRows as rows
+use Rattle.frame_state.specs.KeptColumns.{IsTileColumn, limit_of}
+use Rattle.frame_state.specs.ColumnPlans.{ColumnRead, plan_of}
+use Rattle.frame_state.specs.FrameReading.{infos}
 use Rattle.frame_state.specs.Sources.{FrameSources}
 use Rattle.tile_syntax.specs.Code.{HoldsColumn}
 use Rattle.tile_syntax.specs.declared.plans.ColumnPlan.{ColumnPlan}
-use Rattle.column_order.specs.Columns.{column_from, column_to}
+use Rattle.column_order.specs.ColumnStrips.{column_from, column_to}
 use Rattle.column_order.proofs.ColumnFollows.{plan_follows}
 use Rattle.column_order.proofs.Follows.{infos_in_order}
 use Rattle.recon_rows.specs.Laws.{IsPlanOf}
-use Rattle.recon_rows.specs.Strips.{IsReadPlan}
+use Rattle.recon_rows.specs.OwnStrips.{IsReadPlan}
 
 infos_of : (shape : Shape) (tile_from : ℕ) (blocks : List BlockInfo) (pieces : List (List ℤ)) → infos (planned_blocks shape tile_from blocks pieces) ≡ blocks
 unfolding planned_blocks

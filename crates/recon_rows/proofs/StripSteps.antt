@@ -14,11 +14,11 @@ use Rattle.block_rebuild.specs.InterBlocks.{Rebuilding}
 use Rattle.block_rebuild.specs.Laws.{SameFrameAround}
 use Rattle.block_rebuild.specs.Strips.{above_strip, row_blocks, strip_places, with_blocks}
 use Rattle.block_rebuild.proofs.Columns.{makes_strip}
-use Rattle.column_plan.specs.Rows.{planned_in_row}
-use Rattle.frame_state.specs.Columns.{limit_of}
+use Rattle.column_plan.specs.PlanRows.{planned_in_row}
+use Rattle.frame_state.specs.KeptColumns.{limit_of}
 use Rattle.tile_syntax.specs.declared.plans.ColumnPlan.{ColumnPlan}
 use Rattle.recon_rows.specs.Code.{Begins, ShareFirstRows}
-use Rattle.recon_rows.specs.Strips.{HasStripAreas, HoldsRowOf, IsAbove, IsReadPlan, blocks_of_plan}
+use Rattle.recon_rows.specs.OwnStrips.{HasStripAreas, HoldsRowOf, IsAbove, IsReadPlan, blocks_of_plan}
 use Rattle.recon_rows.proofs.StripBegins.{all_share, begun_below, begun_first, below_in_range, zeros_in_range}
 
 pub may_begin : {X : Type 0} (put : Rebuilding) (plan : ColumnPlan) (r : ℕ) (above : Option (FramePlanes X)) (f : FramePlanes X) → r < superblocks_along (mi_rows put.shape)

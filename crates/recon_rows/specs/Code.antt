@@ -4,7 +4,7 @@ use Rattle.planes.specs.Planes.{plane_map}
 use Rattle.planes.specs.Pictures.{blank, samples_of}
 use Rattle.planes.specs.declared.area.Area.{Area}
 use Rattle.planes.specs.declared.frame_planes.FramePlanes.{FramePlanes}
-use Rattle.plane_parts.specs.Parts.{HasPart, LiesIn}
+use Rattle.plane_parts.specs.PlaneParts.{HasPart, LiesIn}
 
 -- an area's first row
 abbrev pub first_row_of : Area → Area

@@ -1,5 +1,5 @@
-pub mod Parts
-pub mod Rows
-pub mod Strips
+pub mod BlockParts
+pub mod RebuiltRows
+pub mod OwnStrips
 pub mod Laws
 pub mod Code

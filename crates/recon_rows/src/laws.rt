@@ -4,16 +4,16 @@ ghost use Rattle.std.specs.Prelude.{ℕ, ◌≡◌, List, Ok};
 ghost use Rattle.std.specs.List.{All};
 ghost use Rattle.counting_reader.specs.Counting.{Settled};
 ghost use Rattle.frame_headers.specs.Spans.{tile_count};
-ghost use Rattle.frame_headers.specs.State.{shape_of};
+ghost use Rattle.frame_headers.specs.HeaderState.{shape_of};
 ghost use Rattle.frame_headers.specs.declared.header.Header.{Header};
 ghost use Rattle.block_rebuild.specs.Code.{IsPlaced};
-ghost use Rattle.frame_state.specs.Columns.{IsTileColumn};
-ghost use Rattle.frame_state.specs.Plans.{ColumnRead, plan_of};
+ghost use Rattle.frame_state.specs.KeptColumns.{IsTileColumn};
+ghost use Rattle.frame_state.specs.ColumnPlans.{ColumnRead, plan_of};
 ghost use Rattle.frame_state.specs.Sources.{FrameSources};
 ghost use Rattle.frame_state.specs.declared.columns.TileColumn.{TileColumn};
 ghost use Rattle.tile_syntax.specs.Code.{HoldsColumn};
 ghost use Rattle.tile_syntax.specs.declared.plans.ColumnPlan.{ColumnPlan};
-ghost use Rattle.recon_rows.specs.Strips.{IsReadPlan};
+ghost use Rattle.recon_rows.specs.OwnStrips.{IsReadPlan};
 ghost use Rattle.recon_rows.specs.Laws.{IsPlanOf};
 
 /// The blocks of a tile column start inside of the frame and of the column, and their transforms fit.

@@ -4,17 +4,17 @@ ghost use Rattle.std.specs.Prelude.{◌≡◌, ◌+◌, ◌≤◌, ◌<◌, leng
 ghost use Rattle.std.specs.Option.{option_copied};
 ghost use Rattle.vp9_types.specs.declared.shape.Plane.TheVariants.{Y, U, V};
 ghost use Rattle.vp9_types.specs.Sizes.{greatest};
-ghost use Rattle.vp9_tables.specs.Blocks.{greatest_of};
+ghost use Rattle.vp9_tables.specs.BlockTables.{greatest_of};
 ghost use Rattle.vp9_tables.specs.Numbers.{tx_number};
-ghost use Rattle.frame_headers.specs.Sizes.{HasFrameSize};
-ghost use Rattle.block_geometry.specs.Frames.{places_of};
+ghost use Rattle.frame_headers.specs.FrameSizes.{HasFrameSize};
+ghost use Rattle.block_geometry.specs.FrameShapes.{places_of};
 ghost use Rattle.block_plan.specs.Code.{HoldsSmall};
 ghost use Rattle.planes.specs.Pictures.{IsInRange, samples_of};
 ghost use Rattle.column_plan.specs.Code.{HoldsWhole};
-ghost use Rattle.column_plan.specs.Planned.{count_in, count_of, planned_from};
-ghost use Rattle.block_rebuild.specs.Blocks.{put_planned};
+ghost use Rattle.column_plan.specs.PlannedBlocks.{count_in, count_of, planned_from};
+ghost use Rattle.block_rebuild.specs.RebuiltBlocks.{put_planned};
 ghost use Rattle.block_rebuild.specs.Code.{HasAreasOf, HoldsBlockIn, IsPlaced, AreServed, rebuilding_of};
-ghost use Rattle.recon_rows.specs.Parts.{IsPartOf, piece_residue};
+ghost use Rattle.recon_rows.specs.BlockParts.{IsPartOf, piece_residue};
 
 use block_geometry::FramePlaces;
 use block_plan::BlockInfo;
@@ -34,7 +34,7 @@ pub struct PlanPart<'a> {
 }
 
 impl<'a> PlanPart<'a> {
-    ghost use Rattle.recon_rows.specs.Parts.{first_in};
+    ghost use Rattle.recon_rows.specs.BlockParts.{first_in};
 
     /// Those of a block, from the `first`-th piece on.
     pub(crate) fn of(
@@ -99,7 +99,7 @@ fn piece(residues: &PlanResidues, first: usize, k: usize) -> Option<&[i32]>
 }
 
 impl<'a> TransformResidues for PlanPart<'a> {
-    ghost use Rattle.recon_rows.specs.Parts.{first_in, has_piece, piece_residue};
+    ghost use Rattle.recon_rows.specs.BlockParts.{first_in, has_piece, piece_residue};
 
     ghost holds = { λ r p area k. has_piece r.residues.now (first_in r.y r.u r.v p) area k };
 

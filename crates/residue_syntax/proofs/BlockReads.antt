@@ -8,7 +8,7 @@ use Rattle.vp9_types.specs.declared.shape.Plane.{Plane}
 use Rattle.vp9_types.specs.declared.shape.Plane.TheVariants.{Y, U, V}
 use Rattle.vp9_types.specs.declared.shape.Shape.{Shape}
 use Rattle.block_geometry.proofs.Rasters.{all_inside}
-use Rattle.block_geometry.specs.Frames.{places_of}
+use Rattle.block_geometry.specs.FrameShapes.{places_of}
 use Rattle.block_plan.specs.InPlanes.{plane_block, places_in}
 use Rattle.block_plan.specs.Planned.{Residues}
 use Rattle.block_plan.specs.declared.block.BlockInfo.{BlockInfo}
@@ -16,7 +16,7 @@ use Rattle.counting_reader.specs.Counting.{Standing, run_counting, through}
 use Rattle.counting_reader.specs.declared.reader.CountingReader.{CountingReader}
 use Rattle.counting_reader.proofs.CountingRuns.{counting_bind, run_settle}
 use Rattle.frame_headers.specs.declared.header.Header.{Header}
-use Rattle.prob_contexts.specs.Lists.{ContextLists}
+use Rattle.prob_contexts.specs.ProbLists.{ContextLists}
 use Rattle.residue_syntax.specs.Code.{IsBeside, FitPlane, GivesPlane}
 use Rattle.residue_syntax.specs.Residues.{ReadPlane, read_next, read_skipped, read_in_plane, read_plane, read_block, listed, is_coded}
 use Rattle.residue_syntax.specs.Sides.{Sides}

@@ -7,8 +7,8 @@ use Rattle.std.proofs.lemmas.List.FromFn.{length-map-range_with_len, get_or-map-
 use Rattle.vp9_types.specs.declared.block.TxSize.{TxSize}
 use Rattle.vp9_types.specs.declared.rule.Rule.{Rule}
 use Rattle.vp9_tables.specs.Scans.{area}
-use Rattle.prob_contexts.specs.Lists.{ContextLists}
-use Rattle.coef_tokens.specs.Blocks.{block_tables}
+use Rattle.prob_contexts.specs.ProbLists.{ContextLists}
+use Rattle.coef_tokens.specs.TokenKinds.{block_tables}
 use Rattle.coef_tokens.specs.Code.{HoldsLevels}
 use Rattle.coef_tokens.specs.Places.{Tokens, Read, level_at, block_tokens}
 use Rattle.counting_reader.specs.Counting.{Standing, run_counting, lifted}

@@ -7,7 +7,7 @@ use Rattle.vp9_types.specs.declared.block.TxSize.TheVariants.{T32x32}
 use Rattle.vp9_types.specs.declared.block.TxType.{TxType}
 use Rattle.vp9_types.specs.declared.block.TxType.TheVariants.{DctDct}
 use Rattle.vp9_types.specs.declared.shape.Plane.{Plane}
-use Rattle.vp9_tables.specs.Blocks.{tx_type_of}
+use Rattle.vp9_tables.specs.BlockTables.{tx_type_of}
 use Rattle.block_geometry.specs.declared.transform_blocks.PlaneBlock.{PlaneBlock}
 use Rattle.block_plan.specs.InPlanes.{plane_block, quarter_at, tx_in}
 use Rattle.block_plan.specs.declared.block.BlockInfo.{BlockInfo}
@@ -15,7 +15,7 @@ use Rattle.block_plan.specs.declared.block.Prediction.{Prediction}
 use Rattle.block_plan.specs.declared.block.Prediction.TheVariants.{Intra, Inter}
 use Rattle.coef_tokens.specs.declared.tables.TokenKind.{TokenKind}
 use Rattle.frame_headers.specs.Quantizer.{is_lossless}
-use Rattle.frame_headers.specs.State.{shape_of}
+use Rattle.frame_headers.specs.HeaderState.{shape_of}
 use Rattle.frame_headers.specs.declared.header.Header.{Header}
 use Rattle.residue_syntax.specs.Quantisers.{quant_of}
 use Rattle.residue_syntax.specs.declared.in_plane.BlockInPlane.{BlockInPlane}

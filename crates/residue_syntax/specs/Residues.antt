@@ -8,19 +8,19 @@ use Rattle.vp9_types.specs.declared.block.TxSize.{TxSize}
 use Rattle.vp9_types.specs.declared.rule.Rule.{Rule}
 use Rattle.vp9_types.specs.declared.shape.Plane.{Plane}
 use Rattle.vp9_types.specs.declared.shape.Plane.TheVariants.{Y, U, V}
-use Rattle.vp9_tables.specs.Blocks.{width_of, height_of}
+use Rattle.vp9_tables.specs.BlockTables.{width_of, height_of}
 use Rattle.vp9_tables.specs.Scans.{area}
-use Rattle.block_geometry.specs.Sizes.{is_below_8x8}
+use Rattle.block_geometry.specs.BlockSizes.{is_below_8x8}
 use Rattle.block_geometry.specs.TransformBlocks.{plane_side}
 use Rattle.block_plan.specs.InPlanes.{places_in}
 use Rattle.block_plan.specs.Planned.{Residue, Residues, PlannedBlock}
 use Rattle.block_plan.specs.declared.block.BlockInfo.{BlockInfo}
-use Rattle.prob_contexts.specs.Lists.{ContextLists}
+use Rattle.prob_contexts.specs.ProbLists.{ContextLists}
 use Rattle.counting_reader.specs.Counting.{Settled, settle, lifted, through, ◌>>=◌}
-use Rattle.coef_tokens.specs.Blocks.{block_tables}
+use Rattle.coef_tokens.specs.TokenKinds.{block_tables}
 use Rattle.coef_tokens.specs.Flags.{sides_set, marked, flags_of}
 use Rattle.coef_tokens.specs.Places.{Read, block_tokens, level_at}
-use Rattle.frame_headers.specs.State.{shape_of}
+use Rattle.frame_headers.specs.HeaderState.{shape_of}
 use Rattle.frame_headers.specs.declared.header.Header.{Header}
 use Rattle.residue_transforms.specs.Residue.{residue}
 use Rattle.residue_syntax.specs.BlocksInPlanes.{block_in, flag_row, flag_column, is_inter, token_kind, type_at}

@@ -1,8 +1,8 @@
 //! A block in all planes of its frame.
 
 ghost use Rattle.std.specs.Prelude.{◌≡◌, ◌<◌, ◌≤◌, ℕ, Bool, IfOk, OnOk};
-ghost use Rattle.frame_headers.specs.State.{shape_of};
-ghost use Rattle.prob_contexts.specs.Lists.{lists_of};
+ghost use Rattle.frame_headers.specs.HeaderState.{shape_of};
+ghost use Rattle.prob_contexts.specs.ProbLists.{lists_of};
 ghost use Rattle.vp9_types.specs.declared.shape.Plane.TheVariants as plane;
 ghost use Rattle.residue_syntax.specs.Residues.{read_plane, read_block, listed};
 ghost use Rattle.residue_syntax.specs.Code.{FitPlane, FitPlanes, IsInFrame, GivesPlane, GivesBlock};

@@ -1,8 +1,8 @@
 //! A block in a plane.
 
 ghost use Rattle.std.specs.Prelude.{◌≡◌, ◌≤◌, ◌<◌};
-ghost use Rattle.frame_headers.specs.State.{shape_of};
-ghost use Rattle.vp9_tables.specs.Blocks.{greatest_of};
+ghost use Rattle.frame_headers.specs.HeaderState.{shape_of};
+ghost use Rattle.vp9_tables.specs.BlockTables.{greatest_of};
 ghost use Rattle.vp9_tables.specs.Numbers.{tx_number};
 ghost use Rattle.residue_syntax.specs.BlocksInPlanes.{block_in, token_kind, type_at, types_by, is_inter, goes_by_mode, flag_row, flag_column};
 

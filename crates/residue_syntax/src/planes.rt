@@ -6,7 +6,7 @@ ghost use Rattle.block_geometry.specs.Code.{IsSmallGrid};
 ghost use Rattle.block_geometry.specs.TransformBlocks.{grid_blocks, tx_step};
 ghost use Rattle.block_plan.specs.Code.{held, residues_held, AreSmall};
 ghost use Rattle.counting_reader.specs.Counting.{through};
-ghost use Rattle.prob_contexts.specs.Lists.{lists_of};
+ghost use Rattle.prob_contexts.specs.ProbLists.{lists_of};
 ghost use Rattle.vp9_tables.specs.Scans.{area};
 ghost use Rattle.residue_syntax.specs.Residues.{read_next, read_skipped, is_coded};
 ghost use Rattle.residue_syntax.specs.Code.{IsBeside, KeepsLengths, GivesPlane};

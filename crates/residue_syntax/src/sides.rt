@@ -1,7 +1,7 @@
 //! Where blocks have coefficients.
 
 ghost use Rattle.std.specs.Prelude.{◌≡◌, ◌≤◌, ◌*◌, ◌/◌, if◌then◌else◌};
-ghost use Rattle.frame_headers.specs.Sizes.{HasFrameSize};
+ghost use Rattle.frame_headers.specs.FrameSizes.{HasFrameSize};
 ghost use Rattle.vp9_types.specs.Shapes.{coded_height, coded_width};
 ghost use Rattle.coef_tokens.specs.Flags.{flags_of};
 
@@ -38,7 +38,7 @@ pub struct TileSides {
 
 impl Sides {
     ghost use Rattle.std.specs.Prelude.{◌≡◌, ◌<◌, ◌≤◌, IfOk, IsOk, OnOk};
-    ghost use Rattle.frame_headers.specs.Sizes.{HasFrameSize};
+    ghost use Rattle.frame_headers.specs.FrameSizes.{HasFrameSize};
     ghost use Rattle.residue_syntax.specs.Sides.{no_sides, nothing_left};
     ghost use Rattle.residue_syntax.specs.Residues.{first_context, with_sides, skipped_sides};
     ghost use Rattle.residue_syntax.specs.Code.{FitPlane, IsBeside, KeepsLengths};
@@ -126,7 +126,7 @@ impl Sides {
 impl TileSides {
     ghost use Rattle.std.specs.Prelude.{◌≡◌, IfOk, IsOk, OnOk};
     ghost use Rattle.vp9_types.specs.declared.shape.Plane.TheVariants as plane;
-    ghost use Rattle.frame_headers.specs.Sizes.{HasFrameSize};
+    ghost use Rattle.frame_headers.specs.FrameSizes.{HasFrameSize};
     ghost use Rattle.residue_syntax.specs.Sides.{no_sides, nothing_left};
     ghost use Rattle.residue_syntax.specs.Code.{FitPlanes};
 

@@ -4,7 +4,7 @@ ghost use Rattle.std.specs.Prelude.{◌≡◌, ◌<◌, ◌^◌, ℕ, List, [], 
 ghost use Rattle.std.specs.List.{All};
 ghost use Rattle.coef_tokens.specs.Code.{HoldsLevels};
 ghost use Rattle.coef_tokens.specs.Places.{Read};
-ghost use Rattle.prob_contexts.specs.Lists.{lists_of};
+ghost use Rattle.prob_contexts.specs.ProbLists.{lists_of};
 ghost use Rattle.vp9_tables.specs.Scans.{area};
 ghost use Rattle.residue_syntax.specs.BlocksInPlanes.{type_at};
 ghost use Rattle.residue_syntax.specs.Residues.{residue_of, read_residue};

@@ -24,7 +24,7 @@ use Rattle.inverse_transforms.specs.Transforms.{dct}
 use Rattle.inverse_transforms.proofs.Zeros.{at_zeros}
 use Rattle.residue_transforms.specs.declared.quant.Quant.{Quant}
 use Rattle.residue_transforms.specs.declared.kind.Kind.TheVariants.{Cosines}
-use Rattle.residue_transforms.specs.Blocks.{row, col, turned}
+use Rattle.residue_transforms.specs.SquareBlocks.{row, col, turned}
 use Rattle.residue_transforms.specs.Residue.{quantiser, scaled, coefficient, coefficients, transform, round, rounded_by, rounded_transform, rounding_bits, log2_of, reconstructed, residue}
 use Rattle.residue_transforms.specs.First.{rooted, IsFirstAlone, AreCosines, flat_value, Flattens}
 use Rattle.residue_transforms.proofs.Coefs.{misfit_at, at_coefficients}

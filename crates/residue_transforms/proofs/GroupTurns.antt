@@ -7,9 +7,9 @@ use Rattle.vp9_types.specs.declared.shape.Depth.{Depth}
 use Rattle.vp9_types.specs.Maps.{is_within}
 use Rattle.inverse_transforms.specs.Ranges.{limit_of}
 use Rattle.inverse_transforms.specs.Flow.{Gives, zeros}
-use Rattle.inverse_transforms.specs.Columns.{column}
+use Rattle.inverse_transforms.specs.LaneColumns.{column}
 use Rattle.residue_transforms.specs.declared.kind.Kind.{Kind}
-use Rattle.residue_transforms.specs.Blocks.{row, col, turned, GroupDone, TurnsGroup}
+use Rattle.residue_transforms.specs.SquareBlocks.{row, col, turned, GroupDone, TurnsGroup}
 use Rattle.residue_transforms.specs.Residue.{transform, has_size, round, rounded_by, rounded_transform}
 use Rattle.residue_transforms.proofs.Skips.{skipped}
 use Rattle.residue_transforms.proofs.Turns.{turned_ok, turned_err}

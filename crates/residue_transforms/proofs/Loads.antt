@@ -8,12 +8,12 @@ use Rattle.std.proofs.lemmas.List.Elements.{All-append}
 use Rattle.std.proofs.lemmas.Simd.{get_or-chunk, length-chunk}
 use Rattle.inverse_transforms.specs.Ranges.{IsSmall}
 use Rattle.inverse_transforms.specs.Flow.{at, zeros}
-use Rattle.inverse_transforms.specs.Columns.{column}
+use Rattle.inverse_transforms.specs.LaneColumns.{column}
 use Rattle.inverse_transforms.proofs.ColumnLemmas.{column_at}
 use Rattle.inverse_transforms.proofs.Small.{at_small}
 use Rattle.inverse_transforms.proofs.Zeros.{at_zeros}
 use Rattle.residue_transforms.proofs.Skips.{zeros_small}
-use Rattle.residue_transforms.specs.Blocks.{row}
+use Rattle.residue_transforms.specs.SquareBlocks.{row}
 use Rattle.residue_transforms.specs.Fours.{IsFour, AreLoaded, across, four_down, eight_down}
 use Rattle.residue_transforms.proofs.Pieces.{rows_before}
 use Rattle.residue_transforms.proofs.Crossings.{kept_four, same_four, some_four, chunk_values}

@@ -4,14 +4,14 @@ use Rattle.std.proofs.lemmas.Grind.{get_or-set_at}
 use Rattle.std.proofs.lemmas.List.{get_or-set_other, ext_get_or, length-map, get_or-map}
 use Rattle.std.proofs.lemmas.Bool.{cases_lt, cases_eq, cases_Bool, lt-ltb, and_parts, leb-true, ltb-true}
 use Rattle.std.proofs.lemmas.List.FromFn.{get_or-map-range_with_len, length-map-range_with_len}
-use Rattle.inverse_transforms.specs.Columns.{column}
+use Rattle.inverse_transforms.specs.LaneColumns.{column}
 use Rattle.inverse_transforms.proofs.ColumnLemmas.{column_at}
 use Rattle.residue_transforms.specs.Residue.{round}
 use Rattle.std.proofs.Math.Nat.{mul-le-mul_right, suc-mul}
 use Rattle.std.proofs.lemmas.Bool.Decides.{nat_tests}
 use Rattle.vp9_types.specs.Maps.{is_within}
 use Rattle.inverse_transforms.specs.Flow.{at}
-use Rattle.residue_transforms.specs.Blocks.{HasPiece, col}
+use Rattle.residue_transforms.specs.SquareBlocks.{HasPiece, col}
 
 within_last : (place j : ℕ) → is_within place (j + 1) (place + j) ≡ true
 within_last place j = grind (arith, nat_tests)

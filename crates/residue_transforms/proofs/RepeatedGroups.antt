@@ -7,7 +7,7 @@ use Rattle.std.proofs.lemmas.List.FromFn.{get_or-map-range_with_len, length-map-
 use Rattle.vp9_types.specs.Maps.{is_within}
 use Rattle.vp9_types.specs.declared.rule.Rule.{Rule}
 use Rattle.inverse_transforms.specs.Flow.{at}
-use Rattle.residue_transforms.specs.Blocks.{row, col, HasPiece, AreTurned, GroupDone}
+use Rattle.residue_transforms.specs.SquareBlocks.{row, col, HasPiece, AreTurned, GroupDone}
 use Rattle.residue_transforms.proofs.GroupTurns.{within_parts}
 use Rattle.residue_transforms.proofs.Pieces.{Stored, stored_more}
 

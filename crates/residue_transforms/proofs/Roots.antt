@@ -9,7 +9,7 @@ use Rattle.std.proofs.lemmas.Bool.{and_parts, cases_lt, lt-ltb, eqb-true}
 use borrow.Author.Tests.{ltb-true}
 use Rattle.vp9_tables.specs.declared.flow_row.FlowRow.{FlowRow}
 use Rattle.vp9_tables.specs.declared.flow_row.FlowRow.TheVariants.{Perm, Rot, Sum, Neg, Wide}
-use Rattle.vp9_tables.specs.Transforms.{cosine_of, dct_of}
+use Rattle.vp9_tables.specs.TransformTables.{cosine_of, dct_of}
 use Rattle.inverse_transforms.specs.declared.values.Two.{Two}
 use Rattle.inverse_transforms.specs.Angles.{sine_of}
 use Rattle.inverse_transforms.specs.Ranges.{fits, round14}

@@ -17,7 +17,7 @@ use Rattle.vp9_types.specs.declared.shape.Depth.{Depth}
 use Rattle.vp9_types.specs.declared.shape.Depth.TheVariants.{Eight, Ten, Twelve}
 use Rattle.inverse_transforms.specs.Ranges.{IsSmall, fits, limit_of}
 use Rattle.inverse_transforms.specs.Flow.{at}
-use Rattle.inverse_transforms.specs.Columns.{AllHold}
+use Rattle.inverse_transforms.specs.LaneColumns.{AllHold}
 use Rattle.inverse_transforms.proofs.LaneLemmas.{hold_more, place_more, kept}
 use Rattle.residue_transforms.specs.Residue.{IsShort, Fitting, scaled, quantiser, coefficient, coefficients}
 use Rattle.residue_transforms.specs.declared.quant.Quant.{Quant}

@@ -7,7 +7,7 @@ use Rattle.vp9_types.specs.declared.shape.Depth.{Depth}
 use Rattle.vp9_types.specs.declared.shape.Depth.TheVariants.{Eight, Ten, Twelve}
 use Rattle.inverse_transforms.specs.Ranges.{limit_of, IsSmall}
 use Rattle.inverse_transforms.specs.Flow.{at, zeros}
-use Rattle.inverse_transforms.specs.Columns.{column}
+use Rattle.inverse_transforms.specs.LaneColumns.{column}
 use Rattle.inverse_transforms.proofs.Zeros.{dct_zeros, adst_zeros, wht_zeros}
 use Rattle.residue_transforms.specs.declared.kind.Kind.{Kind}
 use Rattle.residue_transforms.specs.declared.kind.Kind.TheVariants.{Cosines, Sines, LiftsOfRows, LiftsOfColumns}

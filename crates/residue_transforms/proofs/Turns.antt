@@ -8,7 +8,7 @@ use Rattle.std.proofs.lemmas.List.FromFn.{get_or-map-range_with_len, length-map-
 use Rattle.vp9_types.specs.declared.rule.Rule.{Rule}
 use Rattle.vp9_types.specs.declared.rule.Rule.TheVariants.{TransformRange}
 use Rattle.inverse_transforms.specs.Flow.{at}
-use Rattle.residue_transforms.specs.Blocks.{row, rows, col, of_columns, before, each, block_of, turned}
+use Rattle.residue_transforms.specs.SquareBlocks.{row, rows, col, of_columns, before, each, block_of, turned}
 
 abbrev Maps : Type 0
 Maps = List ℤ → Result (List ℤ) Rule

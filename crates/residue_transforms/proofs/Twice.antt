@@ -22,7 +22,7 @@ use Rattle.inverse_transforms.proofs.Small.{AtMost, at_small, fits_small, dct_sm
 use Rattle.residue_transforms.specs.declared.quant.Quant.{Quant}
 use Rattle.residue_transforms.specs.declared.kind.Kind.{Kind}
 use Rattle.residue_transforms.specs.declared.kind.Kind.TheVariants.{Cosines, Sines, LiftsOfRows, LiftsOfColumns}
-use Rattle.residue_transforms.specs.Blocks.{row, rows, of_columns, before, each, block_of, turned}
+use Rattle.residue_transforms.specs.SquareBlocks.{row, rows, of_columns, before, each, block_of, turned}
 use Rattle.residue_transforms.specs.Residue.{transform, round, rounded_by, rounded_transform, kind_of_rows, kind_of_columns, rounding_bits, log2_of, reconstructed}
 
 abbrev Maps : Type 0

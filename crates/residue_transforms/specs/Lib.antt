@@ -1,4 +1,4 @@
-pub mod Blocks
+pub mod SquareBlocks
 pub mod First
 pub mod Fours
 pub mod Residue

@@ -15,7 +15,7 @@ use Rattle.inverse_transforms.specs.Transforms.{dct, adst, wht}
 use Rattle.residue_transforms.specs.declared.quant.Quant.{Quant}
 use Rattle.residue_transforms.specs.declared.kind.Kind.{Kind}
 use Rattle.residue_transforms.specs.declared.kind.Kind.TheVariants.{Cosines, Sines, LiftsOfRows, LiftsOfColumns}
-use Rattle.residue_transforms.specs.Blocks.{turned}
+use Rattle.residue_transforms.specs.SquareBlocks.{turned}
 
 -- the first place of every scan is position 0
 abbrev pub quantiser : Quant → ℕ → ℕ

@@ -2,9 +2,9 @@
 
 ghost use Rattle.std.specs.Prelude.{◌≡◌, ℕ, ◌+◌, ◌*◌, ◌%◌, ◌<◌, ◌≤◌, List, [], ◌∷◌, ◌++◌, length, All};
 ghost use Rattle.inverse_transforms.specs.Flow.{at, zeros};
-ghost use Rattle.inverse_transforms.specs.Columns.{column};
+ghost use Rattle.inverse_transforms.specs.LaneColumns.{column};
 ghost use Rattle.inverse_transforms.specs.Ranges.{IsSmall};
-ghost use Rattle.residue_transforms.specs.Blocks.{row};
+ghost use Rattle.residue_transforms.specs.SquareBlocks.{row};
 ghost use Rattle.residue_transforms.specs.Fours.{IsFour, AreLoaded, across, four_down};
 
 use inverse_transforms::Lanes;

@@ -3,9 +3,9 @@
 ghost use Rattle.std.specs.Prelude.{◌≡◌, ℕ, ◌+◌, ◌-◌, ◌*◌, ◌/◌, ◌^◌, ◌<◌, ◌≤◌, length, map, pos, unsigned_abs, All, if◌then◌else◌};
 ghost use Rattle.vp9_types.specs.Maps.{is_within};
 ghost use Rattle.inverse_transforms.specs.Flow.{at};
-ghost use Rattle.inverse_transforms.specs.Columns.{column};
+ghost use Rattle.inverse_transforms.specs.LaneColumns.{column};
 ghost use Rattle.inverse_transforms.specs.Ranges.{IsSmall};
-ghost use Rattle.residue_transforms.specs.Blocks.{row, col, HasPiece};
+ghost use Rattle.residue_transforms.specs.SquareBlocks.{row, col, HasPiece};
 ghost use Rattle.residue_transforms.specs.Residue.{round};
 
 use inverse_transforms::Lanes;

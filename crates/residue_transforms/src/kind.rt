@@ -3,7 +3,7 @@
 ghost use Rattle.std.specs.Prelude.{◌≡◌, ℕ, ◌+◌, ◌^◌, ◌≤◌, ◌<◌, length, pos, All, IsTrue};
 ghost use Rattle.std.specs.Bool.{OnTrue};
 ghost use Rattle.inverse_transforms.specs.Flow.{at, zeros};
-ghost use Rattle.inverse_transforms.specs.Columns.{GivesColumns, column};
+ghost use Rattle.inverse_transforms.specs.LaneColumns.{GivesColumns, column};
 ghost use Rattle.inverse_transforms.specs.Ranges.{IsSmall, limit_of};
 ghost use Rattle.vp9_types.specs.Sizes.{side};
 ghost use Rattle.residue_transforms.specs.Residue.{transform, has_size, kind_of_rows, kind_of_columns, rounding_bits, log2_of};

@@ -4,7 +4,7 @@ ghost use Rattle.std.specs.Prelude.{◌≡◌, ℕ, ◌+◌, ◌-◌, ◌*◌, �
 ghost use Rattle.std.specs.Bool.{OnTrue};
 ghost use Rattle.vp9_types.specs.Maps.{is_within};
 ghost use Rattle.inverse_transforms.specs.Flow.{at};
-ghost use Rattle.residue_transforms.specs.Blocks.{row, col, HasPiece};
+ghost use Rattle.residue_transforms.specs.SquareBlocks.{row, col, HasPiece};
 
 use crate::group::row_at;
 

@@ -3,7 +3,7 @@
 ghost use Rattle.std.specs.Prelude.{◌≡◌, ℕ, ◌^◌, ◌<◌, ◌≤◌, ◌*ℤ◌, pos, unsigned_abs, length, All};
 ghost use Rattle.std.specs.Bool.{OnTrue};
 ghost use Rattle.inverse_transforms.specs.Flow.{at};
-ghost use Rattle.inverse_transforms.specs.Columns.{AllHold};
+ghost use Rattle.inverse_transforms.specs.LaneColumns.{AllHold};
 ghost use Rattle.inverse_transforms.specs.Ranges.{fits};
 ghost use Rattle.residue_transforms.specs.Residue.{IsShort, scaled};
 

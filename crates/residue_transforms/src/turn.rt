@@ -3,7 +3,7 @@
 ghost use Rattle.std.specs.Prelude.{◌≡◌, ℕ, ◌+◌, ◌*◌, ◌/◌, ◌%◌, ◌^◌, ◌<◌, ◌≤◌, length, All, IsTrue};
 ghost use Rattle.inverse_transforms.specs.Flow.{Gives};
 ghost use Rattle.inverse_transforms.specs.Ranges.{IsSmall, limit_of};
-ghost use Rattle.residue_transforms.specs.Blocks.{turned, AreTurned, TurnsGroup};
+ghost use Rattle.residue_transforms.specs.SquareBlocks.{turned, AreTurned, TurnsGroup};
 ghost use Rattle.residue_transforms.specs.Residue.{has_size, rounded_transform};
 
 use crate::cross::{load, load_four};

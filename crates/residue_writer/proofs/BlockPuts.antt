@@ -7,9 +7,9 @@ use Rattle.std.proofs.lemmas.List.Elements.{All-map}
 use Rattle.vp9_types.specs.declared.rule.Rule.{Rule}
 use Rattle.vp9_types.specs.declared.shape.Plane.{Plane}
 use Rattle.vp9_types.specs.declared.shape.Plane.TheVariants.{Y, U, V}
-use Rattle.prob_contexts.specs.Lists.{ContextLists}
+use Rattle.prob_contexts.specs.ProbLists.{ContextLists}
 use Rattle.bool_encoder.specs.Part.{Part}
-use Rattle.frame_headers.specs.State.{shape_of}
+use Rattle.frame_headers.specs.HeaderState.{shape_of}
 use Rattle.frame_headers.specs.declared.header.Header.{Header}
 use Rattle.block_plan.specs.InPlanes.{places_in}
 use Rattle.block_plan.specs.declared.block.BlockInfo.{BlockInfo}
@@ -20,7 +20,7 @@ use Rattle.residue_syntax.specs.BlocksInPlanes.{block_in}
 use Rattle.residue_syntax.specs.Residues.{ReadPlane, read_next, read_skipped, skipped_sides, read_in_plane, read_plane, read_block, listed, planned, is_coded}
 use Rattle.residue_syntax.specs.Sides.{Sides}
 use Rattle.residue_syntax.specs.declared.sides.TileSides.{TileSides}
-use Rattle.residue_writer.specs.Said.{residues_said, said_in_plane, block_said}
+use Rattle.residue_writer.specs.SaidResidues.{residues_said, said_in_plane, block_said}
 use Rattle.residue_writer.specs.Code.{TellsPlane, TellsBlock}
 use Rattle.residue_writer.specs.declared.levels.BlockLevels.{BlockLevels}
 use Rattle.residue_writer.specs.declared.levels.PlaneLevels.{PlaneLevels}

@@ -8,7 +8,7 @@ use Rattle.vp9_types.specs.declared.shape.Depth.{Depth}
 use Rattle.vp9_types.specs.declared.shape.Depth.TheVariants.{Eight, Ten, Twelve}
 use Rattle.coef_tokens.specs.Places.{Tables}
 use Rattle.coef_tokens.proofs.Turns.{clear_at, kept}
-use Rattle.token_writer.specs.Fits.{CanPut, IsCoded, level_of}
+use Rattle.token_writer.specs.TokenFits.{CanPut, IsCoded, level_of}
 
 coded_below : (depth : Depth) (m : ℕ) → m < 16451 → IsCoded depth m
 coded_below Eight m h = omega arith

@@ -8,7 +8,7 @@ use Rattle.std.proofs.lemmas.List.Folds.{list_any-append}
 use Rattle.vp9_types.specs.Results.{map_ok}
 use Rattle.vp9_types.specs.declared.rule.Rule.{Rule}
 use Rattle.vp9_tables.specs.Scans.{area}
-use Rattle.prob_contexts.specs.Lists.{ContextLists}
+use Rattle.prob_contexts.specs.ProbLists.{ContextLists}
 use Rattle.bool_encoder.specs.Part.{Part}
 use Rattle.block_plan.specs.Planned.{Residue}
 use Rattle.block_plan.proofs.Held.{one_long}
@@ -18,7 +18,7 @@ use Rattle.bool_encoder.proofs.CountedPuts.{LeftOf, puts_on, puts_broken, puts_s
 use Rattle.residue_syntax.specs.Residues.{ReadPlane, read_residue, read_next, with_sides, is_coded}
 use Rattle.residue_syntax.specs.Sides.{Sides}
 use Rattle.residue_syntax.specs.declared.in_plane.BlockInPlane.{BlockInPlane}
-use Rattle.residue_writer.specs.Said.{levels_at, residue_said, residues_said, with_residue}
+use Rattle.residue_writer.specs.SaidResidues.{levels_at, residue_said, residues_said, with_residue}
 use Rattle.residue_writer.specs.Code.{TellsAny, TellsPlane}
 use Rattle.residue_writer.specs.declared.levels.PlaneLevels.{PlaneLevels}
 

@@ -5,15 +5,15 @@ use Rattle.std.proofs.lemmas.Bool.{eq-eqb, ne_eqb}
 use Rattle.vp9_types.specs.Results.{map_ok}
 use Rattle.vp9_types.specs.declared.rule.Rule.{Rule}
 use Rattle.vp9_tables.specs.Scans.{area}
-use Rattle.prob_contexts.specs.Lists.{ContextLists}
+use Rattle.prob_contexts.specs.ProbLists.{ContextLists}
 use Rattle.bool_encoder.specs.Part.{Part}
-use Rattle.coef_tokens.specs.Blocks.{block_tables}
+use Rattle.coef_tokens.specs.TokenKinds.{block_tables}
 use Rattle.coef_tokens.specs.Places.{Read}
 use Rattle.coef_tokens.specs.Code.{HoldsLevels}
 use Rattle.counting_reader.specs.Counting.{settle, lifted, in_order}
 use Rattle.bool_encoder.specs.CountedBools.{PutsTo}
 use Rattle.bool_encoder.proofs.CountedPuts.{puts_value, value_by_counting, puts_on, puts_broken, puts_lifted, puts_settle}
-use Rattle.token_writer.specs.Fits.{PutsLevels}
+use Rattle.token_writer.specs.TokenFits.{PutsLevels}
 use Rattle.residue_transforms.specs.Residue.{residue}
 use Rattle.block_plan.specs.Planned.{Residue}
 use Rattle.residue_syntax.specs.BlocksInPlanes.{type_at, token_kind}
@@ -21,7 +21,7 @@ use Rattle.residue_syntax.specs.Residues.{first_context, with_sides, residue_of,
 use Rattle.residue_syntax.specs.Sides.{Sides}
 use Rattle.residue_syntax.specs.declared.in_plane.BlockInPlane.{BlockInPlane}
 use Rattle.residue_syntax.proofs.ResidueReads.{levels_are}
-use Rattle.residue_writer.specs.Said.{residue_said}
+use Rattle.residue_writer.specs.SaidResidues.{residue_said}
 use Rattle.residue_writer.specs.Code.{TellsAny}
 
 ---- What is said ----

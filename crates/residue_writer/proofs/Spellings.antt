@@ -6,11 +6,11 @@ use Rattle.vp9_types.specs.declared.rule.Rule.{Rule}
 use Rattle.vp9_types.specs.declared.shape.Plane.{Plane}
 use Rattle.vp9_types.specs.declared.shape.Plane.TheVariants.{Y, U, V}
 use Rattle.vp9_tables.specs.Scans.{area}
-use Rattle.prob_contexts.specs.Lists.{ContextLists}
+use Rattle.prob_contexts.specs.ProbLists.{ContextLists}
 use Rattle.bool_encoder.specs.Part.{Part}
-use Rattle.bool_lists.specs.Lists.{HasPut}
+use Rattle.bool_lists.specs.BoolLists.{HasPut}
 use Rattle.bool_lists.proofs.Ways.{spells_on, spells_none}
-use Rattle.frame_headers.specs.State.{shape_of}
+use Rattle.frame_headers.specs.HeaderState.{shape_of}
 use Rattle.frame_headers.specs.declared.header.Header.{Header}
 use Rattle.block_plan.specs.InPlanes.{places_in}
 use Rattle.block_plan.specs.declared.block.BlockInfo.{BlockInfo}
@@ -20,8 +20,8 @@ use Rattle.residue_syntax.specs.Residues.{with_sides}
 use Rattle.residue_syntax.specs.Sides.{Sides}
 use Rattle.residue_syntax.specs.declared.in_plane.BlockInPlane.{BlockInPlane}
 use Rattle.residue_syntax.specs.declared.sides.TileSides.{TileSides}
-use Rattle.residue_writer.specs.Said.{levels_at}
-use Rattle.residue_writer.specs.Lists.{spelled_at, spelled_plane, spelled_residue, spelled_residues}
+use Rattle.residue_writer.specs.SaidResidues.{levels_at}
+use Rattle.residue_writer.specs.ResidueLists.{spelled_at, spelled_plane, spelled_residue, spelled_residues}
 use Rattle.residue_writer.specs.declared.levels.BlockLevels.{BlockLevels}
 use Rattle.residue_writer.specs.declared.levels.PlaneLevels.{PlaneLevels}
 

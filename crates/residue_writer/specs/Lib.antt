@@ -1,4 +1,4 @@
-pub mod Said
-pub mod Lists
-pub mod Fits
+pub mod SaidResidues
+pub mod ResidueLists
+pub mod ResidueFits
 pub mod Code

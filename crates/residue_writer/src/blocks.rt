@@ -1,15 +1,15 @@
 //! A block in all planes of its frame.
 
 ghost use Rattle.std.specs.Prelude.{ℕ, IfOk};
-ghost use Rattle.frame_headers.specs.State.{shape_of};
-ghost use Rattle.prob_contexts.specs.Lists.{lists_of};
-ghost use Rattle.bool_lists.specs.Lists.{HasPut};
+ghost use Rattle.frame_headers.specs.HeaderState.{shape_of};
+ghost use Rattle.prob_contexts.specs.ProbLists.{lists_of};
+ghost use Rattle.bool_lists.specs.BoolLists.{HasPut};
 ghost use Rattle.bool_encoder.specs.CountedBools.{PutsTo};
 ghost use Rattle.residue_syntax.specs.Residues.{read_plane, read_block};
 ghost use Rattle.residue_syntax.specs.Code.{FitPlane, FitPlanes, IsInFrame};
-ghost use Rattle.residue_writer.specs.Said.{said_in_plane, block_said};
-ghost use Rattle.residue_writer.specs.Lists.{spelled_plane, spelled_residue};
-ghost use Rattle.residue_writer.specs.Fits.{CanPutIn, CanPutBlock};
+ghost use Rattle.residue_writer.specs.SaidResidues.{said_in_plane, block_said};
+ghost use Rattle.residue_writer.specs.ResidueLists.{spelled_plane, spelled_residue};
+ghost use Rattle.residue_writer.specs.ResidueFits.{CanPutIn, CanPutBlock};
 ghost use Rattle.residue_writer.specs.Code.{TellsPlane, TellsBlock};
 
 use crate::levels::{BlockLevels, PlaneLevels};

@@ -2,18 +2,18 @@
 
 ghost use Rattle.std.specs.Prelude.{◌≡◌, ◌<◌, ℕ, IfOk, length, nat_lt, unsigned_abs};
 ghost use Rattle.std.specs.List.{All};
-ghost use Rattle.prob_contexts.specs.Lists.{lists_of};
+ghost use Rattle.prob_contexts.specs.ProbLists.{lists_of};
 ghost use Rattle.vp9_types.specs.Results.{map_ok};
 ghost use Rattle.vp9_tables.specs.Scans.{area};
-ghost use Rattle.bool_lists.specs.Lists.{HasPut};
+ghost use Rattle.bool_lists.specs.BoolLists.{HasPut};
 ghost use Rattle.bool_encoder.specs.CountedBools.{PutsTo};
-ghost use Rattle.token_writer.specs.Fits.{IsCoded};
+ghost use Rattle.token_writer.specs.TokenFits.{IsCoded};
 ghost use Rattle.residue_syntax.specs.BlocksInPlanes.{type_at};
 ghost use Rattle.residue_syntax.specs.Residues.{read_residue, with_sides};
 ghost use Rattle.residue_syntax.specs.Code.{IsBeside, KeepsLengths};
-ghost use Rattle.residue_writer.specs.Said.{residue_said};
-ghost use Rattle.residue_writer.specs.Lists.{spelled_at};
-ghost use Rattle.residue_writer.specs.Fits.{CanPutAt};
+ghost use Rattle.residue_writer.specs.SaidResidues.{residue_said};
+ghost use Rattle.residue_writer.specs.ResidueLists.{spelled_at};
+ghost use Rattle.residue_writer.specs.ResidueFits.{CanPutAt};
 ghost use Rattle.residue_writer.specs.Code.{TellsAny};
 
 use crate::levels::Coded;

@@ -16,15 +16,15 @@ use Rattle.vp9_types.specs.Maps.{FrameMap}
 use Rattle.vp9_types.specs.declared.shape.Shape.{Shape}
 use Rattle.frame_headers.specs.declared.header.Header.{Header}
 use Rattle.frame_headers.proofs.SlotLemmas.{refreshed_told}
-use Rattle.frame_headers.specs.State.{SlotsHaveSizes, refreshed, shape_of}
+use Rattle.frame_headers.specs.HeaderState.{SlotsHaveSizes, refreshed, shape_of}
 use Rattle.frame_headers.specs.declared.header.FrameSize.{FrameSize}
 use Rattle.frame_headers.specs.declared.persist.Persist.{Persist}
 use Rattle.picture_table.specs.Code.{IsBelow, IsSoundAt, IsTable, NamesSound, held, held_in, shown}
 use Rattle.picture_table.specs.declared.table.PictureTable.{PictureTable}
-use Rattle.prob_contexts.specs.Lists.{ContextLists}
-use Rattle.picture_table.specs.Pictures.{IsSound, map_of_any, shape_of_any}
+use Rattle.prob_contexts.specs.ProbLists.{ContextLists}
+use Rattle.picture_table.specs.KeptPictures.{IsSound, map_of_any, shape_of_any}
 use Rattle.picture_table.specs.declared.any.AnyPicture.{AnyPicture}
-use Rattle.frame_decoder.specs.Frames.{FrameResult}
+use Rattle.frame_decoder.specs.DecodedFrames.{FrameResult}
 use Rattle.frame_state.specs.declared.halt.Halt.{Halt}
 use Rattle.frame_state.specs.declared.halt.Halt.TheVariants as halt
 use Rattle.seq_decoder.specs.After.{Stepped, after_coded, picture_of, state_after}
@@ -33,7 +33,7 @@ use Rattle.seq_decoder.specs.Code.{StandsFor, shape_told, put_text, shown_of, to
 use Rattle.seq_decoder.specs.Outputs.{Putting, admits, form_after, put, shown_text}
 use Rattle.seq_decoder.specs.declared.form.OutputForm.{OutputForm}
 use Rattle.seq_decoder.specs.Outcomes.{outcome_at}
-use Rattle.seq_decoder.specs.State.{Picture, State}
+use Rattle.seq_decoder.specs.DecoderState.{Picture, State}
 use Rattle.seq_decoder.specs.declared.coding.Coded.{Coded}
 use Rattle.seq_decoder.specs.declared.decoder.Decoder.{Decoder}
 

@@ -30,7 +30,7 @@ use Rattle.frame_headers.specs.declared.header.Uncompressed.TheVariants as uncom
 use Rattle.frame_headers.specs.declared.persist.Persist.{Persist}
 use Rattle.frame_headers.specs.Fields.{past, f, flag}
 use Rattle.frame_headers.specs.Color.{color_config, intra_only_color}
-use Rattle.frame_headers.specs.Sizes.{frame_size, render_size}
+use Rattle.frame_headers.specs.FrameSizes.{frame_size, render_size}
 use Rattle.frame_headers.specs.Header.{frame_profile, frame_sync_code, frame_start, frame_contexts, frame_params, forgets, kept_deltas, kept_features, key_fields, intra_only_fields, other_fields, intra_and_reset, frame_fields, coded_frame, uncompressed_header, placed, placed_if_read, head_of}
 use Rattle.frame_headers.specs.References.{held_by, slot_shape, reference, references, same_bit, has_format, all_of, some_of, is_in_range, found_size, interpolation_filter, inter_fields}
 

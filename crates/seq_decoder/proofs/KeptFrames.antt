@@ -4,18 +4,18 @@ use Rattle.std.specs.Prelude.{IfOk, Result, Ok, Err}
 use Rattle.vp9_types.specs.declared.block.ReferenceFrame.{ReferenceFrame}
 use Rattle.vp9_types.specs.declared.shape.Depth.{Depth}
 use Rattle.vp9_types.specs.declared.shape.Shape.{Shape}
-use Rattle.frame_headers.specs.State.{shape_of}
+use Rattle.frame_headers.specs.HeaderState.{shape_of}
 use Rattle.frame_headers.specs.declared.header.Header.{Header}
 use Rattle.planes.specs.Pictures.{FitsPlanes}
 use Rattle.planes.specs.declared.picture.Picture.{Picture}
-use Rattle.picture_table.specs.Pictures.{IsWhole, KeepInBytes, KeepInWords}
+use Rattle.picture_table.specs.KeptPictures.{IsWhole, KeepInBytes, KeepInWords}
 use Rattle.picture_table.specs.declared.any.AnyPicture.TheVariants.{Bytes, Words}
 use Rattle.block_rebuild.specs.InterBlocks.{ReferencePicture}
-use Rattle.frame_state.specs.Reading.{FrameInput}
+use Rattle.frame_state.specs.FrameReading.{FrameInput}
 use Rattle.frame_state.specs.declared.halt.Halt.{Halt}
 use Rattle.frame_state.specs.declared.halt.Halt.TheVariants as halt
 use Rattle.frame_decoder.specs.Code.{HoldsResult, IsDecoded}
-use Rattle.frame_decoder.specs.Frames.{FrameResult}
+use Rattle.frame_decoder.specs.DecodedFrames.{FrameResult}
 use Rattle.frame_decoder.specs.declared.decoding.Decoded.{Decoded}
 use Rattle.seq_decoder.specs.Code.{HoldsFrame, IsFrame}
 

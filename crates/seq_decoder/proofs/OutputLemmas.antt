@@ -10,7 +10,7 @@ use Rattle.frame_output.specs.declared.rendering.Format.{Format}
 use Rattle.seq_decoder.specs.After.{Stepped, step}
 use Rattle.seq_decoder.specs.Outputs.{Putting, fits, first_of, is_first, put, putting}
 use Rattle.seq_decoder.specs.Runs.{Run, added, decoding, shown_list, texts_of}
-use Rattle.seq_decoder.specs.State.{Picture, State}
+use Rattle.seq_decoder.specs.DecoderState.{Picture, State}
 use Rattle.seq_decoder.specs.declared.form.OutputForm.{OutputForm}
 
 abbrev Text : Type 0

@@ -13,8 +13,8 @@ use Rattle.vp9_types.specs.declared.shape.Plane.TheVariants.{Y, U, V}
 use Rattle.vp9_types.specs.declared.shape.Shape.{Shape}
 use Rattle.frame_headers.specs.Header.{head_of}
 use Rattle.frame_headers.specs.References.{is_in_range}
-use Rattle.frame_headers.specs.Sizes.{IsFrameSize}
-use Rattle.frame_headers.specs.State.{shape_of}
+use Rattle.frame_headers.specs.FrameSizes.{IsFrameSize}
+use Rattle.frame_headers.specs.HeaderState.{shape_of}
 use Rattle.frame_headers.specs.declared.header.FrameHead.TheVariants as head
 use Rattle.frame_headers.specs.declared.header.FrameKind.{FrameKind}
 use Rattle.frame_headers.specs.declared.header.FrameKind.TheVariants.{Key, IntraOnly, Inter}
@@ -22,11 +22,11 @@ use Rattle.frame_headers.specs.declared.header.Header.{Header}
 use Rattle.frame_headers.specs.declared.header.InterFields.{InterFields}
 use Rattle.frame_headers.specs.declared.header.Reference.{Reference}
 use Rattle.frame_headers.specs.declared.persist.Persist.{Persist}
-use Rattle.inter_contexts.specs.References.{reference_in}
+use Rattle.inter_contexts.specs.BlockReferences.{reference_in}
 use Rattle.inter_places.specs.Places.{IsReference}
 use Rattle.planes.specs.Pictures.{map_of}
 use Rattle.planes.specs.declared.picture.Picture as planes
-use Rattle.picture_table.specs.Pictures.{IsSound, IsThere, IsWhole, depth_of, map_of_any, shape_of_any}
+use Rattle.picture_table.specs.KeptPictures.{IsSound, IsThere, IsWhole, depth_of, map_of_any, shape_of_any}
 use Rattle.picture_table.specs.declared.any.AnyPicture.{AnyPicture}
 use Rattle.picture_table.specs.Code.{IsTable, held, held_in, shown}
 use Rattle.picture_table.specs.declared.table.PictureTable.{PictureTable}
@@ -34,7 +34,7 @@ use Rattle.block_rebuild.specs.InterBlocks.{ReferencePicture}
 use Rattle.block_rebuild.specs.Code.{HasReference, IsUsable, picture_of, reference_of, rebuilding_of}
 use Rattle.block_rebuild.specs.declared.references.ReferencePicture as code_picture
 use Rattle.block_rebuild.specs.declared.references.Rebuilding as code
-use Rattle.frame_decoder.specs.Pictures.{HasPictures, has_row, row_width}
+use Rattle.frame_decoder.specs.ReferencePictures.{HasPictures, has_row, row_width}
 use Rattle.std.proofs.lemmas.Bool.{eqb-true}
 use Rattle.frame_headers.specs.Spans.{tile_count}
 use Rattle.frame_state.specs.Past.{AreVectors}
@@ -44,13 +44,13 @@ use Rattle.seq_decoder.specs.declared.last.LastFrame as code_last
 use Rattle.seq_decoder.proofs.FrameLemmas.{is_at, shown_sound}
 use Rattle.seq_decoder.specs.After.{input_of, picture_in, references_of, segments_before, takes_vectors, vectors_before}
 use Rattle.seq_decoder.specs.SavedContexts.{context_before}
-use Rattle.frame_state.specs.Reading.{FrameInput}
-use Rattle.frame_decoder.specs.Frames.{decoded}
+use Rattle.frame_state.specs.FrameReading.{FrameInput}
+use Rattle.frame_decoder.specs.DecodedFrames.{decoded}
 use Rattle.frame_state.specs.Sources.{FramePast}
 use Rattle.frame_state.specs.declared.halt.Halt.{Halt}
 use Rattle.frame_state.specs.declared.halt.Halt.TheVariants as halt
 use Rattle.seq_decoder.specs.Code.{IsCoded, IsFrame, IsHeld, NamesHeld, NamesHeldBy, last_of_code, shape_told, shown_of, told_of}
-use Rattle.seq_decoder.specs.State.{Picture, State, last_size}
+use Rattle.seq_decoder.specs.DecoderState.{Picture, State, last_size}
 use Rattle.seq_decoder.proofs.HeaderReferences.{HoldsReference, references_held}
 use Rattle.seq_decoder.proofs.ShowingLemmas.{held_rows, wide_rows}
 

@@ -19,7 +19,7 @@ use Rattle.seq_decoder.specs.After.{Stepped, step}
 use Rattle.seq_decoder.specs.Code.{put_text, Breaks, Halts}
 use Rattle.seq_decoder.specs.Outcomes.{Completes, WritesFront, Decodes}
 use Rattle.seq_decoder.specs.Outputs.{Putting, admits, form_after, form_from, output_of, put, putting, shown_text}
-use Rattle.seq_decoder.specs.State.{State}
+use Rattle.seq_decoder.specs.DecoderState.{State}
 use Rattle.seq_decoder.specs.declared.form.OutputForm.{OutputForm}
 
 -- the form of a file's output, before its first frame

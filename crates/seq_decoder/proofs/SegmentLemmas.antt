@@ -9,11 +9,11 @@ use Rattle.block_geometry.specs.declared.transform_blocks.FramePlaces.{FramePlac
 use Rattle.block_plan.specs.Blocks.{covering, or_else}
 use Rattle.block_plan.specs.declared.block.BlockInfo.{BlockInfo}
 use Rattle.frame_headers.specs.declared.segments.Segmentation.{Segmentation}
-use Rattle.frame_state.specs.Columns.{blocks_of}
-use Rattle.frame_state.specs.Reading.{all_blocks}
+use Rattle.frame_state.specs.KeptColumns.{blocks_of}
+use Rattle.frame_state.specs.FrameReading.{all_blocks}
 use Rattle.frame_state.specs.declared.columns.TileColumn.{TileColumn}
 use Rattle.frame_state.proofs.ColumnBlocks.{covering_both}
-use Rattle.inter_modes.specs.Segments.{segment_or, segments_after, segments_of, updates}
+use Rattle.inter_modes.specs.LeftSegments.{segment_or, segments_after, segments_of, updates}
 
 one_place : (inside : Bool) (old : ℕ) (x y both : Option BlockInfo) → both ≡ or_else y x
     → (if inside then segment_or old both else old) ≡ (if inside then segment_or (if inside then segment_or old x else old) y else (if inside then segment_or old x else old))

@@ -13,14 +13,14 @@ use Rattle.vp9_types.specs.declared.shape.Shape.{Shape}
 use Rattle.vp9_types.specs.Maps.{Map, FrameMap, IsAtMost}
 use Rattle.vp9_types.specs.Shapes.{depth_bits, halved, subsampled_size, plane_width, plane_height, coded_width, coded_height}
 use Rattle.frame_headers.specs.declared.header.Header.{Header}
-use Rattle.frame_headers.specs.State.{shape_of}
-use Rattle.picture_table.specs.Pictures.{IsSound, IsWhole}
+use Rattle.frame_headers.specs.HeaderState.{shape_of}
+use Rattle.picture_table.specs.KeptPictures.{IsSound, IsWhole}
 use Rattle.picture_table.specs.declared.any.AnyPicture.{AnyPicture}
 use Rattle.planes.specs.Pictures.{FitsPlanes, HasSizes, coded_area, plane_of, map_of}
 use Rattle.planes.specs.Planes.{HasRow}
 use Rattle.planes.specs.declared.frame_planes.FramePlanes.{FramePlanes}
 use Rattle.planes.specs.declared.picture.Picture.{Picture}
-use Rattle.frame_decoder.specs.Frames.{FrameResult}
+use Rattle.frame_decoder.specs.DecodedFrames.{FrameResult}
 use Rattle.frame_output.specs.Formats.{output_text}
 use Rattle.frame_output.specs.declared.rendering.Rendering.{Rendering}
 use Rattle.seq_decoder.specs.declared.coding.Coded.{Coded}

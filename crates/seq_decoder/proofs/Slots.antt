@@ -5,13 +5,13 @@ use Rattle.vp9_types.specs.declared.job.Span.{Span}
 use Rattle.vp9_types.specs.declared.rule.Rule.{Rule}
 use Rattle.frame_headers.proofs.SlotLemmas.{refreshed_told}
 use Rattle.frame_headers.specs.Header.{head_of}
-use Rattle.frame_headers.specs.State.{next_persist, shape_of, start_persist}
+use Rattle.frame_headers.specs.HeaderState.{next_persist, shape_of, start_persist}
 use Rattle.frame_headers.specs.declared.header.FrameHead.{FrameHead}
 use Rattle.frame_headers.specs.declared.header.FrameHead.TheVariants as head
 use Rattle.frame_headers.specs.declared.header.Header.{Header}
-use Rattle.frame_decoder.specs.Frames.{FrameResult}
+use Rattle.frame_decoder.specs.DecodedFrames.{FrameResult}
 use Rattle.seq_decoder.specs.After.{Stepped, after_coded, behind_head, decoded_in, state_after, picture_of, step}
-use Rattle.seq_decoder.specs.State.{State, start_state, persist_of, slot_shape}
+use Rattle.seq_decoder.specs.DecoderState.{State, start_state, persist_of, slot_shape}
 
 -- what headers read after a frame
 pub persist_after : (number : ℕ) (state : State) (header : Header) (r : FrameResult) → persist_of (state_after number state header r) ≡ next_persist header (persist_of state)

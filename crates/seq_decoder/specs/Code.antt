@@ -15,28 +15,28 @@ use Rattle.frame_headers.specs.declared.header.FrameKind.{FrameKind}
 use Rattle.frame_headers.specs.declared.header.FrameKind.TheVariants.{Key, IntraOnly, Inter}
 use Rattle.frame_headers.specs.declared.header.FrameSize.{FrameSize}
 use Rattle.frame_headers.specs.declared.header.Reference.{Reference}
-use Rattle.inter_contexts.specs.References.{reference_in}
+use Rattle.inter_contexts.specs.BlockReferences.{reference_in}
 use Rattle.vp9_types.specs.declared.block.ReferenceFrame.{ReferenceFrame}
 use Rattle.frame_headers.specs.declared.header.Header.{Header}
-use Rattle.frame_headers.specs.State.{SlotsHaveSizes}
-use Rattle.prob_contexts.specs.Lists.{ContextLists, lists_of}
-use Rattle.block_plan.specs.Segments.{SegmentIds, id_map}
+use Rattle.frame_headers.specs.HeaderState.{SlotsHaveSizes}
+use Rattle.prob_contexts.specs.ProbLists.{ContextLists, lists_of}
+use Rattle.block_plan.specs.SegmentMaps.{SegmentIds, id_map}
 use Rattle.picture_table.specs.Code.{held, names, IsTable}
 use Rattle.picture_table.specs.declared.table.PictureTable.{PictureTable}
 use Rattle.planes.specs.Pictures.{FitsPlanes, map_of}
 use Rattle.planes.specs.declared.picture.Picture as planes
-use Rattle.picture_table.specs.Pictures.{IsSound, map_of_any, shape_of_any}
+use Rattle.picture_table.specs.KeptPictures.{IsSound, map_of_any, shape_of_any}
 use Rattle.picture_table.specs.declared.any.AnyPicture.{AnyPicture}
-use Rattle.frame_headers.specs.State.{shape_of}
+use Rattle.frame_headers.specs.HeaderState.{shape_of}
 use Rattle.frame_state.specs.Code.{counts_if}
-use Rattle.frame_state.specs.Columns.{AreColumnsOf, HasStarts, blocks_of}
+use Rattle.frame_state.specs.KeptColumns.{AreColumnsOf, HasStarts, blocks_of}
 use Rattle.frame_state.specs.Past.{past_of}
 use Rattle.frame_state.specs.Sources.{adapts}
 use Rattle.frame_state.specs.declared.sources.FrameSources as code_sources
 use Rattle.block_rebuild.specs.InterBlocks as rebuild
-use Rattle.frame_decoder.specs.Frames.{FrameResult, decoded}
+use Rattle.frame_decoder.specs.DecodedFrames.{FrameResult, decoded}
 use Rattle.frame_decoder.specs.declared.decoding.Decoded.{Decoded}
-use Rattle.frame_state.specs.Reading.{FrameInput, all_blocks}
+use Rattle.frame_state.specs.FrameReading.{FrameInput, all_blocks}
 use Rattle.frame_state.specs.declared.halt.Halt.{Halt}
 use Rattle.frame_state.specs.declared.halt.Halt.TheVariants as halt
 use Rattle.seq_decoder.specs.declared.coding.Coded.{Coded}
@@ -47,7 +47,7 @@ use Rattle.seq_decoder.specs.After.{Stepped, segments_before}
 use Rattle.seq_decoder.specs.Outcomes.{outcome_at}
 use Rattle.seq_decoder.specs.Outputs.{Putting, admits, form_after, put, shown_text}
 use Rattle.seq_decoder.specs.SavedContexts.{is_key, saved_before}
-use Rattle.seq_decoder.specs.State.{LastFrame, Picture, State, last_size, no_segments, persist_of}
+use Rattle.seq_decoder.specs.DecoderState.{LastFrame, Picture, State, last_size, no_segments, persist_of}
 use Rattle.block_rebuild.specs.declared.references.ReferencePicture as code_picture
 use Rattle.seq_decoder.specs.declared.last.LastFrame as code_last
 

@@ -1,4 +1,4 @@
-pub mod State
+pub mod DecoderState
 pub mod SavedContexts
 pub mod After
 pub mod Runs

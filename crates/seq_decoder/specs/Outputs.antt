@@ -12,7 +12,7 @@ use Rattle.frame_output.specs.Formats.{output_text}
 use Rattle.frame_output.specs.declared.rendering.Format.{Format}
 use Rattle.frame_output.specs.declared.rendering.Format.TheVariants.{Y4m}
 use Rattle.seq_decoder.specs.After.{Stepped, step}
-use Rattle.seq_decoder.specs.State.{Picture, State, start_state}
+use Rattle.seq_decoder.specs.DecoderState.{Picture, State, start_state}
 use Rattle.seq_decoder.specs.declared.form.OutputForm.{OutputForm}
 
 abbrev pub same_shape : Shape → Shape → Bool

@@ -8,7 +8,7 @@ use Rattle.file_frames.specs.Walks.{Added, Walk, Walked, walk}
 use Rattle.frame_output.specs.Formats.{digest_line}
 use Rattle.frame_output.specs.Texts.{frame_text}
 use Rattle.seq_decoder.specs.After.{Stepped, step}
-use Rattle.seq_decoder.specs.State.{Picture, State, start_state}
+use Rattle.seq_decoder.specs.DecoderState.{Picture, State, start_state}
 
 -- The shown frames in order; and the number of the first frame that breaks a rule, with that rule, or None where the file ends.
 abbrev pub Run : Type 0

@@ -5,12 +5,12 @@ use Rattle.frame_headers.specs.declared.header.FrameKind.{FrameKind}
 use Rattle.frame_headers.specs.declared.header.FrameKind.TheVariants.{Key, IntraOnly, Inter}
 use Rattle.frame_headers.specs.declared.header.Header.{Header}
 use Rattle.frame_headers.specs.Header.{forgets}
-use Rattle.prob_contexts.specs.Lists.{ContextLists}
+use Rattle.prob_contexts.specs.ProbLists.{ContextLists}
 use Rattle.backward_adapt.specs.Adaptation.{adaptation}
 use Rattle.backward_adapt.specs.declared.kind.AdaptKind.{AdaptKind}
 use Rattle.backward_adapt.specs.declared.kind.AdaptKind.TheVariants as adapt
 use Rattle.frame_state.specs.Sources.{adapts}
-use Rattle.frame_decoder.specs.Frames.{FrameResult}
+use Rattle.frame_decoder.specs.DecodedFrames.{FrameResult}
 use Rattle.prob_contexts.specs.Defaults.{default_lists}
 
 abbrev pub is_key : FrameKind → Bool

@@ -2,19 +2,19 @@
 
 ghost use Rattle.std.specs.Prelude.{◌≡◌, ◌≤◌, List, Ok, Option, IfOk, length, map};
 ghost use Rattle.vp9_types.specs.Sizes.{greatest};
-ghost use Rattle.frame_headers.specs.State.{shape_of};
+ghost use Rattle.frame_headers.specs.HeaderState.{shape_of};
 ghost use Rattle.frame_headers.specs.Tiles.{AreFewTiles};
-ghost use Rattle.prob_contexts.specs.Lists.{lists_of};
+ghost use Rattle.prob_contexts.specs.ProbLists.{lists_of};
 ghost use Rattle.planes.specs.Pictures.{IsBlank};
 ghost use Rattle.picture_table.specs.Code.{IsTable, held};
-ghost use Rattle.picture_table.specs.Pictures.{IsBlankAs};
+ghost use Rattle.picture_table.specs.KeptPictures.{IsBlankAs};
 ghost use Rattle.frame_state.specs.Code.{IsBegun};
 ghost use Rattle.frame_state.specs.Past.{IsPastOf};
 ghost use Rattle.frame_decoder.specs.Code.{HoldsResult, IsDecoded};
-ghost use Rattle.frame_decoder.specs.Frames.{FrameResult};
+ghost use Rattle.frame_decoder.specs.DecodedFrames.{FrameResult};
 ghost use Rattle.seq_decoder.specs.After.{references_of};
 ghost use Rattle.seq_decoder.specs.Code.{HoldsFrame, IsFrame, NamesHeld, input_by, shown_of};
-ghost use Rattle.seq_decoder.specs.State.{Picture as Shown};
+ghost use Rattle.seq_decoder.specs.DecoderState.{Picture as Shown};
 
 use crate::past::pictures_for;
 use block_rebuild::RoomSample;

@@ -1,9 +1,9 @@
 //! One coded frame: what it leaves beside its samples, and the contexts behind it.
 
 ghost use Rattle.std.specs.Prelude.{◌≡◌};
-ghost use Rattle.prob_contexts.specs.Lists.{lists_of};
+ghost use Rattle.prob_contexts.specs.ProbLists.{lists_of};
 ghost use Rattle.frame_state.specs.Code.{counts_if};
-ghost use Rattle.frame_decoder.specs.Frames.{FrameResult};
+ghost use Rattle.frame_decoder.specs.DecodedFrames.{FrameResult};
 ghost use Rattle.frame_state.specs.Sources.{adapts};
 ghost use Rattle.seq_decoder.specs.SavedContexts.{kind_of, own_contexts};
 

@@ -1,14 +1,14 @@
 //! The decoder between two frames.
 
 ghost use Rattle.std.specs.Prelude.{◌≡◌, ℕ, ◌<◌, Some, None, Ok, IfOk, OnOk, get_or, length};
-ghost use Rattle.frame_headers.specs.Sizes.{IsFrameSize};
+ghost use Rattle.frame_headers.specs.FrameSizes.{IsFrameSize};
 ghost use Rattle.frame_headers.specs.Tiles.{AreFewTiles};
-ghost use Rattle.frame_decoder.specs.Frames.{FrameResult};
+ghost use Rattle.frame_decoder.specs.DecodedFrames.{FrameResult};
 ghost use Rattle.picture_table.specs.Code.{IsBelow, IsTable, NamesSound, held, held_in};
 ghost use Rattle.seq_decoder.specs.After.{Stepped, after_coded, decoded_in, state_after, step};
 ghost use Rattle.seq_decoder.specs.Code.{MayDecode, NamesHeld, StandsFor, HasBegun, IsAt, IsCoded, LiesWithin, told_picture, Adds, Puts};
 ghost use Rattle.seq_decoder.specs.Outputs.{form_from};
-ghost use Rattle.seq_decoder.specs.State.{State, start_state};
+ghost use Rattle.seq_decoder.specs.DecoderState.{State, start_state};
 
 use crate::begun::{BegunFrame, decode_begun};
 use crate::coding::{Coded, own_contexts};

@@ -1,7 +1,7 @@
 //! The last decoded frame.
 
 ghost use Rattle.std.specs.Prelude.{◌≡◌, Some};
-ghost use Rattle.frame_state.specs.Columns.{AreColumnsOf};
+ghost use Rattle.frame_state.specs.KeptColumns.{AreColumnsOf};
 
 use frame_headers::Header;
 use frame_state::TileColumn;

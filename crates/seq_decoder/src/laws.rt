@@ -5,12 +5,12 @@ ghost use Rattle.vp9_types.specs.declared.job.Span.{Span};
 ghost use Rattle.frame_headers.specs.declared.header.FrameHead.TheVariants as head;
 ghost use Rattle.frame_headers.specs.declared.header.Header.{Header};
 ghost use Rattle.frame_headers.specs.Header.{head_of};
-ghost use Rattle.frame_headers.specs.State.{next_persist, start_persist};
+ghost use Rattle.frame_headers.specs.HeaderState.{next_persist, start_persist};
 ghost use Rattle.frame_output.specs.declared.rendering.Format.TheVariants.{Md5, Raw};
 ghost use Rattle.seq_decoder.specs.After.{Stepped, step};
 ghost use Rattle.seq_decoder.specs.Outputs.{output_of};
 ghost use Rattle.seq_decoder.specs.Runs.{digest_text, picture_text, run_of, texts_of};
-ghost use Rattle.seq_decoder.specs.State.{State, persist_of, start_state};
+ghost use Rattle.seq_decoder.specs.DecoderState.{State, persist_of, start_state};
 
 /// What headers read of the state is what the listing's definition passes on: before the first frame, after each coded one,
 /// and after a slot that is shown.

@@ -2,18 +2,18 @@
 
 ghost use Rattle.std.specs.Prelude.{◌≡◌, List, Option, None, Some, IfSome, get_or, if◌then◌else◌, map, slice_index_or};
 ghost use Rattle.block_rebuild.specs.Code.{rebuilding_of};
-ghost use Rattle.frame_headers.specs.Sizes.{IsFrameSize};
-ghost use Rattle.frame_headers.specs.State.{shape_of};
+ghost use Rattle.frame_headers.specs.FrameSizes.{IsFrameSize};
+ghost use Rattle.frame_headers.specs.HeaderState.{shape_of};
 ghost use Rattle.mv_prediction.specs.Code as vectors;
 ghost use Rattle.picture_table.specs.Code.{IsTable, held};
-ghost use Rattle.picture_table.specs.Pictures.{IsWhole};
+ghost use Rattle.picture_table.specs.KeptPictures.{IsWhole};
 ghost use Rattle.planes.specs.Pictures.{map_of};
-ghost use Rattle.frame_state.specs.Columns.{AreColumnsOf};
+ghost use Rattle.frame_state.specs.KeptColumns.{AreColumnsOf};
 ghost use Rattle.frame_state.specs.Past.{AreVectors, blocks_in};
-ghost use Rattle.frame_decoder.specs.Pictures.{HasPictures};
+ghost use Rattle.frame_decoder.specs.ReferencePictures.{HasPictures};
 ghost use Rattle.seq_decoder.specs.After.{references_of, takes_vectors, vectors_before};
 ghost use Rattle.seq_decoder.specs.Code.{NamesHeld, last_held, last_of_code, shown_of, told_of};
-ghost use Rattle.seq_decoder.specs.State.{Picture as Shown, last_is_key};
+ghost use Rattle.seq_decoder.specs.DecoderState.{Picture as Shown, last_is_key};
 
 use crate::last::LastFrame;
 use block_rebuild::{Rebuilding, ReferencePicture};

@@ -2,7 +2,7 @@
 
 ghost use Rattle.std.specs.Prelude.{◌≡◌, replicate, slice_set};
 ghost use Rattle.prob_contexts.specs.Defaults.{default_lists};
-ghost use Rattle.prob_contexts.specs.Lists.{lists_of};
+ghost use Rattle.prob_contexts.specs.ProbLists.{lists_of};
 ghost use Rattle.seq_decoder.specs.SavedContexts.{place_of, resets_all, resets_one, loses_past, saved_before, context_at, with_own};
 ghost use Rattle.seq_decoder.specs.Code.{saved_lists};
 

@@ -1,11 +1,11 @@
 //! The map of segments, around a frame.
 
 ghost use Rattle.std.specs.Prelude.{◌≡◌, Some, All, IsSome, OnOk};
-ghost use Rattle.block_geometry.specs.Frames.{places_of};
-ghost use Rattle.frame_headers.specs.State.{shape_of};
-ghost use Rattle.frame_state.specs.Columns.{HasStarts, blocks_of};
-ghost use Rattle.frame_state.specs.Reading.{all_blocks};
-ghost use Rattle.inter_modes.specs.Segments.{segments_after};
+ghost use Rattle.block_geometry.specs.FrameShapes.{places_of};
+ghost use Rattle.frame_headers.specs.HeaderState.{shape_of};
+ghost use Rattle.frame_state.specs.KeptColumns.{HasStarts, blocks_of};
+ghost use Rattle.frame_state.specs.FrameReading.{all_blocks};
+ghost use Rattle.inter_modes.specs.LeftSegments.{segments_after};
 ghost use Rattle.seq_decoder.specs.After.{has_size, segments_before};
 ghost use Rattle.seq_decoder.specs.Code.{HasPlaces, segments_held};
 

@@ -2,7 +2,7 @@
 
 ghost use Rattle.std.specs.Prelude.{◌≡◌, ◌≤◌, OnOk, length};
 ghost use Rattle.planes.specs.Pictures.{map_of};
-ghost use Rattle.picture_table.specs.Pictures.{IsSound, IsWhole, map_of_any, shape_of_any};
+ghost use Rattle.picture_table.specs.KeptPictures.{IsSound, IsWhole, map_of_any, shape_of_any};
 ghost use Rattle.frame_output.specs.Formats.{output_text};
 ghost use Rattle.seq_decoder.specs.Code.{Shows};
 ghost use Rattle.seq_decoder.specs.Outputs.{is_first};

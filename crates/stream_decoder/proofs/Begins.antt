@@ -6,7 +6,7 @@ use Rattle.std.proofs.lemmas.List.{append-nil}
 use Rattle.edge_io.specs.Filling.{IsKept, WhereTold}
 use Rattle.edge_io.specs.Prefixed.{all_of}
 use Rattle.edge_io.specs.Putting.{Takes}
-use Rattle.edge_io.specs.Reading.{Gave}
+use Rattle.edge_io.specs.SourceReading.{Gave}
 use Rattle.edge_io.proofs.Fronts.{takes_none}
 use Rattle.vp9_types.specs.declared.outcome.Outcome.{Outcome}
 use Rattle.vp9_types.specs.declared.outcome.Outcome.TheVariants as outcome

@@ -18,7 +18,7 @@ use Rattle.seq_decoder.specs.Outputs.{Putting, form_from, output_of, putting}
 use Rattle.numbered_frames.proofs.LaterFrames.{before_same, text_same}
 use Rattle.numbered_frames.proofs.Ways.{ends, files_are_films, front}
 use Rattle.numbered_frames.specs.Films.{Film, GoesOn, film_of}
-use Rattle.numbered_frames.specs.Numbers.{EndsAt, file_ending, film_output, start, text}
+use Rattle.numbered_frames.specs.FrameNumbers.{EndsAt, file_ending, film_output, start, text}
 use Rattle.job_decoder.specs.Pasts.{IsPast, film_with, frames_behind}
 use Rattle.job_decoder.specs.Reaches.{past_texts}
 use Rattle.job_decoder.specs.declared.past.Past.{Past}

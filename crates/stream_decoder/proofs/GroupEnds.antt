@@ -4,7 +4,7 @@ use Rattle.std.specs.Prelude.{Option, Some, None, false}
 use Rattle.std.proofs.lemmas.List.{append-nil}
 use Rattle.edge_io.specs.Filling.{WhereTold}
 use Rattle.edge_io.specs.Putting.{Takes}
-use Rattle.edge_io.specs.Reading.{Gave}
+use Rattle.edge_io.specs.SourceReading.{Gave}
 use Rattle.vp9_types.specs.declared.outcome.Outcome.{Outcome}
 use Rattle.vp9_types.specs.declared.outcome.Outcome.TheVariants as outcome
 use Rattle.vp9_types.specs.declared.outcome.Stop.{Stop}
@@ -26,7 +26,7 @@ use Rattle.seq_decoder.specs.Outcomes.{Decodes, WritesFront}
 use Rattle.seq_decoder.specs.Outputs.{output_of}
 use Rattle.numbered_frames.proofs.Ways.{files_are_films}
 use Rattle.numbered_frames.specs.Films.{Film, GoesOn, film_of}
-use Rattle.numbered_frames.specs.Numbers.{film_output}
+use Rattle.numbered_frames.specs.FrameNumbers.{film_output}
 use Rattle.job_decoder.specs.Pasts.{IsPast, film_with, frames_behind}
 use Rattle.job_decoder.specs.Reaches.{IsStop, past_texts}
 use Rattle.job_decoder.specs.declared.past.Past.{Past}

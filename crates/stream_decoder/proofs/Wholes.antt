@@ -3,7 +3,7 @@ use Rattle.std.proofs.Common.{◌≡◌, ◌-◌, ◌^◌, ◌<◌, ◌≤◌, �
 use Rattle.std.specs.Prelude.{Option, Some, None, true}
 use Rattle.edge_io.specs.Prefixed.{all_of, front_of, left_of, source_of}
 use Rattle.edge_io.specs.declared.prefixed.Prefixed.{Prefixed}
-use Rattle.edge_io.specs.Reading.{Gave, GaveAll}
+use Rattle.edge_io.specs.SourceReading.{Gave, GaveAll}
 use Rattle.edge_io.proofs.Fronts.{takes_none}
 use Rattle.vp9_types.specs.declared.outcome.Outcome.{Outcome}
 use Rattle.vp9_types.specs.declared.outcome.Outcome.TheVariants as outcome

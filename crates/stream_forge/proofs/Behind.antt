@@ -4,14 +4,14 @@ use Rattle.std.specs.Prelude.{Result}
 use Rattle.frame_headers.specs.declared.persist.Persist.{Persist}
 use Rattle.frame_state.specs.Sources.{FramePast}
 use Rattle.frame_writer.specs.Code.{GivesFrame}
-use Rattle.frame_writer.specs.Symbols.{Speaker}
+use Rattle.frame_writer.specs.FrameSymbols.{Speaker}
 use Rattle.frame_writer.specs.declared.written.NotWritten.{NotWritten}
 use Rattle.frame_writer.specs.declared.written.Written.{Written}
-use Rattle.prob_contexts.specs.Lists.{lists_of}
+use Rattle.prob_contexts.specs.ProbLists.{lists_of}
 use Rattle.prob_contexts.specs.declared.contexts.Contexts.{Contexts}
 use Rattle.seq_decoder.specs.After.{past_of}
 use Rattle.seq_decoder.specs.SavedContexts.{context_before}
-use Rattle.seq_decoder.specs.State.{State, persist_of}
+use Rattle.seq_decoder.specs.DecoderState.{State, persist_of}
 use Rattle.stream_forge.specs.Code.{GivesBehind, frame_with}
 use Rattle.stream_forge.specs.declared.coded.CodedFrame.{CodedFrame}
 

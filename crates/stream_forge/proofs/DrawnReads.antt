@@ -10,32 +10,32 @@ use Rattle.frame_headers.specs.declared.header.Header.{Header}
 use Rattle.frame_headers.specs.declared.header.Uncompressed.{Uncompressed}
 use Rattle.frame_headers.specs.declared.header.Uncompressed.TheVariants.{ShowExisting, Coded}
 use Rattle.frame_headers.specs.declared.persist.Persist.{Persist}
-use Rattle.prob_contexts.specs.Lists.{ContextLists, lists_of}
-use Rattle.frame_state.specs.Reading.{read_frame}
+use Rattle.prob_contexts.specs.ProbLists.{ContextLists, lists_of}
+use Rattle.frame_state.specs.FrameReading.{read_frame}
 use Rattle.frame_state.specs.Sources.{FramePast, FrameSources}
-use Rattle.frame_writer.specs.Bytes.{frame_bytes, with_size}
-use Rattle.frame_writer.specs.Frames.{frame_told}
+use Rattle.frame_writer.specs.FrameBytes.{frame_bytes, with_size}
+use Rattle.frame_writer.specs.SaidFrames.{frame_told}
 use Rattle.frame_writer.specs.Code.{GivesFrame, IsFrame, IsLongHeader, IsTooLong, IsUntold, ReadsFrame, compressed_size, input_with, sources_with}
 use Rattle.frame_writer.specs.declared.frame.FrameToWrite.{FrameToWrite}
 use Rattle.frame_writer.specs.declared.written.NotWritten.{NotWritten}
 use Rattle.frame_writer.specs.declared.written.NotWritten.TheVariants.{Unsaid, TooLong, OutOfMemory}
 use Rattle.frame_writer.specs.declared.written.Written.{Written}
-use Rattle.bool_lists.specs.Lists.{BoolList, bytes_taken}
+use Rattle.bool_lists.specs.BoolLists.{BoolList, bytes_taken}
 use Rattle.compressed_writer.specs.Spelling.{spelled_compressed}
 use Rattle.tile_writer.specs.declared.unwritten.Unwritten.TheVariants as unwritten
-use Rattle.drawn_frames.specs.Symbols.{drawing}
+use Rattle.drawn_frames.specs.SymbolDraws.{drawing}
 use Rattle.drawn_frames.specs.declared.symbols.DrawnSymbols.{DrawnSymbols}
 use Rattle.drawn_frames.specs.Code.{sized}
-use Rattle.drawn_frames.specs.Modes.{draw_modes}
+use Rattle.drawn_frames.specs.ModeDraws.{draw_modes}
 use Rattle.frame_decoder.proofs.PlainFrames.{frame_decodes}
 use Rattle.seq_decoder.specs.After.{Stepped, after_coded, input_of, past_of, references_of, step}
 use Rattle.seq_decoder.specs.SavedContexts.{context_before, saved_before}
-use Rattle.seq_decoder.specs.State.{State, persist_of}
+use Rattle.seq_decoder.specs.DecoderState.{State, persist_of}
 use Rattle.seq_decoder.proofs.Slots.{step_is}
 use Rattle.stream_forge.specs.Code.{Gives, GivesTo}
 use Rattle.header_writer.specs.declared.choices.Choices.{Choices}
-use Rattle.stream_forge.specs.Made.{drawn_blocks, drawn_sources, drawn_updates, symbols_from}
-use Rattle.stream_forge.specs.Reads.{IsCodedFrame, IsFrameOf, IsNone}
+use Rattle.stream_forge.specs.MadeFiles.{drawn_blocks, drawn_sources, drawn_updates, symbols_from}
+use Rattle.stream_forge.specs.FileReads.{IsCodedFrame, IsFrameOf, IsNone}
 
 ---- The size of the compressed header is read by no one else ----
 

@@ -8,17 +8,17 @@ use Rattle.frame_headers.specs.declared.header.Header.{Header}
 use Rattle.frame_headers.specs.declared.header.Uncompressed.{Uncompressed}
 use Rattle.frame_headers.specs.declared.header.Uncompressed.TheVariants.{ShowExisting, Coded}
 use Rattle.frame_headers.specs.declared.persist.Persist.{Persist}
-use Rattle.header_writer.specs.Reads.{HoldsHeader}
+use Rattle.header_writer.specs.HeaderReads.{HoldsHeader}
 use Rattle.header_writer.specs.Spelling.{IsSpelled}
 use Rattle.header_writer.specs.declared.choices.Choices.{Choices}
 use Rattle.drawn_frames.specs.Heads.{draw_coded, draw_head}
-use Rattle.drawn_frames.specs.Made.{IsMade}
+use Rattle.drawn_frames.specs.MadeFrames.{IsMade}
 use Rattle.seq_decoder.specs.After.{Stepped, step}
-use Rattle.seq_decoder.specs.State.{State, persist_of}
+use Rattle.seq_decoder.specs.DecoderState.{State, persist_of}
 use Rattle.seq_decoder.proofs.Slots.{coded_persists, shown_stays}
 use Rattle.stream_forge.specs.Code.{IsMadeAfter}
-use Rattle.stream_forge.specs.Reads.{IsFrameOf}
-use Rattle.frame_writer.specs.Bytes.{header_bytes}
+use Rattle.stream_forge.specs.FileReads.{IsFrameOf}
+use Rattle.frame_writer.specs.FrameBytes.{header_bytes}
 use Rattle.frame_writer.specs.Code.{IsBytes}
 use Rattle.frame_writer.proofs.OneBytes.{header_are}
 

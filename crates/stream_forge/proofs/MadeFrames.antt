@@ -9,28 +9,28 @@ use Rattle.vp9_types.specs.Results.{◌>>=◌}
 use Rattle.vp9_types.proofs.Spells.{length-spelled}
 use Rattle.bool_encoder.specs.Part.{marked}
 use Rattle.bool_encoder.specs.Laws.{after_bools}
-use Rattle.bool_lists.specs.Lists.{BoolList, bytes_taken}
+use Rattle.bool_lists.specs.BoolLists.{BoolList, bytes_taken}
 use Rattle.frame_headers.specs.Spans.{tile_count}
 use Rattle.frame_headers.specs.declared.header.Uncompressed.{Uncompressed}
 use Rattle.frame_headers.specs.declared.header.Uncompressed.TheVariants.{ShowExisting, Coded}
 use Rattle.frame_headers.specs.declared.persist.Persist.{Persist}
 use Rattle.header_writer.specs.declared.choices.Choices.{Choices}
-use Rattle.frame_state.specs.Reading.{FrameRead, TileRead}
+use Rattle.frame_state.specs.FrameReading.{FrameRead, TileRead}
 use Rattle.frame_state.specs.Sources.{FrameSources}
-use Rattle.frame_state.specs.Tiles.{column_of}
-use Rattle.tile_writer.specs.Said.{Said, SaidSoFar}
+use Rattle.frame_state.specs.TilePlaces.{column_of}
+use Rattle.tile_writer.specs.SaidTiles.{Said, SaidSoFar}
 use Rattle.tile_writer.specs.declared.unwritten.Unwritten.{Unwritten}
-use Rattle.frame_writer.specs.Bytes.{bytes_of, bytes_of_bits, compressed_bools, frame_bytes, header_bytes, joined, padded, sized, without_index}
+use Rattle.frame_writer.specs.FrameBytes.{bytes_of, bytes_of_bits, compressed_bools, frame_bytes, header_bytes, joined, padded, sized, without_index}
 use Rattle.frame_writer.specs.Code.{IsLong, IsLongTile, IsTooLong}
-use Rattle.frame_writer.specs.Frames.{FrameTold, frame_told, nth_syntax, nth_tile_told, nth_told, said_of, tiles_told, told_so_far, with_tile_said}
-use Rattle.frame_writer.specs.Symbols.{Speaker}
-use Rattle.drawn_frames.specs.Symbols.{drawing}
+use Rattle.frame_writer.specs.SaidFrames.{FrameTold, frame_told, nth_syntax, nth_tile_told, nth_told, said_of, tiles_told, told_so_far, with_tile_said}
+use Rattle.frame_writer.specs.FrameSymbols.{Speaker}
+use Rattle.drawn_frames.specs.SymbolDraws.{drawing}
 use Rattle.drawn_frames.specs.declared.symbols.DrawnSymbols.{DrawnSymbols}
 use Rattle.container_writer.specs.Files.{file_header}
 use Rattle.seq_decoder.specs.After.{step}
-use Rattle.seq_decoder.specs.State.{State, persist_of, start_state}
-use Rattle.stream_forge.specs.Made.{MadeFrame, behind_head, choices_at, drawn_blocks, drawn_sources, drawn_updates, frame_from, frame_of, head_at, made, made_frame, made_frames, packets_from, rest_behind, with_rest}
-use Rattle.stream_forge.specs.Reads.{AreMade, EndsBefore, IsFrameOf, IsNone, IsReadAsDrawn}
+use Rattle.seq_decoder.specs.DecoderState.{State, persist_of, start_state}
+use Rattle.stream_forge.specs.MadeFiles.{MadeFrame, behind_head, choices_at, drawn_blocks, drawn_sources, drawn_updates, frame_from, frame_of, head_at, made, made_frame, made_frames, packets_from, rest_behind, with_rest}
+use Rattle.stream_forge.specs.FileReads.{AreMade, EndsBefore, IsFrameOf, IsNone, IsReadAsDrawn}
 
 ---- A frame that is made ----
 

@@ -8,16 +8,16 @@ use Rattle.header_writer.specs.declared.choices.Choices.{Choices}
 use Rattle.container_writer.specs.Files.{file_header, packet_of}
 use Rattle.ivf_container.specs.Packets.{written_bytes}
 use Rattle.drawn_symbols.specs.declared.draws.Draws.{Draws}
-use Rattle.drawn_frames.specs.Made as headers
+use Rattle.drawn_frames.specs.MadeFrames as headers
 use Rattle.frame_writer.specs.declared.written.NotWritten.{NotWritten}
 use Rattle.frame_writer.specs.declared.written.NotWritten.TheVariants.{Unsaid, TooLong, OutOfMemory}
 use Rattle.frame_writer.specs.declared.written.Written.{Written}
 use Rattle.seq_decoder.specs.Code.{StandsFor}
-use Rattle.seq_decoder.specs.State.{State, start_state}
+use Rattle.seq_decoder.specs.DecoderState.{State, start_state}
 use Rattle.seq_decoder.specs.declared.decoder.Decoder.{Decoder}
 use Rattle.stream_forge.specs.Code.{Gives, GivesTo, IsLost, IsMadeAfter, IsSoFar, Passes}
-use Rattle.stream_forge.specs.Made.{behind_head, choices_at, head_at, packets_from}
-use Rattle.stream_forge.specs.Reads.{AreMade, EndsBefore, IsFrameOf, IsMadeFrame, IsNone, IsReadAsDrawn}
+use Rattle.stream_forge.specs.MadeFiles.{behind_head, choices_at, head_at, packets_from}
+use Rattle.stream_forge.specs.FileReads.{AreMade, EndsBefore, IsFrameOf, IsMadeFrame, IsNone, IsReadAsDrawn}
 use Rattle.stream_forge.proofs.Heads.{made_next}
 
 none_less : (n : ℕ) → n - 0 ≡ n

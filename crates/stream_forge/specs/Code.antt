@@ -4,32 +4,32 @@ use Rattle.vp9_types.specs.Maps.{Map}
 use Rattle.vp9_types.specs.declared.rule.Rule.{Rule}
 use Rattle.frame_headers.specs.declared.header.FrameSize.{FrameSize}
 use Rattle.frame_headers.specs.declared.header.Header.{Header}
-use Rattle.frame_headers.specs.State.{next_persist}
+use Rattle.frame_headers.specs.HeaderState.{next_persist}
 use Rattle.frame_headers.specs.declared.header.Uncompressed.{Uncompressed}
 use Rattle.frame_headers.specs.declared.header.Uncompressed.TheVariants.{ShowExisting, Coded}
 use Rattle.frame_headers.specs.declared.persist.Persist.{Persist}
-use Rattle.block_plan.specs.Segments.{id_map}
+use Rattle.block_plan.specs.SegmentMaps.{id_map}
 use Rattle.block_plan.specs.declared.segment_map.SegmentMap.{SegmentMap}
 use Rattle.frame_writer.specs.Code.{GivesFrame}
-use Rattle.frame_writer.specs.Symbols.{Speaker}
+use Rattle.frame_writer.specs.FrameSymbols.{Speaker}
 use Rattle.frame_writer.specs.declared.frame.FrameToWrite.{FrameToWrite}
 use Rattle.frame_writer.specs.declared.written.NotWritten.{NotWritten}
 use Rattle.frame_writer.specs.declared.written.NotWritten.TheVariants.{Unsaid, TooLong, OutOfMemory}
 use Rattle.frame_writer.specs.declared.written.Written.{Written}
 use Rattle.header_writer.specs.declared.choices.Choices.{Choices}
-use Rattle.drawn_frames.specs.Made as headers
+use Rattle.drawn_frames.specs.MadeFrames as headers
 use Rattle.drawn_symbols.specs.declared.draws.Draws.{Draws}
-use Rattle.prob_contexts.specs.Lists.{lists_of}
+use Rattle.prob_contexts.specs.ProbLists.{lists_of}
 use Rattle.prob_contexts.specs.declared.contexts.Contexts.{Contexts}
 use Rattle.seq_decoder.specs.After.{Stepped, has_size, past_of, segments_before, step}
 use Rattle.container_writer.specs.Files.{file_header}
 use Rattle.seq_decoder.specs.Code.{StandsFor}
 use Rattle.seq_decoder.specs.SavedContexts.{context_before, loses_past}
-use Rattle.seq_decoder.specs.State.{State, persist_of, start_state}
+use Rattle.seq_decoder.specs.DecoderState.{State, persist_of, start_state}
 use Rattle.seq_decoder.specs.declared.decoder.Decoder.{Decoder}
 use Rattle.stream_forge.specs.declared.coded.CodedFrame.{CodedFrame}
-use Rattle.stream_forge.specs.Made.{packets_from}
-use Rattle.stream_forge.specs.Reads.{AreMade, IsFrameOf, IsNone}
+use Rattle.stream_forge.specs.MadeFiles.{packets_from}
+use Rattle.stream_forge.specs.FileReads.{AreMade, IsFrameOf, IsNone}
 
 -- it stands for the segments that a frame starts with, and has its places
 pub record AreSegmentsOf (header : Header) (last : Option FrameSize) (before : Map) (m : SegmentMap) : Type 0 where

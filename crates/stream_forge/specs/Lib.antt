@@ -1,3 +1,3 @@
-pub mod Made
-pub mod Reads
+pub mod MadeFiles
+pub mod FileReads
 pub mod Code

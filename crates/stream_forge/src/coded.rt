@@ -1,11 +1,11 @@
 //! A coded frame behind the frames that a decoder has decoded.
 
-ghost use Rattle.compressed_writer.specs.Updates.{CanForward};
+ghost use Rattle.compressed_writer.specs.CodedUpdates.{CanForward};
 ghost use Rattle.frame_headers.specs.declared.header.Uncompressed.TheVariants.{Coded};
 ghost use Rattle.header_writer.specs.WellFormed.{CanChoose, IsWellFormed};
-ghost use Rattle.prob_contexts.specs.Lists.{ContextLists};
+ghost use Rattle.prob_contexts.specs.ProbLists.{ContextLists};
 ghost use Rattle.seq_decoder.specs.Code.{MayDecode, StandsFor};
-ghost use Rattle.seq_decoder.specs.State.{State};
+ghost use Rattle.seq_decoder.specs.DecoderState.{State};
 ghost use Rattle.stream_forge.specs.Code.{GivesBehind};
 
 use crate::past::{fresh_segments, segments_for};

@@ -4,12 +4,12 @@ ghost use Rattle.std.specs.Prelude.{◌≡◌, [], None, Ok, IfOk, OnOk};
 ghost use Rattle.frame_headers.specs.Header.{head_of};
 ghost use Rattle.frame_headers.specs.declared.header.FrameHead.TheVariants as head;
 ghost use Rattle.frame_headers.specs.declared.header.Uncompressed.TheVariants.{Coded, ShowExisting};
-ghost use Rattle.frame_writer.specs.Bytes.{header_bytes};
+ghost use Rattle.frame_writer.specs.FrameBytes.{header_bytes};
 ghost use Rattle.header_writer.specs.WellFormed.{CanChoose, IsWellFormed};
 ghost use Rattle.drawn_frames.specs.Code.{sized};
 ghost use Rattle.drawn_frames.specs.Heads.{draw_head};
 ghost use Rattle.seq_decoder.specs.Code.{MayDecode, StandsFor};
-ghost use Rattle.seq_decoder.specs.State.{State, persist_of};
+ghost use Rattle.seq_decoder.specs.DecoderState.{State, persist_of};
 ghost use Rattle.stream_forge.specs.Code.{Gives, IsMadeAfter, MayDraw};
 
 use crate::coded::{CodedFrame, write_coded};

@@ -4,10 +4,10 @@ ghost use Rattle.std.specs.Prelude.{◌≡◌, IfOk, IsOk, OnOk};
 ghost use Rattle.frame_output.specs.declared.rendering.Format.TheVariants.{Raw};
 ghost use Rattle.seq_decoder.specs.After.{step};
 ghost use Rattle.seq_decoder.specs.Code.{MayDecode, StandsFor};
-ghost use Rattle.seq_decoder.specs.State.{State};
+ghost use Rattle.seq_decoder.specs.DecoderState.{State};
 ghost use Rattle.stream_forge.specs.Code.{IsLost, Passes};
-ghost use Rattle.stream_forge.specs.Made.{made};
-ghost use Rattle.stream_forge.specs.Reads.{IsReadAsDrawn};
+ghost use Rattle.stream_forge.specs.MadeFiles.{made};
+ghost use Rattle.stream_forge.specs.FileReads.{IsReadAsDrawn};
 ghost use Rattle.stream_forge.specs.declared.stream.NotMade.TheVariants as not_made;
 
 use crate::discard::Discard;

@@ -19,8 +19,8 @@ use Rattle.frame_headers.specs.Fields.{past, f, flag}
 use Rattle.frame_headers.specs.Header.{frame_profile, coded_frame, uncompressed_header, placed, placed_if_read, head_of}
 use Rattle.frame_headers.specs.References.{held_by, slot_shape}
 use Rattle.seq_decoder.specs.Runs.{shown_list}
-use Rattle.seq_decoder.specs.State as state
-use Rattle.seq_decoder.specs.State.{Picture, State, persist_of}
+use Rattle.seq_decoder.specs.DecoderState as state
+use Rattle.seq_decoder.specs.DecoderState.{Picture, State, persist_of}
 
 ---- What a syntax settles on, whatever is answered ----
 

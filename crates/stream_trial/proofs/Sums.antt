@@ -11,14 +11,14 @@ use Rattle.frame_output.specs.declared.rendering.Format.TheVariants.{Raw}
 use Rattle.seq_decoder.specs.Outcomes.{Decodes}
 use Rattle.seq_decoder.specs.Outputs.{form_from, output_of}
 use Rattle.seq_decoder.specs.Runs.{picture_text, run_of}
-use Rattle.seq_decoder.specs.State.{start_state}
+use Rattle.seq_decoder.specs.DecoderState.{start_state}
 use Rattle.seq_decoder.proofs.OutputLemmas.{output_follows}
-use Rattle.stream_forge.specs.Made.{made}
+use Rattle.stream_forge.specs.MadeFiles.{made}
 use Rattle.stream_trial.specs.declared.trial.NoLine.{NoLine}
 use Rattle.stream_trial.specs.declared.trial.NoLine.TheVariants.{Broken, OutOfMemory}
 use Rattle.stream_trial.specs.declared.trial.Sum.{Sum}
 use Rattle.stream_trial.specs.Code.{IsSumOf, Sums, Tells}
-use Rattle.stream_trial.specs.Lines.{line_of, shown_count}
+use Rattle.stream_trial.specs.TrialLines.{line_of, shown_count}
 use Rattle.stream_trial.specs.Trials.{IsTrialLine}
 
 the_some : {a b : List ℕ} → ◌≡◌ {A = Option (List ℕ)} (Some a) (Some b) → a ≡ b

@@ -7,11 +7,11 @@ use Rattle.file_frames.specs.Walks.{Walked}
 use Rattle.frame_headers.specs.declared.persist.Persist.{Persist}
 use Rattle.seq_decoder.specs.After.{Stepped, step}
 use Rattle.seq_decoder.specs.Runs.{shown_list}
-use Rattle.seq_decoder.specs.State.{State, persist_of}
+use Rattle.seq_decoder.specs.DecoderState.{State, persist_of}
 use Rattle.stream_trial.specs.declared.trial.NoLine.{NoLine}
 use Rattle.stream_trial.specs.declared.trial.NoLine.TheVariants.{Broken, OutOfMemory}
 use Rattle.stream_trial.specs.declared.trial.Sum.{Sum}
-use Rattle.stream_trial.specs.Lines.{sum_of}
+use Rattle.stream_trial.specs.TrialLines.{sum_of}
 use Rattle.stream_trial.specs.Trials.{BreaksAt}
 
 -- what headers read before a frame that breaks no rule and behind it, and how many frames it shows

@@ -1,3 +1,3 @@
-pub mod Lines
+pub mod TrialLines
 pub mod Trials
 pub mod Code

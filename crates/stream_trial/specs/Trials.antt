@@ -4,8 +4,8 @@ use Rattle.vp9_types.specs.declared.outcome.Stop.{Stop}
 use Rattle.vp9_types.specs.declared.rule.Rule.{Rule}
 use Rattle.frame_output.specs.declared.rendering.Format.TheVariants.{Raw}
 use Rattle.seq_decoder.specs.Outputs.{output_of}
-use Rattle.stream_forge.specs.Made.{made}
-use Rattle.stream_trial.specs.Lines.{shown_count, trial_line}
+use Rattle.stream_forge.specs.MadeFiles.{made}
+use Rattle.stream_trial.specs.TrialLines.{shown_count, trial_line}
 
 -- the output of the file of so many frames that is generated from the number ends so
 abbrev pub MadeEnds : ℕ → ℕ → Option (ℕ × Rule) → Type 0

@@ -3,7 +3,7 @@
 ghost use Rattle.std.specs.Prelude.{◌≡◌, ◌≤◌, None};
 ghost use Rattle.seq_decoder.specs.Runs.{run_of};
 ghost use Rattle.stream_trial.specs.Code.{IsCounted};
-ghost use Rattle.stream_trial.specs.Lines.{shown_count};
+ghost use Rattle.stream_trial.specs.TrialLines.{shown_count};
 
 use file_frames::FrameCursor;
 use frame_headers::{FrameHead, Persist, read};

@@ -1,12 +1,12 @@
 //! The line that tells what a stream shows.
 
 ghost use Rattle.std.specs.Prelude.{◌≡◌, IfOk, string_bytes};
-ghost use Rattle.stream_trial.specs.Lines.{line_of};
+ghost use Rattle.stream_trial.specs.TrialLines.{line_of};
 
 use std::alloc::{AllocError, Global};
 
 /// The line of so many frames, of so many bytes with this sum.
-#[tactic(auto, unfolding(crate::specs::Lines::line_of))]
+#[tactic(auto, unfolding(crate::specs::TrialLines::line_of))]
 pub(crate) fn line_of(
     alloc: Global,
     shown: u64,

@@ -1,7 +1,7 @@
 //! Sums of bytes.
 
 ghost use Rattle.std.specs.Prelude.{◌≡◌};
-ghost use Rattle.stream_trial.specs.Lines.{sum_of, sum_with};
+ghost use Rattle.stream_trial.specs.TrialLines.{sum_of, sum_with};
 
 /// The sum behind one more byte.
 fn sum_with(sum: u64, byte: u8) -> u64

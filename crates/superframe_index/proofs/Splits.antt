@@ -12,7 +12,7 @@ use Rattle.vp9_types.specs.declared.job.Span.{Span}
 use Rattle.vp9_types.specs.declared.rule.Rule.{Rule}
 use Rattle.vp9_types.specs.declared.rule.Rule.TheVariants.{SuperframeSizes}
 use Rattle.superframe_index.specs.declared.index.Index.{Index}
-use Rattle.superframe_index.specs.Frames.{HasIndex, HasNoIndex, IsSplit, size_bytes, frame_count, non_empty, index_length, index_of, pieces, sizes_from, sizes_of, spans_from, frames_within, frames_by, frames_of, at_spans, LieBetween, IsPart, AreParts, Gives, IsSplitAs}
+use Rattle.superframe_index.specs.PayloadFrames.{HasIndex, HasNoIndex, IsSplit, size_bytes, frame_count, non_empty, index_length, index_of, pieces, sizes_from, sizes_of, spans_from, frames_within, frames_by, frames_of, at_spans, LieBetween, IsPart, AreParts, Gives, IsSplitAs}
 use Rattle.superframe_index.proofs.Steps.{by_test, sum_more, spans_some}
 
 ---- Parts and their sizes ----

@@ -8,7 +8,7 @@ use Rattle.byteorder.specs.Endian.{little_number}
 use Rattle.vp9_types.specs.declared.job.Span.{Span}
 use Rattle.vp9_types.specs.declared.rule.Rule.TheVariants.{SuperframeSizes}
 use Rattle.superframe_index.specs.declared.index.Index.{Index}
-use Rattle.superframe_index.specs.Frames.{IsPlaced, sizes_of, sizes_from, spans_from, frames_within}
+use Rattle.superframe_index.specs.PayloadFrames.{IsPlaced, sizes_of, sizes_from, spans_from, frames_within}
 
 -- a fact on what an `if` gives, by what its test says
 pub by_test : {X : Type 0} (P : X → Type 0) (b : Bool) (x y : X) → (b ≡ true → P x) → (b ≡ false → P y) → P (if b then x else y)

@@ -1,5 +1,5 @@
 ghost use Rattle.std.specs.Prelude.{◌≡◌};
-ghost use Rattle.superframe_index.specs.Frames.{index_of, IsFound};
+ghost use Rattle.superframe_index.specs.PayloadFrames.{index_of, IsFound};
 
 /// The first three bits of an index.
 const MARKER: u8 = 0b110;
@@ -13,7 +13,7 @@ pub struct Index {
 }
 
 /// The index at the end of a payload. An index whose first byte isn't its last, or that is longer than the payload, is none.
-#[tactic(auto, unfolding(crate::specs::Frames::index_of))]
+#[tactic(auto, unfolding(crate::specs::PayloadFrames::index_of))]
 pub fn find_index(payload: &[u8]) -> Option<Index>
     ensures exact { result ≡ index_of payload.now }
     ensures found { IsFound payload.now result }

@@ -1,7 +1,7 @@
 //! Laws of the definitions, as contracts of functions that do nothing.
 
 ghost use Rattle.std.specs.Prelude.{◌≡◌, ℕ, List, Result, Ok};
-ghost use Rattle.superframe_index.specs.Frames.{IsSplit, AreParts, frames_of, at_spans};
+ghost use Rattle.superframe_index.specs.PayloadFrames.{IsSplit, AreParts, frames_of, at_spans};
 ghost use Rattle.vp9_types.specs.declared.job.Span.{Span};
 ghost use Rattle.vp9_types.specs.declared.rule.Rule.{Rule};
 

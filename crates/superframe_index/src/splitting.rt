@@ -1,5 +1,5 @@
 ghost use Rattle.std.specs.Prelude.{◌≡◌, [], ◌∷◌, length};
-ghost use Rattle.superframe_index.specs.Frames.{IsSplitAs, IsPlaced, Gives, sizes_of, spans_from, frames_within};
+ghost use Rattle.superframe_index.specs.PayloadFrames.{IsSplitAs, IsPlaced, Gives, sizes_of, spans_from, frames_within};
 
 use crate::index::{Index, find_index};
 use arrayvec::ArrayVec;

@@ -3,7 +3,7 @@ use Rattle.std.specs.Prelude.{◌≡◌, ℕ, ◌+◌, ◌^◌, ◌≤◌, Optio
 use Rattle.vp9_types.specs.Syntax.{Syntax}
 use Rattle.vp9_types.specs.declared.block.Partition.{Partition}
 use Rattle.vp9_types.specs.declared.rule.Rule.{Rule}
-use Rattle.block_geometry.specs.Sizes.{width_8}
+use Rattle.block_geometry.specs.BlockSizes.{width_8}
 use Rattle.block_plan.specs.declared.block.BlockAt.{BlockAt}
 use Rattle.counting_reader.specs.Counting.{Settled, Standing, in_order, run_counting}
 use Rattle.mode_syntax.specs.Partitions.{partition_at}

@@ -19,20 +19,20 @@ use Rattle.prob_contexts.specs.declared.kind.CountedBool.{CountedBool}
 use Rattle.counting_reader.specs.Counting.{Settled, counted_if}
 use Rattle.mode_syntax.specs.TileColumns.{read_all, then_rest, tiles_of, with_counted}
 use Rattle.block_plan.specs.declared.block.BlockInfo.{BlockInfo}
-use Rattle.column_plan.specs.Planned.{planned_blocks, total}
+use Rattle.column_plan.specs.PlannedBlocks.{planned_blocks, total}
 use Rattle.frame_state.specs.Code.{column_as_listed, column_of_code, counts_if}
-use Rattle.frame_state.specs.Columns.{IsTileColumn}
-use Rattle.frame_state.specs.Plans.{ColumnRead, column_tile, no_tiles, plan_of, tile_bytes}
-use Rattle.frame_state.specs.Reading.{no_column}
+use Rattle.frame_state.specs.KeptColumns.{IsTileColumn}
+use Rattle.frame_state.specs.ColumnPlans.{ColumnRead, column_tile, no_tiles, plan_of, tile_bytes}
+use Rattle.frame_state.specs.FrameReading.{no_column}
 use Rattle.frame_state.specs.Sources.{FrameSources}
-use Rattle.frame_state.specs.Tiles.{column_of}
+use Rattle.frame_state.specs.TilePlaces.{column_of}
 use Rattle.frame_state.specs.declared.columns.TileColumn.{TileColumn}
 use Rattle.frame_state.specs.declared.halt.Halt.{Halt}
 use Rattle.frame_state.specs.declared.halt.Halt.TheVariants as halt
 use Rattle.vp9_types.specs.declared.shape.Shape.{Shape}
 use Rattle.tile_syntax.specs.Code.{BreaksWhole, GivesPlan, HoldsColumn, rule_of, unplanned_at, IsKept}
 use Rattle.tile_syntax.specs.declared.plans.ColumnPlan.{ColumnPlan}
-use Rattle.frame_headers.specs.State.{shape_of}
+use Rattle.frame_headers.specs.HeaderState.{shape_of}
 use Rattle.column_plan.proofs.RowStarts.{none_noted}
 
 ---- Their numbers ----

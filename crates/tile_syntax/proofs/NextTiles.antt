@@ -10,20 +10,20 @@ use Rattle.vp9_types.specs.declared.shape.Plane.TheVariants.{Y, U, V}
 use Rattle.vp9_types.specs.declared.shape.Shape.{Shape}
 use Rattle.bool_decoder.specs.Bools.{run_bools}
 use Rattle.bool_decoder.specs.Window.{Window, started}
-use Rattle.frame_headers.specs.State.{shape_of}
+use Rattle.frame_headers.specs.HeaderState.{shape_of}
 use Rattle.frame_setting.specs.declared.setting.FrameSetting.{FrameSetting}
 use Rattle.counting_reader.specs.Code.{standing_of}
 use Rattle.counting_reader.specs.Counting.{Settled, counted_if, mapped}
 use Rattle.counting_reader.specs.declared.reader.CountingReader.{CountingReader}
-use Rattle.block_geometry.specs.Frames.{places_of}
+use Rattle.block_geometry.specs.FrameShapes.{places_of}
 use Rattle.residue_syntax.specs.Code.{FitPlanes}
 use Rattle.mode_syntax.specs.Walk.{decode_tile}
 use Rattle.tile_reader.specs.Code.{Breaks}
 use Rattle.frame_state.specs.Code.{IsReady, SameColumns, read_whole, settled_of, sources_of}
-use Rattle.frame_state.specs.Columns.{IsTileColumn}
-use Rattle.frame_state.specs.Plans.{ColumnRead, column_tile, with_its_tile}
-use Rattle.frame_state.specs.Reading.{Column, begun, read_tile}
-use Rattle.frame_state.specs.Tiles.{column_of, tile_places}
+use Rattle.frame_state.specs.KeptColumns.{IsTileColumn}
+use Rattle.frame_state.specs.ColumnPlans.{ColumnRead, column_tile, with_its_tile}
+use Rattle.frame_state.specs.FrameReading.{Column, begun, read_tile}
+use Rattle.frame_state.specs.TilePlaces.{column_of, tile_places}
 use Rattle.frame_state.specs.declared.columns.TileColumn.{TileColumn}
 use Rattle.frame_state.specs.declared.sources.FrameSources as code
 use Rattle.frame_state.specs.declared.tile_places.TilePlaces.{TilePlaces}

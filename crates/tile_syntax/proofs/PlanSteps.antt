@@ -16,10 +16,10 @@ use Rattle.residue_syntax.specs.Residues.{listed}
 use Rattle.residue_syntax.specs.Residues as residues
 use Rattle.residue_syntax.specs.declared.sides.TileSides.{TileSides}
 use Rattle.inter_modes.specs.ModeInfo.{mode_info}
-use Rattle.frame_state.specs.Reading.{infos}
+use Rattle.frame_state.specs.FrameReading.{infos}
 use Rattle.frame_state.specs.Sources.{FrameSources}
 use Rattle.column_plan.specs.Code.{HoldsWhole, block_pieces}
-use Rattle.column_plan.specs.Planned.{planned_blocks, planned_from, total}
+use Rattle.column_plan.specs.PlannedBlocks.{planned_blocks, planned_from, total}
 use Rattle.column_plan.proofs.Held.{infos_are, one_more_planned, all_are}
 use Rattle.counting_reader.specs.Code.{standing_of}
 use Rattle.counting_reader.specs.declared.reader.CountingReader.{CountingReader}
@@ -27,7 +27,7 @@ use Rattle.mode_syntax.specs.Walk.{Walk}
 use Rattle.tile_reader.specs.Code.{Breaks, EndsTile, Rest, Tile}
 use Rattle.tile_syntax.specs.declared.plans.ColumnPlan.{ColumnPlan}
 use Rattle.frame_state.specs.declared.sources.FrameSources as code
-use Rattle.frame_headers.specs.State.{shape_of}
+use Rattle.frame_headers.specs.HeaderState.{shape_of}
 use Rattle.frame_state.specs.declared.halt.Halt.{Halt}
 use Rattle.tile_syntax.specs.Code.{GivesTile, PlanTile, plan_block, tile_held, rule_of}
 use Rattle.std.proofs.lemmas.List.Elements.{All-push}

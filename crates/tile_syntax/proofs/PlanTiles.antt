@@ -9,7 +9,7 @@ use Rattle.residue_syntax.specs.Residues as residues
 use Rattle.inter_modes.specs.ModeInfo.{mode_info}
 use Rattle.mode_syntax.specs.Walk.{decode_tile}
 use Rattle.mode_syntax.proofs.Mapped.{tile_everywhere}
-use Rattle.frame_state.specs.Reading.{TileRead, infos, read_block, read_walk}
+use Rattle.frame_state.specs.FrameReading.{TileRead, infos, read_block, read_walk}
 use Rattle.frame_state.specs.Sources.{FrameSources}
 use Rattle.frame_state.specs.declared.tile_places.TilePlaces.{TilePlaces}
 use Rattle.tile_syntax.specs.Code.{plan_block, plan_view, plan_walk}

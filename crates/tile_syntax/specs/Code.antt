@@ -17,22 +17,22 @@ use Rattle.prob_contexts.specs.declared.kind.CountedBool.{CountedBool}
 use Rattle.mode_syntax.specs.Walk.{Walk}
 use Rattle.tile_reader.specs.Code.{Breaks}
 use Rattle.frame_state.specs.Code.{counts_if}
-use Rattle.frame_state.specs.Plans.{ColumnRead, plan_of}
-use Rattle.frame_state.specs.Reading.{Column, TileRead, infos}
+use Rattle.frame_state.specs.ColumnPlans.{ColumnRead, plan_of}
+use Rattle.frame_state.specs.FrameReading.{Column, TileRead, infos}
 use Rattle.frame_state.specs.Sources.{FrameSources, frame_is_intra}
 use Rattle.frame_state.specs.declared.halt.Halt.{Halt}
 use Rattle.frame_state.specs.declared.halt.Halt.TheVariants as halt
 use Rattle.tile_syntax.specs.declared.plans.ColumnPlan.{ColumnPlan}
 use Rattle.tile_syntax.specs.declared.plans.Unplanned.{Unplanned}
 use Rattle.tile_syntax.specs.declared.plans.Unplanned.TheVariants as unplanned
-use Rattle.column_plan.specs.Planned.{planned_blocks, total}
+use Rattle.column_plan.specs.PlannedBlocks.{planned_blocks, total}
 use Rattle.column_plan.specs.Code.{AreRowPlaces, HoldsWhole}
-use Rattle.frame_headers.specs.State.{shape_of}
+use Rattle.frame_headers.specs.HeaderState.{shape_of}
 use Rattle.frame_headers.specs.declared.header.Header.{Header}
 use Rattle.inter_modes.specs.Code.{RefersInRange}
 use Rattle.block_plan.specs.Code.{HoldsSmall}
 use Rattle.frame_headers.specs.Spans.{tile_count}
-use Rattle.frame_state.specs.Columns.{IsTileColumn}
+use Rattle.frame_state.specs.KeptColumns.{IsTileColumn}
 
 ---- A tile ----
 

@@ -4,7 +4,7 @@ ghost use Rattle.std.specs.Prelude.{◌≡◌, ℕ};
 ghost use Rattle.counting_reader.specs.Counting.{mapped};
 ghost use Rattle.block_geometry.specs.declared.transform_blocks.FramePlaces.{FramePlaces};
 ghost use Rattle.mode_syntax.specs.Walk.{decode_tile};
-ghost use Rattle.frame_state.specs.Reading.{TileRead, read_walk};
+ghost use Rattle.frame_state.specs.FrameReading.{TileRead, read_walk};
 ghost use Rattle.frame_state.specs.Sources.{FrameSources};
 ghost use Rattle.frame_state.specs.declared.tile_places.TilePlaces.{TilePlaces};
 ghost use Rattle.tile_syntax.specs.Code.{plan_view, plan_walk};

@@ -1,9 +1,9 @@
 //! A tile whose blocks are planned as they are read.
 
 ghost use Rattle.std.specs.Prelude.{◌≡◌, ◌+◌, ◌<◌, ◌≤◌, OnOk};
-ghost use Rattle.frame_headers.specs.State.{shape_of};
-ghost use Rattle.block_geometry.specs.Sizes.{width_8};
-ghost use Rattle.frame_state.specs.Columns.{limit_of};
+ghost use Rattle.frame_headers.specs.HeaderState.{shape_of};
+ghost use Rattle.block_geometry.specs.BlockSizes.{width_8};
+ghost use Rattle.frame_state.specs.KeptColumns.{limit_of};
 ghost use Rattle.frame_state.specs.Past.{IsPastOf};
 ghost use Rattle.frame_state.specs.Code.{IsReady, SameColumns, sources_of};
 ghost use Rattle.tile_syntax.specs.Code.{GivesTile, IsKept, plan_block, tile_held};

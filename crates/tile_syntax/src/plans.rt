@@ -3,18 +3,18 @@
 ghost use Rattle.std.specs.Prelude.{◌≡◌, ◌+◌, ◌^◌, ◌<◌, ◌≤◌, ℕ, List, length, Ok, IfOk, IsOk, OnOk};
 ghost use Rattle.vp9_types.specs.declared.job.Span.{Span};
 ghost use Rattle.frame_headers.specs.Spans.{tile_count, tile_spans};
-ghost use Rattle.frame_headers.specs.State.{shape_of};
+ghost use Rattle.frame_headers.specs.HeaderState.{shape_of};
 ghost use Rattle.frame_headers.specs.Tiles.{AreFewTiles};
 ghost use Rattle.prob_contexts.specs.Counted.{no_counts};
-ghost use Rattle.column_plan.specs.Rows.{place_of_row};
+ghost use Rattle.column_plan.specs.PlanRows.{place_of_row};
 ghost use Rattle.frame_headers.specs.declared.header.Header.{Header};
-ghost use Rattle.frame_state.specs.Columns.{IsTileColumn};
+ghost use Rattle.frame_state.specs.KeptColumns.{IsTileColumn};
 ghost use Rattle.frame_state.specs.Past.{IsPastOf};
 ghost use Rattle.frame_state.specs.Code.{sources_of};
-ghost use Rattle.frame_state.specs.Plans.{ColumnRead, column_tile, plan_of, tile_bytes};
-ghost use Rattle.frame_state.specs.Reading.{no_column};
+ghost use Rattle.frame_state.specs.ColumnPlans.{ColumnRead, column_tile, plan_of, tile_bytes};
+ghost use Rattle.frame_state.specs.FrameReading.{no_column};
 ghost use Rattle.frame_state.specs.Sources.{adapts};
-ghost use Rattle.frame_state.specs.Tiles.{column_of};
+ghost use Rattle.frame_state.specs.TilePlaces.{column_of};
 ghost use Rattle.tile_syntax.specs.Code.{GivesNext, GivesPlan, HoldsColumn, IsKept, unplanned_at};
 ghost use Rattle.tile_syntax.specs.declared.plans.Unplanned.TheVariants as unplanned;
 

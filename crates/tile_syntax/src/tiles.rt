@@ -1,7 +1,7 @@
 //! The tiles of a column that is planned.
 
 ghost use Rattle.std.specs.Prelude.{◌≡◌, ◌-◌, ◌+◌, ◌*◌, ◌≤◌, OnOk};
-ghost use Rattle.frame_headers.specs.State.{shape_of};
+ghost use Rattle.frame_headers.specs.HeaderState.{shape_of};
 ghost use Rattle.vp9_types.specs.Sizes.{superblocks_along};
 ghost use Rattle.mode_syntax.specs.Walk.{decode_tile};
 ghost use Rattle.frame_state.specs.Past.{IsPastOf};

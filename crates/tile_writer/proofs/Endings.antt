@@ -4,12 +4,12 @@ use Rattle.std.specs.Prelude.{Result, Ok, Err, Option, Some, ◌++◌}
 use Rattle.vp9_types.specs.Syntax.{Syntax}
 use Rattle.vp9_types.specs.declared.rule.Rule.{Rule}
 use Rattle.bool_encoder.specs.Part.{Part, marked}
-use Rattle.bool_lists.specs.Lists.{BoolList, HasPut}
+use Rattle.bool_lists.specs.BoolLists.{BoolList, HasPut}
 use Rattle.bool_lists.proofs.Ways.{spells_on}
 use Rattle.counting_reader.specs.Counting.{Settled, in_order, settle}
 use Rattle.bool_encoder.specs.CountedBools.{PutsValue, PutsTo}
 use Rattle.bool_encoder.proofs.CountedPuts.{puts_broken, puts_on, puts_value, value_put, valued_settle}
-use Rattle.tile_writer.specs.Said.{SaidSoFar, behind, so_far}
+use Rattle.tile_writer.specs.SaidTiles.{SaidSoFar, behind, so_far}
 use Rattle.tile_writer.specs.Code.{Tile, SameTile, Rest, EndsTile, then_rest}
 use Rattle.tile_writer.specs.declared.unwritten.Unwritten.{Unwritten}
 use Rattle.tile_writer.specs.declared.unwritten.Unwritten.TheVariants.{Broken, Unsaid, OutOfMemory}

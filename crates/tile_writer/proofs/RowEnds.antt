@@ -4,7 +4,7 @@ use Rattle.std.specs.Prelude.{Result, Ok, Err}
 use Rattle.std.proofs.Math.Nat.{mul-le-mul_left}
 use Rattle.mode_syntax.specs.Walk.{Walk, decode_row, decode_tile}
 use Rattle.mode_syntax.specs.declared.square_at.SquareAt.{SquareAt}
-use Rattle.tile_writer.specs.Said.{Teller, said_row, said_tile}
+use Rattle.tile_writer.specs.SaidTiles.{Teller, said_row, said_tile}
 use Rattle.tile_writer.specs.Code.{Tile, SameTile, Rest, EndsTile, then_rest, square_rest, row_rest, tile_rest}
 use Rattle.tile_writer.specs.declared.unwritten.Unwritten.{Unwritten}
 use Rattle.tile_writer.proofs.Endings.{ends_here, ends_more, stops_any, then_ends, then_stops, same_here, same_on}

@@ -7,17 +7,17 @@ use Rattle.vp9_types.specs.declared.block.BlockSize.{BlockSize}
 use Rattle.vp9_types.specs.declared.block.Partition.{Partition}
 use Rattle.vp9_types.specs.declared.block.Partition.TheVariants.{Whole, Horizontal, Vertical, Split}
 use Rattle.vp9_types.specs.declared.rule.Rule.{Rule}
-use Rattle.block_geometry.specs.Partitions.{part_size}
+use Rattle.block_geometry.specs.SplitSquares.{part_size}
 use Rattle.block_plan.specs.declared.block.BlockAt.{BlockAt}
-use Rattle.bool_lists.specs.Lists.{BoolList}
-use Rattle.block_lists.specs.Partitions.{spelled_partition_at}
+use Rattle.bool_lists.specs.BoolLists.{BoolList}
+use Rattle.block_lists.specs.PartitionLists.{spelled_partition_at}
 use Rattle.block_lists.proofs.IntraWays.{at_way}
 use Rattle.counting_reader.specs.Counting.{Settled, settle}
 use Rattle.bool_encoder.specs.CountedBools.{PutsValue}
 use Rattle.mode_syntax.specs.Partitions.{half_of, partition_at}
 use Rattle.mode_syntax.specs.Walk.{Walk, block_at, square_at, starts_inside, block_inside, smallest_parts, parts, decode_partition, quarter}
 use Rattle.mode_syntax.specs.declared.square_at.SquareAt.{SquareAt}
-use Rattle.tile_writer.specs.Said.{SaidSoFar, Teller, so_far, said_inside, said_parts, said_square, told_partition}
+use Rattle.tile_writer.specs.SaidTiles.{SaidSoFar, Teller, so_far, said_inside, said_parts, said_square, told_partition}
 use Rattle.tile_writer.specs.Code.{Tile, SameTile, Rest, EndsTile, GivesPartition, StandsIn, block_rest, inside_rest, then_rest, parts_rest, square_rest}
 use Rattle.tile_writer.specs.declared.unwritten.Unwritten.{Unwritten}
 use Rattle.tile_writer.specs.declared.unwritten.Unwritten.TheVariants.{Broken, Unsaid, OutOfMemory}

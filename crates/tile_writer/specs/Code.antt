@@ -5,15 +5,15 @@ use Rattle.vp9_types.specs.declared.block.BlockSize.{BlockSize}
 use Rattle.vp9_types.specs.declared.block.Partition.{Partition}
 use Rattle.vp9_types.specs.declared.rule.Rule.{Rule}
 use Rattle.bool_encoder.specs.Part.{Part, marked}
-use Rattle.bool_lists.specs.Lists.{BoolList, HasPut}
-use Rattle.block_geometry.specs.Sizes.{width_8}
+use Rattle.bool_lists.specs.BoolLists.{BoolList, HasPut}
+use Rattle.block_geometry.specs.BlockSizes.{width_8}
 use Rattle.block_plan.specs.declared.block.BlockAt.{BlockAt}
 use Rattle.counting_reader.specs.Counting.{Settled, in_order}
 use Rattle.bool_encoder.specs.CountedBools.{PutsValue, PutsTo}
 use Rattle.mode_syntax.specs.Partitions.{partition_at}
 use Rattle.mode_syntax.specs.Walk.{Walk, block_inside, parts, decode_partition, decode_row, decode_tile}
 use Rattle.mode_syntax.specs.declared.square_at.SquareAt.{SquareAt}
-use Rattle.tile_writer.specs.Said.{SaidSoFar, Teller, Said, so_far, then_said, said_inside, said_parts, said_square, said_row, said_tile}
+use Rattle.tile_writer.specs.SaidTiles.{SaidSoFar, Teller, Said, so_far, then_said, said_inside, said_parts, said_square, said_row, said_tile}
 use Rattle.tile_writer.specs.declared.unwritten.Unwritten.{Unwritten}
 use Rattle.tile_writer.specs.declared.unwritten.Unwritten.TheVariants.{Broken, Unsaid, OutOfMemory}
 

@@ -6,10 +6,10 @@ use Rattle.std.proofs.lemmas.Nat.{shr-shr}
 use Rattle.std.proofs.lemmas.List.{drop_more, drop_all}
 use Rattle.vp9_types.specs.declared.rule.Rule.{Rule}
 use Rattle.bool_encoder.specs.Part.{Part, after_put, bool_number}
-use Rattle.bool_encoder.specs.Bools.{LeadsBools, Puts, can_put}
+use Rattle.bool_encoder.specs.WrittenBools.{LeadsBools, Puts, can_put}
 use Rattle.vp9_types.proofs.Binds.{leads_on, leads_end, leads_here}
 use Rattle.bool_encoder.proofs.Literals.{odd_number}
-use Rattle.coef_tokens.specs.Symbols.{bits_from}
+use Rattle.coef_tokens.specs.TokenSymbols.{bits_from}
 
 -- the bools of the number's first bits were put, and those at the other probabilities are still to come
 abbrev pub BitsLeft : List ℕ → ℕ → ℕ → Part → Part → Type 0

@@ -6,7 +6,7 @@ use Rattle.vp9_types.specs.declared.rule.Rule.{Rule}
 use Rattle.vp9_types.specs.Syntax.{Syntax, done, ask}
 use Rattle.bool_decoder.specs.Bools.{flag}
 use Rattle.bool_encoder.specs.Part.{Part, after_put}
-use Rattle.bool_encoder.specs.Bools.{Puts, can_put}
+use Rattle.bool_encoder.specs.WrittenBools.{Puts, can_put}
 use Rattle.vp9_types.proofs.Binds.{writes_bind}
 
 pub way : (zeros ones : Syntax ℕ Rule ℕ) (p : ℕ) (b : Bool) (old mid new : Part) (x : ℕ)

@@ -9,12 +9,12 @@ use Rattle.vp9_types.specs.declared.rule.Rule.{Rule}
 use Rattle.vp9_types.specs.declared.shape.Depth.{Depth}
 use Rattle.vp9_types.specs.declared.shape.Depth.TheVariants.{Eight, Ten, Twelve}
 use Rattle.vp9_tables.specs.Scans.{area, scan_of}
-use Rattle.prob_contexts.specs.Lists.{ContextLists}
-use Rattle.coef_tokens.specs.Blocks.{block_tables}
+use Rattle.prob_contexts.specs.ProbLists.{ContextLists}
+use Rattle.coef_tokens.specs.TokenKinds.{block_tables}
 use Rattle.coef_tokens.specs.declared.tables.TokenKind.{TokenKind}
 use Rattle.counting_reader.specs.Counting.{Settled}
 use Rattle.bool_encoder.specs.Part.{Part, after_put}
-use Rattle.bool_encoder.specs.Bools.{Puts, can_put}
+use Rattle.bool_encoder.specs.WrittenBools.{Puts, can_put}
 use Rattle.vp9_types.proofs.Binds.{writes_bind}
 use Rattle.coef_tokens.proofs.Turns.{kept}
 use Rattle.coef_tokens.specs.declared.step.Step.{Step}
@@ -22,7 +22,7 @@ use Rattle.coef_tokens.specs.declared.step.Step.TheVariants.{End, Zero, Level}
 use Rattle.coef_tokens.specs.Places.{Tables, Tokens, Read, no_tokens, block_tokens, tokens_from, step_by, row_at, with_zero, with_level, goes_on, level_at}
 use Rattle.coef_tokens.specs.Code.{HoldsClasses, HoldsLevels, StandsAt}
 use Rattle.bool_encoder.specs.CountedBools.{valued, PutsValue}
-use Rattle.token_writer.specs.Fits.{CanPut, IsCoded, PutsLevels, level_of}
+use Rattle.token_writer.specs.TokenFits.{CanPut, IsCoded, PutsLevels, level_of}
 use Rattle.token_writer.specs.Code.{PutsStep, AreThree}
 use Rattle.bool_encoder.proofs.CountedPuts.{valued_in_order, valued_settle, value_counts}
 

@@ -3,7 +3,7 @@ use Rattle.std.specs.Prelude.{◌≡◌, ℕ, ◌<◌, ◌≤◌, ◌+◌, ◌-�
 use Rattle.vp9_types.specs.declared.shape.Depth.{Depth}
 use Rattle.vp9_tables.specs.Coefficients.{category_of}
 use Rattle.bool_encoder.specs.Part.{Part}
-use Rattle.coef_tokens.specs.Symbols.{category_base}
+use Rattle.coef_tokens.specs.TokenSymbols.{category_base}
 use Rattle.coef_tokens.specs.Places.{Tables}
 use Rattle.coef_tokens.specs.Steps.{step}
 use Rattle.coef_tokens.specs.declared.step.Step.{Step}

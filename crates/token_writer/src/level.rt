@@ -1,10 +1,10 @@
 //! A level by its token: the bits of its category, and its sign.
 
 ghost use Rattle.std.specs.Prelude.{◌≡◌, ◌≤◌, ◌<◌, ◌^◌, IfOk, length, unsigned_abs};
-ghost use Rattle.bool_encoder.specs.Bools.{Puts};
-ghost use Rattle.coef_tokens.specs.Symbols.{bits_from, class_of, magnitude, level};
+ghost use Rattle.bool_encoder.specs.WrittenBools.{Puts};
+ghost use Rattle.coef_tokens.specs.TokenSymbols.{bits_from, class_of, magnitude, level};
 ghost use Rattle.coef_tokens.specs.declared.step.Step.TheVariants.{Level};
-ghost use Rattle.token_writer.specs.Fits.{IsCoded};
+ghost use Rattle.token_writer.specs.TokenFits.{IsCoded};
 ghost use Rattle.token_writer.specs.Code.{IsTokenOf};
 
 use bool_encoder::{BoolEncoder, put_flag};
@@ -46,7 +46,7 @@ fn put_bits(encoder: &mut BoolEncoder, probs: &[u8], value: u32) -> Result<(), A
     Ok(())
 }
 
-#[tactic(auto, unfolding(coef_tokens::specs::Symbols::magnitude), using(vp9_types::proofs::Binds::writes_bind))]
+#[tactic(auto, unfolding(coef_tokens::specs::TokenSymbols::magnitude), using(vp9_types::proofs::Binds::writes_bind))]
 fn put_magnitude(
     encoder: &mut BoolEncoder,
     depth: Depth,
@@ -63,7 +63,7 @@ fn put_magnitude(
     put_bits(encoder, category_probs(token - 4, depth), bits)
 }
 
-#[tactic(auto, unfolding(coef_tokens::specs::Symbols::level), using(vp9_types::proofs::Binds::writes_bind))]
+#[tactic(auto, unfolding(coef_tokens::specs::TokenSymbols::level), using(vp9_types::proofs::Binds::writes_bind))]
 pub(crate) fn put_level(
     encoder: &mut BoolEncoder,
     depth: Depth,

@@ -3,7 +3,7 @@
 ghost use Rattle.std.specs.Prelude.{◌≡◌, ◌+◌, ◌≤◌, ◌<◌, IfOk, length, slice_index};
 ghost use Rattle.vp9_tables.specs.Scans.{area};
 ghost use Rattle.coef_tokens.specs.Code.{tables_of};
-ghost use Rattle.token_writer.specs.Fits.{CanPut, PutsLevels};
+ghost use Rattle.token_writer.specs.TokenFits.{CanPut, PutsLevels};
 ghost use Rattle.token_writer.specs.Code.{AreThree};
 
 use crate::step::{put_end, put_some, put_zero};

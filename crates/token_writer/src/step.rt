@@ -2,11 +2,11 @@
 
 ghost use Rattle.std.specs.Prelude.{◌≡◌, ◌≢◌, ◌≤◌, IfOk, true, false, ℕ, pos, slice_index, unsigned_abs};
 ghost use Rattle.vp9_types.specs.declared.shape.Depth.{Depth};
-ghost use Rattle.coef_tokens.specs.Symbols.{class_of};
+ghost use Rattle.coef_tokens.specs.TokenSymbols.{class_of};
 ghost use Rattle.coef_tokens.specs.Steps.{token_from_one, more_coefs, token};
 ghost use Rattle.coef_tokens.specs.declared.step.Step.TheVariants.{End, Zero, Level};
 ghost use Rattle.bool_encoder.specs.CountedBools.{PutsValue};
-ghost use Rattle.token_writer.specs.Fits.{IsCoded};
+ghost use Rattle.token_writer.specs.TokenFits.{IsCoded};
 ghost use Rattle.token_writer.specs.Code.{IsTokenOf, PutsStep};
 
 use crate::level::{put_level, token_of};

@@ -2,8 +2,8 @@
 
 ghost use Rattle.std.specs.Prelude.{◌≡◌, ◌≤◌, ◌<◌, IfOk};
 ghost use Rattle.bool_decoder.specs.Bools.{flag};
-ghost use Rattle.bool_encoder.specs.Bools.{Puts};
-ghost use Rattle.coef_tokens.specs.Symbols.{tail_prob, tail_token};
+ghost use Rattle.bool_encoder.specs.WrittenBools.{Puts};
+ghost use Rattle.coef_tokens.specs.TokenSymbols.{tail_prob, tail_token};
 
 use bool_encoder::{BoolEncoder, put_flag};
 use coef_tokens::tail_prob;

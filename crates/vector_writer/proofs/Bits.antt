@@ -8,7 +8,7 @@ use Rattle.vp9_types.specs.declared.rule.Rule.{Rule}
 use Rattle.vp9_types.specs.Syntax.{Syntax}
 use Rattle.vp9_tables.specs.Numbers.{flag_number}
 use Rattle.bool_encoder.specs.Part.{Part, after_put}
-use Rattle.bool_encoder.specs.Bools.{LeadsBools, Puts, can_put}
+use Rattle.bool_encoder.specs.WrittenBools.{LeadsBools, Puts, can_put}
 use Rattle.vp9_types.proofs.Binds.{writes_bind, leads_here}
 use Rattle.counting_reader.specs.Counting.{Settled, through}
 use Rattle.bool_encoder.specs.CountedBools.{valued, PutsValue}

@@ -7,16 +7,16 @@ use Rattle.vp9_types.specs.declared.block.BlockSize.TheVariants.{B4x4, B4x8, B8x
 use Rattle.vp9_types.specs.declared.block.InterMode.{InterMode}
 use Rattle.vp9_types.specs.declared.rule.Rule.{Rule}
 use Rattle.frame_headers.specs.declared.header.FrameFilter.{FrameFilter}
-use Rattle.block_geometry.specs.Sizes.{is_below_8x8}
+use Rattle.block_geometry.specs.BlockSizes.{is_below_8x8}
 use Rattle.block_plan.specs.declared.block.InterPrediction.{InterPrediction}
 use Rattle.block_plan.specs.declared.block.Mv.{Mv}
 use Rattle.block_plan.specs.declared.block.References.{References}
-use Rattle.inter_modes.specs.Vectors.{Sources, nothing_before, before_of, best_vectors}
+use Rattle.inter_modes.specs.BlockVectors.{Sources, nothing_before, before_of, best_vectors}
 use Rattle.inter_modes.specs.ModeInfo.{of_each}
 use Rattle.inter_modes.specs.declared.quarters.Quarter.{Quarter}
 use Rattle.inter_modes.specs.declared.quarters.QuartersBefore.{QuartersBefore}
-use Rattle.vector_writer.specs.Fits.{CanSayInter, quarter_saying}
-use Rattle.vector_writer.specs.Said.{mode_at, symbols_at, quarter_vectors_said, quarter_said, four_said, columns_said, rows_said, quarters_said, block_vectors_said, whole_said, of_quarters_said, HasSaid}
+use Rattle.vector_writer.specs.VectorFits.{CanSayInter, quarter_saying}
+use Rattle.vector_writer.specs.SaidVectors.{mode_at, symbols_at, quarter_vectors_said, quarter_said, four_said, columns_said, rows_said, quarters_said, block_vectors_said, whole_said, of_quarters_said, HasSaid}
 use Rattle.vector_writer.specs.declared.symbols.InterSymbols.{InterSymbols}
 use Rattle.vector_writer.specs.declared.symbols.QuarterSymbols.{QuarterSymbols}
 

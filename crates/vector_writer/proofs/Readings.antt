@@ -8,18 +8,18 @@ use Rattle.vp9_types.specs.Syntax.{Syntax}
 use Rattle.vp9_types.specs.Trees.{Tree, leaf, node}
 use Rattle.vp9_types.specs.declared.rule.Rule.{Rule}
 use Rattle.vp9_tables.specs.Numbers.{component_number, flag_number}
-use Rattle.vp9_tables.specs.Trees.{mv_class_tree, mv_fr_tree}
+use Rattle.vp9_tables.specs.SymbolTrees.{mv_class_tree, mv_fr_tree}
 use Rattle.vp9_tables.specs.declared.kinds.Component.{Component}
 use Rattle.vp9_tables.specs.declared.kinds.Component.TheVariants.{Row, Column}
-use Rattle.prob_contexts.specs.Lists.{VectorLists}
+use Rattle.prob_contexts.specs.ProbLists.{VectorLists}
 use Rattle.prob_contexts.specs.declared.kind.ProbKind.{ProbKind}
 use Rattle.counting_reader.specs.Counting.{Settled, settle, through, Yields}
-use Rattle.counting_reader.specs.Symbols.{counted_flag, counted_tree}
+use Rattle.counting_reader.specs.CountedSymbols.{counted_flag, counted_tree}
 use Rattle.counting_reader.proofs.Yields.{yields_bind, yields_all, yields_map}
 use Rattle.mv_syntax.specs.Components.{eighths, high_bit, small_magnitude, next_bit, large_magnitude, magnitude, signed, read_mv_component}
 use Rattle.mv_syntax.specs.Differences.{component_if, read_mv}
 use Rattle.vector_writer.specs.Code.{CanBeHigh}
-use Rattle.vector_writer.specs.Fits.{IsDifference, CanDiffer}
+use Rattle.vector_writer.specs.VectorFits.{IsDifference, CanDiffer}
 
 abbrev pub Any : {A : Type 0} → A → Type 0
 Any x = Unit {0}

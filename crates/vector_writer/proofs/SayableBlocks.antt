@@ -8,20 +8,20 @@ use Rattle.vp9_types.specs.declared.block.InterMode.{InterMode}
 use Rattle.vp9_types.specs.declared.block.InterMode.TheVariants.{Zero}
 use Rattle.vp9_types.specs.declared.block.InterpFilter.{InterpFilter}
 use Rattle.vp9_types.specs.declared.block.InterpFilter.TheVariants.{Regular, Smooth, Sharp, Bilinear}
-use Rattle.prob_contexts.specs.Lists.{InterLists}
+use Rattle.prob_contexts.specs.ProbLists.{InterLists}
 use Rattle.frame_headers.specs.declared.header.FrameFilter.{FrameFilter}
 use Rattle.frame_headers.specs.declared.header.FrameFilter.TheVariants.{Fixed, Switchable}
-use Rattle.block_geometry.specs.Sizes.{is_below_8x8}
+use Rattle.block_geometry.specs.BlockSizes.{is_below_8x8}
 use Rattle.block_plan.specs.declared.block.Mv.{Mv}
 use Rattle.block_plan.specs.declared.block.References.{References}
 use Rattle.counting_reader.specs.Counting.{Yields}
 use Rattle.counting_reader.proofs.Yields.{yields_bind, yields_all, yields_map}
 use Rattle.mv_prediction.specs.Candidates.{mode_context}
 use Rattle.mv_prediction.specs.Vectors.{no_vector}
-use Rattle.inter_modes.specs.Vectors.{Sources, row_at, inter_mode, block_vectors, best_vectors, nothing_before, before_of, four_quarters, two_columns, two_rows, quarters}
+use Rattle.inter_modes.specs.BlockVectors.{Sources, row_at, inter_mode, block_vectors, best_vectors, nothing_before, before_of, four_quarters, two_columns, two_rows, quarters}
 use Rattle.inter_modes.specs.ModeInfo.{filter_of, interp_filter, block_mode, whole_block, block_of_quarters, inter_prediction}
-use Rattle.vector_writer.specs.Fits.{CanFilter, CanSayVectors, CanSayInter, quarter_saying}
-use Rattle.vector_writer.specs.Said.{mode_at, symbols_at, quarter_said, four_said, columns_said, rows_said, quarters_said, block_vectors_said, whole_said, of_quarters_said, inter_said}
+use Rattle.vector_writer.specs.VectorFits.{CanFilter, CanSayVectors, CanSayInter, quarter_saying}
+use Rattle.vector_writer.specs.SaidVectors.{mode_at, symbols_at, quarter_said, four_said, columns_said, rows_said, quarters_said, block_vectors_said, whole_said, of_quarters_said, inter_said}
 use Rattle.vector_writer.specs.Laws.{IsSaid}
 use Rattle.vector_writer.specs.declared.symbols.InterSymbols.{InterSymbols}
 use Rattle.vector_writer.specs.declared.symbols.QuarterSymbols.{QuarterSymbols}

@@ -15,10 +15,10 @@ use Rattle.mv_prediction.specs.SubBlocks.{vector_at}
 use Rattle.mv_prediction.specs.Vectors.{no_vector, is_precise}
 use Rattle.mv_prediction.specs.declared.sub_blocks.NearVectors.{NearVectors}
 use Rattle.mv_syntax.specs.Differences.{read_mv, new_vector}
-use Rattle.inter_modes.specs.Vectors.{Sources, carried, ◌>>?◌, inter_mode, vector_of_mode, near_of_block, near_of_quarter, block_vector, with_second, block_vectors, best_vectors, second_best, of_list, quarter_vector, quarter_vectors, quarter}
+use Rattle.inter_modes.specs.BlockVectors.{Sources, carried, ◌>>?◌, inter_mode, vector_of_mode, near_of_block, near_of_quarter, block_vector, with_second, block_vectors, best_vectors, second_best, of_list, quarter_vector, quarter_vectors, quarter}
 use Rattle.inter_modes.specs.declared.quarters.QuartersBefore.{QuartersBefore}
-use Rattle.vector_writer.specs.Fits.{CanBeNew, CanDiffer, CanSayVectors}
-use Rattle.vector_writer.specs.Said.{vector_said, second_said, block_vector_said, block_vectors_said, quarter_vector_said, quarter_vectors_said, quarter_said}
+use Rattle.vector_writer.specs.VectorFits.{CanBeNew, CanDiffer, CanSayVectors}
+use Rattle.vector_writer.specs.SaidVectors.{vector_said, second_said, block_vector_said, block_vectors_said, quarter_vector_said, quarter_vectors_said, quarter_said}
 use Rattle.vector_writer.specs.declared.symbols.QuarterSymbols.{QuarterSymbols}
 use Rattle.vector_writer.proofs.Readings.{Any, yields_settle, difference_yields}
 

@@ -2,10 +2,10 @@
 use Rattle.std.proofs.Common.{◌≡◌, ℕ, ◌<◌, Bool, true, false, List, refl, sym}
 use Rattle.vp9_types.specs.declared.block.BlockSize.{BlockSize}
 use Rattle.vp9_types.specs.declared.block.BlockSize.TheVariants.{B4x4, B4x8, B8x4, B8x8, B8x16, B16x8, B16x16, B16x32, B32x16, B32x32, B32x64, B64x32, B64x64}
-use Rattle.block_geometry.specs.Sizes.{is_below_8x8}
+use Rattle.block_geometry.specs.BlockSizes.{is_below_8x8}
 use Rattle.block_plan.specs.declared.block.Mv.{Mv}
-use Rattle.vector_writer.specs.Fits.{CanSayVectors, quarter_saying}
-use Rattle.vector_writer.specs.Said.{symbols_at}
+use Rattle.vector_writer.specs.VectorFits.{CanSayVectors, quarter_saying}
+use Rattle.vector_writer.specs.SaidVectors.{symbols_at}
 use Rattle.vector_writer.specs.declared.symbols.InterSymbols.{InterSymbols}
 
 -- each quarter's vectors can be said

@@ -2,9 +2,9 @@
 use Rattle.std.specs.Prelude.{◌≡◌, ℕ, ◌<◌, ◌≤◌, ◌*◌, ◌^◌, Bool, true, false, List}
 use Rattle.std.specs.Option.{option_copied}
 use Rattle.block_plan.specs.declared.block.BlockInfo.{BlockInfo}
-use Rattle.prob_contexts.specs.Lists.{vector_lists}
+use Rattle.prob_contexts.specs.ProbLists.{vector_lists}
 use Rattle.mv_prediction.specs.Code.{blocks_of}
-use Rattle.inter_modes.specs.Vectors.{Sources}
+use Rattle.inter_modes.specs.BlockVectors.{Sources}
 use Rattle.inter_modes.specs.declared.vectors.Sources as held
 
 -- a size from 1 on is one of a class

@@ -4,9 +4,9 @@ use Rattle.vp9_types.specs.declared.rule.Rule.{Rule}
 use Rattle.frame_headers.specs.declared.header.FrameFilter.{FrameFilter}
 use Rattle.block_plan.specs.declared.block.InterPrediction.{InterPrediction}
 use Rattle.block_plan.specs.declared.block.References.{References}
-use Rattle.inter_modes.specs.Vectors.{Sources, row_at}
-use Rattle.vector_writer.specs.Fits.{CanSayInter}
-use Rattle.vector_writer.specs.Said.{inter_said}
+use Rattle.inter_modes.specs.BlockVectors.{Sources, row_at}
+use Rattle.vector_writer.specs.VectorFits.{CanSayInter}
+use Rattle.vector_writer.specs.SaidVectors.{inter_said}
 use Rattle.vector_writer.specs.declared.symbols.InterSymbols.{InterSymbols}
 
 -- a prediction, or a rule, is what symbols say that can be put, of four quarters and two lists

@@ -1,4 +1,4 @@
 pub mod Code
-pub mod Fits
+pub mod VectorFits
 pub mod Laws
-pub mod Said
+pub mod SaidVectors

@@ -3,18 +3,18 @@
 ghost use Rattle.std.specs.Prelude.{◌≡◌, ◌<◌, ◌≤◌, ℕ, true, false, IfOk};
 ghost use Rattle.std.specs.Option.{option_copied};
 ghost use Rattle.vp9_types.specs.declared.block.InterMode.TheVariants.{Zero};
-ghost use Rattle.block_geometry.specs.Sizes.{is_below_8x8};
+ghost use Rattle.block_geometry.specs.BlockSizes.{is_below_8x8};
 ghost use Rattle.block_plan.specs.declared.block.Prediction.TheVariants.{Inter};
-ghost use Rattle.prob_contexts.specs.Lists.{InterLists, vector_lists};
+ghost use Rattle.prob_contexts.specs.ProbLists.{InterLists, vector_lists};
 ghost use Rattle.bool_encoder.specs.CountedBools.{PutsValue};
 ghost use Rattle.mv_prediction.specs.Code.{PredictsSmall, blocks_of};
 ghost use Rattle.mv_prediction.specs.Candidates.{mode_context};
 ghost use Rattle.inter_modes.specs.Code.{MaySearch};
-ghost use Rattle.inter_modes.specs.Vectors.{best_vectors};
+ghost use Rattle.inter_modes.specs.BlockVectors.{best_vectors};
 ghost use Rattle.inter_modes.specs.ModeInfo.{filter_of, interp_filter, block_mode, whole_block, block_of_quarters, inter_prediction};
 ghost use Rattle.vector_writer.specs.Code.{sources_of};
-ghost use Rattle.vector_writer.specs.Fits.{CanFilter, CanSayVectors, CanSayInter, quarter_saying};
-ghost use Rattle.vector_writer.specs.Said.{mode_at, symbols_at, whole_said, of_quarters_said, inter_said, HasSaid};
+ghost use Rattle.vector_writer.specs.VectorFits.{CanFilter, CanSayVectors, CanSayInter, quarter_saying};
+ghost use Rattle.vector_writer.specs.SaidVectors.{mode_at, symbols_at, whole_said, of_quarters_said, inter_said, HasSaid};
 
 use crate::quarters::put_quarters;
 use crate::symbols::{InterSymbols, symbols_at};
@@ -71,7 +71,7 @@ fn put_block_mode(
 }
 
 /// The prediction of a block of 8x8 or more. `filter` is the frame's, with the block's context.
-#[tactic(auto, unfolding(inter_modes::specs::ModeInfo::whole_block, crate::specs::Said::whole_said), using(bool_encoder::proofs::CountedPuts::valued_in_order, bool_encoder::proofs::CountedPuts::valued_settle, vp9_types::proofs::Binds::writes_bind))]
+#[tactic(auto, unfolding(inter_modes::specs::ModeInfo::whole_block, crate::specs::SaidVectors::whole_said), using(bool_encoder::proofs::CountedPuts::valued_in_order, bool_encoder::proofs::CountedPuts::valued_settle, vp9_types::proofs::Binds::writes_bind))]
 fn put_whole<N: Neighbours, Q: Neighbours>(
     encoder: &mut BoolEncoder,
     src: &Sources<'_, N, Q>,
@@ -105,7 +105,7 @@ fn put_whole<N: Neighbours, Q: Neighbours>(
 }
 
 /// The prediction of a block below 8x8.
-#[tactic(auto, unfolding(inter_modes::specs::ModeInfo::block_of_quarters, crate::specs::Said::of_quarters_said), using(bool_encoder::proofs::CountedPuts::valued_in_order, bool_encoder::proofs::CountedPuts::valued_settle, vp9_types::proofs::Binds::writes_bind))]
+#[tactic(auto, unfolding(inter_modes::specs::ModeInfo::block_of_quarters, crate::specs::SaidVectors::of_quarters_said), using(bool_encoder::proofs::CountedPuts::valued_in_order, bool_encoder::proofs::CountedPuts::valued_settle, vp9_types::proofs::Binds::writes_bind))]
 fn put_block_of_quarters<N: Neighbours, Q: Neighbours>(
     encoder: &mut BoolEncoder,
     src: &Sources<'_, N, Q>,
@@ -135,7 +135,7 @@ fn put_block_of_quarters<N: Neighbours, Q: Neighbours>(
 /// Puts what an inter block says behind its references, and answers its prediction, or the rule that a new vector breaks: the
 /// block ends behind that vector. `filter` is the frame's, with the block's context. After want of memory some of the bools
 /// were put, and the tile is given up as a whole.
-#[tactic(auto, unfolding(inter_modes::specs::ModeInfo::inter_prediction, crate::specs::Said::inter_said))]
+#[tactic(auto, unfolding(inter_modes::specs::ModeInfo::inter_prediction, crate::specs::SaidVectors::inter_said))]
 pub fn put_inter_prediction<N: Neighbours, Q: Neighbours>(
     encoder: &mut BoolEncoder,
     src: &Sources<'_, N, Q>,

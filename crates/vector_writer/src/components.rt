@@ -3,14 +3,14 @@
 ghost use Rattle.std.specs.Prelude.{◌≡◌, ◌+◌, ◌*◌, ◌%◌, ◌^◌, ◌<◌, ◌≤◌, ◌≢◌, ℕ, ℤ, pos, length, unsigned_abs, IfOk, false, true};
 ghost use Rattle.std.specs.List.{range_with_len};
 ghost use Rattle.vp9_tables.specs.Numbers.{flag_number};
-ghost use Rattle.vp9_tables.specs.Trees.{mv_fr_tree};
+ghost use Rattle.vp9_tables.specs.SymbolTrees.{mv_fr_tree};
 ghost use Rattle.prob_contexts.specs.declared.kind.ProbKind.{ProbKind};
-ghost use Rattle.prob_contexts.specs.Lists.{vector_lists};
+ghost use Rattle.prob_contexts.specs.ProbLists.{vector_lists};
 ghost use Rattle.counting_reader.specs.Counting.{through};
-ghost use Rattle.counting_reader.specs.Symbols.{counted_tree};
+ghost use Rattle.counting_reader.specs.CountedSymbols.{counted_tree};
 ghost use Rattle.bool_encoder.specs.CountedBools.{PutsValue};
 ghost use Rattle.mv_syntax.specs.Components.{eighths, high_bit, small_magnitude, next_bit, large_magnitude, magnitude, read_mv_component};
-ghost use Rattle.vector_writer.specs.Fits.{IsDifference};
+ghost use Rattle.vector_writer.specs.VectorFits.{IsDifference};
 ghost use Rattle.vector_writer.specs.Code.{IsOfClass, CanBeHigh};
 
 use bool_encoder::{BoolEncoder, put_flag, put_tree};

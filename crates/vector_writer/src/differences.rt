@@ -2,10 +2,10 @@
 
 ghost use Rattle.std.specs.Prelude.{◌≡◌, ◌≢◌, ◌≤◌, ◌||◌, pos, true, false, not, nat_eq, nat_le, IfOk};
 ghost use Rattle.std.specs.Ordering.{int_eq};
-ghost use Rattle.prob_contexts.specs.Lists.{vector_lists};
+ghost use Rattle.prob_contexts.specs.ProbLists.{vector_lists};
 ghost use Rattle.bool_encoder.specs.CountedBools.{PutsValue};
 ghost use Rattle.mv_syntax.specs.Differences.{component_if, read_mv};
-ghost use Rattle.vector_writer.specs.Fits.{IsDifference, CanDiffer};
+ghost use Rattle.vector_writer.specs.VectorFits.{IsDifference, CanDiffer};
 
 use crate::components::put_component;
 use block_plan::Mv;

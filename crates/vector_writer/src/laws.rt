@@ -3,12 +3,12 @@
 ghost use Rattle.std.specs.Prelude.{ℕ, Bool};
 ghost use Rattle.frame_headers.specs.declared.header.FrameFilter.{FrameFilter};
 ghost use Rattle.block_plan.specs.declared.block.References.{References};
-ghost use Rattle.prob_contexts.specs.Lists.{InterLists, VectorLists};
+ghost use Rattle.prob_contexts.specs.ProbLists.{InterLists, VectorLists};
 ghost use Rattle.counting_reader.specs.Counting.{Yields};
 ghost use Rattle.mv_syntax.specs.Differences.{read_mv};
 ghost use Rattle.inter_modes.specs.ModeInfo.{inter_prediction};
-ghost use Rattle.inter_modes.specs.Vectors.{Sources};
-ghost use Rattle.vector_writer.specs.Fits.{CanDiffer};
+ghost use Rattle.inter_modes.specs.BlockVectors.{Sources};
+ghost use Rattle.vector_writer.specs.VectorFits.{CanDiffer};
 ghost use Rattle.vector_writer.specs.Laws.{IsSaid};
 
 /// What can be put is all that is ever read.

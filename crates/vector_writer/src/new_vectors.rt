@@ -1,11 +1,11 @@
 //! Vectors of the mode new.
 
 ghost use Rattle.std.specs.Prelude.{◌≡◌, ◌&&◌, IfOk};
-ghost use Rattle.prob_contexts.specs.Lists.{vector_lists};
+ghost use Rattle.prob_contexts.specs.ProbLists.{vector_lists};
 ghost use Rattle.bool_encoder.specs.CountedBools.{PutsValue};
 ghost use Rattle.mv_prediction.specs.Vectors.{IsSmallVector, is_precise};
 ghost use Rattle.mv_syntax.specs.Differences.{added, in_range_or_rule, new_vector};
-ghost use Rattle.vector_writer.specs.Fits.{CanDiffer};
+ghost use Rattle.vector_writer.specs.VectorFits.{CanDiffer};
 
 use crate::differences::put_mv;
 use block_plan::Mv;

@@ -2,17 +2,17 @@
 
 ghost use Rattle.std.specs.Prelude.{◌≡◌, ◌<◌, ◌≤◌, ℕ, true, IfOk};
 ghost use Rattle.std.specs.Option.{option_copied};
-ghost use Rattle.prob_contexts.specs.Lists.{vector_lists};
-ghost use Rattle.block_geometry.specs.Sizes.{is_below_8x8};
+ghost use Rattle.prob_contexts.specs.ProbLists.{vector_lists};
+ghost use Rattle.block_geometry.specs.BlockSizes.{is_below_8x8};
 ghost use Rattle.bool_encoder.specs.CountedBools.{PutsValue};
 ghost use Rattle.mv_prediction.specs.Code.{AreSmall, blocks_of};
 ghost use Rattle.mv_prediction.specs.SubBlocks.{vector_at};
 ghost use Rattle.mv_prediction.specs.Vectors.{IsSmallVector};
 ghost use Rattle.inter_modes.specs.Code.{MaySearch, AreSmallBefore, AreSmallQuarters};
-ghost use Rattle.inter_modes.specs.Vectors.{best_vectors, quarter_vector, quarter_vectors, quarter, four_quarters, two_columns, two_rows, quarters};
+ghost use Rattle.inter_modes.specs.BlockVectors.{best_vectors, quarter_vector, quarter_vectors, quarter, four_quarters, two_columns, two_rows, quarters};
 ghost use Rattle.vector_writer.specs.Code.{sources_of};
-ghost use Rattle.vector_writer.specs.Fits.{CanBeNew, CanSayVectors, quarter_saying};
-ghost use Rattle.vector_writer.specs.Said.{symbols_at, quarter_vector_said, quarter_vectors_said, quarter_said, four_said, columns_said, rows_said, quarters_said};
+ghost use Rattle.vector_writer.specs.VectorFits.{CanBeNew, CanSayVectors, quarter_saying};
+ghost use Rattle.vector_writer.specs.SaidVectors.{symbols_at, quarter_vector_said, quarter_vectors_said, quarter_said, four_said, columns_said, rows_said, quarters_said};
 
 use crate::new_vectors::put_new_vector;
 use crate::symbols::{InterSymbols, QuarterSymbols, symbols_at};
@@ -27,7 +27,7 @@ use std::alloc::AllocError;
 use vp9_types::{BlockSize, InterMode, ReferenceFrame, Rule};
 
 /// A quarter's vector of a reference, of the first list or the second.
-#[tactic(auto, unfolding(inter_modes::specs::Vectors::quarter_vector, inter_modes::specs::Vectors::vector_of_mode, crate::specs::Said::quarter_vector_said, crate::specs::Said::vector_said), using(bool_encoder::proofs::CountedPuts::valued_settle))]
+#[tactic(auto, unfolding(inter_modes::specs::BlockVectors::quarter_vector, inter_modes::specs::BlockVectors::vector_of_mode, crate::specs::SaidVectors::quarter_vector_said, crate::specs::SaidVectors::vector_said), using(bool_encoder::proofs::CountedPuts::valued_settle))]
 fn put_quarter_vector<N: Neighbours, Q: Neighbours>(
     encoder: &mut BoolEncoder,
     src: &Sources<'_, N, Q>,
@@ -60,7 +60,7 @@ fn put_quarter_vector<N: Neighbours, Q: Neighbours>(
 }
 
 /// A quarter's vectors of its block's references.
-#[tactic(auto, unfolding(inter_modes::specs::Vectors::quarter_vectors, inter_modes::specs::Vectors::with_second, crate::specs::Said::quarter_vectors_said, crate::specs::Said::second_said), using(bool_encoder::proofs::CountedPuts::valued_in_order, bool_encoder::proofs::CountedPuts::valued_settle, vp9_types::proofs::Binds::writes_bind))]
+#[tactic(auto, unfolding(inter_modes::specs::BlockVectors::quarter_vectors, inter_modes::specs::BlockVectors::with_second, crate::specs::SaidVectors::quarter_vectors_said, crate::specs::SaidVectors::second_said), using(bool_encoder::proofs::CountedPuts::valued_in_order, bool_encoder::proofs::CountedPuts::valued_settle, vp9_types::proofs::Binds::writes_bind))]
 fn put_quarter_vectors<N: Neighbours, Q: Neighbours>(
     encoder: &mut BoolEncoder,
     src: &Sources<'_, N, Q>,
@@ -93,7 +93,7 @@ fn put_quarter_vectors<N: Neighbours, Q: Neighbours>(
 }
 
 /// A quarter's mode and vectors.
-#[tactic(auto, unfolding(inter_modes::specs::Vectors::quarter, crate::specs::Said::quarter_said), using(bool_encoder::proofs::CountedPuts::valued_in_order, bool_encoder::proofs::CountedPuts::valued_settle, vp9_types::proofs::Binds::writes_bind))]
+#[tactic(auto, unfolding(inter_modes::specs::BlockVectors::quarter, crate::specs::SaidVectors::quarter_said), using(bool_encoder::proofs::CountedPuts::valued_in_order, bool_encoder::proofs::CountedPuts::valued_settle, vp9_types::proofs::Binds::writes_bind))]
 fn put_quarter<N: Neighbours, Q: Neighbours>(
     encoder: &mut BoolEncoder,
     src: &Sources<'_, N, Q>,
@@ -122,7 +122,7 @@ fn put_quarter<N: Neighbours, Q: Neighbours>(
 }
 
 /// Those of a block of 4x4, one after another.
-#[tactic(auto, unfolding(inter_modes::specs::Vectors::four_quarters, crate::specs::Said::four_said), using(bool_encoder::proofs::CountedPuts::valued_in_order, bool_encoder::proofs::CountedPuts::valued_settle, vp9_types::proofs::Binds::writes_bind))]
+#[tactic(auto, unfolding(inter_modes::specs::BlockVectors::four_quarters, crate::specs::SaidVectors::four_said), using(bool_encoder::proofs::CountedPuts::valued_in_order, bool_encoder::proofs::CountedPuts::valued_settle, vp9_types::proofs::Binds::writes_bind))]
 fn put_four<N: Neighbours, Q: Neighbours>(
     encoder: &mut BoolEncoder,
     src: &Sources<'_, N, Q>,
@@ -164,7 +164,7 @@ fn put_four<N: Neighbours, Q: Neighbours>(
 }
 
 /// Those of a block of 4x8: one at the left and one at the right.
-#[tactic(auto, unfolding(inter_modes::specs::Vectors::two_columns, crate::specs::Said::columns_said), using(bool_encoder::proofs::CountedPuts::valued_in_order, bool_encoder::proofs::CountedPuts::valued_settle, vp9_types::proofs::Binds::writes_bind))]
+#[tactic(auto, unfolding(inter_modes::specs::BlockVectors::two_columns, crate::specs::SaidVectors::columns_said), using(bool_encoder::proofs::CountedPuts::valued_in_order, bool_encoder::proofs::CountedPuts::valued_settle, vp9_types::proofs::Binds::writes_bind))]
 fn put_two_columns<N: Neighbours, Q: Neighbours>(
     encoder: &mut BoolEncoder,
     src: &Sources<'_, N, Q>,
@@ -195,7 +195,7 @@ fn put_two_columns<N: Neighbours, Q: Neighbours>(
 }
 
 /// Those of a block of 8x4: an upper and a lower one.
-#[tactic(auto, unfolding(inter_modes::specs::Vectors::two_rows, crate::specs::Said::rows_said), using(bool_encoder::proofs::CountedPuts::valued_in_order, bool_encoder::proofs::CountedPuts::valued_settle, vp9_types::proofs::Binds::writes_bind))]
+#[tactic(auto, unfolding(inter_modes::specs::BlockVectors::two_rows, crate::specs::SaidVectors::rows_said), using(bool_encoder::proofs::CountedPuts::valued_in_order, bool_encoder::proofs::CountedPuts::valued_settle, vp9_types::proofs::Binds::writes_bind))]
 fn put_two_rows<N: Neighbours, Q: Neighbours>(
     encoder: &mut BoolEncoder,
     src: &Sources<'_, N, Q>,
@@ -226,7 +226,7 @@ fn put_two_rows<N: Neighbours, Q: Neighbours>(
 }
 
 /// The quarters of a block below 8x8.
-#[tactic(auto, unfolding(inter_modes::specs::Vectors::quarters, crate::specs::Said::quarters_said))]
+#[tactic(auto, unfolding(inter_modes::specs::BlockVectors::quarters, crate::specs::SaidVectors::quarters_said))]
 pub(crate) fn put_quarters<N: Neighbours, Q: Neighbours>(
     encoder: &mut BoolEncoder,
     src: &Sources<'_, N, Q>,

@@ -1,7 +1,7 @@
 //! What inter blocks say.
 
 ghost use Rattle.std.specs.Prelude.{◌≡◌, ◌<◌};
-ghost use Rattle.vector_writer.specs.Said.{symbols_at};
+ghost use Rattle.vector_writer.specs.SaidVectors.{symbols_at};
 
 use block_plan::{Mv, References};
 use vp9_types::{InterMode, InterpFilter};

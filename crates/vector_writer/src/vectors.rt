@@ -2,16 +2,16 @@
 
 ghost use Rattle.std.specs.Prelude.{◌≡◌, ◌<◌, ◌≤◌, IfOk};
 ghost use Rattle.std.specs.Option.{option_copied};
-ghost use Rattle.prob_contexts.specs.Lists.{vector_lists};
+ghost use Rattle.prob_contexts.specs.ProbLists.{vector_lists};
 ghost use Rattle.bool_encoder.specs.CountedBools.{PutsValue};
 ghost use Rattle.mv_prediction.specs.Code.{AreSmall, blocks_of};
 ghost use Rattle.mv_prediction.specs.SubBlocks.{vector_at};
 ghost use Rattle.mv_prediction.specs.Vectors.{IsSmallVector};
 ghost use Rattle.inter_modes.specs.Code.{MaySearch, AreSmallBefore};
-ghost use Rattle.inter_modes.specs.Vectors.{inter_of, inter_mode, near_of_block, best_vectors, block_vector, block_vectors};
+ghost use Rattle.inter_modes.specs.BlockVectors.{inter_of, inter_mode, near_of_block, best_vectors, block_vector, block_vectors};
 ghost use Rattle.vector_writer.specs.Code.{sources_of};
-ghost use Rattle.vector_writer.specs.Fits.{CanBeNew, CanSayVectors};
-ghost use Rattle.vector_writer.specs.Said.{block_vector_said, block_vectors_said};
+ghost use Rattle.vector_writer.specs.VectorFits.{CanBeNew, CanSayVectors};
+ghost use Rattle.vector_writer.specs.SaidVectors.{block_vector_said, block_vectors_said};
 
 use crate::new_vectors::put_new_vector;
 use crate::symbols::QuarterSymbols;
@@ -36,7 +36,7 @@ fn number_of(mode: InterMode) -> u8
 }
 
 /// Puts the mode of a block or a quarter, by the context of modes.
-#[tactic(auto, unfolding(inter_modes::specs::Vectors::inter_mode), using(bool_encoder::proofs::CountedPuts::valued_in_order, bool_encoder::proofs::CountedPuts::valued_settle, bool_encoder::proofs::CountedPuts::valued_tree, vp9_types::proofs::Binds::writes_bind))]
+#[tactic(auto, unfolding(inter_modes::specs::BlockVectors::inter_mode), using(bool_encoder::proofs::CountedPuts::valued_in_order, bool_encoder::proofs::CountedPuts::valued_settle, bool_encoder::proofs::CountedPuts::valued_tree, vp9_types::proofs::Binds::writes_bind))]
 pub fn put_inter_mode(
     encoder: &mut BoolEncoder,
     probs: &[u8; 21],
@@ -52,7 +52,7 @@ pub fn put_inter_mode(
 }
 
 /// A block's vector of a reference, of the first list or the second.
-#[tactic(auto, unfolding(inter_modes::specs::Vectors::block_vector, inter_modes::specs::Vectors::vector_of_mode, crate::specs::Said::block_vector_said, crate::specs::Said::vector_said), using(bool_encoder::proofs::CountedPuts::valued_settle))]
+#[tactic(auto, unfolding(inter_modes::specs::BlockVectors::block_vector, inter_modes::specs::BlockVectors::vector_of_mode, crate::specs::SaidVectors::block_vector_said, crate::specs::SaidVectors::vector_said), using(bool_encoder::proofs::CountedPuts::valued_settle))]
 fn put_block_vector<N: Neighbours, Q: Neighbours>(
     encoder: &mut BoolEncoder,
     src: &Sources<'_, N, Q>,
@@ -80,7 +80,7 @@ fn put_block_vector<N: Neighbours, Q: Neighbours>(
 }
 
 /// A block's vectors of its references.
-#[tactic(auto, unfolding(inter_modes::specs::Vectors::block_vectors, inter_modes::specs::Vectors::with_second, crate::specs::Said::block_vectors_said, crate::specs::Said::second_said), using(bool_encoder::proofs::CountedPuts::valued_in_order, bool_encoder::proofs::CountedPuts::valued_settle, vp9_types::proofs::Binds::writes_bind))]
+#[tactic(auto, unfolding(inter_modes::specs::BlockVectors::block_vectors, inter_modes::specs::BlockVectors::with_second, crate::specs::SaidVectors::block_vectors_said, crate::specs::SaidVectors::second_said), using(bool_encoder::proofs::CountedPuts::valued_in_order, bool_encoder::proofs::CountedPuts::valued_settle, vp9_types::proofs::Binds::writes_bind))]
 pub(crate) fn put_block_vectors<N: Neighbours, Q: Neighbours>(
     encoder: &mut BoolEncoder,
     src: &Sources<'_, N, Q>,

@@ -13,7 +13,7 @@ use Rattle.vp9_app.specs.declared.status.Status.TheVariants as status
 use Rattle.vp9_app.specs.Notes.{note_line}
 use Rattle.vp9_app.specs.Answers.{Reports, Runs, Works, without_memory}
 use Rattle.vp9_app.specs.Making.{Makes, Trials}
-use Rattle.vp9_app.specs.Reading.{BreaksOff, Completes, DecodesBy, Output, Reads, Streams, WritesFront, decoded, listed}
+use Rattle.vp9_app.specs.ReadingCommands.{BreaksOff, Completes, DecodesBy, Output, Reads, Streams, WritesFront, decoded, listed}
 use Rattle.vp9_app.specs.Seen.{OfSink, OfSource, SinkQuiet, Unread}
 use Rattle.vp9_app.specs.Code.{MayLackMemory}
 use Rattle.vp9_app.specs.Laws.{AllQuiet, EndsAs, EndsAsTrial, HasCause, IsComplete, IsDecodedBy, IsDone, IsLeftBy, IsLeftByFault}

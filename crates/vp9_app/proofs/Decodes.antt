@@ -6,7 +6,7 @@ use Rattle.vp9_types.specs.declared.outcome.Outcome.TheVariants as outcome
 use Rattle.command_words.specs.declared.command.DecodeOptions.{DecodeOptions}
 use Rattle.stream_decoder.specs.Streams.{DecodesSource}
 use Rattle.vp9_app.specs.declared.status.Status.{Status}
-use Rattle.vp9_app.specs.Reading.{DecodesBy, DecodesSo, Streams}
+use Rattle.vp9_app.specs.ReadingCommands.{DecodesBy, DecodesSo, Streams}
 use Rattle.vp9_app.specs.Seen.{OfSink, OfSource}
 use Rattle.vp9_app.specs.Statuses.{decode_ended, ended}
 

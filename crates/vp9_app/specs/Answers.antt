@@ -7,7 +7,7 @@ use Rattle.vp9_app.specs.declared.status.Status.{Status}
 use Rattle.vp9_app.specs.declared.status.Status.TheVariants as status
 use Rattle.vp9_app.specs.Making.{Makes, Trials}
 use Rattle.vp9_app.specs.Notes.{note_line}
-use Rattle.vp9_app.specs.Reading.{DecodesSo, Reads, listed}
+use Rattle.vp9_app.specs.ReadingCommands.{DecodesSo, Reads, listed}
 use Rattle.vp9_app.specs.Seen.{OfSink, OfSource, SinkFailed, SinkQuiet, SourceQuiet, Unread}
 
 -- nothing was read or written

@@ -11,7 +11,7 @@ use Rattle.stream_trial.specs.Trials.{BreaksAt, MadeEnds}
 use Rattle.vp9_app.specs.declared.status.Status.{Status}
 use Rattle.vp9_app.specs.declared.status.Status.TheVariants as status
 use Rattle.vp9_app.specs.Making.{WritesMade, WritesTrial}
-use Rattle.vp9_app.specs.Reading.{BreaksOff, Completes, LeavesTaken, Output, decoded, listed}
+use Rattle.vp9_app.specs.ReadingCommands.{BreaksOff, Completes, LeavesTaken, Output, decoded, listed}
 use Rattle.vp9_app.specs.Seen.{OfSink, OfSource, SinkFailed, SinkQuiet, SourceFailed, SourceQuiet, Unread}
 use Rattle.vp9_app.specs.Notes.{note_line}
 use Rattle.vp9_app.specs.Statuses.{ended}

@@ -1,9 +1,9 @@
-pub mod Lines
+pub mod ListingLines
 pub mod Listing
 pub mod Statuses
 pub mod Notes
 pub mod Seen
-pub mod Reading
+pub mod ReadingCommands
 pub mod Making
 pub mod Answers
 pub mod Laws

@@ -7,8 +7,8 @@ use Rattle.frame_headers.specs.declared.header.FrameHead.{FrameHead}
 use Rattle.frame_headers.specs.declared.header.FrameHead.TheVariants.{ShowExisting, Coded}
 use Rattle.frame_headers.specs.declared.persist.Persist.{Persist}
 use Rattle.frame_headers.specs.Header.{head_of}
-use Rattle.frame_headers.specs.State.{next_persist, start_persist}
-use Rattle.vp9_app.specs.Lines.{coded_line, shown_line}
+use Rattle.frame_headers.specs.HeaderState.{next_persist, start_persist}
+use Rattle.vp9_app.specs.ListingLines.{coded_line, shown_line}
 
 -- the line of a frame of this number and so many bytes
 abbrev pub head_line : ℕ → ℕ → FrameHead → List ℕ

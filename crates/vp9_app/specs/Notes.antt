@@ -5,7 +5,7 @@ use Rattle.vp9_types.specs.declared.outcome.Stop.{Stop}
 use Rattle.vp9_types.specs.Rules.{rule_number, rule_name}
 use Rattle.vp9_app.specs.declared.status.Status.{Status}
 use Rattle.vp9_app.specs.declared.status.Status.TheVariants as status
-use Rattle.vp9_app.specs.Lines.{line_feed}
+use Rattle.vp9_app.specs.ListingLines.{line_feed}
 
 -- as `frame 3: rule 7 FrameMarker`
 unfoldable pub stop_line : Stop → List ℕ

@@ -1,6 +1,6 @@
 ghost use Rattle.std.specs.Prelude.{◌≡◌, ◌++◌, OnOk, string_bytes};
 ghost use Rattle.frame_headers.specs.Tiles.{AreFewTiles};
-ghost use Rattle.vp9_app.specs.Lines.{kind_name, bit_of, size_text, depth_text, use_text, params_text, bytes_text, coded_line, shown_line};
+ghost use Rattle.vp9_app.specs.ListingLines.{kind_name, bit_of, size_text, depth_text, use_text, params_text, bytes_text, coded_line, shown_line};
 
 use frame_headers::{FrameKind, FrameParams, Header};
 use std::alloc::AllocError;
@@ -21,7 +21,7 @@ fn bit(flag: bool) -> u8
     if flag { 1 } else { 0 }
 }
 
-#[tactic(auto, unfolding(crate::specs::Lines::size_text))]
+#[tactic(auto, unfolding(crate::specs::ListingLines::size_text))]
 fn push_size(text: &mut String, frame: u64, header: &Header) -> Result<(), AllocError>
     ensures { OnOk result (string_bytes text.new ≡ string_bytes text.old ++ size_text frame header.now) }
 {
@@ -31,7 +31,7 @@ fn push_size(text: &mut String, frame: u64, header: &Header) -> Result<(), Alloc
     write!(text, "frame {frame}: {kind} {width}x{height}")
 }
 
-#[tactic(auto, unfolding(crate::specs::Lines::depth_text))]
+#[tactic(auto, unfolding(crate::specs::ListingLines::depth_text))]
 fn push_depth(text: &mut String, header: &Header) -> Result<(), AllocError>
     ensures { OnOk result (string_bytes text.new ≡ string_bytes text.old ++ depth_text header.now) }
 {
@@ -40,7 +40,7 @@ fn push_depth(text: &mut String, header: &Header) -> Result<(), AllocError>
     write!(text, " profile {profile} depth {depth}")
 }
 
-#[tactic(auto, unfolding(crate::specs::Lines::use_text))]
+#[tactic(auto, unfolding(crate::specs::ListingLines::use_text))]
 fn push_use(text: &mut String, header: &Header) -> Result<(), AllocError>
     ensures { OnOk result (string_bytes text.new ≡ string_bytes text.old ++ use_text header.now) }
 {
@@ -52,7 +52,7 @@ fn push_use(text: &mut String, header: &Header) -> Result<(), AllocError>
     write!(text, " ss {ss_x}{ss_y} show {show} refresh {high:x}{low:x}")
 }
 
-#[tactic(auto, unfolding(crate::specs::Lines::params_text))]
+#[tactic(auto, unfolding(crate::specs::ListingLines::params_text))]
 fn push_params(text: &mut String, params: &FrameParams) -> Result<(), AllocError>
     requires { AreFewTiles params.now.tiles }
     ensures { OnOk result (string_bytes text.new ≡ string_bytes text.old ++ params_text params.now) }
@@ -64,7 +64,7 @@ fn push_params(text: &mut String, params: &FrameParams) -> Result<(), AllocError
     write!(text, " q {base} level {level} tiles {columns}x{rows}")
 }
 
-#[tactic(auto, unfolding(crate::specs::Lines::bytes_text))]
+#[tactic(auto, unfolding(crate::specs::ListingLines::bytes_text))]
 fn push_bytes(text: &mut String, bytes: usize) -> Result<(), AllocError>
     ensures { OnOk result (string_bytes text.new ≡ string_bytes text.old ++ bytes_text bytes) }
 {
@@ -72,7 +72,7 @@ fn push_bytes(text: &mut String, bytes: usize) -> Result<(), AllocError>
 }
 
 /// Adds the line of a coded frame, with its number and its size in bytes.
-#[tactic(auto, unfolding(crate::specs::Lines::coded_line), using(crate::proofs::Texts::five_pieces))]
+#[tactic(auto, unfolding(crate::specs::ListingLines::coded_line), using(crate::proofs::Texts::five_pieces))]
 pub fn push_coded(
     text: &mut String,
     frame: u64,
@@ -90,7 +90,7 @@ pub fn push_coded(
 }
 
 /// Adds the line of a frame that shows a slot.
-#[tactic(auto, unfolding(crate::specs::Lines::shown_line))]
+#[tactic(auto, unfolding(crate::specs::ListingLines::shown_line))]
 pub fn push_shown(text: &mut String, frame: u64, slot: u8, bytes: usize) -> Result<(), AllocError>
     ensures { OnOk result (string_bytes text.new ≡ string_bytes text.old ++ shown_line frame slot bytes) }
 {

@@ -1,7 +1,7 @@
 ghost use Rattle.std.specs.Prelude.{◌≡◌, ◌⊎◌, Some, None, map, string_bytes};
 ghost use Rattle.vp9_app.specs.Answers.{Runs, Works};
 ghost use Rattle.vp9_app.specs.Making.{Makes, Trials};
-ghost use Rattle.vp9_app.specs.Reading.{Reads, decoded};
+ghost use Rattle.vp9_app.specs.ReadingCommands.{Reads, decoded};
 ghost use Rattle.vp9_app.specs.Seen.{sink_seen, source_seen};
 ghost use Rattle.command_words.specs.declared.command.Command.TheVariants as command;
 ghost use Rattle.command_words.specs.declared.command.MadeStream.{MadeStream};

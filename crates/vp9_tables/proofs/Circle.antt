@@ -2,7 +2,7 @@
 use Rattle.std.proofs.Common.{◌≡◌, ℕ, ◌<◌, ◌∙◌, ℤ, pos, refl, List, map, slice_index_or, ap, zero-add}
 use Rattle.std.specs.List.{range_with_len}
 use Rattle.std.proofs.lemmas.List.FromFn.{get_or-map-range_with_len}
-use Rattle.vp9_tables.specs.Transforms.{cosine_of}
+use Rattle.vp9_tables.specs.TransformTables.{cosine_of}
 use Rattle.vp9_tables.specs.declared.data.cosines.TheConstants.{COSINES}
 
 whole : COSINES ≡ map cosine_of (range_with_len 0 128)

@@ -10,7 +10,7 @@ use Rattle.vp9_types.specs.declared.block.Partition.TheVariants.{Whole, Horizont
 use Rattle.vp9_types.specs.declared.block.TxSize.{TxSize}
 use Rattle.vp9_types.specs.declared.block.TxSize.TheVariants.{T4x4, T8x8, T16x16, T32x32}
 use Rattle.vp9_tables.specs.Numbers.{block_number, partition_number, tx_number}
-use Rattle.vp9_tables.specs.Blocks.{is_part, is_in_chroma, is_uv, greatest_of, subsampling_place, uv_place}
+use Rattle.vp9_tables.specs.BlockTables.{is_part, is_in_chroma, is_uv, greatest_of, subsampling_place, uv_place}
 use Rattle.vp9_tables.specs.declared.data.blocks.TheConstants.{SUBSIZE, SS_SIZE, UV_TX_SIZE, MAX_TX_SIZE}
 
 abbrev holds : {X : Type 0} → (X → Bool) → Option X → Bool

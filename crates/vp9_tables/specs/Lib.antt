@@ -2,9 +2,9 @@ pub mod Numbers
 pub mod Orders
 pub mod Scans
 pub mod Coefficients
-pub mod Trees
-pub mod Transforms
+pub mod SymbolTrees
+pub mod TransformTables
 pub mod Motion
-pub mod Blocks
+pub mod BlockTables
 pub mod Filters
-pub mod Quantisers
+pub mod QuantiserTables

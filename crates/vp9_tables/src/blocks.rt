@@ -1,7 +1,7 @@
 ghost use Rattle.std.specs.Prelude.{◌≡◌, ℕ, ◌+◌, ◌*◌, ◌/◌, ◌<◌, ◌≤◌, [], slice_index, slice_get, get_or, Some, min, length, nat_le, IsTrue};
 ghost use Rattle.std.specs.List.{list_all};
 ghost use Rattle.vp9_tables.specs.Numbers.{block_number, partition_number, tx_number, tx_mode_number, intra_number};
-ghost use Rattle.vp9_tables.specs.Blocks.{subsampling_place, uv_place, is_part, is_in_chroma, is_uv, greatest_of, tx_type_of};
+ghost use Rattle.vp9_tables.specs.BlockTables.{subsampling_place, uv_place, is_part, is_in_chroma, is_uv, greatest_of, tx_type_of};
 
 use crate::data::blocks::{
     BLOCK_SIZES, INTRA_MODE_TO_TX_TYPE, MAX_TX_SIZE, SIZE_GROUP, SS_SIZE, SUBSIZE,

@@ -2,7 +2,7 @@ ghost use Rattle.std.specs.Prelude.{◌≡◌, ℕ, ◌+◌, ◌*◌, ◌<◌, �
 ghost use Rattle.std.specs.List.{list_all};
 ghost use Rattle.vp9_types.specs.declared.shape.Depth.{Depth};
 ghost use Rattle.vp9_tables.specs.Numbers.{depth_number};
-ghost use Rattle.vp9_tables.specs.Quantisers.{ends};
+ghost use Rattle.vp9_tables.specs.QuantiserTables.{ends};
 ghost use Rattle.vp9_tables.specs.Orders.{NeverFalls};
 
 use crate::data::quantisers::{AC_Q, DC_Q};

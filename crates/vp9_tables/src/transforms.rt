@@ -1,7 +1,7 @@
 ghost use Rattle.std.specs.Prelude.{◌≡◌, ℕ, ◌+◌, ◌-◌, ◌*◌, ◌<◌, ◌≤◌, ◌^◌, ◌∷◌, [], pos, ◌+ℤ◌, ◌*ℤ◌, ◌≤ℤ◌, slice_index_or, unsigned_abs, int_lt, nat_le, length, IsTrue};
 ghost use Rattle.std.specs.List.{list_all, range_with_len};
 ghost use Rattle.vp9_types.specs.Sizes.{side};
-ghost use Rattle.vp9_tables.specs.Transforms.{is_on_circle, cos64, cosine_of, is_flow, dct_of};
+ghost use Rattle.vp9_tables.specs.TransformTables.{is_on_circle, cos64, cosine_of, is_flow, dct_of};
 
 use crate::data::cosines::{COS64, COSINES, SINPI};
 use crate::data::flows::{

@@ -4,7 +4,7 @@
 
 ghost use Rattle.std.specs.Prelude.{ℕ, ◌*◌, length, ◌≡◌, IsTrue};
 ghost use Rattle.vp9_types.specs.Trees.{tree_of, is_tree, greatest_leaf};
-ghost use Rattle.vp9_tables.specs.Trees.{symbols, differ, coef_tail_from, coef_tree, filter_tree, inter_mode_tree, intra_mode_tree, mv_class0_tree, mv_class_tree, mv_fr_tree, mv_joint_tree, partition_tree, segment_tree, tx16_tree, tx32_tree, tx8_tree};
+ghost use Rattle.vp9_tables.specs.SymbolTrees.{symbols, differ, coef_tail_from, coef_tree, filter_tree, inter_mode_tree, intra_mode_tree, mv_class0_tree, mv_class_tree, mv_fr_tree, mv_joint_tree, partition_tree, segment_tree, tx16_tree, tx32_tree, tx8_tree};
 
 use crate::data::trees::{
     TREE_COEF, TREE_COEF_TAIL, TREE_FILTER, TREE_INTER_MODE, TREE_INTRA_MODE, TREE_MV_CLASS,

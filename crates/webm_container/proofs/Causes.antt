@@ -10,8 +10,8 @@ use Rattle.ivf_container.specs.Packets.{Packets}
 use Rattle.webm_container.specs.Ids as the
 use Rattle.webm_container.specs.Ids.{is_top_level}
 use Rattle.webm_container.specs.Elements.{coded_length, coded_at, sized, element_at, if_known, known_at}
-use Rattle.webm_container.specs.Entries.{noted, usable, chosen_by, chosen}
-use Rattle.webm_container.specs.Blocks.{is_of, is_laced, behind_number, payload_at}
+use Rattle.webm_container.specs.TrackEntries.{noted, usable, chosen_by, chosen}
+use Rattle.webm_container.specs.ClusterBlocks.{is_of, is_laced, behind_number, payload_at}
 use Rattle.webm_container.specs.Walk.{moved, in_file, file_step, if_chosen, in_segment, segment_step, in_tracks, tracks_step, with_track, entry_step, behind_block, block_step, in_cluster, cluster_step, in_group, group_step, step_within, step_at, go_on, packets_from, at_start, webm_packets}
 use Rattle.webm_container.specs.Laws as law
 use Rattle.webm_container.specs.Laws.{LeadsTo, Comes, element_of, MayBeUnknown, IsBlockId, HasNoNumber, EndsEntry, AtBlock, Breaks}

@@ -6,7 +6,7 @@ use Rattle.std.proofs.lemmas.Bool.{le-leb, le-ltb, eqb-true, eqb-false, ltb-fals
 use Rattle.byteorder.specs.Endian.{big_number}
 use Rattle.vp9_types.specs.Results.{◌>>=◌}
 use Rattle.vp9_types.specs.declared.rule.Rule.{Rule}
-use Rattle.webm_container.specs.Entries.{new_entry, is_vp9, number_in, first_of, noted, usable, chosen_by, chosen}
+use Rattle.webm_container.specs.TrackEntries.{new_entry, is_vp9, number_in, first_of, noted, usable, chosen_by, chosen}
 use Rattle.webm_container.specs.Walk.{moved, with_track, in_tracks, tracks_step, entry_step, packets_from}
 use Rattle.webm_container.specs.Webm as webm
 use Rattle.webm_container.specs.Webm.{Head, head_bytes, id_of, IsHead, Other, other_bytes, others_bytes, IsOther, first_content, codec_is_vp9, SaysNumber, IsNotEncoded, IsChosen, InTracks, tracks_element, tracks_bytes, AreTracks}

@@ -8,7 +8,7 @@ use Rattle.vp9_types.specs.declared.job.Span.{Span}
 use Rattle.vp9_types.specs.declared.rule.Rule.{Rule}
 use Rattle.ivf_container.specs.Packets.{Packets, with_payload, with_payloads}
 use Rattle.webm_container.specs.Elements.{coded_of}
-use Rattle.webm_container.specs.Blocks.{is_laced, behind_number, payload_at}
+use Rattle.webm_container.specs.ClusterBlocks.{is_laced, behind_number, payload_at}
 use Rattle.webm_container.specs.Walk.{behind_block, block_step, step_at, go_on, packets_from}
 use Rattle.webm_container.proofs.Progress.{LiesWithin}
 use Rattle.webm_container.specs.Webm.{marked_in, value_in, Block, block_bytes, IsBlock, block_payloads}

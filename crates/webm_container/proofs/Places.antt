@@ -5,7 +5,7 @@ use borrow.Author.Tests.{ltb-false, leb-false}
 use Rattle.vp9_types.specs.declared.job.Span.{Span}
 use Rattle.vp9_types.specs.declared.rule.Rule.{Rule}
 use Rattle.webm_container.specs.Elements.{coded_length, coded_at, sized, element_at, if_known, known_at}
-use Rattle.webm_container.specs.Blocks.{is_of, is_laced, behind_number, payload_at}
+use Rattle.webm_container.specs.ClusterBlocks.{is_of, is_laced, behind_number, payload_at}
 use Rattle.webm_container.specs.declared.elements.Coded.{Coded}
 use Rattle.webm_container.specs.declared.elements.Element.{Element}
 use Rattle.webm_container.proofs.Tests.{by_test, by_result}

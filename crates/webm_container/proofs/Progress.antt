@@ -4,8 +4,8 @@ use Rattle.std.specs.Prelude.{Option, Some, None, Result, Ok, Err, not, ◌&&◌
 use Rattle.vp9_types.specs.declared.job.Span.{Span}
 use Rattle.vp9_types.specs.declared.rule.Rule.{Rule}
 use Rattle.webm_container.specs.Elements.{element_at, known_at}
-use Rattle.webm_container.specs.Entries.{noted, chosen}
-use Rattle.webm_container.specs.Blocks.{payload_at}
+use Rattle.webm_container.specs.TrackEntries.{noted, chosen}
+use Rattle.webm_container.specs.ClusterBlocks.{payload_at}
 use Rattle.webm_container.specs.Walk.{in_file, file_step, if_chosen, in_segment, segment_step, in_tracks, tracks_step, with_track, entry_step, behind_block, block_step, in_cluster, cluster_step, in_group, group_step, step_within, step_at, moved}
 use Rattle.webm_container.specs.Code.{inner_end, outer_end, segment_end, Fits}
 use Rattle.webm_container.specs.declared.cursor.Cluster.{Cluster}

@@ -7,7 +7,7 @@ use Rattle.byteorder.specs.Endian.{big_number}
 use Rattle.vp9_types.specs.declared.job.Span.{Span}
 use Rattle.vp9_types.specs.declared.rule.Rule.{Rule}
 use Rattle.webm_container.specs.Elements.{coded_length, coded_of, coded_at, sized, element_at, if_known, known_at}
-use Rattle.webm_container.specs.Blocks.{is_of, is_laced, behind_number, payload_at}
+use Rattle.webm_container.specs.ClusterBlocks.{is_of, is_laced, behind_number, payload_at}
 use Rattle.webm_container.specs.Webm.{IsCoded, marked_in, value_in, Head, head_bytes, id_of, IsHead, Other, other_bytes, IsOther, Block, block_bytes, IsBlock, block_payloads}
 use Rattle.webm_container.specs.declared.elements.Coded.{Coded}
 use Rattle.webm_container.specs.declared.elements.Element.{Element}

@@ -9,8 +9,8 @@ use Rattle.ivf_container.specs.Packets.{Packets}
 use Rattle.webm_container.specs.Ids as the
 use Rattle.webm_container.specs.Ids.{is_top_level}
 use Rattle.webm_container.specs.Elements.{element_at, known_at}
-use Rattle.webm_container.specs.Entries.{new_entry, noted, chosen}
-use Rattle.webm_container.specs.Blocks.{payload_at}
+use Rattle.webm_container.specs.TrackEntries.{new_entry, noted, chosen}
+use Rattle.webm_container.specs.ClusterBlocks.{payload_at}
 use Rattle.webm_container.specs.Walk.{moved, if_chosen, in_segment, segment_step, in_tracks, tracks_step, with_track, entry_step, behind_block, block_step, in_cluster, cluster_step, in_group, group_step, step_within, go_on, packets_from}
 use Rattle.webm_container.specs.Webm as webm
 use Rattle.webm_container.specs.Webm.{Head, head_bytes, id_of, IsHead, Other, other_bytes, others_bytes, IsOther, IsChosen, InTracks, tracks_bytes, AreTracks, Block, block_bytes, IsBlock, block_payloads, InGroup, group_bytes, IsInGroup, group_payloads, InCluster, cluster_element, cluster_bytes, IsInCluster, cluster_payloads, InSegment, segment_bytes, EndsCluster, AreInSegment}

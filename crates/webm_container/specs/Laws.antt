@@ -4,7 +4,7 @@ use Rattle.vp9_types.specs.declared.rule.Rule.{Rule}
 use Rattle.vp9_types.specs.declared.rule.Rule.TheVariants.{WebmElement, WebmTrack, WebmLacing, WebmEncoding}
 use Rattle.webm_container.specs.Ids as the
 use Rattle.webm_container.specs.Elements.{coded_at, element_at}
-use Rattle.webm_container.specs.Blocks.{is_laced}
+use Rattle.webm_container.specs.ClusterBlocks.{is_laced}
 use Rattle.webm_container.specs.Walk.{step_at}
 use Rattle.webm_container.specs.Code.{inner_end}
 use Rattle.webm_container.specs.declared.cursor.Parent.{Parent}

@@ -1,7 +1,7 @@
 pub mod Ids
 pub mod Elements
-pub mod Entries
-pub mod Blocks
+pub mod TrackEntries
+pub mod ClusterBlocks
 pub mod Walk
 pub mod Webm
 pub mod Code

@@ -6,8 +6,8 @@ use Rattle.vp9_types.specs.declared.rule.Rule.{Rule}
 use Rattle.vp9_types.specs.declared.rule.Rule.TheVariants.{WebmElement, WebmTrack}
 use Rattle.ivf_container.specs.Packets.{Packets, no_packets, with_payload}
 use Rattle.webm_container.specs.Elements.{element_at, known_at}
-use Rattle.webm_container.specs.Entries.{new_entry, noted, chosen}
-use Rattle.webm_container.specs.Blocks.{payload_at}
+use Rattle.webm_container.specs.TrackEntries.{new_entry, noted, chosen}
+use Rattle.webm_container.specs.ClusterBlocks.{payload_at}
 use Rattle.webm_container.specs.declared.cursor.Cluster.{Cluster}
 use Rattle.webm_container.specs.declared.cursor.Parent.{Parent}
 use Rattle.webm_container.specs.declared.cursor.Parent.TheVariants as parent

@@ -4,8 +4,8 @@ use Rattle.std.specs.List.{flat_map, AllByRecursion}
 use Rattle.byteorder.specs.Endian.{big_number}
 use Rattle.ivf_container.specs.Packets.{Packets}
 use Rattle.webm_container.specs.Elements.{coded_length}
-use Rattle.webm_container.specs.Entries.{is_vp9}
-use Rattle.webm_container.specs.Blocks.{is_laced}
+use Rattle.webm_container.specs.TrackEntries.{is_vp9}
+use Rattle.webm_container.specs.ClusterBlocks.{is_laced}
 use Rattle.webm_container.specs.Ids as the
 use Rattle.webm_container.specs.Ids.{is_top_level}
 

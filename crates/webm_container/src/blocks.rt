@@ -1,5 +1,5 @@
 ghost use Rattle.std.specs.Prelude.{◌≡◌, ◌≤◌, length};
-ghost use Rattle.webm_container.specs.Blocks.{is_of, payload_at};
+ghost use Rattle.webm_container.specs.ClusterBlocks.{is_of, payload_at};
 
 use crate::elements::coded_at;
 use vp9_types::{Rule, Span};
@@ -20,7 +20,7 @@ fn is_of(track: Option<u64>, number: u64) -> bool
 }
 
 /// The payload of a block that lies from `from` to `to`, or nothing if it is of another track.
-#[tactic(auto, unfolding(crate::specs::Blocks::payload_at))]
+#[tactic(auto, unfolding(crate::specs::ClusterBlocks::payload_at))]
 pub fn payload_at(
     bytes: &[u8],
     track: Option<u64>,

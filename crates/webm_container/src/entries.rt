@@ -1,7 +1,7 @@
 //! What is read of the entries of tracks.
 
 ghost use Rattle.std.specs.Prelude.{◌≡◌, ◌≤◌, length};
-ghost use Rattle.webm_container.specs.Entries.{new_entry, are_zeros, is_vp9, number_in, noted, chosen};
+ghost use Rattle.webm_container.specs.TrackEntries.{new_entry, are_zeros, is_vp9, number_in, noted, chosen};
 
 use crate::elements::{CODEC_ID, CONTENT_ENCODINGS, Element, TRACK_NUMBER};
 use byteorder::{BigEndian, ByteOrder};

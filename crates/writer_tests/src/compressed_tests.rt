@@ -5,8 +5,8 @@ ghost use Rattle.std.specs.Prelude.{◌≡◌, ◌<◌, ◌≤◌, ◌%◌, leng
 ghost use Rattle.std.specs.List.{All};
 ghost use Rattle.frame_headers.specs.Quantizer.{is_lossless};
 ghost use Rattle.frame_headers.specs.declared.header.FrameFilter.TheVariants as filter;
-ghost use Rattle.prob_contexts.specs.Lists.{lists_of, vector_lists};
-ghost use Rattle.compressed_writer.specs.Updates.{AreOddUpdates, AreVectorUpdates, CanForward};
+ghost use Rattle.prob_contexts.specs.ProbLists.{lists_of, vector_lists};
+ghost use Rattle.compressed_writer.specs.CodedUpdates.{AreOddUpdates, AreVectorUpdates, CanForward};
 
 use compressed_header::read;
 use compressed_writer::write_compressed_header;

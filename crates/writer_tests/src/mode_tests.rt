@@ -1,8 +1,8 @@
 //! Tiles of intra frames without residue, drawn with their bytes by tools/vectors.py mode_writings.
 
 ghost use Rattle.std.specs.Prelude.{◌≡◌, ◌*◌, ◌<◌, ◌≤◌, true};
-ghost use Rattle.frame_headers.specs.Sizes.{IsFrameSize};
-ghost use Rattle.mode_writer.specs.Fits.{CanSegment, CanSkip, CanTx, CanLuma, CanPartitionAt};
+ghost use Rattle.frame_headers.specs.FrameSizes.{IsFrameSize};
+ghost use Rattle.mode_writer.specs.ModeFits.{CanSegment, CanSkip, CanTx, CanLuma, CanPartitionAt};
 
 use block_geometry::{FramePlaces, is_below_8x8};
 use block_plan::{BlockAt, BlockGrid, BlockInfo, IntraPrediction, Prediction};

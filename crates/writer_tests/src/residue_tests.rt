@@ -3,8 +3,8 @@
 
 ghost use Rattle.std.specs.Prelude.{◌≡◌, ◌≢◌, ◌<◌, ◌⊎◌, ℕ, pos, length, slice_index, unsigned_abs};
 ghost use Rattle.coef_tokens.specs.Places.{Tables};
-ghost use Rattle.token_writer.specs.Fits.{CanPut};
-ghost use Rattle.residue_writer.specs.Said.{levels_at};
+ghost use Rattle.token_writer.specs.TokenFits.{CanPut};
+ghost use Rattle.residue_writer.specs.SaidResidues.{levels_at};
 
 use block_plan::{BlockInfo, IntraPrediction, Prediction};
 use bool_encoder::BoolEncoder;

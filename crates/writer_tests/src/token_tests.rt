@@ -5,7 +5,7 @@ ghost use Rattle.std.specs.Prelude.{ℕ, true, ◌-◌, ◌≡◌, ◌≢◌, �
 ghost use Rattle.std.specs.List.{All};
 ghost use Rattle.vp9_tables.specs.Scans.{area, scan_of};
 ghost use Rattle.coef_tokens.specs.Code.{HoldsLevels};
-ghost use Rattle.token_writer.specs.Fits.{level_of};
+ghost use Rattle.token_writer.specs.TokenFits.{level_of};
 
 use bool_encoder::BoolEncoder;
 use coef_tokens::{TokenKind, TokenTables, tokens};

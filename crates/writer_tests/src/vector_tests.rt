@@ -7,8 +7,8 @@ ghost use Rattle.vp9_types.specs.declared.block.BlockSize.TheVariants.{B4x4};
 ghost use Rattle.vp9_types.specs.declared.block.InterpFilter.TheVariants.{Sharp};
 ghost use Rattle.mv_prediction.specs.Code.{HasSmallVectors};
 ghost use Rattle.mv_prediction.specs.SubBlocks.{vector_at};
-ghost use Rattle.inter_modes.specs.Vectors.{row_at};
-ghost use Rattle.vector_writer.specs.Fits.{IsDifference, CanDiffer};
+ghost use Rattle.inter_modes.specs.BlockVectors.{row_at};
+ghost use Rattle.vector_writer.specs.VectorFits.{IsDifference, CanDiffer};
 
 use block_geometry::FramePlaces;
 use block_plan::{BlockAt, BlockGrid, InterPrediction, Mv, References};

@@ -1,7 +1,7 @@
 use Rattle.std.proofs.Common.{sym, arith, subst}
 use Rattle.std.specs.Prelude.{length}
 use Rattle.band_needs.specs.Ranges.{needs_at}
-use Rattle.band_needs.specs.Reads.{AreRead, BlocksRead}
+use Rattle.band_needs.specs.BandReads.{AreRead, BlocksRead}
 use Rattle.band_needs.specs.Code.{shapes_of}
 use Rattle.band_needs.specs.declared.ranges.BandNeeds.{BandNeeds}
 use Rattle.band_needs.proofs.Exact.{needs_are}

@@ -1,7 +1,7 @@
 use Rattle.std.proofs.Common.{◌≡◌, ◌<◌, ◌∙◌, sym, arith}
 use Rattle.inter_places.specs.Places.{parts_of}
 use Rattle.band_needs.specs.Ranges.{both_ranges}
-use Rattle.band_needs.specs.Reads.{part_in}
+use Rattle.band_needs.specs.BandReads.{part_in}
 use Rattle.band_needs.specs.Needs.{part_range, with_part, plane_range}
 use Rattle.band_needs.proofs.RowLemmas.{fold_more}
 use Rattle.band_needs.proofs.PlaneLemmas.{first_twice, some_parts}

@@ -1,6 +1,6 @@
 use Rattle.std.proofs.Common.{◌≡◌}
 use Rattle.std.specs.List.{fold, range_with_len}
-use Rattle.band_needs.specs.Reads.{part_in}
+use Rattle.band_needs.specs.BandReads.{part_in}
 use Rattle.band_needs.specs.Needs.{part_range, with_part}
 use Rattle.band_needs.proofs.blocks.plane_range.Given as goal
 

@@ -1,5 +1,5 @@
 use Rattle.std.proofs.Common.{◌≡◌, rules}
-use Rattle.vp9_tables.specs.Blocks.{width_of, height_of}
+use Rattle.vp9_tables.specs.BlockTables.{width_of, height_of}
 use Rattle.block_geometry.specs.TransformBlocks.{plane_side}
 use Rattle.block_geometry.proofs.FewBlocks.{wide, high, small_side}
 use Rattle.block_geometry.proofs.transform_blocks.transform_grid.Goals as goal

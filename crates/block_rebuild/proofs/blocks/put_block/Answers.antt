@@ -3,7 +3,7 @@ use Rattle.vp9_types.specs.declared.shape.Plane.TheVariants.{Y, U, V}
 use Rattle.block_plan.specs.Code.{HoldsSmall}
 use Rattle.block_plan.specs.Planned.{PlannedBlock}
 use Rattle.planes.specs.Pictures.{samples_of}
-use Rattle.block_rebuild.specs.Blocks.{put_planned}
+use Rattle.block_rebuild.specs.RebuiltBlocks.{put_planned}
 use Rattle.block_rebuild.specs.Code.{rebuilding_of}
 use Rattle.block_rebuild.proofs.Areas.{whole_holds}
 use Rattle.block_rebuild.proofs.Parts.{whole_pictures_serve}

@@ -1,7 +1,7 @@
 use Rattle.std.proofs.Common.{◌∙◌, arith}
 use Rattle.std.proofs.lemmas.Bool.{and_parts}
 use Rattle.vp9_types.specs.Trees.{greatest_leaf}
-use Rattle.bool_encoder.specs.Entries.{has_leaves, is_whole}
+use Rattle.bool_encoder.specs.TreeEntries.{has_leaves, is_whole}
 use Rattle.bool_encoder.proofs.TreeWays.{way_ends, leaf_fits, leaf_there, whole_holds}
 use Rattle.bool_encoder.proofs.tree.put_tree.Goals as goal
 

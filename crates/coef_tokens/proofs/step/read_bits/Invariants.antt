@@ -2,7 +2,7 @@ use Rattle.std.proofs.Common.{◌≡◌, ◌^◌, ◌<◌, drop}
 use Rattle.vp9_types.specs.declared.rule.Rule.{Rule}
 use Rattle.bool_decoder.specs.Bools.{run_bools}
 use Rattle.bool_decoder.specs.Held.{window_of}
-use Rattle.coef_tokens.specs.Symbols.{bits_from}
+use Rattle.coef_tokens.specs.TokenSymbols.{bits_from}
 use Rattle.coef_tokens.proofs.step.read_bits.Given as goal
 
 abbrev pub invariant-loop-p : goal.invariant-loop-p

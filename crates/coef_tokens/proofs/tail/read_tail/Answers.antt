@@ -1,6 +1,6 @@
 use Rattle.std.proofs.Common.{◌∙◌}
 use Rattle.vp9_types.specs.Trees.{tree_symbol}
-use Rattle.coef_tokens.specs.Symbols.{tail_token}
+use Rattle.coef_tokens.specs.TokenSymbols.{tail_token}
 use Rattle.coef_tokens.proofs.Bits.{on_one, on_zero}
 use Rattle.coef_tokens.proofs.tail.read_tail.Goals as goal
 

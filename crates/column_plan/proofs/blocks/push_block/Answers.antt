@@ -2,7 +2,7 @@ use Rattle.std.proofs.Common.{◌≡◌, length, subst, rules}
 use Rattle.vp9_types.specs.declared.shape.Plane.TheVariants.{Y, U, V}
 use Rattle.vp9_types.specs.declared.shape.Shape.{Shape}
 use Rattle.block_plan.specs.Code.{planned_with}
-use Rattle.frame_headers.specs.State.{shape_of}
+use Rattle.frame_headers.specs.HeaderState.{shape_of}
 use Rattle.column_plan.specs.Code.{HoldsWhole}
 use Rattle.column_plan.proofs.Held.{BlockStands, block_pushed, block_stands, counted_fits, plane_stands, plane_whole, stands_where}
 use Rattle.column_plan.proofs.blocks.push_block.Goals as goal

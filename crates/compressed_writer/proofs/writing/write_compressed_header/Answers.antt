@@ -1,5 +1,5 @@
 use Rattle.std.proofs.lemmas.Result.{IfOk-weaker}
-use Rattle.prob_contexts.specs.Lists.{lists_of}
+use Rattle.prob_contexts.specs.ProbLists.{lists_of}
 use Rattle.compressed_writer.proofs.Forwards.{forwarded, some_bytes}
 use Rattle.compressed_writer.proofs.writing.write_compressed_header.Goals as goal
 

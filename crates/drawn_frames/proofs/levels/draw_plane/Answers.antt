@@ -1,8 +1,8 @@
 use Rattle.std.proofs.Common.{◌≡◌, ◌∙◌, sym}
-use Rattle.frame_headers.specs.State.{shape_of}
+use Rattle.frame_headers.specs.HeaderState.{shape_of}
 use Rattle.block_geometry.specs.TransformBlocks.{transform_blocks, grid_blocks}
 use Rattle.block_plan.specs.InPlanes.{places_in}
-use Rattle.drawn_frames.specs.Levels.{draw_plane}
+use Rattle.drawn_frames.specs.BlockLevelDraws.{draw_plane}
 use Rattle.drawn_frames.proofs.levels.draw_plane.Goals as goal
 
 pub returns-clause-drawn : goal.returns-clause-drawn

@@ -1,5 +1,5 @@
 use Rattle.std.proofs.Common.{refl}
-use Rattle.coef_tokens.specs.Blocks.{block_tables}
+use Rattle.coef_tokens.specs.TokenKinds.{block_tables}
 use Rattle.residue_syntax.specs.BlocksInPlanes.{token_kind}
 use Rattle.drawn_symbols.proofs.in_plane.draw_levels_at.Goals as goal
 

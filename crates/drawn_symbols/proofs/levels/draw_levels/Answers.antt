@@ -1,4 +1,4 @@
-use Rattle.drawn_symbols.specs.Levels.{levels_of}
+use Rattle.drawn_symbols.specs.LevelDraws.{levels_of}
 use Rattle.drawn_symbols.proofs.Places.{levels_can}
 use Rattle.drawn_symbols.proofs.levels.draw_levels.Goals as goal
 

@@ -1,16 +1,16 @@
 use Rattle.std.proofs.Common.{◌≡◌, ◌∙◌, ap, sym, subst, refl, arith}
 use Rattle.std.proofs.lemmas.Result.{err_from_is_err_and}
 use Rattle.frame_headers.specs.Spans.{tile_count}
-use Rattle.prob_contexts.specs.Lists.{lists_of}
+use Rattle.prob_contexts.specs.ProbLists.{lists_of}
 use Rattle.loop_edges.specs.Cells.{setting_of}
-use Rattle.loop_edges.specs.Edges.{filtered_frame}
+use Rattle.loop_edges.specs.FrameEdges.{filtered_frame}
 use Rattle.loop_edges.specs.declared.setting.EdgeSetting.{EdgeSetting}
 use Rattle.planes.specs.Pictures.{HasSizes, IsInRange, samples_of}
-use Rattle.frame_state.specs.Columns.{AreTileColumns, blocks_of}
-use Rattle.frame_state.specs.Reading.{all_blocks, blocks_read, sources}
+use Rattle.frame_state.specs.KeptColumns.{AreTileColumns, blocks_of}
+use Rattle.frame_state.specs.FrameReading.{all_blocks, blocks_read, sources}
 use Rattle.block_rebuild.specs.InterBlocks.{Rebuilding}
 use Rattle.frame_decoder.specs.Code.{input_of, pictures_of}
-use Rattle.frame_decoder.specs.Frames.{raw, rebuilding}
+use Rattle.frame_decoder.specs.DecodedFrames.{raw, rebuilding}
 use Rattle.frame_state.proofs.ColumnBlocks.{all_fit, starts_of}
 use Rattle.frame_state.proofs.ColumnSteps.{blocks_told, written_back}
 use Rattle.frame_decoder.proofs.PlainFrames.{frame_breaks, frame_done, nothing_put, result_of}

@@ -1,10 +1,10 @@
 use Rattle.std.proofs.Common.{◌≡◌, ◌∙◌, ap, sym, arith}
 use Rattle.std.proofs.lemmas.Result.{err_from_is_err_and}
-use Rattle.frame_headers.specs.State.{shape_of}
+use Rattle.frame_headers.specs.HeaderState.{shape_of}
 use Rattle.vp9_types.specs.Shapes.{mi_cols, mi_rows}
 use Rattle.block_geometry.specs.declared.transform_blocks.FramePlaces.{FramePlaces}
 use Rattle.block_plan.specs.Code.{planned_with}
-use Rattle.block_rebuild.specs.Blocks.{put_planned}
+use Rattle.block_rebuild.specs.RebuiltBlocks.{put_planned}
 use Rattle.planes.specs.Pictures.{samples_of}
 use Rattle.frame_state.specs.Code.{sources_of}
 use Rattle.frame_decoder.specs.Code.{pictures_of}

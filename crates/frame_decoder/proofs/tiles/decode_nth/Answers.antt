@@ -1,8 +1,8 @@
 use Rattle.std.proofs.Common.{◌≡◌, ◌%◌, ◌<◌, ap, length, arith}
 use Rattle.vp9_types.specs.Shapes.{mi_rows}
-use Rattle.frame_headers.specs.State.{shape_of}
+use Rattle.frame_headers.specs.HeaderState.{shape_of}
 use Rattle.block_geometry.specs.declared.transform_blocks.FramePlaces.{FramePlaces}
-use Rattle.frame_state.specs.Tiles.{column_of}
+use Rattle.frame_state.specs.TilePlaces.{column_of}
 use Rattle.frame_state.proofs.ColumnSteps.{begins_there, cleared_fit, columns_after, ends_there, has_room, ready_of, rows_in_order, rows_within}
 use Rattle.frame_decoder.proofs.PlainTiles.{gives_nth}
 use Rattle.frame_state.proofs.TileOffsets.{column_below}

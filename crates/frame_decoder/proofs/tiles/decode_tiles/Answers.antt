@@ -1,8 +1,8 @@
 use Rattle.std.proofs.Common.{◌≡◌, ◌∙◌, subst, arith}
 use Rattle.std.proofs.lemmas.Result.{err_from_is_err_and}
-use Rattle.frame_state.specs.Columns.{AreTileColumns}
+use Rattle.frame_state.specs.KeptColumns.{AreTileColumns}
 use Rattle.frame_state.specs.Code.{sources_of}
-use Rattle.frame_state.specs.Reading.{nothing_read}
+use Rattle.frame_state.specs.FrameReading.{nothing_read}
 use Rattle.frame_state.proofs.ColumnSteps.{none_counted}
 use Rattle.frame_state.proofs.TileSpans.{all_left, ends, frame_breaks, goes_on}
 use Rattle.frame_decoder.proofs.tiles.decode_tiles.Goals as goal

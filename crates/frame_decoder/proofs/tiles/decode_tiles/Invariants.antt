@@ -1,10 +1,10 @@
 use Rattle.std.proofs.Common.{◌≡◌}
 use Rattle.std.specs.Prelude.{not, nat_eq}
-use Rattle.frame_headers.specs.State.{shape_of}
-use Rattle.frame_state.specs.Columns.{AreTileColumns}
+use Rattle.frame_headers.specs.HeaderState.{shape_of}
+use Rattle.frame_state.specs.KeptColumns.{AreTileColumns}
 use Rattle.frame_decoder.specs.Code.{ArePlanes, HoldsRead, pictures_of}
 use Rattle.frame_state.specs.Code.{counts_if, sources_of}
-use Rattle.frame_state.specs.Reading.{FrameRead}
+use Rattle.frame_state.specs.FrameReading.{FrameRead}
 use Rattle.frame_state.proofs.TileSpans.{IsLeft}
 use Rattle.frame_decoder.proofs.tiles.decode_tiles.Given as goal
 

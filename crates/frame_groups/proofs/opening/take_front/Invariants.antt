@@ -1,5 +1,5 @@
 use Rattle.std.proofs.Common.{◌+◌, ◌-◌, ◌≡◌, ◌<◌, ◌≤◌, ◌^◌, take}
-use Rattle.edge_io.specs.Reading.{Gave}
+use Rattle.edge_io.specs.SourceReading.{Gave}
 use Rattle.frame_groups.proofs.opening.take_front.Given as goal
 
 -- the first bytes are in the buffer, and nothing failed

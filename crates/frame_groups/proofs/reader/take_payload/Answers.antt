@@ -3,8 +3,8 @@ use Rattle.std.specs.Prelude.{Option, Some, None, Ok, Err, Vec}
 use Rattle.std.specs.declared.alloc.Global.{Global}
 use Rattle.std.proofs.lemmas.List.{append-nil}
 use Rattle.std.specs.List.{flat_map}
-use Rattle.superframe_index.specs.Frames.{frames_of}
-use Rattle.packet_reader.specs.Packets.{GivesNext, TellsRate, ahead, begun_of, rate_told, source_of, stage_of}
+use Rattle.superframe_index.specs.PayloadFrames.{frames_of}
+use Rattle.packet_reader.specs.TakenPackets.{GivesNext, TellsRate, ahead, begun_of, rate_told, source_of, stage_of}
 use Rattle.packet_reader.specs.declared.reader.PacketRefusal.{PacketRefusal}
 use Rattle.packet_reader.specs.declared.reader.PacketRefusal.TheVariants as refused
 use Rattle.frame_groups.specs.declared.group.Behind.TheVariants as behind

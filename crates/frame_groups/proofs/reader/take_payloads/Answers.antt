@@ -1,5 +1,5 @@
 use Rattle.std.proofs.Common.{◌∙◌, ℕ, subst, sym}
-use Rattle.packet_reader.specs.Packets.{source_of, stage_of}
+use Rattle.packet_reader.specs.TakenPackets.{source_of, stage_of}
 use Rattle.frame_groups.specs.declared.group.Behind.{Behind}
 use Rattle.frame_groups.specs.Code.{AddsGroup}
 use Rattle.frame_groups.specs.Groups.{CountsGroup, StandsBehind}

@@ -1,5 +1,5 @@
 use Rattle.std.proofs.Common.{◌≡◌}
-use Rattle.packet_reader.specs.Packets.{ahead, source_of, stage_of}
+use Rattle.packet_reader.specs.TakenPackets.{ahead, source_of, stage_of}
 use Rattle.frame_groups.specs.Code.{AddsGroup}
 use Rattle.frame_groups.specs.Groups.{CountsGroup, NoneBegun, StandsBehind}
 use Rattle.frame_groups.proofs.reader.take_payloads.Given as goal

@@ -1,8 +1,8 @@
 use Rattle.std.proofs.Common.{◌∙◌, ap, sym}
 use Rattle.std.specs.Prelude.{Ok, slice_range}
 use Rattle.std.proofs.lemmas.Result.{err_from_is_err_and}
-use Rattle.compressed_header.specs.Header.{forward}
-use Rattle.prob_contexts.specs.Lists.{lists_of}
+use Rattle.compressed_header.specs.CompressedHeader.{forward}
+use Rattle.prob_contexts.specs.ProbLists.{lists_of}
 use Rattle.frame_state.proofs.TileSpans.{forward_breaks, forward_not_started, sizes_break}
 use Rattle.frame_state.proofs.beginning.begin_frame.Goals as goal
 

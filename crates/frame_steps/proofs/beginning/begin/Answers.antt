@@ -4,14 +4,14 @@ use Rattle.std.specs.Arc.{arc_value}
 use Rattle.std.proofs.lemmas.Result.{err_from_is_err_and}
 use Rattle.frame_decoder.proofs.PlainFrames.{frame_breaks}
 use Rattle.seq_decoder.specs.After.{input_of, past_of, references_of, segments_before, vectors_before}
-use Rattle.frame_headers.specs.Sizes.{IsFrameSize}
+use Rattle.frame_headers.specs.FrameSizes.{IsFrameSize}
 use Rattle.frame_headers.specs.Tiles.{AreFewTiles}
 use Rattle.frame_headers.specs.declared.header.Header.{Header}
 use Rattle.seq_decoder.specs.Code.{HasPlaces, last_held}
-use Rattle.seq_decoder.specs.State.{last_size}
+use Rattle.seq_decoder.specs.DecoderState.{last_size}
 use Rattle.seq_decoder.specs.SavedContexts.{context_at, place_of, saved_before}
 use Rattle.seq_decoder.proofs.PastLemmas.{input_is}
-use Rattle.frame_steps.specs.Frames.{HaveSizes}
+use Rattle.frame_steps.specs.StepResults.{HaveSizes}
 use Rattle.frame_steps.proofs.beginning.begin.Goals as goal
 
 pub returns-in_err-setting-clause-begun : goal.returns-in_err-setting-clause-begun

@@ -1,5 +1,5 @@
 use Rattle.std.proofs.Common.{subst, arith}
-use Rattle.frame_steps.specs.Frames.{IsColumn}
+use Rattle.frame_steps.specs.StepResults.{IsColumn}
 use Rattle.frame_steps.proofs.Joining.{all_copied, one_failed, one_planned}
 use Rattle.frame_steps.proofs.closing.copy_all.Goals.{in-Ok+in_ok-copied_counts-in-Ok+in_ok-copied_column-in-Ok, in-Err}
 use Rattle.frame_steps.proofs.closing.copy_all.Goals as goal

@@ -1,8 +1,8 @@
 use Rattle.std.proofs.Common.{sym, subst}
 use Rattle.std.proofs.lemmas.Result.{err_from_is_err_and}
-use Rattle.frame_headers.specs.Sizes.{IsFrameSize}
+use Rattle.frame_headers.specs.FrameSizes.{IsFrameSize}
 use Rattle.frame_headers.specs.declared.header.Header.{Header}
-use Rattle.frame_steps.specs.Frames.{HaveSizes}
+use Rattle.frame_steps.specs.StepResults.{HaveSizes}
 use Rattle.frame_steps.proofs.Placing.{column_failed, column_planned, placed_by}
 use Rattle.frame_steps.proofs.columns.plan_column.Goals as goal
 

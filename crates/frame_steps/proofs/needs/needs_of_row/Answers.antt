@@ -1,6 +1,6 @@
 use Rattle.std.proofs.Common.{rules, ◌≡◌, ◌∙◌, ◌≤◌, ◌+◌, length, ap, sym, arith}
-use Rattle.frame_headers.specs.State.{shape_of}
-use Rattle.column_plan.specs.Rows.{place_of_row}
+use Rattle.frame_headers.specs.HeaderState.{shape_of}
+use Rattle.column_plan.specs.PlanRows.{place_of_row}
 use Rattle.recon_rows.proofs.RowSteps.{places_rise}
 use Rattle.frame_steps.proofs.Copies.{row_inside}
 use Rattle.frame_steps.proofs.needs.needs_of_row.Goals as goal

@@ -2,7 +2,7 @@ use Rattle.std.proofs.Common.{◌≡◌, ◌<◌, ◌≤◌, ℕ, length}
 use Rattle.std.specs.Prelude.{slice_index_or}
 use Rattle.std.specs.Vec.{vec_capacity}
 use Rattle.band_needs.specs.declared.ranges.BandNeeds.{BandNeeds}
-use Rattle.frame_steps.specs.Frames.{row_needs_of}
+use Rattle.frame_steps.specs.StepResults.{row_needs_of}
 use Rattle.frame_steps.proofs.needs.row_needs.Given as goal
 
 abbrev pub invariant-loop-row : goal.invariant-loop-row

@@ -1,7 +1,7 @@
 use Rattle.std.proofs.Common.{◌∙◌, ap, sym, subst, refl}
 use Rattle.frame_headers.specs.Tiles.{AreFewTiles}
 use Rattle.frame_headers.specs.declared.header.Header.{Header}
-use Rattle.prob_contexts.specs.Lists.{lists_of}
+use Rattle.prob_contexts.specs.ProbLists.{lists_of}
 use Rattle.frame_state.specs.Code.{sources_of}
 use Rattle.frame_state.specs.Past.{past_of}
 use Rattle.frame_writer.proofs.FrameGiven.{few_tiles, frame_given}

@@ -1,5 +1,5 @@
 use Rattle.std.proofs.Common.{◌≤◌, ◌^◌, length, subst, arith}
-use Rattle.prob_contexts.specs.Lists.{lists_of}
+use Rattle.prob_contexts.specs.ProbLists.{lists_of}
 use Rattle.bool_lists.proofs.Ways.{bytes_are}
 use Rattle.compressed_writer.specs.Spelling.{spelled_compressed}
 use Rattle.frame_writer.proofs.frame.write_headers.Goals as goal

@@ -2,10 +2,10 @@ use Rattle.std.proofs.Common.{◌≡◌, ◌∙◌, ◌%◌, ◌<◌, ap, length
 use Rattle.std.specs.Prelude.{Ok, Err}
 use Rattle.std.proofs.lemmas.Result.{err_from_is_err_and}
 use Rattle.vp9_types.specs.Shapes.{mi_rows}
-use Rattle.frame_headers.specs.State.{shape_of}
+use Rattle.frame_headers.specs.HeaderState.{shape_of}
 use Rattle.block_geometry.specs.declared.transform_blocks.FramePlaces.{FramePlaces}
 use Rattle.frame_state.specs.Code.{sources_of}
-use Rattle.frame_state.specs.Tiles.{column_of}
+use Rattle.frame_state.specs.TilePlaces.{column_of}
 use Rattle.frame_state.proofs.ColumnSteps.{rows_in_order, rows_within}
 use Rattle.frame_state.proofs.TileOffsets.{column_below}
 use Rattle.frame_writer.proofs.TileWrites.{columns_lost, columns_put_back, nth_put_back, nth_taken, ready_taken, room_taken}

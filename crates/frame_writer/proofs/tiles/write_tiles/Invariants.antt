@@ -1,5 +1,5 @@
 use Rattle.std.proofs.Common.{◌≡◌}
-use Rattle.frame_state.specs.Columns.{AreTileColumns}
+use Rattle.frame_state.specs.KeptColumns.{AreTileColumns}
 use Rattle.frame_state.specs.Code.{sources_of}
 use Rattle.frame_writer.specs.Code.{AreSoFar}
 use Rattle.frame_writer.proofs.tiles.write_tiles.Given as goal

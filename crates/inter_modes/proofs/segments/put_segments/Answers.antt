@@ -9,8 +9,8 @@ use Rattle.block_plan.specs.declared.block.Prediction.TheVariants.{Intra}
 use Rattle.vp9_types.specs.Maps.{Map, with_block}
 use Rattle.block_geometry.specs.Parts.{part_inside}
 use Rattle.block_geometry.specs.declared.transform_blocks.FramePlaces.{FramePlaces}
-use Rattle.block_plan.specs.Segments.{id_map}
-use Rattle.inter_modes.specs.Segments.{segments_of}
+use Rattle.block_plan.specs.SegmentMaps.{id_map}
+use Rattle.inter_modes.specs.LeftSegments.{segments_of}
 use Rattle.inter_modes.proofs.SegmentMaps.{no_segments, segments_more, put_more}
 use Rattle.inter_modes.proofs.segments.put_segments.Goals as goal
 

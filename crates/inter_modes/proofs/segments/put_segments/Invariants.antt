@@ -1,6 +1,6 @@
 use Rattle.std.proofs.Common.{◌≡◌, take}
-use Rattle.block_plan.specs.Segments.{id_map}
-use Rattle.inter_modes.specs.Segments.{segments_of}
+use Rattle.block_plan.specs.SegmentMaps.{id_map}
+use Rattle.inter_modes.specs.LeftSegments.{segments_of}
 use Rattle.inter_modes.proofs.segments.put_segments.Given as goal
 
 abbrev pub invariant-loop-block : goal.invariant-loop-block

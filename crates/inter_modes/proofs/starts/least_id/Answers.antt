@@ -1,6 +1,6 @@
 use Rattle.std.proofs.Common.{◌≤◌}
 use Rattle.block_geometry.specs.Parts.{part_inside}
-use Rattle.block_plan.specs.Segments.{id_map}
+use Rattle.block_plan.specs.SegmentMaps.{id_map}
 use Rattle.inter_modes.proofs.Least.{least_below}
 use Rattle.inter_modes.proofs.starts.least_id.Goals as goal
 

@@ -1,5 +1,5 @@
 use Rattle.std.proofs.Common.{◌∙◌, ◌+ℤ◌, ◌-ℤ◌, ◌*ℤ◌, ℤ, pos, ap}
-use Rattle.inter_places.specs.Vectors.{in_sixteenths}
+use Rattle.inter_places.specs.PlaneVectors.{in_sixteenths}
 use Rattle.inter_places.proofs.Kept.{end_is}
 use Rattle.inter_places.proofs.span.greatest_vector.Goals as goal
 

@@ -1,7 +1,7 @@
 use Rattle.std.proofs.Common.{◌≡◌, ◌+◌, ◌∙◌, arith, map}
 use Rattle.planes.specs.Planes.{plane_map}
 use Rattle.inter_places.specs.Axes.{straight}
-use Rattle.inter_predict.specs.Inter.{predicted}
+use Rattle.inter_predict.specs.InterSamples.{predicted}
 use Rattle.inter_predict.specs.Code.{IsCopied}
 use Rattle.inter_predict.proofs.Agree.{lines_between, whole_line}
 use Rattle.inter_predict.proofs.InPlane.{copied_row, copy_room, with_part_same}

@@ -3,7 +3,7 @@ use Rattle.vp9_types.specs.Maps.{HoldsRows}
 use Rattle.vp9_tables.specs.Filters.{taps_of}
 use Rattle.planes.specs.Planes.{plane_map}
 use Rattle.inter_places.specs.Axes.{fraction, straight}
-use Rattle.inter_predict.specs.Inter.{along, predicted}
+use Rattle.inter_predict.specs.InterSamples.{along, predicted}
 use Rattle.inter_predict.specs.Code.{filtered_below}
 use Rattle.inter_predict.proofs.Agree.{lines_between, along_small}
 use Rattle.inter_predict.proofs.Blocks.{lines_small}

@@ -1,5 +1,5 @@
 use Rattle.std.proofs.Common.{◌≡◌, ◌∙◌, ℕ, ap, arith, refl, get_or, map}
-use Rattle.inter_predict.specs.Inter.{average}
+use Rattle.inter_predict.specs.InterSamples.{average}
 use Rattle.inter_predict.proofs.Values.{first_more}
 use Rattle.inter_predict.proofs.means.average.Goals as goal
 

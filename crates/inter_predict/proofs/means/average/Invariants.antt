@@ -1,5 +1,5 @@
 use Rattle.std.proofs.Common.{◌≡◌, ◌<◌, ◌≤◌, ℕ, get_or, map}
-use Rattle.inter_predict.specs.Inter.{average}
+use Rattle.inter_predict.specs.InterSamples.{average}
 use Rattle.inter_predict.proofs.means.average.Given as goal
 
 abbrev pub invariant-loop-k : goal.invariant-loop-k

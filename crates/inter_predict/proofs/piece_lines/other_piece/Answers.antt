@@ -1,6 +1,6 @@
 use Rattle.std.proofs.Common.{◌∙◌, ℕ, get_or, map}
 use Rattle.inter_predict.specs.Code.{strided}
-use Rattle.inter_predict.specs.Inter.{along}
+use Rattle.inter_predict.specs.InterSamples.{along}
 use Rattle.inter_predict.proofs.Agree.{along_inside}
 use Rattle.inter_predict.proofs.Blocks.{rows_more}
 use Rattle.inter_predict.proofs.piece_lines.other_piece.Goals as goal

@@ -1,7 +1,7 @@
 use Rattle.std.proofs.Common.{map}
 use Rattle.vp9_types.specs.Maps.{HoldsRows}
 use Rattle.inter_predict.specs.Code.{strided}
-use Rattle.inter_predict.specs.Inter.{along}
+use Rattle.inter_predict.specs.InterSamples.{along}
 use Rattle.inter_predict.proofs.piece_lines.other_piece.Given as goal
 
 abbrev pub invariant-loop-r : goal.invariant-loop-r

@@ -1,6 +1,6 @@
 use Rattle.std.proofs.Common.{◌≡◌, ℕ, ◌+◌, ◌*◌, ◌/◌, ◌-◌, ◌<◌, ◌∙◌, ap, arith, refl, get_or, map, take}
 use Rattle.inter_places.specs.Axes.{straight, offset}
-use Rattle.inter_predict.specs.Inter.{along}
+use Rattle.inter_predict.specs.InterSamples.{along}
 use Rattle.inter_predict.proofs.Agree.{lines_between, whole_line, line_among, along_small, whole_predicted, both_passes}
 use Rattle.inter_predict.proofs.Blocks.{lines_small, place_below}
 use Rattle.inter_predict.proofs.Values.{taken_is}

@@ -1,6 +1,6 @@
 use Rattle.std.proofs.Common.{◌+◌, ◌∙◌, ℕ, get_or, map}
 use Rattle.inter_places.specs.Axes.{straight}
-use Rattle.inter_predict.specs.Inter.{along}
+use Rattle.inter_predict.specs.InterSamples.{along}
 use Rattle.inter_predict.proofs.Agree.{along_inside}
 use Rattle.inter_predict.proofs.Blocks.{rows_more}
 use Rattle.inter_predict.proofs.rows.run_lines.Goals as goal

@@ -1,5 +1,5 @@
 use Rattle.vp9_types.specs.Maps.{HoldsRows}
-use Rattle.intra_predict.specs.Modes.{horizontal}
+use Rattle.intra_predict.specs.PredictedModes.{horizontal}
 use Rattle.intra_predict.proofs.flat.predict_h.Given as goal
 
 abbrev pub invariant-loop-i : goal.invariant-loop-i

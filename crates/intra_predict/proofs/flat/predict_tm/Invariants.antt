@@ -1,5 +1,5 @@
 use Rattle.vp9_types.specs.Maps.{HoldsRows}
-use Rattle.intra_predict.specs.Modes.{true_motion}
+use Rattle.intra_predict.specs.PredictedModes.{true_motion}
 use Rattle.intra_predict.proofs.flat.predict_tm.Given as goal
 
 abbrev pub invariant-loop-i : goal.invariant-loop-i

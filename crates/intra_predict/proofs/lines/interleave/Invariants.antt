@@ -1,6 +1,6 @@
 use Rattle.std.proofs.Common.{◌≡◌, ◌<◌, ◌*◌, ◌/◌, ◌%◌, ℕ, get_or}
 use Rattle.std.specs.Prelude.{nat_eq, if◌then◌else◌}
-use Rattle.intra_predict.specs.Modes.{mean2_at, mean3_at}
+use Rattle.intra_predict.specs.PredictedModes.{mean2_at, mean3_at}
 use Rattle.intra_predict.proofs.lines.interleave.Given as goal
 
 abbrev pub invariant-loop-k : goal.invariant-loop-k

@@ -1,5 +1,5 @@
 use Rattle.std.proofs.Common.{◌≡◌, ◌<◌, ◌+◌, ◌*◌, ℕ, get_or}
-use Rattle.intra_predict.specs.Modes.{mean3_at}
+use Rattle.intra_predict.specs.PredictedModes.{mean3_at}
 use Rattle.intra_predict.proofs.lines.smooth_every_other.Given as goal
 
 abbrev pub invariant-loop-k : goal.invariant-loop-k

@@ -1,6 +1,6 @@
 use Rattle.std.proofs.Common.{subst, ◌^◌}
 use Rattle.inverse_transforms.specs.Flow.{step}
-use Rattle.inverse_transforms.specs.Columns.{FitsAll}
+use Rattle.inverse_transforms.specs.LaneColumns.{FitsAll}
 use Rattle.inverse_transforms.proofs.calm.apply.Goals as goal
 
 pub add-requires-clause-fit : goal.add-requires-clause-fit

@@ -1,5 +1,5 @@
 use Rattle.std.proofs.Common.{rules, arith, ◌^◌}
-use Rattle.inverse_transforms.specs.Columns.{column}
+use Rattle.inverse_transforms.specs.LaneColumns.{column}
 use Rattle.inverse_transforms.proofs.CalmColumns.{magnitude_bounds}
 use Rattle.inverse_transforms.proofs.Narrows.{narrow_at}
 use Rattle.inverse_transforms.proofs.Straight.{QuadMade, quads_given, quads_small}

@@ -1,6 +1,6 @@
 use Rattle.std.proofs.Common.{◌≡◌, ℕ, ◌<◌, ◌^◌, drop, All}
 use Rattle.inverse_transforms.specs.Flow.{run}
-use Rattle.inverse_transforms.specs.Columns.{column}
+use Rattle.inverse_transforms.specs.LaneColumns.{column}
 use Rattle.inverse_transforms.specs.Ranges.{IsSmall, IsNarrow}
 use Rattle.inverse_transforms.proofs.calm.flow.Given as goal
 

@@ -1,6 +1,6 @@
 use Rattle.std.proofs.Common.{◌≡◌, ℕ, ◌+◌, ◌<◌, drop, slice_index_or}
 use Rattle.inverse_transforms.specs.Flow.{magnitude}
-use Rattle.inverse_transforms.specs.Columns.{column}
+use Rattle.inverse_transforms.specs.LaneColumns.{column}
 use Rattle.inverse_transforms.proofs.magnitudes.column_sums.Given as goal
 
 abbrev pub invariant-loop-row : goal.invariant-loop-row

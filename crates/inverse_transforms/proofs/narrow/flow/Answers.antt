@@ -1,6 +1,6 @@
 use Rattle.std.proofs.Common.{[], ◌^◌, refl, arith}
 use Rattle.vp9_tables.specs.declared.flow_row.FlowRow.TheVariants.{Perm}
-use Rattle.inverse_transforms.specs.Columns.{column}
+use Rattle.inverse_transforms.specs.LaneColumns.{column}
 use Rattle.inverse_transforms.proofs.Small.{step_small}
 use Rattle.inverse_transforms.proofs.Runs.{stepped}
 use Rattle.inverse_transforms.proofs.Narrows.{narrow_columns, narrow_all_small}

@@ -1,7 +1,7 @@
 use Rattle.std.proofs.Common.{◌≡◌, ◌≤◌, take, subst, arith}
 use Rattle.std.proofs.lemmas.List.{take_all}
 use Rattle.inverse_transforms.specs.Flow.{run, magnitude}
-use Rattle.inverse_transforms.specs.Columns.{column}
+use Rattle.inverse_transforms.specs.LaneColumns.{column}
 use Rattle.inverse_transforms.specs.Transforms.{dct, AreDct}
 use Rattle.inverse_transforms.specs.Ranges.{limit_of}
 use Rattle.inverse_transforms.proofs.ColumnLemmas.{gives_of_size}

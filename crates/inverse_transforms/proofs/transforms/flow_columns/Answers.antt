@@ -1,5 +1,5 @@
 use Rattle.std.proofs.Common.{ℕ, ◌^◌, length, refl, arith}
-use Rattle.inverse_transforms.specs.Columns.{column}
+use Rattle.inverse_transforms.specs.LaneColumns.{column}
 use Rattle.inverse_transforms.specs.Flow.{run}
 use Rattle.inverse_transforms.specs.Ranges.{limit_of}
 use Rattle.inverse_transforms.proofs.CalmColumns.{magnitude_bounds, columns_fit, calm_fits, calm_gives, limit_at_least}

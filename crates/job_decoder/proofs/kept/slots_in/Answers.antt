@@ -2,7 +2,7 @@ use Rattle.std.proofs.Common.{ap, refl, inr, subst}
 use Rattle.std.specs.Prelude.{IfSome, Option}
 use Rattle.vp9_types.specs.declared.job.JobName.TheVariants.{Close}
 use Rattle.job_results.specs.Meaning.{builds, shown_as}
-use Rattle.job_results.specs.Results.{IsRight}
+use Rattle.job_results.specs.JobResults.{IsRight}
 use Rattle.job_results.specs.declared.result.JobResult.{JobResult}
 use Rattle.job_decoder.proofs.kept.slots_in.Goals as goal
 

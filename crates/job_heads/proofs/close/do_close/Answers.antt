@@ -1,5 +1,5 @@
 use Rattle.std.proofs.Common.{◌≡◌, arith, subst, sym}
-use Rattle.job_results.specs.Results.{IsClose}
+use Rattle.job_results.specs.JobResults.{IsClose}
 use Rattle.job_heads.proofs.close.do_close.Goals as goal
 
 pub returns-in-None : goal.returns-in-None

@@ -1,5 +1,5 @@
 use Rattle.std.proofs.Common.{◌≡◌, ◌≤◌, ◌-◌, drop, length}
-use Rattle.job_order.specs.Segments.{job_at}
+use Rattle.job_order.specs.JobSegments.{job_at}
 use Rattle.job_order.specs.Code.{IsMark}
 use Rattle.job_order.proofs.order.job_from.Given as goal
 

@@ -1,5 +1,5 @@
 use Rattle.std.proofs.Common.{◌≤◌, ◌-◌}
-use Rattle.job_order.specs.Segments.{IsBelow}
+use Rattle.job_order.specs.JobSegments.{IsBelow}
 use Rattle.job_order.specs.Code.{IsMark}
 use Rattle.job_order.proofs.ready.is_drawn.Given as goal
 

@@ -1,10 +1,10 @@
 use Rattle.std.proofs.Common.{◌∙◌, sym, ap}
-use Rattle.frame_headers.specs.State.{shape_of}
+use Rattle.frame_headers.specs.HeaderState.{shape_of}
 use Rattle.frame_headers.specs.declared.header.Header.{Header}
-use Rattle.job_rows.specs.Rows.{OfFrame}
+use Rattle.job_rows.specs.LentRows.{OfFrame}
 use Rattle.loop_edges.specs.Cells.{setting_of}
-use Rattle.numbered_frames.specs.Numbers.{before, frame_at}
-use Rattle.job_results.specs.Results.{IsFilteredAs}
+use Rattle.numbered_frames.specs.FrameNumbers.{before, frame_at}
+use Rattle.job_results.specs.JobResults.{IsFilteredAs}
 use Rattle.job_rows.proofs.CodedFrames.{coded_by}
 use Rattle.job_rows.proofs.DueRows.{if_ok, of_frame}
 use Rattle.job_rows.proofs.FilteredSteps.{columns_of_close, filtered_above, header_of, last_of_frame, last_there, raw_is, row_is_filtered, stands_above, strips_are_row}

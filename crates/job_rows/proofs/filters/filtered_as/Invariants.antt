@@ -1,4 +1,4 @@
-use Rattle.job_rows.specs.Rows.{raw_frame}
+use Rattle.job_rows.specs.LentRows.{raw_frame}
 use Rattle.job_rows.proofs.filters.filtered_as.Given as goal
 
 abbrev pub ghosts-filtered_of : goal.ghosts-filtered_of

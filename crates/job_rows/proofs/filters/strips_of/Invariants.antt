@@ -1,6 +1,6 @@
 use Rattle.std.proofs.Common.{◌≡◌, ◌≤◌, length, map}
 use Rattle.std.specs.Vec.{vec_capacity}
-use Rattle.job_rows.specs.Rows.{AreStrips, OfFrame}
+use Rattle.job_rows.specs.LentRows.{AreStrips, OfFrame}
 use Rattle.job_rows.proofs.filters.strips_of.Given as goal
 
 abbrev pub invariant-loop-k : goal.invariant-loop-k

@@ -1,6 +1,6 @@
 use Rattle.std.proofs.Common.{ap}
 use Rattle.std.specs.Option.{option_copied}
-use Rattle.job_results.specs.Results.{IsStripAs}
+use Rattle.job_results.specs.JobResults.{IsStripAs}
 use Rattle.job_rows.proofs.DueRows.{of_frame}
 use Rattle.job_rows.proofs.lent.strip_planes.Goals as goal
 

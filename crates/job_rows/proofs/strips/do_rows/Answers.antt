@@ -1,7 +1,7 @@
 use Rattle.std.proofs.Common.{◌≡◌, ◌∙◌, refl, sym}
 use Rattle.vp9_types.specs.declared.shape.Depth.TheVariants.{Eight}
 use Rattle.tap_filter.proofs.DepthLemmas.{of_any, of_bytes}
-use Rattle.picture_table.specs.Pictures.{KeepInWords}
+use Rattle.picture_table.specs.KeptPictures.{KeepInWords}
 use Rattle.job_rows.proofs.DueRows.{rows_due, in_words}
 use Rattle.job_rows.proofs.strips.do_rows.Goals as goal
 

@@ -1,16 +1,16 @@
 use Rattle.std.proofs.Common.{◌≡◌, ◌∙◌, ℕ, ap}
 use Rattle.std.specs.Prelude.{Some}
 use Rattle.std.specs.Option.{option_copied}
-use Rattle.frame_headers.specs.State.{shape_of}
+use Rattle.frame_headers.specs.HeaderState.{shape_of}
 use Rattle.block_rebuild.specs.Code.{rebuilding_of}
 use Rattle.block_rebuild.specs.declared.references.Rebuilding.{Rebuilding}
 use Rattle.filtered_rows.specs.Code.{map_in}
-use Rattle.filtered_rows.specs.Rows.{RowSpan}
-use Rattle.recon_rows.specs.Strips.{HoldsRowOf}
+use Rattle.filtered_rows.specs.BufferRows.{RowSpan}
+use Rattle.recon_rows.specs.OwnStrips.{HoldsRowOf}
 use Rattle.numbered_frames.specs.Coded.{CodedFrame, coded}
-use Rattle.numbered_frames.specs.Pictures.{pictures}
-use Rattle.job_results.specs.Results.{IsStripAs}
-use Rattle.job_rows.specs.Strips.{IsPlannedRow, ReadsRows}
+use Rattle.numbered_frames.specs.NumberedPictures.{pictures}
+use Rattle.job_results.specs.JobResults.{IsStripAs}
+use Rattle.job_rows.specs.LentStrips.{IsPlannedRow, ReadsRows}
 use Rattle.job_rows.proofs.DueRows.{if_ok}
 use Rattle.job_rows.proofs.StripSteps.{ArePictures, inter_named, inter_row_served, is_above, is_by, plan_is_read, strip_is}
 use Rattle.job_rows.proofs.strips.inter_strip.Goals as goal

@@ -3,12 +3,12 @@ use Rattle.std.specs.Option.{option_copied}
 use Rattle.block_rebuild.specs.Code.{rebuilding_of}
 use Rattle.block_rebuild.specs.declared.references.Rebuilding.{Rebuilding}
 use Rattle.filtered_rows.specs.Code.{held_in, map_in, width_in}
-use Rattle.filtered_rows.specs.Rows.{RowSpan}
-use Rattle.recon_rows.specs.Strips.{HoldsRowOf}
+use Rattle.filtered_rows.specs.BufferRows.{RowSpan}
+use Rattle.recon_rows.specs.OwnStrips.{HoldsRowOf}
 use Rattle.numbered_frames.specs.Coded.{CodedFrame}
-use Rattle.numbered_frames.specs.Pictures.{pictures}
-use Rattle.job_results.specs.Results.{IsStripAs}
-use Rattle.job_rows.specs.Strips.{IsPlannedRow, RefersToNone}
+use Rattle.numbered_frames.specs.NumberedPictures.{pictures}
+use Rattle.job_results.specs.JobResults.{IsStripAs}
+use Rattle.job_rows.specs.LentStrips.{IsPlannedRow, RefersToNone}
 use Rattle.job_rows.proofs.DueRows.{if_ok}
 use Rattle.job_rows.proofs.StripSteps.{intra_named, intra_row_served, is_above, plan_is_read, strip_is}
 use Rattle.job_rows.proofs.strips.intra_strip.Goals as goal

@@ -3,11 +3,11 @@ use Rattle.std.specs.Option.{option_copied}
 use Rattle.std.specs.Prelude.{Some}
 use Rattle.band_needs.specs.declared.ranges.BandNeeds.{BandNeeds}
 use Rattle.frame_headers.specs.declared.header.FrameKind.TheVariants.{Inter}
-use Rattle.frame_steps.specs.Frames.{row_needs_of}
+use Rattle.frame_steps.specs.StepResults.{row_needs_of}
 use Rattle.numbered_frames.specs.Coded.{CodedFrame, coded}
-use Rattle.job_results.specs.Results.{IsStripAs}
-use Rattle.job_rows.specs.Rows.{OfFrame}
-use Rattle.job_rows.specs.Strips.{AreAllRows, IsPlannedRow, ReadsRows, RefersToNone}
+use Rattle.job_results.specs.JobResults.{IsStripAs}
+use Rattle.job_rows.specs.LentRows.{OfFrame}
+use Rattle.job_rows.specs.LentStrips.{AreAllRows, IsPlannedRow, ReadsRows, RefersToNone}
 use Rattle.job_rows.proofs.CodedFrames.{same_coded}
 use Rattle.job_rows.proofs.DueRows.{if_ok, of_frame}
 use Rattle.job_rows.proofs.NamedFrames.{names_begun}

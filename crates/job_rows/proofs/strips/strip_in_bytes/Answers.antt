@@ -1,7 +1,7 @@
 use Rattle.std.proofs.Common.{subst}
 use Rattle.std.specs.Prelude.{IfOk}
-use Rattle.job_results.specs.Results.{IsStripAs}
-use Rattle.job_rows.specs.Rows.{OfFrame}
+use Rattle.job_results.specs.JobResults.{IsStripAs}
+use Rattle.job_rows.specs.LentRows.{OfFrame}
 use Rattle.job_rows.proofs.strips.strip_in_bytes.Goals as goal
 
 pub returns-in-Ok : goal.returns-in-Ok

@@ -3,7 +3,7 @@ use Rattle.vp9_types.specs.Maps.{Map}
 use Rattle.planes.specs.Planes.{plane_map}
 use Rattle.line_filter.specs.declared.edge.FilterWidth.TheVariants.{Sixteen}
 use Rattle.line_filter.specs.Lines.{filter_mask, filtered_line}
-use Rattle.line_filter.specs.Edges.{line_along, in_order}
+use Rattle.line_filter.specs.FilteredEdges.{line_along, in_order}
 use Rattle.line_filter.specs.Code.{is_flat_far, along_filtered}
 use Rattle.line_filter.proofs.LineBlocks.{between_small, far_small, far_filtered, turned_lanes, turned_by, upper_of_lines, lower_of_lines, lanes_at_most, put_beside}
 use Rattle.line_filter.proofs.KeptLines.{along_kept, along_near, off_along, is_off, between_lanes}

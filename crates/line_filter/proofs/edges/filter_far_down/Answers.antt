@@ -3,7 +3,7 @@ use Rattle.vp9_types.specs.Maps.{Map}
 use Rattle.planes.specs.Planes.{plane_map}
 use Rattle.line_filter.specs.declared.edge.FilterWidth.TheVariants.{Sixteen}
 use Rattle.line_filter.specs.Lines.{filter_mask, filtered_line}
-use Rattle.line_filter.specs.Edges.{line_down, in_order}
+use Rattle.line_filter.specs.FilteredEdges.{line_down, in_order}
 use Rattle.line_filter.specs.Code.{is_flat_far, down_filtered}
 use Rattle.line_filter.proofs.LineBlocks.{between_small, far_small, far_filtered, upper_of_lines, lower_of_lines, lanes_at_most, put_below}
 use Rattle.line_filter.proofs.KeptLines.{down_kept, down_near, off_down, is_off, between_lanes}

@@ -2,7 +2,7 @@ use Rattle.std.proofs.Common.{ap, sym, ◌∙◌, refl, true, false}
 use Rattle.planes.specs.Planes.{plane_map}
 use Rattle.line_filter.specs.declared.edge.FilterWidth.TheVariants.{Sixteen}
 use Rattle.line_filter.specs.Lines.{filtered_near, filtered_line}
-use Rattle.line_filter.specs.Edges.{reach}
+use Rattle.line_filter.specs.FilteredEdges.{reach}
 use Rattle.line_filter.proofs.EdgeLines.{edge_down, line_four, line_eight}
 use Rattle.line_filter.proofs.edges.filter_horizontal.Goals as goal
 

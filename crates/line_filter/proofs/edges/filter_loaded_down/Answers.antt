@@ -1,7 +1,7 @@
 use Rattle.std.proofs.Common.{◌+◌, arith, refl}
 use Rattle.planes.specs.Planes.{plane_map}
 use Rattle.line_filter.specs.Lines.{filtered_near}
-use Rattle.line_filter.specs.Edges.{line_down, in_order}
+use Rattle.line_filter.specs.FilteredEdges.{line_down, in_order}
 use Rattle.line_filter.specs.Code.{down_filtered}
 use Rattle.line_filter.proofs.LineBlocks.{near_small, near_filtered, lanes_at_most}
 use Rattle.line_filter.proofs.SmallLines.{is_small, near_fits}

@@ -1,8 +1,8 @@
 use Rattle.std.proofs.Common.{◌≡◌, drop, length, map}
 use Rattle.block_geometry.specs.TransformBlocks.{grid_blocks}
-use Rattle.prob_contexts.specs.Lists.{ContextLists}
-use Rattle.residue_writer.specs.Fits.{CanPutAll}
-use Rattle.listed_symbols.specs.Levels.{no_levels, with_each}
+use Rattle.prob_contexts.specs.ProbLists.{ContextLists}
+use Rattle.residue_writer.specs.ResidueFits.{CanPutAll}
+use Rattle.listed_symbols.specs.ListedLevels.{no_levels, with_each}
 use Rattle.listed_symbols.proofs.in_planes.put_each.Given as goal
 
 abbrev pub invariant-loop-k : goal.invariant-loop-k

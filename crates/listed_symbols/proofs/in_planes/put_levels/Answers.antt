@@ -1,5 +1,5 @@
 use Rattle.std.proofs.Common.{refl}
-use Rattle.coef_tokens.specs.Blocks.{block_tables}
+use Rattle.coef_tokens.specs.TokenKinds.{block_tables}
 use Rattle.listed_symbols.proofs.Placed.{levels_can}
 use Rattle.listed_symbols.proofs.in_planes.put_levels.Goals as goal
 

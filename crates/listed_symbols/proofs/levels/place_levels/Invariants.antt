@@ -1,5 +1,5 @@
 use Rattle.std.proofs.Common.{◌≡◌, length, drop}
-use Rattle.listed_symbols.specs.Levels.{placed_from}
+use Rattle.listed_symbols.specs.ListedLevels.{placed_from}
 use Rattle.listed_symbols.proofs.levels.place_levels.Given as goal
 
 abbrev pub invariant-loop-k : goal.invariant-loop-k

@@ -1,11 +1,11 @@
 use Rattle.std.proofs.Common.{◌≡◌, ◌<◌, ◌+◌, ◌*◌, ◌-◌, ℕ, ◌∙◌, refl, ap, true, min}
 use Rattle.std.specs.List.{fold}
 use Rattle.planes.specs.Planes.{plane_map}
-use Rattle.line_filter.specs.Edges.{with_edge}
+use Rattle.line_filter.specs.FilteredEdges.{with_edge}
 use Rattle.vp9_types.specs.Shapes.{mi_cols}
-use Rattle.loop_filter.specs.Plans.{has_cell}
+use Rattle.loop_filter.specs.FilterPlans.{has_cell}
 use Rattle.loop_edges.specs.Cells.{sub_x}
-use Rattle.loop_edges.specs.Edges.{cell_row, cell_edges, step_of, cells_along}
+use Rattle.loop_edges.specs.FrameEdges.{cell_row, cell_edges, step_of, cells_along}
 use Rattle.loop_filter.proofs.Walks.{walk_more, within_by}
 use Rattle.loop_filter.proofs.PlannedEdges.{planned_is, has_its_cell}
 use Rattle.loop_filter.proofs.cells.filter_cell_row.Goals as goal

@@ -4,10 +4,10 @@ use Rattle.vp9_types.specs.Maps.{IsAtMost}
 use Rattle.vp9_types.specs.Sizes.{greatest}
 use Rattle.planes.specs.Planes.{plane_map}
 use Rattle.block_plan.specs.declared.block.BlockInfo.{BlockInfo}
-use Rattle.line_filter.specs.Edges.{with_edge}
+use Rattle.line_filter.specs.FilteredEdges.{with_edge}
 use Rattle.loop_edges.specs.Cells.{sub_x}
-use Rattle.loop_edges.specs.Edges.{cell_row, cells_from}
-use Rattle.loop_filter.specs.Plans.{ArePlansOfRow}
+use Rattle.loop_edges.specs.FrameEdges.{cell_row, cells_from}
+use Rattle.loop_filter.specs.FilterPlans.{ArePlansOfRow}
 use Rattle.loop_filter.proofs.cells.filter_cell_row.Given as goal
 
 abbrev pub invariant-loop-j : goal.invariant-loop-j

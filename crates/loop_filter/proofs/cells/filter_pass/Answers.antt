@@ -1,10 +1,10 @@
 use Rattle.std.proofs.Common.{arith, ◌≡◌, ◌<◌, ◌+◌, ◌*◌, ◌-◌, ℕ, min, ap, ◌∙◌, refl}
 use Rattle.vp9_types.specs.Shapes.{mi_cols, mi_rows}
 use Rattle.std.specs.List.{fold, flat_map}
-use Rattle.line_filter.specs.Edges.{with_edge}
+use Rattle.line_filter.specs.FilteredEdges.{with_edge}
 use Rattle.planes.specs.Planes.{plane_map}
 use Rattle.loop_edges.specs.Cells.{sub_x, sub_y}
-use Rattle.loop_edges.specs.Edges.{cell_row, pass_edges, step_of, cells_of, cells_from, cells_along}
+use Rattle.loop_edges.specs.FrameEdges.{cell_row, pass_edges, step_of, cells_of, cells_from, cells_along}
 use Rattle.loop_filter.proofs.Walks.{walk_more, within_by}
 use Rattle.loop_filter.proofs.cells.filter_pass.Goals as goal
 

@@ -5,10 +5,10 @@ use Rattle.vp9_types.specs.Shapes.{mi_cols}
 use Rattle.vp9_types.specs.Sizes.{greatest}
 use Rattle.planes.specs.Planes.{plane_map}
 use Rattle.block_plan.specs.declared.block.BlockInfo.{BlockInfo}
-use Rattle.line_filter.specs.Edges.{with_edge}
+use Rattle.line_filter.specs.FilteredEdges.{with_edge}
 use Rattle.loop_edges.specs.Cells.{sub_x, sub_y}
-use Rattle.loop_edges.specs.Edges.{cell_row, cells_from, cells_of}
-use Rattle.loop_filter.specs.Plans.{ArePlansOf}
+use Rattle.loop_edges.specs.FrameEdges.{cell_row, cells_from, cells_of}
+use Rattle.loop_filter.specs.FilterPlans.{ArePlansOf}
 use Rattle.loop_filter.proofs.cells.filter_pass.Given as goal
 
 abbrev pub invariant-loop-i : goal.invariant-loop-i

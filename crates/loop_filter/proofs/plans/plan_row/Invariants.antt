@@ -1,6 +1,6 @@
 use Rattle.std.proofs.Common.{◌≡◌, ◌≤◌, ℕ, length}
 use Rattle.std.specs.Prelude.{slice_index_or}
-use Rattle.loop_filter.specs.Plans.{AreFirstPlans, unfiltered}
+use Rattle.loop_filter.specs.FilterPlans.{AreFirstPlans, unfiltered}
 use Rattle.loop_filter.proofs.plans.plan_row.Given as goal
 
 abbrev pub invariant-loop-j : goal.invariant-loop-j

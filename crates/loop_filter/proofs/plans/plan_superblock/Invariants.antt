@@ -1,5 +1,5 @@
 use Rattle.std.proofs.Common.{◌≡◌, length}
-use Rattle.loop_filter.specs.Plans.{AreFirstRows}
+use Rattle.loop_filter.specs.FilterPlans.{AreFirstRows}
 use Rattle.loop_filter.proofs.plans.plan_superblock.Given as goal
 
 abbrev pub invariant-loop-i : goal.invariant-loop-i

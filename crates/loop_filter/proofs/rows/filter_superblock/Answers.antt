@@ -1,6 +1,6 @@
 use Rattle.planes.specs.Planes.{plane_map}
 use Rattle.line_filter.specs.declared.edge.Pass.TheVariants.{Vertical, Horizontal}
-use Rattle.loop_edges.specs.Edges.{pass_edges, superblock_edges}
+use Rattle.loop_edges.specs.FrameEdges.{pass_edges, superblock_edges}
 use Rattle.loop_filter.proofs.Walks.{two_lists}
 use Rattle.loop_filter.proofs.rows.filter_superblock.Goals as goal
 

@@ -3,7 +3,7 @@ use Rattle.vp9_types.specs.Shapes.{mi_cols}
 use Rattle.vp9_types.specs.Sizes.{superblocks_along}
 use Rattle.vp9_types.specs.declared.shape.Plane.TheVariants.{Y, U, V}
 use Rattle.planes.specs.Planes.{plane_map}
-use Rattle.loop_edges.specs.Edges.{superblock_edges}
+use Rattle.loop_edges.specs.FrameEdges.{superblock_edges}
 use Rattle.loop_filter.proofs.Frames.{areas_kept, rows_kept}
 use Rattle.loop_filter.proofs.Walks.{walk_more_plain, row_by, three_planes}
 use Rattle.loop_filter.proofs.rows.filter_superblocks.Goals as goal

@@ -3,8 +3,8 @@ use Rattle.std.specs.List.{fold, flat_map, range_with_len}
 use Rattle.vp9_types.specs.declared.shape.Plane.TheVariants.{Y, U, V}
 use Rattle.planes.specs.Planes.{plane_map}
 use Rattle.planes.specs.Pictures.{IsInRange}
-use Rattle.line_filter.specs.Edges.{with_edge}
-use Rattle.loop_edges.specs.Edges.{superblock_edges}
+use Rattle.line_filter.specs.FilteredEdges.{with_edge}
+use Rattle.loop_edges.specs.FrameEdges.{superblock_edges}
 use Rattle.loop_filter.specs.Code.{HasAreasOf}
 use Rattle.loop_filter.proofs.rows.filter_superblocks.Given as goal
 

@@ -2,7 +2,7 @@ use Rattle.std.proofs.Common.{◌*◌, ◌≤◌, arith}
 use Rattle.vp9_tables.specs.Numbers.{partition_number}
 use Rattle.prob_contexts.specs.declared.kind.ProbKind.TheVariants.{Partition}
 use Rattle.counting_reader.specs.Counting.{count}
-use Rattle.counting_reader.specs.Symbols.{unary_bools}
+use Rattle.counting_reader.specs.CountedSymbols.{unary_bools}
 use Rattle.counting_reader.specs.Code.{Reads}
 use Rattle.mode_syntax.proofs.PartitionCounts.{partition_counts}
 use Rattle.mode_syntax.proofs.partition.count_partition.Goals as goal

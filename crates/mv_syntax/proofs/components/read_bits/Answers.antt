@@ -5,7 +5,7 @@ use Rattle.std.proofs.lemmas.List.FromFn.{get_or-range_with_len, length-range_wi
 use Rattle.counting_reader.specs.Code.{standing_of}
 use Rattle.counting_reader.specs.Counting.{run_counting}
 use Rattle.counting_reader.proofs.Throughs.{begins, goes_on, ends}
-use Rattle.prob_contexts.specs.Lists.{vector_lists}
+use Rattle.prob_contexts.specs.ProbLists.{vector_lists}
 use Rattle.mv_syntax.specs.Components.{next_bit}
 use Rattle.mv_syntax.proofs.components.read_bits.Goals as goal
 

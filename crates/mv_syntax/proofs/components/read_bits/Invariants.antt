@@ -1,6 +1,6 @@
 use Rattle.std.proofs.Common.{◌≡◌, ◌^◌, ◌<◌}
 use Rattle.std.specs.List.{range_with_len}
-use Rattle.prob_contexts.specs.Lists.{vector_lists}
+use Rattle.prob_contexts.specs.ProbLists.{vector_lists}
 use Rattle.counting_reader.specs.Code.{standing_of}
 use Rattle.counting_reader.proofs.Throughs.{Reached}
 use Rattle.mv_syntax.specs.Components.{next_bit}

@@ -1,5 +1,5 @@
 use Rattle.std.proofs.Common.{arith, sym, subst}
-use Rattle.job_order.specs.Segments.{InOrder}
+use Rattle.job_order.specs.JobSegments.{InOrder}
 use Rattle.order_tests.proofs.player.job_of.Goals as goal
 
 pub job_at-requires : goal.job_at-requires

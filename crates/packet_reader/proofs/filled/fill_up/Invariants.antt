@@ -1,5 +1,5 @@
 use Rattle.std.proofs.Common.{◌≡◌, ◌-◌, ◌≤◌, ◌++◌, ℕ, List, length}
-use Rattle.edge_io.specs.Reading.{Gave}
+use Rattle.edge_io.specs.SourceReading.{Gave}
 use Rattle.packet_reader.proofs.filled.fill_up.Given as goal
 
 -- a front was given, and nothing failed

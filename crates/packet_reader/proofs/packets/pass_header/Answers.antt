@@ -4,7 +4,7 @@ use Rattle.std.proofs.lemmas.Result.{err_from_is_err_and}
 use Rattle.ivf_container.specs.Packets.{header_end, rate_of}
 use Rattle.packet_reader.proofs.PacketLemmas.{gave_last}
 use Rattle.packet_reader.proofs.HeaderLemmas.{enough_fails, enough_is, fails_alone, never_short, refused_header}
-use Rattle.packet_reader.specs.Packets.{with_front}
+use Rattle.packet_reader.specs.TakenPackets.{with_front}
 use Rattle.packet_reader.proofs.packets.pass_header.Goals as goal
 
 pub returns-in_err-header-clause-bytes : goal.returns-in_err-header-clause-bytes

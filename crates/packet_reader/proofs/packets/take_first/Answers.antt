@@ -2,7 +2,7 @@ use Rattle.std.proofs.Common.{◌∙◌, ap}
 use Rattle.std.specs.Prelude.{Err}
 use Rattle.std.proofs.lemmas.Result.{err_from_is_err_and}
 use Rattle.packet_reader.proofs.HeaderLemmas.{no_first, takes_first, tells_first, tells_none}
-use Rattle.packet_reader.specs.Packets.{with_front}
+use Rattle.packet_reader.specs.TakenPackets.{with_front}
 use Rattle.packet_reader.proofs.packets.take_first.Goals as goal
 
 pub returns-clause-bytes : goal.returns-clause-bytes

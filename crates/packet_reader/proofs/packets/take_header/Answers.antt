@@ -2,7 +2,7 @@ use Rattle.std.proofs.Common.{◌≡◌, ℕ, length, List, ◌++◌, ap, subst,
 use Rattle.std.proofs.lemmas.Bool.{cases_lt}
 use Rattle.std.proofs.lemmas.Result.{err_from_is_err_and}
 use Rattle.packet_reader.specs.Code.{IsShort}
-use Rattle.packet_reader.specs.Packets.{with_front}
+use Rattle.packet_reader.specs.TakenPackets.{with_front}
 use Rattle.packet_reader.proofs.PacketLemmas.{gave_behind, gave_both, ended_behind, ended_still}
 use Rattle.packet_reader.proofs.HeaderLemmas.{IsWhole, cut_header, whole_header}
 use Rattle.packet_reader.proofs.packets.take_header.Goals as goal

@@ -1,6 +1,6 @@
 use Rattle.std.proofs.Common.{◌≡◌, ◌≤◌}
 use Rattle.planes.specs.Planes.{lower_end, plane_map}
-use Rattle.plane_parts.specs.Parts.{HasPart}
+use Rattle.plane_parts.specs.PlaneParts.{HasPart}
 use Rattle.plane_parts.proofs.PartLemmas.{rows_before}
 use Rattle.plane_parts.proofs.copying.copy_part.Given as goal
 

@@ -2,7 +2,7 @@ use Rattle.std.proofs.Common.{◌∙◌, ap, sym, subst, length}
 use Rattle.block_plan.specs.Code.{HoldsSmall}
 use Rattle.block_plan.specs.Planned.{PlannedBlock}
 use Rattle.planes.specs.Pictures.{samples_of}
-use Rattle.block_rebuild.specs.Blocks.{put_planned}
+use Rattle.block_rebuild.specs.RebuiltBlocks.{put_planned}
 use Rattle.block_rebuild.specs.Code.{rebuilding_of}
 use Rattle.recon_rows.proofs.Pieces.{all_held, last_fits, planned_is}
 use Rattle.recon_rows.proofs.part.put_planned_block.Goals as goal

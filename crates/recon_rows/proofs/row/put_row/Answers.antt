@@ -8,8 +8,8 @@ use Rattle.block_rebuild.specs.Code.{IsPlaced, rebuilding_of}
 use Rattle.block_rebuild.specs.Strips.{with_blocks}
 use Rattle.block_rebuild.proofs.StripLemmas.{areas_hold}
 use Rattle.column_plan.specs.Code.{HoldsWhole}
-use Rattle.column_plan.specs.Rows.{place_of_row}
-use Rattle.recon_rows.specs.Rows.{IsProvided, planned_between}
+use Rattle.column_plan.specs.PlanRows.{place_of_row}
+use Rattle.recon_rows.specs.RebuiltRows.{IsProvided, planned_between}
 use Rattle.recon_rows.proofs.RowSteps.{IsRowsPlan, all_put, end_at, first_piece, in_column, none_put, places_rise, plan_kept, planned_at, provided_at, put_at, room_at, room_there, row_planned}
 use Rattle.recon_rows.proofs.row.put_row.Goals as goal
 

@@ -3,7 +3,7 @@ use Rattle.std.specs.Prelude.{drop, slice_range}
 use Rattle.planes.specs.Pictures.{IsInRange, samples_of}
 use Rattle.block_rebuild.specs.Strips.{with_blocks}
 use Rattle.block_rebuild.specs.Code.{HasAreasOf, rebuilding_of}
-use Rattle.column_plan.specs.Planned.{planned_blocks, total}
+use Rattle.column_plan.specs.PlannedBlocks.{planned_blocks, total}
 use Rattle.recon_rows.proofs.row.put_row.Given as goal
 
 abbrev pub invariant-loop-k : goal.invariant-loop-k

@@ -1,7 +1,7 @@
 use Rattle.std.specs.Option.{option_copied}
 use Rattle.planes.specs.Pictures.{samples_of}
 use Rattle.block_rebuild.specs.Code.{rebuilding_of}
-use Rattle.frame_state.specs.Columns.{limit_of}
+use Rattle.frame_state.specs.KeptColumns.{limit_of}
 use Rattle.recon_rows.proofs.StripBlocks.{all_placed, row_held}
 use Rattle.recon_rows.proofs.StripSteps.{areas_stay, begun_around, begun_range, may_begin, strip_made}
 use Rattle.recon_rows.proofs.strips.rows.Goals as goal

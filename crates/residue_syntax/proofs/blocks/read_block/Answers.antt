@@ -1,5 +1,5 @@
 use Rattle.std.proofs.lemmas.Result.{err_from_is_err_and}
-use Rattle.prob_contexts.specs.Lists.{lists_of}
+use Rattle.prob_contexts.specs.ProbLists.{lists_of}
 use Rattle.residue_syntax.proofs.BlockReads.{first_broken, second_broken, third_broken, all_read}
 use Rattle.residue_syntax.proofs.blocks.read_block.Goals as goal
 

@@ -3,8 +3,8 @@ use Rattle.block_geometry.specs.TransformBlocks.{transform_blocks, grid_blocks}
 use Rattle.block_plan.specs.InPlanes.{places_in, plane_block}
 use Rattle.vp9_types.specs.declared.shape.Shape.{Shape}
 use Rattle.vp9_tables.specs.Scans.{area}
-use Rattle.frame_headers.specs.State.{shape_of}
-use Rattle.prob_contexts.specs.Lists.{lists_of}
+use Rattle.frame_headers.specs.HeaderState.{shape_of}
+use Rattle.prob_contexts.specs.ProbLists.{lists_of}
 use Rattle.residue_syntax.specs.BlocksInPlanes.{block_in}
 use Rattle.residue_syntax.proofs.BlockReads.{all_beside, plane_skipped, plane_coded}
 use Rattle.residue_syntax.proofs.blocks.read_plane.Goals as goal

@@ -5,7 +5,7 @@ use Rattle.block_geometry.proofs.Rasters.{length_grid}
 use Rattle.block_plan.specs.Code.{residues_held}
 use Rattle.block_plan.proofs.Held.{one_long}
 use Rattle.counting_reader.proofs.Throughs.{begins, breaks, ends}
-use Rattle.prob_contexts.specs.Lists.{lists_of}
+use Rattle.prob_contexts.specs.ProbLists.{lists_of}
 use Rattle.vp9_tables.specs.Scans.{area}
 use Rattle.residue_syntax.proofs.PlaneReads.{beside_at, all_fit, room_for, part_long, more_read, more_coded, more_small, next_broken}
 use Rattle.residue_syntax.proofs.planes.read_residues.Goals as goal

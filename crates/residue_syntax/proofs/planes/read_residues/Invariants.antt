@@ -4,7 +4,7 @@ use Rattle.block_geometry.specs.TransformBlocks.{grid_blocks}
 use Rattle.block_plan.specs.Code.{residues_held, AreSmall}
 use Rattle.counting_reader.proofs.Throughs.{Reached}
 use Rattle.counting_reader.specs.Code.{standing_of}
-use Rattle.prob_contexts.specs.Lists.{lists_of}
+use Rattle.prob_contexts.specs.ProbLists.{lists_of}
 use Rattle.vp9_tables.specs.Scans.{area}
 use Rattle.residue_syntax.specs.Code.{KeepsLengths}
 use Rattle.residue_syntax.specs.Residues.{read_next, is_coded}

@@ -1,6 +1,6 @@
 use Rattle.std.proofs.Common.{◌≡◌, subst, rules, arith, get_or, [], ◌*◌, ◌+◌}
 use Rattle.inverse_transforms.specs.Flow.{at}
-use Rattle.residue_transforms.specs.Blocks.{HasPiece}
+use Rattle.residue_transforms.specs.SquareBlocks.{HasPiece}
 use Rattle.residue_transforms.specs.Residue.{round}
 use Rattle.residue_transforms.proofs.Pieces.{piece_same, stored_more, stored_columns}
 use Rattle.residue_transforms.proofs.group.store_four.Goals as goal

@@ -1,5 +1,5 @@
 use Rattle.std.proofs.Common.{length}
-use Rattle.inverse_transforms.specs.Columns.{column}
+use Rattle.inverse_transforms.specs.LaneColumns.{column}
 use Rattle.residue_transforms.proofs.Skips.{skipped}
 use Rattle.residue_transforms.proofs.kind.transform_nonzero.Goals as goal
 

@@ -1,5 +1,5 @@
 use Rattle.std.proofs.Common.{◌≡◌, ℕ, ◌+◌, ◌-◌, ◌<◌}
-use Rattle.residue_transforms.specs.Blocks.{row}
+use Rattle.residue_transforms.specs.SquareBlocks.{row}
 use Rattle.residue_transforms.proofs.repeats.is_repeated.Given as goal
 
 abbrev pub invariant-loop-j : goal.invariant-loop-j

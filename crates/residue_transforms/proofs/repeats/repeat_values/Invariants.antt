@@ -1,6 +1,6 @@
 use Rattle.std.proofs.Common.{◌+◌, ◌-◌}
 use Rattle.inverse_transforms.specs.Flow.{at}
-use Rattle.residue_transforms.specs.Blocks.{HasPiece}
+use Rattle.residue_transforms.specs.SquareBlocks.{HasPiece}
 use Rattle.residue_transforms.proofs.repeats.repeat_values.Given as goal
 
 abbrev pub invariant-loop-j : goal.invariant-loop-j

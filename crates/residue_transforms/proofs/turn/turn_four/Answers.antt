@@ -1,6 +1,6 @@
 use Rattle.std.proofs.Common.{◌∙◌, ap, arith}
 use Rattle.std.proofs.lemmas.Result.{err_from_is_err_and}
-use Rattle.residue_transforms.specs.Blocks.{row}
+use Rattle.residue_transforms.specs.SquareBlocks.{row}
 use Rattle.residue_transforms.proofs.GroupTurns.{Loaded, group_ok, group_err}
 use Rattle.residue_transforms.proofs.turn.turn_four.Goals as goal
 

@@ -1,4 +1,4 @@
-use Rattle.prob_contexts.specs.Lists.{lists_of}
+use Rattle.prob_contexts.specs.ProbLists.{lists_of}
 use Rattle.residue_syntax.specs.declared.sides.TileSides.{TileSides}
 use Rattle.residue_writer.proofs.BlockPuts.{first_broken, second_broken, third_broken, all_put}
 use Rattle.residue_writer.proofs.Spellings.{three_spelled}

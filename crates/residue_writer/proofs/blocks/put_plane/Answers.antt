@@ -1,8 +1,8 @@
 use Rattle.std.proofs.Common.{◌≡◌, ◌∙◌, sym}
 use Rattle.block_geometry.specs.TransformBlocks.{transform_blocks, grid_blocks}
 use Rattle.block_plan.specs.InPlanes.{places_in}
-use Rattle.frame_headers.specs.State.{shape_of}
-use Rattle.prob_contexts.specs.Lists.{lists_of}
+use Rattle.frame_headers.specs.HeaderState.{shape_of}
+use Rattle.prob_contexts.specs.ProbLists.{lists_of}
 use Rattle.residue_syntax.proofs.BlockReads.{all_beside}
 use Rattle.residue_writer.proofs.BlockPuts.{plane_skipped, plane_coded}
 use Rattle.residue_writer.proofs.Spellings.{plane_none, plane_some}

@@ -3,7 +3,7 @@ use Rattle.std.specs.Prelude.{Ok, Err}
 use Rattle.block_geometry.specs.TransformBlocks.{grid_blocks}
 use Rattle.block_geometry.proofs.Rasters.{length_grid}
 use Rattle.block_plan.proofs.Held.{one_long}
-use Rattle.prob_contexts.specs.Lists.{lists_of}
+use Rattle.prob_contexts.specs.ProbLists.{lists_of}
 use Rattle.residue_syntax.proofs.PlaneReads.{beside_at}
 use Rattle.residue_writer.proofs.PlanePuts.{passes_none, passes_on, breaks_here, ends_all, put_at, told_at}
 use Rattle.residue_writer.proofs.Spellings.{spelled_here, spells_begin, spells_go, spells_end}

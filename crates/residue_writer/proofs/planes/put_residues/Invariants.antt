@@ -1,5 +1,5 @@
 use Rattle.block_geometry.specs.TransformBlocks.{grid_blocks}
-use Rattle.prob_contexts.specs.Lists.{lists_of}
+use Rattle.prob_contexts.specs.ProbLists.{lists_of}
 use Rattle.residue_syntax.specs.Code.{KeepsLengths}
 use Rattle.residue_writer.proofs.PlanePuts.{Passes}
 use Rattle.residue_writer.proofs.Spellings.{SpellsLeft}

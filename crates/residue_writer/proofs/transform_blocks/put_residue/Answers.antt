@@ -1,11 +1,11 @@
 use Rattle.std.proofs.Common.{ap}
-use Rattle.prob_contexts.specs.Lists.{lists_of}
-use Rattle.coef_tokens.specs.Blocks.{block_tables}
+use Rattle.prob_contexts.specs.ProbLists.{lists_of}
+use Rattle.coef_tokens.specs.TokenKinds.{block_tables}
 use Rattle.coef_tokens.specs.declared.tables.TokenKind.{TokenKind}
 use Rattle.residue_syntax.specs.BlocksInPlanes.{token_kind}
 use Rattle.residue_syntax.specs.Residues.{first_context}
 use Rattle.level_lists.proofs.PlaceWays.{kinds_way}
-use Rattle.residue_writer.specs.Lists.{spelled_at}
+use Rattle.residue_writer.specs.ResidueLists.{spelled_at}
 use Rattle.residue_writer.proofs.ResiduePuts.{residue_put}
 use Rattle.residue_writer.proofs.transform_blocks.put_residue.Goals as goal
 

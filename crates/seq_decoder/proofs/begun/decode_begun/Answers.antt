@@ -1,7 +1,7 @@
 use Rattle.std.proofs.Common.{subst}
 use Rattle.tap_filter.proofs.DepthLemmas.{of_any, of_bytes}
-use Rattle.frame_headers.specs.State.{shape_of}
-use Rattle.picture_table.specs.Pictures.{IsBlankAs}
+use Rattle.frame_headers.specs.HeaderState.{shape_of}
+use Rattle.picture_table.specs.KeptPictures.{IsBlankAs}
 use Rattle.seq_decoder.proofs.KeptFrames.{frame_in_bytes, frame_in_words, left_in_bytes, left_in_words}
 use Rattle.seq_decoder.proofs.begun.decode_begun.Goals as goal
 

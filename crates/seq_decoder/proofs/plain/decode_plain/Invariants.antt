@@ -1,7 +1,7 @@
 use Rattle.std.proofs.Common.{◌≡◌, length}
 use Rattle.file_frames.specs.Code.{ahead}
 use Rattle.seq_decoder.specs.Code.{MayDecode, StandsFor}
-use Rattle.seq_decoder.specs.State.{State}
+use Rattle.seq_decoder.specs.DecoderState.{State}
 use Rattle.seq_decoder.proofs.RunLemmas.{HasWritten}
 use Rattle.seq_decoder.proofs.plain.decode_plain.Given as goal
 

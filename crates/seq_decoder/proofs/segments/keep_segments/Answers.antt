@@ -1,13 +1,13 @@
 use Rattle.std.proofs.Common.{◌≡◌, ◌∙◌, sym, ap, subst, take}
 use Rattle.std.specs.Prelude.{Some}
-use Rattle.block_geometry.specs.Frames.{places_of}
+use Rattle.block_geometry.specs.FrameShapes.{places_of}
 use Rattle.block_geometry.specs.declared.transform_blocks.FramePlaces.{FramePlaces}
-use Rattle.frame_headers.specs.State.{shape_of}
-use Rattle.frame_state.specs.Columns.{blocks_of}
-use Rattle.frame_state.specs.Reading.{all_blocks}
+use Rattle.frame_headers.specs.HeaderState.{shape_of}
+use Rattle.frame_state.specs.KeptColumns.{blocks_of}
+use Rattle.frame_state.specs.FrameReading.{all_blocks}
 use Rattle.frame_state.specs.declared.columns.TileColumn.{TileColumn}
-use Rattle.inter_modes.specs.Segments.{segments_after}
-use Rattle.block_plan.specs.Segments.{id_map}
+use Rattle.inter_modes.specs.LeftSegments.{segments_after}
+use Rattle.block_plan.specs.SegmentMaps.{id_map}
 use Rattle.seq_decoder.specs.Code.{HasPlaces}
 use Rattle.seq_decoder.proofs.SegmentLemmas.{no_column_yet, one_column_more}
 use Rattle.seq_decoder.proofs.segments.keep_segments.Goals as goal

@@ -1,10 +1,10 @@
 use Rattle.std.proofs.Common.{◌≡◌, Some, take}
-use Rattle.block_geometry.specs.Frames.{places_of}
-use Rattle.frame_headers.specs.State.{shape_of}
-use Rattle.frame_state.specs.Columns.{blocks_of}
-use Rattle.frame_state.specs.Reading.{all_blocks}
-use Rattle.inter_modes.specs.Segments.{segments_after}
-use Rattle.block_plan.specs.Segments.{id_map}
+use Rattle.block_geometry.specs.FrameShapes.{places_of}
+use Rattle.frame_headers.specs.HeaderState.{shape_of}
+use Rattle.frame_state.specs.KeptColumns.{blocks_of}
+use Rattle.frame_state.specs.FrameReading.{all_blocks}
+use Rattle.inter_modes.specs.LeftSegments.{segments_after}
+use Rattle.block_plan.specs.SegmentMaps.{id_map}
 use Rattle.seq_decoder.specs.Code.{HasPlaces}
 use Rattle.seq_decoder.proofs.segments.keep_segments.Given as goal
 

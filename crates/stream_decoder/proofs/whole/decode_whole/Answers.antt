@@ -1,7 +1,7 @@
 use Rattle.std.proofs.Common.{◌≡◌, ◌≤◌, ℕ, List, length, rules, subst}
 use Rattle.std.specs.Prelude.{Err, Result, Vec}
 use Rattle.std.specs.declared.alloc.Global.{Global}
-use Rattle.edge_io.specs.Reading.{CountsReadFaults, ReadsAll}
+use Rattle.edge_io.specs.SourceReading.{CountsReadFaults, ReadsAll}
 use Rattle.edge_io.specs.declared.read.ReadError.{ReadError}
 use Rattle.edge_io.specs.declared.read.ReadError.TheVariants as refused
 use Rattle.seq_decoder.specs.Outcomes.{Decodes}

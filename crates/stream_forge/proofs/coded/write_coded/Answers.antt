@@ -1,5 +1,5 @@
 use Rattle.std.proofs.Common.{◌≡◌, ◌∙◌, ap}
-use Rattle.prob_contexts.specs.Lists.{lists_of}
+use Rattle.prob_contexts.specs.ProbLists.{lists_of}
 use Rattle.seq_decoder.specs.After.{segments_before, vectors_before}
 use Rattle.seq_decoder.specs.SavedContexts.{context_at, context_before, place_of, saved_before}
 use Rattle.stream_forge.proofs.Behind.{behind_given}

@@ -1,6 +1,6 @@
 use Rattle.std.proofs.Common.{refl}
 use Rattle.seq_decoder.specs.After.{past_of}
-use Rattle.seq_decoder.specs.State.{persist_of}
+use Rattle.seq_decoder.specs.DecoderState.{persist_of}
 use Rattle.stream_forge.specs.Code.{frame_with}
 use Rattle.stream_forge.proofs.DrawnReads.{coded_given}
 use Rattle.stream_forge.proofs.frames.write_drawn.Goals as goal

@@ -2,10 +2,10 @@ use Rattle.std.proofs.Common.{◌∙◌, sym, ap, subst, inl, inr, arith}
 use Rattle.std.specs.Prelude.{nat_eq}
 use Rattle.drawn_frames.specs.Heads.{draw_head}
 use Rattle.seq_decoder.specs.Code.{StandsFor}
-use Rattle.seq_decoder.specs.State.{State}
+use Rattle.seq_decoder.specs.DecoderState.{State}
 use Rattle.seq_decoder.specs.declared.form.OutputForm.{OutputForm}
 use Rattle.stream_forge.specs.Code.{IsMadeAfter, Passes}
-use Rattle.stream_forge.specs.Reads.{IsMadeFrame}
+use Rattle.stream_forge.specs.FileReads.{IsMadeFrame}
 use Rattle.stream_forge.proofs.DrawnReads.{frame_steps}
 use Rattle.stream_forge.proofs.MadeFrames.{file_is}
 use Rattle.stream_forge.proofs.Streams.{all_made, ends_here, frame_breaks, frame_made, if_ended, none_made, not_written, one_made, persists}

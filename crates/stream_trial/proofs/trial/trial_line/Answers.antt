@@ -4,7 +4,7 @@ use Rattle.frame_output.specs.declared.rendering.Format.TheVariants.{Raw}
 use Rattle.seq_decoder.specs.Outputs.{output_of}
 use Rattle.seq_decoder.specs.Runs.{run_of}
 use Rattle.stream_trial.specs.Code.{Tells}
-use Rattle.stream_trial.specs.Lines.{shown_count}
+use Rattle.stream_trial.specs.TrialLines.{shown_count}
 use Rattle.stream_trial.proofs.Sums.{tells_line}
 use Rattle.stream_trial.proofs.trial.trial_line.Goals as goal
 

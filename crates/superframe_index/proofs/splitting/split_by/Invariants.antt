@@ -1,4 +1,4 @@
-use Rattle.superframe_index.specs.Frames.{sizes_of}
+use Rattle.superframe_index.specs.PayloadFrames.{sizes_of}
 use Rattle.superframe_index.proofs.Steps.{HasTaken}
 use Rattle.superframe_index.proofs.splitting.split_by.Given as goal
 

@@ -1,7 +1,7 @@
 use Rattle.std.proofs.Common.{◌≡◌, ◌∙◌, ◌/◌, ap, sym, length, arith}
 use Rattle.block_plan.specs.declared.block.BlockInfo.{BlockInfo}
 use Rattle.std.proofs.lemmas.Result.{err_from_is_err_and}
-use Rattle.frame_headers.specs.State.{shape_of}
+use Rattle.frame_headers.specs.HeaderState.{shape_of}
 use Rattle.vp9_types.specs.Shapes.{mi_cols, mi_rows}
 use Rattle.block_geometry.specs.declared.transform_blocks.FramePlaces.{FramePlaces}
 use Rattle.frame_state.specs.Code.{sources_of}
@@ -9,7 +9,7 @@ use Rattle.frame_state.proofs.BlockSteps.{all_have_small, fits_more, lies_more, 
 use Rattle.column_plan.proofs.Held.{infos_are}
 use Rattle.tile_syntax.proofs.PlanSteps.{all_kept, block_broken, block_planned, modes_broken, refer_more, small_planned, whole_planned}
 use Rattle.column_plan.proofs.RowStarts.{rows_noted}
-use Rattle.column_plan.specs.Planned.{total}
+use Rattle.column_plan.specs.PlannedBlocks.{total}
 use Rattle.tile_syntax.proofs.planning.plan_block.Goals as goal
 
 pub mode_info-requires : goal.mode_info-requires

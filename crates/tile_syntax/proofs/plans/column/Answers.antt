@@ -1,4 +1,4 @@
-use Rattle.frame_headers.specs.State.{shape_of}
+use Rattle.frame_headers.specs.HeaderState.{shape_of}
 use Rattle.std.proofs.Common.{ap}
 use Rattle.std.specs.Prelude.{List, Bool}
 use Rattle.block_plan.specs.declared.block.BlockInfo.{BlockInfo}

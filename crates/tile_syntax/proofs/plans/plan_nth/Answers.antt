@@ -1,9 +1,9 @@
 use Rattle.std.proofs.Common.{◌≡◌, ap, arith, refl}
 use Rattle.std.specs.Prelude.{nat_eq, not}
 use Rattle.vp9_types.specs.Shapes.{mi_rows}
-use Rattle.frame_headers.specs.State.{shape_of}
+use Rattle.frame_headers.specs.HeaderState.{shape_of}
 use Rattle.block_geometry.specs.declared.transform_blocks.FramePlaces.{FramePlaces}
-use Rattle.frame_state.specs.Tiles.{column_of}
+use Rattle.frame_state.specs.TilePlaces.{column_of}
 use Rattle.frame_state.proofs.ColumnSteps.{begins_there, cleared_fit, ends_there, has_room, ready_of, rows_in_order, rows_within}
 use Rattle.tile_syntax.proofs.NextTiles.{column_next, gives_next}
 use Rattle.tile_syntax.proofs.plans.plan_nth.Goals as goal

@@ -1,10 +1,10 @@
 use Rattle.std.proofs.Common.{◌≡◌, ◌*◌, ◌+◌, ◌++◌, ◌^◌, [], subst, sym, ap, arith}
 use Rattle.std.specs.Prelude.{nat_eq, not}
 use Rattle.frame_headers.specs.Spans.{tile_count}
-use Rattle.frame_headers.specs.State.{shape_of}
+use Rattle.frame_headers.specs.HeaderState.{shape_of}
 use Rattle.frame_state.specs.Code.{sources_of}
-use Rattle.frame_state.specs.Columns.{IsTileColumn}
-use Rattle.frame_state.specs.Plans.{no_tiles, tile_bytes}
+use Rattle.frame_state.specs.KeptColumns.{IsTileColumn}
+use Rattle.frame_state.specs.ColumnPlans.{no_tiles, tile_bytes}
 use Rattle.frame_state.proofs.ColumnSteps.{none_counted}
 use Rattle.tile_syntax.proofs.ColumnTiles.{all_below, begins, breaks_off, bytes_there, counts_on, ends, goes_on, later_by, own_tile, row_below}
 use Rattle.tile_syntax.proofs.plans.plan_tiles.Goals as goal

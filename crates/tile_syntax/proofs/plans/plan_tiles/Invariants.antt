@@ -2,11 +2,11 @@ use Rattle.std.proofs.Common.{◌≡◌, ◌*◌, ◌^◌, List}
 use Rattle.std.specs.Prelude.{not, nat_eq, Ok}
 use Rattle.vp9_types.specs.declared.job.Span.{Span}
 use Rattle.frame_headers.specs.Spans.{tile_spans}
-use Rattle.frame_headers.specs.State.{shape_of}
+use Rattle.frame_headers.specs.HeaderState.{shape_of}
 use Rattle.prob_contexts.specs.declared.kind.CountedBool.{CountedBool}
 use Rattle.frame_state.specs.Code.{counts_if, sources_of}
-use Rattle.frame_state.specs.Columns.{IsTileColumn}
-use Rattle.frame_state.specs.Plans.{ColumnRead, tile_bytes}
+use Rattle.frame_state.specs.KeptColumns.{IsTileColumn}
+use Rattle.frame_state.specs.ColumnPlans.{ColumnRead, tile_bytes}
 use Rattle.tile_syntax.specs.Code.{HoldsColumn, IsKept}
 use Rattle.tile_syntax.proofs.ColumnTiles.{IsLeft}
 use Rattle.tile_syntax.proofs.plans.plan_tiles.Given as goal

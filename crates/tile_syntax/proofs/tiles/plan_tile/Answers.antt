@@ -1,5 +1,5 @@
 use Rattle.std.proofs.lemmas.Result.{err_from_is_err_and}
-use Rattle.frame_headers.specs.State.{shape_of}
+use Rattle.frame_headers.specs.HeaderState.{shape_of}
 use Rattle.frame_state.proofs.TileBytes.{counts_by_is, whole_not_started, whole_read}
 use Rattle.tile_syntax.specs.Code.{tile_held}
 use Rattle.tile_syntax.proofs.NextTiles.{breaks_whole}

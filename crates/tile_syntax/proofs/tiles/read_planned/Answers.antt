@@ -1,7 +1,7 @@
 use Rattle.std.proofs.Common.{◌≡◌, ◌*◌, ap, refl, sym}
 use Rattle.std.specs.Borrow.{GName}
 use Rattle.frame_state.specs.declared.sources.FrameSources.{FrameSources}
-use Rattle.frame_headers.specs.State.{shape_of}
+use Rattle.frame_headers.specs.HeaderState.{shape_of}
 use Rattle.mode_syntax.specs.Walk.{decode_tile}
 use Rattle.frame_state.specs.Code.{sources_of}
 use Rattle.tile_syntax.specs.Code.{tile_held, plan_walk}

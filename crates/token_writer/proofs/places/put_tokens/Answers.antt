@@ -4,7 +4,7 @@ use Rattle.std.proofs.lemmas.List.Elements.{All-set}
 use Rattle.vp9_tables.specs.Scans.{area}
 use Rattle.coef_tokens.specs.Code.{tables_of}
 use Rattle.coef_tokens.proofs.Turns.{zeros_at, no_classes, first_row}
-use Rattle.token_writer.specs.Fits.{level_of}
+use Rattle.token_writer.specs.TokenFits.{level_of}
 use Rattle.token_writer.proofs.Turns.{begins, zero_turn, level_turn, ends_at_last, ends_here, coded_at, kept_level, none_at, asks, back, true_is}
 use Rattle.token_writer.proofs.places.put_tokens.Goals as goal
 use Rattle.token_writer.proofs.places.put_tokens.Goals.{then-level-eq0+in_ok-put_zero, else-level-eq0+in_ok-cache}

@@ -1,7 +1,7 @@
 use Rattle.std.proofs.Common.{◌≡◌, ◌≤◌, ◌<◌, ◌+◌, ◌-◌, false, length, pos, All}
 use Rattle.std.specs.Prelude.{slice_index}
 use Rattle.coef_tokens.specs.Code.{tables_of, StandsAt}
-use Rattle.token_writer.specs.Fits.{level_of}
+use Rattle.token_writer.specs.TokenFits.{level_of}
 use Rattle.token_writer.proofs.Turns.{Stands}
 use Rattle.token_writer.proofs.places.put_tokens.Given as goal
 

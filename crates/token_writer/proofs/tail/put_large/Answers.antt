@@ -1,4 +1,4 @@
-use Rattle.coef_tokens.specs.Symbols.{tail_token}
+use Rattle.coef_tokens.specs.TokenSymbols.{tail_token}
 use Rattle.vp9_types.specs.Trees.{tree_symbol}
 use Rattle.std.proofs.Common.{true, false, arith}
 use Rattle.token_writer.proofs.Tails.{way, last_way}

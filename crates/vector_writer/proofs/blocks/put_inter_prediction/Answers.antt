@@ -1,5 +1,5 @@
 use Rattle.std.proofs.Common.{rules, ◌≡◌, true, false, length}
-use Rattle.block_geometry.specs.Sizes.{is_below_8x8}
+use Rattle.block_geometry.specs.BlockSizes.{is_below_8x8}
 use Rattle.vector_writer.proofs.Modes.{quarters_answered, whole_answered}
 use Rattle.vector_writer.proofs.blocks.put_inter_prediction.Goals as goal
 

@@ -1,5 +1,5 @@
 use Rattle.std.proofs.Common.{arith}
-use Rattle.prob_contexts.specs.Lists.{vector_lists}
+use Rattle.prob_contexts.specs.ProbLists.{vector_lists}
 use Rattle.mv_syntax.specs.Components.{next_bit}
 use Rattle.vector_writer.proofs.Bits.{bits_begin, bits_go, bits_end}
 use Rattle.vector_writer.proofs.components.put_bits.Goals as goal

@@ -1,4 +1,4 @@
-use Rattle.prob_contexts.specs.Lists.{vector_lists}
+use Rattle.prob_contexts.specs.ProbLists.{vector_lists}
 use Rattle.mv_syntax.specs.Components.{next_bit}
 use Rattle.vector_writer.proofs.Bits.{BitsLeft}
 use Rattle.vector_writer.proofs.components.put_bits.Given as goal

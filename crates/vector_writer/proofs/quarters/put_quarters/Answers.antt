@@ -1,5 +1,5 @@
 use Rattle.std.proofs.Common.{ℕ, ap, arith}
-use Rattle.vector_writer.specs.Fits.{quarter_saying}
+use Rattle.vector_writer.specs.VectorFits.{quarter_saying}
 use Rattle.vector_writer.proofs.Sayings.{say, each_own}
 use Rattle.vector_writer.proofs.quarters.put_quarters.Goals as goal
 

@@ -1,6 +1,6 @@
 use Rattle.std.proofs.Common.{refl, arith}
 use Rattle.block_geometry.specs.TransformBlocks.{starts}
-use Rattle.coef_tokens.specs.Blocks.{block_tables}
+use Rattle.coef_tokens.specs.TokenKinds.{block_tables}
 use Rattle.writer_tests.proofs.residue_tests.writes.Goals as goal
 
 pub put_block-requires-clause-can : goal.put_block-requires-clause-can

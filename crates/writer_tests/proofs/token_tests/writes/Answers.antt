@@ -1,6 +1,6 @@
 use Rattle.std.proofs.Common.{◌≡◌, ◌≤◌, true, length, rules}
 use Rattle.vp9_tables.specs.Scans.{area}
-use Rattle.prob_contexts.specs.Lists.{lists_of}
+use Rattle.prob_contexts.specs.ProbLists.{lists_of}
 use Rattle.token_writer.proofs.Turns.{can_by}
 use Rattle.writer_tests.proofs.token_tests.writes.Goals as goal
 

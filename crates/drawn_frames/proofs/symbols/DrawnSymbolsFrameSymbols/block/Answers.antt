@@ -1,8 +1,8 @@
 use Rattle.std.proofs.Common.{◌≡◌, ap, sym, arith}
 use Rattle.vp9_types.specs.Shapes.{mi_cols, mi_rows}
-use Rattle.frame_headers.specs.State.{shape_of}
+use Rattle.frame_headers.specs.HeaderState.{shape_of}
 use Rattle.block_geometry.specs.declared.transform_blocks.FramePlaces.{FramePlaces}
-use Rattle.block_plan.specs.Segments.{id_map}
+use Rattle.block_plan.specs.SegmentMaps.{id_map}
 use Rattle.frame_state.proofs.BlockSteps.{all_have_small, vectors_held, vectors_small}
 use Rattle.drawn_frames.proofs.symbols.DrawnSymbolsFrameSymbols.block.Goals as goal
 

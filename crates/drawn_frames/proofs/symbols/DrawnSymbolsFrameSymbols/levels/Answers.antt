@@ -1,4 +1,4 @@
-use Rattle.prob_contexts.specs.Lists.{lists_of}
+use Rattle.prob_contexts.specs.ProbLists.{lists_of}
 use Rattle.drawn_frames.proofs.symbols.DrawnSymbolsFrameSymbols.levels.Goals as goal
 
 pub returns-clause-can : goal.returns-clause-can

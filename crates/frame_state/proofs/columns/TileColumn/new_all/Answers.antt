@@ -1,7 +1,7 @@
 use Rattle.std.proofs.Common.{◌≡◌, ◌∙◌, ap, map, replicate, arith}
-use Rattle.frame_headers.specs.State.{shape_of}
+use Rattle.frame_headers.specs.HeaderState.{shape_of}
 use Rattle.frame_state.specs.Code.{column_as_listed}
-use Rattle.frame_state.specs.Reading.{no_column}
+use Rattle.frame_state.specs.FrameReading.{no_column}
 use Rattle.frame_state.proofs.ColumnSteps.{one_begun, none_begun, tile_columns}
 use Rattle.frame_state.proofs.columns.TileColumn.new_all.Goals as goal
 

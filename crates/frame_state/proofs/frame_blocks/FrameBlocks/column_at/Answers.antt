@@ -1,9 +1,9 @@
 use Rattle.std.proofs.Common.{◌≡◌, ◌∙◌, ◌<◌, ◌≤◌, ◌+◌, ◌^◌, ℕ, length, arith, inl, inr, ap, subst}
 use Rattle.std.proofs.lemmas.Bool.{cases_lt}
 use Rattle.vp9_types.specs.Shapes.{mi_cols}
-use Rattle.frame_headers.specs.State.{shape_of}
+use Rattle.frame_headers.specs.HeaderState.{shape_of}
 use Rattle.frame_headers.specs.Spans.{tile_count}
-use Rattle.frame_state.specs.Columns.{IsTileColumn}
+use Rattle.frame_state.specs.KeptColumns.{IsTileColumn}
 use Rattle.frame_state.proofs.TileOffsets.{begins_at, first_low, last_high, place_below}
 use Rattle.frame_state.proofs.frame_blocks.FrameBlocks.column_at.Goals.{then-first_col-col, else-first_col-col}
 use Rattle.frame_state.proofs.frame_blocks.FrameBlocks.column_at.Goals as goal

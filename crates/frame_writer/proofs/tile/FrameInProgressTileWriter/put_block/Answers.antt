@@ -4,7 +4,7 @@ use Rattle.block_plan.specs.declared.block.BlockInfo.{BlockInfo}
 use Rattle.frame_state.specs.Code.{sources_of}
 use Rattle.frame_state.proofs.BlockSteps.{all_have_small, fits_more, lies_more, small_more, starts_more, vectors_small}
 use Rattle.frame_writer.specs.Code.{held_by}
-use Rattle.frame_writer.specs.Symbols.{with_block}
+use Rattle.frame_writer.specs.FrameSymbols.{with_block}
 use Rattle.frame_writer.proofs.BlockTells.{block_bools, block_said_so, held_more, is_listed, levels_untold, limit_same, modes_stop, nothing_told, of_here, residue_stops, room_less, to_here}
 use Rattle.frame_writer.proofs.tile.FrameInProgressTileWriter.put_block.Goals as goal
 

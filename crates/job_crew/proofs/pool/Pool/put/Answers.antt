@@ -1,5 +1,5 @@
 use Rattle.std.proofs.Common.{◌≡◌, ◌∙◌, sym, subst, Some, arith}
-use Rattle.job_order.specs.Segments.{job_at}
+use Rattle.job_order.specs.JobSegments.{job_at}
 use Rattle.job_order.specs.Code.{IsMark}
 use Rattle.job_crew.proofs.Pools.{moves, puts}
 use Rattle.job_crew.proofs.pool.Pool.put.Goals as goal

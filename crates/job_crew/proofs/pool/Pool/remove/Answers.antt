@@ -1,5 +1,5 @@
 use Rattle.std.proofs.Common.{sym, subst, arith}
-use Rattle.job_order.specs.Segments.{IsListed}
+use Rattle.job_order.specs.JobSegments.{IsListed}
 use Rattle.job_crew.proofs.Pools.{named, takes}
 use Rattle.job_crew.proofs.pool.Pool.remove.Goals as goal
 

@@ -1,5 +1,5 @@
 use Rattle.std.proofs.Common.{◌∙◌, refl, sym, ap, subst, reverse}
-use Rattle.job_order.specs.Segments.{IsBelow}
+use Rattle.job_order.specs.JobSegments.{IsBelow}
 use Rattle.job_order.specs.Needs.{IsNeed}
 use Rattle.job_order.specs.Worlds.{IsFinished, IsReady}
 use Rattle.job_order.specs.Code.{Names}

@@ -4,9 +4,9 @@ use Rattle.std.specs.Vec.{with_item}
 use Rattle.std.proofs.lemmas.List.{length-set}
 use Rattle.std.proofs.lemmas.Option.{slice_get_within}
 use Rattle.std.proofs.lemmas.Result.{err_from_is_err_and}
-use Rattle.picture_table.specs.Pictures.{IsBlankAs}
+use Rattle.picture_table.specs.KeptPictures.{IsBlankAs}
 use Rattle.picture_table.proofs.Places.{held_beside, put_there, table_beside}
-use Rattle.frame_decoder.specs.Frames.{decoded}
+use Rattle.frame_decoder.specs.DecodedFrames.{decoded}
 use Rattle.seq_decoder.specs.After.{input_of, past_of, references_of, segments_before, vectors_before}
 use Rattle.frame_decoder.proofs.PlainFrames.{frame_breaks}
 use Rattle.frame_headers.specs.declared.header.Header.{Header}

@@ -1,15 +1,15 @@
 use Rattle.std.proofs.Common.{◌∙◌, ap, sym, subst}
 use Rattle.std.specs.Prelude.{Some}
-use Rattle.block_geometry.specs.Frames.{places_of}
-use Rattle.frame_headers.specs.State.{next_persist, shape_of}
+use Rattle.block_geometry.specs.FrameShapes.{places_of}
+use Rattle.frame_headers.specs.HeaderState.{next_persist, shape_of}
 use Rattle.frame_headers.specs.declared.persist.Persist.{Persist}
-use Rattle.frame_state.specs.Columns.{blocks_of}
-use Rattle.frame_state.specs.Reading.{all_blocks}
-use Rattle.inter_modes.specs.Segments.{segments_after}
-use Rattle.prob_contexts.specs.Lists.{lists_of}
+use Rattle.frame_state.specs.KeptColumns.{blocks_of}
+use Rattle.frame_state.specs.FrameReading.{all_blocks}
+use Rattle.inter_modes.specs.LeftSegments.{segments_after}
+use Rattle.prob_contexts.specs.ProbLists.{lists_of}
 use Rattle.seq_decoder.specs.After.{segments_before}
 use Rattle.seq_decoder.specs.Code.{HasPlaces, last_held, saved_lists}
-use Rattle.seq_decoder.specs.State.{last_is_key, last_size}
+use Rattle.seq_decoder.specs.DecoderState.{last_is_key, last_size}
 use Rattle.seq_decoder.specs.SavedContexts.{context_at, is_key, own_contexts}
 use Rattle.seq_decoder.proofs.FrameLemmas.{contexts_after, shapes_after, sized_of, slots_after}
 use Rattle.seq_decoder.proofs.Slots.{persist_after}

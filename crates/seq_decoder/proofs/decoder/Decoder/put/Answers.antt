@@ -2,7 +2,7 @@ use Rattle.std.proofs.Common.{◌≡◌, ◌∙◌, Some, ap, refl, sym, true, f
 use Rattle.std.specs.Prelude.{Ok, Err}
 use Rattle.edge_io.proofs.Fronts.{takes_none}
 use Rattle.vp9_types.specs.declared.rule.Rule.TheVariants.{OutputShape}
-use Rattle.picture_table.specs.Pictures.{map_of_any}
+use Rattle.picture_table.specs.KeptPictures.{map_of_any}
 use Rattle.seq_decoder.specs.Code.{refusal_outcome}
 use Rattle.seq_decoder.specs.Outcomes.{outcome_at}
 use Rattle.seq_decoder.specs.Outputs.{admits, form_after}

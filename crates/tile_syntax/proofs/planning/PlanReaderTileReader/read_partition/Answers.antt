@@ -1,5 +1,5 @@
 use Rattle.std.proofs.Common.{refl}
-use Rattle.frame_headers.specs.State.{shape_of}
+use Rattle.frame_headers.specs.HeaderState.{shape_of}
 use Rattle.column_plan.proofs.Held.{infos_are}
 use Rattle.tile_syntax.proofs.planning.PlanReaderTileReader.read_partition.Goals as goal
 

@@ -1,6 +1,6 @@
 use Rattle.std.proofs.Common.{◌∙◌, length, sym, ap}
 use Rattle.column_plan.proofs.RowStarts.{row_found}
-use Rattle.frame_headers.specs.State.{shape_of}
+use Rattle.frame_headers.specs.HeaderState.{shape_of}
 use Rattle.tile_syntax.proofs.plans.ColumnPlan.row_place.Goals as goal
 
 pub returns : goal.returns

@@ -1,0 +1,156 @@
+-- The modes and vectors of an inter block (6.4.16 and 6.4.18 of the standard: inter_block_mode_info, assign_mv).
+use Rattle.std.specs.Prelude.{ℕ, ◌*◌, Bool, List, [], ◌∷◌, Option, Some, None, Result, Ok, Err, drop, slice_index_or, nat_eq, if◌then◌else◌}
+use Rattle.vp9_types.specs.Syntax.{Syntax}
+use Rattle.vp9_types.specs.declared.block.BlockSize.{BlockSize}
+use Rattle.vp9_types.specs.declared.block.BlockSize.TheVariants.{B4x8, B8x4}
+use Rattle.vp9_types.specs.declared.block.InterMode.{InterMode}
+use Rattle.vp9_types.specs.declared.block.InterMode.TheVariants.{Nearest, Near, Zero, New}
+use Rattle.vp9_types.specs.declared.block.ReferenceFrame.{ReferenceFrame}
+use Rattle.vp9_types.specs.declared.rule.Rule.{Rule}
+use Rattle.vp9_tables.specs.SymbolTrees.{inter_mode_tree}
+use Rattle.prob_contexts.specs.ProbLists.{VectorLists}
+use Rattle.prob_contexts.specs.declared.kind.ProbKind.TheVariants as kind
+use Rattle.block_plan.specs.declared.block.BlockInfo.{BlockInfo}
+use Rattle.block_plan.specs.declared.block.Mv.{Mv}
+use Rattle.block_plan.specs.declared.block.References.{References}
+use Rattle.counting_reader.specs.Counting.{Settled, settle, ◌>>=◌}
+use Rattle.counting_reader.specs.CountedSymbols.{counted_tree}
+use Rattle.mv_prediction.specs.Candidates.{candidates}
+use Rattle.mv_prediction.specs.SubBlocks.{vector_at, near_vectors, sub_block_vectors}
+use Rattle.mv_prediction.specs.Vectors.{no_vector}
+use Rattle.mv_prediction.specs.declared.search.MvSearch.{MvSearch}
+use Rattle.mv_prediction.specs.declared.sub_blocks.NearVectors.{NearVectors}
+use Rattle.mv_syntax.specs.Differences.{new_vector}
+use Rattle.inter_modes.specs.declared.quarters.Quarter.{Quarter}
+use Rattle.inter_modes.specs.declared.quarters.QuartersBefore.{QuartersBefore}
+
+---- What goes on unless a rule is broken ----
+
+-- A rule ends a block behind what it read: it is what the block settles on.
+abbrev pub carried : {A B : Type 0} → (A → Syntax ℕ Rule (Settled (Result B Rule))) → Result A Rule → Syntax ℕ Rule (Settled (Result B Rule))
+carried f (Ok x) = f x
+carried f (Err rule) = settle (Err rule)
+
+infixl 10 ◌>>?◌
+abbrev pub ◌>>?◌ : {A B : Type 0} → Syntax ℕ Rule (Settled (Result A Rule)) → (A → Syntax ℕ Rule (Settled (Result B Rule))) → Syntax ℕ Rule (Settled (Result B Rule))
+s >>? f = s >>= carried f
+
+---- Modes ----
+
+abbrev pub inter_of : ℕ → InterMode
+inter_of n = if nat_eq n 0 then Nearest else (if nat_eq n 1 then Near else (if nat_eq n 2 then Zero else New))
+
+unfoldable pub inter_mode : List ℕ → ℕ → Syntax ℕ Rule (Settled InterMode)
+inter_mode probs context = do
+  number ← counted_tree kind.InterMode (3 * context) inter_mode_tree (drop (3 * context) probs)
+  settle (inter_of number)
+
+---- Vectors of a mode ----
+
+-- what vectors are read by: the probabilities, whether the frame allows high precision, the blocks before and those of the
+-- frame before, the block
+pub record Sources : Type 0 where
+  pub lists : VectorLists
+  pub allowed : Bool
+  pub earlier : List BlockInfo
+  pub before : List BlockInfo
+  pub search : MvSearch
+
+-- of one list: the best vector of the block, and the nearest and near one
+unfoldable pub vector_of_mode : Sources → InterMode → Mv → NearVectors → Syntax ℕ Rule (Settled (Result Mv Rule))
+vector_of_mode s Nearest best near = settle (Ok near.nearest)
+vector_of_mode s Near best near = settle (Ok near.near)
+vector_of_mode s Zero best near = settle (Ok no_vector)
+vector_of_mode s New best near = new_vector s.lists s.allowed best
+
+-- BestMv, NearestMv and NearMv of a reference
+abbrev pub near_of_block : Sources → ReferenceFrame → NearVectors
+near_of_block s reference = near_vectors s.allowed (candidates s.earlier s.before s.search reference None)
+
+-- NearestMv and NearMv of a quarter, from the vectors of those before it
+abbrev pub near_of_quarter : Sources → ReferenceFrame → ℕ → List Mv → NearVectors
+near_of_quarter s reference k quarters = sub_block_vectors k (candidates s.earlier s.before s.search reference (Some k)) quarters
+
+-- of one reference: of the whole block, or of its k-th quarter
+unfoldable pub block_vector : Sources → InterMode → ReferenceFrame → Syntax ℕ Rule (Settled (Result Mv Rule))
+block_vector s mode reference =
+    vector_of_mode s mode (near_of_block s reference).nearest (near_of_block s reference)
+
+-- a second vector, if there is a second reference
+unfoldable pub with_second : Mv → Option ReferenceFrame → (ReferenceFrame → Syntax ℕ Rule (Settled (Result Mv Rule))) → Syntax ℕ Rule (Settled (Result (List Mv) Rule))
+with_second first None vector = settle (Ok (first ∷ no_vector ∷ []))
+with_second first (Some reference) vector = vector reference >>? λ second. settle (Ok (first ∷ second ∷ []))
+
+unfoldable pub block_vectors : Sources → InterMode → References → Syntax ℕ Rule (Settled (Result (List Mv) Rule))
+block_vectors s mode refs = block_vector s mode refs.first >>? λ first. with_second first refs.second (block_vector s mode)
+
+---- Quarters of blocks below 8x8 ----
+
+-- the best vector of each reference, 0 where there is none
+abbrev pub second_best : Sources → Option ReferenceFrame → Mv
+second_best s None = no_vector
+second_best s (Some reference) = (near_of_block s reference).nearest
+
+abbrev pub best_vectors : Sources → References → List Mv
+best_vectors s refs = (near_of_block s refs.first).nearest ∷ second_best s refs.second ∷ []
+
+abbrev pub row_at : List (List Mv) → ℕ → List Mv
+row_at rows k = slice_index_or rows k []
+
+-- the vectors of a list of the three quarters before the last
+abbrev pub of_list : ℕ → List (List Mv) → List Mv
+of_list list rows = vector_at (row_at rows 0) list ∷ vector_at (row_at rows 1) list ∷ vector_at (row_at rows 2) list ∷ []
+
+-- of one list: of the k-th quarter
+unfoldable pub quarter_vector : Sources → InterMode → ReferenceFrame → ℕ → ℕ → QuartersBefore → Syntax ℕ Rule (Settled (Result Mv Rule))
+quarter_vector s mode reference list k before =
+    vector_of_mode s mode (vector_at before.best list) (near_of_quarter s reference k (of_list list before.rows))
+
+unfoldable pub quarter_vectors : Sources → InterMode → References → ℕ → QuartersBefore → Syntax ℕ Rule (Settled (Result (List Mv) Rule))
+quarter_vectors s mode refs k before =
+    quarter_vector s mode refs.first 0 k before
+    >>? λ first. with_second first refs.second (λ reference. quarter_vector s mode reference 1 k before)
+
+-- a quarter's mode and vectors
+unfoldable pub quarter : Sources → List ℕ → ℕ → References → ℕ → QuartersBefore → Syntax ℕ Rule (Settled (Result Quarter Rule))
+quarter s probs context refs k before = do
+  mode ← inter_mode probs context
+  quarter_vectors s mode refs k before >>? λ vectors. settle (Ok (record { mode = mode; vectors = vectors }))
+
+abbrev pub nothing_before : List Mv
+nothing_before = no_vector ∷ no_vector ∷ []
+
+-- the quarters before one: none, the first, the first two, the first three
+abbrev pub before_of : List Mv → List Mv → List Mv → List Mv → QuartersBefore
+before_of best q r t = record { best = best; rows = q ∷ r ∷ t ∷ [] }
+
+abbrev pub Quarters : Type 0
+Quarters = Syntax ℕ Rule (Settled (Result (List Quarter) Rule))
+
+-- 4x4: one after another
+unfoldable pub four_quarters : Sources → List ℕ → ℕ → References → List Mv → Quarters
+four_quarters s probs context refs best =
+    quarter s probs context refs 0 (before_of best nothing_before nothing_before nothing_before)
+    >>? λ q. quarter s probs context refs 1 (before_of best q.vectors nothing_before nothing_before)
+    >>? λ r. quarter s probs context refs 2 (before_of best q.vectors r.vectors nothing_before)
+    >>? λ t. quarter s probs context refs 3 (before_of best q.vectors r.vectors t.vectors)
+    >>? λ u. settle (Ok (q ∷ r ∷ t ∷ u ∷ []))
+
+-- 4x8: one at the left and one at the right
+unfoldable pub two_columns : Sources → List ℕ → ℕ → References → List Mv → Quarters
+two_columns s probs context refs best =
+    quarter s probs context refs 0 (before_of best nothing_before nothing_before nothing_before)
+    >>? λ q. quarter s probs context refs 1 (before_of best q.vectors nothing_before nothing_before)
+    >>? λ r. settle (Ok (q ∷ r ∷ q ∷ r ∷ []))
+
+-- 8x4: an upper and a lower one
+unfoldable pub two_rows : Sources → List ℕ → ℕ → References → List Mv → Quarters
+two_rows s probs context refs best =
+    quarter s probs context refs 0 (before_of best nothing_before nothing_before nothing_before)
+    >>? λ q. quarter s probs context refs 2 (before_of best q.vectors q.vectors nothing_before)
+    >>? λ r. settle (Ok (q ∷ q ∷ r ∷ r ∷ []))
+
+unfoldable pub quarters : Sources → List ℕ → ℕ → References → BlockSize → Quarters
+quarters s probs context refs B4x8 = two_columns s probs context refs (best_vectors s refs)
+quarters s probs context refs B8x4 = two_rows s probs context refs (best_vectors s refs)
+quarters s probs context refs size = four_quarters s probs context refs (best_vectors s refs)
