@@ -1,4 +1,4 @@
--- The uncompressed headers of a generated stream (6.2 of the standard), as they are drawn.
+-- The uncompressed headers of a made stream (6.2 of the standard), as they are drawn.
 use Rattle.std.specs.Prelude.{ℕ, Bool, true, false, not, ◌&&◌, nat_eq, if◌then◌else◌}
 use Rattle.frame_headers.specs.declared.header.FrameContexts.{FrameContexts}
 use Rattle.frame_headers.specs.declared.header.FrameKind.{FrameKind}

@@ -1,4 +1,4 @@
--- The frames of a generated stream: of two sizes, with 8 bits and 4:2:0. None codes deltas or features, so the first ones stay.
+-- The frames of a made stream: of two sizes, with 8 bits and 4:2:0. None codes deltas or features, so the first ones stay.
 use Rattle.std.specs.Prelude.{◌≡◌, ◌⊎◌, ◌<◌, ℕ, false, true, Option, Some, None, slice_index_or}
 use Rattle.vp9_types.specs.declared.shape.Depth.TheVariants.{Eight}
 use Rattle.vp9_types.specs.declared.shape.Shape.{Shape}
@@ -44,7 +44,7 @@ abbrev pub IsMadeSlot : Option Shape → Type 0
 IsMadeSlot (Some shape) = IsMadeShape shape
 IsMadeSlot None = ⊥
 
--- what persists behind each frame of a generated stream, from its first key frame on
+-- what persists behind each frame of a made stream, from its first key frame on
 pub record IsMade (before : Persist) : Type 0 where
   pub slots : (i : ℕ) → i < 8 → IsMadeSlot (slice_index_or before.slots i None)
   pub color : IsMadeColor before.color

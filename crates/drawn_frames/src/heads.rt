@@ -115,7 +115,7 @@ fn slots_are_eight(slots: [Option<Shape>; 8])
 {}
 
 /// Draws the header of a frame, whose compressed header counts as one byte until it is written. The first frame of a stream is
-/// a key frame, whatever persists before it. Behind each coded frame what persists is that of a generated stream again.
+/// a key frame, whatever persists before it. Behind each coded frame what persists is that of a made stream again.
 pub fn draw_head(draws: &mut Draws, first: bool, before: &Persist) -> DrawnHead
     requires made { first ≡ false → IsMade before.now }
     ensures drawn { IsDrawn (draw_head first before.now) draws.old result draws.new }

@@ -1,4 +1,4 @@
-//! Draws the frames of a generated stream from a number, by a rule that is written down, so that others can draw the same: their
+//! Draws the frames of a made stream from a number, by a rule that is written down, so that others can draw the same: their
 //! headers (6.2 and 6.3 of the VP9 standard), and the symbols of their blocks (6.4.2 to 6.4.24), in the order in which they are
 //! written.
 #![tactic(auto)]

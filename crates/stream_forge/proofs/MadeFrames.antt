@@ -1,4 +1,4 @@
--- What is read as it was drawn is the file that is generated.
+-- What is read as it was drawn is the file that is made.
 use Rattle.std.proofs.Common.{◌≡◌, ◌∙◌, ◌⊎◌, inl, inr, ℕ, zero, suc, ◌+◌, ◌-◌, ◌*◌, ◌/◌, ◌%◌, ◌^◌, ◌≤◌, List, [], ◌∷◌, ◌++◌, length, Bool, true, false, refl, sym, ap, subst, arith}
 use Rattle.std.specs.Prelude.{IfOk, Option, Some, None, Result, Ok, Err, map, nat_lt, slice_index, ◌==◌, if◌then◌else◌}
 use Rattle.std.proofs.lemmas.Bool.{le-ltb, lt-ltb}

@@ -80,11 +80,11 @@ IsLost Unsaid = Unit {0}
 IsLost TooLong = Unit {0}
 IsLost OutOfMemory = ⊥
 
--- the first frame is drawn for any state, and the others for that of a generated stream
+-- the first frame is drawn for any state, and the others for that of a made stream
 abbrev pub MayDraw : Bool → Persist → Type 0
 MayDraw first before = first ≡ false → headers.IsMade before
 
--- what persists behind a frame is that of a generated stream
+-- what persists behind a frame is that of a made stream
 abbrev pub IsMadeAfter : Uncompressed → Persist → Type 0
 IsMadeAfter (ShowExisting slot) before = headers.IsMade before
 IsMadeAfter (Coded header) before = headers.IsMade (next_persist header before)

@@ -1,4 +1,4 @@
--- How a generated file is read: each of its frames as it was drawn.
+-- How a made file is read: each of its frames as it was drawn.
 use Rattle.std.specs.Prelude.{◌≡◌, ◌⊎◌, ◌<◌, ◌≤◌, ◌^◌, ℕ, zero, suc, ◌+◌, List, [], ◌∷◌, ◌++◌, length, Ok, Err}
 use Rattle.vp9_types.specs.declared.job.Span.{Span}
 use Rattle.frame_headers.specs.Header.{head_of}

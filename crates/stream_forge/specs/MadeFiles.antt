@@ -1,4 +1,4 @@
--- A generated file: frame after frame, each as it is drawn from a number, in the state that the frames before leave. There is one
+-- A made file: frame after frame, each as it is drawn from a number, in the state that the frames before leave. There is one
 -- such file for each number and count of frames.
 use Rattle.std.specs.Prelude.{ℕ, zero, suc, ◌+◌, ◌^◌, nat_eq, nat_lt, List, [], ◌∷◌, ◌++◌, length, Option, Some, None, Result, Ok, Err, if◌then◌else◌}
 use Rattle.vp9_types.specs.declared.block.Modes.{Modes}
@@ -115,6 +115,6 @@ abbrev pub packets_from : ℕ → List (List ℕ) → List ℕ
 packets_from n [] = []
 packets_from n (frame ∷ frames) = written_bytes (packet_of n frame) ++ packets_from (n + 1) frames
 
--- the file of so many frames that is generated from a number
+-- the file of so many frames that is made from a number
 unfoldable pub made : ℕ → ℕ → List ℕ
 made number count = file_header 520 136 30 1 count ++ packets_from 0 (made_frames 0 count start_state number)

@@ -62,7 +62,7 @@ fn ended(out: Vec<u8>, why: NotWritten) -> Result<Vec<u8>, NotMade>
     }
 }
 
-/// The file of `frames` frames that is generated from a number. It ends before a frame whose blocks, as they are drawn, break a
+/// The file of `frames` frames that is made from a number. It ends before a frame whose blocks, as they are drawn, break a
 /// rule.
 pub fn make_stream(alloc: Global, number: u32, frames: u32) -> Result<Vec<u8>, NotMade>
     ensures made { IfOk result (λ file. file.items ≡ made number frames) }

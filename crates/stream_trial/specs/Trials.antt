@@ -1,4 +1,4 @@
--- A trial: the file that is generated from a number is decoded.
+-- A trial: the file that is made from a number is decoded.
 use Rattle.std.specs.Prelude.{◌≡◌, ℕ, List, Option, Some, None}
 use Rattle.vp9_types.specs.declared.outcome.Stop.{Stop}
 use Rattle.vp9_types.specs.declared.rule.Rule.{Rule}
@@ -7,7 +7,7 @@ use Rattle.seq_decoder.specs.Outputs.{output_of}
 use Rattle.stream_forge.specs.MadeFiles.{made}
 use Rattle.stream_trial.specs.TrialLines.{shown_count, trial_line}
 
--- the output of the file of so many frames that is generated from the number ends so
+-- the output of the file of so many frames that is made from the number ends so
 abbrev pub MadeEnds : ℕ → ℕ → Option (ℕ × Rule) → Type 0
 MadeEnds number count ending = (output_of Raw (made number count)).ending ≡ ending
 

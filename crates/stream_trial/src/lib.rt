@@ -1,4 +1,4 @@
-//! Trials of the decoder: a generated stream, decoded in each way that there is, and the line that tells what it shows.
+//! Trials of the decoder: a made stream, decoded in each way that there is, and the line that tells what it shows.
 #![tactic(auto)]
 
 mod count;

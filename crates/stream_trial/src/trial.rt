@@ -91,7 +91,7 @@ fn try_crew<R: Threads + Wait + Sync, G: Gate + Sync>(
     sum_in(decoded.outcome, &decoded.sink)
 }
 
-/// Makes the stream of so many frames that is generated from a number, decodes it on one thread, by one worker and by four, and gives
+/// Makes the stream of so many frames that is made from a number, decodes it on one thread, by one worker and by four, and gives
 /// the line of what it shows. The three are the same by their contracts, so the last is told.
 pub fn trial_line<R: Threads + Wait + Sync, G: Gate + Sync>(
     rt: &R,

@@ -69,7 +69,7 @@ HasCause c s o n status.OutOfMemory = SinkQuiet o × SinkQuiet n
 abbrev pub EndsAs : (List ℕ → Output) → OfSource → Status → Type 0
 EndsAs output s last = WhereTold s.rest (λ bytes. (last ≡ (output bytes).status) ⊎ (last ≡ status.OutOfMemory))
 
--- a trial ends as the output of a file that is generated from the number
+-- a trial ends as the output of a file that is made from the number
 abbrev pub EndsAsTrial : MadeStream → Status → Type 0
 EndsAsTrial stream last =
     ((ending : Option (ℕ × Rule)) × MadeEnds stream.number stream.frames ending × (last ≡ ended ending)) ⊎ (last ≡ status.OutOfMemory)

@@ -10,7 +10,7 @@ use Rattle.vp9_app.specs.Seen.{OfSink, SinkFailed, SinkQuiet}
 
 ---- A stream ----
 
--- the file that is generated from the number was written, and a front of it, which may be empty
+-- the file that is made from the number was written, and a front of it, which may be empty
 abbrev pub WritesMade : MadeStream → OfSink → Type 0
 WritesMade stream o = Takes o.before o.after (made stream.number stream.frames)
 
@@ -26,7 +26,7 @@ Makes stream o status = ⊥
 
 ---- A trial of one ----
 
--- the line of the file that is generated from the number was written, and a front of it, which may be empty: the file breaks no rule
+-- the line of the file that is made from the number was written, and a front of it, which may be empty: the file breaks no rule
 abbrev pub WritesTrial : MadeStream → OfSink → Type 0
 WritesTrial stream o = MadeEnds stream.number stream.frames None × Takes o.before o.after (made_line stream.number stream.frames)
 

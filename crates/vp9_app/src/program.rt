@@ -132,7 +132,7 @@ fn decode<R: Threads + Wait + Sync, S: Source, K: Sink + Send + Drop, G: Gate + 
     }
 }
 
-/// Writes a generated stream.
+/// Writes a made stream.
 fn make<K: Sink>(alloc: Global, stream: MadeStream, out: &mut K) -> Status
     requires { K.can_put out.old }
     ensures work { Makes stream (sink_seen (K.grows out.old) (K.taken out.old) (K.taken out.new) (K.faults out.old) (K.faults out.new)) result }
@@ -150,7 +150,7 @@ fn make<K: Sink>(alloc: Global, stream: MadeStream, out: &mut K) -> Status
     }
 }
 
-/// Tries a generated stream, and writes the line of what it shows.
+/// Tries a made stream, and writes the line of what it shows.
 fn trial<R: Threads + Wait + Sync, K: Sink, G: Gate + Sync>(
     rt: &R,
     alloc: Global,
@@ -234,7 +234,7 @@ pub fn run<
     // Words that are no command touch neither source nor out.
     ensures untouched { command_of (map string_bytes words.now) ≡ None → (result.source ≡ source) × (result.out ≡ out) }
 
-    // A generated stream needs no source.
+    // A made stream needs no source.
     ensures unread { (stream : MadeStream) → (command_of (map string_bytes words.now) ≡ Some (command.Make stream)) ⊎ (command_of (map string_bytes words.now) ≡ Some (command.Trial stream)) → result.source ≡ source }
 
     // What didn't fail may be used on.
