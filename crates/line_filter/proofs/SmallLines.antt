@@ -1,5 +1,5 @@
 -- Filtered samples stay in the range of their depth.
-use Rattle.std.proofs.Common.{◌≡◌, ◌≤◌, ◌+◌, ◌*◌, ◌-◌, ◌&&◌, ℕ, ℤ, Bool, true, false, cond, inl, inr, arith, ap, map, sum, slice_index, nat_lt, nat_le}
+use Rattle.std.proofs.Common.{◌≡◌, ◌≤◌, ◌+◌, ◌*◌, ◌-◌, ◌&&◌, ℕ, ℤ, pos, negsuc, ◌+ℤ◌, Bool, true, false, cond, inl, inr, arith, ap, map, sum, slice_index, nat_lt}
 use Rattle.std.specs.Prelude.{not}
 use Rattle.std.specs.List.{range_with_len, fold}
 use Rattle.std.proofs.lemmas.Bool.{cases_lt}
@@ -15,7 +15,7 @@ use Rattle.line_filter.specs.declared.edge.Limits.{Limits}
 use Rattle.line_filter.specs.declared.edge.Pass.{Pass}
 use Rattle.line_filter.specs.declared.edge.Pass.TheVariants.{Vertical, Horizontal}
 use Rattle.line_filter.specs.Lines as L
-use Rattle.line_filter.specs.Lines.{Line, p, q, place, mean, moved, wide_filter, narrow_filter, filtered_near, filtered_line, filter4_clamp}
+use Rattle.line_filter.specs.Lines.{Line, p, q, sample_at, around, tap, within, mean, moved, wide_filter, narrow_filter, filtered_near, filtered_line, filter4_clamp}
 use Rattle.line_filter.specs.FilteredEdges.{reach, line_at, in_order, with_line, with_edge}
 use Rattle.line_filter.proofs.EdgeLines.{along_at_once, down_at_once, rows_filtered, columns_filtered}
 
@@ -37,37 +37,53 @@ listed most k g small i = elim (cases_lt i k) [
   | inr past ↦ rw (get_or_past (map g (range_with_len 0 k)) i 0 (omega (arith, length-map-range_with_len g 0 k))) (omega arith)
 ]
 
-placed : (most n k : ℕ) (x : Line) → IsSmall most x → place x n k ≤ most
-placed most n k x small = either most (nat_le k n) _ _ (small.p _) (small.q _)
+placed : (most : ℕ) (i : ℤ) (x : Line) → IsSmall most x → sample_at x i ≤ most
+placed most (pos i) x small = small.q i
+placed most (negsuc i) x small = small.p i
 
-seven : (most : ℕ) (f : ℕ → ℕ) → ((i : ℕ) → f i ≤ most) → sum (map f (range_with_len 0 7)) ≤ 7 * most
-seven most f small = omega (arith, small 0, small 1, small 2, small 3, small 4, small 5, small 6)
+seven : (most : ℕ) (f : ℤ → ℕ) → ((i : ℤ) → f i ≤ most) → sum (map (λ j. tap j * f j) (around 3)) ≤ 8 * most
+seven most f small = omega (arith, small (negsuc 2), small (negsuc 1), small (negsuc 0), small (pos 0), small (pos 1), small (pos 2), small (pos 3))
 
-fifteen : (most : ℕ) (f : ℕ → ℕ) → ((i : ℕ) → f i ≤ most) → sum (map f (range_with_len 0 15)) ≤ 15 * most
-fifteen most f small = omega (arith, small 0, small 1, small 2, small 3, small 4, small 5, small 6, small 7, small 8, small 9, small 10, small 11, small 12, small 13, small 14)
+fifteen : (most : ℕ) (f : ℤ → ℕ) → ((i : ℤ) → f i ≤ most) → sum (map (λ j. tap j * f j) (around 7)) ≤ 16 * most
+fifteen most f small = omega (
+  arith,
+  small (negsuc 6),
+  small (negsuc 5),
+  small (negsuc 4),
+  small (negsuc 3),
+  small (negsuc 2),
+  small (negsuc 1),
+  small (negsuc 0),
+  small (pos 0),
+  small (pos 1),
+  small (pos 2),
+  small (pos 3),
+  small (pos 4),
+  small (pos 5),
+  small (pos 6),
+  small (pos 7),
+)
 
-mean_three : (most k : ℕ) (x : Line) → IsSmall most x → mean x 3 k ≤ most
-mean_three most k x small =
-    let s = seven most (λ j. place x 3 (k + j - 3)) (λ i. placed most 3 _ x small) in
-    let one = placed most 3 k x small in omega (arith, s, one)
+mean_three : (most : ℕ) (i : ℤ) (x : Line) → IsSmall most x → mean 3 x i ≤ most
+mean_three most i x small =
+    let s = seven most (λ j. sample_at x (within 3 (i +ℤ j))) (λ j. placed most _ x small) in omega (arith, s)
 
-mean_seven : (most k : ℕ) (x : Line) → IsSmall most x → mean x 7 k ≤ most
-mean_seven most k x small =
-    let s = fifteen most (λ j. place x 7 (k + j - 7)) (λ i. placed most 7 _ x small) in
-    let one = placed most 7 k x small in omega (arith, s, one)
+mean_seven : (most : ℕ) (i : ℤ) (x : Line) → IsSmall most x → mean 7 x i ≤ most
+mean_seven most i x small =
+    let s = fifteen most (λ j. sample_at x (within 7 (i +ℤ j))) (λ j. placed most _ x small) in omega (arith, s)
 
 wide_three : (most : ℕ) (x : Line) → IsSmall most x → IsSmall most (wide_filter 3 x)
 unfolding wide_filter
 wide_three most x small = record {
-  p = listed most _ _ (λ i. either most (nat_lt i 3) _ _ (mean_three most _ x small) (small.p i));
-  q = listed most _ _ (λ i. either most (nat_lt i 3) _ _ (mean_three most _ x small) (small.q i));
+  p = listed most _ _ (λ i. either most (nat_lt i 3) _ _ (mean_three most (negsuc i) x small) (small.p i));
+  q = listed most _ _ (λ i. either most (nat_lt i 3) _ _ (mean_three most (pos i) x small) (small.q i));
 }
 
 wide_seven : (most : ℕ) (x : Line) → IsSmall most x → IsSmall most (wide_filter 7 x)
 unfolding wide_filter
 wide_seven most x small = record {
-  p = listed most _ _ (λ i. either most (nat_lt i 7) _ _ (mean_seven most _ x small) (small.p i));
-  q = listed most _ _ (λ i. either most (nat_lt i 7) _ _ (mean_seven most _ x small) (small.q i));
+  p = listed most _ _ (λ i. either most (nat_lt i 7) _ _ (mean_seven most (negsuc i) x small) (small.p i));
+  q = listed most _ _ (λ i. either most (nat_lt i 7) _ _ (mean_seven most (pos i) x small) (small.q i));
 }
 
 moved_small : (half sample : ℕ) (by : ℤ) → moved half sample by ≤ 2 * half - 1

@@ -1,5 +1,5 @@
 -- One line of samples across an edge, and what the loop filter makes of it (8.8.3 to 8.8.5 of the standard).
-use Rattle.std.specs.Prelude.{ℕ, ◌+◌, ◌-◌, ◌*◌, ◌/◌, ◌&&◌, ◌||◌, not, Bool, true, false, ℤ, pos, neg_ℤ, ◌+ℤ◌, ◌-ℤ◌, ◌*ℤ◌, unsigned_abs, List, map, sum, min, slice_index, length, nat_lt, nat_le, if◌then◌else◌}
+use Rattle.std.specs.Prelude.{ℕ, ◌+◌, ◌*◌, ◌/◌, ◌&&◌, ◌||◌, not, Bool, true, false, ℤ, pos, negsuc, neg_ℤ, ◌+ℤ◌, ◌-ℤ◌, ◌*ℤ◌, unsigned_abs, List, map, sum, slice_index, length, nat_eq, nat_lt, nat_le, if◌then◌else◌}
 use Rattle.std.specs.List.{range_with_len}
 use Rattle.std.specs.Int.{abs_diff, int_shr, int_min, int_max}
 use Rattle.line_filter.specs.declared.edge.Limits.{Limits}
@@ -38,19 +38,32 @@ flat_mask l x = is_near l x 1 && is_near l x 2 && is_near l x 3
 unfoldable pub flat_mask2 : Limits → Line → Bool
 flat_mask2 l x = is_near l x 4 && is_near l x 5 && is_near l x 6 && is_near l x 7
 
--- place k of p_n .. p0 q0 .. q_n, whose ends go on
-abbrev pub place : Line → ℕ → ℕ → ℕ
-place x n k = if nat_le k n then p x (n - k) else q x (min n (k - n - 1))
+-- the sample at a place across the edge: q0, q1 .. from 0 on, p0, p1 .. from -1 down
+abbrev pub sample_at : Line → ℤ → ℕ
+sample_at line (pos i) = q line i
+sample_at line (negsuc i) = p line i
 
--- Round2 of the sum of the 2n+1 samples around place k, that one twice; n + 1 is 4 or 8
-abbrev pub mean : Line → ℕ → ℕ → ℕ
-mean x n k = (sum (map (λ j. place x n (k + j - n)) (range_with_len 0 (2 * n + 1))) + place x n k + (n + 1)) / (2 * n + 2)
+-- the places from -n to n
+abbrev pub around : ℕ → List ℤ
+around n = map (λ k. pos k -ℤ pos n) (range_with_len 0 (2 * n + 1))
+
+-- how often a sample counts, by its distance
+abbrev pub tap : ℤ → ℕ
+tap j = if nat_eq (unsigned_abs j) 0 then 2 else 1
+
+-- the i-th place, or the nearest one of p_n .. p0 q0 .. q_n
+abbrev pub within : ℕ → ℤ → ℤ
+within n i = int_max (neg_ℤ (pos (n + 1))) (int_min (pos n) i)
+
+-- Round2 of the sum of the samples around a place; n + 1 is 4 or 8
+abbrev pub mean : ℕ → Line → ℤ → ℕ
+mean n x i = (sum (map (λ j. tap j * sample_at x (within n (i +ℤ j))) (around n)) + (n + 1)) / (2 * (n + 1))
 
 -- 8.8.5: the n samples next to the edge become means, 3 or 7 on each side
 unfoldable pub wide_filter : ℕ → Line → Line
 wide_filter n x = record {
-  p = map (λ i. if nat_lt i n then mean x n (n - i) else p x i) (range_with_len 0 (length x.p));
-  q = map (λ i. if nat_lt i n then mean x n (n + 1 + i) else q x i) (range_with_len 0 (length x.q));
+  p = map (λ i. if nat_lt i n then mean n x (negsuc i) else p x i) (range_with_len 0 (length x.p));
+  q = map (λ i. if nat_lt i n then mean n x (pos i) else q x i) (range_with_len 0 (length x.q));
 }
 
 -- to the numbers from -half to half - 1

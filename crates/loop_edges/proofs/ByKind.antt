@@ -11,11 +11,11 @@ use Rattle.frame_headers.specs.declared.filter.LoopDeltas.{LoopDeltas}
 use Rattle.block_plan.specs.declared.block.BlockInfo.{BlockInfo}
 use Rattle.block_plan.specs.declared.block.Prediction.{Prediction}
 use Rattle.block_plan.specs.declared.block.Prediction.TheVariants.{Intra, Inter}
-use Rattle.loop_edges.specs.FilterLevels.{reference_delta, mode_number, mode_delta, delta_of, segment_level, to_level, filter_level, limits_of}
+use Rattle.loop_edges.specs.FilterLevels.{reference_delta, mode_delta_index, mode_delta, delta_of, lvl_seg, to_level, filter_level, limits_of}
 use Rattle.loop_edges.specs.Code.{reference_kind, kind_of, delta_by, level_by}
 use Rattle.loop_edges.specs.declared.setting.EdgeSetting.{EdgeSetting}
 
-by_parts : (d : LoopDeltas) (r : ReferenceFrame) (m : InterMode) → (reference_delta d r +ℤ mode_delta d m) ≡ delta_by d (reference_kind r + mode_number m)
+by_parts : (d : LoopDeltas) (r : ReferenceFrame) (m : InterMode) → (reference_delta d r +ℤ mode_delta d m) ≡ delta_by d (reference_kind r + mode_delta_index m)
 by_parts d Last Zero = refl
 by_parts d Last Nearest = refl
 by_parts d Last Near = refl
@@ -36,7 +36,7 @@ delta_is d (Inter b) = by_parts d b.references.first (slice_index_or b.modes 3 N
 pub level_is : (f : EdgeSetting) (b : BlockInfo) → filter_level f b ≡ level_by f b.segment (kind_of b.prediction)
 unfolding filter_level level_by
 level_is f b = ap (λ (z : ℤ). if f.filter.delta_enabled
-    then to_level (pos (segment_level f b.segment) +ℤ z *ℤ pos (2 ^ (f.filter.level / 32))) else segment_level f b.segment) (delta_is f.filter.deltas b.prediction)
+    then to_level (pos (lvl_seg f b.segment) +ℤ z *ℤ pos (2 ^ (f.filter.level / 32))) else lvl_seg f b.segment) (delta_is f.filter.deltas b.prediction)
 
 pub half_low : (d : Depth) (sharpness level : ℕ) → (limits_of d sharpness level).half ≤ 2048
 unfolding limits_of

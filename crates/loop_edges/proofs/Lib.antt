@@ -1,3 +1,4 @@
 pub mod Products
 pub mod ByKind
 pub mod Widths
+pub mod Rows

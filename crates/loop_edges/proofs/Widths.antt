@@ -36,7 +36,7 @@ holds test (Some w) = test w
 
 -- a cell that is not the last
 abbrev plain : ℕ → Crossing
-plain k = record { k = k; is_border = false; is_first = false; is_last = false }
+plain k = record { k = k; is_block_edge = false; is_first = false; is_last = false }
 
 abbrev fits : TxSize → ℕ → Bool
 fits tx k = holds (λ w. nat_eq (number w) (number (outer_width tx (plain k)))) (slice_get OUTER_WIDTHS (8 * tx_number tx + k))

@@ -35,23 +35,33 @@ is_inter (Intra _) = false
 is_inter (Inter _) = true
 
 -- it has no residue that edges inside of it could come from
-abbrev pub is_smooth : BlockInfo → Bool
-is_smooth b = b.skip && is_inter b.prediction
+abbrev pub is_skipped_inter : BlockInfo → Bool
+is_skipped_inter b = b.skip && is_inter b.prediction
 
--- How a pass sees a cell across its edges. A cell stands at a row and column of 8x8 luma samples; where its plane is
--- subsampled, at every second one.
-abbrev pub across : Shape → Plane → Pass → BlockInfo → ℕ → ℕ → Crossing
-across shape plane Vertical b r c = record {
-  k = halved (sub_x shape plane) (c % 8);
-  is_border = nat_eq (c % width_8 b.size) 0;
-  is_first = nat_eq c 0;
-  is_last = sub_x shape plane && nat_eq (c + 1) (mi_cols shape);
+-- Where a pass over a plane is: at a cell of 8x8 of its samples. The row and column are those of 8x8 luma samples; where the
+-- plane is subsampled, a cell stands at every second one.
+pub record Cell : Type 0 where
+  pub plane : Plane
+  pub pass : Pass
+  pub row : ℕ
+  pub column : ℕ
+
+abbrev pub cell_at : Plane → Pass → ℕ → ℕ → Cell
+cell_at plane pass r c = record { plane = plane; pass = pass; row = r; column = c }
+
+-- how a pass sees a cell across its edges
+abbrev pub across : Pass → Shape → Cell → BlockInfo → Crossing
+across Vertical shape cell b = record {
+  k = halved (sub_x shape cell.plane) (cell.column % 8);
+  is_block_edge = nat_eq (cell.column % width_8 b.size) 0;
+  is_first = nat_eq cell.column 0;
+  is_last = sub_x shape cell.plane && nat_eq (cell.column + 1) (mi_cols shape);
 }
-across shape plane Horizontal b r c = record {
-  k = halved (sub_y shape plane) (r % 8);
-  is_border = nat_eq (r % height_8 b.size) 0;
-  is_first = nat_eq r 0;
-  is_last = sub_y shape plane && nat_eq (r + 1) (mi_rows shape);
+across Horizontal shape cell b = record {
+  k = halved (sub_y shape cell.plane) (cell.row % 8);
+  is_block_edge = nat_eq (cell.row % height_8 b.size) 0;
+  is_first = nat_eq cell.row 0;
+  is_last = sub_y shape cell.plane && nat_eq (cell.row + 1) (mi_rows shape);
 }
 
 abbrev pub widest : Crossing → FilterWidth
@@ -65,12 +75,13 @@ outer_width T8x8 a = Some Eight
 outer_width T4x4 a = Some (if nat_eq (a.k % 4) 0 then Eight else Four)
 
 abbrev pub has_outer : BlockInfo → Crossing → Bool
-has_outer b a = (not (is_smooth b) || a.is_border) && not a.is_first
+has_outer b a = (not (is_skipped_inter b) || a.is_block_edge) && not a.is_first
 
 -- the edge at the side of a cell: left of it or above it
-unfoldable pub outer_edge : Shape → Plane → Pass → BlockInfo → ℕ → ℕ → Option FilterWidth
-outer_edge shape plane pass b r c =
-    if has_outer b (across shape plane pass b r c) then outer_width (tx_in shape b plane) (across shape plane pass b r c) else None
+unfoldable pub outer_edge : Shape → Cell → BlockInfo → Option FilterWidth
+outer_edge shape cell b =
+    let a = across cell.pass shape cell b in
+    if has_outer b a then outer_width (tx_in shape b cell.plane) a else None
 
 abbrev pub is_4x4 : TxSize → Bool
 is_4x4 T4x4 = true
@@ -80,7 +91,7 @@ is_4x4 T32x32 = false
 
 -- The edge in the middle of a cell, of width 4. In both passes there is none in a last column that is subsampled, in the
 -- second pass none in such a last row.
-unfoldable pub has_inner : Shape → Plane → Pass → BlockInfo → ℕ → ℕ → Bool
-has_inner shape plane pass b r c =
-    is_4x4 (tx_in shape b plane) && not (is_smooth b)
-    && not (across shape plane Vertical b r c).is_last && not (across shape plane pass b r c).is_last
+unfoldable pub has_inner : Shape → Cell → BlockInfo → Bool
+has_inner shape cell b =
+    is_4x4 (tx_in shape b cell.plane) && not (is_skipped_inter b)
+    && not (across Vertical shape cell b).is_last && not (across cell.pass shape cell b).is_last

@@ -1,27 +1,33 @@
--- What the code says of sizes, and what it keeps in tables.
+-- What the code says of sizes, what it keeps in tables, and how far it has come.
 use Rattle.std.specs.Prelude.{◌≡◌, ◌<◌, ◌⊎◌, ℕ, ℤ, pos, ◌+◌, ◌/◌, ◌%◌, ◌^◌, ◌+ℤ◌, ◌*ℤ◌, Bool, ◌&&◌, not, Option, Some, None, List, [], nat_eq, nat_lt, slice_index_or, if◌then◌else◌}
+use Rattle.std.specs.List.{range_with_len, flat_map, fold}
+use Rattle.vp9_types.specs.Maps.{FrameMap}
 use Rattle.vp9_types.specs.declared.block.InterMode.TheVariants.{New}
 use Rattle.vp9_types.specs.declared.block.ReferenceFrame.{ReferenceFrame}
 use Rattle.vp9_types.specs.declared.block.ReferenceFrame.TheVariants.{Last, Golden, Altref}
+use Rattle.vp9_types.specs.declared.shape.Plane.{Plane}
 use Rattle.frame_headers.specs.declared.filter.LoopDeltas.{LoopDeltas}
 use Rattle.block_plan.specs.declared.block.Prediction.{Prediction}
 use Rattle.block_plan.specs.declared.block.Prediction.TheVariants.{Intra, Inter}
+use Rattle.line_filter.specs.FilteredEdges.{with_edge}
+use Rattle.line_filter.specs.declared.edge.Edge.{Edge}
 use Rattle.line_filter.specs.declared.edge.FilterWidth.{FilterWidth}
 use Rattle.line_filter.specs.declared.edge.FilterWidth.TheVariants.{Four, Eight, Sixteen}
 use Rattle.line_filter.specs.declared.edge.Limits.{Limits}
 use Rattle.block_geometry.specs.BlockSizes.{width_8, height_8}
 use Rattle.block_plan.specs.declared.block.BlockInfo.{BlockInfo}
-use Rattle.loop_edges.specs.Cells.{is_smooth}
-use Rattle.loop_edges.specs.FilterLevels.{to_level, segment_level, mode_number, limits_of}
+use Rattle.loop_edges.specs.Cells.{is_skipped_inter}
+use Rattle.loop_edges.specs.FrameEdges.{row_edges}
+use Rattle.loop_edges.specs.FilterLevels.{to_level, lvl_seg, mode_delta_index, limits_of}
 use Rattle.loop_edges.specs.declared.setting.EdgeSetting.{EdgeSetting}
 
 -- a width or height of a block in places of 8x8
 abbrev pub IsSideOfBlock : ℕ → Type 0
 IsSideOfBlock n = ((n ≡ 1) ⊎ (n ≡ 2)) ⊎ ((n ≡ 4) ⊎ (n ≡ 8))
 
--- a place of a smooth block at none of its sides
+-- a place of a skipped inter block at none of its sides
 abbrev pub is_inside : BlockInfo → ℕ → ℕ → Bool
-is_inside b r c = is_smooth b && not (nat_eq (c % width_8 b.size) 0) && not (nat_eq (r % height_8 b.size) 0)
+is_inside b r c = is_skipped_inter b && not (nat_eq (c % width_8 b.size) 0) && not (nat_eq (r % height_8 b.size) 0)
 
 -- the width in a last cell of which half is in the plane
 abbrev pub narrowed : Option FilterWidth → Bool → Option FilterWidth
@@ -40,7 +46,7 @@ reference_kind Altref = 6
 -- what a block's deltas go by: 0 for an intra block, else its reference and the mode of its last quarter
 abbrev pub kind_of : Prediction → ℕ
 kind_of (Intra _) = 0
-kind_of (Inter b) = reference_kind b.references.first + mode_number (slice_index_or b.modes 3 New)
+kind_of (Inter b) = reference_kind b.references.first + mode_delta_index (slice_index_or b.modes 3 New)
 
 -- the deltas of a kind
 abbrev pub delta_by : LoopDeltas → ℕ → ℤ
@@ -52,8 +58,8 @@ delta_by deltas kind =
 unfoldable pub level_by : EdgeSetting → ℕ → ℕ → ℕ
 level_by f segment kind =
     if f.filter.delta_enabled
-    then to_level (pos (segment_level f segment) +ℤ delta_by f.filter.deltas kind *ℤ pos (2 ^ (f.filter.level / 32)))
-    else segment_level f segment
+    then to_level (pos (lvl_seg f segment) +ℤ delta_by f.filter.deltas kind *ℤ pos (2 ^ (f.filter.level / 32)))
+    else lvl_seg f segment
 
 -- the levels of the first n kinds of a segment, those of the first n segments, and the limits of the first n levels
 abbrev pub AreLevelsOfSegment : EdgeSetting → ℕ → ℕ → List ℕ → Type 0
@@ -67,3 +73,17 @@ no_limits = record { limit = 0; blimit = 0; thresh = 0; one = 0; half = 0 }
 
 abbrev pub AreLimits : EdgeSetting → ℕ → List Limits → Type 0
 AreLimits f n limits = (level : ℕ) → level < n → slice_index_or limits level no_limits ≡ limits_of f.shape.depth f.filter.sharpness level
+
+---- Rows of superblocks, one after another ----
+
+-- the edges of the first rows
+unfoldable pub edges_before : EdgeSetting → List BlockInfo → Plane → ℕ → List Edge
+edges_before f blocks plane rows = flat_map (row_edges f blocks plane) (range_with_len 0 rows)
+
+-- a frame with one more row filtered
+unfoldable pub with_row : EdgeSetting → List BlockInfo → FrameMap → ℕ → FrameMap
+with_row f blocks m sr = λ plane. fold with_edge (m plane) (row_edges f blocks plane sr)
+
+-- a frame with the first rows filtered
+unfoldable pub filtered_before : EdgeSetting → List BlockInfo → FrameMap → ℕ → FrameMap
+filtered_before f blocks m rows = λ plane. fold with_edge (m plane) (edges_before f blocks plane rows)

@@ -27,30 +27,30 @@ with_feature absolute level (Some value) = to_level (if absolute then value else
 abbrev pub no_features : SegmentFeatures
 no_features = record { quantizer = None; level = None; reference = None; skip = Bool.false }
 
--- lvlSeg, before the deltas
-abbrev pub segment_level : EdgeSetting → ℕ → ℕ
-segment_level f segment =
+-- the level of a segment, before the deltas
+abbrev pub lvl_seg : EdgeSetting → ℕ → ℕ
+lvl_seg f segment =
     if f.segmentation.enabled
     then with_feature f.segmentation.features.absolute f.filter.level (slice_index_or f.segmentation.features.segments segment no_features).level
     else f.filter.level
 
-abbrev pub reference_number : ReferenceFrame → ℕ
-reference_number Last = 1
-reference_number Golden = 2
-reference_number Altref = 3
+abbrev pub reference_delta_index : ReferenceFrame → ℕ
+reference_delta_index Last = 1
+reference_delta_index Golden = 2
+reference_delta_index Altref = 3
 
 abbrev pub reference_delta : LoopDeltas → ReferenceFrame → ℤ
-reference_delta deltas reference = slice_index_or deltas.reference (reference_number reference) (pos 0)
+reference_delta deltas reference = slice_index_or deltas.reference (reference_delta_index reference) (pos 0)
 
 -- 0 for zero vectors, else 1
-abbrev pub mode_number : InterMode → ℕ
-mode_number Zero = 0
-mode_number Nearest = 1
-mode_number Near = 1
-mode_number New = 1
+abbrev pub mode_delta_index : InterMode → ℕ
+mode_delta_index Zero = 0
+mode_delta_index Nearest = 1
+mode_delta_index Near = 1
+mode_delta_index New = 1
 
 abbrev pub mode_delta : LoopDeltas → InterMode → ℤ
-mode_delta deltas mode = slice_index_or deltas.mode (mode_number mode) (pos 0)
+mode_delta deltas mode = slice_index_or deltas.mode (mode_delta_index mode) (pos 0)
 
 -- the deltas of what a block refers to, and of the mode of its last quarter
 abbrev pub delta_of : LoopDeltas → Prediction → ℤ
@@ -61,8 +61,8 @@ delta_of deltas (Inter b) = reference_delta deltas b.references.first +ℤ mode_
 unfoldable pub filter_level : EdgeSetting → BlockInfo → ℕ
 filter_level f b =
     if f.filter.delta_enabled
-    then to_level (pos (segment_level f b.segment) +ℤ delta_of f.filter.deltas b.prediction *ℤ pos (2 ^ (f.filter.level / 32)))
-    else segment_level f b.segment
+    then to_level (pos (lvl_seg f b.segment) +ℤ delta_of f.filter.deltas b.prediction *ℤ pos (2 ^ (f.filter.level / 32)))
+    else lvl_seg f b.segment
 
 -- 1 << (BitDepth - 8)
 abbrev pub one_of : Depth → ℕ

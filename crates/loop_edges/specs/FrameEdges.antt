@@ -18,61 +18,66 @@ use Rattle.line_filter.specs.declared.edge.FilterWidth.TheVariants.{Four}
 use Rattle.line_filter.specs.declared.edge.Limits.{Limits}
 use Rattle.line_filter.specs.declared.edge.Pass.{Pass}
 use Rattle.line_filter.specs.declared.edge.Pass.TheVariants.{Vertical, Horizontal}
-use Rattle.loop_edges.specs.Cells.{sub_x, sub_y, outer_edge, has_inner}
+use Rattle.loop_edges.specs.Cells.{Cell, cell_at, sub_x, sub_y, outer_edge, has_inner}
 use Rattle.loop_edges.specs.FilterLevels.{filter_level, limits_of}
 use Rattle.loop_edges.specs.declared.setting.EdgeSetting.{EdgeSetting}
 
+-- the first row and column of a cell in its plane
+abbrev pub first_row : Shape → Cell → ℕ
+first_row shape cell = halved (sub_y shape cell.plane) (8 * cell.row)
+
+abbrev pub first_column : Shape → Cell → ℕ
+first_column shape cell = halved (sub_x shape cell.plane) (8 * cell.column)
+
+-- the lines from a cell's first one to the end of the plane
+abbrev pub lines_left : Pass → Shape → Cell → ℕ
+lines_left Vertical shape cell = coded_height shape cell.plane - first_row shape cell
+lines_left Horizontal shape cell = coded_width shape cell.plane - first_column shape cell
+
 -- the edge at the side of a cell, with those of its eight lines that are in the plane
-abbrev pub side_edge : Shape → Plane → Pass → ℕ → ℕ → Limits → FilterWidth → Edge
-side_edge shape plane Vertical r c limits width = record {
-  pass = Vertical;
-  row = halved (sub_y shape plane) (8 * r);
-  column = halved (sub_x shape plane) (8 * c);
-  lines = min 8 (coded_height shape plane - halved (sub_y shape plane) (8 * r));
-  width = width;
-  limits = limits;
-}
-side_edge shape plane Horizontal r c limits width = record {
-  pass = Horizontal;
-  row = halved (sub_y shape plane) (8 * r);
-  column = halved (sub_x shape plane) (8 * c);
-  lines = min 8 (coded_width shape plane - halved (sub_x shape plane) (8 * c));
+abbrev pub side_edge : Shape → Cell → Limits → FilterWidth → Edge
+side_edge shape cell limits width = record {
+  pass = cell.pass;
+  row = first_row shape cell;
+  column = first_column shape cell;
+  lines = min 8 (lines_left cell.pass shape cell);
   width = width;
   limits = limits;
 }
 
--- the one four samples further on, in its middle
-abbrev pub middle_edge : Shape → Plane → Pass → ℕ → ℕ → Limits → Edge
-middle_edge shape plane Vertical r c limits =
-    let e = side_edge shape plane Vertical r c limits Four in record e { column = e.column + 4 }
-middle_edge shape plane Horizontal r c limits =
-    let e = side_edge shape plane Horizontal r c limits Four in record e { row = e.row + 4 }
+-- an edge four samples further on
+abbrev pub further : Pass → Edge → Edge
+further Vertical e = record e { column = e.column + 4 }
+further Horizontal e = record e { row = e.row + 4 }
 
-abbrev pub side_edges : Shape → Plane → Pass → ℕ → ℕ → Limits → Option FilterWidth → List Edge
-side_edges shape plane pass r c limits None = []
-side_edges shape plane pass r c limits (Some width) = side_edge shape plane pass r c limits width ∷ []
+-- the edge in the middle of a cell
+abbrev pub middle_edge : Shape → Cell → Limits → Edge
+middle_edge shape cell limits = further cell.pass (side_edge shape cell limits Four)
 
-abbrev pub middle_edges : Shape → Plane → Pass → ℕ → ℕ → Limits → Bool → List Edge
-middle_edges shape plane pass r c limits false = []
-middle_edges shape plane pass r c limits true = middle_edge shape plane pass r c limits ∷ []
+abbrev pub side_edges : Shape → Cell → Limits → Option FilterWidth → List Edge
+side_edges shape cell limits None = []
+side_edges shape cell limits (Some width) = side_edge shape cell limits width ∷ []
+
+abbrev pub middle_edges : Shape → Cell → Limits → Bool → List Edge
+middle_edges shape cell limits false = []
+middle_edges shape cell limits true = middle_edge shape cell limits ∷ []
 
 -- those of a cell's block: at its side, then in its middle
-unfoldable pub both_edges : Shape → Plane → Pass → ℕ → ℕ → BlockInfo → Limits → List Edge
-both_edges shape plane pass r c b limits =
-    side_edges shape plane pass r c limits (outer_edge shape plane pass b r c) ++ middle_edges shape plane pass r c limits (has_inner shape plane pass b r c)
+unfoldable pub both_edges : Shape → Cell → BlockInfo → Limits → List Edge
+both_edges shape cell b limits = side_edges shape cell limits (outer_edge shape cell b) ++ middle_edges shape cell limits (has_inner shape cell b)
 
 -- none at level 0
-unfoldable pub block_edges : EdgeSetting → Plane → Pass → ℕ → ℕ → BlockInfo → List Edge
-block_edges f plane pass r c b =
+unfoldable pub block_edges : EdgeSetting → Cell → BlockInfo → List Edge
+block_edges f cell b =
     if nat_eq (filter_level f b) 0 then []
-    else both_edges f.shape plane pass r c b (limits_of f.shape.depth f.filter.sharpness (filter_level f b))
+    else both_edges f.shape cell b (limits_of f.shape.depth f.filter.sharpness (filter_level f b))
 
-abbrev pub edges_of : EdgeSetting → Plane → Pass → ℕ → ℕ → Option BlockInfo → List Edge
-edges_of f plane pass r c None = []
-edges_of f plane pass r c (Some b) = block_edges f plane pass r c b
+abbrev pub edges_of : EdgeSetting → Cell → Option BlockInfo → List Edge
+edges_of f cell None = []
+edges_of f cell (Some b) = block_edges f cell b
 
-unfoldable pub cell_edges : EdgeSetting → List BlockInfo → Plane → Pass → ℕ → ℕ → List Edge
-cell_edges f blocks plane pass r c = edges_of f plane pass r c (covering blocks r c)
+unfoldable pub cell_edges : EdgeSetting → List BlockInfo → Cell → List Edge
+cell_edges f blocks cell = edges_of f cell (covering blocks cell.row cell.column)
 
 -- places of 8x8 luma samples along a cell
 abbrev pub step_of : Bool → ℕ
@@ -91,7 +96,7 @@ cells_of sub end s = cells_from sub s (cells_along sub end s)
 
 -- rows of cells from top to bottom, each from left to right
 unfoldable pub cell_row : EdgeSetting → List BlockInfo → Plane → Pass → ℕ → List ℕ → List Edge
-cell_row f blocks plane pass r columns = flat_map (cell_edges f blocks plane pass r) columns
+cell_row f blocks plane pass r columns = flat_map (λ c. cell_edges f blocks (cell_at plane pass r c)) columns
 
 unfoldable pub pass_edges : EdgeSetting → List BlockInfo → Plane → Pass → ℕ → ℕ → List Edge
 pass_edges f blocks plane pass sr sc =
@@ -102,23 +107,16 @@ pass_edges f blocks plane pass sr sc =
 unfoldable pub superblock_edges : EdgeSetting → List BlockInfo → Plane → ℕ → ℕ → List Edge
 superblock_edges f blocks plane sr sc = pass_edges f blocks plane Vertical sr sc ++ pass_edges f blocks plane Horizontal sr sc
 
--- superblocks in raster order; no edges if the frame's level is 0
+-- a row of superblocks, from left to right; no edges if the frame's level is 0
 unfoldable pub row_edges : EdgeSetting → List BlockInfo → Plane → ℕ → List Edge
 row_edges f blocks plane sr =
     if nat_eq f.filter.level 0 then []
     else flat_map (superblock_edges f blocks plane sr) (range_with_len 0 (superblocks_along (mi_cols f.shape)))
 
-unfoldable pub edges_before : EdgeSetting → List BlockInfo → Plane → ℕ → List Edge
-edges_before f blocks plane rows = flat_map (row_edges f blocks plane) (range_with_len 0 rows)
-
--- a frame with one more row of superblocks filtered
-unfoldable pub with_row : EdgeSetting → List BlockInfo → FrameMap → ℕ → FrameMap
-with_row f blocks m sr = λ plane. fold with_edge (m plane) (row_edges f blocks plane sr)
-
--- a frame with the edges of so many rows of superblocks filtered
-unfoldable pub filtered_before : EdgeSetting → List BlockInfo → FrameMap → ℕ → FrameMap
-filtered_before f blocks m rows = λ plane. fold with_edge (m plane) (edges_before f blocks plane rows)
+-- rows of superblocks from top to bottom
+unfoldable pub frame_edges : EdgeSetting → List BlockInfo → Plane → List Edge
+frame_edges f blocks plane = flat_map (row_edges f blocks plane) (range_with_len 0 (superblocks_along (mi_rows f.shape)))
 
 -- a frame filtered
 unfoldable pub filtered_frame : EdgeSetting → List BlockInfo → FrameMap → FrameMap
-filtered_frame f blocks m = filtered_before f blocks m (superblocks_along (mi_rows f.shape))
+filtered_frame f blocks m = λ plane. fold with_edge (m plane) (frame_edges f blocks plane)

@@ -6,7 +6,7 @@ ghost use Rattle.vp9_tables.specs.BlockTables.{greatest_of};
 ghost use Rattle.vp9_tables.specs.Numbers.{tx_number};
 ghost use Rattle.block_plan.specs.InPlanes.{tx_in};
 ghost use Rattle.line_filter.specs.declared.edge.Pass.TheVariants.{Vertical, Horizontal};
-ghost use Rattle.loop_edges.specs.Cells.{is_smooth, across, outer_width, outer_edge, has_outer, has_inner, sub_x, sub_y};
+ghost use Rattle.loop_edges.specs.Cells.{cell_at, is_skipped_inter, across, outer_width, outer_edge, has_outer, has_inner, sub_x, sub_y};
 ghost use Rattle.loop_edges.specs.Code.{IsSideOfBlock, is_inside, narrowed};
 
 use block_geometry::{height_8, width_8};
@@ -34,7 +34,7 @@ pub struct Crossing {
     /// Its column or row in its superblock, counted in cells of the plane: 0 to 7.
     pub k: u32,
     /// Whether its block begins there.
-    pub is_border: bool,
+    pub is_block_edge: bool,
     /// Whether it is the frame's first.
     pub is_first: bool,
     /// Whether it is the frame's last in a direction that is subsampled: then half of it is in the plane.
@@ -43,8 +43,8 @@ pub struct Crossing {
 
 /// Without a jump, so that it is found once for all of a place's cells.
 #[inline(always)]
-fn is_smooth(block: &BlockInfo) -> bool
-    ensures { result ≡ is_smooth block.now }
+fn is_skipped_inter(block: &BlockInfo) -> bool
+    ensures { result ≡ is_skipped_inter block.now }
 {
     let is_inter = matches!(block.prediction, Prediction::Inter(_));
     block.skip & is_inter
@@ -65,13 +65,13 @@ fn crossed_at(place: u32, size: u8, sub: bool, end: u32) -> Crossing
     requires place { place ≤ 8192 }
     ensures k { result.k ≡ halved sub (place % 8) }
     ensures few { result.k < 8 }
-    ensures border { result.is_border ≡ nat_eq (place % size) 0 }
+    ensures border { result.is_block_edge ≡ nat_eq (place % size) 0 }
     ensures first { result.is_first ≡ nat_eq place 0 }
     ensures last { result.is_last ≡ (sub && nat_eq (place + 1) end) }
 {
     Crossing {
         k: if sub { place % 8 / 2 } else { place % 8 },
-        is_border: is_multiple(place, size),
+        is_block_edge: is_multiple(place, size),
         is_first: place == 0,
         is_last: sub && place + 1 == end,
     }
@@ -84,7 +84,7 @@ fn across(shape: &Shape, plane: Plane, pass: Pass, block: &BlockInfo, at: CellAt
     requires high { shape.now.h ≤ 65536 }
     requires row { at.row ≤ 8192 }
     requires col { at.col ≤ 8192 }
-    ensures is { result ≡ across shape.now plane pass block.now at.row at.col }
+    ensures is { result ≡ across pass shape.now (cell_at plane pass at.row at.col) block.now }
     ensures few { result.k < 8 }
 {
     let is_chroma = plane != Plane::Y;
@@ -108,14 +108,14 @@ fn across(shape: &Shape, plane: Plane, pass: Pass, block: &BlockInfo, at: CellAt
     }
 }
 
-/// Whether a place of a smooth block has no edge in any plane, since none of the block's sides is there.
+/// Whether a place of a skipped inter block has no edge in any plane, since none of the block's sides is there.
 #[inline(always)]
 pub fn is_inside(block: &BlockInfo, at: CellAt) -> bool
     ensures { result ≡ is_inside block.now at.row at.col }
 {
     let is_left = is_multiple(at.col, width_8(block.size));
     let is_top = is_multiple(at.row, height_8(block.size));
-    is_smooth(block) & !is_left & !is_top
+    is_skipped_inter(block) & !is_left & !is_top
 }
 
 /// The widths of the filter at the eight cells of a superblock, by the size of the transform.
@@ -196,7 +196,7 @@ fn outer_width(tx: TxSize, a: Crossing) -> Option<FilterWidth>
 fn has_outer(block: &BlockInfo, a: Crossing) -> bool
     ensures { result ≡ has_outer block.now a }
 {
-    (!is_smooth(block) | a.is_border) & !a.is_first
+    (!is_skipped_inter(block) | a.is_block_edge) & !a.is_first
 }
 
 /// The edges of a cell of a plane, by the block there.
@@ -214,8 +214,8 @@ pub fn cell_edges(
     requires row { at.row ≤ 8192 }
     requires col { at.col ≤ 8192 }
     requires fits { tx_number block.now.tx ≤ greatest_of block.now.size }
-    ensures outer { result.outer ≡ outer_edge shape.now plane pass block.now at.row at.col }
-    ensures inner { result.inner ≡ has_inner shape.now plane pass block.now at.row at.col }
+    ensures outer { result.outer ≡ outer_edge shape.now (cell_at plane pass at.row at.col) block.now }
+    ensures inner { result.inner ≡ has_inner shape.now (cell_at plane pass at.row at.col) block.now }
 {
     let tx = plane_block(shape, block, plane).tx;
     let here = across(shape, plane, pass, block, at);
@@ -225,6 +225,6 @@ pub fn cell_edges(
         None
     };
     let beside = across(shape, plane, Pass::Vertical, block, at);
-    let inner = tx == TxSize::T4x4 && !is_smooth(block) && !beside.is_last && !here.is_last;
+    let inner = tx == TxSize::T4x4 && !is_skipped_inter(block) && !beside.is_last && !here.is_last;
     CellEdges { outer, inner }
 }

@@ -1,7 +1,7 @@
 //! The filter's level at a block, and the limits of a level.
 
 ghost use Rattle.std.specs.Prelude.{◌≡◌, ◌≤◌, ◌-◌, ◌*◌, ◌/◌, ◌^◌, ◌+ℤ◌, ◌*ℤ◌, pos, unsigned_abs, nat_lt, min, if◌then◌else◌};
-ghost use Rattle.loop_edges.specs.FilterLevels.{to_level, with_feature, segment_level, mode_delta, reference_delta, delta_of, filter_level, limit_of, limits_of, one_of};
+ghost use Rattle.loop_edges.specs.FilterLevels.{to_level, with_feature, lvl_seg, mode_delta, reference_delta, delta_of, filter_level, limit_of, limits_of, one_of};
 
 use crate::setting::EdgeSetting;
 use block_plan::{BlockInfo, Prediction};
@@ -31,8 +31,8 @@ fn with_feature(absolute: bool, level: u8, feature: Option<i16>) -> u8
 
 /// The level of a segment's blocks, without the deltas.
 #[inline(always)]
-pub(crate) fn segment_level(f: &EdgeSetting, segment: u8) -> u8
-    ensures { result ≡ segment_level f.now segment }
+pub(crate) fn lvl_seg(f: &EdgeSetting, segment: u8) -> u8
+    ensures { result ≡ lvl_seg f.now segment }
 {
     if !f.segmentation.enabled {
         return f.filter.level;
@@ -128,7 +128,7 @@ pub(crate) fn changed(level: u8, delta: i32) -> u8
 pub fn filter_level(f: &EdgeSetting, block: &BlockInfo) -> u8
     ensures { result ≡ filter_level f.now block.now }
 {
-    let level = segment_level(f, block.segment);
+    let level = lvl_seg(f, block.segment);
     if f.filter.delta_enabled {
         let delta = delta_of(&f.filter.deltas, &block.prediction);
         changed(level, scaled(delta, scale_of(f.filter.level)))

@@ -1,11 +1,11 @@
 //! Levels and limits of a frame, found once.
 
 ghost use Rattle.std.specs.Prelude.{◌≡◌, ◌≤◌, ◌<◌, ◌*◌, ◌/◌, ◌%◌, ◌^◌, ◌+ℤ◌, ◌*ℤ◌, pos, unsigned_abs, nat_lt, length, slice_index_or, if◌then◌else◌};
-ghost use Rattle.loop_edges.specs.FilterLevels.{mode_number, filter_level, limits_of};
+ghost use Rattle.loop_edges.specs.FilterLevels.{mode_delta_index, filter_level, limits_of};
 ghost use Rattle.loop_edges.specs.Code.{reference_kind, kind_of, delta_by, level_by, AreLevelsOfSegment, AreLevels, AreLimits};
 ghost use Rattle.loop_edges.specs.declared.setting.EdgeSetting.{EdgeSetting};
 
-use crate::levels::{changed, filter_level, limits_of, scale_of, scaled, segment_level, sum_of};
+use crate::levels::{changed, filter_level, limits_of, lvl_seg, scale_of, scaled, sum_of};
 use crate::setting::EdgeSetting;
 use block_plan::{BlockInfo, Prediction};
 use frame_headers::LoopDeltas;
@@ -36,7 +36,7 @@ fn reference_kind(reference: ReferenceFrame) -> usize
 
 #[inline(always)]
 fn mode_kind(mode: InterMode) -> usize
-    ensures value { result ≡ mode_number mode }
+    ensures value { result ≡ mode_delta_index mode }
     ensures few { result ≤ 1 }
 {
     match mode {
@@ -77,7 +77,7 @@ fn level_by(f: &EdgeSetting, segment: u8, kind: usize) -> u8
     requires { kind < 8 }
     ensures { result ≡ level_by f.now segment kind }
 {
-    let level = segment_level(f, segment);
+    let level = lvl_seg(f, segment);
     if f.filter.delta_enabled {
         let delta = delta_by(&f.filter.deltas, kind);
         changed(level, scaled(delta, scale_of(f.filter.level)))

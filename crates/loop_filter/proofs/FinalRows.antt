@@ -23,10 +23,12 @@ use Rattle.line_filter.specs.declared.edge.Limits.{Limits}
 use Rattle.line_filter.specs.declared.edge.Pass.{Pass}
 use Rattle.line_filter.specs.declared.edge.Pass.TheVariants.{Vertical, Horizontal}
 use Rattle.line_filter.proofs.EdgeLines.{along_at_once, down_at_once, rows_filtered, columns_filtered}
-use Rattle.loop_edges.specs.Cells.{sub_x, sub_y, across, outer_edge, outer_width, has_inner, is_4x4, is_smooth}
-use Rattle.loop_edges.specs.FrameEdges.{side_edge, middle_edge, side_edges, middle_edges, both_edges, block_edges, edges_of, cell_edges, step_of, cells_of, cells_along, cell_row, pass_edges, superblock_edges, row_edges, with_row, filtered_before, filtered_frame}
+use Rattle.loop_edges.specs.Cells.{cell_at, sub_x, sub_y, across, outer_edge, outer_width, has_inner, is_4x4, is_skipped_inter}
+use Rattle.loop_edges.specs.Code.{with_row, filtered_before}
+use Rattle.loop_edges.specs.FrameEdges.{side_edge, middle_edge, side_edges, middle_edges, both_edges, block_edges, edges_of, cell_edges, step_of, cells_of, cells_along, cell_row, pass_edges, superblock_edges, row_edges}
 use Rattle.loop_edges.specs.FilterLevels.{filter_level, limits_of}
 use Rattle.loop_edges.specs.declared.setting.EdgeSetting.{EdgeSetting}
+use Rattle.loop_edges.proofs.Rows.{all_rows}
 use Rattle.loop_filter.specs.Laws.{first_changed, lower_end_of, LeavesRowsAbove, LeavesRowsBelow, ReadsNoRowAbove, ReadsItsRowsAlone, AreFinal}
 use Rattle.loop_filter.proofs.Sides.{reach_low, narrowed, not_first, there, later, whole_side, half_side, reached, last_of}
 use Rattle.loop_filter.proofs.Sides as sides
@@ -156,68 +158,68 @@ record IsCellBetween (shape : Shape) (plane : Plane) (t u r : ℕ) : Type 0 wher
   below : 0 < r → 8 ≤ halved (sub_y shape plane) (8 * r)
 
 side_one : (t u : ℕ) (shape : Shape) (plane : Plane) (pass : Pass) (b : BlockInfo) (r c : ℕ) (limits : Limits) (w : FilterWidth) → IsCellBetween shape plane t u r
-    → (across shape plane pass b r c).is_first ≡ false → ((across shape plane pass b r c).is_last ≡ true → reach w ≡ 4)
-    → IsBetween t u (side_edge shape plane pass r c limits w ∷ [])
+    → (across pass shape (cell_at plane pass r c) b).is_first ≡ false → ((across pass shape (cell_at plane pass r c) b).is_last ≡ true → reach w ≡ 4)
+    → IsBetween t u (side_edge shape (cell_at plane pass r c) limits w ∷ [])
 side_one t u shape plane Vertical b r c limits w is first last =
     let row = half_side (sub_y shape plane) r (mi_rows shape) is.inside in
     let whole = sides.high shape plane in
-    one_between t u (side_edge shape plane Vertical r c limits w) (omega (arith, is.low, reach_low w)) (omega (arith, is.high, row, whole)) (omega (arith, is.high, row, whole))
+    one_between t u (side_edge shape (cell_at plane Vertical r c) limits w) (omega (arith, is.low, reach_low w)) (omega (arith, is.high, row, whole)) (omega (arith, is.high, row, whole))
 side_one t u shape plane Horizontal b r c limits w is first last =
     let row = half_side (sub_y shape plane) r (mi_rows shape) is.inside in
     let whole = sides.high shape plane in
     let far = reached (sub_y shape plane) r (mi_rows shape) w is.inside last in
     let room = is.below (later r first) in
-    one_between t u (side_edge shape plane Horizontal r c limits w) (omega (arith, is.low, reach_low w)) (omega (arith, is.high, row, whole)) (omega (arith, is.high, far, room, whole, reach_low w))
+    one_between t u (side_edge shape (cell_at plane Horizontal r c) limits w) (omega (arith, is.low, reach_low w)) (omega (arith, is.high, row, whole)) (omega (arith, is.high, far, room, whole, reach_low w))
 
 side_between : (t u : ℕ) (shape : Shape) (plane : Plane) (pass : Pass) (b : BlockInfo) (r c : ℕ) (limits : Limits) (o : Option FilterWidth) → IsCellBetween shape plane t u r
-    → o ≡ outer_edge shape plane pass b r c → IsBetween t u (side_edges shape plane pass r c limits o)
+    → o ≡ outer_edge shape (cell_at plane pass r c) b → IsBetween t u (side_edges shape (cell_at plane pass r c) limits o)
 unfolding outer_edge
 side_between t u shape plane pass b r c limits None is e = no_edges t u
 side_between t u shape plane pass b r c limits (Some w) is e =
-    let z = across shape plane pass b r c in
-    let p = not (is_smooth b) || z.is_border in
+    let z = across pass shape (cell_at plane pass r c) b in
+    let p = not (is_skipped_inter b) || z.is_block_edge in
     side_one t u shape plane pass b r c limits w is
     (not_first p z.is_first (outer_width (tx_in shape b plane) z) w (sym e))
     (narrowed (tx_in shape b plane) z w (there p z.is_first (outer_width (tx_in shape b plane) z) w (sym e)))
 
 middle_one : (t u : ℕ) (shape : Shape) (plane : Plane) (pass : Pass) (b : BlockInfo) (r c : ℕ) (limits : Limits) → IsCellBetween shape plane t u r
-    → (across shape plane pass b r c).is_last ≡ false → IsBetween t u (middle_edge shape plane pass r c limits ∷ [])
+    → (across pass shape (cell_at plane pass r c) b).is_last ≡ false → IsBetween t u (middle_edge shape (cell_at plane pass r c) limits ∷ [])
 middle_one t u shape plane Vertical b r c limits is last =
     let row = half_side (sub_y shape plane) r (mi_rows shape) is.inside in
     let whole = sides.high shape plane in
-    one_between t u (middle_edge shape plane Vertical r c limits) (omega (arith, is.low)) (omega (arith, is.high, row, whole)) (omega (arith, is.high, row, whole))
+    one_between t u (middle_edge shape (cell_at plane Vertical r c) limits) (omega (arith, is.low)) (omega (arith, is.high, row, whole)) (omega (arith, is.high, row, whole))
 middle_one t u shape plane Horizontal b r c limits is last =
     let row = whole_side (sub_y shape plane) r (mi_rows shape) is.inside last in
     let whole = sides.high shape plane in
-    one_between t u (middle_edge shape plane Horizontal r c limits) (omega (arith, is.low)) (omega (arith, is.high, row, whole)) (omega (arith, is.high, row, whole))
+    one_between t u (middle_edge shape (cell_at plane Horizontal r c) limits) (omega (arith, is.low)) (omega (arith, is.high, row, whole)) (omega (arith, is.high, row, whole))
 
 middle_between : (t u : ℕ) (shape : Shape) (plane : Plane) (pass : Pass) (b : BlockInfo) (r c : ℕ) (limits : Limits) (inner : Bool) → IsCellBetween shape plane t u r
-    → inner ≡ has_inner shape plane pass b r c → IsBetween t u (middle_edges shape plane pass r c limits inner)
+    → inner ≡ has_inner shape (cell_at plane pass r c) b → IsBetween t u (middle_edges shape (cell_at plane pass r c) limits inner)
 unfolding has_inner
 middle_between t u shape plane pass b r c limits false is e = no_edges t u
 middle_between t u shape plane pass b r c limits true is e =
     middle_one t u shape plane pass b r c limits is
-    (last_of (is_4x4 (tx_in shape b plane)) (not (is_smooth b)) (across shape plane Vertical b r c).is_last (across shape plane pass b r c).is_last (sym e))
+    (last_of (is_4x4 (tx_in shape b plane)) (not (is_skipped_inter b)) (across Vertical shape (cell_at plane Vertical r c) b).is_last (across pass shape (cell_at plane pass r c) b).is_last (sym e))
 
 if_between : (t u : ℕ) (b : Bool) (es : List Edge) → IsBetween t u es → IsBetween t u (if b then [] else es)
 if_between t u true es so = no_edges t u
 if_between t u false es so = so
 
 block_between : (t u : ℕ) (f : EdgeSetting) (plane : Plane) (pass : Pass) (r c : ℕ) (b : BlockInfo) → IsCellBetween f.shape plane t u r
-    → IsBetween t u (block_edges f plane pass r c b)
+    → IsBetween t u (block_edges f (cell_at plane pass r c) b)
 unfolding block_edges both_edges
 block_between t u f plane pass r c b is =
     let l = limits_of f.shape.depth f.filter.sharpness (filter_level f b) in
     if_between t u (nat_eq (filter_level f b) 0) _
-    (both_between t u _ _ (side_between t u f.shape plane pass b r c l (outer_edge f.shape plane pass b r c) is refl) (middle_between t u f.shape plane pass b r c l (has_inner f.shape plane pass b r c) is refl))
+    (both_between t u _ _ (side_between t u f.shape plane pass b r c l (outer_edge f.shape (cell_at plane pass r c) b) is refl) (middle_between t u f.shape plane pass b r c l (has_inner f.shape (cell_at plane pass r c) b) is refl))
 
 found_between : (t u : ℕ) (f : EdgeSetting) (plane : Plane) (pass : Pass) (r c : ℕ) (o : Option BlockInfo) → IsCellBetween f.shape plane t u r
-    → IsBetween t u (edges_of f plane pass r c o)
+    → IsBetween t u (edges_of f (cell_at plane pass r c) o)
 found_between t u f plane pass r c None is = no_edges t u
 found_between t u f plane pass r c (Some b) is = block_between t u f plane pass r c b is
 
 cell_between : (t u : ℕ) (f : EdgeSetting) (blocks : List BlockInfo) (plane : Plane) (pass : Pass) (r c : ℕ) → IsCellBetween f.shape plane t u r
-    → IsBetween t u (cell_edges f blocks plane pass r c)
+    → IsBetween t u (cell_edges f blocks (cell_at plane pass r c))
 unfolding cell_edges
 cell_between t u f blocks plane pass r c is = found_between t u f plane pass r c (covering blocks r c) is
 
@@ -225,7 +227,7 @@ cell_row_between : (t u : ℕ) (f : EdgeSetting) (blocks : List BlockInfo) (plan
     → IsBetween t u (cell_row f blocks plane pass r (cells_of (sub_x f.shape plane) (mi_cols f.shape) sc))
 unfolding cell_row
 cell_row_between t u f blocks plane pass r sc is =
-    walk_between t u (cell_edges f blocks plane pass r) (λ i. 8 * sc + step_of (sub_x f.shape plane) * i) (cells_along (sub_x f.shape plane) (mi_cols f.shape) sc) (λ i low. cell_between t u f blocks plane pass r _ is)
+    walk_between t u (λ c. cell_edges f blocks (cell_at plane pass r c)) (λ i. 8 * sc + step_of (sub_x f.shape plane) * i) (cells_along (sub_x f.shape plane) (mi_cols f.shape) sc) (λ i low. cell_between t u f blocks plane pass r _ is)
 
 -- a cell of a row of superblocks
 record IsCellOf (sub : Bool) (end sr r : ℕ) : Type 0 where
@@ -291,8 +293,8 @@ later_rows f blocks m rows plane y x low (suc k) =
     ∙ later_rows f blocks m rows plane y x low k))
 
 pub are_final : (f : EdgeSetting) (blocks : List BlockInfo) (rows : ℕ) → AreFinal f blocks rows
-unfolding filtered_frame
 are_final f blocks rows m plane y x low few =
     let n = superblocks_along (mi_rows f.shape) in
     let e : rows + (n - rows) ≡ n = omega (arith, few) in
     sym (ap (λ (k : ℕ). filtered_before f blocks m k plane y x) (sym e) ∙ later_rows f blocks m rows plane y x low (n - rows))
+    ∙ ap (λ (z : FrameMap). z plane y x) (all_rows f blocks m)

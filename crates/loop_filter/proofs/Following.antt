@@ -7,8 +7,10 @@ use Rattle.vp9_types.specs.Sizes.{superblocks_along}
 use Rattle.vp9_types.specs.declared.shape.Plane.{Plane}
 use Rattle.block_plan.specs.declared.block.BlockInfo.{BlockInfo}
 use Rattle.loop_edges.specs.Cells.{sub_y}
-use Rattle.loop_edges.specs.FrameEdges.{with_row, filtered_before, filtered_frame}
+use Rattle.loop_edges.specs.Code.{with_row, filtered_before}
+use Rattle.loop_edges.specs.FrameEdges.{filtered_frame}
 use Rattle.loop_edges.specs.declared.setting.EdgeSetting.{EdgeSetting}
+use Rattle.loop_edges.proofs.Rows.{all_rows}
 use Rattle.loop_filter.specs.Laws.{first_changed, first_own, lower_end_of, AgreeOver, HoldsPending, HoldsStrips, RowsFollow, BandsAreFinal}
 use Rattle.loop_filter.proofs.Frames.{row_more, no_rows}
 use Rattle.loop_filter.proofs.Sides as sides
@@ -54,10 +56,9 @@ pub whole_rows : (sub : Bool) (sr places end y : ℕ) → sr + 1 < superblocks_a
 whole_rows true sr places end y more is low = omega (arith, more, is, low)
 whole_rows false sr places end y more is low = omega (arith, more, is, low)
 
-all_rows : (f : EdgeSetting) (blocks : List BlockInfo) (raw : FrameMap) (n : ℕ) → n ≡ superblocks_along (mi_rows f.shape) → (plane : Plane) (y x : ℕ)
+all_done : (f : EdgeSetting) (blocks : List BlockInfo) (raw : FrameMap) (n : ℕ) → n ≡ superblocks_along (mi_rows f.shape) → (plane : Plane) (y x : ℕ)
     → filtered_before f blocks raw n plane y x ≡ filtered_frame f blocks raw plane y x
-unfolding filtered_frame
-all_rows f blocks raw n all plane y x = ap (λ (k : ℕ). filtered_before f blocks raw k plane y x) all
+all_done f blocks raw n all plane y x = ap (λ (k : ℕ). filtered_before f blocks raw k plane y x) all ∙ ap (λ (z : FrameMap). z plane y x) (all_rows f blocks raw)
 
 pub rows_follow : (f : EdgeSetting) (blocks : List BlockInfo) (sr : ℕ) → RowsFollow f blocks sr
 rows_follow f blocks sr m inside raw pending strips = record {
@@ -71,7 +72,7 @@ rows_follow f blocks sr m inside raw pending strips = record {
     | inr last ↦
         let end : y < lower_end_of f.shape plane sr = rw (le-ltb (sr + 1) (superblocks_along (mi_rows f.shape)) last) at high in
         let all : sr + 1 ≡ superblocks_along (mi_rows f.shape) = omega (arith, last, inside) in
-        filtered f blocks raw m sr pending strips plane y x low end ∙ all_rows f blocks raw (sr + 1) all plane y x
+        filtered f blocks raw m sr pending strips plane y x low end ∙ all_done f blocks raw (sr + 1) all plane y x
   ];
 }
 
@@ -82,4 +83,4 @@ band_low false end band rows y less high = omega (arith, less, high)
 pub bands_are_final : (f : EdgeSetting) (blocks : List BlockInfo) (rows : ℕ) → BandsAreFinal f blocks rows
 bands_are_final f blocks rows raw band plane y x few (inl less) high =
     are_final f blocks rows raw plane y x (band_low (sub_y f.shape plane) (coded_height f.shape plane) band rows y less high) few
-bands_are_final f blocks rows raw band plane y x few (inr all) high = all_rows f blocks raw rows all plane y x
+bands_are_final f blocks rows raw band plane y x few (inr all) high = all_done f blocks raw rows all plane y x

@@ -11,8 +11,10 @@ use Rattle.planes.specs.Pictures.{HasSizes, coded_area}
 use Rattle.planes.specs.declared.area.Area.{Area}
 use Rattle.planes.specs.declared.frame_planes.FramePlanes.{FramePlanes}
 use Rattle.block_plan.specs.declared.block.BlockInfo.{BlockInfo}
-use Rattle.loop_edges.specs.FrameEdges.{edges_before, row_edges, with_row, filtered_before, filtered_frame}
+use Rattle.loop_edges.specs.Code.{edges_before, with_row, filtered_before}
+use Rattle.loop_edges.specs.FrameEdges.{row_edges, filtered_frame}
 use Rattle.loop_edges.specs.declared.setting.EdgeSetting.{EdgeSetting}
+use Rattle.loop_edges.proofs.Rows.{all_rows}
 use Rattle.loop_filter.specs.Code.{HasFilterRows, HoldsFilterRows, HasAreasOf}
 use Rattle.loop_filter.proofs.Walks.{one_more_plain}
 
@@ -31,8 +33,7 @@ rows_done f blocks m old new r so done = done ∙ (rw so refl ∙ sym (row_more 
 
 pub all_done : (f : EdgeSetting) (blocks : List BlockInfo) (m new : FrameMap) (n : ℕ) → n ≡ superblocks_along (mi_rows f.shape) → new ≡ filtered_before f blocks m n
     → new ≡ filtered_frame f blocks m
-unfolding filtered_frame
-all_done f blocks m new n all done = done ∙ ap (filtered_before f blocks m) all
+all_done f blocks m new n all done = done ∙ (ap (filtered_before f blocks m) all ∙ all_rows f blocks m)
 
 -- whole planes have all rows
 whole_rows : (shape : Shape) (plane : Plane) (sr : ℕ) (a : Area) → a ≡ coded_area shape plane → HasFilterRows shape plane sr a

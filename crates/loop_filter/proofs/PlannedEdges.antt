@@ -15,7 +15,7 @@ use Rattle.line_filter.specs.declared.edge.Pass.{Pass}
 use Rattle.line_filter.specs.declared.edge.Pass.TheVariants.{Vertical, Horizontal}
 use Rattle.block_plan.specs.InPlanes.{tx_in}
 use Rattle.line_filter.specs.declared.edge.FilterWidth.{FilterWidth}
-use Rattle.loop_edges.specs.Cells.{sub_x, sub_y, across, is_smooth, is_4x4, outer_width, outer_edge, has_inner}
+use Rattle.loop_edges.specs.Cells.{cell_at, sub_x, sub_y, across, is_skipped_inter, is_4x4, outer_width, outer_edge, has_inner}
 use Rattle.loop_edges.specs.Code.{is_inside}
 use Rattle.loop_edges.specs.FrameEdges.{both_edges, block_edges, edges_of, cell_edges, step_of}
 use Rattle.loop_edges.specs.FilterLevels.{filter_level, limits_of}
@@ -56,12 +56,12 @@ inner_none plane Vertical plan is = rw is refl
 inner_none plane Horizontal plan is = rw is refl
 
 outer_some : (shape : Shape) (plane : Plane) (pass : Pass) (r c : ℕ) (b : BlockInfo) (plan : PlacePlan) → edges_of_plane plan plane ≡ crossed_by shape plane r c b
-    → (edges_in plan plane pass).outer ≡ outer_edge shape plane pass b r c
+    → (edges_in plan plane pass).outer ≡ outer_edge shape (cell_at plane pass r c) b
 outer_some shape plane Vertical r c b plan is = rw is refl
 outer_some shape plane Horizontal r c b plan is = rw is refl
 
 inner_some : (shape : Shape) (plane : Plane) (pass : Pass) (r c : ℕ) (b : BlockInfo) (plan : PlacePlan) → edges_of_plane plan plane ≡ crossed_by shape plane r c b
-    → (edges_in plan plane pass).inner ≡ has_inner shape plane pass b r c
+    → (edges_in plan plane pass).inner ≡ has_inner shape (cell_at plane pass r c) b
 inner_some shape plane Vertical r c b plan is = rw is refl
 inner_some shape plane Horizontal r c b plan is = rw is refl
 
@@ -71,22 +71,22 @@ unfolding planned_edges
 planned_none f plane pass r c plan outer inner = rw (outer, inner) refl
 
 planned_some : (f : EdgeSetting) (plane : Plane) (pass : Pass) (r c : ℕ) (b : BlockInfo) (plan : PlacePlan) → plan.level ≡ filter_level f b
-    → (edges_in plan plane pass).outer ≡ outer_edge f.shape plane pass b r c → (edges_in plan plane pass).inner ≡ has_inner f.shape plane pass b r c
-    → planned_edges f plane pass r c plan ≡ both_edges f.shape plane pass r c b (limits_of f.shape.depth f.filter.sharpness (filter_level f b))
+    → (edges_in plan plane pass).outer ≡ outer_edge f.shape (cell_at plane pass r c) b → (edges_in plan plane pass).inner ≡ has_inner f.shape (cell_at plane pass r c) b
+    → planned_edges f plane pass r c plan ≡ both_edges f.shape (cell_at plane pass r c) b (limits_of f.shape.depth f.filter.sharpness (filter_level f b))
 unfolding planned_edges both_edges
 planned_some f plane pass r c b plan level outer inner = rw (level, outer, inner) refl
 
-block_off : (f : EdgeSetting) (plane : Plane) (pass : Pass) (r c : ℕ) (b : BlockInfo) → nat_eq (filter_level f b) 0 ≡ true → block_edges f plane pass r c b ≡ []
+block_off : (f : EdgeSetting) (plane : Plane) (pass : Pass) (r c : ℕ) (b : BlockInfo) → nat_eq (filter_level f b) 0 ≡ true → block_edges f (cell_at plane pass r c) b ≡ []
 unfolding block_edges
 block_off f plane pass r c b none = rw none refl
 
 block_on : (f : EdgeSetting) (plane : Plane) (pass : Pass) (r c : ℕ) (b : BlockInfo) → nat_eq (filter_level f b) 0 ≡ false
-    → block_edges f plane pass r c b ≡ both_edges f.shape plane pass r c b (limits_of f.shape.depth f.filter.sharpness (filter_level f b))
+    → block_edges f (cell_at plane pass r c) b ≡ both_edges f.shape (cell_at plane pass r c) b (limits_of f.shape.depth f.filter.sharpness (filter_level f b))
 unfolding block_edges
 block_on f plane pass r c b some = rw some refl
 
 planned_by : (f : EdgeSetting) (plane : Plane) (pass : Pass) (r c : ℕ) (b : BlockInfo) → has_cell f.shape plane r c ≡ true
-    → planned_edges f plane pass r c (plan_by f r c b) ≡ block_edges f plane pass r c b
+    → planned_edges f plane pass r c (plan_by f r c b) ≡ block_edges f (cell_at plane pass r c) b
 planned_by f plane pass r c b here = elim (cases_Bool (nat_eq (filter_level f b) 0)) [
   | inl none ↦
       let is = none_is f plane r c b none in
@@ -98,7 +98,7 @@ planned_by f plane pass r c b here = elim (cases_Bool (nat_eq (filter_level f b)
       (inner_some f.shape plane pass r c b (plan_by f r c b) is) ∙ sym (block_on f plane pass r c b some)
 ]
 
----- Places inside of smooth blocks ----
+---- Places inside of skipped inter blocks ----
 
 inside_parts : (s l t : Bool) → (s && not l && not t) ≡ true → (s ≡ true) × (l ≡ false) × (t ≡ false)
 inside_parts true false false is = (refl, refl, refl)
@@ -123,13 +123,13 @@ crossed_none o q p r one two three four = rw (one, two, three, four) refl
 pub inside_is : (shape : Shape) (plane : Plane) (r c : ℕ) (b : BlockInfo) → is_inside b r c ≡ true → crossed_by shape plane r c b ≡ nowhere
 unfolding outer_edge has_inner
 inside_is shape plane r c b is =
-    let parts = inside_parts (is_smooth b) (across shape plane Vertical b r c).is_border (across shape plane Horizontal b r c).is_border is in
-    let v = outer_inside (is_smooth b) (across shape plane Vertical b r c).is_border (across shape plane Vertical b r c).is_first (outer_width (tx_in shape b plane) (across shape plane Vertical b r c)) parts.0 parts.1 in
-    let h = outer_inside (is_smooth b) (across shape plane Horizontal b r c).is_border (across shape plane Horizontal b r c).is_first (outer_width (tx_in shape b plane) (across shape plane Horizontal b r c)) parts.0 parts.2 in
-    let p = inner_inside (is_4x4 (tx_in shape b plane)) (is_smooth b) (across shape plane Vertical b r c).is_last (across shape plane Vertical b r c).is_last parts.0 in
-    let q = inner_inside (is_4x4 (tx_in shape b plane)) (is_smooth b) (across shape plane Vertical b r c).is_last (across shape plane Horizontal b r c).is_last parts.0 in
-    crossed_none (outer_edge shape plane Vertical b r c) (outer_edge shape plane Horizontal b r c) (has_inner shape plane Vertical b r c)
-    (has_inner shape plane Horizontal b r c) v p h q
+    let parts = inside_parts (is_skipped_inter b) (across Vertical shape (cell_at plane Vertical r c) b).is_block_edge (across Horizontal shape (cell_at plane Horizontal r c) b).is_block_edge is in
+    let v = outer_inside (is_skipped_inter b) (across Vertical shape (cell_at plane Vertical r c) b).is_block_edge (across Vertical shape (cell_at plane Vertical r c) b).is_first (outer_width (tx_in shape b plane) (across Vertical shape (cell_at plane Vertical r c) b)) parts.0 parts.1 in
+    let h = outer_inside (is_skipped_inter b) (across Horizontal shape (cell_at plane Horizontal r c) b).is_block_edge (across Horizontal shape (cell_at plane Horizontal r c) b).is_first (outer_width (tx_in shape b plane) (across Horizontal shape (cell_at plane Horizontal r c) b)) parts.0 parts.2 in
+    let p = inner_inside (is_4x4 (tx_in shape b plane)) (is_skipped_inter b) (across Vertical shape (cell_at plane Vertical r c) b).is_last (across Vertical shape (cell_at plane Vertical r c) b).is_last parts.0 in
+    let q = inner_inside (is_4x4 (tx_in shape b plane)) (is_skipped_inter b) (across Vertical shape (cell_at plane Vertical r c) b).is_last (across Horizontal shape (cell_at plane Horizontal r c) b).is_last parts.0 in
+    crossed_none (outer_edge shape (cell_at plane Vertical r c) b) (outer_edge shape (cell_at plane Horizontal r c) b) (has_inner shape (cell_at plane Vertical r c) b)
+    (has_inner shape (cell_at plane Horizontal r c) b) v p h q
 
 same_choice : (t : Bool) (x y : CrossedEdges) → x ≡ y → (if t then x else y) ≡ y
 same_choice true x y is = is
@@ -144,14 +144,14 @@ unfiltered_is f U r c = refl
 unfiltered_is f V r c = refl
 
 planned_from : (f : EdgeSetting) (plane : Plane) (pass : Pass) (r c : ℕ) (o : Option BlockInfo) → has_cell f.shape plane r c ≡ true
-    → planned_edges f plane pass r c (plan_from f r c o) ≡ edges_of f plane pass r c o
+    → planned_edges f plane pass r c (plan_from f r c o) ≡ edges_of f (cell_at plane pass r c) o
 planned_from f plane pass r c None here =
     let is = unfiltered_is f plane r c in
     planned_none f plane pass r c (plan_from f r c None) (outer_none plane pass (plan_from f r c None) is) (inner_none plane pass (plan_from f r c None) is)
 planned_from f plane pass r c (Some b) here = planned_by f plane pass r c b here
 
 pub planned_is : (f : EdgeSetting) (blocks : List BlockInfo) (plane : Plane) (pass : Pass) (r c : ℕ) (plan : PlacePlan) → has_cell f.shape plane r c ≡ true
-    → plan ≡ plan_of f blocks r c → planned_edges f plane pass r c plan ≡ cell_edges f blocks plane pass r c
+    → plan ≡ plan_of f blocks r c → planned_edges f plane pass r c plan ≡ cell_edges f blocks (cell_at plane pass r c)
 unfolding plan_of cell_edges
 planned_is f blocks plane pass r c plan here is = ap (planned_edges f plane pass r c) is ∙ planned_from f plane pass r c (covering blocks r c) here
 

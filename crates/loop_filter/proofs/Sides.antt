@@ -23,7 +23,7 @@ use Rattle.line_filter.specs.declared.edge.FilterWidth.TheVariants.{Four, Eight,
 use Rattle.line_filter.specs.declared.edge.Limits.{Limits}
 use Rattle.line_filter.specs.declared.edge.Pass.{Pass}
 use Rattle.line_filter.specs.declared.edge.Pass.TheVariants.{Vertical, Horizontal}
-use Rattle.loop_edges.specs.Cells.{across, widest, outer_width, outer_edge, has_inner, is_4x4, is_smooth, sub_x, sub_y}
+use Rattle.loop_edges.specs.Cells.{cell_at, across, widest, outer_width, outer_edge, has_inner, is_4x4, is_skipped_inter, sub_x, sub_y}
 use Rattle.loop_edges.specs.FrameEdges.{side_edge, middle_edge}
 use Rattle.loop_edges.specs.FilterLevels.{limits_of}
 use Rattle.loop_edges.specs.declared.cells.CellAt.{CellAt}
@@ -101,8 +101,8 @@ wide shape U = refl
 wide shape V = refl
 
 side_by : (shape : Shape) (plane : Plane) (pass : Pass) (b : BlockInfo) (a : Area) (r c : ℕ) (limits : Limits) (w : FilterWidth)
-    → IsCellIn shape plane a r c → (across shape plane pass b r c).is_first ≡ false → ((across shape plane pass b r c).is_last ≡ true → reach w ≡ 4)
-    → IsEdgeIn a (side_edge shape plane pass r c limits w)
+    → IsCellIn shape plane a r c → (across pass shape (cell_at plane pass r c) b).is_first ≡ false → ((across pass shape (cell_at plane pass r c) b).is_last ≡ true → reach w ≡ 4)
+    → IsEdgeIn a (side_edge shape (cell_at plane pass r c) limits w)
 side_by shape plane Vertical b a r c limits w so first last =
     let column = reached (sub_x shape plane) c (mi_cols shape) w so.column last in
     let row = half_side (sub_y shape plane) r (mi_rows shape) so.row in
@@ -125,12 +125,12 @@ side_by shape plane Horizontal b a r c limits w so first last =
     }
 
 pub side_fits : (shape : Shape) (way : PlanePass) (b : BlockInfo) (a : Area) (at : CellAt) (limits : Limits) (o : Option FilterWidth)
-    → IsCellIn shape way.plane a at.row at.col → o ≡ outer_edge shape way.plane way.pass b at.row at.col → CanFilterSide shape way a at limits o
+    → IsCellIn shape way.plane a at.row at.col → o ≡ outer_edge shape (cell_at way.plane way.pass at.row at.col) b → CanFilterSide shape way a at limits o
 unfolding outer_edge
 side_fits shape way b a at limits None so is = tt
 side_fits shape way b a at limits (Some w) so is =
-    let z = across shape way.plane way.pass b at.row at.col in
-    let p = not (is_smooth b) || z.is_border in
+    let z = across way.pass shape (cell_at way.plane way.pass at.row at.col) b in
+    let p = not (is_skipped_inter b) || z.is_block_edge in
     side_by shape way.plane way.pass b a at.row at.col limits w so
     (not_first p z.is_first (outer_width (tx_in shape b way.plane) z) w (sym is))
     (narrowed (tx_in shape b way.plane) z w (there p z.is_first (outer_width (tx_in shape b way.plane) z) w (sym is)))
@@ -143,7 +143,7 @@ last_of true false r s is = let no : ⊥ = cc in absurd no
 last_of false q r s is = let no : ⊥ = cc in absurd no
 
 middle_by : (shape : Shape) (plane : Plane) (pass : Pass) (b : BlockInfo) (a : Area) (r c : ℕ) (limits : Limits)
-    → IsCellIn shape plane a r c → (across shape plane pass b r c).is_last ≡ false → IsEdgeIn a (middle_edge shape plane pass r c limits)
+    → IsCellIn shape plane a r c → (across pass shape (cell_at plane pass r c) b).is_last ≡ false → IsEdgeIn a (middle_edge shape (cell_at plane pass r c) limits)
 middle_by shape plane Vertical b a r c limits so last =
     let column = whole_side (sub_x shape plane) c (mi_cols shape) so.column last in
     let row = half_side (sub_y shape plane) r (mi_rows shape) so.row in
@@ -166,13 +166,13 @@ middle_by shape plane Horizontal b a r c limits so last =
     }
 
 pub middle_fits : (shape : Shape) (way : PlanePass) (b : BlockInfo) (a : Area) (at : CellAt) (limits : Limits) (inner : Bool)
-    → IsCellIn shape way.plane a at.row at.col → inner ≡ has_inner shape way.plane way.pass b at.row at.col → CanFilterMiddle shape way a at limits inner
+    → IsCellIn shape way.plane a at.row at.col → inner ≡ has_inner shape (cell_at way.plane way.pass at.row at.col) b → CanFilterMiddle shape way a at limits inner
 unfolding has_inner
 middle_fits shape way b a at limits false so is = tt
 middle_fits shape way b a at limits true so is =
     middle_by shape way.plane way.pass b a at.row at.col limits so
-    (last_of (is_4x4 (tx_in shape b way.plane)) (not (is_smooth b)) (across shape way.plane Vertical b at.row at.col).is_last
-    (across shape way.plane way.pass b at.row at.col).is_last (sym is))
+    (last_of (is_4x4 (tx_in shape b way.plane)) (not (is_skipped_inter b)) (across Vertical shape (cell_at way.plane Vertical at.row at.col) b).is_last
+    (across way.pass shape (cell_at way.plane way.pass at.row at.col) b).is_last (sym is))
 
 top_of : (d : Depth) (sharpness level : ℕ) → 2 * (limits_of d sharpness level).half - 1 ≡ greatest d
 unfolding limits_of

@@ -20,9 +20,10 @@ use Rattle.block_plan.specs.Blocks.{covering, covers, or_else}
 use Rattle.block_plan.specs.declared.block.BlockInfo.{BlockInfo}
 use Rattle.line_filter.specs.FilteredEdges.{with_edge}
 use Rattle.line_filter.specs.declared.edge.Edge.{Edge}
-use Rattle.loop_edges.specs.Cells.{sub_y}
+use Rattle.loop_edges.specs.Cells.{cell_at, sub_y}
 use Rattle.line_filter.specs.declared.edge.Pass.{Pass}
-use Rattle.loop_edges.specs.FrameEdges.{step_of, cells_along, edges_of, cell_edges, row_edges, with_row, superblock_edges}
+use Rattle.loop_edges.specs.Code.{with_row}
+use Rattle.loop_edges.specs.FrameEdges.{step_of, cells_along, edges_of, cell_edges, row_edges, superblock_edges}
 use Rattle.loop_edges.specs.declared.setting.EdgeSetting.{EdgeSetting}
 use Rattle.loop_filter.specs.Code.{IsRowIn, HasFilterRows, AllFit}
 
@@ -101,9 +102,9 @@ walk_more_plain g m old new n so done = done ∙ (rw so refl ∙ sym (one_more_p
 
 -- the edges of a cell by the block that covers it
 pub cell_by : (f : EdgeSetting) (blocks : List BlockInfo) (plane : Plane) (pass : Pass) (r c : ℕ) (o : Option BlockInfo) (m new : Map)
-    → o ≡ covering blocks r c → new ≡ fold with_edge m (edges_of f plane pass r c o) → new ≡ fold with_edge m (cell_edges f blocks plane pass r c)
+    → o ≡ covering blocks r c → new ≡ fold with_edge m (edges_of f (cell_at plane pass r c) o) → new ≡ fold with_edge m (cell_edges f blocks (cell_at plane pass r c))
 unfolding cell_edges
-cell_by f blocks plane pass r c o m new is done = done ∙ ap (λ (z : Option BlockInfo). fold with_edge m (edges_of f plane pass r c z)) is
+cell_by f blocks plane pass r c o m new is done = done ∙ ap (λ (z : Option BlockInfo). fold with_edge m (edges_of f (cell_at plane pass r c) z)) is
 
 -- two lists of edges, one after the other
 pub two_lists : (m mid new : Map) (xs ys : List Edge) → mid ≡ fold with_edge m xs → new ≡ fold with_edge mid ys → new ≡ fold with_edge m (xs ++ ys)

@@ -14,7 +14,7 @@ use Rattle.vp9_types.specs.declared.shape.Plane.TheVariants.{Y, U, V}
 use Rattle.line_filter.specs.Code.{IsEdgeIn}
 use Rattle.line_filter.specs.declared.edge.FilterWidth.{FilterWidth}
 use Rattle.line_filter.specs.declared.edge.Limits.{Limits}
-use Rattle.loop_edges.specs.Cells.{sub_x, sub_y}
+use Rattle.loop_edges.specs.Cells.{cell_at, sub_x, sub_y}
 use Rattle.loop_edges.specs.FrameEdges.{side_edge, middle_edge}
 use Rattle.loop_edges.specs.declared.cells.CellAt.{CellAt}
 use Rattle.loop_filter.specs.declared.way.PlanePass.{PlanePass}
@@ -40,11 +40,11 @@ pub record IsCellIn (shape : Shape) (plane : Plane) (a : Area) (r c : ℕ) : Typ
 -- an edge that there is lies in an area
 abbrev pub CanFilterSide : Shape → PlanePass → Area → CellAt → Limits → Option FilterWidth → Type 0
 CanFilterSide shape way a at limits None = Unit {0}
-CanFilterSide shape way a at limits (Some width) = IsEdgeIn a (side_edge shape way.plane way.pass at.row at.col limits width)
+CanFilterSide shape way a at limits (Some width) = IsEdgeIn a (side_edge shape (cell_at way.plane way.pass at.row at.col) limits width)
 
 abbrev pub CanFilterMiddle : Shape → PlanePass → Area → CellAt → Limits → Bool → Type 0
 CanFilterMiddle shape way a at limits false = Unit {0}
-CanFilterMiddle shape way a at limits true = IsEdgeIn a (middle_edge shape way.plane way.pass at.row at.col limits)
+CanFilterMiddle shape way a at limits true = IsEdgeIn a (middle_edge shape (cell_at way.plane way.pass at.row at.col) limits)
 
 -- An area has the whole width of a plane, and those rows that the filter looks at around a row of cells.
 pub record IsRowIn (shape : Shape) (plane : Plane) (a : Area) (r : ℕ) : Type 0 where

@@ -9,7 +9,7 @@ use Rattle.block_plan.specs.declared.block.BlockInfo.{BlockInfo}
 use Rattle.line_filter.specs.declared.edge.Edge.{Edge}
 use Rattle.line_filter.specs.declared.edge.Pass.{Pass}
 use Rattle.line_filter.specs.declared.edge.Pass.TheVariants.{Vertical, Horizontal}
-use Rattle.loop_edges.specs.Cells.{outer_edge, has_inner}
+use Rattle.loop_edges.specs.Cells.{cell_at, outer_edge, has_inner}
 use Rattle.loop_edges.specs.FrameEdges.{side_edges, middle_edges}
 use Rattle.loop_edges.specs.FilterLevels.{filter_level, limits_of}
 use Rattle.loop_edges.specs.declared.cells.CellEdges.{CellEdges}
@@ -32,7 +32,7 @@ has_chroma shape r c = not (shape.ss_x && nat_eq (c % 2) 1) && not (shape.ss_y &
 
 -- the edges of a cell, by its block
 abbrev pub edges_by : Shape → Plane → Pass → ℕ → ℕ → BlockInfo → CellEdges
-edges_by shape plane pass r c b = record { outer = outer_edge shape plane pass b r c; inner = has_inner shape plane pass b r c }
+edges_by shape plane pass r c b = record { outer = outer_edge shape (cell_at plane pass r c) b; inner = has_inner shape (cell_at plane pass r c) b }
 
 abbrev pub crossed_by : Shape → Plane → ℕ → ℕ → BlockInfo → CrossedEdges
 crossed_by shape plane r c b = record { vertical = edges_by shape plane Vertical r c b; horizontal = edges_by shape plane Horizontal r c b }
@@ -70,7 +70,7 @@ edges_in plan plane pass = edges_of_pass (edges_of_plane plan plane) pass
 unfoldable pub planned_edges : EdgeSetting → Plane → Pass → ℕ → ℕ → PlacePlan → List Edge
 planned_edges f plane pass r c plan =
     let limits = limits_of f.shape.depth f.filter.sharpness plan.level in
-    side_edges f.shape plane pass r c limits (edges_in plan plane pass).outer ++ middle_edges f.shape plane pass r c limits (edges_in plan plane pass).inner
+    side_edges f.shape (cell_at plane pass r c) limits (edges_in plan plane pass).outer ++ middle_edges f.shape (cell_at plane pass r c) limits (edges_in plan plane pass).inner
 
 -- A cell of a plane begins at a place.
 abbrev pub has_cell : Shape → Plane → ℕ → ℕ → Bool

@@ -7,7 +7,8 @@ use Rattle.vp9_types.specs.declared.shape.Plane.{Plane}
 use Rattle.vp9_types.specs.declared.shape.Shape.{Shape}
 use Rattle.block_plan.specs.declared.block.BlockInfo.{BlockInfo}
 use Rattle.loop_edges.specs.Cells.{sub_y}
-use Rattle.loop_edges.specs.FrameEdges.{with_row, filtered_before, filtered_frame}
+use Rattle.loop_edges.specs.Code.{with_row, filtered_before}
+use Rattle.loop_edges.specs.FrameEdges.{filtered_frame}
 use Rattle.loop_edges.specs.declared.setting.EdgeSetting.{EdgeSetting}
 
 -- the first row of a plane that a row of superblocks may change or read: the eighth above it

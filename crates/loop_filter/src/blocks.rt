@@ -10,7 +10,7 @@ ghost use Rattle.vp9_tables.specs.Numbers.{tx_number};
 ghost use Rattle.planes.specs.Planes.{plane_map};
 ghost use Rattle.planes.specs.Pictures.{FitsPlanes};
 ghost use Rattle.line_filter.specs.FilteredEdges.{with_edge};
-ghost use Rattle.loop_edges.specs.Cells.{outer_edge, has_inner, sub_x, sub_y};
+ghost use Rattle.loop_edges.specs.Cells.{cell_at, outer_edge, has_inner, sub_x, sub_y};
 ghost use Rattle.loop_edges.specs.FrameEdges.{side_edge, middle_edge, side_edges, middle_edges, both_edges, block_edges};
 ghost use Rattle.loop_filter.specs.Code.{IsCellIn, CanFilterSide, CanFilterMiddle};
 
@@ -28,7 +28,7 @@ fn side_edge(shape: &Shape, way: PlanePass, at: CellAt, limits: Limits, width: F
     requires col { at.col ≤ 8192 }
     requires high { halved (sub_y shape.now way.plane) (8 * at.row) ≤ coded_height shape.now way.plane }
     requires wide { halved (sub_x shape.now way.plane) (8 * at.col) ≤ coded_width shape.now way.plane }
-    ensures { result ≡ side_edge shape.now way.plane way.pass at.row at.col limits width }
+    ensures { result ≡ side_edge shape.now (cell_at way.plane way.pass at.row at.col) limits width }
 {
     let (sub_x, sub_y) = (sub_x(shape, way.plane), sub_y(shape, way.plane));
     let row = halved(sub_y, 8 * at.row as usize);
@@ -56,7 +56,7 @@ fn middle_edge(shape: &Shape, way: PlanePass, at: CellAt, limits: Limits) -> Edg
     requires col { at.col ≤ 8192 }
     requires high { halved (sub_y shape.now way.plane) (8 * at.row) ≤ coded_height shape.now way.plane }
     requires wide { halved (sub_x shape.now way.plane) (8 * at.col) ≤ coded_width shape.now way.plane }
-    ensures { result ≡ middle_edge shape.now way.plane way.pass at.row at.col limits }
+    ensures { result ≡ middle_edge shape.now (cell_at way.plane way.pass at.row at.col) limits }
 {
     let side = side_edge(shape, way, at, limits, FilterWidth::Four);
     match way.pass {
@@ -87,7 +87,7 @@ fn filter_side<P: EdgeSample>(
     requires kept { 2 * limits.half - 1 ≤ P.greatest }
     requires range { IsAtMost (2 * limits.half - 1) (plane_map samples.old) }
     ensures area { samples.new.area ≡ samples.old.area }
-    ensures map { plane_map samples.new ≡ fold with_edge (plane_map samples.old) (side_edges shape.now way.plane way.pass at.row at.col limits width) }
+    ensures map { plane_map samples.new ≡ fold with_edge (plane_map samples.old) (side_edges shape.now (cell_at way.plane way.pass at.row at.col) limits width) }
     ensures range { IsAtMost (2 * limits.half - 1) (plane_map samples.new) }
 {
     if let Some(width) = width {
@@ -111,7 +111,7 @@ fn filter_middle<P: EdgeSample>(
     requires kept { 2 * limits.half - 1 ≤ P.greatest }
     requires range { IsAtMost (2 * limits.half - 1) (plane_map samples.old) }
     ensures area { samples.new.area ≡ samples.old.area }
-    ensures map { plane_map samples.new ≡ fold with_edge (plane_map samples.old) (middle_edges shape.now way.plane way.pass at.row at.col limits inner) }
+    ensures map { plane_map samples.new ≡ fold with_edge (plane_map samples.old) (middle_edges shape.now (cell_at way.plane way.pass at.row at.col) limits inner) }
     ensures range { IsAtMost (2 * limits.half - 1) (plane_map samples.new) }
 {
     if inner {
@@ -138,7 +138,7 @@ pub fn filter_edges<P: EdgeSample>(
     requires range { IsAtMost (2 * limits.half - 1) (plane_map samples.old) }
     ensures area { samples.new.area ≡ samples.old.area }
     ensures map { plane_map samples.new ≡ fold with_edge (plane_map samples.old)
-        (side_edges shape.now way.plane way.pass at.row at.col limits edges.outer ++ middle_edges shape.now way.plane way.pass at.row at.col limits edges.inner) }
+        (side_edges shape.now (cell_at way.plane way.pass at.row at.col) limits edges.outer ++ middle_edges shape.now (cell_at way.plane way.pass at.row at.col) limits edges.inner) }
     ensures range { IsAtMost (2 * limits.half - 1) (plane_map samples.new) }
 {
     filter_side(samples, shape, way, at, limits, edges.outer);

@@ -3,7 +3,7 @@
 ghost use Rattle.std.specs.Prelude.{◌≡◌, ◌+◌, ℕ, List};
 ghost use Rattle.vp9_types.specs.Maps.{FrameMap};
 ghost use Rattle.block_plan.specs.declared.block.BlockInfo.{BlockInfo};
-ghost use Rattle.loop_edges.specs.FrameEdges.{with_row, filtered_before};
+ghost use Rattle.loop_edges.specs.Code.{with_row, filtered_before};
 ghost use Rattle.loop_edges.specs.declared.setting.EdgeSetting.{EdgeSetting};
 ghost use Rattle.loop_filter.specs.Laws.{LeavesRowsAbove, LeavesRowsBelow, ReadsNoRowAbove, ReadsItsRowsAlone, AreFinal, RowsFollow, BandsAreFinal};
 

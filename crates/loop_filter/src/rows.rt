@@ -10,7 +10,8 @@ ghost use Rattle.planes.specs.Planes.{plane_map};
 ghost use Rattle.planes.specs.Pictures.{FitsPlanes, HasSizes, IsInRange, samples_of};
 ghost use Rattle.block_plan.specs.declared.block.BlockInfo.{BlockInfo};
 ghost use Rattle.line_filter.specs.FilteredEdges.{with_edge};
-ghost use Rattle.loop_edges.specs.FrameEdges.{superblock_edges, row_edges, with_row, filtered_frame};
+ghost use Rattle.loop_edges.specs.Code.{with_row};
+ghost use Rattle.loop_edges.specs.FrameEdges.{superblock_edges, row_edges, filtered_frame};
 ghost use Rattle.loop_filter.specs.Code.{HasFilterRows, HoldsFilterRows, HasAreasOf, AllFit};
 ghost use Rattle.loop_filter.specs.FilterPlans.{IsAllPlanned, ArePlansOf};
 

@@ -49,8 +49,8 @@ use Rattle.line_filter.specs.declared.edge.Limits.{Limits}
 use Rattle.line_filter.specs.declared.edge.Pass.{Pass}
 use Rattle.line_filter.specs.declared.edge.Pass.TheVariants.{Vertical, Horizontal}
 use Rattle.line_filter.proofs.SmallLines.{edge_small}
-use Rattle.loop_edges.specs.Cells.{sub_x, sub_y, outer_edge, has_inner, setting_of}
-use Rattle.loop_edges.specs.FrameEdges.{side_edge, middle_edge, side_edges, middle_edges, both_edges, block_edges, edges_of, cell_edges, cells_of, cell_row, pass_edges, superblock_edges, row_edges, edges_before, filtered_before, filtered_frame}
+use Rattle.loop_edges.specs.Cells.{cell_at, sub_x, sub_y, outer_edge, has_inner, setting_of}
+use Rattle.loop_edges.specs.FrameEdges.{side_edge, middle_edge, side_edges, middle_edges, both_edges, block_edges, edges_of, cell_edges, cells_of, cell_row, pass_edges, superblock_edges, row_edges, frame_edges, filtered_frame}
 use Rattle.loop_edges.specs.FilterLevels.{filter_level, limits_of}
 use Rattle.loop_edges.specs.declared.setting.EdgeSetting.{EdgeSetting}
 use Rattle.frame_state.specs.FrameReading.{FrameRead, all_blocks, blocks_read}
@@ -143,16 +143,15 @@ one_keeps : (most : ℕ) (e : Edge) → 2 * e.limits.half - 1 ≡ most → Keep 
 one_keeps most e is m small = subst (λ (k : ℕ). IsAtMost k (with_edge m e)) is (edge_small e m (subst (λ (k : ℕ). IsAtMost k m) (sym is) small))
 
 side_keeps : (most : ℕ) (shape : Shape) (p : Plane) (pass : Pass) (r c : ℕ) (limits : Limits) (o : Option FilterWidth) → 2 * limits.half - 1 ≡ most
-    → Keep most (side_edges shape p pass r c limits o)
+    → Keep most (side_edges shape (cell_at p pass r c) limits o)
 side_keeps most shape p pass r c limits None is = none_keep most
-side_keeps most shape p Vertical r c limits (Some width) is = one_keeps most (side_edge shape p Vertical r c limits width) is
-side_keeps most shape p Horizontal r c limits (Some width) is = one_keeps most (side_edge shape p Horizontal r c limits width) is
+side_keeps most shape p pass r c limits (Some width) is = one_keeps most (side_edge shape (cell_at p pass r c) limits width) is
 
 middle_keeps : (most : ℕ) (shape : Shape) (p : Plane) (pass : Pass) (r c : ℕ) (limits : Limits) (inner : Bool) → 2 * limits.half - 1 ≡ most
-    → Keep most (middle_edges shape p pass r c limits inner)
+    → Keep most (middle_edges shape (cell_at p pass r c) limits inner)
 middle_keeps most shape p pass r c limits false is = none_keep most
-middle_keeps most shape p Vertical r c limits true is = one_keeps most (middle_edge shape p Vertical r c limits) is
-middle_keeps most shape p Horizontal r c limits true is = one_keeps most (middle_edge shape p Horizontal r c limits) is
+middle_keeps most shape p Vertical r c limits true is = one_keeps most (middle_edge shape (cell_at p Vertical r c) limits) is
+middle_keeps most shape p Horizontal r c limits true is = one_keeps most (middle_edge shape (cell_at p Horizontal r c) limits) is
 
 top_of : (depth : Depth) (sharpness level : ℕ) → 2 * (limits_of depth sharpness level).half - 1 ≡ greatest depth
 unfolding limits_of
@@ -163,27 +162,27 @@ top_of Twelve sharpness level = refl
 abbrev most_of : EdgeSetting → ℕ
 most_of f = greatest f.shape.depth
 
-block_keeps : (f : EdgeSetting) (p : Plane) (pass : Pass) (r c : ℕ) (b : BlockInfo) → Keep (most_of f) (block_edges f p pass r c b)
+block_keeps : (f : EdgeSetting) (p : Plane) (pass : Pass) (r c : ℕ) (b : BlockInfo) → Keep (most_of f) (block_edges f (cell_at p pass r c) b)
 unfolding block_edges both_edges
 block_keeps f p pass r c b =
     let limits = limits_of f.shape.depth f.filter.sharpness (filter_level f b) in
     let is : 2 * limits.half - 1 ≡ most_of f = top_of f.shape.depth f.filter.sharpness (filter_level f b) in
-    if_keep (most_of f) (nat_eq (filter_level f b) 0) (both_edges f.shape p pass r c b limits)
-    (both_keep (most_of f) (side_edges f.shape p pass r c limits (outer_edge f.shape p pass b r c)) (middle_edges f.shape p pass r c limits (has_inner f.shape p pass b r c))
-    (side_keeps (most_of f) f.shape p pass r c limits (outer_edge f.shape p pass b r c) is)
-    (middle_keeps (most_of f) f.shape p pass r c limits (has_inner f.shape p pass b r c) is))
+    if_keep (most_of f) (nat_eq (filter_level f b) 0) (both_edges f.shape (cell_at p pass r c) b limits)
+    (both_keep (most_of f) (side_edges f.shape (cell_at p pass r c) limits (outer_edge f.shape (cell_at p pass r c) b)) (middle_edges f.shape (cell_at p pass r c) limits (has_inner f.shape (cell_at p pass r c) b))
+    (side_keeps (most_of f) f.shape p pass r c limits (outer_edge f.shape (cell_at p pass r c) b) is)
+    (middle_keeps (most_of f) f.shape p pass r c limits (has_inner f.shape (cell_at p pass r c) b) is))
 
-found_keeps : (f : EdgeSetting) (p : Plane) (pass : Pass) (r c : ℕ) (o : Option BlockInfo) → Keep (most_of f) (edges_of f p pass r c o)
+found_keeps : (f : EdgeSetting) (p : Plane) (pass : Pass) (r c : ℕ) (o : Option BlockInfo) → Keep (most_of f) (edges_of f (cell_at p pass r c) o)
 found_keeps f p pass r c None = none_keep (most_of f)
 found_keeps f p pass r c (Some b) = block_keeps f p pass r c b
 
-cell_keeps : (f : EdgeSetting) (blocks : List BlockInfo) (p : Plane) (pass : Pass) (r c : ℕ) → Keep (most_of f) (cell_edges f blocks p pass r c)
+cell_keeps : (f : EdgeSetting) (blocks : List BlockInfo) (p : Plane) (pass : Pass) (r c : ℕ) → Keep (most_of f) (cell_edges f blocks (cell_at p pass r c))
 unfolding cell_edges
 cell_keeps f blocks p pass r c = found_keeps f p pass r c (covering blocks r c)
 
 cell_row_keeps : (f : EdgeSetting) (blocks : List BlockInfo) (p : Plane) (pass : Pass) (r : ℕ) (columns : List ℕ) → Keep (most_of f) (cell_row f blocks p pass r columns)
 unfolding cell_row
-cell_row_keeps f blocks p pass r columns = all_keep (most_of f) (cell_edges f blocks p pass r) (λ c. cell_keeps f blocks p pass r c) columns
+cell_row_keeps f blocks p pass r columns = all_keep (most_of f) (λ c. cell_edges f blocks (cell_at p pass r c)) (λ c. cell_keeps f blocks p pass r c) columns
 
 pass_keeps : (f : EdgeSetting) (blocks : List BlockInfo) (p : Plane) (pass : Pass) (sr sc : ℕ) → Keep (most_of f) (pass_edges f blocks p pass sr sc)
 unfolding pass_edges
@@ -202,20 +201,14 @@ row_keeps f blocks p sr =
     if_keep (most_of f) (nat_eq f.filter.level 0) (flat_map (superblock_edges f blocks p sr) (range_with_len 0 (superblocks_along (mi_cols f.shape))))
     (all_keep (most_of f) (superblock_edges f blocks p sr) (λ sc. superblock_keeps f blocks p sr sc) (range_with_len 0 (superblocks_along (mi_cols f.shape))))
 
-rows_keep : (f : EdgeSetting) (blocks : List BlockInfo) (p : Plane) (rows : ℕ) → Keep (most_of f) (edges_before f blocks p rows)
-unfolding edges_before
-rows_keep f blocks p rows = all_keep (most_of f) (row_edges f blocks p) (λ sr. row_keeps f blocks p sr) (range_with_len 0 rows)
-
--- with the edges of so many rows of superblocks filtered
-pub filtered_before_small : (f : EdgeSetting) (blocks : List BlockInfo) (m : FrameMap) (rows : ℕ) (p : Plane) → IsAtMost (greatest f.shape.depth) (m p)
-    → IsAtMost (greatest f.shape.depth) (filtered_before f blocks m rows p)
-unfolding filtered_before
-filtered_before_small f blocks m rows p small = rows_keep f blocks p rows (m p) small
+frame_keeps : (f : EdgeSetting) (blocks : List BlockInfo) (p : Plane) → Keep (most_of f) (frame_edges f blocks p)
+unfolding frame_edges
+frame_keeps f blocks p = all_keep (most_of f) (row_edges f blocks p) (λ sr. row_keeps f blocks p sr) (range_with_len 0 (superblocks_along (mi_rows f.shape)))
 
 pub filtered_small : (f : EdgeSetting) (blocks : List BlockInfo) (m : FrameMap) (p : Plane) → IsAtMost (greatest f.shape.depth) (m p)
     → IsAtMost (greatest f.shape.depth) (filtered_frame f blocks m p)
 unfolding filtered_frame
-filtered_small f blocks m p small = filtered_before_small f blocks m (superblocks_along (mi_rows f.shape)) p small
+filtered_small f blocks m p small = frame_keeps f blocks p (m p) small
 
 ---- Frames of a file ----
 

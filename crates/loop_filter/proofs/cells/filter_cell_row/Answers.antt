@@ -4,7 +4,7 @@ use Rattle.planes.specs.Planes.{plane_map}
 use Rattle.line_filter.specs.FilteredEdges.{with_edge}
 use Rattle.vp9_types.specs.Shapes.{mi_cols}
 use Rattle.loop_filter.specs.FilterPlans.{has_cell}
-use Rattle.loop_edges.specs.Cells.{sub_x}
+use Rattle.loop_edges.specs.Cells.{cell_at, sub_x}
 use Rattle.loop_edges.specs.FrameEdges.{cell_row, cell_edges, step_of, cells_along}
 use Rattle.loop_filter.proofs.Walks.{walk_more, within_by}
 use Rattle.loop_filter.proofs.PlannedEdges.{planned_is, has_its_cell}
@@ -26,6 +26,6 @@ loop-j-preserved g c = let a = c.args in let i = c.loop-j.invariant in
     let here : has_cell a.f.now.setting.shape a.way.plane a.row (8 * a.sc + k) ≡ true = rw at (has_its_cell a.f.now.setting.shape a.way.plane a.row a.sc c.loop-j.j c.requires.even) in record {
       area = c.filter_cell.ensures.area ∙ i.area;
       range = c.filter_cell.ensures.range;
-      map = λ blocks are. walk_more (cell_edges a.f.now.setting blocks a.way.plane a.way.pass a.row) (λ (j : ℕ). 8 * a.sc + step_of sub * j) (plane_map a.samples.now) _ _ c.loop-j.j (8 * a.sc + k) at
+      map = λ blocks are. walk_more (λ c. cell_edges a.f.now.setting blocks (cell_at a.way.plane a.way.pass a.row c)) (λ (j : ℕ). 8 * a.sc + step_of sub * j) (plane_map a.samples.now) _ _ c.loop-j.j (8 * a.sc + k) at
           (i.map blocks are) (c.filter_cell.ensures.map ∙ ap (fold with_edge (plane_map c.loop-j.samples)) (planned_is a.f.now.setting blocks a.way.plane a.way.pass a.row (8 * a.sc + k) _ here (are k low)));
     }

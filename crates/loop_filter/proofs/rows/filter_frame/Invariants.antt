@@ -1,6 +1,6 @@
 use Rattle.std.proofs.Common.{◌≡◌}
 use Rattle.planes.specs.Pictures.{HasSizes, IsInRange, samples_of}
-use Rattle.loop_edges.specs.FrameEdges.{filtered_before}
+use Rattle.loop_edges.specs.Code.{filtered_before}
 use Rattle.loop_filter.proofs.rows.filter_frame.Given as goal
 
 abbrev pub invariant-loop-sr : goal.invariant-loop-sr
