@@ -1,62 +1,93 @@
--- How lists follow their counts, one probability after another.
-use Rattle.std.proofs.Common.{◌≡◌, ◌<◌, ◌+◌, ℕ, zero, suc, true, false, refl, sym, ◌∙◌, ap, arith, List, [], ◌∷◌, ◌++◌, length, get_or, take, set}
+-- How lists follow their counts, place by place.
+use Rattle.std.proofs.Common.{◌≡◌, ◌<◌, ◌+◌, ◌-◌, ℕ, inl, inr, zero, suc, true, false, refl, sym, ◌∙◌, ap, arith, List, [], ◌∷◌, ◌++◌, length, map, get_or, take, set}
 use Rattle.std.specs.Prelude.{Option, Some, None}
-use Rattle.std.proofs.lemmas.List.{length-take-le, take_more_set}
-use Rattle.std.proofs.lemmas.Grind.{take_at_read}
+use Rattle.std.specs.List.{range_with_len}
+use Rattle.std.proofs.lemmas.Bool.{cases_lt}
+use Rattle.std.proofs.lemmas.List.{length-append, get_or_append_left, get_or-append_right, ext_get_or, take_more_set}
+use Rattle.std.proofs.lemmas.List.FromFn.{length-map-range_with_len, get_or-map-range_with_len, map-range_with_len_more}
 use Rattle.prob_contexts.specs.declared.kind.ProbKind.{ProbKind}
 use Rattle.backward_adapt.specs.declared.merge.Rate.{Rate}
 use Rattle.backward_adapt.specs.declared.merge.Rate.TheVariants.{Coefs, CoefsAfterKey, Others}
-use Rattle.backward_adapt.specs.Merge.{counted_prob, update_factor, merge_prob, merge_probs, times}
-use Rattle.backward_adapt.specs.Adaptation.{adapted_at}
-use Rattle.backward_adapt.specs.Laws.{adapted_prob}
+use Rattle.backward_adapt.specs.Merge.{counted_prob, update_factor, merge_prob, times}
+use Rattle.backward_adapt.specs.Adaptation.{adapted_prob}
+use Rattle.backward_adapt.specs.Laws.{merge_probs}
 
-abbrev one_at : Rate → List ℕ → ProbKind → ℕ → ℕ → ℕ
+abbrev pub one_at : Rate → List ℕ → ProbKind → ℕ → ℕ → ℕ
 one_at rate counts kind place before = merge_prob rate before (times counts kind place false) (times counts kind place true)
 
-joined : (rate : Rate) (counts : List ℕ) (kind : ProbKind) (place : ℕ) (xs ys : List ℕ)
-    → merge_probs rate counts kind place (xs ++ ys) ≡ merge_probs rate counts kind place xs ++ merge_probs rate counts kind (place + length xs) ys
-unfolding merge_probs
-joined rate counts kind place [] ys = let e : place ≡ place + 0 = omega arith in ap (λ p. merge_probs rate counts kind p ys) e
-joined rate counts kind place (x ∷ xs) ys =
-    let e : place + 1 + length xs ≡ place + suc (length xs) = omega arith in
-    ap (λ l. one_at rate counts kind place x ∷ l)
-    (joined rate counts kind (place + 1) xs ys ∙ ap (λ p. merge_probs rate counts kind (place + 1) xs ++ merge_probs rate counts kind p ys) e)
+-- by a rate, as `adapted_from` is by a frame
+abbrev pub adapted_by : Option Rate → List ℕ → ProbKind → ℕ → List ℕ → List ℕ → List ℕ
+adapted_by rate counts kind from saved forward =
+    map (λ k. adapted_prob rate counts kind (from + k) (get_or saved k 0) (get_or forward k 0)) (range_with_len 0 (length saved))
 
-one_more : (rate : Rate) (counts : List ℕ) (kind : ProbKind) (place : ℕ) (xs : List ℕ) (x : ℕ)
-    → merge_probs rate counts kind place (xs ++ x ∷ []) ≡ merge_probs rate counts kind place xs ++ one_at rate counts kind (place + length xs) x ∷ []
-unfolding merge_probs
-one_more rate counts kind place xs x = joined rate counts kind place xs (x ∷ [])
+-- the first ones of a list that is merged
+abbrev pub first_merged : Rate → List ℕ → ProbKind → ℕ → List ℕ → ℕ → List ℕ
+first_merged rate counts kind from saved n = map (λ k. one_at rate counts kind (from + k) (get_or saved k 0)) (range_with_len 0 n)
 
 -- a loop that merges in place: one more probability
-pub adapt_step : (rate : Rate) (counts : List ℕ) (kind : ProbKind) (from : ℕ) (saved probs : List ℕ) (i place y : ℕ)
-    → i < length probs → length probs ≡ length saved → place ≡ from + i
-    → take i probs ≡ merge_probs rate counts kind from (take i saved)
-    → y ≡ merge_prob rate (get_or saved i 0) (times counts kind place false) (times counts kind place true)
-    → take (i + 1) (set probs i y) ≡ merge_probs rate counts kind from (take (i + 1) saved)
-adapt_step rate counts kind from saved probs i place y low same at before value =
-    let grown : take (i + 1) saved ≡ take i saved ++ get_or saved i 0 ∷ [] = (take_at_read saved i 0 (omega arith)).1 in
-    let sizes : length (take i saved) ≡ i = length-take-le i saved (omega arith) in
-    rw (take_more_set probs i y low, before, grown, one_more rate counts kind from (take i saved) (get_or saved i 0), sizes, value, at) refl
+pub adapt_step : (rate : Rate) (counts : List ℕ) (kind : ProbKind) (from : ℕ) (saved probs : List ℕ) (i y : ℕ)
+    → i < length probs → take i probs ≡ first_merged rate counts kind from saved i → y ≡ one_at rate counts kind (from + i) (get_or saved i 0)
+    → take (i + 1) (set probs i y) ≡ first_merged rate counts kind from saved (i + 1)
+adapt_step rate counts kind from saved probs i y low before value =
+    rw (take_more_set probs i y low, before, value) (sym (map-range_with_len_more (λ k. one_at rate counts kind (from + k) (get_or saved k 0)) 0 i i (omega arith)))
 
--- a probability of a list
-merged_at : (rate : Rate) (counts : List ℕ) (kind : ProbKind) (from : ℕ) (saved : List ℕ) (k : ℕ) → k < length saved
-    → get_or (merge_probs rate counts kind from saved) k 0 ≡ one_at rate counts kind (from + k) (get_or saved k 0)
+-- a list that isn't adapted
+pub all_kept : (rate : Option Rate) (counts : List ℕ) (kind : ProbKind) (from : ℕ) (saved forward : List ℕ)
+    → rate ≡ None → length forward ≡ length saved → forward ≡ adapted_by rate counts kind from saved forward
+all_kept rate counts kind from saved forward is same =
+    let f : ℕ → ℕ = λ k. get_or forward k 0 in
+    rw is (ext_get_or 0 forward (map f (range_with_len 0 (length saved))) (same ∙ sym (length-map-range_with_len f 0 (length saved)))
+    (λ k low. sym (get_or-map-range_with_len f 0 (length saved) k k 0 (omega arith) (omega arith))))
+
+-- a list that has at each place, from one of its kind on, what a rule makes of another list's number there
+pub record IsMade (rule : ℕ → ℕ → ℕ) (from : ℕ) (old new : List ℕ) : Type 0 where
+  pub size : length new ≡ length old
+  pub each : (k : ℕ) → k < length old → get_or new k 0 ≡ rule (from + k) (get_or old k 0)
+
+pub made : (rule : ℕ → ℕ → ℕ) (from : ℕ) (old : List ℕ) → IsMade rule from old (map (λ k. rule (from + k) (get_or old k 0)) (range_with_len 0 (length old)))
+made rule from old =
+    let f : ℕ → ℕ = λ k. rule (from + k) (get_or old k 0) in
+    record {
+      size = length-map-range_with_len f 0 (length old);
+      each = λ k low. get_or-map-range_with_len f 0 (length old) k k 0 low (omega arith);
+    }
+
+pub made_joined : (rule : ℕ → ℕ → ℕ) (from next : ℕ) (xs ys us vs : List ℕ) → from + length xs ≡ next → IsMade rule from xs us → IsMade rule next ys vs
+    → IsMade rule from (xs ++ ys) (us ++ vs)
+made_joined rule from next xs ys us vs e left right = record {
+  size = length-append us vs ∙ rw (left.size, right.size) (sym (length-append xs ys));
+  each = λ k low. elim (cases_lt k (length xs)) [
+    | inl inside ↦
+        let there : k < length us = omega (arith, left.size) in
+        rw (get_or_append_left xs ys 0 k inside, get_or_append_left us vs 0 k there) (left.each k inside)
+    | inr past ↦
+        let place : next + (k - length xs) ≡ from + k = omega arith in
+        let low_in : k - length xs < length ys = omega (arith, length-append xs ys) in
+        rw (get_or-append_right xs ys (length xs) k 0 refl past, get_or-append_right us vs (length xs) k 0 left.size past)
+        (right.each (k - length xs) low_in ∙ ap (λ p. rule p (get_or ys (k - length xs) 0)) place)
+  ];
+}
+
+-- merging one after another
+in_order : (rate : Rate) (counts : List ℕ) (kind : ProbKind) (from : ℕ) (saved : List ℕ) → IsMade (one_at rate counts kind) from saved (merge_probs rate counts kind from saved)
 unfolding merge_probs
-merged_at rate counts kind from [] k low = let no : ⊥ = omega arith in absurd no
-merged_at rate counts kind from (x ∷ xs) zero low = let e : from ≡ from + 0 = omega arith in ap (λ p. one_at rate counts kind p x) e
-merged_at rate counts kind from (x ∷ xs) (suc k) low =
-    let e : from + 1 + k ≡ from + suc k = omega arith in
-    merged_at rate counts kind (from + 1) xs k (omega arith) ∙ ap (λ p. one_at rate counts kind p (get_or xs k 0)) e
+in_order rate counts kind from [] = record { size = refl; each = λ k low. let no : ⊥ = omega arith in absurd no }
+in_order rate counts kind from (x ∷ xs) =
+    made_joined (one_at rate counts kind) from (from + 1) (x ∷ []) xs (one_at rate counts kind from x ∷ []) (merge_probs rate counts kind (from + 1) xs)
+    refl (record { size = refl; each = only rate counts kind from x }) (in_order rate counts kind (from + 1) xs)
+  where
+    only : (rate : Rate) (counts : List ℕ) (kind : ProbKind) (from x k : ℕ) → k < 1
+        → get_or (one_at rate counts kind from x ∷ []) k 0 ≡ one_at rate counts kind (from + k) (get_or (x ∷ []) k 0)
+    only rate counts kind from x zero low = let e : from ≡ from + 0 = omega arith in ap (λ p. one_at rate counts kind p x) e
+    only rate counts kind from x (suc k) low = let no : ⊥ = omega arith in absurd no
 
-pub adapted_at_place : (rate : Option Rate) (counts : List ℕ) (kind : ProbKind) (from : ℕ) (saved forward : List ℕ) (k : ℕ) → k < length saved
-    → get_or (adapted_at rate counts kind from saved forward) k 0 ≡ adapted_prob rate counts kind (from + k) (get_or saved k 0) (get_or forward k 0)
-adapted_at_place (Some rate) counts kind from saved forward k low = merged_at rate counts kind from saved k low
-adapted_at_place None counts kind from saved forward k low = refl
-
-pub adapted_at_joined : (rate : Option Rate) (counts : List ℕ) (kind : ProbKind) (from next : ℕ) (xs ys fs gs : List ℕ) → from + length xs ≡ next
-    → adapted_at rate counts kind from xs fs ++ adapted_at rate counts kind next ys gs ≡ adapted_at rate counts kind from (xs ++ ys) (fs ++ gs)
-adapted_at_joined (Some rate) counts kind from next xs ys fs gs e = rw (sym e) (sym (joined rate counts kind from xs ys))
-adapted_at_joined None counts kind from next xs ys fs gs e = refl
+pub merged_in_order : (rate : Option Rate) (r : Rate) (counts : List ℕ) (kind : ProbKind) (from : ℕ) (saved forward : List ℕ)
+    → rate ≡ Some r → adapted_by rate counts kind from saved forward ≡ merge_probs r counts kind from saved
+merged_in_order rate r counts kind from saved forward is =
+    let whole : IsMade (one_at r counts kind) from saved (first_merged r counts kind from saved (length saved)) = made (one_at r counts kind) from saved in
+    let walk = in_order r counts kind from saved in
+    rw is (ext_get_or 0 (first_merged r counts kind from saved (length saved)) (merge_probs r counts kind from saved) (whole.size ∙ sym walk.size)
+    (λ k low. let low_in : k < length saved = omega (arith, whole.size) in whole.each k low_in ∙ sym (walk.each k low_in)))
 
 -- what wasn't counted stays
 unchanged : (rate : Rate) (before : ℕ) → merge_prob rate before 0 0 ≡ before

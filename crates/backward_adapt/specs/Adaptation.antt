@@ -1,6 +1,7 @@
 -- Adaptation (8.4.3 and 8.4.4 of the standard): the contexts that a frame leaves, from those saved before it, those that it
 -- was decoded with, and its counts.
-use Rattle.std.specs.Prelude.{ℕ, ◌*◌, List, Option, Some, None, if◌then◌else◌}
+use Rattle.std.specs.Prelude.{ℕ, ◌+◌, ◌*◌, true, false, List, Option, Some, None, length, map, slice_index, if◌then◌else◌}
+use Rattle.std.specs.List.{range_with_len}
 use Rattle.prob_contexts.specs.declared.kind.CountedBool.{CountedBool}
 use Rattle.prob_contexts.specs.declared.kind.ProbKind.{ProbKind}
 use Rattle.prob_contexts.specs.declared.kind.ProbKind.TheVariants as kind
@@ -10,7 +11,7 @@ use Rattle.backward_adapt.specs.declared.merge.Rate.{Rate}
 use Rattle.backward_adapt.specs.declared.merge.Rate.TheVariants.{Coefs, CoefsAfterKey, Others}
 use Rattle.backward_adapt.specs.declared.kind.AdaptKind.{AdaptKind}
 use Rattle.backward_adapt.specs.declared.kind.AdaptKind.TheVariants.{Intra, Inter}
-use Rattle.backward_adapt.specs.Merge.{merge_probs}
+use Rattle.backward_adapt.specs.Merge.{merge_prob, times}
 
 -- which kinds of probabilities a frame adapts, and at what rate: coefficients on every frame, and faster on an inter frame
 -- after a key frame (8.4.3); all others on inter frames, but the bits of high precision only where vectors have it (8.4.4)
@@ -22,14 +23,16 @@ rate_of (Inter frame) kind.VectorClass0High = if frame.high_precision then Some 
 rate_of (Inter frame) kind.VectorHigh = if frame.high_precision then Some Others else None
 rate_of (Inter frame) _ = Some Others
 
--- a list of probabilities that is adapted at a rate is the saved one, merged, and any other stays as in the frame
-abbrev pub adapted_at : Option Rate → List ℕ → ProbKind → ℕ → List ℕ → List ℕ → List ℕ
-adapted_at (Some rate) counts kind place saved forward = merge_probs rate counts kind place saved
-adapted_at None counts kind place saved forward = forward
+-- the probability at a place: one that is adapted at a rate is the saved one, merged with its node's counts (merge_probs), and
+-- any other stays as in the frame
+abbrev pub adapted_prob : Option Rate → List ℕ → ProbKind → ℕ → ℕ → ℕ → ℕ
+adapted_prob (Some rate) counts kind place saved forward = merge_prob rate saved (times counts kind place false) (times counts kind place true)
+adapted_prob None counts kind place saved forward = forward
 
--- probabilities of a kind, from a place of it on
+-- probabilities of a kind, from a place of it on, each by itself
 unfoldable pub adapted_from : AdaptKind → List ℕ → ProbKind → ℕ → List ℕ → List ℕ → List ℕ
-adapted_from frame counts kind place saved forward = adapted_at (rate_of frame kind) counts kind place saved forward
+adapted_from frame counts kind from saved forward =
+    map (λ k. adapted_prob (rate_of frame kind) counts kind (from + k) (slice_index saved k) (slice_index forward k)) (range_with_len 0 (length saved))
 
 -- all probabilities of a kind
 abbrev pub adapted_list : AdaptKind → List ℕ → ProbKind → List ℕ → List ℕ → List ℕ

@@ -1,5 +1,5 @@
 -- What laws of adaptation speak of: probabilities by kind and place.
-use Rattle.std.specs.Prelude.{◌≡◌, ℕ, List, ◌++◌, Option, Some, None, true, false, length, slice_index}
+use Rattle.std.specs.Prelude.{◌≡◌, ℕ, ◌+◌, List, [], ◌∷◌, ◌++◌, true, false, length, slice_index}
 use Rattle.prob_contexts.specs.declared.kind.ProbKind.{ProbKind}
 use Rattle.prob_contexts.specs.declared.kind.ProbKind.TheVariants as kind
 use Rattle.prob_contexts.specs.ProbLists.{ContextLists}
@@ -42,7 +42,8 @@ pub record HasCoefSizes (c : ContextLists) : Type 0 where
 abbrev pub prob_at : ContextLists → ProbKind → ℕ → ℕ
 prob_at c kind place = slice_index (list_of c kind) place
 
--- the probability at a place: the saved one, merged with its node's counts, or that of the frame
-abbrev pub adapted_prob : Option Rate → List ℕ → ProbKind → ℕ → ℕ → ℕ → ℕ
-adapted_prob (Some rate) counts kind place saved forward = merge_prob rate saved (times counts kind place false) (times counts kind place true)
-adapted_prob None counts kind place saved forward = forward
+-- merge_probs as a walk: one probability after another, each by the counts of the next place of its kind
+unfoldable pub merge_probs : Rate → List ℕ → ProbKind → ℕ → List ℕ → List ℕ
+merge_probs rate counts kind place [] = []
+merge_probs rate counts kind place (before ∷ rest) =
+    merge_prob rate before (times counts kind place false) (times counts kind place true) ∷ merge_probs rate counts kind (place + 1) rest

@@ -1,5 +1,5 @@
--- How probabilities follow what was counted at their nodes (8.4.2 of the standard: merge_prob and merge_probs).
-use Rattle.std.specs.Prelude.{ℕ, ◌+◌, ◌-◌, ◌*◌, ◌/◌, Bool, true, false, List, [], ◌∷◌, min, max, nat_eq, if◌then◌else◌}
+-- How a probability follows what was counted at its node (8.4.2 of the standard: merge_prob).
+use Rattle.std.specs.Prelude.{ℕ, ◌+◌, ◌-◌, ◌*◌, ◌/◌, Bool, List, min, max, nat_eq, if◌then◌else◌}
 use Rattle.prob_contexts.specs.declared.kind.ProbKind.{ProbKind}
 use Rattle.prob_contexts.specs.Counted.{counter_of}
 use Rattle.backward_adapt.specs.declared.merge.Rate.{Rate}
@@ -36,9 +36,3 @@ merge_prob rate before zeros ones =
 -- how often the node at a place of its kind was left by a bool
 abbrev pub times : List ℕ → ProbKind → ℕ → Bool → ℕ
 times counts kind place one = counter_of counts (record { kind = kind; place = place; one = one })
-
--- merge_probs: each probability of a kind, from a place of it on, by the counts of its node
-unfoldable pub merge_probs : Rate → List ℕ → ProbKind → ℕ → List ℕ → List ℕ
-merge_probs rate counts kind place [] = []
-merge_probs rate counts kind place (before ∷ rest) =
-    merge_prob rate before (times counts kind place false) (times counts kind place true) ∷ merge_probs rate counts kind (place + 1) rest

@@ -1,15 +1,16 @@
 //! Laws of the definitions, as contracts of functions that do nothing.
 
-ghost use Rattle.std.specs.Prelude.{◌≡◌, ◌<◌, ◌+◌, ◌^◌, ℕ, true, false, List, ◌++◌, length, count_by};
+ghost use Rattle.std.specs.Prelude.{◌≡◌, ◌<◌, ◌+◌, ◌^◌, ℕ, true, false, Some, None, List, ◌++◌, length, count_by};
 ghost use Rattle.std.specs.List.{AllByRecursion};
 ghost use Rattle.prob_contexts.specs.declared.kind.CountedBool.{CountedBool};
 ghost use Rattle.prob_contexts.specs.declared.kind.ProbKind.{ProbKind};
 ghost use Rattle.prob_contexts.specs.Counted.{IsCounted, no_counts, counts_after, joined_counts, is_same};
 ghost use Rattle.prob_contexts.specs.ProbLists.{ContextLists, lists_of};
 ghost use Rattle.backward_adapt.specs.declared.kind.AdaptKind.{AdaptKind};
+ghost use Rattle.backward_adapt.specs.declared.merge.Rate.{Rate};
 ghost use Rattle.backward_adapt.specs.Merge.{times};
-ghost use Rattle.backward_adapt.specs.Adaptation.{rate_of, adapted_contexts, adaptation};
-ghost use Rattle.backward_adapt.specs.Laws.{HasCoefSizes, list_of, prob_at, adapted_prob};
+ghost use Rattle.backward_adapt.specs.Adaptation.{rate_of, adapted_prob, adapted_from, adapted_contexts, adaptation};
+ghost use Rattle.backward_adapt.specs.Laws.{HasCoefSizes, list_of, prob_at, merge_probs};
 
 use prob_contexts::Contexts;
 
@@ -25,6 +26,16 @@ pub fn each_probability_is_adapted_alone()
         times counts kind place false + times counts kind place true ≡ 0 →
         prob_at forward kind place ≡ prob_at saved kind place →
         prob_at (adapted_contexts frame counts saved forward) kind place ≡ prob_at forward kind place }
+{}
+
+/// List by list: what a frame adapts is merged one probability after another, and any other list is that of the frame.
+pub fn a_list_is_adapted_in_order()
+    ensures merged { (frame : AdaptKind) (counts : List ℕ) (kind : ProbKind) (place : ℕ) (saved forward : List ℕ) (rate : Rate) →
+        rate_of frame kind ≡ Some rate →
+        adapted_from frame counts kind place saved forward ≡ merge_probs rate counts kind place saved }
+    ensures kept { (frame : AdaptKind) (counts : List ℕ) (kind : ProbKind) (place : ℕ) (saved forward : List ℕ) →
+        rate_of frame kind ≡ None → length forward ≡ length saved →
+        adapted_from frame counts kind place saved forward ≡ forward }
 {}
 
 /// Adaptation is by how often the bools that were counted left each node, if they are fewer than 2^64; and the counts of the

@@ -4,7 +4,6 @@ ghost use Rattle.std.specs.Prelude.{◌≡◌, ◌<◌, ◌≤◌, ◌^◌, [], 
 ghost use Rattle.std.specs.List.{All};
 ghost use Rattle.counting_reader.specs.Code.{Reads, ReadsAway};
 ghost use Rattle.vp9_tables.specs.Scans.{area};
-ghost use Rattle.vp9_types.specs.declared.block.TxSize.TheVariants as size;
 ghost use Rattle.coef_tokens.specs.Places.{Tokens, block_tokens};
 ghost use Rattle.coef_tokens.specs.Code.{tables_of, HoldsLevels};
 
@@ -14,8 +13,10 @@ use bool_decoder::BoolDecoder;
 use counting_reader::CountingReader;
 use vp9_types::TxSize;
 
+/// Reads the tokens of a block whose places are known before the program runs, so that its classes stand in an array of
+/// their number.
 #[inline(always)]
-fn read_4x4<const COUNTS: bool>(
+fn read_by<const COUNTS: bool, const PLACES: usize>(
     decoder: &mut BoolDecoder,
     reader: &mut CountingReader<COUNTS>,
     tables: &TokenTables,
@@ -23,82 +24,16 @@ fn read_4x4<const COUNTS: bool>(
     levels: &mut [i32],
 ) -> u32
     requires first { first ≤ 2 }
-    requires tx { tables.now.tx ≡ size.T4x4 }
-    requires long { length levels.old ≡ 16 }
+    requires places { PLACES ≡ area tables.now.tx }
+    requires long { length levels.old ≡ PLACES }
     requires clear { HoldsLevels levels.old [] }
     ensures read { (p : Tokens) × ReadsAway (block_tokens (tables_of tables.now) first) reader.old decoder.old p reader.new decoder.new
         × (result ≡ p.count) × HoldsLevels levels.new p.reads }
-    ensures most { result ≤ 16 }
+    ensures most { result ≤ PLACES }
     ensures none { result ≡ 0 → levels.new ≡ levels.old }
     ensures small { All (λ level. unsigned_abs level < 2 ^ 19) levels.new }
 {
-    let mut cache = [0; 16];
-    read_places(decoder, reader, tables, first, &mut cache, levels)
-}
-
-#[inline(always)]
-fn read_8x8<const COUNTS: bool>(
-    decoder: &mut BoolDecoder,
-    reader: &mut CountingReader<COUNTS>,
-    tables: &TokenTables,
-    first: u8,
-    levels: &mut [i32],
-) -> u32
-    requires first { first ≤ 2 }
-    requires tx { tables.now.tx ≡ size.T8x8 }
-    requires long { length levels.old ≡ 64 }
-    requires clear { HoldsLevels levels.old [] }
-    ensures read { (p : Tokens) × ReadsAway (block_tokens (tables_of tables.now) first) reader.old decoder.old p reader.new decoder.new
-        × (result ≡ p.count) × HoldsLevels levels.new p.reads }
-    ensures most { result ≤ 64 }
-    ensures none { result ≡ 0 → levels.new ≡ levels.old }
-    ensures small { All (λ level. unsigned_abs level < 2 ^ 19) levels.new }
-{
-    let mut cache = [0; 64];
-    read_places(decoder, reader, tables, first, &mut cache, levels)
-}
-
-#[inline(always)]
-fn read_16x16<const COUNTS: bool>(
-    decoder: &mut BoolDecoder,
-    reader: &mut CountingReader<COUNTS>,
-    tables: &TokenTables,
-    first: u8,
-    levels: &mut [i32],
-) -> u32
-    requires first { first ≤ 2 }
-    requires tx { tables.now.tx ≡ size.T16x16 }
-    requires long { length levels.old ≡ 256 }
-    requires clear { HoldsLevels levels.old [] }
-    ensures read { (p : Tokens) × ReadsAway (block_tokens (tables_of tables.now) first) reader.old decoder.old p reader.new decoder.new
-        × (result ≡ p.count) × HoldsLevels levels.new p.reads }
-    ensures most { result ≤ 256 }
-    ensures none { result ≡ 0 → levels.new ≡ levels.old }
-    ensures small { All (λ level. unsigned_abs level < 2 ^ 19) levels.new }
-{
-    let mut cache = [0; 256];
-    read_places(decoder, reader, tables, first, &mut cache, levels)
-}
-
-#[inline(always)]
-fn read_32x32<const COUNTS: bool>(
-    decoder: &mut BoolDecoder,
-    reader: &mut CountingReader<COUNTS>,
-    tables: &TokenTables,
-    first: u8,
-    levels: &mut [i32],
-) -> u32
-    requires first { first ≤ 2 }
-    requires tx { tables.now.tx ≡ size.T32x32 }
-    requires long { length levels.old ≡ 1024 }
-    requires clear { HoldsLevels levels.old [] }
-    ensures read { (p : Tokens) × ReadsAway (block_tokens (tables_of tables.now) first) reader.old decoder.old p reader.new decoder.new
-        × (result ≡ p.count) × HoldsLevels levels.new p.reads }
-    ensures most { result ≤ 1024 }
-    ensures none { result ≡ 0 → levels.new ≡ levels.old }
-    ensures small { All (λ level. unsigned_abs level < 2 ^ 19) levels.new }
-{
-    let mut cache = [0; 1024];
+    let mut cache = [0; PLACES];
     read_places(decoder, reader, tables, first, &mut cache, levels)
 }
 
@@ -124,10 +59,10 @@ pub fn tokens<const COUNTS: bool>(
     // A copy, since behind the reference each bool would be stored.
     let mut decoder = reader.decoder();
     let count = match tables.tx {
-        TxSize::T4x4 => read_4x4(&mut decoder, reader, tables, first, levels),
-        TxSize::T8x8 => read_8x8(&mut decoder, reader, tables, first, levels),
-        TxSize::T16x16 => read_16x16(&mut decoder, reader, tables, first, levels),
-        TxSize::T32x32 => read_32x32(&mut decoder, reader, tables, first, levels),
+        TxSize::T4x4 => read_by::<COUNTS, 16>(&mut decoder, reader, tables, first, levels),
+        TxSize::T8x8 => read_by::<COUNTS, 64>(&mut decoder, reader, tables, first, levels),
+        TxSize::T16x16 => read_by::<COUNTS, 256>(&mut decoder, reader, tables, first, levels),
+        TxSize::T32x32 => read_by::<COUNTS, 1024>(&mut decoder, reader, tables, first, levels),
     };
     reader.go_on(decoder);
     count

@@ -1,6 +1,7 @@
 -- What the code keeps and its calls answer.
 use Rattle.std.specs.Prelude.{◌≡◌, ℕ, ◌<◌, ◌≤◌, Bool, true, List, Option, IfSome}
 use Rattle.std.specs.List.{All}
+use Rattle.std.specs.Option.{option_copied}
 use Rattle.vp9_tables.specs.BlockTables.{greatest_of}
 use Rattle.vp9_tables.specs.Numbers.{tx_number}
 use Rattle.frame_headers.specs.References.{is_in_range}
@@ -9,7 +10,7 @@ use Rattle.frame_headers.specs.declared.header.FrameSize.{FrameSize}
 use Rattle.frame_headers.specs.declared.header.Header.{Header}
 use Rattle.frame_headers.specs.declared.header.InterFields.{InterFields}
 use Rattle.frame_headers.specs.declared.header.References as header
-use Rattle.prob_contexts.specs.ProbLists.{lists_of}
+use Rattle.prob_contexts.specs.ProbLists.{lists_of, vector_lists}
 use Rattle.block_geometry.specs.Parts.{part_inside}
 use Rattle.block_plan.specs.declared.block.BlockAt.{BlockAt}
 use Rattle.block_plan.specs.declared.block.BlockInfo.{BlockInfo}
@@ -22,10 +23,11 @@ use Rattle.mv_prediction.specs.SubBlocks.{vector_at}
 use Rattle.block_plan.specs.SegmentMaps.{SegmentIds, id_map, least_id}
 use Rattle.inter_contexts.specs.BlockReferences.{reference_in, second_in_range}
 use Rattle.inter_modes.specs.ModeInfo.{InterFrame}
-use Rattle.inter_modes.specs.BlockVectors.{row_at}
+use Rattle.inter_modes.specs.BlockVectors.{Sources, row_at}
 use Rattle.inter_modes.specs.declared.frame_blocks.Frame.{Frame}
 use Rattle.inter_modes.specs.declared.quarters.Quarter.{Quarter}
 use Rattle.inter_modes.specs.declared.quarters.QuartersBefore.{QuartersBefore}
+use Rattle.inter_modes.specs.declared.vectors.Sources as held
 
 -- the least id of a map over a block
 abbrev pub least_of : SegmentIds → BlockAt → ℕ
@@ -49,6 +51,16 @@ frame_in f = record {
   fields = f.fields.now;
   modes = f.setting.now.modes;
   contexts = lists_of f.setting.now.contexts;
+}
+
+-- what a block's vectors are read by, as the code holds it
+abbrev pub sources_in : {N Q : Type 0} → (N → List BlockInfo) → (Q → List BlockInfo) → held.Sources N Q → Sources
+sources_in blocks blocks_before src = record {
+  lists = vector_lists src.probs.now;
+  allowed = src.high_precision;
+  earlier = blocks src.earlier.now;
+  before = blocks_of blocks_before (option_copied src.before);
+  search = src.search;
 }
 
 -- a block that is read at a place: the next ones may stand beside it

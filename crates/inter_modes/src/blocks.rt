@@ -4,11 +4,11 @@ ghost use Rattle.std.specs.Prelude.{◌≡◌, ◌<◌, ◌≤◌, ℕ, [], slic
 ghost use Rattle.mv_prediction.specs.Vectors.{no_vector, IsSmallVector};
 ghost use Rattle.std.specs.Option.{option_copied};
 ghost use Rattle.block_plan.specs.declared.block.Prediction.TheVariants.{Inter};
-ghost use Rattle.prob_contexts.specs.ProbLists.{InterLists, vector_lists, inter_lists};
+ghost use Rattle.prob_contexts.specs.ProbLists.{InterLists, inter_lists};
 ghost use Rattle.counting_reader.specs.Code.{Reads};
-ghost use Rattle.mv_prediction.specs.Code.{AreSmall, PredictsSmall, IsSite, blocks_of};
+ghost use Rattle.mv_prediction.specs.Code.{AreSmall, PredictsSmall, IsSite};
 ghost use Rattle.mv_prediction.specs.Candidates.{mode_context};
-ghost use Rattle.inter_modes.specs.Code.{MaySearch, AreSmallQuarters};
+ghost use Rattle.inter_modes.specs.Code.{MaySearch, AreSmallQuarters, sources_in};
 ghost use Rattle.inter_modes.specs.ModeInfo.{interp_filter, whole_prediction, quarters_prediction, of_each, block_mode, whole_block, block_of_quarters, inter_prediction};
 
 use crate::quarters::{Quarter, read_quarters};
@@ -139,7 +139,7 @@ fn read_whole<N: Neighbours, Q: Neighbours, const COUNTS: bool>(
     requires filter { filter.1 ≤ 3 }
     requires may { MaySearch N.holds N.blocks Q.holds Q.blocks src.now.earlier.now (option_copied src.now.before) src.now.search }
     ensures read { (lists : InterLists) → lists.modes ≡ src.now.modes.now → lists.filters ≡ filters.now →
-        Reads (whole_block (record { lists = vector_lists src.now.probs.now; allowed = src.now.high_precision; earlier = N.blocks src.now.earlier.now; before = blocks_of Q.blocks (option_copied src.now.before); search = src.now.search }) lists skips filter.0 filter.1 references) reader.old result reader.new }
+        Reads (whole_block (sources_in N.blocks Q.blocks src.now) lists skips filter.0 filter.1 references) reader.old result reader.new }
     ensures small { IfOk result (λ p. PredictsSmall (Inter p)) }
     ensures references { IfOk result (λ p. p.references ≡ references) }
 {
@@ -163,7 +163,7 @@ fn read_block_of_quarters<N: Neighbours, Q: Neighbours, const COUNTS: bool>(
     requires filter { filter.1 ≤ 3 }
     requires may { MaySearch N.holds N.blocks Q.holds Q.blocks src.now.earlier.now (option_copied src.now.before) src.now.search }
     ensures read { (lists : InterLists) → lists.modes ≡ src.now.modes.now → lists.filters ≡ filters.now →
-        Reads (block_of_quarters (record { lists = vector_lists src.now.probs.now; allowed = src.now.high_precision; earlier = N.blocks src.now.earlier.now; before = blocks_of Q.blocks (option_copied src.now.before); search = src.now.search }) lists filter.0 filter.1 references) reader.old result reader.new }
+        Reads (block_of_quarters (sources_in N.blocks Q.blocks src.now) lists filter.0 filter.1 references) reader.old result reader.new }
     ensures small { IfOk result (λ p. PredictsSmall (Inter p)) }
     ensures references { IfOk result (λ p. p.references ≡ references) }
 {
@@ -187,7 +187,7 @@ pub(crate) fn read_inter_prediction<N: Neighbours, Q: Neighbours, const COUNTS: 
     requires filter { filter.1 ≤ 3 }
     requires may { MaySearch N.holds N.blocks Q.holds Q.blocks src.now.earlier.now (option_copied src.now.before) src.now.search }
     ensures read { (lists : InterLists) → lists.modes ≡ src.now.modes.now → lists.filters ≡ filters.now →
-        Reads (inter_prediction (record { lists = vector_lists src.now.probs.now; allowed = src.now.high_precision; earlier = N.blocks src.now.earlier.now; before = blocks_of Q.blocks (option_copied src.now.before); search = src.now.search }) lists skips filter.0 filter.1 references) reader.old result reader.new }
+        Reads (inter_prediction (sources_in N.blocks Q.blocks src.now) lists skips filter.0 filter.1 references) reader.old result reader.new }
     ensures small { IfOk result (λ p. PredictsSmall (Inter p)) }
     ensures references { IfOk result (λ p. p.references ≡ references) }
 {

@@ -5,13 +5,13 @@ ghost use Rattle.std.specs.List.{All};
 ghost use Rattle.std.specs.Option.{option_copied};
 ghost use Rattle.vp9_tables.specs.BlockTables.{greatest_of};
 ghost use Rattle.vp9_tables.specs.Numbers.{tx_number};
-ghost use Rattle.prob_contexts.specs.ProbLists.{lists_of, vector_lists};
+ghost use Rattle.prob_contexts.specs.ProbLists.{lists_of};
 ghost use Rattle.block_plan.specs.declared.block.Prediction.TheVariants.{Intra};
 ghost use Rattle.counting_reader.specs.Code.{Reads};
 ghost use Rattle.mv_prediction.specs.Candidates.{mode_context, sign_biases};
 ghost use Rattle.mv_prediction.specs.Code.{HasSmallVectors, IsSite, blocks_of};
 ghost use Rattle.block_plan.specs.SegmentMaps.{id_map};
-ghost use Rattle.inter_modes.specs.Code.{MaySearch, IsBlockAt, AreInRange, PredictsInRange, RefersInRange, frame_in, least_of};
+ghost use Rattle.inter_modes.specs.Code.{MaySearch, IsBlockAt, AreInRange, PredictsInRange, RefersInRange, frame_in, least_of, sources_in};
 ghost use Rattle.inter_modes.specs.ModeInfo.{checked_references, inter_block, intra_block, inter_frame_block, inter_frame_mode_info, intra_frame_block, mode_info, block_with};
 
 use crate::blocks::read_inter_prediction;
@@ -114,7 +114,7 @@ fn read_inter_block<N: Neighbours, Q: Neighbours, const COUNTS: bool>(
     requires few { src.now.context ≤ 6 }
     requires modes { src.now.modes.now ≡ frame.now.setting.now.contexts.inter.modes }
     requires may { MaySearch N.holds N.blocks Q.holds Q.blocks src.now.earlier.now (option_copied src.now.before) src.now.search }
-    ensures read { Reads (inter_block (frame_in frame.now) (record { lists = vector_lists src.now.probs.now; allowed = src.now.high_precision; earlier = N.blocks src.now.earlier.now; before = blocks_of Q.blocks (option_copied src.now.before); search = src.now.search }) (option_copied above.entry) (option_copied left.entry) start.now) reader.old result reader.new }
+    ensures read { Reads (inter_block (frame_in frame.now) (sources_in N.blocks Q.blocks src.now) (option_copied above.entry) (option_copied left.entry) start.now) reader.old result reader.new }
     ensures block { IfOk result (IsBlockAt src.now.search.at) }
     ensures in_range { IfOk result (λ b. PredictsInRange frame.now.setting.now.header.size frame.now.fields.now.references b.prediction) }
 {
@@ -151,7 +151,7 @@ fn read_beside<N: Neighbours, Q: Neighbours, const COUNTS: bool>(
     requires few { src.now.context ≤ 6 }
     requires modes { src.now.modes.now ≡ frame.now.setting.now.contexts.inter.modes }
     requires may { MaySearch N.holds N.blocks Q.holds Q.blocks src.now.earlier.now (option_copied src.now.before) src.now.search }
-    ensures read { Reads (inter_frame_block (frame_in frame.now) (record { lists = vector_lists src.now.probs.now; allowed = src.now.high_precision; earlier = N.blocks src.now.earlier.now; before = blocks_of Q.blocks (option_copied src.now.before); search = src.now.search }) (option_copied above.entry) (option_copied left.entry) (least_of map.now src.now.search.at)) reader.old result reader.new }
+    ensures read { Reads (inter_frame_block (frame_in frame.now) (sources_in N.blocks Q.blocks src.now) (option_copied above.entry) (option_copied left.entry) (least_of map.now src.now.search.at)) reader.old result reader.new }
     ensures block { IfOk result (IsBlockAt src.now.search.at) }
     ensures in_range { IfOk result (λ b. PredictsInRange frame.now.setting.now.header.size frame.now.fields.now.references b.prediction) }
 {

@@ -3,10 +3,9 @@
 ghost use Rattle.std.specs.Prelude.{◌≡◌, ◌<◌, ◌≤◌, IfOk};
 ghost use Rattle.std.specs.List.{All};
 ghost use Rattle.std.specs.Option.{option_copied};
-ghost use Rattle.prob_contexts.specs.ProbLists.{vector_lists};
 ghost use Rattle.counting_reader.specs.Code.{Reads};
-ghost use Rattle.mv_prediction.specs.Code.{AreSmall, blocks_of};
-ghost use Rattle.inter_modes.specs.Code.{MaySearch, AreSmallBefore, AreSmallQuarters};
+ghost use Rattle.mv_prediction.specs.Code.{AreSmall};
+ghost use Rattle.inter_modes.specs.Code.{MaySearch, AreSmallBefore, AreSmallQuarters, sources_in};
 ghost use Rattle.inter_modes.specs.BlockVectors.{before_of, four_quarters, two_columns, two_rows, quarters};
 
 use crate::vectors::{NO_VECTORS, Sources, best_vectors, read_quarter};
@@ -55,7 +54,7 @@ fn read_four<N: Neighbours, Q: Neighbours, const COUNTS: bool>(
     requires context { src.now.context ≤ 6 }
     requires may { MaySearch N.holds N.blocks Q.holds Q.blocks src.now.earlier.now (option_copied src.now.before) src.now.search }
     requires small { AreSmall best }
-    ensures read { Reads (four_quarters (record { lists = vector_lists src.now.probs.now; allowed = src.now.high_precision; earlier = N.blocks src.now.earlier.now; before = blocks_of Q.blocks (option_copied src.now.before); search = src.now.search }) src.now.modes.now src.now.context refs best) reader.old result reader.new }
+    ensures read { Reads (four_quarters (sources_in N.blocks Q.blocks src.now) src.now.modes.now src.now.context refs best) reader.old result reader.new }
     ensures small { IfOk result AreSmallQuarters }
 {
     let none = NO_VECTORS;
@@ -85,7 +84,7 @@ fn read_two_columns<N: Neighbours, Q: Neighbours, const COUNTS: bool>(
     requires context { src.now.context ≤ 6 }
     requires may { MaySearch N.holds N.blocks Q.holds Q.blocks src.now.earlier.now (option_copied src.now.before) src.now.search }
     requires small { AreSmall best }
-    ensures read { Reads (two_columns (record { lists = vector_lists src.now.probs.now; allowed = src.now.high_precision; earlier = N.blocks src.now.earlier.now; before = blocks_of Q.blocks (option_copied src.now.before); search = src.now.search }) src.now.modes.now src.now.context refs best) reader.old result reader.new }
+    ensures read { Reads (two_columns (sources_in N.blocks Q.blocks src.now) src.now.modes.now src.now.context refs best) reader.old result reader.new }
     ensures small { IfOk result AreSmallQuarters }
 {
     let none = NO_VECTORS;
@@ -111,7 +110,7 @@ fn read_two_rows<N: Neighbours, Q: Neighbours, const COUNTS: bool>(
     requires context { src.now.context ≤ 6 }
     requires may { MaySearch N.holds N.blocks Q.holds Q.blocks src.now.earlier.now (option_copied src.now.before) src.now.search }
     requires small { AreSmall best }
-    ensures read { Reads (two_rows (record { lists = vector_lists src.now.probs.now; allowed = src.now.high_precision; earlier = N.blocks src.now.earlier.now; before = blocks_of Q.blocks (option_copied src.now.before); search = src.now.search }) src.now.modes.now src.now.context refs best) reader.old result reader.new }
+    ensures read { Reads (two_rows (sources_in N.blocks Q.blocks src.now) src.now.modes.now src.now.context refs best) reader.old result reader.new }
     ensures small { IfOk result AreSmallQuarters }
 {
     let none = NO_VECTORS;
@@ -130,7 +129,7 @@ pub(crate) fn read_quarters<N: Neighbours, Q: Neighbours, const COUNTS: bool>(
 ) -> Result<[Quarter; 4], Rule>
     requires context { src.now.context ≤ 6 }
     requires may { MaySearch N.holds N.blocks Q.holds Q.blocks src.now.earlier.now (option_copied src.now.before) src.now.search }
-    ensures read { Reads (quarters (record { lists = vector_lists src.now.probs.now; allowed = src.now.high_precision; earlier = N.blocks src.now.earlier.now; before = blocks_of Q.blocks (option_copied src.now.before); search = src.now.search }) src.now.modes.now src.now.context refs src.now.search.at.size) reader.old result reader.new }
+    ensures read { Reads (quarters (sources_in N.blocks Q.blocks src.now) src.now.modes.now src.now.context refs src.now.search.at.size) reader.old result reader.new }
     ensures small { IfOk result AreSmallQuarters }
 {
     let best = best_vectors(src, refs);

@@ -2,11 +2,10 @@
 
 ghost use Rattle.std.specs.Prelude.{◌≡◌, ◌<◌, ◌≤◌, ◌∷◌, [], Some, IfOk};
 ghost use Rattle.std.specs.Option.{option_copied};
-ghost use Rattle.prob_contexts.specs.ProbLists.{vector_lists};
 ghost use Rattle.counting_reader.specs.Code.{Reads};
-ghost use Rattle.mv_prediction.specs.Code.{AreSmall, blocks_of};
+ghost use Rattle.mv_prediction.specs.Code.{AreSmall};
 ghost use Rattle.mv_prediction.specs.Vectors.{IsSmallVector};
-ghost use Rattle.inter_modes.specs.Code.{MaySearch, AreSmallBefore};
+ghost use Rattle.inter_modes.specs.Code.{MaySearch, AreSmallBefore, sources_in};
 ghost use Rattle.inter_modes.specs.BlockVectors.{inter_mode, vector_of_mode, near_of_block, near_of_quarter, block_vector, block_vectors, second_best, best_vectors, of_list, quarter_vector, quarter_vectors, quarter};
 
 use crate::quarters::{Quarter, QuartersBefore};
@@ -68,7 +67,7 @@ pub fn near_of_block<N: Neighbours, Q: Neighbours>(
     reference: ReferenceFrame,
 ) -> NearVectors
     requires may { MaySearch N.holds N.blocks Q.holds Q.blocks src.now.earlier.now (option_copied src.now.before) src.now.search }
-    ensures is { result ≡ near_of_block (record { lists = vector_lists src.now.probs.now; allowed = src.now.high_precision; earlier = N.blocks src.now.earlier.now; before = blocks_of Q.blocks (option_copied src.now.before); search = src.now.search }) reference }
+    ensures is { result ≡ near_of_block (sources_in N.blocks Q.blocks src.now) reference }
     ensures nearest { IsSmallVector result.nearest }
     ensures near { IsSmallVector result.near }
 {
@@ -87,7 +86,7 @@ pub fn near_of_quarter<N: Neighbours, Q: Neighbours>(
     requires k { k < 4 }
     requires may { MaySearch N.holds N.blocks Q.holds Q.blocks src.now.earlier.now (option_copied src.now.before) src.now.search }
     requires small { AreSmall quarters.now }
-    ensures is { result ≡ near_of_quarter (record { lists = vector_lists src.now.probs.now; allowed = src.now.high_precision; earlier = N.blocks src.now.earlier.now; before = blocks_of Q.blocks (option_copied src.now.before); search = src.now.search }) reference k quarters.now }
+    ensures is { result ≡ near_of_quarter (sources_in N.blocks Q.blocks src.now) reference k quarters.now }
     ensures nearest { IsSmallVector result.nearest }
     ensures near { IsSmallVector result.near }
 {
@@ -107,7 +106,7 @@ pub fn nearest_of_quarter<N: Neighbours, Q: Neighbours>(
     requires k { k < 4 }
     requires may { MaySearch N.holds N.blocks Q.holds Q.blocks src.now.earlier.now (option_copied src.now.before) src.now.search }
     requires small { AreSmall quarters.now }
-    ensures is { result ≡ (near_of_quarter (record { lists = vector_lists src.now.probs.now; allowed = src.now.high_precision; earlier = N.blocks src.now.earlier.now; before = blocks_of Q.blocks (option_copied src.now.before); search = src.now.search }) reference k quarters.now).nearest }
+    ensures is { result ≡ (near_of_quarter (sources_in N.blocks Q.blocks src.now) reference k quarters.now).nearest }
     ensures small { IsSmallVector result }
 {
     match k {
@@ -127,7 +126,7 @@ fn read_block_vector<N: Neighbours, Q: Neighbours, const COUNTS: bool>(
     reference: ReferenceFrame,
 ) -> Result<Mv, Rule>
     requires may { MaySearch N.holds N.blocks Q.holds Q.blocks src.now.earlier.now (option_copied src.now.before) src.now.search }
-    ensures read { Reads (block_vector (record { lists = vector_lists src.now.probs.now; allowed = src.now.high_precision; earlier = N.blocks src.now.earlier.now; before = blocks_of Q.blocks (option_copied src.now.before); search = src.now.search }) mode reference) reader.old result reader.new }
+    ensures read { Reads (block_vector (sources_in N.blocks Q.blocks src.now) mode reference) reader.old result reader.new }
     ensures small { IfOk result IsSmallVector }
 {
     match mode {
@@ -150,7 +149,7 @@ pub(crate) fn read_block_vectors<N: Neighbours, Q: Neighbours, const COUNTS: boo
     references: References,
 ) -> Result<[Mv; 2], Rule>
     requires may { MaySearch N.holds N.blocks Q.holds Q.blocks src.now.earlier.now (option_copied src.now.before) src.now.search }
-    ensures read { Reads (block_vectors (record { lists = vector_lists src.now.probs.now; allowed = src.now.high_precision; earlier = N.blocks src.now.earlier.now; before = blocks_of Q.blocks (option_copied src.now.before); search = src.now.search }) mode references) reader.old result reader.new }
+    ensures read { Reads (block_vectors (sources_in N.blocks Q.blocks src.now) mode references) reader.old result reader.new }
     ensures small { IfOk result AreSmall }
 {
     let first = match read_block_vector(reader, src, mode, references.first) {
@@ -172,7 +171,7 @@ pub fn best_vectors<N: Neighbours, Q: Neighbours>(
     references: References,
 ) -> [Mv; 2]
     requires may { MaySearch N.holds N.blocks Q.holds Q.blocks src.now.earlier.now (option_copied src.now.before) src.now.search }
-    ensures is { result ≡ best_vectors (record { lists = vector_lists src.now.probs.now; allowed = src.now.high_precision; earlier = N.blocks src.now.earlier.now; before = blocks_of Q.blocks (option_copied src.now.before); search = src.now.search }) references }
+    ensures is { result ≡ best_vectors (sources_in N.blocks Q.blocks src.now) references }
     ensures small { AreSmall result }
 {
     let first = near_of_block(src, references.first).nearest;
@@ -205,7 +204,7 @@ fn read_quarter_vector<N: Neighbours, Q: Neighbours, const COUNTS: bool>(
     requires k { k < 4 }
     requires may { MaySearch N.holds N.blocks Q.holds Q.blocks src.now.earlier.now (option_copied src.now.before) src.now.search }
     requires small { AreSmallBefore before.now }
-    ensures read { Reads (quarter_vector (record { lists = vector_lists src.now.probs.now; allowed = src.now.high_precision; earlier = N.blocks src.now.earlier.now; before = blocks_of Q.blocks (option_copied src.now.before); search = src.now.search }) mode wanted.0 wanted.1 k before.now) reader.old result reader.new }
+    ensures read { Reads (quarter_vector (sources_in N.blocks Q.blocks src.now) mode wanted.0 wanted.1 k before.now) reader.old result reader.new }
     ensures small { IfOk result IsSmallVector }
 {
     let (reference, list) = wanted;
@@ -233,7 +232,7 @@ fn read_quarter_vectors<N: Neighbours, Q: Neighbours, const COUNTS: bool>(
     requires k { k < 4 }
     requires may { MaySearch N.holds N.blocks Q.holds Q.blocks src.now.earlier.now (option_copied src.now.before) src.now.search }
     requires small { AreSmallBefore before.now }
-    ensures read { Reads (quarter_vectors (record { lists = vector_lists src.now.probs.now; allowed = src.now.high_precision; earlier = N.blocks src.now.earlier.now; before = blocks_of Q.blocks (option_copied src.now.before); search = src.now.search }) mode references k before.now) reader.old result reader.new }
+    ensures read { Reads (quarter_vectors (sources_in N.blocks Q.blocks src.now) mode references k before.now) reader.old result reader.new }
     ensures small { IfOk result AreSmall }
 {
     let first = match read_quarter_vector(reader, src, mode, (references.first, 0), k, before) {
@@ -264,7 +263,7 @@ pub(crate) fn read_quarter<N: Neighbours, Q: Neighbours, const COUNTS: bool>(
     requires k { k < 4 }
     requires may { MaySearch N.holds N.blocks Q.holds Q.blocks src.now.earlier.now (option_copied src.now.before) src.now.search }
     requires small { AreSmallBefore before.now }
-    ensures read { Reads (quarter (record { lists = vector_lists src.now.probs.now; allowed = src.now.high_precision; earlier = N.blocks src.now.earlier.now; before = blocks_of Q.blocks (option_copied src.now.before); search = src.now.search }) src.now.modes.now src.now.context references k before.now) reader.old result reader.new }
+    ensures read { Reads (quarter (sources_in N.blocks Q.blocks src.now) src.now.modes.now src.now.context references k before.now) reader.old result reader.new }
     ensures small { IfOk result (λ q. AreSmall q.vectors) }
 {
     let mode = read_inter_mode(reader, src.modes, src.context);
