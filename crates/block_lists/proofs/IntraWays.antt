@@ -25,8 +25,10 @@ use Rattle.block_geometry.specs.BlockSizes.{greatest_allowed, is_below_8x8}
 use Rattle.block_geometry.specs.declared.transform_blocks.FramePlaces.{FramePlaces}
 use Rattle.block_plan.specs.declared.block.BlockAt.{BlockAt}
 use Rattle.block_plan.specs.declared.block.BlockInfo.{BlockInfo}
+use Rattle.mode_syntax.proofs.BySize.{luma_by_size}
+use Rattle.mode_syntax.specs.Code.{four_modes, modes_by_size, one_mode, two_columns, two_rows}
 use Rattle.mode_syntax.specs.Elements.{coded_segment, intra_segment_id, is_selected, read_skip, read_tx_size, skip_context, skips_segment, tx_context, tx_probs, tx_symbol, tx_tree}
-use Rattle.mode_syntax.specs.IntraModes.{default_intra_mode, default_uv_mode, edge_modes, four_modes, intra_mode, intra_of, last_mode, luma_modes, one_mode, two_columns, two_rows}
+use Rattle.mode_syntax.specs.IntraModes.{default_intra_mode, default_uv_mode, edge_modes, intra_mode, intra_of, last_mode, luma_modes}
 use Rattle.mode_syntax.specs.IntraModeInfo.{intra_frame_mode_info, mode_info_beside}
 use Rattle.mode_syntax.specs.declared.intra_modes.EdgeModes.{EdgeModes}
 use Rattle.mode_syntax.specs.declared.square_at.SquareAt.{SquareAt}
@@ -201,21 +203,24 @@ four_way edge luma old new h =
     (subst (λ m. HasPut old (spelled_default edge.above_first edge.left_first a.x ++ spelled_default edge.above_second a.x b.x
     ++ spelled_default a.x edge.left_second c.x ++ spelled_default b.x c.x d.x) m) d.second.1 four)
 
+by_size_way : (size : BlockSize) (edge : EdgeModes) (luma : List IntraMode) (old new : Part) → Puts (modes_by_size size edge) old luma new → HasPut old (spelled_luma size edge luma) new
+unfolding modes_by_size spelled_luma
+by_size_way B4x4 edge luma old new h = four_way edge luma old new h
+by_size_way B4x8 edge luma old new h = columns_way edge luma old new h
+by_size_way B8x4 edge luma old new h = rows_way edge luma old new h
+by_size_way B8x8 edge luma old new h = one_way edge luma old new h
+by_size_way B8x16 edge luma old new h = one_way edge luma old new h
+by_size_way B16x8 edge luma old new h = one_way edge luma old new h
+by_size_way B16x16 edge luma old new h = one_way edge luma old new h
+by_size_way B16x32 edge luma old new h = one_way edge luma old new h
+by_size_way B32x16 edge luma old new h = one_way edge luma old new h
+by_size_way B32x32 edge luma old new h = one_way edge luma old new h
+by_size_way B32x64 edge luma old new h = one_way edge luma old new h
+by_size_way B64x32 edge luma old new h = one_way edge luma old new h
+by_size_way B64x64 edge luma old new h = one_way edge luma old new h
+
 luma_way : (size : BlockSize) (edge : EdgeModes) (luma : List IntraMode) (old new : Part) → Puts (luma_modes size edge) old luma new → HasPut old (spelled_luma size edge luma) new
-unfolding luma_modes spelled_luma
-luma_way B4x4 edge luma old new h = four_way edge luma old new h
-luma_way B4x8 edge luma old new h = columns_way edge luma old new h
-luma_way B8x4 edge luma old new h = rows_way edge luma old new h
-luma_way B8x8 edge luma old new h = one_way edge luma old new h
-luma_way B8x16 edge luma old new h = one_way edge luma old new h
-luma_way B16x8 edge luma old new h = one_way edge luma old new h
-luma_way B16x16 edge luma old new h = one_way edge luma old new h
-luma_way B16x32 edge luma old new h = one_way edge luma old new h
-luma_way B32x16 edge luma old new h = one_way edge luma old new h
-luma_way B32x32 edge luma old new h = one_way edge luma old new h
-luma_way B32x64 edge luma old new h = one_way edge luma old new h
-luma_way B64x32 edge luma old new h = one_way edge luma old new h
-luma_way B64x64 edge luma old new h = one_way edge luma old new h
+luma_way size edge luma old new h = by_size_way size edge luma old new (subst (λ s. Puts s old luma new) (luma_by_size size edge) h)
 
 ---- A block ----
 

@@ -10,3 +10,4 @@ pub mod Kept
 pub mod ModeWalks
 pub mod Columns
 pub mod ModeTiles
+pub mod BySize

@@ -1,15 +1,15 @@
 -- The modes of intra frames' blocks (6.4.6 of the standard: default_intra_mode, default_uv_mode; their contexts in 9.3).
-use Rattle.std.specs.Prelude.{ℕ, ◌+◌, ◌*◌, List, [], ◌∷◌, Option, Some, None, get_or, slice_index_or, nat_eq, if◌then◌else◌}
+use Rattle.std.specs.Prelude.{ℕ, ◌+◌, ◌-◌, ◌*◌, List, [], ◌∷◌, Option, Some, None, get_or, slice_index_or, nat_eq, if◌then◌else◌}
 use Rattle.vp9_types.specs.Syntax.{Syntax, done, ◌>>=◌}
 use Rattle.vp9_types.specs.Trees.{tree_symbol}
 use Rattle.vp9_types.specs.declared.block.BlockSize.{BlockSize}
-use Rattle.vp9_types.specs.declared.block.BlockSize.TheVariants.{B4x4, B4x8, B8x4}
 use Rattle.vp9_types.specs.declared.block.IntraMode.{IntraMode}
 use Rattle.vp9_types.specs.declared.block.IntraMode.TheVariants.{Dc, V, H, D45, D135, D117, D153, D207, D63, Tm}
 use Rattle.vp9_types.specs.declared.rule.Rule.{Rule}
 use Rattle.vp9_tables.specs.Numbers.{intra_number}
 use Rattle.vp9_tables.specs.SymbolTrees.{intra_mode_tree}
 use Rattle.vp9_tables.specs.declared.data.intra.TheConstants.{KF_Y_MODE, KF_UV_MODE}
+use Rattle.block_geometry.specs.Quarters.{starting_quarters, with_part}
 use Rattle.block_plan.specs.declared.block.BlockInfo.{BlockInfo}
 use Rattle.block_plan.specs.declared.block.Prediction.{Prediction}
 use Rattle.block_plan.specs.declared.block.Prediction.TheVariants.{Intra, Inter}
@@ -55,41 +55,25 @@ edge_modes above left = record {
   left_second = mode_beside left 3;
 }
 
--- one mode for all four quarters
-unfoldable pub one_mode : EdgeModes → Syntax ℕ Rule (List IntraMode)
-one_mode edge = do
-  mode ← default_intra_mode edge.above_first edge.left_first
-  done (mode ∷ mode ∷ mode ∷ mode ∷ [])
+-- The mode above a quarter, of those that are known: the upper ones have the edge's. So have 0 and 2 that at their left.
+abbrev pub mode_above : EdgeModes → List IntraMode → ℕ → IntraMode
+mode_above edge modes k =
+    if nat_eq k 0 then edge.above_first else (if nat_eq k 1 then edge.above_second else slice_index_or modes (k - 2) Dc)
 
--- 8x4: an upper and a lower one
-unfoldable pub two_rows : EdgeModes → Syntax ℕ Rule (List IntraMode)
-two_rows edge = do
-  upper ← default_intra_mode edge.above_first edge.left_first
-  lower ← default_intra_mode upper edge.left_second
-  done (upper ∷ upper ∷ lower ∷ lower ∷ [])
+abbrev pub mode_at_left : EdgeModes → List IntraMode → ℕ → IntraMode
+mode_at_left edge modes k =
+    if nat_eq k 0 then edge.left_first else (if nat_eq k 2 then edge.left_second else slice_index_or modes (k - 1) Dc)
 
--- 4x8: one at the left and one at the right
-unfoldable pub two_columns : EdgeModes → Syntax ℕ Rule (List IntraMode)
-two_columns edge = do
-  left ← default_intra_mode edge.above_first edge.left_first
-  right ← default_intra_mode edge.above_second left
-  done (left ∷ right ∷ left ∷ right ∷ [])
-
--- 4x4: one for each quarter
-unfoldable pub four_modes : EdgeModes → Syntax ℕ Rule (List IntraMode)
-four_modes edge = do
-  first ← default_intra_mode edge.above_first edge.left_first
-  second ← default_intra_mode edge.above_second first
-  third ← default_intra_mode first edge.left_second
-  fourth ← default_intra_mode second third
-  done (first ∷ second ∷ third ∷ fourth ∷ [])
+-- of the parts that begin at some quarters, one after another
+unfoldable pub each_mode : BlockSize → EdgeModes → List ℕ → List IntraMode → Syntax ℕ Rule (List IntraMode)
+each_mode size edge [] modes = done modes
+each_mode size edge (k ∷ rest) modes = do
+  mode ← default_intra_mode (mode_above edge modes k) (mode_at_left edge modes k)
+  each_mode size edge rest (with_part size k mode modes)
 
 -- the modes of the quarters of a block
 unfoldable pub luma_modes : BlockSize → EdgeModes → Syntax ℕ Rule (List IntraMode)
-luma_modes B4x4 edge = four_modes edge
-luma_modes B4x8 edge = two_columns edge
-luma_modes B8x4 edge = two_rows edge
-luma_modes _ edge = one_mode edge
+luma_modes size edge = each_mode size edge (starting_quarters size) (Dc ∷ Dc ∷ Dc ∷ Dc ∷ [])
 
 abbrev pub last_mode : List IntraMode → IntraMode
 last_mode luma = slice_index_or luma 3 Dc

@@ -6,3 +6,4 @@ pub mod TileSquares
 pub mod Walk
 pub mod TileColumns
 pub mod Laws
+pub mod Code

@@ -4,7 +4,8 @@ ghost use Rattle.std.specs.Prelude.{◌≡◌, ◌<◌, ◌≤◌, ℕ, ◌*◌,
 ghost use Rattle.std.specs.Option.{option_copied};
 ghost use Rattle.counting_reader.specs.Counting.{uncounted};
 ghost use Rattle.counting_reader.specs.Code.{Reads};
-ghost use Rattle.mode_syntax.specs.IntraModes.{intra_of, intra_mode, default_intra_mode, default_uv_mode, mode_beside, edge_modes, one_mode, two_rows, two_columns, four_modes, luma_modes};
+ghost use Rattle.mode_syntax.specs.IntraModes.{intra_of, intra_mode, default_intra_mode, default_uv_mode, mode_beside, edge_modes, luma_modes};
+ghost use Rattle.mode_syntax.specs.Code.{one_mode, two_rows, two_columns, four_modes};
 
 use block_plan::{BlockInfo, Prediction};
 use counting_reader::CountingReader;
@@ -92,7 +93,7 @@ pub fn edge_modes(above: Option<&BlockInfo>, left: Option<&BlockInfo>) -> EdgeMo
     }
 }
 
-#[tactic(auto, unfolding(crate::specs::IntraModes::one_mode), using(crate::proofs::Uncounted::uncounted_bind, crate::proofs::Uncounted::uncounted_done))]
+#[tactic(auto, unfolding(crate::specs::Code::one_mode), using(crate::proofs::Uncounted::uncounted_bind, crate::proofs::Uncounted::uncounted_done))]
 fn read_one_mode<const COUNTS: bool>(
     reader: &mut CountingReader<COUNTS>,
     edge: EdgeModes,
@@ -103,7 +104,7 @@ fn read_one_mode<const COUNTS: bool>(
     [mode, mode, mode, mode]
 }
 
-#[tactic(auto, unfolding(crate::specs::IntraModes::two_rows), using(crate::proofs::Uncounted::uncounted_bind, crate::proofs::Uncounted::uncounted_done))]
+#[tactic(auto, unfolding(crate::specs::Code::two_rows), using(crate::proofs::Uncounted::uncounted_bind, crate::proofs::Uncounted::uncounted_done))]
 fn read_two_rows<const COUNTS: bool>(
     reader: &mut CountingReader<COUNTS>,
     edge: EdgeModes,
@@ -115,7 +116,7 @@ fn read_two_rows<const COUNTS: bool>(
     [upper, upper, lower, lower]
 }
 
-#[tactic(auto, unfolding(crate::specs::IntraModes::two_columns), using(crate::proofs::Uncounted::uncounted_bind, crate::proofs::Uncounted::uncounted_done))]
+#[tactic(auto, unfolding(crate::specs::Code::two_columns), using(crate::proofs::Uncounted::uncounted_bind, crate::proofs::Uncounted::uncounted_done))]
 fn read_two_columns<const COUNTS: bool>(
     reader: &mut CountingReader<COUNTS>,
     edge: EdgeModes,
@@ -127,7 +128,7 @@ fn read_two_columns<const COUNTS: bool>(
     [left, right, left, right]
 }
 
-#[tactic(auto, unfolding(crate::specs::IntraModes::four_modes), using(crate::proofs::Uncounted::uncounted_bind, crate::proofs::Uncounted::uncounted_done))]
+#[tactic(auto, unfolding(crate::specs::Code::four_modes), using(crate::proofs::Uncounted::uncounted_bind, crate::proofs::Uncounted::uncounted_done))]
 fn read_four_modes<const COUNTS: bool>(
     reader: &mut CountingReader<COUNTS>,
     edge: EdgeModes,
@@ -142,7 +143,7 @@ fn read_four_modes<const COUNTS: bool>(
 }
 
 /// The modes of the quarters of a block.
-#[tactic(auto, unfolding(crate::specs::IntraModes::luma_modes))]
+#[tactic(auto, unfolding(crate::specs::Code::modes_by_size), using(crate::proofs::BySize::luma_by_size))]
 pub(crate) fn read_luma_modes<const COUNTS: bool>(
     reader: &mut CountingReader<COUNTS>,
     size: BlockSize,

@@ -29,11 +29,13 @@ use Rattle.counting_reader.specs.Counting.{Settled, settle, count, uncounted, Yi
 use Rattle.counting_reader.specs.CountedSymbols.{counted_flag, counted_symbol, counted_tree}
 use Rattle.counting_reader.proofs.Yields.{yields_bind, yields_all, yields_map}
 use Rattle.mode_syntax.specs.Elements.{coded_segment, intra_segment_id, skips_segment, skip_context, read_skip, tx_context, tx_kind, tx_probs, tx_tree, tx_symbol, is_selected, read_tx_size}
-use Rattle.mode_syntax.specs.IntraModes.{default_intra_mode, edge_modes, one_mode, two_rows, two_columns, four_modes, luma_modes, last_mode, default_uv_mode}
+use Rattle.mode_syntax.specs.Code.{one_mode, two_rows, two_columns, four_modes, modes_by_size}
+use Rattle.mode_syntax.specs.IntraModes.{default_intra_mode, edge_modes, luma_modes, last_mode, default_uv_mode}
 use Rattle.mode_syntax.specs.IntraModeInfo.{intra_block, mode_info_beside, intra_frame_mode_info}
 use Rattle.mode_syntax.specs.Partitions.{split_or, edge_symbol, whole_symbol, partition_value, partition, half_of, partition_probs, square_context, partition_at}
 use Rattle.mode_syntax.specs.declared.intra_modes.EdgeModes.{EdgeModes}
 use Rattle.mode_syntax.specs.declared.square_at.SquareAt.{SquareAt}
+use Rattle.mode_syntax.proofs.BySize.{luma_by_size}
 use Rattle.mode_syntax.proofs.TxSizes.{some_transform}
 use Rattle.mode_writer.specs.ModeFits.{CanSegment, CanSkip, says_tx, CanTx, AreRows, AreColumns, CanLuma, CanPutIntraFrame, CanPartition, CanPartitionAt}
 use Rattle.mode_writer.proofs.Yielded.{AllLeaves, yields_one, yields_uncounted, yields_after, tree_yields, symbol_yields}
@@ -141,21 +143,24 @@ columns_answered edge =
     (λ left. yields_after (default_intra_mode edge.above_second left) (λ right. done (left ∷ right ∷ left ∷ right ∷ [])) AreColumns
     (λ right. yields_uncounted (left ∷ right ∷ left ∷ right ∷ []) AreColumns (refl, refl)))
 
+by_size_answered : (size : BlockSize) (edge : EdgeModes) → Yields (uncounted (modes_by_size size edge)) (CanLuma size)
+unfolding modes_by_size
+by_size_answered B4x4 edge = yields_all (uncounted (four_modes edge))
+by_size_answered B4x8 edge = columns_answered edge
+by_size_answered B8x4 edge = rows_answered edge
+by_size_answered B8x8 edge = one_answered edge
+by_size_answered B8x16 edge = one_answered edge
+by_size_answered B16x8 edge = one_answered edge
+by_size_answered B16x16 edge = one_answered edge
+by_size_answered B16x32 edge = one_answered edge
+by_size_answered B32x16 edge = one_answered edge
+by_size_answered B32x32 edge = one_answered edge
+by_size_answered B32x64 edge = one_answered edge
+by_size_answered B64x32 edge = one_answered edge
+by_size_answered B64x64 edge = one_answered edge
+
 luma_answered : (size : BlockSize) (edge : EdgeModes) → Yields (uncounted (luma_modes size edge)) (CanLuma size)
-unfolding luma_modes
-luma_answered B4x4 edge = yields_all (uncounted (four_modes edge))
-luma_answered B4x8 edge = columns_answered edge
-luma_answered B8x4 edge = rows_answered edge
-luma_answered B8x8 edge = one_answered edge
-luma_answered B8x16 edge = one_answered edge
-luma_answered B16x8 edge = one_answered edge
-luma_answered B16x16 edge = one_answered edge
-luma_answered B16x32 edge = one_answered edge
-luma_answered B32x16 edge = one_answered edge
-luma_answered B32x32 edge = one_answered edge
-luma_answered B32x64 edge = one_answered edge
-luma_answered B64x32 edge = one_answered edge
-luma_answered B64x64 edge = one_answered edge
+luma_answered size edge = rw (luma_by_size size edge) (by_size_answered size edge)
 
 ---- Blocks ----
 

@@ -2,7 +2,8 @@
 
 ghost use Rattle.std.specs.Prelude.{◌≡◌, IfOk, ◌∷◌, []};
 ghost use Rattle.bool_encoder.specs.WrittenBools.{Puts};
-ghost use Rattle.mode_syntax.specs.IntraModes.{intra_mode, default_intra_mode, default_uv_mode, one_mode, two_rows, two_columns, four_modes, luma_modes};
+ghost use Rattle.mode_syntax.specs.IntraModes.{intra_mode, default_intra_mode, default_uv_mode, luma_modes};
+ghost use Rattle.mode_syntax.specs.Code.{one_mode, two_rows, two_columns, four_modes, modes_by_size};
 ghost use Rattle.mode_writer.specs.ModeFits.{CanLuma};
 
 use bool_encoder::{BoolEncoder, put_tree};
@@ -42,7 +43,7 @@ pub(crate) fn put_default_uv_mode(
 }
 
 /// One mode for all quarters.
-#[tactic(auto, unfolding(mode_syntax::specs::IntraModes::one_mode), using(vp9_types::proofs::Binds::writes_bind))]
+#[tactic(auto, unfolding(mode_syntax::specs::Code::one_mode), using(vp9_types::proofs::Binds::writes_bind))]
 fn put_one_mode(
     encoder: &mut BoolEncoder,
     edge: EdgeModes,
@@ -53,7 +54,7 @@ fn put_one_mode(
     put_default_intra_mode(encoder, edge.above_first, edge.left_first, mode)
 }
 
-#[tactic(auto, unfolding(mode_syntax::specs::IntraModes::two_rows), using(vp9_types::proofs::Binds::writes_bind))]
+#[tactic(auto, unfolding(mode_syntax::specs::Code::two_rows), using(vp9_types::proofs::Binds::writes_bind))]
 fn put_two_rows(
     encoder: &mut BoolEncoder,
     edge: EdgeModes,
@@ -66,7 +67,7 @@ fn put_two_rows(
     put_default_intra_mode(encoder, upper, edge.left_second, lower)
 }
 
-#[tactic(auto, unfolding(mode_syntax::specs::IntraModes::two_columns), using(vp9_types::proofs::Binds::writes_bind))]
+#[tactic(auto, unfolding(mode_syntax::specs::Code::two_columns), using(vp9_types::proofs::Binds::writes_bind))]
 fn put_two_columns(
     encoder: &mut BoolEncoder,
     edge: EdgeModes,
@@ -79,7 +80,7 @@ fn put_two_columns(
     put_default_intra_mode(encoder, edge.above_second, left, right)
 }
 
-#[tactic(auto, unfolding(mode_syntax::specs::IntraModes::four_modes), using(vp9_types::proofs::Binds::writes_bind))]
+#[tactic(auto, unfolding(mode_syntax::specs::Code::four_modes), using(vp9_types::proofs::Binds::writes_bind))]
 fn put_four_modes(
     encoder: &mut BoolEncoder,
     edge: EdgeModes,
@@ -96,8 +97,26 @@ fn put_four_modes(
     put_default_intra_mode(encoder, second, third, fourth)
 }
 
+#[tactic(auto, unfolding(mode_syntax::specs::Code::modes_by_size))]
+fn put_by_size(
+    encoder: &mut BoolEncoder,
+    size: BlockSize,
+    edge: EdgeModes,
+    modes: [IntraMode; 4],
+) -> Result<(), AllocError>
+    requires { CanLuma size modes }
+    ensures { IfOk result (λ _. Puts (modes_by_size size edge) encoder.old modes encoder.new) }
+{
+    let [first, second, third, fourth] = modes;
+    match size {
+        BlockSize::B4x4 => put_four_modes(encoder, edge, first, second, third, fourth),
+        BlockSize::B4x8 => put_two_columns(encoder, edge, first, second),
+        BlockSize::B8x4 => put_two_rows(encoder, edge, first, third),
+        _ => put_one_mode(encoder, edge, first),
+    }
+}
+
 /// The modes of the quarters of a block.
-#[tactic(auto, unfolding(mode_syntax::specs::IntraModes::luma_modes))]
 pub(crate) fn put_luma_modes(
     encoder: &mut BoolEncoder,
     size: BlockSize,
@@ -107,11 +126,5 @@ pub(crate) fn put_luma_modes(
     requires { CanLuma size modes }
     ensures { IfOk result (λ _. Puts (luma_modes size edge) encoder.old modes encoder.new) }
 {
-    let [first, second, third, fourth] = modes;
-    match size {
-        BlockSize::B4x4 => put_four_modes(encoder, edge, first, second, third, fourth),
-        BlockSize::B4x8 => put_two_columns(encoder, edge, first, second),
-        BlockSize::B8x4 => put_two_rows(encoder, edge, first, third),
-        _ => put_one_mode(encoder, edge, first),
-    }
+    put_by_size(encoder, size, edge, modes)
 }
