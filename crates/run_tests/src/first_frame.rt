@@ -68,9 +68,10 @@ impl Source for NotingSource<'_> {
     }
 }
 
-// The bytes of a file's header, of the header of a packet, and of a frame of 130x132.
-const FIRST_PACKET: usize = 32 + 12 + GREY_130_BY_132.len();
+// The bytes of a file's header, of the header of a packet, and of a frame.
+const FIRST_PACKET: usize = 32 + 12 + 16;
 
+// The samples of a frame of 130x132.
 const FIRST_SAMPLES: u64 = 25_740;
 
 // How many bytes are written of four frames when more than the first packet is asked for.

@@ -36,8 +36,13 @@ fn a_column_of_65536_is_decoded(rt: HostRuntime) -> Result<(), Fail> {
 
 #[test]
 fn ten_thousand_packets_are_decoded(rt: HostRuntime) -> Result<(), Fail> {
-    let crews: [&[&'static str]; 3] = [
-        &["decode"],
+    assert!(rt; decodes_to_grey(&rt, rt.alloc(), GREY_1_BY_1, 10_000, 30_000)?);
+    Ok(())
+}
+
+#[test]
+fn ten_thousand_packets_are_decoded_by_64_workers(rt: HostRuntime) -> Result<(), Fail> {
+    let crews: [&[&'static str]; 2] = [
         &["decode", "--workers", "64", "--window", "2"],
         &["decode", "--workers", "64", "--window", "16"],
     ];
