@@ -4,14 +4,73 @@ use crate::files::{are_grey, file_of};
 use crate::odd_values::GREY_4099_BY_3;
 use crate::runs::{NONE, run_source};
 use crate::sizes::GREY_130_BY_132;
-use crew_tests::Meeting;
-use edge_io::MemSource;
+use edge_io::{Gate, MemSource};
 use std::alloc::Global;
 use std::sync::Wait;
+use std::sync::atomic::{AtomicBool, AtomicU64, Ordering};
 use std::test::Fail;
-use std::thread::Threads;
+use std::thread::{self, Threads};
 use vp9_app::Status;
 use vp9_types::JobName;
+
+// Holds two jobs until both are at work, or for so many looks.
+#[derive(Drop)]
+struct Meeting {
+    jobs: [JobName; 2],
+    looks: u32,
+    at_work: AtomicU64,
+    met: AtomicBool,
+}
+
+impl Meeting {
+    fn new(jobs: [JobName; 2], looks: u32) -> Meeting {
+        Meeting {
+            jobs,
+            looks,
+            at_work: AtomicU64::new(0),
+            met: AtomicBool::new(false),
+        }
+    }
+
+    // Whether both were at work at the same time.
+    fn has_met(&self) -> bool {
+        self.met.load(Ordering::SeqCst)
+    }
+
+    // What a job at work counts: both are at work where that adds up to 3.
+    fn weight(&self, job: JobName) -> u64 {
+        if job == self.jobs[0] {
+            1
+        } else if job == self.jobs[1] {
+            2
+        } else {
+            0
+        }
+    }
+}
+
+impl Gate for Meeting {
+    fn enter(&self, job: JobName) {
+        let weight = self.weight(job);
+        if weight == 0 {
+            return;
+        }
+        let others = self.at_work.fetch_add(weight, Ordering::SeqCst);
+        if others.saturating_add(weight) == 3 {
+            self.met.store(true, Ordering::SeqCst);
+        }
+        for _ in 0..self.looks {
+            if self.has_met() {
+                return;
+            }
+            thread::yield_now();
+        }
+    }
+
+    fn leave(&self, job: JobName) {
+        self.at_work.fetch_sub(self.weight(job), Ordering::SeqCst);
+    }
+}
 
 // A file of so many frames that are the same, the grey samples that it shows, and two jobs of its decode.
 struct Pair {
@@ -68,7 +127,7 @@ fn meet<R: Threads + Wait + Sync>(
 ) -> Result<bool, Fail> {
     let file = file_of(alloc, pair.frame, pair.count)?;
     let source = MemSource::new(alloc, &file, &[])?;
-    let gate = Meeting::new(pair.jobs[0], pair.jobs[1], looks);
+    let gate = Meeting::new(pair.jobs, looks);
     let ran = run_source(rt, alloc, words, source, &NONE, &gate)?;
     if ran.status != Status::Done || !are_grey(ran.out.bytes(), pair.samples) {
         return Err(Fail::new("not decoded to grey samples"));
