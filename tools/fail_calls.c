@@ -1,10 +1,11 @@
-// Preloaded by fail_calls.py: makes the FAIL_AT-th call of a kind (FAIL_KIND: alloc, read, write) fail, and with FAIL_ON=1 each one behind it.
+// Preloaded by fail_calls.py: makes the FAIL_AT-th call of a kind (FAIL_KIND: alloc, read, write, thread) fail, and with FAIL_ON=1 each one behind it.
 // Their number is kept in the file FAIL_COUNT, eight bytes that are zeros at first.
 #define _GNU_SOURCE
 #include <dlfcn.h>
 #include <errno.h>
 #include <stdatomic.h>
 #include <fcntl.h>
+#include <pthread.h>
 #include <stdlib.h>
 #include <sys/mman.h>
 #include <unistd.h>
@@ -67,4 +68,10 @@ ssize_t write(int file, const void *from, size_t count) {
         return -1;
     }
     return real(file, from, count);
+}
+
+int pthread_create(pthread_t *to, const pthread_attr_t *attributes, void *(*work)(void *), void *given) {
+    static int (*real)(pthread_t *, const pthread_attr_t *, void *(*)(void *), void *);
+    if (!real) real = dlsym(RTLD_NEXT, "pthread_create");
+    return fails('t') ? EAGAIN : real(to, attributes, work, given);
 }

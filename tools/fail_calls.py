@@ -1,8 +1,9 @@
 #!/usr/bin/env python3
-"""Lets `vp9dec decode` fail at each of its calls for memory, of its reads and of its writes, one after another: a run has to end within its time with
-what it may end with, and has to have written what the whole run writes or a front of it.
+"""Lets `vp9dec decode` fail at each of its calls for memory, of its reads, of its writes and of its calls for a thread, one after another: a run has to
+end within its time as the whole run does, or with the status of that fault, and has to have written what the whole run writes or a front of it. Where a
+thread isn't made it has to end as the whole run does, with the same bytes.
 
-    tools/fail_calls.py [--workers 1,4] [--most N] FILE..
+    tools/fail_calls.py [--workers 1,4] [--kinds alloc,read,write,thread] [--most N] FILE..
 
 Of each kind of call at most N (400) numbers are tried, spread over all of them: once where that call alone fails, and once where all behind it fail too.
 VP9DEC names the program, or else it is the one of dist/ for this machine; a C compiler makes the library that lets calls fail (fail_calls.c).
@@ -16,8 +17,8 @@ import sys
 import tempfile
 
 TOP = pathlib.Path(__file__).resolve().parent.parent
-# what a run may end with where such a call failed: it may have been one that isn't needed
-ENDS = {"alloc": (0, 3, 6), "read": (0, 3, 4), "write": (0, 3, 5)}
+# what a run may end with where such a call failed, but for what the whole run ends with: a call may not be needed, and no thread is
+FAULTS = {"alloc": [6], "read": [4], "write": [5], "thread": []}
 SECONDS = 30
 
 
@@ -39,18 +40,20 @@ def run(words, data, room, kind="none", at=0, on=0):
     return done.returncode, done.stdout, int.from_bytes(count.read_bytes(), "little")
 
 
-def tried(words, data, room, most):
-    """Tries all kinds of calls, and returns how runs ended, and what was wrong."""
+def tried(words, data, room, kinds, most):
+    """Tries these kinds of calls, and returns how runs ended, and what was wrong."""
     ends, wrong = collections.Counter(), []
     whole_end, whole, _ = run(words, data, room)
-    for kind, may in ENDS.items():
+    if whole_end is None:
+        return ends, ["no call fails, and the run doesn't end"]
+    for kind in kinds:
         count = run(words, data, room, kind)[2]
         step = max(1, count // most)
         for at in range(1, count + 1, step):
             for on in (0, 1):
                 status, out, _ = run(words, data, room, kind, at, on)
                 ends[kind, status] += 1
-                if status not in may or not whole.startswith(out) or (status == whole_end and out != whole):
+                if status not in [whole_end, *FAULTS[kind]] or not whole.startswith(out) or (status == whole_end and out != whole):
                     wrong.append(f"{kind} {at} {'and all behind it' if on else 'alone'}: status {status}, {len(out)} of {len(whole)} bytes")
     return ends, wrong
 
@@ -58,6 +61,7 @@ def tried(words, data, room, most):
 def main():
     words = argparse.ArgumentParser(description=__doc__, formatter_class=argparse.RawDescriptionHelpFormatter)
     words.add_argument("--workers", default="1,4")
+    words.add_argument("--kinds", default=",".join(FAULTS))
     words.add_argument("--most", type=int, default=400)
     words.add_argument("files", nargs="+")
     given = words.parse_args()
@@ -67,7 +71,7 @@ def main():
         for file in given.files:
             data = pathlib.Path(file).read_bytes()
             for how in ["--plain", *(f"--workers {n}" for n in given.workers.split(","))]:
-                ends, wrong = tried([program(), "decode", *how.split()], data, room, given.most)
+                ends, wrong = tried([program(), "decode", *how.split()], data, room, given.kinds.split(","), given.most)
                 told = ", ".join(f"{kind} {status}: {n}" for (kind, status), n in sorted(ends.items(), key=str))
                 print(f"{file} {how}: {sum(ends.values())} runs ({told}), {len(wrong)} wrong")
                 print(*(f"    {it}" for it in wrong), sep="\n", end="\n" if wrong else "")

@@ -28,16 +28,38 @@ pub fn file_of(alloc: Global, frame: &[u8], count: u32) -> Result<Vec<u8>, Alloc
     Ok(file)
 }
 
-/// What a command does with such a file.
+/// What words do with such a file.
 pub fn run_frames<R: Threads + Wait + Sync>(
     rt: &R,
     alloc: Global,
-    word: &'static str,
+    words: &[&'static str],
     frame: &[u8],
     count: u32,
 ) -> Result<MemRan, AllocError> {
     let file = file_of(alloc, frame, count)?;
-    run_words(rt, alloc, &[word], &file, &NONE)
+    run_words(rt, alloc, words, &file, &NONE)
+}
+
+/// Whether bytes are so many grey samples.
+pub fn are_grey(bytes: &[u8], samples: usize) -> bool {
+    bytes.len() == samples && bytes.iter().all(|byte| *byte == 0x80)
+}
+
+/// Whether these words decode so many of such frames, to so many grey samples.
+pub fn decodes_to_grey_as<R: Threads + Wait + Sync>(
+    rt: &R,
+    alloc: Global,
+    words: &[&'static str],
+    frame: &[u8],
+    count: u32,
+    samples: usize,
+) -> Result<bool, AllocError> {
+    let ran = run_frames(rt, alloc, words, frame, count)?;
+    Ok(
+        ran.status != Status::OutOfMemory
+            && ran.status == Status::Done
+            && are_grey(ran.out.bytes(), samples),
+    )
 }
 
 /// Whether so many of such frames are decoded, to so many grey samples.
@@ -48,12 +70,5 @@ pub fn decodes_to_grey<R: Threads + Wait + Sync>(
     count: u32,
     samples: usize,
 ) -> Result<bool, AllocError> {
-    let ran = run_frames(rt, alloc, "decode", frame, count)?;
-    let bytes = ran.out.bytes();
-    Ok(
-        ran.status != Status::OutOfMemory
-            && ran.status == Status::Done
-            && bytes.len() == samples
-            && bytes.iter().all(|byte| *byte == 0x80),
-    )
+    decodes_to_grey_as(rt, alloc, &["decode"], frame, count, samples)
 }

@@ -4,6 +4,10 @@
 #[cfg(test)]
 mod files;
 #[cfg(test)]
+mod first_frame;
+#[cfg(test)]
+mod meetings;
+#[cfg(test)]
 mod odd_values;
 #[cfg(test)]
 mod read_faults;

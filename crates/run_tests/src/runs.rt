@@ -1,6 +1,6 @@
 //! Runs of the program's commands over memory.
 
-use edge_io::{MemSink, MemSource, OpenGate, Source};
+use edge_io::{Gate, MemSink, MemSource, OpenGate, Source};
 use std::alloc::{AllocError, Global};
 use std::sync::Wait;
 use std::thread::Threads;
@@ -23,24 +23,31 @@ pub const NONE: Fails = Fails {
     note: &[],
 };
 
-/// What the program's name and these words do with a source.
-pub fn run_source<R: Threads + Wait + Sync, S: Source + Send + Drop>(
-    rt: &R,
-    alloc: Global,
-    given: &[&'static str],
-    source: S,
-    fails: &Fails,
-) -> Result<Ran<S, MemSink, MemSink>, AllocError>
-    requires { S.can_fill source }
-{
+/// The program's name and these words.
+pub fn words_of(alloc: Global, given: &[&'static str]) -> Result<Vec<String>, AllocError> {
     let mut words = Vec::new(alloc);
     words.push(String::from_str(alloc, "vp9dec")?)?;
     for word in given {
         words.push(String::from_str(alloc, word)?)?;
     }
+    Ok(words)
+}
+
+/// What they do with a source, where a gate is told of the jobs.
+pub fn run_source<R: Threads + Wait + Sync, S: Source + Send + Drop, G: Gate + Sync>(
+    rt: &R,
+    alloc: Global,
+    given: &[&'static str],
+    source: S,
+    fails: &Fails,
+    gate: &G,
+) -> Result<Ran<S, MemSink, MemSink>, AllocError>
+    requires { S.can_fill source }
+{
+    let words = words_of(alloc, given)?;
     let out = MemSink::new(alloc, fails.out)?;
     let note = MemSink::new(alloc, fails.note)?;
-    Ok(run(rt, alloc, words.as_slice(), source, out, note, &OpenGate))
+    Ok(run(rt, alloc, words.as_slice(), source, out, note, gate))
 }
 
 /// What they do with an input in memory.
@@ -52,5 +59,5 @@ pub fn run_words<R: Threads + Wait + Sync>(
     fails: &Fails,
 ) -> Result<MemRan, AllocError> {
     let source = MemSource::new(alloc, input, fails.source)?;
-    run_source(rt, alloc, given, source, fails)
+    run_source(rt, alloc, given, source, fails, &OpenGate)
 }
