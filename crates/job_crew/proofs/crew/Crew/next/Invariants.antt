@@ -3,4 +3,4 @@ use Rattle.job_crew.specs.Code.{IsSeatedStill}
 use Rattle.job_crew.proofs.crew.Crew.next.Given as goal
 
 abbrev pub invariant-loop : goal.invariant-loop
-invariant-loop g l = IsSeatedStill l.fn.seat l.seat × (l.pool.now.over ≡ false)
+invariant-loop g l = IsSeatedStill l.fn.seat l.seat × (l.pool.over ≡ false)
