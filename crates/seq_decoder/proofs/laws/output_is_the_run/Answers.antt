@@ -5,7 +5,7 @@ use Rattle.file_frames.specs.FileFrames.{frames_in, frames_of_file}
 use Rattle.frame_output.specs.declared.rendering.Format.TheVariants.{Md5, Raw}
 use Rattle.seq_decoder.specs.Outputs.{form_from, output_of}
 use Rattle.seq_decoder.specs.Runs.{digest_text, picture_text, run_of}
-use Rattle.seq_decoder.specs.State.{start_state}
+use Rattle.seq_decoder.specs.DecoderState.{start_state}
 use Rattle.seq_decoder.proofs.OutputLemmas.{output_follows}
 use Rattle.seq_decoder.proofs.laws.output_is_the_run.Goals as goal
 
