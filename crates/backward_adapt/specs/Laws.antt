@@ -1,10 +1,12 @@
 -- What laws of adaptation speak of: probabilities by kind and place.
 use Rattle.std.specs.Prelude.{◌≡◌, ℕ, ◌+◌, List, [], ◌∷◌, ◌++◌, true, false, length, slice_index}
+use Rattle.prob_contexts.specs.declared.kind.CountedBool.{CountedBool}
 use Rattle.prob_contexts.specs.declared.kind.ProbKind.{ProbKind}
 use Rattle.prob_contexts.specs.declared.kind.ProbKind.TheVariants as kind
 use Rattle.prob_contexts.specs.ProbLists.{ContextLists}
 use Rattle.backward_adapt.specs.declared.merge.Rate.{Rate}
-use Rattle.backward_adapt.specs.Merge.{merge_prob, times}
+use Rattle.backward_adapt.specs.Adaptation.{left_by}
+use Rattle.backward_adapt.specs.Merge.{merge_prob}
 
 -- the list of a kind; of coefficients that of each size, joined
 abbrev pub list_of : ContextLists → ProbKind → List ℕ
@@ -39,11 +41,36 @@ pub record HasCoefSizes (c : ContextLists) : Type 0 where
   pub of_16x16 : length c.coef.of_16x16 ≡ 396
   pub of_32x32 : length c.coef.of_32x32 ≡ 396
 
+-- and each other kind its own
+pub record HasSizes (c : ContextLists) : Type 0 where
+  pub tx8x8 : length c.tx.of_8x8 ≡ 2
+  pub tx16x16 : length c.tx.of_16x16 ≡ 4
+  pub tx32x32 : length c.tx.of_32x32 ≡ 6
+  pub skip : length c.skip ≡ 3
+  pub inter_mode : length c.inter.modes ≡ 21
+  pub filter : length c.inter.filters ≡ 8
+  pub is_inter : length c.inter.is_inter ≡ 4
+  pub compound_flag : length c.inter.compound_flag ≡ 5
+  pub single_reference : length c.inter.single_references ≡ 10
+  pub compound_reference : length c.inter.compound_references ≡ 5
+  pub y_mode : length c.inter.y_modes ≡ 36
+  pub uv_mode : length c.uv_modes ≡ 90
+  pub partition : length c.partitions ≡ 48
+  pub vector_joint : length c.vectors.joints ≡ 3
+  pub vector_sign : length c.vectors.signs ≡ 2
+  pub vector_class : length c.vectors.classes ≡ 20
+  pub vector_class0 : length c.vectors.class0 ≡ 2
+  pub vector_bit : length c.vectors.bits ≡ 20
+  pub vector_class0_fraction : length c.vectors.class0_fractions ≡ 12
+  pub vector_fraction : length c.vectors.fractions ≡ 6
+  pub vector_class0_high : length c.vectors.class0_high ≡ 2
+  pub vector_high : length c.vectors.high ≡ 2
+
 abbrev pub prob_at : ContextLists → ProbKind → ℕ → ℕ
 prob_at c kind place = slice_index (list_of c kind) place
 
--- merge_probs as a walk: one probability after another, each by the counts of the next place of its kind
-unfoldable pub merge_probs : Rate → List ℕ → ProbKind → ℕ → List ℕ → List ℕ
-merge_probs rate counts kind place [] = []
-merge_probs rate counts kind place (before ∷ rest) =
-    merge_prob rate before (times counts kind place false) (times counts kind place true) ∷ merge_probs rate counts kind (place + 1) rest
+-- merge_probs as a walk: one probability after another, each by how often the node at the next place of its kind was left
+unfoldable pub merge_probs : Rate → (CountedBool → ℕ) → ProbKind → ℕ → List ℕ → List ℕ
+merge_probs rate times kind place [] = []
+merge_probs rate times kind place (before ∷ rest) =
+    merge_prob rate before (times (left_by kind place false)) (times (left_by kind place true)) ∷ merge_probs rate times kind (place + 1) rest

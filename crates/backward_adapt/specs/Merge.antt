@@ -1,7 +1,5 @@
 -- How a probability follows what was counted at its node (8.4.2 of the standard: merge_prob).
-use Rattle.std.specs.Prelude.{ℕ, ◌+◌, ◌-◌, ◌*◌, ◌/◌, Bool, List, min, max, nat_eq, if◌then◌else◌}
-use Rattle.prob_contexts.specs.declared.kind.ProbKind.{ProbKind}
-use Rattle.prob_contexts.specs.Counted.{counter_of}
+use Rattle.std.specs.Prelude.{ℕ, ◌+◌, ◌-◌, ◌*◌, ◌/◌, min, max, nat_eq, if◌then◌else◌}
 use Rattle.backward_adapt.specs.declared.merge.Rate.{Rate}
 use Rattle.backward_adapt.specs.declared.merge.Rate.TheVariants.{Coefs, CoefsAfterKey, Others}
 
@@ -32,7 +30,3 @@ unfoldable pub merge_prob : Rate → ℕ → ℕ → ℕ → ℕ
 merge_prob rate before zeros ones =
     let factor = update_factor rate (zeros + ones) in
     (before * (256 - factor) + counted_prob zeros ones * factor + 128) / 256
-
--- how often the node at a place of its kind was left by a bool
-abbrev pub times : List ℕ → ProbKind → ℕ → Bool → ℕ
-times counts kind place one = counter_of counts (record { kind = kind; place = place; one = one })

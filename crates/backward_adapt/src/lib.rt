@@ -10,7 +10,7 @@ mod merge;
 pub use adapting::adapt;
 pub use kind::{AdaptKind, InterKind};
 pub use laws::{
-    a_list_is_adapted_in_order, adaptation_is_by_its_bools, contexts_have_coef_sizes,
+    a_list_is_adapted_in_order, adaptation_is_by_its_bools, contexts_have_sizes,
     each_probability_is_adapted_alone,
 };
 pub use merge::Rate;

@@ -2,6 +2,7 @@
 
 ghost use Rattle.std.specs.Prelude.{◌≡◌, ◌+◌, ◌≤◌, ℕ, length};
 ghost use Rattle.std.specs.List.{All};
+ghost use Rattle.prob_contexts.specs.Code.{counter_of};
 ghost use Rattle.prob_contexts.specs.Kinds.{kind_size};
 ghost use Rattle.backward_adapt.specs.Adaptation.{adapted_from, adapted_list};
 
@@ -25,7 +26,7 @@ impl<'a> FrameCounts<'a> {
         requires size { length probs.old ≡ length saved.now }
         requires positive { All (λ p. 1 ≤ p) saved.now }
         requires positive_now { All (λ p. 1 ≤ p) probs.old }
-        ensures value { probs.new ≡ adapted_from self.now.frame self.now.counts.now kind from saved.now probs.old }
+        ensures value { probs.new ≡ adapted_from self.now.frame (counter_of self.now.counts.now) kind from saved.now probs.old }
         ensures kept { All (λ p. 1 ≤ p) probs.new }
     {
         let Some(rate) = self.frame.rate_of(kind) else {
@@ -46,7 +47,7 @@ impl<'a> FrameCounts<'a> {
         requires size { length probs.old ≡ length saved.now }
         requires positive { All (λ p. 1 ≤ p) saved.now }
         requires positive_now { All (λ p. 1 ≤ p) probs.old }
-        ensures value { probs.new ≡ adapted_list self.now.frame self.now.counts.now kind saved.now probs.old }
+        ensures value { probs.new ≡ adapted_list self.now.frame (counter_of self.now.counts.now) kind saved.now probs.old }
         ensures kept { All (λ p. 1 ≤ p) probs.new }
     {
         self.adapt_from(kind, 0, saved, probs);

@@ -8,14 +8,16 @@ use Rattle.vp9_types.specs.Trees.{Tree, leaf, node, tree_symbol}
 use Rattle.vp9_types.specs.declared.rule.Rule.{Rule}
 use Rattle.prob_contexts.specs.declared.kind.CountedBool.{CountedBool}
 use Rattle.prob_contexts.specs.declared.kind.ProbKind.{ProbKind}
-use Rattle.counting_reader.specs.Counting.{Settled, settle, count, uncounted, behind, in_order, lifted, through, run_counting, with_counts, counted_if}
+use Rattle.counting_reader.specs.Counting.{Settled, settle, count, uncounted, behind, in_order, lifted, through}
+use Rattle.counting_reader.specs.Code.{run_counting, with_counts, counted_if}
 use Rattle.counting_reader.specs.CountedSymbols.{counted_flag, counted_tree}
 use Rattle.bool_decoder.specs.Bools.{flag}
 use Rattle.bool_encoder.specs.Part.{Part, after_put, marked, Finishes}
 use Rattle.bool_encoder.specs.WrittenBools.{Puts, can_put}
 use Rattle.vp9_types.proofs.Binds.{writes_bind, writes_value, writes_on, writes_to_fault}
 use Rattle.bool_encoder.proofs.Starts.{written_is_read_from}
-use Rattle.bool_encoder.specs.CountedBools.{valued, PutsValue, PutsCounting, PutsTo, IsReadFrom}
+use Rattle.bool_encoder.specs.CountedBools.{valued, PutsValue, PutsCounting, PutsTo}
+use Rattle.bool_encoder.specs.Laws.{IsReadFrom}
 
 pub valued_settle : {A : Type 0} (x : A) → valued (settle x) ≡ done x
 unfolding settle valued

@@ -1,11 +1,10 @@
 -- What is written for a syntax that counts: the bools that lead it to a value, whatever is counted for it.
-use Rattle.std.specs.Prelude.{◌≡◌, ℕ, List, Result, Ok}
+use Rattle.std.specs.Prelude.{ℕ, List, Result}
 use Rattle.vp9_types.specs.Syntax.{Syntax, done, broken, ask}
 use Rattle.vp9_types.specs.Writing.{WritesTo}
 use Rattle.vp9_types.specs.declared.rule.Rule.{Rule}
 use Rattle.prob_contexts.specs.declared.kind.CountedBool.{CountedBool}
-use Rattle.bool_decoder.specs.Window.{Window, started}
-use Rattle.counting_reader.specs.Counting.{Settled, ReadsCounting}
+use Rattle.counting_reader.specs.Counting.{Settled}
 use Rattle.bool_encoder.specs.Part.{Part, after_put}
 use Rattle.bool_encoder.specs.WrittenBools.{Puts, can_put}
 
@@ -25,10 +24,3 @@ PutsValue s old x new = Puts (valued s) old x new
 -- bools that lead the syntax to its end were put: to the value, or to the rule that is broken there
 abbrev pub PutsTo : {A : Type 0} → Syntax ℕ Rule (Settled A) → Part → Result A Rule → Part → Type 0
 PutsTo s old r new = WritesTo can_put after_put (valued s) old r new
-
--- a reader that starts on the bytes reads the value, whatever it has counted before
-pub record IsReadFrom {A : Type 0} (s : Syntax ℕ Rule (Settled A)) (bytes : List ℕ) (x : A) : Type 0 where
-  pub start : Window
-  pub last : Window
-  pub starts : started bytes ≡ Ok start
-  pub read : (counts : List ℕ) → (after : List ℕ) × ReadsCounting s start counts x last after

@@ -7,6 +7,8 @@ use Rattle.vp9_types.specs.declared.rule.Rule.{Rule}
 use Rattle.bool_decoder.specs.Coder.{Coder, front_number, first_coder, after_bool}
 use Rattle.bool_decoder.specs.Window.{Window, Stands, started}
 use Rattle.bool_decoder.specs.Bools.{run_bools, run_coder}
+use Rattle.counting_reader.specs.Code.{ReadsCounting}
+use Rattle.counting_reader.specs.Counting.{Settled}
 use Rattle.bool_encoder.specs.Part.{Part, after_put, marked}
 use Rattle.bool_encoder.specs.WrittenBools.{can_put}
 
@@ -28,6 +30,13 @@ pub record ReadsFrom {E A : Type 0} (s : Syntax ℕ E A) (bytes : List ℕ) (x :
   pub read : run_bools s start ≡ Ok (x, last)
   pub coder : run_coder s (after_bool 128 (first_coder (bits_of bytes))) ≡ Ok (x, coder_at (bits_of bytes) new)
   pub behind : Stands (coder_at (bits_of bytes) new) last
+
+-- a reader that starts on the bytes reads the value, whatever it has counted before
+pub record IsReadFrom {A : Type 0} (s : Syntax ℕ Rule (Settled A)) (bytes : List ℕ) (x : A) : Type 0 where
+  pub start : Window
+  pub last : Window
+  pub starts : started bytes ≡ Ok start
+  pub read : (counts : List ℕ) → (after : List ℕ) × ReadsCounting s start counts x last after
 
 -- the bools answer the syntax to its end, which settles on the value
 abbrev pub IsLedBy : {E A : Type 0} → Syntax ℕ E A → List ℕ → A → Type 0

@@ -5,8 +5,8 @@ ghost use Rattle.vp9_types.specs.Syntax.{Syntax};
 ghost use Rattle.vp9_types.specs.declared.rule.Rule.{Rule};
 ghost use Rattle.counting_reader.specs.Counting.{Settled, in_order};
 ghost use Rattle.bool_encoder.specs.WrittenBools.{WritesBools};
-ghost use Rattle.bool_encoder.specs.CountedBools.{PutsCounting, IsReadFrom};
-ghost use Rattle.bool_encoder.specs.Laws.{AreBools, IsLedBy, ReadsFrom, ReadsBools, after_all, after_bools};
+ghost use Rattle.bool_encoder.specs.CountedBools.{PutsCounting};
+ghost use Rattle.bool_encoder.specs.Laws.{AreBools, IsLedBy, IsReadFrom, ReadsFrom, ReadsBools, after_all, after_bools};
 ghost use Rattle.bool_encoder.specs.Part.{Part, Finishes, marked};
 ghost use Rattle.vp9_types.specs.Writing.{followed};
 

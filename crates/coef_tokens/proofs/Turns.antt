@@ -4,7 +4,7 @@ use mir.Val.{to_z, of_z}
 use Rattle.std.specs.Prelude.{slice_index, replicate, Ok}
 use Rattle.std.proofs.lemmas.Bool.{cases_eq, cases_lt, eq-eqb, ne_eqb}
 use Rattle.std.proofs.lemmas.List.{get_or-set_same, get_or-set_other, get_or_default, get_or-replicate, get_or_past, length-replicate, drop_more, drop_all, get_or-drop, take_rest}
-use Rattle.counting_reader.specs.Counting.{Standing, run_counting}
+use Rattle.counting_reader.specs.Code.{Standing, run_counting}
 use Rattle.counting_reader.proofs.CountingRuns.{counting_bind, run_settle}
 use Rattle.coef_tokens.specs.declared.step.Step.{Step}
 use Rattle.coef_tokens.specs.declared.step.Step.TheVariants.{End, Zero, Level}

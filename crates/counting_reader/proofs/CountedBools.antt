@@ -7,7 +7,7 @@ use Rattle.std.proofs.lemmas.List.FromFn.{map-range_with_len_more}
 use Rattle.std.specs.List.{range_with_len}
 use Rattle.prob_contexts.specs.declared.kind.CountedBool.{CountedBool}
 use Rattle.prob_contexts.specs.declared.kind.ProbKind.{ProbKind}
-use Rattle.prob_contexts.specs.Counted.{counts_after, with_bool}
+use Rattle.prob_contexts.specs.Code.{counts_after, with_bool}
 use Rattle.counting_reader.specs.CountedSymbols.{one_at, unary_bools}
 
 pub counts_none : (counts : List ℕ) → counts ≡ counts_after counts []

@@ -5,9 +5,9 @@ use mir.Val.{bool_byte}
 use Rattle.vp9_types.specs.Trees.{Tree, node, subtree, tree_of, entry_at, is_entry, leaf_of, greatest_leaf}
 use Rattle.vp9_types.proofs.TreeTests.{leaves_at, HoldsTree, IsNode, node_at}
 use Rattle.prob_contexts.specs.declared.kind.ProbKind.{ProbKind}
-use Rattle.counting_reader.specs.Counting.{Standing, settle, run_counting}
+use Rattle.counting_reader.specs.Counting.{settle}
 use Rattle.counting_reader.specs.CountedSymbols.{counted_flag, counted_tree}
-use Rattle.counting_reader.specs.Code.{branch_of}
+use Rattle.counting_reader.specs.Code.{branch_of, Standing, run_counting}
 use Rattle.counting_reader.specs.declared.tree.Branch.TheVariants.{Leaf, Node}
 use Rattle.counting_reader.proofs.CountingRuns.{counting_bind, run_settle}
 

@@ -8,8 +8,9 @@ use Rattle.vp9_types.specs.declared.rule.Rule.{Rule}
 use Rattle.bool_decoder.specs.Window.{Window, bit_of, after_bit}
 use Rattle.bool_decoder.specs.Bools.{run_bools}
 use Rattle.prob_contexts.specs.declared.kind.CountedBool.{CountedBool}
-use Rattle.prob_contexts.specs.Counted.{counts_after, with_bool}
-use Rattle.counting_reader.specs.Counting.{Settled, Standing, settle, count, uncounted, behind, in_order, run_counting, counted_if, counted_at, with_same_counts, silent, read_silently}
+use Rattle.prob_contexts.specs.Code.{counts_after, with_bool}
+use Rattle.counting_reader.specs.Counting.{Settled, settle, count, uncounted, behind, in_order}
+use Rattle.counting_reader.specs.Code.{Standing, run_counting, counted_if, counted_at, with_same_counts, silent, read_silently}
 
 counted_none : (counting : Bool) (counts : List ℕ) → counted_if counting counts [] ≡ counts
 unfolding counts_after

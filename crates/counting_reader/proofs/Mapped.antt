@@ -1,9 +1,9 @@
 -- What goes through a function as it is settled on.
-use Rattle.std.proofs.Common.{◌≡◌, ℕ, ◌∙◌, [], List, refl, ap}
+use Rattle.std.proofs.Common.{◌≡◌, ℕ, ◌∙◌, List, refl, ap}
 use Rattle.vp9_types.specs.Syntax.{Syntax, done, broken, ask}
 use Rattle.vp9_types.specs.declared.rule.Rule.{Rule}
 use Rattle.prob_contexts.specs.declared.kind.CountedBool.{CountedBool}
-use Rattle.counting_reader.specs.Counting.{Settled, behind, in_order, mapped, through}
+use Rattle.counting_reader.specs.Counting.{Settled, behind, in_order, mapped}
 
 abbrev pub Reads : Type 0 → Type 0
 Reads A = Syntax ℕ Rule (Settled A)

@@ -5,10 +5,10 @@ use Rattle.vp9_types.specs.Reading.{after}
 use Rattle.bool_decoder.specs.Window.{Window, bit_of, after_bit}
 use Rattle.prob_contexts.specs.declared.kind.CountedBool.{CountedBool}
 use Rattle.prob_contexts.specs.declared.kind.ProbKind.{ProbKind}
-use Rattle.prob_contexts.specs.Counted.{counts_after, with_bool}
-use Rattle.counting_reader.specs.Counting.{Standing, count, run_counting}
+use Rattle.prob_contexts.specs.Code.{counts_after, with_bool}
+use Rattle.counting_reader.specs.Counting.{count}
 use Rattle.counting_reader.specs.CountedSymbols.{counted_flag}
-use Rattle.counting_reader.specs.Code.{counts_by, moved_to}
+use Rattle.counting_reader.specs.Code.{counts_by, moved_to, Standing, run_counting}
 use Rattle.counting_reader.proofs.CountedBools.{counts_one}
 
 abbrev IsOn : ℕ → Type 0

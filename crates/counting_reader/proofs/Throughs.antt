@@ -5,7 +5,8 @@ use Rattle.std.proofs.lemmas.List.{take_all, take_more, drop_more, take-append-d
 use Rattle.vp9_types.specs.Syntax.{Syntax}
 use Rattle.vp9_types.specs.Reading.{after}
 use Rattle.vp9_types.specs.declared.rule.Rule.{Rule}
-use Rattle.counting_reader.specs.Counting.{Settled, Standing, run_counting, through}
+use Rattle.counting_reader.specs.Counting.{Settled, through}
+use Rattle.counting_reader.specs.Code.{Standing, run_counting}
 use Rattle.counting_reader.proofs.CountingRuns.{counting_bind, run_settle}
 
 abbrev Read : Type 0 → Type 0

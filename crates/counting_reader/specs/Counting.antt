@@ -1,11 +1,8 @@
 -- A syntax of bools that settles on a value and on the bools that are counted for it, in order (9.3.4 of the standard).
-use Rattle.std.specs.Prelude.{◌≡◌, ℕ, List, [], ◌∷◌, ◌++◌, Bool, true, false, Result, Ok, Err}
+use Rattle.std.specs.Prelude.{ℕ, List, [], ◌∷◌, ◌++◌, Result, Ok, Err}
 use Rattle.vp9_types.specs.Syntax.{Syntax, done, broken, ask}
 use Rattle.vp9_types.specs.declared.rule.Rule.{Rule}
-use Rattle.bool_decoder.specs.Window.{Window}
-use Rattle.bool_decoder.specs.Bools.{run_bools}
 use Rattle.prob_contexts.specs.declared.kind.CountedBool.{CountedBool}
-use Rattle.prob_contexts.specs.Counted.{counts_after}
 
 pub record Settled (A : Type 0) : Type 0 where
   pub value : A
@@ -69,49 +66,3 @@ abbrev pub Yields : {A : Type 0} → Syntax ℕ Rule (Settled A) → (A → Type
 Yields (done x) P = P x.value
 Yields (broken e) P = Unit {0}
 Yields (ask p k) P = (v : ℕ) → Yields (k v) P
-
--- where reading stands: the window, the counts so far, and whether what is read is counted
-pub record Standing : Type 0 where
-  pub window : Window
-  pub counts : List ℕ
-  pub counting : Bool
-
--- the counts after these bools, where they are counted
-abbrev pub counted_if : Bool → List ℕ → List CountedBool → List ℕ
-counted_if true counts bools = counts_after counts bools
-counted_if false counts bools = counts
-
--- what was read, with what it counts counted
-abbrev pub with_counts : {A : Type 0} → Result (Settled A × Window) Rule → List ℕ → Bool → Result (A × Standing) Rule
-with_counts (Ok p) counts counting =
-    Ok (p.0.value, record { window = p.1; counts = counted_if counting counts p.0.counted; counting = counting })
-with_counts (Err e) counts counting = Err e
-
-unfoldable pub run_counting : {A : Type 0} → Syntax ℕ Rule (Settled A) → Standing → Result (A × Standing) Rule
-run_counting s m = with_counts (run_bools s m.window) m.counts m.counting
-
--- what was read, with the counts as they were
-abbrev pub with_same_counts : {A : Type 0} → Result (A × Window) Rule → List ℕ → Bool → Result (A × Standing) Rule
-with_same_counts (Ok p) counts counting = Ok (p.0, record { window = p.1; counts = counts; counting = counting })
-with_same_counts (Err e) counts counting = Err e
-
--- the same place, with these counted
-abbrev pub counted_at : Standing → List CountedBool → Standing
-counted_at m bools = record { window = m.window; counts = counted_if m.counting m.counts bools; counting = m.counting }
-
--- the same place, for who doesn't count
-abbrev pub silent : Standing → Standing
-silent m = record { window = m.window; counts = m.counts; counting = false }
-
--- what was read by who doesn't count
-abbrev pub read_silently : {A : Type 0} → Result (A × Standing) Rule → List ℕ → Result (A × Standing) Rule
-read_silently (Ok p) counts = Ok (p.0, record { window = p.1.window; counts = counts; counting = false })
-read_silently (Err e) counts = Err e
-
--- where all is counted
-abbrev pub standing : Window → List ℕ → Standing
-standing window counts = record { window = window; counts = counts; counting = true }
-
--- the syntax settles on x, and leaves the window and the counts so
-abbrev pub ReadsCounting : {A : Type 0} → Syntax ℕ Rule (Settled A) → Window → List ℕ → A → Window → List ℕ → Type 0
-ReadsCounting s old before x new now = run_counting s (standing old before) ≡ Ok (x, standing new now)

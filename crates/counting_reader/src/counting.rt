@@ -1,7 +1,7 @@
 //! The counting of symbols.
 
 ghost use Rattle.std.specs.Prelude.{◌≡◌, ◌+◌, ◌*◌, ◌^◌, ◌<◌, ◌≤◌, ℕ};
-ghost use Rattle.prob_contexts.specs.Counted.{counts_after};
+ghost use Rattle.prob_contexts.specs.Code.{counts_after};
 ghost use Rattle.prob_contexts.specs.Kinds.{kind_size};
 ghost use Rattle.counting_reader.specs.CountedSymbols.{unary_bools};
 

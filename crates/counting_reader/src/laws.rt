@@ -6,7 +6,8 @@ ghost use Rattle.vp9_types.specs.Reading.{after};
 ghost use Rattle.vp9_types.specs.declared.rule.Rule.{Rule};
 ghost use Rattle.bool_decoder.specs.Bools.{run_bools};
 ghost use Rattle.prob_contexts.specs.declared.kind.CountedBool.{CountedBool};
-ghost use Rattle.counting_reader.specs.Counting.{Settled, Standing, settle, count, uncounted, run_counting, in_order, counted_at, with_same_counts, silent, read_silently};
+ghost use Rattle.counting_reader.specs.Counting.{Settled, settle, count, uncounted, in_order};
+ghost use Rattle.counting_reader.specs.Code.{Standing, run_counting, counted_at, with_same_counts, silent, read_silently};
 
 /// What a counting syntax reads and counts, part by part; and who doesn't count reads the same, and leaves the counts.
 /// `A` and `B` are what syntaxes settle on.

@@ -6,7 +6,7 @@ use Rattle.vp9_types.specs.declared.rule.Rule.{Rule}
 use Rattle.vp9_types.specs.declared.shape.Shape.{Shape}
 use Rattle.frame_headers.specs.Spans.{tile_spans}
 use Rattle.counting_reader.specs.Counting.{Settled}
-use Rattle.prob_contexts.specs.Counted.{counts_after, joined_counts, no_counts}
+use Rattle.prob_contexts.specs.Code.{counts_after, joined_counts, no_counts}
 use Rattle.prob_contexts.specs.declared.kind.CountedBool.{CountedBool}
 use Rattle.prob_contexts.proofs.Joining.{parts_joined}
 use Rattle.frame_state.specs.Code.{counts_if}

@@ -3,7 +3,7 @@ use Rattle.std.specs.Prelude.{◌≡◌, ◌<◌, ℕ, zero, suc, Bool, List, le
 use Rattle.vp9_types.specs.declared.job.Span.{Span}
 use Rattle.vp9_types.specs.declared.rule.Rule.{Rule}
 use Rattle.counting_reader.specs.Counting.{Settled}
-use Rattle.prob_contexts.specs.Counted.{joined_counts, no_counts}
+use Rattle.prob_contexts.specs.Code.{joined_counts, no_counts}
 use Rattle.frame_state.specs.Code.{counts_if}
 use Rattle.frame_state.specs.Laws.{columns_across}
 use Rattle.frame_state.specs.ColumnPlans.{ColumnRead, plan_of, tile_bytes}

@@ -4,7 +4,7 @@ ghost use Rattle.std.specs.Prelude.{◌≡◌, ◌↔◌, ℕ, Bool, List, lengt
 ghost use Rattle.vp9_types.specs.declared.rule.Rule.{Rule};
 ghost use Rattle.vp9_types.specs.declared.job.Span.{Span};
 ghost use Rattle.frame_headers.specs.Spans.{tile_spans};
-ghost use Rattle.prob_contexts.specs.Counted.{no_counts};
+ghost use Rattle.prob_contexts.specs.Code.{no_counts};
 ghost use Rattle.frame_state.specs.Laws.{earlier, least_verdict};
 ghost use Rattle.frame_state.specs.FrameReading.{read_all_tiles};
 ghost use Rattle.frame_state.specs.Sources.{FrameSources};

@@ -4,7 +4,8 @@ use Rattle.std.specs.Prelude.{IfSome, Ok, Err, None, Option, Result, Some, true}
 use Rattle.vp9_types.specs.Maps.{FrameMap}
 use Rattle.vp9_types.specs.declared.rule.Rule.{Rule}
 use Rattle.vp9_types.specs.declared.shape.Shape.{Shape}
-use Rattle.counting_reader.specs.Counting.{Settled, Standing, lifted, run_counting}
+use Rattle.counting_reader.specs.Counting.{Settled, lifted}
+use Rattle.counting_reader.specs.Code.{Standing, run_counting}
 use Rattle.counting_reader.proofs.CountingRuns.{counting_bind, run_settle}
 use Rattle.block_plan.specs.Code.{planned_with}
 use Rattle.block_plan.specs.Planned.{PlannedBlock}

@@ -10,8 +10,8 @@ use Rattle.vp9_types.specs.Syntax.{Syntax, done}
 use Rattle.vp9_types.specs.declared.rule.Rule.{Rule}
 use Rattle.bool_decoder.specs.Bools.{run_bools}
 use Rattle.bool_decoder.specs.Window.{Window, started}
-use Rattle.counting_reader.specs.Counting.{Settled, lifted, settle, mapped, counted_if}
-use Rattle.counting_reader.specs.Code.{standing_of}
+use Rattle.counting_reader.specs.Counting.{Settled, lifted, settle, mapped}
+use Rattle.counting_reader.specs.Code.{standing_of, counted_if}
 use Rattle.counting_reader.specs.declared.reader.CountingReader.{CountingReader}
 use Rattle.planes.specs.declared.frame_planes.FramePlanes.{FramePlanes}
 use Rattle.frame_state.specs.declared.columns.TileColumn.{TileColumn}

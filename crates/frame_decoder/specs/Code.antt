@@ -10,8 +10,8 @@ use Rattle.frame_headers.specs.HeaderState.{shape_of}
 use Rattle.frame_headers.specs.declared.header.Header.{Header}
 use Rattle.prob_contexts.specs.ProbLists.{lists_of}
 use Rattle.prob_contexts.specs.declared.kind.CountedBool.{CountedBool}
-use Rattle.counting_reader.specs.Code.{Reads, standing_of}
-use Rattle.counting_reader.specs.Counting.{Settled, counted_if, lifted, settle, run_counting}
+use Rattle.counting_reader.specs.Code.{Reads, standing_of, counted_if, run_counting}
+use Rattle.counting_reader.specs.Counting.{Settled, lifted, settle}
 use Rattle.counting_reader.specs.Counting as counting
 use Rattle.counting_reader.specs.declared.reader.CountingReader.{CountingReader}
 use Rattle.block_geometry.specs.declared.transform_blocks.FramePlaces.{FramePlaces}

@@ -6,7 +6,7 @@ ghost use Rattle.frame_headers.specs.Spans.{tile_count, tile_spans};
 ghost use Rattle.frame_headers.specs.HeaderState.{shape_of};
 ghost use Rattle.frame_headers.specs.Tiles.{AreFewTiles};
 ghost use Rattle.planes.specs.Pictures.{IsBlank};
-ghost use Rattle.prob_contexts.specs.Counted.{no_counts};
+ghost use Rattle.prob_contexts.specs.Code.{no_counts};
 ghost use Rattle.prob_contexts.specs.ProbLists.{lists_of};
 ghost use Rattle.frame_state.specs.Code.{IsBegun, sources_of};
 ghost use Rattle.frame_state.specs.KeptColumns.{AreTileColumns};

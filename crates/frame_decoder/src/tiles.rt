@@ -5,7 +5,7 @@ ghost use Rattle.frame_headers.specs.Spans.{tile_count, tile_spans};
 ghost use Rattle.frame_headers.specs.HeaderState.{shape_of};
 ghost use Rattle.frame_headers.specs.Tiles.{AreFewTiles};
 ghost use Rattle.vp9_types.specs.Sizes.{greatest, superblocks_along};
-ghost use Rattle.prob_contexts.specs.Counted.{no_counts};
+ghost use Rattle.prob_contexts.specs.Code.{no_counts};
 ghost use Rattle.mode_syntax.specs.Walk.{decode_row, decode_tile};
 ghost use Rattle.frame_state.specs.Code.{counts_if, sources_of, read_whole, IsReady, SameColumns};
 ghost use Rattle.frame_state.specs.KeptColumns.{AreTileColumns};

@@ -15,9 +15,9 @@ use Rattle.vp9_types.specs.declared.shape.Shape.{Shape}
 use Rattle.frame_headers.specs.HeaderState.{shape_of}
 use Rattle.frame_headers.specs.declared.header.Header.{Header}
 use Rattle.frame_headers.specs.declared.tiles.TileInfo.{TileInfo}
-use Rattle.prob_contexts.specs.Counted.{counts_after, no_counts, with_bool}
+use Rattle.prob_contexts.specs.Code.{counts_after, no_counts, with_bool}
 use Rattle.prob_contexts.specs.declared.kind.CountedBool.{CountedBool}
-use Rattle.counting_reader.specs.Counting.{counted_if}
+use Rattle.counting_reader.specs.Code.{counted_if}
 use Rattle.std.proofs.lemmas.List.Sums.{fold-append}
 use Rattle.block_geometry.specs.FrameShapes.{places_of}
 use Rattle.block_geometry.specs.declared.transform_blocks.FramePlaces.{FramePlaces}

@@ -6,8 +6,8 @@ use Rattle.vp9_types.specs.Syntax.{Syntax, done, broken, ask}
 use Rattle.vp9_types.specs.declared.rule.Rule.{Rule}
 use Rattle.bool_decoder.specs.Bools.{run_bools}
 use Rattle.bool_decoder.specs.Window.{Window, started, bit_of, after_bit}
-use Rattle.counting_reader.specs.Counting.{Settled, Standing, mapped, with_counts, counted_if, run_counting}
-use Rattle.counting_reader.specs.Code.{Reads, counts_by, standing_of}
+use Rattle.counting_reader.specs.Counting.{Settled, mapped}
+use Rattle.counting_reader.specs.Code.{Reads, counts_by, standing_of, Standing, with_counts, counted_if, run_counting}
 use Rattle.prob_contexts.specs.declared.kind.CountedBool.{CountedBool}
 use Rattle.counting_reader.specs.declared.reader.CountingReader.{CountingReader}
 use Rattle.frame_state.specs.Code.{settled_of, read_whole}

@@ -11,7 +11,7 @@ use Rattle.frame_headers.specs.Spans.{tile_spans}
 use Rattle.frame_headers.specs.HeaderState.{shape_of}
 use Rattle.frame_headers.specs.declared.header.Header.{Header}
 use Rattle.frame_setting.specs.declared.setting.FrameSetting.{FrameSetting}
-use Rattle.prob_contexts.specs.Counted.{counts_after, no_counts}
+use Rattle.prob_contexts.specs.Code.{counts_after, no_counts}
 use Rattle.prob_contexts.specs.ProbLists.{ContextLists, lists_of}
 use Rattle.prob_contexts.specs.declared.kind.CountedBool.{CountedBool}
 use Rattle.counting_reader.specs.Counting.{Settled}

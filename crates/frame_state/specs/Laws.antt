@@ -6,7 +6,7 @@ use Rattle.frame_headers.specs.Spans.{tile_count}
 use Rattle.frame_headers.specs.declared.header.Header.{Header}
 use Rattle.counting_reader.specs.Counting.{Settled}
 use Rattle.prob_contexts.specs.declared.kind.CountedBool.{CountedBool}
-use Rattle.prob_contexts.specs.Counted.{counts_after, joined_counts, no_counts}
+use Rattle.prob_contexts.specs.Code.{counts_after, joined_counts, no_counts}
 use Rattle.frame_state.specs.ColumnPlans.{ColumnRead}
 use Rattle.frame_state.specs.FrameReading.{FrameRead, column_at}
 use Rattle.frame_state.specs.TilePlaces.{column_of}

@@ -24,7 +24,8 @@ use Rattle.inter_modes.specs.LeftSegments.{segments_after, segments_of, updates}
 use Rattle.recon_rows.proofs.RowSteps.{in_column}
 use Rattle.vp9_types.specs.Maps.{Map}
 use Rattle.counting_reader.specs.Counting.{Settled}
-use Rattle.prob_contexts.specs.Counted.{counts_after, joined_counts, most_counted, no_counts}
+use Rattle.prob_contexts.specs.Counted.{most_counted}
+use Rattle.prob_contexts.specs.Code.{counts_after, joined_counts, no_counts}
 use Rattle.prob_contexts.specs.declared.kind.CountedBool.{CountedBool}
 use Rattle.prob_contexts.proofs.Joining.{added}
 use Rattle.frame_setting.specs.declared.setting.FrameSetting.{FrameSetting}

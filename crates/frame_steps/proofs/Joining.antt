@@ -12,7 +12,7 @@ use Rattle.frame_state.specs.ColumnPlans.{plan_of, tile_bytes}
 use Rattle.frame_state.specs.Sources.{adapts}
 use Rattle.frame_state.specs.declared.columns.TileColumn.{TileColumn}
 use Rattle.frame_close.specs.Code.{GivesColumn, result_at}
-use Rattle.prob_contexts.specs.Counted.{joined_counts, no_counts}
+use Rattle.prob_contexts.specs.Code.{joined_counts, no_counts}
 use Rattle.tile_syntax.specs.declared.plans.Unplanned.{Unplanned}
 use Rattle.tile_syntax.specs.declared.plans.Unplanned.TheVariants as unplanned
 use Rattle.frame_steps.specs.StepResults.{AreCopies, IsColumn, IsCopyAsRead, IsSound, sources_by}

@@ -4,7 +4,7 @@ ghost use Rattle.std.specs.Prelude.{◌≡◌, ◌<◌, ◌^◌, IfOk};
 ghost use Rattle.frame_headers.specs.Spans.{tile_count};
 ghost use Rattle.frame_headers.specs.Tiles.{AreFewTiles};
 ghost use Rattle.frame_state.specs.KeptColumns.{IsTileColumn};
-ghost use Rattle.prob_contexts.specs.Counted.{joined_counts, no_counts};
+ghost use Rattle.prob_contexts.specs.Code.{joined_counts, no_counts};
 
 use block_plan::BlockGrid;
 use frame_setting::FrameSetting;

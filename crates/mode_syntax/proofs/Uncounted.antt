@@ -5,7 +5,8 @@ use Rattle.vp9_types.specs.Syntax.{Syntax, done, broken, ask, ◌>>=◌}
 use Rattle.vp9_types.specs.Reading.{after}
 use Rattle.vp9_types.specs.declared.rule.Rule.{Rule}
 use Rattle.bool_decoder.specs.Window.{bit_of, after_bit}
-use Rattle.counting_reader.specs.Counting.{Standing, uncounted, run_counting}
+use Rattle.counting_reader.specs.Counting.{uncounted}
+use Rattle.counting_reader.specs.Code.{Standing, run_counting}
 use Rattle.counting_reader.proofs.CountingRuns.{run_uncounted}
 
 pub uncounted_done : {A : Type 0} (x : A) (m : Standing) → run_counting (uncounted (done x)) m ≡ Ok (x, m)

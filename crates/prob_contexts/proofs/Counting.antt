@@ -1,15 +1,17 @@
 -- Counts stand for lists of bools.
 use Rattle.std.proofs.Common.{◌≡◌, ◌<◌, ◌≤◌, ◌+◌, ◌*◌, ◌-◌, ◌^◌, ◌/◌, ◌%◌, ◌&&◌, ◌||◌, not, inl, inr, ℕ, true, false, refl, sym, ◌∙◌, ap, arith, List, [], ◌∷◌, ◌++◌, length, get_or, take, set, cond, Bool}
-use Rattle.std.specs.Prelude.{min, nat_lt, nat_le, nat_eq, sum, count_by, slice_index}
+use Rattle.std.specs.Prelude.{min, nat_lt, nat_le, nat_eq, sum, count_by, slice_index, if◌then◌else◌}
 use Rattle.std.specs.List.{sum_by, AllByRecursion}
-use Rattle.std.proofs.lemmas.Bool.{cases_Bool, cases_order, and_parts, agree_below_at, eqb-true, eq-eqb, leb-true, lt-ltb}
+use Rattle.std.proofs.Math.Nat.{min-le_right}
+use Rattle.std.proofs.lemmas.Bool.{cases_Bool, cases_eq, cases_order, and_parts, agree_below_at, eqb-true, eq-eqb, ne_eqb, leb-true, lt-ltb, ltb-true}
 use Rattle.std.proofs.lemmas.List.{length_push, get_or-set_same, get_or-set_other, length-set, length-replicate, get_or-replicate, append_assoc, append-nil}
-use Rattle.std.proofs.lemmas.List.Sums.{count_by-le-length, sum_by-set, sum_by_push, sum_by_from}
+use Rattle.std.proofs.lemmas.List.Sums.{count_by-le-length, sum_by-cons, sum_by-set, sum_by_push, sum_by_from}
 use Rattle.prob_contexts.specs.declared.kind.CountedBool.{CountedBool}
 use Rattle.prob_contexts.specs.declared.kind.ProbKind.{ProbKind}
 use Rattle.prob_contexts.specs.declared.kind.ProbKind.TheVariants as kind
-use Rattle.prob_contexts.specs.Kinds.{kind_number, kind_sizes, kind_start}
-use Rattle.prob_contexts.specs.Counted.{StandFor, IsCounted, no_counts, with_bool, counts_after, most_counted, counter_place, counter_of, bool_number, is_same}
+use Rattle.prob_contexts.specs.Kinds.{kind_number, kind_size, kind_sizes}
+use Rattle.prob_contexts.specs.Code.{StandFor, kind_start, no_counts, with_bool, counts_after, counter_place, counter_of}
+use Rattle.prob_contexts.specs.Counted.{IsCounted, most_counted, bool_number, is_same, times_counted}
 
 number_low : (k : ProbKind) → kind_number k < 23
 number_low kind.Tx8x8 = omega arith
@@ -103,6 +105,108 @@ place_low b lb = let last = last_low (kind_number b.kind) (number_low b.kind) in
     last_low : (n : ℕ) → n < 23 → start_of n + slice_index kind_sizes n ≤ 1895
     last_low n low = leb-true (start_of n + slice_index kind_sizes n) 1895 (agree_below_at (λ n. nat_le (start_of n + slice_index kind_sizes n) 1895) (λ _. true) 23 n refl low)
 
+---- One more bool ----
+
+abbrev one_set : List ℕ → CountedBool → List ℕ
+one_set counts b = set counts (counter_place b) (min (counter_of counts b + 1) most_counted)
+
+with_counted : (counts : List ℕ) (b : CountedBool) → IsCounted b → with_bool counts b ≡ one_set counts b
+unfolding with_bool
+with_counted counts b lb = rw (lt-ltb b.place (kind_size b.kind) lb) refl
+
+pub if_by : {A : Type 0} (P : A → Type 0) (t : Bool) (x y : A) → P x → P y → P (if t then x else y)
+if_by P true x y p q = p
+if_by P false x y p q = q
+
+pub length_with : (counts : List ℕ) (b : CountedBool) → length (with_bool counts b) ≡ length counts
+unfolding with_bool
+length_with counts b = if_by (λ l. length l ≡ length counts) (nat_lt b.place (kind_size b.kind)) (one_set counts b) counts (length-set _ _ _) refl
+
+-- it is counted at a place
+abbrev pub counts_at : ℕ → CountedBool → Bool
+counts_at i b = nat_lt b.place (kind_size b.kind) && nat_eq (counter_place b) i
+
+one_at_place : (counts : List ℕ) (i p : ℕ) (t : Bool) → i < length counts → get_or counts i 0 ≤ most_counted
+    → get_or (if t then set counts p (min (get_or counts p 0 + 1) most_counted) else counts) i 0 ≡ min (get_or counts i 0 + cond (t && nat_eq p i) 1 0) most_counted
+one_at_place counts i p true low most = elim (cases_eq p i) [
+  | inl here ↦ rw (eq-eqb p i here, here) (get_or-set_same counts i (min (get_or counts i 0 + 1) most_counted) 0 low)
+  | inr there ↦ rw (ne_eqb p i there) (get_or-set_other counts p i (min (get_or counts p 0 + 1) most_counted) 0 (λ e. there (sym e)) ∙ omega (arith, most))
+]
+one_at_place counts i p false low most = omega (arith, most)
+
+bool_at_place : (counts : List ℕ) (b : CountedBool) (i : ℕ) → i < length counts → get_or counts i 0 ≤ most_counted
+    → get_or (with_bool counts b) i 0 ≡ min (get_or counts i 0 + cond (counts_at i b) 1 0) most_counted
+unfolding with_bool
+bool_at_place counts b i low most = one_at_place counts i (counter_place b) (nat_lt b.place (kind_size b.kind)) low most
+
+---- All bools ----
+
+sums : (c d n : ℕ) → min (min (c + d) most_counted + n) most_counted ≡ min (c + (d + n)) most_counted
+sums c d n = omega arith
+
+pub counter_after : (counts : List ℕ) (bools : List CountedBool) (i : ℕ) → i < length counts → get_or counts i 0 ≤ most_counted
+    → get_or (counts_after counts bools) i 0 ≡ min (get_or counts i 0 + count_by (counts_at i) bools) most_counted
+unfolding counts_after
+counter_after counts [] i low most = omega (arith, most)
+counter_after counts (b ∷ bools) i low most =
+    let now = bool_at_place counts b i low most in
+    let here : i < length (with_bool counts b) = omega (arith, low, length_with counts b) in
+    let within : get_or (with_bool counts b) i 0 ≤ most_counted = rw now (min-le_right (get_or counts i 0 + cond (counts_at i b) 1 0) most_counted) in
+    let count : count_by (counts_at i) (b ∷ bools) ≡ cond (counts_at i b) 1 0 + count_by (counts_at i) bools = sum_by-cons (λ x. cond (counts_at i x) 1 0) b bools in
+    counter_after (with_bool counts b) bools i here within
+    ∙ (ap (λ c. min (c + count_by (counts_at i) bools) most_counted) now
+    ∙ (sums (get_or counts i 0) (cond (counts_at i b) 1 0) (count_by (counts_at i) bools) ∙ ap (λ n. min (get_or counts i 0 + n) most_counted) (sym count)))
+
+counts_there : (b x : CountedBool) → IsCounted b → is_same b x ≡ true → counts_at (counter_place b) x ≡ true
+counts_there b x lb t =
+    let one = and_parts (nat_eq (kind_number b.kind) (kind_number x.kind)) (nat_eq b.place x.place && nat_eq (bool_number b.one) (bool_number x.one)) t in
+    let two = and_parts (nat_eq b.place x.place) (nat_eq (bool_number b.one) (bool_number x.one)) one.1 in
+    let kinds : kind_number b.kind ≡ kind_number x.kind = eqb-true _ _ one.0 in
+    let sizes : kind_size b.kind ≡ kind_size x.kind = ap (slice_index kind_sizes) kinds in
+    let places : b.place ≡ x.place = eqb-true _ _ two.0 in
+    let low : x.place < kind_size x.kind = omega (arith, lb, sizes, places) in
+    rw (lt-ltb x.place (kind_size x.kind) low, eq-eqb (counter_place x) (counter_place b) (sym (same_place b x t))) refl
+
+counts_elsewhere : (b x : CountedBool) → IsCounted b → is_same b x ≡ false → counts_at (counter_place b) x ≡ false
+counts_elsewhere b x lb other = elim (cases_Bool (nat_lt x.place (kind_size x.kind))) [
+  | inl inside ↦ elim (cases_eq (counter_place x) (counter_place b)) [
+    | inl here ↦
+        let same = same_bool b x lb (ltb-true x.place (kind_size x.kind) inside) (sym here) in
+        let no : ⊥ = cc in
+        absurd no
+    | inr there ↦ rw (inside, ne_eqb (counter_place x) (counter_place b) there) refl
+  ]
+  | inr outside ↦ rw outside refl
+]
+
+same_counts : (b x : CountedBool) → IsCounted b → counts_at (counter_place b) x ≡ is_same b x
+same_counts b x lb = elim (cases_Bool (is_same b x)) [
+  | inl same ↦ counts_there b x lb same ∙ sym same
+  | inr other ↦ counts_elsewhere b x lb other ∙ sym other
+]
+
+count_same : (p q : CountedBool → Bool) → ((x : CountedBool) → p x ≡ q x) → (xs : List CountedBool) → count_by p xs ≡ count_by q xs
+count_same p q same [] = refl
+count_same p q same (x ∷ xs) =
+    sum_by-cons (λ x. cond (p x) 1 0) x xs
+    ∙ (ap (λ t. cond t 1 0 + count_by p xs) (same x) ∙ (ap (λ n. cond (q x) 1 0 + n) (count_same p q same xs) ∙ sym (sum_by-cons (λ x. cond (q x) 1 0) x xs)))
+
+-- a counter tells how often its bool was counted
+pub counter_is : (bools : List CountedBool) (b : CountedBool) → IsCounted b → counter_of (counts_after no_counts bools) b ≡ times_counted bools b
+unfolding times_counted
+counter_is bools b lb =
+    let at_none : get_or no_counts (counter_place b) 0 ≡ 0 = get_or-replicate 3790 (counter_place b) 0 0 (place_low b lb) in
+    let low : counter_place b < length no_counts = rw (length-replicate {A = ℕ} 3790 0) (place_low b lb) in
+    let within : get_or no_counts (counter_place b) 0 ≤ most_counted = omega (arith, at_none) in
+    let count = count_same (counts_at (counter_place b)) (is_same b) (λ x. same_counts b x lb) bools in
+    counter_after no_counts bools (counter_place b) low within
+    ∙ ap (λ n. min n most_counted) (ap (λ c. c + count_by (counts_at (counter_place b)) bools) at_none ∙ (from_none (count_by (counts_at (counter_place b)) bools) ∙ count))
+  where
+    from_none : (n : ℕ) → 0 + n ≡ n
+    from_none n = omega arith
+
+---- Fewer than 2 ^ 64 bools ----
+
 count_push : (p : CountedBool → Bool) (xs : List CountedBool) (x : CountedBool) → count_by p (xs ++ x ∷ []) ≡ count_by p xs + cond (p x) 1 0
 count_push p xs x = sum_by_push (λ x. cond (p x) 1 0) xs x
 
@@ -117,12 +221,11 @@ total_more xs i low =
     omega arith
 
 pub one_more : (counts : List ℕ) (bools : List CountedBool) (b : CountedBool) → StandFor counts bools → IsCounted b → length bools < 2 ^ 64 - 1 → StandFor (with_bool counts b) (bools ++ b ∷ [])
-unfolding with_bool
 one_more counts bools b s lb few =
     let low : counter_place b < length counts = rw s.size (place_low b lb) in
     let most : counter_of counts b ≤ length bools = rw (s.each b lb) (count_by-le-length (is_same b) bools) in
     let plain : min (counter_of counts b + 1) most_counted ≡ counter_of counts b + 1 = omega arith in
-    rw plain record {
+    rw (with_counted counts b lb, plain) record {
       size = length-set _ _ _ ∙ s.size;
       each = λ a la. rw (count_push (is_same a) bools b, sym (s.each a la)) (elim (cases_Bool (is_same a b)) [
         | inl same ↦ rw (same, same_place a b same) (get_or-set_same counts (counter_place b) (counter_of counts b + 1) 0 low)

@@ -1,14 +1,16 @@
 -- Counts of two parts added up.
 use Rattle.std.proofs.Common.{◌≡◌, ◌<◌, ◌≤◌, ◌+◌, ◌^◌, ℕ, zero, suc, refl, sym, ◌∙◌, ap, arith, List, [], ◌∷◌, ◌++◌, length, get_or, take, drop, set, cond}
-use Rattle.std.specs.Prelude.{replicate, min, sum, count_by}
+use Rattle.std.specs.Prelude.{Bool, true, false, replicate, min, nat_lt, sum, count_by, if◌then◌else◌}
 use Rattle.std.specs.List.{sum_by}
-use Rattle.std.proofs.lemmas.List.{length-append, length-set, length-replicate, get_or-drop, drop-drop, drop-set-lt, length-take-le, take_more_set}
+use Rattle.std.proofs.lemmas.List.{length-append, length-replicate, get_or-drop, drop-drop, drop-set-lt, length-take-le, take_more_set}
 use Rattle.std.proofs.Math.Nat.{min-le_right}
 use Rattle.std.proofs.lemmas.Grind.{take_at_read}
 use Rattle.std.proofs.lemmas.List.Sums.{count_by-le-length, sum_by-append, sum_by_from}
 use Rattle.prob_contexts.specs.declared.kind.CountedBool.{CountedBool}
-use Rattle.prob_contexts.specs.Counted.{StandFor, most_counted, counter_place, counter_of, joined_counts, counts_after, with_bool, no_counts, is_same}
-use Rattle.prob_contexts.proofs.Counting.{place_low}
+use Rattle.prob_contexts.specs.Kinds.{kind_size}
+use Rattle.prob_contexts.specs.Code.{StandFor, counter_place, counter_of, joined_counts, counts_after, with_bool, no_counts}
+use Rattle.prob_contexts.specs.Counted.{most_counted, is_same}
+use Rattle.prob_contexts.proofs.Counting.{if_by, length_with, place_low}
 
 length_joined : (a b : List ℕ) → length b ≡ length a → length (joined_counts a b) ≡ length a
 unfolding joined_counts
@@ -99,13 +101,24 @@ joined_set (x ∷ xs) (y ∷ ys) zero e =
     ap (λ n. n ∷ joined_counts xs ys) one
 joined_set (x ∷ xs) (y ∷ ys) (suc p) e = ap (λ r. min (x + y) most_counted ∷ r) (joined_set xs ys p (omega arith))
 
+joined_if : (t : Bool) (c d : List ℕ) (p : ℕ) → length d ≡ length c
+    → joined_counts c (if t then set d p (min (get_or d p 0 + 1) most_counted) else d)
+    ≡ (if t then set (joined_counts c d) p (min (get_or (joined_counts c d) p 0 + 1) most_counted) else joined_counts c d)
+joined_if true c d p e = joined_set c d p e
+joined_if false c d p e = refl
+
+joined_with : (counts others : List ℕ) (b : CountedBool) → length others ≡ length counts
+    → joined_counts counts (with_bool others b) ≡ with_bool (joined_counts counts others) b
+unfolding with_bool
+joined_with counts others b e = joined_if (nat_lt b.place (kind_size b.kind)) counts others (counter_place b) e
+
 pub counted_on : (counts others : List ℕ) (more : List CountedBool) → length others ≡ length counts
     → joined_counts counts (counts_after others more) ≡ counts_after (joined_counts counts others) more
-unfolding counts_after with_bool
+unfolding counts_after
 counted_on counts others [] e = refl
 counted_on counts others (b ∷ more) e =
-    counted_on counts (with_bool others b) more (length-set _ _ _ ∙ e)
-    ∙ ap (λ l. counts_after l more) (joined_set counts others (counter_place b) e)
+    counted_on counts (with_bool others b) more (length_with others b ∙ e)
+    ∙ ap (λ l. counts_after l more) (joined_with counts others b e)
 
 none_joined : (counts : List ℕ) (n : ℕ) → length counts ≡ n → ((k : ℕ) → get_or counts k 0 ≤ most_counted) → joined_counts counts (replicate n 0) ≡ counts
 unfolding joined_counts
@@ -126,10 +139,10 @@ unfolding counts_after
 after_both counts [] more = refl
 after_both counts (b ∷ bools) more = after_both (with_bool counts b) bools more
 
-length_after : (counts : List ℕ) (bools : List CountedBool) → length (counts_after counts bools) ≡ length counts
-unfolding counts_after with_bool
+pub length_after : (counts : List ℕ) (bools : List CountedBool) → length (counts_after counts bools) ≡ length counts
+unfolding counts_after
 length_after counts [] = refl
-length_after counts (b ∷ bools) = length_after (with_bool counts b) bools ∙ length-set _ _ _
+length_after counts (b ∷ bools) = length_after (with_bool counts b) bools ∙ length_with counts b
 
 set_within : (xs : List ℕ) (i v : ℕ) → v ≤ most_counted → ((k : ℕ) → get_or xs k 0 ≤ most_counted) → (k : ℕ) → get_or (set xs i v) k 0 ≤ most_counted
 set_within [] i v low within k = within k
@@ -138,12 +151,16 @@ set_within (x ∷ xs) zero v low within (suc k) = within (suc k)
 set_within (x ∷ xs) (suc i) v low within zero = within 0
 set_within (x ∷ xs) (suc i) v low within (suc k) = set_within xs i v low (λ j. within (suc j)) k
 
+with_within : (counts : List ℕ) (b : CountedBool) → ((k : ℕ) → get_or counts k 0 ≤ most_counted) → (k : ℕ) → get_or (with_bool counts b) k 0 ≤ most_counted
+unfolding with_bool
+with_within counts b within =
+    if_by (λ l. (k : ℕ) → get_or l k 0 ≤ most_counted) (nat_lt b.place (kind_size b.kind)) (set counts (counter_place b) (min (counter_of counts b + 1) most_counted)) counts
+    (set_within counts (counter_place b) (min (counter_of counts b + 1) most_counted) (min-le_right (counter_of counts b + 1) most_counted) within) within
+
 after_within : (counts : List ℕ) (bools : List CountedBool) → ((k : ℕ) → get_or counts k 0 ≤ most_counted) → (k : ℕ) → get_or (counts_after counts bools) k 0 ≤ most_counted
-unfolding counts_after with_bool
+unfolding counts_after
 after_within counts [] within = within
-after_within counts (b ∷ bools) within =
-    after_within (with_bool counts b) bools
-    (set_within counts (counter_place b) (min (counter_of counts b + 1) most_counted) (min-le_right (counter_of counts b + 1) most_counted) within)
+after_within counts (b ∷ bools) within = after_within (with_bool counts b) bools (with_within counts b within)
 
 none_within : (n k : ℕ) → get_or (replicate n 0) k 0 ≤ most_counted
 none_within zero k = omega arith

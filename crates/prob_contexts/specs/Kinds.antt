@@ -1,5 +1,5 @@
--- How many probabilities each kind has, and where its list starts in all lists joined.
-use Rattle.std.specs.Prelude.{ℕ, List, [], ◌∷◌, take, slice_index, sum}
+-- How many probabilities each kind has.
+use Rattle.std.specs.Prelude.{ℕ, List, [], ◌∷◌, slice_index}
 use Rattle.prob_contexts.specs.declared.kind.ProbKind.{ProbKind}
 use Rattle.prob_contexts.specs.declared.kind.ProbKind.TheVariants as kind
 
@@ -35,7 +35,3 @@ kind_sizes =
 
 abbrev pub kind_size : ProbKind → ℕ
 kind_size k = slice_index kind_sizes (kind_number k)
-
--- each kind starts where those before it end
-abbrev pub kind_start : ProbKind → ℕ
-kind_start k = sum (take (kind_number k) kind_sizes)

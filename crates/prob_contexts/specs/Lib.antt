@@ -1,4 +1,5 @@
 pub mod ProbLists
 pub mod Kinds
 pub mod Counted
+pub mod Code
 pub mod Defaults

@@ -19,7 +19,7 @@ impl Model for Counts {
 }
 
 impl Counts {
-    ghost use Rattle.prob_contexts.specs.Counted.{no_counts, with_bool, joined_counts, counter_of};
+    ghost use Rattle.prob_contexts.specs.Code.{no_counts, with_bool, joined_counts, counter_of};
     ghost use Rattle.prob_contexts.specs.Kinds.{kind_size};
 
     /// Nothing is counted.
@@ -59,7 +59,7 @@ impl Counts {
     }
 }
 
-ghost use Rattle.prob_contexts.specs.Counted.{counter_place, joined_counts};
+ghost use Rattle.prob_contexts.specs.Code.{counter_place, joined_counts};
 ghost use Rattle.prob_contexts.specs.Kinds.{kind_size};
 
 #[inline(always)]

@@ -38,7 +38,8 @@ pub struct CountedBool {
 }
 
 ghost use Rattle.std.specs.Prelude.{◌≡◌, ◌+◌, ◌≤◌, ℕ};
-ghost use Rattle.prob_contexts.specs.Kinds.{kind_start, kind_size};
+ghost use Rattle.prob_contexts.specs.Code.{kind_start};
+ghost use Rattle.prob_contexts.specs.Kinds.{kind_size};
 
 impl ProbKind {
     /// Where the list of a kind starts in all lists joined.

@@ -2,8 +2,14 @@
 
 ghost use Rattle.std.specs.Prelude.{◌≡◌, ℕ, ◌+◌, ◌-◌, ◌^◌, ◌<◌, ◌≤◌, List, [], ◌∷◌, ◌++◌, length, slice_index};
 ghost use Rattle.prob_contexts.specs.declared.kind.CountedBool.{CountedBool};
-ghost use Rattle.prob_contexts.specs.Counted.{StandFor, most_counted, IsCounted, no_counts, with_bool, counts_after, joined_counts, number_counted};
+ghost use Rattle.prob_contexts.specs.Code.{StandFor, no_counts, with_bool, counts_after, joined_counts, counter_of};
+ghost use Rattle.prob_contexts.specs.Counted.{most_counted, IsCounted, times_counted};
 ghost use Rattle.std.specs.List.{AllByRecursion};
+
+/// The counters of these bools tell how often each was counted.
+pub fn counters_tell_how_often()
+    ensures { (bools : List CountedBool) (b : CountedBool) → IsCounted b → counter_of (counts_after no_counts bools) b ≡ times_counted bools b }
+{}
 
 /// Counts stand for the list of the bools that were counted, if they are fewer than 2^64: each counter is the number of
 /// its bools.

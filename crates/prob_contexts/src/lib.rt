@@ -13,4 +13,4 @@ pub use counts::Counts;
 pub use defaults::default_contexts;
 pub use groups::{CoefProbs, InterProbs, TxProbs, VectorProbs};
 pub use kind::{CountedBool, ProbKind};
-pub use laws::{added_counts_are_counted, counts_stand_for_their_bools};
+pub use laws::{added_counts_are_counted, counters_tell_how_often, counts_stand_for_their_bools};

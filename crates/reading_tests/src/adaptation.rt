@@ -5,7 +5,7 @@ ghost use Rattle.prob_contexts.specs.Kinds.{kind_size};
 
 mod rows;
 
-use backward_adapt::{AdaptKind, InterKind, Rate, adapt, contexts_have_coef_sizes};
+use backward_adapt::{AdaptKind, InterKind, Rate, adapt, contexts_have_sizes};
 use prob_contexts::{Contexts, Counts, ProbKind, default_contexts};
 use std::alloc::{AllocError, Global};
 use test_draws::{Digest, Draws};
@@ -212,7 +212,7 @@ fn forward_contexts(alloc: Global) -> Result<Contexts, AllocError> {
 fn whole_frames(rt: HostRuntime) -> Result<(), AllocError> {
     let saved = default_contexts();
     let forward = forward_contexts(rt.alloc())?;
-    contexts_have_coef_sizes(forward);
+    contexts_have_sizes(forward);
     assert!(rt; marks(&forward) == rows::FORWARD);
     let counts = drawn_counts(rt.alloc(), 2, ALL)?;
     let intra = adapt(&saved, &forward, &counts, &AdaptKind::Intra);

@@ -12,7 +12,8 @@ use Rattle.block_geometry.specs.FrameShapes.{places_of}
 use Rattle.block_plan.specs.InPlanes.{plane_block, places_in}
 use Rattle.block_plan.specs.Planned.{Residues}
 use Rattle.block_plan.specs.declared.block.BlockInfo.{BlockInfo}
-use Rattle.counting_reader.specs.Counting.{Standing, run_counting, through}
+use Rattle.counting_reader.specs.Counting.{through}
+use Rattle.counting_reader.specs.Code.{Standing, run_counting}
 use Rattle.counting_reader.specs.declared.reader.CountingReader.{CountingReader}
 use Rattle.counting_reader.proofs.CountingRuns.{counting_bind, run_settle}
 use Rattle.frame_headers.specs.declared.header.Header.{Header}

@@ -19,7 +19,7 @@ use Rattle.block_geometry.proofs.Rasters.{length_grid}
 use Rattle.block_plan.proofs.Held.{held_next, one_long}
 use Rattle.block_plan.specs.Code.{residue_if, residues_held, IsSmall, AreSmall}
 use Rattle.block_plan.specs.Planned.{Residue, Residues}
-use Rattle.counting_reader.specs.Counting.{Standing, run_counting}
+use Rattle.counting_reader.specs.Code.{Standing, run_counting}
 use Rattle.counting_reader.proofs.CountingRuns.{counting_bind, run_settle}
 use Rattle.counting_reader.proofs.Throughs.{Reached, goes_on}
 use Rattle.residue_syntax.specs.Code.{IsBeside, KeepsLengths}

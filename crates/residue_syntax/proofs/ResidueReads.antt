@@ -11,7 +11,8 @@ use Rattle.prob_contexts.specs.ProbLists.{ContextLists}
 use Rattle.coef_tokens.specs.TokenKinds.{block_tables}
 use Rattle.coef_tokens.specs.Code.{HoldsLevels}
 use Rattle.coef_tokens.specs.Places.{Tokens, Read, level_at, block_tokens}
-use Rattle.counting_reader.specs.Counting.{Standing, run_counting, lifted}
+use Rattle.counting_reader.specs.Counting.{lifted}
+use Rattle.counting_reader.specs.Code.{Standing, run_counting}
 use Rattle.counting_reader.proofs.CountingRuns.{counting_bind, run_settle}
 use Rattle.residue_transforms.specs.Residue.{residue}
 use Rattle.block_plan.specs.Planned.{Residue}

@@ -13,8 +13,8 @@ use Rattle.block_plan.specs.Code.{residue_if}
 use Rattle.block_plan.specs.Planned.{Residue, Residues, PlannedBlock}
 use Rattle.block_plan.specs.declared.block.BlockInfo.{BlockInfo}
 use Rattle.block_geometry.specs.declared.transform_blocks.PlaneBlock.{PlaneBlock}
-use Rattle.counting_reader.specs.Code.{Reads, standing_of}
-use Rattle.counting_reader.specs.Counting.{Settled, run_counting}
+use Rattle.counting_reader.specs.Code.{Reads, standing_of, run_counting}
+use Rattle.counting_reader.specs.Counting.{Settled}
 use Rattle.counting_reader.specs.declared.reader.CountingReader.{CountingReader}
 use Rattle.residue_syntax.specs.BlocksInPlanes.{flag_row, flag_column}
 use Rattle.residue_syntax.specs.Residues.{ReadPlane, is_coded}

@@ -3,7 +3,8 @@ use Rattle.std.proofs.Common.{◌≡◌, ◌∙◌, ℕ, ◌+◌, ◌≤◌, ref
 use Rattle.std.specs.Prelude.{Option, Some, None, Result, Ok, Err}
 use Rattle.vp9_types.specs.Syntax.{Syntax}
 use Rattle.vp9_types.specs.declared.rule.Rule.{Rule}
-use Rattle.counting_reader.specs.Counting.{Settled, Standing, in_order, run_counting, settle}
+use Rattle.counting_reader.specs.Counting.{Settled, in_order, settle}
+use Rattle.counting_reader.specs.Code.{Standing, run_counting}
 use Rattle.counting_reader.proofs.CountingRuns.{counting_bind, run_settle}
 use Rattle.tile_reader.specs.Code.{Tile, SameTile, Rest, Breaks, EndsTile, then_rest}
 

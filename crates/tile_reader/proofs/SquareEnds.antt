@@ -9,7 +9,8 @@ use Rattle.vp9_types.specs.declared.block.Partition.TheVariants.{Whole, Horizont
 use Rattle.vp9_types.specs.declared.rule.Rule.{Rule}
 use Rattle.block_geometry.specs.SplitSquares.{part_size}
 use Rattle.block_plan.specs.declared.block.BlockAt.{BlockAt}
-use Rattle.counting_reader.specs.Counting.{Settled, run_counting, settle}
+use Rattle.counting_reader.specs.Counting.{Settled, settle}
+use Rattle.counting_reader.specs.Code.{run_counting}
 use Rattle.mode_syntax.specs.Partitions.{partition_at}
 use Rattle.mode_syntax.specs.Walk.{Walk, block_at, square_at, starts_inside, block_inside, smallest_parts, parts, decode_partition, quarter}
 use Rattle.mode_syntax.specs.declared.square_at.SquareAt.{SquareAt}

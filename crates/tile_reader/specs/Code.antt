@@ -5,7 +5,8 @@ use Rattle.vp9_types.specs.declared.block.Partition.{Partition}
 use Rattle.vp9_types.specs.declared.rule.Rule.{Rule}
 use Rattle.block_geometry.specs.BlockSizes.{width_8}
 use Rattle.block_plan.specs.declared.block.BlockAt.{BlockAt}
-use Rattle.counting_reader.specs.Counting.{Settled, Standing, in_order, run_counting}
+use Rattle.counting_reader.specs.Counting.{Settled, in_order}
+use Rattle.counting_reader.specs.Code.{Standing, run_counting}
 use Rattle.mode_syntax.specs.Partitions.{partition_at}
 use Rattle.mode_syntax.specs.Walk.{Walk}
 use Rattle.mode_syntax.specs.declared.square_at.SquareAt.{SquareAt}

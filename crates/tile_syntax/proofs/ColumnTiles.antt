@@ -14,9 +14,10 @@ use Rattle.vp9_types.specs.declared.rule.Rule.{Rule}
 use Rattle.frame_headers.specs.Spans.{tile_count, tile_spans}
 use Rattle.frame_headers.specs.declared.header.Header.{Header}
 use Rattle.frame_headers.specs.declared.tiles.TileInfo.{TileInfo}
-use Rattle.prob_contexts.specs.Counted.{counts_after, no_counts, with_bool}
+use Rattle.prob_contexts.specs.Code.{counts_after, no_counts, with_bool}
 use Rattle.prob_contexts.specs.declared.kind.CountedBool.{CountedBool}
-use Rattle.counting_reader.specs.Counting.{Settled, counted_if}
+use Rattle.counting_reader.specs.Counting.{Settled}
+use Rattle.counting_reader.specs.Code.{counted_if}
 use Rattle.mode_syntax.specs.TileColumns.{read_all, then_rest, tiles_of, with_counted}
 use Rattle.block_plan.specs.declared.block.BlockInfo.{BlockInfo}
 use Rattle.column_plan.specs.PlannedBlocks.{planned_blocks, total}

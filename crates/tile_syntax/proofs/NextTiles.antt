@@ -12,8 +12,8 @@ use Rattle.bool_decoder.specs.Bools.{run_bools}
 use Rattle.bool_decoder.specs.Window.{Window, started}
 use Rattle.frame_headers.specs.HeaderState.{shape_of}
 use Rattle.frame_setting.specs.declared.setting.FrameSetting.{FrameSetting}
-use Rattle.counting_reader.specs.Code.{standing_of}
-use Rattle.counting_reader.specs.Counting.{Settled, counted_if, mapped}
+use Rattle.counting_reader.specs.Code.{standing_of, counted_if}
+use Rattle.counting_reader.specs.Counting.{Settled, mapped}
 use Rattle.counting_reader.specs.declared.reader.CountingReader.{CountingReader}
 use Rattle.block_geometry.specs.FrameShapes.{places_of}
 use Rattle.residue_syntax.specs.Code.{FitPlanes}

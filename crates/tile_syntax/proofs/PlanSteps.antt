@@ -5,7 +5,7 @@ use Rattle.std.proofs.lemmas.List.{append-nil}
 use Rattle.vp9_types.specs.Syntax.{Syntax, broken}
 use Rattle.vp9_types.specs.declared.rule.Rule.{Rule}
 use Rattle.vp9_types.specs.declared.shape.Shape.{Shape}
-use Rattle.counting_reader.specs.Counting.{Settled, Standing, lifted, run_counting}
+use Rattle.counting_reader.specs.Counting.{Settled, lifted}
 use Rattle.counting_reader.proofs.CountingRuns.{counting_bind, run_settle}
 use Rattle.block_plan.specs.Code.{planned_with, HoldsSmall}
 use Rattle.block_plan.specs.Planned.{PlannedBlock}
@@ -21,7 +21,7 @@ use Rattle.frame_state.specs.Sources.{FrameSources}
 use Rattle.column_plan.specs.Code.{HoldsWhole, block_pieces}
 use Rattle.column_plan.specs.PlannedBlocks.{planned_blocks, planned_from, total}
 use Rattle.column_plan.proofs.Held.{infos_are, one_more_planned, all_are}
-use Rattle.counting_reader.specs.Code.{standing_of}
+use Rattle.counting_reader.specs.Code.{standing_of, Standing, run_counting}
 use Rattle.counting_reader.specs.declared.reader.CountingReader.{CountingReader}
 use Rattle.mode_syntax.specs.Walk.{Walk}
 use Rattle.tile_reader.specs.Code.{Breaks, EndsTile, Rest, Tile}

@@ -3,8 +3,8 @@ use Rattle.std.specs.Prelude.{◌≡◌, All, length, ℕ, Bool, List, [], ◌�
 use Rattle.vp9_types.specs.Syntax.{Syntax}
 use Rattle.vp9_types.specs.declared.rule.Rule.{Rule}
 use Rattle.vp9_types.specs.declared.shape.Shape.{Shape}
-use Rattle.counting_reader.specs.Code.{Reads, standing_of}
-use Rattle.counting_reader.specs.Counting.{Settled, counted_if, lifted, settle}
+use Rattle.counting_reader.specs.Code.{Reads, standing_of, counted_if}
+use Rattle.counting_reader.specs.Counting.{Settled, lifted, settle}
 use Rattle.counting_reader.specs.Counting as counting
 use Rattle.counting_reader.specs.declared.reader.CountingReader.{CountingReader}
 use Rattle.block_geometry.specs.declared.transform_blocks.FramePlaces.{FramePlaces}

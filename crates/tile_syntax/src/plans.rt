@@ -5,7 +5,7 @@ ghost use Rattle.vp9_types.specs.declared.job.Span.{Span};
 ghost use Rattle.frame_headers.specs.Spans.{tile_count, tile_spans};
 ghost use Rattle.frame_headers.specs.HeaderState.{shape_of};
 ghost use Rattle.frame_headers.specs.Tiles.{AreFewTiles};
-ghost use Rattle.prob_contexts.specs.Counted.{no_counts};
+ghost use Rattle.prob_contexts.specs.Code.{no_counts};
 ghost use Rattle.column_plan.specs.PlanRows.{place_of_row};
 ghost use Rattle.frame_headers.specs.declared.header.Header.{Header};
 ghost use Rattle.frame_state.specs.KeptColumns.{IsTileColumn};

@@ -5,8 +5,8 @@ use Rattle.backward_adapt.proofs.laws.a_list_is_adapted_in_order.Goals as goal
 
 pub returns-clause-merged : goal.returns-clause-merged
 unfolding adapted_from
-returns-clause-merged c = λ frame counts kind place saved forward rate is. merged_in_order (rate_of frame kind) rate counts kind place saved forward is
+returns-clause-merged c = λ frame times kind place saved forward rate is. merged_in_order (rate_of frame kind) rate times kind place saved forward is
 
 pub returns-clause-kept : goal.returns-clause-kept
 unfolding adapted_from
-returns-clause-kept c = λ frame counts kind place saved forward none same. sym (all_kept (rate_of frame kind) counts kind place saved forward none same)
+returns-clause-kept c = λ frame times kind place saved forward none same. sym (all_kept (rate_of frame kind) times kind place saved forward none same)

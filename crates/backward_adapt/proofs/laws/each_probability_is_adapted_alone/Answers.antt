@@ -9,6 +9,6 @@ pub returns-clause-each : goal.returns-clause-each
 returns-clause-each c = each_place
 
 pub returns-clause-uncoded : goal.returns-clause-uncoded
-returns-clause-uncoded c = λ frame counts saved forward kind place sizes low none same.
-    each_place frame counts saved forward kind place sizes low
-    ∙ uncoded (rate_of frame kind) counts kind place (prob_at saved kind place) (prob_at forward kind place) none same
+returns-clause-uncoded c = λ frame times saved forward kind place sizes low none same.
+    each_place frame times saved forward kind place sizes low
+    ∙ uncoded (rate_of frame kind) times kind place (prob_at saved kind place) (prob_at forward kind place) none same

@@ -1,6 +1,6 @@
 use Rattle.std.proofs.Common.{◌≡◌, map}
 use Rattle.std.specs.List.{range_with_len}
-use Rattle.prob_contexts.specs.Counted.{counts_after}
+use Rattle.prob_contexts.specs.Code.{counts_after}
 use Rattle.counting_reader.specs.CountedSymbols.{one_at}
 use Rattle.counting_reader.proofs.counting.count_unary.Given as goal
 

@@ -2,8 +2,7 @@ use Rattle.std.proofs.Common.{◌≡◌, ℕ, ◌<◌, ◌+◌, ◌∙◌, sym, 
 use Rattle.std.specs.List.{range_with_len}
 use Rattle.std.specs.Prelude.{Ok}
 use Rattle.std.proofs.lemmas.List.FromFn.{get_or-range_with_len, length-range_with_len}
-use Rattle.counting_reader.specs.Code.{standing_of}
-use Rattle.counting_reader.specs.Counting.{run_counting}
+use Rattle.counting_reader.specs.Code.{standing_of, run_counting}
 use Rattle.counting_reader.proofs.Throughs.{begins, goes_on, ends}
 use Rattle.prob_contexts.specs.ProbLists.{vector_lists}
 use Rattle.mv_syntax.specs.Components.{next_bit}

@@ -1,6 +1,6 @@
 use Rattle.std.proofs.Common.{◌<◌, ◌∙◌, refl, length, arith}
 use Rattle.std.proofs.lemmas.List.{length-set}
-use Rattle.prob_contexts.specs.Counted.{joined_counts}
+use Rattle.prob_contexts.specs.Code.{joined_counts}
 use Rattle.prob_contexts.proofs.Joining.{add_step, rest_step}
 use Rattle.prob_contexts.proofs.counts.add_each.Goals as goal
 

@@ -1,5 +1,5 @@
 use Rattle.std.proofs.Common.{◌≡◌, take, drop, length}
-use Rattle.prob_contexts.specs.Counted.{joined_counts}
+use Rattle.prob_contexts.specs.Code.{joined_counts}
 use Rattle.prob_contexts.proofs.counts.add_each.Given as goal
 
 abbrev pub invariant-loop-i : goal.invariant-loop-i
