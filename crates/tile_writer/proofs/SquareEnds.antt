@@ -15,12 +15,12 @@ use Rattle.block_lists.proofs.IntraWays.{at_way}
 use Rattle.counting_reader.specs.Counting.{Settled, settle}
 use Rattle.bool_encoder.specs.CountedBools.{PutsValue}
 use Rattle.mode_syntax.specs.Partitions.{half_of, partition_at}
-use Rattle.mode_syntax.specs.Laws.{decode_square, square_parts}
+use Rattle.mode_syntax.specs.Laws.{decode_square}
 use Rattle.mode_syntax.specs.Superblocks.{quarter_square}
 use Rattle.mode_syntax.specs.Walk.{Walk, block_at, square_at, starts_inside, block_inside, smallest_parts, parts, decode_at_level}
 use Rattle.mode_syntax.specs.declared.square_at.SquareAt.{SquareAt}
 use Rattle.tile_writer.specs.SaidTiles.{SaidSoFar, Said, Teller, so_far, then_said, told_block, said_inside, said_parts, said_at_level, told_partition}
-use Rattle.mode_syntax.proofs.SquareParts.{down, first_is, second_is, third_is, fourth_is, rows_are, columns_are, quarters_are}
+use Rattle.mode_syntax.proofs.SquareParts.{first_is, second_is, third_is, fourth_is, rows_are, columns_are, quarters_are}
 use Rattle.tile_writer.specs.Code.{Tile, SameTile, Rest, EndsTile, GivesPartition, StandsIn, block_rest, inside_rest, then_rest, parts_rest, square_rest}
 use Rattle.tile_writer.specs.declared.unwritten.Unwritten.{Unwritten}
 use Rattle.tile_writer.specs.declared.unwritten.Unwritten.TheVariants.{Broken, Unsaid, OutOfMemory}
@@ -127,6 +127,9 @@ abbrev HalvesEnd : {S H T : Type 0} → Tile S H T → BlockAt → ℕ → ℕ �
 HalvesEnd t first r c size result new = EndsTile (then_rest (block_rest t.walk t.teller first) (inside_rest t.walk t.teller r c size)) 2 t result new
 
 ---- The parts that are said, by their rows and columns ----
+
+down : (n : ℕ) → suc n - 1 ≡ n
+down n = omega arith
 
 module _ {S T : Type 0} (walk : Walk S) (teller : Teller S T) (n r c : ℕ) where
   abbrev said_part : Partition → SaidSoFar S T → Said S T
