@@ -1,5 +1,5 @@
 -- What each block of a walk keeps, row of superblocks by row of superblocks, a tile keeps.
-use Rattle.std.proofs.Common.{◌≡◌, ℕ, zero, suc, ◌+◌, ◌*◌, ◌^◌, ◌≤◌, ◌<◌, true, inl, inr, arith, lit≤, subst}
+use Rattle.std.proofs.Common.{◌≡◌, ℕ, zero, suc, ◌+◌, ◌*◌, ◌^◌, ◌≤◌, ◌<◌, true, inl, inr, arith, lit≤, subst, sym}
 use Rattle.std.proofs.lemmas.Bool.{cases_Bool, and_parts, ltb-true}
 use Rattle.vp9_types.specs.declared.block.BlockSize.{BlockSize}
 use Rattle.vp9_types.specs.declared.block.Partition.{Partition}
@@ -9,7 +9,10 @@ use Rattle.block_geometry.specs.SplitSquares.{part_size}
 use Rattle.counting_reader.specs.Counting.{Yields, settle}
 use Rattle.counting_reader.proofs.Yields.{yields_bind, yields_all}
 use Rattle.mode_syntax.specs.Partitions.{partition_at}
-use Rattle.mode_syntax.specs.Walk.{Walk, block_at, square_at, starts_inside, block_inside, smallest_parts, parts, decode_partition, decode_row, decode_tile}
+use Rattle.mode_syntax.specs.Laws.{decode_square, square_parts, decode_row, decode_rows, squares_from}
+use Rattle.mode_syntax.specs.Walk.{Walk, block_at, square_at, starts_inside, block_inside, smallest_parts, parts, decode_at_level, decode_tile}
+use Rattle.mode_syntax.proofs.RowByRow.{tile_is}
+use Rattle.mode_syntax.proofs.SquareParts.{rows_are, columns_are, quarters_are}
 use Rattle.mode_syntax.proofs.Mapped.{starts_so, twice, narrow, half, smallest}
 use Rattle.block_rebuild.specs.Strips.{Region}
 use Rattle.column_order.proofs.Heights.{low, half_low, smallest_low}
@@ -56,20 +59,22 @@ module _ {S : Type 0} (walk : Walk S) (P : S → Type 0) (w : Region) (keeps : E
   }) has
 
   abbrev Squares : ℕ → Type 0
-  Squares n = (r c : ℕ) (s : S) → w.left ≤ c → c + 2 ^ n ≤ w.right → w.top ≤ r → r + 2 ^ n ≤ w.bottom → P s → Yields (decode_partition walk n r c s) P
+  Squares n = (r c : ℕ) (s : S) → w.left ≤ c → c + 2 ^ n ≤ w.right → w.top ≤ r → r + 2 ^ n ≤ w.bottom → P s → Yields (decode_square walk n r c s) P
 
   parts_kept : (n r c : ℕ) → suc n ≤ 3 → LiesIn walk w r c (2 ^ suc n) (2 ^ suc n) → Squares n
-      → (s : S) → P s → (p : Partition) → Yields (parts walk (decode_partition walk n) n r c s p) P
+      → (s : S) → P s → (p : Partition) → Yields (square_parts walk n r c s p) P
   unfolding parts
   parts_kept n r c few lies quarter s has Whole = first_kept n r c Whole few lies s has
   parts_kept n r c few lies quarter s has Horizontal =
-      yields_bind (walk.block (block_at walk r c (part_size Horizontal (suc n))) s) _ P P (first_kept n r c Horizontal few lies s has)
+      subst (λ x. Yields x P) (sym (rows_are walk n r c s))
+      (yields_bind (walk.block (block_at walk r c (part_size Horizontal (suc n))) s) _ P P (first_kept n r c Horizontal few lies s has)
       (λ t p. inside_kept (r + 2 ^ n) c (part_size Horizontal (suc n)) t lies.left (omega (arith, narrow n Horizontal few, lies.right))
-      (omega (arith, lies.top)) (omega (arith, half_low n few, twice n, lies.bottom)) p)
+      (omega (arith, lies.top)) (omega (arith, half_low n few, twice n, lies.bottom)) p))
   parts_kept n r c few lies quarter s has Vertical =
-      yields_bind (walk.block (block_at walk r c (part_size Vertical (suc n))) s) _ P P (first_kept n r c Vertical few lies s has)
+      subst (λ x. Yields x P) (sym (columns_are walk n r c s))
+      (yields_bind (walk.block (block_at walk r c (part_size Vertical (suc n))) s) _ P P (first_kept n r c Vertical few lies s has)
       (λ t p. inside_kept r (c + 2 ^ n) (part_size Vertical (suc n)) t (omega (arith, lies.left)) (omega (arith, half n few, twice n, lies.right))
-      lies.top (omega (arith, low n Vertical few, lies.bottom)) p)
+      lies.top (omega (arith, low n Vertical few, lies.bottom)) p))
   parts_kept n r c few lies quarter s has Split =
       let left : w.left ≤ c + 2 ^ n = omega (arith, lies.left) in
       let right : c + 2 ^ n + 2 ^ n ≤ w.right = omega (arith, twice n, lies.right) in
@@ -77,15 +82,16 @@ module _ {S : Type 0} (walk : Walk S) (P : S → Type 0) (w : Region) (keeps : E
       let top : w.top ≤ r + 2 ^ n = omega (arith, lies.top) in
       let bottom : r + 2 ^ n + 2 ^ n ≤ w.bottom = omega (arith, twice n, lies.bottom) in
       let bottom_first : r + 2 ^ n ≤ w.bottom = omega (arith, twice n, lies.bottom) in
-      yields_bind (decode_partition walk n r c s) _ P P (quarter r c s lies.left right_first lies.top bottom_first has)
-      (λ t p. yields_bind (decode_partition walk n r (c + 2 ^ n) t) _ P P (quarter r (c + 2 ^ n) t left right lies.top bottom_first p)
-      (λ u q. yields_bind (decode_partition walk n (r + 2 ^ n) c u) _ P P (quarter (r + 2 ^ n) c u lies.left right_first top bottom q)
-      (λ v o. quarter (r + 2 ^ n) (c + 2 ^ n) v left right top bottom o)))
+      subst (λ x. Yields x P) (sym (quarters_are walk n r c s))
+      (yields_bind (decode_square walk n r c s) _ P P (quarter r c s lies.left right_first lies.top bottom_first has)
+      (λ t p. yields_bind (decode_square walk n r (c + 2 ^ n) t) _ P P (quarter r (c + 2 ^ n) t left right lies.top bottom_first p)
+      (λ u q. yields_bind (decode_square walk n (r + 2 ^ n) c u) _ P P (quarter (r + 2 ^ n) c u lies.left right_first top bottom q)
+      (λ v o. quarter (r + 2 ^ n) (c + 2 ^ n) v left right top bottom o))))
 
-  square_kept : (n r c : ℕ) (s : S) → n ≤ 3 → w.left ≤ c → c + 2 ^ n ≤ w.right → w.top ≤ r → r + 2 ^ n ≤ w.bottom → P s → Yields (decode_partition walk n r c s) P
-  unfolding decode_partition settle smallest_parts
+  square_kept : (n r c : ℕ) (s : S) → n ≤ 3 → w.left ≤ c → c + 2 ^ n ≤ w.right → w.top ≤ r → r + 2 ^ n ≤ w.bottom → P s → Yields (decode_square walk n r c s) P
+  unfolding decode_at_level settle smallest_parts
   square_kept zero r c s few left right top bottom has = elim (cases_Bool (starts_inside walk r c)) [
-    | inl one ↦ rw one (yields_bind (partition_at walk.intra walk.probs (walk.blocks s) walk.frame (square_at walk 0 r c)) (smallest_parts walk r c s) (λ p. Unit {0}) P (yields_all _)
+    | inl one ↦ rw one (yields_bind (partition_at walk.intra walk.probs (walk.blocks s) walk.frame (square_at walk 0 r c)) (smallest_parts walk (square_at walk 0 r c) s) (λ p. Unit {0}) P (yields_all _)
         (λ p u. keeps.kept r c (part_size p 0) s (record {
           left = left;
           right = omega (arith, smallest p, right);
@@ -107,7 +113,7 @@ module _ {S : Type 0} (walk : Walk S) (P : S → Type 0) (w : Region) (keeps : E
           column = starts_so walk r c one;
         } in
         let less : n ≤ 3 = omega (arith, few) in
-        rw one (yields_bind (partition_at walk.intra walk.probs (walk.blocks s) walk.frame (square_at walk (suc n) r c)) (parts walk (decode_partition walk n) n r c s) (λ p. Unit {0}) P (yields_all _)
+        rw one (yields_bind (partition_at walk.intra walk.probs (walk.blocks s) walk.frame (square_at walk (suc n) r c)) (square_parts walk n r c s) (λ p. Unit {0}) P (yields_all _)
         (λ p u. parts_kept n r c few lies (λ r c s a b d e h. square_kept n r c s less a b d e h) s has p))
     | inr none ↦ rw none has
   ]
@@ -116,23 +122,26 @@ module _ {S : Type 0} (walk : Walk S) (P : S → Type 0) (w : Region) (keeps : E
   unfolding decode_row settle
   row_kept r c zero s left right top bottom has = has
   row_kept r c (suc n) s left right top bottom has =
-      yields_bind (decode_partition walk 3 r c s) (decode_row walk r (c + 8) n) P P (square_kept 3 r c s (lit≤ tt) left (omega (arith, right)) top bottom has)
+      yields_bind (decode_square walk 3 r c s) (decode_row walk r (c + 8) n) P P (square_kept 3 r c s (lit≤ tt) left (omega (arith, right)) top bottom has)
       (λ t p. row_kept r (c + 8) n t (omega (arith, left)) (omega (arith, right)) top bottom p)
 
 -- P q is what holds behind q rows of superblocks of the frame
 module _ {S : Type 0} (walk : Walk S) (P : ℕ → S → Type 0) (left right : ℕ) (wider : (q : ℕ) (s : S) → P q s → P (q + 1) s)
     (keeps : (q r : ℕ) → (r < walk.frame.rows → r ≡ 8 * q) → EachKeeps walk (P (q + 1)) (record { left = left; right = right; top = r; bottom = r + 8 })) where
-  pub tile_kept : (columns r c n q : ℕ) (s : S) → left ≤ c → c + 8 * columns ≤ right → (r < walk.frame.rows → r ≡ 8 * q) → P q s → Yields (decode_tile walk columns r c n s) (P (q + n))
-  unfolding decode_tile settle
-  tile_kept columns r c zero q s from to aligned has = subst (λ m. P m s) (none q) has
+  rows_kept : (columns r c n q : ℕ) (s : S) → left ≤ c → c + 8 * columns ≤ right → (r < walk.frame.rows → r ≡ 8 * q) → P q s → Yields (decode_rows walk columns r c n s) (P (q + n))
+  unfolding decode_rows settle
+  rows_kept columns r c zero q s from to aligned has = subst (λ m. P m s) (none q) has
     where
       none : (q : ℕ) → q ≡ q + 0
       none q = omega arith
-  tile_kept columns r c (suc n) q s from to aligned has =
-      yields_bind (decode_row walk r c columns s) (decode_tile walk columns (r + 8) c n) (P (q + 1)) (P (q + suc n))
+  rows_kept columns r c (suc n) q s from to aligned has =
+      yields_bind (decode_row walk r c columns s) (decode_rows walk columns (r + 8) c n) (P (q + 1)) (P (q + suc n))
       (row_kept walk (P (q + 1)) (record { left = left; right = right; top = r; bottom = r + 8 }) (keeps q r aligned) r c columns s from to (omega arith) (omega arith) (wider q s has))
-      (λ t p. subst (λ m. Yields (decode_tile walk columns (r + 8) c n t) (P m)) (one_more q n)
-      (tile_kept columns (r + 8) c n (q + 1) t from to (λ low. let here = aligned (omega (arith, low)) in omega (arith, here)) p))
+      (λ t p. subst (λ m. Yields (decode_rows walk columns (r + 8) c n t) (P m)) (one_more q n)
+      (rows_kept columns (r + 8) c n (q + 1) t from to (λ low. let here = aligned (omega (arith, low)) in omega (arith, here)) p))
     where
       one_more : (q n : ℕ) → q + 1 + n ≡ q + suc n
       one_more q n = omega arith
+
+  pub tile_kept : (columns r c n q : ℕ) (s : S) → left ≤ c → c + 8 * columns ≤ right → (r < walk.frame.rows → r ≡ 8 * q) → P q s → Yields (decode_tile walk (squares_from walk columns r c n) s) (P (q + n))
+  tile_kept columns r c n q s from to aligned has = subst (λ x. Yields x (P (q + n))) (sym (tile_is walk columns r c n s)) (rows_kept columns r c n q s from to aligned has)

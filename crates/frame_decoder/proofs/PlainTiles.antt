@@ -23,6 +23,7 @@ use Rattle.residue_syntax.specs.Residues as residues
 use Rattle.residue_syntax.specs.declared.sides.TileSides.{TileSides}
 use Rattle.mode_syntax.proofs.Mapped.{tile_everywhere}
 use Rattle.inter_modes.specs.ModeInfo.{mode_info}
+use Rattle.mode_syntax.specs.Laws.{squares_from}
 use Rattle.mode_syntax.specs.Walk.{Walk, decode_tile}
 use Rattle.tile_reader.specs.Code.{Breaks, EndsTile, Rest, Tile}
 use Rattle.frame_decoder.specs.Code.{PlainTile, plain_block, plain_walk, tile_of, GivesTile, GivesRead, GivesWhole, HoldsRead, walk_of, pictures_of}
@@ -37,7 +38,7 @@ use Rattle.vp9_types.specs.Sizes.{superblocks_along}
 use Rattle.planes.specs.Pictures.{blank, samples_of}
 use Rattle.frame_headers.specs.HeaderState.{shape_of}
 use Rattle.block_geometry.specs.FrameShapes.{places_of}
-use Rattle.frame_state.specs.TilePlaces.{tile_places, column_of}
+use Rattle.frame_state.specs.TilePlaces.{tile_places, tile_superblocks, column_of}
 use Rattle.frame_state.proofs.TileBytes.{seen_by, values_mapped}
 use Rattle.vp9_types.specs.declared.shape.Plane.TheVariants.{Y, U, V}
 use Rattle.frame_state.specs.KeptColumns.{IsTileColumn}
@@ -69,8 +70,8 @@ block_seen by put m at s =
     (λ read. ap settle (state_more put m s read.0 read.1))))
 
 pub tile_seen : (by : FrameSources) (put : Rebuilding) (frame : FramePlaces) (tile : TilePlaces) (m : FrameMap) (columns r c n : ℕ) (s : TileRead)
-    → decode_tile (plain_walk by put frame tile.col_from tile.col_to) columns r c n (view put m s)
-    ≡ mapped (view put m) (decode_tile (read_walk by frame tile) columns r c n s)
+    → decode_tile (plain_walk by put frame tile.col_from tile.col_to) (squares_from (read_walk by frame tile) columns r c n) (view put m s)
+    ≡ mapped (view put m) (decode_tile (read_walk by frame tile) (squares_from (read_walk by frame tile) columns r c n) s)
 tile_seen by put frame tile m columns r c n s =
     tile_everywhere (read_walk by frame tile) (plain_block by put) (λ s. s.blocks) (view put m)
     (λ at s. block_seen by put m at s) (λ s. refl) columns r c n s
@@ -93,8 +94,7 @@ tile_left s old result column left_column planes left_planes new left c p r h = 
 -- how the plain decoder reads it
 abbrev pub plain_tile : FrameSources → Rebuilding → TilePlaces → PlainTile → Syntax ℕ Rule (Settled PlainTile)
 plain_tile by put tile s =
-    decode_tile (plain_walk by put (places_of (shape_of by.header)) tile.col_from tile.col_to) (superblocks_along (tile.col_to - tile.col_from)) tile.row_from tile.col_from
-    (superblocks_along (tile.row_to - tile.row_from)) s
+    decode_tile (plain_walk by put (places_of (shape_of by.header)) tile.col_from tile.col_to) (tile_superblocks tile) s
 
 -- the plain decoder before the n-th tile
 abbrev pub tile_before : FrameSources → Rebuilding → FrameMap → ℕ → FrameRead → PlainTile
@@ -190,7 +190,7 @@ state_told by put n k columns planes read x at low h holds =
 walk_told : {X : Type 0} (by : PlainSources X) (n k : ℕ) (c : TileColumn) (planes : FramePlanes X) (m : FrameMap) (read : FrameRead) (t : TilePlaces)
     → k ≡ column_of by.reading.setting.header.params.tiles n → t ≡ tile_places by.reading.setting.places by.reading.setting.header.params.tiles n → IsTileColumn by.reading.setting.header n k c
     → (s : PlainTile) → s ≡ tile_before (sources_of by.reading) (pictures_of by) m n read
-    → decode_tile (walk_of by c) (superblocks_along (t.col_to - t.col_from)) t.row_from t.col_from (superblocks_along (t.row_to - t.row_from)) s
+    → decode_tile (walk_of by c) (tile_superblocks t) s
     ≡ plain_tile (sources_of by.reading) (pictures_of by) (tile_at by.reading.setting.header n) (tile_before (sources_of by.reading) (pictures_of by) m n read)
 walk_told by n k c planes m read t at is h s state =
     let setting = by.reading.setting in
@@ -198,14 +198,12 @@ walk_told by n k c planes m read t at is h s state =
     let same : t ≡ tile_at setting.header n = is ∙ ap (λ p. tile_places p tiles n) setting.whole in
     let from : c.grid.from ≡ (tile_at setting.header n).col_from = sym (begins_there setting n k c t at is h) ∙ ap (λ (t : TilePlaces). t.col_from) same in
     let to : c.grid.to ≡ (tile_at setting.header n).col_to = sym (ends_there setting n k c t at is h) ∙ ap (λ (t : TilePlaces). t.col_to) same in
-    λ i. decode_tile (plain_walk (sources_of by.reading) (pictures_of by) (setting.whole i) (from i) (to i)) (superblocks_along ((same i).col_to - (same i).col_from)) (same i).row_from (same i).col_from
-    (superblocks_along ((same i).row_to - (same i).row_from)) (state i)
+    λ i. decode_tile (plain_walk (sources_of by.reading) (pictures_of by) (setting.whole i) (from i) (to i)) (tile_superblocks (same i)) (state i)
 
 pub gives_nth : {X : Type 0} (by : PlainSources X) (n k : ℕ) (columns : List TileColumn) (x new : TileColumn) (planes after_it : FramePlanes X) (t : TilePlaces) (bytes before : List ℕ) (counting : Bool) (result : Result (List ℕ) Rule)
     → k ≡ column_of by.reading.setting.header.params.tiles n → k < length columns → t ≡ tile_places by.reading.setting.places by.reading.setting.header.params.tiles n
     → IsTileColumn by.reading.setting.header n k (slice_index_or columns k x)
-    → GivesWhole counting before (read_whole (decode_tile (walk_of by (slice_index_or columns k x)) (superblocks_along (t.col_to - t.col_from)) t.row_from t.col_from (superblocks_along (t.row_to - t.row_from))
-    (tile_of (with_sides (slice_index_or columns k x) (cleared (slice_index_or columns k x).sides)) planes)) bytes) result new after_it
+    → GivesWhole counting before (read_whole (decode_tile (walk_of by (slice_index_or columns k x)) (tile_superblocks t) (tile_of (with_sides (slice_index_or columns k x) (cleared (slice_index_or columns k x).sides)) planes)) bytes) result new after_it
     → (read : FrameRead) → HoldsRead (pictures_of by) columns planes read → before ≡ counts_if counting read.counted
     → GivesRead (pictures_of by) counting (read_tile_of (sources_of by.reading) n bytes read) result (slice_set columns k new) after_it
 gives_nth by n k columns x new planes after_it t bytes before counting (Ok counts) at low is h gives read holds so_far =

@@ -6,7 +6,8 @@ ghost use Rattle.frame_headers.specs.HeaderState.{shape_of};
 ghost use Rattle.frame_headers.specs.Tiles.{AreFewTiles};
 ghost use Rattle.vp9_types.specs.Sizes.{greatest, superblocks_along};
 ghost use Rattle.prob_contexts.specs.Code.{no_counts};
-ghost use Rattle.mode_syntax.specs.Walk.{decode_row, decode_tile};
+ghost use Rattle.mode_syntax.specs.Walk.{decode_tile};
+ghost use Rattle.frame_state.specs.TilePlaces.{tile_superblocks};
 ghost use Rattle.frame_state.specs.Code.{counts_if, sources_of, read_whole, IsReady, SameColumns};
 ghost use Rattle.frame_state.specs.KeptColumns.{AreTileColumns};
 ghost use Rattle.frame_state.specs.FrameReading.{FrameRead, nothing_read, read_all_tiles, read_tile_of};
@@ -40,7 +41,7 @@ fn read_tile<P: RoomSample, const COUNTS: bool>(
     requires order { tile.now.row_from ≤ tile.now.row_to }
     requires low { tile.now.row_to ≤ 8192 }
     requires room { 64 * (superblocks_along (plain.old.column.now.grid.to - plain.old.column.now.grid.from) * superblocks_along (tile.now.row_to - tile.now.row_from)) ≤ plain.old.column.now.grid.room }
-    ensures gives { GivesTile (decode_tile (walk_of plain.old.by.now plain.old.column.now) (superblocks_along (tile.now.col_to - tile.now.col_from)) tile.now.row_from tile.now.col_from (superblocks_along (tile.now.row_to - tile.now.row_from)) (tile_of plain.old.column.now plain.old.planes.now))
+    ensures gives { GivesTile (decode_tile (walk_of plain.old.by.now plain.old.column.now) (tile_superblocks tile.now) (tile_of plain.old.column.now plain.old.planes.now))
         plain.old.reader.now result plain.new.column.now plain.new.planes.now plain.new.reader.now }
     ensures ready { OnOk result (IsReady plain.old.by.now.reading.setting plain.new.column.now) }
     ensures planes { OnOk result (ArePlanes (shape_of plain.old.by.now.reading.setting.header) plain.new.planes.now) }
@@ -80,7 +81,7 @@ fn decode_blocks<P: RoomSample, const COUNTS: bool>(
     requires order { tile.now.row_from ≤ tile.now.row_to }
     requires low { tile.now.row_to ≤ 8192 }
     requires room { 64 * (superblocks_along (column.old.grid.to - column.old.grid.from) * superblocks_along (tile.now.row_to - tile.now.row_from)) ≤ column.old.grid.room }
-    ensures gives { GivesTile (decode_tile (walk_of by.now column.old) (superblocks_along (tile.now.col_to - tile.now.col_from)) tile.now.row_from tile.now.col_from (superblocks_along (tile.now.row_to - tile.now.row_from)) (tile_of column.old planes.old))
+    ensures gives { GivesTile (decode_tile (walk_of by.now column.old) (tile_superblocks tile.now) (tile_of column.old planes.old))
         reader.old result column.new planes.new reader.new }
     ensures ready { OnOk result (IsReady by.now.reading.setting column.new) }
     ensures planes { OnOk result (ArePlanes (shape_of by.now.reading.setting.header) planes.new) }
@@ -117,7 +118,7 @@ fn decode_tile<P: RoomSample, const COUNTS: bool>(
     requires order { tile.now.row_from ≤ tile.now.row_to }
     requires low { tile.now.row_to ≤ 8192 }
     requires room { 64 * (superblocks_along (column.old.grid.to - column.old.grid.from) * superblocks_along (tile.now.row_to - tile.now.row_from)) ≤ column.old.grid.room }
-    ensures gives { GivesWhole COUNTS counts (read_whole (decode_tile (walk_of by.now column.old) (superblocks_along (tile.now.col_to - tile.now.col_from)) tile.now.row_from tile.now.col_from (superblocks_along (tile.now.row_to - tile.now.row_from)) (tile_of column.old planes.old)) bytes.now)
+    ensures gives { GivesWhole COUNTS counts (read_whole (decode_tile (walk_of by.now column.old) (tile_superblocks tile.now) (tile_of column.old planes.old)) bytes.now)
         result column.new planes.new }
     ensures ready { OnOk result (IsReady by.now.reading.setting column.new) }
     ensures planes { OnOk result (ArePlanes (shape_of by.now.reading.setting.header) planes.new) }

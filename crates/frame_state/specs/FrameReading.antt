@@ -1,10 +1,9 @@
 -- What the tiles of a frame say, block by block (6.4, 6.4.2 and 6.4.4 of the standard: decode_tiles, decode_tile,
 -- decode_block). No sample is needed to read them.
-use Rattle.std.specs.Prelude.{ℕ, ◌+◌, ◌-◌, ◌/◌, ◌^◌, Bool, false, List, [], ◌∷◌, ◌++◌, map, get_or, replicate, slice_range, slice_set, Result, Ok}
+use Rattle.std.specs.Prelude.{ℕ, ◌+◌, ◌/◌, ◌^◌, Bool, false, List, [], ◌∷◌, ◌++◌, map, get_or, replicate, slice_range, slice_set, Result, Ok}
 use Rattle.std.specs.List.{flat_map}
 use Rattle.vp9_types.specs.Results.{◌>>=◌}
 use Rattle.vp9_types.specs.Shapes.{coded_width, coded_height}
-use Rattle.vp9_types.specs.Sizes.{superblocks_along}
 use Rattle.vp9_types.specs.Syntax.{Syntax}
 use Rattle.vp9_types.specs.declared.block.Modes.{Modes}
 use Rattle.vp9_types.specs.declared.job.Span.{Span}
@@ -33,7 +32,7 @@ use Rattle.residue_syntax.specs.declared.sides.TileSides.{TileSides}
 use Rattle.inter_modes.specs.ModeInfo.{mode_info}
 use Rattle.mode_syntax.specs.Walk.{Walk, decode_tile}
 use Rattle.frame_state.specs.Sources.{FramePast, FrameSources, frame_is_intra}
-use Rattle.frame_state.specs.TilePlaces.{column_of, tile_places}
+use Rattle.frame_state.specs.TilePlaces.{column_of, tile_places, tile_superblocks}
 use Rattle.frame_state.specs.declared.tile_places.TilePlaces.{TilePlaces}
 
 ---- A tile ----
@@ -102,8 +101,7 @@ no_column shape = record {
 -- a tile of a column, superblock by superblock
 unfoldable pub read_tile : FrameSources → TilePlaces → Column → Syntax ℕ Rule (Settled TileRead)
 read_tile by tile c =
-    decode_tile (read_walk by (places_of (shape_of by.header)) tile)
-    (superblocks_along (tile.col_to - tile.col_from)) tile.row_from tile.col_from (superblocks_along (tile.row_to - tile.row_from)) (begun (shape_of by.header) c)
+    decode_tile (read_walk by (places_of (shape_of by.header)) tile) (tile_superblocks tile) (begun (shape_of by.header) c)
 
 ---- All tiles ----
 

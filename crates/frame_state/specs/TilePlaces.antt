@@ -1,8 +1,10 @@
 -- Where the tiles of a frame lie (6.4 and 7.4.1 of the standard: get_tile_offset).
-use Rattle.std.specs.Prelude.{ℕ, ◌+◌, ◌*◌, ◌/◌, ◌%◌, ◌^◌, min}
+use Rattle.std.specs.Prelude.{ℕ, ◌+◌, ◌-◌, ◌*◌, ◌/◌, ◌%◌, ◌^◌, List, min}
 use Rattle.vp9_types.specs.Sizes.{superblocks_along}
 use Rattle.frame_headers.specs.declared.tiles.TileInfo.{TileInfo}
 use Rattle.block_geometry.specs.declared.transform_blocks.FramePlaces.{FramePlaces}
+use Rattle.mode_syntax.specs.Superblocks.{superblocks_of}
+use Rattle.mode_syntax.specs.declared.square_at.SquareAt.{SquareAt}
 use Rattle.frame_state.specs.declared.tile_places.TilePlaces.{TilePlaces}
 
 -- how many superblocks lie before the i-th of 2 ^ log2 tiles, along so many places of 8x8
@@ -28,3 +30,10 @@ tile_places frame tiles n = record {
   col_from = tile_offset frame.cols tiles.columns_log2 (column_of tiles n);
   col_to = tile_offset frame.cols tiles.columns_log2 (column_of tiles n + 1);
 }
+
+-- the first superblock of a tile, and all of them
+abbrev pub first_superblock : TilePlaces → SquareAt
+first_superblock tile = record { row = tile.row_from; col = tile.col_from; level = 3; tile_from = tile.col_from; tile_to = tile.col_to }
+
+abbrev pub tile_superblocks : TilePlaces → List SquareAt
+tile_superblocks tile = superblocks_of (first_superblock tile) (superblocks_along (tile.row_to - tile.row_from)) (superblocks_along (tile.col_to - tile.col_from))

@@ -13,6 +13,8 @@ use Rattle.frame_state.specs.Code.{sources_of}
 use Rattle.frame_state.specs.declared.sources.FrameSources as code
 use Rattle.frame_state.specs.declared.columns.TileColumn.{TileColumn}
 use Rattle.frame_state.specs.declared.tile_places.TilePlaces.{TilePlaces}
+use Rattle.mode_syntax.specs.Superblocks.{superblocks_of}
+use Rattle.frame_state.specs.TilePlaces.{first_superblock}
 use Rattle.tile_writer.specs.Code.{EndsTile, HoldsSoFar, Tile, tile_rest}
 use Rattle.tile_writer.specs.declared.unwritten.Unwritten.{Unwritten}
 use Rattle.tile_writer.specs.declared.unwritten.Unwritten.TheVariants as unwritten
@@ -41,7 +43,7 @@ tile_at_work speaker by places columns column told part = record {
 -- how the writing of its superblocks ends
 abbrev pub Ends : {T : Type 0} → Speaker T → code.FrameSources → TilePlaces → List TileColumn → ℕ → ℕ → TileColumn → T → Part → Result (Unit {0}) Unwritten → Tile TileRead TileHere T → Type 0
 Ends speaker by places columns across down column told first r new =
-    EndsTile (tile_rest across places.col_from (read_walk (sources_of by) by.setting.places places) (teller_of speaker (sources_of by)) places.row_from down) (64 * (across * down))
+    EndsTile (tile_rest (read_walk (sources_of by) by.setting.places places) (teller_of speaker (sources_of by)) (superblocks_of (first_superblock places) down across)) (64 * (across * down))
     (tile_at_work speaker by places columns column told first) r new
 
 -- so many superblocks

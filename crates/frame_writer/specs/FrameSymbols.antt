@@ -23,7 +23,7 @@ use Rattle.inter_writer.specs.declared.frame_blocks.PredictionSymbols.TheVariant
 use Rattle.residue_writer.specs.ResidueLists.{spelled_residue}
 use Rattle.residue_writer.specs.SaidResidues as residue
 use Rattle.residue_writer.specs.declared.levels.BlockLevels.{BlockLevels}
-use Rattle.tile_writer.specs.SaidTiles.{SaidSoFar, Teller, Said, so_far}
+use Rattle.tile_writer.specs.SaidTiles.{SaidSoFar, Teller, Said, if_told, so_far}
 use Rattle.tile_writer.specs.declared.unwritten.Unwritten.{Unwritten}
 use Rattle.tile_writer.specs.declared.unwritten.Unwritten.TheVariants.{Broken, Unsaid}
 
@@ -37,10 +37,6 @@ pub record Speaker (T : Type 0) : Type 0 where
 abbrev pub as_said : {A : Type 0} → Result A Rule → Result A Unwritten
 as_said (Ok x) = Ok x
 as_said (Err rule) = Err (Broken rule)
-
-abbrev pub if_told : {A : Type 0} → Option A → Result A Unwritten
-if_told (Some x) = Ok x
-if_told None = Err Unsaid
 
 ---- A block ----
 

@@ -1,7 +1,6 @@
 -- What the tiles of a frame say, one after another (6.4 of the standard: decode_tiles, decode_tile).
-use Rattle.std.specs.Prelude.{ℕ, zero, suc, ◌+◌, ◌-◌, List, [], ◌∷◌, ◌++◌, get_or, slice_set, Result, Ok}
+use Rattle.std.specs.Prelude.{ℕ, zero, suc, ◌+◌, List, [], ◌∷◌, ◌++◌, get_or, slice_set, Result, Ok}
 use Rattle.vp9_types.specs.Results.{◌>>=◌}
-use Rattle.vp9_types.specs.Sizes.{superblocks_along}
 use Rattle.vp9_types.specs.Syntax.{Syntax}
 use Rattle.vp9_types.specs.declared.rule.Rule.{Rule}
 use Rattle.bool_lists.specs.BoolLists.{BoolList}
@@ -15,7 +14,7 @@ use Rattle.block_plan.specs.Planned.{PlannedBlock}
 use Rattle.mode_syntax.specs.Walk.{decode_tile}
 use Rattle.frame_state.specs.FrameReading.{Column, FrameRead, TileRead, begun, column_after, column_at, no_column, nothing_read, read_walk}
 use Rattle.frame_state.specs.Sources.{FrameSources}
-use Rattle.frame_state.specs.TilePlaces.{column_of, tile_places}
+use Rattle.frame_state.specs.TilePlaces.{column_of, tile_places, tile_superblocks}
 use Rattle.frame_state.specs.declared.tile_places.TilePlaces.{TilePlaces}
 use Rattle.tile_writer.specs.SaidTiles.{Said, said_tile, so_far}
 use Rattle.tile_writer.specs.declared.unwritten.Unwritten.{Unwritten}
@@ -26,12 +25,11 @@ use Rattle.frame_writer.specs.FrameSymbols.{Speaker, teller_of}
 -- how a tile is read, and what it is told, behind what reading keeps
 abbrev pub tile_syntax : FrameSources → FramePlaces → TilePlaces → TileRead → Syntax ℕ Rule (Settled TileRead)
 tile_syntax by frame tile s =
-    decode_tile (read_walk by frame tile) (superblocks_along (tile.col_to - tile.col_from)) tile.row_from tile.col_from (superblocks_along (tile.row_to - tile.row_from)) s
+    decode_tile (read_walk by frame tile) (tile_superblocks tile) s
 
 abbrev pub tile_told : {T : Type 0} → Speaker T → FrameSources → FramePlaces → TilePlaces → TileRead → T → Said TileRead T
 tile_told speaker by frame tile s t =
-    said_tile (read_walk by frame tile) (teller_of speaker by) (superblocks_along (tile.col_to - tile.col_from)) tile.row_from tile.col_from
-    (superblocks_along (tile.row_to - tile.row_from)) (so_far s t [])
+    said_tile (read_walk by frame tile) (teller_of speaker by) (tile_superblocks tile) (so_far s t [])
 
 ---- All tiles ----
 

@@ -11,7 +11,10 @@ use Rattle.vp9_types.specs.declared.block.Partition.TheVariants.{Whole, Horizont
 use Rattle.block_geometry.specs.BlockSizes.{is_covered, width_8, height_8}
 use Rattle.block_geometry.specs.SplitSquares.{part_size}
 use Rattle.block_geometry.specs.declared.transform_blocks.FramePlaces.{FramePlaces}
-use Rattle.mode_syntax.specs.TileSquares.{Leaf, Cut, whole, upper_and_lower, left_and_right, quarters, partition_of_cut, inside, one_leaf, leaves, row_leaves, tile_leaves, times_covered}
+use Rattle.mode_syntax.specs.TileSquares.{Leaf, Cut, whole, upper_and_lower, left_and_right, quarters, partition_of_cut, inside, one_leaf, leaves, tile_leaves, times_covered}
+use Rattle.mode_syntax.specs.Superblocks.{superblocks_of}
+use Rattle.mode_syntax.specs.declared.square_at.SquareAt.{SquareAt}
+use Rattle.mode_syntax.proofs.TileLeaves.{row_leaves, rows_leaves, numbered, leaves_by_rows}
 
 -- 1 where a place lies in a rectangle, which the definitions write so
 abbrev pub box : ℕ → ℕ → ℕ → ℕ → ℕ → ℕ → ℕ
@@ -175,10 +178,10 @@ row_covered frame r c cuts j (suc n) y x low left =
 
 -- those of all rows
 rows_covered : (frame : FramePlaces) (r c : ℕ) (cuts : ℕ → ℕ → Cut) (columns i n y x : ℕ) → y < frame.rows → x < frame.cols
-    → times_covered (tile_leaves frame r c cuts columns i n) y x ≡ box (r + 8 * i) (8 * n) (c + 8 * 0) (8 * columns) y x
+    → times_covered (rows_leaves frame r c cuts columns i n) y x ≡ box (r + 8 * i) (8 * n) (c + 8 * 0) (8 * columns) y x
 rows_covered frame r c cuts columns i zero y x low left = no_rows_covered (r + 8 * i) (c + 8 * 0) (8 * columns) y x
 rows_covered frame r c cuts columns i (suc n) y x low left =
-    both (row_leaves frame (r + 8 * i) c (cuts i) 0 columns) (tile_leaves frame r c cuts columns (i + 1) n) y x _ _
+    both (row_leaves frame (r + 8 * i) c (cuts i) 0 columns) (rows_leaves frame r c cuts columns (i + 1) n) y x _ _
     (row_covered frame (r + 8 * i) c (cuts i) 0 columns y x low left)
     (rows_covered frame r c cuts columns (i + 1) n y x low left ∙ ap (λ k. box k (8 * n) (c + 8 * 0) (8 * columns) y x) (next_column r i n))
     ∙ below_each (r + 8 * i) 8 (8 * n) (c + 8 * 0) (8 * columns) y x ∙ ap (λ h. box (r + 8 * i) h (c + 8 * 0) (8 * columns) y x) (one_wider n)
@@ -190,11 +193,14 @@ within_box : (r h c w y x : ℕ) → r ≤ y → y < r + h → c ≤ x → x < c
 within_box r h c w y x a b d e = grind (arith, nat_tests)
 
 -- each place of a tile inside the frame is covered once
-pub tile_covered : (frame : FramePlaces) (r c rows columns : ℕ) (cuts : ℕ → ℕ → Cut) (y x : ℕ)
-    → r ≤ y → y < r + 8 * rows → c ≤ x → x < c + 8 * columns → y < frame.rows → x < frame.cols
-    → times_covered (tile_leaves frame r c cuts columns 0 rows) y x ≡ 1
-tile_covered frame r c rows columns cuts y x a b d e low left =
-    rows_covered frame r c cuts columns 0 rows y x low left
+pub tile_covered : (frame : FramePlaces) (first : SquareAt) (rows columns : ℕ) (cuts : SquareAt → Cut) (y x : ℕ)
+    → first.row ≤ y → y < first.row + 8 * rows → first.col ≤ x → x < first.col + 8 * columns → y < frame.rows → x < frame.cols
+    → times_covered (tile_leaves frame cuts (superblocks_of first rows columns)) y x ≡ 1
+tile_covered frame first rows columns cuts y x a b d e low left =
+    let r = first.row in
+    let c = first.col in
+    ap (λ blocks. times_covered blocks y x) (leaves_by_rows frame first cuts rows columns)
+    ∙ (rows_covered frame r c (numbered first cuts) columns 0 rows y x low left
     ∙ ap (λ k. box k (8 * rows) (c + 8 * 0) (8 * columns) y x) (from_start r)
     ∙ ap (λ k. box r (8 * rows) k (8 * columns) y x) (from_start c)
-    ∙ within_box r (8 * rows) c (8 * columns) y x a b d e
+    ∙ within_box r (8 * rows) c (8 * columns) y x a b d e)

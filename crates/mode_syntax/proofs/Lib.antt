@@ -1,6 +1,9 @@
 pub mod TxSizes
 pub mod PartitionCounts
 pub mod Uncounted
+pub mod SquareParts
+pub mod RowByRow
+pub mod TileLeaves
 pub mod Coverage
 pub mod Walks
 pub mod TileWalks

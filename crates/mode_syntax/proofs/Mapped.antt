@@ -1,5 +1,5 @@
 -- Walks over different states that read the same.
-use Rattle.std.proofs.Common.{◌≡◌, ℕ, zero, suc, ◌+◌, ◌*◌, ◌^◌, ◌<◌, ◌≤◌, true, List, inl, inr, refl, ap, arith, lit≤}
+use Rattle.std.proofs.Common.{◌≡◌, ◌∙◌, ℕ, zero, suc, ◌+◌, ◌*◌, ◌^◌, ◌<◌, ◌≤◌, true, List, inl, inr, refl, sym, ap, arith, lit≤}
 use Rattle.std.proofs.lemmas.Bool.{cases_Bool, and_parts, ltb-true}
 use Rattle.std.proofs.Math.Nat.{pow-suc}
 use Rattle.vp9_types.specs.declared.block.BlockSize.{BlockSize}
@@ -12,8 +12,10 @@ use Rattle.block_plan.specs.declared.block.BlockInfo.{BlockInfo}
 use Rattle.counting_reader.specs.Counting.{settle, in_order, mapped}
 use Rattle.counting_reader.proofs.Mapped.{Reads, mapped_seq, mapped_by}
 use Rattle.mode_syntax.specs.Partitions.{partition_at}
-use Rattle.mode_syntax.specs.Walk.{Walk, block_at, square_at, starts_inside, block_inside, smallest_parts, parts, decode_partition, decode_row, decode_tile}
-use Rattle.mode_syntax.specs.Laws.{walk_over, LiesIn, KeepsStep}
+use Rattle.mode_syntax.specs.Walk.{Walk, block_at, square_at, starts_inside, block_inside, smallest_parts, parts, decode_at_level, decode_tile}
+use Rattle.mode_syntax.specs.Laws.{decode_square, square_parts, decode_row, decode_rows, squares_from, walk_over, LiesIn, KeepsStep}
+use Rattle.mode_syntax.proofs.RowByRow.{tile_is}
+use Rattle.mode_syntax.proofs.SquareParts.{rows_are, columns_are, quarters_are}
 
 pub starts_so : {S : Type 0} (walk : Walk S) (r c : ℕ) → starts_inside walk r c ≡ true → c < walk.frame.cols
 starts_so walk r c h = ltb-true c walk.frame.cols (and_parts _ _ h).1
@@ -60,12 +62,12 @@ module _ {S T : Type 0} (walk : Walk S) (block : BlockAt → T → Reads T) (blo
   ]
 
   smallest_step : (r c : ℕ) (s : S) → low ≤ c → c + 1 ≤ high → c < walk.frame.cols
-      → in_order (partition_at walk.intra walk.probs (blocks (view s)) walk.frame (square_at walk 0 r c)) (smallest_parts (walk_over walk block blocks) r c (view s))
-      ≡ mapped view (in_order (partition_at walk.intra walk.probs (walk.blocks s) walk.frame (square_at walk 0 r c)) (smallest_parts walk r c s))
+      → in_order (partition_at walk.intra walk.probs (blocks (view s)) walk.frame (square_at walk 0 r c)) (smallest_parts (walk_over walk block blocks) (square_at walk 0 r c) (view s))
+      ≡ mapped view (in_order (partition_at walk.intra walk.probs (walk.blocks s) walk.frame (square_at walk 0 r c)) (smallest_parts walk (square_at walk 0 r c) s))
   unfolding smallest_parts
   smallest_step r c s from to starts =
       mapped_by view (partition_at walk.intra walk.probs (walk.blocks s) walk.frame (square_at walk 0 r c)) _
-      (smallest_parts walk r c s) (smallest_parts (walk_over walk block blocks) r c (view s))
+      (smallest_parts walk (square_at walk 0 r c) s) (smallest_parts (walk_over walk block blocks) (square_at walk 0 r c) (view s))
       (keeps.partitions 0 r c s (record { from = from; to = to; starts = starts }))
       (λ p. keeps.block_steps r c (part_size p 0) s (record { from = from; to = omega (arith, smallest p); starts = starts }))
 
@@ -73,31 +75,37 @@ module _ {S T : Type 0} (walk : Walk S) (block : BlockAt → T → Reads T) (blo
   first n r c p few lies = record { from = lies.from; to = omega (arith, narrow n p few); starts = lies.starts }
 
   parts_step : (n r c : ℕ) → suc n ≤ 3 → LiesIn walk low high c (2 ^ suc n)
-      → ((r c : ℕ) (s : S) → low ≤ c → c + 2 ^ n ≤ high → decode_partition (walk_over walk block blocks) n r c (view s) ≡ mapped view (decode_partition walk n r c s))
-      → (s : S) (p : Partition) → parts (walk_over walk block blocks) (decode_partition (walk_over walk block blocks) n) n r c (view s) p ≡ mapped view (parts walk (decode_partition walk n) n r c s p)
+      → ((r c : ℕ) (s : S) → low ≤ c → c + 2 ^ n ≤ high → decode_square (walk_over walk block blocks) n r c (view s) ≡ mapped view (decode_square walk n r c s))
+      → (s : S) (p : Partition) → square_parts (walk_over walk block blocks) n r c (view s) p ≡ mapped view (square_parts walk n r c s p)
   unfolding parts
   parts_step n r c few lies quarter s Whole = keeps.block_steps r c (part_size Whole (suc n)) s (first n r c Whole few lies)
   parts_step n r c few lies quarter s Horizontal =
       let size = part_size Horizontal (suc n) in
-      mapped_seq view (walk.block (block_at walk r c size) s) (block (block_at walk r c size) (view s)) (block_inside walk (r + 2 ^ n) c size) (block_inside (walk_over walk block blocks) (r + 2 ^ n) c size)
+      rows_are (walk_over walk block blocks) n r c (view s)
+      ∙ (mapped_seq view (walk.block (block_at walk r c size) s) (block (block_at walk r c size) (view s)) (block_inside walk (r + 2 ^ n) c size) (block_inside (walk_over walk block blocks) (r + 2 ^ n) c size)
       (keeps.block_steps r c size s (first n r c Horizontal few lies))
       (λ t. block_inside_step (r + 2 ^ n) c size t lies.from (omega (arith, narrow n Horizontal few)))
+      ∙ ap (mapped view) (sym (rows_are walk n r c s)))
   parts_step n r c few lies quarter s Vertical =
       let size = part_size Vertical (suc n) in
-      mapped_seq view (walk.block (block_at walk r c size) s) (block (block_at walk r c size) (view s)) (block_inside walk r (c + 2 ^ n) size) (block_inside (walk_over walk block blocks) r (c + 2 ^ n) size)
+      columns_are (walk_over walk block blocks) n r c (view s)
+      ∙ (mapped_seq view (walk.block (block_at walk r c size) s) (block (block_at walk r c size) (view s)) (block_inside walk r (c + 2 ^ n) size) (block_inside (walk_over walk block blocks) r (c + 2 ^ n) size)
       (keeps.block_steps r c size s (first n r c Vertical few lies))
       (λ t. block_inside_step r (c + 2 ^ n) size t (omega arith) (omega (arith, half n few, twice n)))
+      ∙ ap (mapped view) (sym (columns_are walk n r c s)))
   parts_step n r c few lies quarter s Split =
-      let d = decode_partition walk n in
-      let e = decode_partition (walk_over walk block blocks) n in
-      mapped_seq view (d r c s) (e r c (view s)) _ _ (quarter r c s lies.from (omega (arith, twice n)))
+      let d = decode_square walk n in
+      let e = decode_square (walk_over walk block blocks) n in
+      quarters_are (walk_over walk block blocks) n r c (view s)
+      ∙ (mapped_seq view (d r c s) (e r c (view s)) _ _ (quarter r c s lies.from (omega (arith, twice n)))
       (λ t. mapped_seq view (d r (c + 2 ^ n) t) (e r (c + 2 ^ n) (view t)) _ _ (quarter r (c + 2 ^ n) t (omega arith) (omega (arith, twice n)))
       (λ u. mapped_seq view (d (r + 2 ^ n) c u) (e (r + 2 ^ n) c (view u)) _ _ (quarter (r + 2 ^ n) c u lies.from (omega (arith, twice n)))
       (λ v. quarter (r + 2 ^ n) (c + 2 ^ n) v (omega arith) (omega (arith, twice n)))))
+      ∙ ap (mapped view) (sym (quarters_are walk n r c s)))
 
   pub partition_step : (n r c : ℕ) (s : S) → n ≤ 3 → low ≤ c → c + 2 ^ n ≤ high
-      → decode_partition (walk_over walk block blocks) n r c (view s) ≡ mapped view (decode_partition walk n r c s)
-  unfolding decode_partition settle mapped
+      → decode_square (walk_over walk block blocks) n r c (view s) ≡ mapped view (decode_square walk n r c s)
+  unfolding decode_at_level settle mapped
   partition_step zero r c s few from to = elim (cases_Bool (starts_inside walk r c)) [
     | inl one ↦ rw one (smallest_step r c s from to (starts_so walk r c one))
     | inr none ↦ rw none refl
@@ -106,7 +114,7 @@ module _ {S T : Type 0} (walk : Walk S) (block : BlockAt → T → Reads T) (blo
     | inl one ↦
         let lies : LiesIn walk low high c (2 ^ suc n) = record { from = from; to = to; starts = starts_so walk r c one } in
         rw one (mapped_by view (partition_at walk.intra walk.probs (walk.blocks s) walk.frame (square_at walk (suc n) r c)) _
-        (parts walk (decode_partition walk n) n r c s) (parts (walk_over walk block blocks) (decode_partition (walk_over walk block blocks) n) n r c (view s))
+        (square_parts walk n r c s) (square_parts (walk_over walk block blocks) n r c (view s))
         (keeps.partitions (suc n) r c s lies)
         (parts_step n r c few lies (λ r c s a b. partition_step n r c s (omega arith) a b) s))
     | inr none ↦ rw none refl
@@ -116,17 +124,22 @@ module _ {S T : Type 0} (walk : Walk S) (block : BlockAt → T → Reads T) (blo
   unfolding decode_row settle mapped
   row_step r c zero s from to = refl
   row_step r c (suc n) s from to =
-      mapped_seq view (decode_partition walk 3 r c s) (decode_partition (walk_over walk block blocks) 3 r c (view s)) (decode_row walk r (c + 8) n) (decode_row (walk_over walk block blocks) r (c + 8) n)
+      mapped_seq view (decode_square walk 3 r c s) (decode_square (walk_over walk block blocks) 3 r c (view s)) (decode_row walk r (c + 8) n) (decode_row (walk_over walk block blocks) r (c + 8) n)
       (partition_step 3 r c s (lit≤ tt) from (omega arith))
       (λ t. row_step r (c + 8) n t (omega arith) (omega arith))
 
-  pub tile_step : (columns r c n : ℕ) (s : S) → low ≤ c → c + 8 * columns ≤ high → decode_tile (walk_over walk block blocks) columns r c n (view s) ≡ mapped view (decode_tile walk columns r c n s)
-  unfolding decode_tile settle mapped
-  tile_step columns r c zero s from to = refl
-  tile_step columns r c (suc n) s from to =
-      mapped_seq view (decode_row walk r c columns s) (decode_row (walk_over walk block blocks) r c columns (view s)) (decode_tile walk columns (r + 8) c n) (decode_tile (walk_over walk block blocks) columns (r + 8) c n)
+  rows_step : (columns r c n : ℕ) (s : S) → low ≤ c → c + 8 * columns ≤ high → decode_rows (walk_over walk block blocks) columns r c n (view s) ≡ mapped view (decode_rows walk columns r c n s)
+  unfolding decode_rows settle mapped
+  rows_step columns r c zero s from to = refl
+  rows_step columns r c (suc n) s from to =
+      mapped_seq view (decode_row walk r c columns s) (decode_row (walk_over walk block blocks) r c columns (view s)) (decode_rows walk columns (r + 8) c n) (decode_rows (walk_over walk block blocks) columns (r + 8) c n)
       (row_step r c columns s from to)
-      (λ t. tile_step columns (r + 8) c n t from to)
+      (λ t. rows_step columns (r + 8) c n t from to)
+
+  pub tile_step : (columns r c n : ℕ) (s : S) → low ≤ c → c + 8 * columns ≤ high
+      → decode_tile (walk_over walk block blocks) (squares_from walk columns r c n) (view s) ≡ mapped view (decode_tile walk (squares_from walk columns r c n) s)
+  tile_step columns r c n s from to =
+      tile_is (walk_over walk block blocks) columns r c n (view s) ∙ (rows_step columns r c n s from to ∙ ap (mapped view) (sym (tile_is walk columns r c n s)))
 
 -- wherever a block lies, and with the same blocks
 pub everywhere : {S T : Type 0} (walk : Walk S) (block : BlockAt → T → Reads T) (blocks : T → List BlockInfo) (view : S → T) (low high : ℕ)
@@ -138,6 +151,6 @@ everywhere walk block blocks view low high each same = record {
 
 pub tile_everywhere : {S T : Type 0} (walk : Walk S) (block : BlockAt → T → Reads T) (blocks : T → List BlockInfo) (view : S → T)
     → ((at : BlockAt) (s : S) → block at (view s) ≡ mapped view (walk.block at s)) → ((s : S) → blocks (view s) ≡ walk.blocks s)
-    → (columns r c n : ℕ) (s : S) → decode_tile (walk_over walk block blocks) columns r c n (view s) ≡ mapped view (decode_tile walk columns r c n s)
+    → (columns r c n : ℕ) (s : S) → decode_tile (walk_over walk block blocks) (squares_from walk columns r c n) (view s) ≡ mapped view (decode_tile walk (squares_from walk columns r c n) s)
 tile_everywhere walk block blocks view each same columns r c n s =
     tile_step walk block blocks view 0 (c + 8 * columns) (everywhere walk block blocks view 0 (c + 8 * columns) each same) columns r c n s (omega arith) (omega arith)

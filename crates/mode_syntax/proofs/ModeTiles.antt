@@ -16,7 +16,7 @@ use Rattle.counting_reader.specs.Counting.{mapped}
 use Rattle.mode_syntax.proofs.Mapped.{tile_step}
 use Rattle.mode_syntax.proofs.Kept.{tile_kept}
 use Rattle.mode_syntax.proofs.ModeWalks.{own_columns, other_columns}
-use Rattle.mode_syntax.specs.Laws.{in_columns, next_block, mode_walk, Layout, IsLaidOut, mode_tile, column_blocks}
+use Rattle.mode_syntax.specs.Laws.{squares_from, in_columns, next_block, mode_walk, Layout, IsLaidOut, mode_tile, column_blocks}
 use Rattle.mode_syntax.specs.TileColumns.{viewed, AreSeparate, settled_part}
 
 pub run_mapped : {S T : Type 0} (f : S → T) (s : Syntax ℕ Rule (Settled S)) (w : Window) → settled_part (run_bools (mapped f s) w) ≡ viewed f (settled_part (run_bools s w))
@@ -40,11 +40,11 @@ tiles_separate header modes contexts frame l column_of laid = record {
       ap (λ x. settled_part (run_bools x (l.window n)))
       (tile_step walk (next_block header modes contexts) (λ bs. bs) (in_columns (l.from k) (l.to k)) (l.from k) (l.from k + 8 * l.wide k)
       (own_columns header modes contexts frame (l.from k) (l.to k) (l.from k + 8 * l.wide k) (laid.ends k)) (l.wide k) (l.row n) (l.from k) (l.high n) s (omega arith) (omega arith))
-      ∙ run_mapped (in_columns (l.from k) (l.to k)) (decode_tile walk (l.wide k) (l.row n) (l.from k) (l.high n) s) (l.window n);
+      ∙ run_mapped (in_columns (l.from k) (l.to k)) (decode_tile walk (squares_from walk (l.wide k) (l.row n) (l.from k) (l.high n)) s) (l.window n);
   others = λ n k s t other is.
       let j = column_of n in
       let walk = mode_walk header modes contexts frame (l.from j) (l.to j) in
-      run_yields (λ bs. in_columns (l.from k) (l.to k) bs ≡ in_columns (l.from k) (l.to k) s) (decode_tile walk (l.wide j) (l.row n) (l.from j) (l.high n) s) (l.window n) t
+      run_yields (λ bs. in_columns (l.from k) (l.to k) bs ≡ in_columns (l.from k) (l.to k) s) (decode_tile walk (squares_from walk (l.wide j) (l.row n) (l.from j) (l.high n)) s) (l.window n) t
       (tile_kept walk (λ bs. in_columns (l.from k) (l.to k) bs ≡ in_columns (l.from k) (l.to k) s) (l.from j) (l.from j + 8 * l.wide j)
       (other_columns header modes contexts frame (l.from j) (l.to j) (l.from j) (l.from j + 8 * l.wide j) (l.from k) (l.to k) (in_columns (l.from k) (l.to k) s) (laid.apart j k other))
       (l.wide j) (l.row n) (l.from j) (l.high n) s (omega arith) (omega arith) refl)

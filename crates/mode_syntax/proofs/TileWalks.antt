@@ -1,13 +1,15 @@
 -- The blocks that a tile's walk lists are those of its superblocks' partition trees.
-use Rattle.std.proofs.Common.{◌≡◌, ℕ, zero, suc, ◌+◌, ◌*◌, ◌++◌, ◌∙◌, refl, ap, arith}
+use Rattle.std.proofs.Common.{◌≡◌, ℕ, zero, suc, ◌+◌, ◌*◌, ◌++◌, ◌∙◌, refl, sym, subst, ap, arith}
 use Rattle.block_geometry.specs.declared.transform_blocks.FramePlaces.{FramePlaces}
 use Rattle.counting_reader.specs.Counting.{settle}
-use Rattle.mode_syntax.specs.TileSquares.{Cut, whole, leaves, row_leaves, tile_leaves}
-use Rattle.mode_syntax.specs.Walk.{Walk, decode_partition, decode_row, decode_tile}
+use Rattle.mode_syntax.specs.TileSquares.{Cut, whole, leaves}
+use Rattle.mode_syntax.specs.Walk.{Walk, square_at, decode_tile}
 use Rattle.counting_reader.specs.Counting.{Yields}
 use Rattle.mode_syntax.proofs.Walks.{lists_none, lists_both, lists_as, leaves_listed}
 use Rattle.counting_reader.proofs.Yields.{yields_bind, yields_map}
-use Rattle.mode_syntax.specs.Laws.{Lists, ListsItsBlock, ListsLeaves, ListsTile}
+use Rattle.mode_syntax.specs.Laws.{decode_square, decode_row, decode_rows, squares_from, Lists, ListsItsBlock, ListsLeaves, ListsTile}
+use Rattle.mode_syntax.proofs.RowByRow.{tile_is}
+use Rattle.mode_syntax.proofs.TileLeaves.{row_leaves, rows_leaves, by_place, rows_by_leaves}
 
 -- one before the others
 front : {A : Type 0} → A → (ℕ → A) → ℕ → A
@@ -45,7 +47,7 @@ row_listed : {S : Type 0} (walk : Walk S) → ListsItsBlock walk → (r c n : �
 unfolding decode_row settle
 row_listed walk each r c zero s = ((λ k. whole), lists_none walk s)
 row_listed walk each r c (suc n) s =
-    yields_bind (decode_partition walk 3 r c s) (decode_row walk r (c + 8) n) (ListsLeaves walk 3 r c s) (ListsRow walk r c (suc n) s) (leaves_listed walk each 3 r c s)
+    yields_bind (decode_square walk 3 r c s) (decode_row walk r (c + 8) n) (ListsLeaves walk 3 r c s) (ListsRow walk r c (suc n) s) (leaves_listed walk each 3 r c s)
     (λ t a. yields_map (decode_row walk r (c + 8) n t) (ListsRow walk r (c + 8) n t) (ListsRow walk r c (suc n) s) (row_listed walk each r (c + 8) n t)
     (λ u b. (
       front a.0 b.0,
@@ -54,29 +56,40 @@ row_listed walk each r c (suc n) s =
     )))
 
 tile_shifted : (frame : FramePlaces) (r c columns : ℕ) (a : ℕ → Cut) (f : ℕ → ℕ → Cut) (i n : ℕ)
-    → tile_leaves frame r c (front a f) columns (suc i) n ≡ tile_leaves frame (r + 8) c f columns i n
+    → rows_leaves frame r c (front a f) columns (suc i) n ≡ rows_leaves frame (r + 8) c f columns i n
 unfolding front
 tile_shifted frame r c columns a f i zero = refl
 tile_shifted frame r c columns a f i (suc n) =
-    ap (λ k. row_leaves frame k c (f i) 0 columns ++ tile_leaves frame r c (front a f) columns (suc i + 1) n) (next_place r i)
-    ∙ ap (λ k. row_leaves frame (r + 8 + 8 * i) c (f i) 0 columns ++ tile_leaves frame r c (front a f) columns k n) (one_on i)
+    ap (λ k. row_leaves frame k c (f i) 0 columns ++ rows_leaves frame r c (front a f) columns (suc i + 1) n) (next_place r i)
+    ∙ ap (λ k. row_leaves frame (r + 8 + 8 * i) c (f i) 0 columns ++ rows_leaves frame r c (front a f) columns k n) (one_on i)
     ∙ ap (λ l. row_leaves frame (r + 8 + 8 * i) c (f i) 0 columns ++ l) (tile_shifted frame r c columns a f (i + 1) n)
 
 tile_more : (frame : FramePlaces) (r c columns : ℕ) (a : ℕ → Cut) (f : ℕ → ℕ → Cut) (n : ℕ)
-    → tile_leaves frame r c (front a f) columns 0 (suc n) ≡ row_leaves frame r c a 0 columns ++ tile_leaves frame (r + 8) c f columns 0 n
+    → rows_leaves frame r c (front a f) columns 0 (suc n) ≡ row_leaves frame r c a 0 columns ++ rows_leaves frame (r + 8) c f columns 0 n
 unfolding front
 tile_more frame r c columns a f n =
-    ap (λ k. row_leaves frame k c a 0 columns ++ tile_leaves frame r c (front a f) columns 1 n) (first_place r)
+    ap (λ k. row_leaves frame k c a 0 columns ++ rows_leaves frame r c (front a f) columns 1 n) (first_place r)
     ∙ ap (λ l. row_leaves frame r c a 0 columns ++ l) (tile_shifted frame r c columns a f 0 n)
 
-pub tile_listed : {S : Type 0} (walk : Walk S) → ListsItsBlock walk → (columns r c n : ℕ) (s : S) → Yields (decode_tile walk columns r c n s) (ListsTile walk columns r c n s)
-unfolding decode_tile settle
-tile_listed walk each columns r c zero s = ((λ k j. whole), lists_none walk s)
-tile_listed walk each columns r c (suc n) s =
-    yields_bind (decode_row walk r c columns s) (decode_tile walk columns (r + 8) c n) (ListsRow walk r c columns s) (ListsTile walk columns r c (suc n) s) (row_listed walk each r c columns s)
-    (λ t a. yields_map (decode_tile walk columns (r + 8) c n t) (ListsTile walk columns (r + 8) c n t) (ListsTile walk columns r c (suc n) s) (tile_listed walk each columns (r + 8) c n t)
+abbrev ListsRows : {S : Type 0} → Walk S → ℕ → ℕ → ℕ → ℕ → S → S → Type 0
+ListsRows walk columns r c n s t = (cuts : ℕ → ℕ → Cut) × Lists walk s (rows_leaves walk.frame r c cuts columns 0 n) t
+
+rows_listed : {S : Type 0} (walk : Walk S) → ListsItsBlock walk → (columns r c n : ℕ) (s : S) → Yields (decode_rows walk columns r c n s) (ListsRows walk columns r c n s)
+unfolding decode_rows settle
+rows_listed walk each columns r c zero s = ((λ k j. whole), lists_none walk s)
+rows_listed walk each columns r c (suc n) s =
+    yields_bind (decode_row walk r c columns s) (decode_rows walk columns (r + 8) c n) (ListsRow walk r c columns s) (ListsRows walk columns r c (suc n) s) (row_listed walk each r c columns s)
+    (λ t a. yields_map (decode_rows walk columns (r + 8) c n t) (ListsRows walk columns (r + 8) c n t) (ListsRows walk columns r c (suc n) s) (rows_listed walk each columns (r + 8) c n t)
     (λ u b. (
       front a.0 b.0,
-      lists_as walk s u (row_leaves walk.frame r c a.0 0 columns ++ tile_leaves walk.frame (r + 8) c b.0 columns 0 n) (tile_leaves walk.frame r c (front a.0 b.0) columns 0 (suc n))
+      lists_as walk s u (row_leaves walk.frame r c a.0 0 columns ++ rows_leaves walk.frame (r + 8) c b.0 columns 0 n) (rows_leaves walk.frame r c (front a.0 b.0) columns 0 (suc n))
           (tile_more walk.frame r c columns a.0 b.0 n) (lists_both walk s t u _ _ a.1 b.1),
     )))
+
+pub tile_listed : {S : Type 0} (walk : Walk S) → ListsItsBlock walk → (columns r c n : ℕ) (s : S)
+    → Yields (decode_tile walk (squares_from walk columns r c n) s) (ListsTile walk (squares_from walk columns r c n) s)
+tile_listed walk each columns r c n s =
+    let first = square_at walk 3 r c in
+    subst (λ x. Yields x (ListsTile walk (squares_from walk columns r c n) s)) (sym (tile_is walk columns r c n s))
+    (yields_map (decode_rows walk columns r c n s) (ListsRows walk columns r c n s) (ListsTile walk (squares_from walk columns r c n) s) (rows_listed walk each columns r c n s)
+    (λ t a. (by_place first a.0, lists_as walk s t (rows_leaves walk.frame r c a.0 columns 0 n) _ (rows_by_leaves walk.frame first a.0 n columns) a.1)))

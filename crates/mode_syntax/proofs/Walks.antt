@@ -1,5 +1,5 @@
 -- The blocks that a walk lists are the leaves of a partition tree, in order.
-use Rattle.std.proofs.Common.{◌≡◌, ℕ, zero, suc, ◌+◌, ◌^◌, ◌++◌, [], ◌∙◌, true, false, List, map, inl, inr, refl, sym, ap, append_assoc}
+use Rattle.std.proofs.Common.{◌≡◌, ℕ, zero, suc, ◌+◌, ◌^◌, ◌++◌, [], ◌∙◌, true, false, List, map, inl, inr, refl, sym, subst, ap, append_assoc}
 use Rattle.std.proofs.lemmas.Bool.{cases_Bool}
 use Rattle.std.proofs.lemmas.List.{append-nil, map-append}
 use Rattle.vp9_types.specs.declared.block.BlockSize.{BlockSize}
@@ -10,8 +10,9 @@ use Rattle.counting_reader.specs.Counting.{settle, in_order, Yields}
 use Rattle.counting_reader.proofs.Yields.{yields_bind, yields_all, yields_map}
 use Rattle.mode_syntax.specs.Partitions.{partition_at}
 use Rattle.mode_syntax.specs.TileSquares.{Leaf, Cut, whole, upper_and_lower, left_and_right, quarters, inside, one_leaf, leaves}
-use Rattle.mode_syntax.specs.Walk.{Walk, block_at, square_at, starts_inside, block_inside, smallest_parts, parts, decode_partition}
-use Rattle.mode_syntax.specs.Laws.{leaf_of, Lists, ListsItsBlock, ListsLeaves}
+use Rattle.mode_syntax.specs.Walk.{Walk, block_at, square_at, starts_inside, block_inside, smallest_parts, parts, decode_at_level}
+use Rattle.mode_syntax.specs.Laws.{decode_square, square_parts, leaf_of, Lists, ListsItsBlock, ListsLeaves}
+use Rattle.mode_syntax.proofs.SquareParts.{rows_are, columns_are, quarters_are}
 
 pub lists_none : {S : Type 0} (walk : Walk S) (s : S) → Lists walk s [] s
 lists_none walk s = ([], refl, sym (append-nil (walk.blocks s)))
@@ -56,7 +57,7 @@ smallest_leaves walk r c Vertical h = there walk r c _ h
 smallest_leaves walk r c Split h = there walk r c _ h
 
 smallest_listed : {S : Type 0} (walk : Walk S) → ListsItsBlock walk → (r c : ℕ) (s : S) (p : Partition) → starts_inside walk r c ≡ true
-    → Yields (smallest_parts walk r c s p) (ListsLeaves walk 0 r c s)
+    → Yields (smallest_parts walk (square_at walk 0 r c) s p) (ListsLeaves walk 0 r c s)
 unfolding smallest_parts
 smallest_listed walk each r c s p h =
     yields_map (walk.block (block_at walk r c (part_size p 0)) s) (Lists walk s (one_leaf r c (part_size p 0))) (ListsLeaves walk 0 r c s) (each r c (part_size p 0) s)
@@ -73,16 +74,17 @@ halves_listed walk each n r c r' c' s size cut is =
     (λ u second. (cut, lists_as walk s u _ _ is (lists_both walk s t u (one_leaf r c size) (inside walk.frame r' c' (one_leaf r' c' size)) first second))))
 
 quarters_listed : {S : Type 0} (walk : Walk S) (n r c : ℕ) (s : S) → starts_inside walk r c ≡ true
-    → ((r c : ℕ) (s : S) → Yields (decode_partition walk n r c s) (ListsLeaves walk n r c s))
-    → Yields (parts walk (decode_partition walk n) n r c s Split) (ListsLeaves walk (suc n) r c s)
+    → ((r c : ℕ) (s : S) → Yields (decode_square walk n r c s) (ListsLeaves walk n r c s))
+    → Yields (square_parts walk n r c s Split) (ListsLeaves walk (suc n) r c s)
 unfolding parts
 quarters_listed walk n r c s h quarter =
     let f = walk.frame in
     let k = 2 ^ n in
-    yields_bind (decode_partition walk n r c s) _ (ListsLeaves walk n r c s) (ListsLeaves walk (suc n) r c s) (quarter r c s)
-    (λ t a. yields_bind (decode_partition walk n r (c + k) t) _ (ListsLeaves walk n r (c + k) t) (ListsLeaves walk (suc n) r c s) (quarter r (c + k) t)
-    (λ u b. yields_bind (decode_partition walk n (r + k) c u) _ (ListsLeaves walk n (r + k) c u) (ListsLeaves walk (suc n) r c s) (quarter (r + k) c u)
-    (λ v d. yields_map (decode_partition walk n (r + k) (c + k) v) (ListsLeaves walk n (r + k) (c + k) v) (ListsLeaves walk (suc n) r c s) (quarter (r + k) (c + k) v)
+    subst (λ x. Yields x (ListsLeaves walk (suc n) r c s)) (sym (quarters_are walk n r c s))
+    (yields_bind (decode_square walk n r c s) _ (ListsLeaves walk n r c s) (ListsLeaves walk (suc n) r c s) (quarter r c s)
+    (λ t a. yields_bind (decode_square walk n r (c + k) t) _ (ListsLeaves walk n r (c + k) t) (ListsLeaves walk (suc n) r c s) (quarter r (c + k) t)
+    (λ u b. yields_bind (decode_square walk n (r + k) c u) _ (ListsLeaves walk n (r + k) c u) (ListsLeaves walk (suc n) r c s) (quarter (r + k) c u)
+    (λ v d. yields_map (decode_square walk n (r + k) (c + k) v) (ListsLeaves walk n (r + k) (c + k) v) (ListsLeaves walk (suc n) r c s) (quarter (r + k) (c + k) v)
     (λ w e.
     let la = leaves f n r c a.0 in
     let lb = leaves f n r (c + k) b.0 in
@@ -91,18 +93,22 @@ quarters_listed walk n r c s h quarter =
       quarters a.0 b.0 d.0 e.0,
       lists_as walk s w (la ++ lb ++ ld ++ le) (leaves f (suc n) r c (quarters a.0 b.0 d.0 e.0)) (there walk r c (la ++ lb ++ ld ++ le) h)
           (lists_both walk s v w (la ++ lb ++ ld) le (lists_both walk s u v (la ++ lb) ld (lists_both walk s t u la lb a.1 b.1) d.1) e.1),
-    )))))
+    ))))))
 
 parts_listed : {S : Type 0} (walk : Walk S) → ListsItsBlock walk → (n r c : ℕ) (s : S) → starts_inside walk r c ≡ true
-    → ((r c : ℕ) (s : S) → Yields (decode_partition walk n r c s) (ListsLeaves walk n r c s))
-    → (p : Partition) → Yields (parts walk (decode_partition walk n) n r c s p) (ListsLeaves walk (suc n) r c s)
+    → ((r c : ℕ) (s : S) → Yields (decode_square walk n r c s) (ListsLeaves walk n r c s))
+    → (p : Partition) → Yields (square_parts walk n r c s p) (ListsLeaves walk (suc n) r c s)
 unfolding parts
 parts_listed walk each n r c s h quarter Whole =
     let size = part_size Whole (suc n) in
     yields_map (walk.block (block_at walk r c size) s) (Lists walk s (one_leaf r c size)) (ListsLeaves walk (suc n) r c s) (each r c size s)
     (λ t l. (whole, lists_as walk s t (one_leaf r c size) _ (there walk r c (one_leaf r c size) h) l))
-parts_listed walk each n r c s h quarter Horizontal = halves_listed walk each n r c (r + 2 ^ n) c s (part_size Horizontal (suc n)) upper_and_lower (there walk r c _ h)
-parts_listed walk each n r c s h quarter Vertical = halves_listed walk each n r c r (c + 2 ^ n) s (part_size Vertical (suc n)) left_and_right (there walk r c _ h)
+parts_listed walk each n r c s h quarter Horizontal =
+    subst (λ x. Yields x (ListsLeaves walk (suc n) r c s)) (sym (rows_are walk n r c s))
+    (halves_listed walk each n r c (r + 2 ^ n) c s (part_size Horizontal (suc n)) upper_and_lower (there walk r c _ h))
+parts_listed walk each n r c s h quarter Vertical =
+    subst (λ x. Yields x (ListsLeaves walk (suc n) r c s)) (sym (columns_are walk n r c s))
+    (halves_listed walk each n r c r (c + 2 ^ n) s (part_size Vertical (suc n)) left_and_right (there walk r c _ h))
 parts_listed walk each n r c s h quarter Split = quarters_listed walk n r c s h quarter
 
 -- a square that starts outside has no leaves
@@ -110,15 +116,15 @@ outside_listed : {S : Type 0} (walk : Walk S) (n r c : ℕ) (s : S) → starts_i
 outside_listed walk zero r c s h = (whole, lists_as walk s s [] _ (nowhere walk r c _ h) (lists_none walk s))
 outside_listed walk (suc n) r c s h = (whole, lists_as walk s s [] _ (nowhere walk r c _ h) (lists_none walk s))
 
-pub leaves_listed : {S : Type 0} (walk : Walk S) → ListsItsBlock walk → (n r c : ℕ) (s : S) → Yields (decode_partition walk n r c s) (ListsLeaves walk n r c s)
-unfolding decode_partition settle
+pub leaves_listed : {S : Type 0} (walk : Walk S) → ListsItsBlock walk → (n r c : ℕ) (s : S) → Yields (decode_square walk n r c s) (ListsLeaves walk n r c s)
+unfolding decode_at_level settle
 leaves_listed walk each zero r c s = elim (cases_Bool (starts_inside walk r c)) [
-  | inl one ↦ rw one (yields_bind (partition_at walk.intra walk.probs (walk.blocks s) walk.frame (square_at walk 0 r c)) (smallest_parts walk r c s)
+  | inl one ↦ rw one (yields_bind (partition_at walk.intra walk.probs (walk.blocks s) walk.frame (square_at walk 0 r c)) (smallest_parts walk (square_at walk 0 r c) s)
       (λ p. Unit {0}) (ListsLeaves walk 0 r c s) (yields_all _) (λ p u. smallest_listed walk each r c s p one))
   | inr none ↦ rw none (outside_listed walk 0 r c s none)
 ]
 leaves_listed walk each (suc n) r c s = elim (cases_Bool (starts_inside walk r c)) [
-  | inl one ↦ rw one (yields_bind (partition_at walk.intra walk.probs (walk.blocks s) walk.frame (square_at walk (suc n) r c)) (parts walk (decode_partition walk n) n r c s)
+  | inl one ↦ rw one (yields_bind (partition_at walk.intra walk.probs (walk.blocks s) walk.frame (square_at walk (suc n) r c)) (square_parts walk n r c s)
       (λ p. Unit {0}) (ListsLeaves walk (suc n) r c s) (yields_all _) (λ p u. parts_listed walk each n r c s one (leaves_listed walk each n) p))
   | inr none ↦ rw none (outside_listed walk (suc n) r c s none)
 ]

@@ -1,14 +1,15 @@
 -- What the laws of walks speak of.
-use Rattle.std.specs.Prelude.{◌≡◌, ℕ, ◌+◌, ◌*◌, ◌^◌, ◌<◌, ◌≤◌, ◌⊎◌, Bool, true, ◌&&◌, List, [], ◌∷◌, ◌++◌, Result, Ok, Err, map, filter, min, nat_eq, nat_lt, if◌then◌else◌}
+use Rattle.std.specs.Prelude.{◌≡◌, ℕ, zero, suc, ◌+◌, ◌*◌, ◌^◌, ◌<◌, ◌≤◌, ◌⊎◌, Bool, true, ◌&&◌, List, [], ◌∷◌, ◌++◌, Result, map, filter, min, nat_lt}
 use Rattle.vp9_types.specs.Syntax.{Syntax}
 use Rattle.vp9_types.specs.declared.block.BlockSize.{BlockSize}
 use Rattle.vp9_types.specs.declared.block.Modes.{Modes}
+use Rattle.vp9_types.specs.declared.block.Partition.{Partition}
 use Rattle.vp9_types.specs.declared.rule.Rule.{Rule}
 use Rattle.bool_decoder.specs.Bools.{run_bools}
 use Rattle.bool_decoder.specs.Window.{Window}
 use Rattle.frame_headers.specs.declared.header.Header.{Header}
 use Rattle.prob_contexts.specs.ProbLists.{ContextLists}
-use Rattle.counting_reader.specs.Counting.{Settled, settle, mapped, Yields, ◌>>=◌}
+use Rattle.counting_reader.specs.Counting.{Settled, settle, in_order, mapped, Yields, ◌>>=◌}
 use Rattle.block_geometry.specs.BlockSizes.{width_8}
 use Rattle.block_geometry.specs.declared.transform_blocks.FramePlaces.{FramePlaces}
 use Rattle.block_plan.specs.Blocks.{covering}
@@ -16,9 +17,34 @@ use Rattle.block_plan.specs.declared.block.BlockAt.{BlockAt}
 use Rattle.block_plan.specs.declared.block.BlockInfo.{BlockInfo}
 use Rattle.mode_syntax.specs.IntraModeInfo.{intra_frame_mode_info}
 use Rattle.mode_syntax.specs.Partitions.{partition_at}
+use Rattle.mode_syntax.specs.Superblocks.{superblocks_of}
 use Rattle.mode_syntax.specs.TileColumns.{settled_part}
 use Rattle.mode_syntax.specs.TileSquares.{Leaf, Cut, one_leaf, leaves, tile_leaves}
-use Rattle.mode_syntax.specs.Walk.{Walk, block_at, square_at, decode_tile}
+use Rattle.mode_syntax.specs.Walk.{Walk, block_at, square_at, parts, decode_at_level, decode_tile}
+use Rattle.mode_syntax.specs.declared.square_at.SquareAt.{SquareAt}
+
+---- Row by row ----
+
+-- a square of a walk's tile
+abbrev pub decode_square : {S : Type 0} → Walk S → ℕ → ℕ → ℕ → S → Syntax ℕ Rule (Settled S)
+decode_square walk level r c s = decode_at_level walk level (square_at walk level r c) s
+
+-- the parts of one whose quarters have level n
+abbrev pub square_parts : {S : Type 0} → Walk S → ℕ → ℕ → ℕ → S → Partition → Syntax ℕ Rule (Settled S)
+square_parts walk n r c s p = parts walk (decode_at_level walk n) (square_at walk (suc n) r c) s p
+
+-- a row of n superblocks from a column on, and n rows of them
+unfoldable pub decode_row : {S : Type 0} → Walk S → ℕ → ℕ → ℕ → S → Syntax ℕ Rule (Settled S)
+decode_row walk r c zero s = settle s
+decode_row walk r c (suc n) s = in_order (decode_square walk 3 r c s) (decode_row walk r (c + 8) n)
+
+unfoldable pub decode_rows : {S : Type 0} → Walk S → ℕ → ℕ → ℕ → ℕ → S → Syntax ℕ Rule (Settled S)
+decode_rows walk columns r c zero s = settle s
+decode_rows walk columns r c (suc n) s = in_order (decode_row walk r c columns s) (decode_rows walk columns (r + 8) c n)
+
+-- the superblocks of n rows of a walk's tile
+abbrev pub squares_from : {S : Type 0} → Walk S → ℕ → ℕ → ℕ → ℕ → List SquareAt
+squares_from walk columns r c n = superblocks_of (square_at walk 3 r c) n columns
 
 ---- Listed blocks ----
 
@@ -38,8 +64,8 @@ abbrev pub ListsLeaves : {S : Type 0} → Walk S → ℕ → ℕ → ℕ → S �
 ListsLeaves walk n r c s t = (cut : Cut) × Lists walk s (leaves walk.frame n r c cut) t
 
 -- the blocks of partition trees of a tile's superblocks
-abbrev pub ListsTile : {S : Type 0} → Walk S → ℕ → ℕ → ℕ → ℕ → S → S → Type 0
-ListsTile walk columns r c n s t = (cuts : ℕ → ℕ → Cut) × Lists walk s (tile_leaves walk.frame r c cuts columns 0 n) t
+abbrev pub ListsTile : {S : Type 0} → Walk S → List SquareAt → S → S → Type 0
+ListsTile walk squares s t = (cuts : SquareAt → Cut) × Lists walk s (tile_leaves walk.frame cuts squares) t
 
 ---- Walks that do the same ----
 
@@ -123,7 +149,8 @@ pub record IsLaidOut (frame : FramePlaces) (l : Layout) : Type 0 where
 unfoldable pub mode_tile : Header → Modes → ContextLists → FramePlaces → Layout → (ℕ → ℕ) → ℕ → List BlockInfo → Result (Settled (List BlockInfo)) Rule
 mode_tile header modes contexts frame l column_of n blocks =
     let k = column_of n in
-    settled_part (run_bools (decode_tile (mode_walk header modes contexts frame (l.from k) (l.to k)) (l.wide k) (l.row n) (l.from k) (l.high n) blocks) (l.window n))
+    let walk = mode_walk header modes contexts frame (l.from k) (l.to k) in
+    settled_part (run_bools (decode_tile walk (squares_from walk (l.wide k) (l.row n) (l.from k) (l.high n)) blocks) (l.window n))
 
 abbrev pub column_blocks : Layout → ℕ → List BlockInfo → List BlockInfo
 column_blocks l k blocks = in_columns (l.from k) (l.to k) blocks

@@ -2,6 +2,7 @@ pub mod IntraModes
 pub mod Elements
 pub mod IntraModeInfo
 pub mod Partitions
+pub mod Superblocks
 pub mod TileSquares
 pub mod Walk
 pub mod TileColumns

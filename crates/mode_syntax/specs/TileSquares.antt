@@ -1,13 +1,14 @@
 -- Where the blocks of a tile lie (6.4.2 and 6.4.3 of the standard: decode_tile, decode_partition): they are the leaves of
 -- its superblocks' partition trees, in order.
-use Rattle.std.specs.Prelude.{ℕ, zero, suc, ◌+◌, ◌*◌, ◌^◌, ◌&&◌, List, [], ◌∷◌, ◌++◌, nat_lt, count_by, if◌then◌else◌}
-use Rattle.std.specs.List.{flat_map, range_with_len}
+use Rattle.std.specs.Prelude.{ℕ, zero, suc, ◌+◌, ◌^◌, ◌&&◌, List, [], ◌∷◌, ◌++◌, nat_lt, count_by, if◌then◌else◌}
+use Rattle.std.specs.List.{flat_map}
 use Rattle.vp9_types.specs.declared.block.BlockSize.{BlockSize}
 use Rattle.vp9_types.specs.declared.block.Partition.{Partition}
 use Rattle.vp9_types.specs.declared.block.Partition.TheVariants.{Whole, Horizontal, Vertical, Split}
 use Rattle.block_geometry.specs.BlockSizes.{is_covered}
 use Rattle.block_geometry.specs.SplitSquares.{part_size}
 use Rattle.block_geometry.specs.declared.transform_blocks.FramePlaces.{FramePlaces}
+use Rattle.mode_syntax.specs.declared.square_at.SquareAt.{SquareAt}
 
 -- a block's place and size
 pub record Leaf : Type 0 where
@@ -46,12 +47,9 @@ leaves frame (suc n) r c left_and_right =
 leaves frame (suc n) r c (quarters a b d e) =
     inside frame r c (leaves frame n r c a ++ leaves frame n r (c + 2 ^ n) b ++ leaves frame n (r + 2 ^ n) c d ++ leaves frame n (r + 2 ^ n) (c + 2 ^ n) e)
 
--- a row of superblocks of 8 places, from the superblock j on, and all rows of them, from i on
-abbrev pub row_leaves : FramePlaces → ℕ → ℕ → (ℕ → Cut) → ℕ → ℕ → List Leaf
-row_leaves frame r c cuts j n = flat_map (λ k. leaves frame 3 r (c + 8 * k) (cuts k)) (range_with_len j n)
-
-abbrev pub tile_leaves : FramePlaces → ℕ → ℕ → (ℕ → ℕ → Cut) → ℕ → ℕ → ℕ → List Leaf
-tile_leaves frame r c cuts columns i n = flat_map (λ k. row_leaves frame (r + 8 * k) c (cuts k) 0 columns) (range_with_len i n)
+-- the blocks of superblocks, each of which is cut so
+abbrev pub tile_leaves : FramePlaces → (SquareAt → Cut) → List SquareAt → List Leaf
+tile_leaves frame cuts squares = flat_map (λ at. leaves frame at.level at.row at.col (cuts at)) squares
 
 -- how many of them cover a place
 abbrev pub times_covered : List Leaf → ℕ → ℕ → ℕ

@@ -14,31 +14,37 @@ ghost use Rattle.block_plan.specs.declared.block.BlockAt.{BlockAt};
 ghost use Rattle.block_plan.specs.declared.block.BlockInfo.{BlockInfo};
 ghost use Rattle.mode_syntax.specs.IntraModeInfo.{intra_frame_mode_info};
 ghost use Rattle.mode_syntax.specs.Partitions.{partition_at};
+ghost use Rattle.mode_syntax.specs.Superblocks.{superblocks_of};
 ghost use Rattle.mode_syntax.specs.TileSquares.{Cut, tile_leaves, times_covered};
-ghost use Rattle.mode_syntax.specs.Walk.{Walk, decode_partition, decode_tile};
-ghost use Rattle.mode_syntax.specs.Laws.{ListsItsBlock, ListsLeaves, ListsTile, walk_over, KeepsStep, SameIn, in_columns, mode_walk, Layout, IsLaidOut, mode_tile, column_blocks};
+ghost use Rattle.mode_syntax.specs.Walk.{Walk, square_at, decode_partition, decode_tile};
+ghost use Rattle.mode_syntax.specs.Laws.{decode_rows, squares_from, ListsItsBlock, ListsLeaves, ListsTile, walk_over, KeepsStep, SameIn, in_columns, mode_walk, Layout, IsLaidOut, mode_tile, column_blocks};
 ghost use Rattle.mode_syntax.specs.TileColumns.{read_all, counted_of, AreSeparate, column_alone, by_column};
 ghost use Rattle.mode_syntax.specs.declared.square_at.SquareAt.{SquareAt};
 
 /// However the superblocks of a tile are partitioned, its blocks cover each of its places inside the frame once. The
-/// tile has so many rows and columns of superblocks, from a row and column on.
+/// tile has so many rows and columns of superblocks, from the first one on.
 pub fn blocks_cover_a_tile_once()
-    ensures { (frame : FramePlaces) (r c rows columns : ℕ) (cuts : ℕ → ℕ → Cut) (y x : ℕ) →
-        r ≤ y → y < r + 8 * rows → c ≤ x → x < c + 8 * columns → y < frame.rows → x < frame.cols →
-        times_covered (tile_leaves frame r c cuts columns 0 rows) y x ≡ 1 }
+    ensures { (frame : FramePlaces) (first : SquareAt) (rows columns : ℕ) (cuts : SquareAt → Cut) (y x : ℕ) →
+        first.row ≤ y → y < first.row + 8 * rows → first.col ≤ x → x < first.col + 8 * columns → y < frame.rows → x < frame.cols →
+        times_covered (tile_leaves frame cuts (superblocks_of first rows columns)) y x ≡ 1 }
 {}
 
 /// Where what a block reads lists that block alone, reading a square lists the blocks of a partition tree of it, in
 /// order. `S` is what reading keeps.
 pub fn squares_list_their_leaves<S>()
     ensures { (walk : Walk S) → ListsItsBlock walk → (n r c : ℕ) (s : S) →
-        Yields (decode_partition walk n r c s) (ListsLeaves walk n r c s) }
+        Yields (decode_partition walk (square_at walk n r c) s) (ListsLeaves walk n r c s) }
 {}
 
 /// So does reading a tile of `n` rows of superblocks: it lists the blocks of its superblocks' partition trees, in order.
 pub fn tiles_list_their_leaves<S>()
     ensures { (walk : Walk S) → ListsItsBlock walk → (columns r c n : ℕ) (s : S) →
-        Yields (decode_tile walk columns r c n s) (ListsTile walk columns r c n s) }
+        Yields (decode_tile walk (squares_from walk columns r c n) s) (ListsTile walk (squares_from walk columns r c n) s) }
+{}
+
+/// Reading the superblocks of a tile is reading them row by row.
+pub fn tiles_are_read_row_by_row<S>()
+    ensures { (walk : Walk S) (columns r c n : ℕ) (s : S) → decode_tile walk (squares_from walk columns r c n) s ≡ decode_rows walk columns r c n s }
 {}
 
 /// Where another state keeps step with a walk's, reading a square and reading a tile do to it what they do to the walk's
@@ -46,13 +52,13 @@ pub fn tiles_list_their_leaves<S>()
 pub fn walks_map<S, T>()
     ensures square { (walk : Walk S) (block : BlockAt → T → Syntax ℕ Rule (Settled T)) (blocks : T → List BlockInfo) (view : S → T) (low high : ℕ) →
         KeepsStep walk block blocks view low high → (n r c : ℕ) (s : S) → n ≤ 3 → low ≤ c → c + 2 ^ n ≤ high →
-        decode_partition (walk_over walk block blocks) n r c (view s) ≡ mapped view (decode_partition walk n r c s) }
+        decode_partition (walk_over walk block blocks) (square_at walk n r c) (view s) ≡ mapped view (decode_partition walk (square_at walk n r c) s) }
     ensures tile { (walk : Walk S) (block : BlockAt → T → Syntax ℕ Rule (Settled T)) (blocks : T → List BlockInfo) (view : S → T) (low high : ℕ) →
         KeepsStep walk block blocks view low high → (columns r c n : ℕ) (s : S) → low ≤ c → c + 8 * columns ≤ high →
-        decode_tile (walk_over walk block blocks) columns r c n (view s) ≡ mapped view (decode_tile walk columns r c n s) }
+        decode_tile (walk_over walk block blocks) (squares_from walk columns r c n) (view s) ≡ mapped view (decode_tile walk (squares_from walk columns r c n) s) }
     ensures everywhere { (walk : Walk S) (block : BlockAt → T → Syntax ℕ Rule (Settled T)) (blocks : T → List BlockInfo) (view : S → T) →
         ((at : BlockAt) (s : S) → block at (view s) ≡ mapped view (walk.block at s)) → ((s : S) → blocks (view s) ≡ walk.blocks s) →
-        (columns r c n : ℕ) (s : S) → decode_tile (walk_over walk block blocks) columns r c n (view s) ≡ mapped view (decode_tile walk columns r c n s) }
+        (columns r c n : ℕ) (s : S) → decode_tile (walk_over walk block blocks) (squares_from walk columns r c n) (view s) ≡ mapped view (decode_tile walk (squares_from walk columns r c n) s) }
 {}
 
 /// What a square and an intra block read depends on the earlier blocks only through those in their tile's columns.
@@ -70,11 +76,12 @@ pub fn columns_are_apart()
 pub fn tiles_read_their_columns()
     ensures own { (header : Header) (modes : Modes) (contexts : ContextLists) (frame : FramePlaces) (from to columns r n : ℕ) (blocks : List BlockInfo) →
         min (from + 8 * columns) frame.cols ≤ to →
-        decode_tile (mode_walk header modes contexts frame from to) columns r from n (in_columns from to blocks)
-        ≡ mapped (in_columns from to) (decode_tile (mode_walk header modes contexts frame from to) columns r from n blocks) }
+        let walk = mode_walk header modes contexts frame from to in
+        decode_tile walk (squares_from walk columns r from n) (in_columns from to blocks) ≡ mapped (in_columns from to) (decode_tile walk (squares_from walk columns r from n) blocks) }
     ensures others { (header : Header) (modes : Modes) (contexts : ContextLists) (frame : FramePlaces) (tile_from tile_to columns r n from to : ℕ) (blocks : List BlockInfo) →
         (tile_from + 8 * columns ≤ from) ⊎ (to ≤ tile_from) →
-        Yields (decode_tile (mode_walk header modes contexts frame tile_from tile_to) columns r tile_from n blocks) (λ t. in_columns from to t ≡ in_columns from to blocks) }
+        let walk = mode_walk header modes contexts frame tile_from tile_to in
+        Yields (decode_tile walk (squares_from walk columns r tile_from n) blocks) (λ t. in_columns from to t ≡ in_columns from to blocks) }
 {}
 
 /// Where a tile does to its column what it does to all, reading tile by tile is reading each column alone: where all tiles

@@ -1,7 +1,7 @@
 //! Squares of a tile.
 
 ghost use Rattle.std.specs.Prelude.{◌≡◌, ◌<◌, ◌≤◌};
-ghost use Rattle.mode_syntax.specs.Walk.{quarter};
+ghost use Rattle.mode_syntax.specs.Superblocks.{quarter_square};
 
 use crate::partition::side_of;
 use block_plan::BlockAt;
@@ -38,7 +38,7 @@ pub fn quarter_of(at: SquareAt, i: u32) -> SquareAt
     requires row { at.row < 65536 }
     requires col { at.col < 65536 }
     requires below { i < 4 }
-    ensures { result ≡ quarter at i }
+    ensures { result ≡ quarter_square at i }
 {
     let half = side_of(at.level - 1);
     SquareAt {

@@ -1,11 +1,14 @@
 -- Rows of superblocks, one superblock after another, and rows one after another: whatever ends what is still to be read ends all.
-use Rattle.std.proofs.Common.{◌≡◌, ℕ, suc, ◌+◌, ◌-◌, ◌*◌, ◌^◌, ◌<◌, ◌≤◌, refl, subst, arith}
+use Rattle.std.proofs.Common.{◌≡◌, ℕ, suc, ◌+◌, ◌-◌, ◌*◌, ◌^◌, ◌<◌, ◌≤◌, refl, sym, subst, arith, ◌∙◌}
 use Rattle.std.specs.Prelude.{Result, Ok, Err}
 use Rattle.std.proofs.Math.Nat.{mul-le-mul_left}
-use Rattle.mode_syntax.specs.Walk.{Walk, decode_partition, decode_row, decode_tile}
+use Rattle.mode_syntax.specs.Laws.{decode_square, decode_row, decode_rows}
+use Rattle.mode_syntax.specs.Superblocks.{superblocks_of}
+use Rattle.mode_syntax.specs.Walk.{Walk, decode_tile}
 use Rattle.mode_syntax.specs.declared.square_at.SquareAt.{SquareAt}
+use Rattle.mode_syntax.proofs.RowByRow.{tile_is}
 use Rattle.tile_reader.specs.Code.{Tile, SameTile, Rest, EndsTile, then_rest}
-use Rattle.tile_reader.proofs.Endings.{ends_here, ends_more, then_ends, then_breaks, same_here, same_on}
+use Rattle.tile_reader.proofs.Endings.{as_rest, ends_here, ends_more, then_ends, then_breaks, same_here, same_on}
 use Rattle.tile_reader.proofs.SquareEnds.{moved, SquareEnds}
 
 -- n turns of a walk from a place on, and one of them
@@ -39,7 +42,7 @@ abbrev pub row_rest : {S : Type 0} → ℕ → Turns S
 row_rest r walk c n = decode_row walk r c n
 
 abbrev pub tile_rest : {S : Type 0} → ℕ → ℕ → Turns S
-tile_rest columns c walk r n = decode_tile walk columns r c n
+tile_rest columns c walk r n = decode_rows walk columns r c n
 
 -- a turn, and then the others
 abbrev TakesTurns : {S : Type 0} → Type 0 → Turns S → Turn S → Type 0
@@ -91,7 +94,7 @@ ends f none c n k i m start now done most left =
     (left.ends 0 (Ok tt) now (subst (λ x. EndsTile (f start.walk (c + 8 * i) x) 0 now (Ok tt) now) no_more (none start.walk (c + 8 * i) 0 now)))
 
 abbrev pub square_turn : {S : Type 0} → ℕ → Turn S
-square_turn r walk c = decode_partition walk 3 r c
+square_turn r walk c = decode_square walk 3 r c
 
 abbrev pub row_turn : {S : Type 0} → ℕ → ℕ → Turn S
 row_turn columns c walk r = row_rest r walk c columns
@@ -105,12 +108,21 @@ unfolding decode_row
 row_end r walk c m t = ends_here (row_rest r walk c 0) m t (λ s. refl)
 
 pub tile_turns : {S H : Type 0} (columns c : ℕ) → TakesTurns {S = S} H (tile_rest columns c) (row_turn columns c)
-unfolding decode_tile
+unfolding decode_rows
 tile_turns columns c walk r n m t new result h = h
 
 pub tile_end : {S H : Type 0} (columns c : ℕ) → EndsTurns {S = S} H (tile_rest columns c)
-unfolding decode_tile
+unfolding decode_rows
 tile_end columns c walk r m t = ends_here (tile_rest columns c walk r 0) m t (λ s. refl)
+
+-- the rows of a tile are its superblocks
+pub tile_ends : {S H : Type 0} (t new : Tile S H) (first : SquareAt) (columns rows m : ℕ) (result : Result (Unit {0}) H)
+    → first.col ≡ first.tile_from → first.tile_from ≡ t.walk.tile_from → first.tile_to ≡ t.walk.tile_to
+    → EndsTile (tile_rest columns first.tile_from t.walk first.row rows) m t result new → EndsTile (decode_tile t.walk (superblocks_of first rows columns)) m t result new
+tile_ends {S} t new first columns rows m result begin from to h =
+    as_rest (tile_rest columns first.tile_from t.walk first.row rows) (decode_tile t.walk (superblocks_of first rows columns)) m t new result
+    (λ s. sym ((λ i. decode_tile t.walk (superblocks_of (record { row = first.row; col = begin i; level = 3; tile_from = from i; tile_to = to i }) rows columns) s)
+    ∙ tile_is t.walk columns first.row first.tile_from rows s)) h
 
 -- the i-th superblock of a row
 pub row_turn_of : {S H : Type 0} (now new : Tile S H) (first : SquareAt) (i : ℕ) (result : Result (Unit {0}) H) → first.level ≡ 3 → first.col ≡ first.tile_from

@@ -1,5 +1,5 @@
 -- How a square is read, by whether it starts inside the frame and by its partition.
-use Rattle.std.proofs.Common.{◌≡◌, ◌∙◌, ℕ, zero, suc, ◌+◌, ◌-◌, ◌*◌, ◌/◌, ◌%◌, ◌^◌, ◌<◌, ◌≤◌, refl, subst, ap, arith, true, false, rules}
+use Rattle.std.proofs.Common.{◌≡◌, ◌∙◌, ℕ, zero, suc, ◌+◌, ◌-◌, ◌*◌, ◌/◌, ◌%◌, ◌^◌, ◌<◌, ◌≤◌, refl, sym, subst, ap, arith, true, false, rules}
 use Rattle.std.specs.Prelude.{Result, Ok}
 use Rattle.std.proofs.Math.Nat.{one-le-pow, pow-suc}
 use Rattle.vp9_types.specs.Syntax.{Syntax}
@@ -12,8 +12,11 @@ use Rattle.block_plan.specs.declared.block.BlockAt.{BlockAt}
 use Rattle.counting_reader.specs.Counting.{Settled, settle}
 use Rattle.counting_reader.specs.Code.{run_counting}
 use Rattle.mode_syntax.specs.Partitions.{partition_at}
-use Rattle.mode_syntax.specs.Walk.{Walk, block_at, square_at, starts_inside, block_inside, smallest_parts, parts, decode_partition, quarter}
+use Rattle.mode_syntax.specs.Laws.{decode_square, square_parts}
+use Rattle.mode_syntax.specs.Superblocks.{quarter_square}
+use Rattle.mode_syntax.specs.Walk.{Walk, block_at, square_at, starts_inside, block_inside, smallest_parts, parts, decode_at_level}
 use Rattle.mode_syntax.specs.declared.square_at.SquareAt.{SquareAt}
+use Rattle.mode_syntax.proofs.SquareParts.{rows_are, columns_are, quarters_are}
 use Rattle.tile_reader.specs.Code.{Tile, SameTile, Rest, EndsTile, ReadsPartition, StandsIn, then_rest}
 use Rattle.tile_reader.proofs.Endings.{as_rest, ends_here, symbol_rest, symbol_ends, then_ends, same_here}
 
@@ -64,13 +67,13 @@ halves_end old mid new first r c size result h k =
 
 ---- Squares that start outside ----
 
-square_is_none : {S : Type 0} (walk : Walk S) (level r c : ℕ) (s : S) → starts_inside walk r c ≡ false → decode_partition walk level r c s ≡ settle s
-unfolding decode_partition
+square_is_none : {S : Type 0} (walk : Walk S) (level r c : ℕ) (s : S) → starts_inside walk r c ≡ false → decode_square walk level r c s ≡ settle s
+unfolding decode_at_level
 square_is_none walk zero r c s none = rw none refl
 square_is_none walk (suc k) r c s none = rw none refl
 
-pub square_none : {S H : Type 0} (t : Tile S H) (level r c n : ℕ) → starts_inside t.walk r c ≡ false → EndsTile (decode_partition t.walk level r c) n t (Ok tt) t
-square_none t level r c n none = ends_here (decode_partition t.walk level r c) n t (λ s. square_is_none t.walk level r c s none)
+pub square_none : {S H : Type 0} (t : Tile S H) (level r c n : ℕ) → starts_inside t.walk r c ≡ false → EndsTile (decode_square t.walk level r c) n t (Ok tt) t
+square_none t level r c n none = ends_here (decode_square t.walk level r c) n t (λ s. square_is_none t.walk level r c s none)
 
 ---- The parts of a square ----
 
@@ -84,7 +87,7 @@ pub record IsOf {S H : Type 0} (t : Tile S H) (at : SquareAt) : Type 0 where
 
 -- the parts of a square whose quarters have a level
 abbrev pub parts_rest : {S : Type 0} → Walk S → ℕ → ℕ → ℕ → Partition → Rest S
-parts_rest walk k r c partition = λ s. parts walk (decode_partition walk k) k r c s partition
+parts_rest walk k r c partition = λ s. square_parts walk k r c s partition
 
 part_is : {S H : Type 0} (t : Tile S H) (at : SquareAt) (r c : ℕ) (size sized : BlockSize) → IsOf t at → size ≡ sized → part_at at r c size ≡ block_at t.walk r c sized
 part_is t at r c size sized of same = λ i. record { row = r; col = c; size = same i; tile_from = of.from i; tile_to = of.to i }
@@ -106,13 +109,15 @@ HalvesEnd t first r c size result new = EndsTile (then_rest (t.walk.block first)
 
 as_rows : {S H : Type 0} (t new : Tile S H) (k r c : ℕ) (result : Result (Unit {0}) H)
     → HalvesEnd t (block_at t.walk r c (part_size Horizontal (suc k))) (r + 2 ^ k) c (part_size Horizontal (suc k)) result new → EndsTile (parts_rest t.walk k r c Horizontal) 2 t result new
-unfolding parts
-as_rows t new k r c result h = h
+as_rows t new k r c result h =
+    let size = part_size Horizontal (suc k) in
+    as_rest (then_rest (t.walk.block (block_at t.walk r c size)) (block_inside t.walk (r + 2 ^ k) c size)) (parts_rest t.walk k r c Horizontal) 2 t new result (λ s. sym (rows_are t.walk k r c s)) h
 
 as_columns : {S H : Type 0} (t new : Tile S H) (k r c : ℕ) (result : Result (Unit {0}) H)
     → HalvesEnd t (block_at t.walk r c (part_size Vertical (suc k))) r (c + 2 ^ k) (part_size Vertical (suc k)) result new → EndsTile (parts_rest t.walk k r c Vertical) 2 t result new
-unfolding parts
-as_columns t new k r c result h = h
+as_columns t new k r c result h =
+    let size = part_size Vertical (suc k) in
+    as_rest (then_rest (t.walk.block (block_at t.walk r c size)) (block_inside t.walk r (c + 2 ^ k) size)) (parts_rest t.walk k r c Vertical) 2 t new result (λ s. sym (columns_are t.walk k r c s)) h
 
 pub rows_end : {S H : Type 0} (t new : Tile S H) (at : SquareAt) (k half : ℕ) (first : BlockAt) (size : BlockSize) (result : Result (Unit {0}) H) → IsOf t at → at.level ≡ suc k → half ≡ 2 ^ k
     → size ≡ part_size Horizontal at.level → first ≡ part_at at at.row at.col size → HalvesEnd t first (at.row + half) at.col size result new
@@ -135,14 +140,14 @@ columns_end t new at k half first size result of level side sized is h =
 ---- Quarters ----
 
 abbrev pub SquareEnds : {S H : Type 0} → Walk S → ℕ → ℕ → ℕ → Tile S H → ℕ → Result (Unit {0}) H → Tile S H → Type 0
-SquareEnds walk level r c t n result new = EndsTile (decode_partition walk level r c) n t result new
+SquareEnds walk level r c t n result new = EndsTile (decode_square walk level r c) n t result new
 
 -- the i-th quarter of a square, at a row and column
-pub quarter_ends : {S H : Type 0} (old mid new : Tile S H) (at q : SquareAt) (i r c : ℕ) (result : Result (Unit {0}) H) → SameTile old mid → q ≡ quarter at i
+pub quarter_ends : {S H : Type 0} (old mid new : Tile S H) (at q : SquareAt) (i r c : ℕ) (result : Result (Unit {0}) H) → SameTile old mid → q ≡ quarter_square at i
     → at.row + 2 ^ (at.level - 1) * (i / 2) ≡ r → at.col + 2 ^ (at.level - 1) * (i % 2) ≡ c
     → SquareEnds mid.walk q.level q.row q.col mid (4 ^ q.level) result new → SquareEnds old.walk (at.level - 1) r c mid (4 ^ (at.level - 1)) result new
 quarter_ends old mid new at q i r c result same is row col h =
-    moved (λ w. decode_partition w (at.level - 1) r c) (4 ^ (at.level - 1)) old mid new result same
+    moved (λ w. decode_square w (at.level - 1) r c) (4 ^ (at.level - 1)) old mid new result same
     (subst (λ (x : ℕ). SquareEnds mid.walk (at.level - 1) x c mid (4 ^ (at.level - 1)) result new) row
     (subst (λ (x : ℕ). SquareEnds mid.walk (at.level - 1) (at.row + 2 ^ (at.level - 1) * (i / 2)) x mid (4 ^ (at.level - 1)) result new) col
     (subst (λ (s : SquareAt). SquareEnds mid.walk s.level s.row s.col mid (4 ^ s.level) result new) is h)))
@@ -153,27 +158,27 @@ near n r = omega arith
 far : (n r : ℕ) → r + 2 ^ n * 1 ≡ r + 2 ^ n
 far n r = omega arith
 
-pub first_quarter : {S H : Type 0} (old new : Tile S H) (at q : SquareAt) (result : Result (Unit {0}) H) → q ≡ quarter at 0
+pub first_quarter : {S H : Type 0} (old new : Tile S H) (at q : SquareAt) (result : Result (Unit {0}) H) → q ≡ quarter_square at 0
     → SquareEnds old.walk q.level q.row q.col old (4 ^ q.level) result new → SquareEnds old.walk (at.level - 1) at.row at.col old (4 ^ (at.level - 1)) result new
 first_quarter old new at q result is h = quarter_ends old old new at q 0 at.row at.col result (same_here old) is (near (at.level - 1) at.row) (near (at.level - 1) at.col) h
 
-pub second_quarter : {S H : Type 0} (old mid new : Tile S H) (at q : SquareAt) (result : Result (Unit {0}) H) → SameTile old mid → q ≡ quarter at 1
+pub second_quarter : {S H : Type 0} (old mid new : Tile S H) (at q : SquareAt) (result : Result (Unit {0}) H) → SameTile old mid → q ≡ quarter_square at 1
     → SquareEnds mid.walk q.level q.row q.col mid (4 ^ q.level) result new → SquareEnds old.walk (at.level - 1) at.row (at.col + 2 ^ (at.level - 1)) mid (4 ^ (at.level - 1)) result new
 second_quarter old mid new at q result same is h =
     quarter_ends old mid new at q 1 at.row (at.col + 2 ^ (at.level - 1)) result same is (near (at.level - 1) at.row) (far (at.level - 1) at.col) h
 
-pub third_quarter : {S H : Type 0} (old mid new : Tile S H) (at q : SquareAt) (result : Result (Unit {0}) H) → SameTile old mid → q ≡ quarter at 2
+pub third_quarter : {S H : Type 0} (old mid new : Tile S H) (at q : SquareAt) (result : Result (Unit {0}) H) → SameTile old mid → q ≡ quarter_square at 2
     → SquareEnds mid.walk q.level q.row q.col mid (4 ^ q.level) result new → SquareEnds old.walk (at.level - 1) (at.row + 2 ^ (at.level - 1)) at.col mid (4 ^ (at.level - 1)) result new
 third_quarter old mid new at q result same is h =
     quarter_ends old mid new at q 2 (at.row + 2 ^ (at.level - 1)) at.col result same is (far (at.level - 1) at.row) (near (at.level - 1) at.col) h
 
-pub fourth_quarter : {S H : Type 0} (old mid new : Tile S H) (at q : SquareAt) (result : Result (Unit {0}) H) → SameTile old mid → q ≡ quarter at 3
+pub fourth_quarter : {S H : Type 0} (old mid new : Tile S H) (at q : SquareAt) (result : Result (Unit {0}) H) → SameTile old mid → q ≡ quarter_square at 3
     → SquareEnds mid.walk q.level q.row q.col mid (4 ^ q.level) result new → SquareEnds old.walk (at.level - 1) (at.row + 2 ^ (at.level - 1)) (at.col + 2 ^ (at.level - 1)) mid (4 ^ (at.level - 1)) result new
 fourth_quarter old mid new at q result same is h =
     quarter_ends old mid new at q 3 (at.row + 2 ^ (at.level - 1)) (at.col + 2 ^ (at.level - 1)) result same is (far (at.level - 1) at.row) (far (at.level - 1) at.col) h
 
 abbrev pub one_quarter : {S H : Type 0} → Tile S H → SquareAt → ℕ → ℕ → Rest S
-one_quarter t at r c = decode_partition t.walk (at.level - 1) r c
+one_quarter t at r c = decode_square t.walk (at.level - 1) r c
 
 abbrev pub from_fourth : {S H : Type 0} → Tile S H → SquareAt → Rest S
 from_fourth t at = one_quarter t at (at.row + 2 ^ (at.level - 1)) (at.col + 2 ^ (at.level - 1))
@@ -190,8 +195,8 @@ from_first t at = then_rest (one_quarter t at at.row at.col) (from_second t at)
 -- all four are the parts of a square that is split
 pub split_ends : {S H : Type 0} (t new : Tile S H) (at : SquareAt) (n : ℕ) (result : Result (Unit {0}) H) → EndsTile (from_first t at) n t result new
     → EndsTile (parts_rest t.walk (at.level - 1) at.row at.col Split) n t result new
-unfolding parts
-split_ends t new at n result h = h
+split_ends t new at n result h =
+    as_rest (from_first t at) (parts_rest t.walk (at.level - 1) at.row at.col Split) n t new result (λ s. sym (quarters_are t.walk (at.level - 1) at.row at.col s)) h
 
 ---- A square that starts inside the frame ----
 
@@ -214,9 +219,9 @@ opened_ends old mid new at p f n result of opened h =
 -- a square of 8x8
 smallest_by : {S H : Type 0} (t new : Tile S H) (level r c n : ℕ) (result : Result (Unit {0}) H) → level ≡ 0 → starts_inside t.walk r c ≡ true
     → EndsTile (opened_rest t 0 r c (λ p. t.walk.block (block_at t.walk r c (part_size p 0)))) n t result new → SquareEnds t.walk level r c t n result new
-unfolding decode_partition smallest_parts
+unfolding decode_at_level smallest_parts
 smallest_by t new zero r c n result least is h =
-    as_rest (opened_rest t 0 r c (λ p. t.walk.block (block_at t.walk r c (part_size p 0)))) (decode_partition t.walk 0 r c) n t new result (λ s. rw is refl) h
+    as_rest (opened_rest t 0 r c (λ p. t.walk.block (block_at t.walk r c (part_size p 0)))) (decode_square t.walk 0 r c) n t new result (λ s. rw is refl) h
 smallest_by t new (suc k) r c n result least is h = absurd (omega (arith, least))
 
 pub smallest_ends : {S H : Type 0} (old mid new : Tile S H) (at : SquareAt) (p : Partition) (first : BlockAt) (size : BlockSize) (result : Result (Unit {0}) H) → at.level ≡ 0
@@ -236,12 +241,12 @@ smallest_ends old mid new at p first size result low row col of opened sized is 
 -- a larger one
 larger_by : {S H : Type 0} (t new : Tile S H) (level k r c n : ℕ) (result : Result (Unit {0}) H) → level ≡ suc k → starts_inside t.walk r c ≡ true
     → EndsTile (opened_rest t (suc k) r c (parts_rest t.walk k r c)) n t result new → SquareEnds t.walk level r c t n result new
-unfolding decode_partition
+unfolding decode_at_level
 larger_by t new zero k r c n result next is h = absurd (omega (arith, next))
 larger_by t new (suc j) k r c n result next is h =
     let down : k ≡ j = omega (arith, next) in
     subst (λ (m : ℕ). SquareEnds t.walk (suc m) r c t n result new) down
-    (as_rest (opened_rest t (suc k) r c (parts_rest t.walk k r c)) (decode_partition t.walk (suc k) r c) n t new result (λ s. rw is refl) h)
+    (as_rest (opened_rest t (suc k) r c (parts_rest t.walk k r c)) (decode_square t.walk (suc k) r c) n t new result (λ s. rw is refl) h)
 
 pub larger_ends : {S H : Type 0} (old mid new : Tile S H) (at : SquareAt) (p : Partition) (n : ℕ) (result : Result (Unit {0}) H) → 1 ≤ at.level
     → at.row < old.walk.frame.rows → at.col < old.walk.frame.cols → IsOf old at → ReadsPartition at old mid p

@@ -1,7 +1,9 @@
 //! The superblocks of a tile.
 
 ghost use Rattle.std.specs.Prelude.{◌≡◌, ◌+◌, ◌*◌, ◌≤◌, OnOk};
-ghost use Rattle.mode_syntax.specs.Walk.{decode_row, decode_tile};
+ghost use Rattle.mode_syntax.specs.Laws.{decode_row};
+ghost use Rattle.mode_syntax.specs.Superblocks.{superblocks_of};
+ghost use Rattle.mode_syntax.specs.Walk.{decode_tile};
 ghost use Rattle.tile_reader.specs.Code.{EndsTile};
 
 use crate::squares::{TileReader, read_square};
@@ -53,7 +55,7 @@ pub fn read_rows<R: TileReader>(
     requires near_row { first.row ≤ 65536 }
     requires wide { first.tile_from + 8 * columns ≤ (R.tile reader.old).limit }
     requires room { 64 * (columns * rows) ≤ (R.tile reader.old).room }
-    ensures ends { EndsTile (decode_tile (R.tile reader.old).walk columns first.row first.tile_from rows) (64 * (columns * rows)) (R.tile reader.old) result (R.tile reader.new) }
+    ensures ends { EndsTile (decode_tile (R.tile reader.old).walk (superblocks_of first rows columns)) (64 * (columns * rows)) (R.tile reader.old) result (R.tile reader.new) }
     ensures ready { OnOk result (R.ready reader.new) }
     ensures kept { R.kept reader.new ≡ R.kept reader.old }
 {

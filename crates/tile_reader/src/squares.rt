@@ -2,7 +2,8 @@
 
 ghost use Rattle.std.specs.Prelude.{◌≡◌, ◌+◌, ◌-◌, ◌^◌, ◌<◌, ◌≤◌, OnOk};
 ghost use Rattle.vp9_types.specs.declared.block.Partition.TheVariants as partition;
-ghost use Rattle.mode_syntax.specs.Walk.{block_inside, decode_partition, parts};
+ghost use Rattle.mode_syntax.specs.Laws.{decode_square, square_parts};
+ghost use Rattle.mode_syntax.specs.Walk.{block_inside};
 ghost use Rattle.tile_reader.specs.Code.{Tile, EndsTile, ReadsPartition, StandsIn, IsSquareOf, then_rest};
 
 use block_geometry::{FramePlaces, part_size};
@@ -107,7 +108,7 @@ fn read_parts<R: TileReader>(
     requires few_rows { (R.tile reader.old).walk.frame.rows ≤ 2 ^ 16 }
     requires few_cols { (R.tile reader.old).walk.frame.cols ≤ 2 ^ 16 }
     requires within { IsSquareOf (R.tile reader.old) at }
-    ensures ends { EndsTile (λ s. parts (R.tile reader.old).walk (decode_partition (R.tile reader.old).walk (at.level - 1)) (at.level - 1) at.row at.col s partition) (4 ^ at.level) (R.tile reader.old) result (R.tile reader.new) }
+    ensures ends { EndsTile (λ s. square_parts (R.tile reader.old).walk (at.level - 1) at.row at.col s partition) (4 ^ at.level) (R.tile reader.old) result (R.tile reader.new) }
     ensures ready { OnOk result (R.ready reader.new) }
     ensures kept { R.kept reader.new ≡ R.kept reader.old }
 {
@@ -137,7 +138,7 @@ fn read_quarters<R: TileReader>(reader: &mut R, at: SquareAt) -> Result<(), R::H
     requires few_rows { (R.tile reader.old).walk.frame.rows ≤ 2 ^ 16 }
     requires few_cols { (R.tile reader.old).walk.frame.cols ≤ 2 ^ 16 }
     requires within { IsSquareOf (R.tile reader.old) at }
-    ensures ends { EndsTile (λ s. parts (R.tile reader.old).walk (decode_partition (R.tile reader.old).walk (at.level - 1)) (at.level - 1) at.row at.col s partition.Split) (4 ^ at.level) (R.tile reader.old) result (R.tile reader.new) }
+    ensures ends { EndsTile (λ s. square_parts (R.tile reader.old).walk (at.level - 1) at.row at.col s partition.Split) (4 ^ at.level) (R.tile reader.old) result (R.tile reader.new) }
     ensures ready { OnOk result (R.ready reader.new) }
     ensures kept { R.kept reader.new ≡ R.kept reader.old }
 {
@@ -153,7 +154,7 @@ pub(crate) fn read_square<R: TileReader>(reader: &mut R, at: SquareAt) -> Result
     requires ready { R.ready reader.old }
     requires level { at.level ≤ 3 }
     requires within { IsSquareOf (R.tile reader.old) at }
-    ensures ends { EndsTile (decode_partition (R.tile reader.old).walk at.level at.row at.col) (4 ^ at.level) (R.tile reader.old) result (R.tile reader.new) }
+    ensures ends { EndsTile (decode_square (R.tile reader.old).walk at.level at.row at.col) (4 ^ at.level) (R.tile reader.old) result (R.tile reader.new) }
     ensures ready { OnOk result (R.ready reader.new) }
     ensures kept { R.kept reader.new ≡ R.kept reader.old }
 {

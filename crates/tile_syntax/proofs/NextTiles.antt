@@ -23,7 +23,7 @@ use Rattle.frame_state.specs.Code.{IsReady, SameColumns, read_whole, settled_of,
 use Rattle.frame_state.specs.KeptColumns.{IsTileColumn}
 use Rattle.frame_state.specs.ColumnPlans.{ColumnRead, column_tile, with_its_tile}
 use Rattle.frame_state.specs.FrameReading.{Column, begun, read_tile}
-use Rattle.frame_state.specs.TilePlaces.{column_of, tile_places}
+use Rattle.frame_state.specs.TilePlaces.{column_of, tile_places, tile_superblocks}
 use Rattle.frame_state.specs.declared.columns.TileColumn.{TileColumn}
 use Rattle.frame_state.specs.declared.sources.FrameSources as code
 use Rattle.frame_state.specs.declared.tile_places.TilePlaces.{TilePlaces}
@@ -85,7 +85,7 @@ begins_so shape p read fit h = λ i. record {
 tile_walk : (by : code.FrameSources) (n : ℕ) (c : TileColumn) (t : TilePlaces) (read : Column) (s : PlanTile)
     → t ≡ tile_places by.setting.places by.setting.header.params.tiles n → IsTileColumn by.setting.header n (column_of by.setting.header.params.tiles n) c
     → s ≡ plan_view (begun (shape_of by.setting.header) read)
-    → decode_tile (plan_walk (sources_of by) by.setting.places c.grid.from c.grid.to) (superblocks_along (t.col_to - t.col_from)) t.row_from t.col_from (superblocks_along (t.row_to - t.row_from)) s
+    → decode_tile (plan_walk (sources_of by) by.setting.places c.grid.from c.grid.to) (tile_superblocks t) s
     ≡ mapped plan_view (tile_of (sources_of by) n read)
 unfolding read_tile
 tile_walk by n c t read s is h state =
@@ -95,8 +95,7 @@ tile_walk by n c t read s is h state =
     let same : t ≡ there = is ∙ ap (λ p. tile_places p tiles n) setting.whole in
     let from : c.grid.from ≡ there.col_from = sym (begins_there setting n (column_of tiles n) c t refl is h) ∙ ap (λ (t : TilePlaces). t.col_from) same in
     let to : c.grid.to ≡ there.col_to = sym (ends_there setting n (column_of tiles n) c t refl is h) ∙ ap (λ (t : TilePlaces). t.col_to) same in
-    (λ i. decode_tile (plan_walk (sources_of by) (setting.whole i) (from i) (to i)) (superblocks_along ((same i).col_to - (same i).col_from)) (same i).row_from (same i).col_from
-    (superblocks_along ((same i).row_to - (same i).row_from)) (state i))
+    (λ i. decode_tile (plan_walk (sources_of by) (setting.whole i) (from i) (to i)) (tile_superblocks (same i)) (state i))
     ∙ tile_seen (sources_of by) (places_of (shape_of setting.header)) there (superblocks_along (there.col_to - there.col_from)) there.row_from there.col_from
     (superblocks_along (there.row_to - there.row_from)) (begun (shape_of setting.header) read)
 
@@ -104,8 +103,7 @@ tile_walk by n c t read s is h state =
 
 pub gives_next : (by : code.FrameSources) (n : ℕ) (p new : ColumnPlan) (t : TilePlaces) (bytes before : List ℕ) (counting : Bool) (result : Result (List ℕ) Halt)
     → t ≡ tile_places by.setting.places by.setting.header.params.tiles n → IsTileColumn by.setting.header n (column_of by.setting.header.params.tiles n) p.column
-    → GivesWhole counting before (read_whole (decode_tile (plan_walk (sources_of by) by.setting.places p.column.grid.from p.column.grid.to) (superblocks_along (t.col_to - t.col_from)) t.row_from t.col_from
-    (superblocks_along (t.row_to - t.row_from)) (tile_held (shape_of by.setting.header) (begun_again p))) bytes) result (tile_held (shape_of by.setting.header) new)
+    → GivesWhole counting before (read_whole (decode_tile (plan_walk (sources_of by) by.setting.places p.column.grid.from p.column.grid.to) (tile_superblocks t) (tile_held (shape_of by.setting.header) (begun_again p))) bytes) result (tile_held (shape_of by.setting.header) new)
     → (bytes_of : ℕ → List ℕ) (read : ColumnRead) → bytes_of n ≡ bytes → HoldsColumn (shape_of by.setting.header) p read.column
     → GivesNext counting before (column_tile (sources_of by) bytes_of n read) result (shape_of by.setting.header) new
 gives_next by n p new t bytes before counting (Ok counts) is h gives bytes_of read there holds =

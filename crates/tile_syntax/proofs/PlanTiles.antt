@@ -7,6 +7,7 @@ use Rattle.block_plan.specs.Planned.{PlannedBlock}
 use Rattle.block_plan.specs.declared.block.BlockAt.{BlockAt}
 use Rattle.residue_syntax.specs.Residues as residues
 use Rattle.inter_modes.specs.ModeInfo.{mode_info}
+use Rattle.mode_syntax.specs.Laws.{squares_from}
 use Rattle.mode_syntax.specs.Walk.{decode_tile}
 use Rattle.mode_syntax.proofs.Mapped.{tile_everywhere}
 use Rattle.frame_state.specs.FrameReading.{TileRead, infos, read_block, read_walk}
@@ -23,6 +24,6 @@ block_seen by at s =
     (λ read. ap (λ (bs : List PlannedBlock). settle (record { blocks = bs; sides = read.1 })) (append_assoc s.earlier s.blocks (read.0 ∷ [])))))
 
 pub tile_seen : (by : FrameSources) (frame : FramePlaces) (tile : TilePlaces) (columns r c n : ℕ) (s : TileRead)
-    → decode_tile (plan_walk by frame tile.col_from tile.col_to) columns r c n (plan_view s) ≡ mapped plan_view (decode_tile (read_walk by frame tile) columns r c n s)
+    → decode_tile (plan_walk by frame tile.col_from tile.col_to) (squares_from (read_walk by frame tile) columns r c n) (plan_view s) ≡ mapped plan_view (decode_tile (read_walk by frame tile) (squares_from (read_walk by frame tile) columns r c n) s)
 tile_seen by frame tile columns r c n s =
     tile_everywhere (read_walk by frame tile) (plan_block by) (λ s. infos s.blocks) plan_view (λ at s. block_seen by at s) (λ s. refl) columns r c n s

@@ -6,6 +6,7 @@ ghost use Rattle.vp9_types.specs.Sizes.{superblocks_along};
 ghost use Rattle.mode_syntax.specs.Walk.{decode_tile};
 ghost use Rattle.frame_state.specs.Past.{IsPastOf};
 ghost use Rattle.frame_state.specs.Code.{IsReady, SameColumns, read_whole, sources_of};
+ghost use Rattle.frame_state.specs.TilePlaces.{tile_superblocks};
 ghost use Rattle.tile_syntax.specs.Code.{GivesTile, GivesWhole, IsKept, tile_held, plan_walk};
 
 use crate::planning::PlanReader;
@@ -33,7 +34,7 @@ fn read_planned<const COUNTS: bool>(
     requires order { tile.now.row_from ≤ tile.now.row_to }
     requires low { tile.now.row_to ≤ 8192 }
     requires room { 64 * (superblocks_along (planning.old.plan.now.column.grid.to - planning.old.plan.now.column.grid.from) * superblocks_along (tile.now.row_to - tile.now.row_from)) ≤ planning.old.plan.now.column.grid.room }
-    ensures gives { GivesTile (decode_tile (plan_walk (sources_of planning.old.by.now) planning.old.by.now.setting.places planning.old.plan.now.column.grid.from planning.old.plan.now.column.grid.to) (superblocks_along (tile.now.col_to - tile.now.col_from)) tile.now.row_from tile.now.col_from (superblocks_along (tile.now.row_to - tile.now.row_from)) (tile_held (shape_of planning.old.by.now.setting.header) planning.old.plan.now))
+    ensures gives { GivesTile (decode_tile (plan_walk (sources_of planning.old.by.now) planning.old.by.now.setting.places planning.old.plan.now.column.grid.from planning.old.plan.now.column.grid.to) (tile_superblocks tile.now) (tile_held (shape_of planning.old.by.now.setting.header) planning.old.plan.now))
         planning.old.reader.now result (tile_held (shape_of planning.old.by.now.setting.header) planning.new.plan.now) planning.new.reader.now }
     ensures ready { OnOk result (IsReady planning.old.by.now.setting planning.new.plan.now.column) }
     ensures kept { OnOk result (IsKept planning.old.by.now.setting.header planning.new.plan.now) }
@@ -70,7 +71,7 @@ fn plan_blocks<const COUNTS: bool>(
     requires order { tile.now.row_from ≤ tile.now.row_to }
     requires low { tile.now.row_to ≤ 8192 }
     requires room { 64 * (superblocks_along (plan.old.column.grid.to - plan.old.column.grid.from) * superblocks_along (tile.now.row_to - tile.now.row_from)) ≤ plan.old.column.grid.room }
-    ensures gives { GivesTile (decode_tile (plan_walk (sources_of by.now) by.now.setting.places plan.old.column.grid.from plan.old.column.grid.to) (superblocks_along (tile.now.col_to - tile.now.col_from)) tile.now.row_from tile.now.col_from (superblocks_along (tile.now.row_to - tile.now.row_from)) (tile_held (shape_of by.now.setting.header) plan.old))
+    ensures gives { GivesTile (decode_tile (plan_walk (sources_of by.now) by.now.setting.places plan.old.column.grid.from plan.old.column.grid.to) (tile_superblocks tile.now) (tile_held (shape_of by.now.setting.header) plan.old))
         reader.old result (tile_held (shape_of by.now.setting.header) plan.new) reader.new }
     ensures ready { OnOk result (IsReady by.now.setting plan.new.column) }
     ensures kept { OnOk result (IsKept by.now.setting.header plan.new) }
@@ -104,7 +105,7 @@ pub(crate) fn plan_tile<const COUNTS: bool>(
     requires order { tile.now.row_from ≤ tile.now.row_to }
     requires low { tile.now.row_to ≤ 8192 }
     requires room { 64 * (superblocks_along (plan.old.column.grid.to - plan.old.column.grid.from) * superblocks_along (tile.now.row_to - tile.now.row_from)) ≤ plan.old.column.grid.room }
-    ensures gives { GivesWhole COUNTS counts (read_whole (decode_tile (plan_walk (sources_of by.now) by.now.setting.places plan.old.column.grid.from plan.old.column.grid.to) (superblocks_along (tile.now.col_to - tile.now.col_from)) tile.now.row_from tile.now.col_from (superblocks_along (tile.now.row_to - tile.now.row_from)) (tile_held (shape_of by.now.setting.header) plan.old)) bytes.now)
+    ensures gives { GivesWhole COUNTS counts (read_whole (decode_tile (plan_walk (sources_of by.now) by.now.setting.places plan.old.column.grid.from plan.old.column.grid.to) (tile_superblocks tile.now) (tile_held (shape_of by.now.setting.header) plan.old)) bytes.now)
         result (tile_held (shape_of by.now.setting.header) plan.new) }
     ensures ready { OnOk result (IsReady by.now.setting plan.new.column) }
     ensures kept { OnOk result (IsKept by.now.setting.header plan.new) }

@@ -1,6 +1,7 @@
 -- What is put one after another in a tile, to its end or to what stops it.
 use Rattle.std.proofs.Common.{◌≡◌, ◌∙◌, ℕ, ◌+◌, ◌≤◌, refl, sym, subst, arith}
 use Rattle.std.specs.Prelude.{Result, Ok, Err, Option, Some, ◌++◌}
+use Rattle.vp9_types.specs.Results.{◌>>=◌}
 use Rattle.vp9_types.specs.Syntax.{Syntax}
 use Rattle.vp9_types.specs.declared.rule.Rule.{Rule}
 use Rattle.bool_encoder.specs.Part.{Part, marked}
@@ -9,7 +10,7 @@ use Rattle.bool_lists.proofs.Ways.{spells_on}
 use Rattle.counting_reader.specs.Counting.{Settled, in_order, settle}
 use Rattle.bool_encoder.specs.CountedBools.{PutsValue, PutsTo}
 use Rattle.bool_encoder.proofs.CountedPuts.{puts_broken, puts_on, puts_value, value_put, valued_settle}
-use Rattle.tile_writer.specs.SaidTiles.{SaidSoFar, behind, so_far}
+use Rattle.tile_writer.specs.SaidTiles.{SaidSoFar, if_told, so_far}
 use Rattle.tile_writer.specs.Code.{Tile, SameTile, Rest, EndsTile, then_rest}
 use Rattle.tile_writer.specs.declared.unwritten.Unwritten.{Unwritten}
 use Rattle.tile_writer.specs.declared.unwritten.Unwritten.TheVariants.{Broken, Unsaid, OutOfMemory}
@@ -135,7 +136,7 @@ ends_more rest n m old new (Err e) more h = stops_any rest n m old new e h
 abbrev pub symbol_rest : {S T P : Type 0} → (S → Syntax ℕ Rule (Settled P)) → (S → P → BoolList) → (T → Option (P × T)) → (P → Rest S T) → Rest S T
 symbol_rest x list told f = record {
   syntax = λ s. in_order (x s) (λ p. (f p).syntax s);
-  said = λ q. behind (told q.told) (λ p t. (f p).said (so_far q.state t (q.bools ++ list q.state p)));
+  said = λ q. if_told (told q.told) >>= λ u. (f u.0).said (so_far q.state u.1 (q.bools ++ list q.state u.0));
 }
 
 -- a symbol was put that was told, as its list spells it

@@ -1,13 +1,17 @@
 -- Rows of superblocks, one superblock after another, and rows one after another: whatever ends what is still to be put ends all.
-use Rattle.std.proofs.Common.{◌≡◌, ℕ, suc, ◌+◌, ◌-◌, ◌*◌, ◌^◌, ◌<◌, ◌≤◌, refl, subst, arith}
+use Rattle.std.proofs.Common.{◌≡◌, ◌∙◌, ℕ, zero, suc, List, [], ◌∷◌, ◌++◌, map, ◌+◌, ◌-◌, ◌*◌, ◌^◌, ◌<◌, ◌≤◌, refl, sym, subst, ap, arith}
+use Rattle.std.specs.List.{flat_map, range_with_len}
 use Rattle.std.specs.Prelude.{Result, Ok, Err}
 use Rattle.std.proofs.Math.Nat.{mul-le-mul_left}
-use Rattle.mode_syntax.specs.Walk.{Walk, decode_row, decode_tile}
+use Rattle.mode_syntax.specs.Laws.{decode_row, decode_rows, squares_from}
+use Rattle.mode_syntax.specs.Superblocks.{superblock_from, superblocks_of}
+use Rattle.mode_syntax.specs.Walk.{Walk, square_at, decode_tile}
 use Rattle.mode_syntax.specs.declared.square_at.SquareAt.{SquareAt}
-use Rattle.tile_writer.specs.SaidTiles.{Teller, said_row, said_tile}
-use Rattle.tile_writer.specs.Code.{Tile, SameTile, Rest, EndsTile, then_rest, square_rest, row_rest, tile_rest}
+use Rattle.mode_syntax.proofs.RowByRow.{tile_is}
+use Rattle.tile_writer.specs.SaidTiles.{SaidSoFar, Said, Teller, then_said, said_at_level, said_tile}
+use Rattle.tile_writer.specs.Code.{Tile, SameTile, Rest, EndsTile, then_rest, said_row, said_rows, square_rest, row_rest, rows_rest, tile_rest}
 use Rattle.tile_writer.specs.declared.unwritten.Unwritten.{Unwritten}
-use Rattle.tile_writer.proofs.Endings.{ends_here, ends_more, stops_any, then_ends, then_stops, same_here, same_on}
+use Rattle.tile_writer.proofs.Endings.{as_rest, ends_here, ends_more, stops_any, then_ends, then_stops, same_here, same_on}
 use Rattle.tile_writer.proofs.SquareEnds.{moved, SquareEnds}
 
 -- of a walk and its teller, n turns from a place on; and one of them
@@ -100,13 +104,68 @@ pub row_end : {S H T : Type 0} (r : ℕ) → EndsTurns {S = S} {T = T} H (row_re
 unfolding decode_row said_row
 row_end r walk teller c m t = ends_here (row_rest r walk teller c 0) m t (λ s. refl) (λ p. refl)
 
-pub tile_turns : {S H T : Type 0} (columns c : ℕ) → TakesTurns {S = S} {T = T} H (tile_rest columns c) (row_turn columns c)
-unfolding decode_tile said_tile
+pub tile_turns : {S H T : Type 0} (columns c : ℕ) → TakesTurns {S = S} {T = T} H (rows_rest columns c) (row_turn columns c)
+unfolding decode_rows said_rows
 tile_turns columns c walk teller r n m t new result h = h
 
-pub tile_end : {S H T : Type 0} (columns c : ℕ) → EndsTurns {S = S} {T = T} H (tile_rest columns c)
-unfolding decode_tile said_tile
-tile_end columns c walk teller r m t = ends_here (tile_rest columns c walk teller r 0) m t (λ s. refl) (λ p. refl)
+pub tile_end : {S H T : Type 0} (columns c : ℕ) → EndsTurns {S = S} {T = T} H (rows_rest columns c)
+unfolding decode_rows said_rows
+tile_end columns c walk teller r m t = ends_here (rows_rest columns c walk teller r 0) m t (λ s. refl) (λ p. refl)
+
+---- A tile's superblocks say what its rows say ----
+
+said_again : {S T : Type 0} (r : Said S T) (f g : SaidSoFar S T → Said S T) → then_said (then_said r f) g ≡ then_said r (λ p. then_said (f p) g)
+said_again (Ok p) f g = refl
+said_again (Err e) f g = refl
+
+said_both : {S T : Type 0} (walk : Walk S) (teller : Teller S T) (xs ys : List SquareAt) (p : SaidSoFar S T)
+    → said_tile walk teller (xs ++ ys) p ≡ then_said (said_tile walk teller xs p) (said_tile walk teller ys)
+unfolding said_tile
+said_both walk teller [] ys p = refl
+said_both walk teller (at ∷ xs) ys p =
+    (λ i. then_said (said_at_level walk teller at.level at p) (λ q. said_both walk teller xs ys q i))
+    ∙ sym (said_again (said_at_level walk teller at.level at p) (said_tile walk teller xs) (said_tile walk teller ys))
+
+next_place : (c j : ℕ) → c + 8 * (j + 1) ≡ c + 8 * j + 8
+next_place c j = omega arith
+
+first_place : (c : ℕ) → c + 8 * 0 ≡ c
+first_place c = omega arith
+
+module _ {S T : Type 0} (walk : Walk S) (teller : Teller S T) (r c : ℕ) where
+  row_says : (i j n : ℕ) (p : SaidSoFar S T)
+      → said_tile walk teller (map (λ j. superblock_from (square_at walk 3 r c) i j) (range_with_len j n)) p ≡ said_row walk teller (r + 8 * i) (c + 8 * j) n p
+  unfolding said_tile said_row
+  row_says i j zero p = refl
+  row_says i j (suc n) p =
+      (λ k. then_said (said_at_level walk teller 3 (square_at walk 3 (r + 8 * i) (c + 8 * j)) p) (λ q. row_says i (j + 1) n q k))
+      ∙ ap (λ d. then_said (said_at_level walk teller 3 (square_at walk 3 (r + 8 * i) (c + 8 * j)) p) (said_row walk teller (r + 8 * i) d n)) (next_place c j)
+
+  rows_say : (columns i n : ℕ) (p : SaidSoFar S T)
+      → said_tile walk teller (flat_map (λ i. map (λ j. superblock_from (square_at walk 3 r c) i j) (range_with_len 0 columns)) (range_with_len i n)) p
+      ≡ said_rows walk teller columns (r + 8 * i) c n p
+  unfolding said_tile said_rows
+  rows_say columns i zero p = refl
+  rows_say columns i (suc n) p =
+      said_both walk teller (map (λ j. superblock_from (square_at walk 3 r c) i j) (range_with_len 0 columns))
+      (flat_map (λ i. map (λ j. superblock_from (square_at walk 3 r c) i j) (range_with_len 0 columns)) (range_with_len (i + 1) n)) p
+      ∙ ((λ k. then_said (row_says i 0 columns p k) (λ q. rows_say columns (i + 1) n q k))
+      ∙ (ap (λ d. then_said (said_row walk teller (r + 8 * i) d columns p) (said_rows walk teller columns (r + 8 * (i + 1)) c n)) (first_place c)
+      ∙ ap (λ d. then_said (said_row walk teller (r + 8 * i) c columns p) (said_rows walk teller columns d c n)) (next_place r i)))
+
+tile_says : {S T : Type 0} (walk : Walk S) (teller : Teller S T) (columns r c n : ℕ) (p : SaidSoFar S T)
+    → said_tile walk teller (squares_from walk columns r c n) p ≡ said_rows walk teller columns r c n p
+tile_says walk teller columns r c n p = rows_say walk teller r c columns 0 n p ∙ ap (λ d. said_rows walk teller columns d c n p) (first_place r)
+
+pub tile_ends : {S H T : Type 0} (t new : Tile S H T) (first : SquareAt) (columns rows m : ℕ) (result : Result (Unit {0}) Unwritten)
+    → first.col ≡ first.tile_from → first.tile_from ≡ t.walk.tile_from → first.tile_to ≡ t.walk.tile_to
+    → EndsTile (rows_rest columns first.tile_from t.walk t.teller first.row rows) m t result new → EndsTile (tile_rest t.walk t.teller (superblocks_of first rows columns)) m t result new
+tile_ends t new first columns rows m result begin from to h =
+    let same : superblocks_of first rows columns ≡ squares_from t.walk columns first.row first.tile_from rows =
+    λ i. superblocks_of (record { row = first.row; col = begin i; level = 3; tile_from = from i; tile_to = to i }) rows columns in
+    as_rest (rows_rest columns first.tile_from t.walk t.teller first.row rows) (tile_rest t.walk t.teller (superblocks_of first rows columns)) m t new result
+    (λ s. sym (ap (λ squares. decode_tile t.walk squares s) same ∙ tile_is t.walk columns first.row first.tile_from rows s))
+    (λ p. sym (ap (λ squares. said_tile t.walk t.teller squares p) same ∙ tile_says t.walk t.teller columns first.row first.tile_from rows p)) h
 
 -- the i-th superblock of a row
 pub row_turn_of : {S H T : Type 0} (now new : Tile S H T) (first : SquareAt) (i : ℕ) (result : Result (Unit {0}) Unwritten) → first.level ≡ 3 → first.col ≡ first.tile_from

@@ -1,5 +1,5 @@
 -- How a square is put, by its level and by whether it starts inside the frame.
-use Rattle.std.proofs.Common.{◌≡◌, ◌∙◌, ℕ, zero, suc, ◌+◌, ◌-◌, ◌*◌, ◌/◌, ◌%◌, ◌^◌, ◌<◌, ◌≤◌, refl, subst, ap, arith, true, false, rules}
+use Rattle.std.proofs.Common.{◌≡◌, ◌∙◌, ℕ, zero, suc, ◌+◌, ◌-◌, ◌*◌, ◌/◌, ◌%◌, ◌^◌, ◌<◌, ◌≤◌, refl, sym, subst, ap, arith, true, false, rules}
 use Rattle.std.specs.Prelude.{Result, Ok, Err, None, nat_lt}
 use Rattle.std.proofs.Math.Nat.{one-le-pow, pow-suc}
 use Rattle.vp9_types.specs.Syntax.{Syntax}
@@ -15,9 +15,12 @@ use Rattle.block_lists.proofs.IntraWays.{at_way}
 use Rattle.counting_reader.specs.Counting.{Settled, settle}
 use Rattle.bool_encoder.specs.CountedBools.{PutsValue}
 use Rattle.mode_syntax.specs.Partitions.{half_of, partition_at}
-use Rattle.mode_syntax.specs.Walk.{Walk, block_at, square_at, starts_inside, block_inside, smallest_parts, parts, decode_partition, quarter}
+use Rattle.mode_syntax.specs.Laws.{decode_square}
+use Rattle.mode_syntax.specs.Superblocks.{quarter_square}
+use Rattle.mode_syntax.specs.Walk.{Walk, block_at, square_at, starts_inside, block_inside, smallest_parts, parts, decode_at_level}
 use Rattle.mode_syntax.specs.declared.square_at.SquareAt.{SquareAt}
-use Rattle.tile_writer.specs.SaidTiles.{SaidSoFar, Teller, so_far, said_inside, said_parts, said_square, told_partition}
+use Rattle.tile_writer.specs.SaidTiles.{SaidSoFar, Said, Teller, so_far, then_said, told_block, said_inside, said_parts, said_at_level, told_partition}
+use Rattle.mode_syntax.proofs.SquareParts.{first_is, second_is, third_is, fourth_is, rows_are, columns_are, quarters_are}
 use Rattle.tile_writer.specs.Code.{Tile, SameTile, Rest, EndsTile, GivesPartition, StandsIn, block_rest, inside_rest, then_rest, parts_rest, square_rest}
 use Rattle.tile_writer.specs.declared.unwritten.Unwritten.{Unwritten}
 use Rattle.tile_writer.specs.declared.unwritten.Unwritten.TheVariants.{Broken, Unsaid, OutOfMemory}
@@ -81,13 +84,13 @@ halves_end old mid new first r c size result h k =
 
 ---- Squares that start outside ----
 
-square_is_none : {S : Type 0} (walk : Walk S) (level r c : ℕ) (s : S) → starts_inside walk r c ≡ false → decode_partition walk level r c s ≡ settle s
-unfolding decode_partition
+square_is_none : {S : Type 0} (walk : Walk S) (level r c : ℕ) (s : S) → starts_inside walk r c ≡ false → decode_square walk level r c s ≡ settle s
+unfolding decode_at_level
 square_is_none walk zero r c s none = rw none refl
 square_is_none walk (suc k) r c s none = rw none refl
 
-square_says_none : {S T : Type 0} (walk : Walk S) (teller : Teller S T) (level r c : ℕ) (p : SaidSoFar S T) → starts_inside walk r c ≡ false → said_square walk teller level r c p ≡ Ok p
-unfolding said_square
+square_says_none : {S T : Type 0} (walk : Walk S) (teller : Teller S T) (level r c : ℕ) (p : SaidSoFar S T) → starts_inside walk r c ≡ false → said_at_level walk teller level (square_at walk level r c) p ≡ Ok p
+unfolding said_at_level
 square_says_none walk teller zero r c p none = rw none refl
 square_says_none walk teller (suc k) r c p none = rw none refl
 
@@ -123,15 +126,50 @@ whole_ends t new at k first size result of level sized is h =
 abbrev HalvesEnd : {S H T : Type 0} → Tile S H T → BlockAt → ℕ → ℕ → BlockSize → Result (Unit {0}) Unwritten → Tile S H T → Type 0
 HalvesEnd t first r c size result new = EndsTile (then_rest (block_rest t.walk t.teller first) (inside_rest t.walk t.teller r c size)) 2 t result new
 
+---- The parts that are said, by their rows and columns ----
+
+down : (n : ℕ) → suc n - 1 ≡ n
+down n = omega arith
+
+module _ {S T : Type 0} (walk : Walk S) (teller : Teller S T) (n r c : ℕ) where
+  abbrev said_part : Partition → SaidSoFar S T → Said S T
+  said_part partition p = said_parts walk teller (said_at_level walk teller n) (square_at walk (suc n) r c) partition p
+
+  says_rows : (p : SaidSoFar S T)
+      → said_part Horizontal p ≡ then_said (told_block walk teller r c (part_size Horizontal (suc n)) p) (said_inside walk teller (r + 2 ^ n) c (part_size Horizontal (suc n)))
+  unfolding said_parts
+  says_rows p = λ i. then_said (told_block walk teller r c (part_size Horizontal (suc n)) p) (said_inside walk teller (r + 2 ^ down n i) c (part_size Horizontal (suc n)))
+
+  says_columns : (p : SaidSoFar S T)
+      → said_part Vertical p ≡ then_said (told_block walk teller r c (part_size Vertical (suc n)) p) (said_inside walk teller r (c + 2 ^ n) (part_size Vertical (suc n)))
+  unfolding said_parts
+  says_columns p = λ i. then_said (told_block walk teller r c (part_size Vertical (suc n)) p) (said_inside walk teller r (c + 2 ^ down n i) (part_size Vertical (suc n)))
+
+  says_quarters : (p : SaidSoFar S T) → said_part Split p
+      ≡ then_said (said_at_level walk teller n (square_at walk n r c) p)
+      (λ q. then_said (said_at_level walk teller n (square_at walk n r (c + 2 ^ n)) q)
+      (λ u. then_said (said_at_level walk teller n (square_at walk n (r + 2 ^ n) c) u)
+      (λ v. said_at_level walk teller n (square_at walk n (r + 2 ^ n) (c + 2 ^ n)) v)))
+  unfolding said_parts
+  says_quarters p = λ i.
+      then_said (said_at_level walk teller n (first_is walk n r c i) p)
+      (λ q. then_said (said_at_level walk teller n (second_is walk n r c i) q)
+      (λ u. then_said (said_at_level walk teller n (third_is walk n r c i) u)
+      (λ v. said_at_level walk teller n (fourth_is walk n r c i) v)))
+
 as_rows : {S H T : Type 0} (t new : Tile S H T) (k r c : ℕ) (result : Result (Unit {0}) Unwritten)
     → HalvesEnd t (block_at t.walk r c (part_size Horizontal (suc k))) (r + 2 ^ k) c (part_size Horizontal (suc k)) result new → EndsTile (parts_rest t.walk t.teller k r c Horizontal) 2 t result new
-unfolding parts said_parts
-as_rows t new k r c result h = h
+as_rows t new k r c result h =
+    let size = part_size Horizontal (suc k) in
+    as_rest (then_rest (block_rest t.walk t.teller (block_at t.walk r c size)) (inside_rest t.walk t.teller (r + 2 ^ k) c size)) (parts_rest t.walk t.teller k r c Horizontal) 2 t new result
+    (λ s. sym (rows_are t.walk k r c s)) (λ p. sym (says_rows t.walk t.teller k r c p)) h
 
 as_columns : {S H T : Type 0} (t new : Tile S H T) (k r c : ℕ) (result : Result (Unit {0}) Unwritten)
     → HalvesEnd t (block_at t.walk r c (part_size Vertical (suc k))) r (c + 2 ^ k) (part_size Vertical (suc k)) result new → EndsTile (parts_rest t.walk t.teller k r c Vertical) 2 t result new
-unfolding parts said_parts
-as_columns t new k r c result h = h
+as_columns t new k r c result h =
+    let size = part_size Vertical (suc k) in
+    as_rest (then_rest (block_rest t.walk t.teller (block_at t.walk r c size)) (inside_rest t.walk t.teller r (c + 2 ^ k) size)) (parts_rest t.walk t.teller k r c Vertical) 2 t new result
+    (λ s. sym (columns_are t.walk k r c s)) (λ p. sym (says_columns t.walk t.teller k r c p)) h
 
 pub rows_end : {S H T : Type 0} (t new : Tile S H T) (at : SquareAt) (k half : ℕ) (first : BlockAt) (size : BlockSize) (result : Result (Unit {0}) Unwritten) → IsOf t at → at.level ≡ suc k → half ≡ 2 ^ k
     → size ≡ part_size Horizontal at.level → first ≡ part_at at at.row at.col size → HalvesEnd t first (at.row + half) at.col size result new
@@ -156,7 +194,7 @@ columns_end t new at k half first size result of level side sized is h =
 abbrev pub SquareEnds : {S H T : Type 0} → Walk S → Teller S T → ℕ → ℕ → ℕ → Tile S H T → ℕ → Result (Unit {0}) Unwritten → Tile S H T → Type 0
 SquareEnds walk teller level r c t n result new = EndsTile (square_rest walk teller level r c) n t result new
 
-quarter_is : {S H T : Type 0} (old mid new : Tile S H T) (at q : SquareAt) (i r c : ℕ) (result : Result (Unit {0}) Unwritten) → SameTile old mid → q ≡ quarter at i
+quarter_is : {S H T : Type 0} (old mid new : Tile S H T) (at q : SquareAt) (i r c : ℕ) (result : Result (Unit {0}) Unwritten) → SameTile old mid → q ≡ quarter_square at i
     → at.row + 2 ^ (at.level - 1) * (i / 2) ≡ r → at.col + 2 ^ (at.level - 1) * (i % 2) ≡ c
     → SquareEnds mid.walk mid.teller q.level q.row q.col mid (4 ^ q.level) result new → SquareEnds old.walk old.teller (at.level - 1) r c mid (4 ^ (at.level - 1)) result new
 quarter_is old mid new at q i r c result same is row col h =
@@ -171,21 +209,21 @@ near n r = omega arith
 far : (n r : ℕ) → r + 2 ^ n * 1 ≡ r + 2 ^ n
 far n r = omega arith
 
-pub first_quarter : {S H T : Type 0} (old new : Tile S H T) (at q : SquareAt) (result : Result (Unit {0}) Unwritten) → q ≡ quarter at 0
+pub first_quarter : {S H T : Type 0} (old new : Tile S H T) (at q : SquareAt) (result : Result (Unit {0}) Unwritten) → q ≡ quarter_square at 0
     → SquareEnds old.walk old.teller q.level q.row q.col old (4 ^ q.level) result new → SquareEnds old.walk old.teller (at.level - 1) at.row at.col old (4 ^ (at.level - 1)) result new
 first_quarter old new at q result is h = quarter_is old old new at q 0 at.row at.col result (same_here old) is (near (at.level - 1) at.row) (near (at.level - 1) at.col) h
 
-pub second_quarter : {S H T : Type 0} (old mid new : Tile S H T) (at q : SquareAt) (result : Result (Unit {0}) Unwritten) → SameTile old mid → q ≡ quarter at 1
+pub second_quarter : {S H T : Type 0} (old mid new : Tile S H T) (at q : SquareAt) (result : Result (Unit {0}) Unwritten) → SameTile old mid → q ≡ quarter_square at 1
     → SquareEnds mid.walk mid.teller q.level q.row q.col mid (4 ^ q.level) result new → SquareEnds old.walk old.teller (at.level - 1) at.row (at.col + 2 ^ (at.level - 1)) mid (4 ^ (at.level - 1)) result new
 second_quarter old mid new at q result same is h =
     quarter_is old mid new at q 1 at.row (at.col + 2 ^ (at.level - 1)) result same is (near (at.level - 1) at.row) (far (at.level - 1) at.col) h
 
-pub third_quarter : {S H T : Type 0} (old mid new : Tile S H T) (at q : SquareAt) (result : Result (Unit {0}) Unwritten) → SameTile old mid → q ≡ quarter at 2
+pub third_quarter : {S H T : Type 0} (old mid new : Tile S H T) (at q : SquareAt) (result : Result (Unit {0}) Unwritten) → SameTile old mid → q ≡ quarter_square at 2
     → SquareEnds mid.walk mid.teller q.level q.row q.col mid (4 ^ q.level) result new → SquareEnds old.walk old.teller (at.level - 1) (at.row + 2 ^ (at.level - 1)) at.col mid (4 ^ (at.level - 1)) result new
 third_quarter old mid new at q result same is h =
     quarter_is old mid new at q 2 (at.row + 2 ^ (at.level - 1)) at.col result same is (far (at.level - 1) at.row) (near (at.level - 1) at.col) h
 
-pub fourth_quarter : {S H T : Type 0} (old mid new : Tile S H T) (at q : SquareAt) (result : Result (Unit {0}) Unwritten) → SameTile old mid → q ≡ quarter at 3
+pub fourth_quarter : {S H T : Type 0} (old mid new : Tile S H T) (at q : SquareAt) (result : Result (Unit {0}) Unwritten) → SameTile old mid → q ≡ quarter_square at 3
     → SquareEnds mid.walk mid.teller q.level q.row q.col mid (4 ^ q.level) result new → SquareEnds old.walk old.teller (at.level - 1) (at.row + 2 ^ (at.level - 1)) (at.col + 2 ^ (at.level - 1)) mid (4 ^ (at.level - 1)) result new
 fourth_quarter old mid new at q result same is h =
     quarter_is old mid new at q 3 (at.row + 2 ^ (at.level - 1)) (at.col + 2 ^ (at.level - 1)) result same is (far (at.level - 1) at.row) (far (at.level - 1) at.col) h
@@ -208,8 +246,9 @@ from_first t at = then_rest (one_quarter t at at.row at.col) (from_second t at)
 -- all four are the parts of a square that is split
 pub split_ends : {S H T : Type 0} (t new : Tile S H T) (at : SquareAt) (n : ℕ) (result : Result (Unit {0}) Unwritten) → EndsTile (from_first t at) n t result new
     → EndsTile (parts_rest t.walk t.teller (at.level - 1) at.row at.col Split) n t result new
-unfolding parts said_parts
-split_ends t new at n result h = h
+split_ends t new at n result h =
+    as_rest (from_first t at) (parts_rest t.walk t.teller (at.level - 1) at.row at.col Split) n t new result
+    (λ s. sym (quarters_are t.walk (at.level - 1) at.row at.col s)) (λ p. sym (says_quarters t.walk t.teller (at.level - 1) at.row at.col p)) h
 
 ---- A square that starts inside the frame ----
 
@@ -229,14 +268,14 @@ spelled_at walk at s p = spelled_partition_at walk.intra walk.probs (walk.blocks
 
 -- its partition, and what stands behind it
 abbrev opened_rest : {S H T : Type 0} → Tile S H T → ℕ → ℕ → ℕ → (Partition → Rest S T) → Rest S T
-opened_rest t level r c f = symbol_rest (asked t.walk (square_at t.walk level r c)) (spelled_at t.walk (square_at t.walk level r c)) (told_partition t.walk t.teller level r c) f
+opened_rest t level r c f = symbol_rest (asked t.walk (square_at t.walk level r c)) (spelled_at t.walk (square_at t.walk level r c)) (told_partition t.walk t.teller (square_at t.walk level r c)) f
 
 opened_ends : {S H T : Type 0} (old mid new : Tile S H T) (at : SquareAt) (p : Partition) (f : Partition → Rest S T) (n : ℕ) (result : Result (Unit {0}) Unwritten)
     → IsOf old at → IsOpened old at p mid → EndsTile (f p) n mid result new → EndsTile (opened_rest old at.level at.row at.col f) n old result new
 opened_ends {S = S} old mid new at p f n result of opened h =
     let here : SquareAt = square_at old.walk at.level at.row at.col in
     let put : (s : S) → old.view s ≡ old.held → PutsValue (asked old.walk here s) old.part p mid.part = λ s holds. subst (λ (q : SquareAt). PutsValue (asked old.walk q s) old.part p mid.part) (square_is old at of) (opened.put s holds) in
-    symbol_ends old mid new (asked old.walk here) (spelled_at old.walk here) (told_partition old.walk old.teller at.level at.row at.col) p f n result
+    symbol_ends old mid new (asked old.walk here) (spelled_at old.walk here) (told_partition old.walk old.teller here) p f n result
     (record {
       put = put;
       spelled = λ s holds. at_way old.walk.intra old.walk.probs (old.walk.blocks s) old.walk.frame here p old.part mid.part (put s holds);
@@ -249,7 +288,7 @@ opened_ends {S = S} old mid new at p f n result of opened h =
 -- a square of 8x8
 smallest_by : {S H T : Type 0} (t new : Tile S H T) (level r c n : ℕ) (result : Result (Unit {0}) Unwritten) → level ≡ 0 → starts_inside t.walk r c ≡ true
     → EndsTile (opened_rest t 0 r c (λ p. block_rest t.walk t.teller (block_at t.walk r c (part_size p 0)))) n t result new → SquareEnds t.walk t.teller level r c t n result new
-unfolding decode_partition said_square smallest_parts
+unfolding decode_at_level said_at_level smallest_parts
 smallest_by t new zero r c n result least is h =
     as_rest (opened_rest t 0 r c (λ p. block_rest t.walk t.teller (block_at t.walk r c (part_size p 0)))) (square_rest t.walk t.teller 0 r c) n t new result (λ s. rw is refl) (λ q. rw is refl) h
 smallest_by t new (suc k) r c n result least is h = absurd (omega (arith, least))
@@ -271,7 +310,7 @@ smallest_ends old mid new at p first size result low row col of opened sized is 
 -- a larger one
 larger_by : {S H T : Type 0} (t new : Tile S H T) (level k r c n : ℕ) (result : Result (Unit {0}) Unwritten) → level ≡ suc k → starts_inside t.walk r c ≡ true
     → EndsTile (opened_rest t (suc k) r c (parts_rest t.walk t.teller k r c)) n t result new → SquareEnds t.walk t.teller level r c t n result new
-unfolding decode_partition said_square
+unfolding decode_at_level said_at_level
 larger_by t new zero k r c n result next is h = absurd (omega (arith, next))
 larger_by t new (suc j) k r c n result next is h =
     let down : k ≡ j = omega (arith, next) in
@@ -289,9 +328,9 @@ larger_ends old mid new at p n result some row col of opened h =
     (opened_ends old mid new at p f n result of opened (moved (λ w u. parts_rest w u (at.level - 1) at.row at.col p) n old mid new result opened.same h)))
 
 -- a partition that isn't put
-unsaid_by : {S T : Type 0} (walk : Walk S) (teller : Teller S T) (level r c : ℕ) (q : SaidSoFar S T) → starts_inside walk r c ≡ true → told_partition walk teller level r c q.told ≡ None
-    → said_square walk teller level r c q ≡ Err Unsaid
-unfolding said_square
+unsaid_by : {S T : Type 0} (walk : Walk S) (teller : Teller S T) (level r c : ℕ) (q : SaidSoFar S T) → starts_inside walk r c ≡ true → told_partition walk teller (square_at walk level r c) q.told ≡ None
+    → said_at_level walk teller level (square_at walk level r c) q ≡ Err Unsaid
+unfolding said_at_level
 unsaid_by walk teller zero r c q is none = rw (is, none) refl
 unsaid_by walk teller (suc k) r c q is none = rw (is, none) refl
 

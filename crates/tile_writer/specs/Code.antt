@@ -1,5 +1,5 @@
 -- What a tile's writer keeps, and what its calls answer.
-use Rattle.std.specs.Prelude.{◌≡◌, ℕ, ◌+◌, ◌^◌, ◌≤◌, Bool, Some, None, Result, Ok, Err}
+use Rattle.std.specs.Prelude.{◌≡◌, ℕ, zero, suc, ◌+◌, ◌^◌, ◌≤◌, Bool, List, Some, None, Result, Ok, Err}
 use Rattle.vp9_types.specs.Syntax.{Syntax}
 use Rattle.vp9_types.specs.declared.block.BlockSize.{BlockSize}
 use Rattle.vp9_types.specs.declared.block.Partition.{Partition}
@@ -11,9 +11,10 @@ use Rattle.block_plan.specs.declared.block.BlockAt.{BlockAt}
 use Rattle.counting_reader.specs.Counting.{Settled, in_order}
 use Rattle.bool_encoder.specs.CountedBools.{PutsValue, PutsTo}
 use Rattle.mode_syntax.specs.Partitions.{partition_at}
-use Rattle.mode_syntax.specs.Walk.{Walk, block_inside, parts, decode_partition, decode_row, decode_tile}
+use Rattle.mode_syntax.specs.Laws.{decode_square, square_parts, decode_row, decode_rows}
+use Rattle.mode_syntax.specs.Walk.{Walk, square_at, block_inside, decode_tile}
 use Rattle.mode_syntax.specs.declared.square_at.SquareAt.{SquareAt}
-use Rattle.tile_writer.specs.SaidTiles.{SaidSoFar, Teller, Said, so_far, then_said, said_inside, said_parts, said_square, said_row, said_tile}
+use Rattle.tile_writer.specs.SaidTiles.{SaidSoFar, Teller, Said, so_far, then_said, said_inside, said_parts, said_at_level, said_tile}
 use Rattle.tile_writer.specs.declared.unwritten.Unwritten.{Unwritten}
 use Rattle.tile_writer.specs.declared.unwritten.Unwritten.TheVariants.{Broken, Unsaid, OutOfMemory}
 
@@ -106,17 +107,30 @@ abbrev pub then_rest : {S T : Type 0} → Rest S T → Rest S T → Rest S T
 then_rest a b = record { syntax = λ s. in_order (a.syntax s) b.syntax; said = λ p. then_said (a.said p) b.said }
 
 abbrev pub square_rest : {S T : Type 0} → Walk S → Teller S T → ℕ → ℕ → ℕ → Rest S T
-square_rest walk teller level r c = record { syntax = decode_partition walk level r c; said = said_square walk teller level r c }
+square_rest walk teller level r c = record { syntax = decode_square walk level r c; said = said_at_level walk teller level (square_at walk level r c) }
 
 -- the parts of a square whose quarters have a level
 abbrev pub parts_rest : {S T : Type 0} → Walk S → Teller S T → ℕ → ℕ → ℕ → Partition → Rest S T
 parts_rest walk teller k r c partition = record {
-  syntax = λ s. parts walk (decode_partition walk k) k r c s partition;
-  said = said_parts walk teller (said_square walk teller k) k r c partition;
+  syntax = λ s. square_parts walk k r c s partition;
+  said = said_parts walk teller (said_at_level walk teller k) (square_at walk (suc k) r c) partition;
 }
+
+-- what a row of n superblocks from a column on says, and n rows of them
+unfoldable pub said_row : {S T : Type 0} → Walk S → Teller S T → ℕ → ℕ → ℕ → SaidSoFar S T → Said S T
+said_row walk teller r c zero p = Ok p
+said_row walk teller r c (suc n) p = then_said (said_at_level walk teller 3 (square_at walk 3 r c) p) (said_row walk teller r (c + 8) n)
+
+unfoldable pub said_rows : {S T : Type 0} → Walk S → Teller S T → ℕ → ℕ → ℕ → ℕ → SaidSoFar S T → Said S T
+said_rows walk teller columns r c zero p = Ok p
+said_rows walk teller columns r c (suc n) p = then_said (said_row walk teller r c columns p) (said_rows walk teller columns (r + 8) c n)
 
 abbrev pub row_rest : {S T : Type 0} → ℕ → Walk S → Teller S T → ℕ → ℕ → Rest S T
 row_rest r walk teller c n = record { syntax = decode_row walk r c n; said = said_row walk teller r c n }
 
-abbrev pub tile_rest : {S T : Type 0} → ℕ → ℕ → Walk S → Teller S T → ℕ → ℕ → Rest S T
-tile_rest columns c walk teller r n = record { syntax = decode_tile walk columns r c n; said = said_tile walk teller columns r c n }
+abbrev pub rows_rest : {S T : Type 0} → ℕ → ℕ → Walk S → Teller S T → ℕ → ℕ → Rest S T
+rows_rest columns c walk teller r n = record { syntax = decode_rows walk columns r c n; said = said_rows walk teller columns r c n }
+
+-- a tile, superblock by superblock
+abbrev pub tile_rest : {S T : Type 0} → Walk S → Teller S T → List SquareAt → Rest S T
+tile_rest walk teller squares = record { syntax = decode_tile walk squares; said = said_tile walk teller squares }

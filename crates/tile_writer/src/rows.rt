@@ -1,6 +1,7 @@
 //! The superblocks of a tile.
 
 ghost use Rattle.std.specs.Prelude.{◌≡◌, ◌+◌, ◌*◌, ◌≤◌, OnOk};
+ghost use Rattle.mode_syntax.specs.Superblocks.{superblocks_of};
 ghost use Rattle.tile_writer.specs.Code.{EndsTile, row_rest, tile_rest};
 
 use crate::squares::{TileWriter, put_square};
@@ -54,7 +55,7 @@ pub fn put_rows<W: TileWriter>(
     requires near_row { first.row ≤ 65536 }
     requires wide { first.tile_from + 8 * columns ≤ (W.tile writer.old).limit }
     requires room { 64 * (columns * rows) ≤ (W.tile writer.old).room }
-    ensures ends { EndsTile (tile_rest columns first.tile_from (W.tile writer.old).walk (W.tile writer.old).teller first.row rows) (64 * (columns * rows)) (W.tile writer.old) result (W.tile writer.new) }
+    ensures ends { EndsTile (tile_rest (W.tile writer.old).walk (W.tile writer.old).teller (superblocks_of first rows columns)) (64 * (columns * rows)) (W.tile writer.old) result (W.tile writer.new) }
     ensures ready { OnOk result (W.ready writer.new) }
 {
     for i in 0..rows {
