@@ -4,7 +4,7 @@ ghost use Rattle.std.specs.Prelude.{◌≡◌, ◌+◌, ◌*◌, ◌/◌, ◌%�
 ghost use Rattle.std.specs.Int.{int_shr};
 ghost use Rattle.inter_places.specs.Axes.{IsAxis};
 ghost use Rattle.inter_places.specs.PlaneVectors.{IsSpan, clamped_vector};
-ghost use Rattle.inter_places.specs.Scaling.{IsInScale, x_scale, base_x, luma_x, frac_x, start_x, step_x, axis_of, span_start};
+ghost use Rattle.inter_places.specs.Scaling.{IsInScale, x_scale, base_x, luma_x, frac_x, d_x, start_x, step_x, axis_of, span_start};
 
 use crate::axis::Axis;
 use crate::span::{BlockSpan, clamp_mv};
@@ -57,6 +57,19 @@ fn scaled_vector(scale: u32, mv: i32) -> i32
     ((i64::from(mv) * i64::from(scale)) >> 14) as i32
 }
 
+/// How far the start lies after the whole sample: by the vector, and by what the place is below a sample.
+#[inline(always)]
+fn distance_of(scale: u32, ss: bool, x: u32, mv: i32) -> i32
+    requires scale { scale ≤ 2 ^ 15 }
+    requires place { x ≤ 2 ^ 17 }
+    requires near { unsigned_abs mv ≤ 2 ^ 21 }
+    ensures value { result ≡ d_x scale (luma_x ss x) mv }
+    ensures few { unsigned_abs result ≤ 2 ^ 22 + 15 }
+{
+    let fraction = fraction_of(scale, ss, x);
+    scaled_vector(scale, mv) + fraction
+}
+
 #[inline(always)]
 pub(crate) fn first_sample(span: &BlockSpan) -> u32
     requires { IsSpan span.now }
@@ -81,13 +94,18 @@ fn start_of(span: &BlockSpan, offset_in_block: u32, mv: i32, scale: u32) -> i32
     if scale == 16384 {
         return 16 * first as i32 + vector;
     }
-    let fraction = fraction_of(scale, span.ss, first);
-    whole_of(scale, first) + (scaled_vector(scale, vector) + fraction)
+    whole_of(scale, first) + distance_of(scale, span.ss, first, vector)
 }
 
 /// Where a part of a block is predicted from along one direction, which begins so many samples after the block's first.
 #[inline(always)]
-pub(crate) fn axis_of(span: &BlockSpan, offset_in_block: u32, mv: i32, scale: u32, size: u32) -> Axis
+pub(crate) fn axis_of(
+    span: &BlockSpan,
+    offset_in_block: u32,
+    mv: i32,
+    scale: u32,
+    size: u32,
+) -> Axis
     requires span { IsSpan span.now }
     requires offset { offset_in_block ≤ 64 }
     requires near { unsigned_abs mv ≤ 2 ^ 16 }
