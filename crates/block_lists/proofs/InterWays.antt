@@ -30,6 +30,7 @@ use Rattle.prob_contexts.specs.ProbLists.{ContextLists, InterLists}
 use Rattle.counting_reader.specs.Counting.{Settled, settle}
 use Rattle.bool_encoder.specs.CountedBools.{PutsValue}
 use Rattle.block_geometry.specs.BlockSizes.{is_below_8x8}
+use Rattle.block_plan.specs.BlockMvs.{no_vector, vector_at}
 use Rattle.block_plan.specs.declared.block.BlockAt.{BlockAt}
 use Rattle.block_plan.specs.declared.block.BlockInfo.{BlockInfo}
 use Rattle.block_plan.specs.declared.block.InterPrediction.{InterPrediction}
@@ -40,8 +41,6 @@ use Rattle.block_plan.specs.declared.block.References.{References}
 use Rattle.mode_syntax.specs.Elements.{skips_segment}
 use Rattle.mode_syntax.specs.IntraModes.{intra_of, last_mode}
 use Rattle.mv_prediction.specs.Candidates.{mode_context}
-use Rattle.mv_prediction.specs.SubBlocks.{vector_at}
-use Rattle.mv_prediction.specs.Vectors.{no_vector}
 use Rattle.mv_prediction.specs.declared.search.SignBiases.{SignBiases}
 use Rattle.mv_prediction.specs.declared.sub_blocks.NearVectors.{NearVectors}
 use Rattle.inter_contexts.specs.Contexts.{filter_context}

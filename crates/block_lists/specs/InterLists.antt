@@ -20,6 +20,7 @@ use Rattle.frame_headers.specs.declared.header.Header.{Header}
 use Rattle.prob_contexts.specs.ProbLists.{ContextLists, InterLists}
 use Rattle.block_geometry.specs.BlockSizes.{is_below_8x8}
 use Rattle.block_plan.specs.Blocks.{above_of, left_of}
+use Rattle.block_plan.specs.BlockMvs.{vector_at}
 use Rattle.block_plan.specs.declared.block.BlockAt.{BlockAt}
 use Rattle.block_plan.specs.declared.block.BlockInfo.{BlockInfo}
 use Rattle.block_plan.specs.declared.block.InterPrediction.{InterPrediction}
@@ -31,7 +32,6 @@ use Rattle.block_plan.specs.declared.block.References.{References}
 use Rattle.mode_syntax.specs.Elements.{skips_segment}
 use Rattle.mode_syntax.specs.IntraModes.{last_mode}
 use Rattle.mv_prediction.specs.Candidates.{mode_context}
-use Rattle.mv_prediction.specs.SubBlocks.{vector_at}
 use Rattle.inter_contexts.specs.Contexts.{filter_context}
 use Rattle.inter_modes.specs.ModeInfo.{InterFrame, sources_of}
 use Rattle.inter_modes.specs.BlockStarts.{segment_reference}

@@ -32,7 +32,8 @@ above_place earlier r c = if nat_lt 0 r then covering earlier (r - 1) c else Non
 unfoldable pub left_place : List BlockInfo → ℕ → ℕ → ℕ → Option BlockInfo
 left_place earlier tile_from r c = if nat_lt tile_from c then covering earlier r (c - 1) else None
 
--- the blocks above a block and at its left, at its corner
+-- The blocks above a block and at its left, at its corner. AvailU says that there is one above (`is_some (above_of earlier at)`), and
+-- AvailL that there is one at the left (`is_some (left_of earlier at)`).
 abbrev pub above_of : List BlockInfo → BlockAt → Option BlockInfo
 above_of earlier at = above_place earlier at.row at.col
 

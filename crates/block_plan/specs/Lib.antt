@@ -1,4 +1,5 @@
 pub mod Blocks
+pub mod BlockMvs
 pub mod InPlanes
 pub mod Planned
 pub mod Grid

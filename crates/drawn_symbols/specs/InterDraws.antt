@@ -13,10 +13,10 @@ use Rattle.vp9_types.specs.declared.block.ReferenceMode.TheVariants.{Single, Com
 use Rattle.vp9_types.specs.declared.rule.Rule.{Rule}
 use Rattle.vp9_tables.specs.SymbolTrees.{filter_tree, inter_mode_tree}
 use Rattle.block_geometry.specs.BlockSizes.{is_below_8x8}
+use Rattle.block_plan.specs.BlockMvs.{no_vector, vector_at}
 use Rattle.block_plan.specs.declared.block.Mv.{Mv}
 use Rattle.block_plan.specs.declared.block.References.{References}
-use Rattle.mv_prediction.specs.SubBlocks.{vector_at}
-use Rattle.mv_prediction.specs.Vectors.{no_vector, is_precise}
+use Rattle.mv_prediction.specs.Vectors.{is_precise}
 use Rattle.mv_prediction.specs.declared.search.SignBiases.{SignBiases}
 use Rattle.inter_contexts.specs.BlockReferences.{fixed_of, variable_by, with_fixed, single, in_range_or_rule}
 use Rattle.inter_modes.specs.ModeInfo.{InterFrame, filter_of}

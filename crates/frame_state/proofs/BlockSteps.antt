@@ -6,13 +6,13 @@ use Rattle.vp9_tables.specs.BlockTables.{greatest_of}
 use Rattle.vp9_tables.specs.Numbers.{tx_number}
 use Rattle.vp9_types.specs.declared.block.BlockSize.{BlockSize}
 use Rattle.block_geometry.specs.BlockSizes.{width_8}
+use Rattle.block_plan.specs.BlockMvs.{vector_of}
 use Rattle.block_plan.specs.declared.block.BlockAt.{BlockAt}
 use Rattle.block_plan.specs.declared.block.BlockInfo.{BlockInfo}
 use Rattle.block_plan.specs.declared.block.Prediction.{Prediction}
 use Rattle.block_plan.specs.declared.block.Prediction.TheVariants.{Intra, Inter}
 use Rattle.residue_syntax.specs.Residues.{listed}
 use Rattle.block_plan.specs.declared.block.InterPrediction.{InterPrediction}
-use Rattle.mv_prediction.specs.Candidates.{vector_of}
 use Rattle.mv_prediction.specs.Code.{HasSmallVectors, PredictsSmall}
 use Rattle.mv_prediction.specs.Vectors.{IsSmallVector}
 use Rattle.frame_headers.specs.declared.header.FrameKind.TheVariants as frame

@@ -8,6 +8,7 @@ use Rattle.vp9_types.specs.Maps.{is_within}
 use Rattle.vp9_types.specs.Shapes.{mi_cols}
 use Rattle.block_geometry.specs.BlockSizes.{height_8, width_8}
 use Rattle.block_plan.specs.Blocks.{covers, covering, or_else}
+use Rattle.block_plan.specs.BlockMvs.{vector_of}
 use Rattle.block_plan.specs.declared.block.BlockInfo.{BlockInfo}
 use Rattle.vp9_tables.specs.BlockTables.{greatest_of}
 use Rattle.vp9_tables.specs.Numbers.{tx_number}
@@ -15,7 +16,6 @@ use Rattle.frame_headers.specs.HeaderState.{shape_of}
 use Rattle.frame_headers.specs.declared.header.Header.{Header}
 use Rattle.block_plan.specs.declared.block.InterPrediction.{InterPrediction}
 use Rattle.block_plan.specs.declared.block.Prediction.TheVariants.{Inter}
-use Rattle.mv_prediction.specs.Candidates.{vector_of}
 use Rattle.mv_prediction.specs.Vectors.{IsSmallVector}
 use Rattle.frame_state.specs.KeptColumns.{AllFit, AllLie, AllSmall, AreTileColumns, HasStarts, blocks_of, limit_of}
 use Rattle.frame_state.specs.FrameReading.{all_blocks}

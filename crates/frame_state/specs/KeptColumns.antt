@@ -10,11 +10,11 @@ use Rattle.frame_headers.specs.HeaderState.{shape_of}
 use Rattle.frame_headers.specs.Tiles.{AreFewTiles}
 use Rattle.frame_headers.specs.declared.header.Header.{Header}
 use Rattle.block_geometry.specs.BlockSizes.{width_8}
+use Rattle.block_plan.specs.BlockMvs.{vector_of}
 use Rattle.block_plan.specs.declared.block.BlockInfo.{BlockInfo}
 use Rattle.residue_syntax.specs.Code.{FitPlanes}
 use Rattle.block_plan.specs.declared.block.InterPrediction.{InterPrediction}
 use Rattle.block_plan.specs.declared.block.Prediction.TheVariants.{Inter}
-use Rattle.mv_prediction.specs.Candidates.{vector_of}
 use Rattle.mv_prediction.specs.Vectors.{IsSmallVector}
 use Rattle.frame_state.specs.TilePlaces.{superblocks_before, tile_offset}
 use Rattle.frame_state.specs.declared.columns.TileColumn.{TileColumn}

@@ -62,7 +62,11 @@ abbrev pub kind_of : ReferenceFrame → Option BlockInfo → NeighbourKind
 kind_of fixed None = neighbour.Missing
 kind_of fixed (Some block) = kind_in fixed block.prediction
 
--- by the fixed reference and the kinds of both
+-- The context of one of four bools: of comp_mode (IsCompound), comp_ref (CompoundVariable), single_ref_p1 (SingleFirst) or
+-- single_ref_p2 (SingleSecond). The standard tests AvailU, AvailL, whether the two blocks are intra, single or compound, and which
+-- references they have; that comes to a number for each CompFixedRef (`fixed`) and each two kinds of blocks, above and at the left: one
+-- that is missing, an intra one, one of a single reference, one of a compound whose variable reference is this. The table has these
+-- numbers, in this order
 unfoldable pub reference_context : ReferenceBool → ReferenceFrame → Option BlockInfo → Option BlockInfo → ℕ
 reference_context which fixed above left = slice_index REF_CONTEXTS (context_place which fixed (kind_of fixed above) (kind_of fixed left))
 

@@ -16,6 +16,13 @@ use prob_contexts::{InterProbs, ProbKind};
 use vp9_tables::{ReferenceBool, ref_context};
 use vp9_types::{ReferenceFrame, ReferenceMode, Rule};
 
+/// What a frame settles of the references of its blocks.
+#[derive(Clone, Copy, Debug, PartialEq, Eq)]
+pub struct FrameReferences {
+    pub reference_mode: ReferenceMode,
+    pub sign_biases: SignBiases,
+}
+
 /// The reference that all compound blocks of a frame have.
 pub fn fixed_of(biases: &SignBiases) -> ReferenceFrame
     ensures { result ≡ fixed_of biases.now }
@@ -186,16 +193,23 @@ pub fn of_feature(reference: FeatureReference) -> ReferenceFrame
 pub fn read_references<const COUNTS: bool>(
     reader: &mut CountingReader<COUNTS>,
     feature: Option<FeatureReference>,
-    frame: (ReferenceMode, SignBiases),
+    frame: FrameReferences,
     probs: &InterProbs,
     above: Option<&BlockInfo>,
     left: Option<&BlockInfo>,
 ) -> References
-    ensures { Reads (ref_frames feature frame.0 (inter_lists probs.now) frame.1 (option_copied above.entry) (option_copied left.entry)) reader.old result reader.new }
+    ensures { Reads (ref_frames feature frame.reference_mode (inter_lists probs.now) frame.sign_biases (option_copied above.entry) (option_copied left.entry)) reader.old result reader.new }
 {
     match feature {
         Some(reference) => single(of_feature(reference)),
-        None => read_coded(reader, frame.0, probs, &frame.1, above, left),
+        None => read_coded(
+            reader,
+            frame.reference_mode,
+            probs,
+            &frame.sign_biases,
+            above,
+            left,
+        ),
     }
 }
 

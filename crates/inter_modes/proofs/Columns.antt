@@ -15,6 +15,7 @@ use Rattle.frame_headers.specs.declared.header.FrameKind.TheVariants as frame
 use Rattle.frame_headers.specs.declared.header.Header.{Header}
 use Rattle.prob_contexts.specs.ProbLists.{ContextLists, InterLists}
 use Rattle.block_plan.specs.Blocks.{above_place, left_place, above_of, left_of}
+use Rattle.block_plan.specs.BlockMvs.{vector_at}
 use Rattle.block_plan.specs.declared.block.BlockAt.{BlockAt}
 use Rattle.block_plan.specs.declared.block.BlockInfo.{BlockInfo}
 use Rattle.block_plan.specs.declared.block.Mv.{Mv}
@@ -24,9 +25,9 @@ use Rattle.counting_reader.specs.Counting.{settle, ◌>>=◌}
 use Rattle.mode_syntax.specs.Elements.{skips_segment}
 use Rattle.mode_syntax.proofs.Apart.{same_modes}
 use Rattle.mv_prediction.proofs.Columns.{same_candidates, same_context}
-use Rattle.mv_prediction.specs.Candidates.{candidates, mode_context}
+use Rattle.mv_prediction.specs.Candidates.{ref_list_mv, mode_context}
 use Rattle.mv_prediction.specs.Laws.{SameIn}
-use Rattle.mv_prediction.specs.SubBlocks.{near_vectors, sub_block_vectors, vector_at}
+use Rattle.mv_prediction.specs.SubBlocks.{near_vectors, sub_block_vectors}
 use Rattle.mv_prediction.specs.declared.sub_blocks.NearVectors.{NearVectors}
 use Rattle.mv_syntax.specs.Differences.{new_vector}
 use Rattle.block_geometry.specs.BlockSizes.{is_below_8x8}
@@ -54,7 +55,7 @@ record AreAlike (s t : Sources) : Type 0 where
   lists : s.lists ≡ t.lists
   allowed : s.allowed ≡ t.allowed
   search : s.search ≡ t.search
-  both : (reference : ReferenceFrame) (sub : Option ℕ) → candidates s.earlier s.before s.search reference sub ≡ candidates t.earlier t.before t.search reference sub
+  both : (reference : ReferenceFrame) (sub : Option ℕ) → ref_list_mv s.earlier s.before s.search reference sub ≡ ref_list_mv t.earlier t.before t.search reference sub
   context : mode_context s.earlier s.search ≡ mode_context t.earlier t.search
 
 same_vector_of : (s t : Sources) → AreAlike s t → (mode : InterMode) (best : Mv) (near : NearVectors) → vector_of_mode s mode best near ≡ vector_of_mode t mode best near

@@ -3,11 +3,12 @@ use Rattle.std.proofs.Common.{◌≡◌, ℕ, zero, suc, ◌<◌, ◌∷◌, [],
 use Rattle.std.specs.Prelude.{slice_index_or}
 use Rattle.std.proofs.lemmas.List.Elements.{All-head, All-tail}
 use Rattle.block_plan.specs.Blocks.{IsIntra}
+use Rattle.block_plan.specs.BlockMvs.{no_vector}
 use Rattle.block_plan.specs.declared.block.Mv.{Mv}
 use Rattle.block_plan.specs.declared.block.Prediction.{Prediction}
 use Rattle.block_plan.specs.declared.block.Prediction.TheVariants.{Intra, Inter}
 use Rattle.mv_prediction.specs.Code.{AreSmall, PredictsSmall}
-use Rattle.mv_prediction.specs.Vectors.{no_vector, IsSmallVector}
+use Rattle.mv_prediction.specs.Vectors.{IsSmallVector}
 
 no_small : IsSmallVector no_vector
 no_small = (omega arith, omega arith)

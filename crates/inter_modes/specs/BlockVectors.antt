@@ -10,14 +10,14 @@ use Rattle.vp9_types.specs.declared.rule.Rule.{Rule}
 use Rattle.vp9_tables.specs.SymbolTrees.{inter_mode_tree}
 use Rattle.prob_contexts.specs.ProbLists.{VectorLists}
 use Rattle.prob_contexts.specs.declared.kind.ProbKind.TheVariants as kind
+use Rattle.block_plan.specs.BlockMvs.{no_vector, vector_at}
 use Rattle.block_plan.specs.declared.block.BlockInfo.{BlockInfo}
 use Rattle.block_plan.specs.declared.block.Mv.{Mv}
 use Rattle.block_plan.specs.declared.block.References.{References}
 use Rattle.counting_reader.specs.Counting.{Settled, settle, ◌>>=◌}
 use Rattle.counting_reader.specs.CountedSymbols.{counted_tree}
-use Rattle.mv_prediction.specs.Candidates.{candidates}
-use Rattle.mv_prediction.specs.SubBlocks.{vector_at, near_vectors, sub_block_vectors}
-use Rattle.mv_prediction.specs.Vectors.{no_vector}
+use Rattle.mv_prediction.specs.Candidates.{ref_list_mv}
+use Rattle.mv_prediction.specs.SubBlocks.{near_vectors, sub_block_vectors}
 use Rattle.mv_prediction.specs.declared.search.MvSearch.{MvSearch}
 use Rattle.mv_prediction.specs.declared.sub_blocks.NearVectors.{NearVectors}
 use Rattle.mv_syntax.specs.Differences.{new_vector}
@@ -65,11 +65,11 @@ vector_of_mode s New best near = new_vector s.lists s.allowed best
 
 -- BestMv, NearestMv and NearMv of a reference
 abbrev pub near_of_block : Sources → ReferenceFrame → NearVectors
-near_of_block s reference = near_vectors s.allowed (candidates s.earlier s.before s.search reference None)
+near_of_block s reference = near_vectors s.allowed (ref_list_mv s.earlier s.before s.search reference None)
 
 -- NearestMv and NearMv of a quarter, from the vectors of those before it
 abbrev pub near_of_quarter : Sources → ReferenceFrame → ℕ → List Mv → NearVectors
-near_of_quarter s reference k quarters = sub_block_vectors k (candidates s.earlier s.before s.search reference (Some k)) quarters
+near_of_quarter s reference k quarters = sub_block_vectors k (ref_list_mv s.earlier s.before s.search reference (Some k)) quarters
 
 -- of one reference: of the whole block, or of its k-th quarter
 unfoldable pub block_vector : Sources → InterMode → ReferenceFrame → Syntax ℕ Rule (Settled (Result Mv Rule))

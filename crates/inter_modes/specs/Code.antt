@@ -12,6 +12,7 @@ use Rattle.frame_headers.specs.declared.header.InterFields.{InterFields}
 use Rattle.frame_headers.specs.declared.header.References as header
 use Rattle.prob_contexts.specs.ProbLists.{lists_of, vector_lists}
 use Rattle.block_geometry.specs.Parts.{part_inside}
+use Rattle.block_plan.specs.BlockMvs.{vector_at}
 use Rattle.block_plan.specs.declared.block.BlockAt.{BlockAt}
 use Rattle.block_plan.specs.declared.block.BlockInfo.{BlockInfo}
 use Rattle.block_plan.specs.declared.block.Prediction.{Prediction}
@@ -19,7 +20,6 @@ use Rattle.block_plan.specs.declared.block.Prediction.TheVariants.{Intra, Inter}
 use Rattle.block_plan.specs.declared.block.References.{References}
 use Rattle.mv_prediction.specs.Code.{AreSmall, HasSmallVectors, IsSite, blocks_of}
 use Rattle.mv_prediction.specs.declared.search.MvSearch.{MvSearch}
-use Rattle.mv_prediction.specs.SubBlocks.{vector_at}
 use Rattle.block_plan.specs.SegmentMaps.{SegmentIds, id_map, least_id}
 use Rattle.inter_contexts.specs.BlockReferences.{reference_in, second_in_range}
 use Rattle.inter_modes.specs.ModeInfo.{InterFrame}

@@ -1,8 +1,9 @@
 //! The predictions of inter blocks.
 
 ghost use Rattle.std.specs.Prelude.{◌≡◌, ◌<◌, ◌≤◌, ℕ, [], slice_index_or, IfOk};
-ghost use Rattle.mv_prediction.specs.Vectors.{no_vector, IsSmallVector};
+ghost use Rattle.mv_prediction.specs.Vectors.{IsSmallVector};
 ghost use Rattle.std.specs.Option.{option_copied};
+ghost use Rattle.block_plan.specs.BlockMvs.{no_vector};
 ghost use Rattle.block_plan.specs.declared.block.Prediction.TheVariants.{Inter};
 ghost use Rattle.prob_contexts.specs.ProbLists.{InterLists, inter_lists};
 ghost use Rattle.counting_reader.specs.Code.{Reads};

@@ -24,7 +24,7 @@ use block_plan::{
 use counting_reader::CountingReader;
 use frame_headers::{FrameKind, InterFields};
 use frame_setting::FrameSetting;
-use inter_contexts::{filter_context, in_range_or_rule, read_references};
+use inter_contexts::{FrameReferences, filter_context, in_range_or_rule, read_references};
 use mode_syntax::{intra_frame_mode_info, skips_segment};
 use mv_prediction::{MvSearch, SignBiases, mode_context};
 use vp9_types::Rule;
@@ -94,7 +94,11 @@ fn read_checked_references<const COUNTS: bool>(
     let feature = segment_reference(&setting.header.params.segmentation, segment);
     let mode = setting.modes.reference_mode;
     let probs = &setting.contexts.inter;
-    let references = read_references(reader, feature, (mode, biases), probs, above, left);
+    let frame = FrameReferences {
+        reference_mode: mode,
+        sign_biases: biases,
+    };
+    let references = read_references(reader, feature, frame, probs, above, left);
     in_range_or_rule(&setting.header.size, &frame.fields.references, references)
 }
 

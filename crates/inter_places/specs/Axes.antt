@@ -1,11 +1,11 @@
--- Where a predicted sample is read in the reference, along one direction (the block inter prediction process, 8.5.2 of
--- the standard).
+-- Where a predicted sample is read in the reference, along one direction (8.5.2.4 of the standard, block inter prediction: the names
+-- are those of x, and y has the same formulas).
 use Rattle.std.specs.Prelude.{ℕ, ◌+◌, ◌-◌, ◌*◌, ◌/◌, ◌%◌, ◌≤◌, ◌<◌, ◌≡◌, ℤ, pos, negsuc, ◌+ℤ◌, ◌-ℤ◌, ◌^◌, unsigned_abs, min}
 use Rattle.std.specs.Int.{int_shr}
 use Rattle.inter_places.specs.declared.axis.Axis.{Axis}
 use Rattle.inter_places.specs.declared.axis.Place.{Place}
 
--- the first sample of a block is predicted from 16 * whole + fraction, in sixteenths of a sample
+-- startX >> 4: the first sample of a block is predicted from 16 * whole + fraction, in sixteenths of a sample
 abbrev pub whole : Axis → ℤ
 whole a = int_shr a.start 4
 
@@ -13,26 +13,33 @@ abbrev pub sixteenth : ℤ → ℕ
 sixteenth (pos n) = n % 16
 sixteenth (negsuc n) = 15 - n % 16
 
+-- startX & 15
 abbrev pub fraction : Axis → ℕ
 fraction a = sixteenth a.start
 
--- how far sample j of the block lies behind the whole sample: the part below a sample is the phase of its filter
+-- (startX & 15) + xStep * j: how far sample j of the block lies after the whole sample. The part below a sample is the phase of
+-- its filter
 abbrev pub offset : Axis → ℕ → ℕ
 offset a j = fraction a + a.step * j
 
 abbrev pub phase : Axis → ℕ → ℕ
 phase a j = offset a j % 16
 
--- a place past an end of the reference stands for the last one before it
+-- lastX = ((RefFrameWidth + subX) >> subX) - 1, where size is ((RefFrameWidth + subX) >> subX)
+abbrev pub last_x : Axis → ℕ
+last_x a = a.size - 1
+
+-- Clip3(0, lastX, z): a place past an end of the reference stands for the last one before it
 abbrev pub clamped : ℕ → ℤ → ℕ
-clamped size (pos n) = min (size - 1) n
-clamped size (negsuc n) = 0
+clamped last (pos n) = min last n
+clamped last (negsuc n) = 0
 
 -- the place that lies n samples after the third before the first
 abbrev pub straight : Axis → ℕ → ℕ
-straight a n = clamped a.size ((whole a +ℤ pos n) -ℤ pos 3)
+straight a n = clamped (last_x a) ((whole a +ℤ pos n) -ℤ pos 3)
 
--- the place of tap k for sample j: tap 3 stands at the sample itself
+-- Clip3(0, lastX, (startX >> 4) + (((startX & 15) + xStep * j) >> 4) + k - 3): the place of tap k for sample j, whose tap 3 stands at
+-- the sample itself
 unfoldable pub place : Axis → ℕ → ℕ → ℕ
 place a j k = straight a (offset a j / 16 + k)
 

@@ -5,6 +5,7 @@ use Rattle.vp9_types.specs.declared.block.BlockSize.{BlockSize}
 use Rattle.vp9_types.specs.declared.shape.Plane.{Plane}
 use Rattle.vp9_types.specs.declared.shape.Shape.{Shape}
 use Rattle.block_geometry.specs.BlockSizes.{is_below_8x8, width_8, height_8}
+use Rattle.block_plan.specs.BlockMvs.{vector_of}
 use Rattle.block_plan.specs.declared.block.BlockInfo.{BlockInfo}
 use Rattle.block_plan.specs.declared.block.InterPrediction.{InterPrediction}
 use Rattle.inter_places.specs.declared.axis.Axis.{Axis}
@@ -13,8 +14,8 @@ use Rattle.inter_places.specs.declared.span.BlockSpan.{BlockSpan}
 use Rattle.inter_places.specs.declared.part.BlockPart.{BlockPart}
 use Rattle.inter_places.specs.declared.part.Direction.{Direction}
 use Rattle.inter_places.specs.declared.part.Direction.TheVariants.{Down, Across}
-use Rattle.inter_places.specs.PlaneVectors.{mean_vector, vector_at, component}
-use Rattle.inter_places.specs.Scaling.{scale, axis_of, span_start, IsInScale}
+use Rattle.inter_places.specs.PlaneVectors.{mean_vector, component}
+use Rattle.inter_places.specs.Scaling.{x_scale, axis_of, span_start, IsInScale}
 
 -- whether a plane is subsampled along a direction
 abbrev pub subsampling : Shape → Plane → Direction → Bool
@@ -46,10 +47,10 @@ fours ss = halved ss 2
 abbrev pub parts_of : Shape → BlockSize → Plane → ℕ
 parts_of shape size p = if is_below_8x8 size then fours (subsampling shape p Down) * fours (subsampling shape p Across) else 1
 
--- how far a part begins behind its block
-abbrev pub behind : Shape → BlockPart → Direction → ℕ
-behind shape part Down = 4 * (part.number / fours (subsampling shape part.plane Across))
-behind shape part Across = 4 * (part.number % fours (subsampling shape part.plane Across))
+-- how many samples after its block's first a part begins
+abbrev pub offset_in_block : Shape → BlockPart → Direction → ℕ
+offset_in_block shape part Down = 4 * (part.number / fours (subsampling shape part.plane Across))
+offset_in_block shape part Across = 4 * (part.number % fours (subsampling shape part.plane Across))
 
 -- and how long it is
 abbrev pub part_length : BlockSize → BlockSpan → ℕ
@@ -59,11 +60,11 @@ part_length size s = if is_below_8x8 size then 4 else halved s.ss (8 * s.count)
 abbrev pub part_vector : Shape → BlockSize → InterPrediction → BlockPart → Direction → ℤ
 part_vector shape size p part d =
     if is_below_8x8 size
-    then mean_vector (subsampling shape part.plane Across) (subsampling shape part.plane Down) part.number (λ quarter. component d (vector_at p part.list quarter))
-    else component d (vector_at p part.list 0)
+    then mean_vector (subsampling shape part.plane Across) (subsampling shape part.plane Down) part.number (λ quarter. component d (vector_of p quarter part.list))
+    else component d (vector_of p 0 part.list)
 
 abbrev pub part_start : Shape → BlockInfo → BlockPart → Direction → ℕ
-part_start shape b part d = span_start (span_of shape b part.plane d) + behind shape part d
+part_start shape b part d = span_start (span_of shape b part.plane d) + offset_in_block shape part d
 
 -- of a part only what lies in the frame's places of 8x8 is predicted
 abbrev pub predicted_length : Shape → BlockInfo → BlockPart → Direction → ℕ
@@ -71,8 +72,8 @@ predicted_length shape b part d = min (part_length b.size (span_of shape b part.
 
 abbrev pub part_axis : Shape → BlockInfo → InterPrediction → BlockPart → Shape → Direction → Axis
 part_axis shape b p part reference d =
-    axis_of (span_of shape b part.plane d) (behind shape part d) (part_vector shape b.size p part d)
-    (scale (luma_length reference d) (luma_length shape d)) (plane_length reference part.plane d)
+    axis_of (span_of shape b part.plane d) (offset_in_block shape part d) (part_vector shape b.size p part d)
+    (x_scale (luma_length reference d) (luma_length shape d)) (plane_length reference part.plane d)
 
 unfoldable pub place_of : Shape → BlockInfo → InterPrediction → BlockPart → Shape → Place
 place_of shape b p part reference = record {

@@ -1,8 +1,8 @@
--- Vectors of a block in a plane, in sixteenths of the plane's samples (the motion vector selection process of 8.5.2 of the
--- standard, and its clamp).
-use Rattle.std.specs.Prelude.{ℕ, ◌+◌, ◌*◌, ◌/◌, ◌≤◌, ◌<◌, ℤ, pos, negsuc, neg_ℤ, ◌+ℤ◌, ◌-ℤ◌, ◌*ℤ◌, Bool, true, false, [], get_or, int_lt, if◌then◌else◌}
+-- Vectors of a block in a plane, in sixteenths of the plane's samples (8.5.2.1 and 8.5.2.2 of the standard: motion vector
+-- selection and clamping).
+use Rattle.std.specs.Prelude.{ℕ, ◌+◌, ◌*◌, ◌/◌, ◌≤◌, ◌<◌, ℤ, pos, negsuc, neg_ℤ, ◌+ℤ◌, ◌-ℤ◌, ◌*ℤ◌, Bool, true, false, if◌then◌else◌}
 use Rattle.vp9_types.specs.Shapes.{halved}
-use Rattle.block_plan.specs.declared.block.InterPrediction.{InterPrediction}
+use Rattle.block_plan.specs.BlockMvs.{clip3}
 use Rattle.block_plan.specs.declared.block.Mv.{Mv}
 use Rattle.inter_places.specs.declared.span.BlockSpan.{BlockSpan}
 use Rattle.inter_places.specs.declared.part.Direction.{Direction}
@@ -12,10 +12,6 @@ use Rattle.inter_places.specs.declared.part.Direction.TheVariants.{Down, Across}
 abbrev pub mean : ℕ → ℤ → ℤ
 mean n (pos sum) = pos ((sum + n / 2) / n)
 mean n (negsuc sum) = neg_ℤ (pos ((sum + 1 + n / 2) / n))
-
--- the vector of a quarter of an 8x8 square, from the first list or the second
-abbrev pub vector_at : InterPrediction → ℕ → ℕ → Mv
-vector_at p list quarter = get_or (get_or p.vectors quarter []) list (record { row = pos 0; column = pos 0 })
 
 abbrev pub component : Direction → Mv → ℤ
 component Down v = v.row
@@ -36,22 +32,22 @@ in_sixteenths ss mv = if ss then mv else pos 2 *ℤ mv
 abbrev pub span_length : BlockSpan → ℕ
 span_length s = halved s.ss (8 * s.count)
 
--- how far a vector may point out of the frame: by the block and some samples more, four before it and three behind it
-abbrev pub reach : ℕ → BlockSpan → ℤ
-reach more s = pos (16 * (more + span_length s))
+-- spelLeft and spelTop, with 4 samples more than the block has (INTERP_EXTEND), spelRight and spelBottom, with 3: how far a vector
+-- may point out of the frame
+abbrev pub spel : ℕ → BlockSpan → ℤ
+spel more s = pos (16 * (more + span_length s))
 
+-- mbToLeftEdge - spelLeft, and so at the top
 abbrev pub least_vector : BlockSpan → ℤ
-least_vector s = neg_ℤ (in_sixteenths s.ss (pos (64 * s.first))) -ℤ reach 4 s
+least_vector s = neg_ℤ (in_sixteenths s.ss (pos (64 * s.first))) -ℤ spel 4 s
 
+-- mbToRightEdge + spelRight, and so at the bottom
 abbrev pub greatest_vector : BlockSpan → ℤ
-greatest_vector s = in_sixteenths s.ss (pos 64 *ℤ ((pos s.all -ℤ pos s.count) -ℤ pos s.first)) +ℤ reach 3 s
+greatest_vector s = in_sixteenths s.ss (pos 64 *ℤ ((pos s.all -ℤ pos s.count) -ℤ pos s.first)) +ℤ spel 3 s
 
--- Clip3
-abbrev pub clip_between : ℤ → ℤ → ℤ → ℤ
-clip_between least greatest z = if int_lt z least then least else (if int_lt greatest z then greatest else z)
-
+-- clampMv
 unfoldable pub clamped_vector : BlockSpan → ℤ → ℤ
-clamped_vector s mv = clip_between (least_vector s) (greatest_vector s) (in_sixteenths s.ss mv)
+clamped_vector s mv = clip3 (least_vector s) (greatest_vector s) (in_sixteenths s.ss mv)
 
 -- a block that starts in a frame
 pub record IsSpan (s : BlockSpan) : Type 0 where

@@ -10,13 +10,14 @@ ghost use Rattle.inter_places.specs.Places.{place_of};
 
 use vp9_types::Plane;
 
-/// Where the samples of a block are predicted from along one direction: the place of the first in sixteenths of a sample,
-/// the step from one to the next, 16 where the reference has the frame's size, and how many samples the reference's plane
-/// has.
+/// Where the samples of a block are predicted from along one direction.
 #[derive(Clone, Copy, Debug, PartialEq, Eq)]
 pub struct Axis {
+    /// `startX` or `startY`: the place of the first sample, in sixteenths of a sample.
     pub start: i32,
+    /// `xStep` or `yStep`: from one sample to the next, 16 where the reference has the frame's size.
     pub step: u8,
+    /// How many samples the reference's plane has: `lastX` or `lastY`, and one.
     pub size: u32,
 }
 

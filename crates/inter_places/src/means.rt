@@ -1,7 +1,8 @@
 //! Means of vectors.
 
 ghost use Rattle.std.specs.Prelude.{◌≡◌, ℕ, ◌+◌, ◌^◌, ◌≤◌, ◌<◌, ◌+ℤ◌, true, unsigned_abs};
-ghost use Rattle.inter_places.specs.PlaneVectors.{mean, mean_vector, vector_at, component};
+ghost use Rattle.block_plan.specs.BlockMvs.{vector_of};
+ghost use Rattle.inter_places.specs.PlaneVectors.{mean, mean_vector, component};
 
 use crate::part::Direction;
 use block_plan::InterPrediction;
@@ -42,7 +43,7 @@ pub(crate) fn component(
 ) -> i32
     requires list { list < 2 }
     requires quarter { quarter < 4 }
-    ensures value { result ≡ component along (vector_at inter.now list quarter) }
+    ensures value { result ≡ component along (vector_of inter.now quarter list) }
     ensures near { unsigned_abs result ≤ 2 ^ 15 }
 {
     let vector = inter.vectors[quarter][list];
@@ -63,7 +64,7 @@ fn sum_of(
     requires list { list < 2 }
     requires first { first < 4 }
     requires second { second < 4 }
-    ensures value { result ≡ (component along (vector_at inter.now list first) +ℤ component along (vector_at inter.now list second)) }
+    ensures value { result ≡ (component along (vector_of inter.now first list) +ℤ component along (vector_of inter.now second list)) }
     ensures near { unsigned_abs result ≤ 2 ^ 16 }
 {
     let own = component(inter, list, first, along);
@@ -84,7 +85,7 @@ pub(crate) fn mean_vector(
     requires number { n < 4 }
     requires across { ss_x ≡ true → n < 3 }
     requires down { ss_y ≡ true → n < 2 }
-    ensures value { result ≡ mean_vector ss_x ss_y n (λ quarter. component along (vector_at inter.now list quarter)) }
+    ensures value { result ≡ mean_vector ss_x ss_y n (λ quarter. component along (vector_of inter.now quarter list)) }
     ensures near { unsigned_abs result ≤ 2 ^ 16 }
 {
     match (ss_x, ss_y) {

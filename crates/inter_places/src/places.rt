@@ -3,7 +3,7 @@
 ghost use Rattle.std.specs.Prelude.{◌≡◌, ℕ, ◌*◌, ◌/◌, ◌+◌, ◌<◌, ◌≤◌, ◌^◌, unsigned_abs};
 ghost use Rattle.inter_places.specs.Axes.{IsAxis, IsPlace};
 ghost use Rattle.inter_places.specs.PlaneVectors.{IsSpan};
-ghost use Rattle.inter_places.specs.Places.{IsPart, IsReference, parts_of, place_of, subsampling, fours, behind, part_length, part_vector, part_start, predicted_length, part_axis, span_of, coded_length, luma_length, plane_length};
+ghost use Rattle.inter_places.specs.Places.{IsPart, IsReference, parts_of, place_of, subsampling, fours, offset_in_block, part_length, part_vector, part_start, predicted_length, part_axis, span_of, coded_length, luma_length, plane_length};
 ghost use Rattle.vp9_types.specs.Shapes.{mi_rows, mi_cols, halved};
 
 use crate::axis::{Axis, Place};
@@ -49,11 +49,11 @@ pub fn part_count(shape: &Shape, size: BlockSize, plane: Plane) -> usize
     }
 }
 
-/// How far a part begins behind its block. Only a block below 8x8 has more than one.
+/// How many samples after its block's first a part begins. Only a block below 8x8 has more than one.
 #[inline(always)]
-fn behind(shape: &Shape, size: BlockSize, part: BlockPart, along: Direction) -> u32
+fn offset_in_block(shape: &Shape, size: BlockSize, part: BlockPart, along: Direction) -> u32
     requires { part.number < parts_of shape.now size part.plane }
-    ensures value { result ≡ behind shape.now part along }
+    ensures value { result ≡ offset_in_block shape.now part along }
     ensures inside { result + 4 ≤ halved (subsampling shape.now part.plane along) 8 }
     ensures fours { result ≡ 4 * (result / 4) }
 {
@@ -153,11 +153,11 @@ fn part_axis(
     ensures fits { IsAxis result }
 {
     let span = span_of(shape, block, part.plane, along);
-    let behind = behind(shape, block.size, part, along);
+    let offset_in_block = offset_in_block(shape, block.size, part, along);
     let vector = part_vector(shape, block.size, inter, part, along);
     let scale = scale(luma_length(reference, along), luma_length(shape, along));
     let size = plane_length(reference, part.plane, along);
-    axis_of(&span, behind, vector, scale, size)
+    axis_of(&span, offset_in_block, vector, scale, size)
 }
 
 /// The samples of a plane in the frame's places of 8x8.
@@ -209,7 +209,7 @@ fn predicted_length(shape: &Shape, block: &BlockInfo, part: BlockPart, along: Di
     ensures fours { result ≡ 4 * (result / 4) }
 {
     let span = span_of(shape, block, part.plane, along);
-    let start = first_sample(&span) + behind(shape, block.size, part, along);
+    let start = first_sample(&span) + offset_in_block(shape, block.size, part, along);
     let end = coded_length(shape, part.plane, along);
     part_length(block.size, &span).min(end - start)
 }
@@ -222,7 +222,7 @@ fn part_start(shape: &Shape, block: &BlockInfo, part: BlockPart, along: Directio
     ensures { result ≡ part_start shape.now block.now part along }
 {
     let span = span_of(shape, block, part.plane, along);
-    first_sample(&span) + behind(shape, block.size, part, along)
+    first_sample(&span) + offset_in_block(shape, block.size, part, along)
 }
 
 /// Where a part of a block is predicted from in a reference.

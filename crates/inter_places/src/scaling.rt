@@ -4,7 +4,7 @@ ghost use Rattle.std.specs.Prelude.{◌≡◌, ◌+◌, ◌*◌, ◌/◌, ◌%�
 ghost use Rattle.std.specs.Int.{int_shr};
 ghost use Rattle.inter_places.specs.Axes.{IsAxis};
 ghost use Rattle.inter_places.specs.PlaneVectors.{IsSpan, clamped_vector};
-ghost use Rattle.inter_places.specs.Scaling.{IsInScale, scale, step, start, axis_of, span_start};
+ghost use Rattle.inter_places.specs.Scaling.{IsInScale, x_scale, base_x, luma_x, frac_x, d_x, start_x, step_x, axis_of, span_start};
 
 use crate::axis::Axis;
 use crate::span::{BlockSpan, clamp_mv};
@@ -13,7 +13,7 @@ use crate::span::{BlockSpan, clamp_mv};
 #[tactic(auto, using(crate::proofs::Scales::scale_most, crate::proofs::Scales::scale_least))]
 pub(crate) fn scale(reference: u32, own: u32) -> u32
     requires { IsInScale reference own }
-    ensures value { result ≡ scale reference own }
+    ensures value { result ≡ x_scale reference own }
     ensures most { result ≤ 2 ^ 15 }
     ensures least { 2 ^ 10 ≤ result }
 {
@@ -28,20 +28,21 @@ pub(crate) fn scale(reference: u32, own: u32) -> u32
 fn whole_of(scale: u32, x: u32) -> i32
     requires scale { scale ≤ 2 ^ 15 }
     requires near { x ≤ 2 ^ 17 }
-    ensures value { result ≡ pos (16 * (x * scale / 2 ^ 14)) }
+    ensures value { result ≡ pos (16 * base_x scale x) }
     ensures few { unsigned_abs result ≤ 2 ^ 22 }
 {
     (16 * (u64::from(x) * u64::from(scale) / 16384)) as i32
 }
 
-/// The part that the place in luma gives, below a sample.
+/// The part that the place gives below a sample, of the place that it is in luma.
 #[inline(always)]
-fn fraction_of(scale: u32, luma: u32) -> i32
+fn fraction_of(scale: u32, ss: bool, x: u32) -> i32
     requires scale { scale ≤ 2 ^ 15 }
-    requires near { luma ≤ 2 ^ 17 }
-    ensures value { result ≡ pos (16 * luma * scale / 2 ^ 14 % 16) }
+    requires near { x ≤ 2 ^ 17 }
+    ensures value { result ≡ pos (frac_x scale (luma_x ss x)) }
     ensures few { unsigned_abs result ≤ 15 }
 {
+    let luma = if ss { 2 * x } else { x };
     (16 * u64::from(luma) * u64::from(scale) / 16384 % 16) as i32
 }
 
@@ -56,6 +57,19 @@ fn scaled_vector(scale: u32, mv: i32) -> i32
     ((i64::from(mv) * i64::from(scale)) >> 14) as i32
 }
 
+/// How far the start lies after the whole sample: by the vector, and by what the place is below a sample.
+#[inline(always)]
+fn distance_of(scale: u32, ss: bool, x: u32, mv: i32) -> i32
+    requires scale { scale ≤ 2 ^ 15 }
+    requires place { x ≤ 2 ^ 17 }
+    requires near { unsigned_abs mv ≤ 2 ^ 21 }
+    ensures value { result ≡ d_x scale (luma_x ss x) mv }
+    ensures few { unsigned_abs result ≤ 2 ^ 22 + 15 }
+{
+    let fraction = fraction_of(scale, ss, x);
+    scaled_vector(scale, mv) + fraction
+}
+
 #[inline(always)]
 pub(crate) fn first_sample(span: &BlockSpan) -> u32
     requires { IsSpan span.now }
@@ -65,40 +79,45 @@ pub(crate) fn first_sample(span: &BlockSpan) -> u32
     if span.ss { luma / 2 } else { luma }
 }
 
-/// The start of a part that begins so many samples behind the block's first.
+/// The start of a part that begins so many samples after the block's first.
 #[inline(always)]
-fn start_of(span: &BlockSpan, behind: u32, mv: i32, scale: u32) -> i32
+fn start_of(span: &BlockSpan, offset_in_block: u32, mv: i32, scale: u32) -> i32
     requires span { IsSpan span.now }
-    requires behind { behind ≤ 64 }
+    requires offset { offset_in_block ≤ 64 }
     requires near { unsigned_abs mv ≤ 2 ^ 16 }
     requires most { scale ≤ 2 ^ 15 }
-    ensures value { result ≡ start scale (span_start span.now + behind) (8 * span.now.first + behind) (clamped_vector span.now mv) }
+    ensures value { result ≡ start_x scale span.now.ss (span_start span.now + offset_in_block) (clamped_vector span.now mv) }
     ensures near { unsigned_abs result ≤ 2 ^ 24 }
 {
-    let first = first_sample(span) + behind;
+    let first = first_sample(span) + offset_in_block;
     let vector = clamp_mv(span, mv);
     if scale == 16384 {
         return 16 * first as i32 + vector;
     }
-    let fraction = fraction_of(scale, 8 * span.first + behind);
-    whole_of(scale, first) + scaled_vector(scale, vector) + fraction
+    whole_of(scale, first) + distance_of(scale, span.ss, first, vector)
 }
 
-/// Where a part of a block is predicted from along one direction, which begins so many samples behind the block's first.
+/// Where a part of a block is predicted from along one direction, which begins so many samples after the block's first.
 #[inline(always)]
-pub(crate) fn axis_of(span: &BlockSpan, behind: u32, mv: i32, scale: u32, size: u32) -> Axis
+pub(crate) fn axis_of(
+    span: &BlockSpan,
+    offset_in_block: u32,
+    mv: i32,
+    scale: u32,
+    size: u32,
+) -> Axis
     requires span { IsSpan span.now }
-    requires behind { behind ≤ 64 }
+    requires offset { offset_in_block ≤ 64 }
     requires near { unsigned_abs mv ≤ 2 ^ 16 }
     requires most { scale ≤ 2 ^ 15 }
     requires least { 2 ^ 10 ≤ scale }
     requires some { 1 ≤ size }
     requires size { size ≤ 65536 }
-    ensures value { result ≡ axis_of span.now behind mv scale size }
+    ensures value { result ≡ axis_of span.now offset_in_block mv scale size }
     ensures fits { IsAxis result }
 {
     Axis {
-        start: start_of(span, behind, mv, scale),
+        start: start_of(span, offset_in_block, mv, scale),
         step: (16 * scale / 16384) as u8,
         size,
     }

@@ -1,7 +1,7 @@
 //! Vectors along one direction.
 
 ghost use Rattle.std.specs.Prelude.{◌≡◌, ◌*◌, ◌^◌, ◌≤◌, pos, ◌-ℤ◌, unsigned_abs};
-ghost use Rattle.inter_places.specs.PlaneVectors.{IsSpan, span_length, clamped_vector, in_sixteenths, reach, least_vector, greatest_vector};
+ghost use Rattle.inter_places.specs.PlaneVectors.{IsSpan, span_length, clamped_vector, in_sixteenths, spel, least_vector, greatest_vector};
 
 /// A block along one direction: its first place of 8x8 luma samples, how many of them it has, how many its frame has, and
 /// whether its plane is subsampled.
@@ -39,7 +39,7 @@ fn length_of(span: &BlockSpan) -> i32
 fn reach(span: &BlockSpan, more: u8) -> i32
     requires span { IsSpan span.now }
     requires more { more ≤ 4 }
-    ensures value { result ≡ reach more span.now }
+    ensures value { result ≡ spel more span.now }
     ensures near { unsigned_abs result ≤ 2 ^ 11 }
 {
     16 * (i32::from(more) + length_of(span))

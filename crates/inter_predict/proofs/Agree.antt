@@ -7,7 +7,7 @@ use Rattle.vp9_tables.specs.Filters.{taps_of}
 use Rattle.inter_places.specs.declared.axis.Axis.{Axis}
 use Rattle.tap_filter.specs.Filter.{weighted, rounded, filtered}
 use Rattle.inter_places.proofs.Orders.{clamped_order, offset_order, place_order}
-use Rattle.inter_places.specs.Axes.{clamped, place, phase, offset, fraction, sixteenth, whole, straight}
+use Rattle.inter_places.specs.Axes.{clamped, last_x, place, phase, offset, fraction, sixteenth, whole, straight}
 use Rattle.inter_places.specs.Axes.{first_place, last_place}
 use Rattle.inter_predict.specs.InterSamples.{along, predicted}
 use Rattle.inter_predict.proofs.Whole.{whole_copies}
@@ -21,7 +21,7 @@ pub filtered_same : (most : ℕ) (taps : List ℤ) (f g : ℕ → ℕ) → ((k :
     rounded most (weighted taps f) ≡ rounded most (weighted taps g)
 filtered_same most taps f g same = ap (rounded most) (weighted_same taps f g same)
 
-clamped_below : (size : ℕ) (z : ℤ) → 0 < size → clamped size z < size
+clamped_below : (size : ℕ) (z : ℤ) → 0 < size → clamped (size - 1) z < size
 clamped_below size (pos a) some = omega arith
 clamped_below size (negsuc a) some = omega arith
 
@@ -47,7 +47,7 @@ pub phase_straight : (a : Axis) (j : ℕ) → a.step ≡ 16 → phase a j ≡ fr
 phase_straight a j step = rw step (phase_is (fraction a) j (low_part a.start))
 
 straight_order : (a : Axis) (s t : ℕ) → s ≤ t → straight a s ≤ straight a t
-straight_order a s t le = clamped_order a.size (whole a) s t le
+straight_order a s t le = clamped_order (last_x a) (whole a) s t le
 
 pub along_same : (most : ℕ) (kind : InterpFilter) (a : Axis) (f g : ℕ → ℕ) (j : ℕ) → ((k : ℕ) → k < 8 → f (place a j k) ≡ g (place a j k)) →
     along most kind a f j ≡ along most kind a g j

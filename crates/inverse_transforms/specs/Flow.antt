@@ -63,7 +63,10 @@ store_four limit xs a b c d v =
 abbrev pub permuted : List ℕ → List ℤ → List ℤ
 permuted order xs = map (λ i. at xs i) (take (length xs) order)
 
--- one step; a permutation stores no new value
+-- One step. Of the standard's operations (8.7.1.1) `Rot a b k` is the butterfly rotation B(a, b, k, 0), and `Sum a b` the Hadamard
+-- rotation H(a, b, 0). `Wide a b k c d m` is of the ADST alone, two steps in one: SB(a, b, k, 0) and SB(c, d, m, 0), whose values S aren't
+-- rounded, and then SH(a, c) and SH(b, d). `Neg a` is T[a] = -T[a] at the end of an ADST. `Perm` is a permutation of the array before or
+-- after a transform, or the exchanges that the standard's flipped rotations, B(a, b, k, 1), are left with; it stores no new value
 unfoldable pub step : ℕ → FlowRow → List ℤ → Result (List ℤ) Rule
 step limit (Perm order) xs = Ok (permuted order xs)
 step limit (Rot a b k) xs = store_two limit xs a b (rotated k (at xs a) (at xs b))

@@ -24,7 +24,8 @@ filter_mask l x =
     && nat_le (abs_diff (q x 1) (q x 0)) l.limit && nat_le (abs_diff (q x 2) (q x 1)) l.limit && nat_le (abs_diff (q x 3) (q x 2)) l.limit
     && nat_le (2 * abs_diff (p x 0) (q x 0) + abs_diff (p x 1) (q x 1) / 2) l.blimit
 
--- high variance at the edge
+-- high variance at the edge. The limits are shifted to the depth already: thresh is the standard's thresh << (BitDepth - 8), and so are
+-- limit and blimit; one is 1 << (BitDepth - 8)
 unfoldable pub hev_mask : Limits → Line → Bool
 hev_mask l x = nat_lt l.thresh (abs_diff (p x 1) (p x 0)) || nat_lt l.thresh (abs_diff (q x 1) (q x 0))
 

@@ -15,10 +15,10 @@ use Rattle.frame_headers.specs.declared.header.FrameFilter.{FrameFilter}
 use Rattle.frame_headers.specs.declared.header.FrameFilter.TheVariants.{Fixed, Switchable}
 use Rattle.frame_headers.specs.declared.segments.FeatureReference.{FeatureReference}
 use Rattle.block_geometry.specs.BlockSizes.{is_below_8x8}
+use Rattle.block_plan.specs.BlockMvs.{vector_at}
 use Rattle.block_plan.specs.declared.block.Mv.{Mv}
 use Rattle.block_plan.specs.declared.block.References.{References}
 use Rattle.mode_syntax.specs.Elements.{skips_segment}
-use Rattle.mv_prediction.specs.SubBlocks.{vector_at}
 use Rattle.mv_prediction.specs.Vectors.{is_precise}
 use Rattle.mv_prediction.specs.declared.search.SignBiases.{SignBiases}
 use Rattle.inter_contexts.specs.BlockReferences.{fixed_of, variable_by, with_fixed, single, of_feature, in_range_or_rule}

@@ -7,9 +7,9 @@ use Rattle.vp9_types.specs.declared.block.ReferenceFrame.{ReferenceFrame}
 use Rattle.vp9_tables.specs.declared.data.motion.TheConstants.{COUNTER_TO_CONTEXT}
 use Rattle.block_plan.specs.Blocks.{covering}
 use Rattle.block_plan.specs.declared.block.BlockInfo.{BlockInfo}
-use Rattle.mv_prediction.specs.Candidates.{moved, at_both, neighbour, offset_of, own_of, others_of, counter_of, candidate_vectors, candidates, first_two, mode_context}
+use Rattle.mv_prediction.specs.Candidates.{moved, at_both, neighbour, offset_of, own_of, others_of, counter_of, candidate_vectors, first_two, mode_context, ref_list_mv}
 use Rattle.mv_prediction.specs.Laws.{SameIn}
-use Rattle.mv_prediction.specs.Vectors.{clamped}
+use Rattle.mv_prediction.specs.Vectors.{clamp_mv_ref}
 use Rattle.mv_prediction.specs.declared.search.MvSearch.{MvSearch}
 
 -- a moved place lies between the two
@@ -48,7 +48,7 @@ same_list xs ys xs_before ys_before s reference sub same before = λ i.
 
 pub same_candidates : (s : MvSearch) (xs ys xs_before ys_before : List BlockInfo) (reference : ReferenceFrame) (sub : Option ℕ)
     → SameIn s.at.tile_from s.at.tile_to xs ys → SameIn s.at.tile_from s.at.tile_to xs_before ys_before → s.at.tile_from ≤ s.at.col → s.at.col < s.at.tile_to
-    → candidates xs xs_before s reference sub ≡ candidates ys ys_before s reference sub
-unfolding candidates
+    → ref_list_mv xs xs_before s reference sub ≡ ref_list_mv ys ys_before s reference sub
+unfolding ref_list_mv
 same_candidates s xs ys xs_before ys_before reference sub same before first last =
-    ap (λ vs. map (clamped s) (first_two vs)) (same_list xs ys xs_before ys_before s reference sub (λ k. same_neighbour xs ys s k same) (before s.at.row s.at.col first last))
+    ap (λ vs. map (clamp_mv_ref s) (first_two vs)) (same_list xs ys xs_before ys_before s reference sub (λ k. same_neighbour xs ys s k same) (before s.at.row s.at.col first last))

@@ -5,9 +5,10 @@ use Rattle.std.proofs.lemmas.List.Elements.{All-head, All-tail}
 use Rattle.block_plan.specs.Blocks.{covering, covers, or_else}
 use Rattle.std.proofs.Common.{zero, suc}
 use Rattle.std.specs.Prelude.{slice_index_or}
+use Rattle.block_plan.specs.BlockMvs.{no_vector}
 use Rattle.block_plan.specs.declared.block.BlockInfo.{BlockInfo}
 use Rattle.block_plan.specs.declared.block.Mv.{Mv}
-use Rattle.mv_prediction.specs.Vectors.{no_vector, IsSmallVector}
+use Rattle.mv_prediction.specs.Vectors.{IsSmallVector}
 
 either : (P : BlockInfo → Type 0) (b : BlockInfo) (found : Option BlockInfo) (here : Bool) → IfSome found P → P b
     → IfSome (or_else found (if here then Some b else None)) P

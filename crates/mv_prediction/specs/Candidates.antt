@@ -12,12 +12,13 @@ use Rattle.frame_headers.specs.References.{same_bit}
 use Rattle.frame_headers.specs.declared.header.References.{References}
 use Rattle.block_geometry.specs.BlockSizes.{is_below_8x8}
 use Rattle.block_plan.specs.Blocks.{covering}
+use Rattle.block_plan.specs.BlockMvs.{no_vector, vector_of}
 use Rattle.block_plan.specs.declared.block.BlockInfo.{BlockInfo}
 use Rattle.block_plan.specs.declared.block.InterPrediction.{InterPrediction}
 use Rattle.block_plan.specs.declared.block.Mv.{Mv}
 use Rattle.block_plan.specs.declared.block.Prediction.{Prediction}
 use Rattle.block_plan.specs.declared.block.Prediction.TheVariants.{Intra, Inter}
-use Rattle.mv_prediction.specs.Vectors.{no_vector, same_vector, negated, clamped}
+use Rattle.mv_prediction.specs.Vectors.{same_vector, negated, clamp_mv_ref}
 use Rattle.mv_prediction.specs.declared.search.MvSearch.{MvSearch}
 use Rattle.mv_prediction.specs.declared.search.SignBiases.{SignBiases}
 
@@ -39,10 +40,6 @@ is_second (Some other) reference = is_reference other reference
 is_second None reference = false
 
 ---- Vectors of a block ----
-
--- the vector of a quarter of an 8x8 square, of the first or the second list
-abbrev pub vector_of : InterPrediction → ℕ → ℕ → Mv
-vector_of p quarter list = slice_index_or (slice_index_or p.vectors quarter []) list no_vector
 
 -- Its vector of a reference: of the first list, or else of the second.
 abbrev pub own_vectors : ReferenceFrame → ℕ → Prediction → List Mv
@@ -137,9 +134,8 @@ abbrev pub first_two : List Mv → List Mv
 first_two [] = no_vector ∷ no_vector ∷ []
 first_two (v ∷ vs) = v ∷ other_than v vs ∷ []
 
--- RefListMv
-unfoldable pub candidates : List BlockInfo → List BlockInfo → MvSearch → ReferenceFrame → Option ℕ → List Mv
-candidates earlier before s reference sub = map (clamped s) (first_two (candidate_vectors earlier before s reference sub))
+unfoldable pub ref_list_mv : List BlockInfo → List BlockInfo → MvSearch → ReferenceFrame → Option ℕ → List Mv
+ref_list_mv earlier before s reference sub = map (clamp_mv_ref s) (first_two (candidate_vectors earlier before s reference sub))
 
 ---- The context of the inter mode ----
 

@@ -1,12 +1,12 @@
 -- What the code keeps while it searches.
 use Rattle.std.specs.Prelude.{ℕ, Bool, true, false, ◌<◌, ◌≤◌, List, [], ◌∷◌, Option, Some, None, if◌then◌else◌}
 use Rattle.std.specs.List.{All, fold, flat_map, range_with_len}
+use Rattle.block_plan.specs.BlockMvs.{no_vector, vector_of}
 use Rattle.block_plan.specs.declared.block.BlockInfo.{BlockInfo}
 use Rattle.block_plan.specs.declared.block.Mv.{Mv}
 use Rattle.block_plan.specs.declared.block.Prediction.{Prediction}
 use Rattle.block_plan.specs.declared.block.Prediction.TheVariants.{Intra, Inter}
-use Rattle.mv_prediction.specs.Candidates.{vector_of}
-use Rattle.mv_prediction.specs.Vectors.{no_vector, same_vector, IsSmallVector}
+use Rattle.mv_prediction.specs.Vectors.{same_vector, IsSmallVector}
 use Rattle.mv_prediction.specs.declared.found.Found.{Found}
 use Rattle.mv_prediction.specs.declared.found.Found.TheVariants.{Nothing, One, Two}
 use Rattle.mv_prediction.specs.declared.search.MvSearch.{MvSearch}

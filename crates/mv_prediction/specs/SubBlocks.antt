@@ -1,13 +1,11 @@
 -- The nearest and the near vector of a block, and of the quarters of one below 8x8 (6.5 of the standard: find_best_ref_mvs,
 -- append_sub8x8_mvs).
-use Rattle.std.specs.Prelude.{ℕ, List, ◌∷◌, Bool, slice_index_or, nat_eq, nat_lt, if◌then◌else◌}
+use Rattle.std.specs.Prelude.{ℕ, List, ◌∷◌, Bool, nat_eq, nat_lt, if◌then◌else◌}
+use Rattle.block_plan.specs.BlockMvs.{vector_at}
 use Rattle.block_plan.specs.declared.block.Mv.{Mv}
 use Rattle.mv_prediction.specs.Candidates.{other_than}
-use Rattle.mv_prediction.specs.Vectors.{no_vector, rounded}
+use Rattle.mv_prediction.specs.Vectors.{rounded}
 use Rattle.mv_prediction.specs.declared.sub_blocks.NearVectors.{NearVectors}
-
-abbrev pub vector_at : List Mv → ℕ → Mv
-vector_at vs k = slice_index_or vs k no_vector
 
 -- The nearest is the best one too, to which differences are added.
 unfoldable pub near_vectors : Bool → List Mv → NearVectors

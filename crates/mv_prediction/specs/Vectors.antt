@@ -1,23 +1,17 @@
 -- Vectors, in eighths of a luma sample, and what is made of them when they are predicted (6.5 of the standard: clamp_mv_ref
 -- in find_mv_refs, find_best_ref_mvs).
-use Rattle.std.specs.Prelude.{ℕ, ◌+◌, ◌*◌, ◌<◌, ℤ, pos, neg_ℤ, ◌-ℤ◌, ◌*ℤ◌, Bool, ◌&&◌, unsigned_abs, int_lt, int_div, nat_lt, if◌then◌else◌}
+use Rattle.std.specs.Prelude.{ℕ, ◌+◌, ◌*◌, ◌<◌, ℤ, pos, neg_ℤ, ◌-ℤ◌, ◌*ℤ◌, Bool, ◌&&◌, unsigned_abs, int_div, nat_lt, if◌then◌else◌}
 use Rattle.std.specs.Ordering.{int_eq}
 use Rattle.block_geometry.specs.BlockSizes.{width_8, height_8}
+use Rattle.block_plan.specs.BlockMvs.{clip3}
 use Rattle.block_plan.specs.declared.block.Mv.{Mv}
 use Rattle.mv_prediction.specs.declared.search.MvSearch.{MvSearch}
-
-abbrev pub no_vector : Mv
-no_vector = record { row = pos 0; column = pos 0 }
 
 abbrev pub same_vector : Mv → Mv → Bool
 same_vector a b = int_eq a.row b.row && int_eq a.column b.column
 
 abbrev pub negated : Mv → Mv
 negated v = record { row = neg_ℤ v.row; column = neg_ℤ v.column }
-
--- Clip3; the bounds of a block that reaches far out of its frame may stand in the other order
-abbrev pub clip3 : ℤ → ℤ → ℤ → ℤ
-clip3 low high x = if int_lt x low then low else (if int_lt high x then high else x)
 
 -- how far a block may be led: 128, which are 16 samples, beyond the first of the places of 8x8 and beyond the last
 abbrev pub reach_before : ℕ → ℤ
@@ -26,9 +20,8 @@ reach_before at = neg_ℤ (pos (64 * at + 128))
 abbrev pub reach_after : ℕ → ℕ → ℕ → ℤ
 reach_after at side end = pos (64 * end + 128) -ℤ pos (64 * (at + side))
 
--- clamp_mv_ref
-unfoldable pub clamped : MvSearch → Mv → Mv
-clamped s v = record {
+unfoldable pub clamp_mv_ref : MvSearch → Mv → Mv
+clamp_mv_ref s v = record {
   row = clip3 (reach_before s.at.row) (reach_after s.at.row (height_8 s.at.size) s.places.rows) v.row;
   column = clip3 (reach_before s.at.col) (reach_after s.at.col (width_8 s.at.size) s.places.cols) v.column;
 }

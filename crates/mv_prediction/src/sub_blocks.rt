@@ -1,7 +1,8 @@
 //! The nearest and the near vector.
 
 ghost use Rattle.std.specs.Prelude.{◌≡◌, ◌<◌, ◌∷◌, [], slice_index_or};
-ghost use Rattle.mv_prediction.specs.Vectors.{IsSmallVector, no_vector};
+ghost use Rattle.block_plan.specs.BlockMvs.{no_vector};
+ghost use Rattle.mv_prediction.specs.Vectors.{IsSmallVector};
 ghost use Rattle.mv_prediction.specs.Candidates.{other_than};
 ghost use Rattle.mv_prediction.specs.SubBlocks.{near_vectors, sub_block_vectors, beside};
 ghost use Rattle.mv_prediction.specs.Code.{AreSmall};

@@ -5,7 +5,7 @@ ghost use Rattle.std.specs.List.{All};
 ghost use Rattle.std.specs.Option.{option_copied};
 ghost use Rattle.block_plan.specs.declared.block.Prediction.TheVariants.{Inter};
 ghost use Rattle.mv_prediction.specs.Vectors.{IsSmallVector};
-ghost use Rattle.mv_prediction.specs.Candidates.{is_reference, is_second, turned, own_vectors, first_turned, second_turned, other_vectors, own_of, others_of, own_at, others_at, neighbour, candidate_vectors, candidates, mode_context};
+ghost use Rattle.mv_prediction.specs.Candidates.{is_reference, is_second, turned, own_vectors, first_turned, second_turned, other_vectors, own_of, others_of, own_at, others_at, neighbour, candidate_vectors, ref_list_mv, mode_context};
 ghost use Rattle.mv_prediction.specs.Code.{IsSite, HasSmallVectors, PredictsSmall, IsSmallFound, with_vectors, with_places, blocks_of, AreSmall};
 ghost use Rattle.mv_prediction.specs.declared.found.Found.TheVariants.{Nothing};
 
@@ -331,7 +331,7 @@ fn search_all<N: Neighbours, Q: Neighbours>(
 
 /// The vectors that other blocks suggest for a block of this reference, or for a quarter of one below 8x8, 0 to 3: those of
 /// the blocks before it in its frame, and of the block that stood there in the frame before, where its vectors are used.
-#[tactic(auto, unfolding(crate::specs::Candidates::candidates), using(crate::proofs::Founds::first_two_are_found))]
+#[tactic(auto, unfolding(crate::specs::Candidates::ref_list_mv), using(crate::proofs::Founds::first_two_are_found))]
 pub fn candidates<N: Neighbours, Q: Neighbours>(
     search: &MvSearch,
     reference: ReferenceFrame,
@@ -345,7 +345,7 @@ pub fn candidates<N: Neighbours, Q: Neighbours>(
     requires held_before { IfSome (option_copied before) (λ q. Q.holds q search.now.at.row search.now.at.col) }
     requires small { All HasSmallVectors (N.blocks earlier.now) }
     requires small_before { All HasSmallVectors (blocks_of Q.blocks (option_copied before)) }
-    ensures is { result ≡ candidates (N.blocks earlier.now) (blocks_of Q.blocks (option_copied before.entry)) search.now reference sub }
+    ensures is { result ≡ ref_list_mv (N.blocks earlier.now) (blocks_of Q.blocks (option_copied before.entry)) search.now reference sub }
     ensures small { AreSmall result }
 {
     let [first, second] = search_all(search, Wanted { reference, sub }, earlier, before).vectors();

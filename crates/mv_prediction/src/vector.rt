@@ -1,7 +1,8 @@
 //! Vectors.
 
 ghost use Rattle.std.specs.Prelude.{◌≡◌, ◌<◌, ◌≤◌, pos, negsuc, ◌≤ℤ◌, unsigned_abs};
-ghost use Rattle.mv_prediction.specs.Vectors.{no_vector, same_vector, negated, clip3, reach_before, reach_after, clamped, is_precise, rounded, IsSmallVector};
+ghost use Rattle.block_plan.specs.BlockMvs.{no_vector, clip3};
+ghost use Rattle.mv_prediction.specs.Vectors.{same_vector, negated, reach_before, reach_after, clamp_mv_ref, is_precise, rounded, IsSmallVector};
 
 use crate::search::MvSearch;
 use block_geometry::{height_8, width_8};
@@ -73,12 +74,12 @@ fn held_back(x: i16, at: u32, side: u8, end: u32) -> i16
 
 /// A candidate that leads no further than 128 beyond the frame.
 #[inline(always)]
-#[tactic(auto, unfolding(crate::specs::Vectors::clamped))]
+#[tactic(auto, unfolding(crate::specs::Vectors::clamp_mv_ref))]
 pub(crate) fn clamped(search: &MvSearch, v: Mv) -> Mv
     requires small { IsSmallVector v }
     requires row { search.now.at.row < search.now.places.rows }
     requires col { search.now.at.col < search.now.places.cols }
-    ensures is { result ≡ clamped search.now v }
+    ensures is { result ≡ clamp_mv_ref search.now v }
     ensures small { IsSmallVector result }
 {
     let at = search.at;

@@ -7,12 +7,12 @@ use Rattle.vp9_types.specs.declared.block.InterMode.{InterMode}
 use Rattle.vp9_types.specs.declared.block.InterMode.TheVariants.{Nearest, Near, Zero, New}
 use Rattle.vp9_types.specs.declared.block.ReferenceFrame.{ReferenceFrame}
 use Rattle.vp9_types.specs.declared.rule.Rule.{Rule}
+use Rattle.block_plan.specs.BlockMvs.{no_vector, vector_at}
 use Rattle.block_plan.specs.declared.block.Mv.{Mv}
 use Rattle.block_plan.specs.declared.block.References.{References}
 use Rattle.counting_reader.specs.Counting.{Settled, Yields}
 use Rattle.counting_reader.proofs.Yields.{yields_bind, yields_all, yields_map}
-use Rattle.mv_prediction.specs.SubBlocks.{vector_at}
-use Rattle.mv_prediction.specs.Vectors.{no_vector, is_precise}
+use Rattle.mv_prediction.specs.Vectors.{is_precise}
 use Rattle.mv_prediction.specs.declared.sub_blocks.NearVectors.{NearVectors}
 use Rattle.mv_syntax.specs.Differences.{read_mv, new_vector}
 use Rattle.inter_modes.specs.BlockVectors.{Sources, carried, ◌>>?◌, inter_mode, vector_of_mode, near_of_block, near_of_quarter, block_vector, with_second, block_vectors, best_vectors, second_best, of_list, quarter_vector, quarter_vectors, quarter}

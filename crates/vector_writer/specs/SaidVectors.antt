@@ -8,11 +8,10 @@ use Rattle.vp9_types.specs.declared.block.InterMode.TheVariants.{Nearest, Near, 
 use Rattle.vp9_types.specs.declared.block.ReferenceFrame.{ReferenceFrame}
 use Rattle.vp9_types.specs.declared.rule.Rule.{Rule}
 use Rattle.block_geometry.specs.BlockSizes.{is_below_8x8}
+use Rattle.block_plan.specs.BlockMvs.{no_vector, vector_at}
 use Rattle.block_plan.specs.declared.block.InterPrediction.{InterPrediction}
 use Rattle.block_plan.specs.declared.block.Mv.{Mv}
 use Rattle.block_plan.specs.declared.block.References.{References}
-use Rattle.mv_prediction.specs.SubBlocks.{vector_at}
-use Rattle.mv_prediction.specs.Vectors.{no_vector}
 use Rattle.mv_prediction.specs.declared.sub_blocks.NearVectors.{NearVectors}
 use Rattle.mv_syntax.specs.Differences.{added, in_range_or_rule}
 use Rattle.inter_modes.specs.BlockVectors.{Sources, near_of_block, near_of_quarter, best_vectors, row_at, of_list, nothing_before, before_of}

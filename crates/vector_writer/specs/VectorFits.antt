@@ -9,9 +9,9 @@ use Rattle.vp9_types.specs.declared.block.InterpFilter.TheVariants.{Bilinear}
 use Rattle.frame_headers.specs.declared.header.FrameFilter.{FrameFilter}
 use Rattle.frame_headers.specs.declared.header.FrameFilter.TheVariants.{Fixed, Switchable}
 use Rattle.block_geometry.specs.BlockSizes.{is_below_8x8}
+use Rattle.block_plan.specs.BlockMvs.{vector_at}
 use Rattle.block_plan.specs.declared.block.Mv.{Mv}
 use Rattle.block_plan.specs.declared.block.References.{References}
-use Rattle.mv_prediction.specs.SubBlocks.{vector_at}
 use Rattle.mv_prediction.specs.Vectors.{is_precise}
 use Rattle.inter_modes.specs.BlockVectors.{Sources, best_vectors}
 use Rattle.vector_writer.specs.SaidVectors.{mode_at, symbols_at}

@@ -5,8 +5,8 @@ ghost use Rattle.std.specs.List.{All};
 ghost use Rattle.std.specs.Option.{option_copied};
 ghost use Rattle.vp9_types.specs.declared.block.BlockSize.TheVariants.{B4x4};
 ghost use Rattle.vp9_types.specs.declared.block.InterpFilter.TheVariants.{Sharp};
+ghost use Rattle.block_plan.specs.BlockMvs.{vector_at};
 ghost use Rattle.mv_prediction.specs.Code.{HasSmallVectors};
-ghost use Rattle.mv_prediction.specs.SubBlocks.{vector_at};
 ghost use Rattle.inter_modes.specs.BlockVectors.{row_at};
 ghost use Rattle.vector_writer.specs.VectorFits.{IsDifference, CanDiffer};
 
