@@ -34,6 +34,15 @@ same_place a b c = omega arith
 later_row : (f : Map) (n done m j : ℕ) (new : List ℕ) → slice_index new (done * n + (m * n + j)) ≡ f (done + m) j → slice_index new ((done + m) * n + j) ≡ f (done + m) j
 later_row f n done m j new is = subst (λ (k : ℕ). slice_index new k ≡ f (done + m) j) (spread done m n j) is
 
+pub within : (done part count : ℕ) → done < count → part ≤ count - done → done + part ≤ count
+within done part count more low = omega arith
+
+pub part_fits : (n done part count size : ℕ) → done + part ≤ count → count * n ≤ size → done * n + part * n ≤ size
+part_fits n done part count size low fits = omega (arith, mul-le-mul_right n low, fits)
+
+pub in_part : (n r part j : ℕ) → r < part → j < n → r * n + j < part * n
+in_part n r part j low few = place_below n part r j low few
+
 -- some rows more behind the first ones
 pub rows_join : (f : Map) (n done part : ℕ) (old new : List ℕ) → HoldsRows old n done f →
     ((r j : ℕ) → r < part → j < n → slice_index new (done * n + (r * n + j)) ≡ f (done + r) j) → ((k : ℕ) → k < done * n → slice_index new k ≡ slice_index old k) →
