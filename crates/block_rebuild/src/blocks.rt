@@ -13,7 +13,7 @@ use crate::in_plane::{IntraCoded, put_in_plane};
 use crate::inter_in_plane::{InterCoded, put_chroma, put_luma};
 use crate::references::Rebuilding;
 use crate::residues::TransformResidues;
-use crate::room::{GREATEST_BLOCK, RebuildRoom, RoomSample};
+use crate::room::{GREATEST_BLOCK, RoomSample};
 use block_plan::{BlockInfo, BlockResidues, Prediction};
 use planes::FramePlanes;
 use vp9_types::{Plane, Samples};
@@ -29,7 +29,7 @@ pub fn put_block_in_part<P: RoomSample, S: Samples<Kept = P>, R: TransformResidu
     tile_from: u32,
     block: &BlockInfo,
     residues: &R,
-    room: &mut RebuildRoom,
+    room: &mut P::Room,
 )
     requires size { HasFrameSize by.now.shape }
     requires fits { P.takes (greatest by.now.shape.depth) }
@@ -51,9 +51,10 @@ pub fn put_block_in_part<P: RoomSample, S: Samples<Kept = P>, R: TransformResidu
                 block,
                 modes: &modes,
             };
-            put_in_plane(&mut planes.y, &b, Plane::Y, residues, &mut room.intra);
-            put_in_plane(&mut planes.u, &b, Plane::U, residues, &mut room.intra);
-            put_in_plane(&mut planes.v, &b, Plane::V, residues, &mut room.intra);
+            let room = P::intra(room);
+            put_in_plane(&mut planes.y, &b, Plane::Y, residues, room);
+            put_in_plane(&mut planes.u, &b, Plane::U, residues, room);
+            put_in_plane(&mut planes.v, &b, Plane::V, residues, room);
         }
         Prediction::Inter(modes) => {
             let b = InterCoded {
@@ -75,7 +76,7 @@ pub fn put_block<P: RoomSample, S: Samples<Kept = P>>(
     tile_from: u32,
     block: &BlockInfo,
     residues: &BlockResidues,
-    room: &mut RebuildRoom,
+    room: &mut P::Room,
 )
     requires size { HasFrameSize by.now.shape }
     requires fits { P.takes (greatest by.now.shape.depth) }

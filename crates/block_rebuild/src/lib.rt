@@ -16,4 +16,4 @@ pub use inter_in_plane::TwoPlaces;
 pub use laws::{blocks_stay_in_their_tile_column, strips_side_by_side_are_the_frame};
 pub use references::{Rebuilding, ReferencePicture};
 pub use residues::TransformResidues;
-pub use room::{RebuildRoom, RoomSample};
+pub use room::{ByteRoom, RoomSample, WordRoom};

@@ -10,7 +10,7 @@ ghost use Rattle.frame_decoder.specs.Code.{plain_block, pictures_of, tile_of, Ar
 
 use block_geometry::FramePlaces;
 use block_plan::{BlockAt, BlockResidues};
-use block_rebuild::{RebuildRoom, Rebuilding, RoomSample, put_block};
+use block_rebuild::{Rebuilding, RoomSample, put_block};
 use counting_reader::CountingReader;
 use frame_state::{FrameSources, TileColumn, frame_is_intra};
 use inter_modes::mode_info;
@@ -29,16 +29,16 @@ pub struct PlainSources<'a, P: Sample> {
 
 /// Room for one block: its residue, and what it is put in by.
 #[derive(Drop)]
-pub(crate) struct BlockRoom {
+pub(crate) struct BlockRoom<R> {
     pub residues: BlockResidues,
-    pub rebuild: RebuildRoom,
+    pub rebuild: R,
 }
 
-impl BlockRoom {
-    pub fn new() -> BlockRoom {
+impl<R> BlockRoom<R> {
+    pub fn with(rebuild: R) -> BlockRoom<R> {
         BlockRoom {
             residues: BlockResidues::new(),
-            rebuild: RebuildRoom::new(),
+            rebuild,
         }
     }
 }
@@ -49,7 +49,7 @@ fn decode_block<P: RoomSample, const COUNTS: bool>(
     reader: &mut CountingReader<COUNTS>,
     column: &mut TileColumn,
     planes: &mut FramePlanes<P>,
-    room: &mut BlockRoom,
+    room: &mut BlockRoom<P::Room>,
     at: BlockAt,
 ) -> Result<(), Rule>
     requires ready { IsReady by.now.reading.setting column.old }
@@ -94,12 +94,12 @@ fn decode_block<P: RoomSample, const COUNTS: bool>(
 
 /// What the blocks of a tile are read and put in by, its bools, its column, the frame's planes, and room for one block.
 #[derive(Drop)]
-pub(crate) struct PlainReader<'a, 'b, 'c, P: Sample, const COUNTS: bool> {
+pub(crate) struct PlainReader<'a, 'b, 'c, P: RoomSample, const COUNTS: bool> {
     pub by: &'a PlainSources<'b, P>,
     pub reader: &'a mut CountingReader<'c, COUNTS>,
     pub column: &'a mut TileColumn,
     pub planes: &'a mut FramePlanes<P>,
-    pub room: &'a mut BlockRoom,
+    pub room: &'a mut BlockRoom<P::Room>,
 }
 
 impl<'a, 'b, 'c, P: RoomSample, const COUNTS: bool> TileReader

@@ -88,7 +88,7 @@ fn decode_blocks<P: RoomSample, const COUNTS: bool>(
     ensures same { OnOk result (SameColumns column.old column.new) }
     ensures room { OnOk result (column.old.grid.room ≤ column.new.grid.room + 64 * (superblocks_along (column.old.grid.to - column.old.grid.from) * superblocks_along (tile.now.row_to - tile.now.row_from))) }
 {
-    let mut room = BlockRoom::new();
+    let mut room = BlockRoom::with(P::new_room());
     let mut plain = PlainReader {
         by,
         reader,

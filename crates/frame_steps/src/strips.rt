@@ -14,7 +14,7 @@ ghost use Rattle.tile_syntax.specs.Code.{IsKept};
 ghost use Rattle.recon_rows.specs.RebuiltRows.{blocks_between};
 ghost use Rattle.recon_rows.specs.OwnStrips.{HoldsRowOf, IsAbove, IsReadPlan};
 
-use block_rebuild::{RebuildRoom, Rebuilding, RoomSample};
+use block_rebuild::{Rebuilding, RoomSample};
 use frame_setting::FrameSetting;
 use frame_state::{TilePlaces, superblocks};
 use planes::FramePlanes;
@@ -56,7 +56,7 @@ pub fn put_strip<P: RoomSample, S: Samples<Kept = P>>(
     let from = tile.col_from;
     let to = from + 8 * superblocks(tile.col_from, tile.col_to);
     let mut strip = new_strip(alloc, &setting.header.shape(), from, to, of.row)?;
-    let mut room = RebuildRoom::new();
+    let mut room = P::new_room();
     rows(&mut strip, above, by, of.plan, of.row, &mut room);
     Ok(strip)
 }

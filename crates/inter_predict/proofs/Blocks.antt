@@ -1,5 +1,5 @@
 -- Blocks, one row more at a time.
-use Rattle.std.proofs.Common.{◌≡◌, ℕ, ◌+◌, ◌*◌, ◌<◌, ◌≤◌, List, get_or, arith, refl, ◌∙◌, inl, inr, subst, ℤ, pos, negsuc, ◌+ℤ◌, ◌/◌, ◌%◌, take, map, suc, zero}
+use Rattle.std.proofs.Common.{◌≡◌, ℕ, ◌+◌, ◌-◌, ◌*◌, ◌<◌, ◌≤◌, List, get_or, arith, refl, ◌∙◌, inl, inr, subst, ℤ, pos, negsuc, ◌+ℤ◌, ◌/◌, ◌%◌, take, map, suc, zero}
 use Rattle.std.specs.Prelude.{slice_index}
 use Rattle.std.proofs.Math.Nat.{mul-le-mul_right, div-add-mod, mod-lt}
 use Rattle.std.proofs.lemmas.Nat.{div_below}
@@ -22,6 +22,36 @@ pub rows_more : (f : Map) (n i : ℕ) (old new : List ℕ) → HoldsRows old n i
 rows_more f n i old new so row before = λ r j below low. elim (cases_lt r i) [
   | inl earlier ↦ before (r * n + j) (place_below n i r j earlier low) ∙ so r j earlier low
   | inr now ↦ let last : i ≡ r = omega arith in subst (λ (k : ℕ). slice_index new (k * n + j) ≡ f k j) last (row j low)
+]
+
+spread : (a b n j : ℕ) → a * n + (b * n + j) ≡ (a + b) * n + j
+spread a b n j = grind arith
+
+-- a row of those behind the first ones, by its place among all
+pub same_place : (a b c : ℕ) → a + b + c ≡ a + (b + c)
+same_place a b c = omega arith
+
+later_row : (f : Map) (n done m j : ℕ) (new : List ℕ) → slice_index new (done * n + (m * n + j)) ≡ f (done + m) j → slice_index new ((done + m) * n + j) ≡ f (done + m) j
+later_row f n done m j new is = subst (λ (k : ℕ). slice_index new k ≡ f (done + m) j) (spread done m n j) is
+
+pub within : (done part count : ℕ) → done < count → part ≤ count - done → done + part ≤ count
+within done part count more low = omega arith
+
+pub part_fits : (n done part count size : ℕ) → done + part ≤ count → count * n ≤ size → done * n + part * n ≤ size
+part_fits n done part count size low fits = omega (arith, mul-le-mul_right n low, fits)
+
+pub in_part : (n r part j : ℕ) → r < part → j < n → r * n + j < part * n
+in_part n r part j low few = place_below n part r j low few
+
+-- some rows more behind the first ones
+pub rows_join : (f : Map) (n done part : ℕ) (old new : List ℕ) → HoldsRows old n done f →
+    ((r j : ℕ) → r < part → j < n → slice_index new (done * n + (r * n + j)) ≡ f (done + r) j) → ((k : ℕ) → k < done * n → slice_index new k ≡ slice_index old k) →
+    HoldsRows new n (done + part) f
+rows_join f n done part old new so rows before = λ i j below low. elim (cases_lt i done) [
+  | inl earlier ↦ before (i * n + j) (place_below n done i j earlier low) ∙ so i j earlier low
+  | inr later ↦
+      let split : done + (i - done) ≡ i = omega arith in
+      subst (λ (k : ℕ). slice_index new (k * n + j) ≡ f k j) split (later_row f n done (i - done) j new (rows (i - done) j (omega (arith, below)) low))
 ]
 
 pub rounded_small : (most : ℕ) (s : ℤ) → rounded most s ≤ most

@@ -20,7 +20,7 @@ pub(crate) struct Span {
 #[inline(always)]
 fn place_from(a: &Axis, first: usize) -> i32
     requires axis { IsAxis a.now }
-    requires near { first ≤ 64 }
+    requires near { first ≤ 256 }
     ensures value { result ≡ (whole a.now +ℤ pos first) -ℤ pos 3 }
     ensures near { unsigned_abs result ≤ 2 ^ 24 }
 {
@@ -69,7 +69,7 @@ pub(crate) fn is_inside(a: &Axis, n: usize) -> bool
 #[inline(always)]
 pub(crate) fn is_among(a: &Axis, first: usize, n: usize) -> bool
     requires axis { IsAxis a.now }
-    requires near { first ≤ 64 }
+    requires near { first ≤ 256 }
     requires few { n ≤ 256 }
     ensures { OnTrue result (AreAmong a.now first n) }
 {

@@ -79,7 +79,7 @@ fn run_lines<P: FilterSample, S: Samples<Kept = P>, const N: usize>(
     requires place { IsPlace place.now }
     requires most { P.takes by.most }
     requires low { count ≤ 134 }
-    requires near { first ≤ 3 }
+    requires near { first + count ≤ 137 }
     requires room { count * place.now.columns ≤ length lines.old }
     requires held { (r : ℕ) → r < count → S.holds view.now place.now.plane (straight place.now.down (first + r)) }
     requires wide { place.now.across.size ≤ S.width view.now place.now.plane }
@@ -109,7 +109,7 @@ fn other_lines<P: FilterSample, S: Samples<Kept = P>>(
     requires place { IsPlace place.now }
     requires most { P.takes by.most }
     requires low { count ≤ 134 }
-    requires near { first ≤ 3 }
+    requires near { first + count ≤ 137 }
     requires room { count * place.now.columns ≤ length lines.old }
     requires held { (r : ℕ) → r < count → S.holds view.now place.now.plane (straight place.now.down (first + r)) }
     requires wide { place.now.across.size ≤ S.width view.now place.now.plane }
@@ -139,7 +139,7 @@ fn filter_lines<P: FilterSample, S: Samples<Kept = P>>(
     requires place { IsPlace place.now }
     requires most { P.takes by.most }
     requires low { count ≤ 134 }
-    requires near { first ≤ 3 }
+    requires near { first + count ≤ 137 }
     requires room { count * place.now.columns ≤ length lines.old }
     requires held { (r : ℕ) → r < count → S.holds view.now place.now.plane (straight place.now.down (first + r)) }
     requires wide { place.now.across.size ≤ S.width view.now place.now.plane }
@@ -185,7 +185,7 @@ fn copy_lines<P: FilterSample, S: Samples<Kept = P>, const N: usize>(
     requires copied { IsCopied place.now.across place.now.columns }
     requires place { IsPlace place.now }
     requires low { count ≤ 134 }
-    requires near { first ≤ 3 }
+    requires near { first + count ≤ 137 }
     requires room { count * place.now.columns ≤ length lines.old }
     requires held { (r : ℕ) → r < count → S.holds view.now place.now.plane (straight place.now.down (first + r)) }
     requires wide { place.now.across.size ≤ S.width view.now place.now.plane }
@@ -215,7 +215,7 @@ fn fill_rows<P: FilterSample, S: Samples<Kept = P>>(
     requires place { IsPlace place.now }
     requires most { P.takes by.most }
     requires low { count ≤ 134 }
-    requires near { first ≤ 3 }
+    requires near { first + count ≤ 137 }
     requires room { count * place.now.columns ≤ length lines.old }
     requires held { (r : ℕ) → r < count → S.holds view.now place.now.plane (straight place.now.down (first + r)) }
     requires wide { place.now.across.size ≤ S.width view.now place.now.plane }
@@ -246,7 +246,7 @@ pub(crate) fn piece_of<'a, P: Sample, S: Samples<Kept = P>>(
     requires place { IsPlace place.now }
     requires some { 0 < count }
     requires low { count ≤ 134 }
-    requires near { first ≤ 3 }
+    requires near { first + count ≤ 137 }
     requires held { (r : ℕ) → r < count → S.holds view.now place.now.plane (straight place.now.down (first + r)) }
     requires wide { place.now.across.size ≤ S.width view.now place.now.plane }
     requires samples { IsAtMost most (S.map view.now place.now.plane) }
@@ -257,6 +257,77 @@ pub(crate) fn piece_of<'a, P: Sample, S: Samples<Kept = P>>(
         view.rows(place.plane, straight(&place.down, first) as u32, count)
     } else {
         None
+    }
+}
+
+/// Lines along so many rows of the reference, in one piece or one by one.
+#[inline(always)]
+fn fill_part<P: FilterSample, S: Samples<Kept = P>>(
+    lines: &mut [P],
+    view: &S,
+    place: &Place,
+    by: Interpolation,
+    first: usize,
+    count: usize,
+)
+    requires place { IsPlace place.now }
+    requires most { P.takes by.most }
+    requires some { 0 < count }
+    requires low { count ≤ 134 }
+    requires near { first + count ≤ 137 }
+    requires room { count * place.now.columns ≤ length lines.old }
+    requires held { (r : ℕ) → r < count → S.holds view.now place.now.plane (straight place.now.down (first + r)) }
+    requires wide { place.now.across.size ≤ S.width view.now place.now.plane }
+    requires samples { IsAtMost by.most (S.map view.now place.now.plane) }
+    ensures { HoldsRows (map P.value lines.new) place.now.columns count
+        (λ r j. along by.most by.kind place.now.across (S.map view.now place.now.plane (straight place.now.down (first + r))) j) }
+{
+    match piece_of::<P, S>(view, place, first, count, by.most) {
+        Some((samples, stride)) => fill_piece::<P>(lines, samples, stride, place, by, count),
+        None => fill_rows::<P, S>(lines, view, place, by, first, count),
+    }
+}
+
+/// How many of so many rows lie before the next one at which a frame that is kept in parts may be cut: these have 32 rows, or a multiple of
+/// them, and are cut eight rows above.
+#[inline(always)]
+fn until_cut(place: &Place, first: usize, count: usize) -> usize
+    requires place { IsPlace place.now }
+    requires near { first ≤ 256 }
+    requires some { 0 < count }
+    ensures some { 0 < result }
+    ensures low { result ≤ count }
+{
+    let y = straight(&place.down, first);
+    count.min(32 - (y + 8) % 32)
+}
+
+/// The rows of a frame that is kept in parts, those of one part after another.
+fn fill_parts<P: FilterSample, S: Samples<Kept = P>>(
+    lines: &mut [P],
+    view: &S,
+    place: &Place,
+    by: Interpolation,
+    first: usize,
+    count: usize,
+)
+    requires place { IsPlace place.now }
+    requires most { P.takes by.most }
+    requires low { count ≤ 134 }
+    requires near { first + count ≤ 137 }
+    requires room { count * place.now.columns ≤ length lines.old }
+    requires held { (r : ℕ) → r < count → S.holds view.now place.now.plane (straight place.now.down (first + r)) }
+    requires wide { place.now.across.size ≤ S.width view.now place.now.plane }
+    requires samples { IsAtMost by.most (S.map view.now place.now.plane) }
+    ensures { HoldsRows (map P.value lines.new) place.now.columns count
+        (λ r j. along by.most by.kind place.now.across (S.map view.now place.now.plane (straight place.now.down (first + r))) j) }
+{
+    let mut done = 0;
+    while done < count {
+        let part = until_cut(place, first + done, count - done);
+        let at = done * place.columns;
+        fill_part::<P, S>(&mut lines[at..], view, place, by, first + done, part);
+        done += part;
     }
 }
 
@@ -274,7 +345,7 @@ pub(crate) fn fill_lines<P: FilterSample, S: Samples<Kept = P>>(
     requires most { P.takes by.most }
     requires some { 0 < count }
     requires low { count ≤ 134 }
-    requires near { first ≤ 3 }
+    requires near { first + count ≤ 137 }
     requires room { count * place.now.columns ≤ length lines.old }
     requires held { (r : ℕ) → r < count → S.holds view.now place.now.plane (straight place.now.down (first + r)) }
     requires wide { place.now.across.size ≤ S.width view.now place.now.plane }
@@ -284,6 +355,6 @@ pub(crate) fn fill_lines<P: FilterSample, S: Samples<Kept = P>>(
 {
     match piece_of::<P, S>(view, place, first, count, by.most) {
         Some((samples, stride)) => fill_piece::<P>(lines, samples, stride, place, by, count),
-        None => fill_rows::<P, S>(lines, view, place, by, first, count),
+        None => fill_parts::<P, S>(lines, view, place, by, first, count),
     }
 }

@@ -18,7 +18,7 @@ ghost use Rattle.recon_rows.specs.BlockParts.{IsPartOf, piece_residue};
 
 use block_geometry::FramePlaces;
 use block_plan::BlockInfo;
-use block_rebuild::{RebuildRoom, Rebuilding, RoomSample, TransformResidues, put_block_in_part};
+use block_rebuild::{Rebuilding, RoomSample, TransformResidues, put_block_in_part};
 use column_plan::{PlanResidues, transform_count};
 use planes::FramePlanes;
 use vp9_types::{Plane, Samples, Shape};
@@ -118,7 +118,7 @@ pub(crate) fn put_planned_block<P: RoomSample, S: Samples<Kept = P>>(
     tile_from: u32,
     block: &BlockInfo,
     part: &PlanPart<'_>,
-    room: &mut RebuildRoom,
+    room: &mut P::Room,
 )
     requires size { HasFrameSize by.now.shape }
     requires takes { P.takes (greatest by.now.shape.depth) }

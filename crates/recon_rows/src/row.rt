@@ -17,7 +17,7 @@ ghost use Rattle.recon_rows.specs.RebuiltRows.{IsProvided, blocks_between, plann
 
 use crate::part::{PlanPart, put_planned_block};
 use block_geometry::FramePlaces;
-use block_rebuild::{RebuildRoom, Rebuilding, RoomSample};
+use block_rebuild::{Rebuilding, RoomSample};
 use planes::FramePlanes;
 use tile_syntax::ColumnPlan;
 use vp9_types::Samples;
@@ -29,7 +29,7 @@ pub fn put_row<P: RoomSample, S: Samples<Kept = P>>(
     by: &Rebuilding<'_, S>,
     plan: &ColumnPlan,
     row: u32,
-    room: &mut RebuildRoom,
+    room: &mut P::Room,
 )
     requires size { HasFrameSize by.now.shape }
     requires fits { P.takes (greatest by.now.shape.depth) }

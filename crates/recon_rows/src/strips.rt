@@ -20,7 +20,7 @@ ghost use Rattle.recon_rows.specs.OwnStrips.{HasStripAreas, HoldsRowOf, IsAbove,
 ghost use Rattle.recon_rows.specs.Code.{Begins, ShareFirstRows, SharesFirstRow, first_row_of};
 
 use crate::row::put_row;
-use block_rebuild::{RebuildRoom, Rebuilding, RoomSample};
+use block_rebuild::{Rebuilding, RoomSample};
 use plane_parts::copy_part;
 use planes::{Area, FramePlanes, SamplePlane, coded_area};
 use std::alloc::{AllocError, Global};
@@ -111,7 +111,7 @@ pub fn rows<P: RoomSample, S: Samples<Kept = P>>(
     by: &Rebuilding<'_, S>,
     plan: &ColumnPlan,
     row: u32,
-    room: &mut RebuildRoom,
+    room: &mut P::Room,
 )
     requires size { HasFrameSize by.now.shape }
     requires fits { P.takes (greatest by.now.shape.depth) }

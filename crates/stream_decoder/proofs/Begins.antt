@@ -14,6 +14,7 @@ use Rattle.vp9_types.specs.declared.rule.Rule.{Rule}
 use Rattle.vp9_types.specs.declared.rule.Rule.TheVariants.{IvfHeader}
 use Rattle.frame_output.specs.declared.rendering.Format.{Format}
 use Rattle.file_frames.specs.Containers.{is_webm, rate_of_file}
+use Rattle.file_frames.specs.FileFrames.{FileFrames, frames_in, frames_of_file}
 use Rattle.file_frames.specs.Walks.{Walked, ended, walk}
 use Rattle.frame_groups.specs.Groups.{ahead, begun_of, source_of}
 use Rattle.frame_groups.specs.declared.reader.GroupReader.{GroupReader}
@@ -21,7 +22,8 @@ use Rattle.frame_groups.proofs.Files.{no_file}
 use Rattle.frame_groups.proofs.Fronts.{looked_ahead}
 use Rattle.seq_decoder.specs.Outcomes.{outcome_at}
 use Rattle.seq_decoder.specs.Outputs.{form_from, output_of, putting}
-use Rattle.stream_decoder.specs.Streams.{DecodesSource, MayHaveFailed, WritesAll, WritesTaken}
+use Rattle.stream_decoder.proofs.FilmLemmas.{ended_at}
+use Rattle.stream_decoder.specs.Streams.{BreaksNoFrame, DecodesSource, MayHaveFailed, WritesAll, WritesTaken}
 
 ---- Four bytes and more ----
 
@@ -47,7 +49,7 @@ decodes_kept : (format : Format) (old rest left : Option (List ℕ)) (failed fai
     → DecodesSource format rest left failed failed_now taken taken_now faults faults_now ends → DecodesSource format old left failed failed_now taken taken_now faults faults_now ends
 decodes_kept format old rest left failed failed_now taken taken_now faults faults_now outcome.Done kept h = (h.0, h.1, λ bytes told. h.2 bytes (kept bytes told))
 decodes_kept format old rest left failed failed_now taken taken_now faults faults_now (outcome.Broken stop) kept h =
-    (h.0, h.1, (h.2.0, λ bytes told. h.2.1 bytes (kept bytes told)), λ bytes told. h.3 bytes (kept bytes told))
+    (failed_kept old rest left failed failed_now kept h.0, h.1, (h.2.0, λ bytes told. h.2.1 bytes (kept bytes told)), λ bytes told. h.3 bytes (kept bytes told))
 decodes_kept format old rest left failed failed_now taken taken_now faults faults_now outcome.ReadFault kept h =
     (h.0, h.1, (h.2.0, (λ bytes told. h.2.1 bytes (kept bytes told)), λ bytes told. h.2.2 bytes (kept bytes told)))
 decodes_kept format old rest left failed failed_now taken taken_now faults faults_now outcome.WriteFault kept h =
@@ -92,12 +94,18 @@ pub decodes_short : (format : Format) (rest left : Option (List ℕ)) (failed fa
     → WhereTold rest (λ bytes. (length bytes < 4) × (left ≡ Some [])) → failed_now ≡ failed
     → DecodesSource format rest left failed failed_now taken taken faults faults (outcome_at 0 IvfHeader)
 decodes_short format rest left failed failed_now taken faults short same =
-    (same, refl, gave_short rest left short, λ bytes told. writes_none format bytes taken (short bytes told).0)
+    (inl same, refl, gave_short rest left short, λ bytes told. writes_none format bytes taken (short bytes told).0)
+
+breaks_none : (format : Format) (front : List ℕ) → length front < 4 → BreaksNoFrame format front
+breaks_none format front few = λ f rule is.
+    let same : Some (0, IvfHeader) ≡ Some (f, rule) = sym (ap (λ (w : Walked ℕ Rule). w.ending) (no_output format front few)) ∙ is in
+    let none : length (frames_in (frames_of_file front)) ≡ 0 = ap (λ (x : FileFrames). length (frames_in x)) (no_file front few).0 in
+    ended_at 0 (Some IvfHeader) f rule same ∙ sym none
 
 taken_none : (format : Format) (bytes front : List ℕ) (taken : Option (List ℕ)) → length front < 4 → WritesTaken format bytes front taken taken
 taken_none format bytes front taken few = elim (cases_Bool (is_webm bytes)) [
   | inl webm ↦ inr (webm, takes_none taken)
-  | inr isnt ↦ inl (isnt, adds_none format front taken few)
+  | inr isnt ↦ inl (isnt, breaks_none format front few, adds_none format front taken few)
 ]
 
 -- it failed

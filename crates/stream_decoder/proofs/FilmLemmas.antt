@@ -22,7 +22,7 @@ use Rattle.numbered_frames.specs.FrameNumbers.{EndsAt, file_ending, film_output,
 use Rattle.job_decoder.specs.Pasts.{IsPast, film_with, frames_behind}
 use Rattle.job_decoder.specs.Reaches.{past_texts}
 use Rattle.job_decoder.specs.declared.past.Past.{Past}
-use Rattle.stream_decoder.specs.Streams.{WritesAll}
+use Rattle.stream_decoder.specs.Streams.{BreaksNoFrame, WritesAll}
 
 ---- Films ----
 
@@ -61,6 +61,21 @@ none_texts format rate p past none = ap (texts_below (text format (film_with rat
 by_ending : (w : Walk Putting ℕ Rule) (s : Putting) (ending : Option Rule) → (walk_from w 0 s [] ending).adds ≡ []
 by_ending w s None = refl
 by_ending w s (Some rule) = refl
+
+by_end : (w : Walk Putting ℕ Rule) (s : Putting) (ending : Option Rule) → (walk_from w 0 s [] ending).ending ≡ file_ending 0 ending
+by_end w s None = refl
+by_end w s (Some rule) = refl
+
+none_ends : (format : Format) (film : Film) → film.frames ≡ [] → (film_output format film).ending ≡ file_ending 0 film.ending
+none_ends format film none =
+    ap (λ (frames : List (List ℕ)). (walk_from (putting (form_from format film.rate)) 0 (start format film) frames film.ending).ending) none
+    ∙ by_end (putting (form_from format film.rate)) (start format film) film.ending
+
+-- where a film ends that is broken behind its frames
+pub ended_at : (n : ℕ) (ending : Option Rule) (f : ℕ) (rule : Rule) → file_ending n ending ≡ Some (f, rule) → f ≡ n
+ended_at n None f rule is = absurd cc
+ended_at n (Some broken) f rule is =
+    let same : (n, broken) ≡ (f, rule) = cc in sym (ap (λ (p : ℕ × Rule). p.0) same)
 
 none_added : (format : Format) (film : Film) → film.frames ≡ [] → (film_output format film).adds ≡ []
 none_added format film none =
@@ -129,3 +144,20 @@ writes_shown format rate p begun rest old new past isnt rates along takes = by_f
       let some : frames_behind p ≡ [] → ⊥ = λ none. let no : x ∷ xs ≡ [] = sym those ∙ none in absurd cc in
       let same = rates some ∙ along_rate begun rest (frames_behind p) along some in
       (writes_past format rate p begun (frames_ahead Header begun).ending old new past (front_isnt_webm begun rest isnt) same along.frames_are refl takes).1
+
+-- no frame of it breaks a rule
+pub breaks_no_frame : (format : Format) (rate : ℕ × ℕ) (p : Past) (begun rest : List ℕ) → IsPast format rate p → is_webm (begun ++ rest) ≡ false
+    → ((frames_behind p ≡ [] → ⊥) → rate ≡ rate_of_file (begun ++ rest)) → LeadAlong Header begun (frames_behind p) → BreaksNoFrame format begun
+breaks_no_frame format rate p begun rest past isnt rates along = by_frames (frames_behind p) refl where
+  held : frames_in (frames_of_file begun) ≡ frames_behind p
+  held = ap frames_in (ivf_frames begun (front_isnt_webm begun rest isnt)) ∙ along.frames_are
+  by_frames : (frames : List (List ℕ)) → frames_behind p ≡ frames → BreaksNoFrame format begun
+  by_frames [] none = λ f rule is.
+      let ends = sym (none_ends format (film_of begun) (held ∙ none)) ∙ sym (ap (λ (w : Walked ℕ Rule). w.ending) (files_are_films format begun)) ∙ is in
+      ended_at 0 (film_of begun).ending f rule ends ∙ sym (ap length (held ∙ none))
+  by_frames (x ∷ xs) those = λ f rule is.
+      let some : frames_behind p ≡ [] → ⊥ = λ none. let no : x ∷ xs ≡ [] = sym those ∙ none in absurd cc in
+      let same = rates some ∙ along_rate begun rest (frames_behind p) along some in
+      let whole = past_output format rate p begun (frames_ahead Header begun).ending past (front_isnt_webm begun rest isnt) same along.frames_are refl in
+      let ends = sym (ap (λ (w : Walked ℕ Rule). w.ending) whole) ∙ is in
+      ended_at p.count (frames_ahead Header begun).ending f rule ends ∙ past.count ∙ sym (ap length held)

@@ -17,7 +17,7 @@ use Rattle.packet_reader.specs.declared.reader.Stage.{Stage}
 use Rattle.packet_reader.specs.declared.reader.Stage.TheVariants.{Header, Packet, Ended}
 use Rattle.frame_groups.proofs.Files.{ivf_frames}
 use Rattle.frame_groups.proofs.GroupLemmas.{takes_more}
-use Rattle.frame_groups.proofs.HeaderFronts.{along_rate, front_isnt_webm}
+use Rattle.frame_groups.proofs.HeaderFronts.{front_isnt_webm}
 use Rattle.frame_groups.proofs.RateLemmas.{rate_again}
 use Rattle.frame_groups.specs.declared.group.Behind.{Behind}
 use Rattle.frame_groups.specs.declared.group.Behind.TheVariants.{More, End, Broken, Failed, OutOfMemory}
@@ -30,8 +30,8 @@ use Rattle.numbered_frames.specs.FrameNumbers.{film_output}
 use Rattle.job_decoder.specs.Pasts.{IsPast, film_with, frames_behind}
 use Rattle.job_decoder.specs.Reaches.{IsStop, past_texts}
 use Rattle.job_decoder.specs.declared.past.Past.{Past}
-use Rattle.stream_decoder.proofs.FilmLemmas.{film_goes_on, itself, writes_front, writes_none, writes_past, writes_shown}
-use Rattle.stream_decoder.specs.Code.{Begun, HasTaken, IsOnWay, IsPastAt, stop_outcome}
+use Rattle.stream_decoder.proofs.FilmLemmas.{breaks_no_frame, film_goes_on, itself, writes_front, writes_none, writes_past, writes_shown}
+use Rattle.stream_decoder.specs.Code.{Begun, HasTaken, IsOnWay, IsPastAt}
 use Rattle.stream_decoder.specs.Streams.{DecodesSource, MayHaveFailed, WritesTaken}
 
 ---- All as one group ----
@@ -155,7 +155,7 @@ pub is_broken : (format : Format) (told left : Option (List ℕ)) (failed failed
     → TakesAll told left rate (frames_behind p) (Broken rule) → Takes old new (past_texts format rate p) → failed_now ≡ failed → faults_now ≡ faults
     → DecodesSource format told left failed failed_now old new faults faults_now (outcome.Broken (record { frame = p.count; rule = rule }))
 is_broken format told left failed failed_now old new faults faults_now rate p rule past all takes sound quiet = (
-  sound,
+  inl sound,
   quiet,
   gave_front told left (frames_behind p) (Broken rule) all.takes,
   λ bytes is.
@@ -176,10 +176,12 @@ writes_some format (Some file) left old new rate p past all takes =
     let t = all.takes file refl in
     let isnt = all.isnt file refl in
     let inside = subst (λ (xs : List ℕ). is_webm xs ≡ false) t.2 isnt in
-    let shown = writes_shown format rate p t.0 t.1 old new past inside (λ some. all.rates some file refl isnt ∙ ap rate_of_file t.2) t.4 takes in (
+    let rates = λ some. all.rates some file refl isnt ∙ ap rate_of_file t.2 in
+    let shown = writes_shown format rate p t.0 t.1 old new past inside rates t.4 takes in
+    let sound = breaks_no_frame format rate p t.0 t.1 past inside rates t.4 in (
       t.0,
       λ bytes is. let same : file ≡ bytes = cc in (t.1, sym same ∙ t.2, t.3),
-      λ bytes is. let same : file ≡ bytes = cc in inl (subst (λ (xs : List ℕ). is_webm xs ≡ false) same isnt, shown),
+      λ bytes is. let same : file ≡ bytes = cc in inl (subst (λ (xs : List ℕ). is_webm xs ≡ false) same isnt, sound, shown),
     )
 
 pub has_failed : (format : Format) (told left : Option (List ℕ)) (failed failed_now : ℕ) (old new : Option (List ℕ)) (faults faults_now : ℕ) (rate : ℕ × ℕ) (p : Past) → IsPast format rate p
@@ -222,10 +224,10 @@ added_of : (format : Format) (bytes : List ℕ) (old new : Option (List ℕ)) �
 added_of format bytes old new h = subst (λ (w : Walked ℕ Rule). Takes old new w.adds) (sym (files_are_films format bytes)) h
 
 stops_by_rule : (format : Format) (told left : Option (List ℕ)) (failed failed_now : ℕ) (old new : Option (List ℕ)) (faults faults_now : ℕ) (rate : ℕ × ℕ) (frames : List (List ℕ)) (behind : Behind) (stop : Stop)
-    → TakesAll told left rate frames behind → (frames ≡ [] → ⊥) → failed_now ≡ failed → StopsSo format rate frames old new faults faults_now (outcome.Broken stop)
+    → TakesAll told left rate frames behind → (frames ≡ [] → ⊥) → CountsGroup failed failed_now behind → StopsSo format rate frames old new faults faults_now (outcome.Broken stop)
     → DecodesSource format told left failed failed_now old new faults faults_now (outcome.Broken stop)
-stops_by_rule format told left failed failed_now old new faults faults_now rate frames behind stop all some sound stops = (
-  sound,
+stops_by_rule format told left failed failed_now old new faults faults_now rate frames behind stop all some counts stops = (
+  may_have_failed told left failed failed_now rate frames behind all some counts,
   (stops (film_with rate frames) (itself (film_with rate frames))).quiet,
   gave_front told left frames behind all.takes,
   λ bytes is.
@@ -233,38 +235,14 @@ stops_by_rule format told left failed failed_now old new faults faults_now rate 
       (ap (λ (w : Walked ℕ Rule). w.ending) (files_are_films format bytes) ∙ done.ends, added_of format bytes old new done.writes),
 )
 
--- the source failed behind them
-stops_in_front : (format : Format) (told left : Option (List ℕ)) (old new : Option (List ℕ)) (faults faults_now : ℕ) (rate : ℕ × ℕ) (frames : List (List ℕ)) (stop : Stop)
-    → TakesAll told left rate frames Failed → (frames ≡ [] → ⊥) → StopsSo format rate frames old new faults faults_now (outcome.Broken stop) → WritesSome format told left old new
-stops_in_front format None left old new faults faults_now rate frames stop all some stops = ([], λ bytes is. absurd cc, λ bytes is. absurd cc)
-stops_in_front format (Some file) left old new faults faults_now rate frames stop all some stops =
-    let t = all.takes file refl in
-    let isnt = all.isnt file refl in
-    let inside = subst (λ (xs : List ℕ). is_webm xs ≡ false) t.2 isnt in
-    let front_is = front_isnt_webm t.0 t.1 inside in
-    let rates = all.rates some file refl isnt ∙ ap rate_of_file t.2 ∙ along_rate t.0 t.1 frames t.4 some in
-    let done = stops (film_of t.0) (film_goes_on t.0 rate frames [] front_is rates (t.4.frames_are ∙ sym (append-nil frames))) in (
-      t.0,
-      λ bytes is. let same : file ≡ bytes = cc in (t.1, sym same ∙ t.2, t.3),
-      λ bytes is. let same : file ≡ bytes = cc in inl (subst (λ (xs : List ℕ). is_webm xs ≡ false) same isnt, added_of format t.0 old new done.writes),
-    )
-
 pub stopped : (format : Format) (told left : Option (List ℕ)) (failed failed_now : ℕ) (old new : Option (List ℕ)) (faults faults_now : ℕ) (rate : ℕ × ℕ) (frames : List (List ℕ)) (behind : Behind) (o : Outcome)
     → TakesAll told left rate frames behind → (frames ≡ [] → ⊥) → CountsGroup failed failed_now behind → IsStop o → StopsSo format rate frames old new faults faults_now o
-    → DecodesSource format told left failed failed_now old new faults faults_now (stop_outcome o behind)
+    → DecodesSource format told left failed failed_now old new faults faults_now o
 stopped format told left failed failed_now old new faults faults_now rate frames behind outcome.Done all some counts is_stop stops = absurd is_stop
+stopped format told left failed failed_now old new faults faults_now rate frames behind (outcome.Broken stop) all some counts is_stop stops =
+    stops_by_rule format told left failed failed_now old new faults faults_now rate frames behind stop all some counts stops
 stopped format told left failed failed_now old new faults faults_now rate frames behind outcome.ReadFault all some counts is_stop stops = absurd is_stop
 stopped format told left failed failed_now old new faults faults_now rate frames behind outcome.WriteFault all some counts is_stop stops =
     (may_have_failed told left failed failed_now rate frames behind all some counts, (stops (film_with rate frames) (itself (film_with rate frames))).0, λ bytes is. front_of format bytes old new (stops (film_of bytes) (all_go_on told left rate frames behind all some bytes is)).1)
 stopped format told left failed failed_now old new faults faults_now rate frames behind outcome.OutOfMemory all some counts is_stop stops =
     (may_have_failed told left failed failed_now rate frames behind all some counts, (stops (film_with rate frames) (itself (film_with rate frames))).0, λ bytes is. front_of format bytes old new (stops (film_of bytes) (all_go_on told left rate frames behind all some bytes is)).1)
-stopped format told left failed failed_now old new faults faults_now rate frames More (outcome.Broken stop) all some counts is_stop stops =
-    stops_by_rule format told left failed failed_now old new faults faults_now rate frames More stop all some counts stops
-stopped format told left failed failed_now old new faults faults_now rate frames End (outcome.Broken stop) all some counts is_stop stops =
-    stops_by_rule format told left failed failed_now old new faults faults_now rate frames End stop all some counts stops
-stopped format told left failed failed_now old new faults faults_now rate frames (Broken rule) (outcome.Broken stop) all some counts is_stop stops =
-    stops_by_rule format told left failed failed_now old new faults faults_now rate frames (Broken rule) stop all some counts stops
-stopped format told left failed failed_now old new faults faults_now rate frames Failed (outcome.Broken stop) all some counts is_stop stops =
-    (counts, (stops (film_with rate frames) (itself (film_with rate frames))).quiet, stops_in_front format told left old new faults faults_now rate frames stop all some stops)
-stopped format told left failed failed_now old new faults faults_now rate frames OutOfMemory (outcome.Broken stop) all some counts is_stop stops =
-    stops_by_rule format told left failed failed_now old new faults faults_now rate frames OutOfMemory stop all some counts stops

@@ -20,7 +20,7 @@ use Rattle.seq_decoder.specs.Outcomes.{Decodes}
 use Rattle.numbered_frames.specs.FrameNumbers.{film_output}
 use Rattle.stream_decoder.proofs.FilmLemmas.{none_texts}
 use Rattle.stream_decoder.proofs.GroupEnds.{IsIvf, TakesAll, had_no_memory, has_failed, is_broken, is_done, may_have_failed, stopped, takes_all}
-use Rattle.stream_decoder.specs.Code.{Begun, HasTaken, IsOnWay, MayGoOn, MayTell, MayTurn, OnWay, StopsInFrames, Turned, sink_of, source_in, stop_outcome, turn_of}
+use Rattle.stream_decoder.specs.Code.{Begun, HasTaken, IsOnWay, MayGoOn, MayTell, MayTurn, OnWay, StopsInFrames, Turned, sink_of, source_in, turn_of}
 use Rattle.stream_decoder.specs.Streams.{DecodesSource, MayHaveFailed}
 use Rattle.stream_decoder.specs.declared.steps.Way.{Way}
 
@@ -147,7 +147,7 @@ pub turned_stopped : {K : Type 0} (format : Format) (b : Begun) (left : Option (
     (before : Past) (frames : List (List ℕ)) (old : Option (List ℕ)) (faults : ℕ) (decoded : Decoded K)
     → IsTaken format b left rate before old frames behind → CountsGroup failed failed_now behind → failed ≡ b.failed → faults ≡ b.faults
     → HasReached format rate before frames old faults taken faults_of (reached.Ended decoded) → StopsInFrames frames (reached.Ended decoded)
-    → DecodesSource format b.told left b.failed failed_now b.taken (taken decoded.sink) b.faults (faults_of decoded.sink) (stop_outcome decoded.outcome behind)
+    → DecodesSource format b.told left b.failed failed_now b.taken (taken decoded.sink) b.faults (faults_of decoded.sink) decoded.outcome
 turned_stopped format b left rate failed failed_now taken faults_of behind before frames old faults decoded t counts sound quiet h some =
     stopped format b.told left b.failed failed_now b.taken (taken decoded.sink) b.faults (faults_of decoded.sink) rate (frames_behind before ++ frames) behind decoded.outcome t.all (some_of_both (frames_behind before) frames some)
     (subst (λ (n : ℕ). CountsGroup n failed_now behind) sound counts) h.0

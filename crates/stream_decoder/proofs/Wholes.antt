@@ -52,7 +52,7 @@ pub decodes_all : (format : Format) (rest left : Option (List ℕ)) (failed fail
 decodes_all format rest left failed failed_now old new faults now outcome.Done all gave same done =
     (same, done.quiet, λ bytes told. let h = gave bytes told in (writes_all format all bytes old new faults now None h.0 done, h.1))
 decodes_all format rest left failed failed_now old new faults now (outcome.Broken stop) all gave same done = (
-  same,
+  inl same,
   done.quiet,
   (all, all_is_front rest left all gave),
   λ bytes told. writes_all format all bytes old new faults now (Some (stop.frame, stop.rule)) (gave bytes told).0 done,

@@ -4,7 +4,6 @@ use Rattle.edge_io.specs.Filling.{WhereTold}
 use Rattle.edge_io.specs.Putting.{Takes}
 use Rattle.vp9_types.specs.declared.outcome.Outcome.{Outcome}
 use Rattle.vp9_types.specs.declared.outcome.Outcome.TheVariants as outcome
-use Rattle.vp9_types.specs.declared.outcome.Stop.{Stop}
 use Rattle.frame_output.specs.declared.rendering.Format.{Format}
 use Rattle.packet_reader.specs.declared.reader.Stage.{Stage}
 use Rattle.packet_reader.specs.declared.reader.Stage.TheVariants.{Header, Packet, Ended}
@@ -94,21 +93,6 @@ StopsInFrames frames (reached.Further p sink) = ⊤
 StopsInFrames frames (reached.Ended decoded) = frames ≡ [] → ⊥
 
 ---- What the steps answer ----
-
-abbrev pub broken_outcome : Stop → Behind → Outcome
-broken_outcome stop behind.More = outcome.Broken stop
-broken_outcome stop behind.End = outcome.Broken stop
-broken_outcome stop (behind.Broken rule) = outcome.Broken stop
-broken_outcome stop behind.Failed = outcome.ReadFault
-broken_outcome stop behind.OutOfMemory = outcome.Broken stop
-
--- the outcome of a decode that has stopped in a group
-abbrev pub stop_outcome : Outcome → Behind → Outcome
-stop_outcome outcome.Done b = outcome.Done
-stop_outcome (outcome.Broken stop) b = broken_outcome stop b
-stop_outcome outcome.ReadFault b = outcome.ReadFault
-stop_outcome outcome.WriteFault b = outcome.WriteFault
-stop_outcome outcome.OutOfMemory b = outcome.OutOfMemory
 
 abbrev pub over : {S K : Type 0} → Way S K → Outcome → Turn S K
 over w o = Over (record { outcome = o; source = source_of w.reader; sink = w.sink })

@@ -7,7 +7,7 @@ ghost use Rattle.frame_groups.specs.Groups.{source_of};
 ghost use Rattle.job_decoder.specs.Pasts.{IsPast};
 ghost use Rattle.job_decoder.specs.Reaches as reaches;
 ghost use Rattle.job_decoder.specs.Reaches.{HasReached};
-ghost use Rattle.stream_decoder.specs.Code.{Begun, MayGoOn, MayTurn, OnWay, StopsInFrames, Turned, sink_of, source_in, stop_outcome, turn_of};
+ghost use Rattle.stream_decoder.specs.Code.{Begun, MayGoOn, MayTurn, OnWay, StopsInFrames, Turned, sink_of, source_in, turn_of};
 
 use crate::streamed::Streamed;
 use edge_io::{Gate, Sink, Source};
@@ -63,17 +63,6 @@ fn decode_next<K: Sink + Send + Drop, G: Gate + Sync, R: Threads + Wait + Sync>(
     decode_group(rt, work.alloc, work.crew, next, past, sink)
 }
 
-/// The outcome of a decode that has stopped in a group. If the source failed behind that group, this is told in place of a rule that a
-/// frame breaks.
-fn stop_outcome(behind: Behind, outcome: Outcome) -> Outcome
-    ensures { result ≡ stop_outcome outcome behind }
-{
-    match (outcome, behind) {
-        (Outcome::Broken(_), Behind::Failed) => Outcome::ReadFault,
-        _ => outcome,
-    }
-}
-
 /// How a decode goes on behind a group whose frames are all decoded.
 fn turn_behind<S, K>(behind: Behind, way: Way<S, K>) -> Turn<S, K>
     ensures { result ≡ turn_of behind way }
@@ -96,7 +85,7 @@ fn turn_behind<S, K>(behind: Behind, way: Way<S, K>) -> Turn<S, K>
     })
 }
 
-/// Takes the next group, and decodes it.
+/// Takes the next group, and decodes it. A rule that one of its frames breaks is told, also where the source failed behind them.
 pub(crate) fn take_turn<S: Source, K: Sink + Send + Drop, G: Gate + Sync, R: Threads + Wait + Sync>(
     rt: &R,
     work: &Work<'_, '_, G>,
@@ -132,7 +121,7 @@ pub(crate) fn take_turn<S: Source, K: Sink + Send + Drop, G: Gate + Sync, R: Thr
         Reached::Ended(decoded) => {
             let Decoded { outcome, sink } = decoded;
             Turn::Over(Streamed {
-                outcome: stop_outcome(behind, outcome),
+                outcome,
                 source: reader.into_source(),
                 sink,
             })

@@ -44,7 +44,7 @@ reads_told output s o status.OutOfMemory told h e = subst (λ st. Reads output s
 
 streams_told : (options : DecodeOptions) (s : OfSource) (o : OfSink) (first told : Status) → Streams options s o first → MayLackMemory first told → Streams options s o told
 streams_told options s o (status.Broken stop) told h (inl e) = subst (λ st. Streams options s o st) (sym e) h
-streams_told options s o (status.Broken stop) told h (inr e) = subst (λ st. Streams options s o st) (sym e) (inl h.source, h.out, breaks_front (decoded options) s o stop h)
+streams_told options s o (status.Broken stop) told h (inr e) = subst (λ st. Streams options s o st) (sym e) (h.source, h.out, breaks_front (decoded options) s o stop h)
 streams_told options s o status.Done told h e = subst (λ st. Streams options s o st) (sym e) h
 streams_told options s o status.Usage told h e = absurd h
 streams_told options s o status.ReadFault told h e = subst (λ st. Streams options s o st) (sym e) h
@@ -93,7 +93,7 @@ works_told (Some (command.Trial stream)) = λ s o first told h m. (h.0, trial_to
 cause_read : (c : Command) (output : List ℕ → Output) (s : OfSource) (o n : OfSink) (told : Status) → ((st : Status) → Completes output s o st → IsDone c s o st)
     → (o.after ≡ o.before → IsLeftByFault c s o) → Reads output s o told → SinkQuiet n → Takes n.before n.after (note_line told) → HasCause (Some c) s o n told
 cause_read c output s o n status.Done done left h q t = (c, refl, record { source = h.source; out = h.out; note = q }, done status.Done h, t)
-cause_read c output s o n (status.Broken stop) done left h q t = (c, refl, record { source = h.source; out = h.out; note = q }, done (status.Broken stop) h, t)
+cause_read c output s o n (status.Broken stop) done left h q t = (c, refl, h.out, q, done (status.Broken stop) h, t)
 cause_read c output s o n status.ReadFault done left h q t = (c, refl, h.0, h.1, q, left h.2, t)
 cause_read c output s o n status.WriteFault done left h q t = inl h.1
 cause_read c output s o n status.OutOfMemory done left h q t = (h.1, q)
@@ -105,7 +105,7 @@ cause_streamed : (options : DecodeOptions) (s : OfSource) (o n : OfSink) (told :
 cause_streamed options s o n status.Done crew h q t =
     (command.Decode options, refl, record { source = h.source; out = h.out; note = q }, subst (λ plain. IsDecodedBy plain options s o status.Done) (sym crew) h, t)
 cause_streamed options s o n (status.Broken stop) crew h q t =
-    (command.Decode options, refl, record { source = h.source; out = h.out; note = q }, subst (λ plain. IsDecodedBy plain options s o (status.Broken stop)) (sym crew) h, t)
+    (command.Decode options, refl, h.out, q, subst (λ plain. IsDecodedBy plain options s o (status.Broken stop)) (sym crew) h, t)
 cause_streamed options s o n status.ReadFault crew h q t = (command.Decode options, refl, h.0, h.1, q, subst (λ plain. IsLeftBy plain options s o) (sym crew) h.2, t)
 cause_streamed options s o n status.WriteFault crew h q t = inl h.1
 cause_streamed options s o n status.OutOfMemory crew h q t = (h.1, q)
@@ -130,7 +130,7 @@ cause_made stream s o n status.Usage u h q t = absurd h
 cause_tried : (stream : MadeStream) (s : OfSource) (o n : OfSink) (told : Status) → Unread s → Trials stream o told → SinkQuiet n → Takes n.before n.after (note_line told)
     → HasCause (Some (command.Trial stream)) s o n told
 cause_tried stream s o n status.Done u h q t = (command.Trial stream, refl, record { source = u.0; out = h.0; note = q }, (u, h.1), t)
-cause_tried stream s o n (status.Broken stop) u h q t = (command.Trial stream, refl, record { source = u.0; out = h.0; note = q }, (u, (h.1, h.2)), t)
+cause_tried stream s o n (status.Broken stop) u h q t = (command.Trial stream, refl, h.0, q, (u, (h.1, h.2)), t)
 cause_tried stream s o n status.ReadFault u h q t = absurd h
 cause_tried stream s o n status.WriteFault u h q t = inl h.0
 cause_tried stream s o n status.OutOfMemory u h q t = (h.0, q)

@@ -28,7 +28,8 @@ IsTried stream o status.Done = WritesTrial stream o
 IsTried stream o (status.Broken stop) = (o.after ≡ o.before) × BreaksAt stream.number stream.frames stop
 IsTried stream o last = ⊥
 
--- A decode is done, by whether it is plain: one by a crew needn't have read what is behind a frame that breaks a rule.
+-- A decode is done, by whether it is plain: one by a crew needn't have read what is behind a frame that breaks a rule, where its source may
+-- have failed.
 abbrev pub IsDecodedBy : Bool → DecodeOptions → OfSource → OfSink → Status → Type 0
 IsDecodedBy true options s o last = Completes (decoded options) s o last
 IsDecodedBy false options s o (status.Broken stop) = BreaksOff (decoded options) s o stop
@@ -54,11 +55,12 @@ abbrev pub IsLeftByFault : Command → OfSource → OfSink → Type 0
 IsLeftByFault (command.Decode options) s o = IsLeftBy options.plain options s o
 IsLeftByFault used s o = o.after ≡ o.before
 
--- the cause of each answer
+-- The cause of each answer. Where a frame breaks a rule, a source that is decoded as it comes may have failed behind that frame; any other
+-- didn't fail (`IsDone`).
 abbrev pub HasCause : Option Command → OfSource → OfSink → OfSink → Status → Type 0
 HasCause c s o n status.Done = (used : Command) × (c ≡ Some used) × AllQuiet s o n × IsDone used s o status.Done × Takes n.before n.after []
 HasCause c s o n (status.Broken stop) =
-    (used : Command) × (c ≡ Some used) × AllQuiet s o n × IsDone used s o (status.Broken stop) × Takes n.before n.after (note_line (status.Broken stop))
+    (used : Command) × (c ≡ Some used) × SinkQuiet o × SinkQuiet n × IsDone used s o (status.Broken stop) × Takes n.before n.after (note_line (status.Broken stop))
 HasCause c s o n status.Usage = (c ≡ None) × AllQuiet s o n × Takes n.before n.after (note_line status.Usage)
 HasCause c s o n status.ReadFault =
     (used : Command) × (c ≡ Some used) × SourceFailed s × SinkQuiet o × SinkQuiet n × IsLeftByFault used s o × Takes n.before n.after (note_line status.ReadFault)

@@ -51,15 +51,15 @@ Reads output s o status.Usage = ⊥
 ---- Of a source that is decoded as it comes ----
 
 -- A frame breaks this rule, and the whole output up to it is written. A front of the source's bytes was taken: what is behind that frame
--- needn't be read.
+-- needn't be read, and the source may have failed there.
 pub record BreaksOff (output : List ℕ → Output) (s : OfSource) (o : OfSink) (stop : Stop) : Type 0 where
-  pub source : SourceQuiet s
+  pub source : MayHaveFailed s.rest s.left s.faults s.faults_now
   pub out : SinkQuiet o
   pub taken : (front : List ℕ) × Gave s.rest s.left front
   pub told : WhereTold s.rest (λ bytes. ((output bytes).status ≡ status.Broken stop) × Takes o.before o.after (output bytes).text)
 
--- A front of the source's bytes was taken, and what that front shows is written: the frames of its whole packets. Of a WebM file, which is
--- read whole first, nothing is.
+-- A front of the source's bytes was taken, no frame of whose whole packets breaks a rule, and what these show is written. Of a WebM file,
+-- which is read whole first, nothing is.
 abbrev pub LeavesTaken : DecodeOptions → OfSource → OfSink → Type 0
 LeavesTaken options s o = (front : List ℕ) × Gave s.rest s.left front × WhereTold s.rest (λ bytes. WritesTaken options.format bytes front o.before o.after)
 

@@ -69,5 +69,5 @@ returns-clause-turns g c = λ b isnt way.
     c.rate.ensures c.in-Ended.ensures.reached in
     let here = subst (λ (frames : List (List ℕ)). HasReached format (rate_told new) w.past frames (taken w.sink) (faults_of w.sink) taken faults_of (reached.Ended decoded)) c.in-Ok.ensures.frames there in
     let some = subst (λ (frames : List (List ℕ)). StopsInFrames frames (reached.Ended decoded)) c.in-Ok.ensures.frames c.in-Ended.ensures.some in
-    rw (c.stop_outcome.ensures, c.into_source-in-Ended.ensures) (turned_stopped format b (rest (source_of new)) (rate_told new) (failed_of (source_of w.reader)) (failed_of (source_of new)) taken faults_of group.behind
+    rw c.into_source-in-Ended.ensures (turned_stopped format b (rest (source_of new)) (rate_told new) (failed_of (source_of w.reader)) (failed_of (source_of new)) taken faults_of group.behind
     w.past (group_frames group) (taken w.sink) (faults_of w.sink) decoded t h.faults way.sound way.quiet here some)
