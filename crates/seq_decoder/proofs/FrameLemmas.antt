@@ -21,14 +21,20 @@ use Rattle.frame_headers.specs.declared.header.FrameSize.{FrameSize}
 use Rattle.frame_headers.specs.declared.persist.Persist.{Persist}
 use Rattle.picture_table.specs.Code.{IsBelow, IsSoundAt, IsTable, NamesSound, held, held_in, shown}
 use Rattle.picture_table.specs.declared.table.PictureTable.{PictureTable}
+use Rattle.backward_adapt.specs.Adaptation.{adaptation}
+use Rattle.backward_adapt.specs.declared.kind.AdaptKind.{AdaptKind}
+use Rattle.prob_contexts.specs.Code.{counts_after, no_counts}
 use Rattle.prob_contexts.specs.ProbLists.{ContextLists}
+use Rattle.prob_contexts.specs.declared.kind.CountedBool.{CountedBool}
 use Rattle.picture_table.specs.KeptPictures.{IsSound, map_of_any, shape_of_any}
 use Rattle.picture_table.specs.declared.any.AnyPicture.{AnyPicture}
 use Rattle.frame_decoder.specs.DecodedFrames.{FrameResult}
+use Rattle.frame_state.specs.Code.{counts_if}
+use Rattle.frame_state.specs.Sources.{adapts}
 use Rattle.frame_state.specs.declared.halt.Halt.{Halt}
 use Rattle.frame_state.specs.declared.halt.Halt.TheVariants as halt
 use Rattle.seq_decoder.specs.After.{Stepped, after_coded, picture_of, state_after}
-use Rattle.seq_decoder.specs.SavedContexts.{context_at, own_contexts, place_of, saved_before, with_own, saved_after}
+use Rattle.seq_decoder.specs.SavedContexts.{context_at, kind_of, own_contexts, place_of, saved_before, with_own, saved_after}
 use Rattle.seq_decoder.specs.Code.{StandsFor, shape_told, put_text, shown_of, told_picture, Adds, HasBegun, IsAt, IsCoded, MayDecode, Shows, Halts, Puts, halt_outcome, refusal_outcome}
 use Rattle.seq_decoder.specs.Outputs.{Putting, admits, form_after, put, shown_text}
 use Rattle.seq_decoder.specs.declared.form.OutputForm.{OutputForm}
@@ -139,6 +145,15 @@ pub contexts_after : (header : Header) (r : FrameResult) (after_key : Bool) (sav
 unfolding saved_after
 contexts_after header r after_key saved new found own before is_new is_own is_before is_found =
     is_new ∙ (λ i. with_own header (is_own i) (is_found i)) ∙ ap (λ b. with_own header (own_contexts header after_key r b) (saved_before header saved)) (is_before ∙ ap (λ f. context_at f (place_of header)) is_found)
+
+-- a frame's own contexts, where its probabilities are adapted
+pub own_adapted : (header : Header) (after_key on : Bool) (r : FrameResult) (kind : AdaptKind) (counts : List ℕ) (own before forward : ContextLists)
+    → on ≡ adapts header → on ≡ true → kind ≡ kind_of header.kind after_key → forward ≡ r.contexts → counts ≡ counts_if (adapts header) r.counted
+    → ((bools : List CountedBool) → counts ≡ counts_after no_counts bools → own ≡ adaptation kind bools before forward)
+    → own ≡ own_contexts header after_key r before
+own_adapted header after_key on r kind counts own before forward is yes_is kind_is forward_is counts_is adapted =
+    let adapting : adapts header ≡ true = sym is ∙ yes_is in
+    rw adapting (adapted r.counted (rw adapting at counts_is) ∙ (λ i. adaptation (kind_is i) r.counted before (forward_is i)))
 
 ---- A slot that is shown ----
 
