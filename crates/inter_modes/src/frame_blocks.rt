@@ -94,11 +94,11 @@ fn read_checked_references<const COUNTS: bool>(
     let feature = segment_reference(&setting.header.params.segmentation, segment);
     let mode = setting.modes.reference_mode;
     let probs = &setting.contexts.inter;
-    let frame = FrameReferences {
+    let said = FrameReferences {
         reference_mode: mode,
         sign_biases: biases,
     };
-    let references = read_references(reader, feature, frame, probs, above, left);
+    let references = read_references(reader, feature, said, probs, above, left);
     in_range_or_rule(&setting.header.size, &frame.fields.references, references)
 }
 
