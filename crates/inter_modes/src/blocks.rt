@@ -1,11 +1,12 @@
 //! The predictions of inter blocks.
 
-ghost use Rattle.std.specs.Prelude.{◌≡◌, ◌<◌, ◌≤◌, ℕ, [], slice_index_or, IfOk};
+ghost use Rattle.std.specs.Prelude.{◌≡◌, ◌<◌, ◌≤◌, ℕ, [], true, slice_index_or, IfOk};
 ghost use Rattle.mv_prediction.specs.Vectors.{no_vector, IsSmallVector};
 ghost use Rattle.std.specs.Option.{option_copied};
 ghost use Rattle.block_plan.specs.declared.block.Prediction.TheVariants.{Inter};
 ghost use Rattle.prob_contexts.specs.ProbLists.{InterLists, inter_lists};
 ghost use Rattle.counting_reader.specs.Code.{Reads};
+ghost use Rattle.block_geometry.specs.BlockSizes.{is_below_8x8};
 ghost use Rattle.mv_prediction.specs.Code.{AreSmall, PredictsSmall, IsSite};
 ghost use Rattle.mv_prediction.specs.Candidates.{mode_context};
 ghost use Rattle.inter_modes.specs.Code.{MaySearch, AreSmallQuarters, sources_in};
@@ -158,6 +159,7 @@ fn read_block_of_quarters<N: Neighbours, Q: Neighbours, const COUNTS: bool>(
     filter: (FrameFilter, u8),
     references: References,
 ) -> Result<InterPrediction, Rule>
+    requires below { is_below_8x8 src.now.search.at.size ≡ true }
     requires context { src.now.context ≡ mode_context (N.blocks src.now.earlier.now) src.now.search }
     requires few { src.now.context ≤ 6 }
     requires filter { filter.1 ≤ 3 }

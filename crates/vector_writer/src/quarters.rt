@@ -8,8 +8,8 @@ ghost use Rattle.bool_encoder.specs.CountedBools.{PutsValue};
 ghost use Rattle.mv_prediction.specs.Code.{AreSmall, blocks_of};
 ghost use Rattle.mv_prediction.specs.SubBlocks.{vector_at};
 ghost use Rattle.mv_prediction.specs.Vectors.{IsSmallVector};
-ghost use Rattle.inter_modes.specs.Code.{MaySearch, AreSmallBefore, AreSmallQuarters};
-ghost use Rattle.inter_modes.specs.BlockVectors.{best_vectors, quarter_vector, quarter_vectors, quarter, four_quarters, two_columns, two_rows, quarters};
+ghost use Rattle.inter_modes.specs.Code.{MaySearch, AreSmallBefore, AreSmallQuarters, four_quarters, quarter_columns, quarter_rows};
+ghost use Rattle.inter_modes.specs.BlockVectors.{best_vectors, quarter_vector, quarter_vectors, quarter, quarters};
 ghost use Rattle.vector_writer.specs.Code.{sources_of};
 ghost use Rattle.vector_writer.specs.VectorFits.{CanBeNew, CanSayVectors, quarter_saying};
 ghost use Rattle.vector_writer.specs.SaidVectors.{symbols_at, quarter_vector_said, quarter_vectors_said, quarter_said, four_said, columns_said, rows_said, quarters_said};
@@ -122,7 +122,7 @@ fn put_quarter<N: Neighbours, Q: Neighbours>(
 }
 
 /// Those of a block of 4x4, one after another.
-#[tactic(auto, unfolding(inter_modes::specs::BlockVectors::four_quarters, crate::specs::SaidVectors::four_said), using(bool_encoder::proofs::CountedPuts::valued_in_order, bool_encoder::proofs::CountedPuts::valued_settle, vp9_types::proofs::Binds::writes_bind))]
+#[tactic(auto, unfolding(inter_modes::specs::Code::four_quarters, crate::specs::SaidVectors::four_said), using(bool_encoder::proofs::CountedPuts::valued_in_order, bool_encoder::proofs::CountedPuts::valued_settle, vp9_types::proofs::Binds::writes_bind))]
 fn put_four<N: Neighbours, Q: Neighbours>(
     encoder: &mut BoolEncoder,
     src: &Sources<'_, N, Q>,
@@ -164,7 +164,7 @@ fn put_four<N: Neighbours, Q: Neighbours>(
 }
 
 /// Those of a block of 4x8: one at the left and one at the right.
-#[tactic(auto, unfolding(inter_modes::specs::BlockVectors::two_columns, crate::specs::SaidVectors::columns_said), using(bool_encoder::proofs::CountedPuts::valued_in_order, bool_encoder::proofs::CountedPuts::valued_settle, vp9_types::proofs::Binds::writes_bind))]
+#[tactic(auto, unfolding(inter_modes::specs::Code::quarter_columns, crate::specs::SaidVectors::columns_said), using(bool_encoder::proofs::CountedPuts::valued_in_order, bool_encoder::proofs::CountedPuts::valued_settle, vp9_types::proofs::Binds::writes_bind))]
 fn put_two_columns<N: Neighbours, Q: Neighbours>(
     encoder: &mut BoolEncoder,
     src: &Sources<'_, N, Q>,
@@ -176,7 +176,7 @@ fn put_two_columns<N: Neighbours, Q: Neighbours>(
     requires small { AreSmall best }
     requires left { CanSayVectors src.now.high_precision best symbols.now.references (symbols_at symbols.now 0) }
     requires right { CanSayVectors src.now.high_precision best symbols.now.references (symbols_at symbols.now 1) }
-    ensures put { IfOk result (λ qs. PutsValue (two_columns (sources_of N.blocks Q.blocks src.now) src.now.modes.now src.now.context symbols.now.references best) encoder.old qs encoder.new) }
+    ensures put { IfOk result (λ qs. PutsValue (quarter_columns (sources_of N.blocks Q.blocks src.now) src.now.modes.now src.now.context symbols.now.references best) encoder.old qs encoder.new) }
     ensures is { IfOk result (λ qs. qs ≡ columns_said (sources_of N.blocks Q.blocks src.now) symbols.now best) }
     ensures small { IfOk result (λ qs. IfOk qs AreSmallQuarters) }
 {
@@ -195,7 +195,7 @@ fn put_two_columns<N: Neighbours, Q: Neighbours>(
 }
 
 /// Those of a block of 8x4: an upper and a lower one.
-#[tactic(auto, unfolding(inter_modes::specs::BlockVectors::two_rows, crate::specs::SaidVectors::rows_said), using(bool_encoder::proofs::CountedPuts::valued_in_order, bool_encoder::proofs::CountedPuts::valued_settle, vp9_types::proofs::Binds::writes_bind))]
+#[tactic(auto, unfolding(inter_modes::specs::Code::quarter_rows, crate::specs::SaidVectors::rows_said), using(bool_encoder::proofs::CountedPuts::valued_in_order, bool_encoder::proofs::CountedPuts::valued_settle, vp9_types::proofs::Binds::writes_bind))]
 fn put_two_rows<N: Neighbours, Q: Neighbours>(
     encoder: &mut BoolEncoder,
     src: &Sources<'_, N, Q>,
@@ -207,7 +207,7 @@ fn put_two_rows<N: Neighbours, Q: Neighbours>(
     requires small { AreSmall best }
     requires upper { CanSayVectors src.now.high_precision best symbols.now.references (symbols_at symbols.now 0) }
     requires lower { CanSayVectors src.now.high_precision best symbols.now.references (symbols_at symbols.now 2) }
-    ensures put { IfOk result (λ qs. PutsValue (two_rows (sources_of N.blocks Q.blocks src.now) src.now.modes.now src.now.context symbols.now.references best) encoder.old qs encoder.new) }
+    ensures put { IfOk result (λ qs. PutsValue (quarter_rows (sources_of N.blocks Q.blocks src.now) src.now.modes.now src.now.context symbols.now.references best) encoder.old qs encoder.new) }
     ensures is { IfOk result (λ qs. qs ≡ rows_said (sources_of N.blocks Q.blocks src.now) symbols.now best) }
     ensures small { IfOk result (λ qs. IfOk qs AreSmallQuarters) }
 {
@@ -226,7 +226,7 @@ fn put_two_rows<N: Neighbours, Q: Neighbours>(
 }
 
 /// The quarters of a block below 8x8.
-#[tactic(auto, unfolding(inter_modes::specs::BlockVectors::quarters, crate::specs::SaidVectors::quarters_said))]
+#[tactic(auto, unfolding(inter_modes::specs::Code::quarters_by_size, crate::specs::SaidVectors::quarters_said), using(inter_modes::proofs::QuartersBySize::quarters_of_size))]
 pub(crate) fn put_quarters<N: Neighbours, Q: Neighbours>(
     encoder: &mut BoolEncoder,
     src: &Sources<'_, N, Q>,
