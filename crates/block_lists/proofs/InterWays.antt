@@ -46,10 +46,12 @@ use Rattle.mv_prediction.specs.declared.sub_blocks.NearVectors.{NearVectors}
 use Rattle.inter_contexts.specs.Contexts.{filter_context}
 use Rattle.inter_contexts.specs.BlockReferences.{in_range_or_rule, reference_in, second_in_range}
 use Rattle.frame_headers.specs.References.{is_in_range}
-use Rattle.inter_modes.specs.IntraBlocks.{four_modes as intra_four_modes, intra_block_mode_info, intra_mode as coded_intra_mode, luma_modes as intra_luma_modes, one_mode as intra_one_mode, two_columns as intra_two_columns, two_rows as intra_two_rows, uv_mode as coded_uv_mode}
+use Rattle.inter_modes.proofs.QuartersBySize.{luma_of_size, quarters_of_size}
+use Rattle.inter_modes.specs.Code.{four_coded_modes, four_quarters, coded_by_size, one_coded_mode, quarters_by_size, quarter_columns, coded_mode_columns, coded_mode_rows, quarter_rows}
+use Rattle.inter_modes.specs.IntraBlocks.{intra_block_mode_info, intra_mode as coded_intra_mode, luma_modes, uv_mode as coded_uv_mode}
 use Rattle.inter_modes.specs.ModeInfo.{InterFrame, block_mode, block_of_quarters, block_with, by_kind, checked_references, filter_of, inter_block, inter_frame_block, inter_frame_mode_info, inter_prediction, interp_filter, intra_block, intra_frame_block, mode_info, quarters_prediction, whole_block, whole_prediction}
 use Rattle.inter_modes.specs.BlockStarts.{segment_reference}
-use Rattle.inter_modes.specs.BlockVectors.{Sources, best_vectors, block_vector, block_vectors, carried, four_quarters, inter_mode, inter_of, near_of_block, quarter, quarter_vector, quarter_vectors, quarters, row_at, two_columns, two_rows, vector_of_mode, with_second, ◌>>?◌}
+use Rattle.inter_modes.specs.BlockVectors.{Sources, best_vectors, block_vector, block_vectors, carried, inter_mode, inter_of, near_of_block, quarter, quarter_vector, quarter_vectors, quarters, row_at, vector_of_mode, with_second, ◌>>?◌}
 use Rattle.inter_modes.specs.declared.quarters.Quarter.{Quarter}
 use Rattle.inter_modes.specs.declared.quarters.QuartersBefore.{QuartersBefore}
 use Rattle.inter_modes.specs.declared.starts.BlockStart.{BlockStart}
@@ -183,8 +185,8 @@ abbrev Predicted : References → InterpFilter → List Quarter → InterPredict
 Predicted refs filter qs = quarters_prediction refs filter qs
 
 columns_way : (s : Sources) (probs : List ℕ) (context : ℕ) (refs : References) (filter : InterpFilter) (qs : List Quarter) (old new : Part)
-    → PutsValue (two_columns s probs context refs (best_vectors s refs)) old (Ok qs) new → HasPut old (spelled_quarters s probs context B4x8 (Predicted refs filter qs)) new
-unfolding two_columns spelled_quarters spelled_quarter_of
+    → PutsValue (quarter_columns s probs context refs (best_vectors s refs)) old (Ok qs) new → HasPut old (spelled_quarters s probs context B4x8 (Predicted refs filter qs)) new
+unfolding quarter_columns spelled_quarters spelled_quarter_of
 columns_way s probs context refs filter qs old new h =
     let a = kept _ _ old new qs h in
     let b = kept _ _ a.mid new qs a.second in
@@ -195,8 +197,8 @@ columns_way s probs context refs filter qs old new h =
     ++ spelled_quarter s probs context refs (best_vectors s refs) (inter_mode_of (Predicted refs filter p.0) 1) (row_at (Predicted refs filter p.0).vectors 1)) p.1) (λ i. (e.0 i, e.1 i)) two
 
 rows_way : (s : Sources) (probs : List ℕ) (context : ℕ) (refs : References) (filter : InterpFilter) (qs : List Quarter) (old new : Part)
-    → PutsValue (two_rows s probs context refs (best_vectors s refs)) old (Ok qs) new → HasPut old (spelled_quarters s probs context B8x4 (Predicted refs filter qs)) new
-unfolding two_rows spelled_quarters spelled_quarter_of
+    → PutsValue (quarter_rows s probs context refs (best_vectors s refs)) old (Ok qs) new → HasPut old (spelled_quarters s probs context B8x4 (Predicted refs filter qs)) new
+unfolding quarter_rows spelled_quarters spelled_quarter_of
 rows_way s probs context refs filter qs old new h =
     let a = kept _ _ old new qs h in
     let b = kept _ _ a.mid new qs a.second in
@@ -226,22 +228,27 @@ four_way s probs context refs filter qs old new h =
     let four = spells_on old c.mid d.mid _ _ (quarter_way s probs context refs 3 _ d.x c.mid d.mid d.first) three in
     subst (λ (p : List Quarter × Part). HasPut old (FourPut s probs context refs filter p.0) p.1) (λ i. (e.0 i, e.1 i)) four
 
-quarters_way : (s : Sources) (probs : List ℕ) (context : ℕ) (refs : References) (filter : InterpFilter) (size : BlockSize) (qs : List Quarter) (old new : Part)
+by_size_way : (s : Sources) (probs : List ℕ) (context : ℕ) (refs : References) (filter : InterpFilter) (size : BlockSize) (qs : List Quarter) (old new : Part)
+    → PutsValue (quarters_by_size s probs context refs size) old (Ok qs) new → HasPut old (spelled_quarters s probs context size (Predicted refs filter qs)) new
+unfolding quarters_by_size spelled_quarters
+by_size_way s probs context refs filter B4x8 qs old new h = columns_way s probs context refs filter qs old new h
+by_size_way s probs context refs filter B8x4 qs old new h = rows_way s probs context refs filter qs old new h
+by_size_way s probs context refs filter B4x4 qs old new h = four_way s probs context refs filter qs old new h
+by_size_way s probs context refs filter B8x8 qs old new h = four_way s probs context refs filter qs old new h
+by_size_way s probs context refs filter B8x16 qs old new h = four_way s probs context refs filter qs old new h
+by_size_way s probs context refs filter B16x8 qs old new h = four_way s probs context refs filter qs old new h
+by_size_way s probs context refs filter B16x16 qs old new h = four_way s probs context refs filter qs old new h
+by_size_way s probs context refs filter B16x32 qs old new h = four_way s probs context refs filter qs old new h
+by_size_way s probs context refs filter B32x16 qs old new h = four_way s probs context refs filter qs old new h
+by_size_way s probs context refs filter B32x32 qs old new h = four_way s probs context refs filter qs old new h
+by_size_way s probs context refs filter B32x64 qs old new h = four_way s probs context refs filter qs old new h
+by_size_way s probs context refs filter B64x32 qs old new h = four_way s probs context refs filter qs old new h
+by_size_way s probs context refs filter B64x64 qs old new h = four_way s probs context refs filter qs old new h
+
+quarters_way : (s : Sources) (probs : List ℕ) (context : ℕ) (refs : References) (filter : InterpFilter) (size : BlockSize) (qs : List Quarter) (old new : Part) → is_below_8x8 size ≡ true
     → PutsValue (quarters s probs context refs size) old (Ok qs) new → HasPut old (spelled_quarters s probs context size (Predicted refs filter qs)) new
-unfolding quarters spelled_quarters
-quarters_way s probs context refs filter B4x8 qs old new h = columns_way s probs context refs filter qs old new h
-quarters_way s probs context refs filter B8x4 qs old new h = rows_way s probs context refs filter qs old new h
-quarters_way s probs context refs filter B4x4 qs old new h = four_way s probs context refs filter qs old new h
-quarters_way s probs context refs filter B8x8 qs old new h = four_way s probs context refs filter qs old new h
-quarters_way s probs context refs filter B8x16 qs old new h = four_way s probs context refs filter qs old new h
-quarters_way s probs context refs filter B16x8 qs old new h = four_way s probs context refs filter qs old new h
-quarters_way s probs context refs filter B16x16 qs old new h = four_way s probs context refs filter qs old new h
-quarters_way s probs context refs filter B16x32 qs old new h = four_way s probs context refs filter qs old new h
-quarters_way s probs context refs filter B32x16 qs old new h = four_way s probs context refs filter qs old new h
-quarters_way s probs context refs filter B32x32 qs old new h = four_way s probs context refs filter qs old new h
-quarters_way s probs context refs filter B32x64 qs old new h = four_way s probs context refs filter qs old new h
-quarters_way s probs context refs filter B64x32 qs old new h = four_way s probs context refs filter qs old new h
-quarters_way s probs context refs filter B64x64 qs old new h = four_way s probs context refs filter qs old new h
+quarters_way s probs context refs filter size qs old new below h =
+    by_size_way s probs context refs filter size qs old new (subst (λ t. PutsValue t old (Ok qs) new) (quarters_of_size s probs context refs size below) h)
 
 ---- Predictions ----
 
@@ -267,25 +274,25 @@ whole_way s lists skips filter context refs p old new h =
     let three = spells_on old b.mid c.mid _ _ (vectors_way s a.x refs c.x b.mid c.mid c.first) two in
     subst (λ (q : InterPrediction × Part). IsPredicted (spelled_whole s lists skips filter context) refs q.0 old q.1) (λ i. (e.0 i, e.1 i)) (record { is = refl; put = three })
 
-of_quarters_way : (s : Sources) (lists : InterLists) (filter : FrameFilter) (context : ℕ) (refs : References) (p : InterPrediction) (old new : Part)
+of_quarters_way : (s : Sources) (lists : InterLists) (filter : FrameFilter) (context : ℕ) (refs : References) (p : InterPrediction) (old new : Part) → is_below_8x8 s.search.at.size ≡ true
     → PutsValue (block_of_quarters s lists filter context refs) old (Ok p) new → IsPredicted (spelled_of_quarters s lists filter context) refs p old new
 unfolding block_of_quarters spelled_of_quarters
-of_quarters_way s lists filter context refs p old new h =
+of_quarters_way s lists filter context refs p old new below h =
     let a = two_put _ _ old new (Ok p) h in
     let b = kept _ _ a.mid new p a.second in
     let e = ok_settled {A = InterPrediction} (quarters_prediction refs a.x b.x) p b.mid new b.second in
-    let two = spells_on old a.mid b.mid _ _ (quarters_way s lists.modes (mode_context s.earlier s.search) refs a.x s.search.at.size b.x a.mid b.mid b.first) (filter_way filter lists.filters context a.x old a.mid a.first) in
+    let two = spells_on old a.mid b.mid _ _ (quarters_way s lists.modes (mode_context s.earlier s.search) refs a.x s.search.at.size b.x a.mid b.mid below b.first) (filter_way filter lists.filters context a.x old a.mid a.first) in
     subst (λ (q : InterPrediction × Part). IsPredicted (spelled_of_quarters s lists filter context) refs q.0 old q.1) (λ i. (e.0 i, e.1 i)) (record { is = refl; put = two })
 
 prediction_way : (s : Sources) (lists : InterLists) (skips : Bool) (filter : FrameFilter) (context : ℕ) (refs : References) (p : InterPrediction) (old new : Part)
     → PutsValue (inter_prediction s lists skips filter context refs) old (Ok p) new → IsPredicted (spelled_prediction s lists skips filter context) refs p old new
 unfolding inter_prediction spelled_prediction
-prediction_way s lists skips filter context refs p old new h = by_test (is_below_8x8 s.search.at.size) h
+prediction_way s lists skips filter context refs p old new h = by_test (is_below_8x8 s.search.at.size) refl h
   where
-    by_test : (b : Bool) → PutsValue (if b then block_of_quarters s lists filter context refs else whole_block s lists skips filter context refs) old (Ok p) new
+    by_test : (b : Bool) → is_below_8x8 s.search.at.size ≡ b → PutsValue (if b then block_of_quarters s lists filter context refs else whole_block s lists skips filter context refs) old (Ok p) new
         → IsPredicted (λ q. if b then spelled_of_quarters s lists filter context q else spelled_whole s lists skips filter context q) refs p old new
-    by_test true g = let w = of_quarters_way s lists filter context refs p old new g in record { is = w.is; put = w.put }
-    by_test false g = let w = whole_way s lists skips filter context refs p old new g in record { is = w.is; put = w.put }
+    by_test true below g = let w = of_quarters_way s lists filter context refs p old new below g in record { is = w.is; put = w.put }
+    by_test false from g = let w = whole_way s lists skips filter context refs p old new g in record { is = w.is; put = w.put }
 
 ---- Intra blocks ----
 
@@ -307,15 +314,15 @@ uv_way probs luma mode old new h =
     let is : a.x ≡ intra_number mode = sym (intra_numbers a.x t.1) ∙ ap intra_number e.0 in
     subst (λ n. HasPut old (tree_bools intra_mode_tree (drop (9 * intra_number luma) probs) n) new) is (subst (λ m. HasPut old (tree_bools intra_mode_tree (drop (9 * intra_number luma) probs) a.x) m) e.1 t.0)
 
-intra_one : (probs : List ℕ) (group : ℕ) (luma : List IntraMode) (old new : Part) → PutsValue (intra_one_mode probs group) old luma new → HasPut old (spelled_mode probs group (mode_of luma 0)) new
-unfolding intra_one_mode
+intra_one : (probs : List ℕ) (group : ℕ) (luma : List IntraMode) (old new : Part) → PutsValue (one_coded_mode probs group) old luma new → HasPut old (spelled_mode probs group (mode_of luma 0)) new
+unfolding one_coded_mode
 intra_one probs group luma old new h =
     let a = two_put _ _ old new luma h in
     let e = settle_put {A = List IntraMode} (a.x ∷ a.x ∷ a.x ∷ a.x ∷ []) luma a.mid new a.second in
     subst (λ (p : List IntraMode × Part). HasPut old (spelled_mode probs group (mode_of p.0 0)) p.1) (λ i. (e.0 i, e.1 i)) (intra_mode_way probs group a.x old a.mid a.first)
 
-intra_rows : (probs : List ℕ) (luma : List IntraMode) (old new : Part) → PutsValue (intra_two_rows probs) old luma new → HasPut old (spelled_mode probs 0 (mode_of luma 0) ++ spelled_mode probs 0 (mode_of luma 2)) new
-unfolding intra_two_rows
+intra_rows : (probs : List ℕ) (luma : List IntraMode) (old new : Part) → PutsValue (coded_mode_rows probs) old luma new → HasPut old (spelled_mode probs 0 (mode_of luma 0) ++ spelled_mode probs 0 (mode_of luma 2)) new
+unfolding coded_mode_rows
 intra_rows probs luma old new h =
     let a = two_put _ _ old new luma h in
     let b = two_put _ _ a.mid new luma a.second in
@@ -323,8 +330,8 @@ intra_rows probs luma old new h =
     subst (λ (p : List IntraMode × Part). HasPut old (spelled_mode probs 0 (mode_of p.0 0) ++ spelled_mode probs 0 (mode_of p.0 2)) p.1) (λ i. (e.0 i, e.1 i))
     (spells_on old a.mid b.mid _ _ (intra_mode_way probs 0 b.x a.mid b.mid b.first) (intra_mode_way probs 0 a.x old a.mid a.first))
 
-intra_columns : (probs : List ℕ) (luma : List IntraMode) (old new : Part) → PutsValue (intra_two_columns probs) old luma new → HasPut old (spelled_mode probs 0 (mode_of luma 0) ++ spelled_mode probs 0 (mode_of luma 1)) new
-unfolding intra_two_columns
+intra_columns : (probs : List ℕ) (luma : List IntraMode) (old new : Part) → PutsValue (coded_mode_columns probs) old luma new → HasPut old (spelled_mode probs 0 (mode_of luma 0) ++ spelled_mode probs 0 (mode_of luma 1)) new
+unfolding coded_mode_columns
 intra_columns probs luma old new h =
     let a = two_put _ _ old new luma h in
     let b = two_put _ _ a.mid new luma a.second in
@@ -332,9 +339,9 @@ intra_columns probs luma old new h =
     subst (λ (p : List IntraMode × Part). HasPut old (spelled_mode probs 0 (mode_of p.0 0) ++ spelled_mode probs 0 (mode_of p.0 1)) p.1) (λ i. (e.0 i, e.1 i))
     (spells_on old a.mid b.mid _ _ (intra_mode_way probs 0 b.x a.mid b.mid b.first) (intra_mode_way probs 0 a.x old a.mid a.first))
 
-intra_four : (probs : List ℕ) (luma : List IntraMode) (old new : Part) → PutsValue (intra_four_modes probs) old luma new
+intra_four : (probs : List ℕ) (luma : List IntraMode) (old new : Part) → PutsValue (four_coded_modes probs) old luma new
     → HasPut old (spelled_mode probs 0 (mode_of luma 0) ++ spelled_mode probs 0 (mode_of luma 1) ++ spelled_mode probs 0 (mode_of luma 2) ++ spelled_mode probs 0 (mode_of luma 3)) new
-unfolding intra_four_modes
+unfolding four_coded_modes
 intra_four probs luma old new h =
     let a = two_put _ _ old new luma h in
     let b = two_put _ _ a.mid new luma a.second in
@@ -347,21 +354,24 @@ intra_four probs luma old new h =
     subst (λ (p : List IntraMode × Part). HasPut old (spelled_mode probs 0 (mode_of p.0 0) ++ spelled_mode probs 0 (mode_of p.0 1) ++ spelled_mode probs 0 (mode_of p.0 2) ++ spelled_mode probs 0 (mode_of p.0 3)) p.1)
     (λ i. (e.0 i, e.1 i)) four
 
-intra_luma : (probs : List ℕ) (size : BlockSize) (luma : List IntraMode) (old new : Part) → PutsValue (intra_luma_modes probs size) old luma new → HasPut old (spelled_luma probs size luma) new
-unfolding intra_luma_modes spelled_luma
-intra_luma probs B4x4 luma old new h = intra_four probs luma old new h
-intra_luma probs B4x8 luma old new h = intra_columns probs luma old new h
-intra_luma probs B8x4 luma old new h = intra_rows probs luma old new h
-intra_luma probs B8x8 luma old new h = intra_one probs _ luma old new h
-intra_luma probs B8x16 luma old new h = intra_one probs _ luma old new h
-intra_luma probs B16x8 luma old new h = intra_one probs _ luma old new h
-intra_luma probs B16x16 luma old new h = intra_one probs _ luma old new h
-intra_luma probs B16x32 luma old new h = intra_one probs _ luma old new h
-intra_luma probs B32x16 luma old new h = intra_one probs _ luma old new h
-intra_luma probs B32x32 luma old new h = intra_one probs _ luma old new h
-intra_luma probs B32x64 luma old new h = intra_one probs _ luma old new h
-intra_luma probs B64x32 luma old new h = intra_one probs _ luma old new h
-intra_luma probs B64x64 luma old new h = intra_one probs _ luma old new h
+intra_by_size : (probs : List ℕ) (size : BlockSize) (luma : List IntraMode) (old new : Part) → PutsValue (coded_by_size probs size) old luma new → HasPut old (spelled_luma probs size luma) new
+unfolding coded_by_size spelled_luma
+intra_by_size probs B4x4 luma old new h = intra_four probs luma old new h
+intra_by_size probs B4x8 luma old new h = intra_columns probs luma old new h
+intra_by_size probs B8x4 luma old new h = intra_rows probs luma old new h
+intra_by_size probs B8x8 luma old new h = intra_one probs _ luma old new h
+intra_by_size probs B8x16 luma old new h = intra_one probs _ luma old new h
+intra_by_size probs B16x8 luma old new h = intra_one probs _ luma old new h
+intra_by_size probs B16x16 luma old new h = intra_one probs _ luma old new h
+intra_by_size probs B16x32 luma old new h = intra_one probs _ luma old new h
+intra_by_size probs B32x16 luma old new h = intra_one probs _ luma old new h
+intra_by_size probs B32x32 luma old new h = intra_one probs _ luma old new h
+intra_by_size probs B32x64 luma old new h = intra_one probs _ luma old new h
+intra_by_size probs B64x32 luma old new h = intra_one probs _ luma old new h
+intra_by_size probs B64x64 luma old new h = intra_one probs _ luma old new h
+
+intra_luma : (probs : List ℕ) (size : BlockSize) (luma : List IntraMode) (old new : Part) → PutsValue (luma_modes probs size) old luma new → HasPut old (spelled_luma probs size luma) new
+intra_luma probs size luma old new h = intra_by_size probs size luma old new (subst (λ s. PutsValue s old luma new) (luma_of_size probs size) h)
 
 intra_way : (y_modes uv_modes : List ℕ) (size : BlockSize) (p : IntraPrediction) (old new : Part) → PutsValue (intra_block_mode_info y_modes uv_modes size) old p new → HasPut old (spelled_intra y_modes uv_modes size p) new
 unfolding intra_block_mode_info spelled_intra

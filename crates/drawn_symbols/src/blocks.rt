@@ -8,12 +8,11 @@ ghost use Rattle.prob_contexts.specs.ProbLists.{lists_of};
 ghost use Rattle.mv_prediction.specs.Candidates.{sign_biases};
 ghost use Rattle.mv_prediction.specs.Code.{HasSmallVectors, IsSite, blocks_of};
 ghost use Rattle.vp9_types.specs.Maps.{Map};
-ghost use Rattle.inter_modes.specs.Code.{MaySearch, frame_in};
+ghost use Rattle.inter_modes.specs.Code.{MaySearch, frame_in, sources_in};
 ghost use Rattle.inter_modes.specs.ModeInfo.{sources_of};
 ghost use Rattle.mode_writer.specs.ModeFits.{CanLuma};
 ghost use Rattle.inter_writer.specs.declared.frame_blocks.PredictionSymbols.TheVariants.{Intra};
 ghost use Rattle.inter_writer.specs.InterFits.{CanPredict, CanPut, CanPutInterFrame, CanPutIntra};
-ghost use Rattle.vector_writer.specs.Code as code;
 ghost use Rattle.drawn_symbols.specs.BlockDraws.{draw_intra_prediction, draw_inter_prediction, draw_intra_frame_block, draw_prediction, draw_inter_frame_block, draw_block};
 ghost use Rattle.drawn_symbols.specs.Draws.{IsDrawn};
 ghost use Rattle.drawn_symbols.specs.DrawnFor.{AreDrawnSegments, IsDrawnFrame};
@@ -65,8 +64,8 @@ fn draw_prediction<N: Neighbours, Q: Neighbours>(
     requires segments { AreDrawnSegments frame.now.setting.now.header.params.segmentation }
     requires filter { frame.now.fields.now.filter ≡ Switchable }
     requires may { MaySearch N.holds N.blocks Q.holds Q.blocks src.now.earlier.now (option_copied src.now.before) src.now.search }
-    ensures drawn { IsDrawn (draw_prediction start.now.is_inter (frame_in frame.now) (code.sources_of N.blocks Q.blocks src.now)) draws.old result draws.new }
-    ensures can { CanPredict (frame_in frame.now) (code.sources_of N.blocks Q.blocks src.now) start.now result }
+    ensures drawn { IsDrawn (draw_prediction start.now.is_inter (frame_in frame.now) (sources_in N.blocks Q.blocks src.now)) draws.old result draws.new }
+    ensures can { CanPredict (frame_in frame.now) (sources_in N.blocks Q.blocks src.now) start.now result }
 {
     if start.is_inter {
         PredictionSymbols::Inter(draw_inter(draws, src, frame))
@@ -85,8 +84,8 @@ fn draw_from<N: Neighbours, Q: Neighbours>(
     requires segments { AreDrawnSegments frame.now.setting.now.header.params.segmentation }
     requires filter { frame.now.fields.now.filter ≡ Switchable }
     requires may { MaySearch N.holds N.blocks Q.holds Q.blocks src.now.earlier.now (option_copied src.now.before) src.now.search }
-    ensures drawn { IsDrawn (draw_inter_frame_block (frame_in frame.now) (code.sources_of N.blocks Q.blocks src.now)) draws.old result draws.new }
-    ensures can { (least : ℕ) → CanPutInterFrame (frame_in frame.now) (code.sources_of N.blocks Q.blocks src.now) least result.start result.prediction }
+    ensures drawn { IsDrawn (draw_inter_frame_block (frame_in frame.now) (sources_in N.blocks Q.blocks src.now)) draws.old result draws.new }
+    ensures can { (least : ℕ) → CanPutInterFrame (frame_in frame.now) (sources_in N.blocks Q.blocks src.now) least result.start result.prediction }
 {
     let setting = frame.setting;
     let segmentation = &setting.header.params.segmentation;

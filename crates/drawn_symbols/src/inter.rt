@@ -3,9 +3,8 @@
 ghost use Rattle.std.specs.Prelude.{◌≡◌, ℕ};
 ghost use Rattle.std.specs.Option.{option_copied};
 ghost use Rattle.frame_headers.specs.declared.header.FrameFilter.TheVariants.{Switchable};
-ghost use Rattle.inter_modes.specs.Code.{MaySearch, frame_in};
+ghost use Rattle.inter_modes.specs.Code.{MaySearch, frame_in, sources_in};
 ghost use Rattle.inter_writer.specs.InterFits.{CanSayInterBlock};
-ghost use Rattle.vector_writer.specs.Code.{sources_of};
 ghost use Rattle.drawn_symbols.specs.Draws.{IsDrawn};
 ghost use Rattle.drawn_symbols.specs.DrawnFor.{AreDrawnSegments};
 ghost use Rattle.drawn_symbols.specs.InterDraws.{draw_inter, references_alone};
@@ -40,8 +39,8 @@ pub(crate) fn draw_inter<N: Neighbours, Q: Neighbours>(
     requires segments { AreDrawnSegments frame.now.setting.now.header.params.segmentation }
     requires filter { frame.now.fields.now.filter ≡ Switchable }
     requires may { MaySearch N.holds N.blocks Q.holds Q.blocks src.now.earlier.now (option_copied src.now.before) src.now.search }
-    ensures drawn { IsDrawn (draw_inter (frame_in frame.now) (sources_of N.blocks Q.blocks src.now)) draws.old result draws.new }
-    ensures can { (segment : ℕ) → CanSayInterBlock (frame_in frame.now) (sources_of N.blocks Q.blocks src.now) segment result }
+    ensures drawn { IsDrawn (draw_inter (frame_in frame.now) (sources_in N.blocks Q.blocks src.now)) draws.old result draws.new }
+    ensures can { (segment : ℕ) → CanSayInterBlock (frame_in frame.now) (sources_in N.blocks Q.blocks src.now) segment result }
 {
     let setting = frame.setting;
     let mode = setting.modes.reference_mode;

@@ -4,7 +4,6 @@ use Rattle.std.specs.Prelude.{nat_lt}
 use Rattle.std.proofs.lemmas.Bool.{cases_lt, lt-ltb, le-ltb}
 use Rattle.vp9_types.specs.Maps.{Map}
 use Rattle.vp9_types.specs.declared.block.BlockSize.{BlockSize}
-use Rattle.vp9_types.specs.declared.block.BlockSize.TheVariants.{B4x4, B4x8, B8x4, B8x8, B8x16, B16x8, B16x16, B16x32, B32x16, B32x32, B32x64, B64x32, B64x64}
 use Rattle.vp9_types.specs.declared.block.InterMode.{InterMode}
 use Rattle.vp9_types.specs.declared.block.InterMode.TheVariants.{Nearest, Near, Zero, New}
 use Rattle.vp9_types.specs.declared.block.Modes.{Modes}
@@ -30,11 +29,13 @@ use Rattle.mv_prediction.specs.Laws.{SameIn}
 use Rattle.mv_prediction.specs.SubBlocks.{near_vectors, sub_block_vectors}
 use Rattle.mv_prediction.specs.declared.sub_blocks.NearVectors.{NearVectors}
 use Rattle.mv_syntax.specs.Differences.{new_vector}
+use Rattle.block_geometry.specs.Quarters.{starting_quarters, with_part}
 use Rattle.block_geometry.specs.BlockSizes.{is_below_8x8}
 use Rattle.inter_contexts.specs.Contexts.{filter_context}
 use Rattle.inter_modes.specs.ModeInfo.{InterFrame, sources_of, block_mode, interp_filter, whole_prediction, quarters_prediction, whole_block, block_of_quarters, inter_prediction, block_with, checked_references, inter_block, intra_block, inter_frame_block, least_before, inter_frame_mode_info, intra_frame_block, by_kind, mode_info}
 use Rattle.inter_modes.specs.BlockStarts.{block_start}
-use Rattle.inter_modes.specs.BlockVectors.{Sources, inter_mode, vector_of_mode, near_of_block, near_of_quarter, block_vector, with_second, block_vectors, second_best, best_vectors, row_at, of_list, quarter_vector, quarter_vectors, quarter, nothing_before, before_of, four_quarters, two_columns, two_rows, quarters, ◌>>?◌}
+use Rattle.inter_modes.specs.BlockVectors.{Sources, inter_mode, vector_of_mode, near_of_block, near_of_quarter, block_vector, with_second, block_vectors, second_best, best_vectors, row_at, of_list, quarter_vector, quarter_vectors, quarter, before_of, unread, vectors_of, each_quarter, quarters, ◌>>?◌}
+use Rattle.inter_modes.specs.declared.quarters.Quarter.{Quarter}
 use Rattle.inter_modes.specs.declared.quarters.QuartersBefore.{QuartersBefore}
 use Rattle.inter_modes.specs.declared.starts.BlockStart.{BlockStart}
 
@@ -108,55 +109,20 @@ unfolding quarter
 same_quarter s t a probs context refs k before = λ i.
     inter_mode probs context >>= λ mode. same_quarter_vectors s t a mode refs k before i >>? λ vectors. settle (Ok (record { mode = mode; vectors = vectors }))
 
-same_four : (s t : Sources) → AreAlike s t → (probs : List ℕ) (context : ℕ) (refs : References) (best : List Mv)
-    → four_quarters s probs context refs best ≡ four_quarters t probs context refs best
-unfolding four_quarters
-same_four s t a probs context refs best = λ i.
-    same_quarter s t a probs context refs 0 (before_of best nothing_before nothing_before nothing_before) i
-    >>? λ q. same_quarter s t a probs context refs 1 (before_of best q.vectors nothing_before nothing_before) i
-    >>? λ r. same_quarter s t a probs context refs 2 (before_of best q.vectors r.vectors nothing_before) i
-    >>? λ u. same_quarter s t a probs context refs 3 (before_of best q.vectors r.vectors u.vectors) i
-    >>? λ v. settle (Ok (q ∷ r ∷ u ∷ v ∷ []))
-
-same_columns : (s t : Sources) → AreAlike s t → (probs : List ℕ) (context : ℕ) (refs : References) (best : List Mv)
-    → two_columns s probs context refs best ≡ two_columns t probs context refs best
-unfolding two_columns
-same_columns s t a probs context refs best = λ i.
-    same_quarter s t a probs context refs 0 (before_of best nothing_before nothing_before nothing_before) i
-    >>? λ q. same_quarter s t a probs context refs 1 (before_of best q.vectors nothing_before nothing_before) i
-    >>? λ r. settle (Ok (q ∷ r ∷ q ∷ r ∷ []))
-
-same_rows : (s t : Sources) → AreAlike s t → (probs : List ℕ) (context : ℕ) (refs : References) (best : List Mv)
-    → two_rows s probs context refs best ≡ two_rows t probs context refs best
-unfolding two_rows
-same_rows s t a probs context refs best = λ i.
-    same_quarter s t a probs context refs 0 (before_of best nothing_before nothing_before nothing_before) i
-    >>? λ q. same_quarter s t a probs context refs 2 (before_of best q.vectors q.vectors nothing_before) i
-    >>? λ r. settle (Ok (q ∷ q ∷ r ∷ r ∷ []))
-
-same_four_by : (s t : Sources) → AreAlike s t → (probs : List ℕ) (context : ℕ) (refs : References)
-    → four_quarters s probs context refs (best_vectors s refs) ≡ four_quarters t probs context refs (best_vectors t refs)
-same_four_by s t a probs context refs =
-    same_four s t a probs context refs (best_vectors s refs) ∙ ap (λ best. four_quarters t probs context refs best) (same_best s t a refs)
+same_each : (s t : Sources) → AreAlike s t → (probs : List ℕ) (context : ℕ) (refs : References) (size : BlockSize) (best : List Mv) (starts : List ℕ) (known : List Quarter)
+    → each_quarter s probs context refs size best starts known ≡ each_quarter t probs context refs size best starts known
+unfolding each_quarter
+same_each s t a probs context refs size best [] known = refl
+same_each s t a probs context refs size best (k ∷ rest) known = λ i.
+    same_quarter s t a probs context refs k (before_of best (vectors_of known 0) (vectors_of known 1) (vectors_of known 2)) i
+    >>? λ q. same_each s t a probs context refs size best rest (with_part size k q known) i
 
 same_quarters : (s t : Sources) → AreAlike s t → (probs : List ℕ) (context : ℕ) (refs : References) (size : BlockSize)
     → quarters s probs context refs size ≡ quarters t probs context refs size
 unfolding quarters
-same_quarters s t a probs context refs B4x8 =
-    same_columns s t a probs context refs (best_vectors s refs) ∙ ap (λ best. two_columns t probs context refs best) (same_best s t a refs)
-same_quarters s t a probs context refs B8x4 =
-    same_rows s t a probs context refs (best_vectors s refs) ∙ ap (λ best. two_rows t probs context refs best) (same_best s t a refs)
-same_quarters s t a probs context refs B4x4 = same_four_by s t a probs context refs
-same_quarters s t a probs context refs B8x8 = same_four_by s t a probs context refs
-same_quarters s t a probs context refs B8x16 = same_four_by s t a probs context refs
-same_quarters s t a probs context refs B16x8 = same_four_by s t a probs context refs
-same_quarters s t a probs context refs B16x16 = same_four_by s t a probs context refs
-same_quarters s t a probs context refs B16x32 = same_four_by s t a probs context refs
-same_quarters s t a probs context refs B32x16 = same_four_by s t a probs context refs
-same_quarters s t a probs context refs B32x32 = same_four_by s t a probs context refs
-same_quarters s t a probs context refs B32x64 = same_four_by s t a probs context refs
-same_quarters s t a probs context refs B64x32 = same_four_by s t a probs context refs
-same_quarters s t a probs context refs B64x64 = same_four_by s t a probs context refs
+same_quarters s t a probs context refs size =
+    same_each s t a probs context refs size (best_vectors s refs) (starting_quarters size) (unread ∷ unread ∷ unread ∷ unread ∷ [])
+    ∙ ap (λ best. each_quarter t probs context refs size best (starting_quarters size) (unread ∷ unread ∷ unread ∷ unread ∷ [])) (same_best s t a refs)
 
 ---- Blocks ----
 

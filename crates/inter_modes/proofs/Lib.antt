@@ -3,3 +3,4 @@ pub mod Rows
 pub mod InRange
 pub mod SegmentMaps
 pub mod Columns
+pub mod QuartersBySize

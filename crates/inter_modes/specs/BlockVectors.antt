@@ -2,7 +2,6 @@
 use Rattle.std.specs.Prelude.{ℕ, ◌*◌, Bool, List, [], ◌∷◌, Option, Some, None, Result, Ok, Err, drop, slice_index_or, nat_eq, if◌then◌else◌}
 use Rattle.vp9_types.specs.Syntax.{Syntax}
 use Rattle.vp9_types.specs.declared.block.BlockSize.{BlockSize}
-use Rattle.vp9_types.specs.declared.block.BlockSize.TheVariants.{B4x8, B8x4}
 use Rattle.vp9_types.specs.declared.block.InterMode.{InterMode}
 use Rattle.vp9_types.specs.declared.block.InterMode.TheVariants.{Nearest, Near, Zero, New}
 use Rattle.vp9_types.specs.declared.block.ReferenceFrame.{ReferenceFrame}
@@ -10,6 +9,7 @@ use Rattle.vp9_types.specs.declared.rule.Rule.{Rule}
 use Rattle.vp9_tables.specs.SymbolTrees.{inter_mode_tree}
 use Rattle.prob_contexts.specs.ProbLists.{VectorLists}
 use Rattle.prob_contexts.specs.declared.kind.ProbKind.TheVariants as kind
+use Rattle.block_geometry.specs.Quarters.{starting_quarters, with_part}
 use Rattle.block_plan.specs.BlockMvs.{no_vector, vector_at}
 use Rattle.block_plan.specs.declared.block.BlockInfo.{BlockInfo}
 use Rattle.block_plan.specs.declared.block.Mv.{Mv}
@@ -127,30 +127,21 @@ before_of best q r t = record { best = best; rows = q ∷ r ∷ t ∷ [] }
 abbrev pub Quarters : Type 0
 Quarters = Syntax ℕ Rule (Settled (Result (List Quarter) Rule))
 
--- 4x4: one after another
-unfoldable pub four_quarters : Sources → List ℕ → ℕ → References → List Mv → Quarters
-four_quarters s probs context refs best =
-    quarter s probs context refs 0 (before_of best nothing_before nothing_before nothing_before)
-    >>? λ q. quarter s probs context refs 1 (before_of best q.vectors nothing_before nothing_before)
-    >>? λ r. quarter s probs context refs 2 (before_of best q.vectors r.vectors nothing_before)
-    >>? λ t. quarter s probs context refs 3 (before_of best q.vectors r.vectors t.vectors)
-    >>? λ u. settle (Ok (q ∷ r ∷ t ∷ u ∷ []))
+-- one that isn't read yet
+abbrev pub unread : Quarter
+unread = record { mode = Zero; vectors = nothing_before }
 
--- 4x8: one at the left and one at the right
-unfoldable pub two_columns : Sources → List ℕ → ℕ → References → List Mv → Quarters
-two_columns s probs context refs best =
-    quarter s probs context refs 0 (before_of best nothing_before nothing_before nothing_before)
-    >>? λ q. quarter s probs context refs 1 (before_of best q.vectors nothing_before nothing_before)
-    >>? λ r. settle (Ok (q ∷ r ∷ q ∷ r ∷ []))
+abbrev pub vectors_of : List Quarter → ℕ → List Mv
+vectors_of known k = (slice_index_or known k unread).vectors
 
--- 8x4: an upper and a lower one
-unfoldable pub two_rows : Sources → List ℕ → ℕ → References → List Mv → Quarters
-two_rows s probs context refs best =
-    quarter s probs context refs 0 (before_of best nothing_before nothing_before nothing_before)
-    >>? λ q. quarter s probs context refs 2 (before_of best q.vectors q.vectors nothing_before)
-    >>? λ r. settle (Ok (q ∷ q ∷ r ∷ r ∷ []))
+-- of the parts that begin at some quarters, one after another, by the vectors of those that are known
+unfoldable pub each_quarter : Sources → List ℕ → ℕ → References → BlockSize → List Mv → List ℕ → List Quarter → Quarters
+each_quarter s probs context refs size best [] known = settle (Ok known)
+each_quarter s probs context refs size best (k ∷ rest) known =
+    quarter s probs context refs k (before_of best (vectors_of known 0) (vectors_of known 1) (vectors_of known 2))
+    >>? λ q. each_quarter s probs context refs size best rest (with_part size k q known)
 
+-- the quarters of a block below 8x8
 unfoldable pub quarters : Sources → List ℕ → ℕ → References → BlockSize → Quarters
-quarters s probs context refs B4x8 = two_columns s probs context refs (best_vectors s refs)
-quarters s probs context refs B8x4 = two_rows s probs context refs (best_vectors s refs)
-quarters s probs context refs size = four_quarters s probs context refs (best_vectors s refs)
+quarters s probs context refs size =
+    each_quarter s probs context refs size (best_vectors s refs) (starting_quarters size) (unread ∷ unread ∷ unread ∷ unread ∷ [])

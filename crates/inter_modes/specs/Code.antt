@@ -1,9 +1,15 @@
 -- What the code keeps and its calls answer.
-use Rattle.std.specs.Prelude.{◌≡◌, ℕ, ◌<◌, ◌≤◌, Bool, true, List, Option, IfSome}
+use Rattle.std.specs.Prelude.{◌≡◌, ℕ, ◌<◌, ◌≤◌, Bool, true, List, [], ◌∷◌, Option, IfSome, Ok, slice_index}
 use Rattle.std.specs.List.{All}
 use Rattle.std.specs.Option.{option_copied}
+use Rattle.vp9_types.specs.Syntax.{Syntax}
+use Rattle.vp9_types.specs.declared.block.BlockSize.{BlockSize}
+use Rattle.vp9_types.specs.declared.block.BlockSize.TheVariants.{B4x4, B4x8, B8x4}
+use Rattle.vp9_types.specs.declared.block.IntraMode.{IntraMode}
+use Rattle.vp9_types.specs.declared.rule.Rule.{Rule}
 use Rattle.vp9_tables.specs.BlockTables.{greatest_of}
-use Rattle.vp9_tables.specs.Numbers.{tx_number}
+use Rattle.vp9_tables.specs.Numbers.{block_number, tx_number}
+use Rattle.vp9_tables.specs.declared.data.blocks.TheConstants.{SIZE_GROUP}
 use Rattle.frame_headers.specs.References.{is_in_range}
 use Rattle.frame_headers.specs.declared.header.FrameKind.TheVariants as frame
 use Rattle.frame_headers.specs.declared.header.FrameSize.{FrameSize}
@@ -15,6 +21,7 @@ use Rattle.block_geometry.specs.Parts.{part_inside}
 use Rattle.block_plan.specs.BlockMvs.{vector_at}
 use Rattle.block_plan.specs.declared.block.BlockAt.{BlockAt}
 use Rattle.block_plan.specs.declared.block.BlockInfo.{BlockInfo}
+use Rattle.block_plan.specs.declared.block.Mv.{Mv}
 use Rattle.block_plan.specs.declared.block.Prediction.{Prediction}
 use Rattle.block_plan.specs.declared.block.Prediction.TheVariants.{Intra, Inter}
 use Rattle.block_plan.specs.declared.block.References.{References}
@@ -22,8 +29,10 @@ use Rattle.mv_prediction.specs.Code.{AreSmall, HasSmallVectors, IsSite, blocks_o
 use Rattle.mv_prediction.specs.declared.search.MvSearch.{MvSearch}
 use Rattle.block_plan.specs.SegmentMaps.{SegmentIds, id_map, least_id}
 use Rattle.inter_contexts.specs.BlockReferences.{reference_in, second_in_range}
+use Rattle.counting_reader.specs.Counting.{Settled, settle, ◌>>=◌}
+use Rattle.inter_modes.specs.IntraBlocks.{intra_mode}
 use Rattle.inter_modes.specs.ModeInfo.{InterFrame}
-use Rattle.inter_modes.specs.BlockVectors.{Sources, row_at}
+use Rattle.inter_modes.specs.BlockVectors.{Quarters, Sources, before_of, best_vectors, nothing_before, quarter, row_at, ◌>>?◌}
 use Rattle.inter_modes.specs.declared.frame_blocks.Frame.{Frame}
 use Rattle.inter_modes.specs.declared.quarters.Quarter.{Quarter}
 use Rattle.inter_modes.specs.declared.quarters.QuartersBefore.{QuartersBefore}
@@ -103,3 +112,69 @@ pub record IsMapped (m : SegmentIds) (b : BlockInfo) : Type 0 where
   pub row : b.row < m.rows
   pub col : b.col < m.cols
   pub segment : b.segment < 8
+
+---- Intra blocks, size by size ----
+
+unfoldable pub one_coded_mode : List ℕ → ℕ → Syntax ℕ Rule (Settled (List IntraMode))
+one_coded_mode probs group = do
+  mode ← intra_mode probs group
+  settle (mode ∷ mode ∷ mode ∷ mode ∷ [])
+
+-- 8x4: an upper and a lower one
+unfoldable pub coded_mode_rows : List ℕ → Syntax ℕ Rule (Settled (List IntraMode))
+coded_mode_rows probs = do
+  upper ← intra_mode probs 0
+  lower ← intra_mode probs 0
+  settle (upper ∷ upper ∷ lower ∷ lower ∷ [])
+
+-- 4x8: one at the left and one at the right
+unfoldable pub coded_mode_columns : List ℕ → Syntax ℕ Rule (Settled (List IntraMode))
+coded_mode_columns probs = do
+  left ← intra_mode probs 0
+  right ← intra_mode probs 0
+  settle (left ∷ right ∷ left ∷ right ∷ [])
+
+-- 4x4: one for each quarter
+unfoldable pub four_coded_modes : List ℕ → Syntax ℕ Rule (Settled (List IntraMode))
+four_coded_modes probs = do
+  first ← intra_mode probs 0
+  second ← intra_mode probs 0
+  third ← intra_mode probs 0
+  fourth ← intra_mode probs 0
+  settle (first ∷ second ∷ third ∷ fourth ∷ [])
+
+unfoldable pub coded_by_size : List ℕ → BlockSize → Syntax ℕ Rule (Settled (List IntraMode))
+coded_by_size probs B4x4 = four_coded_modes probs
+coded_by_size probs B4x8 = coded_mode_columns probs
+coded_by_size probs B8x4 = coded_mode_rows probs
+coded_by_size probs size = one_coded_mode probs (slice_index SIZE_GROUP (block_number size))
+
+---- Quarters, size by size ----
+
+-- 4x4: one after another
+unfoldable pub four_quarters : Sources → List ℕ → ℕ → References → List Mv → Quarters
+four_quarters s probs context refs best =
+    quarter s probs context refs 0 (before_of best nothing_before nothing_before nothing_before)
+    >>? λ q. quarter s probs context refs 1 (before_of best q.vectors nothing_before nothing_before)
+    >>? λ r. quarter s probs context refs 2 (before_of best q.vectors r.vectors nothing_before)
+    >>? λ t. quarter s probs context refs 3 (before_of best q.vectors r.vectors t.vectors)
+    >>? λ u. settle (Ok (q ∷ r ∷ t ∷ u ∷ []))
+
+-- 4x8: one at the left and one at the right
+unfoldable pub quarter_columns : Sources → List ℕ → ℕ → References → List Mv → Quarters
+quarter_columns s probs context refs best =
+    quarter s probs context refs 0 (before_of best nothing_before nothing_before nothing_before)
+    >>? λ q. quarter s probs context refs 1 (before_of best q.vectors nothing_before nothing_before)
+    >>? λ r. settle (Ok (q ∷ r ∷ q ∷ r ∷ []))
+
+-- 8x4: an upper and a lower one
+unfoldable pub quarter_rows : Sources → List ℕ → ℕ → References → List Mv → Quarters
+quarter_rows s probs context refs best =
+    quarter s probs context refs 0 (before_of best nothing_before nothing_before nothing_before)
+    >>? λ q. quarter s probs context refs 2 (before_of best q.vectors q.vectors nothing_before)
+    >>? λ r. settle (Ok (q ∷ q ∷ r ∷ r ∷ []))
+
+unfoldable pub quarters_by_size : Sources → List ℕ → ℕ → References → BlockSize → Quarters
+quarters_by_size s probs context refs B4x8 = quarter_columns s probs context refs (best_vectors s refs)
+quarters_by_size s probs context refs B8x4 = quarter_rows s probs context refs (best_vectors s refs)
+quarters_by_size s probs context refs size = four_quarters s probs context refs (best_vectors s refs)

@@ -1,12 +1,13 @@
 //! The predictions of inter blocks.
 
-ghost use Rattle.std.specs.Prelude.{◌≡◌, ◌<◌, ◌≤◌, ℕ, [], slice_index_or, IfOk};
+ghost use Rattle.std.specs.Prelude.{◌≡◌, ◌<◌, ◌≤◌, ℕ, [], true, slice_index_or, IfOk};
 ghost use Rattle.mv_prediction.specs.Vectors.{IsSmallVector};
 ghost use Rattle.std.specs.Option.{option_copied};
 ghost use Rattle.block_plan.specs.BlockMvs.{no_vector};
 ghost use Rattle.block_plan.specs.declared.block.Prediction.TheVariants.{Inter};
 ghost use Rattle.prob_contexts.specs.ProbLists.{InterLists, inter_lists};
 ghost use Rattle.counting_reader.specs.Code.{Reads};
+ghost use Rattle.block_geometry.specs.BlockSizes.{is_below_8x8};
 ghost use Rattle.mv_prediction.specs.Code.{AreSmall, PredictsSmall, IsSite};
 ghost use Rattle.mv_prediction.specs.Candidates.{mode_context};
 ghost use Rattle.inter_modes.specs.Code.{MaySearch, AreSmallQuarters, sources_in};
@@ -20,6 +21,13 @@ use counting_reader::{CountingReader, nodes_from};
 use frame_headers::FrameFilter;
 use prob_contexts::ProbKind;
 use vp9_types::{InterMode, InterpFilter, Rule};
+
+/// What a block's filter is read by: the frame's filter, and the context of filters.
+#[derive(Clone, Copy, Debug, PartialEq, Eq)]
+pub struct FilterSource {
+    pub frame: FrameFilter,
+    pub context: u8,
+}
 
 #[tactic(auto, unfolding(crate::specs::ModeInfo::interp_filter, counting_reader::specs::CountedSymbols::counted_tree), using(counting_reader::proofs::CountingRuns::counting_bind, counting_reader::proofs::CountingRuns::run_settle))]
 fn read_filter<const COUNTS: bool>(
@@ -125,27 +133,27 @@ fn read_block_mode<const COUNTS: bool>(
     }
 }
 
-/// The prediction of a block of 8x8 or more. `filter` is the frame's, with the block's context.
+/// The prediction of a block of 8x8 or more.
 #[tactic(auto, unfolding(crate::specs::ModeInfo::whole_block), using(counting_reader::proofs::CountingRuns::counting_bind, counting_reader::proofs::CountingRuns::run_settle))]
 fn read_whole<N: Neighbours, Q: Neighbours, const COUNTS: bool>(
     reader: &mut CountingReader<COUNTS>,
     src: &Sources<'_, N, Q>,
     filters: &[u8; 8],
     skips: bool,
-    filter: (FrameFilter, u8),
+    filter: FilterSource,
     references: References,
 ) -> Result<InterPrediction, Rule>
     requires context { src.now.context ≡ mode_context (N.blocks src.now.earlier.now) src.now.search }
     requires few { src.now.context ≤ 6 }
-    requires filter { filter.1 ≤ 3 }
+    requires filter { filter.context ≤ 3 }
     requires may { MaySearch N.holds N.blocks Q.holds Q.blocks src.now.earlier.now (option_copied src.now.before) src.now.search }
     ensures read { (lists : InterLists) → lists.modes ≡ src.now.modes.now → lists.filters ≡ filters.now →
-        Reads (whole_block (sources_in N.blocks Q.blocks src.now) lists skips filter.0 filter.1 references) reader.old result reader.new }
+        Reads (whole_block (sources_in N.blocks Q.blocks src.now) lists skips filter.frame filter.context references) reader.old result reader.new }
     ensures small { IfOk result (λ p. PredictsSmall (Inter p)) }
     ensures references { IfOk result (λ p. p.references ≡ references) }
 {
     let mode = read_block_mode(reader, skips, src.modes, src.context);
-    let filter = read_filter(reader, filter.0, filters, filter.1);
+    let filter = read_filter(reader, filter.frame, filters, filter.context);
     let vectors = read_block_vectors(reader, src, mode, references)?;
     Ok(whole_prediction(references, filter, mode, vectors))
 }
@@ -156,19 +164,20 @@ fn read_block_of_quarters<N: Neighbours, Q: Neighbours, const COUNTS: bool>(
     reader: &mut CountingReader<COUNTS>,
     src: &Sources<'_, N, Q>,
     filters: &[u8; 8],
-    filter: (FrameFilter, u8),
+    filter: FilterSource,
     references: References,
 ) -> Result<InterPrediction, Rule>
+    requires below { is_below_8x8 src.now.search.at.size ≡ true }
     requires context { src.now.context ≡ mode_context (N.blocks src.now.earlier.now) src.now.search }
     requires few { src.now.context ≤ 6 }
-    requires filter { filter.1 ≤ 3 }
+    requires filter { filter.context ≤ 3 }
     requires may { MaySearch N.holds N.blocks Q.holds Q.blocks src.now.earlier.now (option_copied src.now.before) src.now.search }
     ensures read { (lists : InterLists) → lists.modes ≡ src.now.modes.now → lists.filters ≡ filters.now →
-        Reads (block_of_quarters (sources_in N.blocks Q.blocks src.now) lists filter.0 filter.1 references) reader.old result reader.new }
+        Reads (block_of_quarters (sources_in N.blocks Q.blocks src.now) lists filter.frame filter.context references) reader.old result reader.new }
     ensures small { IfOk result (λ p. PredictsSmall (Inter p)) }
     ensures references { IfOk result (λ p. p.references ≡ references) }
 {
-    let filter = read_filter(reader, filter.0, filters, filter.1);
+    let filter = read_filter(reader, filter.frame, filters, filter.context);
     let quarters = read_quarters(reader, src, references)?;
     Ok(quarters_prediction(references, filter, &quarters))
 }
@@ -180,15 +189,15 @@ pub(crate) fn read_inter_prediction<N: Neighbours, Q: Neighbours, const COUNTS: 
     src: &Sources<'_, N, Q>,
     filters: &[u8; 8],
     skips: bool,
-    filter: (FrameFilter, u8),
+    filter: FilterSource,
     references: References,
 ) -> Result<InterPrediction, Rule>
     requires context { src.now.context ≡ mode_context (N.blocks src.now.earlier.now) src.now.search }
     requires few { src.now.context ≤ 6 }
-    requires filter { filter.1 ≤ 3 }
+    requires filter { filter.context ≤ 3 }
     requires may { MaySearch N.holds N.blocks Q.holds Q.blocks src.now.earlier.now (option_copied src.now.before) src.now.search }
     ensures read { (lists : InterLists) → lists.modes ≡ src.now.modes.now → lists.filters ≡ filters.now →
-        Reads (inter_prediction (sources_in N.blocks Q.blocks src.now) lists skips filter.0 filter.1 references) reader.old result reader.new }
+        Reads (inter_prediction (sources_in N.blocks Q.blocks src.now) lists skips filter.frame filter.context references) reader.old result reader.new }
     ensures small { IfOk result (λ p. PredictsSmall (Inter p)) }
     ensures references { IfOk result (λ p. p.references ≡ references) }
 {

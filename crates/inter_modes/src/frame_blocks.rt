@@ -14,7 +14,7 @@ ghost use Rattle.block_plan.specs.SegmentMaps.{id_map};
 ghost use Rattle.inter_modes.specs.Code.{MaySearch, IsBlockAt, AreInRange, PredictsInRange, RefersInRange, frame_in, least_of, sources_in};
 ghost use Rattle.inter_modes.specs.ModeInfo.{checked_references, inter_block, intra_block, inter_frame_block, inter_frame_mode_info, intra_frame_block, mode_info, block_with};
 
-use crate::blocks::read_inter_prediction;
+use crate::blocks::{FilterSource, read_inter_prediction};
 use crate::intra_blocks::read_intra_prediction;
 use crate::starts::{BlockStart, read_block_start, segment_reference};
 use crate::vectors::Sources;
@@ -134,7 +134,10 @@ fn read_inter_block<N: Neighbours, Q: Neighbours, const COUNTS: bool>(
     )?;
     let filters = &setting.contexts.inter.filters;
     let skips = skips_segment(&setting.header.params.segmentation, segment);
-    let filter = (frame.fields.filter, filter_context(above, left));
+    let filter = FilterSource {
+        frame: frame.fields.filter,
+        context: filter_context(above, left),
+    };
     let prediction = read_inter_prediction(reader, src, filters, skips, filter, references)?;
     Ok(block_with(&src.search.at, start, Prediction::Inter(prediction)))
 }

@@ -2,7 +2,8 @@
 
 ghost use Rattle.std.specs.Prelude.{◌≡◌, ◌<◌, ◌≤◌, ◌+◌, drop, length};
 ghost use Rattle.counting_reader.specs.Code.{Reads};
-ghost use Rattle.inter_modes.specs.IntraBlocks.{intra_mode, uv_mode, one_mode, two_rows, two_columns, four_modes, luma_modes, intra_block_mode_info};
+ghost use Rattle.inter_modes.specs.IntraBlocks.{intra_mode, uv_mode, luma_modes, intra_block_mode_info};
+ghost use Rattle.inter_modes.specs.Code.{one_coded_mode, coded_mode_rows, coded_mode_columns, four_coded_modes};
 
 use block_plan::IntraPrediction;
 use counting_reader::{CountingReader, nodes_from};
@@ -38,49 +39,49 @@ fn read_uv_mode<const COUNTS: bool>(
     intra_of(reader.counted_tree(ProbKind::UvMode, first, intra_mode_tree(), nodes))
 }
 
-#[tactic(auto, unfolding(crate::specs::IntraBlocks::one_mode), using(counting_reader::proofs::CountingRuns::counting_bind, counting_reader::proofs::CountingRuns::run_settle))]
+#[tactic(auto, unfolding(crate::specs::Code::one_coded_mode), using(counting_reader::proofs::CountingRuns::counting_bind, counting_reader::proofs::CountingRuns::run_settle))]
 fn read_one_mode<const COUNTS: bool>(
     reader: &mut CountingReader<COUNTS>,
     probs: &[u8; 36],
     group: u8,
 ) -> [IntraMode; 4]
     requires { group ≤ 3 }
-    ensures { Reads (one_mode probs.now group) reader.old result reader.new }
+    ensures { Reads (one_coded_mode probs.now group) reader.old result reader.new }
 {
     let mode = read_mode(reader, probs, group);
     [mode, mode, mode, mode]
 }
 
-#[tactic(auto, unfolding(crate::specs::IntraBlocks::two_rows), using(counting_reader::proofs::CountingRuns::counting_bind, counting_reader::proofs::CountingRuns::run_settle))]
+#[tactic(auto, unfolding(crate::specs::Code::coded_mode_rows), using(counting_reader::proofs::CountingRuns::counting_bind, counting_reader::proofs::CountingRuns::run_settle))]
 fn read_two_rows<const COUNTS: bool>(
     reader: &mut CountingReader<COUNTS>,
     probs: &[u8; 36],
 ) -> [IntraMode; 4]
-    ensures { Reads (two_rows probs.now) reader.old result reader.new }
+    ensures { Reads (coded_mode_rows probs.now) reader.old result reader.new }
 {
     let upper = read_mode(reader, probs, 0);
     let lower = read_mode(reader, probs, 0);
     [upper, upper, lower, lower]
 }
 
-#[tactic(auto, unfolding(crate::specs::IntraBlocks::two_columns), using(counting_reader::proofs::CountingRuns::counting_bind, counting_reader::proofs::CountingRuns::run_settle))]
+#[tactic(auto, unfolding(crate::specs::Code::coded_mode_columns), using(counting_reader::proofs::CountingRuns::counting_bind, counting_reader::proofs::CountingRuns::run_settle))]
 fn read_two_columns<const COUNTS: bool>(
     reader: &mut CountingReader<COUNTS>,
     probs: &[u8; 36],
 ) -> [IntraMode; 4]
-    ensures { Reads (two_columns probs.now) reader.old result reader.new }
+    ensures { Reads (coded_mode_columns probs.now) reader.old result reader.new }
 {
     let left = read_mode(reader, probs, 0);
     let right = read_mode(reader, probs, 0);
     [left, right, left, right]
 }
 
-#[tactic(auto, unfolding(crate::specs::IntraBlocks::four_modes), using(counting_reader::proofs::CountingRuns::counting_bind, counting_reader::proofs::CountingRuns::run_settle))]
+#[tactic(auto, unfolding(crate::specs::Code::four_coded_modes), using(counting_reader::proofs::CountingRuns::counting_bind, counting_reader::proofs::CountingRuns::run_settle))]
 fn read_four_modes<const COUNTS: bool>(
     reader: &mut CountingReader<COUNTS>,
     probs: &[u8; 36],
 ) -> [IntraMode; 4]
-    ensures { Reads (four_modes probs.now) reader.old result reader.new }
+    ensures { Reads (four_coded_modes probs.now) reader.old result reader.new }
 {
     let first = read_mode(reader, probs, 0);
     let second = read_mode(reader, probs, 0);
@@ -89,7 +90,7 @@ fn read_four_modes<const COUNTS: bool>(
     [first, second, third, fourth]
 }
 
-#[tactic(auto, unfolding(crate::specs::IntraBlocks::luma_modes))]
+#[tactic(auto, unfolding(crate::specs::Code::coded_by_size), using(crate::proofs::QuartersBySize::luma_of_size))]
 fn read_luma_modes<const COUNTS: bool>(
     reader: &mut CountingReader<COUNTS>,
     probs: &[u8; 36],

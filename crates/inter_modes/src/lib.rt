@@ -10,13 +10,13 @@ mod segments;
 mod starts;
 mod vectors;
 
-pub use blocks::{quarters_prediction, whole_prediction};
+pub use blocks::{FilterSource, quarters_prediction, whole_prediction};
 pub use frame_blocks::{Frame, block_with, mode_info};
 pub use laws::blocks_are_of_their_columns;
 pub use quarters::{Quarter, QuartersBefore, before_of};
 pub use segments::update_segments;
 pub use starts::{BlockStart, SegmentOf, is_inter_feature, least_id, segment_reference};
 pub use vectors::{
-    NO_VECTOR, NO_VECTORS, Sources, best_vectors, near_of_block, near_of_quarter,
+    NO_VECTOR, NO_VECTORS, Sources, WantedVector, best_vectors, near_of_block, near_of_quarter,
     nearest_of_quarter, of_list,
 };

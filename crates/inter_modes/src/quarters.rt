@@ -1,12 +1,13 @@
 //! Quarters of blocks below 8x8.
 
-ghost use Rattle.std.specs.Prelude.{◌≡◌, ◌<◌, ◌≤◌, IfOk};
+ghost use Rattle.std.specs.Prelude.{◌≡◌, ◌<◌, ◌≤◌, true, IfOk};
 ghost use Rattle.std.specs.List.{All};
 ghost use Rattle.std.specs.Option.{option_copied};
 ghost use Rattle.counting_reader.specs.Code.{Reads};
+ghost use Rattle.block_geometry.specs.BlockSizes.{is_below_8x8};
 ghost use Rattle.mv_prediction.specs.Code.{AreSmall};
-ghost use Rattle.inter_modes.specs.Code.{MaySearch, AreSmallBefore, AreSmallQuarters, sources_in};
-ghost use Rattle.inter_modes.specs.BlockVectors.{before_of, four_quarters, two_columns, two_rows, quarters};
+ghost use Rattle.inter_modes.specs.Code.{MaySearch, AreSmallBefore, AreSmallQuarters, four_quarters, quarter_columns, quarter_rows, sources_in};
+ghost use Rattle.inter_modes.specs.BlockVectors.{before_of, quarters};
 
 use crate::vectors::{NO_VECTORS, Sources, best_vectors, read_quarter};
 use block_plan::{Mv, Neighbours, References};
@@ -44,7 +45,7 @@ pub fn before_of(best: [Mv; 2], q: [Mv; 2], r: [Mv; 2], t: [Mv; 2]) -> QuartersB
 }
 
 /// Those of a block of 4x4, one after another.
-#[tactic(auto, unfolding(crate::specs::BlockVectors::four_quarters), using(counting_reader::proofs::CountingRuns::counting_bind, counting_reader::proofs::CountingRuns::run_settle))]
+#[tactic(auto, unfolding(crate::specs::Code::four_quarters), using(counting_reader::proofs::CountingRuns::counting_bind, counting_reader::proofs::CountingRuns::run_settle))]
 fn read_four<N: Neighbours, Q: Neighbours, const COUNTS: bool>(
     reader: &mut CountingReader<COUNTS>,
     src: &Sources<'_, N, Q>,
@@ -74,7 +75,7 @@ fn read_four<N: Neighbours, Q: Neighbours, const COUNTS: bool>(
 }
 
 /// Those of a block of 4x8: one at the left and one at the right.
-#[tactic(auto, unfolding(crate::specs::BlockVectors::two_columns), using(counting_reader::proofs::CountingRuns::counting_bind, counting_reader::proofs::CountingRuns::run_settle))]
+#[tactic(auto, unfolding(crate::specs::Code::quarter_columns), using(counting_reader::proofs::CountingRuns::counting_bind, counting_reader::proofs::CountingRuns::run_settle))]
 fn read_two_columns<N: Neighbours, Q: Neighbours, const COUNTS: bool>(
     reader: &mut CountingReader<COUNTS>,
     src: &Sources<'_, N, Q>,
@@ -84,7 +85,7 @@ fn read_two_columns<N: Neighbours, Q: Neighbours, const COUNTS: bool>(
     requires context { src.now.context ≤ 6 }
     requires may { MaySearch N.holds N.blocks Q.holds Q.blocks src.now.earlier.now (option_copied src.now.before) src.now.search }
     requires small { AreSmall best }
-    ensures read { Reads (two_columns (sources_in N.blocks Q.blocks src.now) src.now.modes.now src.now.context refs best) reader.old result reader.new }
+    ensures read { Reads (quarter_columns (sources_in N.blocks Q.blocks src.now) src.now.modes.now src.now.context refs best) reader.old result reader.new }
     ensures small { IfOk result AreSmallQuarters }
 {
     let none = NO_VECTORS;
@@ -100,7 +101,7 @@ fn read_two_columns<N: Neighbours, Q: Neighbours, const COUNTS: bool>(
 }
 
 /// Those of a block of 8x4: an upper and a lower one.
-#[tactic(auto, unfolding(crate::specs::BlockVectors::two_rows), using(counting_reader::proofs::CountingRuns::counting_bind, counting_reader::proofs::CountingRuns::run_settle))]
+#[tactic(auto, unfolding(crate::specs::Code::quarter_rows), using(counting_reader::proofs::CountingRuns::counting_bind, counting_reader::proofs::CountingRuns::run_settle))]
 fn read_two_rows<N: Neighbours, Q: Neighbours, const COUNTS: bool>(
     reader: &mut CountingReader<COUNTS>,
     src: &Sources<'_, N, Q>,
@@ -110,7 +111,7 @@ fn read_two_rows<N: Neighbours, Q: Neighbours, const COUNTS: bool>(
     requires context { src.now.context ≤ 6 }
     requires may { MaySearch N.holds N.blocks Q.holds Q.blocks src.now.earlier.now (option_copied src.now.before) src.now.search }
     requires small { AreSmall best }
-    ensures read { Reads (two_rows (sources_in N.blocks Q.blocks src.now) src.now.modes.now src.now.context refs best) reader.old result reader.new }
+    ensures read { Reads (quarter_rows (sources_in N.blocks Q.blocks src.now) src.now.modes.now src.now.context refs best) reader.old result reader.new }
     ensures small { IfOk result AreSmallQuarters }
 {
     let none = NO_VECTORS;
@@ -121,12 +122,13 @@ fn read_two_rows<N: Neighbours, Q: Neighbours, const COUNTS: bool>(
 }
 
 /// The quarters of a block below 8x8.
-#[tactic(auto, unfolding(crate::specs::BlockVectors::quarters))]
+#[tactic(auto, unfolding(crate::specs::Code::quarters_by_size), using(crate::proofs::QuartersBySize::quarters_of_size))]
 pub(crate) fn read_quarters<N: Neighbours, Q: Neighbours, const COUNTS: bool>(
     reader: &mut CountingReader<COUNTS>,
     src: &Sources<'_, N, Q>,
     refs: References,
 ) -> Result<[Quarter; 4], Rule>
+    requires below { is_below_8x8 src.now.search.at.size ≡ true }
     requires context { src.now.context ≤ 6 }
     requires may { MaySearch N.holds N.blocks Q.holds Q.blocks src.now.earlier.now (option_copied src.now.before) src.now.search }
     ensures read { Reads (quarters (sources_in N.blocks Q.blocks src.now) src.now.modes.now src.now.context refs src.now.search.at.size) reader.old result reader.new }

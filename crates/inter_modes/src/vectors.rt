@@ -35,6 +35,13 @@ pub struct Sources<'a, N, Q> {
     pub before: Option<&'a Q>,
 }
 
+/// Which of a block's vectors is wanted: that of a reference, in the first list or the second.
+#[derive(Clone, Copy, Debug, PartialEq, Eq)]
+pub struct WantedVector {
+    pub reference: ReferenceFrame,
+    pub list: usize,
+}
+
 /// A block's mode, bool by bool: a loop over so small a tree costs more.
 #[tactic(auto, unfolding(crate::specs::BlockVectors::inter_mode, counting_reader::specs::CountedSymbols::counted_tree), using(counting_reader::proofs::CountingRuns::counting_bind, counting_reader::proofs::CountingRuns::run_settle))]
 pub(crate) fn read_inter_mode<const COUNTS: bool>(
@@ -196,18 +203,18 @@ fn read_quarter_vector<N: Neighbours, Q: Neighbours, const COUNTS: bool>(
     reader: &mut CountingReader<COUNTS>,
     src: &Sources<'_, N, Q>,
     mode: InterMode,
-    wanted: (ReferenceFrame, usize),
+    wanted: WantedVector,
     k: u8,
     before: &QuartersBefore,
 ) -> Result<Mv, Rule>
-    requires list { wanted.1 < 2 }
+    requires list { wanted.list < 2 }
     requires k { k < 4 }
     requires may { MaySearch N.holds N.blocks Q.holds Q.blocks src.now.earlier.now (option_copied src.now.before) src.now.search }
     requires small { AreSmallBefore before.now }
-    ensures read { Reads (quarter_vector (sources_in N.blocks Q.blocks src.now) mode wanted.0 wanted.1 k before.now) reader.old result reader.new }
+    ensures read { Reads (quarter_vector (sources_in N.blocks Q.blocks src.now) mode wanted.reference wanted.list k before.now) reader.old result reader.new }
     ensures small { IfOk result IsSmallVector }
 {
-    let (reference, list) = wanted;
+    let WantedVector { reference, list } = wanted;
     let quarters = of_list(list, &before.rows);
     match mode {
         InterMode::Zero => Ok(NO_VECTOR),
@@ -235,14 +242,19 @@ fn read_quarter_vectors<N: Neighbours, Q: Neighbours, const COUNTS: bool>(
     ensures read { Reads (quarter_vectors (sources_in N.blocks Q.blocks src.now) mode references k before.now) reader.old result reader.new }
     ensures small { IfOk result AreSmall }
 {
-    let first = match read_quarter_vector(reader, src, mode, (references.first, 0), k, before) {
+    let wanted = WantedVector {
+        reference: references.first,
+        list: 0,
+    };
+    let first = match read_quarter_vector(reader, src, mode, wanted, k, before) {
         Ok(first) => first,
         Err(rule) => return Err(rule),
     };
     match references.second {
         None => Ok([first, NO_VECTOR]),
         Some(reference) => {
-            match read_quarter_vector(reader, src, mode, (reference, 1), k, before) {
+            let wanted = WantedVector { reference, list: 1 };
+            match read_quarter_vector(reader, src, mode, wanted, k, before) {
                 Ok(second) => Ok([first, second]),
                 Err(rule) => Err(rule),
             }

@@ -5,18 +5,17 @@ ghost use Rattle.std.specs.List.{All};
 ghost use Rattle.std.specs.Option.{option_copied};
 ghost use Rattle.vp9_tables.specs.BlockTables.{greatest_of};
 ghost use Rattle.vp9_tables.specs.Numbers.{tx_number};
-ghost use Rattle.prob_contexts.specs.ProbLists.{lists_of, vector_lists};
+ghost use Rattle.prob_contexts.specs.ProbLists.{lists_of};
 ghost use Rattle.block_plan.specs.declared.block.Prediction.TheVariants as predicted;
 ghost use Rattle.bool_encoder.specs.CountedBools.{PutsValue};
 ghost use Rattle.mv_prediction.specs.Candidates.{mode_context, sign_biases};
 ghost use Rattle.mv_prediction.specs.Code.{HasSmallVectors, IsSite, blocks_of};
 ghost use Rattle.block_plan.specs.SegmentMaps.{id_map};
-ghost use Rattle.inter_modes.specs.Code.{MaySearch, IsBlockAt, AreInRange, PredictsInRange, RefersInRange, frame_in, least_of};
+ghost use Rattle.inter_modes.specs.Code.{MaySearch, IsBlockAt, AreInRange, PredictsInRange, RefersInRange, frame_in, least_of, sources_in};
 ghost use Rattle.inter_modes.specs.ModeInfo.{checked_references, inter_block, intra_block, inter_frame_block, inter_frame_mode_info, intra_frame_block, mode_info, block_with, sources_of, least_before};
 ghost use Rattle.inter_contexts.specs.BlockReferences.{in_range_or_rule};
 ghost use Rattle.mode_writer.specs.ModeFits.{CanLuma, CanPutIntraFrame};
 ghost use Rattle.inter_writer.specs.InterFits.{CanRefer, choice_of, IsSegment, CanStart, CanSayInterBlock, CanPredict, CanPutInterFrame, CanPutIntra, CanPut};
-ghost use Rattle.vector_writer.specs.Code.{sources_of as sources_in};
 ghost use Rattle.inter_writer.specs.SaidBlocks.{inter_block_said, block_said, IsSaidIntra, IsSaid};
 
 use crate::intra_blocks::put_intra_prediction;
@@ -30,7 +29,7 @@ use bool_encoder::BoolEncoder;
 use frame_headers::FrameKind;
 use frame_setting::FrameSetting;
 use inter_contexts::{filter_context, in_range_or_rule};
-use inter_modes::{BlockStart, Frame, Sources, block_with, segment_reference};
+use inter_modes::{BlockStart, FilterSource, Frame, Sources, block_with, segment_reference};
 use mode_syntax::skips_segment;
 use mode_writer::put_intra_frame_mode_info;
 use mv_prediction::{MvSearch, SignBiases, mode_context};
@@ -157,10 +156,10 @@ fn put_inter_block<N: Neighbours, Q: Neighbours>(
     }
     let filters = &setting.contexts.inter.filters;
     let skips = skips_segment(&setting.header.params.segmentation, segment);
-    let filter = (
-        frame.fields.filter,
-        filter_context(beside.above, beside.left),
-    );
+    let filter = FilterSource {
+        frame: frame.fields.filter,
+        context: filter_context(beside.above, beside.left),
+    };
     match put_inter_prediction(encoder, src, filters, skips, filter, symbols)? {
         Ok(prediction) => {
             let prediction = Prediction::Inter(prediction);

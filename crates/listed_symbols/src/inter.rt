@@ -5,10 +5,9 @@ ghost use Rattle.std.specs.List.{All};
 ghost use Rattle.std.specs.Option.{option_copied};
 ghost use Rattle.mv_prediction.specs.Candidates.{sign_biases};
 ghost use Rattle.mv_prediction.specs.Code.{HasSmallVectors, IsSite, blocks_of};
-ghost use Rattle.inter_modes.specs.Code.{MaySearch, frame_in, least_of};
+ghost use Rattle.inter_modes.specs.Code.{MaySearch, frame_in, least_of, sources_in};
 ghost use Rattle.inter_modes.specs.ModeInfo.{sources_of};
 ghost use Rattle.inter_writer.specs.InterFits.{CanPredict, CanPutInterFrame, CanSayInterBlock};
-ghost use Rattle.vector_writer.specs.Code as code;
 ghost use Rattle.listed_symbols.specs.InterTests.{can_predict, can_put_inter, can_say_block};
 
 use crate::intra::can_luma;
@@ -33,8 +32,8 @@ fn can_say_block<N: Neighbours, Q: Neighbours>(
 ) -> bool
     requires segment { segment ≤ 7 }
     requires may { MaySearch N.holds N.blocks Q.holds Q.blocks src.now.earlier.now (option_copied src.now.before) src.now.search }
-    ensures is { result ≡ can_say_block (frame_in frame.now) (code.sources_of N.blocks Q.blocks src.now) segment q.now }
-    ensures can { result ≡ true → CanSayInterBlock (frame_in frame.now) (code.sources_of N.blocks Q.blocks src.now) segment q.now }
+    ensures is { result ≡ can_say_block (frame_in frame.now) (sources_in N.blocks Q.blocks src.now) segment q.now }
+    ensures can { result ≡ true → CanSayInterBlock (frame_in frame.now) (sources_in N.blocks Q.blocks src.now) segment q.now }
 {
     let setting = frame.setting;
     let segmentation = &setting.header.params.segmentation;
@@ -67,8 +66,8 @@ fn can_predict<N: Neighbours, Q: Neighbours>(
 ) -> bool
     requires segment { start.now.segment.id ≤ 7 }
     requires may { MaySearch N.holds N.blocks Q.holds Q.blocks src.now.earlier.now (option_copied src.now.before) src.now.search }
-    ensures is { result ≡ can_predict (frame_in frame.now) (code.sources_of N.blocks Q.blocks src.now) start.now prediction.now }
-    ensures can { result ≡ true → CanPredict (frame_in frame.now) (code.sources_of N.blocks Q.blocks src.now) start.now prediction.now }
+    ensures is { result ≡ can_predict (frame_in frame.now) (sources_in N.blocks Q.blocks src.now) start.now prediction.now }
+    ensures can { result ≡ true → CanPredict (frame_in frame.now) (sources_in N.blocks Q.blocks src.now) start.now prediction.now }
 {
     match prediction {
         PredictionSymbols::Intra(p) => { !start.is_inter && can_luma(src.search.at.size, p.luma) }
@@ -89,8 +88,8 @@ fn can_put_by<N: Neighbours, Q: Neighbours>(
 ) -> bool
     requires least { least ≤ 7 }
     requires may { MaySearch N.holds N.blocks Q.holds Q.blocks src.now.earlier.now (option_copied src.now.before) src.now.search }
-    ensures is { result ≡ can_put_inter (frame_in frame.now) (code.sources_of N.blocks Q.blocks src.now) least symbols.now.start symbols.now.prediction }
-    ensures can { result ≡ true → CanPutInterFrame (frame_in frame.now) (code.sources_of N.blocks Q.blocks src.now) least symbols.now.start symbols.now.prediction }
+    ensures is { result ≡ can_put_inter (frame_in frame.now) (sources_in N.blocks Q.blocks src.now) least symbols.now.start symbols.now.prediction }
+    ensures can { result ≡ true → CanPutInterFrame (frame_in frame.now) (sources_in N.blocks Q.blocks src.now) least symbols.now.start symbols.now.prediction }
 {
     let setting = frame.setting;
     let segmentation = &setting.header.params.segmentation;

@@ -18,7 +18,9 @@ use Rattle.block_plan.specs.declared.block.References.{References}
 use Rattle.counting_reader.specs.Counting.{Yields}
 use Rattle.counting_reader.proofs.Yields.{yields_bind, yields_all, yields_map}
 use Rattle.mv_prediction.specs.Candidates.{mode_context}
-use Rattle.inter_modes.specs.BlockVectors.{Sources, row_at, inter_mode, block_vectors, best_vectors, nothing_before, before_of, four_quarters, two_columns, two_rows, quarters}
+use Rattle.inter_modes.proofs.QuartersBySize.{quarters_of_size}
+use Rattle.inter_modes.specs.Code.{four_quarters, quarters_by_size, quarter_columns, quarter_rows}
+use Rattle.inter_modes.specs.BlockVectors.{Sources, row_at, inter_mode, block_vectors, best_vectors, nothing_before, before_of, quarters}
 use Rattle.inter_modes.specs.ModeInfo.{filter_of, interp_filter, block_mode, whole_block, block_of_quarters, inter_prediction}
 use Rattle.vector_writer.specs.VectorFits.{CanFilter, CanSayVectors, CanSayInter, quarter_saying}
 use Rattle.vector_writer.specs.SaidVectors.{mode_at, symbols_at, quarter_said, four_said, columns_said, rows_said, quarters_said, block_vectors_said, whole_said, of_quarters_said, inter_said}
@@ -114,8 +116,8 @@ four_yield s probs context refs filter =
     (λ a rule ca ea. (record { a = a; b = idle; c = idle; d = idle }, can a idle idle idle ca none none none, rw ea refl))
 
 columns_yield : (s : Sources) (probs : List ℕ) (context : ℕ) (refs : References) (filter : InterpFilter)
-    → Yields (two_columns s probs context refs (best_vectors s refs)) (Said (FourCan s refs filter B4x8) (λ f. columns_said s (symbols_of refs filter f) (best_vectors s refs)))
-unfolding two_columns columns_said
+    → Yields (quarter_columns s probs context refs (best_vectors s refs)) (Said (FourCan s refs filter B4x8) (λ f. columns_said s (symbols_of refs filter f) (best_vectors s refs)))
+unfolding quarter_columns columns_said
 columns_yield s probs context refs filter =
     let best = best_vectors s refs in
     let say = CanQuarter s.allowed best refs in
@@ -128,8 +130,8 @@ columns_yield s probs context refs filter =
     (λ a rule ca ea. (record { a = a; b = idle; c = a; d = idle }, can a idle ca none, rw ea refl))
 
 rows_yield : (s : Sources) (probs : List ℕ) (context : ℕ) (refs : References) (filter : InterpFilter)
-    → Yields (two_rows s probs context refs (best_vectors s refs)) (Said (FourCan s refs filter B8x4) (λ f. rows_said s (symbols_of refs filter f) (best_vectors s refs)))
-unfolding two_rows rows_said
+    → Yields (quarter_rows s probs context refs (best_vectors s refs)) (Said (FourCan s refs filter B8x4) (λ f. rows_said s (symbols_of refs filter f) (best_vectors s refs)))
+unfolding quarter_rows rows_said
 rows_yield s probs context refs filter =
     let best = best_vectors s refs in
     let say = CanQuarter s.allowed best refs in
@@ -144,22 +146,27 @@ rows_yield s probs context refs filter =
 no : false ≡ true → ⊥
 no e = cc
 
+by_size_yield : (s : Sources) (probs : List ℕ) (context : ℕ) (refs : References) (filter : InterpFilter) (size : BlockSize) → is_below_8x8 size ≡ true
+    → Yields (quarters_by_size s probs context refs size) (Said (FourCan s refs filter size) (λ f. quarters_said s (symbols_of refs filter f) size))
+unfolding quarters_by_size quarters_said
+by_size_yield s probs context refs filter B4x4 below = four_yield s probs context refs filter
+by_size_yield s probs context refs filter B4x8 below = columns_yield s probs context refs filter
+by_size_yield s probs context refs filter B8x4 below = rows_yield s probs context refs filter
+by_size_yield s probs context refs filter B8x8 below = absurd (no below)
+by_size_yield s probs context refs filter B8x16 below = absurd (no below)
+by_size_yield s probs context refs filter B16x8 below = absurd (no below)
+by_size_yield s probs context refs filter B16x16 below = absurd (no below)
+by_size_yield s probs context refs filter B16x32 below = absurd (no below)
+by_size_yield s probs context refs filter B32x16 below = absurd (no below)
+by_size_yield s probs context refs filter B32x32 below = absurd (no below)
+by_size_yield s probs context refs filter B32x64 below = absurd (no below)
+by_size_yield s probs context refs filter B64x32 below = absurd (no below)
+by_size_yield s probs context refs filter B64x64 below = absurd (no below)
+
 pub quarters_yield : (s : Sources) (probs : List ℕ) (context : ℕ) (refs : References) (filter : InterpFilter) (size : BlockSize) → is_below_8x8 size ≡ true
     → Yields (quarters s probs context refs size) (Said (FourCan s refs filter size) (λ f. quarters_said s (symbols_of refs filter f) size))
-unfolding quarters quarters_said
-quarters_yield s probs context refs filter B4x4 below = four_yield s probs context refs filter
-quarters_yield s probs context refs filter B4x8 below = columns_yield s probs context refs filter
-quarters_yield s probs context refs filter B8x4 below = rows_yield s probs context refs filter
-quarters_yield s probs context refs filter B8x8 below = absurd (no below)
-quarters_yield s probs context refs filter B8x16 below = absurd (no below)
-quarters_yield s probs context refs filter B16x8 below = absurd (no below)
-quarters_yield s probs context refs filter B16x16 below = absurd (no below)
-quarters_yield s probs context refs filter B16x32 below = absurd (no below)
-quarters_yield s probs context refs filter B32x16 below = absurd (no below)
-quarters_yield s probs context refs filter B32x32 below = absurd (no below)
-quarters_yield s probs context refs filter B32x64 below = absurd (no below)
-quarters_yield s probs context refs filter B64x32 below = absurd (no below)
-quarters_yield s probs context refs filter B64x64 below = absurd (no below)
+quarters_yield s probs context refs filter size below =
+    rw (quarters_of_size s probs context refs size below) (by_size_yield s probs context refs filter size below)
 
 ---- Filters and modes ----
 

@@ -5,14 +5,13 @@ ghost use Rattle.std.specs.Option.{option_copied};
 ghost use Rattle.vp9_types.specs.declared.block.InterMode.TheVariants.{Zero};
 ghost use Rattle.block_geometry.specs.BlockSizes.{is_below_8x8};
 ghost use Rattle.block_plan.specs.declared.block.Prediction.TheVariants.{Inter};
-ghost use Rattle.prob_contexts.specs.ProbLists.{InterLists, vector_lists};
+ghost use Rattle.prob_contexts.specs.ProbLists.{InterLists};
 ghost use Rattle.bool_encoder.specs.CountedBools.{PutsValue};
-ghost use Rattle.mv_prediction.specs.Code.{PredictsSmall, blocks_of};
+ghost use Rattle.mv_prediction.specs.Code.{PredictsSmall};
 ghost use Rattle.mv_prediction.specs.Candidates.{mode_context};
-ghost use Rattle.inter_modes.specs.Code.{MaySearch};
+ghost use Rattle.inter_modes.specs.Code.{MaySearch, sources_in};
 ghost use Rattle.inter_modes.specs.BlockVectors.{best_vectors};
 ghost use Rattle.inter_modes.specs.ModeInfo.{filter_of, interp_filter, block_mode, whole_block, block_of_quarters, inter_prediction};
-ghost use Rattle.vector_writer.specs.Code.{sources_of};
 ghost use Rattle.vector_writer.specs.VectorFits.{CanFilter, CanSayVectors, CanSayInter, quarter_saying};
 ghost use Rattle.vector_writer.specs.SaidVectors.{mode_at, symbols_at, whole_said, of_quarters_said, inter_said, HasSaid};
 
@@ -24,7 +23,7 @@ use block_plan::{InterPrediction, Neighbours};
 use bool_encoder::{BoolEncoder, put_tree};
 use counting_reader::nodes_from;
 use frame_headers::FrameFilter;
-use inter_modes::{Sources, quarters_prediction, whole_prediction};
+use inter_modes::{FilterSource, Sources, quarters_prediction, whole_prediction};
 use std::alloc::AllocError;
 use vp9_tables::filter_tree;
 use vp9_types::{InterMode, InterpFilter, Rule};
@@ -70,31 +69,37 @@ fn put_block_mode(
     put_inter_mode(encoder, probs, context, mode)
 }
 
-/// The prediction of a block of 8x8 or more. `filter` is the frame's, with the block's context.
+/// The prediction of a block of 8x8 or more.
 #[tactic(auto, unfolding(inter_modes::specs::ModeInfo::whole_block, crate::specs::SaidVectors::whole_said), using(bool_encoder::proofs::CountedPuts::valued_in_order, bool_encoder::proofs::CountedPuts::valued_settle, vp9_types::proofs::Binds::writes_bind))]
 fn put_whole<N: Neighbours, Q: Neighbours>(
     encoder: &mut BoolEncoder,
     src: &Sources<'_, N, Q>,
     filters: &[u8; 8],
     skips: bool,
-    filter: (FrameFilter, u8),
+    filter: FilterSource,
     symbols: &InterSymbols,
 ) -> Result<Result<InterPrediction, Rule>, AllocError>
     requires context { src.now.context ≡ mode_context (N.blocks src.now.earlier.now) src.now.search }
     requires few { src.now.context ≤ 6 }
-    requires filter { filter.1 ≤ 3 }
+    requires filter { filter.context ≤ 3 }
     requires may { MaySearch N.holds N.blocks Q.holds Q.blocks src.now.earlier.now (option_copied src.now.before) src.now.search }
-    requires named { CanFilter filter.0 symbols.now.filter }
+    requires named { CanFilter filter.frame symbols.now.filter }
     requires skipped { skips ≡ true → mode_at symbols.now.modes 0 ≡ Zero }
-    requires vectors { CanSayVectors src.now.high_precision (best_vectors (sources_of N.blocks Q.blocks src.now) symbols.now.references) symbols.now.references (symbols_at symbols.now 0) }
+    requires vectors { CanSayVectors src.now.high_precision (best_vectors (sources_in N.blocks Q.blocks src.now) symbols.now.references) symbols.now.references (symbols_at symbols.now 0) }
     ensures put { IfOk result (λ p. (lists : InterLists) → lists.modes ≡ src.now.modes.now → lists.filters ≡ filters.now →
-        PutsValue (whole_block (sources_of N.blocks Q.blocks src.now) lists skips filter.0 filter.1 symbols.now.references) encoder.old p encoder.new) }
-    ensures is { IfOk result (λ p. p ≡ whole_said (sources_of N.blocks Q.blocks src.now) symbols.now) }
+        PutsValue (whole_block (sources_in N.blocks Q.blocks src.now) lists skips filter.frame filter.context symbols.now.references) encoder.old p encoder.new) }
+    ensures is { IfOk result (λ p. p ≡ whole_said (sources_in N.blocks Q.blocks src.now) symbols.now) }
     ensures small { IfOk result (λ r. IfOk r (λ p. PredictsSmall (Inter p))) }
 {
     let said = symbols_at(symbols, 0);
     put_block_mode(encoder, skips, src.modes, src.context, said.mode)?;
-    put_filter(encoder, filter.0, filters, filter.1, symbols.filter)?;
+    put_filter(
+        encoder,
+        filter.frame,
+        filters,
+        filter.context,
+        symbols.filter,
+    )?;
     match put_block_vectors(encoder, src, said, symbols.references)? {
         Ok(vectors) => {
             let references = symbols.references;
@@ -110,22 +115,28 @@ fn put_block_of_quarters<N: Neighbours, Q: Neighbours>(
     encoder: &mut BoolEncoder,
     src: &Sources<'_, N, Q>,
     filters: &[u8; 8],
-    filter: (FrameFilter, u8),
+    filter: FilterSource,
     symbols: &InterSymbols,
 ) -> Result<Result<InterPrediction, Rule>, AllocError>
     requires below { is_below_8x8 src.now.search.at.size ≡ true }
     requires context { src.now.context ≡ mode_context (N.blocks src.now.earlier.now) src.now.search }
     requires few { src.now.context ≤ 6 }
-    requires filter { filter.1 ≤ 3 }
+    requires filter { filter.context ≤ 3 }
     requires may { MaySearch N.holds N.blocks Q.holds Q.blocks src.now.earlier.now (option_copied src.now.before) src.now.search }
-    requires named { CanFilter filter.0 symbols.now.filter }
-    requires vectors { (k : ℕ) → k < 4 → CanSayVectors src.now.high_precision (best_vectors (sources_of N.blocks Q.blocks src.now) symbols.now.references) symbols.now.references (symbols_at symbols.now (quarter_saying src.now.search.at.size k)) }
+    requires named { CanFilter filter.frame symbols.now.filter }
+    requires vectors { (k : ℕ) → k < 4 → CanSayVectors src.now.high_precision (best_vectors (sources_in N.blocks Q.blocks src.now) symbols.now.references) symbols.now.references (symbols_at symbols.now (quarter_saying src.now.search.at.size k)) }
     ensures put { IfOk result (λ p. (lists : InterLists) → lists.modes ≡ src.now.modes.now → lists.filters ≡ filters.now →
-        PutsValue (block_of_quarters (sources_of N.blocks Q.blocks src.now) lists filter.0 filter.1 symbols.now.references) encoder.old p encoder.new) }
-    ensures is { IfOk result (λ p. p ≡ of_quarters_said (sources_of N.blocks Q.blocks src.now) symbols.now) }
+        PutsValue (block_of_quarters (sources_in N.blocks Q.blocks src.now) lists filter.frame filter.context symbols.now.references) encoder.old p encoder.new) }
+    ensures is { IfOk result (λ p. p ≡ of_quarters_said (sources_in N.blocks Q.blocks src.now) symbols.now) }
     ensures small { IfOk result (λ r. IfOk r (λ p. PredictsSmall (Inter p))) }
 {
-    put_filter(encoder, filter.0, filters, filter.1, symbols.filter)?;
+    put_filter(
+        encoder,
+        filter.frame,
+        filters,
+        filter.context,
+        symbols.filter,
+    )?;
     match put_quarters(encoder, src, symbols)? {
         Ok(quarters) => Ok(Ok(quarters_prediction(symbols.references, symbols.filter, &quarters))),
         Err(rule) => Ok(Err(rule)),
@@ -133,25 +144,24 @@ fn put_block_of_quarters<N: Neighbours, Q: Neighbours>(
 }
 
 /// Puts what an inter block says behind its references, and answers its prediction, or the rule that a new vector breaks: the
-/// block ends behind that vector. `filter` is the frame's, with the block's context. After want of memory some of the bools
-/// were put, and the tile is given up as a whole.
+/// block ends behind that vector. After want of memory some of the bools were put, and the tile is given up as a whole.
 #[tactic(auto, unfolding(inter_modes::specs::ModeInfo::inter_prediction, crate::specs::SaidVectors::inter_said))]
 pub fn put_inter_prediction<N: Neighbours, Q: Neighbours>(
     encoder: &mut BoolEncoder,
     src: &Sources<'_, N, Q>,
     filters: &[u8; 8],
     skips: bool,
-    filter: (FrameFilter, u8),
+    filter: FilterSource,
     symbols: &InterSymbols,
 ) -> Result<Result<InterPrediction, Rule>, AllocError>
     requires context { src.now.context ≡ mode_context (N.blocks src.now.earlier.now) src.now.search }
     requires few { src.now.context ≤ 6 }
-    requires filter { filter.1 ≤ 3 }
+    requires filter { filter.context ≤ 3 }
     requires may { MaySearch N.holds N.blocks Q.holds Q.blocks src.now.earlier.now (option_copied src.now.before) src.now.search }
-    requires can { CanSayInter (sources_of N.blocks Q.blocks src.now) skips filter.0 symbols.now }
+    requires can { CanSayInter (sources_in N.blocks Q.blocks src.now) skips filter.frame symbols.now }
     ensures put { IfOk result (λ p. (lists : InterLists) → lists.modes ≡ src.now.modes.now → lists.filters ≡ filters.now →
-        PutsValue (inter_prediction (sources_of N.blocks Q.blocks src.now) lists skips filter.0 filter.1 symbols.now.references) encoder.old p encoder.new) }
-    ensures is { IfOk result (λ p. p ≡ inter_said (sources_of N.blocks Q.blocks src.now) symbols.now) }
+        PutsValue (inter_prediction (sources_in N.blocks Q.blocks src.now) lists skips filter.frame filter.context symbols.now.references) encoder.old p encoder.new) }
+    ensures is { IfOk result (λ p. p ≡ inter_said (sources_in N.blocks Q.blocks src.now) symbols.now) }
     ensures said { IfOk result (λ r. IfOk r (HasSaid symbols.now)) }
     ensures small { IfOk result (λ r. IfOk r (λ p. PredictsSmall (Inter p))) }
 {

@@ -2,15 +2,13 @@
 
 ghost use Rattle.std.specs.Prelude.{◌≡◌, ◌<◌, ◌≤◌, ℕ, true, IfOk};
 ghost use Rattle.std.specs.Option.{option_copied};
-ghost use Rattle.prob_contexts.specs.ProbLists.{vector_lists};
 ghost use Rattle.block_geometry.specs.BlockSizes.{is_below_8x8};
 ghost use Rattle.bool_encoder.specs.CountedBools.{PutsValue};
 ghost use Rattle.block_plan.specs.BlockMvs.{vector_at};
-ghost use Rattle.mv_prediction.specs.Code.{AreSmall, blocks_of};
+ghost use Rattle.mv_prediction.specs.Code.{AreSmall};
 ghost use Rattle.mv_prediction.specs.Vectors.{IsSmallVector};
-ghost use Rattle.inter_modes.specs.Code.{MaySearch, AreSmallBefore, AreSmallQuarters};
-ghost use Rattle.inter_modes.specs.BlockVectors.{best_vectors, quarter_vector, quarter_vectors, quarter, four_quarters, two_columns, two_rows, quarters};
-ghost use Rattle.vector_writer.specs.Code.{sources_of};
+ghost use Rattle.inter_modes.specs.Code.{MaySearch, AreSmallBefore, AreSmallQuarters, four_quarters, quarter_columns, quarter_rows, sources_in};
+ghost use Rattle.inter_modes.specs.BlockVectors.{best_vectors, quarter_vector, quarter_vectors, quarter, quarters};
 ghost use Rattle.vector_writer.specs.VectorFits.{CanBeNew, CanSayVectors, quarter_saying};
 ghost use Rattle.vector_writer.specs.SaidVectors.{symbols_at, quarter_vector_said, quarter_vectors_said, quarter_said, four_said, columns_said, rows_said, quarters_said};
 
@@ -20,11 +18,11 @@ use crate::vectors::put_inter_mode;
 use block_plan::{Mv, Neighbours, References};
 use bool_encoder::BoolEncoder;
 use inter_modes::{
-    NO_VECTOR, NO_VECTORS, Quarter, QuartersBefore, Sources, before_of, best_vectors,
+    NO_VECTOR, NO_VECTORS, Quarter, QuartersBefore, Sources, WantedVector, before_of, best_vectors,
     near_of_quarter, nearest_of_quarter, of_list,
 };
 use std::alloc::AllocError;
-use vp9_types::{BlockSize, InterMode, ReferenceFrame, Rule};
+use vp9_types::{BlockSize, InterMode, Rule};
 
 /// A quarter's vector of a reference, of the first list or the second.
 #[tactic(auto, unfolding(inter_modes::specs::BlockVectors::quarter_vector, inter_modes::specs::BlockVectors::vector_of_mode, crate::specs::SaidVectors::quarter_vector_said, crate::specs::SaidVectors::vector_said), using(bool_encoder::proofs::CountedPuts::valued_settle))]
@@ -32,20 +30,20 @@ fn put_quarter_vector<N: Neighbours, Q: Neighbours>(
     encoder: &mut BoolEncoder,
     src: &Sources<'_, N, Q>,
     said: QuarterSymbols,
-    wanted: (ReferenceFrame, usize),
+    wanted: WantedVector,
     k: u8,
     before: &QuartersBefore,
 ) -> Result<Result<Mv, Rule>, AllocError>
-    requires list { wanted.1 < 2 }
+    requires list { wanted.list < 2 }
     requires k { k < 4 }
     requires may { MaySearch N.holds N.blocks Q.holds Q.blocks src.now.earlier.now (option_copied src.now.before) src.now.search }
     requires small { AreSmallBefore before.now }
-    requires can { CanBeNew src.now.high_precision said.mode (vector_at before.now.best wanted.1) (vector_at said.differences wanted.1) }
-    ensures put { IfOk result (λ v. PutsValue (quarter_vector (sources_of N.blocks Q.blocks src.now) said.mode wanted.0 wanted.1 k before.now) encoder.old v encoder.new) }
-    ensures is { IfOk result (λ v. v ≡ quarter_vector_said (sources_of N.blocks Q.blocks src.now) said wanted.0 wanted.1 k before.now) }
+    requires can { CanBeNew src.now.high_precision said.mode (vector_at before.now.best wanted.list) (vector_at said.differences wanted.list) }
+    ensures put { IfOk result (λ v. PutsValue (quarter_vector (sources_in N.blocks Q.blocks src.now) said.mode wanted.reference wanted.list k before.now) encoder.old v encoder.new) }
+    ensures is { IfOk result (λ v. v ≡ quarter_vector_said (sources_in N.blocks Q.blocks src.now) said wanted.reference wanted.list k before.now) }
     ensures small { IfOk result (λ v. IfOk v IsSmallVector) }
 {
-    let (reference, list) = wanted;
+    let WantedVector { reference, list } = wanted;
     let quarters = of_list(list, &before.rows);
     match said.mode {
         InterMode::Zero => Ok(Ok(NO_VECTOR)),
@@ -73,18 +71,23 @@ fn put_quarter_vectors<N: Neighbours, Q: Neighbours>(
     requires may { MaySearch N.holds N.blocks Q.holds Q.blocks src.now.earlier.now (option_copied src.now.before) src.now.search }
     requires small { AreSmallBefore before.now }
     requires can { CanSayVectors src.now.high_precision before.now.best references said }
-    ensures put { IfOk result (λ v. PutsValue (quarter_vectors (sources_of N.blocks Q.blocks src.now) said.mode references k before.now) encoder.old v encoder.new) }
-    ensures is { IfOk result (λ v. v ≡ quarter_vectors_said (sources_of N.blocks Q.blocks src.now) said references k before.now) }
+    ensures put { IfOk result (λ v. PutsValue (quarter_vectors (sources_in N.blocks Q.blocks src.now) said.mode references k before.now) encoder.old v encoder.new) }
+    ensures is { IfOk result (λ v. v ≡ quarter_vectors_said (sources_in N.blocks Q.blocks src.now) said references k before.now) }
     ensures small { IfOk result (λ v. IfOk v AreSmall) }
 {
-    let first = match put_quarter_vector(encoder, src, said, (references.first, 0), k, before)? {
+    let wanted = WantedVector {
+        reference: references.first,
+        list: 0,
+    };
+    let first = match put_quarter_vector(encoder, src, said, wanted, k, before)? {
         Ok(first) => first,
         Err(rule) => return Ok(Err(rule)),
     };
     match references.second {
         None => Ok(Ok([first, NO_VECTOR])),
         Some(reference) => {
-            match put_quarter_vector(encoder, src, said, (reference, 1), k, before)? {
+            let wanted = WantedVector { reference, list: 1 };
+            match put_quarter_vector(encoder, src, said, wanted, k, before)? {
                 Ok(second) => Ok(Ok([first, second])),
                 Err(rule) => Ok(Err(rule)),
             }
@@ -106,8 +109,8 @@ fn put_quarter<N: Neighbours, Q: Neighbours>(
     requires may { MaySearch N.holds N.blocks Q.holds Q.blocks src.now.earlier.now (option_copied src.now.before) src.now.search }
     requires small { AreSmallBefore before.now }
     requires can { CanSayVectors src.now.high_precision before.now.best symbols.now.references (symbols_at symbols.now k) }
-    ensures put { IfOk result (λ q. PutsValue (quarter (sources_of N.blocks Q.blocks src.now) src.now.modes.now src.now.context symbols.now.references k before.now) encoder.old q encoder.new) }
-    ensures is { IfOk result (λ q. q ≡ quarter_said (sources_of N.blocks Q.blocks src.now) (symbols_at symbols.now k) symbols.now.references k before.now) }
+    ensures put { IfOk result (λ q. PutsValue (quarter (sources_in N.blocks Q.blocks src.now) src.now.modes.now src.now.context symbols.now.references k before.now) encoder.old q encoder.new) }
+    ensures is { IfOk result (λ q. q ≡ quarter_said (sources_in N.blocks Q.blocks src.now) (symbols_at symbols.now k) symbols.now.references k before.now) }
     ensures small { IfOk result (λ r. IfOk r (λ q. AreSmall q.vectors)) }
 {
     let said = symbols_at(symbols, usize::from(k));
@@ -122,7 +125,7 @@ fn put_quarter<N: Neighbours, Q: Neighbours>(
 }
 
 /// Those of a block of 4x4, one after another.
-#[tactic(auto, unfolding(inter_modes::specs::BlockVectors::four_quarters, crate::specs::SaidVectors::four_said), using(bool_encoder::proofs::CountedPuts::valued_in_order, bool_encoder::proofs::CountedPuts::valued_settle, vp9_types::proofs::Binds::writes_bind))]
+#[tactic(auto, unfolding(inter_modes::specs::Code::four_quarters, crate::specs::SaidVectors::four_said), using(bool_encoder::proofs::CountedPuts::valued_in_order, bool_encoder::proofs::CountedPuts::valued_settle, vp9_types::proofs::Binds::writes_bind))]
 fn put_four<N: Neighbours, Q: Neighbours>(
     encoder: &mut BoolEncoder,
     src: &Sources<'_, N, Q>,
@@ -136,8 +139,8 @@ fn put_four<N: Neighbours, Q: Neighbours>(
     requires second { CanSayVectors src.now.high_precision best symbols.now.references (symbols_at symbols.now 1) }
     requires third { CanSayVectors src.now.high_precision best symbols.now.references (symbols_at symbols.now 2) }
     requires fourth { CanSayVectors src.now.high_precision best symbols.now.references (symbols_at symbols.now 3) }
-    ensures put { IfOk result (λ qs. PutsValue (four_quarters (sources_of N.blocks Q.blocks src.now) src.now.modes.now src.now.context symbols.now.references best) encoder.old qs encoder.new) }
-    ensures is { IfOk result (λ qs. qs ≡ four_said (sources_of N.blocks Q.blocks src.now) symbols.now best) }
+    ensures put { IfOk result (λ qs. PutsValue (four_quarters (sources_in N.blocks Q.blocks src.now) src.now.modes.now src.now.context symbols.now.references best) encoder.old qs encoder.new) }
+    ensures is { IfOk result (λ qs. qs ≡ four_said (sources_in N.blocks Q.blocks src.now) symbols.now best) }
     ensures small { IfOk result (λ qs. IfOk qs AreSmallQuarters) }
 {
     let before = before_of(best, NO_VECTORS, NO_VECTORS, NO_VECTORS);
@@ -164,7 +167,7 @@ fn put_four<N: Neighbours, Q: Neighbours>(
 }
 
 /// Those of a block of 4x8: one at the left and one at the right.
-#[tactic(auto, unfolding(inter_modes::specs::BlockVectors::two_columns, crate::specs::SaidVectors::columns_said), using(bool_encoder::proofs::CountedPuts::valued_in_order, bool_encoder::proofs::CountedPuts::valued_settle, vp9_types::proofs::Binds::writes_bind))]
+#[tactic(auto, unfolding(inter_modes::specs::Code::quarter_columns, crate::specs::SaidVectors::columns_said), using(bool_encoder::proofs::CountedPuts::valued_in_order, bool_encoder::proofs::CountedPuts::valued_settle, vp9_types::proofs::Binds::writes_bind))]
 fn put_two_columns<N: Neighbours, Q: Neighbours>(
     encoder: &mut BoolEncoder,
     src: &Sources<'_, N, Q>,
@@ -176,8 +179,8 @@ fn put_two_columns<N: Neighbours, Q: Neighbours>(
     requires small { AreSmall best }
     requires left { CanSayVectors src.now.high_precision best symbols.now.references (symbols_at symbols.now 0) }
     requires right { CanSayVectors src.now.high_precision best symbols.now.references (symbols_at symbols.now 1) }
-    ensures put { IfOk result (λ qs. PutsValue (two_columns (sources_of N.blocks Q.blocks src.now) src.now.modes.now src.now.context symbols.now.references best) encoder.old qs encoder.new) }
-    ensures is { IfOk result (λ qs. qs ≡ columns_said (sources_of N.blocks Q.blocks src.now) symbols.now best) }
+    ensures put { IfOk result (λ qs. PutsValue (quarter_columns (sources_in N.blocks Q.blocks src.now) src.now.modes.now src.now.context symbols.now.references best) encoder.old qs encoder.new) }
+    ensures is { IfOk result (λ qs. qs ≡ columns_said (sources_in N.blocks Q.blocks src.now) symbols.now best) }
     ensures small { IfOk result (λ qs. IfOk qs AreSmallQuarters) }
 {
     let none = NO_VECTORS;
@@ -195,7 +198,7 @@ fn put_two_columns<N: Neighbours, Q: Neighbours>(
 }
 
 /// Those of a block of 8x4: an upper and a lower one.
-#[tactic(auto, unfolding(inter_modes::specs::BlockVectors::two_rows, crate::specs::SaidVectors::rows_said), using(bool_encoder::proofs::CountedPuts::valued_in_order, bool_encoder::proofs::CountedPuts::valued_settle, vp9_types::proofs::Binds::writes_bind))]
+#[tactic(auto, unfolding(inter_modes::specs::Code::quarter_rows, crate::specs::SaidVectors::rows_said), using(bool_encoder::proofs::CountedPuts::valued_in_order, bool_encoder::proofs::CountedPuts::valued_settle, vp9_types::proofs::Binds::writes_bind))]
 fn put_two_rows<N: Neighbours, Q: Neighbours>(
     encoder: &mut BoolEncoder,
     src: &Sources<'_, N, Q>,
@@ -207,8 +210,8 @@ fn put_two_rows<N: Neighbours, Q: Neighbours>(
     requires small { AreSmall best }
     requires upper { CanSayVectors src.now.high_precision best symbols.now.references (symbols_at symbols.now 0) }
     requires lower { CanSayVectors src.now.high_precision best symbols.now.references (symbols_at symbols.now 2) }
-    ensures put { IfOk result (λ qs. PutsValue (two_rows (sources_of N.blocks Q.blocks src.now) src.now.modes.now src.now.context symbols.now.references best) encoder.old qs encoder.new) }
-    ensures is { IfOk result (λ qs. qs ≡ rows_said (sources_of N.blocks Q.blocks src.now) symbols.now best) }
+    ensures put { IfOk result (λ qs. PutsValue (quarter_rows (sources_in N.blocks Q.blocks src.now) src.now.modes.now src.now.context symbols.now.references best) encoder.old qs encoder.new) }
+    ensures is { IfOk result (λ qs. qs ≡ rows_said (sources_in N.blocks Q.blocks src.now) symbols.now best) }
     ensures small { IfOk result (λ qs. IfOk qs AreSmallQuarters) }
 {
     let none = NO_VECTORS;
@@ -226,7 +229,7 @@ fn put_two_rows<N: Neighbours, Q: Neighbours>(
 }
 
 /// The quarters of a block below 8x8.
-#[tactic(auto, unfolding(inter_modes::specs::BlockVectors::quarters, crate::specs::SaidVectors::quarters_said))]
+#[tactic(auto, unfolding(inter_modes::specs::Code::quarters_by_size, crate::specs::SaidVectors::quarters_said), using(inter_modes::proofs::QuartersBySize::quarters_of_size))]
 pub(crate) fn put_quarters<N: Neighbours, Q: Neighbours>(
     encoder: &mut BoolEncoder,
     src: &Sources<'_, N, Q>,
@@ -235,9 +238,9 @@ pub(crate) fn put_quarters<N: Neighbours, Q: Neighbours>(
     requires below { is_below_8x8 src.now.search.at.size ≡ true }
     requires context { src.now.context ≤ 6 }
     requires may { MaySearch N.holds N.blocks Q.holds Q.blocks src.now.earlier.now (option_copied src.now.before) src.now.search }
-    requires can { (k : ℕ) → k < 4 → CanSayVectors src.now.high_precision (best_vectors (sources_of N.blocks Q.blocks src.now) symbols.now.references) symbols.now.references (symbols_at symbols.now (quarter_saying src.now.search.at.size k)) }
-    ensures put { IfOk result (λ qs. PutsValue (quarters (sources_of N.blocks Q.blocks src.now) src.now.modes.now src.now.context symbols.now.references src.now.search.at.size) encoder.old qs encoder.new) }
-    ensures is { IfOk result (λ qs. qs ≡ quarters_said (sources_of N.blocks Q.blocks src.now) symbols.now src.now.search.at.size) }
+    requires can { (k : ℕ) → k < 4 → CanSayVectors src.now.high_precision (best_vectors (sources_in N.blocks Q.blocks src.now) symbols.now.references) symbols.now.references (symbols_at symbols.now (quarter_saying src.now.search.at.size k)) }
+    ensures put { IfOk result (λ qs. PutsValue (quarters (sources_in N.blocks Q.blocks src.now) src.now.modes.now src.now.context symbols.now.references src.now.search.at.size) encoder.old qs encoder.new) }
+    ensures is { IfOk result (λ qs. qs ≡ quarters_said (sources_in N.blocks Q.blocks src.now) symbols.now src.now.search.at.size) }
     ensures small { IfOk result (λ qs. IfOk qs AreSmallQuarters) }
 {
     let best = best_vectors(src, symbols.references);

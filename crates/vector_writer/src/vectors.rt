@@ -2,14 +2,12 @@
 
 ghost use Rattle.std.specs.Prelude.{◌≡◌, ◌<◌, ◌≤◌, IfOk};
 ghost use Rattle.std.specs.Option.{option_copied};
-ghost use Rattle.prob_contexts.specs.ProbLists.{vector_lists};
 ghost use Rattle.bool_encoder.specs.CountedBools.{PutsValue};
 ghost use Rattle.block_plan.specs.BlockMvs.{vector_at};
-ghost use Rattle.mv_prediction.specs.Code.{AreSmall, blocks_of};
+ghost use Rattle.mv_prediction.specs.Code.{AreSmall};
 ghost use Rattle.mv_prediction.specs.Vectors.{IsSmallVector};
-ghost use Rattle.inter_modes.specs.Code.{MaySearch, AreSmallBefore};
+ghost use Rattle.inter_modes.specs.Code.{MaySearch, AreSmallBefore, sources_in};
 ghost use Rattle.inter_modes.specs.BlockVectors.{inter_of, inter_mode, near_of_block, best_vectors, block_vector, block_vectors};
-ghost use Rattle.vector_writer.specs.Code.{sources_of};
 ghost use Rattle.vector_writer.specs.VectorFits.{CanBeNew, CanSayVectors};
 ghost use Rattle.vector_writer.specs.SaidVectors.{block_vector_said, block_vectors_said};
 
@@ -18,10 +16,10 @@ use crate::symbols::QuarterSymbols;
 use block_plan::{Mv, Neighbours, References};
 use bool_encoder::{BoolEncoder, put_tree};
 use counting_reader::nodes_from;
-use inter_modes::{NO_VECTOR, Sources, near_of_block};
+use inter_modes::{NO_VECTOR, Sources, WantedVector, near_of_block};
 use std::alloc::AllocError;
 use vp9_tables::inter_mode_tree;
-use vp9_types::{InterMode, ReferenceFrame, Rule};
+use vp9_types::{InterMode, Rule};
 
 fn number_of(mode: InterMode) -> u8
     ensures is { inter_of result ≡ mode }
@@ -57,16 +55,16 @@ fn put_block_vector<N: Neighbours, Q: Neighbours>(
     encoder: &mut BoolEncoder,
     src: &Sources<'_, N, Q>,
     said: QuarterSymbols,
-    wanted: (ReferenceFrame, usize),
+    wanted: WantedVector,
 ) -> Result<Result<Mv, Rule>, AllocError>
-    requires list { wanted.1 < 2 }
+    requires list { wanted.list < 2 }
     requires may { MaySearch N.holds N.blocks Q.holds Q.blocks src.now.earlier.now (option_copied src.now.before) src.now.search }
-    requires can { CanBeNew src.now.high_precision said.mode (near_of_block (sources_of N.blocks Q.blocks src.now) wanted.0).nearest (vector_at said.differences wanted.1) }
-    ensures put { IfOk result (λ v. PutsValue (block_vector (sources_of N.blocks Q.blocks src.now) said.mode wanted.0) encoder.old v encoder.new) }
-    ensures is { IfOk result (λ v. v ≡ block_vector_said (sources_of N.blocks Q.blocks src.now) said wanted.0 wanted.1) }
+    requires can { CanBeNew src.now.high_precision said.mode (near_of_block (sources_in N.blocks Q.blocks src.now) wanted.reference).nearest (vector_at said.differences wanted.list) }
+    ensures put { IfOk result (λ v. PutsValue (block_vector (sources_in N.blocks Q.blocks src.now) said.mode wanted.reference) encoder.old v encoder.new) }
+    ensures is { IfOk result (λ v. v ≡ block_vector_said (sources_in N.blocks Q.blocks src.now) said wanted.reference wanted.list) }
     ensures small { IfOk result (λ v. IfOk v IsSmallVector) }
 {
-    let (reference, list) = wanted;
+    let WantedVector { reference, list } = wanted;
     match said.mode {
         InterMode::Zero => Ok(Ok(NO_VECTOR)),
         InterMode::Nearest => Ok(Ok(near_of_block(src, reference).nearest)),
@@ -88,20 +86,27 @@ pub(crate) fn put_block_vectors<N: Neighbours, Q: Neighbours>(
     references: References,
 ) -> Result<Result<[Mv; 2], Rule>, AllocError>
     requires may { MaySearch N.holds N.blocks Q.holds Q.blocks src.now.earlier.now (option_copied src.now.before) src.now.search }
-    requires can { CanSayVectors src.now.high_precision (best_vectors (sources_of N.blocks Q.blocks src.now) references) references said }
-    ensures put { IfOk result (λ v. PutsValue (block_vectors (sources_of N.blocks Q.blocks src.now) said.mode references) encoder.old v encoder.new) }
-    ensures is { IfOk result (λ v. v ≡ block_vectors_said (sources_of N.blocks Q.blocks src.now) said references) }
+    requires can { CanSayVectors src.now.high_precision (best_vectors (sources_in N.blocks Q.blocks src.now) references) references said }
+    ensures put { IfOk result (λ v. PutsValue (block_vectors (sources_in N.blocks Q.blocks src.now) said.mode references) encoder.old v encoder.new) }
+    ensures is { IfOk result (λ v. v ≡ block_vectors_said (sources_in N.blocks Q.blocks src.now) said references) }
     ensures small { IfOk result (λ v. IfOk v AreSmall) }
 {
-    let first = match put_block_vector(encoder, src, said, (references.first, 0))? {
+    let wanted = WantedVector {
+        reference: references.first,
+        list: 0,
+    };
+    let first = match put_block_vector(encoder, src, said, wanted)? {
         Ok(first) => first,
         Err(rule) => return Ok(Err(rule)),
     };
     match references.second {
         None => Ok(Ok([first, NO_VECTOR])),
-        Some(reference) => match put_block_vector(encoder, src, said, (reference, 1))? {
-            Ok(second) => Ok(Ok([first, second])),
-            Err(rule) => Ok(Err(rule)),
-        },
+        Some(reference) => {
+            let wanted = WantedVector { reference, list: 1 };
+            match put_block_vector(encoder, src, said, wanted)? {
+                Ok(second) => Ok(Ok([first, second])),
+                Err(rule) => Ok(Err(rule)),
+            }
+        }
     }
 }

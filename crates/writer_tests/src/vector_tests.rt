@@ -14,7 +14,7 @@ use block_geometry::FramePlaces;
 use block_plan::{BlockAt, BlockGrid, InterPrediction, Mv, References};
 use bool_encoder::BoolEncoder;
 use frame_headers::FrameFilter;
-use inter_modes::{NO_VECTORS, Sources};
+use inter_modes::{FilterSource, NO_VECTORS, Sources};
 use mv_prediction::{MvSearch, SignBiases, mode_context};
 use prob_contexts::default_contexts;
 use std::alloc::Global;
@@ -162,7 +162,11 @@ fn write_quarters(
         before,
     };
     let mut encoder = BoolEncoder::new(alloc);
-    let (filters, filter) = (&contexts.inter.filters, (FrameFilter::Switchable, 1));
+    let filters = &contexts.inter.filters;
+    let filter = FilterSource {
+        frame: FrameFilter::Switchable,
+        context: 1,
+    };
     let said = put_inter_prediction(&mut encoder, &src, filters, false, filter, &symbols)??;
     let expected = InterPrediction {
         modes: symbols.modes,
