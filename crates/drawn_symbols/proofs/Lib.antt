@@ -1,3 +1,4 @@
+mod DrawnBySize
 mod Frames
 mod Places
 mod Sayings

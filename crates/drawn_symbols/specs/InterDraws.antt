@@ -1,8 +1,7 @@
 -- What inter blocks say, as it is drawn (6.4.16 to 6.4.18 of the standard: inter_block_mode_info, ref_frames, assign_mv).
-use Rattle.std.specs.Prelude.{Bool, true, false, ◌&&◌, List, [], ◌∷◌, Result, Ok, Err, if◌then◌else◌}
+use Rattle.std.specs.Prelude.{ℕ, Bool, true, false, ◌&&◌, List, [], ◌∷◌, map, Result, Ok, Err, if◌then◌else◌}
 use Rattle.std.specs.Option.{is_some}
 use Rattle.vp9_types.specs.declared.block.BlockSize.{BlockSize}
-use Rattle.vp9_types.specs.declared.block.BlockSize.TheVariants.{B4x8, B8x4}
 use Rattle.vp9_types.specs.declared.block.InterMode.{InterMode}
 use Rattle.vp9_types.specs.declared.block.InterMode.TheVariants.{Zero, New}
 use Rattle.vp9_types.specs.declared.block.InterpFilter.{InterpFilter}
@@ -13,6 +12,7 @@ use Rattle.vp9_types.specs.declared.block.ReferenceMode.TheVariants.{Single, Com
 use Rattle.vp9_types.specs.declared.rule.Rule.{Rule}
 use Rattle.vp9_tables.specs.SymbolTrees.{filter_tree, inter_mode_tree}
 use Rattle.block_geometry.specs.BlockSizes.{is_below_8x8}
+use Rattle.block_geometry.specs.Quarters.{starting_quarters, with_part}
 use Rattle.block_plan.specs.BlockMvs.{no_vector, vector_at}
 use Rattle.block_plan.specs.declared.block.Mv.{Mv}
 use Rattle.block_plan.specs.declared.block.References.{References}
@@ -81,13 +81,21 @@ draw_quarter allowed best refs = do
 
 ---- Blocks ----
 
-abbrev pub symbols_of : References → InterpFilter → QuarterSymbols → QuarterSymbols → QuarterSymbols → QuarterSymbols → InterSymbols
-symbols_of refs filter q r t u = record {
+-- a block's, by quarter
+abbrev pub symbols_of : References → InterpFilter → List QuarterSymbols → InterSymbols
+symbols_of refs filter quarters = record {
   references = refs;
   filter = filter;
-  modes = q.mode ∷ r.mode ∷ t.mode ∷ u.mode ∷ [];
-  differences = q.differences ∷ r.differences ∷ t.differences ∷ u.differences ∷ [];
+  modes = map (λ q. q.mode) quarters;
+  differences = map (λ q. q.differences) quarters;
 }
+
+abbrev pub in_all_quarters : QuarterSymbols → List QuarterSymbols
+in_all_quarters q = q ∷ q ∷ q ∷ q ∷ []
+
+-- what stands where nothing is coded
+abbrev pub no_symbols : QuarterSymbols
+no_symbols = record { mode = Zero; differences = no_vector ∷ no_vector ∷ [] }
 
 -- 8x8 or more: the filter stands between mode and vectors
 unfoldable pub draw_whole : Bool → List Mv → References → Drawn InterSymbols
@@ -95,46 +103,28 @@ draw_whole allowed best refs = do
   mode ← draw_inter_mode
   filter ← draw_filter
   differences ← draw_differences allowed best refs mode
-  let q : QuarterSymbols = record { mode = mode; differences = differences } in stay (symbols_of refs filter q q q q)
+  stay (symbols_of refs filter (in_all_quarters (record { mode = mode; differences = differences })))
 
--- 4x4: one quarter after another
-unfoldable pub draw_four : Bool → List Mv → References → Drawn InterSymbols
-draw_four allowed best refs = do
-  filter ← draw_filter
+-- of the parts that begin at some quarters, one after another
+unfoldable pub draw_each_quarter : Bool → List Mv → References → BlockSize → List ℕ → List QuarterSymbols → Drawn (List QuarterSymbols)
+draw_each_quarter allowed best refs size [] quarters = stay quarters
+draw_each_quarter allowed best refs size (k ∷ rest) quarters = do
   q ← draw_quarter allowed best refs
-  r ← draw_quarter allowed best refs
-  t ← draw_quarter allowed best refs
-  u ← draw_quarter allowed best refs
-  stay (symbols_of refs filter q r t u)
+  draw_each_quarter allowed best refs size rest (with_part size k q quarters)
 
--- 4x8: one at the left and one at the right
-unfoldable pub draw_columns : Bool → List Mv → References → Drawn InterSymbols
-draw_columns allowed best refs = do
-  filter ← draw_filter
-  q ← draw_quarter allowed best refs
-  r ← draw_quarter allowed best refs
-  stay (symbols_of refs filter q r q r)
-
--- 8x4: an upper and a lower one
-unfoldable pub draw_rows : Bool → List Mv → References → Drawn InterSymbols
-draw_rows allowed best refs = do
-  filter ← draw_filter
-  q ← draw_quarter allowed best refs
-  r ← draw_quarter allowed best refs
-  stay (symbols_of refs filter q q r r)
-
+-- below 8x8: the filter, and then the parts
 unfoldable pub draw_quarters : Bool → List Mv → References → BlockSize → Drawn InterSymbols
-draw_quarters allowed best refs B4x8 = draw_columns allowed best refs
-draw_quarters allowed best refs B8x4 = draw_rows allowed best refs
-draw_quarters allowed best refs size = draw_four allowed best refs
+draw_quarters allowed best refs size = do
+  filter ← draw_filter
+  quarters ← draw_each_quarter allowed best refs size (starting_quarters size) (in_all_quarters no_symbols)
+  stay (symbols_of refs filter quarters)
 
 unfoldable pub draw_modes : Bool → List Mv → References → BlockSize → Drawn InterSymbols
 draw_modes allowed best refs size = if is_below_8x8 size then draw_quarters allowed best refs size else draw_whole allowed best refs
 
 -- what a block says whose references are out of range: nothing more is coded
 abbrev pub references_alone : References → InterSymbols
-references_alone refs =
-    let q : QuarterSymbols = record { mode = Zero; differences = no_vector ∷ no_vector ∷ [] } in symbols_of refs Regular q q q q
+references_alone refs = symbols_of refs Regular (in_all_quarters no_symbols)
 
 abbrev pub draw_modes_if : Result References Rule → Sources → References → Drawn InterSymbols
 draw_modes_if (Ok _) s refs = draw_modes s.allowed (best_vectors s refs) refs s.search.at.size

@@ -1,12 +1,13 @@
 -- Partitions and the modes of intra blocks, as they are drawn (6.4.3, 6.4.6 and 6.4.15 of the standard: decode_partition,
 -- intra_frame_mode_info, intra_block_mode_info).
-use Rattle.std.specs.Prelude.{Bool, true, false, List, [], ◌∷◌}
+use Rattle.std.specs.Prelude.{ℕ, Bool, true, false, List, [], ◌∷◌}
 use Rattle.vp9_types.specs.declared.block.BlockSize.{BlockSize}
-use Rattle.vp9_types.specs.declared.block.BlockSize.TheVariants.{B4x4, B4x8, B8x4}
 use Rattle.vp9_types.specs.declared.block.IntraMode.{IntraMode}
+use Rattle.vp9_types.specs.declared.block.IntraMode.TheVariants.{Dc}
 use Rattle.vp9_types.specs.declared.block.Partition.{Partition}
 use Rattle.vp9_types.specs.declared.block.Partition.TheVariants.{Horizontal, Vertical, Split}
 use Rattle.vp9_tables.specs.SymbolTrees.{intra_mode_tree, partition_tree}
+use Rattle.block_geometry.specs.Quarters.{starting_quarters, with_part}
 use Rattle.block_plan.specs.declared.block.IntraPrediction.{IntraPrediction}
 use Rattle.mode_syntax.specs.IntraModes.{intra_of}
 use Rattle.mode_syntax.specs.Partitions.{partition_of, split_or}
@@ -26,39 +27,16 @@ draw_partition false false = stay Split
 unfoldable pub draw_intra_mode : Drawn IntraMode
 draw_intra_mode = draw_leaf intra_mode_tree >>= λ n. stay (intra_of n)
 
-unfoldable pub draw_one_mode : Drawn (List IntraMode)
-draw_one_mode = do
+-- of the parts that begin at some quarters, one after another
+unfoldable pub draw_each_mode : BlockSize → List ℕ → List IntraMode → Drawn (List IntraMode)
+draw_each_mode size [] modes = stay modes
+draw_each_mode size (k ∷ rest) modes = do
   mode ← draw_intra_mode
-  stay (mode ∷ mode ∷ mode ∷ mode ∷ [])
+  draw_each_mode size rest (with_part size k mode modes)
 
--- 8x4: an upper and a lower one
-unfoldable pub draw_two_rows : Drawn (List IntraMode)
-draw_two_rows = do
-  upper ← draw_intra_mode
-  lower ← draw_intra_mode
-  stay (upper ∷ upper ∷ lower ∷ lower ∷ [])
-
--- 4x8: one at the left and one at the right
-unfoldable pub draw_two_columns : Drawn (List IntraMode)
-draw_two_columns = do
-  left ← draw_intra_mode
-  right ← draw_intra_mode
-  stay (left ∷ right ∷ left ∷ right ∷ [])
-
--- 4x4: one for each quarter
-unfoldable pub draw_four_modes : Drawn (List IntraMode)
-draw_four_modes = do
-  first ← draw_intra_mode
-  second ← draw_intra_mode
-  third ← draw_intra_mode
-  fourth ← draw_intra_mode
-  stay (first ∷ second ∷ third ∷ fourth ∷ [])
-
+-- the modes of the quarters of a block
 unfoldable pub draw_luma : BlockSize → Drawn (List IntraMode)
-draw_luma B4x4 = draw_four_modes
-draw_luma B4x8 = draw_two_columns
-draw_luma B8x4 = draw_two_rows
-draw_luma size = draw_one_mode
+draw_luma size = draw_each_mode size (starting_quarters size) (Dc ∷ Dc ∷ Dc ∷ Dc ∷ [])
 
 -- the modes of luma, and the one of chroma
 unfoldable pub draw_intra : BlockSize → Drawn IntraPrediction

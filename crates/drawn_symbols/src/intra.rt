@@ -2,8 +2,9 @@
 
 ghost use Rattle.std.specs.Prelude.{◌≡◌, true};
 ghost use Rattle.mode_writer.specs.ModeFits.{AreColumns, AreRows, CanLuma, CanPartition};
+ghost use Rattle.drawn_symbols.specs.Code.{draw_one_mode, draw_two_rows, draw_two_columns, draw_four_modes};
 ghost use Rattle.drawn_symbols.specs.Draws.{IsDrawn};
-ghost use Rattle.drawn_symbols.specs.IntraDraws.{draw_partition, draw_intra_mode, draw_one_mode, draw_two_rows, draw_two_columns, draw_four_modes, draw_luma, draw_intra};
+ghost use Rattle.drawn_symbols.specs.IntraDraws.{draw_partition, draw_intra_mode, draw_luma, draw_intra};
 
 use crate::draws::Draws;
 use block_plan::IntraPrediction;
@@ -65,7 +66,7 @@ fn draw_intra_mode(draws: &mut Draws) -> IntraMode
     }
 }
 
-#[tactic(auto, unfolding(crate::specs::IntraDraws::draw_one_mode))]
+#[tactic(auto, unfolding(crate::specs::Code::draw_one_mode))]
 fn draw_one_mode(draws: &mut Draws) -> [IntraMode; 4]
     ensures drawn { IsDrawn draw_one_mode draws.old result draws.new }
     ensures can { AreRows result × AreColumns result }
@@ -74,7 +75,7 @@ fn draw_one_mode(draws: &mut Draws) -> [IntraMode; 4]
     [mode, mode, mode, mode]
 }
 
-#[tactic(auto, unfolding(crate::specs::IntraDraws::draw_two_rows))]
+#[tactic(auto, unfolding(crate::specs::Code::draw_two_rows))]
 fn draw_two_rows(draws: &mut Draws) -> [IntraMode; 4]
     ensures drawn { IsDrawn draw_two_rows draws.old result draws.new }
     ensures can { AreRows result }
@@ -84,7 +85,7 @@ fn draw_two_rows(draws: &mut Draws) -> [IntraMode; 4]
     [upper, upper, lower, lower]
 }
 
-#[tactic(auto, unfolding(crate::specs::IntraDraws::draw_two_columns))]
+#[tactic(auto, unfolding(crate::specs::Code::draw_two_columns))]
 fn draw_two_columns(draws: &mut Draws) -> [IntraMode; 4]
     ensures drawn { IsDrawn draw_two_columns draws.old result draws.new }
     ensures can { AreColumns result }
@@ -94,7 +95,7 @@ fn draw_two_columns(draws: &mut Draws) -> [IntraMode; 4]
     [left, right, left, right]
 }
 
-#[tactic(auto, unfolding(crate::specs::IntraDraws::draw_four_modes))]
+#[tactic(auto, unfolding(crate::specs::Code::draw_four_modes))]
 fn draw_four_modes(draws: &mut Draws) -> [IntraMode; 4]
     ensures { IsDrawn draw_four_modes draws.old result draws.new }
 {
@@ -106,7 +107,7 @@ fn draw_four_modes(draws: &mut Draws) -> [IntraMode; 4]
 }
 
 /// The modes of the quarters of a block.
-#[tactic(auto, unfolding(crate::specs::IntraDraws::draw_luma))]
+#[tactic(auto, unfolding(crate::specs::Code::luma_drawn_by_size), using(crate::proofs::DrawnBySize::luma_is_by_size))]
 fn draw_luma(draws: &mut Draws, size: BlockSize) -> [IntraMode; 4]
     ensures drawn { IsDrawn (draw_luma size) draws.old result draws.new }
     ensures can { CanLuma size result }

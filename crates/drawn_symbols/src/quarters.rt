@@ -1,13 +1,13 @@
 //! The modes and differences of inter blocks.
 
-ghost use Rattle.std.specs.Prelude.{◌≡◌, ◌≢◌, false, true};
+ghost use Rattle.std.specs.Prelude.{◌≡◌, ◌≢◌, false, true, [], ◌∷◌};
 ghost use Rattle.vp9_types.specs.declared.block.BlockSize.TheVariants.{B4x4, B4x8, B8x4};
 ghost use Rattle.vp9_types.specs.declared.block.InterpFilter.TheVariants.{Bilinear};
 ghost use Rattle.block_geometry.specs.BlockSizes.{is_below_8x8};
 ghost use Rattle.vector_writer.specs.VectorFits.{CanBeNew, CanSayVectors};
 ghost use Rattle.drawn_symbols.specs.Draws.{IsDrawn};
-ghost use Rattle.drawn_symbols.specs.InterDraws.{draw_inter_mode, draw_filter, draw_new, draw_new_if, draw_differences, draw_quarter, symbols_of, draw_whole, draw_four, draw_columns, draw_rows, draw_quarters, draw_modes};
-ghost use Rattle.drawn_symbols.specs.Code.{CanBeSymbols};
+ghost use Rattle.drawn_symbols.specs.InterDraws.{draw_inter_mode, draw_filter, draw_new, draw_new_if, draw_differences, draw_quarter, symbols_of, draw_whole, draw_quarters, draw_modes};
+ghost use Rattle.drawn_symbols.specs.Code.{CanBeSymbols, draw_four, draw_columns, draw_rows};
 
 use crate::draws::Draws;
 use crate::vectors::draw_difference;
@@ -110,7 +110,7 @@ pub(crate) fn symbols_of(
     t: QuarterSymbols,
     u: QuarterSymbols,
 ) -> InterSymbols
-    ensures { result ≡ symbols_of references filter q r t u }
+    ensures { result ≡ symbols_of references filter (q ∷ r ∷ t ∷ u ∷ []) }
 {
     let QuarterSymbols {
         mode: first,
@@ -150,7 +150,7 @@ fn draw_whole(draws: &mut Draws, best: &Best) -> InterSymbols
 }
 
 /// A block of 4x4.
-#[tactic(auto, unfolding(crate::specs::InterDraws::draw_four), using(crate::proofs::Sayings::four_can))]
+#[tactic(auto, unfolding(crate::specs::Code::draw_four), using(crate::proofs::Sayings::four_can))]
 fn draw_four(draws: &mut Draws, best: &Best) -> InterSymbols
     ensures drawn { IsDrawn (draw_four best.now.allowed best.now.vectors best.now.references) draws.old result draws.new }
     ensures can { CanBeSymbols best.now B4x4 result }
@@ -164,7 +164,7 @@ fn draw_four(draws: &mut Draws, best: &Best) -> InterSymbols
 }
 
 /// A block of 4x8.
-#[tactic(auto, unfolding(crate::specs::InterDraws::draw_columns))]
+#[tactic(auto, unfolding(crate::specs::Code::draw_columns))]
 fn draw_columns(draws: &mut Draws, best: &Best) -> InterSymbols
     ensures drawn { IsDrawn (draw_columns best.now.allowed best.now.vectors best.now.references) draws.old result draws.new }
     ensures can { CanBeSymbols best.now B4x8 result }
@@ -176,7 +176,7 @@ fn draw_columns(draws: &mut Draws, best: &Best) -> InterSymbols
 }
 
 /// A block of 8x4.
-#[tactic(auto, unfolding(crate::specs::InterDraws::draw_rows))]
+#[tactic(auto, unfolding(crate::specs::Code::draw_rows))]
 fn draw_rows(draws: &mut Draws, best: &Best) -> InterSymbols
     ensures drawn { IsDrawn (draw_rows best.now.allowed best.now.vectors best.now.references) draws.old result draws.new }
     ensures can { CanBeSymbols best.now B8x4 result }
@@ -188,7 +188,7 @@ fn draw_rows(draws: &mut Draws, best: &Best) -> InterSymbols
 }
 
 /// A block below 8x8.
-#[tactic(auto, unfolding(crate::specs::InterDraws::draw_quarters))]
+#[tactic(auto, unfolding(crate::specs::Code::quarters_drawn_by_size), using(crate::proofs::DrawnBySize::quarters_are_by_size))]
 fn draw_quarters(draws: &mut Draws, best: &Best) -> InterSymbols
     requires { is_below_8x8 best.now.size ≡ true }
     ensures drawn { IsDrawn (draw_quarters best.now.allowed best.now.vectors best.now.references best.now.size) draws.old result draws.new }
