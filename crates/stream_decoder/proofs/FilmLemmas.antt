@@ -151,6 +151,7 @@ pub breaks_no_frame : (format : Format) (rate : ℕ × ℕ) (p : Past) (begun re
 breaks_no_frame format rate p begun rest past isnt rates along = by_frames (frames_behind p) refl where
   held : frames_in (frames_of_file begun) ≡ frames_behind p
   held = ap frames_in (ivf_frames begun (front_isnt_webm begun rest isnt)) ∙ along.frames_are
+
   by_frames : (frames : List (List ℕ)) → frames_behind p ≡ frames → BreaksNoFrame format begun
   by_frames [] none = λ f rule is.
       let ends = sym (none_ends format (film_of begun) (held ∙ none)) ∙ sym (ap (λ (w : Walked ℕ Rule). w.ending) (files_are_films format begun)) ∙ is in

@@ -30,8 +30,8 @@ loop-done-preserved g c = let a = c.args in let p = a.place.now in
       rows = rows_join (λ r j. along a.by.most a.by.kind p.across (g.S.Samples.map a.view.now p.plane (straight p.down (a.first + r))) j) p.columns l.done c.until_cut-part.result
           (map g.P.Sample.value l.lines) (map g.P.Sample.value (put_mid at rest l.lines c.fill_part.new.lines)) l.invariant.rows
           (λ r j high low.
-              let inside : r * p.columns + j < length c.fill_part.new.lines = omega (arith, in_part p.columns r c.until_cut-part.result j high low, all) in
-              part_here g.P.Sample.value at rest l.lines c.fill_part.new.lines (r * p.columns + j) fits inside ∙ c.fill_part.ensures r j high low
-              ∙ ap (λ (n : ℕ). along a.by.most a.by.kind p.across (g.S.Samples.map a.view.now p.plane (straight p.down n)) j) (same_place a.first l.done r))
+          let inside : r * p.columns + j < length c.fill_part.new.lines = omega (arith, in_part p.columns r c.until_cut-part.result j high low, all) in
+          part_here g.P.Sample.value at rest l.lines c.fill_part.new.lines (r * p.columns + j) fits inside ∙ c.fill_part.ensures r j high low
+          ∙ ap (λ (n : ℕ). along a.by.most a.by.kind p.across (g.S.Samples.map a.view.now p.plane (straight p.down n)) j) (same_place a.first l.done r))
           (λ k low. part_before g.P.Sample.value at rest l.lines c.fill_part.new.lines k fits low);
     }
