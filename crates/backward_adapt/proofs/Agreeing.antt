@@ -1,8 +1,8 @@
 -- Adaptation by the counters of bools is adaptation by how often they were counted.
-use Rattle.std.proofs.Common.{◌≡◌, ◌<◌, ◌≤◌, ◌+◌, ◌*◌, ◌^◌, ℕ, true, false, refl, sym, ◌∙◌, arith, List, length, map, get_or}
+use Rattle.std.proofs.Common.{◌≡◌, ◌<◌, ◌≤◌, ◌+◌, ◌*◌, ◌^◌, ℕ, true, false, refl, sym, ◌∙◌, ap, arith, List, length, map, get_or, take}
 use Rattle.std.specs.Prelude.{Option, Some, None, count_by}
 use Rattle.std.specs.List.{range_with_len}
-use Rattle.std.proofs.lemmas.List.{ext_get_or}
+use Rattle.std.proofs.lemmas.List.{ext_get_or, take_all}
 use Rattle.std.proofs.lemmas.List.FromFn.{length-map-range_with_len, get_or-map-range_with_len}
 use Rattle.std.proofs.lemmas.List.Sums.{count_by-le-length}
 use Rattle.prob_contexts.specs.declared.kind.CountedBool.{CountedBool}
@@ -16,7 +16,9 @@ use Rattle.prob_contexts.proofs.Counting.{counter_is}
 use Rattle.backward_adapt.specs.declared.merge.Rate.{Rate}
 use Rattle.backward_adapt.specs.declared.kind.AdaptKind.{AdaptKind}
 use Rattle.backward_adapt.specs.Adaptation.{rate_of, left_by, adapted_prob, adapted_from, adapted_list, adapted_coefs, adapted_tx, adapted_inter, adapted_vectors, adapted_contexts, adaptation}
+use Rattle.backward_adapt.specs.Code.{Tells}
 use Rattle.backward_adapt.specs.Laws.{HasCoefSizes, HasSizes}
+use Rattle.backward_adapt.proofs.Steps.{adapted_by, first_merged}
 
 pub few_counted : (bools : List CountedBool) (b : CountedBool) → length bools < 2 ^ 64 → times_counted bools b ≡ count_by (is_same b) bools
 unfolding times_counted
@@ -31,20 +33,33 @@ same_prob : (rate : Option Rate) (f g : CountedBool → ℕ) (kind : ProbKind) (
 same_prob (Some rate) f g kind place saved forward agree low = rw (agree (left_by kind place false) low, agree (left_by kind place true) low) refl
 same_prob None f g kind place saved forward agree low = refl
 
-same_from : (frame : AdaptKind) (f g : CountedBool → ℕ) (kind : ProbKind) (from : ℕ) (saved forward : List ℕ) → Agree f g → from + length saved ≤ kind_size kind
-    → adapted_from frame f kind from saved forward ≡ adapted_from frame g kind from saved forward
-unfolding adapted_from
-same_from frame f g kind from saved forward agree within =
-    let one : ℕ → ℕ = λ k. adapted_prob (rate_of frame kind) f kind (from + k) (get_or saved k 0) (get_or forward k 0) in
-    let other : ℕ → ℕ = λ k. adapted_prob (rate_of frame kind) g kind (from + k) (get_or saved k 0) (get_or forward k 0) in
+same_by : (rate : Option Rate) (f g : CountedBool → ℕ) (kind : ProbKind) (from : ℕ) (saved forward : List ℕ) → Agree f g → from + length saved ≤ kind_size kind
+    → adapted_by rate f kind from saved forward ≡ adapted_by rate g kind from saved forward
+same_by rate f g kind from saved forward agree within =
+    let one : ℕ → ℕ = λ k. adapted_prob rate f kind (from + k) (get_or saved k 0) (get_or forward k 0) in
+    let other : ℕ → ℕ = λ k. adapted_prob rate g kind (from + k) (get_or saved k 0) (get_or forward k 0) in
     ext_get_or 0 (map one (range_with_len 0 (length saved))) (map other (range_with_len 0 (length saved)))
     (length-map-range_with_len one 0 (length saved) ∙ sym (length-map-range_with_len other 0 (length saved)))
     (λ k low.
     let low_in : k < length saved = omega (arith, low, length-map-range_with_len one 0 (length saved)) in
     let inside : from + k < kind_size kind = omega (arith, low_in, within) in
     get_or-map-range_with_len one 0 (length saved) k k 0 low_in (omega arith)
-    ∙ (same_prob (rate_of frame kind) f g kind (from + k) (get_or saved k 0) (get_or forward k 0) agree inside
+    ∙ (same_prob rate f g kind (from + k) (get_or saved k 0) (get_or forward k 0) agree inside
     ∙ sym (get_or-map-range_with_len other 0 (length saved) k k 0 low_in (omega arith))))
+
+-- a loop that has merged all probabilities
+pub all_merged : (rate : Option Rate) (r : Rate) (counts : List ℕ) (times : CountedBool → ℕ) (kind : ProbKind) (from i : ℕ) (saved probs forward : List ℕ)
+    → rate ≡ Some r → length probs ≡ length saved → length probs ≤ i → i ≤ length saved → take i probs ≡ first_merged r (counter_of counts) kind from saved i
+    → Tells counts times → from + length saved ≤ kind_size kind → probs ≡ adapted_by rate times kind from saved forward
+all_merged rate r counts times kind from i saved probs forward is size last within_all done tells within =
+    let whole : i ≡ length saved = omega (arith, size, last, within_all) in
+    sym (take_all i probs last) ∙ (done ∙ (ap (λ n. first_merged r (counter_of counts) kind from saved n) whole
+    ∙ (sym (ap (λ o. adapted_by o (counter_of counts) kind from saved forward) is) ∙ same_by rate (counter_of counts) times kind from saved forward tells within)))
+
+same_from : (frame : AdaptKind) (f g : CountedBool → ℕ) (kind : ProbKind) (from : ℕ) (saved forward : List ℕ) → Agree f g → from + length saved ≤ kind_size kind
+    → adapted_from frame f kind from saved forward ≡ adapted_from frame g kind from saved forward
+unfolding adapted_from
+same_from frame f g kind from saved forward agree within = same_by (rate_of frame kind) f g kind from saved forward agree within
 
 same_list : (frame : AdaptKind) (f g : CountedBool → ℕ) (kind : ProbKind) (saved forward : List ℕ) → Agree f g → length saved ≡ kind_size kind
     → adapted_list frame f kind saved forward ≡ adapted_list frame g kind saved forward

@@ -1,3 +1,4 @@
 pub mod Merge
 pub mod Adaptation
 pub mod Laws
+pub mod Code

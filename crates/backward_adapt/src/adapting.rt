@@ -1,19 +1,19 @@
 //! All probabilities of a frame.
 
-ghost use Rattle.std.specs.Prelude.{◌≡◌, List};
+ghost use Rattle.std.specs.Prelude.{◌≡◌, ℕ, List};
 ghost use Rattle.prob_contexts.specs.declared.kind.CountedBool.{CountedBool};
 ghost use Rattle.prob_contexts.specs.Code.{no_counts, counts_after, counter_of};
 ghost use Rattle.prob_contexts.specs.ProbLists.{lists_of, tx_lists, coef_lists, inter_lists, vector_lists};
 ghost use Rattle.backward_adapt.specs.Adaptation.{adapted_coefs, adapted_tx, adapted_inter, adapted_vectors, adapted_contexts, adaptation};
+ghost use Rattle.backward_adapt.specs.Code.{Tells};
 
 use crate::kind::AdaptKind;
-use crate::laws::contexts_have_sizes;
 use crate::lists::FrameCounts;
 use prob_contexts::{CoefProbs, Contexts, Counts, InterProbs, ProbKind, TxProbs, VectorProbs};
 
-#[tactic(auto, unfolding(crate::specs::Adaptation::adapted_coefs))]
 fn adapt_coefs(counted: &FrameCounts, saved: &CoefProbs, coef: &mut CoefProbs)
-    ensures { coef_lists coef.new ≡ adapted_coefs counted.now.frame (counter_of counted.now.counts.now) (coef_lists saved.now) (coef_lists coef.old) }
+    ensures { (times : CountedBool → ℕ) → Tells counted.now.counts.now times →
+        coef_lists coef.new ≡ adapted_coefs counted.now.frame times (coef_lists saved.now) (coef_lists coef.old) }
 {
     counted.adapt_from(ProbKind::Coef, 0, &saved.of_4x4, &mut coef.of_4x4);
     counted.adapt_from(ProbKind::Coef, 396, &saved.of_8x8, &mut coef.of_8x8);
@@ -21,18 +21,18 @@ fn adapt_coefs(counted: &FrameCounts, saved: &CoefProbs, coef: &mut CoefProbs)
     counted.adapt_from(ProbKind::Coef, 3 * 396, &saved.of_32x32, &mut coef.of_32x32);
 }
 
-#[tactic(auto, unfolding(crate::specs::Adaptation::adapted_tx))]
 fn adapt_tx(counted: &FrameCounts, saved: &TxProbs, tx: &mut TxProbs)
-    ensures { tx_lists tx.new ≡ adapted_tx counted.now.frame (counter_of counted.now.counts.now) (tx_lists saved.now) (tx_lists tx.old) }
+    ensures { (times : CountedBool → ℕ) → Tells counted.now.counts.now times →
+        tx_lists tx.new ≡ adapted_tx counted.now.frame times (tx_lists saved.now) (tx_lists tx.old) }
 {
     counted.adapt_list(ProbKind::Tx8x8, &saved.of_8x8, &mut tx.of_8x8);
     counted.adapt_list(ProbKind::Tx16x16, &saved.of_16x16, &mut tx.of_16x16);
     counted.adapt_list(ProbKind::Tx32x32, &saved.of_32x32, &mut tx.of_32x32);
 }
 
-#[tactic(auto, unfolding(crate::specs::Adaptation::adapted_inter))]
 fn adapt_inter(counted: &FrameCounts, saved: &InterProbs, inter: &mut InterProbs)
-    ensures { inter_lists inter.new ≡ adapted_inter counted.now.frame (counter_of counted.now.counts.now) (inter_lists saved.now) (inter_lists inter.old) }
+    ensures { (times : CountedBool → ℕ) → Tells counted.now.counts.now times →
+        inter_lists inter.new ≡ adapted_inter counted.now.frame times (inter_lists saved.now) (inter_lists inter.old) }
 {
     counted.adapt_list(ProbKind::InterMode, &saved.modes, &mut inter.modes);
     counted.adapt_list(ProbKind::Filter, &saved.filters, &mut inter.filters);
@@ -55,9 +55,9 @@ fn adapt_inter(counted: &FrameCounts, saved: &InterProbs, inter: &mut InterProbs
     counted.adapt_list(ProbKind::YMode, &saved.y_modes, &mut inter.y_modes);
 }
 
-#[tactic(auto, unfolding(crate::specs::Adaptation::adapted_vectors))]
 fn adapt_vectors(counted: &FrameCounts, saved: &VectorProbs, vectors: &mut VectorProbs)
-    ensures { vector_lists vectors.new ≡ adapted_vectors counted.now.frame (counter_of counted.now.counts.now) (vector_lists saved.now) (vector_lists vectors.old) }
+    ensures { (times : CountedBool → ℕ) → Tells counted.now.counts.now times →
+        vector_lists vectors.new ≡ adapted_vectors counted.now.frame times (vector_lists saved.now) (vector_lists vectors.old) }
 {
     counted.adapt_list(ProbKind::VectorJoint, &saved.joints, &mut vectors.joints);
     counted.adapt_list(ProbKind::VectorSign, &saved.signs, &mut vectors.signs);
@@ -82,9 +82,9 @@ fn adapt_vectors(counted: &FrameCounts, saved: &VectorProbs, vectors: &mut Vecto
     counted.adapt_list(ProbKind::VectorHigh, &saved.high, &mut vectors.high);
 }
 
-#[tactic(auto, unfolding(crate::specs::Adaptation::adapted_contexts))]
 fn adapt_contexts(counted: &FrameCounts, saved: &Contexts, contexts: &mut Contexts)
-    ensures { lists_of contexts.new ≡ adapted_contexts counted.now.frame (counter_of counted.now.counts.now) (lists_of saved.now) (lists_of contexts.old) }
+    ensures { (times : CountedBool → ℕ) → Tells counted.now.counts.now times →
+        lists_of contexts.new ≡ adapted_contexts counted.now.frame times (lists_of saved.now) (lists_of contexts.old) }
 {
     adapt_tx(counted, &saved.tx, &mut contexts.tx);
     adapt_coefs(counted, &saved.coef, &mut contexts.coef);
@@ -110,7 +110,6 @@ pub fn adapt(pre: &Contexts, now: &Contexts, counts: &Counts, kind: &AdaptKind) 
         frame: *kind,
         counts,
     };
-    contexts_have_sizes(*pre);
     let mut contexts = *now;
     adapt_contexts(&counted, pre, &mut contexts);
     contexts

@@ -2,9 +2,10 @@
 
 ghost use Rattle.std.specs.Prelude.{◌≡◌, ◌+◌, ◌≤◌, ℕ, length};
 ghost use Rattle.std.specs.List.{All};
-ghost use Rattle.prob_contexts.specs.Code.{counter_of};
+ghost use Rattle.prob_contexts.specs.declared.kind.CountedBool.{CountedBool};
 ghost use Rattle.prob_contexts.specs.Kinds.{kind_size};
 ghost use Rattle.backward_adapt.specs.Adaptation.{adapted_from, adapted_list};
+ghost use Rattle.backward_adapt.specs.Code.{Tells};
 
 use crate::kind::AdaptKind;
 use crate::merge::merge_prob;
@@ -19,14 +20,14 @@ pub(crate) struct FrameCounts<'a> {
 
 impl<'a> FrameCounts<'a> {
     /// Adapts probabilities of a kind, from a place of it on, if the frame adapts this kind.
-    #[tactic(auto, unfolding(crate::specs::Adaptation::adapted_from))]
     pub(crate) fn adapt_from(&self, kind: ProbKind, from: u16, saved: &[u8], probs: &mut [u8])
         requires within { from + length saved.now ≤ kind_size kind }
         requires small { from + length saved.now ≤ 1584 }
         requires size { length probs.old ≡ length saved.now }
         requires positive { All (λ p. 1 ≤ p) saved.now }
         requires positive_now { All (λ p. 1 ≤ p) probs.old }
-        ensures value { probs.new ≡ adapted_from self.now.frame (counter_of self.now.counts.now) kind from saved.now probs.old }
+        ensures value { (times : CountedBool → ℕ) → Tells self.now.counts.now times →
+            probs.new ≡ adapted_from self.now.frame times kind from saved.now probs.old }
         ensures kept { All (λ p. 1 ≤ p) probs.new }
     {
         let Some(rate) = self.frame.rate_of(kind) else {
@@ -47,7 +48,8 @@ impl<'a> FrameCounts<'a> {
         requires size { length probs.old ≡ length saved.now }
         requires positive { All (λ p. 1 ≤ p) saved.now }
         requires positive_now { All (λ p. 1 ≤ p) probs.old }
-        ensures value { probs.new ≡ adapted_list self.now.frame (counter_of self.now.counts.now) kind saved.now probs.old }
+        ensures value { (times : CountedBool → ℕ) → Tells self.now.counts.now times →
+            probs.new ≡ adapted_list self.now.frame times kind saved.now probs.old }
         ensures kept { All (λ p. 1 ≤ p) probs.new }
     {
         self.adapt_from(kind, 0, saved, probs);
