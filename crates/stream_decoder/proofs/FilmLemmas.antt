@@ -62,14 +62,14 @@ by_ending : (w : Walk Putting ℕ Rule) (s : Putting) (ending : Option Rule) →
 by_ending w s None = refl
 by_ending w s (Some rule) = refl
 
-by_end : (w : Walk Putting ℕ Rule) (s : Putting) (ending : Option Rule) → (walk_from w 0 s [] ending).ending ≡ file_ending 0 ending
-by_end w s None = refl
-by_end w s (Some rule) = refl
+by_end : (format : Format) (film : Film) (s : Putting) (ending : Option Rule) → (walk_from (putting (form_from format film.rate)) 0 s [] ending).ending ≡ file_ending 0 ending
+by_end format film s None = refl
+by_end format film s (Some rule) = refl
 
 none_ends : (format : Format) (film : Film) → film.frames ≡ [] → (film_output format film).ending ≡ file_ending 0 film.ending
 none_ends format film none =
     ap (λ (frames : List (List ℕ)). (walk_from (putting (form_from format film.rate)) 0 (start format film) frames film.ending).ending) none
-    ∙ by_end (putting (form_from format film.rate)) (start format film) film.ending
+    ∙ by_end format film (start format film) film.ending
 
 -- where a film ends that is broken behind its frames
 pub ended_at : (n : ℕ) (ending : Option Rule) (f : ℕ) (rule : Rule) → file_ending n ending ≡ Some (f, rule) → f ≡ n
