@@ -176,7 +176,7 @@ writes_some format (Some file) left old new rate p past all takes =
     let t = all.takes file refl in
     let isnt = all.isnt file refl in
     let inside = subst (λ (xs : List ℕ). is_webm xs ≡ false) t.2 isnt in
-    let rates = λ some. all.rates some file refl isnt ∙ ap rate_of_file t.2 in
+    let rates : (frames_behind p ≡ [] → ⊥) → rate ≡ rate_of_file (t.0 ++ t.1) = λ some. all.rates some file refl isnt ∙ ap rate_of_file t.2 in
     let shown = writes_shown format rate p t.0 t.1 old new past inside rates t.4 takes in
     let sound = breaks_no_frame format rate p t.0 t.1 past inside rates t.4 in (
       t.0,
