@@ -17,7 +17,7 @@ use Rattle.block_plan.specs.declared.block.Prediction.{Prediction}
 use Rattle.block_plan.specs.declared.block.Prediction.TheVariants.{Intra, Inter}
 use Rattle.inter_places.specs.Axes.{first_place, last_place}
 use Rattle.block_geometry.specs.BlockSizes.{is_below_8x8, height_8}
-use Rattle.inter_places.specs.Places.{subsampling, parts_of, place_of}
+use Rattle.inter_places.specs.Places.{is_subsampled, parts_of, place_of}
 use Rattle.inter_places.specs.declared.part.Direction.TheVariants.{Down, Across}
 use Rattle.inter_places.specs.declared.axis.Place.{Place}
 use Rattle.band_needs.specs.Ranges.{both_ranges, widened, no_needs, needs_at, with_range}
@@ -132,20 +132,20 @@ some_parts false false false = omega arith
 
 module _ (shape reference : Shape) (b : BlockInfo) (modes : InterPrediction) (list : ℕ) (inside : b.row < mi_rows shape) where
   abbrev PartReads : Plane → ℕ → ℕ → Type 0
-  PartReads p n band = BandOfPlace (subsampling reference p Down) (place_of shape b modes (part_in p n list) reference) band
+  PartReads p n band = BandOfPlace (is_subsampled reference p Down) (place_of shape b modes (part_in p n list) reference) band
 
   -- those of the first n parts, and of the first one
   abbrev PartsRead : Plane → ℕ → ℕ → Type 0
   PartsRead p n band = (k : ℕ) × ((k < n) ⊎ (k ≡ 0)) × PartReads p k band
 
   part_is : (p : Plane) (n : ℕ) → n < parts_of shape b.size p → IsRangeOf (PartReads p n) (part_range shape reference b modes (part_in p n list))
-  part_is p n low = place_is (subsampling reference p Down) (place_of shape b modes (part_in p n list) reference) (rows_of_part shape reference b modes list p n inside low)
+  part_is p n low = place_is (is_subsampled reference p Down) (place_of shape b modes (part_in p n list) reference) (rows_of_part shape reference b modes list p n inside low)
 
   parts_are : (p : Plane) (n : ℕ) → n ≤ parts_of shape b.size p
       → IsRangeOf (PartsRead p n) (fold (with_part shape reference b modes list p) (part_range shape reference b modes (part_in p 0 list)) (range_with_len 0 n))
   parts_are p zero few = range_as (PartReads p 0) (PartsRead p 0) _ (λ band read. (0, inr refl, read))
       (λ band read. subst (λ (k : ℕ). PartReads p k band) (first read.0 read.1) read.2)
-      (part_is p 0 (some_parts (subsampling shape p Down) (subsampling shape p Across) (is_below_8x8 b.size)))
+      (part_is p 0 (some_parts (is_subsampled shape p Down) (is_subsampled shape p Across) (is_below_8x8 b.size)))
     where
       first : (k : ℕ) → (k < 0) ⊎ (k ≡ 0) → k ≡ 0
       first k (inl no') = absurd (omega (arith, no'))
@@ -186,7 +186,7 @@ module _ (shape reference : Shape) (b : BlockInfo) (modes : InterPrediction) (li
     where
       one : (k : ℕ) → (k < parts_of shape b.size p) ⊎ (k ≡ 0) → k < parts_of shape b.size p
       one k (inl low) = low
-      one k (inr is) = let h = some_parts (subsampling shape p Down) (subsampling shape p Across) (is_below_8x8 b.size) in omega (arith, is, h)
+      one k (inr is) = let h = some_parts (is_subsampled shape p Down) (is_subsampled shape p Across) (is_below_8x8 b.size) in omega (arith, is, h)
 
   -- all planes
   abbrev AnyPlaneReads : ℕ → Type 0
@@ -448,7 +448,7 @@ module _ (shape : Shape) (references : ReferenceFrame → Shape) where
       → ListLiesIn shape (references r) b modes list (needs_at (needs_of shape references blocks) r)
   list_lies blocks r k b modes list inside low at reads p n few y first last =
       let place' = place_of shape b modes (part_in p n list) (references r) in
-      let ss = subsampling (references r) p Down in
+      let ss = is_subsampled (references r) p Down in
       let in_frame : b.row < mi_rows shape = subst (λ (z : BlockInfo). z.row < mi_rows shape) (at b) (inside k b low) in
       let some = rows_of_part shape (references r) b modes list p n in_frame few in
       let range = place_is ss place' some in
@@ -457,7 +457,7 @@ module _ (shape : Shape) (references : ReferenceFrame → Shape) where
       (read_of (first_place place'.down / halved ss 64) range.first) (read_of (last_place place'.down place'.rows / halved ss 64) range.last)
       (bands_rise ss (first_place place'.down) y first) (bands_rise ss y (last_place place'.down place'.rows) last)
     where
-      read_of : (band : ℕ) → BandOfPlace (subsampling (references r) p Down) (place_of shape b modes (part_in p n list) (references r)) band → AllReads blocks r band
+      read_of : (band : ℕ) → BandOfPlace (is_subsampled (references r) p Down) (place_of shape b modes (part_in p n list) (references r)) band → AllReads blocks r band
       read_of band read = record {
         block = k;
         one = low;

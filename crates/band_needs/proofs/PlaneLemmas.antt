@@ -9,7 +9,7 @@ use Rattle.vp9_types.specs.declared.block.BlockSize.{BlockSize}
 use Rattle.block_plan.specs.declared.block.BlockInfo.{BlockInfo}
 use Rattle.block_plan.specs.declared.block.InterPrediction.{InterPrediction}
 use Rattle.block_geometry.specs.BlockSizes.{is_below_8x8}
-use Rattle.inter_places.specs.Places.{fours, parts_of, place_of, subsampling}
+use Rattle.inter_places.specs.Places.{fours, parts_of, place_of, is_subsampled}
 use Rattle.inter_places.specs.declared.part.Direction.TheVariants.{Across, Down}
 use Rattle.band_needs.specs.Needs.{list_range, part_range, plane_range, with_part}
 use Rattle.band_needs.specs.Ranges.{both_ranges}
@@ -29,7 +29,7 @@ some_if true n some = some
 some_if false n some = omega arith
 
 pub some_parts : (shape : Shape) (size : BlockSize) (p : Plane) → 0 < parts_of shape size p
-some_parts shape size p = some_if (is_below_8x8 size) _ (some_fours (subsampling shape p Down) (subsampling shape p Across))
+some_parts shape size p = some_if (is_below_8x8 size) _ (some_fours (is_subsampled shape p Down) (is_subsampled shape p Across))
 
 min_same : (n : ℕ) → min n n ≡ n
 min_same n = omega arith

@@ -10,7 +10,7 @@ use Rattle.block_plan.specs.declared.block.InterPrediction.{InterPrediction}
 use Rattle.block_plan.specs.declared.block.Prediction.{Prediction}
 use Rattle.block_plan.specs.declared.block.Prediction.TheVariants.{Intra, Inter}
 use Rattle.inter_places.specs.Axes.{place, first_place, last_place}
-use Rattle.inter_places.specs.Places.{subsampling, parts_of, place_of}
+use Rattle.inter_places.specs.Places.{is_subsampled, parts_of, place_of}
 use Rattle.inter_places.specs.declared.axis.Place.{Place}
 use Rattle.inter_places.specs.declared.part.BlockPart.{BlockPart}
 use Rattle.inter_places.specs.declared.part.Direction.TheVariants.{Down}
@@ -49,7 +49,7 @@ Reads shape references b r p y = ReadsBy shape references b b.prediction r p y
 
 -- 64 rows of luma, and their share of chroma
 abbrev pub band_height : Shape → Plane → ℕ
-band_height shape p = halved (subsampling shape p Down) 64
+band_height shape p = halved (is_subsampled shape p Down) 64
 
 -- a band of a reference has a row that a block reads
 pub record ReadsBand (shape : Shape) (references : ReferenceFrame → Shape) (b : BlockInfo) (r : ReferenceFrame) (band : ℕ) : Type 0 where

@@ -51,7 +51,7 @@ use Rattle.inter_modes.specs.Code.{four_coded_modes, four_quarters, coded_by_siz
 use Rattle.inter_modes.specs.IntraBlocks.{intra_block_mode_info, intra_mode as coded_intra_mode, luma_modes, uv_mode as coded_uv_mode}
 use Rattle.inter_modes.specs.ModeInfo.{InterFrame, block_mode, block_of_quarters, block_with, by_kind, checked_references, filter_of, inter_block, inter_frame_block, inter_frame_mode_info, inter_prediction, interp_filter, intra_block, intra_frame_block, mode_info, quarters_prediction, whole_block, whole_prediction}
 use Rattle.inter_modes.specs.BlockStarts.{segment_reference}
-use Rattle.inter_modes.specs.BlockVectors.{Sources, best_vectors, block_vector, block_vectors, carried, inter_mode, inter_of, near_of_block, quarter, quarter_vector, quarter_vectors, quarters, row_at, vector_of_mode, with_second, ◌>>?◌}
+use Rattle.inter_modes.specs.BlockVectors.{Sources, best_mv, block_vector, block_vectors, carried, inter_mode, inter_of, near_of_block, quarter, quarter_vector, quarter_vectors, quarters, row_at, vector_of_mode, with_second, ◌>>?◌}
 use Rattle.inter_modes.specs.declared.quarters.Quarter.{Quarter}
 use Rattle.inter_modes.specs.declared.quarters.QuartersBefore.{QuartersBefore}
 use Rattle.inter_modes.specs.declared.starts.BlockStart.{BlockStart}
@@ -185,7 +185,7 @@ abbrev Predicted : References → InterpFilter → List Quarter → InterPredict
 Predicted refs filter qs = quarters_prediction refs filter qs
 
 columns_way : (s : Sources) (probs : List ℕ) (context : ℕ) (refs : References) (filter : InterpFilter) (qs : List Quarter) (old new : Part)
-    → PutsValue (quarter_columns s probs context refs (best_vectors s refs)) old (Ok qs) new → HasPut old (spelled_quarters s probs context B4x8 (Predicted refs filter qs)) new
+    → PutsValue (quarter_columns s probs context refs (best_mv s refs)) old (Ok qs) new → HasPut old (spelled_quarters s probs context B4x8 (Predicted refs filter qs)) new
 unfolding quarter_columns spelled_quarters spelled_quarter_of
 columns_way s probs context refs filter qs old new h =
     let a = kept _ _ old new qs h in
@@ -193,11 +193,11 @@ columns_way s probs context refs filter qs old new h =
     let e = ok_settled {A = List Quarter} (a.x ∷ b.x ∷ a.x ∷ b.x ∷ []) qs b.mid new b.second in
     let one = quarter_way s probs context refs 0 _ a.x old a.mid a.first in
     let two = spells_on old a.mid b.mid _ _ (quarter_way s probs context refs 1 _ b.x a.mid b.mid b.first) one in
-    subst (λ (p : List Quarter × Part). HasPut old (spelled_quarter s probs context refs (best_vectors s refs) (inter_mode_of (Predicted refs filter p.0) 0) (row_at (Predicted refs filter p.0).vectors 0)
-    ++ spelled_quarter s probs context refs (best_vectors s refs) (inter_mode_of (Predicted refs filter p.0) 1) (row_at (Predicted refs filter p.0).vectors 1)) p.1) (λ i. (e.0 i, e.1 i)) two
+    subst (λ (p : List Quarter × Part). HasPut old (spelled_quarter s probs context refs (best_mv s refs) (inter_mode_of (Predicted refs filter p.0) 0) (row_at (Predicted refs filter p.0).vectors 0)
+    ++ spelled_quarter s probs context refs (best_mv s refs) (inter_mode_of (Predicted refs filter p.0) 1) (row_at (Predicted refs filter p.0).vectors 1)) p.1) (λ i. (e.0 i, e.1 i)) two
 
 rows_way : (s : Sources) (probs : List ℕ) (context : ℕ) (refs : References) (filter : InterpFilter) (qs : List Quarter) (old new : Part)
-    → PutsValue (quarter_rows s probs context refs (best_vectors s refs)) old (Ok qs) new → HasPut old (spelled_quarters s probs context B8x4 (Predicted refs filter qs)) new
+    → PutsValue (quarter_rows s probs context refs (best_mv s refs)) old (Ok qs) new → HasPut old (spelled_quarters s probs context B8x4 (Predicted refs filter qs)) new
 unfolding quarter_rows spelled_quarters spelled_quarter_of
 rows_way s probs context refs filter qs old new h =
     let a = kept _ _ old new qs h in
@@ -205,8 +205,8 @@ rows_way s probs context refs filter qs old new h =
     let e = ok_settled {A = List Quarter} (a.x ∷ a.x ∷ b.x ∷ b.x ∷ []) qs b.mid new b.second in
     let one = quarter_way s probs context refs 0 _ a.x old a.mid a.first in
     let two = spells_on old a.mid b.mid _ _ (quarter_way s probs context refs 2 _ b.x a.mid b.mid b.first) one in
-    subst (λ (p : List Quarter × Part). HasPut old (spelled_quarter s probs context refs (best_vectors s refs) (inter_mode_of (Predicted refs filter p.0) 0) (row_at (Predicted refs filter p.0).vectors 0)
-    ++ spelled_quarter s probs context refs (best_vectors s refs) (inter_mode_of (Predicted refs filter p.0) 2) (row_at (Predicted refs filter p.0).vectors 2)) p.1) (λ i. (e.0 i, e.1 i)) two
+    subst (λ (p : List Quarter × Part). HasPut old (spelled_quarter s probs context refs (best_mv s refs) (inter_mode_of (Predicted refs filter p.0) 0) (row_at (Predicted refs filter p.0).vectors 0)
+    ++ spelled_quarter s probs context refs (best_mv s refs) (inter_mode_of (Predicted refs filter p.0) 2) (row_at (Predicted refs filter p.0).vectors 2)) p.1) (λ i. (e.0 i, e.1 i)) two
 
 abbrev FourPut : Sources → List ℕ → ℕ → References → InterpFilter → List Quarter → BoolList
 FourPut s probs context refs filter qs =
@@ -214,7 +214,7 @@ FourPut s probs context refs filter qs =
     ++ spelled_quarter_of s probs context (Predicted refs filter qs) 2 ++ spelled_quarter_of s probs context (Predicted refs filter qs) 3
 
 four_way : (s : Sources) (probs : List ℕ) (context : ℕ) (refs : References) (filter : InterpFilter) (qs : List Quarter) (old new : Part)
-    → PutsValue (four_quarters s probs context refs (best_vectors s refs)) old (Ok qs) new → HasPut old (FourPut s probs context refs filter qs) new
+    → PutsValue (four_quarters s probs context refs (best_mv s refs)) old (Ok qs) new → HasPut old (FourPut s probs context refs filter qs) new
 unfolding four_quarters spelled_quarter_of
 four_way s probs context refs filter qs old new h =
     let a = kept _ _ old new qs h in

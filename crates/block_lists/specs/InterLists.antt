@@ -35,7 +35,7 @@ use Rattle.mv_prediction.specs.Candidates.{mode_context}
 use Rattle.inter_contexts.specs.Contexts.{filter_context}
 use Rattle.inter_modes.specs.ModeInfo.{InterFrame, sources_of}
 use Rattle.inter_modes.specs.BlockStarts.{segment_reference}
-use Rattle.inter_modes.specs.BlockVectors.{Sources, best_vectors, near_of_block, row_at}
+use Rattle.inter_modes.specs.BlockVectors.{Sources, best_mv, near_of_block, row_at}
 use Rattle.inter_modes.specs.declared.starts.BlockStart.{BlockStart}
 use Rattle.block_lists.specs.IntraLists.{mode_of, spelled_intra_frame}
 use Rattle.block_lists.specs.ReferenceLists.{spelled_references}
@@ -97,7 +97,7 @@ abbrev pub inter_mode_of : InterPrediction → ℕ → InterMode
 inter_mode_of p k = slice_index_or p.modes k Zero
 
 unfoldable pub spelled_quarter_of : Sources → List ℕ → ℕ → InterPrediction → ℕ → BoolList
-spelled_quarter_of s probs context p k = spelled_quarter s probs context p.references (best_vectors s p.references) (inter_mode_of p k) (row_at p.vectors k)
+spelled_quarter_of s probs context p k = spelled_quarter s probs context p.references (best_mv s p.references) (inter_mode_of p k) (row_at p.vectors k)
 
 unfoldable pub spelled_quarters : Sources → List ℕ → ℕ → BlockSize → InterPrediction → BoolList
 spelled_quarters s probs context B4x8 p = spelled_quarter_of s probs context p 0 ++ spelled_quarter_of s probs context p 1

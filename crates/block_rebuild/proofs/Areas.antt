@@ -32,7 +32,7 @@ use Rattle.block_plan.specs.declared.block.Prediction.{Prediction}
 use Rattle.block_plan.specs.declared.block.Prediction.TheVariants.{Intra, Inter}
 use Rattle.block_plan.specs.declared.block.BlockInfo.{BlockInfo}
 use Rattle.block_plan.specs.declared.block.IntraPrediction.{IntraPrediction}
-use Rattle.inter_places.specs.Places.{subsampling, coded_length, parts_of, place_of}
+use Rattle.inter_places.specs.Places.{is_subsampled, coded_length, parts_of, place_of}
 use Rattle.inter_places.specs.declared.part.Direction.TheVariants.{Down, Across}
 use Rattle.intra_predict.proofs.EdgeLemmas.{same_edges}
 use Rattle.intra_predict.specs.BlockEdges.{LiesIn, edges_in, reads_right, above_sample, left_sample}
@@ -146,11 +146,11 @@ same_residue width height w h right bottom depth b (Some values) m wide high is 
 ---- Transform blocks ----
 
 pub rows_end : (shape : Shape) (p : Plane) (tile_from : ℕ) (b : BlockInfo) (a : Area) → HoldsBlock shape p tile_from b a
-    → IsEnd (lower_end a) (coded_length shape p Down) (halved (subsampling shape p Down) (8 * (b.row + height_8 b.size)))
+    → IsEnd (lower_end a) (coded_length shape p Down) (halved (is_subsampled shape p Down) (8 * (b.row + height_8 b.size)))
 rows_end shape p tile_from b a is = record { enough = is.bottom; inside = is.low }
 
 pub columns_end : (shape : Shape) (p : Plane) (tile_from : ℕ) (b : BlockInfo) (a : Area) → HoldsBlock shape p tile_from b a
-    → IsEnd (right_end a) (coded_length shape p Across) (halved (subsampling shape p Across) (8 * (b.col + width_8 b.size)))
+    → IsEnd (right_end a) (coded_length shape p Across) (halved (is_subsampled shape p Across) (8 * (b.col + width_8 b.size)))
 columns_end shape p tile_from b a is = record { enough = is.right; inside = is.narrow }
 
 -- where a transform block starts, as the standard's width and height have it
@@ -158,7 +158,7 @@ abbrev BothStart : Shape → BlockInfo → Plane → ℕ × ℕ → Type 0
 BothStart shape b p at = LiesInBlock (plane_block shape b p) at × Starts shape b p at
 
 ends_before : (shape : Shape) (tile_from : ℕ) (b : BlockInfo) (modes : IntraPrediction) (p : Plane) (at : ℕ × ℕ) → LiesInBlock (plane_block shape b p) at
-    → EndsBefore (side (tx_in shape b p)) (halved (subsampling shape p Down) (8 * (b.row + height_8 b.size))) (halved (subsampling shape p Across) (8 * (b.col + width_8 b.size)))
+    → EndsBefore (side (tx_in shape b p)) (halved (is_subsampled shape p Down) (8 * (b.row + height_8 b.size))) (halved (is_subsampled shape p Across) (8 * (b.col + width_8 b.size)))
     (intra_at shape tile_from b modes p at).place
 ends_before shape tile_from b modes p at lies =
     let c = plane_block shape b p in
@@ -206,7 +206,7 @@ row_starts shape tile_from b p a at holds both =
     let begins : tx_row c at.0 < coded_length shape p Down = starts_row shape p both.1.0 in
     omega (arith, begins, both.0.rows, some, high, holds.bottom)
   where
-    starts_row : (shape : Shape) (p : Plane) {y : ℕ} → y < halved (subsampling shape p Down) (8 * mi_rows shape) → y < coded_length shape p Down
+    starts_row : (shape : Shape) (p : Plane) {y : ℕ} → y < halved (is_subsampled shape p Down) (8 * mi_rows shape) → y < coded_length shape p Down
     starts_row shape Y h = h
     starts_row shape U h = h
     starts_row shape V h = h
@@ -220,7 +220,7 @@ column_starts shape tile_from b p a at holds both =
     let begins : tx_column c at.1 < coded_length shape p Across = starts_column shape p both.1.1 in
     omega (arith, begins, both.0.columns, some, wide, holds.right)
   where
-    starts_column : (shape : Shape) (p : Plane) {x : ℕ} → x < halved (subsampling shape p Across) (8 * mi_cols shape) → x < coded_length shape p Across
+    starts_column : (shape : Shape) (p : Plane) {x : ℕ} → x < halved (is_subsampled shape p Across) (8 * mi_cols shape) → x < coded_length shape p Across
     starts_column shape Y h = h
     starts_column shape U h = h
     starts_column shape V h = h
@@ -235,7 +235,7 @@ lies shape tile_from b p a at tile holds both =
       bottom = row_starts shape tile_from b p a at holds both;
       begin = omega (arith, holds.left, before);
       end = column_starts shape tile_from b p a at holds both;
-      above = λ some. elim (cases_lt 0 (halved (subsampling shape p Down) (8 * b.row))) [
+      above = λ some. elim (cases_lt 0 (halved (is_subsampled shape p Down) (8 * b.row))) [
         | inl more ↦ let h = holds.above more in omega (arith, h)
         | inr none ↦ omega (arith, none, holds.top, some)
       ];
@@ -324,8 +324,8 @@ part_lies : (shape reference : Shape) (b : BlockInfo) (modes : InterPrediction) 
     → PartFits a (place_of shape b modes (part_of p n list) reference)
 unfolding place_of
 part_lies shape reference b modes p n list a low holds some_rows some_columns =
-    let ss_y = subsampling shape p Down in
-    let ss_x = subsampling shape p Across in
+    let ss_y = is_subsampled shape p Down in
+    let ss_x = is_subsampled shape p Across in
     let down = part_down ss_y ss_x (is_below_8x8 b.size) n (height_8 b.size) (omega arith) low in
     let across = part_across ss_y ss_x (is_below_8x8 b.size) n (width_8 b.size) (omega arith) low in
     let high = at_eights ss_y b.row (height_8 b.size) in
@@ -398,7 +398,7 @@ whole_holds shape p tile_from b a is = rw is (record {
 -- an inter block needs nothing left of it
 pub holds_own : (shape : Shape) (p : Plane) (tile_from : ℕ) (b : BlockInfo) (a : Area) → tile_from ≤ b.col → HoldsBlock shape p tile_from b a → HoldsBlock shape p b.col b a
 holds_own shape p tile_from b a tile holds =
-    let before = rises (subsampling shape p Across) tile_from b.col tile in
+    let before = rises (is_subsampled shape p Across) tile_from b.col tile in
     record {
       top = holds.top;
       above = holds.above;

@@ -14,7 +14,7 @@ use Rattle.block_geometry.specs.BlockSizes.{width_8, height_8}
 use Rattle.block_plan.specs.Planned.{PlannedBlock, residues_in}
 use Rattle.block_plan.specs.declared.block.Prediction.{Prediction}
 use Rattle.block_plan.specs.declared.block.Prediction.TheVariants.{Intra, Inter}
-use Rattle.inter_places.specs.Places.{subsampling, coded_length}
+use Rattle.inter_places.specs.Places.{is_subsampled, coded_length}
 use Rattle.inter_places.specs.declared.part.Direction.TheVariants.{Down, Across}
 use Rattle.planes.specs.Pictures.{blank}
 use Rattle.block_rebuild.specs.RebuiltBlocks.{put_by, put_planned, put_intra}
@@ -78,7 +78,7 @@ blocks_commute by a b m one two apart = fun_ext λ p.
     in_each by a a.info.prediction (put_planned by b m) p
     ∙ (ap (put_in_plane by p a a.info.prediction) (in_each by b b.info.prediction m p)
     ∙ (commute (in_plane by.shape p (places_around a)) (in_plane by.shape p (places_around b)) (λ z. put by p z a) (λ z. put by p z b) (m p)
-    (rises (subsampling by.shape p Across) _ _ apart)
+    (rises (is_subsampled by.shape p Across) _ _ apart)
     (stays_in by p a _ one (itself _)) (stays_in by p b _ two (itself _))
     ∙ (sym (ap (put_in_plane by p b b.info.prediction) (in_each by a a.info.prediction m p))
     ∙ sym (in_each by b b.info.prediction (put_planned by a m) p))))
@@ -96,17 +96,17 @@ in_planes by p (b ∷ blocks) m = in_planes by p blocks (put_planned by b m) ∙
 ---- One tile column ----
 
 abbrev left_of : Shape → Plane → ℕ → ℕ
-left_of shape p from = halved (subsampling shape p Across) (8 * from)
+left_of shape p from = halved (is_subsampled shape p Across) (8 * from)
 
 -- its rows of superblocks
 abbrev edge : Shape → Plane → ℕ → ℕ
-edge shape p r = halved (subsampling shape p Down) (8 * (8 * r))
+edge shape p r = halved (is_subsampled shape p Down) (8 * (8 * r))
 
 -- all of its rows, as far as blocks reach and some more
 abbrev column_in : Shape → Plane → ℕ → ℕ → ℕ → Region
 column_in shape p from to more = record {
   top = 0;
-  bottom = halved (subsampling shape p Down) (8 * (mi_rows shape + 8)) + more;
+  bottom = halved (is_subsampled shape p Down) (8 * (mi_rows shape + 8)) + more;
   left = left_of shape p from;
   right = left_of shape p to;
 }
@@ -115,17 +115,17 @@ is_in_column_of : (by : Rebuilding) (p : Plane) (from to more : ℕ) (b : Planne
     → IsWithin (in_plane by.shape p (places_around b)) (column_in by.shape p from to more)
 is_in_column_of by p from to more b read is = record {
   top = omega arith;
-  bottom = let h = rises (subsampling by.shape p Down) (b.info.row + height_8 b.info.size) (mi_rows by.shape + 8) (omega (arith, read.placed.row, read.row)) in omega (arith, h);
-  left = rises (subsampling by.shape p Across) from b.tile_from (omega (arith, is.begin));
-  right = rises (subsampling by.shape p Across) (b.info.col + width_8 b.info.size) to is.end;
+  bottom = let h = rises (is_subsampled by.shape p Down) (b.info.row + height_8 b.info.size) (mi_rows by.shape + 8) (omega (arith, read.placed.row, read.row)) in omega (arith, h);
+  left = rises (is_subsampled by.shape p Across) from b.tile_from (omega (arith, is.begin));
+  right = rises (is_subsampled by.shape p Across) (b.info.col + width_8 b.info.size) to is.end;
 }
 
 spares : (by : Rebuilding) (p : Plane) (from to more : ℕ) (b : PlannedBlock) → IsRead by.shape b → IsBesideColumn from to b → Spares (column_in by.shape p from to more) (λ m. put by p m b)
 spares by p from to more b read is m y x near = (stays by p b read).leaves m y x (λ i. beside i is.beside)
   where
     beside : IsIn (in_plane by.shape p (own_places b.info)) y x → (b.info.col + width_8 b.info.size ≤ from) ⊎ (to ≤ b.info.col) → ⊥
-    beside i (inl before) = let h = rises (subsampling by.shape p Across) (b.info.col + width_8 b.info.size) from before in omega (arith, h, i.before, near.behind)
-    beside i (inr behind) = let h = rises (subsampling by.shape p Across) to b.info.col behind in omega (arith, h, i.behind, near.before)
+    beside i (inl before) = let h = rises (is_subsampled by.shape p Across) (b.info.col + width_8 b.info.size) from before in omega (arith, h, i.before, near.behind)
+    beside i (inr behind) = let h = rises (is_subsampled by.shape p Across) to b.info.col behind in omega (arith, h, i.behind, near.before)
 
 is_sorted : (by : Rebuilding) (p : Plane) (from to more : ℕ) (b : PlannedBlock) → IsRead by.shape b → IsInColumn from to b ⊎ IsBesideColumn from to b
     → IsSorted (column_in by.shape p from to more) (is_in_column from) (put by p) b
@@ -147,10 +147,10 @@ column_is from to blocks keep = λ k d low.
 in_strip : (by : Rebuilding) (p : Plane) (from to : ℕ) (b : PlannedBlock) → IsRead by.shape b → IsInColumn from to b
     → IsWithin (in_plane by.shape p (places_around b)) (in_plane by.shape p (strip_places from to (superblock_row b)))
 in_strip by p from to b read is = record {
-  top = rises (subsampling by.shape p Down) (8 * superblock_row b) b.info.row (omega arith);
-  bottom = rises (subsampling by.shape p Down) (b.info.row + height_8 b.info.size) (8 * (superblock_row b + 1)) (omega (arith, read.row));
-  left = rises (subsampling by.shape p Across) from b.tile_from (omega (arith, is.begin));
-  right = rises (subsampling by.shape p Across) (b.info.col + width_8 b.info.size) to is.end;
+  top = rises (is_subsampled by.shape p Down) (8 * superblock_row b) b.info.row (omega arith);
+  bottom = rises (is_subsampled by.shape p Down) (b.info.row + height_8 b.info.size) (8 * (superblock_row b + 1)) (omega (arith, read.row));
+  left = rises (is_subsampled by.shape p Across) from b.tile_from (omega (arith, is.begin));
+  right = rises (is_subsampled by.shape p Across) (b.info.col + width_8 b.info.size) to is.end;
 }
 
 stays_in_strip : (by : Rebuilding) (p : Plane) (from to : ℕ) (b : PlannedBlock) → IsRead by.shape b → IsInColumn from to b
@@ -207,7 +207,7 @@ is_strip by from to r blocks read keep order p y x i =
     ap (λ (z : Map). z y x) (in_planes by p blocks blank)
     ∙ (only_column by p from to blocks y x (record { below = omega arith; above = omega arith; behind = i.behind; before = i.before }) sorted
     ∙ (rows_are superblock_row (edge by.shape p) (left_of by.shape p from) (left_of by.shape p to) (put by p) column
-    (edge_first (subsampling by.shape p Down)) (edge_grows (subsampling by.shape p Down)) (λ a b le. rises (subsampling by.shape p Down) (8 * a) (8 * b) (omega (arith, le)))
+    (edge_first (is_subsampled by.shape p Down)) (edge_grows (is_subsampled by.shape p Down)) (λ a b le. rises (is_subsampled by.shape p Down) (8 * a) (8 * b) (omega (arith, le)))
     order (λ k d low. stays_in_strip by p from to _ (its_read k d low) (its k d low)) r y x i
     ∙ sym (ap (λ (z : Map). z y x) (strands_are by p column r))))
 
@@ -225,15 +225,15 @@ inside_row : (ss : Bool) (a b : ℕ) → a < b → halved ss (8 * a) < halved ss
 inside_row true a b low = omega (arith, low)
 inside_row false a b low = omega (arith, low)
 
-lengths : (shape : Shape) (p : Plane) → (halved (subsampling shape p Down) (8 * mi_rows shape) ≡ coded_length shape p Down) × (halved (subsampling shape p Across) (8 * mi_cols shape) ≡ coded_length shape p Across)
+lengths : (shape : Shape) (p : Plane) → (halved (is_subsampled shape p Down) (8 * mi_rows shape) ≡ coded_length shape p Down) × (halved (is_subsampled shape p Across) (8 * mi_cols shape) ≡ coded_length shape p Across)
 lengths shape Y = (refl, refl)
 lengths shape U = (refl, refl)
 lengths shape V = (refl, refl)
 
 pub strip_holds : (shape : Shape) (from to : ℕ) (b : PlannedBlock) → IsRead shape b → IsInColumn from to b → StripHolds shape from to b
 strip_holds shape from to b read is p =
-    let ss_y = subsampling shape p Down in
-    let ss_x = subsampling shape p Across in
+    let ss_y = is_subsampled shape p Down in
+    let ss_x = is_subsampled shape p Across in
     let top = rises ss_y (8 * superblock_row b) b.info.row (omega arith) in
     let high = inside_row ss_y b.info.row (mi_rows shape) read.placed.row in
     let low = rises ss_y (b.info.row + height_8 b.info.size) (8 * (superblock_row b + 1)) (omega (arith, read.row)) in

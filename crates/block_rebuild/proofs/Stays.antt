@@ -22,7 +22,7 @@ use Rattle.block_plan.specs.Planned.{Residue, PlannedBlock, residues_in}
 use Rattle.block_plan.specs.declared.block.BlockInfo.{BlockInfo}
 use Rattle.block_plan.specs.declared.block.InterPrediction.{InterPrediction}
 use Rattle.block_plan.specs.declared.block.IntraPrediction.{IntraPrediction}
-use Rattle.inter_places.specs.Places.{subsampling, parts_of, part_start, predicted_length}
+use Rattle.inter_places.specs.Places.{is_subsampled, parts_of, part_start, predicted_length}
 use Rattle.inter_places.specs.declared.part.Direction.TheVariants.{Down, Across}
 use Rattle.intra_predict.proofs.Around.{edges_agree}
 use Rattle.intra_predict.specs.BlockEdges.{IsInside, AgreeAround, reads_right}
@@ -157,7 +157,7 @@ pub own_within : (shape : Shape) (b : PlannedBlock) (p : Plane) → b.tile_from 
 own_within shape b p tile = record {
   top = omega arith;
   bottom = omega arith;
-  left = let h = rises (subsampling shape p Across) b.tile_from b.info.col tile in omega (arith, h);
+  left = let h = rises (is_subsampled shape p Across) b.tile_from b.info.col tile in omega (arith, h);
   right = omega arith;
 }
 
@@ -206,8 +206,8 @@ part_across false false false n count some low = omega (arith, some, low)
 part_stays : (by : Rebuilding) (b : PlannedBlock) (modes : InterPrediction) (p : Plane) (n : ℕ) → n < parts_of by.shape b.info.size p
     → StaysIn (in_plane by.shape p (own_places b.info)) (in_plane by.shape p (places_around b)) (λ m. put_part by b.info modes p m n)
 part_stays by b modes p n low =
-    let ss_y = subsampling by.shape p Down in
-    let ss_x = subsampling by.shape p Across in
+    let ss_y = is_subsampled by.shape p Down in
+    let ss_x = is_subsampled by.shape p Across in
     let down = part_down ss_y ss_x (is_below_8x8 b.info.size) n (height_8 b.info.size) (omega arith) low in
     let across = part_across ss_y ss_x (is_below_8x8 b.info.size) n (width_8 b.info.size) (omega arith) low in
     let high = at_eights ss_y b.info.row (height_8 b.info.size) in

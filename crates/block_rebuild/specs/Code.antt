@@ -15,7 +15,7 @@ use Rattle.block_plan.specs.declared.block.Prediction.{Prediction}
 use Rattle.block_plan.specs.declared.block.Prediction.TheVariants.{Intra, Inter}
 use Rattle.block_plan.specs.declared.block.InterPrediction.{InterPrediction}
 use Rattle.inter_places.specs.Axes.{IsPlace, first_place, last_place}
-use Rattle.inter_places.specs.Places.{IsReference, parts_of, place_of, subsampling, coded_length}
+use Rattle.inter_places.specs.Places.{IsReference, parts_of, place_of, is_subsampled, coded_length}
 use Rattle.inter_places.specs.declared.part.Direction.TheVariants.{Down, Across}
 use Rattle.block_geometry.specs.BlockSizes.{width_8, height_8}
 use Rattle.inter_places.specs.declared.part.BlockPart.{BlockPart}
@@ -44,11 +44,11 @@ pub record IsPlaced (shape : Shape) (tile_from : ℕ) (b : BlockInfo) : Type 0 w
 
 -- An area of a plane has the samples of a block, those of its tile left of it, and the row above: all of the plane, or a strip.
 pub record HoldsBlock (shape : Shape) (p : Plane) (tile_from : ℕ) (b : BlockInfo) (a : Area) : Type 0 where
-  pub top : a.first_row ≤ halved (subsampling shape p Down) (8 * b.row)
-  pub above : 0 < halved (subsampling shape p Down) (8 * b.row) → a.first_row < halved (subsampling shape p Down) (8 * b.row)
-  pub left : a.first_column ≤ halved (subsampling shape p Across) (8 * tile_from)
-  pub bottom : min (coded_length shape p Down) (halved (subsampling shape p Down) (8 * (b.row + height_8 b.size))) ≤ lower_end a
-  pub right : min (coded_length shape p Across) (halved (subsampling shape p Across) (8 * (b.col + width_8 b.size))) ≤ right_end a
+  pub top : a.first_row ≤ halved (is_subsampled shape p Down) (8 * b.row)
+  pub above : 0 < halved (is_subsampled shape p Down) (8 * b.row) → a.first_row < halved (is_subsampled shape p Down) (8 * b.row)
+  pub left : a.first_column ≤ halved (is_subsampled shape p Across) (8 * tile_from)
+  pub bottom : min (coded_length shape p Down) (halved (is_subsampled shape p Down) (8 * (b.row + height_8 b.size))) ≤ lower_end a
+  pub right : min (coded_length shape p Across) (halved (is_subsampled shape p Across) (8 * (b.col + width_8 b.size))) ≤ right_end a
   pub low : lower_end a ≤ coded_length shape p Down
   pub narrow : right_end a ≤ coded_length shape p Across
 

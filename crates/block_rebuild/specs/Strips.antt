@@ -7,7 +7,7 @@ use Rattle.vp9_types.specs.Shapes.{halved}
 use Rattle.vp9_types.specs.declared.shape.Plane.{Plane}
 use Rattle.vp9_types.specs.declared.shape.Shape.{Shape}
 use Rattle.block_plan.specs.Planned.{PlannedBlock}
-use Rattle.inter_places.specs.Places.{subsampling, coded_length}
+use Rattle.inter_places.specs.Places.{is_subsampled, coded_length}
 use Rattle.inter_places.specs.declared.part.Direction.TheVariants.{Down, Across}
 use Rattle.planes.specs.Pictures.{blank}
 use Rattle.planes.specs.declared.area.Area.{Area}
@@ -39,10 +39,10 @@ pub record IsAround (g : Region) (y x : ℕ) : Type 0 where
 -- the samples of a plane in a region of places of 8x8 luma samples
 abbrev pub in_plane : Shape → Plane → Region → Region
 in_plane shape p g = record {
-  top = halved (subsampling shape p Down) (8 * g.top);
-  bottom = halved (subsampling shape p Down) (8 * g.bottom);
-  left = halved (subsampling shape p Across) (8 * g.left);
-  right = halved (subsampling shape p Across) (8 * g.right);
+  top = halved (is_subsampled shape p Down) (8 * g.top);
+  bottom = halved (is_subsampled shape p Down) (8 * g.bottom);
+  left = halved (is_subsampled shape p Across) (8 * g.left);
+  right = halved (is_subsampled shape p Across) (8 * g.right);
 }
 
 -- the places of row r of superblocks in a tile's columns
@@ -74,7 +74,7 @@ with_blocks by m blocks = fold (λ f b. put_planned by b f) m blocks
 
 -- of each plane only the last row of samples above a row of places; all else is 0
 abbrev pub last_row_above : Shape → ℕ → FrameMap → FrameMap
-last_row_above shape row m = λ p y x. if nat_eq (y + 1) (halved (subsampling shape p Down) (8 * row)) then m p y x else 0
+last_row_above shape row m = λ p y x. if nat_eq (y + 1) (halved (is_subsampled shape p Down) (8 * row)) then m p y x else 0
 
 -- what row r of superblocks makes of the samples of its tile column that stand above it
 abbrev pub strip_below : Rebuilding → List PlannedBlock → ℕ → FrameMap → FrameMap

@@ -8,7 +8,7 @@ use Rattle.vp9_types.specs.Trees.{Tree, leaf, node, tree_symbol}
 use Rattle.vp9_types.specs.declared.rule.Rule.{Rule}
 use Rattle.prob_contexts.specs.declared.kind.CountedBool.{CountedBool}
 use Rattle.prob_contexts.specs.declared.kind.ProbKind.{ProbKind}
-use Rattle.counting_reader.specs.Counting.{Settled, settle, count, uncounted, behind, in_order, lifted, through}
+use Rattle.counting_reader.specs.Counting.{Settled, settle, count, uncounted, counted_before, in_order, lifted, through}
 use Rattle.counting_reader.specs.Code.{run_counting, with_counts, counted_if}
 use Rattle.counting_reader.specs.CountedSymbols.{counted_flag, counted_tree}
 use Rattle.bool_decoder.specs.Bools.{flag}
@@ -40,11 +40,11 @@ valued_uncounted (done x) = refl
 valued_uncounted (broken e) = refl
 valued_uncounted (ask p k) = same_after p (λ v. valued (uncounted (k v))) k (λ v. valued_uncounted (k v))
 
-valued_behind : {A : Type 0} (bools : List CountedBool) (s : Syntax ℕ Rule (Settled A)) → valued (behind bools s) ≡ valued s
-unfolding behind valued
+valued_behind : {A : Type 0} (bools : List CountedBool) (s : Syntax ℕ Rule (Settled A)) → valued (counted_before bools s) ≡ valued s
+unfolding counted_before valued
 valued_behind bools (done x) = refl
 valued_behind bools (broken e) = refl
-valued_behind bools (ask p k) = same_after p (λ v. valued (behind bools (k v))) (λ v. valued (k v)) (λ v. valued_behind bools (k v))
+valued_behind bools (ask p k) = same_after p (λ v. valued (counted_before bools (k v))) (λ v. valued (k v)) (λ v. valued_behind bools (k v))
 
 pub valued_in_order : {A B : Type 0} (s : Syntax ℕ Rule (Settled A)) (f : A → Syntax ℕ Rule (Settled B)) → valued (in_order s f) ≡ (valued s >>= λ x. valued (f x))
 unfolding in_order valued
@@ -53,7 +53,7 @@ valued_in_order (broken e) f = refl
 valued_in_order (ask p k) f = same_after p (λ v. valued (in_order (k v) f)) (λ v. valued (k v) >>= λ x. valued (f x)) (λ v. valued_in_order (k v) f)
 
 branch : {A : Type 0} (b : Bool) (bools : List CountedBool) (s t : Syntax ℕ Rule (Settled A)) (u w : Syntax ℕ Rule A) → valued s ≡ u → valued t ≡ w
-    → valued (behind bools (if b then s else t)) ≡ (if b then u else w)
+    → valued (counted_before bools (if b then s else t)) ≡ (if b then u else w)
 branch true bools s t u w h g = valued_behind bools s ∙ h
 branch false bools s t u w h g = valued_behind bools t ∙ g
 
@@ -66,7 +66,7 @@ unfolding counted_tree tree_symbol counted_flag in_order settle valued
 valued_tree kind first (leaf x) probs = refl
 valued_tree kind first (node k zeros ones) probs =
     same_after (slice_index probs k)
-    (λ v. valued (behind (counted_as kind (first + k) v) (if nat_eq v 1 then counted_tree kind first ones probs else counted_tree kind first zeros probs)))
+    (λ v. valued (counted_before (counted_as kind (first + k) v) (if nat_eq v 1 then counted_tree kind first ones probs else counted_tree kind first zeros probs)))
     (λ v. if nat_eq v 1 then tree_symbol ones probs else tree_symbol zeros probs)
     (λ v. branch (nat_eq v 1) (counted_as kind (first + k) v) (counted_tree kind first ones probs) (counted_tree kind first zeros probs)
     (tree_symbol ones probs) (tree_symbol zeros probs) (valued_tree kind first ones probs) (valued_tree kind first zeros probs))

@@ -12,7 +12,7 @@ use Rattle.vp9_types.specs.declared.shape.Shape.{Shape}
 use Rattle.frame_headers.specs.HeaderState.{shape_of}
 use Rattle.frame_headers.specs.declared.header.Header.{Header}
 use Rattle.counting_reader.specs.Counting.{Settled}
-use Rattle.inter_places.specs.Places.{subsampling, coded_length}
+use Rattle.inter_places.specs.Places.{is_subsampled, coded_length}
 use Rattle.inter_places.specs.declared.part.Direction.TheVariants.{Down, Across}
 use Rattle.planes.specs.Planes.{right_end}
 use Rattle.planes.specs.Pictures.{IsInRange, blank, plane_of, samples_of}
@@ -51,7 +51,7 @@ tops_rise : (ss : Bool) (r : ℕ) → halved ss (64 * r) ≤ halved ss (64 * (r 
 tops_rise true r = omega arith
 tops_rise false r = omega arith
 
-lengths : (shape : Shape) (p : Plane) → (coded_length shape p Down ≡ coded_height shape p) × (coded_width shape p ≡ halved (subsampling shape p Across) (8 * mi_cols shape))
+lengths : (shape : Shape) (p : Plane) → (coded_length shape p Down ≡ coded_height shape p) × (coded_width shape p ≡ halved (is_subsampled shape p Across) (8 * mi_cols shape))
 lengths shape Y = (refl, refl)
 lengths shape U = (refl, refl)
 lengths shape V = (refl, refl)
@@ -65,14 +65,14 @@ width_kept left right coded low = omega (arith, low)
 
 own_rows : (shape : Shape) (p : Plane) (from to r : ℕ) → from ≤ mi_cols shape → r < superblocks_along (mi_rows shape) → HasOwnRows shape p r (strip_area shape p from to r)
 own_rows shape p from to r inside low =
-    let ss = subsampling shape p Down in
+    let ss = is_subsampled shape p Down in
     let told = rows_are (halved ss (8 * (8 * r))) (halved ss (64 * r)) (halved ss (8 * (8 * (r + 1)))) (halved ss (64 * (r + 1))) (coded_height shape p)
     (at_rows ss r) (at_rows ss (r + 1)) (top_inside shape p r low) (tops_rise ss r) in
-    let begin : halved (subsampling shape p Across) (8 * from) ≤ coded_width shape p = rw (lengths shape p).1 (rises (subsampling shape p Across) from (mi_cols shape) inside) in
+    let begin : halved (is_subsampled shape p Across) (8 * from) ≤ coded_width shape p = rw (lengths shape p).1 (rises (is_subsampled shape p Across) from (mi_cols shape) inside) in
     record {
       top = told.0;
       bottom = told.1;
-      right = width_kept (halved (subsampling shape p Across) (8 * from)) (halved (subsampling shape p Across) (8 * to)) (coded_width shape p) begin;
+      right = width_kept (halved (is_subsampled shape p Across) (8 * from)) (halved (is_subsampled shape p Across) (8 * to)) (coded_width shape p) begin;
     }
 
 is_between : (high top low bottom coded y : ℕ) → high ≡ top → low ≡ bottom → top < coded → top ≤ bottom → min coded top ≤ y → y < min coded top + (high - 1 + (min coded low - (high - 1)) - min coded top)
@@ -82,15 +82,15 @@ is_between high top low bottom coded y same its inside rise below above = (omega
 in_strip : (shape : Shape) (p : Plane) (from to r y x : ℕ) → r < superblocks_along (mi_rows shape) → IsInArea (rows_from (first_own shape p r) (strip_area shape p from to r)) y x
     → IsIn (in_plane shape p (strip_places from to r)) y x
 in_strip shape p from to r y x low i =
-    let ss = subsampling shape p Down in
+    let ss = is_subsampled shape p Down in
     let told = is_between (halved ss (8 * (8 * r))) (halved ss (64 * r)) (halved ss (8 * (8 * (r + 1)))) (halved ss (64 * (r + 1))) (coded_height shape p) y
     (at_rows ss r) (at_rows ss (r + 1)) (top_inside shape p r low) (tops_rise ss r) i.below i.above in
-    let end : x < halved (subsampling shape p Across) (8 * from) + (min (coded_length shape p Across) (halved (subsampling shape p Across) (8 * to)) - halved (subsampling shape p Across) (8 * from)) = i.before in
+    let end : x < halved (is_subsampled shape p Across) (8 * from) + (min (coded_length shape p Across) (halved (is_subsampled shape p Across) (8 * to)) - halved (is_subsampled shape p Across) (8 * from)) = i.before in
     record {
       below = told.0;
       above = told.1;
       behind = i.behind;
-      before = before_end x (halved (subsampling shape p Across) (8 * from)) (halved (subsampling shape p Across) (8 * to)) (coded_length shape p Across) i.behind end;
+      before = before_end x (halved (is_subsampled shape p Across) (8 * from)) (halved (is_subsampled shape p Across) (8 * to)) (coded_length shape p Across) i.behind end;
     }
   where
     before_end : (x left right coded : ℕ) → left ≤ x → x < left + (min coded right - left) → x < right
@@ -144,11 +144,11 @@ module _ {X : Type 0} (header : Header) (r : ℕ) (strips : List (FramePlanes X)
 
   -- the tile column of a column of samples
   abbrev column_at : Plane → ℕ → ℕ
-  column_at p x = part_at (superblocks_along (mi_cols shape)) (2 ^ log2) (place_at (subsampling shape p Across) x / 8)
+  column_at p x = part_at (superblocks_along (mi_cols shape)) (2 ^ log2) (place_at (is_subsampled shape p Across) x / 8)
 
   column_there : (p : Plane) (x : ℕ) → x < coded_width shape p → HasColumn strips p x
   column_there p x low =
-      let ss = subsampling shape p Across in
+      let ss = is_subsampled shape p Across in
       let there : place_at ss x < mi_cols shape = place_low ss x (mi_cols shape) (rw (lengths shape p).1 at low) in
       let few : column_at p x < length strips = rw many (place_below (mi_cols shape) log2 (place_at ss x) there) in
       let begin = place_from (mi_cols shape) log2 (place_at ss x) there in

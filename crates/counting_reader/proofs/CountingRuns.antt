@@ -9,7 +9,7 @@ use Rattle.bool_decoder.specs.Window.{Window, bit_of, after_bit}
 use Rattle.bool_decoder.specs.Bools.{run_bools}
 use Rattle.prob_contexts.specs.declared.kind.CountedBool.{CountedBool}
 use Rattle.prob_contexts.specs.Code.{counts_after, with_bool}
-use Rattle.counting_reader.specs.Counting.{Settled, settle, count, uncounted, behind, in_order}
+use Rattle.counting_reader.specs.Counting.{Settled, settle, count, uncounted, counted_before, in_order}
 use Rattle.counting_reader.specs.Code.{Standing, run_counting, counted_if, counted_at, with_same_counts, silent, read_silently}
 
 counted_none : (counting : Bool) (counts : List ℕ) → counted_if counting counts [] ≡ counts
@@ -41,8 +41,8 @@ run_uncounted (broken e) m = refl
 run_uncounted (ask p k) m = run_uncounted (k (bit_of p m.window)) (with_these m (after_bit p m.window) m.counts)
 
 run_behind : {A : Type 0} (bools : List CountedBool) (s : Syntax ℕ Rule (Settled A)) (m : Standing)
-    → run_counting (behind bools s) m ≡ run_counting s (counted_at m bools)
-unfolding run_counting behind
+    → run_counting (counted_before bools s) m ≡ run_counting s (counted_at m bools)
+unfolding run_counting counted_before
 run_behind bools (done s) m = ap (λ counts. Ok (s.value, with_these m m.window counts)) (counted_both m.counting m.counts bools s.counted)
 run_behind bools (broken e) m = refl
 run_behind bools (ask p k) m = run_behind bools (k (bit_of p m.window)) (with_these m (after_bit p m.window) m.counts)

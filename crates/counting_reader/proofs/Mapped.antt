@@ -3,13 +3,13 @@ use Rattle.std.proofs.Common.{◌≡◌, ℕ, ◌∙◌, List, refl, ap}
 use Rattle.vp9_types.specs.Syntax.{Syntax, done, broken, ask}
 use Rattle.vp9_types.specs.declared.rule.Rule.{Rule}
 use Rattle.prob_contexts.specs.declared.kind.CountedBool.{CountedBool}
-use Rattle.counting_reader.specs.Counting.{Settled, behind, in_order, mapped}
+use Rattle.counting_reader.specs.Counting.{Settled, counted_before, in_order, mapped}
 
 abbrev pub Reads : Type 0 → Type 0
 Reads A = Syntax ℕ Rule (Settled A)
 
-pub mapped_behind : {A B : Type 0} (f : A → B) (bools : List CountedBool) (s : Reads A) → behind bools (mapped f s) ≡ mapped f (behind bools s)
-unfolding behind mapped
+pub mapped_behind : {A B : Type 0} (f : A → B) (bools : List CountedBool) (s : Reads A) → counted_before bools (mapped f s) ≡ mapped f (counted_before bools s)
+unfolding counted_before mapped
 mapped_behind f bools (done s) = refl
 mapped_behind f bools (broken e) = refl
 mapped_behind f bools (ask p k) = λ i. ask p (λ v. mapped_behind f bools (k v) i)
@@ -18,7 +18,7 @@ mapped_behind f bools (ask p k) = λ i. ask p (λ v. mapped_behind f bools (k v)
 pub mapped_both : {A B C D : Type 0} (f : A → B) (g : C → D) (s : Reads A) (k : A → Reads C) (l : B → Reads D)
     → ((x : A) → l (f x) ≡ mapped g (k x)) → in_order (mapped f s) l ≡ mapped g (in_order s k)
 unfolding in_order mapped
-mapped_both f g (done s) k l same = ap (behind s.counted) (same s.value) ∙ mapped_behind g s.counted (k s.value)
+mapped_both f g (done s) k l same = ap (counted_before s.counted) (same s.value) ∙ mapped_behind g s.counted (k s.value)
 mapped_both f g (broken e) k l same = refl
 mapped_both f g (ask p next) k l same = λ i. ask p (λ v. mapped_both f g (next v) k l same i)
 
@@ -26,7 +26,7 @@ mapped_both f g (ask p next) k l same = λ i. ask p (λ v. mapped_both f g (next
 pub mapped_after : {A C D : Type 0} (g : C → D) (s : Reads A) (k : A → Reads C) (l : A → Reads D)
     → ((x : A) → l x ≡ mapped g (k x)) → in_order s l ≡ mapped g (in_order s k)
 unfolding in_order mapped
-mapped_after g (done s) k l same = ap (behind s.counted) (same s.value) ∙ mapped_behind g s.counted (k s.value)
+mapped_after g (done s) k l same = ap (counted_before s.counted) (same s.value) ∙ mapped_behind g s.counted (k s.value)
 mapped_after g (broken e) k l same = refl
 mapped_after g (ask p next) k l same = λ i. ask p (λ v. mapped_after g (next v) k l same i)
 

@@ -3,10 +3,10 @@ use Rattle.std.proofs.Common.{ℕ, List}
 use Rattle.vp9_types.specs.Syntax.{Syntax, done, broken, ask}
 use Rattle.vp9_types.specs.declared.rule.Rule.{Rule}
 use Rattle.prob_contexts.specs.declared.kind.CountedBool.{CountedBool}
-use Rattle.counting_reader.specs.Counting.{Settled, behind, in_order, Yields}
+use Rattle.counting_reader.specs.Counting.{Settled, counted_before, in_order, Yields}
 
-yields_behind : {A : Type 0} (bools : List CountedBool) (s : Syntax ℕ Rule (Settled A)) (P : A → Type 0) → Yields s P → Yields (behind bools s) P
-unfolding behind
+yields_behind : {A : Type 0} (bools : List CountedBool) (s : Syntax ℕ Rule (Settled A)) (P : A → Type 0) → Yields s P → Yields (counted_before bools s) P
+unfolding counted_before
 yields_behind bools (done x) P h = h
 yields_behind bools (broken e) P h = tt
 yields_behind bools (ask p k) P h = λ v. yields_behind bools (k v) P (h v)

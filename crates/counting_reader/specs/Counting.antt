@@ -26,14 +26,14 @@ uncounted (broken e) = broken e
 uncounted (ask p k) = ask p (λ v. uncounted (k v))
 
 -- the same, with these counted before
-unfoldable pub behind : {A : Type 0} → List CountedBool → Syntax ℕ Rule (Settled A) → Syntax ℕ Rule (Settled A)
-behind bools (done s) = done (record { value = s.value; counted = bools ++ s.counted })
-behind bools (broken e) = broken e
-behind bools (ask p k) = ask p (λ v. behind bools (k v))
+unfoldable pub counted_before : {A : Type 0} → List CountedBool → Syntax ℕ Rule (Settled A) → Syntax ℕ Rule (Settled A)
+counted_before bools (done s) = done (record { value = s.value; counted = bools ++ s.counted })
+counted_before bools (broken e) = broken e
+counted_before bools (ask p k) = ask p (λ v. counted_before bools (k v))
 
 -- one, and then another that knows what value the first settled on
 unfoldable pub in_order : {A B : Type 0} → Syntax ℕ Rule (Settled A) → (A → Syntax ℕ Rule (Settled B)) → Syntax ℕ Rule (Settled B)
-in_order (done s) f = behind s.counted (f s.value)
+in_order (done s) f = counted_before s.counted (f s.value)
 in_order (broken e) f = broken e
 in_order (ask p k) f = ask p (λ v. in_order (k v) f)
 

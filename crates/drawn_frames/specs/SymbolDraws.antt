@@ -10,16 +10,16 @@ use Rattle.drawn_frames.specs.BlockLevelDraws.{draw_block_levels}
 use Rattle.drawn_frames.specs.declared.symbols.DrawnSymbols.{DrawnSymbols}
 
 -- what is drawn is told, and further draws come from the number behind it
-abbrev pub told : {A : Type 0} → Drawn A → DrawnSymbols → Option (A × DrawnSymbols)
-told s t = Some ((s t.draws.x).0, record { draws = record { x = (s t.draws.x).1 } })
+abbrev pub drawn : {A : Type 0} → Drawn A → DrawnSymbols → Option (A × DrawnSymbols)
+drawn s t = Some ((s t.draws.x).0, record { draws = record { x = (s t.draws.x).1 } })
 
-abbrev pub told_of : {A : Type 0} → FrameSources → Drawn A → DrawnSymbols → Option (A × DrawnSymbols)
-told_of by s t = if is_drawn_frame by.header then told s t else None
+abbrev pub drawn_of : {A : Type 0} → FrameSources → Drawn A → DrawnSymbols → Option (A × DrawnSymbols)
+drawn_of by s t = if is_drawn_frame by.header then drawn s t else None
 
 -- partitions, blocks and levels, all from one number; blocks of drawn frames alone
 abbrev pub drawing : Speaker DrawnSymbols
 drawing = record {
-  partition = λ has_rows has_cols. told (draw_partition has_rows has_cols);
-  block = λ by earlier at. told_of by (draw_block by.header by.modes by.contexts earlier by.past.vectors at);
-  levels = λ by block. told (draw_block_levels by.header block);
+  partition = λ has_rows has_cols. drawn (draw_partition has_rows has_cols);
+  block = λ by earlier at. drawn_of by (draw_block by.header by.modes by.contexts earlier by.past.vectors at);
+  levels = λ by block. drawn (draw_block_levels by.header block);
 }

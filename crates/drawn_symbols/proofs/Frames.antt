@@ -17,7 +17,7 @@ use Rattle.mv_prediction.specs.declared.search.SignBiases.{SignBiases}
 use Rattle.inter_contexts.specs.BlockReferences.{in_range_or_rule}
 use Rattle.inter_modes.specs.ModeInfo.{InterFrame}
 use Rattle.inter_modes.specs.BlockStarts.{reference_if, segment_reference}
-use Rattle.inter_modes.specs.BlockVectors.{Sources, best_vectors}
+use Rattle.inter_modes.specs.BlockVectors.{Sources, best_mv}
 use Rattle.block_plan.specs.declared.block.BlockAt.{BlockAt}
 use Rattle.block_plan.specs.declared.block.IntraPrediction.{IntraPrediction}
 use Rattle.frame_headers.specs.declared.header.Header.{Header}
@@ -60,7 +60,7 @@ named_can : (filter : FrameFilter) (named : InterpFilter) → filter ≡ Switcha
 named_can filter named is differs = rw is differs
 
 abbrev best_of : Sources → References → Best
-best_of s refs = record { allowed = s.allowed; vectors = best_vectors s refs; references = refs; size = s.search.at.size }
+best_of s refs = record { allowed = s.allowed; vectors = best_mv s refs; references = refs; size = s.search.at.size }
 
 modes_can : (s : Sources) (skips : Bool) (filter : FrameFilter) (refs : References) (q : InterSymbols) → skips ≡ false → filter ≡ Switchable
     → CanBeSymbols (best_of s refs) s.search.at.size q → CanSayInter s skips filter q

@@ -20,7 +20,7 @@ use Rattle.mv_prediction.specs.Vectors.{is_precise}
 use Rattle.mv_prediction.specs.declared.search.SignBiases.{SignBiases}
 use Rattle.inter_contexts.specs.BlockReferences.{fixed_of, variable_by, with_fixed, single, in_range_or_rule}
 use Rattle.inter_modes.specs.ModeInfo.{InterFrame, filter_of}
-use Rattle.inter_modes.specs.BlockVectors.{Sources, best_vectors, inter_of}
+use Rattle.inter_modes.specs.BlockVectors.{Sources, best_mv, inter_of}
 use Rattle.vector_writer.specs.declared.symbols.InterSymbols.{InterSymbols}
 use Rattle.vector_writer.specs.declared.symbols.QuarterSymbols.{QuarterSymbols}
 use Rattle.drawn_symbols.specs.Draws.{Drawn, stay, ◌>>=◌, draw_flag, draw_leaf}
@@ -127,7 +127,7 @@ abbrev pub references_alone : References → InterSymbols
 references_alone refs = symbols_of refs Regular (in_all_quarters no_symbols)
 
 abbrev pub draw_modes_if : Result References Rule → Sources → References → Drawn InterSymbols
-draw_modes_if (Ok _) s refs = draw_modes s.allowed (best_vectors s refs) refs s.search.at.size
+draw_modes_if (Ok _) s refs = draw_modes s.allowed (best_mv s refs) refs s.search.at.size
 draw_modes_if (Err _) s refs = stay (references_alone refs)
 
 -- a block of an inter frame that is inter: its references, and the rest where they are in range

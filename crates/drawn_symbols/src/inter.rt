@@ -14,7 +14,7 @@ use crate::quarters::{Best, draw_modes, symbols_of};
 use crate::references::draw_references;
 use block_plan::{Neighbours, References};
 use inter_contexts::in_range_or_rule;
-use inter_modes::{Frame, NO_VECTORS, Sources, best_vectors};
+use inter_modes::{Frame, NO_VECTORS, Sources, best_mv};
 use vector_writer::{InterSymbols, QuarterSymbols};
 use vp9_types::{InterMode, InterpFilter};
 
@@ -49,7 +49,7 @@ pub(crate) fn draw_inter<N: Neighbours, Q: Neighbours>(
         Ok(_) => {
             let best = Best {
                 allowed: src.high_precision,
-                vectors: best_vectors(src, references),
+                vectors: best_mv(src, references),
                 references,
                 size: src.search.at.size,
             };

@@ -4,7 +4,7 @@ use Rattle.std.specs.Prelude.{Option, Some, None, Result, Ok, Err}
 use Rattle.std.proofs.lemmas.List.{append-nil}
 use Rattle.vp9_types.specs.declared.rule.Rule.{Rule}
 use Rattle.file_frames.specs.Walks.{Added, Walk, Walked, ended, adding, followed, walk_from, walk}
-use Rattle.file_frames.specs.Laws.{more_added, next_behind, behind, going_on, GoesOn}
+use Rattle.file_frames.specs.Laws.{more_added, next_behind, steps_over, going_on, GoesOn}
 use Rattle.file_frames.specs.Code.{Ahead, all_ahead, walk_ahead, IsOnWay}
 use Rattle.file_frames.specs.FileFrames.{frames_of_file}
 
@@ -27,8 +27,8 @@ module _ {S A E : Type 0} where
       ap (λ k. walk_from w k state rest ending) none
   goes_on w (frame ∷ frames) number state rest ending =
       let numbers : (number + 1) + length frames ≡ number + length (frame ∷ frames) = omega arith in
-      next_going number (w.step number state frame) _ (λ next. behind w (number + 1) next frames) (λ next. walk_from w (number + length (frame ∷ frames)) next rest ending)
-      (λ s. goes_on w frames (number + 1) s rest ending ∙ ap (λ k. going_on (behind w (number + 1) s frames) (λ next. walk_from w k next rest ending)) numbers)
+      next_going number (w.step number state frame) _ (λ next. steps_over w (number + 1) next frames) (λ next. walk_from w (number + length (frame ∷ frames)) next rest ending)
+      (λ s. goes_on w frames (number + 1) s rest ending ∙ ap (λ k. going_on (steps_over w (number + 1) s frames) (λ next. walk_from w k next rest ending)) numbers)
 
   ---- A walk by the calls of a cursor ----
 

@@ -34,7 +34,7 @@ use Rattle.block_geometry.specs.BlockSizes.{is_below_8x8}
 use Rattle.inter_contexts.specs.Contexts.{filter_context}
 use Rattle.inter_modes.specs.ModeInfo.{InterFrame, sources_of, block_mode, interp_filter, whole_prediction, quarters_prediction, whole_block, block_of_quarters, inter_prediction, block_with, checked_references, inter_block, intra_block, inter_frame_block, least_before, inter_frame_mode_info, intra_frame_block, by_kind, mode_info}
 use Rattle.inter_modes.specs.BlockStarts.{block_start}
-use Rattle.inter_modes.specs.BlockVectors.{Sources, inter_mode, vector_of_mode, near_of_block, near_of_quarter, block_vector, with_second, block_vectors, second_best, best_vectors, row_at, of_list, quarter_vector, quarter_vectors, quarter, before_of, unread, vectors_of, each_quarter, quarters, ◌>>?◌}
+use Rattle.inter_modes.specs.BlockVectors.{Sources, inter_mode, vector_of_mode, near_of_block, near_of_quarter, block_vector, with_second, block_vectors, second_best, best_mv, row_at, of_list, quarter_vector, quarter_vectors, quarter, before_of, unread, vectors_of, each_quarter, quarters, ◌>>?◌}
 use Rattle.inter_modes.specs.declared.quarters.Quarter.{Quarter}
 use Rattle.inter_modes.specs.declared.quarters.QuartersBefore.{QuartersBefore}
 use Rattle.inter_modes.specs.declared.starts.BlockStart.{BlockStart}
@@ -86,7 +86,7 @@ same_second : (s t : Sources) → AreAlike s t → (second : Option ReferenceFra
 same_second s t a None = refl
 same_second s t a (Some reference) = λ i. (same_near s t a reference i).nearest
 
-same_best : (s t : Sources) → AreAlike s t → (refs : References) → best_vectors s refs ≡ best_vectors t refs
+same_best : (s t : Sources) → AreAlike s t → (refs : References) → best_mv s refs ≡ best_mv t refs
 same_best s t a refs = λ i. (same_near s t a refs.first i).nearest ∷ same_second s t a refs.second i ∷ []
 
 same_quarter_vector : (s t : Sources) → AreAlike s t → (mode : InterMode) (reference : ReferenceFrame) (list k : ℕ) (before : QuartersBefore)
@@ -121,7 +121,7 @@ same_quarters : (s t : Sources) → AreAlike s t → (probs : List ℕ) (context
     → quarters s probs context refs size ≡ quarters t probs context refs size
 unfolding quarters
 same_quarters s t a probs context refs size =
-    same_each s t a probs context refs size (best_vectors s refs) (starting_quarters size) (unread ∷ unread ∷ unread ∷ unread ∷ [])
+    same_each s t a probs context refs size (best_mv s refs) (starting_quarters size) (unread ∷ unread ∷ unread ∷ unread ∷ [])
     ∙ ap (λ best. each_quarter t probs context refs size best (starting_quarters size) (unread ∷ unread ∷ unread ∷ unread ∷ [])) (same_best s t a refs)
 
 ---- Blocks ----

@@ -91,8 +91,8 @@ abbrev pub second_best : Sources → Option ReferenceFrame → Mv
 second_best s None = no_vector
 second_best s (Some reference) = (near_of_block s reference).nearest
 
-abbrev pub best_vectors : Sources → References → List Mv
-best_vectors s refs = (near_of_block s refs.first).nearest ∷ second_best s refs.second ∷ []
+abbrev pub best_mv : Sources → References → List Mv
+best_mv s refs = (near_of_block s refs.first).nearest ∷ second_best s refs.second ∷ []
 
 abbrev pub row_at : List (List Mv) → ℕ → List Mv
 row_at rows k = slice_index_or rows k []
@@ -144,4 +144,4 @@ each_quarter s probs context refs size best (k ∷ rest) known =
 -- the quarters of a block below 8x8
 unfoldable pub quarters : Sources → List ℕ → ℕ → References → BlockSize → Quarters
 quarters s probs context refs size =
-    each_quarter s probs context refs size (best_vectors s refs) (starting_quarters size) (unread ∷ unread ∷ unread ∷ unread ∷ [])
+    each_quarter s probs context refs size (best_mv s refs) (starting_quarters size) (unread ∷ unread ∷ unread ∷ unread ∷ [])

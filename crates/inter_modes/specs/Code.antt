@@ -32,7 +32,7 @@ use Rattle.inter_contexts.specs.BlockReferences.{reference_in, second_in_range}
 use Rattle.counting_reader.specs.Counting.{Settled, settle, ◌>>=◌}
 use Rattle.inter_modes.specs.IntraBlocks.{intra_mode}
 use Rattle.inter_modes.specs.ModeInfo.{InterFrame}
-use Rattle.inter_modes.specs.BlockVectors.{Quarters, Sources, before_of, best_vectors, nothing_before, quarter, row_at, ◌>>?◌}
+use Rattle.inter_modes.specs.BlockVectors.{Quarters, Sources, before_of, best_mv, nothing_before, quarter, row_at, ◌>>?◌}
 use Rattle.inter_modes.specs.declared.frame_blocks.Frame.{Frame}
 use Rattle.inter_modes.specs.declared.quarters.Quarter.{Quarter}
 use Rattle.inter_modes.specs.declared.quarters.QuartersBefore.{QuartersBefore}
@@ -175,6 +175,6 @@ quarter_rows s probs context refs best =
     >>? λ r. settle (Ok (q ∷ q ∷ r ∷ r ∷ []))
 
 unfoldable pub quarters_by_size : Sources → List ℕ → ℕ → References → BlockSize → Quarters
-quarters_by_size s probs context refs B4x8 = quarter_columns s probs context refs (best_vectors s refs)
-quarters_by_size s probs context refs B8x4 = quarter_rows s probs context refs (best_vectors s refs)
-quarters_by_size s probs context refs size = four_quarters s probs context refs (best_vectors s refs)
+quarters_by_size s probs context refs B4x8 = quarter_columns s probs context refs (best_mv s refs)
+quarters_by_size s probs context refs B8x4 = quarter_rows s probs context refs (best_mv s refs)
+quarters_by_size s probs context refs size = four_quarters s probs context refs (best_mv s refs)

@@ -17,6 +17,6 @@ pub use quarters::{Quarter, QuartersBefore, before_of};
 pub use segments::update_segments;
 pub use starts::{BlockStart, SegmentOf, is_inter_feature, least_id, segment_reference};
 pub use vectors::{
-    NO_VECTOR, NO_VECTORS, Sources, WantedVector, best_vectors, near_of_block, near_of_quarter,
+    NO_VECTOR, NO_VECTORS, Sources, WantedVector, best_mv, near_of_block, near_of_quarter,
     nearest_of_quarter, of_list,
 };

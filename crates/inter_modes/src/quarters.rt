@@ -9,7 +9,7 @@ ghost use Rattle.mv_prediction.specs.Code.{AreSmall};
 ghost use Rattle.inter_modes.specs.Code.{MaySearch, AreSmallBefore, AreSmallQuarters, four_quarters, quarter_columns, quarter_rows, sources_in};
 ghost use Rattle.inter_modes.specs.BlockVectors.{before_of, quarters};
 
-use crate::vectors::{NO_VECTORS, Sources, best_vectors, read_quarter};
+use crate::vectors::{NO_VECTORS, Sources, best_mv, read_quarter};
 use block_plan::{Mv, Neighbours, References};
 use counting_reader::CountingReader;
 use vp9_types::{BlockSize, InterMode, Rule};
@@ -134,7 +134,7 @@ pub(crate) fn read_quarters<N: Neighbours, Q: Neighbours, const COUNTS: bool>(
     ensures read { Reads (quarters (sources_in N.blocks Q.blocks src.now) src.now.modes.now src.now.context refs src.now.search.at.size) reader.old result reader.new }
     ensures small { IfOk result AreSmallQuarters }
 {
-    let best = best_vectors(src, refs);
+    let best = best_mv(src, refs);
     match src.search.at.size {
         BlockSize::B4x8 => read_two_columns(reader, src, refs, best),
         BlockSize::B8x4 => read_two_rows(reader, src, refs, best),

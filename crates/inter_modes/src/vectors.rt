@@ -6,7 +6,7 @@ ghost use Rattle.counting_reader.specs.Code.{Reads};
 ghost use Rattle.mv_prediction.specs.Code.{AreSmall};
 ghost use Rattle.mv_prediction.specs.Vectors.{IsSmallVector};
 ghost use Rattle.inter_modes.specs.Code.{MaySearch, AreSmallBefore, sources_in};
-ghost use Rattle.inter_modes.specs.BlockVectors.{inter_mode, vector_of_mode, near_of_block, near_of_quarter, block_vector, block_vectors, second_best, best_vectors, of_list, quarter_vector, quarter_vectors, quarter};
+ghost use Rattle.inter_modes.specs.BlockVectors.{inter_mode, vector_of_mode, near_of_block, near_of_quarter, block_vector, block_vectors, second_best, best_mv, of_list, quarter_vector, quarter_vectors, quarter};
 
 use crate::quarters::{Quarter, QuartersBefore};
 use block_plan::{Mv, Neighbours, References};
@@ -173,12 +173,12 @@ pub(crate) fn read_block_vectors<N: Neighbours, Q: Neighbours, const COUNTS: boo
 }
 
 /// The best vectors of a block below 8x8.
-pub fn best_vectors<N: Neighbours, Q: Neighbours>(
+pub fn best_mv<N: Neighbours, Q: Neighbours>(
     src: &Sources<'_, N, Q>,
     references: References,
 ) -> [Mv; 2]
     requires may { MaySearch N.holds N.blocks Q.holds Q.blocks src.now.earlier.now (option_copied src.now.before) src.now.search }
-    ensures is { result ≡ best_vectors (sources_in N.blocks Q.blocks src.now) references }
+    ensures is { result ≡ best_mv (sources_in N.blocks Q.blocks src.now) references }
     ensures small { AreSmall result }
 {
     let first = near_of_block(src, references.first).nearest;

@@ -18,9 +18,9 @@ use Rattle.inter_places.specs.PlaneVectors.{mean_vector, component}
 use Rattle.inter_places.specs.Scaling.{x_scale, axis_of, span_start, IsInScale}
 
 -- whether a plane is subsampled along a direction
-abbrev pub subsampling : Shape → Plane → Direction → Bool
-subsampling shape p Down = is_chroma p && shape.ss_y
-subsampling shape p Across = is_chroma p && shape.ss_x
+abbrev pub is_subsampled : Shape → Plane → Direction → Bool
+is_subsampled shape p Down = is_chroma p && shape.ss_y
+is_subsampled shape p Across = is_chroma p && shape.ss_x
 
 abbrev pub luma_length : Shape → Direction → ℕ
 luma_length shape Down = shape.h
@@ -36,8 +36,8 @@ coded_length shape p Down = coded_height shape p
 coded_length shape p Across = coded_width shape p
 
 abbrev pub span_of : Shape → BlockInfo → Plane → Direction → BlockSpan
-span_of shape b p Down = record { first = b.row; count = height_8 b.size; all = mi_rows shape; ss = subsampling shape p Down }
-span_of shape b p Across = record { first = b.col; count = width_8 b.size; all = mi_cols shape; ss = subsampling shape p Across }
+span_of shape b p Down = record { first = b.row; count = height_8 b.size; all = mi_rows shape; ss = is_subsampled shape p Down }
+span_of shape b p Across = record { first = b.col; count = width_8 b.size; all = mi_cols shape; ss = is_subsampled shape p Across }
 
 -- 4x4s of a plane's part of an 8x8 square, along a direction
 abbrev pub fours : Bool → ℕ
@@ -45,12 +45,12 @@ fours ss = halved ss 2
 
 -- a block below 8x8 is predicted by 4x4s, in raster order, any other as a whole
 abbrev pub parts_of : Shape → BlockSize → Plane → ℕ
-parts_of shape size p = if is_below_8x8 size then fours (subsampling shape p Down) * fours (subsampling shape p Across) else 1
+parts_of shape size p = if is_below_8x8 size then fours (is_subsampled shape p Down) * fours (is_subsampled shape p Across) else 1
 
 -- how many samples after its block's first a part begins
 abbrev pub offset_in_block : Shape → BlockPart → Direction → ℕ
-offset_in_block shape part Down = 4 * (part.number / fours (subsampling shape part.plane Across))
-offset_in_block shape part Across = 4 * (part.number % fours (subsampling shape part.plane Across))
+offset_in_block shape part Down = 4 * (part.number / fours (is_subsampled shape part.plane Across))
+offset_in_block shape part Across = 4 * (part.number % fours (is_subsampled shape part.plane Across))
 
 -- and how long it is
 abbrev pub part_length : BlockSize → BlockSpan → ℕ
@@ -60,7 +60,7 @@ part_length size s = if is_below_8x8 size then 4 else halved s.ss (8 * s.count)
 abbrev pub part_vector : Shape → BlockSize → InterPrediction → BlockPart → Direction → ℤ
 part_vector shape size p part d =
     if is_below_8x8 size
-    then mean_vector (subsampling shape part.plane Across) (subsampling shape part.plane Down) part.number (λ quarter. component d (vector_of p quarter part.list))
+    then mean_vector (is_subsampled shape part.plane Across) (is_subsampled shape part.plane Down) part.number (λ quarter. component d (vector_of p quarter part.list))
     else component d (vector_of p 0 part.list)
 
 abbrev pub part_start : Shape → BlockInfo → BlockPart → Direction → ℕ

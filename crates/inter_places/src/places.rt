@@ -3,7 +3,7 @@
 ghost use Rattle.std.specs.Prelude.{◌≡◌, ℕ, ◌*◌, ◌/◌, ◌+◌, ◌<◌, ◌≤◌, ◌^◌, unsigned_abs};
 ghost use Rattle.inter_places.specs.Axes.{IsAxis, IsPlace};
 ghost use Rattle.inter_places.specs.PlaneVectors.{IsSpan};
-ghost use Rattle.inter_places.specs.Places.{IsPart, IsReference, parts_of, place_of, subsampling, fours, offset_in_block, part_length, part_vector, part_start, predicted_length, part_axis, span_of, coded_length, luma_length, plane_length};
+ghost use Rattle.inter_places.specs.Places.{IsPart, IsReference, parts_of, place_of, is_subsampled, fours, offset_in_block, part_length, part_vector, part_start, predicted_length, part_axis, span_of, coded_length, luma_length, plane_length};
 ghost use Rattle.vp9_types.specs.Shapes.{mi_rows, mi_cols, halved};
 
 use crate::axis::{Axis, Place};
@@ -18,8 +18,8 @@ use vp9_types::{BlockSize, Plane, Shape};
 /// Whether a plane is subsampled along a direction. The shape's flag is read for each plane, so that there is nothing to jump
 /// over.
 #[inline(always)]
-fn subsampling(shape: &Shape, plane: Plane, along: Direction) -> bool
-    ensures { result ≡ subsampling shape.now plane along }
+fn is_subsampled(shape: &Shape, plane: Plane, along: Direction) -> bool
+    ensures { result ≡ is_subsampled shape.now plane along }
 {
     let ss = match along {
         Direction::Down => shape.ss_y,
@@ -42,8 +42,8 @@ pub fn part_count(shape: &Shape, size: BlockSize, plane: Plane) -> usize
     ensures { result ≡ parts_of shape.now size plane }
 {
     if is_below_8x8(size) {
-        fours(subsampling(shape, plane, Direction::Down))
-            * fours(subsampling(shape, plane, Direction::Across))
+        fours(is_subsampled(shape, plane, Direction::Down))
+            * fours(is_subsampled(shape, plane, Direction::Across))
     } else {
         1
     }
@@ -54,13 +54,13 @@ pub fn part_count(shape: &Shape, size: BlockSize, plane: Plane) -> usize
 fn offset_in_block(shape: &Shape, size: BlockSize, part: BlockPart, along: Direction) -> u32
     requires { part.number < parts_of shape.now size part.plane }
     ensures value { result ≡ offset_in_block shape.now part along }
-    ensures inside { result + 4 ≤ halved (subsampling shape.now part.plane along) 8 }
+    ensures inside { result + 4 ≤ halved (is_subsampled shape.now part.plane along) 8 }
     ensures fours { result ≡ 4 * (result / 4) }
 {
     if !is_below_8x8(size) {
         return 0;
     }
-    let across = fours(subsampling(shape, part.plane, Direction::Across));
+    let across = fours(is_subsampled(shape, part.plane, Direction::Across));
     match along {
         Direction::Down => 4 * (part.number / across) as u32,
         Direction::Across => 4 * (part.number % across) as u32,
@@ -76,7 +76,7 @@ fn span_of(shape: &Shape, block: &BlockInfo, plane: Plane, along: Direction) -> 
     ensures value { result ≡ span_of shape.now block.now plane along }
     ensures fits { IsSpan result }
 {
-    let ss = subsampling(shape, plane, along);
+    let ss = is_subsampled(shape, plane, along);
     match along {
         Direction::Down => BlockSpan {
             first: block.row,
@@ -106,8 +106,8 @@ fn part_vector(
     ensures value { result ≡ part_vector shape.now size inter.now part along }
     ensures near { unsigned_abs result ≤ 2 ^ 16 }
 {
-    let ss_x = subsampling(shape, part.plane, Direction::Across);
-    let ss_y = subsampling(shape, part.plane, Direction::Down);
+    let ss_x = is_subsampled(shape, part.plane, Direction::Across);
+    let ss_y = is_subsampled(shape, part.plane, Direction::Down);
     if is_below_8x8(size) {
         mean_vector(inter, part.list, ss_x, ss_y, part.number, along)
     } else {
@@ -130,7 +130,7 @@ fn plane_length(shape: &Shape, plane: Plane, along: Direction) -> u32
     ensures { result ≡ plane_length shape.now plane along }
 {
     let luma = luma_length(shape, along);
-    if subsampling(shape, plane, along) {
+    if is_subsampled(shape, plane, along) {
         luma - luma / 2
     } else {
         luma
@@ -172,7 +172,7 @@ fn coded_length(shape: &Shape, plane: Plane, along: Direction) -> u32
             Direction::Down => shape.place_rows(),
             Direction::Across => shape.place_cols(),
         };
-    if subsampling(shape, plane, along) {
+    if is_subsampled(shape, plane, along) {
         luma / 2
     } else {
         luma

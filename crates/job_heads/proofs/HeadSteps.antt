@@ -23,7 +23,7 @@ use Rattle.seq_decoder.specs.Outcomes.{outcome_at}
 use Rattle.seq_decoder.specs.Outputs.{Putting, admits, form_after, form_from, put, shown_text}
 use Rattle.seq_decoder.specs.DecoderState.{State, persist_of, start_state}
 use Rattle.seq_decoder.specs.declared.form.OutputForm.{OutputForm}
-use Rattle.numbered_frames.specs.FrameNumbers.{EndsAt, before, behind, behind_frame, file_ending, frame_at, put_frame, start}
+use Rattle.numbered_frames.specs.FrameNumbers.{EndsAt, before, kept_after, after_frame, file_ending, frame_at, put_frame, start}
 use Rattle.job_results.specs.Lent.{IsKeptBefore}
 use Rattle.job_results.specs.JobResults.{IsClosedAs, IsEnd, ShowsSlot, outcome_of}
 use Rattle.job_results.specs.declared.result.ClosedFrame.{ClosedFrame}
@@ -62,7 +62,7 @@ pub kept_next : (format : Format) (film : Film) (f : ℕ) (p : Putting) (frame :
     → put_frame f p frame ≡ Ok added → before format film (suc f) ≡ Some added.state
 unfolding before
 kept_next format film f p frame added from there is =
-    ap (λ o. behind_frame f o (frame_at film f)) from ∙ ap (behind_frame f (Some p)) there ∙ ap behind is
+    ap (λ o. after_frame f o (frame_at film f)) from ∙ ap (after_frame f (Some p)) there ∙ ap kept_after is
 
 ---- Ends ----
 

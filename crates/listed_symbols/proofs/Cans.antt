@@ -12,7 +12,7 @@ use Rattle.mode_syntax.specs.Elements.{skips_segment}
 use Rattle.inter_contexts.specs.BlockReferences.{in_range_or_rule}
 use Rattle.inter_modes.specs.ModeInfo.{InterFrame}
 use Rattle.inter_modes.specs.BlockStarts.{segment_of}
-use Rattle.inter_modes.specs.BlockVectors.{Sources, best_vectors}
+use Rattle.inter_modes.specs.BlockVectors.{Sources, best_mv}
 use Rattle.inter_modes.specs.declared.starts.BlockStart.{BlockStart}
 use Rattle.inter_modes.specs.declared.starts.SegmentOf.{SegmentOf}
 use Rattle.mode_writer.specs.ModeFits.{CanLuma}
@@ -67,7 +67,7 @@ if_none : {A E : Type 0} (r : Result A E) (e : E) (P : Type 0) → r ≡ Err e �
 if_none r e P is = rw is tt
 
 abbrev best_of : Sources → References → Best
-best_of s refs = record { allowed = s.allowed; vectors = best_vectors s refs; size = s.search.at.size }
+best_of s refs = record { allowed = s.allowed; vectors = best_mv s refs; size = s.search.at.size }
 
 -- of references in range
 pub inter_can : (f : InterFrame) (s : Sources) (segment : ℕ) (q : InterSymbols) → CanRefer (choice_of f s.search.biases segment) q.references

@@ -24,7 +24,7 @@ use Rattle.mv_prediction.specs.declared.search.SignBiases.{SignBiases}
 use Rattle.inter_contexts.specs.BlockReferences.{fixed_of, variable_by, with_fixed, single, of_feature, in_range_or_rule}
 use Rattle.inter_modes.specs.ModeInfo.{InterFrame}
 use Rattle.inter_modes.specs.BlockStarts.{segment_reference}
-use Rattle.inter_modes.specs.BlockVectors.{Sources, best_vectors}
+use Rattle.inter_modes.specs.BlockVectors.{Sources, best_mv}
 use Rattle.inter_modes.specs.declared.starts.BlockStart.{BlockStart}
 use Rattle.inter_writer.specs.declared.frame_blocks.PredictionSymbols.{PredictionSymbols}
 use Rattle.inter_writer.specs.declared.frame_blocks.PredictionSymbols.TheVariants.{Intra, Inter}
@@ -123,7 +123,7 @@ can_say_block f s segment q =
     let segmentation = f.header.params.segmentation in
     can_refer (segment_reference segmentation segment) f.modes.reference_mode s.search.biases q.references
     && can_say_if (in_range_or_rule f.header.size f.fields.references q.references)
-    (can_say_inter s.allowed (best_vectors s q.references) (skips_segment segmentation segment) f.fields.filter s.search.at.size q)
+    (can_say_inter s.allowed (best_mv s q.references) (skips_segment segmentation segment) f.fields.filter s.search.at.size q)
 
 ---- Blocks ----
 

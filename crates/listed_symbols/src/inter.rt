@@ -16,7 +16,7 @@ use crate::starts::can_start_inter;
 use crate::vectors::{Best, can_say_inter};
 use block_plan::{BlockAt, Neighbours, SegmentMap};
 use inter_contexts::in_range_or_rule;
-use inter_modes::{BlockStart, Frame, Sources, best_vectors, least_id, segment_reference};
+use inter_modes::{BlockStart, Frame, Sources, best_mv, least_id, segment_reference};
 use inter_writer::{BlockSymbols, PredictionSymbols};
 use mode_syntax::skips_segment;
 use mv_prediction::{MvSearch, SignBiases, mode_context};
@@ -47,7 +47,7 @@ fn can_say_block<N: Neighbours, Q: Neighbours>(
         Ok(_) => {
             let best = Best {
                 allowed: src.high_precision,
-                vectors: best_vectors(src, refs),
+                vectors: best_mv(src, refs),
                 size: src.search.at.size,
             };
             let skips = skips_segment(segmentation, segment);

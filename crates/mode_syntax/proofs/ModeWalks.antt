@@ -17,7 +17,7 @@ use Rattle.block_geometry.specs.BlockSizes.{width_8}
 use Rattle.block_geometry.specs.declared.transform_blocks.FramePlaces.{FramePlaces}
 use Rattle.block_plan.specs.declared.block.BlockAt.{BlockAt}
 use Rattle.block_plan.specs.declared.block.BlockInfo.{BlockInfo}
-use Rattle.counting_reader.specs.Counting.{settle, behind, in_order}
+use Rattle.counting_reader.specs.Counting.{settle, counted_before, in_order}
 use Rattle.mode_syntax.specs.IntraModeInfo.{intra_frame_mode_info, mode_info_beside}
 use Rattle.mode_syntax.specs.Walk.{block_at, square_at}
 use Rattle.counting_reader.specs.Counting.{Yields}
@@ -31,7 +31,7 @@ use Rattle.mode_syntax.specs.Laws.{KeepsStep, reaches_into, in_columns, next_blo
 mapped_where : {A S T : Type 0} (view : S → T) (P : A → Type 0) (x : Reads A) (k : A → Reads S) (l : A → Reads T)
     → Yields x P → ((a : A) → P a → l a ≡ mapped view (k a)) → in_order x l ≡ mapped view (in_order x k)
 unfolding in_order mapped
-mapped_where view P (done s) k l has same = ap (behind s.counted) (same s.value has) ∙ mapped_behind view s.counted (k s.value)
+mapped_where view P (done s) k l has same = ap (counted_before s.counted) (same s.value has) ∙ mapped_behind view s.counted (k s.value)
 mapped_where view P (broken e) k l has same = refl
 mapped_where view P (ask p next) k l has same = λ i. ask p (λ v. mapped_where view P (next v) k l (has v) same i)
 

@@ -4,27 +4,27 @@ use Rattle.std.specs.List.{flat_map, range_with_len}
 use Rattle.vp9_types.specs.Syntax.{Syntax, done, broken, ask}
 use Rattle.vp9_types.specs.declared.rule.Rule.{Rule}
 use Rattle.prob_contexts.specs.declared.kind.CountedBool.{CountedBool}
-use Rattle.counting_reader.specs.Counting.{Settled, behind, in_order, settle, through}
+use Rattle.counting_reader.specs.Counting.{Settled, counted_before, in_order, settle, through}
 use Rattle.mode_syntax.specs.Laws.{decode_square, decode_row, decode_rows, squares_from}
 use Rattle.mode_syntax.specs.Superblocks.{superblock_from}
 use Rattle.mode_syntax.specs.Walk.{Walk, square_at, decode_partition, decode_tile}
 
 ---- Two lists, one after another ----
 
-behind_none : {A : Type 0} (s : Syntax ℕ Rule (Settled A)) → behind [] s ≡ s
-unfolding behind
+behind_none : {A : Type 0} (s : Syntax ℕ Rule (Settled A)) → counted_before [] s ≡ s
+unfolding counted_before
 behind_none (done s) = refl
 behind_none (broken e) = refl
 behind_none (ask p k) = λ i. ask p (λ v. behind_none (k v) i)
 
-behind_both : {A : Type 0} (a b : List CountedBool) (s : Syntax ℕ Rule (Settled A)) → behind (a ++ b) s ≡ behind a (behind b s)
-unfolding behind
+behind_both : {A : Type 0} (a b : List CountedBool) (s : Syntax ℕ Rule (Settled A)) → counted_before (a ++ b) s ≡ counted_before a (counted_before b s)
+unfolding counted_before
 behind_both a b (done s) = λ i. done (record { value = s.value; counted = append_assoc a b s.counted i })
 behind_both a b (broken e) = refl
 behind_both a b (ask p k) = λ i. ask p (λ v. behind_both a b (k v) i)
 
-behind_first : {A B : Type 0} (b : List CountedBool) (s : Syntax ℕ Rule (Settled A)) (f : A → Syntax ℕ Rule (Settled B)) → in_order (behind b s) f ≡ behind b (in_order s f)
-unfolding in_order behind
+behind_first : {A B : Type 0} (b : List CountedBool) (s : Syntax ℕ Rule (Settled A)) (f : A → Syntax ℕ Rule (Settled B)) → in_order (counted_before b s) f ≡ counted_before b (in_order s f)
+unfolding in_order counted_before
 behind_first b (done s) f = behind_both b s.counted (f s.value)
 behind_first b (broken e) f = refl
 behind_first b (ask p k) f = λ i. ask p (λ v. behind_first b (k v) f i)

@@ -6,7 +6,7 @@ use Rattle.seq_decoder.specs.Outputs.{form_from}
 use Rattle.seq_decoder.specs.DecoderState.{start_state}
 use Rattle.numbered_frames.specs.Coded.{coded, coded_from}
 use Rattle.numbered_frames.specs.Films.{Film, GoesOn}
-use Rattle.numbered_frames.specs.FrameNumbers.{before, behind_frame, frame_at, text, text_from}
+use Rattle.numbered_frames.specs.FrameNumbers.{before, after_frame, frame_at, text, text_from}
 use Rattle.numbered_frames.specs.NumberedPictures.{picture_from, pictures}
 
 got_in_front : {X : Type 0} (xs ys : List X) (k : ℕ) → k < length xs → slice_get (xs ++ ys) k ≡ slice_get xs k
@@ -21,7 +21,7 @@ pub before_same : (format : Format) (film more : Film) (f : ℕ) → GoesOn film
 unfolding before
 before_same format film more zero h low = ap (λ (rate : ℕ × ℕ). Some (record { state = start_state; form = form_from format rate })) h.rate
 before_same format film more (suc f) h low =
-    (λ i. behind_frame f (before_same format film more f h (omega (arith, low)) i) (frame_same film more f h (omega (arith, low)) i))
+    (λ i. after_frame f (before_same format film more f h (omega (arith, low)) i) (frame_same film more f h (omega (arith, low)) i))
 
 pub coded_same : (format : Format) (film more : Film) (f : ℕ) → GoesOn film more → f < length film.frames → coded format more f ≡ coded format film f
 unfolding coded

@@ -11,7 +11,7 @@ use Rattle.frame_output.specs.declared.rendering.Format.{Format}
 use Rattle.job_order.specs.Sound.{texts_below}
 use Rattle.seq_decoder.specs.Code.{put_text}
 use Rattle.seq_decoder.specs.Outputs.{Putting, form_from, output_of, putting}
-use Rattle.numbered_frames.specs.FrameNumbers.{EndsAt, before, film_output, behind, behind_frame, file_ending, frame_at, put_frame, start, text, text_from}
+use Rattle.numbered_frames.specs.FrameNumbers.{EndsAt, before, film_output, kept_after, after_frame, file_ending, frame_at, put_frame, start, text, text_from}
 use Rattle.numbered_frames.specs.Films.{Film, film_of}
 
 -- the walk from a frame on, behind what is kept before it
@@ -45,11 +45,11 @@ pub record Passed (f : ℕ) (from : Option Putting) (frame : Option (List ℕ)) 
   pub put : put_frame f kept bytes ≡ Ok added
   pub is : added.state ≡ next
 
-state_of : (r : Result (Added Putting ℕ) Rule) (next : Putting) → behind r ≡ Some next → (added : Added Putting ℕ) × (r ≡ Ok added) × (added.state ≡ next)
+state_of : (r : Result (Added Putting ℕ) Rule) (next : Putting) → kept_after r ≡ Some next → (added : Added Putting ℕ) × (r ≡ Ok added) × (added.state ≡ next)
 state_of (Ok added) next is = (added, refl, cc)
 state_of (Err rule) next is = absurd cc
 
-passed_by : (f : ℕ) (from : Option Putting) (frame : Option (List ℕ)) (next : Putting) → behind_frame f from frame ≡ Some next → Passed f from frame next
+passed_by : (f : ℕ) (from : Option Putting) (frame : Option (List ℕ)) (next : Putting) → after_frame f from frame ≡ Some next → Passed f from frame next
 passed_by f None frame next is = absurd cc
 passed_by f (Some p) None next is = absurd cc
 passed_by f (Some p) (Some bytes) next is =
@@ -153,7 +153,7 @@ unfolding before
 front_put format film f p frame (Err rule) from there is h = front_still format film f (text_is format film f p frame (Err rule) from there is) h
 front_put format film f p frame (Ok added) from there is h =
     let next : before format film (suc f) ≡ Some added.state =
-    ap (λ o. behind_frame f o (frame_at film f)) from ∙ ap (behind_frame f (Some p)) there ∙ ap behind is in
+    ap (λ o. after_frame f o (frame_at film f)) from ∙ ap (after_frame f (Some p)) there ∙ ap kept_after is in
     front_by format film (suc f) added.state next
 
 front_on : (format : Format) (film : Film) (f : ℕ) (from : Option Putting) (frame : Option (List ℕ)) → before format film f ≡ from → frame_at film f ≡ frame

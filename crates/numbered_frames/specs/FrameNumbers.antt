@@ -20,19 +20,19 @@ start format film = record { state = start_state; form = form_from format film.r
 abbrev pub put_frame : ℕ → Putting → List ℕ → Result (Added Putting ℕ) Rule
 put_frame f p frame = put p.form (step f p.state frame)
 
-abbrev pub behind : Result (Added Putting ℕ) Rule → Option Putting
-behind (Ok added) = Some added.state
-behind (Err rule) = None
+abbrev pub kept_after : Result (Added Putting ℕ) Rule → Option Putting
+kept_after (Ok added) = Some added.state
+kept_after (Err rule) = None
 
-abbrev pub behind_frame : ℕ → Option Putting → Option (List ℕ) → Option Putting
-behind_frame f None frame = None
-behind_frame f (Some p) None = None
-behind_frame f (Some p) (Some frame) = behind (put_frame f p frame)
+abbrev pub after_frame : ℕ → Option Putting → Option (List ℕ) → Option Putting
+after_frame f None frame = None
+after_frame f (Some p) None = None
+after_frame f (Some p) (Some frame) = kept_after (put_frame f p frame)
 
 -- What is kept before frame f. There is none where the film has fewer frames, or one of those before f breaks a rule.
 unfoldable pub before : Format → Film → ℕ → Option Putting
 before format film zero = Some (start format film)
-before format film (suc f) = behind_frame f (before format film f) (frame_at film f)
+before format film (suc f) = after_frame f (before format film f) (frame_at film f)
 
 abbrev pub text_from : ℕ → Option Putting → Option (List ℕ) → List ℕ
 text_from f None frame = []

@@ -4,11 +4,11 @@ use Rattle.vp9_tables.specs.declared.data.defaults.TheConstants.{PROB_COEF, PROB
 use Rattle.prob_contexts.specs.ProbLists.{ContextLists, CoefLists}
 
 -- the coefficients of a size, by its number, are a quarter of the table
-abbrev pub quarter : ℕ → List ℕ
-quarter n = take 396 (drop (396 * n) PROB_COEF)
+abbrev pub coefs_of_size : ℕ → List ℕ
+coefs_of_size n = take 396 (drop (396 * n) PROB_COEF)
 
 abbrev pub default_coef : CoefLists
-default_coef = record { of_4x4 = quarter 0; of_8x8 = quarter 1; of_16x16 = quarter 2; of_32x32 = quarter 3 }
+default_coef = record { of_4x4 = coefs_of_size 0; of_8x8 = coefs_of_size 1; of_16x16 = coefs_of_size 2; of_32x32 = coefs_of_size 3 }
 
 abbrev pub default_lists : ContextLists
 default_lists = record {

@@ -3,7 +3,7 @@
 ghost use Rattle.std.specs.Prelude.{◌≡◌, ◌≤◌, ◌+◌, ◌*◌, ℕ, take, drop, length, IsTrue};
 ghost use Rattle.std.specs.List.{All, list_all};
 ghost use Rattle.vp9_tables.specs.Coefficients.{is_probability};
-ghost use Rattle.prob_contexts.specs.Defaults.{default_lists, default_coef, quarter};
+ghost use Rattle.prob_contexts.specs.Defaults.{default_lists, default_coef, coefs_of_size};
 ghost use Rattle.prob_contexts.specs.ProbLists.{lists_of, tx_lists, coef_lists, inter_lists, vector_lists};
 
 use crate::contexts::Contexts;

@@ -11,7 +11,7 @@ use Rattle.vp9_types.specs.declared.shape.Plane.{Plane}
 use Rattle.vp9_types.specs.declared.shape.Plane.TheVariants.{Y, U, V}
 use Rattle.vp9_types.specs.declared.shape.Shape.{Shape}
 use Rattle.block_plan.specs.Planned.{PlannedBlock}
-use Rattle.inter_places.specs.Places.{subsampling, coded_length}
+use Rattle.inter_places.specs.Places.{is_subsampled, coded_length}
 use Rattle.inter_places.specs.declared.part.Direction.TheVariants.{Down, Across}
 use Rattle.planes.specs.Planes.{PlaneSamples, lower_end, moved_to, plane_map, right_end}
 use Rattle.planes.specs.Pictures.{IsInRange, blank, samples_of}
@@ -43,7 +43,7 @@ half_inside : (ss : Bool) (r rows : ℕ) → r < superblocks_along rows → halv
 half_inside true r rows low = omega (arith, low)
 half_inside false r rows low = omega (arith, low)
 
-top_inside : (shape : Shape) (p : Plane) (r : ℕ) → r < superblocks_along (mi_rows shape) → halved (subsampling shape p Down) (8 * (8 * r)) < coded_length shape p Down
+top_inside : (shape : Shape) (p : Plane) (r : ℕ) → r < superblocks_along (mi_rows shape) → halved (is_subsampled shape p Down) (8 * (8 * r)) < coded_length shape p Down
 top_inside shape Y r low = half_inside false r (mi_rows shape) low
 top_inside shape U r low = half_inside shape.ss_y r (mi_rows shape) low
 top_inside shape V r low = half_inside shape.ss_y r (mi_rows shape) low
@@ -55,7 +55,7 @@ row_shared high top end coded rise inner low = (omega (arith, rise, inner, low),
 
 shares_next : (shape : Shape) (p : Plane) (from to q : ℕ) → q + 1 < superblocks_along (mi_rows shape) → SharesFirstRow (strip_area shape p from to (q + 1)) (strip_area shape p from to q)
 shares_next shape p from to q low =
-    let ss = subsampling shape p Down in
+    let ss = is_subsampled shape p Down in
     let told = row_shared (halved ss (8 * (8 * q))) (halved ss (8 * (8 * (q + 1)))) (halved ss (8 * (8 * (q + 1 + 1)))) (coded_length shape p Down)
     (tops_rise ss q) (tops_rise ss (q + 1)) (top_inside shape p (q + 1) low) in record {
       some = told.0;
@@ -84,10 +84,10 @@ row_begun : (shape : Shape) (p : Plane) (from to q : ℕ) (above : PlaneSamples)
     → HasPart (first_row_of (strip_area shape p from to (q + 1))) (plane_map above) (λ _ _. 0) new
     → ((y x : ℕ) → IsIn (in_plane shape p (strip_places from to q)) y x → plane_map above y x ≡ s y x)
     → (y x : ℕ) → IsAround (in_plane shape p (strip_places from to (q + 1))) y x
-    → new y x ≡ (if nat_eq (y + 1) (halved (subsampling shape p Down) (8 * (8 * (q + 1)))) then s y x else 0)
+    → new y x ≡ (if nat_eq (y + 1) (halved (is_subsampled shape p Down) (8 * (8 * (q + 1)))) then s y x else 0)
 row_begun shape p from to q above new s its has same y x near =
-    let top : ℕ = halved (subsampling shape p Down) (8 * (8 * (q + 1))) in
-    let rise : halved (subsampling shape p Down) (8 * (8 * q)) < top = tops_rise (subsampling shape p Down) q in
+    let top : ℕ = halved (is_subsampled shape p Down) (8 * (8 * (q + 1))) in
+    let rise : halved (is_subsampled shape p Down) (8 * (8 * q)) < top = tops_rise (is_subsampled shape p Down) q in
     let least : top ≤ y + 1 = near.below in
     let row : Area = first_row_of (strip_area shape p from to (q + 1)) in
     elim (cases_eq (y + 1) top) [
@@ -109,7 +109,7 @@ plane_begun : (shape : Shape) (p : Plane) (from to q r : ℕ) (above new : Plane
     → HasPart (first_row_of new.area) (plane_map above) (λ _ _. 0) (plane_map new)
     → ((y x : ℕ) → IsIn (in_plane shape p (strip_places from to q)) y x → plane_map above y x ≡ s y x)
     → (y x : ℕ) → IsAround (in_plane shape p (strip_places from to r)) y x
-    → plane_map new y x ≡ (if nat_eq (y + 1) (halved (subsampling shape p Down) (8 * (8 * (q + 1)))) then s y x else 0)
+    → plane_map new y x ≡ (if nat_eq (y + 1) (halved (is_subsampled shape p Down) (8 * (8 * (q + 1)))) then s y x else 0)
 plane_begun shape p from to q r above new s next is its has same y x near =
     row_begun shape p from to q above (plane_map new) s its
     (subst (λ (a : Area). HasPart (first_row_of a) (plane_map above) (λ _ _. 0) (plane_map new)) (is ∙ ap (strip_area shape p from to) next) has) same y x
@@ -119,7 +119,7 @@ plane_begun shape p from to q r above new s next is its has same y x near =
 below_another : {X : Type 0} (put : Rebuilding) (from to q r : ℕ) (column : List PlannedBlock) (above f : FramePlanes X) → r ≡ q + 1 → HasStripAreas put.shape from to r f
     → HoldsStrip put from to q column above → BeginsBelow above f
     → (p : Plane) (y x : ℕ) → IsAround (in_plane put.shape p (strip_places from to r)) y x
-    → samples_of f p y x ≡ (if nat_eq (y + 1) (halved (subsampling put.shape p Down) (8 * (8 * (q + 1)))) then strip put column q p y x else 0)
+    → samples_of f p y x ≡ (if nat_eq (y + 1) (halved (is_subsampled put.shape p Down) (8 * (8 * (q + 1)))) then strip put column q p y x else 0)
 below_another put from to q r column above f next areas held has Y y x near =
     plane_begun put.shape Y from to q r above.y f.y (strip put column q Y) next areas.y held.areas.y has.y (held.samples Y) y x near
 below_another put from to q r column above f next areas held has U y x near =
@@ -128,7 +128,7 @@ below_another put from to q r column above f next areas held has V y x near =
     plane_begun put.shape V from to q r above.v f.v (strip put column q V) next areas.v held.areas.v has.v (held.samples V) y x near
 
 above_next : (put : Rebuilding) (column : List PlannedBlock) (q r : ℕ) (p : Plane) (y x : ℕ) → r ≡ q + 1
-    → (if nat_eq (y + 1) (halved (subsampling put.shape p Down) (8 * (8 * (q + 1)))) then strip put column q p y x else 0) ≡ above_strip put column r p y x
+    → (if nat_eq (y + 1) (halved (is_subsampled put.shape p Down) (8 * (8 * (q + 1)))) then strip put column q p y x else 0) ≡ above_strip put column r p y x
 above_next put column q r p y x next =
     let is : suc q ≡ r = omega (arith, next) in
     ap (λ n. above_strip put column n p y x) is

@@ -11,7 +11,7 @@ use Rattle.block_geometry.specs.BlockSizes.{is_below_8x8}
 use Rattle.block_plan.specs.declared.block.InterPrediction.{InterPrediction}
 use Rattle.block_plan.specs.declared.block.Mv.{Mv}
 use Rattle.block_plan.specs.declared.block.References.{References}
-use Rattle.inter_modes.specs.BlockVectors.{Sources, nothing_before, before_of, best_vectors}
+use Rattle.inter_modes.specs.BlockVectors.{Sources, nothing_before, before_of, best_mv}
 use Rattle.inter_modes.specs.ModeInfo.{of_each}
 use Rattle.inter_modes.specs.declared.quarters.Quarter.{Quarter}
 use Rattle.inter_modes.specs.declared.quarters.QuartersBefore.{QuartersBefore}
@@ -79,9 +79,9 @@ saying_mode symbols size k = said_mode symbols (quarter_saying size k)
 quarters_modes : (s : Sources) (symbols : InterSymbols) (size : BlockSize) → is_below_8x8 size ≡ true
     → IfOk (quarters_said s symbols size) (HaveModes (saying_mode symbols size 0) (saying_mode symbols size 1) (saying_mode symbols size 2) (saying_mode symbols size 3))
 unfolding quarters_said
-quarters_modes s symbols B4x4 below = four_modes s symbols (best_vectors s symbols.references)
-quarters_modes s symbols B4x8 below = columns_modes s symbols (best_vectors s symbols.references)
-quarters_modes s symbols B8x4 below = rows_modes s symbols (best_vectors s symbols.references)
+quarters_modes s symbols B4x4 below = four_modes s symbols (best_mv s symbols.references)
+quarters_modes s symbols B4x8 below = columns_modes s symbols (best_mv s symbols.references)
+quarters_modes s symbols B8x4 below = rows_modes s symbols (best_mv s symbols.references)
 quarters_modes s symbols B8x8 below = absurd (no below)
 quarters_modes s symbols B8x16 below = absurd (no below)
 quarters_modes s symbols B16x8 below = absurd (no below)

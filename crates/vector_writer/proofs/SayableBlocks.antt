@@ -20,7 +20,7 @@ use Rattle.counting_reader.proofs.Yields.{yields_bind, yields_all, yields_map}
 use Rattle.mv_prediction.specs.Candidates.{mode_context}
 use Rattle.inter_modes.proofs.QuartersBySize.{quarters_of_size}
 use Rattle.inter_modes.specs.Code.{four_quarters, quarters_by_size, quarter_columns, quarter_rows}
-use Rattle.inter_modes.specs.BlockVectors.{Sources, row_at, inter_mode, block_vectors, best_vectors, nothing_before, before_of, quarters}
+use Rattle.inter_modes.specs.BlockVectors.{Sources, row_at, inter_mode, block_vectors, best_mv, nothing_before, before_of, quarters}
 use Rattle.inter_modes.specs.ModeInfo.{filter_of, interp_filter, block_mode, whole_block, block_of_quarters, inter_prediction}
 use Rattle.vector_writer.specs.VectorFits.{CanFilter, CanSayVectors, CanSayInter, quarter_saying}
 use Rattle.vector_writer.specs.SaidVectors.{mode_at, symbols_at, quarter_said, four_said, columns_said, rows_said, quarters_said, block_vectors_said, whole_said, of_quarters_said, inter_said}
@@ -65,19 +65,19 @@ below_four P x y z w (suc (suc (suc (suc k)))) low = absurd (omega arith)
 -- four quarters can be said in a block of a size
 pub record FourCan (s : Sources) (refs : References) (filter : InterpFilter) (size : BlockSize) (f : Four) : Type 0 where
   pub same : (k : ℕ) → k < 4 → mode_at (symbols_of refs filter f).modes k ≡ mode_at (symbols_of refs filter f).modes (quarter_saying size k)
-  pub vectors : (k : ℕ) → k < 4 → CanSayVectors s.allowed (best_vectors s refs) refs (symbols_at (symbols_of refs filter f) (quarter_saying size k))
+  pub vectors : (k : ℕ) → k < 4 → CanSayVectors s.allowed (best_mv s refs) refs (symbols_at (symbols_of refs filter f) (quarter_saying size k))
   pub pairs : (k : ℕ) → k < 4 → length (row_at (symbols_of refs filter f).differences k) ≡ 2
 
 ---- Quarters ----
 
 abbrev Say : Sources → References → QuarterSymbols → Type 0
-Say s refs said = CanQuarter s.allowed (best_vectors s refs) refs said
+Say s refs said = CanQuarter s.allowed (best_mv s refs) refs said
 
 four_can : (s : Sources) (refs : References) (filter : InterpFilter) (a b c d : QuarterSymbols) → Say s refs a → Say s refs b → Say s refs c → Say s refs d
     → FourCan s refs filter B4x4 (record { a = a; b = b; c = c; d = d })
 four_can s refs filter a b c d ca cb cd ce = record {
   same = λ k low. refl;
-  vectors = below_four (λ k. CanSayVectors s.allowed (best_vectors s refs) refs (symbols_at (symbols_of refs filter (record { a = a; b = b; c = c; d = d })) k)) ca.0 cb.0 cd.0 ce.0;
+  vectors = below_four (λ k. CanSayVectors s.allowed (best_mv s refs) refs (symbols_at (symbols_of refs filter (record { a = a; b = b; c = c; d = d })) k)) ca.0 cb.0 cd.0 ce.0;
   pairs = below_four (λ k. length (row_at (a.differences ∷ b.differences ∷ c.differences ∷ d.differences ∷ []) k) ≡ 2) ca.1 cb.1 cd.1 ce.1;
 }
 
@@ -85,7 +85,7 @@ columns_can : (s : Sources) (refs : References) (filter : InterpFilter) (a b : Q
     → FourCan s refs filter B4x8 (record { a = a; b = b; c = a; d = b })
 columns_can s refs filter a b ca cb = record {
   same = below_four (λ k. mode_at (a.mode ∷ b.mode ∷ a.mode ∷ b.mode ∷ []) k ≡ mode_at (a.mode ∷ b.mode ∷ a.mode ∷ b.mode ∷ []) (quarter_saying B4x8 k)) refl refl refl refl;
-  vectors = below_four (λ k. CanSayVectors s.allowed (best_vectors s refs) refs (symbols_at (symbols_of refs filter (record { a = a; b = b; c = a; d = b })) (quarter_saying B4x8 k))) ca.0 cb.0 ca.0 cb.0;
+  vectors = below_four (λ k. CanSayVectors s.allowed (best_mv s refs) refs (symbols_at (symbols_of refs filter (record { a = a; b = b; c = a; d = b })) (quarter_saying B4x8 k))) ca.0 cb.0 ca.0 cb.0;
   pairs = below_four (λ k. length (row_at (a.differences ∷ b.differences ∷ a.differences ∷ b.differences ∷ []) k) ≡ 2) ca.1 cb.1 ca.1 cb.1;
 }
 
@@ -93,15 +93,15 @@ rows_can : (s : Sources) (refs : References) (filter : InterpFilter) (a c : Quar
     → FourCan s refs filter B8x4 (record { a = a; b = a; c = c; d = c })
 rows_can s refs filter a c ca cd = record {
   same = below_four (λ k. mode_at (a.mode ∷ a.mode ∷ c.mode ∷ c.mode ∷ []) k ≡ mode_at (a.mode ∷ a.mode ∷ c.mode ∷ c.mode ∷ []) (quarter_saying B8x4 k)) refl refl refl refl;
-  vectors = below_four (λ k. CanSayVectors s.allowed (best_vectors s refs) refs (symbols_at (symbols_of refs filter (record { a = a; b = a; c = c; d = c })) (quarter_saying B8x4 k))) ca.0 ca.0 cd.0 cd.0;
+  vectors = below_four (λ k. CanSayVectors s.allowed (best_mv s refs) refs (symbols_at (symbols_of refs filter (record { a = a; b = a; c = c; d = c })) (quarter_saying B8x4 k))) ca.0 ca.0 cd.0 cd.0;
   pairs = below_four (λ k. length (row_at (a.differences ∷ a.differences ∷ c.differences ∷ c.differences ∷ []) k) ≡ 2) ca.1 ca.1 cd.1 cd.1;
 }
 
 four_yield : (s : Sources) (probs : List ℕ) (context : ℕ) (refs : References) (filter : InterpFilter)
-    → Yields (four_quarters s probs context refs (best_vectors s refs)) (Said (FourCan s refs filter B4x4) (λ f. four_said s (symbols_of refs filter f) (best_vectors s refs)))
+    → Yields (four_quarters s probs context refs (best_mv s refs)) (Said (FourCan s refs filter B4x4) (λ f. four_said s (symbols_of refs filter f) (best_mv s refs)))
 unfolding four_quarters four_said
 four_yield s probs context refs filter =
-    let best = best_vectors s refs in
+    let best = best_mv s refs in
     let say = CanQuarter s.allowed best refs in
     let none = idle_can s.allowed best refs in
     let can = four_can s refs filter in
@@ -116,10 +116,10 @@ four_yield s probs context refs filter =
     (λ a rule ca ea. (record { a = a; b = idle; c = idle; d = idle }, can a idle idle idle ca none none none, rw ea refl))
 
 columns_yield : (s : Sources) (probs : List ℕ) (context : ℕ) (refs : References) (filter : InterpFilter)
-    → Yields (quarter_columns s probs context refs (best_vectors s refs)) (Said (FourCan s refs filter B4x8) (λ f. columns_said s (symbols_of refs filter f) (best_vectors s refs)))
+    → Yields (quarter_columns s probs context refs (best_mv s refs)) (Said (FourCan s refs filter B4x8) (λ f. columns_said s (symbols_of refs filter f) (best_mv s refs)))
 unfolding quarter_columns columns_said
 columns_yield s probs context refs filter =
-    let best = best_vectors s refs in
+    let best = best_mv s refs in
     let say = CanQuarter s.allowed best refs in
     let none = idle_can s.allowed best refs in
     let can = columns_can s refs filter in
@@ -130,10 +130,10 @@ columns_yield s probs context refs filter =
     (λ a rule ca ea. (record { a = a; b = idle; c = a; d = idle }, can a idle ca none, rw ea refl))
 
 rows_yield : (s : Sources) (probs : List ℕ) (context : ℕ) (refs : References) (filter : InterpFilter)
-    → Yields (quarter_rows s probs context refs (best_vectors s refs)) (Said (FourCan s refs filter B8x4) (λ f. rows_said s (symbols_of refs filter f) (best_vectors s refs)))
+    → Yields (quarter_rows s probs context refs (best_mv s refs)) (Said (FourCan s refs filter B8x4) (λ f. rows_said s (symbols_of refs filter f) (best_mv s refs)))
 unfolding quarter_rows rows_said
 rows_yield s probs context refs filter =
-    let best = best_vectors s refs in
+    let best = best_mv s refs in
     let say = CanQuarter s.allowed best refs in
     let none = idle_can s.allowed best refs in
     let can = rows_can s refs filter in
@@ -221,7 +221,7 @@ abbrev four_times : QuarterSymbols → Four
 four_times said = record { a = said; b = said; c = said; d = said }
 
 whole_can : (s : Sources) (skips : Bool) (frame : FrameFilter) (refs : References) (filter : InterpFilter) (said : QuarterSymbols) → is_below_8x8 s.search.at.size ≡ false
-    → CanFilter frame filter → CanSkip skips said.mode → CanSayVectors s.allowed (best_vectors s refs) refs said → CanSayInter s skips frame (symbols_of refs filter (four_times said))
+    → CanFilter frame filter → CanSkip skips said.mode → CanSayVectors s.allowed (best_mv s refs) refs said → CanSayInter s skips frame (symbols_of refs filter (four_times said))
 whole_can s skips frame refs filter said from fits skip can = record {
   named = fits;
   same = λ k low. rw (from_8x8 s.search.at.size k from) (below_four (λ k. mode_at (said.mode ∷ said.mode ∷ said.mode ∷ said.mode ∷ []) k ≡ said.mode) refl refl refl refl k low);
@@ -235,7 +235,7 @@ unfolding whole_block whole_said inter_said
 whole_yield s lists skips frame context refs from =
     yields_bind (block_mode skips lists.modes (mode_context s.earlier s.search)) _ (CanSkip skips) (IsSaid s skips frame refs) (mode_yields skips lists.modes (mode_context s.earlier s.search))
     (λ mode skip. yields_bind (interp_filter frame lists.filters context) _ (CanFilter frame) (IsSaid s skips frame refs) (filter_yields frame lists.filters context)
-    (λ filter fits. yields_then (block_vectors s mode refs) _ (OfMode s.allowed (best_vectors s refs) refs mode) (λ said. block_vectors_said s said refs) (IsSaid s skips frame refs)
+    (λ filter fits. yields_then (block_vectors s mode refs) _ (OfMode s.allowed (best_mv s refs) refs mode) (λ said. block_vectors_said s said refs) (IsSaid s skips frame refs)
     (block_vectors_yield s mode refs)
     (λ said vectors can is. yields_settle _ (IsSaid s skips frame refs) (record {
       symbols = symbols_of refs filter (four_times said);

@@ -15,7 +15,7 @@ use Rattle.counting_reader.proofs.Yields.{yields_bind, yields_all, yields_map}
 use Rattle.mv_prediction.specs.Vectors.{is_precise}
 use Rattle.mv_prediction.specs.declared.sub_blocks.NearVectors.{NearVectors}
 use Rattle.mv_syntax.specs.Differences.{read_mv, new_vector}
-use Rattle.inter_modes.specs.BlockVectors.{Sources, carried, ◌>>?◌, inter_mode, vector_of_mode, near_of_block, near_of_quarter, block_vector, with_second, block_vectors, best_vectors, second_best, of_list, quarter_vector, quarter_vectors, quarter}
+use Rattle.inter_modes.specs.BlockVectors.{Sources, carried, ◌>>?◌, inter_mode, vector_of_mode, near_of_block, near_of_quarter, block_vector, with_second, block_vectors, best_mv, second_best, of_list, quarter_vector, quarter_vectors, quarter}
 use Rattle.inter_modes.specs.declared.quarters.QuartersBefore.{QuartersBefore}
 use Rattle.vector_writer.specs.VectorFits.{CanBeNew, CanDiffer, CanSayVectors}
 use Rattle.vector_writer.specs.SaidVectors.{vector_said, second_said, block_vector_said, block_vectors_said, quarter_vector_said, quarter_vectors_said, quarter_said}
@@ -97,13 +97,13 @@ abbrev pub CanQuarter : Bool → List Mv → References → QuarterSymbols → T
 CanQuarter allowed best refs said = CanSayVectors allowed best refs said × (length said.differences ≡ 2)
 
 pub block_vectors_yield : (s : Sources) (mode : InterMode) (refs : References)
-    → Yields (block_vectors s mode refs) (Said (OfMode s.allowed (best_vectors s refs) refs mode) (λ said. block_vectors_said s said refs))
+    → Yields (block_vectors s mode refs) (Said (OfMode s.allowed (best_mv s refs) refs mode) (λ said. block_vectors_said s said refs))
 unfolding block_vectors block_vector block_vectors_said block_vector_said
 block_vectors_yield s mode refs =
     let best = λ (reference : ReferenceFrame). (near_of_block s reference).nearest in
     yields_map _ (Said (CanBoth (CanBeNew s.allowed mode (best refs.first)) refs.second (λ reference. CanBeNew s.allowed mode (best reference)))
     (λ ds. both_said (vector_said mode (best refs.first) (near_of_block s refs.first)) refs.second (λ reference. vector_said mode (best reference) (near_of_block s reference)) ds.0 ds.1))
-    (Said (OfMode s.allowed (best_vectors s refs) refs mode) (λ said. block_vectors_said s said refs))
+    (Said (OfMode s.allowed (best_mv s refs) refs mode) (λ said. block_vectors_said s said refs))
     (both_yield _ _ refs.second (CanBeNew s.allowed mode (best refs.first)) (λ reference. CanBeNew s.allowed mode (best reference))
     (vector_said mode (best refs.first) (near_of_block s refs.first)) (λ reference. vector_said mode (best reference) (near_of_block s reference))
     (λ reference same. no_difference _) (vector_yields s mode (best refs.first) (near_of_block s refs.first))

@@ -14,7 +14,7 @@ use Rattle.block_plan.specs.declared.block.Mv.{Mv}
 use Rattle.block_plan.specs.declared.block.References.{References}
 use Rattle.mv_prediction.specs.declared.sub_blocks.NearVectors.{NearVectors}
 use Rattle.mv_syntax.specs.Differences.{added, in_range_or_rule}
-use Rattle.inter_modes.specs.BlockVectors.{Sources, near_of_block, near_of_quarter, best_vectors, row_at, of_list, nothing_before, before_of}
+use Rattle.inter_modes.specs.BlockVectors.{Sources, near_of_block, near_of_quarter, best_mv, row_at, of_list, nothing_before, before_of}
 use Rattle.inter_modes.specs.ModeInfo.{whole_prediction, quarters_prediction}
 use Rattle.inter_modes.specs.declared.quarters.Quarter.{Quarter}
 use Rattle.inter_modes.specs.declared.quarters.QuartersBefore.{QuartersBefore}
@@ -90,9 +90,9 @@ rows_said s symbols best =
     >>= λ r. Ok (q ∷ q ∷ r ∷ r ∷ [])
 
 unfoldable pub quarters_said : Sources → InterSymbols → BlockSize → Result (List Quarter) Rule
-quarters_said s symbols B4x8 = columns_said s symbols (best_vectors s symbols.references)
-quarters_said s symbols B8x4 = rows_said s symbols (best_vectors s symbols.references)
-quarters_said s symbols size = four_said s symbols (best_vectors s symbols.references)
+quarters_said s symbols B4x8 = columns_said s symbols (best_mv s symbols.references)
+quarters_said s symbols B8x4 = rows_said s symbols (best_mv s symbols.references)
+quarters_said s symbols size = four_said s symbols (best_mv s symbols.references)
 
 ---- Blocks ----
 

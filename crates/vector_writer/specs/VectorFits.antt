@@ -13,7 +13,7 @@ use Rattle.block_plan.specs.BlockMvs.{vector_at}
 use Rattle.block_plan.specs.declared.block.Mv.{Mv}
 use Rattle.block_plan.specs.declared.block.References.{References}
 use Rattle.mv_prediction.specs.Vectors.{is_precise}
-use Rattle.inter_modes.specs.BlockVectors.{Sources, best_vectors}
+use Rattle.inter_modes.specs.BlockVectors.{Sources, best_mv}
 use Rattle.vector_writer.specs.SaidVectors.{mode_at, symbols_at}
 use Rattle.vector_writer.specs.declared.symbols.InterSymbols.{InterSymbols}
 use Rattle.vector_writer.specs.declared.symbols.QuarterSymbols.{QuarterSymbols}
@@ -55,4 +55,4 @@ pub record CanSayInter (s : Sources) (skips : Bool) (filter : FrameFilter) (symb
   pub named : CanFilter filter symbols.filter
   pub same : (k : ℕ) → k < 4 → mode_at symbols.modes k ≡ mode_at symbols.modes (quarter_saying s.search.at.size k)
   pub skipped : is_below_8x8 s.search.at.size ≡ false → skips ≡ true → mode_at symbols.modes 0 ≡ Zero
-  pub vectors : (k : ℕ) → k < 4 → CanSayVectors s.allowed (best_vectors s symbols.references) symbols.references (symbols_at symbols (quarter_saying s.search.at.size k))
+  pub vectors : (k : ℕ) → k < 4 → CanSayVectors s.allowed (best_mv s symbols.references) symbols.references (symbols_at symbols (quarter_saying s.search.at.size k))

@@ -10,7 +10,7 @@ ghost use Rattle.bool_encoder.specs.CountedBools.{PutsValue};
 ghost use Rattle.mv_prediction.specs.Code.{PredictsSmall};
 ghost use Rattle.mv_prediction.specs.Candidates.{mode_context};
 ghost use Rattle.inter_modes.specs.Code.{MaySearch, sources_in};
-ghost use Rattle.inter_modes.specs.BlockVectors.{best_vectors};
+ghost use Rattle.inter_modes.specs.BlockVectors.{best_mv};
 ghost use Rattle.inter_modes.specs.ModeInfo.{filter_of, interp_filter, block_mode, whole_block, block_of_quarters, inter_prediction};
 ghost use Rattle.vector_writer.specs.VectorFits.{CanFilter, CanSayVectors, CanSayInter, quarter_saying};
 ghost use Rattle.vector_writer.specs.SaidVectors.{mode_at, symbols_at, whole_said, of_quarters_said, inter_said, HasSaid};
@@ -85,7 +85,7 @@ fn put_whole<N: Neighbours, Q: Neighbours>(
     requires may { MaySearch N.holds N.blocks Q.holds Q.blocks src.now.earlier.now (option_copied src.now.before) src.now.search }
     requires named { CanFilter filter.frame symbols.now.filter }
     requires skipped { skips ≡ true → mode_at symbols.now.modes 0 ≡ Zero }
-    requires vectors { CanSayVectors src.now.high_precision (best_vectors (sources_in N.blocks Q.blocks src.now) symbols.now.references) symbols.now.references (symbols_at symbols.now 0) }
+    requires vectors { CanSayVectors src.now.high_precision (best_mv (sources_in N.blocks Q.blocks src.now) symbols.now.references) symbols.now.references (symbols_at symbols.now 0) }
     ensures put { IfOk result (λ p. (lists : InterLists) → lists.modes ≡ src.now.modes.now → lists.filters ≡ filters.now →
         PutsValue (whole_block (sources_in N.blocks Q.blocks src.now) lists skips filter.frame filter.context symbols.now.references) encoder.old p encoder.new) }
     ensures is { IfOk result (λ p. p ≡ whole_said (sources_in N.blocks Q.blocks src.now) symbols.now) }
@@ -124,7 +124,7 @@ fn put_block_of_quarters<N: Neighbours, Q: Neighbours>(
     requires filter { filter.context ≤ 3 }
     requires may { MaySearch N.holds N.blocks Q.holds Q.blocks src.now.earlier.now (option_copied src.now.before) src.now.search }
     requires named { CanFilter filter.frame symbols.now.filter }
-    requires vectors { (k : ℕ) → k < 4 → CanSayVectors src.now.high_precision (best_vectors (sources_in N.blocks Q.blocks src.now) symbols.now.references) symbols.now.references (symbols_at symbols.now (quarter_saying src.now.search.at.size k)) }
+    requires vectors { (k : ℕ) → k < 4 → CanSayVectors src.now.high_precision (best_mv (sources_in N.blocks Q.blocks src.now) symbols.now.references) symbols.now.references (symbols_at symbols.now (quarter_saying src.now.search.at.size k)) }
     ensures put { IfOk result (λ p. (lists : InterLists) → lists.modes ≡ src.now.modes.now → lists.filters ≡ filters.now →
         PutsValue (block_of_quarters (sources_in N.blocks Q.blocks src.now) lists filter.frame filter.context symbols.now.references) encoder.old p encoder.new) }
     ensures is { IfOk result (λ p. p ≡ of_quarters_said (sources_in N.blocks Q.blocks src.now) symbols.now) }

@@ -8,7 +8,7 @@ ghost use Rattle.block_plan.specs.BlockMvs.{vector_at};
 ghost use Rattle.mv_prediction.specs.Code.{AreSmall};
 ghost use Rattle.mv_prediction.specs.Vectors.{IsSmallVector};
 ghost use Rattle.inter_modes.specs.Code.{MaySearch, AreSmallBefore, AreSmallQuarters, four_quarters, quarter_columns, quarter_rows, sources_in};
-ghost use Rattle.inter_modes.specs.BlockVectors.{best_vectors, quarter_vector, quarter_vectors, quarter, quarters};
+ghost use Rattle.inter_modes.specs.BlockVectors.{best_mv, quarter_vector, quarter_vectors, quarter, quarters};
 ghost use Rattle.vector_writer.specs.VectorFits.{CanBeNew, CanSayVectors, quarter_saying};
 ghost use Rattle.vector_writer.specs.SaidVectors.{symbols_at, quarter_vector_said, quarter_vectors_said, quarter_said, four_said, columns_said, rows_said, quarters_said};
 
@@ -18,7 +18,7 @@ use crate::vectors::put_inter_mode;
 use block_plan::{Mv, Neighbours, References};
 use bool_encoder::BoolEncoder;
 use inter_modes::{
-    NO_VECTOR, NO_VECTORS, Quarter, QuartersBefore, Sources, WantedVector, before_of, best_vectors,
+    NO_VECTOR, NO_VECTORS, Quarter, QuartersBefore, Sources, WantedVector, before_of, best_mv,
     near_of_quarter, nearest_of_quarter, of_list,
 };
 use std::alloc::AllocError;
@@ -238,12 +238,12 @@ pub(crate) fn put_quarters<N: Neighbours, Q: Neighbours>(
     requires below { is_below_8x8 src.now.search.at.size ≡ true }
     requires context { src.now.context ≤ 6 }
     requires may { MaySearch N.holds N.blocks Q.holds Q.blocks src.now.earlier.now (option_copied src.now.before) src.now.search }
-    requires can { (k : ℕ) → k < 4 → CanSayVectors src.now.high_precision (best_vectors (sources_in N.blocks Q.blocks src.now) symbols.now.references) symbols.now.references (symbols_at symbols.now (quarter_saying src.now.search.at.size k)) }
+    requires can { (k : ℕ) → k < 4 → CanSayVectors src.now.high_precision (best_mv (sources_in N.blocks Q.blocks src.now) symbols.now.references) symbols.now.references (symbols_at symbols.now (quarter_saying src.now.search.at.size k)) }
     ensures put { IfOk result (λ qs. PutsValue (quarters (sources_in N.blocks Q.blocks src.now) src.now.modes.now src.now.context symbols.now.references src.now.search.at.size) encoder.old qs encoder.new) }
     ensures is { IfOk result (λ qs. qs ≡ quarters_said (sources_in N.blocks Q.blocks src.now) symbols.now src.now.search.at.size) }
     ensures small { IfOk result (λ qs. IfOk qs AreSmallQuarters) }
 {
-    let best = best_vectors(src, symbols.references);
+    let best = best_mv(src, symbols.references);
     match src.search.at.size {
         BlockSize::B4x8 => put_two_columns(encoder, src, symbols, best),
         BlockSize::B8x4 => put_two_rows(encoder, src, symbols, best),

@@ -7,7 +7,7 @@ ghost use Rattle.block_plan.specs.BlockMvs.{vector_at};
 ghost use Rattle.mv_prediction.specs.Code.{AreSmall};
 ghost use Rattle.mv_prediction.specs.Vectors.{IsSmallVector};
 ghost use Rattle.inter_modes.specs.Code.{MaySearch, AreSmallBefore, sources_in};
-ghost use Rattle.inter_modes.specs.BlockVectors.{inter_of, inter_mode, near_of_block, best_vectors, block_vector, block_vectors};
+ghost use Rattle.inter_modes.specs.BlockVectors.{inter_of, inter_mode, near_of_block, best_mv, block_vector, block_vectors};
 ghost use Rattle.vector_writer.specs.VectorFits.{CanBeNew, CanSayVectors};
 ghost use Rattle.vector_writer.specs.SaidVectors.{block_vector_said, block_vectors_said};
 
@@ -86,7 +86,7 @@ pub(crate) fn put_block_vectors<N: Neighbours, Q: Neighbours>(
     references: References,
 ) -> Result<Result<[Mv; 2], Rule>, AllocError>
     requires may { MaySearch N.holds N.blocks Q.holds Q.blocks src.now.earlier.now (option_copied src.now.before) src.now.search }
-    requires can { CanSayVectors src.now.high_precision (best_vectors (sources_in N.blocks Q.blocks src.now) references) references said }
+    requires can { CanSayVectors src.now.high_precision (best_mv (sources_in N.blocks Q.blocks src.now) references) references said }
     ensures put { IfOk result (λ v. PutsValue (block_vectors (sources_in N.blocks Q.blocks src.now) said.mode references) encoder.old v encoder.new) }
     ensures is { IfOk result (λ v. v ≡ block_vectors_said (sources_in N.blocks Q.blocks src.now) said references) }
     ensures small { IfOk result (λ v. IfOk v AreSmall) }

@@ -1,3 +1,7 @@
+//! The transforms of one dimension as steps (8.7.1 of the standard): a permutation of the array, and then the butterflies
+//! in the standard's order. Which of its operations a step is, is said where a step is defined (`Flow.antt` of
+//! inverse_transforms).
+
 use crate::flow_row::FlowRow;
 
 /// The DCT of 4.
