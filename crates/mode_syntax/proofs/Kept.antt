@@ -8,11 +8,11 @@ use Rattle.block_geometry.specs.BlockSizes.{width_8}
 use Rattle.block_geometry.specs.SplitSquares.{part_size}
 use Rattle.counting_reader.specs.Counting.{settle}
 use Rattle.mode_syntax.specs.Partitions.{partition_at}
-use Rattle.mode_syntax.specs.Walk.{Walk, block_at, square_at, starts_inside, block_inside, smallest_parts, parts, decode_at_level, decode_tile}
+use Rattle.mode_syntax.specs.Walk.{Walk, block_at, starts_inside, block_inside, smallest_parts, parts, decode_at_level, decode_tile}
 use Rattle.counting_reader.specs.Counting.{Yields}
 use Rattle.counting_reader.proofs.Yields.{yields_bind, yields_all}
 use Rattle.mode_syntax.proofs.Mapped.{starts_so, twice, narrow, half, smallest}
-use Rattle.mode_syntax.specs.Laws.{decode_square, square_parts, decode_row, decode_rows, squares_from, LiesIn, EachKeeps}
+use Rattle.mode_syntax.specs.Laws.{square_at, decode_square, square_parts, decode_row, decode_rows, squares_from, LiesIn, EachKeeps}
 use Rattle.mode_syntax.proofs.RowByRow.{tile_is}
 use Rattle.mode_syntax.proofs.SquareParts.{rows_are, columns_are, quarters_are}
 

@@ -12,8 +12,8 @@ use Rattle.block_plan.specs.declared.block.BlockInfo.{BlockInfo}
 use Rattle.counting_reader.specs.Counting.{settle, in_order, mapped}
 use Rattle.counting_reader.proofs.Mapped.{Reads, mapped_seq, mapped_by}
 use Rattle.mode_syntax.specs.Partitions.{partition_at}
-use Rattle.mode_syntax.specs.Walk.{Walk, block_at, square_at, starts_inside, block_inside, smallest_parts, parts, decode_at_level, decode_tile}
-use Rattle.mode_syntax.specs.Laws.{decode_square, square_parts, decode_row, decode_rows, squares_from, walk_over, LiesIn, KeepsStep}
+use Rattle.mode_syntax.specs.Walk.{Walk, block_at, starts_inside, block_inside, smallest_parts, parts, decode_at_level, decode_tile}
+use Rattle.mode_syntax.specs.Laws.{square_at, decode_square, square_parts, decode_row, decode_rows, squares_from, walk_over, LiesIn, KeepsStep}
 use Rattle.mode_syntax.proofs.RowByRow.{tile_is}
 use Rattle.mode_syntax.proofs.SquareParts.{rows_are, columns_are, quarters_are}
 

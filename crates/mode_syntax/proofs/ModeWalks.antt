@@ -19,13 +19,13 @@ use Rattle.block_plan.specs.declared.block.BlockAt.{BlockAt}
 use Rattle.block_plan.specs.declared.block.BlockInfo.{BlockInfo}
 use Rattle.counting_reader.specs.Counting.{settle, counted_before, in_order}
 use Rattle.mode_syntax.specs.IntraModeInfo.{intra_frame_mode_info, mode_info_beside}
-use Rattle.mode_syntax.specs.Walk.{block_at, square_at}
+use Rattle.mode_syntax.specs.Walk.{block_at}
 use Rattle.counting_reader.specs.Counting.{Yields}
 use Rattle.counting_reader.specs.Counting.{mapped}
 use Rattle.counting_reader.proofs.Yields.{yields_bind, yields_all}
 use Rattle.counting_reader.proofs.Mapped.{Reads, mapped_behind}
 use Rattle.mode_syntax.proofs.Apart.{in_columns_same, same_partition, same_modes}
-use Rattle.mode_syntax.specs.Laws.{KeepsStep, reaches_into, in_columns, next_block, mode_walk, EachKeeps}
+use Rattle.mode_syntax.specs.Laws.{square_at, KeepsStep, reaches_into, in_columns, next_block, mode_walk, EachKeeps}
 
 -- the first is the same, and what it settles on has a property
 mapped_where : {A S T : Type 0} (view : S → T) (P : A → Type 0) (x : Reads A) (k : A → Reads S) (l : A → Reads T)

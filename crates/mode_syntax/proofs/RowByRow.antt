@@ -5,9 +5,9 @@ use Rattle.vp9_types.specs.Syntax.{Syntax, done, broken, ask}
 use Rattle.vp9_types.specs.declared.rule.Rule.{Rule}
 use Rattle.prob_contexts.specs.declared.kind.CountedBool.{CountedBool}
 use Rattle.counting_reader.specs.Counting.{Settled, counted_before, in_order, settle, through}
-use Rattle.mode_syntax.specs.Laws.{decode_square, decode_row, decode_rows, squares_from}
+use Rattle.mode_syntax.specs.Laws.{square_at, decode_square, decode_row, decode_rows, squares_from}
 use Rattle.mode_syntax.specs.Superblocks.{superblock_from}
-use Rattle.mode_syntax.specs.Walk.{Walk, square_at, decode_partition, decode_tile}
+use Rattle.mode_syntax.specs.Walk.{Walk, decode_partition, decode_tile}
 
 ---- Two lists, one after another ----
 

@@ -5,9 +5,9 @@ use Rattle.vp9_types.specs.declared.block.Partition.TheVariants.{Horizontal, Ver
 use Rattle.vp9_types.specs.declared.rule.Rule.{Rule}
 use Rattle.block_geometry.specs.SplitSquares.{part_size}
 use Rattle.counting_reader.specs.Counting.{Settled, in_order}
-use Rattle.mode_syntax.specs.Laws.{decode_square, square_parts}
+use Rattle.mode_syntax.specs.Laws.{square_at, decode_square, square_parts}
 use Rattle.mode_syntax.specs.Superblocks.{quarter_square}
-use Rattle.mode_syntax.specs.Walk.{Walk, block_at, square_at, block_inside, parts, decode_at_level}
+use Rattle.mode_syntax.specs.Walk.{Walk, block_at, block_inside, parts, decode_at_level}
 
 down : (n : ℕ) → suc n - 1 ≡ n
 down n = omega arith

@@ -3,11 +3,11 @@ use Rattle.std.proofs.Common.{◌≡◌, ℕ, zero, suc, ◌+◌, ◌*◌, ◌++
 use Rattle.block_geometry.specs.declared.transform_blocks.FramePlaces.{FramePlaces}
 use Rattle.counting_reader.specs.Counting.{settle}
 use Rattle.mode_syntax.specs.TileSquares.{Cut, whole, leaves}
-use Rattle.mode_syntax.specs.Walk.{Walk, square_at, decode_tile}
+use Rattle.mode_syntax.specs.Walk.{Walk, decode_tile}
 use Rattle.counting_reader.specs.Counting.{Yields}
 use Rattle.mode_syntax.proofs.Walks.{lists_none, lists_both, lists_as, leaves_listed}
 use Rattle.counting_reader.proofs.Yields.{yields_bind, yields_map}
-use Rattle.mode_syntax.specs.Laws.{decode_square, decode_row, decode_rows, squares_from, Lists, ListsItsBlock, ListsLeaves, ListsTile}
+use Rattle.mode_syntax.specs.Laws.{square_at, decode_square, decode_row, decode_rows, squares_from, Lists, ListsItsBlock, ListsLeaves, ListsTile}
 use Rattle.mode_syntax.proofs.RowByRow.{tile_is}
 use Rattle.mode_syntax.proofs.TileLeaves.{row_leaves, rows_leaves, by_place, rows_by_leaves}
 

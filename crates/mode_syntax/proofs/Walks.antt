@@ -10,8 +10,8 @@ use Rattle.counting_reader.specs.Counting.{settle, in_order, Yields}
 use Rattle.counting_reader.proofs.Yields.{yields_bind, yields_all, yields_map}
 use Rattle.mode_syntax.specs.Partitions.{partition_at}
 use Rattle.mode_syntax.specs.TileSquares.{Leaf, Cut, whole, upper_and_lower, left_and_right, quarters, inside, one_leaf, leaves}
-use Rattle.mode_syntax.specs.Walk.{Walk, block_at, square_at, starts_inside, block_inside, smallest_parts, parts, decode_at_level}
-use Rattle.mode_syntax.specs.Laws.{decode_square, square_parts, leaf_of, Lists, ListsItsBlock, ListsLeaves}
+use Rattle.mode_syntax.specs.Walk.{Walk, block_at, starts_inside, block_inside, smallest_parts, parts, decode_at_level}
+use Rattle.mode_syntax.specs.Laws.{square_at, decode_square, square_parts, leaf_of, Lists, ListsItsBlock, ListsLeaves}
 use Rattle.mode_syntax.proofs.SquareParts.{rows_are, columns_are, quarters_are}
 
 pub lists_none : {S : Type 0} (walk : Walk S) (s : S) → Lists walk s [] s

@@ -20,12 +20,15 @@ use Rattle.mode_syntax.specs.Partitions.{partition_at}
 use Rattle.mode_syntax.specs.Superblocks.{superblocks_of}
 use Rattle.mode_syntax.specs.TileColumns.{settled_part}
 use Rattle.mode_syntax.specs.TileSquares.{Leaf, Cut, one_leaf, leaves, tile_leaves}
-use Rattle.mode_syntax.specs.Walk.{Walk, block_at, square_at, parts, decode_at_level, decode_tile}
+use Rattle.mode_syntax.specs.Walk.{Walk, block_at, parts, decode_at_level, decode_tile}
 use Rattle.mode_syntax.specs.declared.square_at.SquareAt.{SquareAt}
 
 ---- Row by row ----
 
--- a square of a walk's tile
+-- a square of a walk's tile, and what is read of it
+abbrev pub square_at : {S : Type 0} → Walk S → ℕ → ℕ → ℕ → SquareAt
+square_at walk level r c = record { row = r; col = c; level = level; tile_from = walk.tile_from; tile_to = walk.tile_to }
+
 abbrev pub decode_square : {S : Type 0} → Walk S → ℕ → ℕ → ℕ → S → Syntax ℕ Rule (Settled S)
 decode_square walk level r c s = decode_at_level walk level (square_at walk level r c) s
 

@@ -29,9 +29,6 @@ pub record Walk (S : Type 0) : Type 0 where
 abbrev pub block_at : {S : Type 0} → Walk S → ℕ → ℕ → BlockSize → BlockAt
 block_at walk r c size = record { row = r; col = c; size = size; tile_from = walk.tile_from; tile_to = walk.tile_to }
 
-abbrev pub square_at : {S : Type 0} → Walk S → ℕ → ℕ → ℕ → SquareAt
-square_at walk level r c = record { row = r; col = c; level = level; tile_from = walk.tile_from; tile_to = walk.tile_to }
-
 abbrev pub starts_inside : {S : Type 0} → Walk S → ℕ → ℕ → Bool
 starts_inside walk r c = nat_lt r walk.frame.rows && nat_lt c walk.frame.cols
 

@@ -16,8 +16,8 @@ ghost use Rattle.mode_syntax.specs.IntraModeInfo.{intra_frame_mode_info};
 ghost use Rattle.mode_syntax.specs.Partitions.{partition_at};
 ghost use Rattle.mode_syntax.specs.Superblocks.{superblocks_of};
 ghost use Rattle.mode_syntax.specs.TileSquares.{Cut, tile_leaves, times_covered};
-ghost use Rattle.mode_syntax.specs.Walk.{Walk, square_at, decode_partition, decode_tile};
-ghost use Rattle.mode_syntax.specs.Laws.{decode_rows, squares_from, ListsItsBlock, ListsLeaves, ListsTile, walk_over, KeepsStep, SameIn, in_columns, mode_walk, Layout, IsLaidOut, mode_tile, column_blocks};
+ghost use Rattle.mode_syntax.specs.Walk.{Walk, decode_partition, decode_tile};
+ghost use Rattle.mode_syntax.specs.Laws.{square_at, decode_rows, squares_from, ListsItsBlock, ListsLeaves, ListsTile, walk_over, KeepsStep, SameIn, in_columns, mode_walk, Layout, IsLaidOut, mode_tile, column_blocks};
 ghost use Rattle.mode_syntax.specs.TileColumns.{read_all, counted_of, AreSeparate, column_alone, by_column};
 ghost use Rattle.mode_syntax.specs.declared.square_at.SquareAt.{SquareAt};
 

@@ -12,9 +12,9 @@ use Rattle.block_plan.specs.declared.block.BlockAt.{BlockAt}
 use Rattle.counting_reader.specs.Counting.{Settled, settle}
 use Rattle.counting_reader.specs.Code.{run_counting}
 use Rattle.mode_syntax.specs.Partitions.{partition_at}
-use Rattle.mode_syntax.specs.Laws.{decode_square, square_parts}
+use Rattle.mode_syntax.specs.Laws.{square_at, decode_square, square_parts}
 use Rattle.mode_syntax.specs.Superblocks.{quarter_square}
-use Rattle.mode_syntax.specs.Walk.{Walk, block_at, square_at, starts_inside, block_inside, smallest_parts, parts, decode_at_level}
+use Rattle.mode_syntax.specs.Walk.{Walk, block_at, starts_inside, block_inside, smallest_parts, parts, decode_at_level}
 use Rattle.mode_syntax.specs.declared.square_at.SquareAt.{SquareAt}
 use Rattle.mode_syntax.proofs.SquareParts.{rows_are, columns_are, quarters_are}
 use Rattle.tile_reader.specs.Code.{Tile, SameTile, Rest, EndsTile, ReadsPartition, StandsIn, then_rest}

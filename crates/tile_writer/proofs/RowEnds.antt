@@ -3,9 +3,9 @@ use Rattle.std.proofs.Common.{◌≡◌, ◌∙◌, ℕ, zero, suc, List, [], �
 use Rattle.std.specs.List.{flat_map, range_with_len}
 use Rattle.std.specs.Prelude.{Result, Ok, Err}
 use Rattle.std.proofs.Math.Nat.{mul-le-mul_left}
-use Rattle.mode_syntax.specs.Laws.{decode_row, decode_rows, squares_from}
+use Rattle.mode_syntax.specs.Laws.{square_at, decode_row, decode_rows, squares_from}
 use Rattle.mode_syntax.specs.Superblocks.{superblock_from, superblocks_of}
-use Rattle.mode_syntax.specs.Walk.{Walk, square_at, decode_tile}
+use Rattle.mode_syntax.specs.Walk.{Walk, decode_tile}
 use Rattle.mode_syntax.specs.declared.square_at.SquareAt.{SquareAt}
 use Rattle.mode_syntax.proofs.RowByRow.{tile_is}
 use Rattle.tile_writer.specs.SaidTiles.{SaidSoFar, Said, Teller, then_said, said_at_level, said_tile}

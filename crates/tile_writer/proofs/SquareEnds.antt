@@ -15,9 +15,9 @@ use Rattle.block_lists.proofs.IntraWays.{at_way}
 use Rattle.counting_reader.specs.Counting.{Settled, settle}
 use Rattle.bool_encoder.specs.CountedBools.{PutsValue}
 use Rattle.mode_syntax.specs.Partitions.{half_of, partition_at}
-use Rattle.mode_syntax.specs.Laws.{decode_square}
+use Rattle.mode_syntax.specs.Laws.{square_at, decode_square}
 use Rattle.mode_syntax.specs.Superblocks.{quarter_square}
-use Rattle.mode_syntax.specs.Walk.{Walk, block_at, square_at, starts_inside, block_inside, smallest_parts, parts, decode_at_level}
+use Rattle.mode_syntax.specs.Walk.{Walk, block_at, starts_inside, block_inside, smallest_parts, parts, decode_at_level}
 use Rattle.mode_syntax.specs.declared.square_at.SquareAt.{SquareAt}
 use Rattle.tile_writer.specs.SaidTiles.{SaidSoFar, Said, Teller, so_far, then_said, told_block, said_inside, said_parts, said_at_level, told_partition}
 use Rattle.mode_syntax.proofs.SquareParts.{first_is, second_is, third_is, fourth_is, rows_are, columns_are, quarters_are}

@@ -11,8 +11,8 @@ use Rattle.block_plan.specs.declared.block.BlockAt.{BlockAt}
 use Rattle.counting_reader.specs.Counting.{Settled, in_order}
 use Rattle.bool_encoder.specs.CountedBools.{PutsValue, PutsTo}
 use Rattle.mode_syntax.specs.Partitions.{partition_at}
-use Rattle.mode_syntax.specs.Laws.{decode_square, square_parts, decode_row, decode_rows}
-use Rattle.mode_syntax.specs.Walk.{Walk, square_at, block_inside, decode_tile}
+use Rattle.mode_syntax.specs.Laws.{square_at, decode_square, square_parts, decode_row, decode_rows}
+use Rattle.mode_syntax.specs.Walk.{Walk, block_inside, decode_tile}
 use Rattle.mode_syntax.specs.declared.square_at.SquareAt.{SquareAt}
 use Rattle.tile_writer.specs.SaidTiles.{SaidSoFar, Teller, Said, so_far, then_said, said_inside, said_parts, said_at_level, said_tile}
 use Rattle.tile_writer.specs.declared.unwritten.Unwritten.{Unwritten}
