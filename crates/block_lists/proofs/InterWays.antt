@@ -1,7 +1,6 @@
 -- The blocks of inter frames are put in one way.
 use Rattle.std.proofs.Common.{◌≡◌, ℕ, ◌*◌, List, [], ◌∷◌, ◌++◌, Bool, true, false, ◌&&◌, drop, append_assoc, refl, sym, subst, ap, ◌∙◌}
 use Rattle.std.specs.Prelude.{Option, Some, None, Result, Ok, Err, if◌then◌else◌}
-use Rattle.vp9_types.specs.Maps.{Map}
 use Rattle.vp9_types.specs.Syntax.{Syntax}
 use Rattle.vp9_types.specs.declared.block.BlockSize.{BlockSize}
 use Rattle.vp9_types.specs.declared.block.BlockSize.TheVariants.{B4x4, B4x8, B8x4, B8x8, B8x16, B16x8, B16x16, B16x32, B32x16, B32x32, B32x64, B64x32, B64x64}
@@ -49,7 +48,7 @@ use Rattle.frame_headers.specs.References.{is_in_range}
 use Rattle.inter_modes.proofs.QuartersBySize.{luma_of_size, quarters_of_size}
 use Rattle.inter_modes.specs.Code.{four_coded_modes, four_quarters, coded_by_size, one_coded_mode, quarters_by_size, quarter_columns, coded_mode_columns, coded_mode_rows, quarter_rows}
 use Rattle.inter_modes.specs.IntraBlocks.{intra_block_mode_info, intra_mode as coded_intra_mode, luma_modes, uv_mode as coded_uv_mode}
-use Rattle.inter_modes.specs.ModeInfo.{InterFrame, block_mode, block_of_quarters, block_with, by_kind, checked_references, filter_of, inter_block, inter_frame_block, inter_frame_mode_info, inter_prediction, interp_filter, intra_block, intra_frame_block, mode_info, quarters_prediction, whole_block, whole_prediction}
+use Rattle.inter_modes.specs.ModeInfo.{BlockSources, InterFrame, block_mode, block_of_quarters, block_with, by_kind, checked_references, filter_of, inter_block, inter_frame_block, inter_frame_mode_info, inter_prediction, interp_filter, intra_block, intra_frame_block, mode_info, quarters_prediction, whole_block, whole_prediction}
 use Rattle.inter_modes.specs.BlockStarts.{segment_reference}
 use Rattle.inter_modes.specs.BlockVectors.{Sources, best_mv, block_vector, block_vectors, carried, inter_mode, inter_of, near_of_block, quarter, quarter_vector, quarter_vectors, quarters, row_at, vector_of_mode, with_second, ◌>>?◌}
 use Rattle.inter_modes.specs.declared.quarters.Quarter.{Quarter}
@@ -459,15 +458,14 @@ intra_frame_block_way header modes contexts earlier at block old new h =
     subst (λ (q : BlockInfo × Part). HasPut old (spelled_intra_frame header modes contexts earlier at q.0) q.1) (λ i. (e.0 i, e.1 i))
     (intra_frame_way header modes contexts earlier at a.x old a.mid a.first)
 
-by_kind_way : (kind : FrameKind) (header : Header) (modes : Modes) (contexts : ContextLists) (ids : Map) (earlier before : List BlockInfo) (at : BlockAt) (block : BlockInfo) (old new : Part)
-    → PutsValue (by_kind kind header modes contexts ids earlier before at) old (Ok block) new
-    → HasPut old (spelled_by_kind kind header modes contexts earlier before at block) new
+by_kind_way : (kind : FrameKind) (by : BlockSources) (earlier : List BlockInfo) (at : BlockAt) (block : BlockInfo) (old new : Part)
+    → PutsValue (by_kind kind by earlier at) old (Ok block) new → HasPut old (spelled_by_kind kind by earlier at block) new
 unfolding inter_frame_mode_info
-by_kind_way (frame.Inter fields) header modes contexts ids earlier before at block old new h = beside_way _ _ _ _ _ block old new h
-by_kind_way Key header modes contexts ids earlier before at block old new h = intra_frame_block_way header modes contexts earlier at block old new h
-by_kind_way IntraOnly header modes contexts ids earlier before at block old new h = intra_frame_block_way header modes contexts earlier at block old new h
+by_kind_way (frame.Inter fields) by earlier at block old new h = beside_way _ _ _ _ _ block old new h
+by_kind_way Key by earlier at block old new h = intra_frame_block_way by.header by.modes by.contexts earlier at block old new h
+by_kind_way IntraOnly by earlier at block old new h = intra_frame_block_way by.header by.modes by.contexts earlier at block old new h
 
-pub mode_info_way : (header : Header) (modes : Modes) (contexts : ContextLists) (ids : Map) (earlier before : List BlockInfo) (at : BlockAt) (block : BlockInfo) (old new : Part)
-    → PutsValue (mode_info header modes contexts ids earlier before at) old (Ok block) new → HasPut old (spelled_mode_info header modes contexts earlier before at block) new
+pub mode_info_way : (by : BlockSources) (earlier : List BlockInfo) (at : BlockAt) (block : BlockInfo) (old new : Part)
+    → PutsValue (mode_info by earlier at) old (Ok block) new → HasPut old (spelled_mode_info by earlier at block) new
 unfolding mode_info spelled_mode_info
-mode_info_way header modes contexts ids earlier before at block old new h = by_kind_way header.kind header modes contexts ids earlier before at block old new h
+mode_info_way by earlier at block old new h = by_kind_way by.header.kind by earlier at block old new h

@@ -6,7 +6,6 @@ use Rattle.vp9_types.specs.declared.block.InterMode.{InterMode}
 use Rattle.vp9_types.specs.declared.block.InterMode.TheVariants.{Nearest, Near, Zero, New}
 use Rattle.vp9_types.specs.declared.block.InterpFilter.{InterpFilter}
 use Rattle.vp9_types.specs.declared.block.IntraMode.{IntraMode}
-use Rattle.vp9_types.specs.declared.block.Modes.{Modes}
 use Rattle.vp9_types.specs.declared.block.ReferenceFrame.{ReferenceFrame}
 use Rattle.vp9_tables.specs.Numbers.{block_number, filter_number, inter_number, intra_number}
 use Rattle.vp9_tables.specs.SymbolTrees.{filter_tree, inter_mode_tree, intra_mode_tree}
@@ -16,8 +15,7 @@ use Rattle.frame_headers.specs.declared.header.FrameFilter.{FrameFilter}
 use Rattle.frame_headers.specs.declared.header.FrameFilter.TheVariants.{Fixed, Switchable}
 use Rattle.frame_headers.specs.declared.header.FrameKind.{FrameKind}
 use Rattle.frame_headers.specs.declared.header.FrameKind.TheVariants as frame
-use Rattle.frame_headers.specs.declared.header.Header.{Header}
-use Rattle.prob_contexts.specs.ProbLists.{ContextLists, InterLists}
+use Rattle.prob_contexts.specs.ProbLists.{InterLists}
 use Rattle.block_geometry.specs.BlockSizes.{is_below_8x8}
 use Rattle.block_plan.specs.Blocks.{above_of, left_of}
 use Rattle.block_plan.specs.BlockMvs.{vector_at}
@@ -33,7 +31,7 @@ use Rattle.mode_syntax.specs.Elements.{skips_segment}
 use Rattle.mode_syntax.specs.IntraModes.{last_mode}
 use Rattle.mv_prediction.specs.Candidates.{mode_context}
 use Rattle.inter_contexts.specs.Contexts.{filter_context}
-use Rattle.inter_modes.specs.ModeInfo.{InterFrame, sources_of}
+use Rattle.inter_modes.specs.ModeInfo.{BlockSources, inter_frame, InterFrame, sources_of}
 use Rattle.inter_modes.specs.BlockStarts.{segment_reference}
 use Rattle.inter_modes.specs.BlockVectors.{Sources, best_mv, near_of_block, row_at}
 use Rattle.inter_modes.specs.declared.starts.BlockStart.{BlockStart}
@@ -149,12 +147,12 @@ spelled_inter_beside f s above left block =
     spelled_start f.header.params.segmentation f.modes.tx_mode f.contexts above left s.search.at.size (start_of block)
     ++ spelled_by_prediction f s above left block.segment block.prediction
 
-abbrev pub spelled_by_kind : FrameKind → Header → Modes → ContextLists → List BlockInfo → List BlockInfo → BlockAt → BlockInfo → BoolList
-spelled_by_kind (frame.Inter fields) header modes contexts earlier before at block =
-    let f : InterFrame = record { header = header; fields = fields; modes = modes; contexts = contexts } in
-    spelled_inter_beside f (sources_of f earlier before at) (above_of earlier at) (left_of earlier at) block
-spelled_by_kind _ header modes contexts earlier before at block = spelled_intra_frame header modes contexts earlier at block
+abbrev pub spelled_by_kind : FrameKind → BlockSources → List BlockInfo → BlockAt → BlockInfo → BoolList
+spelled_by_kind (frame.Inter fields) by earlier at block =
+    let f = inter_frame by fields in
+    spelled_inter_beside f (sources_of f earlier by.vectors at) (above_of earlier at) (left_of earlier at) block
+spelled_by_kind _ by earlier at block = spelled_intra_frame by.header by.modes by.contexts earlier at block
 
--- a block of any frame, by the blocks of the frame before it, and those of the frame before
-unfoldable pub spelled_mode_info : Header → Modes → ContextLists → List BlockInfo → List BlockInfo → BlockAt → BlockInfo → BoolList
-spelled_mode_info header modes contexts earlier before at block = spelled_by_kind header.kind header modes contexts earlier before at block
+-- a block of any frame, behind the blocks before it
+unfoldable pub spelled_mode_info : BlockSources → List BlockInfo → BlockAt → BlockInfo → BoolList
+spelled_mode_info by earlier at block = spelled_by_kind by.header.kind by earlier at block

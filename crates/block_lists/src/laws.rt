@@ -1,18 +1,14 @@
 //! Laws of the definitions, as contracts of functions that do nothing.
 
 ghost use Rattle.std.specs.Prelude.{ℕ, Bool, List, Ok};
-ghost use Rattle.vp9_types.specs.declared.block.Modes.{Modes};
 ghost use Rattle.vp9_types.specs.declared.block.Partition.{Partition};
-ghost use Rattle.frame_headers.specs.declared.header.Header.{Header};
-ghost use Rattle.prob_contexts.specs.ProbLists.{ContextLists};
 ghost use Rattle.bool_encoder.specs.Part.{Part};
 ghost use Rattle.bool_lists.specs.BoolLists.{HasPut};
 ghost use Rattle.bool_encoder.specs.CountedBools.{PutsValue};
 ghost use Rattle.block_geometry.specs.declared.transform_blocks.FramePlaces.{FramePlaces};
 ghost use Rattle.block_plan.specs.declared.block.BlockAt.{BlockAt};
 ghost use Rattle.block_plan.specs.declared.block.BlockInfo.{BlockInfo};
-ghost use Rattle.vp9_types.specs.Maps.{Map};
-ghost use Rattle.inter_modes.specs.ModeInfo.{mode_info};
+ghost use Rattle.inter_modes.specs.ModeInfo.{BlockSources, mode_info};
 ghost use Rattle.mode_syntax.specs.Partitions.{partition_at};
 ghost use Rattle.mode_syntax.specs.declared.square_at.SquareAt.{SquareAt};
 ghost use Rattle.block_lists.specs.InterLists.{spelled_mode_info};
@@ -22,6 +18,6 @@ ghost use Rattle.block_lists.specs.PartitionLists.{spelled_partition_at};
 pub fn blocks_are_put_in_one_way()
     ensures partition { (intra : Bool) (probs : List ℕ) (earlier : List BlockInfo) (frame : FramePlaces) (at : SquareAt) (p : Partition) (old new : Part) →
         PutsValue (partition_at intra probs earlier frame at) old p new → HasPut old (spelled_partition_at intra probs earlier frame at p) new }
-    ensures block { (header : Header) (modes : Modes) (contexts : ContextLists) (ids : Map) (earlier before : List BlockInfo) (at : BlockAt) (block : BlockInfo) (old new : Part) →
-        PutsValue (mode_info header modes contexts ids earlier before at) old (Ok block) new → HasPut old (spelled_mode_info header modes contexts earlier before at block) new }
+    ensures block { (by : BlockSources) (earlier : List BlockInfo) (at : BlockAt) (block : BlockInfo) (old new : Part) →
+        PutsValue (mode_info by earlier at) old (Ok block) new → HasPut old (spelled_mode_info by earlier at block) new }
 {}

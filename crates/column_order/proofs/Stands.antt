@@ -18,7 +18,7 @@ use Rattle.block_plan.specs.declared.block.BlockInfo.{BlockInfo}
 use Rattle.counting_reader.specs.Counting.{Yields, lifted, settle}
 use Rattle.counting_reader.proofs.Yields.{yields_bind}
 use Rattle.mode_syntax.specs.IntraModeInfo.{intra_frame_mode_info, mode_info_beside}
-use Rattle.inter_modes.specs.ModeInfo.{InterFrame, by_kind, inter_block, inter_frame_block, inter_frame_mode_info, intra_block, intra_frame_block, mode_info}
+use Rattle.inter_modes.specs.ModeInfo.{BlockSources, InterFrame, by_kind, inter_block, inter_frame, inter_frame_block, inter_frame_mode_info, intra_block, intra_frame_block, mode_info}
 use Rattle.inter_modes.specs.BlockStarts.{block_start, tx_size}
 use Rattle.inter_modes.specs.BlockVectors.{Sources, carried, ◌>>?◌}
 use Rattle.inter_modes.specs.declared.starts.BlockStart.{BlockStart}
@@ -86,23 +86,20 @@ inter_beside f s above left least =
     (start_fits _ _ _ _ _ s.search.at.size least)
     (λ start fits. either start.is_inter _ _ (Tells s.search.at) (inter_stands f s above left start fits) (intra_stands f s.search.at start fits))
 
-inter_frame : (f : InterFrame) (ids : Map) (earlier before : List BlockInfo) (at : BlockAt) → Yields (inter_frame_mode_info f ids earlier before at) (Tells at)
+inter_stand : (f : InterFrame) (ids : Map) (earlier before : List BlockInfo) (at : BlockAt) → Yields (inter_frame_mode_info f ids earlier before at) (Tells at)
 unfolding inter_frame_mode_info
-inter_frame f ids earlier before at = inter_beside f _ _ _ _
+inter_stand f ids earlier before at = inter_beside f _ _ _ _
 
 ---- All frames ----
 
-of_kind : (kind : FrameKind) (header : Header) (modes : Modes) (contexts : ContextLists) (ids : Map) (earlier before : List BlockInfo) (at : BlockAt)
-    → Yields (by_kind kind header modes contexts ids earlier before at) (Tells at)
-of_kind (frame.Inter fields) header modes contexts ids earlier before at =
-    inter_frame (record { header = header; fields = fields; modes = modes; contexts = contexts }) ids earlier before at
-of_kind frame.Key header modes contexts ids earlier before at = intra_frame header modes contexts earlier at
-of_kind frame.IntraOnly header modes contexts ids earlier before at = intra_frame header modes contexts earlier at
+of_kind : (kind : FrameKind) (by : BlockSources) (earlier : List BlockInfo) (at : BlockAt) → Yields (by_kind kind by earlier at) (Tells at)
+of_kind (frame.Inter fields) by earlier at = inter_stand (inter_frame by fields) by.segments earlier by.vectors at
+of_kind frame.Key by earlier at = intra_frame by.header by.modes by.contexts earlier at
+of_kind frame.IntraOnly by earlier at = intra_frame by.header by.modes by.contexts earlier at
 
-pub info_stands : (header : Header) (modes : Modes) (contexts : ContextLists) (ids : Map) (earlier before : List BlockInfo) (at : BlockAt)
-    → Yields (mode_info header modes contexts ids earlier before at) (Tells at)
+pub info_stands : (by : BlockSources) (earlier : List BlockInfo) (at : BlockAt) → Yields (mode_info by earlier at) (Tells at)
 unfolding mode_info
-info_stands header modes contexts ids earlier before at = of_kind header.kind header modes contexts ids earlier before at
+info_stands by earlier at = of_kind by.header.kind by earlier at
 
 pub lifted_stands : (at : BlockAt) (told : Result BlockInfo Rule) → Tells at told → Yields (lifted told) (StandsAt at)
 unfolding lifted settle

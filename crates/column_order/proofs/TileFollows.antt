@@ -18,7 +18,7 @@ use Rattle.counting_reader.proofs.Yields.{yields_bind, yields_map}
 use Rattle.inter_modes.specs.ModeInfo.{mode_info}
 use Rattle.mode_syntax.specs.Walk.{Walk, block_at}
 use Rattle.frame_state.specs.FrameReading.{Column, TileRead, begun, column_after, infos, read_block, read_tile, read_walk}
-use Rattle.frame_state.specs.Sources.{FrameSources}
+use Rattle.frame_state.specs.Sources.{block_sources, FrameSources}
 use Rattle.frame_state.specs.TilePlaces.{column_of, row_of, superblocks_before, tile_offset, tile_places}
 use Rattle.frame_state.specs.declared.tile_places.TilePlaces.{TilePlaces}
 use Rattle.frame_state.proofs.TileOffsets.{before_grows, tile_is_low}
@@ -71,8 +71,8 @@ module _ (by : FrameSources) (tile : TilePlaces) (to q top : ℕ) where
       → Yields (read_block by at s) (λ t. Stand (shape_of by.header) tile.col_from to (q + 1) (all_blocks t))
   unfolding read_block settle
   block_kept at s from aligned lies has =
-      yields_bind (mode_info by.header by.modes by.contexts by.past.segments (infos (all_blocks s)) by.past.vectors at) _ (Tells at) _
-      (info_stands by.header by.modes by.contexts by.past.segments (infos (all_blocks s)) by.past.vectors at)
+      yields_bind (mode_info (block_sources by) (infos (all_blocks s)) at) _ (Tells at) _
+      (info_stands (block_sources by) (infos (all_blocks s)) at)
       (λ told tells. yields_bind (lifted told) _ (StandsAt at) _ (lifted_stands at told tells)
       (λ info stands. yields_bind (residues.read_block by.header by.contexts at.tile_from info s.sides) _ (λ r. IsPlannedOf by.header at.tile_from info r.0) _
       (block_places by.header by.contexts at.tile_from info s.sides)

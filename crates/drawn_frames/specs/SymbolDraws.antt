@@ -1,6 +1,6 @@
 -- Who draws what the blocks of a frame say.
 use Rattle.std.specs.Prelude.{Option, Some, None, if◌then◌else◌}
-use Rattle.frame_state.specs.Sources.{FrameSources}
+use Rattle.frame_state.specs.Sources.{FrameSources, block_sources}
 use Rattle.frame_writer.specs.FrameSymbols.{Speaker}
 use Rattle.drawn_symbols.specs.BlockDraws.{draw_block}
 use Rattle.drawn_symbols.specs.Draws.{Drawn}
@@ -20,6 +20,6 @@ drawn_of by s t = if is_drawn_frame by.header then drawn s t else None
 abbrev pub drawing : Speaker DrawnSymbols
 drawing = record {
   partition = λ has_rows has_cols. drawn (draw_partition has_rows has_cols);
-  block = λ by earlier at. drawn_of by (draw_block by.header by.modes by.contexts earlier by.past.vectors at);
+  block = λ by earlier at. drawn_of by (draw_block (block_sources by) earlier at);
   levels = λ by block. drawn (draw_block_levels by.header block);
 }

@@ -5,10 +5,9 @@ use Rattle.vp9_types.specs.declared.block.Modes.{Modes}
 use Rattle.frame_headers.specs.declared.header.FrameKind.{FrameKind}
 use Rattle.frame_headers.specs.declared.header.FrameKind.TheVariants as frame
 use Rattle.frame_headers.specs.declared.header.Header.{Header}
-use Rattle.prob_contexts.specs.ProbLists.{ContextLists}
 use Rattle.block_plan.specs.declared.block.BlockAt.{BlockAt}
 use Rattle.block_plan.specs.declared.block.BlockInfo.{BlockInfo}
-use Rattle.inter_modes.specs.ModeInfo.{InterFrame, sources_of}
+use Rattle.inter_modes.specs.ModeInfo.{BlockSources, InterFrame, inter_frame, sources_of}
 use Rattle.inter_modes.specs.BlockVectors.{Sources}
 use Rattle.inter_writer.specs.declared.frame_blocks.BlockSymbols.{BlockSymbols}
 use Rattle.inter_writer.specs.declared.frame_blocks.PredictionSymbols.{PredictionSymbols}
@@ -41,12 +40,10 @@ draw_inter_frame_block f s = do
   prediction ← draw_prediction start.is_inter f s
   stay (record { start = start; prediction = prediction })
 
-abbrev pub draw_by_kind : FrameKind → Header → Modes → ContextLists → List BlockInfo → List BlockInfo → BlockAt → Drawn BlockSymbols
-draw_by_kind (frame.Inter fields) header modes contexts earlier before at =
-    let f : InterFrame = record { header = header; fields = fields; modes = modes; contexts = contexts } in
-    draw_inter_frame_block f (sources_of f earlier before at)
-draw_by_kind _ header modes contexts earlier before at = draw_intra_frame_block header modes at.size
+abbrev pub draw_by_kind : FrameKind → BlockSources → List BlockInfo → BlockAt → Drawn BlockSymbols
+draw_by_kind (frame.Inter fields) by earlier at = draw_inter_frame_block (inter_frame by fields) (sources_of (inter_frame by fields) earlier by.vectors at)
+draw_by_kind _ by earlier at = draw_intra_frame_block by.header by.modes at.size
 
 -- a block of any frame, by the same as it is read by
-unfoldable pub draw_block : Header → Modes → ContextLists → List BlockInfo → List BlockInfo → BlockAt → Drawn BlockSymbols
-draw_block header modes contexts earlier before at = draw_by_kind header.kind header modes contexts earlier before at
+unfoldable pub draw_block : BlockSources → List BlockInfo → BlockAt → Drawn BlockSymbols
+draw_block by earlier at = draw_by_kind by.header.kind by earlier at

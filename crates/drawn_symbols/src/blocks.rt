@@ -4,11 +4,10 @@ ghost use Rattle.std.specs.Prelude.{◌≡◌, ◌<◌, ◌≤◌, ℕ, IfSome};
 ghost use Rattle.std.specs.List.{All};
 ghost use Rattle.std.specs.Option.{option_copied};
 ghost use Rattle.frame_headers.specs.declared.header.FrameFilter.TheVariants.{Switchable};
-ghost use Rattle.prob_contexts.specs.ProbLists.{lists_of};
 ghost use Rattle.mv_prediction.specs.Candidates.{sign_biases};
 ghost use Rattle.mv_prediction.specs.Code.{HasSmallVectors, IsSite, blocks_of};
 ghost use Rattle.vp9_types.specs.Maps.{Map};
-ghost use Rattle.inter_modes.specs.Code.{MaySearch, frame_in, sources_in};
+ghost use Rattle.inter_modes.specs.Code.{block_sources_in, MaySearch, frame_in, sources_in};
 ghost use Rattle.inter_modes.specs.ModeInfo.{sources_of};
 ghost use Rattle.mode_writer.specs.ModeFits.{CanLuma};
 ghost use Rattle.inter_writer.specs.declared.frame_blocks.PredictionSymbols.TheVariants.{Intra};
@@ -152,8 +151,8 @@ pub fn draw_block<N: Neighbours, Q: Neighbours>(
     requires held_before { IfSome (option_copied before) (λ q. Q.holds q at.row at.col) }
     requires small { All HasSmallVectors (N.blocks earlier.now) }
     requires small_before { All HasSmallVectors (blocks_of Q.blocks (option_copied before)) }
-    ensures drawn { IsDrawn (draw_block setting.now.header setting.now.modes (lists_of setting.now.contexts) (N.blocks earlier.now) (blocks_of Q.blocks (option_copied before.entry)) at) draws.old result draws.new }
-    ensures can { (ids : Map) → CanPut setting.now.header setting.now.modes (lists_of setting.now.contexts) ids (N.blocks earlier.now) (blocks_of Q.blocks (option_copied before.entry)) at result }
+    ensures drawn { (segments : Map) → IsDrawn (draw_block (block_sources_in setting.now segments (blocks_of Q.blocks (option_copied before.entry))) (N.blocks earlier.now) at) draws.old result draws.new }
+    ensures can { (segments : Map) → CanPut (block_sources_in setting.now segments (blocks_of Q.blocks (option_copied before.entry))) (N.blocks earlier.now) at result }
 {
     match &setting.header.kind {
         FrameKind::Inter(fields) => {

@@ -22,7 +22,7 @@ use Rattle.block_rebuild.specs.InterBlocks.{Rebuilding, predicted_part, put_inte
 use Rattle.inter_modes.specs.ModeInfo.{mode_info}
 use Rattle.inter_places.specs.Places.{place_of}
 use Rattle.vp9_types.specs.Syntax.{Syntax, broken}
-use Rattle.frame_state.specs.Sources.{FrameSources}
+use Rattle.frame_state.specs.Sources.{block_sources, FrameSources}
 use Rattle.block_rebuild.specs.Code.{HasReference, HasReferences}
 use Rattle.block_rebuild.specs.declared.references.Rebuilding as code
 use Rattle.frame_headers.specs.declared.header.FrameKind.TheVariants as frame
@@ -52,7 +52,7 @@ abbrev plain : List BlockInfo → TileSides → FrameMap → PlainTile
 plain blocks sides map = record { blocks = blocks; sides = sides; map = map }
 
 abbrev modes_of : FrameSources → List BlockInfo → BlockAt → Syntax ℕ Rule (Settled (Result BlockInfo Rule))
-modes_of by blocks at = mode_info by.header by.modes by.contexts by.past.segments blocks by.past.vectors at
+modes_of by blocks at = mode_info (block_sources by) blocks at
 
 pub block_read : (by : FrameSources) (put : Rebuilding) (at : BlockAt) (blocks : List BlockInfo) (sides after_it : TileSides) (old new : FrameMap)
     (a b d : Standing) (info : BlockInfo) (planned : PlannedBlock)

@@ -31,7 +31,7 @@ use Rattle.frame_state.specs.Code.{settled_of, read_whole, column_as_listed, col
 use Rattle.block_rebuild.specs.RebuiltBlocks.{put_planned}
 use Rattle.block_rebuild.specs.InterBlocks.{Rebuilding}
 use Rattle.frame_decoder.specs.DecodedFrames.{put_more, raw}
-use Rattle.frame_state.specs.Sources.{FrameSources}
+use Rattle.frame_state.specs.Sources.{block_sources, FrameSources}
 use Rattle.frame_state.specs.FrameReading.{TileRead, infos, read_block, read_walk, FrameRead, begun, column_after, column_at, read_tile, read_tile_of, with_tile}
 use Rattle.frame_state.specs.declared.tile_places.TilePlaces.{TilePlaces}
 use Rattle.vp9_types.specs.Sizes.{superblocks_along}
@@ -64,7 +64,7 @@ block_seen : (by : FrameSources) (put : Rebuilding) (m : FrameMap) (at : BlockAt
 unfolding plain_block read_block settle mapped
 block_seen by put m at s =
     let seen = view put m in
-    mapped_after seen (mode_info by.header by.modes by.contexts by.past.segments (infos (s.earlier ++ s.blocks)) by.past.vectors at) _ _
+    mapped_after seen (mode_info (block_sources by) (infos (s.earlier ++ s.blocks)) at) _ _
     (λ told. mapped_after seen (lifted told) _ _
     (λ info. mapped_after seen (residues.read_block by.header by.contexts at.tile_from info s.sides) _ _
     (λ read. ap settle (state_more put m s read.0 read.1))))

@@ -31,7 +31,7 @@ use Rattle.frame_state.specs.KeptColumns.{AreColumnsOf, HasStarts, blocks_of}
 use Rattle.frame_state.specs.Code.{column_as_listed, column_of_code, counts_if, sources_of}
 use Rattle.frame_state.specs.Past.{IsPastOf, past_of}
 use Rattle.frame_state.specs.FrameReading.{FrameInput, FrameRead}
-use Rattle.frame_state.specs.Sources.{FrameSources, adapts, frame_is_intra}
+use Rattle.frame_state.specs.Sources.{block_sources, FrameSources, adapts, frame_is_intra}
 use Rattle.frame_state.specs.declared.columns.TileColumn.{TileColumn}
 use Rattle.frame_state.specs.declared.halt.Halt.{Halt}
 use Rattle.frame_state.specs.declared.halt.Halt.TheVariants as halt
@@ -50,7 +50,7 @@ pub record PlainTile : Type 0 where
 
 unfoldable pub plain_block : FrameSources → Rebuilding → BlockAt → PlainTile → Syntax ℕ Rule (Settled PlainTile)
 plain_block by put at s =
-    counting.◌>>=◌ (mode_info by.header by.modes by.contexts by.past.segments s.blocks by.past.vectors at) (λ told.
+    counting.◌>>=◌ (mode_info (block_sources by) s.blocks at) (λ told.
     counting.◌>>=◌ (lifted told) (λ info.
     counting.◌>>=◌ (residues.read_block by.header by.contexts at.tile_from info s.sides) (λ read.
     settle (record { blocks = s.blocks ++ read.0.info ∷ []; sides = read.1; map = put_planned put read.0 s.map }))))

@@ -31,7 +31,7 @@ use Rattle.residue_syntax.specs.Sides.{Sides}
 use Rattle.residue_syntax.specs.declared.sides.TileSides.{TileSides}
 use Rattle.inter_modes.specs.ModeInfo.{mode_info}
 use Rattle.mode_syntax.specs.Walk.{Walk, decode_tile}
-use Rattle.frame_state.specs.Sources.{FramePast, FrameSources, frame_is_intra}
+use Rattle.frame_state.specs.Sources.{block_sources, FramePast, FrameSources, frame_is_intra}
 use Rattle.frame_state.specs.TilePlaces.{column_of, tile_places, tile_superblocks}
 use Rattle.frame_state.specs.declared.tile_places.TilePlaces.{TilePlaces}
 
@@ -50,7 +50,7 @@ infos blocks = map (λ b. b.info) blocks
 -- decode_block
 unfoldable pub read_block : FrameSources → BlockAt → TileRead → Syntax ℕ Rule (Settled TileRead)
 read_block by at s =
-    counting.◌>>=◌ (mode_info by.header by.modes by.contexts by.past.segments (infos (s.earlier ++ s.blocks)) by.past.vectors at) (λ told.
+    counting.◌>>=◌ (mode_info (block_sources by) (infos (s.earlier ++ s.blocks)) at) (λ told.
     counting.◌>>=◌ (lifted told) (λ info.
     counting.◌>>=◌ (residues.read_block by.header by.contexts at.tile_from info s.sides) (λ read.
     settle (record { earlier = s.earlier; blocks = s.blocks ++ read.0 ∷ []; sides = read.1 }))))

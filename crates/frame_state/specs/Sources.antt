@@ -7,6 +7,7 @@ use Rattle.frame_headers.specs.declared.header.FrameKind.TheVariants.{Key, Intra
 use Rattle.frame_headers.specs.declared.header.Header.{Header}
 use Rattle.prob_contexts.specs.ProbLists.{ContextLists}
 use Rattle.block_plan.specs.declared.block.BlockInfo.{BlockInfo}
+use Rattle.inter_modes.specs.ModeInfo.{BlockSources}
 
 -- what the frames before a frame leave to the reading of it: the contexts that it starts from, the map of segments that it starts
 -- with, and the blocks whose vectors its own may take, of which there are none where that isn't allowed
@@ -21,6 +22,10 @@ pub record FrameSources : Type 0 where
   pub modes : Modes
   pub contexts : ContextLists
   pub past : FramePast
+
+-- what its blocks are read by
+abbrev pub block_sources : FrameSources → BlockSources
+block_sources by = record { header = by.header; modes = by.modes; contexts = by.contexts; segments = by.past.segments; vectors = by.past.vectors }
 
 -- FrameIsIntra (7.2)
 abbrev pub frame_is_intra : FrameKind → Bool

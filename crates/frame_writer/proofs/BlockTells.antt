@@ -25,7 +25,7 @@ use Rattle.residue_syntax.specs.declared.sides.TileSides.{TileSides}
 use Rattle.inter_modes.specs.ModeInfo.{mode_info}
 use Rattle.frame_state.specs.KeptColumns.{limit_of}
 use Rattle.frame_state.specs.FrameReading.{TileRead, infos, read_block}
-use Rattle.frame_state.specs.Sources.{FrameSources}
+use Rattle.frame_state.specs.Sources.{block_sources, FrameSources}
 use Rattle.inter_writer.specs.SaidBlocks.{IsSaid, IsSaidBy}
 use Rattle.inter_writer.specs.declared.frame_blocks.BlockSymbols.{BlockSymbols}
 use Rattle.inter_writer.specs.declared.frame_blocks.PredictionSymbols.{PredictionSymbols}
@@ -45,7 +45,7 @@ abbrev pub before_it : TileRead → List BlockInfo
 before_it s = infos (s.earlier ++ s.blocks)
 
 abbrev modes_of : FrameSources → BlockAt → TileRead → Syntax ℕ Rule (Settled (Result BlockInfo Rule))
-modes_of by at s = mode_info by.header by.modes by.contexts by.past.segments (before_it s) by.past.vectors at
+modes_of by at s = mode_info (block_sources by) (before_it s) at
 
 -- ---- what is put
 
@@ -76,7 +76,7 @@ residue_breaks by at s old mid new info rule modes residue =
 -- ---- what is said
 
 modes_are : (by : FrameSources) (kind : FrameKind) (earlier : List BlockInfo) (at : BlockAt) (symbols : BlockSymbols) (p : PredictionSymbols) (r : Result BlockInfo Rule) → symbols.prediction ≡ p
-    → IsSaidBy kind by.header by.modes by.contexts earlier by.past.vectors at symbols.start symbols.prediction r → modes_by kind by earlier at symbols ≡ as_said r
+    → IsSaidBy kind (block_sources by) earlier at symbols.start symbols.prediction r → modes_by kind by earlier at symbols ≡ as_said r
 modes_are by Key earlier at symbols (Intra p) r is said = rw is (sym (ap as_said (rw is at said)))
 modes_are by Key earlier at symbols (Inter q) r is said = absurd (rw is at said)
 modes_are by IntraOnly earlier at symbols (Intra p) r is said = rw is (sym (ap as_said (rw is at said)))
@@ -84,7 +84,7 @@ modes_are by IntraOnly earlier at symbols (Inter q) r is said = absurd (rw is at
 modes_are by (InterFrame fields) earlier at symbols p r is said = sym (ap as_said said)
 
 pub modes_are_said : (by : FrameSources) (earlier : List BlockInfo) (at : BlockAt) (symbols : BlockSymbols) (r : Result BlockInfo Rule)
-    → IsSaid by.header by.modes by.contexts earlier by.past.vectors at symbols r → modes_said by earlier at symbols ≡ as_said r
+    → IsSaid (block_sources by) earlier at symbols r → modes_said by earlier at symbols ≡ as_said r
 modes_are_said by earlier at symbols r said = modes_are by by.header.kind earlier at symbols symbols.prediction r refl said
 
 -- ---- what the code holds
@@ -103,7 +103,7 @@ sides_held s h holds = ap (λ (h : TileHeld). h.sides) holds
 
 -- the same, of what the code holds
 abbrev pub modes_by_blocks : FrameSources → BlockAt → List BlockInfo → Syntax ℕ Rule (Settled (Result BlockInfo Rule))
-modes_by_blocks by at blocks = mode_info by.header by.modes by.contexts by.past.segments blocks by.past.vectors at
+modes_by_blocks by at blocks = mode_info (block_sources by) blocks at
 
 abbrev pub residue_by_sides : FrameSources → BlockAt → BlockInfo → TileSides → Syntax ℕ Rule (Settled (PlannedBlock × TileSides))
 residue_by_sides by at info sides = residues.read_block by.header by.contexts at.tile_from info sides
@@ -131,7 +131,7 @@ nothing_told speaker by at s bools h t holds none = rw (said_from speaker by at 
 pub record HasModes {T : Type 0} (speaker : Speaker T) (by : FrameSources) (at : BlockAt) (h : TileHeld) (t : T) (r : Result BlockInfo Rule) (next : T) (old mid : Part) : Type 0 where
   pub symbols : BlockSymbols
   pub told : speaker.block by h.blocks at t ≡ Some (symbols, next)
-  pub are : IsSaid by.header by.modes by.contexts h.blocks by.past.vectors at symbols r
+  pub are : IsSaid (block_sources by) h.blocks at symbols r
   pub put : PutsValue (modes_by_blocks by at h.blocks) old r mid
 
 modes_of_state : {T : Type 0} (speaker : Speaker T) (by : FrameSources) (at : BlockAt) (s : TileRead) (h : TileHeld) (t next : T) (r : Result BlockInfo Rule) (old mid : Part) → held_of s ≡ h

@@ -15,7 +15,7 @@ use Rattle.residue_syntax.specs.declared.sides.TileSides.{TileSides}
 use Rattle.inter_modes.specs.ModeInfo.{InterFrame, block_with, sources_of}
 use Rattle.inter_modes.specs.declared.starts.BlockStart.{BlockStart}
 use Rattle.frame_state.specs.FrameReading.{TileRead, infos}
-use Rattle.frame_state.specs.Sources.{FrameSources}
+use Rattle.frame_state.specs.Sources.{block_sources, FrameSources}
 use Rattle.inter_writer.specs.SaidBlocks as inter
 use Rattle.inter_writer.specs.declared.frame_blocks.BlockSymbols.{BlockSymbols}
 use Rattle.inter_writer.specs.declared.frame_blocks.PredictionSymbols.{PredictionSymbols}
@@ -61,7 +61,7 @@ with_block s read = record { earlier = s.earlier; blocks = s.blocks ++ read.0 �
 
 -- its modes as they are spelled by the blocks before it, and its levels by the sides
 abbrev pub modes_spelled : FrameSources → BlockAt → TileRead → BlockInfo → BoolList
-modes_spelled by at s info = spelled_mode_info by.header by.modes by.contexts (infos (s.earlier ++ s.blocks)) by.past.vectors at info
+modes_spelled by at s info = spelled_mode_info (block_sources by) (infos (s.earlier ++ s.blocks)) at info
 
 abbrev pub levels_spelled : FrameSources → TileRead → BlockInfo → BlockLevels → BoolList
 levels_spelled by s info levels = spelled_residue by.header by.contexts info levels s.sides

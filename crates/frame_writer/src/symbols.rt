@@ -15,6 +15,7 @@ ghost use Rattle.inter_writer.specs.InterFits.{CanPut};
 ghost use Rattle.residue_writer.specs.ResidueFits.{CanPutBlock};
 ghost use Rattle.frame_writer.specs.FrameSymbols.{Speaker};
 ghost use Rattle.frame_writer.specs.Code.{Tells, TellsInto};
+ghost use Rattle.frame_state.specs.Sources.{block_sources};
 
 use block_plan::{BlockAt, BlockGrid, BlockInfo};
 use frame_state::FrameSources;
@@ -50,7 +51,7 @@ pub trait FrameSymbols {
         requires to { at.tile_to ≡ grid.now.to }
         requires small { AllSmall grid.now.blocks }
         ensures tells { Tells (speaker.block (sources_of by.now) grid.now.blocks at self.old) result self.new }
-        ensures can { IfSome result (CanPut by.now.setting.header by.now.setting.modes (lists_of by.now.setting.contexts) (sources_of by.now).past.segments grid.now.blocks (sources_of by.now).past.vectors at) };
+        ensures can { IfSome result (CanPut (block_sources (sources_of by.now)) grid.now.blocks at) };
 
     /// The levels of a block whose modes are known. A skipped block has none to tell. It answers whether there are any to tell.
     fn levels(&mut self, by: &FrameSources<'_>, block: &BlockInfo, levels: &mut BlockLevels) -> bool

@@ -32,7 +32,7 @@ use Rattle.mv_syntax.specs.Differences.{new_vector}
 use Rattle.block_geometry.specs.Quarters.{starting_quarters, with_part}
 use Rattle.block_geometry.specs.BlockSizes.{is_below_8x8}
 use Rattle.inter_contexts.specs.Contexts.{filter_context}
-use Rattle.inter_modes.specs.ModeInfo.{InterFrame, sources_of, block_mode, interp_filter, whole_prediction, quarters_prediction, whole_block, block_of_quarters, inter_prediction, block_with, checked_references, inter_block, intra_block, inter_frame_block, least_before, inter_frame_mode_info, intra_frame_block, by_kind, mode_info}
+use Rattle.inter_modes.specs.ModeInfo.{BlockSources, InterFrame, sources_of, block_mode, interp_filter, whole_prediction, quarters_prediction, whole_block, block_of_quarters, inter_prediction, block_with, checked_references, inter_block, intra_block, inter_frame_block, least_before, inter_frame_mode_info, intra_frame_block, by_kind, mode_info}
 use Rattle.inter_modes.specs.BlockStarts.{block_start}
 use Rattle.inter_modes.specs.BlockVectors.{Sources, inter_mode, vector_of_mode, near_of_block, near_of_quarter, block_vector, with_second, block_vectors, second_best, best_mv, row_at, of_list, quarter_vector, quarter_vectors, quarter, before_of, unread, vectors_of, each_quarter, quarters, ◌>>?◌}
 use Rattle.inter_modes.specs.declared.quarters.Quarter.{Quarter}
@@ -191,9 +191,12 @@ unfolding intra_frame_block
 same_intra_frame header modes contexts at xs ys same first last = λ i.
     same_modes header modes contexts at xs ys same first last i >>= λ block. settle (Ok block)
 
+abbrev pub sources_by : Header → Modes → ContextLists → Map → List BlockInfo → BlockSources
+sources_by header modes contexts ids before = record { header = header; modes = modes; contexts = contexts; segments = ids; vectors = before }
+
 by_kind_same : (kind : FrameKind) (header : Header) (modes : Modes) (contexts : ContextLists) (ids : Map) (at : BlockAt) (xs ys xs_before ys_before : List BlockInfo)
     → SameIn at.tile_from at.tile_to xs ys → SameIn at.tile_from at.tile_to xs_before ys_before → at.tile_from ≤ at.col → at.col < at.tile_to
-    → by_kind kind header modes contexts ids xs xs_before at ≡ by_kind kind header modes contexts ids ys ys_before at
+    → by_kind kind (sources_by header modes contexts ids xs_before) xs at ≡ by_kind kind (sources_by header modes contexts ids ys_before) ys at
 by_kind_same (frame.Inter fields) header modes contexts ids at xs ys xs_before ys_before same same_before first last =
     same_inter_frame (record { header = header; fields = fields; modes = modes; contexts = contexts }) ids at xs ys xs_before ys_before same same_before first last
 by_kind_same frame.Key header modes contexts ids at xs ys xs_before ys_before same same_before first last =
@@ -203,7 +206,7 @@ by_kind_same frame.IntraOnly header modes contexts ids at xs ys xs_before ys_bef
 
 pub same_mode_info : (header : Header) (modes : Modes) (contexts : ContextLists) (ids : Map) (at : BlockAt) (xs ys xs_before ys_before : List BlockInfo)
     → SameIn at.tile_from at.tile_to xs ys → SameIn at.tile_from at.tile_to xs_before ys_before → at.tile_from ≤ at.col → at.col < at.tile_to
-    → mode_info header modes contexts ids xs xs_before at ≡ mode_info header modes contexts ids ys ys_before at
+    → mode_info (sources_by header modes contexts ids xs_before) xs at ≡ mode_info (sources_by header modes contexts ids ys_before) ys at
 unfolding mode_info
 same_mode_info header modes contexts ids at xs ys xs_before ys_before same same_before first last =
     by_kind_same header.kind header modes contexts ids at xs ys xs_before ys_before same same_before first last

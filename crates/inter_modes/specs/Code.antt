@@ -2,6 +2,7 @@
 use Rattle.std.specs.Prelude.{◌≡◌, ℕ, ◌<◌, ◌≤◌, Bool, true, List, [], ◌∷◌, Option, IfSome, Ok, slice_index}
 use Rattle.std.specs.List.{All}
 use Rattle.std.specs.Option.{option_copied}
+use Rattle.vp9_types.specs.Maps.{Map}
 use Rattle.vp9_types.specs.Syntax.{Syntax}
 use Rattle.vp9_types.specs.declared.block.BlockSize.{BlockSize}
 use Rattle.vp9_types.specs.declared.block.BlockSize.TheVariants.{B4x4, B4x8, B8x4}
@@ -18,6 +19,7 @@ use Rattle.frame_headers.specs.declared.header.InterFields.{InterFields}
 use Rattle.frame_headers.specs.declared.header.References as header
 use Rattle.prob_contexts.specs.ProbLists.{lists_of, vector_lists}
 use Rattle.block_geometry.specs.Parts.{part_inside}
+use Rattle.frame_setting.specs.declared.setting.FrameSetting.{FrameSetting}
 use Rattle.block_plan.specs.BlockMvs.{vector_at}
 use Rattle.block_plan.specs.declared.block.BlockAt.{BlockAt}
 use Rattle.block_plan.specs.declared.block.BlockInfo.{BlockInfo}
@@ -31,7 +33,7 @@ use Rattle.block_plan.specs.SegmentMaps.{SegmentIds, id_map, least_id}
 use Rattle.inter_contexts.specs.BlockReferences.{reference_in, second_in_range}
 use Rattle.counting_reader.specs.Counting.{Settled, settle, ◌>>=◌}
 use Rattle.inter_modes.specs.IntraBlocks.{intra_mode}
-use Rattle.inter_modes.specs.ModeInfo.{InterFrame}
+use Rattle.inter_modes.specs.ModeInfo.{BlockSources, InterFrame}
 use Rattle.inter_modes.specs.BlockVectors.{Quarters, Sources, before_of, best_mv, nothing_before, quarter, row_at, ◌>>?◌}
 use Rattle.inter_modes.specs.declared.frame_blocks.Frame.{Frame}
 use Rattle.inter_modes.specs.declared.quarters.Quarter.{Quarter}
@@ -60,6 +62,16 @@ frame_in f = record {
   fields = f.fields.now;
   modes = f.setting.now.modes;
   contexts = lists_of f.setting.now.contexts;
+}
+
+-- what the blocks of any frame are read by, as the code holds it
+abbrev pub block_sources_in : FrameSetting → Map → List BlockInfo → BlockSources
+block_sources_in setting segments vectors = record {
+  header = setting.header;
+  modes = setting.modes;
+  contexts = lists_of setting.contexts;
+  segments = segments;
+  vectors = vectors;
 }
 
 -- what a block's vectors are read by, as the code holds it

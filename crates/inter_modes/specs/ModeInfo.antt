@@ -1,8 +1,7 @@
 -- What a block reads (6.4.5, 6.4.11 and 6.4.16 of the standard: mode_info, inter_frame_mode_info, inter_block_mode_info).
-use Rattle.std.specs.Prelude.{ℕ, ◌*◌, Bool, List, [], ◌∷◌, Option, Result, Ok, Err, drop, slice_index_or, nat_eq, if◌then◌else◌}
+use Rattle.std.specs.Prelude.{ℕ, ◌*◌, Bool, List, [], ◌∷◌, Option, Result, Ok, drop, slice_index_or, nat_eq, if◌then◌else◌}
 use Rattle.vp9_types.specs.Maps.{Map}
 use Rattle.vp9_types.specs.Syntax.{Syntax}
-use Rattle.vp9_types.specs.declared.block.BlockSize.{BlockSize}
 use Rattle.vp9_types.specs.declared.block.InterMode.{InterMode}
 use Rattle.vp9_types.specs.declared.block.InterMode.TheVariants.{Zero}
 use Rattle.vp9_types.specs.declared.block.InterpFilter.{InterpFilter}
@@ -35,7 +34,6 @@ use Rattle.counting_reader.specs.CountedSymbols.{counted_tree}
 use Rattle.mode_syntax.specs.Elements.{skips_segment}
 use Rattle.mode_syntax.specs.IntraModeInfo.{intra_frame_mode_info}
 use Rattle.mv_prediction.specs.Candidates.{mode_context, sign_biases}
-use Rattle.mv_prediction.specs.declared.search.MvSearch.{MvSearch}
 use Rattle.mv_prediction.specs.declared.search.SignBiases.{SignBiases}
 use Rattle.block_plan.specs.SegmentMaps.{least_id}
 use Rattle.inter_contexts.specs.Contexts.{filter_context}
@@ -179,11 +177,22 @@ intra_frame_block header modes contexts earlier at = do
   block ← intra_frame_mode_info header modes contexts earlier at
   settle (Ok block)
 
-abbrev pub by_kind : FrameKind → Header → Modes → ContextLists → Map → List BlockInfo → List BlockInfo → BlockAt → Block
-by_kind (frame.Inter fields) header modes contexts ids earlier before at =
-    inter_frame_mode_info (record { header = header; fields = fields; modes = modes; contexts = contexts }) ids earlier before at
-by_kind _ header modes contexts ids earlier before at = intra_frame_block header modes contexts earlier at
+-- What the blocks of any frame are read by: its header, the modes and contexts of its compressed header, the map of segments
+-- before it, and the blocks of the frame before, of which there are none where its vectors aren't used.
+pub record BlockSources : Type 0 where
+  pub header : Header
+  pub modes : Modes
+  pub contexts : ContextLists
+  pub segments : Map
+  pub vectors : List BlockInfo
 
--- mode_info: the block, or the rule that it breaks, behind what it read
-unfoldable pub mode_info : Header → Modes → ContextLists → Map → List BlockInfo → List BlockInfo → BlockAt → Block
-mode_info header modes contexts ids earlier before at = by_kind header.kind header modes contexts ids earlier before at
+abbrev pub inter_frame : BlockSources → InterFields → InterFrame
+inter_frame by fields = record { header = by.header; fields = fields; modes = by.modes; contexts = by.contexts }
+
+abbrev pub by_kind : FrameKind → BlockSources → List BlockInfo → BlockAt → Block
+by_kind (frame.Inter fields) by earlier at = inter_frame_mode_info (inter_frame by fields) by.segments earlier by.vectors at
+by_kind _ by earlier at = intra_frame_block by.header by.modes by.contexts earlier at
+
+-- mode_info, behind the blocks before it: the block, or the rule that it breaks, behind what it read
+unfoldable pub mode_info : BlockSources → List BlockInfo → BlockAt → Block
+mode_info by earlier at = by_kind by.header.kind by earlier at

@@ -11,7 +11,7 @@ ghost use Rattle.counting_reader.specs.Code.{Reads};
 ghost use Rattle.mv_prediction.specs.Candidates.{mode_context, sign_biases};
 ghost use Rattle.mv_prediction.specs.Code.{HasSmallVectors, IsSite, blocks_of};
 ghost use Rattle.block_plan.specs.SegmentMaps.{id_map};
-ghost use Rattle.inter_modes.specs.Code.{MaySearch, IsBlockAt, AreInRange, PredictsInRange, RefersInRange, frame_in, least_of, sources_in};
+ghost use Rattle.inter_modes.specs.Code.{MaySearch, IsBlockAt, AreInRange, PredictsInRange, RefersInRange, block_sources_in, frame_in, least_of, sources_in};
 ghost use Rattle.inter_modes.specs.ModeInfo.{checked_references, inter_block, intra_block, inter_frame_block, inter_frame_mode_info, intra_frame_block, mode_info, block_with};
 
 use crate::blocks::{FilterSource, read_inter_prediction};
@@ -250,7 +250,7 @@ pub fn mode_info<N: Neighbours, Q: Neighbours, const COUNTS: bool>(
     requires held_before { IfSome (option_copied before) (λ q. Q.holds q at.row at.col) }
     requires small { All HasSmallVectors (N.blocks earlier.now) }
     requires small_before { All HasSmallVectors (blocks_of Q.blocks (option_copied before)) }
-    ensures read { Reads (mode_info setting.now.header setting.now.modes (lists_of setting.now.contexts) (id_map map.now) (N.blocks earlier.now) (blocks_of Q.blocks (option_copied before.entry)) at) reader.old result reader.new }
+    ensures read { Reads (mode_info (block_sources_in setting.now (id_map map.now) (blocks_of Q.blocks (option_copied before.entry))) (N.blocks earlier.now) at) reader.old result reader.new }
     ensures block { IfOk result (IsBlockAt at) }
     ensures in_range { IfOk result (λ b. RefersInRange setting.now.header b.prediction) }
 {

@@ -15,5 +15,6 @@ ghost use Rattle.inter_modes.specs.ModeInfo.{mode_info};
 pub fn blocks_are_of_their_columns()
     ensures { (header : Header) (modes : Modes) (contexts : ContextLists) (ids : Map) (at : BlockAt) (xs ys xs_before ys_before : List BlockInfo) →
         SameIn at.tile_from at.tile_to xs ys → SameIn at.tile_from at.tile_to xs_before ys_before → at.tile_from ≤ at.col → at.col < at.tile_to →
-        mode_info header modes contexts ids xs xs_before at ≡ mode_info header modes contexts ids ys ys_before at }
+        mode_info (record { header = header; modes = modes; contexts = contexts; segments = ids; vectors = xs_before }) xs at
+        ≡ mode_info (record { header = header; modes = modes; contexts = contexts; segments = ids; vectors = ys_before }) ys at }
 {}

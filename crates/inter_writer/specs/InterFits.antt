@@ -1,7 +1,6 @@
 -- What blocks of inter frames can say.
 use Rattle.std.specs.Prelude.{◌≡◌, ℕ, ◌≤◌, Bool, true, false, ◌&&◌, not, List, Option, Some, None, IfOk}
 use Rattle.std.specs.Option.{is_some}
-use Rattle.vp9_types.specs.Maps.{Map}
 use Rattle.vp9_types.specs.declared.block.BlockSize.{BlockSize}
 use Rattle.vp9_types.specs.declared.block.Modes.{Modes}
 use Rattle.vp9_types.specs.declared.block.ReferenceMode.{ReferenceMode}
@@ -16,7 +15,6 @@ use Rattle.frame_headers.specs.declared.header.Header.{Header}
 use Rattle.frame_headers.specs.declared.segments.FeatureReference.{FeatureReference}
 use Rattle.frame_headers.specs.declared.segments.MapUpdate.{MapUpdate}
 use Rattle.frame_headers.specs.declared.segments.Segmentation.{Segmentation}
-use Rattle.prob_contexts.specs.ProbLists.{ContextLists}
 use Rattle.block_plan.specs.declared.block.BlockAt.{BlockAt}
 use Rattle.block_plan.specs.declared.block.BlockInfo.{BlockInfo}
 use Rattle.block_plan.specs.declared.block.Prediction.TheVariants as prediction
@@ -24,7 +22,7 @@ use Rattle.block_plan.specs.declared.block.References.{References}
 use Rattle.mode_syntax.specs.Elements.{skips_segment}
 use Rattle.mv_prediction.specs.declared.search.SignBiases.{SignBiases}
 use Rattle.inter_contexts.specs.BlockReferences.{fixed_of, variable_by, with_fixed, single, of_feature, in_range_or_rule}
-use Rattle.inter_modes.specs.ModeInfo.{InterFrame, sources_of, block_with, least_before}
+use Rattle.inter_modes.specs.ModeInfo.{BlockSources, inter_frame, InterFrame, sources_of, block_with, least_before}
 use Rattle.inter_modes.specs.BlockVectors.{Sources}
 use Rattle.inter_modes.specs.BlockStarts.{segment_of, segment_reference, is_inter_feature}
 use Rattle.inter_modes.specs.declared.starts.SegmentOf.{SegmentOf}
@@ -134,13 +132,11 @@ CanPutIntra header modes at start (Intra p) =
     (start.is_inter ≡ false) × CanPutIntraFrame header modes at (block_with at start (prediction.Intra p))
 CanPutIntra header modes at start (Inter q) = ⊥
 
-abbrev pub CanPutBy : FrameKind → Header → Modes → ContextLists → Map → List BlockInfo → List BlockInfo → BlockAt → BlockStart → PredictionSymbols → Type 0
-CanPutBy (frame.Inter fields) header modes contexts ids earlier before at start p =
-    let f : InterFrame = record { header = header; fields = fields; modes = modes; contexts = contexts } in
-    CanPutInterFrame f (sources_of f earlier before at) (least_before header ids at) start p
-CanPutBy _ header modes contexts ids earlier before at start p = CanPutIntra header modes at start p
+abbrev pub CanPutBy : FrameKind → BlockSources → List BlockInfo → BlockAt → BlockStart → PredictionSymbols → Type 0
+CanPutBy (frame.Inter fields) by earlier at start p =
+    CanPutInterFrame (inter_frame by fields) (sources_of (inter_frame by fields) earlier by.vectors at) (least_before by.header by.segments at) start p
+CanPutBy _ by earlier at start p = CanPutIntra by.header by.modes at start p
 
 -- a block of any frame (6.4.5: mode_info), by the same as it is read by
-abbrev pub CanPut : Header → Modes → ContextLists → Map → List BlockInfo → List BlockInfo → BlockAt → BlockSymbols → Type 0
-CanPut header modes contexts ids earlier before at symbols =
-    CanPutBy header.kind header modes contexts ids earlier before at symbols.start symbols.prediction
+abbrev pub CanPut : BlockSources → List BlockInfo → BlockAt → BlockSymbols → Type 0
+CanPut by earlier at symbols = CanPutBy by.header.kind by earlier at symbols.start symbols.prediction

@@ -1,17 +1,14 @@
 -- The block that its symbols say (6.4.11 and 6.4.16 of the standard: inter_frame_mode_info, inter_block_mode_info).
 use Rattle.std.specs.Prelude.{◌≡◌, List, Result, Ok}
 use Rattle.vp9_types.specs.Results.{◌>>=◌}
-use Rattle.vp9_types.specs.declared.block.Modes.{Modes}
 use Rattle.vp9_types.specs.declared.rule.Rule.{Rule}
 use Rattle.frame_headers.specs.declared.header.FrameKind.{FrameKind}
 use Rattle.frame_headers.specs.declared.header.FrameKind.TheVariants as frame
-use Rattle.frame_headers.specs.declared.header.Header.{Header}
-use Rattle.prob_contexts.specs.ProbLists.{ContextLists}
 use Rattle.block_plan.specs.declared.block.BlockAt.{BlockAt}
 use Rattle.block_plan.specs.declared.block.BlockInfo.{BlockInfo}
 use Rattle.block_plan.specs.declared.block.Prediction.TheVariants as prediction
 use Rattle.inter_contexts.specs.BlockReferences.{in_range_or_rule}
-use Rattle.inter_modes.specs.ModeInfo.{InterFrame, sources_of, block_with}
+use Rattle.inter_modes.specs.ModeInfo.{BlockSources, inter_frame, InterFrame, sources_of, block_with}
 use Rattle.inter_modes.specs.BlockVectors.{Sources}
 use Rattle.inter_modes.specs.declared.starts.BlockStart.{BlockStart}
 use Rattle.vector_writer.specs.SaidVectors.{inter_said}
@@ -37,11 +34,9 @@ IsSaidIntra at start (Intra p) r = r ≡ Ok (block_with at start (prediction.Int
 IsSaidIntra at start (Inter q) r = ⊥
 
 -- a block of any frame
-abbrev pub IsSaidBy : FrameKind → Header → Modes → ContextLists → List BlockInfo → List BlockInfo → BlockAt → BlockStart → PredictionSymbols → Result BlockInfo Rule → Type 0
-IsSaidBy (frame.Inter fields) header modes contexts earlier before at start p r =
-    let f : InterFrame = record { header = header; fields = fields; modes = modes; contexts = contexts } in
-    r ≡ block_said f (sources_of f earlier before at) start p
-IsSaidBy _ header modes contexts earlier before at start p r = IsSaidIntra at start p r
+abbrev pub IsSaidBy : FrameKind → BlockSources → List BlockInfo → BlockAt → BlockStart → PredictionSymbols → Result BlockInfo Rule → Type 0
+IsSaidBy (frame.Inter fields) by earlier at start p r = r ≡ block_said (inter_frame by fields) (sources_of (inter_frame by fields) earlier by.vectors at) start p
+IsSaidBy _ by earlier at start p r = IsSaidIntra at start p r
 
-abbrev pub IsSaid : Header → Modes → ContextLists → List BlockInfo → List BlockInfo → BlockAt → BlockSymbols → Result BlockInfo Rule → Type 0
-IsSaid header modes contexts earlier before at symbols r = IsSaidBy header.kind header modes contexts earlier before at symbols.start symbols.prediction r
+abbrev pub IsSaid : BlockSources → List BlockInfo → BlockAt → BlockSymbols → Result BlockInfo Rule → Type 0
+IsSaid by earlier at symbols r = IsSaidBy by.header.kind by earlier at symbols.start symbols.prediction r

@@ -11,7 +11,7 @@ ghost use Rattle.bool_encoder.specs.CountedBools.{PutsValue};
 ghost use Rattle.mv_prediction.specs.Candidates.{mode_context, sign_biases};
 ghost use Rattle.mv_prediction.specs.Code.{HasSmallVectors, IsSite, blocks_of};
 ghost use Rattle.block_plan.specs.SegmentMaps.{id_map};
-ghost use Rattle.inter_modes.specs.Code.{MaySearch, IsBlockAt, AreInRange, PredictsInRange, RefersInRange, frame_in, least_of, sources_in};
+ghost use Rattle.inter_modes.specs.Code.{block_sources_in, MaySearch, IsBlockAt, AreInRange, PredictsInRange, RefersInRange, frame_in, least_of, sources_in};
 ghost use Rattle.inter_modes.specs.ModeInfo.{checked_references, inter_block, intra_block, inter_frame_block, inter_frame_mode_info, intra_frame_block, mode_info, block_with, sources_of, least_before};
 ghost use Rattle.inter_contexts.specs.BlockReferences.{in_range_or_rule};
 ghost use Rattle.mode_writer.specs.ModeFits.{CanLuma, CanPutIntraFrame};
@@ -305,9 +305,9 @@ pub fn put_mode_info<N: Neighbours, Q: Neighbours>(
     requires held_before { IfSome (option_copied before) (λ q. Q.holds q block.now.at.row block.now.at.col) }
     requires small { All HasSmallVectors (N.blocks earlier.now) }
     requires small_before { All HasSmallVectors (blocks_of Q.blocks (option_copied before)) }
-    requires can { CanPut setting.now.header setting.now.modes (lists_of setting.now.contexts) (id_map map.now) (N.blocks earlier.now) (blocks_of Q.blocks (option_copied before)) block.now.at block.now.symbols }
-    ensures put { IfOk result (λ r. PutsValue (mode_info setting.now.header setting.now.modes (lists_of setting.now.contexts) (id_map map.now) (N.blocks earlier.now) (blocks_of Q.blocks (option_copied before.entry)) block.now.at) encoder.old r encoder.new) }
-    ensures is { IfOk result (λ r. IsSaid setting.now.header setting.now.modes (lists_of setting.now.contexts) (N.blocks earlier.now) (blocks_of Q.blocks (option_copied before.entry)) block.now.at block.now.symbols r) }
+    requires can { CanPut (block_sources_in setting.now (id_map map.now) (blocks_of Q.blocks (option_copied before))) (N.blocks earlier.now) block.now.at block.now.symbols }
+    ensures put { IfOk result (λ r. PutsValue (mode_info (block_sources_in setting.now (id_map map.now) (blocks_of Q.blocks (option_copied before.entry))) (N.blocks earlier.now) block.now.at) encoder.old r encoder.new) }
+    ensures is { IfOk result (λ r. IsSaid (block_sources_in setting.now (id_map map.now) (blocks_of Q.blocks (option_copied before.entry))) (N.blocks earlier.now) block.now.at block.now.symbols r) }
     ensures block { IfOk result (λ r. IfOk r (IsBlockAt block.now.at)) }
     ensures in_range { IfOk result (λ r. IfOk r (λ b. RefersInRange setting.now.header b.prediction)) }
 {

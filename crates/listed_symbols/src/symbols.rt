@@ -1,7 +1,6 @@
 //! What stands next in the lists.
 
 ghost use Rattle.std.specs.Prelude.{◌≡◌, ◌<◌, ◌≤◌, true};
-ghost use Rattle.prob_contexts.specs.ProbLists.{lists_of};
 ghost use Rattle.frame_state.specs.Code.{sources_of};
 ghost use Rattle.frame_state.specs.KeptColumns.{AllSmall};
 ghost use Rattle.frame_state.specs.Past.{IsPastOf};
@@ -49,7 +48,7 @@ fn can_put(by: &FrameSources<'_>, grid: &BlockGrid, at: BlockAt, symbols: &Block
     requires to { at.tile_to ≡ grid.now.to }
     requires small { AllSmall grid.now.blocks }
     ensures is { result ≡ can_put (sources_of by.now) grid.now.blocks at symbols.now }
-    ensures can { result ≡ true → CanPut by.now.setting.header by.now.setting.modes (lists_of by.now.setting.contexts) (sources_of by.now).past.segments grid.now.blocks (sources_of by.now).past.vectors at symbols.now }
+    ensures can { result ≡ true → CanPut (block_sources (sources_of by.now)) grid.now.blocks at symbols.now }
 {
     let setting = &by.setting;
     match &setting.header.kind {
@@ -74,6 +73,7 @@ fn last_told<'a>(symbols: &ListedSymbols<'a>) -> Option<ListedBlock<'a>>
 
 impl<'a> FrameSymbols for ListedSymbols<'a> {
     ghost use Rattle.listed_symbols.specs.ListedBlocks.{listed};
+    ghost use Rattle.frame_state.specs.Sources.{block_sources};
 
     ghost speaker = { listed };
 

@@ -17,7 +17,7 @@ use Rattle.residue_syntax.specs.Residues as residues
 use Rattle.residue_syntax.specs.declared.sides.TileSides.{TileSides}
 use Rattle.inter_modes.specs.ModeInfo.{mode_info}
 use Rattle.frame_state.specs.FrameReading.{infos}
-use Rattle.frame_state.specs.Sources.{FrameSources}
+use Rattle.frame_state.specs.Sources.{block_sources, FrameSources}
 use Rattle.column_plan.specs.Code.{HoldsWhole, block_pieces}
 use Rattle.column_plan.specs.PlannedBlocks.{planned_blocks, planned_from, total}
 use Rattle.column_plan.proofs.Held.{infos_are, one_more_planned, all_are}
@@ -39,7 +39,7 @@ abbrev planned : List PlannedBlock → TileSides → PlanTile
 planned blocks sides = record { blocks = blocks; sides = sides }
 
 abbrev modes_of : FrameSources → List BlockInfo → BlockAt → Syntax ℕ Rule (Settled (Result BlockInfo Rule))
-modes_of by blocks at = mode_info by.header by.modes by.contexts by.past.segments blocks by.past.vectors at
+modes_of by blocks at = mode_info (block_sources by) blocks at
 
 pub block_read : (by : FrameSources) (at : BlockAt) (blocks : List PlannedBlock) (listed : List BlockInfo) (sides after_it : TileSides) (a b d : Standing) (info : BlockInfo) (one : PlannedBlock)
     → infos blocks ≡ listed

@@ -11,14 +11,14 @@ use Rattle.mode_syntax.specs.Laws.{squares_from}
 use Rattle.mode_syntax.specs.Walk.{decode_tile}
 use Rattle.mode_syntax.proofs.Mapped.{tile_everywhere}
 use Rattle.frame_state.specs.FrameReading.{TileRead, infos, read_block, read_walk}
-use Rattle.frame_state.specs.Sources.{FrameSources}
+use Rattle.frame_state.specs.Sources.{block_sources, FrameSources}
 use Rattle.frame_state.specs.declared.tile_places.TilePlaces.{TilePlaces}
 use Rattle.tile_syntax.specs.Code.{plan_block, plan_view, plan_walk}
 
 block_seen : (by : FrameSources) (at : BlockAt) (s : TileRead) → plan_block by at (plan_view s) ≡ mapped plan_view (read_block by at s)
 unfolding plan_block read_block settle mapped
 block_seen by at s =
-    mapped_after plan_view (mode_info by.header by.modes by.contexts by.past.segments (infos (s.earlier ++ s.blocks)) by.past.vectors at) _ _
+    mapped_after plan_view (mode_info (block_sources by) (infos (s.earlier ++ s.blocks)) at) _ _
     (λ told. mapped_after plan_view (lifted told) _ _
     (λ info. mapped_after plan_view (residues.read_block by.header by.contexts at.tile_from info s.sides) _ _
     (λ read. ap (λ (bs : List PlannedBlock). settle (record { blocks = bs; sides = read.1 })) (append_assoc s.earlier s.blocks (read.0 ∷ [])))))

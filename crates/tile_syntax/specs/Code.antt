@@ -19,7 +19,7 @@ use Rattle.tile_reader.specs.Code.{Breaks}
 use Rattle.frame_state.specs.Code.{counts_if}
 use Rattle.frame_state.specs.ColumnPlans.{ColumnRead, plan_of}
 use Rattle.frame_state.specs.FrameReading.{Column, TileRead, infos}
-use Rattle.frame_state.specs.Sources.{FrameSources, frame_is_intra}
+use Rattle.frame_state.specs.Sources.{block_sources, FrameSources, frame_is_intra}
 use Rattle.frame_state.specs.declared.halt.Halt.{Halt}
 use Rattle.frame_state.specs.declared.halt.Halt.TheVariants as halt
 use Rattle.tile_syntax.specs.declared.plans.ColumnPlan.{ColumnPlan}
@@ -43,7 +43,7 @@ pub record PlanTile : Type 0 where
 
 unfoldable pub plan_block : FrameSources → BlockAt → PlanTile → Syntax ℕ Rule (Settled PlanTile)
 plan_block by at s =
-    counting.◌>>=◌ (mode_info by.header by.modes by.contexts by.past.segments (infos s.blocks) by.past.vectors at) (λ told.
+    counting.◌>>=◌ (mode_info (block_sources by) (infos s.blocks) at) (λ told.
     counting.◌>>=◌ (lifted told) (λ info.
     counting.◌>>=◌ (residues.read_block by.header by.contexts at.tile_from info s.sides) (λ read.
     settle (record { blocks = s.blocks ++ read.0 ∷ []; sides = read.1 }))))
