@@ -25,7 +25,7 @@ number_rules frames columns rows =
       parses = λ f. if nat_lt f frames then Some columns else None;
       builds = λ f. Some (building_of columns rows f);
       reads = λ job results. [];
-      puts = λ x. if x == refusal then [] else x ∷ [];
+      puts = λ f x. if x == refusal then [] else x ∷ [];
       fails = λ x. x == refusal;
     }
 

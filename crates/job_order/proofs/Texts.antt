@@ -49,12 +49,12 @@ module _ {X : Type 0} (m : Rules X) (t : Truth X) where
       inr (record { f = r.f; x = r.x; last = r.last; there = inr r.there; failed = r.failed; front = (r.front.0, ap (λ p. p ++ r.front.0) same ∙ r.front.1) }))
       h
 
-  put_whole : (f : ℕ) (x : X) (finished : List (Done X)) (b : Bool) → m.fails x ≡ b → IsRightText b (m.puts x) (t.text f) → AllPut m t finished f
+  put_whole : (f : ℕ) (x : X) (finished : List (Done X)) (b : Bool) → m.fails x ≡ b → IsRightText b (m.puts f x) (t.text f) → AllPut m t finished f
       → TextsUpTo (record { job = Write f; result = x } ∷ finished) (suc f)
   put_whole f x finished false is text a =
       inl (record {
         none = λ g y e. ⊎_elim (λ (p : (Write f ≡ Write g) × (x ≡ y)). ap m.fails (sym p.1) ∙ is) (λ (p : HasResult finished (Write g) y). a.none g y p) e;
-        whole = ap (λ p. p ++ m.puts x) a.whole ∙ ap (λ p. texts_below t.text f ++ p) text;
+        whole = ap (λ p. p ++ m.puts f x) a.whole ∙ ap (λ p. texts_below t.text f ++ p) text;
       })
   put_whole f x finished true is text a =
       inr (record {
@@ -63,29 +63,30 @@ module _ {X : Type 0} (m : Rules X) (t : Truth X) where
         last = refl;
         there = inl (refl, refl);
         failed = is;
-        front = (text.0, append_assoc (written m finished) (m.puts x) text.0 ∙ ap (λ p. p ++ (m.puts x ++ text.0)) a.whole ∙ ap (λ p. texts_below t.text f ++ p) text.1);
+        front = (text.0, append_assoc (written m finished) (m.puts f x) text.0 ∙ ap (λ p. p ++ (m.puts f x ++ text.0)) a.whole ∙ ap (λ p. texts_below t.text f ++ p) text.1);
       })
 
-  put_nothing : (f : ℕ) (x : X) (finished : List (Done X)) → m.fails x ≡ true → m.puts x ≡ [] → Refused m t finished f → TextsUpTo (record { job = Write f; result = x } ∷ finished) (suc f)
+  put_nothing : (f : ℕ) (x : X) (finished : List (Done X)) → m.fails x ≡ true → m.puts f x ≡ [] → Refused m t finished f → TextsUpTo (record { job = Write f; result = x } ∷ finished) (suc f)
   put_nothing f x finished is none r =
-      let same : written m finished ++ m.puts x ≡ written m finished = ap (λ p. written m finished ++ p) none ∙ append-nil (written m finished) in
+      let same : written m finished ++ m.puts f x ≡ written m finished = ap (λ p. written m finished ++ p) none ∙ append-nil (written m finished) in
       inr (record {
         f = f;
         x = x;
         last = refl;
         there = inl (refl, refl);
         failed = is;
-        front = (r.front.0 ++ t.text f, sym (append_assoc (written m finished ++ m.puts x) r.front.0 (t.text f)) ∙ ap (λ p. p ++ t.text f) (ap (λ p. p ++ r.front.0) same ∙ r.front.1));
+        front = (r.front.0 ++ t.text f, sym (append_assoc (written m finished ++ m.puts f x) r.front.0 (t.text f)) ∙ ap (λ p. p ++ t.text f) (ap (λ p. p ++ r.front.0) same ∙ r.front.1));
       })
 
   -- what a write does after a refused one
-  pub handed_on : (w : WorldState X) (f : ℕ) (y : X) → AreTrue m t → AreOnce w.finished → Does m w (Write f) y → Refused m t w.finished f → (m.fails y ≡ true) × (m.puts y ≡ [])
+  pub handed_on : (w : WorldState X) (f : ℕ) (y : X) → AreTrue m t → AreOnce w.finished → Does m w (Write f) y → Refused m t w.finished f → (m.fails y ≡ true) × (m.puts f y ≡ [])
   handed_on w f y ok once does r =
       let is : f ≡ r.f + 1 = let l = r.last in omega (arith, l) in
       let before = ok.hands_on r.f does.0 y (subst (λ i. m.does (Write i) does.0 y) is does.2) in
       let has = All-contains (λ d. HasResult w.finished d.job d.result × IsBehind m w (Write f) d.job) does.0 (record { job = Write r.f; result = before.0 }) does.1 before.1 in
       let same = one_result w.finished (Write r.f) before.0 r.x once has.0 r.there in
-      before.2 (ap m.fails same ∙ r.failed)
+      let handed = before.2 (ap m.fails same ∙ r.failed) in
+      (handed.0, ap (λ i. m.puts i y) is ∙ handed.1)
 
   pub texts_write : (w : WorldState X) (f k : ℕ) (x : X) → AreTrue m t → AreOnce w.finished → t.right (Write f) x → Does m w (Write f) x → f ≡ k → TextsUpTo w.finished k
       → TextsUpTo (record { job = Write f; result = x } ∷ w.finished) (suc k)

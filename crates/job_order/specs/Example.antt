@@ -32,7 +32,7 @@ example_rules =
       parses = λ f. if nat_lt f 3 then Some 2 else None;
       builds = two_rows;
       reads = λ job results. reads_before job;
-      puts = λ f. f ∷ [];
+      puts = λ f x. x ∷ [];
       fails = λ f. false;
     }
 

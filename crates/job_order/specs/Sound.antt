@@ -27,7 +27,7 @@ texts_below text (suc k) = texts_below text k ++ text k
 
 -- what a job has put
 abbrev pub put_by : {X : Type 0} → Rules X → JobName → X → List ℕ
-put_by m (Write f) x = m.puts x
+put_by m (Write f) x = m.puts f x
 put_by m _ x = []
 
 -- what the writes have put, one after another

@@ -41,9 +41,9 @@ abbrev pub IsRightText : Bool → List ℕ → List ℕ → Type 0
 IsRightText false put text = put ≡ text
 IsRightText true put text = IsFront put text
 
--- a write after a refused one puts nothing and is refused too
-abbrev pub HandsOn : {X : Type 0} → Rules X → X → X → Type 0
-HandsOn m x y = m.fails x ≡ true → (m.fails y ≡ true) × (m.puts y ≡ [])
+-- the write of frame f, after a refused one, puts nothing and is refused too
+abbrev pub HandsOn : {X : Type 0} → Rules X → ℕ → X → X → Type 0
+HandsOn m f x y = m.fails x ≡ true → (m.fails y ≡ true) × (m.puts f y ≡ [])
 
 -- What the rules owe: from right results they make right ones, and right results say what is right.
 pub record AreTrue {X : Type 0} (m : Rules X) (t : Truth X) : Type 0 where
@@ -52,5 +52,5 @@ pub record AreTrue {X : Type 0} (m : Rules X) (t : Truth X) : Type 0 where
   pub builds : (f : ℕ) (x : X) (b : Building) → t.right (Close f) x → m.builds x ≡ Some b → IsRightBuilding t f b
   pub reads : (f c r : ℕ) (results : List (Done X)) (g band : ℕ) → ((job : JobName) (x : X) → HasResult results job x → t.right job x)
       → HasBand (m.reads (Rows f c r) results) g band → Contains (t.slots f) g × (band < t.bands g)
-  pub text : (f : ℕ) (x : X) → t.right (Write f) x → IsRightText (m.fails x) (m.puts x) (t.text f)
-  pub hands_on : (f : ℕ) (uses : List (Done X)) (y : X) → m.does (Write (f + 1)) uses y → (x : X) × Contains uses (record { job = Write f; result = x }) × HandsOn m x y
+  pub text : (f : ℕ) (x : X) → t.right (Write f) x → IsRightText (m.fails x) (m.puts f x) (t.text f)
+  pub hands_on : (f : ℕ) (uses : List (Done X)) (y : X) → m.does (Write (f + 1)) uses y → (x : X) × Contains uses (record { job = Write f; result = x }) × HandsOn m (f + 1) x y

@@ -29,8 +29,8 @@ pub record Rules (X : Type 0) : Type 1 where
   pub builds : X → Option Building
   -- the bands of other frames that a job of a superblock row of a column reads, from the results so far
   pub reads : JobName → List (Done X) → List (Option BandSpan)
-  -- what a write has put, and whether it was refused
-  pub puts : X → List ℕ
+  -- what the write of a frame has put, and whether it was refused
+  pub puts : ℕ → X → List ℕ
   pub fails : X → Bool
 
 pub record WorldState (X : Type 0) : Type 0 where

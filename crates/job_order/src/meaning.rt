@@ -16,7 +16,7 @@ pub trait Meaning<X> {
 impl<X> Meaning<X> for Brand {
     ghost use Rattle.std.specs.Prelude.{[], None, false};
 
-    ghost rules = { record { does = λ _ _ _. ⊥; parses = λ _. None; builds = λ _. None; reads = λ _ _. []; puts = λ _. []; fails = λ _. false } };
+    ghost rules = { record { does = λ _ _ _. ⊥; parses = λ _. None; builds = λ _. None; reads = λ _ _. []; puts = λ _ _. []; fails = λ _. false } };
 
     ghost truth = { record { right = λ _ _. ⊥; bands = λ _. 0; slots = λ _. []; text = λ _. [] } };
 }
