@@ -190,7 +190,7 @@ pub block_said_so : {T : Type 0} (speaker : Speaker T) (by : FrameSources) (at :
 unfolding block_told
 block_said_so speaker by at s bools h t next last info read old mid new holds before m r spelled =
     let modes = modes_from by at s h old mid (Ok info) holds m.put in
-    let first = mode_info_way by.header by.modes by.contexts by.past.segments (before_it s) by.past.vectors at info old mid modes in (
+    let first = mode_info_way (block_sources by) (before_it s) at info old mid modes in (
       block_puts by at s old mid new info read modes (residue_from by at s h mid new info (Ok read) holds r.put),
       spells_on marked mid new (bools ++ modes_spelled by at s info) (levels_spelled by s info r.levels) (levels_from by s h info r.levels mid new holds spelled)
           (spells_on marked old mid bools (modes_spelled by at s info) first before),
