@@ -1,6 +1,6 @@
 -- How a frame is closed.
-use Rattle.std.proofs.Common.{◌≡◌, ◌∙◌, ℕ, zero, suc, ◌^◌, List, [], ◌∷◌, map, Bool, true, false, get_or, ap, sym, subst, refl, arith}
-use Rattle.std.specs.Prelude.{All, IfSome, Option, Some, None, Result, Ok, Err, if◌then◌else◌}
+use Rattle.std.proofs.Common.{◌≡◌, ◌∙◌, ℕ, zero, suc, ◌^◌, inl, inr, List, [], ◌∷◌, map, Bool, true, false, get_or, ap, sym, subst, refl, arith}
+use Rattle.std.specs.Prelude.{All, Contains, IfSome, Option, Some, None, Result, Ok, Err, if◌then◌else◌}
 use Rattle.vp9_types.specs.Shapes.{mi_rows}
 use Rattle.vp9_types.specs.Sizes.{superblocks_along}
 use Rattle.vp9_types.specs.declared.rule.Rule.{Rule}
@@ -35,7 +35,9 @@ use Rattle.numbered_frames.specs.NumberedPictures.{pictures}
 use Rattle.numbered_frames.proofs.SlotFrames.{slots_hold}
 use Rattle.numbered_frames.proofs.Ways.{text_is}
 use Rattle.job_results.specs.Lent.{IsBegunFrame, IsKeptBefore}
-use Rattle.job_results.specs.JobResults.{IsBegunAs, IsBuiltAs, IsClose, IsClosedAs, IsEnd, IsReadFrame, IsShown, ShowsSlot, shown_text as text_shown}
+use Rattle.job_results.specs.Slots.{numbers_in, slots_of}
+use Rattle.job_results.proofs.SlotLists.{here, there}
+use Rattle.job_results.specs.JobResults.{IsBegunAs, IsBuiltAs, IsClose, IsClosedAs, IsEnd, IsNamed, IsReadFrame, IsShown, ShowsSlot, shown_text as text_shown}
 use Rattle.job_results.specs.declared.result.ClosedFrame.{ClosedFrame}
 use Rattle.job_results.specs.declared.result.JobResult.{JobResult}
 use Rattle.job_results.specs.declared.result.JobResult.TheVariants as result
@@ -94,6 +96,7 @@ pub record StepsTo (format : Format) (film : Film) (f : ℕ) (p : Putting) (show
   pub there : frame_at film f ≡ Some frame
   pub steps : step f p.state frame ≡ Ok stepped
   pub same : IsSame format film shown stepped.shown
+  pub named : IsNamed format film f shown
 
 closes : (format : Format) (film : Film) (f : ℕ) (p : Putting) (stepped : Stepped) (k : Kept) (columns rows : ℕ) (shown : Option ShownFrame) → StepsTo format film f p shown stepped → k.form ≡ p.form
     → admits_it p.form shown ≡ true → StandsFor k stepped.state → MayFollow k → IsBuiltAs (coded format film f) (closed_by k columns rows shown) → IsClosedAs format film f (closed_by k columns rows shown)
@@ -107,6 +110,7 @@ closes format film f p stepped k columns rows shown h form fits stands may built
       may = may_with k (form_behind k.form shown) may;
       built = built;
       shown = same_shown format film shown stepped.shown h.same;
+      named = h.named;
       puts = text_is format film f p h.frame (Ok (added_by p.form stepped)) h.reached h.there added ∙ same_text format film (closed_by k columns rows shown) p.form shown stepped.shown form h.same;
     }
 
@@ -161,6 +165,21 @@ slot_told k s slot h =
 same_kept : (format : Format) (film : Film) (f : ℕ) (p q : Putting) → before format film f ≡ Some p → before format film f ≡ Some q → p ≡ q
 same_kept format film f p q one other = let both : Some p ≡ Some q = sym one ∙ other in cc
 
+slot_in : (slots : List (Option Picture)) (slot : ℕ) (picture : Picture) → get_or slots slot None ≡ Some picture → Contains (numbers_in slots) picture.frame
+slot_in [] slot picture is = absurd cc
+slot_in (None ∷ slots) zero picture is = absurd cc
+slot_in (Some old ∷ slots) zero picture is =
+    let same : old ≡ picture = cc in
+    subst (λ (p : Picture). Contains (old.frame ∷ numbers_in slots) p.frame) same (here old.frame (numbers_in slots))
+slot_in (None ∷ slots) (suc n) picture is = slot_in slots n picture is
+slot_in (Some old ∷ slots) (suc n) picture is = there old.frame (numbers_in slots) picture.frame (slot_in slots n picture is)
+
+slot_named : (format : Format) (film : Film) (f : ℕ) (p : Putting) (slot : ℕ) (held : Option Picture) → before format film f ≡ Some p → get_or p.state.slots slot None ≡ held
+    → IsNamed format film f (held_in (number_in held) (slot_shape held))
+slot_named format film f p slot None from is = tt
+slot_named format film f p slot (Some picture) from is =
+    inr (subst (λ (o : Option Putting). Contains (slots_of o) picture.frame) (sym from) (slot_in p.state.slots slot picture is))
+
 slot_steps : (format : Format) (film : Film) (f slot : ℕ) (k : Kept) (shown : Option ShownFrame) (b : IsKeptBefore format film f k) → ShowsSlot format film f slot
     → shown ≡ held_in (get_or k.slots slot None) (get_or k.persist.slots slot None) → StepsTo format film f b.kept shown (shows_slot b.kept.state slot)
 slot_steps format film f slot k shown b h is =
@@ -173,6 +192,8 @@ slot_steps format film f slot k shown b h is =
       steps = head_shown f b.kept.state h.frame slot (ap (λ (q : Putting). head_of (persist_of q.state) h.frame) (sym same) ∙ h.head);
       same = subst (λ (x : Option ShownFrame). IsSame format film x (get_or b.kept.state.slots slot None)) (sym (is ∙ slot_told k b.kept.state slot b.stands))
           (slot_same format film f (get_or b.kept.state.slots slot None) held);
+      named = subst (λ (x : Option ShownFrame). IsNamed format film f x) (sym (is ∙ slot_told k b.kept.state slot b.stands))
+          (slot_named format film f b.kept slot (get_or b.kept.state.slots slot None) b.reached refl);
     }
 
 pub slot_closes : (format : Format) (film : Film) (f slot : ℕ) (k next : Kept) (shown : Option ShownFrame) (x : JobResult) → IsKeptBefore format film f k → ShowsSlot format film f slot
@@ -211,6 +232,10 @@ same_if : (format : Format) (film : Film) (show : Bool) (s : ShownFrame) (pictur
 same_if format film true s picture shape is read = (shape, is, read)
 same_if format film false s picture shape is read = tt
 
+named_if : (format : Format) (film : Film) (f : ℕ) (show : Bool) (s : ShownFrame) → s.frame ≡ f → IsNamed format film f (if show then Some s else None)
+named_if format film f true s is = inl is
+named_if format film f false s is = tt
+
 coded_steps : (format : Format) (film : Film) (f : ℕ) (c : CodedFrame) (read : FrameRead) → coded format film f ≡ Some c → read_of c ≡ Ok read
     → StepsTo format film f c.kept (shown_by f c.header) (coded_step f c read)
 coded_steps format film f c read is reads =
@@ -221,6 +246,7 @@ coded_steps format film f c read is reads =
       there = from.there;
       steps = head_coded f c.kept.state c.bytes c.header c.compressed from.head ∙ ap (after_coded f c.kept.state c.header) (decoded_to format film f c (Ok read) from reads);
       same = same_if format film c.header.show_frame (record { frame = f; shape = shape_of c.header }) (picture_of f c.header (result_of c read)) refl (picture_there format film f c read is reads) (c, is, (read, reads));
+      named = named_if format film f c.header.show_frame (record { frame = f; shape = shape_of c.header }) refl;
     }
 
 -- what the code shows of it, by what has begun

@@ -84,6 +84,11 @@ module _ (format : Format) (film more : Film) (h : GoesOn film more) where
   is_shown None s = tt
   is_shown (Some shown) s = (read_frame shown.frame s.0, s.1 ∙ ap (λ (p : Picture). p.shape) (sym (picture shown.frame s.0)))
 
+  is_named : (f : ℕ) (shown : Option ShownFrame) → f < length film.frames → IsNamed format film f shown → IsNamed format more f shown
+  is_named f None low s = tt
+  is_named f (Some shown) low s =
+      subst (λ (o : Option Putting). (shown.frame ≡ f) ⊎ Contains (slots_of o) shown.frame) (sym (before_same format film more f h (omega (arith, low)))) s
+
   same_text : (k : ClosedFrame) (shown : Option ShownFrame) → IsShown format film shown → shown_text format more k shown ≡ shown_text format film k shown
   same_text k None s = refl
   same_text k (Some shown) s = (λ i. shown_text_of k shown (picture shown.frame s.0 i))
@@ -101,6 +106,7 @@ module _ (format : Format) (film more : Film) (h : GoesOn film more) where
         may = c.may;
         built = subst (λ (o : Option CodedFrame). IsBuiltAs o k) (sym (coded_same format film more f h low)) c.built;
         shown = is_shown k.shown c.shown;
+        named = is_named f k.shown low c.named;
         puts = text_same format film more f h low ∙ c.puts ∙ sym (same_text k k.shown c.shown);
       }
 

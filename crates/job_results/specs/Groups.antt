@@ -12,7 +12,8 @@ use Rattle.job_order.specs.declared.segment.Shown.{Shown}
 use Rattle.numbered_frames.specs.Films.{Film}
 use Rattle.numbered_frames.specs.FrameNumbers.{before, text}
 use Rattle.numbered_frames.specs.NumberedPictures.{pictures}
-use Rattle.job_results.specs.Meaning.{fails, parses, rows_of, slots_of}
+use Rattle.job_results.specs.Meaning.{FollowsWrite, fails, parses, rows_of, text_put}
+use Rattle.job_results.specs.Slots.{slots_of}
 use Rattle.job_results.specs.JobResults.{IsRight}
 use Rattle.job_results.specs.declared.result.JobResult.{JobResult}
 use Rattle.job_results.specs.declared.result.JobResult.TheVariants as result
@@ -43,11 +44,11 @@ builds_in n _ = None
 
 abbrev pub group_rules : ℕ → Format → Film → Rules JobResult
 group_rules n format film = record {
-  does = λ job uses x. IsRight format film (in_film n job) x;
+  does = λ job uses x. IsRight format film (in_film n job) x × FollowsWrite job uses;
   parses = parses;
   builds = builds_in n;
   reads = λ job results. [];
-  puts = λ x. [];
+  puts = λ f x. text_put (text format film (n + f)) x;
   fails = fails;
 }
 

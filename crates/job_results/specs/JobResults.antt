@@ -1,5 +1,5 @@
 -- When the result of a job is right: it is what the definition of the decode has there, or want of memory where memory is taken.
-use Rattle.std.specs.Prelude.{◌≡◌, ◌⊎◌, ℕ, suc, ◌^◌, List, [], Option, Some, None, Result, Ok, Err}
+use Rattle.std.specs.Prelude.{◌≡◌, ◌⊎◌, ℕ, suc, ◌^◌, List, [], Option, Some, None, Result, Ok, Err, Contains}
 use Rattle.vp9_types.specs.Shapes.{mi_rows}
 use Rattle.vp9_types.specs.Sizes.{superblocks_along}
 use Rattle.vp9_types.specs.declared.job.JobName.{JobName}
@@ -35,6 +35,7 @@ use Rattle.numbered_frames.specs.Coded.{CodedFrame, coded, read_of, references}
 use Rattle.numbered_frames.specs.FrameNumbers.{EndsAt, before, frame_at, text}
 use Rattle.numbered_frames.specs.NumberedPictures.{pictures}
 use Rattle.job_results.specs.ResultPlanes.{Keeps}
+use Rattle.job_results.specs.Slots.{slots_of}
 use Rattle.job_results.specs.declared.any_planes.AnyPlanes.{AnyPlanes}
 use Rattle.job_results.specs.declared.any_planes.AnyPlanes.TheVariants.{Bytes, Words}
 use Rattle.job_results.specs.declared.result.ClosedFrame.{ClosedFrame}
@@ -109,6 +110,11 @@ abbrev pub IsShown : Format → Film → Option ShownFrame → Type 0
 IsShown format film None = Unit {0}
 IsShown format film (Some s) = IsReadFrame format film s.frame × (s.shape ≡ (pictures format film s.frame).shape)
 
+-- it is frame f itself, or one that a slot holds
+abbrev pub IsNamed : Format → Film → ℕ → Option ShownFrame → Type 0
+IsNamed format film f None = Unit {0}
+IsNamed format film f (Some s) = (s.frame ≡ f) ⊎ Contains (slots_of (before format film f)) s.frame
+
 -- it is of as many tile columns and rows of superblocks as the frame; of none where that shows a slot
 abbrev pub IsBuiltAs : Option CodedFrame → ClosedFrame → Type 0
 IsBuiltAs None k = (k.columns ≡ 0) × (k.rows ≡ 0)
@@ -123,6 +129,7 @@ pub record IsClosedAs (format : Format) (film : Film) (f : ℕ) (k : ClosedFrame
   pub may : MayFollow k.kept
   pub built : IsBuiltAs (coded format film f) k
   pub shown : IsShown format film k.shown
+  pub named : IsNamed format film f k.shown
   pub puts : text format film f ≡ shown_text format film k k.shown
 
 abbrev pub IsClose : Format → Film → ℕ → JobResult → Type 0

@@ -1,4 +1,5 @@
 pub mod ResultPlanes
+pub mod Slots
 pub mod JobResults
 pub mod Meaning
 pub mod Groups

@@ -1,15 +1,17 @@
 -- The meaning of a decode: what results say, and what they are to be.
-use Rattle.std.specs.Prelude.{ℕ, ◌^◌, Bool, true, false, List, [], ◌∷◌, nat_lt, Option, Some, None, if◌then◌else◌}
+use Rattle.std.specs.Prelude.{◌≡◌, ℕ, ◌+◌, ◌^◌, Bool, true, false, List, [], nat_lt, Option, Some, None, Contains, if◌then◌else◌}
 use Rattle.vp9_types.specs.Shapes.{mi_rows}
 use Rattle.vp9_types.specs.Sizes.{superblocks_along}
 use Rattle.frame_output.specs.declared.rendering.Format.{Format}
-use Rattle.seq_decoder.specs.Outputs.{Putting}
-use Rattle.seq_decoder.specs.DecoderState.{Picture}
 use Rattle.job_order.specs.Truths.{Truth}
 use Rattle.job_order.specs.Worlds.{Building, Rules}
+use Rattle.job_order.specs.declared.event.Done.{Done}
 use Rattle.job_order.specs.declared.segment.Shown.{Shown}
+use Rattle.vp9_types.specs.declared.job.JobName.{JobName}
+use Rattle.vp9_types.specs.declared.job.JobName.TheVariants.{Write}
 use Rattle.numbered_frames.specs.FrameNumbers.{before, text}
 use Rattle.numbered_frames.specs.NumberedPictures.{pictures}
+use Rattle.job_results.specs.Slots.{slots_of}
 use Rattle.job_results.specs.JobResults.{IsRight}
 use Rattle.job_results.specs.declared.result.JobResult.{JobResult}
 use Rattle.job_results.specs.declared.result.JobResult.TheVariants as result
@@ -41,25 +43,25 @@ abbrev pub fails : JobResult → Bool
 fails (result.Refused fault) = true
 fails _ = false
 
--- What a write has put isn't told by its result, and what a row reads by no list of results: whoever runs the jobs asks for neither.
+-- What the write of a frame has put: the frame's text. Of a refused one nothing is counted, since its result doesn't tell how much it had put.
+abbrev pub text_put : List ℕ → JobResult → List ℕ
+text_put text x = if fails x then [] else text
+
+-- a write that isn't the first comes behind one that wasn't refused
+abbrev pub FollowsWrite : JobName → List (Done JobResult) → Type 0
+FollowsWrite (Write f) uses = (g : ℕ) → f ≡ g + 1 → (x : JobResult) × (fails x ≡ false) × Contains uses (record { job = Write g; result = x })
+FollowsWrite _ uses = Unit {0}
+
+-- What a row reads of other frames is told by no list of results: the crew asks who does the jobs.
 abbrev pub decode_rules : Format → Film → Rules JobResult
 decode_rules format film = record {
-  does = λ job uses x. IsRight format film job x;
+  does = λ job uses x. IsRight format film job x × FollowsWrite job uses;
   parses = parses;
   builds = builds;
   reads = λ job results. [];
-  puts = λ x. [];
+  puts = λ f x. text_put (text format film f) x;
   fails = fails;
 }
-
-abbrev pub numbers_in : List (Option Picture) → List ℕ
-numbers_in [] = []
-numbers_in (None ∷ slots) = numbers_in slots
-numbers_in (Some picture ∷ slots) = picture.frame ∷ numbers_in slots
-
-abbrev pub slots_of : Option Putting → List ℕ
-slots_of None = []
-slots_of (Some p) = numbers_in p.state.slots
 
 abbrev pub decode_truth : Format → Film → Truth JobResult
 decode_truth format film = record {

@@ -6,6 +6,7 @@ ghost use Rattle.vp9_types.specs.declared.outcome.Outcome.{Outcome};
 ghost use Rattle.vp9_types.specs.declared.job.JobName.{JobName};
 ghost use Rattle.vp9_types.specs.declared.job.JobName.TheVariants.{Head};
 ghost use Rattle.job_order.specs.Sound.{frame_of, texts_below};
+ghost use Rattle.job_order.specs.Truths.{AreTrue};
 ghost use Rattle.job_crew.specs.Runs.{IsDue, IsEnded};
 ghost use Rattle.job_crew.specs.declared.outlet.Ending.{Ending};
 ghost use Rattle.seq_decoder.specs.Outcomes.{Decodes};
@@ -23,6 +24,13 @@ pub fn ended_runs_are_decodes()
     ensures { (format : Format) (film : Film) (ending : Ending AnyResult) (outcome : Outcome) (old new : Option (List ℕ)) (faults now : ℕ) →
         IsEnded (decode_rules format film) (decode_truth format film) old ending new (now ≡ faults) (HasRefused faults now) → IsOutcome ending outcome →
         Decodes (film_output format film) old new faults now outcome }
+{}
+
+/// The rules of a group's run are true: from right results they make right ones, right results say which frames are built and shown and what is
+/// put, and slots hold eight frames. So whatever events lead to a world of such a run, if each is allowed when it comes, the world is sound
+/// (`job_order::reached_worlds_are_sound`).
+pub fn rules_of_groups_are_true()
+    ensures { (n : ℕ) (format : Format) (film : Film) → AreTrue (group_rules n format film) (group_truth n format film) }
 {}
 
 /// A result that is right stays right when more frames come behind those of the film.

@@ -8,7 +8,10 @@ mod meaning;
 mod result;
 
 pub use any_planes::AnyPlanes;
-pub use laws::{ended_runs_are_decodes, groups_are_of_the_film, right_results_stay_right};
+pub use laws::{
+    ended_runs_are_decodes, groups_are_of_the_film, right_results_stay_right,
+    rules_of_groups_are_true,
+};
 pub use lent::{HeadRead, begun, closed, column, ended, filtered, head_read, strip};
 pub use meaning::{Decode, DecodeRun, Group};
 pub use result::{ClosedFrame, JobResult, ShownFrame};

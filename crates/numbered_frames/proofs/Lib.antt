@@ -1,3 +1,4 @@
 pub mod Ways
 pub mod SlotFrames
 pub mod LaterFrames
+pub mod SlotNumbers

@@ -132,11 +132,11 @@ put_state : (form : OutputForm) (stepped : Stepped) (fits : Bool) (added : Added
 put_state form stepped true added is = let same : kept_by form stepped ≡ added = cc in ap (λ (a : Added Putting ℕ). a.state.state) (sym same)
 put_state form stepped false added is = absurd cc
 
-stepped_by : (form : OutputForm) (r : Result Stepped Rule) (added : Added Putting ℕ) → put form r ≡ Ok added → (stepped : Stepped) × (r ≡ Ok stepped) × (added.state.state ≡ stepped.state)
+pub stepped_by : (form : OutputForm) (r : Result Stepped Rule) (added : Added Putting ℕ) → put form r ≡ Ok added → (stepped : Stepped) × (r ≡ Ok stepped) × (added.state.state ≡ stepped.state)
 stepped_by form (Ok stepped) added is = (stepped, refl, put_state form stepped (admits form stepped.shown) added (sym (put_by form stepped (admits form stepped.shown) refl) ∙ is))
 stepped_by form (Err rule) added is = absurd cc
 
-after_decoded : (number : ℕ) (state : State) (header : Header) (d : Result FrameResult Rule) (stepped : Stepped) → after_coded number state header d ≡ Ok stepped
+pub after_decoded : (number : ℕ) (state : State) (header : Header) (d : Result FrameResult Rule) (stepped : Stepped) → after_coded number state header d ≡ Ok stepped
     → (r : FrameResult) × (d ≡ Ok r) × (stepped.state ≡ state_after number state header r)
 after_decoded number state header (Ok r) stepped is = (r, refl, cc)
 after_decoded number state header (Err rule) stepped is = absurd cc
