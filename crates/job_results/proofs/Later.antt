@@ -1,6 +1,6 @@
 -- A result that is right stays right when more frames come behind those of the film.
 use Rattle.std.proofs.Common.{◌≡◌, ◌<◌, inl, inr, ℕ, zero, suc, List, [], ◌∷◌, ap, sym, subst, refl, ◌∙◌, arith}
-use Rattle.std.specs.Prelude.{Option, Some, None, length, slice_get}
+use Rattle.std.specs.Prelude.{◌⊎◌, Contains, Option, Some, None, length, slice_get}
 use Rattle.std.proofs.lemmas.Option.{slice_get_within}
 use Rattle.vp9_types.specs.declared.job.JobName.{JobName}
 use Rattle.vp9_types.specs.declared.job.JobName.TheVariants as job
@@ -16,7 +16,8 @@ use Rattle.numbered_frames.specs.NumberedPictures.{pictures}
 use Rattle.numbered_frames.proofs.LaterFrames.{before_same, coded_same, frame_same, pictures_same, text_same}
 use Rattle.band_cells.specs.Bands.{Picture}
 use Rattle.seq_decoder.specs.Outputs.{Putting, is_first}
-use Rattle.job_results.specs.JobResults.{IsBegunAs, IsBuiltAs, IsClose, IsClosedAs, IsColumn, IsColumnAs, IsEnd, IsEndResult, IsFiltered, IsHead, IsReadFrame, IsRight, IsShown, IsStrip, ShowsSlot, shown_text}
+use Rattle.job_results.specs.Slots.{slots_of}
+use Rattle.job_results.specs.JobResults.{IsBegunAs, IsBuiltAs, IsClose, IsClosedAs, IsColumn, IsColumnAs, IsEnd, IsEndResult, IsFiltered, IsHead, IsNamed, IsReadFrame, IsRight, IsShown, IsStrip, ShowsSlot, shown_text}
 use Rattle.job_results.specs.declared.result.ClosedFrame.{ClosedFrame}
 use Rattle.job_results.specs.declared.result.JobResult.{JobResult}
 use Rattle.job_results.specs.declared.result.JobResult.TheVariants as result

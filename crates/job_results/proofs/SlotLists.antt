@@ -1,5 +1,6 @@
 -- The numbers of frames that slots hold: no more than eight, of frames before, and each frame changes them to itself alone.
 use Rattle.std.proofs.Common.{◌≡◌, ◌≤◌, ◌<◌, ◌+◌, ◌-◌, ℕ, zero, suc, ◌⊎◌, inl, inr, ⊎_elim, Bool, true, false, List, [], ◌∷◌, length, ap, sym, subst, refl, ◌∙◌, arith}
+use Rattle.std.proofs.lemmas.Bool.{ltb-false, ltb-true}
 use Rattle.std.specs.Prelude.{All, Contains, get_or, nat_lt, ◌/◌, ◌%◌, ◌==◌, IfSome, Option, Some, None, if◌then◌else◌}
 use Rattle.frame_headers.specs.HeaderState.{refreshed}
 use Rattle.frame_output.specs.declared.rendering.Format.{Format}
@@ -91,7 +92,7 @@ module _ (format : Format) (film : Film) where
 
   next_of : (f g : ℕ) (from to : Option Putting) → before format film f ≡ from → before format film (suc f) ≡ to → Contains (slots_of to) g → (g ≡ f) ⊎ Contains (slots_of from) g
   next_of f g from None old new h = absurd (in_none g h)
-  next_of f g None (Some q) old new h = let way = passed format film f q new in let none : None {A = Putting} ≡ Some way.kept = sym old ∙ way.before in absurd cc
+  next_of f g None (Some q) old new h = let way = passed format film f q new in let none : None ≡ Some way.kept = sym old ∙ way.before in absurd cc
   next_of f g (Some p) (Some q) old new h = are_next f g p.state.slots q.state.slots (next_slots format film f p q old new) h
 
   pub film_slots : AreSlots (λ f. slots_of (before format film f))
@@ -120,7 +121,7 @@ in_film_too n (x ∷ xs) g h = by n x xs g (nat_lt x n) refl (λ more. in_film_t
         → Contains (if low then numbers_from n xs else (x - n) ∷ numbers_from n xs) g → Contains (x ∷ xs) (n + g)
     by n x xs g true is rest h = there x xs (n + g) (rest h)
     by n x xs g false is rest h =
-        ⊎_elim (λ (same : x - n ≡ g). subst (λ k. Contains (x ∷ xs) k) (let at : x ≡ n + g = omega (arith, is, same) in at) (here x xs))
+        ⊎_elim (λ (same : x - n ≡ g). subst (λ k. Contains (x ∷ xs) k) (let low = ltb-false x n is in let at : x ≡ n + g = omega (arith, low, same) in at) (here x xs))
         (λ (more : Contains (numbers_from n xs) g). there x xs (n + g) (rest more)) (either (x - n) (numbers_from n xs) g h)
 
 pub in_group_too : (n : ℕ) (xs : List ℕ) (g : ℕ) → Contains xs (n + g) → Contains (numbers_from n xs) g
@@ -129,7 +130,7 @@ in_group_too n (x ∷ xs) g h = by n x xs g (nat_lt x n) refl (λ more. in_group
   where
     by : (n x : ℕ) (xs : List ℕ) (g : ℕ) (low : Bool) → nat_lt x n ≡ low → (Contains xs (n + g) → Contains (numbers_from n xs) g) → (x ≡ n + g) ⊎ Contains xs (n + g)
         → Contains (if low then numbers_from n xs else (x - n) ∷ numbers_from n xs) g
-    by n x xs g true is rest h = ⊎_elim (λ (same : x ≡ n + g). absurd (omega (arith, is, same))) (λ (more : Contains xs (n + g)). rest more) h
+    by n x xs g true is rest h = ⊎_elim (λ (same : x ≡ n + g). let low = ltb-true x n is in absurd (omega (arith, low, same))) (λ (more : Contains xs (n + g)). rest more) h
     by n x xs g false is rest h =
         ⊎_elim (λ (same : x ≡ n + g). subst (λ k. Contains ((x - n) ∷ numbers_from n xs) k) (let at : x - n ≡ g = omega (arith, same) in at) (here (x - n) (numbers_from n xs)))
         (λ (more : Contains xs (n + g)). there (x - n) (numbers_from n xs) g (rest more)) h

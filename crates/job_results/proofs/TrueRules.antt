@@ -1,5 +1,6 @@
 -- The rules of a group's run are true.
 use Rattle.std.proofs.Common.{◌≡◌, ◌+◌, ◌-◌, ℕ, ◌⊎◌, inl, inr, ⊎_elim, Bool, true, false, List, [], ◌∷◌, ◌++◌, ap, sym, subst, refl, ◌∙◌, arith}
+use Rattle.std.proofs.lemmas.Bool.{ltb-false}
 use Rattle.std.specs.Prelude.{Contains, nat_lt, Option, Some, None, Ok, if◌then◌else◌}
 use Rattle.vp9_types.specs.Shapes.{mi_rows}
 use Rattle.vp9_types.specs.Sizes.{superblocks_along}
@@ -26,7 +27,7 @@ use Rattle.job_results.specs.declared.result.ShownFrame.{ShownFrame}
 use Rattle.job_results.proofs.SlotLists.{group_slots, in_group_too}
 
 not_both : (b : Bool) → b ≡ false → b ≡ true → ⊥
-not_both b no yes = cc
+not_both b p q = cc
 
 text_by : (b : Bool) (whole : List ℕ) → IsRightText b (if b then [] else whole) whole
 text_by true whole = (whole, refl)
@@ -53,7 +54,7 @@ module _ (format : Format) (film : Film) where
       ⊎_elim (λ (own : g ≡ n + f). inl (omega (arith, own)))
       (λ (rest : Contains (slots_of (before format film (n + f))) g).
       inr (in_group_too n (slots_of (before format film (n + f))) (g - n)
-      (subst (λ i. Contains (slots_of (before format film (n + f))) i) (let at : g ≡ n + (g - n) = omega (arith, is) in at) rest)))
+      (subst (λ i. Contains (slots_of (before format film (n + f))) i) (let low = ltb-false g n is in let at : g ≡ n + (g - n) = omega (arith, low) in at) rest)))
       h
 
   shown_by : (n f : ℕ) (s : ShownFrame) (low : Bool) (shown : Shown) → nat_lt s.frame n ≡ low → IsShown format film (Some s) → IsNamed format film (n + f) (Some s)
@@ -64,7 +65,7 @@ module _ (format : Format) (film : Film) where
       let same : one ≡ shown = cc in
       subst (λ (x : Shown). IsShownRight n f x) same (
         named_in n f s.frame is named,
-        ap bands_of h.1 ∙ ap (λ i. bands_of (pictures format film i).shape) (let at : s.frame ≡ n + (s.frame - n) = omega (arith, is) in at),
+        ap bands_of h.1 ∙ ap (λ i. bands_of (pictures format film i).shape) (let low = ltb-false s.frame n is in let at : s.frame ≡ n + (s.frame - n) = omega (arith, low) in at),
       )
 
   shown_is : (n f : ℕ) (o : Option ShownFrame) (shown : Shown) → IsShown format film o → IsNamed format film (n + f) o → shown_in n o ≡ Some shown → IsShownRight n f shown
