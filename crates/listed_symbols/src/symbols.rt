@@ -1,6 +1,7 @@
 //! What stands next in the lists.
 
 ghost use Rattle.std.specs.Prelude.{◌≡◌, ◌<◌, ◌≤◌, true};
+ghost use Rattle.frame_state.specs.Sources.{block_sources};
 ghost use Rattle.frame_state.specs.Code.{sources_of};
 ghost use Rattle.frame_state.specs.KeptColumns.{AllSmall};
 ghost use Rattle.frame_state.specs.Past.{IsPastOf};
@@ -73,7 +74,6 @@ fn last_told<'a>(symbols: &ListedSymbols<'a>) -> Option<ListedBlock<'a>>
 
 impl<'a> FrameSymbols for ListedSymbols<'a> {
     ghost use Rattle.listed_symbols.specs.ListedBlocks.{listed};
-    ghost use Rattle.frame_state.specs.Sources.{block_sources};
 
     ghost speaker = { listed };
 
