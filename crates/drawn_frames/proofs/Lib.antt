@@ -2,3 +2,4 @@ pub mod Next
 pub mod DrawnKinds
 pub mod LevelDraws
 pub mod Rooms
+pub mod Tellings

@@ -4,6 +4,10 @@ use Rattle.frame_headers.specs.HeaderState.{shape_of}
 use Rattle.block_geometry.specs.declared.transform_blocks.FramePlaces.{FramePlaces}
 use Rattle.block_plan.specs.SegmentMaps.{id_map}
 use Rattle.frame_state.proofs.BlockSteps.{all_have_small, vectors_held, vectors_small}
+use Rattle.drawn_frames.proofs.Tellings.{told_drawn}
+use Rattle.frame_state.specs.Code.{sources_of}
+use Rattle.frame_state.specs.Sources.{block_sources}
+use Rattle.drawn_symbols.specs.BlockDraws.{draw_block}
 use Rattle.drawn_frames.proofs.symbols.DrawnSymbolsFrameSymbols.block.Goals as goal
 
 pub draw_block-requires-clause-held_before : goal.draw_block-requires-clause-held_before
@@ -23,3 +27,8 @@ draw_block-requires-clause-small_before c =
 
 pub returns-clause-can : goal.returns-clause-can
 returns-clause-can c = rw c.as_ref-before.ensures.value at (c.draw_block.ensures.can (id_map c.args.by.now.past.segments.now))
+
+pub returns-clause-tells : goal.returns-clause-tells
+returns-clause-tells c =
+    told_drawn (sources_of c.args.by.now) (draw_block (block_sources (sources_of c.args.by.now)) c.args.grid.now.blocks c.args.at) c.args.self.now _ _ (cc)
+    (rw c.as_ref-before.ensures.value at (c.draw_block.ensures.drawn (id_map c.args.by.now.past.segments.now)))
