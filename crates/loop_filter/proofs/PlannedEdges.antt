@@ -55,15 +55,16 @@ block_on f plane pass r c b some = rw some refl
 
 -- the edges and level of a block at a cell
 pub record IsCellBy (f : EdgeSetting) (plane : Plane) (at : CellAt) (b : BlockInfo) (cell : PlannedCell) : Type 0 where
-  pub there : cell.at ≡ at
+  pub row : cell.row ≡ at.row
+  pub column : cell.col ≡ at.col
   pub level : cell.level ≡ filter_level f b
   pub edges : cell.edges ≡ crossed_by f.shape plane at.row at.col b
 
 planned_both : (f : EdgeSetting) (plane : Plane) (pass : Pass) (at : CellAt) (b : BlockInfo) (cell : PlannedCell) → IsCellBy f plane at b cell
     → planned_edges f plane pass cell ≡ both_edges f.shape (cell_at plane pass at.row at.col) b (limits_of f.shape.depth f.filter.sharpness (filter_level f b))
 unfolding planned_edges both_edges
-planned_both f plane Vertical at b cell is = rw (is.there, is.level, is.edges) refl
-planned_both f plane Horizontal at b cell is = rw (is.there, is.level, is.edges) refl
+planned_both f plane Vertical at b cell is = rw (is.row, is.column, is.level, is.edges) refl
+planned_both f plane Horizontal at b cell is = rw (is.row, is.column, is.level, is.edges) refl
 
 planned_by : (f : EdgeSetting) (plane : Plane) (pass : Pass) (at : CellAt) (b : BlockInfo) (cell : PlannedCell) → nat_eq (filter_level f b) 0 ≡ false → IsCellBy f plane at b cell
     → planned_edges f plane pass cell ≡ block_edges f (cell_at plane pass at.row at.col) b
@@ -158,7 +159,7 @@ cell_added f plane at b cell old new here some is count cells = record {
       ∙ ap (λ xs. listed_edges f plane pass old ++ xs)
         (planned_by f plane pass at b cell some is ∙ sym (placed_here (has_cell f.shape plane at.row at.col) (block_edges f (cell_at plane pass at.row at.col) b) here)));
   cells = λ sr place are. subst (All (IsCellOf f plane sr)) (sym cells) (All-push (IsCellOf f plane sr) (cells_in old) cell are
-      (record { place = rw is.there place; here = rw is.there here; edges = (b, is.edges ∙ ap (λ (z : CellAt). crossed_by f.shape plane z.row z.col b) (sym is.there)) }));
+      (record { place = rw (is.row, is.column) place; here = rw (is.row, is.column) here; edges = (b, rw (is.row, is.column) is.edges) }));
 }
 
 -- at a place where a cell of chroma begins too, and at one where none does
@@ -170,7 +171,7 @@ pub both_added : (f : EdgeSetting) (at : CellAt) (b : BlockInfo) (luma chroma : 
 both_added f at b luma chroma old new here some is so count cells more others Y = cell_added f Y at b luma old.luma new.luma refl some is count cells
 both_added f at b luma chroma old new here some is so count cells more others U = cell_added f U at b chroma old.chroma new.chroma here some so more others
 both_added f at b luma chroma old new here some is so count cells more others V =
-    cell_added f V at b chroma old.chroma new.chroma here some (record { there = so.there; level = so.level; edges = so.edges ∙ crossed_same f.shape at.row at.col b }) more others
+    cell_added f V at b chroma old.chroma new.chroma here some (record { row = so.row; column = so.column; level = so.level; edges = so.edges ∙ crossed_same f.shape at.row at.col b }) more others
 
 pub luma_added : (f : EdgeSetting) (at : CellAt) (b : BlockInfo) (luma : PlannedCell) (old new : SuperblockPlans) → has_chroma f.shape at.row at.col ≡ false
     → nat_eq (filter_level f b) 0 ≡ false → IsCellBy f Y at b luma
@@ -232,22 +233,25 @@ both_passes f blocks plane sr sc list so = rw (so.edges Vertical, so.edges Horiz
 
 ---- In the area that is there ----
 
-outer_is : (shape : Shape) (plane : Plane) (pass : Pass) (b : BlockInfo) (cell : PlannedCell) → cell.edges ≡ crossed_by shape plane cell.at.row cell.at.col b
-    → (edges_in cell pass).outer ≡ outer_edge shape (cell_at plane pass cell.at.row cell.at.col) b
+abbrev pub place_of : PlannedCell → CellAt
+place_of cell = record { row = cell.row; col = cell.col }
+
+outer_is : (shape : Shape) (plane : Plane) (pass : Pass) (b : BlockInfo) (cell : PlannedCell) → cell.edges ≡ crossed_by shape plane cell.row cell.col b
+    → (edges_in cell pass).outer ≡ outer_edge shape (cell_at plane pass cell.row cell.col) b
 outer_is shape plane Vertical b cell is = ap (λ (e : CrossedEdges). e.vertical.outer) is
 outer_is shape plane Horizontal b cell is = ap (λ (e : CrossedEdges). e.horizontal.outer) is
 
-inner_is : (shape : Shape) (plane : Plane) (pass : Pass) (b : BlockInfo) (cell : PlannedCell) → cell.edges ≡ crossed_by shape plane cell.at.row cell.at.col b
-    → (edges_in cell pass).inner ≡ has_inner shape (cell_at plane pass cell.at.row cell.at.col) b
+inner_is : (shape : Shape) (plane : Plane) (pass : Pass) (b : BlockInfo) (cell : PlannedCell) → cell.edges ≡ crossed_by shape plane cell.row cell.col b
+    → (edges_in cell pass).inner ≡ has_inner shape (cell_at plane pass cell.row cell.col) b
 inner_is shape plane Vertical b cell is = ap (λ (e : CrossedEdges). e.vertical.inner) is
 inner_is shape plane Horizontal b cell is = ap (λ (e : CrossedEdges). e.horizontal.inner) is
 
 pub side_planned : (f : EdgeSetting) (way : PlanePass) (a : Area) (limits : Limits) (cell : PlannedCell) → IsCellWithin f way.plane a cell
-    → CanFilterSide f.shape way a cell.at limits (edges_in cell way.pass).outer
+    → CanFilterSide f.shape way a (place_of cell) limits (edges_in cell way.pass).outer
 side_planned f way a limits cell so =
-    side_fits f.shape way so.edges.0 a cell.at limits (edges_in cell way.pass).outer so.within (outer_is f.shape way.plane way.pass so.edges.0 cell so.edges.1)
+    side_fits f.shape way so.edges.0 a (place_of cell) limits (edges_in cell way.pass).outer so.within (outer_is f.shape way.plane way.pass so.edges.0 cell so.edges.1)
 
 pub middle_planned : (f : EdgeSetting) (way : PlanePass) (a : Area) (limits : Limits) (cell : PlannedCell) → IsCellWithin f way.plane a cell
-    → CanFilterMiddle f.shape way a cell.at limits (edges_in cell way.pass).inner
+    → CanFilterMiddle f.shape way a (place_of cell) limits (edges_in cell way.pass).inner
 middle_planned f way a limits cell so =
-    middle_fits f.shape way so.edges.0 a cell.at limits (edges_in cell way.pass).inner so.within (inner_is f.shape way.plane way.pass so.edges.0 cell so.edges.1)
+    middle_fits f.shape way so.edges.0 a (place_of cell) limits (edges_in cell way.pass).inner so.within (inner_is f.shape way.plane way.pass so.edges.0 cell so.edges.1)

@@ -76,8 +76,9 @@ cells_within f plane a sr list so few are = record {
   cells = λ i d low. let is = are i d low in record { within = cell_within f plane a sr _ _ so is.place is.here; edges = is.edges };
 }
 
-pub cell_of : (f : EdgeSetting) (plane : Plane) (a : Area) (list : CellList) (k : ℕ) (d : PlannedCell) → length list.cells ≡ 64 → AreCellsWithin f plane a list → k < list.count
-    → IsCellWithin f plane a (get_or list.cells k d)
-cell_of f plane a list k d long so low =
+pub cell_of : (f : EdgeSetting) (plane : Plane) (a now : Area) (list : CellList) (k : ℕ) (d : PlannedCell) → now ≡ a → length list.cells ≡ 64 → AreCellsWithin f plane a list → k < list.count
+    → IsCellWithin f plane now (get_or list.cells k d)
+cell_of f plane a now list k d same long so low =
     let there : k < length (cells_in list) = omega (arith, low, so.few, long, length-take-le list.count list.cells (omega (arith, so.few, long))) in
-    subst (IsCellWithin f plane a) (get_or-take list.count list.cells k d low) (so.cells k d there)
+    let cell : PlannedCell = get_or list.cells k d in
+    subst (λ (z : Area). IsCellWithin f plane z cell) (sym same) (subst (IsCellWithin f plane a) (get_or-take list.count list.cells k d low) (so.cells k d there))

@@ -45,8 +45,8 @@ edges_in cell Horizontal = cell.edges.horizontal
 unfoldable pub planned_edges : EdgeSetting → Plane → Pass → PlannedCell → List Edge
 planned_edges f plane pass cell =
     let limits = limits_of f.shape.depth f.filter.sharpness cell.level in
-    side_edges f.shape (cell_at plane pass cell.at.row cell.at.col) limits (edges_in cell pass).outer
-    ++ middle_edges f.shape (cell_at plane pass cell.at.row cell.at.col) limits (edges_in cell pass).inner
+    side_edges f.shape (cell_at plane pass cell.row cell.col) limits (edges_in cell pass).outer
+    ++ middle_edges f.shape (cell_at plane pass cell.row cell.col) limits (edges_in cell pass).inner
 
 -- the cells of a list
 abbrev pub cells_in : CellList → List PlannedCell
@@ -71,17 +71,17 @@ pub record IsPlaceOf (f : EdgeSetting) (sr r c : ℕ) : Type 0 where
 
 -- a cell of a plane at such a place, with the edges that a block has there
 pub record IsCellOf (f : EdgeSetting) (plane : Plane) (sr : ℕ) (cell : PlannedCell) : Type 0 where
-  pub place : IsPlaceOf f sr cell.at.row cell.at.col
-  pub here : has_cell f.shape plane cell.at.row cell.at.col ≡ true
-  pub edges : (b : BlockInfo) × (cell.edges ≡ crossed_by f.shape plane cell.at.row cell.at.col b)
+  pub place : IsPlaceOf f sr cell.row cell.col
+  pub here : has_cell f.shape plane cell.row cell.col ≡ true
+  pub edges : (b : BlockInfo) × (cell.edges ≡ crossed_by f.shape plane cell.row cell.col b)
 
 abbrev pub AreCellsOf : EdgeSetting → Plane → ℕ → CellList → Type 0
 AreCellsOf f plane sr list = All (IsCellOf f plane sr) (cells_in list)
 
 -- those of a plane, of which an area has what the filter looks at
 pub record IsCellWithin (f : EdgeSetting) (plane : Plane) (a : Area) (cell : PlannedCell) : Type 0 where
-  pub within : IsCellIn f.shape plane a cell.at.row cell.at.col
-  pub edges : (b : BlockInfo) × (cell.edges ≡ crossed_by f.shape plane cell.at.row cell.at.col b)
+  pub within : IsCellIn f.shape plane a cell.row cell.col
+  pub edges : (b : BlockInfo) × (cell.edges ≡ crossed_by f.shape plane cell.row cell.col b)
 
 pub record AreCellsWithin (f : EdgeSetting) (plane : Plane) (a : Area) (list : CellList) : Type 0 where
   pub few : list.count ≤ 64

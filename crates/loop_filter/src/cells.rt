@@ -13,7 +13,7 @@ use crate::blocks::filter_edges;
 use crate::plans::{CellList, PlannedCell};
 use crate::way::PlanePass;
 use line_filter::{EdgeSample, Pass};
-use loop_edges::{CellEdges, EdgeTables};
+use loop_edges::{CellAt, CellEdges, EdgeTables};
 use planes::SamplePlane;
 
 #[inline(always)]
@@ -46,7 +46,11 @@ fn filter_cell<P: EdgeSample>(
     let edges = edges_in(cell, way.pass);
     if edges.outer.is_some() || edges.inner {
         let limits = f.limits(cell.level);
-        filter_edges(samples, &f.setting.shape, way, cell.at, edges, limits);
+        let at = CellAt {
+            row: cell.row as u32,
+            col: cell.col as u32,
+        };
+        filter_edges(samples, &f.setting.shape, way, at, edges, limits);
     }
 }
 

@@ -23,10 +23,11 @@ pub struct CrossedEdges {
     pub horizontal: CellEdges,
 }
 
-/// A cell that may have edges, with its block's level.
+/// A cell that may have edges, by the row and column of its 8x8 luma samples, with its block's level.
 #[derive(Clone, Copy, Debug, PartialEq, Eq)]
 pub struct PlannedCell {
-    pub at: CellAt,
+    pub row: u16,
+    pub col: u16,
     pub level: u8,
     pub edges: CrossedEdges,
 }
@@ -58,7 +59,8 @@ fn no_cells() -> CellList
     ensures { result.count ≡ 0 }
 {
     let nothing = PlannedCell {
-        at: CellAt { row: 0, col: 0 },
+        row: 0,
+        col: 0,
         level: 0,
         edges: CrossedEdges {
             vertical: no_edges(),
@@ -82,12 +84,14 @@ fn add(list: &mut CellList, cell: PlannedCell)
     list.count += 1;
 }
 
-/// Whether a cell of chroma begins at a place.
+/// Whether a cell of chroma begins at a place. Without a jump: one would be taken at every second place.
 #[inline(always)]
 fn has_chroma(shape: &Shape, at: CellAt) -> bool
     ensures { result ≡ has_chroma shape.now at.row at.col }
 {
-    !(shape.ss_x && at.col % 2 == 1) && !(shape.ss_y && at.row % 2 == 1)
+    let is_between_columns = shape.ss_x & (at.col % 2 == 1);
+    let is_between_rows = shape.ss_y & (at.row % 2 == 1);
+    !is_between_columns & !is_between_rows
 }
 
 #[inline(always)]
@@ -101,6 +105,25 @@ fn crossed_by(shape: &Shape, plane: Plane, block: &BlockInfo, at: CellAt) -> Cro
     CrossedEdges {
         vertical: cell_edges(shape, plane, Pass::Vertical, block, at),
         horizontal: cell_edges(shape, plane, Pass::Horizontal, block, at),
+    }
+}
+
+#[inline(always)]
+fn planned(shape: &Shape, plane: Plane, block: &BlockInfo, at: CellAt, level: u8) -> PlannedCell
+    requires size { FitsPlanes shape.now }
+    requires row { at.row ≤ 8192 }
+    requires col { at.col ≤ 8192 }
+    requires fits { tx_number block.now.tx ≤ greatest_of block.now.size }
+    ensures row { result.row ≡ at.row }
+    ensures col { result.col ≡ at.col }
+    ensures level { result.level ≡ level }
+    ensures edges { result.edges ≡ crossed_by shape.now plane at.row at.col block.now }
+{
+    PlannedCell {
+        row: at.row as u16,
+        col: at.col as u16,
+        level,
+        edges: crossed_by(shape, plane, block, at),
     }
 }
 
@@ -124,11 +147,11 @@ fn add_cells(
     ensures { (plane : Plane) → HasPlace f.now.setting plane at.row at.col (Some block.now) (list_of plans.old plane) (list_of plans.new plane) }
 {
     let shape = &f.setting.shape;
-    let edges = crossed_by(shape, Plane::Y, block, at);
-    add(&mut plans.luma, PlannedCell { at, level, edges });
+    let luma = planned(shape, Plane::Y, block, at, level);
+    add(&mut plans.luma, luma);
     if has_chroma(shape, at) {
-        let edges = crossed_by(shape, Plane::U, block, at);
-        add(&mut plans.chroma, PlannedCell { at, level, edges });
+        let chroma = planned(shape, Plane::U, block, at, level);
+        add(&mut plans.chroma, chroma);
     }
 }
 
