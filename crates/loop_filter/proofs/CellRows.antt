@@ -107,7 +107,6 @@ absent_y true false true one = refl
 absent_y true x false one = let no : ⊥ = cc in absurd no
 absent_y false x y one = let no : ⊥ = cc in absurd no
 
-
 pub placed_here : (t : Bool) (xs : List Edge) → t ≡ true → (if t then xs else []) ≡ xs
 placed_here true xs is = refl
 placed_here false xs is = let no : ⊥ = cc in absurd no

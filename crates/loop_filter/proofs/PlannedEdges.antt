@@ -75,11 +75,6 @@ pub crossed_same : (shape : Shape) (r c : ℕ) (b : BlockInfo) → crossed_by sh
 unfolding outer_edge has_inner
 crossed_same shape r c b = refl
 
-pub planned_none : (f : EdgeSetting) (plane : Plane) (pass : Pass) (cell : PlannedCell) → (edges_in cell pass).outer ≡ None → (edges_in cell pass).inner ≡ false
-    → planned_edges f plane pass cell ≡ []
-unfolding planned_edges
-planned_none f plane pass cell outer inner = rw (outer, inner) refl
-
 ---- Places inside of skipped inter blocks ----
 
 inside_parts : (s l t : Bool) → (s && not l && not t) ≡ true → (s ≡ true) × (l ≡ false) × (t ≡ false)
@@ -137,9 +132,6 @@ if_same : (t : Bool) (xs : List Edge) → xs ≡ [] → (if t then xs else []) �
 if_same true xs none = none
 if_same false xs none = refl
 
-pub no_block : (f : EdgeSetting) (plane : Plane) (r c : ℕ) (list : CellList) → HasPlace f plane r c None list list
-no_block f plane r c list = list_kept f plane r c None list (λ pass. if_same (has_cell f.shape plane r c) [] refl)
-
 pub no_level : (f : EdgeSetting) (plane : Plane) (r c : ℕ) (b : BlockInfo) (list : CellList) → nat_eq (filter_level f b) 0 ≡ true → HasPlace f plane r c (Some b) list list
 no_level f plane r c b list off = list_kept f plane r c (Some b) list (λ pass. if_same (has_cell f.shape plane r c) (block_edges f (cell_at plane pass r c) b) (block_off f plane pass r c b off))
 
@@ -157,7 +149,7 @@ cell_added f plane at b cell old new here some is count cells = record {
   edges = λ pass. ap (flat_map (planned_edges f plane pass)) cells
       ∙ (flat_map_push (planned_edges f plane pass) (cells_in old) cell
       ∙ ap (λ xs. listed_edges f plane pass old ++ xs)
-        (planned_by f plane pass at b cell some is ∙ sym (placed_here (has_cell f.shape plane at.row at.col) (block_edges f (cell_at plane pass at.row at.col) b) here)));
+      (planned_by f plane pass at b cell some is ∙ sym (placed_here (has_cell f.shape plane at.row at.col) (block_edges f (cell_at plane pass at.row at.col) b) here)));
   cells = λ sr place are. subst (All (IsCellOf f plane sr)) (sym cells) (All-push (IsCellOf f plane sr) (cells_in old) cell are
       (record { place = rw (is.row, is.column) place; here = rw (is.row, is.column) here; edges = (b, rw (is.row, is.column) is.edges) }));
 }
@@ -183,13 +175,6 @@ luma_added f at b luma old new none some is count cells same V = rw same (no_cel
 
 ---- Places and rows one after another ----
 
-pub places_begin : (f : EdgeSetting) (blocks : List BlockInfo) (plane : Plane) (r sc : ℕ) (list : CellList) → HasPlaces f blocks plane r sc 0 list list
-places_begin f blocks plane r sc list = record {
-  few = omega arith;
-  edges = λ pass. sym (append-nil (listed_edges f plane pass list));
-  cells = λ sr from to row are. are;
-}
-
 pub one_place_more : (f : EdgeSetting) (blocks : List BlockInfo) (plane : Plane) (r sc n : ℕ) (first old new : CellList) → HasPlaces f blocks plane r sc n first old
     → HasPlace f plane r (8 * sc + n) (covering blocks r (8 * sc + n)) old new → 8 * sc + n < mi_cols f.shape → HasPlaces f blocks plane r sc (n + 1) first new
 one_place_more f blocks plane r sc n first old new so place inside = record {
@@ -199,13 +184,6 @@ one_place_more f blocks plane r sc n first old new so place inside = record {
       ∙ (append_assoc (listed_edges f plane pass first) (edges_along f blocks plane pass sc n r) (edges_at f blocks plane pass r (8 * sc + n))
       ∙ ap (λ xs. listed_edges f plane pass first ++ xs) (sym (place_more (edges_at f blocks plane pass r) sc n))));
   cells = λ sr from to row are. place.cells sr (record { from = from; to = to; row = row; column = inside }) (so.cells sr from to row are);
-}
-
-pub rows_begin : (f : EdgeSetting) (blocks : List BlockInfo) (plane : Plane) (sr sc : ℕ) (list : CellList) → list.count ≡ 0 → HasRows f blocks plane sr sc 0 list
-rows_begin f blocks plane sr sc list none = record {
-  few = omega (arith, none);
-  edges = λ pass. rw none refl;
-  cells = rw none (λ i d low. absurd (omega (arith, low)));
 }
 
 pub one_row_more : (f : EdgeSetting) (blocks : List BlockInfo) (plane : Plane) (sr sc n : ℕ) (old new : CellList) → HasRows f blocks plane sr sc n old

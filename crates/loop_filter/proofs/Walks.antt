@@ -1,9 +1,9 @@
 -- Cells one after another.
-use Rattle.std.proofs.Common.{◌≡◌, unwrap_or, nat_eq, ◌<◌, ◌≤◌, ◌+◌, ◌*◌, ◌-◌, ℕ, zero, suc, Bool, true, false, refl, sym, ◌∙◌, arith, ap, List, [], ◌∷◌, ◌++◌, map, min, length, take, get_or}
+use Rattle.std.proofs.Common.{◌≡◌, unwrap_or, nat_eq, ◌<◌, ◌≤◌, ◌+◌, ◌*◌, ◌-◌, ℕ, zero, suc, Bool, true, false, refl, sym, ◌∙◌, arith, ap, List, [], ◌∷◌, ◌++◌, map, min}
 use Rattle.std.specs.Prelude.{Option, Some, None, if◌then◌else◌}
 use Rattle.std.specs.List.{range_with_len, flat_map, fold}
 use Rattle.std.proofs.lemmas.Grind.{flat_map-append}
-use Rattle.std.proofs.lemmas.List.{map-id, append-nil, take_more}
+use Rattle.std.proofs.lemmas.List.{map-id, append-nil}
 use Rattle.std.proofs.lemmas.List.FromFn.{map-range_with_len_more}
 use Rattle.std.proofs.lemmas.List.Sums.{fold-append}
 use Rattle.vp9_types.specs.Maps.{Map, frame_map}
@@ -25,7 +25,7 @@ use Rattle.line_filter.specs.declared.edge.Pass.{Pass}
 use Rattle.loop_edges.specs.Code.{with_row}
 use Rattle.loop_edges.specs.FrameEdges.{step_of, cells_along, edges_of, cell_edges, row_edges, superblock_edges}
 use Rattle.loop_edges.specs.declared.setting.EdgeSetting.{EdgeSetting}
-use Rattle.loop_filter.specs.Code.{IsRowIn, HasFilterRows, AllFit}
+use Rattle.loop_filter.specs.Code.{AllFit}
 
 pub flat_map_push : {X : Type 0} (g : X → List Edge) (xs : List X) (x : X) → flat_map g (xs ++ x ∷ []) ≡ flat_map g xs ++ g x
 flat_map_push g xs x = rw (flat_map-append, append-nil) refl
@@ -97,10 +97,3 @@ pub row_by : (f : EdgeSetting) (blocks : List BlockInfo) (plane : Plane) (sr : �
     → new ≡ fold with_edge m (row_edges f blocks plane sr)
 unfolding row_edges
 row_by f blocks plane sr m new n on all done = done ∙ rw (on, all) refl
-
--- one cell of a list more is done
-pub cell_more : {X : Type 0} (g : X → List Edge) (xs : List X) (m old new : Map) (k : ℕ) (d : X) → k < length xs → old ≡ fold with_edge m (flat_map g (take k xs))
-    → new ≡ fold with_edge old (g (get_or xs k d)) → new ≡ fold with_edge m (flat_map g (take (k + 1) xs))
-cell_more g xs m old new k d low so done =
-    done ∙ (rw so refl ∙ sym (ap (λ ys. fold with_edge m (flat_map g ys)) (take_more xs k d low)
-    ∙ (ap (fold with_edge m) (flat_map_push g (take k xs) (get_or xs k d)) ∙ fold-append with_edge m (flat_map g (take k xs)) (g (get_or xs k d)))))

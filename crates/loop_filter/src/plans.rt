@@ -84,7 +84,7 @@ fn add(list: &mut CellList, cell: PlannedCell)
     list.count += 1;
 }
 
-/// Whether a cell of chroma begins at a place. Without a jump: one would be taken at every second place.
+/// Whether a cell of chroma begins at a place.
 #[inline(always)]
 fn has_chroma(shape: &Shape, at: CellAt) -> bool
     ensures { result ≡ has_chroma shape.now at.row at.col }
@@ -129,13 +129,7 @@ fn planned(shape: &Shape, plane: Plane, block: &BlockInfo, at: CellAt, level: u8
 
 /// The cells that begin at a place of a block, added to those before it.
 #[inline(always)]
-fn add_cells(
-    f: &EdgeTables,
-    block: &BlockInfo,
-    at: CellAt,
-    level: u8,
-    plans: &mut SuperblockPlans,
-)
+fn add_cells(f: &EdgeTables, block: &BlockInfo, at: CellAt, level: u8, plans: &mut SuperblockPlans)
     requires size { FitsPlanes f.now.setting.shape }
     requires row { at.row ≤ 8192 }
     requires col { at.col ≤ 8192 }

@@ -1,4 +1,4 @@
-use Rattle.std.proofs.Common.{◌≡◌, ◌∙◌, sym, refl}
+use Rattle.std.proofs.Common.{◌∙◌, sym, refl}
 use Rattle.loop_edges.specs.FilterLevels.{filter_level}
 use Rattle.loop_filter.specs.declared.plans.SuperblockPlans.{SuperblockPlans}
 use Rattle.loop_filter.proofs.PlannedEdges.{is_on, both_added, luma_added}

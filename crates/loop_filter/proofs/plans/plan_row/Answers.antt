@@ -1,4 +1,4 @@
-use Rattle.std.proofs.Common.{arith, ◌≡◌, ◌<◌, ◌+◌, ◌*◌}
+use Rattle.std.proofs.Common.{arith, ◌<◌, ◌+◌, ◌*◌}
 use Rattle.vp9_types.specs.Shapes.{mi_cols}
 use Rattle.vp9_types.specs.declared.shape.Plane.TheVariants.{Y, U}
 use Rattle.loop_filter.specs.FilterPlans.{list_of}
