@@ -1,7 +1,7 @@
 -- The cells of a superblock are those that begin at its places.
-use Rattle.std.proofs.Common.{◌≡◌, nat_eq, ◌<◌, ◌≤◌, ◌+◌, ◌*◌, ◌-◌, ◌/◌, ◌%◌, ℕ, zero, suc, inl, inr, Bool, true, false, refl, sym, ◌∙◌, arith, ap, List, [], ◌∷◌, ◌++◌, map, min}
+use Rattle.std.proofs.Common.{◌≡◌, nat_eq, ◌+◌, ◌*◌, ◌-◌, ◌/◌, ◌%◌, ℕ, zero, suc, inl, inr, Bool, true, false, refl, sym, ◌∙◌, arith, ap, List, [], ◌∷◌, ◌++◌, min}
 use Rattle.std.specs.Prelude.{if◌then◌else◌, not, ◌&&◌, ◌||◌}
-use Rattle.std.specs.List.{range_with_len, flat_map}
+use Rattle.std.specs.List.{flat_map}
 use Rattle.std.specs.Int.{div_ceil}
 use Rattle.std.proofs.Math.Path.{fun_ext}
 use Rattle.std.proofs.lemmas.Bool.{cases_Bool}
@@ -17,9 +17,9 @@ use Rattle.block_plan.specs.declared.block.BlockInfo.{BlockInfo}
 use Rattle.line_filter.specs.declared.edge.Edge.{Edge}
 use Rattle.line_filter.specs.declared.edge.Pass.{Pass}
 use Rattle.loop_edges.specs.Cells.{cell_at, sub_x, sub_y}
-use Rattle.loop_edges.specs.FrameEdges.{step_of, cells_from, cells_along, cells_of, edges_of, cell_edges, cell_row, pass_edges}
+use Rattle.loop_edges.specs.FrameEdges.{step_of, cells_from, cells_of, edges_of, cell_edges, cell_row, pass_edges}
 use Rattle.loop_edges.specs.declared.setting.EdgeSetting.{EdgeSetting}
-use Rattle.loop_filter.specs.FilterPlans.{has_cell, placed_edges, edges_at, edges_along, edges_of_rows}
+use Rattle.loop_filter.specs.FilterPlans.{has_cell, edges_at, edges_along, edges_of_rows}
 use Rattle.loop_filter.proofs.Walks.{flat_map_push}
 
 -- one place more

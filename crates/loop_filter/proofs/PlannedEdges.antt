@@ -1,11 +1,12 @@
 -- What is planned for a cell is what the definition has there.
-use Rattle.std.proofs.Common.{◌≡◌, ◌<◌, ◌≤◌, ◌+◌, ◌*◌, ◌-◌, ◌%◌, ℕ, zero, suc, inl, inr, Bool, true, false, refl, sym, ◌∙◌, arith, ap, subst, List, [], ◌∷◌, ◌++◌, nat_eq, min}
+use Rattle.std.proofs.Common.{◌≡◌, ◌<◌, ◌≤◌, ◌+◌, ◌*◌, ◌-◌, ℕ, inl, inr, Bool, true, false, refl, sym, ◌∙◌, arith, ap, subst, List, [], ◌∷◌, ◌++◌, nat_eq, min}
 use Rattle.std.specs.Prelude.{Option, Some, None, All, not, ◌&&◌, ◌||◌, if◌then◌else◌}
-use Rattle.std.specs.List.{flat_map}
+use Rattle.std.specs.List.{flat_map, fold}
 use Rattle.std.proofs.lemmas.Bool.{cases_Bool}
 use Rattle.std.proofs.lemmas.Bool.Decides.{nat_tests}
 use Rattle.std.proofs.lemmas.List.{append-nil, append_assoc}
 use Rattle.std.proofs.lemmas.List.Elements.{All-push}
+use Rattle.vp9_types.specs.Maps.{Map}
 use Rattle.vp9_types.specs.Shapes.{mi_rows, mi_cols}
 use Rattle.vp9_types.specs.declared.shape.Plane.{Plane}
 use Rattle.vp9_types.specs.declared.shape.Plane.TheVariants.{Y, U, V}
@@ -14,6 +15,7 @@ use Rattle.planes.specs.declared.area.Area.{Area}
 use Rattle.block_plan.specs.Blocks.{covering}
 use Rattle.block_plan.specs.InPlanes.{tx_in}
 use Rattle.block_plan.specs.declared.block.BlockInfo.{BlockInfo}
+use Rattle.line_filter.specs.FilteredEdges.{with_edge}
 use Rattle.line_filter.specs.declared.edge.Edge.{Edge}
 use Rattle.line_filter.specs.declared.edge.FilterWidth.{FilterWidth}
 use Rattle.line_filter.specs.declared.edge.Limits.{Limits}
@@ -21,12 +23,12 @@ use Rattle.line_filter.specs.declared.edge.Pass.{Pass}
 use Rattle.line_filter.specs.declared.edge.Pass.TheVariants.{Vertical, Horizontal}
 use Rattle.loop_edges.specs.Cells.{cell_at, across, is_skipped_inter, is_4x4, outer_width, outer_edge, has_inner}
 use Rattle.loop_edges.specs.Code.{is_inside}
-use Rattle.loop_edges.specs.FrameEdges.{both_edges, block_edges, edges_of, cells_from, superblock_edges}
+use Rattle.loop_edges.specs.FrameEdges.{both_edges, block_edges, superblock_edges}
 use Rattle.loop_edges.specs.FilterLevels.{filter_level, limits_of}
 use Rattle.loop_edges.specs.declared.cells.CellAt.{CellAt}
 use Rattle.loop_edges.specs.declared.setting.EdgeSetting.{EdgeSetting}
 use Rattle.loop_filter.specs.Code.{CanFilterSide, CanFilterMiddle}
-use Rattle.loop_filter.specs.FilterPlans.{crossed_by, has_chroma, has_cell, edges_in, planned_edges, cells_in, list_of, listed_edges, placed_edges, edges_at, edges_along, edges_of_rows, IsPlaceOf, IsCellOf, AreCellsOf, IsCellWithin, HasPlace, HasPlaces, HasRows, IsPlanned}
+use Rattle.loop_filter.specs.FilterPlans.{crossed_by, has_chroma, has_cell, edges_in, planned_edges, cells_in, list_of, listed_edges, placed_edges, edges_at, edges_along, edges_of_rows, IsCellOf, IsCellWithin, HasPlace, HasPlaces, HasRows, IsPlanned}
 use Rattle.loop_filter.specs.declared.plans.CellList.{CellList}
 use Rattle.loop_filter.specs.declared.plans.CrossedEdges.{CrossedEdges}
 use Rattle.loop_filter.specs.declared.plans.PlannedCell.{PlannedCell}
@@ -204,10 +206,10 @@ all_planned f blocks plane sr sc n list so all = record {
   cells = so.cells;
 }
 
-pub both_passes : (f : EdgeSetting) (blocks : List BlockInfo) (plane : Plane) (sr sc : ℕ) (list : CellList) → IsPlanned f blocks plane sr sc list
-    → listed_edges f plane Vertical list ++ listed_edges f plane Horizontal list ≡ superblock_edges f blocks plane sr sc
+pub both_passes : (f : EdgeSetting) (blocks : List BlockInfo) (plane : Plane) (sr sc : ℕ) (list : CellList) (m new : Map) → IsPlanned f blocks plane sr sc list
+    → new ≡ fold with_edge m (listed_edges f plane Vertical list ++ listed_edges f plane Horizontal list) → new ≡ fold with_edge m (superblock_edges f blocks plane sr sc)
 unfolding superblock_edges
-both_passes f blocks plane sr sc list so = rw (so.edges Vertical, so.edges Horizontal) refl
+both_passes f blocks plane sr sc list m new so done = done ∙ rw (so.edges Vertical, so.edges Horizontal) refl
 
 ---- In the area that is there ----
 

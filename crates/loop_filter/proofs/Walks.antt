@@ -1,5 +1,5 @@
 -- Cells one after another.
-use Rattle.std.proofs.Common.{◌≡◌, unwrap_or, nat_eq, ◌<◌, ◌≤◌, ◌+◌, ◌*◌, ◌-◌, ℕ, zero, suc, Bool, true, false, refl, sym, ◌∙◌, arith, ap, List, [], ◌∷◌, ◌++◌, map, min}
+use Rattle.std.proofs.Common.{◌≡◌, unwrap_or, nat_eq, ◌≤◌, ◌+◌, ℕ, zero, suc, Bool, true, false, refl, sym, ◌∙◌, arith, ap, List, [], ◌∷◌, ◌++◌, map}
 use Rattle.std.specs.Prelude.{Option, Some, None, if◌then◌else◌}
 use Rattle.std.specs.List.{range_with_len, flat_map, fold}
 use Rattle.std.proofs.lemmas.Grind.{flat_map-append}
@@ -8,22 +8,18 @@ use Rattle.std.proofs.lemmas.List.FromFn.{map-range_with_len_more}
 use Rattle.std.proofs.lemmas.List.Sums.{fold-append}
 use Rattle.vp9_types.specs.Maps.{Map, frame_map}
 use Rattle.std.proofs.Math.Path.{fun_ext}
-use Rattle.vp9_types.specs.Shapes.{halved, mi_rows, mi_cols}
+use Rattle.vp9_types.specs.Shapes.{mi_cols}
 use Rattle.vp9_types.specs.Sizes.{superblocks_along}
 use Rattle.vp9_types.specs.declared.shape.Plane.{Plane}
 use Rattle.vp9_types.specs.declared.shape.Plane.TheVariants.{Y, U, V}
-use Rattle.vp9_types.specs.declared.shape.Shape.{Shape}
 use Rattle.vp9_tables.specs.BlockTables.{greatest_of}
 use Rattle.vp9_tables.specs.Numbers.{tx_number}
-use Rattle.planes.specs.declared.area.Area.{Area}
 use Rattle.block_plan.specs.Blocks.{covering, covers, or_else}
 use Rattle.block_plan.specs.declared.block.BlockInfo.{BlockInfo}
 use Rattle.line_filter.specs.FilteredEdges.{with_edge}
 use Rattle.line_filter.specs.declared.edge.Edge.{Edge}
-use Rattle.loop_edges.specs.Cells.{cell_at, sub_y}
-use Rattle.line_filter.specs.declared.edge.Pass.{Pass}
 use Rattle.loop_edges.specs.Code.{with_row}
-use Rattle.loop_edges.specs.FrameEdges.{step_of, cells_along, edges_of, cell_edges, row_edges, superblock_edges}
+use Rattle.loop_edges.specs.FrameEdges.{row_edges, superblock_edges}
 use Rattle.loop_edges.specs.declared.setting.EdgeSetting.{EdgeSetting}
 use Rattle.loop_filter.specs.Code.{AllFit}
 

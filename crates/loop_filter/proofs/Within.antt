@@ -1,18 +1,17 @@
 -- The cells of a row of superblocks lie in an area that has its rows.
-use Rattle.std.proofs.Common.{◌≡◌, nat_eq, ◌<◌, ◌≤◌, ◌+◌, ◌*◌, ◌-◌, ◌/◌, ◌%◌, ℕ, zero, suc, Bool, true, false, refl, sym, ◌∙◌, arith, ap, subst, min, length, get_or}
-use Rattle.std.specs.Prelude.{All, if◌then◌else◌, not, ◌&&◌, ◌||◌}
+use Rattle.std.proofs.Common.{◌≡◌, nat_eq, ◌<◌, ◌≤◌, ◌+◌, ◌*◌, ◌-◌, ◌%◌, ℕ, zero, suc, Bool, true, false, refl, sym, arith, subst, length, get_or}
+use Rattle.std.specs.Prelude.{not, ◌&&◌}
 use Rattle.std.proofs.lemmas.Bool.Decides.{nat_tests}
 use Rattle.std.proofs.lemmas.List.{get_or-take, length-take-le}
-use Rattle.vp9_types.specs.Shapes.{halved, mi_rows, mi_cols, coded_height}
+use Rattle.vp9_types.specs.Shapes.{halved}
 use Rattle.vp9_types.specs.declared.shape.Plane.{Plane}
 use Rattle.vp9_types.specs.declared.shape.Plane.TheVariants.{Y, U, V}
 use Rattle.vp9_types.specs.declared.shape.Shape.{Shape}
-use Rattle.planes.specs.Planes.{lower_end}
 use Rattle.planes.specs.declared.area.Area.{Area}
 use Rattle.loop_edges.specs.Cells.{sub_x, sub_y}
 use Rattle.loop_edges.specs.declared.setting.EdgeSetting.{EdgeSetting}
 use Rattle.loop_filter.specs.Code.{IsCellIn, HasFilterRows}
-use Rattle.loop_filter.specs.FilterPlans.{has_cell, cells_in, IsPlaceOf, IsCellOf, AreCellsOf, IsCellWithin, AreCellsWithin}
+use Rattle.loop_filter.specs.FilterPlans.{has_cell, cells_in, IsPlaceOf, AreCellsOf, IsCellWithin, AreCellsWithin}
 use Rattle.loop_filter.specs.declared.plans.CellList.{CellList}
 use Rattle.loop_filter.specs.declared.plans.PlannedCell.{PlannedCell}
 

@@ -1,5 +1,5 @@
 -- What the code keeps of a superblock: its cells that may have edges, in order, each with its edges and its block's level.
-use Rattle.std.specs.Prelude.{◌≡◌, ℕ, ◌+◌, ◌*◌, ◌-◌, ◌%◌, ◌<◌, ◌≤◌, Bool, true, false, ◌&&◌, ◌||◌, not, List, [], ◌++◌, All, Option, Some, None, min, nat_eq, take, if◌then◌else◌}
+use Rattle.std.specs.Prelude.{◌≡◌, ℕ, ◌+◌, ◌*◌, ◌-◌, ◌%◌, ◌<◌, ◌≤◌, Bool, true, false, ◌&&◌, ◌||◌, not, List, [], ◌++◌, All, Option, min, nat_eq, take, if◌then◌else◌}
 use Rattle.std.specs.List.{flat_map}
 use Rattle.vp9_types.specs.Shapes.{is_chroma, mi_rows, mi_cols}
 use Rattle.vp9_types.specs.declared.shape.Plane.{Plane}

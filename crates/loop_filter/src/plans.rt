@@ -55,9 +55,7 @@ fn no_edges() -> CellEdges {
 }
 
 #[inline(always)]
-fn no_cells() -> CellList
-    ensures { result.count ≡ 0 }
-{
+fn no_cells() -> CellList {
     let nothing = PlannedCell {
         row: 0,
         col: 0,
@@ -70,6 +68,15 @@ fn no_cells() -> CellList
     CellList {
         cells: [nothing; 64],
         count: 0,
+    }
+}
+
+/// Room for the cells of a superblock.
+#[inline(always)]
+pub fn no_plans() -> SuperblockPlans {
+    SuperblockPlans {
+        luma: no_cells(),
+        chroma: no_cells(),
     }
 }
 
@@ -209,28 +216,27 @@ fn plan_row<N: Neighbours>(
     }
 }
 
-/// What the filter does at the cells of a superblock.
-#[inline(never)]
+/// What the filter does at the cells of a superblock, in place of what it did at those of another. It is a part of its caller,
+/// which has the lists, so that nothing is read again after each cell.
+#[inline(always)]
 pub fn plan_superblock<N: Neighbours>(
     f: &EdgeTables,
     blocks: &N,
     sr: u32,
     sc: u32,
-) -> SuperblockPlans
+    plans: &mut SuperblockPlans,
+)
     requires size { FitsPlanes f.now.setting.shape }
     requires row { 8 * sr ≤ mi_rows f.now.setting.shape }
     requires column { 8 * sc ≤ mi_cols f.now.setting.shape }
     requires held { (r c : ℕ) → 8 * sr ≤ r → r < 8 * (sr + 1) → r < mi_rows f.now.setting.shape → c < mi_cols f.now.setting.shape → N.holds blocks.now r c }
     requires fit { AllFit (N.blocks blocks.now) }
-    ensures { (plane : Plane) → IsPlanned f.now.setting (N.blocks blocks.now) plane sr sc (list_of result plane) }
+    ensures { (plane : Plane) → IsPlanned f.now.setting (N.blocks blocks.now) plane sr sc (list_of plans.new plane) }
 {
     let count = (f.setting.shape.place_rows() - 8 * sr).min(8);
-    let mut plans = SuperblockPlans {
-        luma: no_cells(),
-        chroma: no_cells(),
-    };
+    plans.luma.count = 0;
+    plans.chroma.count = 0;
     for i in 0..count {
-        plan_row(f, blocks, 8 * sr + i, sc, &mut plans);
+        plan_row(f, blocks, 8 * sr + i, sc, plans);
     }
-    plans
 }

@@ -16,7 +16,7 @@ ghost use Rattle.loop_filter.specs.Code.{HoldsFilterRows, HasAreasOf, AllFit};
 ghost use Rattle.loop_filter.specs.FilterPlans.{listed_edges, AreCellsWithin};
 
 use crate::cells::filter_pass;
-use crate::plans::{CellList, plan_superblock};
+use crate::plans::{CellList, SuperblockPlans, no_plans, plan_superblock};
 use crate::way::PlanePass;
 use block_plan::Neighbours;
 use line_filter::{EdgeSample, Pass};
@@ -57,6 +57,7 @@ fn filter_superblock<P: EdgeSample, const SITE: usize>(
 /// A superblock of all planes.
 fn filter_planes<P: EdgeSample, N: Neighbours>(
     planes: &mut FramePlanes<P>,
+    plans: &mut SuperblockPlans,
     f: &EdgeTables,
     blocks: &N,
     sr: u32,
@@ -76,7 +77,7 @@ fn filter_planes<P: EdgeSample, N: Neighbours>(
     ensures v { plane_map planes.new.v ≡ fold with_edge (plane_map planes.old.v) (superblock_edges f.now.setting (N.blocks blocks.now) V sr sc) }
     ensures range { IsInRange f.now.setting.shape.depth planes.new }
 {
-    let plans = plan_superblock(f, blocks, sr, sc);
+    plan_superblock(f, blocks, sr, sc, plans);
     filter_superblock::<P, 0>(&mut planes.y, f, Plane::Y, &plans.luma);
     filter_superblock::<P, 1>(&mut planes.u, f, Plane::U, &plans.chroma);
     filter_superblock::<P, 2>(&mut planes.v, f, Plane::V, &plans.chroma);
@@ -101,8 +102,9 @@ fn filter_superblocks<P: EdgeSample, N: Neighbours>(
     ensures map { samples_of planes.new ≡ with_row f.now.setting (N.blocks blocks.now) (samples_of planes.old) sr }
     ensures range { IsInRange f.now.setting.shape.depth planes.new }
 {
+    let mut plans = no_plans();
     for sc in 0..f.setting.shape.superblock_cols() {
-        filter_planes(planes, f, blocks, sr, sc);
+        filter_planes(planes, &mut plans, f, blocks, sr, sc);
     }
 }
 
