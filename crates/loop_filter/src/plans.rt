@@ -1,6 +1,6 @@
 //! What the filter does at the cells of a superblock, found once for all planes and passes.
 
-ghost use Rattle.std.specs.Prelude.{◌≡◌, ◌≤◌, ◌<◌, ◌*◌, ◌+◌, ◌-◌, ◌∷◌, ◌++◌, min, [], ℕ, Some};
+ghost use Rattle.std.specs.Prelude.{◌≡◌, ◌≤◌, ◌<◌, ◌*◌, ◌+◌, ◌-◌, ◌∷◌, ◌++◌, min, [], ℕ, false, Some, None};
 ghost use Rattle.vp9_types.specs.Shapes.{mi_rows, mi_cols};
 ghost use Rattle.vp9_types.specs.declared.shape.Plane.{Plane};
 ghost use Rattle.vp9_tables.specs.BlockTables.{greatest_of};
@@ -47,7 +47,10 @@ pub struct SuperblockPlans {
 }
 
 #[inline(always)]
-fn no_edges() -> CellEdges {
+fn no_edges() -> CellEdges
+    ensures outer { result.outer ≡ None }
+    ensures inner { result.inner ≡ false }
+{
     CellEdges {
         outer: None,
         inner: false,
@@ -55,7 +58,9 @@ fn no_edges() -> CellEdges {
 }
 
 #[inline(always)]
-fn no_cells() -> CellList {
+fn no_cells() -> CellList
+    ensures { result.count ≡ 0 }
+{
     let nothing = PlannedCell {
         row: 0,
         col: 0,
@@ -73,7 +78,10 @@ fn no_cells() -> CellList {
 
 /// Room for the cells of a superblock.
 #[inline(always)]
-pub fn no_plans() -> SuperblockPlans {
+pub fn no_plans() -> SuperblockPlans
+    ensures luma { result.luma.count ≡ 0 }
+    ensures chroma { result.chroma.count ≡ 0 }
+{
     SuperblockPlans {
         luma: no_cells(),
         chroma: no_cells(),
@@ -216,8 +224,8 @@ fn plan_row<N: Neighbours>(
     }
 }
 
-/// What the filter does at the cells of a superblock, in place of what it did at those of another. It is a part of its caller,
-/// which has the lists, so that nothing is read again after each cell.
+/// What the filter does at the cells of a superblock, in place of what was planned for another. It is a part of its caller, which
+/// has the lists: so the compiler knows that a cell that is added changes no block.
 #[inline(always)]
 pub fn plan_superblock<N: Neighbours>(
     f: &EdgeTables,
