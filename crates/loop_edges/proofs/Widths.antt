@@ -65,6 +65,18 @@ narrowed_is T16x16 a = large (nat_eq (a.k % 2) 0) a.is_last
 narrowed_is T8x8 a = refl
 narrowed_is T4x4 a = small (nat_eq (a.k % 4) 0) a.is_last
 
-pub width_is : (tx : TxSize) (a : Crossing) (w : Option FilterWidth) → a.k < 8 → slice_get OUTER_WIDTHS (8 * tx_number tx + a.k) ≡ Some w
+width_is : (tx : TxSize) (a : Crossing) (w : Option FilterWidth) → a.k < 8 → slice_get OUTER_WIDTHS (8 * tx_number tx + a.k) ≡ Some w
     → narrowed w a.is_last ≡ outer_width tx a
 width_is tx a w low at = ap (λ (v : Option FilterWidth). narrowed v a.is_last) (entry_is tx a.k w low at) ∙ narrowed_is tx a
+
+-- behind those of the sizes there are none
+abbrev nothing : ℕ → Bool
+nothing k = holds (λ w. nat_eq (number w) 0) (slice_get OUTER_WIDTHS (8 * 4 + k))
+
+none_there : (k : ℕ) (w : Option FilterWidth) → k < 8 → slice_get OUTER_WIDTHS (8 * 4 + k) ≡ Some w → w ≡ None
+none_there k w low at = same w None (sym (ap (holds (λ v. nat_eq (number v) 0)) at) ∙ agree_below_at nothing (λ _. true) 8 k refl low)
+
+pub edge_is : (is_edge : Bool) (tx : TxSize) (a : Crossing) (w : Option FilterWidth) → a.k < 8
+    → slice_get OUTER_WIDTHS (8 * (if is_edge then tx_number tx else 4) + a.k) ≡ Some w → narrowed w a.is_last ≡ (if is_edge then outer_width tx a else None)
+edge_is true tx a w low at = width_is tx a w low at
+edge_is false tx a w low at = ap (λ (v : Option FilterWidth). narrowed v a.is_last) (none_there a.k w low at)

@@ -1,6 +1,6 @@
 //! The edges of a cell of 8x8 samples of a plane.
 
-ghost use Rattle.std.specs.Prelude.{◌≡◌, ◌≤◌, ◌<◌, ◌+◌, ◌*◌, ◌%◌, ◌&&◌, Some, nat_eq, length, slice_get};
+ghost use Rattle.std.specs.Prelude.{◌≡◌, ◌≤◌, ◌<◌, ◌+◌, ◌*◌, ◌%◌, ◌&&◌, Some, None, nat_eq, length, slice_get, if◌then◌else◌};
 ghost use Rattle.vp9_types.specs.Shapes.{halved};
 ghost use Rattle.vp9_tables.specs.BlockTables.{greatest_of};
 ghost use Rattle.vp9_tables.specs.Numbers.{tx_number};
@@ -118,8 +118,8 @@ pub fn is_inside(block: &BlockInfo, at: CellAt) -> bool
     is_skipped_inter(block) & !is_left & !is_top
 }
 
-/// The widths of the filter at the eight cells of a superblock, by the size of the transform.
-static OUTER_WIDTHS: [Option<FilterWidth>; 32] = [
+/// The widths of the filter at the eight cells of a superblock, by the size of the transform, and none at all.
+static OUTER_WIDTHS: [Option<FilterWidth>; 40] = [
     Some(FilterWidth::Eight),
     Some(FilterWidth::Four),
     Some(FilterWidth::Four),
@@ -149,6 +149,14 @@ static OUTER_WIDTHS: [Option<FilterWidth>; 32] = [
     None,
     None,
     Some(FilterWidth::Sixteen),
+    None,
+    None,
+    None,
+    None,
+    None,
+    None,
+    None,
+    None,
     None,
     None,
     None,
@@ -174,22 +182,31 @@ fn width_at(table: &[Option<FilterWidth>], place: usize) -> Option<FilterWidth>
     table[place]
 }
 
+/// Where the widths of a transform's size begin, or none at all.
 #[inline(always)]
-fn whole_width(tx: TxSize, k: u32) -> Option<FilterWidth>
-    requires { k < 8 }
-    ensures { slice_get OUTER_WIDTHS (8 * tx_number tx + k) ≡ Some result }
+fn widths_at(is_edge: bool, tx: TxSize) -> usize
+    ensures value { result ≡ 8 * (if is_edge then tx_number tx else 4) }
+    ensures most { result ≤ 32 }
 {
-    width_at(&OUTER_WIDTHS, 8 * tx as usize + k as usize)
+    if is_edge { 8 * tx as usize } else { 32 }
 }
 
-/// The width of the filter at the side of a cell, where a transform block begins there: looked up, since a choice among
-/// them is slow.
 #[inline(always)]
-fn outer_width(tx: TxSize, a: Crossing) -> Option<FilterWidth>
-    requires { a.k < 8 }
-    ensures { result ≡ outer_width tx a }
+fn whole_width(is_edge: bool, tx: TxSize, k: u32) -> Option<FilterWidth>
+    requires { k < 8 }
+    ensures { slice_get OUTER_WIDTHS (8 * (if is_edge then tx_number tx else 4) + k) ≡ Some result }
 {
-    narrowed(whole_width(tx, a.k), a.is_last)
+    width_at(&OUTER_WIDTHS, widths_at(is_edge, tx) + k as usize)
+}
+
+/// The width of the filter at the side of a cell, if there may be an edge and a transform block begins there: looked up in
+/// either case, since a choice among the widths is slow, and so is a jump past them.
+#[inline(always)]
+fn outer_width(is_edge: bool, tx: TxSize, a: Crossing) -> Option<FilterWidth>
+    requires { a.k < 8 }
+    ensures { result ≡ (if is_edge then outer_width tx a else None) }
+{
+    narrowed(whole_width(is_edge, tx, a.k), a.is_last)
 }
 
 #[inline(always)]
@@ -219,11 +236,7 @@ pub fn cell_edges(
 {
     let tx = plane_block(shape, block, plane).tx;
     let here = across(shape, plane, pass, block, at);
-    let outer = if has_outer(block, here) {
-        outer_width(tx, here)
-    } else {
-        None
-    };
+    let outer = outer_width(has_outer(block, here), tx, here);
     let beside = across(shape, plane, Pass::Vertical, block, at);
     let inner = tx == TxSize::T4x4 && !is_skipped_inter(block) && !beside.is_last && !here.is_last;
     CellEdges { outer, inner }

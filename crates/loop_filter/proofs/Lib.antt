@@ -1,5 +1,7 @@
 pub mod Sides
 pub mod Walks
+pub mod CellRows
+pub mod Within
 pub mod Frames
 pub mod PlannedEdges
 pub mod FinalRows

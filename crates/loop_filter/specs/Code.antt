@@ -46,15 +46,6 @@ abbrev pub CanFilterMiddle : Shape → PlanePass → Area → CellAt → Limits 
 CanFilterMiddle shape way a at limits false = Unit {0}
 CanFilterMiddle shape way a at limits true = IsEdgeIn a (middle_edge shape (cell_at way.plane way.pass at.row at.col) limits)
 
--- An area has the whole width of a plane, and those rows that the filter looks at around a row of cells.
-pub record IsRowIn (shape : Shape) (plane : Plane) (a : Area) (r : ℕ) : Type 0 where
-  pub row : r < mi_rows shape
-  pub above : a.first_row ≤ row_of shape plane r
-  pub above_all : 0 < r → a.first_row + 8 ≤ row_of shape plane r
-  pub below : min 8 (lower_end a - row_of shape plane r) ≡ min 8 (coded_height shape plane - row_of shape plane r)
-  pub left : a.first_column ≡ 0
-  pub right : right_end a ≡ coded_width shape plane
-
 -- An area has the whole width of a plane, and the rows of a row of superblocks with the eight above it: all of the plane, or
 -- a part of it.
 pub record HasFilterRows (shape : Shape) (plane : Plane) (sr : ℕ) (a : Area) : Type 0 where

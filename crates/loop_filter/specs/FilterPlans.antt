@@ -1,34 +1,34 @@
--- What the code keeps of the places of a superblock: the levels of their blocks, and the edges of the cells there.
-use Rattle.std.specs.Prelude.{◌≡◌, ℕ, ◌+◌, ◌*◌, ◌-◌, ◌%◌, ◌<◌, Bool, false, ◌&&◌, ◌||◌, not, List, [], ◌++◌, Option, Some, None, min, nat_eq, slice_index_or, if◌then◌else◌}
+-- What the code keeps of a superblock: its cells that may have edges, in order, each with its edges and its block's level.
+use Rattle.std.specs.Prelude.{◌≡◌, ℕ, ◌+◌, ◌*◌, ◌-◌, ◌%◌, ◌<◌, ◌≤◌, Bool, true, false, ◌&&◌, ◌||◌, not, List, [], ◌++◌, All, Option, min, nat_eq, take, if◌then◌else◌}
+use Rattle.std.specs.List.{flat_map}
 use Rattle.vp9_types.specs.Shapes.{is_chroma, mi_rows, mi_cols}
 use Rattle.vp9_types.specs.declared.shape.Plane.{Plane}
 use Rattle.vp9_types.specs.declared.shape.Plane.TheVariants.{Y, U, V}
 use Rattle.vp9_types.specs.declared.shape.Shape.{Shape}
+use Rattle.planes.specs.declared.area.Area.{Area}
 use Rattle.block_plan.specs.Blocks.{covering}
 use Rattle.block_plan.specs.declared.block.BlockInfo.{BlockInfo}
 use Rattle.line_filter.specs.declared.edge.Edge.{Edge}
 use Rattle.line_filter.specs.declared.edge.Pass.{Pass}
 use Rattle.line_filter.specs.declared.edge.Pass.TheVariants.{Vertical, Horizontal}
 use Rattle.loop_edges.specs.Cells.{cell_at, outer_edge, has_inner}
-use Rattle.loop_edges.specs.FrameEdges.{side_edges, middle_edges}
-use Rattle.loop_edges.specs.FilterLevels.{filter_level, limits_of}
+use Rattle.loop_edges.specs.FrameEdges.{side_edges, middle_edges, edges_of, pass_edges, cells_from}
+use Rattle.loop_edges.specs.FilterLevels.{limits_of}
 use Rattle.loop_edges.specs.declared.cells.CellEdges.{CellEdges}
 use Rattle.loop_edges.specs.declared.setting.EdgeSetting.{EdgeSetting}
+use Rattle.loop_filter.specs.Code.{IsCellIn}
+use Rattle.loop_filter.specs.declared.plans.CellList.{CellList}
 use Rattle.loop_filter.specs.declared.plans.CrossedEdges.{CrossedEdges}
-use Rattle.loop_filter.specs.declared.plans.PlacePlan.{PlacePlan}
-
-abbrev pub no_edges : CellEdges
-no_edges = record { outer = None; inner = false }
-
-abbrev pub nowhere : CrossedEdges
-nowhere = record { vertical = no_edges; horizontal = no_edges }
-
-abbrev pub unfiltered : PlacePlan
-unfiltered = record { level = 0; luma = nowhere; chroma = nowhere }
+use Rattle.loop_filter.specs.declared.plans.PlannedCell.{PlannedCell}
+use Rattle.loop_filter.specs.declared.plans.SuperblockPlans.{SuperblockPlans}
 
 -- A cell of chroma begins at the places whose column and row are even, where it is subsampled.
 abbrev pub has_chroma : Shape → ℕ → ℕ → Bool
 has_chroma shape r c = not (shape.ss_x && nat_eq (c % 2) 1) && not (shape.ss_y && nat_eq (r % 2) 1)
+
+-- A cell of a plane begins at a place.
+abbrev pub has_cell : Shape → Plane → ℕ → ℕ → Bool
+has_cell shape plane r c = not (is_chroma plane) || has_chroma shape r c
 
 -- the edges of a cell, by its block
 abbrev pub edges_by : Shape → Plane → Pass → ℕ → ℕ → BlockInfo → CellEdges
@@ -37,66 +37,92 @@ edges_by shape plane pass r c b = record { outer = outer_edge shape (cell_at pla
 abbrev pub crossed_by : Shape → Plane → ℕ → ℕ → BlockInfo → CrossedEdges
 crossed_by shape plane r c b = record { vertical = edges_by shape plane Vertical r c b; horizontal = edges_by shape plane Horizontal r c b }
 
-abbrev pub chroma_by : Shape → ℕ → ℕ → BlockInfo → CrossedEdges
-chroma_by shape r c b = if has_chroma shape r c then crossed_by shape U r c b else nowhere
-
--- none at level 0
-unfoldable pub plan_by : EdgeSetting → ℕ → ℕ → BlockInfo → PlacePlan
-plan_by f r c b =
-    if nat_eq (filter_level f b) 0 then unfiltered
-    else record { level = filter_level f b; luma = crossed_by f.shape Y r c b; chroma = chroma_by f.shape r c b }
-
-abbrev pub plan_from : EdgeSetting → ℕ → ℕ → Option BlockInfo → PlacePlan
-plan_from f r c None = unfiltered
-plan_from f r c (Some b) = plan_by f r c b
-
--- the plan of the place at a row and column
-unfoldable pub plan_of : EdgeSetting → List BlockInfo → ℕ → ℕ → PlacePlan
-plan_of f blocks r c = plan_from f r c (covering blocks r c)
-
-abbrev pub edges_of_plane : PlacePlan → Plane → CrossedEdges
-edges_of_plane plan Y = plan.luma
-edges_of_plane plan U = plan.chroma
-edges_of_plane plan V = plan.chroma
-
-abbrev pub edges_of_pass : CrossedEdges → Pass → CellEdges
-edges_of_pass edges Vertical = edges.vertical
-edges_of_pass edges Horizontal = edges.horizontal
-
-abbrev pub edges_in : PlacePlan → Plane → Pass → CellEdges
-edges_in plan plane pass = edges_of_pass (edges_of_plane plan plane) pass
+abbrev pub edges_in : PlannedCell → Pass → CellEdges
+edges_in cell Vertical = cell.edges.vertical
+edges_in cell Horizontal = cell.edges.horizontal
 
 -- what the filter is to do at a cell in a pass
-unfoldable pub planned_edges : EdgeSetting → Plane → Pass → ℕ → ℕ → PlacePlan → List Edge
-planned_edges f plane pass r c plan =
-    let limits = limits_of f.shape.depth f.filter.sharpness plan.level in
-    side_edges f.shape (cell_at plane pass r c) limits (edges_in plan plane pass).outer ++ middle_edges f.shape (cell_at plane pass r c) limits (edges_in plan plane pass).inner
+unfoldable pub planned_edges : EdgeSetting → Plane → Pass → PlannedCell → List Edge
+planned_edges f plane pass cell =
+    let limits = limits_of f.shape.depth f.filter.sharpness cell.level in
+    side_edges f.shape (cell_at plane pass cell.row cell.col) limits (edges_in cell pass).outer
+    ++ middle_edges f.shape (cell_at plane pass cell.row cell.col) limits (edges_in cell pass).inner
 
--- A cell of a plane begins at a place.
-abbrev pub has_cell : Shape → Plane → ℕ → ℕ → Bool
-has_cell shape plane r c = not (is_chroma plane) || has_chroma shape r c
+-- the cells of a list
+abbrev pub cells_in : CellList → List PlannedCell
+cells_in list = take list.count list.cells
 
--- a plan of the place there, whatever block it has
-abbrev pub IsPlanned : EdgeSetting → ℕ → ℕ → PlacePlan → Type 0
-IsPlanned f r c plan = (o : Option BlockInfo) × (plan ≡ plan_from f r c o)
+-- both planes of chroma have the same
+abbrev pub list_of : SuperblockPlans → Plane → CellList
+list_of plans Y = plans.luma
+list_of plans U = plans.chroma
+list_of plans V = plans.chroma
 
--- the first n places of a row of a superblock
-abbrev pub AreFirstPlans : EdgeSetting → List BlockInfo → ℕ → ℕ → ℕ → List PlacePlan → Type 0
-AreFirstPlans f blocks r sc n places = (j : ℕ) → j < n → slice_index_or places j unfiltered ≡ plan_of f blocks r (8 * sc + j)
+-- what the filter is to do at the cells of a list, one after another
+abbrev pub listed_edges : EdgeSetting → Plane → Pass → CellList → List Edge
+listed_edges f plane pass list = flat_map (planned_edges f plane pass) (cells_in list)
 
--- those that are in the frame
-abbrev pub ArePlansOfRow : EdgeSetting → List BlockInfo → ℕ → ℕ → List PlacePlan → Type 0
-ArePlansOfRow f blocks r sc places = AreFirstPlans f blocks r sc (min 8 (mi_cols f.shape - 8 * sc)) places
+-- a place in the frame, of a row of superblocks
+pub record IsPlaceOf (f : EdgeSetting) (sr r c : ℕ) : Type 0 where
+  pub from : 8 * sr ≤ r
+  pub to : r < 8 * (sr + 1)
+  pub row : r < mi_rows f.shape
+  pub column : c < mi_cols f.shape
 
-abbrev pub IsRowPlanned : EdgeSetting → ℕ → ℕ → List PlacePlan → Type 0
-IsRowPlanned f r sc places = (j : ℕ) → j < min 8 (mi_cols f.shape - 8 * sc) → IsPlanned f r (8 * sc + j) (slice_index_or places j unfiltered)
+-- a cell of a plane at such a place, with the edges that a block has there
+pub record IsCellOf (f : EdgeSetting) (plane : Plane) (sr : ℕ) (cell : PlannedCell) : Type 0 where
+  pub place : IsPlaceOf f sr cell.row cell.col
+  pub here : has_cell f.shape plane cell.row cell.col ≡ true
+  pub edges : (b : BlockInfo) × (cell.edges ≡ crossed_by f.shape plane cell.row cell.col b)
 
--- the first n rows of a superblock
-abbrev pub AreFirstRows : EdgeSetting → List BlockInfo → ℕ → ℕ → ℕ → List (List PlacePlan) → Type 0
-AreFirstRows f blocks sr sc n rows = (i : ℕ) → i < n → ArePlansOfRow f blocks (8 * sr + i) sc (slice_index_or rows i [])
+abbrev pub AreCellsOf : EdgeSetting → Plane → ℕ → CellList → Type 0
+AreCellsOf f plane sr list = All (IsCellOf f plane sr) (cells_in list)
 
-abbrev pub ArePlansOf : EdgeSetting → List BlockInfo → ℕ → ℕ → List (List PlacePlan) → Type 0
-ArePlansOf f blocks sr sc rows = AreFirstRows f blocks sr sc (min 8 (mi_rows f.shape - 8 * sr)) rows
+-- those of a plane, of which an area has what the filter looks at
+pub record IsCellWithin (f : EdgeSetting) (plane : Plane) (a : Area) (cell : PlannedCell) : Type 0 where
+  pub within : IsCellIn f.shape plane a cell.row cell.col
+  pub edges : (b : BlockInfo) × (cell.edges ≡ crossed_by f.shape plane cell.row cell.col b)
 
-abbrev pub IsAllPlanned : EdgeSetting → ℕ → ℕ → List (List PlacePlan) → Type 0
-IsAllPlanned f sr sc rows = (i : ℕ) → i < min 8 (mi_rows f.shape - 8 * sr) → IsRowPlanned f (8 * sr + i) sc (slice_index_or rows i [])
+pub record AreCellsWithin (f : EdgeSetting) (plane : Plane) (a : Area) (list : CellList) : Type 0 where
+  pub few : list.count ≤ 64
+  pub cells : All (IsCellWithin f plane a) (cells_in list)
+
+---- Place after place ----
+
+-- what a plane has at a place by the block there: the edges of its cell, if one begins there
+abbrev pub placed_edges : EdgeSetting → Plane → Pass → ℕ → ℕ → Option BlockInfo → List Edge
+placed_edges f plane pass r c o = if has_cell f.shape plane r c then edges_of f (cell_at plane pass r c) o else []
+
+abbrev pub edges_at : EdgeSetting → List BlockInfo → Plane → Pass → ℕ → ℕ → List Edge
+edges_at f blocks plane pass r c = placed_edges f plane pass r c (covering blocks r c)
+
+-- at the first places of a row of a superblock, and of its first rows
+abbrev pub edges_along : EdgeSetting → List BlockInfo → Plane → Pass → ℕ → ℕ → ℕ → List Edge
+edges_along f blocks plane pass sc n r = flat_map (edges_at f blocks plane pass r) (cells_from false sc n)
+
+abbrev pub edges_of_rows : EdgeSetting → List BlockInfo → Plane → Pass → ℕ → ℕ → ℕ → List Edge
+edges_of_rows f blocks plane pass sr sc n = flat_map (edges_along f blocks plane pass sc (min 8 (mi_cols f.shape - 8 * sc))) (cells_from false sr n)
+
+-- a list with a place's cell after those that it had
+pub record HasPlace (f : EdgeSetting) (plane : Plane) (r c : ℕ) (o : Option BlockInfo) (old new : CellList) : Type 0 where
+  pub few : new.count ≤ old.count + 1
+  pub edges : (pass : Pass) → listed_edges f plane pass new ≡ listed_edges f plane pass old ++ placed_edges f plane pass r c o
+  pub cells : (sr : ℕ) → IsPlaceOf f sr r c → AreCellsOf f plane sr old → AreCellsOf f plane sr new
+
+-- with those of the first places of a row
+pub record HasPlaces (f : EdgeSetting) (blocks : List BlockInfo) (plane : Plane) (r sc n : ℕ) (old new : CellList) : Type 0 where
+  pub few : new.count ≤ old.count + n
+  pub edges : (pass : Pass) → listed_edges f plane pass new ≡ listed_edges f plane pass old ++ edges_along f blocks plane pass sc n r
+  pub cells : (sr : ℕ) → 8 * sr ≤ r → r < 8 * (sr + 1) → r < mi_rows f.shape → AreCellsOf f plane sr old → AreCellsOf f plane sr new
+
+-- the cells of a superblock's first rows
+pub record HasRows (f : EdgeSetting) (blocks : List BlockInfo) (plane : Plane) (sr sc n : ℕ) (list : CellList) : Type 0 where
+  pub few : list.count ≤ 8 * n
+  pub edges : (pass : Pass) → listed_edges f plane pass list ≡ edges_of_rows f blocks plane pass sr sc n
+  pub cells : AreCellsOf f plane sr list
+
+-- those of all of it
+pub record IsPlanned (f : EdgeSetting) (blocks : List BlockInfo) (plane : Plane) (sr sc : ℕ) (list : CellList) : Type 0 where
+  pub few : list.count ≤ 64
+  pub edges : (pass : Pass) → listed_edges f plane pass list ≡ pass_edges f blocks plane pass sr sc
+  pub cells : AreCellsOf f plane sr list

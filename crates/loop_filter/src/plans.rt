@@ -1,13 +1,15 @@
-//! What the filter does at each place of a superblock, found once for all planes and passes.
+//! What the filter does at the cells of a superblock, found once for all planes and passes.
 
-ghost use Rattle.std.specs.Prelude.{◌≡◌, ◌≤◌, ◌<◌, ◌*◌, ◌+◌, ℕ};
+ghost use Rattle.std.specs.Prelude.{◌≡◌, ◌≤◌, ◌<◌, ◌*◌, ◌+◌, ◌-◌, ◌∷◌, ◌++◌, min, [], ℕ, false, Some, None};
 ghost use Rattle.vp9_types.specs.Shapes.{mi_rows, mi_cols};
-ghost use Rattle.vp9_types.specs.declared.shape.Plane.TheVariants.{Y};
+ghost use Rattle.vp9_types.specs.declared.shape.Plane.{Plane};
 ghost use Rattle.vp9_tables.specs.BlockTables.{greatest_of};
 ghost use Rattle.vp9_tables.specs.Numbers.{tx_number};
 ghost use Rattle.planes.specs.Pictures.{FitsPlanes};
+ghost use Rattle.block_plan.specs.Blocks.{covering};
+ghost use Rattle.loop_edges.specs.FilterLevels.{filter_level};
 ghost use Rattle.loop_filter.specs.Code.{AllFit};
-ghost use Rattle.loop_filter.specs.FilterPlans.{no_edges, nowhere, unfiltered, has_chroma, crossed_by, chroma_by, plan_by, plan_of, ArePlansOfRow, ArePlansOf};
+ghost use Rattle.loop_filter.specs.FilterPlans.{has_chroma, crossed_by, cells_in, list_of, HasPlace, HasPlaces, IsPlanned};
 
 use block_plan::{BlockInfo, Neighbours};
 use line_filter::Pass;
@@ -21,23 +23,33 @@ pub struct CrossedEdges {
     pub horizontal: CellEdges,
 }
 
-/// A place of 8x8 luma samples: the level of the block there, and the edges of the cells that begin there. Both planes of
-/// chroma have the same.
+/// A cell that may have edges, by the row and column of its 8x8 luma samples, with its block's level.
 #[derive(Clone, Copy, Debug, PartialEq, Eq)]
-pub struct PlacePlan {
+pub struct PlannedCell {
+    pub row: u16,
+    pub col: u16,
     pub level: u8,
-    pub luma: CrossedEdges,
-    pub chroma: CrossedEdges,
+    pub edges: CrossedEdges,
 }
 
-/// The places of a row of a superblock, and of a superblock by rows; those outside of the frame don't count.
-pub type RowPlans = [PlacePlan; 8];
+/// Cells of a superblock in order: the first `count` of these. Those without edges may be left out.
+#[derive(Clone, Copy)]
+pub struct CellList {
+    pub cells: [PlannedCell; 64],
+    pub count: usize,
+}
 
-pub type SuperblockPlans = [RowPlans; 8];
+/// The cells of a superblock. Both planes of chroma have the same.
+#[derive(Clone, Copy)]
+pub struct SuperblockPlans {
+    pub luma: CellList,
+    pub chroma: CellList,
+}
 
 #[inline(always)]
 fn no_edges() -> CellEdges
-    ensures { result ≡ no_edges }
+    ensures outer { result.outer ≡ None }
+    ensures inner { result.inner ≡ false }
 {
     CellEdges {
         outer: None,
@@ -46,24 +58,45 @@ fn no_edges() -> CellEdges
 }
 
 #[inline(always)]
-fn nowhere() -> CrossedEdges
-    ensures { result ≡ nowhere }
+fn no_cells() -> CellList
+    ensures { result.count ≡ 0 }
 {
-    CrossedEdges {
-        vertical: no_edges(),
-        horizontal: no_edges(),
+    let nothing = PlannedCell {
+        row: 0,
+        col: 0,
+        level: 0,
+        edges: CrossedEdges {
+            vertical: no_edges(),
+            horizontal: no_edges(),
+        },
+    };
+    CellList {
+        cells: [nothing; 64],
+        count: 0,
     }
 }
 
+/// Room for the cells of a superblock.
 #[inline(always)]
-fn unfiltered() -> PlacePlan
-    ensures { result ≡ unfiltered }
+pub fn no_plans() -> SuperblockPlans
+    ensures luma { result.luma.count ≡ 0 }
+    ensures chroma { result.chroma.count ≡ 0 }
 {
-    PlacePlan {
-        level: 0,
-        luma: nowhere(),
-        chroma: nowhere(),
+    SuperblockPlans {
+        luma: no_cells(),
+        chroma: no_cells(),
     }
+}
+
+/// Adds a cell behind those of a list.
+#[inline(always)]
+fn add(list: &mut CellList, cell: PlannedCell)
+    requires room { list.old.count < 64 }
+    ensures count { list.new.count ≡ list.old.count + 1 }
+    ensures cells { cells_in list.new ≡ cells_in list.old ++ cell ∷ [] }
+{
+    list.cells[list.count] = cell;
+    list.count += 1;
 }
 
 /// Whether a cell of chroma begins at a place.
@@ -71,7 +104,9 @@ fn unfiltered() -> PlacePlan
 fn has_chroma(shape: &Shape, at: CellAt) -> bool
     ensures { result ≡ has_chroma shape.now at.row at.col }
 {
-    !(shape.ss_x && at.col % 2 == 1) && !(shape.ss_y && at.row % 2 == 1)
+    let is_between_columns = shape.ss_x & (at.col % 2 == 1);
+    let is_between_rows = shape.ss_y & (at.row % 2 == 1);
+    !is_between_columns & !is_between_rows
 }
 
 #[inline(always)]
@@ -88,98 +123,128 @@ fn crossed_by(shape: &Shape, plane: Plane, block: &BlockInfo, at: CellAt) -> Cro
     }
 }
 
-/// The edges at a place of a block, put into its plan.
 #[inline(always)]
-fn put_edges(shape: &Shape, block: &BlockInfo, at: CellAt, place: &mut PlacePlan)
+fn planned(shape: &Shape, plane: Plane, block: &BlockInfo, at: CellAt, level: u8) -> PlannedCell
     requires size { FitsPlanes shape.now }
     requires row { at.row ≤ 8192 }
     requires col { at.col ≤ 8192 }
     requires fits { tx_number block.now.tx ≤ greatest_of block.now.size }
-    requires luma { place.old.luma ≡ nowhere }
-    requires chroma { place.old.chroma ≡ nowhere }
-    ensures level { place.new.level ≡ place.old.level }
-    ensures luma { place.new.luma ≡ crossed_by shape.now Y at.row at.col block.now }
-    ensures chroma { place.new.chroma ≡ chroma_by shape.now at.row at.col block.now }
+    ensures row { result.row ≡ at.row }
+    ensures col { result.col ≡ at.col }
+    ensures level { result.level ≡ level }
+    ensures edges { result.edges ≡ crossed_by shape.now plane at.row at.col block.now }
 {
-    if !is_inside(block, at) {
-        place.luma = crossed_by(shape, Plane::Y, block, at);
-        if has_chroma(shape, at) {
-            place.chroma = crossed_by(shape, Plane::U, block, at);
-        }
+    PlannedCell {
+        row: at.row as u16,
+        col: at.col as u16,
+        level,
+        edges: crossed_by(shape, plane, block, at),
     }
 }
 
-/// What the filter does at a place of a block, put into the plan of the place.
+/// The cells that begin at a place of a block, added to those before it.
 #[inline(always)]
-#[tactic(auto, unfolding(crate::specs::FilterPlans::plan_by))]
-fn put_plan(f: &EdgeTables, block: &BlockInfo, at: CellAt, place: &mut PlacePlan)
+fn add_cells(f: &EdgeTables, block: &BlockInfo, at: CellAt, level: u8, plans: &mut SuperblockPlans)
     requires size { FitsPlanes f.now.setting.shape }
     requires row { at.row ≤ 8192 }
     requires col { at.col ≤ 8192 }
     requires fits { tx_number block.now.tx ≤ greatest_of block.now.size }
-    requires clear { place.old ≡ unfiltered }
-    ensures { place.new ≡ plan_by f.now.setting at.row at.col block.now }
+    requires level { level ≡ filter_level f.now.setting block.now }
+    requires filtered { 0 < level }
+    requires luma_room { plans.old.luma.count < 64 }
+    requires chroma_room { plans.old.chroma.count < 64 }
+    ensures { (plane : Plane) → HasPlace f.now.setting plane at.row at.col (Some block.now) (list_of plans.old plane) (list_of plans.new plane) }
 {
-    let level = f.level(block);
-    if level > 0 {
-        place.level = level;
-        put_edges(&f.setting.shape, block, at, place);
+    let shape = &f.setting.shape;
+    let luma = planned(shape, Plane::Y, block, at, level);
+    add(&mut plans.luma, luma);
+    if has_chroma(shape, at) {
+        let chroma = planned(shape, Plane::U, block, at, level);
+        add(&mut plans.chroma, chroma);
+    }
+}
+
+/// What the filter does at a place of a block. The level isn't looked up where there is no edge.
+#[inline(always)]
+fn plan_block(f: &EdgeTables, block: &BlockInfo, at: CellAt, plans: &mut SuperblockPlans)
+    requires size { FitsPlanes f.now.setting.shape }
+    requires row { at.row ≤ 8192 }
+    requires col { at.col ≤ 8192 }
+    requires fits { tx_number block.now.tx ≤ greatest_of block.now.size }
+    requires luma_room { plans.old.luma.count < 64 }
+    requires chroma_room { plans.old.chroma.count < 64 }
+    ensures { (plane : Plane) → HasPlace f.now.setting plane at.row at.col (Some block.now) (list_of plans.old plane) (list_of plans.new plane) }
+{
+    if !is_inside(block, at) {
+        let level = f.level(block);
+        if level > 0 {
+            add_cells(f, block, at, level, plans);
+        }
     }
 }
 
 #[inline(always)]
-#[tactic(auto, unfolding(crate::specs::FilterPlans::plan_of))]
-fn put_plan_of<N: Neighbours>(f: &EdgeTables, blocks: &N, at: CellAt, place: &mut PlacePlan)
+fn plan_place<N: Neighbours>(f: &EdgeTables, blocks: &N, at: CellAt, plans: &mut SuperblockPlans)
     requires size { FitsPlanes f.now.setting.shape }
     requires row { at.row ≤ 8192 }
     requires col { at.col ≤ 8192 }
     requires held { N.holds blocks.now at.row at.col }
     requires fit { AllFit (N.blocks blocks.now) }
-    requires clear { place.old ≡ unfiltered }
-    ensures { place.new ≡ plan_of f.now.setting (N.blocks blocks.now) at.row at.col }
+    requires luma_room { plans.old.luma.count < 64 }
+    requires chroma_room { plans.old.chroma.count < 64 }
+    ensures { (plane : Plane) → HasPlace f.now.setting plane at.row at.col (covering (N.blocks blocks.now) at.row at.col) (list_of plans.old plane) (list_of plans.new plane) }
 {
     if let Some(block) = blocks.at(at.row, at.col) {
-        put_plan(f, block, at, place);
+        plan_block(f, block, at, plans);
     }
 }
 
+/// The cells of a row of a superblock, added to those above it.
 #[inline(always)]
-fn plan_row<N: Neighbours>(f: &EdgeTables, blocks: &N, row: u32, sc: u32) -> RowPlans
+fn plan_row<N: Neighbours>(
+    f: &EdgeTables,
+    blocks: &N,
+    row: u32,
+    sc: u32,
+    plans: &mut SuperblockPlans,
+)
     requires size { FitsPlanes f.now.setting.shape }
     requires row { row < mi_rows f.now.setting.shape }
     requires column { 8 * sc ≤ mi_cols f.now.setting.shape }
     requires held { (c : ℕ) → c < mi_cols f.now.setting.shape → N.holds blocks.now row c }
     requires fit { AllFit (N.blocks blocks.now) }
-    ensures { ArePlansOfRow f.now.setting (N.blocks blocks.now) row sc result }
+    requires luma_room { plans.old.luma.count ≤ 56 }
+    requires chroma_room { plans.old.chroma.count ≤ 56 }
+    ensures { (plane : Plane) → HasPlaces f.now.setting (N.blocks blocks.now) plane row sc (min 8 (mi_cols f.now.setting.shape - 8 * sc)) (list_of plans.old plane) (list_of plans.new plane) }
 {
     let count = (f.setting.shape.place_cols() - 8 * sc).min(8);
-    let mut places = [unfiltered(); 8];
     for j in 0..count {
         let col = 8 * sc + j;
-        put_plan_of(f, blocks, CellAt { row, col }, &mut places[j as usize]);
+        plan_place(f, blocks, CellAt { row, col }, plans);
     }
-    places
 }
 
-/// What the filter does at the places of a superblock.
-#[inline(never)]
+/// What the filter does at the cells of a superblock, in place of what was planned for another. It is a part of its caller, which
+/// has the lists: so the compiler knows that a cell that is added changes no block.
+#[inline(always)]
 pub fn plan_superblock<N: Neighbours>(
     f: &EdgeTables,
     blocks: &N,
     sr: u32,
     sc: u32,
-) -> SuperblockPlans
+    plans: &mut SuperblockPlans,
+)
     requires size { FitsPlanes f.now.setting.shape }
     requires row { 8 * sr ≤ mi_rows f.now.setting.shape }
     requires column { 8 * sc ≤ mi_cols f.now.setting.shape }
     requires held { (r c : ℕ) → 8 * sr ≤ r → r < 8 * (sr + 1) → r < mi_rows f.now.setting.shape → c < mi_cols f.now.setting.shape → N.holds blocks.now r c }
     requires fit { AllFit (N.blocks blocks.now) }
-    ensures { ArePlansOf f.now.setting (N.blocks blocks.now) sr sc result }
+    ensures { (plane : Plane) → IsPlanned f.now.setting (N.blocks blocks.now) plane sr sc (list_of plans.new plane) }
 {
     let count = (f.setting.shape.place_rows() - 8 * sr).min(8);
-    let mut rows = [[unfiltered(); 8]; 8];
+    plans.luma.count = 0;
+    plans.chroma.count = 0;
     for i in 0..count {
-        rows[i as usize] = plan_row(f, blocks, 8 * sr + i, sc);
+        plan_row(f, blocks, 8 * sr + i, sc, plans);
     }
-    rows
 }

@@ -1,6 +1,6 @@
 //! A row of superblocks filtered, in place.
 
-ghost use Rattle.std.specs.Prelude.{◌≡◌, ◌≤◌, ◌<◌, ◌*◌, ◌+◌, ◌/◌, ℕ, List, false, nat_eq};
+ghost use Rattle.std.specs.Prelude.{◌≡◌, ◌≤◌, ◌<◌, ◌*◌, ◌+◌, ◌/◌, ◌++◌, ℕ, false, nat_eq};
 ghost use Rattle.std.specs.List.{fold};
 ghost use Rattle.vp9_types.specs.Maps.{IsAtMost};
 ghost use Rattle.vp9_types.specs.Shapes.{mi_rows, mi_cols};
@@ -8,15 +8,15 @@ ghost use Rattle.vp9_types.specs.Sizes.{greatest, superblocks_along};
 ghost use Rattle.vp9_types.specs.declared.shape.Plane.TheVariants.{Y, U, V};
 ghost use Rattle.planes.specs.Planes.{plane_map};
 ghost use Rattle.planes.specs.Pictures.{FitsPlanes, HasSizes, IsInRange, samples_of};
-ghost use Rattle.block_plan.specs.declared.block.BlockInfo.{BlockInfo};
 ghost use Rattle.line_filter.specs.FilteredEdges.{with_edge};
+ghost use Rattle.line_filter.specs.declared.edge.Pass.TheVariants.{Vertical, Horizontal};
 ghost use Rattle.loop_edges.specs.Code.{with_row};
 ghost use Rattle.loop_edges.specs.FrameEdges.{superblock_edges, row_edges, filtered_frame};
-ghost use Rattle.loop_filter.specs.Code.{HasFilterRows, HoldsFilterRows, HasAreasOf, AllFit};
-ghost use Rattle.loop_filter.specs.FilterPlans.{IsAllPlanned, ArePlansOf};
+ghost use Rattle.loop_filter.specs.Code.{HoldsFilterRows, HasAreasOf, AllFit};
+ghost use Rattle.loop_filter.specs.FilterPlans.{listed_edges, AreCellsWithin};
 
 use crate::cells::filter_pass;
-use crate::plans::{SuperblockPlans, plan_superblock};
+use crate::plans::{CellList, SuperblockPlans, no_plans, plan_superblock};
 use crate::way::PlanePass;
 use block_plan::Neighbours;
 use line_filter::{EdgeSample, Pass};
@@ -31,49 +31,33 @@ fn filter_superblock<P: EdgeSample, const SITE: usize>(
     samples: &mut SamplePlane<P>,
     f: &EdgeTables,
     plane: Plane,
-    plans: &SuperblockPlans,
-    sr: u32,
-    sc: u32,
+    list: &CellList,
 )
     requires size { FitsPlanes f.now.setting.shape }
-    requires rows { HasFilterRows f.now.setting.shape plane sr samples.old.area }
-    requires row { 8 * sr ≤ mi_rows f.now.setting.shape }
-    requires column { 8 * sc ≤ mi_cols f.now.setting.shape }
-    requires planned { IsAllPlanned f.now.setting sr sc plans.now }
+    requires cells { AreCellsWithin f.now.setting plane samples.old.area list.now }
     requires kept { greatest f.now.setting.shape.depth ≤ P.greatest }
     requires range { IsAtMost (greatest f.now.setting.shape.depth) (plane_map samples.old) }
     ensures area { samples.new.area ≡ samples.old.area }
-    ensures map { (blocks : List BlockInfo) → ArePlansOf f.now.setting blocks sr sc plans.now → plane_map samples.new ≡ fold with_edge (plane_map samples.old)
-        (superblock_edges f.now.setting blocks plane sr sc) }
+    ensures map { plane_map samples.new ≡ fold with_edge (plane_map samples.old)
+        (listed_edges f.now.setting plane Vertical list.now ++ listed_edges f.now.setting plane Horizontal list.now) }
     ensures range { IsAtMost (greatest f.now.setting.shape.depth) (plane_map samples.new) }
 {
-    filter_pass(
-        samples,
-        f,
-        PlanePass {
-            plane,
-            pass: Pass::Vertical,
-        },
-        plans,
-        sr,
-        sc,
-    );
-    filter_pass(
-        samples,
-        f,
-        PlanePass {
-            plane,
-            pass: Pass::Horizontal,
-        },
-        plans,
-        sr,
-        sc,
-    );
+    let way = PlanePass {
+        plane,
+        pass: Pass::Vertical,
+    };
+    filter_pass(samples, f, way, list);
+    let way = PlanePass {
+        plane,
+        pass: Pass::Horizontal,
+    };
+    filter_pass(samples, f, way, list);
 }
 
 /// A superblock of all planes.
 fn filter_planes<P: EdgeSample, N: Neighbours>(
     planes: &mut FramePlanes<P>,
+    plans: &mut SuperblockPlans,
     f: &EdgeTables,
     blocks: &N,
     sr: u32,
@@ -93,10 +77,10 @@ fn filter_planes<P: EdgeSample, N: Neighbours>(
     ensures v { plane_map planes.new.v ≡ fold with_edge (plane_map planes.old.v) (superblock_edges f.now.setting (N.blocks blocks.now) V sr sc) }
     ensures range { IsInRange f.now.setting.shape.depth planes.new }
 {
-    let plans = plan_superblock(f, blocks, sr, sc);
-    filter_superblock::<P, 0>(&mut planes.y, f, Plane::Y, &plans, sr, sc);
-    filter_superblock::<P, 1>(&mut planes.u, f, Plane::U, &plans, sr, sc);
-    filter_superblock::<P, 2>(&mut planes.v, f, Plane::V, &plans, sr, sc);
+    plan_superblock(f, blocks, sr, sc, plans);
+    filter_superblock::<P, 0>(&mut planes.y, f, Plane::Y, &plans.luma);
+    filter_superblock::<P, 1>(&mut planes.u, f, Plane::U, &plans.chroma);
+    filter_superblock::<P, 2>(&mut planes.v, f, Plane::V, &plans.chroma);
 }
 
 /// A row of superblocks of all planes, from left to right.
@@ -118,8 +102,9 @@ fn filter_superblocks<P: EdgeSample, N: Neighbours>(
     ensures map { samples_of planes.new ≡ with_row f.now.setting (N.blocks blocks.now) (samples_of planes.old) sr }
     ensures range { IsInRange f.now.setting.shape.depth planes.new }
 {
+    let mut plans = no_plans();
     for sc in 0..f.setting.shape.superblock_cols() {
-        filter_planes(planes, f, blocks, sr, sc);
+        filter_planes(planes, &mut plans, f, blocks, sr, sc);
     }
 }
 
