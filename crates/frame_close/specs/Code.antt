@@ -1,5 +1,6 @@
 -- What the tile columns of a frame came to, each read by itself, and what the frame comes to.
-use Rattle.std.specs.Prelude.{◌≡◌, ◌<◌, ℕ, zero, suc, Bool, List, length, slice_index_or, Option, Some, None, Result, Ok, Err}
+use Rattle.std.specs.Prelude.{◌≡◌, ◌<◌, ℕ, zero, suc, Bool, List, length, map, slice_index_or, Option, Some, None, Result, Ok, Err}
+use Rattle.std.specs.Borrow.{Bor}
 use Rattle.vp9_types.specs.declared.job.Span.{Span}
 use Rattle.vp9_types.specs.declared.rule.Rule.{Rule}
 use Rattle.counting_reader.specs.Counting.{Settled}
@@ -30,6 +31,14 @@ broken_by (Err (unplanned.Broken n rule)) = Some (n, rule)
 broken_by (Err unplanned.OutOfMemory) = None
 
 ---- All tile columns ----
+
+-- what one came to whose counts are lent
+abbrev pub lent_result : Result (Bor (List ℕ)) Unplanned → Result (List ℕ) Unplanned
+lent_result (Ok counts) = Ok counts.now
+lent_result (Err e) = Err e
+
+abbrev pub lent : List (Result (Bor (List ℕ)) Unplanned) → List (Result (List ℕ) Unplanned)
+lent columns = map lent_result columns
 
 -- what the k-th of them came to
 abbrev pub result_at : List (Result (List ℕ) Unplanned) → ℕ → Result (List ℕ) Unplanned

@@ -1,13 +1,12 @@
 -- Tile columns and counts, copied.
 use Rattle.std.proofs.Common.{◌≡◌, ◌∙◌, ◌<◌, ◌≤◌, ◌+◌, ◌-◌, ◌*◌, ◌/◌, ◌^◌, ℕ, zero, suc, List, [], ◌∷◌, ◌++◌, length, take, get_or, ap, inl, inr, sym, subst, arith}
-use Rattle.std.specs.Prelude.{All, Bool, true, false, ◌&&◌, if◌then◌else◌, replicate, IfOk, IfSome, Option, None, Result, Ok, Err}
-use Rattle.std.proofs.lemmas.List.{length-replicate, take_more}
+use Rattle.std.specs.Prelude.{All, Bool, false, ◌&&◌, if◌then◌else◌, replicate, IfOk, IfSome, Option, None, Result, Ok, Err}
+use Rattle.std.proofs.lemmas.List.{take_more}
 use Rattle.std.proofs.lemmas.Bool.{cases_lt}
 use Rattle.std.proofs.Math.Nat.{le-div_iff_mul-le, mul_comm, mul-le-mul_left, mul-le-mul_right}
 use Rattle.std.proofs.lemmas.Nat.{pow_pos}
 use Rattle.vp9_types.specs.Shapes.{mi_cols, mi_rows}
 use Rattle.vp9_types.specs.Sizes.{superblocks_along}
-use Rattle.vp9_types.specs.declared.rule.Rule.{Rule}
 use Rattle.vp9_types.specs.declared.shape.Shape.{Shape}
 use Rattle.frame_headers.specs.Spans.{tile_count}
 use Rattle.frame_headers.specs.FrameSizes.{HasFrameSize}
@@ -23,19 +22,11 @@ use Rattle.frame_headers.specs.declared.segments.Segmentation.{Segmentation}
 use Rattle.inter_modes.specs.LeftSegments.{segments_after, segments_of, updates}
 use Rattle.recon_rows.proofs.RowSteps.{in_column}
 use Rattle.vp9_types.specs.Maps.{Map}
-use Rattle.counting_reader.specs.Counting.{Settled}
-use Rattle.prob_contexts.specs.Counted.{most_counted}
-use Rattle.prob_contexts.specs.Code.{counts_after, joined_counts, no_counts}
-use Rattle.prob_contexts.specs.declared.kind.CountedBool.{CountedBool}
-use Rattle.prob_contexts.proofs.Joining.{added}
 use Rattle.frame_setting.specs.declared.setting.FrameSetting.{FrameSetting}
-use Rattle.frame_state.specs.Code.{counts_if}
 use Rattle.frame_state.specs.KeptColumns.{AllFit, AllLie, AllSmall, AllStart, IsTileColumn, limit_of}
-use Rattle.frame_state.specs.ColumnPlans.{ColumnRead}
 use Rattle.frame_state.specs.TilePlaces.{tile_offset}
 use Rattle.frame_state.specs.declared.columns.TileColumn.{TileColumn}
 use Rattle.frame_state.proofs.TileOffsets.{column_ends}
-use Rattle.frame_close.specs.Code.{GivesColumn}
 use Rattle.column_order.specs.ColumnStrips.{column_from}
 
 some_power : (n : ℕ) → 0 < 2 ^ n
@@ -112,26 +103,6 @@ is_copied header k c d low h rows from to blocks fit =
       room = λ r behind. none_left (superblocks_along (d.grid.to - d.grid.from)) (superblocks_along (mi_rows (shape_of header))) r (2 ^ header.params.tiles.columns_log2) k (2 ^ header.params.tiles.rows_log2) d.grid.room
           (some_power header.params.tiles.rows_log2) low behind;
     }
-
----- Counts ----
-
-within_none : (n k : ℕ) → get_or (replicate n 0) k 0 ≤ most_counted
-within_none zero k = omega arith
-within_none (suc n) zero = omega arith
-within_none (suc n) (suc k) = within_none n k
-
-same_after : (bools : List CountedBool) → joined_counts no_counts (counts_after no_counts bools) ≡ counts_after no_counts bools
-same_after bools = added no_counts bools (length-replicate {A = ℕ} 3790 0) (λ k. within_none 3790 k)
-
-same_if : (counting : Bool) (bools : List CountedBool) → joined_counts no_counts (counts_if counting bools) ≡ counts_if counting bools
-unfolding counts_after
-same_if true bools = same_after bools
-same_if false bools = same_after []
-
--- what a tile column came to is told by copied counts, too
-pub told_copied : (counting : Bool) (computed : Result (Settled ColumnRead) (ℕ × Rule)) (counts : List ℕ) → GivesColumn counting computed (Ok counts)
-    → GivesColumn counting computed (Ok (joined_counts no_counts counts))
-told_copied counting computed counts h = (h.0, h.1, ap (joined_counts no_counts) h.2 ∙ same_if counting h.0.counted)
 
 ---- Tiles, sizes ----
 

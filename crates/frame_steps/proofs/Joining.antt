@@ -12,13 +12,11 @@ use Rattle.frame_state.specs.ColumnPlans.{plan_of, tile_bytes}
 use Rattle.frame_state.specs.Sources.{adapts}
 use Rattle.frame_state.specs.declared.columns.TileColumn.{TileColumn}
 use Rattle.frame_close.specs.Code.{GivesColumn, result_at}
-use Rattle.prob_contexts.specs.Code.{joined_counts, no_counts}
 use Rattle.tile_syntax.specs.declared.plans.Unplanned.{Unplanned}
 use Rattle.tile_syntax.specs.declared.plans.Unplanned.TheVariants as unplanned
 use Rattle.frame_steps.specs.StepResults.{AreCopies, IsColumn, IsCopyAsRead, IsSound, sources_by}
 use Rattle.frame_steps.specs.declared.beginning.BegunFrame.{BegunFrame}
 use Rattle.frame_steps.specs.declared.columns.PlannedColumn.{PlannedColumn}
-use Rattle.frame_steps.proofs.Copies.{told_copied}
 
 pub ok_of : {A E : Type 0} (r : Result A E) → IsOk r → (x : A) × (r ≡ Ok x)
 ok_of (Ok x) is = (x, refl)
@@ -69,17 +67,15 @@ told_more b n results columns r spans first cut gives k low = elim (cases_Bool (
 ]
 
 -- one more, which is planned
-pub one_planned : (b : BegunFrame) (n : ℕ) (results all : List (Result (List ℕ) Unplanned)) (columns more : List TileColumn) (c : PlannedColumn) (counts : List ℕ) (d : TileColumn) → AreFirst b n results columns
-    → IsColumn b n (Ok c) → counts ≡ joined_counts no_counts c.counts → IsTileColumn b.setting.header (tile_count b.setting.header) n d → d.grid.blocks ≡ c.plan.column.grid.blocks
-    → all ≡ results ++ Ok counts ∷ [] → more ≡ columns ++ d ∷ [] → AreFirst b (n + 1) all more
-one_planned b n results all columns more c counts d first is joined lies blocks told listed = rw (told, listed) (record {
-  many = length-append results (Ok counts ∷ []) ∙ ap (λ m. m + 1) first.many;
+pub one_planned : (b : BegunFrame) (n : ℕ) (results all : List (Result (List ℕ) Unplanned)) (columns more : List TileColumn) (c : PlannedColumn) (d : TileColumn) → AreFirst b n results columns
+    → IsColumn b n (Ok c) → IsTileColumn b.setting.header (tile_count b.setting.header) n d → d.grid.blocks ≡ c.plan.column.grid.blocks
+    → all ≡ results ++ Ok c.counts ∷ [] → more ≡ columns ++ d ∷ [] → AreFirst b (n + 1) all more
+one_planned b n results all columns more c d first is lies blocks told listed = rw (told, listed) (record {
+  many = length-append results (Ok c.counts ∷ []) ∙ ap (λ m. m + 1) first.many;
   short = omega (arith, length-append columns (d ∷ []), first.short);
-  told = λ spans k cut low. told_more b n results columns (Ok counts) spans first cut
-      (subst (λ (x : List ℕ). GivesColumn (adapts b.setting.header) (plan_of (sources_by b) (tile_bytes b.bytes.now spans) n) (Ok x)) (sym joined)
-      (told_copied (adapts b.setting.header) (plan_of (sources_by b) (tile_bytes b.bytes.now spans) n) c.counts (is.counts spans cut))) k low;
+  told = λ spans k cut low. told_more b n results columns (Ok c.counts) spans first cut (is.counts spans cut) k low;
   kept = λ spans cut ok.
-      let before = first.kept spans cut (λ k e low. subst IsOk (get_or_append_left results (Ok counts ∷ []) e k low) (ok k e (omega (arith, low, length-append results (Ok counts ∷ []))))) in (
+      let before = first.kept spans cut (λ k e low. subst IsOk (get_or_append_left results (Ok c.counts ∷ []) e k low) (ok k e (omega (arith, low, length-append results (Ok c.counts ∷ []))))) in (
         length-append columns (d ∷ []) ∙ ap (λ m. m + 1) before.0,
         λ k e low. elim (cases_Bool (k == n)) [
           | inl same ↦

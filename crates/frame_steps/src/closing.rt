@@ -1,11 +1,12 @@
 //! The end of a frame: its tile columns joined.
 
 ghost use Rattle.std.specs.Prelude.{◌≡◌, IfOk};
+ghost use Rattle.frame_close.specs.Code.{lent};
 ghost use Rattle.frame_steps.specs.StepResults.{AreCopies, GivesDecoded, IsSound};
 
 use crate::beginning::BegunFrame;
 use crate::columns::PlannedColumns;
-use crate::copying::{copied_column, copied_counts};
+use crate::copying::copied_column;
 use frame_close::close as join;
 use frame_decoder::Decoded;
 use frame_state::{Halt, TileColumn};
@@ -13,21 +14,21 @@ use prob_contexts::Counts;
 use std::alloc::{AllocError, Global};
 use tile_syntax::Unplanned;
 
-/// What is kept of tile columns: what was counted in each, or why it isn't planned; and the columns, if all are planned.
+/// What is kept of tile columns: what was counted in each, as it is lent, or why it isn't planned; and copies of the columns, if all are planned.
 #[derive(Drop)]
-struct ColumnCopies {
-    counts: Vec<Result<Counts, Unplanned>>,
+struct ColumnCopies<'r> {
+    counts: Vec<Result<&'r Counts, Unplanned>>,
     columns: Vec<TileColumn>,
 }
 
-fn copy_all<C: PlannedColumns>(
+fn copy_all<'r, C: PlannedColumns>(
     alloc: Global,
     frame: &BegunFrame<'_>,
-    planned: &C,
-) -> Result<ColumnCopies, AllocError>
+    planned: &'r C,
+) -> Result<ColumnCopies<'r>, AllocError>
     requires sound { IsSound frame.now }
     requires frame { C.frame planned.now ≡ frame.now }
-    ensures { IfOk result (λ copies. AreCopies frame.now copies.counts.items copies.columns.items) }
+    ensures { IfOk result (λ copies. AreCopies frame.now (lent copies.counts.items) copies.columns.items) }
 {
     let count = frame.setting.header.params.tiles.columns();
     let mut counts = Vec::with_capacity(alloc, count as usize)?;
@@ -35,7 +36,7 @@ fn copy_all<C: PlannedColumns>(
     for k in 0..count {
         match planned.column(k) {
             Ok(it) => {
-                counts.push_reserved(Ok(copied_counts(alloc, &it.counts)?));
+                counts.push_reserved(Ok(&it.counts));
                 columns.push_reserved(copied_column(alloc, &frame.setting, k, &it.plan.column)?);
             }
             Err(why) => counts.push_reserved(Err(*why)),

@@ -4,23 +4,12 @@ ghost use Rattle.std.specs.Prelude.{◌≡◌, ◌<◌, ◌^◌, IfOk};
 ghost use Rattle.frame_headers.specs.Spans.{tile_count};
 ghost use Rattle.frame_headers.specs.Tiles.{AreFewTiles};
 ghost use Rattle.frame_state.specs.KeptColumns.{IsTileColumn};
-ghost use Rattle.prob_contexts.specs.Code.{joined_counts, no_counts};
 
 use block_plan::BlockGrid;
 use frame_setting::FrameSetting;
 use frame_state::{TileColumn, TilePlaces};
-use prob_contexts::Counts;
 use residue_syntax::TileSides;
 use std::alloc::{AllocError, Global};
-
-/// Counts once more.
-pub fn copied_counts(alloc: Global, counts: &Counts) -> Result<Counts, AllocError>
-    ensures { IfOk result (λ c. c ≡ joined_counts no_counts counts.now) }
-{
-    let mut copy = Counts::new(alloc)?;
-    copy.add(counts);
-    Ok(copy)
-}
 
 /// A tile column with the blocks of the `k`-th one, behind the frame's last tile. It has no room for more.
 pub fn copied_column(
