@@ -9,8 +9,10 @@ mod frames;
 mod jobs;
 mod left;
 mod lent;
+mod marks;
 mod outlet;
 mod pool;
+mod tickets;
 mod work;
 
 pub use cells::frame_of;
