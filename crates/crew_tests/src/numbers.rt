@@ -25,8 +25,9 @@ impl<'a> Output<Number<'a>> for Paper {
 /// A run of so many frames, each of so many tile columns and superblock rows, with so many frames at once.
 pub struct Numbers<const FRAMES: u64, const COLUMNS: u32, const ROWS: u32, const WINDOW: u8>;
 
-impl<'a, const FRAMES: u64, const COLUMNS: u32, const ROWS: u32, const WINDOW: u8> Meaning<Number<'a>>
-    for Numbers<FRAMES, COLUMNS, ROWS, WINDOW> {
+impl<'a, const FRAMES: u64, const COLUMNS: u32, const ROWS: u32, const WINDOW: u8> Meaning<
+    Number<'a>,
+> for Numbers<FRAMES, COLUMNS, ROWS, WINDOW> {
     ghost use Rattle.crew_tests.specs.Numbers.{number_rules, number_truth};
 
     ghost rules = { number_rules FRAMES COLUMNS ROWS };

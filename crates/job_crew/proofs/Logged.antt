@@ -82,19 +82,17 @@ module _ {X : Type 0} (m : Rules X) (own : ℕ) where
     done_before f r q le listed d =
         (listed.0, listed.1, (h.done listed.0 (Filter f q) listed.1).0 (filters_done f r q le ((h.done d.0 (Filter f r) d.1).1 d.2)))
 
-  module _ (t : Truth X) (can : CanDo m t) (segments : List Segment) (drawn base : ℕ) (marks : List Bool) (w : WorldState X) (h : IsWorld m own segments drawn base marks false w)
-      (long : base + length marks ≡ drawn) (few : drawn ≤ length (jobs_in segments)) (at : ℕ) (job : JobName) (there : job_at segments (base + at) ≡ Some job)
-      (open_mark : slice_get marks at ≡ Some false) (reads : List (Option BandSpan)) (covers : Covers m job reads)
-      (needs : (need : JobName) → IsNeed segments own reads job need → IsDoneBy segments base marks need) (x : X) (right : t.right job x) where
-    is_needed : (need : JobName) → NeedsIn m w job need → IsFinished w.finished need
-    is_needed need n =
+    needed_done : (job : JobName) (reads : List (Option BandSpan)) → Covers m job reads → ((need : JobName) → IsNeed segments own reads job need → IsDoneBy segments base marks need)
+        → (need : JobName) → NeedsIn m w job need → IsFinished w.finished need
+    needed_done job reads covers needs need n =
         let here : IsNeed segments own (m.reads job w.finished) job need =
         subst (λ s. IsNeed s own (m.reads job w.finished) job need) h.segments (subst (λ i. IsNeed w.segments i (m.reads job w.finished) job need) h.window n) in
         let d = needs need (wider segments job need w.finished reads covers here) in
         (h.done d.0 need d.1).1 d.2
 
-    ready : IsReady m w job
-    ready =
+    pub ready_now : base + length marks ≡ drawn → (at : ℕ) (job : JobName) → job_at segments (base + at) ≡ Some job → slice_get marks at ≡ Some false → (reads : List (Option BandSpan))
+        → Covers m job reads → ((need : JobName) → IsNeed segments own reads job need → IsDoneBy segments base marks need) → IsReady m w job
+    ready_now long at job there open_mark reads covers needs =
         record {
           drawn = (
             base + at,
@@ -102,8 +100,18 @@ module _ {X : Type 0} (m : Rules X) (own : ℕ) where
             subst (λ s. job_at s (base + at) ≡ Some job) (sym h.segments) there,
           );
           unfinished = λ f. not_marked base marks at open_mark ((h.done (base + at) job there).0 f);
-          needs = is_needed;
+          needs = needed_done job reads covers needs;
         }
+
+  module _ (t : Truth X) (can : CanDo m t) (segments : List Segment) (drawn base : ℕ) (marks : List Bool) (w : WorldState X) (h : IsWorld m own segments drawn base marks false w)
+      (long : base + length marks ≡ drawn) (few : drawn ≤ length (jobs_in segments)) (at : ℕ) (job : JobName) (there : job_at segments (base + at) ≡ Some job)
+      (open_mark : slice_get marks at ≡ Some false) (reads : List (Option BandSpan)) (covers : Covers m job reads)
+      (needs : (need : JobName) → IsNeed segments own reads job need → IsDoneBy segments base marks need) (x : X) (right : t.right job x) where
+    is_needed : (need : JobName) → NeedsIn m w job need → IsFinished w.finished need
+    is_needed = needed_done segments drawn base marks false w h job reads covers needs
+
+    ready : IsReady m w job
+    ready = ready_now segments drawn base marks false w h long at job there open_mark reads covers needs
 
     does_of : (j : JobName) → j ≡ job → t.right j x → Does m w j x
     does_of (Head f) is so = ([], All-nil _, can.0 (Head f) x tt so)

@@ -22,10 +22,10 @@ use Rattle.job_order.proofs.Keeps.{opening_order}
 use Rattle.job_order.proofs.Readiness.{band_of}
 use Rattle.job_crew.specs.Runs.{IsDue}
 use Rattle.job_crew.specs.Code.{AreDue, IsPool, HasPut}
-use Rattle.job_crew.specs.Events.{CanDo, Covers, HasPassed, IsMarked, IsDoneBy, AreStarts, IsWorld, IsShop}
+use Rattle.job_crew.specs.Events.{CanDo, Covers, HasPassed, MayBegin, IsMarked, IsDoneBy, AreStarts, IsWorld, IsShop}
 use Rattle.job_crew.proofs.Due.{parse_due, build_due, last_due}
 use Rattle.job_crew.proofs.Marked.{starts_more}
-use Rattle.job_crew.proofs.Logged.{first_world, world_draws, world_pops, world_finishes, next_reached, done_before}
+use Rattle.job_crew.proofs.Logged.{first_world, world_draws, world_pops, world_finishes, ready_now, next_reached, done_before}
 use Rattle.job_crew.proofs.Pools.{publishes}
 
 -- the row of the filter that publishes a band is none behind that of the last band
@@ -177,6 +177,11 @@ module _ {X : Type 0} (m : Rules X) (t : Truth X) where
           long = let l = s.long in omega (arith, l, length-append marks (false ∷ []));
           world = (_, world_draws m own segments drawn base marks over s.world.0 s.world.1);
         })))
+
+    pub may_begin : (at : ℕ) (job : JobName) → job_at segments (base + at) ≡ Some job → slice_get marks at ≡ Some false → (reads : List (Option BandSpan)) → Covers m job reads
+        → ((need : JobName) → IsNeed segments own reads job need → IsDoneBy segments base marks need) → MayBegin m own job
+    may_begin at job there open_mark reads covers needs =
+        (s.world.0, s.world.1.reached, ready_now m own segments drawn base marks over s.world.0 s.world.1 s.long at job there open_mark reads covers needs)
 
     -- the filters of a span of bands are finished where the last one is
     pub out_before : (order : InOrder segments) (span : BandSpan) (rows filter : ℕ)

@@ -7,7 +7,7 @@ use Rattle.job_order.specs.declared.segment.Segment.{Segment}
 use Rattle.job_order.specs.declared.event.Done.{Done}
 use Rattle.job_order.specs.JobSegments.{jobs_in, job_at, IsListed}
 use Rattle.job_order.specs.Needs.{HasBand}
-use Rattle.job_order.specs.Worlds.{Rules, WorldState, HasResult, IsFinished, IsReached}
+use Rattle.job_order.specs.Worlds.{Rules, WorldState, HasResult, IsFinished, IsReady, IsReached}
 use Rattle.job_order.specs.Truths.{Truth}
 use Rattle.job_crew.specs.Runs.{IsNoWrite}
 use Rattle.job_crew.specs.declared.outlet.Ending.{Ending}
@@ -61,6 +61,10 @@ pub record IsShop {X : Type 0} (m : Rules X) (t : Truth X) (own : ℕ) (publishe
   pub few : tickets ≤ length (jobs_in published)
   pub long : base + length marks ≡ tickets
   pub world : (w : WorldState X) × IsWorld m own published tickets base marks over w
+
+-- In a world that was reached by events that were allowed the job is ready.
+abbrev pub MayBegin : {X : Type 0} → Rules X → ℕ → JobName → Type 0
+MayBegin {X} m window job = (w : WorldState X) × IsReached m window w × IsReady m w job
 
 -- in this world the run's last job has the result by which it ended
 abbrev pub EndsIn : {X : Type 0} → WorldState X → Ending X → Type 0

@@ -1,16 +1,13 @@
-ghost use Rattle.std.specs.Prelude.{◌≡◌, ℕ, ◌<◌, ◌≤◌, ◌++◌, ◌∷◌, [], true, false, length, List, All, Some, None, IfSome, IfNone, IfOk, IfErr};
-ghost use Rattle.vp9_types.specs.declared.job.JobName.{JobName};
+ghost use Rattle.std.specs.Prelude.{◌≡◌, ℕ, ◌<◌, ◌≤◌, ◌++◌, ◌∷◌, [], true, false, length, All, Some, None, slice_get, IfSome, IfNone, IfOk, IfErr};
 ghost use Rattle.vp9_types.specs.declared.job.JobName.TheVariants.{Head, Close, Write, End};
-ghost use Rattle.job_order.specs.declared.event.Done.{Done};
 ghost use Rattle.job_order.specs.JobSegments.{IsListed};
-ghost use Rattle.job_order.specs.Needs.{IsNeed};
-ghost use Rattle.job_order.specs.Worlds.{WorldState, HasResult, IsReached, parsed, built, published};
+ghost use Rattle.job_order.specs.Worlds.{WorldState, HasResult, IsReached, built, published};
 ghost use Rattle.job_crew.specs.declared.outlet.Content.TheVariants.{Open};
 ghost use Rattle.job_order.specs.Sound.{texts_below};
 ghost use Rattle.job_crew.specs.Runs.{IsDue, IsEnded};
 ghost use Rattle.edge_io.specs.Putting.{Takes};
-ghost use Rattle.job_crew.specs.Events.{CanDo, Covers, HasPassed, HasEvents};
-ghost use Rattle.job_crew.specs.Code.{TakesOut, IsDone, IsSeated, IsSeatedStill, IsAway};
+ghost use Rattle.job_crew.specs.Events.{CanDo, Covers, HasPassed, MayBegin, HasEvents};
+ghost use Rattle.job_crew.specs.Code.{TakesOut, IsSeated, IsSeatedStill, IsAway};
 ghost use Rattle.job_crew.specs.Left.{HasRightResults};
 
 use crate::cells::Cell;
@@ -20,8 +17,9 @@ use crate::frames::Frames;
 use crate::jobs::{Jobs, LIVE, Layout, Output, Start};
 use crate::left::{Ran, left_of};
 use crate::lent::Lent;
+use crate::news::{NO_BANDS, News};
 use crate::outlet::{Content, Ending, Outlet, Over, Placed, Told};
-use crate::pool::{News, Pool};
+use crate::pool::Pool;
 use crate::work::{AtWork, FrameWork, Gone, Loan, Strips, nothing};
 use edge_io::Gate;
 use job_order::{Meaning, Segment};
@@ -42,8 +40,6 @@ const OUTLET: u8 = 1;
 // work. More lets workers pass over jobs that wait, into the frames behind: at 1920x1080 a frame of four tile columns has 92 jobs, and a
 // frame that has ten times as many has so many columns that enough of its own are ready.
 const POOL_ROOM: usize = 1024;
-
-const NO_BANDS: [Option<BandSpan>; 3] = [None, None, None];
 
 /// What a run is of, and how it is done: by so many workers, with so many frames at once.
 #[derive(Drop)]
@@ -81,36 +77,6 @@ struct Crew<'a, X: Drop, M: Meaning<X> + Start, K: Output<X>, J, G> {
     last: &'a Cell<X, M>,
     moved: &'a Condvar,
     board: &'a Board<Placed<X, M, K>>,
-}
-
-// A job that reads no other frames is done, and its result publishes a segment.
-fn publishing(job: JobName, segment: Segment) -> News
-    ensures job { result.job ≡ job }
-    ensures reads { result.reads ≡ None ∷ None ∷ None ∷ [] }
-    ensures publishes { result.publishes ≡ Some segment }
-    ensures goes_on { result.ends ≡ false }
-{
-    News {
-        job,
-        reads: NO_BANDS,
-        publishes: Some(segment),
-        ends: false,
-    }
-}
-
-// The same of a job that publishes none.
-fn publishing_none(job: JobName) -> News
-    ensures job { result.job ≡ job }
-    ensures reads { result.reads ≡ None ∷ None ∷ None ∷ [] }
-    ensures publishes { result.publishes ≡ None }
-    ensures goes_on { result.ends ≡ false }
-{
-    News {
-        job,
-        reads: NO_BANDS,
-        publishes: None,
-        ends: false,
-    }
 }
 
 fn placed<X: Drop, M: Meaning<X> + Start, K: Output<X>>(
@@ -195,9 +161,9 @@ impl<'a, X: Drop, M: Meaning<X> + Start, K: Output<X>, J: Jobs<X, M, K>, G: Gate
     ) -> bool
         requires listed { IsListed pool.now.segments job }
         requires due { IsDue M.rules M.truth job }
-        ensures { result ≡ true → (results : List (Done X)) (need : JobName) → IsNeed pool.now.segments pool.now.window (M.rules.reads job results) job need → IsDone pool.now need }
+        ensures { result ≡ true → MayBegin M.rules M.window job }
     {
-        if !pool.is_ready(job, NO_BANDS) {
+        if !pool.has_needs(job, NO_BANDS) {
             return false;
         }
         let reads = self.reads(rt, frames, job);
@@ -211,7 +177,9 @@ impl<'a, X: Drop, M: Meaning<X> + Start, K: Output<X>, J: Jobs<X, M, K>, G: Gate
         frames: &Frames<X, M>,
         pool: &Pool<X, M>,
         parses: bool,
-    ) -> Option<usize> {
+    ) -> Option<usize>
+        ensures { IfSome result (λ at. IfSome (slice_get pool.now.names at) (MayBegin M.rules M.window)) }
+    {
         for at in 0..pool.len() {
             if let Some(job) = pool.name(at)
                 && (!parses || is_parsing(job))
@@ -224,12 +192,9 @@ impl<'a, X: Drop, M: Meaning<X> + Start, K: Output<X>, J: Jobs<X, M, K>, G: Gate
     }
 
     // The place of the job that is to be done next. One worker goes by tickets, which takes the least memory.
-    fn next_place<R: Wait>(
-        &self,
-        rt: &R,
-        frames: &Frames<X, M>,
-        pool: &Pool<X, M>,
-    ) -> Option<usize> {
+    fn next_place<R: Wait>(&self, rt: &R, frames: &Frames<X, M>, pool: &Pool<X, M>) -> Option<usize>
+        ensures { IfSome result (λ at. IfSome (slice_get pool.now.names at) (MayBegin M.rules M.window)) }
+    {
         if self.run.workers > 1
             && let Some(at) = self.ready_place(rt, frames, pool, true)
         {
@@ -248,6 +213,7 @@ impl<'a, X: Drop, M: Meaning<X> + Start, K: Output<X>, J: Jobs<X, M, K>, G: Gate
         ensures some { IfSome result (λ job. (at : ℕ) × TakesOut pool.old at job pool.new) }
         ensures none { IfNone result (pool.new ≡ pool.old) }
         ensures due { IfSome result (λ job. IsDue M.rules M.truth job) }
+        ensures ready { IfSome result (MayBegin M.rules M.window) }
     {
         let at = self.next_place(rt, frames, pool)?;
         pool.remove(at)
@@ -277,6 +243,7 @@ impl<'a, X: Drop, M: Meaning<X> + Start, K: Output<X>, J: Jobs<X, M, K>, G: Gate
         requires seat { IsSeated self.now.board.now seat.old }
         ensures seat { IsSeatedStill seat.old seat.new }
         ensures due { IfSome result (λ job. IsDue M.rules M.truth job) }
+        ensures ready { IfSome result (MayBegin M.rules M.window) }
     {
         for _ in 0..POOL_ROOM {
             pool.let_mark_go();
@@ -293,6 +260,7 @@ impl<'a, X: Drop, M: Meaning<X> + Start, K: Output<X>, J: Jobs<X, M, K>, G: Gate
         requires seat { IsSeated self.now.board.now seat.old }
         ensures seat { IsSeatedStill seat.old seat.new }
         ensures due { IfSome result (λ begun. IsDue M.rules M.truth begun.job) }
+        ensures ready { IfSome result (λ begun. MayBegin M.rules M.window begun.job) }
     {
         let mut guard = self.shop.lock(rt);
         if guard.pool.has_waiter() {
@@ -447,7 +415,7 @@ impl<'a, X: Drop, M: Meaning<X> + Start, K: Output<X> + Drop, J: Jobs<X, M, K>, 
         requires ends { M.rules.parses value ≡ None }
     {
         let job = JobName::Head { frame };
-        let news = publishing(job, Segment::Last { frame });
+        let news = News::new(job, Some(Segment::Last { frame }));
         let mut guard = self.shop.lock(rt);
         if guard.pool.finish(news, &value) {
             let _ = self.last.try_set(Finished::new(job, value));
@@ -469,7 +437,7 @@ impl<'a, X: Drop, M: Meaning<X> + Start, K: Output<X> + Drop, J: Jobs<X, M, K>, 
             frame,
             columns: layout.columns,
         };
-        self.begin(rt, held, made, publishing(job, segment), value);
+        self.begin(rt, held, made, News::new(job, Some(segment)), value);
     }
 
     // What the close's result publishes.
@@ -494,7 +462,7 @@ impl<'a, X: Drop, M: Meaning<X> + Start, K: Output<X> + Drop, J: Jobs<X, M, K>, 
         let job = JobName::Close { frame };
         let value = self.run.jobs.run(job, &self.lent_of(rt, &held));
         let segment = self.built(frame, &value);
-        self.complete(rt, held, publishing(job, segment), value);
+        self.complete(rt, held, News::new(job, Some(segment)), value);
     }
 
     fn give_outlet(&self, seat: &mut Seat<Placed<X, M, K>>, content: Content<X, M, K>)
@@ -511,12 +479,8 @@ impl<'a, X: Drop, M: Meaning<X> + Start, K: Output<X> + Drop, J: Jobs<X, M, K>, 
         requires publishes { published M.rules job value.now ≡ None }
         ensures { result ≡ true → (w : WorldState X) × IsReached M.rules M.window w × HasResult w.finished job value.now }
     {
-        let news = News {
-            job,
-            reads: NO_BANDS,
-            publishes: None,
-            ends: true,
-        };
+        let mut news = News::new(job, None);
+        news.ends = true;
         self.shop.lock(rt).pool.finish(news, value)
     }
 
@@ -563,7 +527,7 @@ impl<'a, X: Drop, M: Meaning<X> + Start, K: Output<X> + Drop, J: Jobs<X, M, K>, 
         let job = JobName::Write { frame };
         if !self.run.jobs.is_refused(&value) {
             self.give_outlet(seat, Content::Open(Outlet::new(next, output)));
-            self.complete(rt, held, publishing_none(job), value);
+            self.complete(rt, held, News::new(job, None), value);
             self.retire(rt, frame);
         } else if self.log_end(rt, job, &value) {
             self.end(seat, Ending::Refused { frame, value }, output);
@@ -608,12 +572,8 @@ impl<'a, X: Drop, M: Meaning<X> + Start, K: Output<X> + Drop, J: Jobs<X, M, K>, 
             JobName::End { frame } => self.do_end(rt, held, seat, frame),
             JobName::Column { .. } | JobName::Rows { .. } | JobName::Filter { .. } => {
                 let value = self.run.jobs.run(job, &self.lent_of(rt, &held));
-                let news = News {
-                    job,
-                    reads: self.reads_of(rt, &held, job),
-                    publishes: None,
-                    ends: false,
-                };
+                let mut news = News::new(job, None);
+                news.reads = self.reads_of(rt, &held, job);
                 self.complete(rt, held, news, value);
             }
         }

@@ -10,6 +10,7 @@ mod jobs;
 mod left;
 mod lent;
 mod marks;
+mod news;
 mod outlet;
 mod pool;
 mod tickets;

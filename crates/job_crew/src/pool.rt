@@ -8,25 +8,17 @@ ghost use Rattle.job_order.specs.Worlds.{WorldState, HasResult, IsReached, publi
 ghost use Rattle.job_order.specs.declared.segment.Segment.TheVariants.{Opening, Build, Last};
 ghost use Rattle.job_order.specs.declared.segment.Shown.{Shown};
 ghost use Rattle.job_crew.specs.Runs.{IsDue};
-ghost use Rattle.job_crew.specs.Events.{CanDo, Covers, HasPassed};
+ghost use Rattle.job_crew.specs.Events.{CanDo, Covers, HasPassed, MayBegin};
 ghost use Rattle.job_crew.specs.Code.{Fits, TakesOut, Puts, IsDone, HasPut};
 
 use crate::jobs::Start;
 use crate::marks::Marks;
+use crate::news::News;
 use crate::tickets::{rows_of, ticket_of};
 use job_order::{JobSpan, Mark, Meaning, Segment, job_from, needs_of};
 use std::alloc::{AllocError, Global};
 use std::marker::{Model, PhantomData};
 use vp9_types::{BandSpan, JobName};
-
-/// A job that is done: the bands of other frames that it read, the jobs that its result publishes, and whether the run ends by it.
-#[derive(Clone, Copy)]
-pub(crate) struct News {
-    pub(crate) job: JobName,
-    pub(crate) reads: [Option<BandSpan>; 3],
-    pub(crate) publishes: Option<Segment>,
-    pub(crate) ends: bool,
-}
 
 /// The jobs that were drawn and not begun, what is published, and what is finished.
 #[derive(Drop)]
@@ -211,7 +203,7 @@ impl<X, M: Meaning<X> + Start> Pool<X, M> {
     }
 
     /// Whether the needs of a job are finished, where it reads these bands of other frames.
-    pub(crate) fn is_ready(&self, job: JobName, reads: [Option<BandSpan>; 3]) -> bool
+    pub(crate) fn has_needs(&self, job: JobName, reads: [Option<BandSpan>; 3]) -> bool
         requires listed { IsListed self.now.segments job }
         ensures { result ≡ true → (need : JobName) → IsNeed self.now.segments self.now.window reads job need → IsDone self.now need }
     {
@@ -233,6 +225,19 @@ impl<X, M: Meaning<X> + Start> Pool<X, M> {
         self.marks.open_place(self.ticket(job)?)
     }
 
+    /// Whether a job may begin, where it reads these bands of other frames: it is drawn, it isn't finished, and its needs are.
+    pub(crate) fn is_ready(&self, job: JobName, reads: [Option<BandSpan>; 3]) -> bool
+        requires listed { IsListed self.now.segments job }
+        requires covers { Covers M.rules job reads }
+        ensures { result ≡ true → MayBegin M.rules M.window job }
+    {
+        let _ = &self.window;
+        let Some(_) = self.open_place(job) else {
+            return false;
+        };
+        self.has_needs(job, reads)
+    }
+
     /// A job is finished, and what its result publishes is published, where it comes next and a head has made room for it. It is so unless the job
     /// isn't drawn, or is finished, or has a need that isn't.
     pub(crate) fn finish(&mut self, news: News, value: &X) -> bool
@@ -248,7 +253,7 @@ impl<X, M: Meaning<X> + Start> Pool<X, M> {
         let Some(at) = self.open_place(news.job) else {
             return false;
         };
-        if self.over || !self.is_ready(news.job, news.reads) {
+        if self.over || !self.has_needs(news.job, news.reads) {
             return false;
         }
         let publishes = news.publishes;

@@ -15,7 +15,7 @@ invariant_of-self-2 g c =
     subst (λ (v : PoolParts). slice_get v.marks c.in-Some.at ≡ Some false) (sym c.self.view_is) c.in-Some.ensures.open in
     let needs : (need : JobName) → IsNeed c.self.inside.segments.items c.self.inside.window c.args.news.reads c.args.news.job need
     → IsDoneBy c.self.inside.segments.items c.self.inside.marks.base c.self.inside.marks.marks.items need =
-    subst (λ (v : PoolParts). (need : JobName) → IsNeed v.segments v.window c.args.news.reads c.args.news.job need → IsDone v need) (sym c.self.view_is) (c.is_ready.ensures c.if-not-is_ready.false) in
+    subst (λ (v : PoolParts). (need : JobName) → IsNeed v.segments v.window c.args.news.reads c.args.news.job need → IsDone v need) (sym c.self.view_is) (c.has_needs.ensures c.if-not-has_needs.false) in
     let shop : IsShop g.M.Meaning.rules g.M.Meaning.truth g.M.Start.window c.self.inside.segments.items c.self.inside.starts.items c.self.inside.drawn c.self.inside.marks.base
     c.self.inside.marks.marks.items false =
     subst (λ o. IsShop g.M.Meaning.rules g.M.Meaning.truth g.M.Start.window c.self.inside.segments.items c.self.inside.starts.items c.self.inside.drawn c.self.inside.marks.base
@@ -41,7 +41,7 @@ returns-clause-event g c = λ _.
     subst (λ (v : PoolParts). slice_get v.marks c.in-Some.at ≡ Some false) (sym c.self.view_is) c.in-Some.ensures.open in
     let needs : (need : JobName) → IsNeed c.self.inside.segments.items c.self.inside.window c.args.news.reads c.args.news.job need
     → IsDoneBy c.self.inside.segments.items c.self.inside.marks.base c.self.inside.marks.marks.items need =
-    subst (λ (v : PoolParts). (need : JobName) → IsNeed v.segments v.window c.args.news.reads c.args.news.job need → IsDone v need) (sym c.self.view_is) (c.is_ready.ensures c.if-not-is_ready.false) in
+    subst (λ (v : PoolParts). (need : JobName) → IsNeed v.segments v.window c.args.news.reads c.args.news.job need → IsDone v need) (sym c.self.view_is) (c.has_needs.ensures c.if-not-has_needs.false) in
     let shop : IsShop g.M.Meaning.rules g.M.Meaning.truth g.M.Start.window c.self.inside.segments.items c.self.inside.starts.items c.self.inside.drawn c.self.inside.marks.base
     c.self.inside.marks.marks.items false =
     subst (λ o. IsShop g.M.Meaning.rules g.M.Meaning.truth g.M.Start.window c.self.inside.segments.items c.self.inside.starts.items c.self.inside.drawn c.self.inside.marks.base

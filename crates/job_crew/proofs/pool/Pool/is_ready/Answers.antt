@@ -1,19 +1,22 @@
-use Rattle.std.proofs.Common.{rules, ◌≡◌, ◌∙◌, length, ap, sym, subst}
+use Rattle.std.proofs.Common.{◌≡◌, ◌+◌, false, slice_get, Some, sym, subst}
+use Rattle.vp9_types.specs.declared.job.JobName.{JobName}
+use Rattle.job_order.specs.JobSegments.{job_at}
 use Rattle.job_order.specs.Needs.{IsNeed}
-use Rattle.job_order.specs.Code.{Names}
 use Rattle.job_crew.specs.Code.{PoolParts, IsDone}
-use Rattle.job_crew.proofs.Named.{each_named}
+use Rattle.job_crew.specs.Events.{IsDoneBy}
+use Rattle.job_crew.proofs.Shops.{may_begin}
 use Rattle.job_crew.proofs.pool.Pool.is_ready.Goals as goal
 
 pub returns : goal.returns
-returns g c = λ yes need n.
-    let two : length c.needs_of-needs.result.jobs ≡ 2 = search rules in
-    let three : length c.needs_of-needs.result.bands ≡ 3 = search rules in
-    let same : c.deref.result.now ≡ c.args.self.now.segments = c.deref.ensures.value ∙ ap (λ (v : PoolParts). v.segments) c.self.view_is in
-    let here : IsNeed c.deref.result.now c.self.inside.window c.args.reads c.args.job need =
-    subst (λ s. IsNeed s c.self.inside.window c.args.reads c.args.job need) (sym same)
-    (subst (λ i. IsNeed c.args.self.now.segments i c.args.reads c.args.job need) (sym (ap (λ (v : PoolParts). v.window) c.self.view_is)) n) in
-    each_named (λ job. IsDone c.args.self.now job) c.args.self.now.segments c.needs_of-needs.result two three (c.are_done.ensures c.if-not-are_done.false)
-    (c.are_done-else-not-are_done.ensures c.if-not-are_done-2.false) (c.are_published.ensures c.if-not-are_published.false)
-    (c.are_published-else-not-are_published.ensures c.if-not-are_published-2.false) (c.are_published-2.ensures yes) need
-    (subst (λ s. Names s c.needs_of-needs.result need) same ((c.needs_of-needs.ensures need).0 here))
+returns g c = λ yes.
+    let there : job_at c.self.inside.segments.items (c.self.inside.marks.base + c.in-Some.field-0) ≡ Some c.args.job =
+    subst (λ (v : PoolParts). job_at v.segments (v.base + c.in-Some.field-0) ≡ Some c.args.job) (sym c.self.view_is) c.in-Some.ensures.there in
+    let unset : slice_get c.self.inside.marks.marks.items c.in-Some.field-0 ≡ Some false =
+    subst (λ (v : PoolParts). slice_get v.marks c.in-Some.field-0 ≡ Some false) (sym c.self.view_is) c.in-Some.ensures.open in
+    let needs : (need : JobName) → IsNeed c.self.inside.segments.items c.self.inside.window c.args.reads c.args.job need
+    → IsDoneBy c.self.inside.segments.items c.self.inside.marks.base c.self.inside.marks.marks.items need =
+    subst (λ (v : PoolParts). (need : JobName) → IsNeed v.segments v.window c.args.reads c.args.job need → IsDone v need) (sym c.self.view_is) (c.has_needs.ensures yes) in
+    may_begin g.M.Meaning.rules g.M.Meaning.truth g.M.Start.window c.self.inside.segments.items c.self.inside.starts.items c.self.inside.drawn c.self.inside.marks.base
+    c.self.inside.marks.marks.items c.self.inside.over c.self.invariant.3 c.in-Some.field-0 c.args.job there unset c.args.reads c.requires.covers
+    (subst (λ i. (need : JobName) → IsNeed c.self.inside.segments.items i c.args.reads c.args.job need
+    → IsDoneBy c.self.inside.segments.items c.self.inside.marks.base c.self.inside.marks.marks.items need) c.self.invariant.2 needs)
