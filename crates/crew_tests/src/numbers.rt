@@ -22,11 +22,12 @@ impl<'a> Output<Number<'a>> for Paper {
     ghost has_refused = { λ p x. p.is_torn ≡ true };
 }
 
-/// A run of so many frames, each of so many tile columns and superblock rows.
-pub struct Numbers<const FRAMES: u64, const COLUMNS: u32, const ROWS: u32>;
+/// A run of so many frames, each of so many tile columns and superblock rows, with so many frames at once.
+pub struct Numbers<const FRAMES: u64, const COLUMNS: u32, const ROWS: u32, const WINDOW: u8>;
 
-impl<'a, const FRAMES: u64, const COLUMNS: u32, const ROWS: u32> Meaning<Number<'a>>
-    for Numbers<FRAMES, COLUMNS, ROWS> {
+impl<'a, const FRAMES: u64, const COLUMNS: u32, const ROWS: u32, const WINDOW: u8> Meaning<
+    Number<'a>,
+> for Numbers<FRAMES, COLUMNS, ROWS, WINDOW> {
     ghost use Rattle.crew_tests.specs.Numbers.{number_rules, number_truth};
 
     ghost rules = { number_rules FRAMES COLUMNS ROWS };
@@ -34,11 +35,13 @@ impl<'a, const FRAMES: u64, const COLUMNS: u32, const ROWS: u32> Meaning<Number<
     ghost truth = { number_truth ROWS };
 }
 
-impl<const FRAMES: u64, const COLUMNS: u32, const ROWS: u32> Start
-    for Numbers<FRAMES, COLUMNS, ROWS> {
+impl<const FRAMES: u64, const COLUMNS: u32, const ROWS: u32, const WINDOW: u8> Start
+    for Numbers<FRAMES, COLUMNS, ROWS, WINDOW> {
     ghost use Rattle.std.specs.Prelude.{[], Some};
 
     ghost taken = { Some [] };
+
+    ghost window = { WINDOW };
 }
 
 /// Does the jobs of such a run. The output refuses one frame, and there is no memory for another. A tally counts the results.
@@ -58,9 +61,9 @@ fn slots_after(frame: u64) -> [Option<u64>; LIVE] {
     slots
 }
 
-impl<'a, const FRAMES: u64, const COLUMNS: u32, const ROWS: u32> Jobs<
+impl<'a, const FRAMES: u64, const COLUMNS: u32, const ROWS: u32, const WINDOW: u8> Jobs<
     Number<'a>,
-    Numbers<FRAMES, COLUMNS, ROWS>,
+    Numbers<FRAMES, COLUMNS, ROWS, WINDOW>,
     Paper,
 > for NumberJobs<'a> {
     fn layout(&self, head: &Number<'a>) -> Option<Layout> {
@@ -94,7 +97,7 @@ impl<'a, const FRAMES: u64, const COLUMNS: u32, const ROWS: u32> Jobs<
     }
 
     // The bands of three frames before it, to the one below the row: the last one, and two that slots hold.
-    fn reads<R: Results<Number<'a>, Numbers<FRAMES, COLUMNS, ROWS>>>(
+    fn reads<R: Results<Number<'a>, Numbers<FRAMES, COLUMNS, ROWS, WINDOW>>>(
         &self,
         frame: u64,
         _column: u32,
@@ -114,8 +117,8 @@ impl<'a, const FRAMES: u64, const COLUMNS: u32, const ROWS: u32> Jobs<
     }
 
     fn run<
-        R: Results<Number<'a>, Numbers<FRAMES, COLUMNS, ROWS>>
-            + LastResult<Number<'a>, Numbers<FRAMES, COLUMNS, ROWS>>,
+        R: Results<Number<'a>, Numbers<FRAMES, COLUMNS, ROWS, WINDOW>>
+            + LastResult<Number<'a>, Numbers<FRAMES, COLUMNS, ROWS, WINDOW>>,
     >(&self, job: JobName, results: &R) -> Number<'a> {
         let value = match job {
             JobName::Head { frame } => {
@@ -130,11 +133,11 @@ impl<'a, const FRAMES: u64, const COLUMNS: u32, const ROWS: u32> Jobs<
                 frame
             }
             JobName::Close { frame } => {
-                see_columns::<Numbers<FRAMES, COLUMNS, ROWS>, R>(results, frame, COLUMNS);
+                see_columns::<Numbers<FRAMES, COLUMNS, ROWS, WINDOW>, R>(results, frame, COLUMNS);
                 frame
             }
             JobName::Rows { frame, column, row } => {
-                see_slots::<Numbers<FRAMES, COLUMNS, ROWS>, R>(results, frame);
+                see_slots::<Numbers<FRAMES, COLUMNS, ROWS, WINDOW>, R>(results, frame);
                 if row > 0 {
                     results
                         .result(JobName::Rows {
@@ -148,7 +151,7 @@ impl<'a, const FRAMES: u64, const COLUMNS: u32, const ROWS: u32> Jobs<
                 }
             }
             JobName::Filter { frame, row } => {
-                see_row::<Numbers<FRAMES, COLUMNS, ROWS>, R>(results, frame, row, COLUMNS);
+                see_row::<Numbers<FRAMES, COLUMNS, ROWS, WINDOW>, R>(results, frame, row, COLUMNS);
                 frame
             }
             JobName::End { frame } => {
@@ -164,7 +167,7 @@ impl<'a, const FRAMES: u64, const COLUMNS: u32, const ROWS: u32> Jobs<
         Number::new(self.tally, u64::MAX)
     }
 
-    fn write<R: Results<Number<'a>, Numbers<FRAMES, COLUMNS, ROWS>>>(
+    fn write<R: Results<Number<'a>, Numbers<FRAMES, COLUMNS, ROWS, WINDOW>>>(
         &self,
         frame: u64,
         results: &R,

@@ -3,3 +3,7 @@ pub mod Kept
 pub mod Pools
 pub mod Written
 pub mod RowsLeft
+pub mod Marked
+pub mod Logged
+pub mod Shops
+pub mod Named

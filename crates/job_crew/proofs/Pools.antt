@@ -1,6 +1,5 @@
 -- The pool stays one when a segment is published, a job is put in or taken out.
-use Rattle.std.proofs.Common.{◌≡◌, ℕ, ◌+◌, ◌<◌, ◌≤◌, ◌⊎◌, inl, inr, ⊎_elim, List, [], ◌∷◌, ◌++◌, length, slice_get, take, drop, get_or, Some, arith, min, sym, subst}
-use Rattle.std.proofs.Math.Nat.{min-le_left}
+use Rattle.std.proofs.Common.{◌≡◌, ℕ, ◌+◌, ◌<◌, ◌≤◌, ◌⊎◌, inl, inr, ⊎_elim, List, [], ◌∷◌, ◌++◌, length, slice_get, take, drop, get_or, Some, arith}
 use Rattle.std.proofs.lemmas.Option.{none-some}
 use Rattle.std.proofs.lemmas.List.{length-append}
 use Rattle.std.proofs.lemmas.List.Elements.{All-append, All-take, All-drop, All-weaker, All-nil, All-cons, All-get_or}
@@ -52,13 +51,9 @@ jobs_more (x ∷ rest) s =
     let h = jobs_more rest s in
     omega (arith, h, length-append (jobs_of x) (jobs_in (rest ++ s ∷ [])), length-append (jobs_of x) (jobs_in rest))
 
--- a sum that stops at a bound
-pub no_more : (a b bound sum : ℕ) → sum ≡ min (a + b) bound → sum ≤ a + b
-no_more a b bound sum e = subst (λ n. n ≤ a + b) (sym e) (min-le_left (a + b) bound)
-
 module _ {X : Type 0} (m : Rules X) (t : Truth X) where
   pub publishes : (segments : List Segment) (s : Segment) (names : List JobName) (mark : Mark) (published more drawn : ℕ) → IsPool m t segments names mark published drawn
-      → Fits segments s → AreDue m t s → more ≤ published + length (jobs_of s) → IsPool m t (segments ++ s ∷ []) names mark more drawn
+      → Fits segments s → AreDue m t s → more ≡ published + length (jobs_of s) → IsPool m t (segments ++ s ∷ []) names mark more drawn
   publishes segments s names mark published more drawn h fits due few =
       record {
         order = pushed segments s h.order (is_open segments h.order fits.goes_on) fits.at fits.shown;

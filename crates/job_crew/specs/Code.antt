@@ -1,5 +1,5 @@
 -- What the crew keeps of the jobs and of its seats.
-use Rattle.std.specs.Prelude.{◌≡◌, ℕ, ◌+◌, ◌<◌, ◌≤◌, Bool, true, false, List, [], ◌∷◌, ◌++◌, length, map, Option, Some, None, All, slice_get, slice_set, nat_eq, nat_lt, if◌then◌else◌}
+use Rattle.std.specs.Prelude.{◌≡◌, ℕ, ◌+◌, ◌<◌, ◌≤◌, Bool, false, List, [], ◌∷◌, ◌++◌, length, map, Option, Some, None, All, slice_get, slice_set, nat_eq, nat_lt, if◌then◌else◌}
 use Rattle.std.specs.List.{remove, filter, list_any}
 use Rattle.std.specs.Option.{option_eq}
 use Rattle.vp9_types.specs.declared.job.JobName.{JobName}
@@ -14,6 +14,7 @@ use Rattle.job_order.specs.Truths.{Truth}
 use Rattle.job_order.specs.Code.{IsMark}
 use Rattle.progress_board.specs.Code.{BoardParts, SeatParts}
 use Rattle.job_crew.specs.Runs.{IsDue}
+use Rattle.job_crew.specs.Events.{IsDoneBy}
 
 -- each job of a segment is due
 abbrev pub AreDue : {X : Type 0} → Rules X → Truth X → Segment → Type 0
@@ -51,11 +52,15 @@ abbrev pub ColumnsStay : {A : Type 0} → JobName → A → A → Type 0
 ColumnsStay (Write f) old new = Unit {0}
 ColumnsStay job old new = new ≡ old
 
--- what is published, the jobs that were drawn and not begun, how many were drawn, how many it has room for, and whether the run is over
+-- how many frames may be at work, what is published, the jobs that were drawn and not begun, how many were drawn, which of these are
+-- finished (those below a base, and those with a mark), how many names it has room for, and whether the run is over
 pub record PoolParts : Type 0 where
+  pub window : ℕ
   pub segments : List Segment
   pub names : List JobName
   pub drawn : ℕ
+  pub base : ℕ
+  pub marks : List Bool
   pub room : ℕ
   pub over : Bool
 
@@ -63,19 +68,25 @@ pub record IsPool {X : Type 0} (m : Rules X) (t : Truth X) (segments : List Segm
   pub order : InOrder segments
   pub marked : IsMark segments mark
   pub later : mark.ticket ≤ drawn
-  pub tickets : published ≤ length (jobs_in segments)
+  pub tickets : published ≡ length (jobs_in segments)
   pub listed : All (IsListed segments) names
   pub due : (job : JobName) → IsListed segments job → IsDue m t job
 
--- the segment is published, if so
-abbrev pub published_if : Bool → PoolParts → Segment → PoolParts
-published_if true pool s = record pool { segments = pool.segments ++ s ∷ [] }
-published_if false pool s = pool
+-- the job is finished
+abbrev pub IsDone : PoolParts → JobName → Type 0
+IsDone pool job = IsDoneBy pool.segments pool.base pool.marks job
+
+-- the segment is put behind the others, with its first ticket, if there is one
+abbrev pub HasPut : List Segment → List ℕ → ℕ → Option Segment → List Segment → List ℕ → ℕ → Type 0
+HasPut segments starts published None new_segments new_starts new_published =
+    (new_segments ≡ segments) × (new_starts ≡ starts) × (new_published ≡ published)
+HasPut segments starts published (Some s) new_segments new_starts new_published =
+    Fits segments s × (new_segments ≡ segments ++ s ∷ []) × (new_starts ≡ starts ++ published ∷ []) × (new_published ≡ published + length (jobs_of s))
 
 -- the job of the next ticket is put in, as the last
 abbrev pub Puts : PoolParts → ℕ → JobName → PoolParts → Type 0
 Puts old ticket job new =
-    (ticket ≡ old.drawn) × (job_at old.segments ticket ≡ Some job) × (new ≡ record old { names = old.names ++ job ∷ []; drawn = ticket + 1 })
+    (ticket ≡ old.drawn) × (job_at old.segments ticket ≡ Some job) × (new ≡ record old { names = old.names ++ job ∷ []; drawn = ticket + 1; marks = old.marks ++ false ∷ [] })
 
 -- the job at this place is taken out
 abbrev pub TakesOut : PoolParts → ℕ → JobName → PoolParts → Type 0

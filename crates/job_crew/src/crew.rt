@@ -1,11 +1,13 @@
-ghost use Rattle.std.specs.Prelude.{◌≡◌, ℕ, ◌<◌, ◌≤◌, ◌++◌, ◌∷◌, [], true, false, length, All, None, IfSome, IfNone, IfOk, IfErr};
+ghost use Rattle.std.specs.Prelude.{◌≡◌, ℕ, ◌<◌, ◌≤◌, ◌++◌, ◌∷◌, [], true, false, length, All, Some, None, slice_get, IfSome, IfNone, IfOk, IfErr};
 ghost use Rattle.vp9_types.specs.declared.job.JobName.TheVariants.{Head, Close, Write, End};
-ghost use Rattle.job_order.specs.JobSegments.{InOrder, IsListed};
+ghost use Rattle.job_order.specs.JobSegments.{IsListed};
+ghost use Rattle.job_order.specs.Worlds.{WorldState, HasResult, IsReached, built, published};
 ghost use Rattle.job_crew.specs.declared.outlet.Content.TheVariants.{Open};
 ghost use Rattle.job_order.specs.Sound.{texts_below};
 ghost use Rattle.job_crew.specs.Runs.{IsDue, IsEnded};
 ghost use Rattle.edge_io.specs.Putting.{Takes};
-ghost use Rattle.job_crew.specs.Code.{AreDue, TakesOut, IsSeated, IsSeatedStill, IsAway};
+ghost use Rattle.job_crew.specs.Events.{CanDo, Covers, HasPassed, MayBegin, HasEvents};
+ghost use Rattle.job_crew.specs.Code.{TakesOut, IsSeated, IsSeatedStill, IsAway};
 ghost use Rattle.job_crew.specs.Left.{HasRightResults};
 
 use crate::cells::Cell;
@@ -15,11 +17,12 @@ use crate::frames::Frames;
 use crate::jobs::{Jobs, LIVE, Layout, Output, Start};
 use crate::left::{Ran, left_of};
 use crate::lent::Lent;
+use crate::news::{NO_BANDS, News};
 use crate::outlet::{Content, Ending, Outlet, Over, Placed, Told};
 use crate::pool::Pool;
-use crate::work::{AtWork, FrameWork, Loan, Strips};
+use crate::work::{AtWork, FrameWork, Gone, Loan, Strips, nothing};
 use edge_io::Gate;
-use job_order::{Meaning, Segment, needs_of};
+use job_order::{Meaning, Segment};
 use progress_board::{Board, Refused, Seat};
 use std::alloc::{AllocError, Global};
 use std::marker::PhantomData;
@@ -38,8 +41,6 @@ const OUTLET: u8 = 1;
 // frame that has ten times as many has so many columns that enough of its own are ready.
 const POOL_ROOM: usize = 1024;
 
-const NO_BANDS: [Option<BandSpan>; 3] = [None, None, None];
-
 /// What a run is of, and how it is done: by so many workers, with so many frames at once.
 #[derive(Drop)]
 pub struct Run<'a, J, G> {
@@ -52,7 +53,7 @@ pub struct Run<'a, J, G> {
 
 // What lies under the lock: jobs, and what they are lent.
 #[derive(Drop)]
-struct Shop<X: Drop, M: Meaning<X>> {
+struct Shop<X: Drop, M: Meaning<X> + Start> {
     pool: Pool<X, M>,
     frames: Frames<X, M>,
 }
@@ -139,6 +140,7 @@ impl<'a, X: Drop, M: Meaning<X> + Start, K: Output<X>, J: Jobs<X, M, K>, G: Gate
     // What a job reads of other frames.
     fn reads<R: Wait>(&self, rt: &R, frames: &Frames<X, M>, job: JobName) -> [Option<BandSpan>; 3]
         requires due { IsDue M.rules M.truth job }
+        ensures { Covers M.rules job result }
     {
         match job {
             JobName::Rows { frame, column, row } => {
@@ -154,22 +156,18 @@ impl<'a, X: Drop, M: Meaning<X> + Start, K: Output<X>, J: Jobs<X, M, K>, G: Gate
         &self,
         rt: &R,
         frames: &Frames<X, M>,
-        segments: &[Segment],
+        pool: &Pool<X, M>,
         job: JobName,
     ) -> bool
-        requires order { InOrder segments.now }
-        requires listed { IsListed segments.now job }
+        requires listed { IsListed pool.now.segments job }
         requires due { IsDue M.rules M.truth job }
+        ensures { result ≡ true → MayBegin M.rules M.window job }
     {
-        let [first, second] = needs_of(segments, self.run.window, job, NO_BANDS).jobs;
-        if !frames.are_finished(first) || !frames.are_finished(second) {
+        if !pool.has_needs(job, NO_BANDS) {
             return false;
         }
         let reads = self.reads(rt, frames, job);
-        let [last, golden, altref] = needs_of(segments, self.run.window, job, reads).bands;
-        frames.are_published(segments, last)
-            && frames.are_published(segments, golden)
-            && frames.are_published(segments, altref)
+        pool.is_ready(job, reads)
     }
 
     // The place in the pool of the first job that is ready, or of the first one that parses.
@@ -179,11 +177,13 @@ impl<'a, X: Drop, M: Meaning<X> + Start, K: Output<X>, J: Jobs<X, M, K>, G: Gate
         frames: &Frames<X, M>,
         pool: &Pool<X, M>,
         parses: bool,
-    ) -> Option<usize> {
+    ) -> Option<usize>
+        ensures { IfSome result (λ at. IfSome (slice_get pool.now.names at) (MayBegin M.rules M.window)) }
+    {
         for at in 0..pool.len() {
             if let Some(job) = pool.name(at)
                 && (!parses || is_parsing(job))
-                && self.is_ready(rt, frames, pool.segments(), job)
+                && self.is_ready(rt, frames, pool, job)
             {
                 return Some(at);
             }
@@ -192,12 +192,9 @@ impl<'a, X: Drop, M: Meaning<X> + Start, K: Output<X>, J: Jobs<X, M, K>, G: Gate
     }
 
     // The place of the job that is to be done next. One worker goes by tickets, which takes the least memory.
-    fn next_place<R: Wait>(
-        &self,
-        rt: &R,
-        frames: &Frames<X, M>,
-        pool: &Pool<X, M>,
-    ) -> Option<usize> {
+    fn next_place<R: Wait>(&self, rt: &R, frames: &Frames<X, M>, pool: &Pool<X, M>) -> Option<usize>
+        ensures { IfSome result (λ at. IfSome (slice_get pool.now.names at) (MayBegin M.rules M.window)) }
+    {
         if self.run.workers > 1
             && let Some(at) = self.ready_place(rt, frames, pool, true)
         {
@@ -216,6 +213,7 @@ impl<'a, X: Drop, M: Meaning<X> + Start, K: Output<X>, J: Jobs<X, M, K>, G: Gate
         ensures some { IfSome result (λ job. (at : ℕ) × TakesOut pool.old at job pool.new) }
         ensures none { IfNone result (pool.new ≡ pool.old) }
         ensures due { IfSome result (λ job. IsDue M.rules M.truth job) }
+        ensures ready { IfSome result (MayBegin M.rules M.window) }
     {
         let at = self.next_place(rt, frames, pool)?;
         pool.remove(at)
@@ -245,8 +243,10 @@ impl<'a, X: Drop, M: Meaning<X> + Start, K: Output<X>, J: Jobs<X, M, K>, G: Gate
         requires seat { IsSeated self.now.board.now seat.old }
         ensures seat { IsSeatedStill seat.old seat.new }
         ensures due { IfSome result (λ job. IsDue M.rules M.truth job) }
+        ensures ready { IfSome result (MayBegin M.rules M.window) }
     {
         for _ in 0..POOL_ROOM {
+            pool.let_mark_go();
             if !pool.can_draw() {
                 break;
             }
@@ -260,6 +260,7 @@ impl<'a, X: Drop, M: Meaning<X> + Start, K: Output<X>, J: Jobs<X, M, K>, G: Gate
         requires seat { IsSeated self.now.board.now seat.old }
         ensures seat { IsSeatedStill seat.old seat.new }
         ensures due { IfSome result (λ begun. IsDue M.rules M.truth begun.job) }
+        ensures ready { IfSome result (λ begun. MayBegin M.rules M.window begun.job) }
     {
         let mut guard = self.shop.lock(rt);
         if guard.pool.has_waiter() {
@@ -280,10 +281,28 @@ impl<'a, X: Drop, M: Meaning<X> + Start, K: Output<X>, J: Jobs<X, M, K>, G: Gate
         }
         unreachable!()
     }
+
+    // Takes the outlet where the frame's write comes next. Where it doesn't, the outlet stays.
+    fn take_outlet(&self, seat: &mut Seat<Placed<X, M, K>>, frame: u64) -> Option<K>
+        requires seat { IsSeated self.now.board.now seat.old }
+        ensures taken { IfSome result (λ output. Takes M.taken (K.taken output) (texts_below M.truth.text frame)) }
+        ensures may { IfSome result (λ output. K.may_put output) }
+        ensures some { IfSome result (λ output. IsAway seat.old seat.new) }
+        ensures none { IfNone result (IsSeatedStill seat.old seat.new) }
+    {
+        let Placed { content, .. } = self.board.take(seat, OUTLET)?;
+        match content {
+            Content::Open(outlet) if outlet.awaits(frame) => Some(outlet.output()),
+            other => {
+                self.board.give(seat, OUTLET, placed(other));
+                None
+            }
+        }
+    }
 }
 
 // What each job does, and what comes of its result.
-impl<'a, X: Drop, M: Meaning<X> + Start, K: Output<X>, J: Jobs<X, M, K>, G: Gate> Crew<
+impl<'a, X: Drop, M: Meaning<X> + Start, K: Output<X> + Drop, J: Jobs<X, M, K>, G: Gate> Crew<
     'a,
     X,
     M,
@@ -291,18 +310,44 @@ impl<'a, X: Drop, M: Meaning<X> + Start, K: Output<X>, J: Jobs<X, M, K>, G: Gate
     J,
     G,
 > {
-    fn publish<R: Wait>(&self, rt: &R, segment: Segment)
-        requires due { AreDue M.rules M.truth segment }
+    // What a job reads of other frames, of what it is lent.
+    fn reads_of<R: Wait>(&self, rt: &R, held: &Held<X, M>, job: JobName) -> [Option<BandSpan>; 3]
+        requires due { IsDue M.rules M.truth job }
+        ensures { Covers M.rules job result }
     {
-        self.shop.lock(rt).pool.publish(segment);
+        match job {
+            JobName::Rows { frame, column, row } => {
+                let lent = self.lent_of(rt, held);
+                self.run.jobs.reads(frame, column, row, &lent)
+            }
+            _ => NO_BANDS,
+        }
     }
 
-    // Sets a job's result. What the job was lent goes in the same moment, so what others let go from then on isn't held by it. What nobody else
-    // has is dropped here, and not under the lock.
-    fn complete<R: Wait>(&self, rt: &R, held: Held<X, M>, job: JobName, value: X)
-        requires { M.truth.right job value }
+    // A job is finished, and its result is set. What the job was lent goes in the same moment, so what others let go from then on isn't held by it.
+    fn settle<R: Wait>(&self, rt: &R, held: Held<X, M>, news: News, value: X) -> Gone<X, M>
+        requires covers { Covers M.rules news.job news.reads }
+        requires right { M.truth.right news.job value }
+        requires publishes { news.publishes ≡ published M.rules news.job value }
+        requires passed { HasPassed M.rules news.job value }
     {
-        let gone = self.shop.lock(rt).frames.finish(held, job, value);
+        let mut guard = self.shop.lock(rt);
+        let shop = &mut *guard;
+        if shop.pool.finish(news, &value) {
+            shop.frames.finish(held, news.job, value)
+        } else {
+            nothing()
+        }
+    }
+
+    // The same. What nobody else has is dropped here, and not under the lock.
+    fn complete<R: Wait>(&self, rt: &R, held: Held<X, M>, news: News, value: X)
+        requires covers { Covers M.rules news.job news.reads }
+        requires right { M.truth.right news.job value }
+        requires publishes { news.publishes ≡ published M.rules news.job value }
+        requires passed { HasPassed M.rules news.job value }
+    {
+        let gone = self.settle(rt, held, news, value);
         drop(gone);
     }
 
@@ -350,13 +395,18 @@ impl<'a, X: Drop, M: Meaning<X> + Start, K: Output<X>, J: Jobs<X, M, K>, G: Gate
     }
 
     // A frame is at work, and its head's result is there.
-    fn begin<R: Wait>(&self, rt: &R, held: Held<X, M>, frame: FrameWork<X, M>, segment: Segment)
-        requires due { AreDue M.rules M.truth segment }
+    fn begin<R: Wait>(&self, rt: &R, held: Held<X, M>, made: FrameWork<X, M>, news: News, value: X)
+        requires covers { Covers M.rules news.job news.reads }
+        requires right { M.truth.right news.job value }
+        requires publishes { news.publishes ≡ published M.rules news.job value }
+        requires passed { HasPassed M.rules news.job value }
     {
         let mut guard = self.shop.lock(rt);
         drop(held);
-        guard.frames.put(frame);
-        guard.pool.publish(segment);
+        if guard.pool.finish(news, &value) {
+            made.set_head(news.job, value);
+            guard.frames.put(made);
+        }
     }
 
     // The head's result says that the run ends.
@@ -364,10 +414,12 @@ impl<'a, X: Drop, M: Meaning<X> + Start, K: Output<X>, J: Jobs<X, M, K>, G: Gate
         requires right { M.truth.right (Head frame) value }
         requires ends { M.rules.parses value ≡ None }
     {
-        let _ = self
-            .last
-            .try_set(Finished::new(JobName::Head { frame }, value));
-        self.publish(rt, Segment::Last { frame });
+        let job = JobName::Head { frame };
+        let news = News::new(job, Some(Segment::Last { frame }));
+        let mut guard = self.shop.lock(rt);
+        if guard.pool.finish(news, &value) {
+            let _ = self.last.try_set(Finished::new(job, value));
+        }
     }
 
     fn do_head<R: Wait>(&self, rt: &R, held: Held<X, M>, frame: u64)
@@ -381,22 +433,17 @@ impl<'a, X: Drop, M: Meaning<X> + Start, K: Output<X>, J: Jobs<X, M, K>, G: Gate
         let Ok(made) = self.make_frame(rt, &held, frame, layout) else {
             return self.end_at_head(rt, frame, self.run.jobs.starved(frame));
         };
-        made.set_head(job, value);
-        self.begin(
-            rt,
-            held,
-            made,
-            Segment::Parse {
-                frame,
-                columns: layout.columns,
-            },
-        );
+        let segment = Segment::Parse {
+            frame,
+            columns: layout.columns,
+        };
+        self.begin(rt, held, made, News::new(job, Some(segment)), value);
     }
 
     // What the close's result publishes.
     fn built(&self, frame: u64, close: &X) -> Segment
         requires right { M.truth.right (Close frame) close.now }
-        ensures due { AreDue M.rules M.truth result }
+        ensures { result ≡ built frame (M.rules.builds close.now) }
     {
         match self.run.jobs.building(close) {
             Some(building) => Segment::Build {
@@ -415,26 +462,7 @@ impl<'a, X: Drop, M: Meaning<X> + Start, K: Output<X>, J: Jobs<X, M, K>, G: Gate
         let job = JobName::Close { frame };
         let value = self.run.jobs.run(job, &self.lent_of(rt, &held));
         let segment = self.built(frame, &value);
-        self.complete(rt, held, job, value);
-        self.publish(rt, segment);
-    }
-
-    // Takes the outlet where the frame's write comes next. Where it doesn't, the outlet stays.
-    fn take_outlet(&self, seat: &mut Seat<Placed<X, M, K>>, frame: u64) -> Option<K>
-        requires seat { IsSeated self.now.board.now seat.old }
-        ensures taken { IfSome result (λ output. Takes M.taken (K.taken output) (texts_below M.truth.text frame)) }
-        ensures may { IfSome result (λ output. K.may_put output) }
-        ensures some { IfSome result (λ output. IsAway seat.old seat.new) }
-        ensures none { IfNone result (IsSeatedStill seat.old seat.new) }
-    {
-        let Placed { content, .. } = self.board.take(seat, OUTLET)?;
-        match content {
-            Content::Open(outlet) if outlet.awaits(frame) => Some(outlet.output()),
-            other => {
-                self.board.give(seat, OUTLET, placed(other));
-                None
-            }
-        }
+        self.complete(rt, held, News::new(job, Some(segment)), value);
     }
 
     fn give_outlet(&self, seat: &mut Seat<Placed<X, M, K>>, content: Content<X, M, K>)
@@ -444,14 +472,26 @@ impl<'a, X: Drop, M: Meaning<X> + Start, K: Output<X>, J: Jobs<X, M, K>, G: Gate
         self.board.give(seat, OUTLET, placed(content));
     }
 
+    // The run ends by this result of a job.
+    fn log_end<R: Wait>(&self, rt: &R, job: JobName, value: &X) -> bool
+        requires right { M.truth.right job value.now }
+        requires covers { Covers M.rules job (None ∷ None ∷ None ∷ []) }
+        requires publishes { published M.rules job value.now ≡ None }
+        ensures { result ≡ true → (w : WorldState X) × IsReached M.rules M.window w × HasResult w.finished job value.now }
+    {
+        let mut news = News::new(job, None);
+        news.ends = true;
+        self.shop.lock(rt).pool.finish(news, value)
+    }
+
     // The run is over.
-    fn end<R: Wait>(&self, rt: &R, seat: &mut Seat<Placed<X, M, K>>, ending: Ending<X>, output: K)
+    fn end(&self, seat: &mut Seat<Placed<X, M, K>>, ending: Ending<X>, output: K)
         requires seat { (seat.old.board ≡ self.now.board.now.board) × (seat.old.view.has ≡ 1 ∷ []) }
         requires ended { IsEnded M.rules M.truth M.taken ending (K.taken output) (K.may_put output) (K.has_refused output) }
+        requires events { HasEvents M.rules M.window ending }
         ensures seat { IsSeatedStill seat.old seat.new }
     {
         self.give_outlet(seat, Content::Over(Over::new(ending, output)));
-        self.shop.lock(rt).pool.end();
     }
 
     // Lets a frame go that is written, and the one before it where that is still there. What nobody else has is dropped here, and not under the
@@ -484,12 +524,15 @@ impl<'a, X: Drop, M: Meaning<X> + Start, K: Output<X>, J: Jobs<X, M, K>, G: Gate
             .run
             .jobs
             .write(frame, &self.lent_of(rt, &held), &mut output);
-        if self.run.jobs.is_refused(&value) {
-            self.end(rt, seat, Ending::Refused { frame, value }, output);
-        } else {
+        let job = JobName::Write { frame };
+        if !self.run.jobs.is_refused(&value) {
             self.give_outlet(seat, Content::Open(Outlet::new(next, output)));
-            self.complete(rt, held, JobName::Write { frame }, value);
+            self.complete(rt, held, News::new(job, None), value);
             self.retire(rt, frame);
+        } else if self.log_end(rt, job, &value) {
+            self.end(seat, Ending::Refused { frame, value }, output);
+        } else {
+            self.give_outlet(seat, Content::Taken);
         }
     }
 
@@ -507,11 +550,13 @@ impl<'a, X: Drop, M: Meaning<X> + Start, K: Output<X>, J: Jobs<X, M, K>, G: Gate
         let Some(output) = self.take_outlet(seat, frame) else {
             return;
         };
-        let value = self
-            .run
-            .jobs
-            .run(JobName::End { frame }, &self.lent_of(rt, &held));
-        self.end(rt, seat, Ending::Whole { frame, value }, output);
+        let job = JobName::End { frame };
+        let value = self.run.jobs.run(job, &self.lent_of(rt, &held));
+        if self.log_end(rt, job, &value) {
+            self.end(seat, Ending::Whole { frame, value }, output);
+        } else {
+            self.give_outlet(seat, Content::Taken);
+        }
     }
 
     fn do_job<R: Wait>(&self, rt: &R, seat: &mut Seat<Placed<X, M, K>>, begun: Begun<X, M>)
@@ -527,7 +572,9 @@ impl<'a, X: Drop, M: Meaning<X> + Start, K: Output<X>, J: Jobs<X, M, K>, G: Gate
             JobName::End { frame } => self.do_end(rt, held, seat, frame),
             JobName::Column { .. } | JobName::Rows { .. } | JobName::Filter { .. } => {
                 let value = self.run.jobs.run(job, &self.lent_of(rt, &held));
-                self.complete(rt, held, job, value);
+                let mut news = News::new(job, None);
+                news.reads = self.reads_of(rt, &held, job);
+                self.complete(rt, held, news, value);
             }
         }
     }
@@ -553,6 +600,7 @@ impl<'a, X: Drop, M: Meaning<X> + Start, K: Output<X>, J: Jobs<X, M, K>, G: Gate
         requires seat { IsSeated self.now.board.now seat.old }
         ensures seat { IsSeatedStill seat.old seat.new }
         ensures told { IfSome result (λ told. IsEnded M.rules M.truth M.taken told.ending (K.taken told.output) (K.may_put told.output) (K.has_refused told.output)) }
+        ensures events { IfSome result (λ told. HasEvents M.rules M.window told.ending) }
     {
         let Placed { content, .. } = self.board.take(seat, OUTLET)?;
         match content {
@@ -572,6 +620,7 @@ impl<'a, X: Drop, M: Meaning<X> + Start, K: Output<X>, J: Jobs<X, M, K>, G: Gate
         requires seat { IsSeated self.now.board.now seat.old }
         ensures seat { IsSeatedStill seat.old seat.new }
         ensures told { IsEnded M.rules M.truth M.taken result.ending (K.taken result.output) (K.may_put result.output) (K.has_refused result.output) }
+        ensures events { HasEvents M.rules M.window result.ending }
     {
         for _ in rt.forever() {
             self.work(rt, seat);
@@ -677,11 +726,14 @@ pub fn run_jobs<
     requires window { (2 ≤ run.now.window) × (run.now.window ≤ 16) }
     requires taken { K.taken output ≡ M.taken }
     requires may { K.may_put output }
+    requires can { CanDo M.rules M.truth }
+    requires events_window { M.window ≡ run.now.window }
     ensures ended { IfOk result (λ ran. IsEnded M.rules M.truth M.taken ran.ending (K.taken ran.output) (K.may_put ran.output) (K.has_refused ran.output)) }
+    ensures events { IfOk result (λ ran. HasEvents M.rules M.window ran.ending) }
     ensures results { IfOk result (λ ran. IfSome ran.results (λ all. All (HasRightResults M.truth) all.items)) }
     ensures refused { IfErr result (λ k. (K.taken k ≡ M.taken) × K.may_put k) }
 {
-    let Ok(pool) = Pool::<X, M>::new(run.alloc, POOL_ROOM) else {
+    let Ok(pool) = Pool::<X, M>::new(run.alloc, POOL_ROOM, run.window) else {
         return Err(output);
     };
     let source = Placed {

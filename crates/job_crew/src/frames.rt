@@ -1,29 +1,24 @@
 //! The frames at work.
 
-ghost use Rattle.std.specs.Prelude.{◌≡◌, ℕ, ◌+◌, ◌*◌, ◌<◌, ◌≤◌, length, Option, Some, IfSome, slice_get};
+ghost use Rattle.std.specs.Prelude.{◌≡◌, ◌<◌, ◌≤◌, length, Option, Some, IfSome};
 ghost use Rattle.std.specs.Arc.{arc_value};
-ghost use Rattle.job_order.specs.declared.segment.Segment.TheVariants.{Build};
-ghost use Rattle.job_order.specs.declared.segment.Shown.{Shown};
 
 use crate::cells::frame_of;
 use crate::work::{AtWork, FrameWork, Gone, Loan, nothing};
-use job_order::{JobSpan, Meaning, Segment};
+use job_order::Meaning;
 use std::alloc::{AllocError, Global};
-use vp9_types::{BandSpan, JobName};
+use vp9_types::JobName;
 
 /// The frames at work in order: from the first one that isn't written, or the last one, to the last that its head has found.
 #[derive(Drop)]
 pub(crate) struct Frames<X: Drop, M: Meaning<X>> {
     frames: Vec<FrameWork<X, M>>,
-    // So many frames are written, a number that never falls. A write needs all bands of its own frame and the write before it, so each job of these is finished.
-    written: u64,
 }
 
 impl<X: Drop, M: Meaning<X>> Frames<X, M> {
     pub(crate) fn new(alloc: Global) -> Frames<X, M> {
         Frames {
             frames: Vec::new(alloc),
-            written: 0,
         }
     }
 
@@ -60,11 +55,7 @@ impl<X: Drop, M: Meaning<X>> Frames<X, M> {
     /// Sets the result of a job, and takes back what the job was lent, with what no job asks for from then on.
     pub(crate) fn finish(&mut self, loan: Option<Loan<X, M>>, job: JobName, value: X) -> Gone<X, M>
         requires { M.truth.right job value }
-        ensures { self.old.written ≤ self.new.written }
     {
-        if let JobName::Write { frame } = job {
-            self.written = self.written.max(frame.saturating_add(1));
-        }
         if let Some(loan) = loan {
             loan.finish(job, value);
         }
@@ -108,83 +99,5 @@ impl<X: Drop, M: Meaning<X>> Frames<X, M> {
     /// What a job may see, for the job to have.
     pub(crate) fn lend(&self, job: JobName) -> Option<Loan<X, M>> {
         self.of(job)?.lend(job)
-    }
-
-    fn is_finished(&self, job: JobName) -> bool {
-        let frame = frame_of(job);
-        frame < self.written
-            || match self.frame(frame) {
-                Some(own) => own.is_finished(job),
-                None => false,
-            }
-    }
-
-    /// Whether some jobs are all finished.
-    pub(crate) fn are_finished(&self, span: Option<JobSpan>) -> bool {
-        match span {
-            None => true,
-            Some(JobSpan::One { job }) => self.is_finished(job),
-            Some(JobSpan::Columns { frame, columns }) => self.are_parsed(frame, columns),
-            Some(
-                JobSpan::RowOf {
-                    frame,
-                    row,
-                    columns,
-                },
-            ) => self.is_row_rebuilt(frame, row, columns),
-        }
-    }
-
-    fn are_parsed(&self, frame: u64, columns: u32) -> bool {
-        for column in 0..columns {
-            if !self.is_finished(JobName::Column { frame, column }) {
-                return false;
-            }
-        }
-        true
-    }
-
-    fn is_row_rebuilt(&self, frame: u64, row: u32, columns: u32) -> bool {
-        for column in 0..columns {
-            if !self.is_finished(JobName::Rows { frame, column, row }) {
-                return false;
-            }
-        }
-        true
-    }
-
-    /// Whether some bands are all published. The filters of a frame are finished one after another, so the last of them shows it.
-    pub(crate) fn are_published(&self, segments: &[Segment], span: Option<BandSpan>) -> bool {
-        let Some(span) = span else {
-            return true;
-        };
-        if span.frame < self.written {
-            return true;
-        }
-        let Some(rows) = rows_of(segments, span.frame) else {
-            return false;
-        };
-        let row = match span.last.checked_add(1) {
-            Some(next) if next < rows => next,
-            _ => span.last,
-        };
-        self.is_finished(JobName::Filter {
-            frame: span.frame,
-            row,
-        })
-    }
-}
-
-// How many superblock rows a frame has, once its close is finished.
-fn rows_of(segments: &[Segment], frame: u64) -> Option<u32>
-    ensures { IfSome result (λ rows. (f : ℕ) × (columns : ℕ) × (shown : Option Shown) × (slice_get segments.now (2 * frame + 2) ≡ Some (Build f columns rows shown))) }
-{
-    let at = frame.checked_mul(2)?.checked_add(2)? as usize;
-    if at >= segments.len() {
-        return None;
-    }
-    match segments[at] {
-        Segment::Build { rows, .. } => Some(rows),
-        _ => None,
     }
 }

@@ -1,6 +1,8 @@
 ghost use Rattle.std.specs.Prelude.{◌≡◌, ℕ, ◌⊎◌, true, false, List, Option, Some, None, IfSome, IfNone};
 ghost use Rattle.vp9_types.specs.declared.job.JobName.TheVariants.{Head, Close, Rows, Write};
 ghost use Rattle.job_order.specs.Truths.{IsRightText};
+ghost use Rattle.job_order.specs.Needs.{HasBand};
+ghost use Rattle.job_order.specs.declared.event.Done.{Done};
 ghost use Rattle.edge_io.specs.Putting.{Takes};
 ghost use Rattle.job_crew.specs.Runs.{IsDue, IsNoWrite, GoesOn, IsLast};
 
@@ -41,6 +43,9 @@ pub trait Output<X> {
 /// What the output had taken when a run began, where it tells that. It holds nothing at run time.
 pub trait Start {
     ghost taken: { Option (List ℕ) };
+
+    /// How many frames may be at work at once.
+    ghost window: { ℕ };
 }
 
 /// A call that begins a run picks its own.
@@ -48,6 +53,8 @@ impl Start for Brand {
     ghost use Rattle.std.specs.Prelude.{None};
 
     ghost taken = { None };
+
+    ghost window = { 2 };
 }
 
 /// Results of jobs that are done, lent to a job that needs them.
@@ -91,7 +98,8 @@ pub trait Jobs<X, M: Meaning<X>, K: Output<X>> {
         row: u32,
         results: &R,
     ) -> [Option<BandSpan>; 3]
-        requires { IsDue M.rules M.truth (Rows frame column row) };
+        requires { IsDue M.rules M.truth (Rows frame column row) }
+        ensures all { (results : List (Done X)) (g band : ℕ) → HasBand (M.rules.reads (Rows frame column row) results) g band → HasBand result g band };
 
     /// Does a job that is no write.
     fn run<R: Results<X, M> + LastResult<X, M>>(&self, job: JobName, results: &R) -> X

@@ -9,8 +9,11 @@ mod frames;
 mod jobs;
 mod left;
 mod lent;
+mod marks;
+mod news;
 mod outlet;
 mod pool;
+mod tickets;
 mod work;
 
 pub use cells::frame_of;

@@ -2,6 +2,7 @@ ghost use Rattle.std.specs.Prelude.{◌≡◌, true};
 ghost use Rattle.edge_io.specs.Putting.{Takes};
 ghost use Rattle.job_order.specs.Sound.{texts_below};
 ghost use Rattle.job_crew.specs.Runs.{IsEnded};
+ghost use Rattle.job_crew.specs.Events.{HasEvents};
 
 use crate::jobs::{Output, Start};
 use job_order::Meaning;
@@ -88,17 +89,19 @@ pub(crate) struct Over<X: Drop, M: Meaning<X> + Start, K: Output<X>> {
 impl<X: Drop, M: Meaning<X> + Start, K: Output<X>> Model for Over<X, M, K> {
     ghost use Rattle.std.specs.Prelude.{ℕ};
     ghost use Rattle.job_crew.specs.Runs.{IsEnded};
+    ghost use Rattle.job_crew.specs.Events.{HasEvents};
 
     ghost Value = { ℕ };
 
     ghost view = { λ o. 0 };
 
-    ghost invariant = { λ o. IsEnded M.rules M.truth M.taken o.ending (K.taken o.output) (K.may_put o.output) (K.has_refused o.output) };
+    ghost invariant = { λ o. IsEnded M.rules M.truth M.taken o.ending (K.taken o.output) (K.may_put o.output) (K.has_refused o.output) × HasEvents M.rules M.window o.ending };
 }
 
 impl<X: Drop, M: Meaning<X> + Start, K: Output<X>> Over<X, M, K> {
     pub(crate) fn new(ending: Ending<X>, output: K) -> Over<X, M, K>
-        requires { IsEnded M.rules M.truth M.taken ending (K.taken output) (K.may_put output) (K.has_refused output) }
+        requires ended { IsEnded M.rules M.truth M.taken ending (K.taken output) (K.may_put output) (K.has_refused output) }
+        requires events { HasEvents M.rules M.window ending }
     {
         Over {
             ending,
@@ -108,7 +111,8 @@ impl<X: Drop, M: Meaning<X> + Start, K: Output<X>> Over<X, M, K> {
     }
 
     pub(crate) fn told(self) -> Told<X, K>
-        ensures { IsEnded M.rules M.truth M.taken result.ending (K.taken result.output) (K.may_put result.output) (K.has_refused result.output) }
+        ensures ended { IsEnded M.rules M.truth M.taken result.ending (K.taken result.output) (K.may_put result.output) (K.has_refused result.output) }
+        ensures events { HasEvents M.rules M.window result.ending }
     {
         let Over { ending, output, .. } = self;
         Told { ending, output }

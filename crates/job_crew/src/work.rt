@@ -91,10 +91,6 @@ impl<X: Drop, M: Meaning<X>> AtWork<X, M> {
             _ => self.frame.cell(job),
         }
     }
-
-    fn is_set(&self, job: JobName) -> bool {
-        get(self.cell(job), job).is_some()
-    }
 }
 
 /// What a job is lent: a frame at work, which is its own or where that isn't there yet the one before, and of its superblock rows the job's and
@@ -247,18 +243,6 @@ impl<X: Drop, M: Meaning<X>> FrameWork<X, M> {
             at_work: self.at_work.lend()?,
             strips,
         })
-    }
-
-    /// Whether a job of this frame is finished. The jobs of a superblock row that is let go are.
-    pub(crate) fn is_finished(&self, job: JobName) -> bool {
-        match job {
-            JobName::Rows { column, row, .. } => match self.strips.get(row as usize) {
-                Some(Some(strip)) => get(strip.cell(column), job).is_some(),
-                Some(None) => true,
-                None => false,
-            },
-            _ => self.at_work.is_set(job),
-        }
     }
 
     fn take_strip(&mut self, row: Option<u32>) -> Columns<X, M>

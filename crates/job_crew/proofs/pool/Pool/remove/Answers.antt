@@ -5,7 +5,7 @@ use Rattle.job_crew.proofs.pool.Pool.remove.Goals as goal
 
 pub invariant_of-self : goal.invariant_of-self
 invariant_of-self g c =
-    (rw c.remove.ensures.by_index.2 (takes _ _ _ _ _ _ _ c.args.at c.self.invariant.0), omega (arith, c.remove.ensures.capacity, c.self.invariant.1))
+    (rw c.remove.ensures.by_index.2 (takes _ _ _ _ _ _ _ c.args.at c.self.invariant.0), omega (arith, c.remove.ensures.capacity, c.self.invariant.1), c.self.invariant.2, c.self.invariant.3)
 
 pub returns-then-at-len-clause-due : goal.returns-then-at-len-clause-due
 returns-then-at-len-clause-due g c =

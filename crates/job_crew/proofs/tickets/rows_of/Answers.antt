@@ -1,7 +1,7 @@
 use Rattle.std.proofs.Common.{◌≡◌, ◌+◌, ◌*◌, ◌∙◌, ap, subst, slice_get, Some, arith}
 use Rattle.std.proofs.lemmas.Option.{slice_get-get_or}
 use Rattle.job_order.specs.declared.segment.Segment.TheVariants.{Opening, Build}
-use Rattle.job_crew.proofs.frames.rows_of.Goals as goal
+use Rattle.job_crew.proofs.tickets.rows_of.Goals as goal
 
 pub returns-in-Build : goal.returns-in-Build
 returns-in-Build c =
