@@ -1,5 +1,5 @@
 -- What a run of a group of frames leaves.
-use Rattle.std.specs.Prelude.{◌≡◌, ℕ, List, length, Option, None}
+use Rattle.std.specs.Prelude.{◌≡◌, ◌⊎◌, ℕ, List, length, Option, None, nat_lt, if◌then◌else◌}
 use Rattle.edge_io.specs.Putting.{Takes}
 use Rattle.vp9_types.specs.declared.outcome.Outcome.{Outcome}
 use Rattle.vp9_types.specs.declared.outcome.Outcome.TheVariants as outcome
@@ -9,7 +9,19 @@ use Rattle.job_order.specs.Sound.{texts_below}
 use Rattle.seq_decoder.specs.Outcomes.{Decodes}
 use Rattle.numbered_frames.specs.Films.{Film, GoesOn}
 use Rattle.numbered_frames.specs.FrameNumbers.{EndsAt, film_output, text}
+use Rattle.job_crew.specs.Events.{HasEvents}
+use Rattle.job_crew.specs.declared.outlet.Ending.{Ending}
+use Rattle.job_results.specs.Endings.{IsOutcome}
+use Rattle.job_results.specs.Groups.{group_rules}
 use Rattle.job_results.specs.declared.result.JobResult.{JobResult}
+
+-- how many frames are at work at once, as asked for: from 2 to 16
+abbrev pub frames_at_once : ℕ → ℕ
+frames_at_once window = if nat_lt window 2 then 2 else (if nat_lt 16 window then 16 else window)
+
+-- Events that were allowed one after another lead to a world in which a run has ended that tells this outcome; or memory was wanting to begin.
+abbrev pub TellsEvents : ℕ → Format → Film → ℕ → Outcome → Type 0
+TellsEvents n format film window o = (o ≡ outcome.OutOfMemory) ⊎ ((ending : Ending JobResult) × HasEvents (group_rules n format film) window ending × IsOutcome ending o)
 
 -- the results as those of a frame of this number
 abbrev pub renumbered : ℕ → FrameResults JobResult → FrameResults JobResult

@@ -5,14 +5,14 @@ ghost use Rattle.vp9_types.specs.declared.job.JobName.TheVariants.{Head};
 ghost use Rattle.job_crew.specs.Runs.{IsDue};
 ghost use Rattle.job_results.specs.Endings.{IsOutcome};
 ghost use Rattle.job_results.specs.Meaning.{decode_rules, decode_truth};
-ghost use Rattle.job_decoder.specs.Code.{HasRun};
+ghost use Rattle.job_decoder.specs.Code.{HasRun, TellsEvents, frames_at_once};
 ghost use Rattle.job_decoder.specs.SinkOutputs.{TellsOutcome};
 ghost use Rattle.job_decoder.specs.Pasts.{IsKept};
 
 use crate::decoder::JobDecoder;
 use crate::kept::{kept_behind, kept_beside};
 use crate::output::DecodeSink;
-use crate::whole::{Crew, outcome_of};
+use crate::whole::{Crew, frames_at_once, outcome_of};
 use edge_io::{Gate, Sink};
 use job_crew::{FrameResults, Ran, Run, run_jobs};
 use job_heads::FrameList;
@@ -51,6 +51,7 @@ fn without_memory<K: Sink, B: DecodeRun>(output: DecodeSink<K, B>) -> GroupRan<K
 }
 
 /// Decodes the frames of a group by a crew.
+#[tactic(auto, using(job_results::proofs::TrueRules::group_can))]
 pub(crate) fn run_group<
     'a,
     B: DecodeRun + Send + Sync,
@@ -67,7 +68,9 @@ pub(crate) fn run_group<
     requires taken { B.taken ≡ K.taken sink }
     requires faults { B.faults ≡ K.faults sink }
     requires grows { B.grows ≡ K.grows sink }
+    requires window { B.window ≡ frames_at_once crew.now.window }
     requires sink { K.can_put sink }
+    ensures events { TellsEvents B.first B.format B.film B.window result.outcome }
     ensures run { HasRun B.format B.film B.first (K.taken sink) (K.taken result.sink) (K.faults sink) (K.faults result.sink) result.outcome }
     ensures kept { IfSome result.kept (λ kept. All (IsKept B.format B.film) kept.items) }
     ensures due { IfSome result.kept (λ kept. IsDue (decode_rules B.format B.film) (decode_truth B.format B.film) (Head (length B.film.frames))) }
@@ -90,7 +93,7 @@ pub(crate) fn run_group<
         jobs: &jobs,
         gate: crew.gate,
         workers: crew.workers.clamp(1, 64),
-        window: crew.window.clamp(2, 16),
+        window: frames_at_once(crew.window),
     };
     let ran = run_jobs::<JobResult<'_>, Group<B>, DecodeSink<K, B>, JobDecoder<'_, '_, B, R>, G, R>(
         rt, &run, output,

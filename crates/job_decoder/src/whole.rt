@@ -1,10 +1,11 @@
 //! A whole decode by jobs.
 
-ghost use Rattle.std.specs.Prelude.{◌≡◌};
+ghost use Rattle.std.specs.Prelude.{◌≡◌, ◌≤◌};
 ghost use Rattle.seq_decoder.specs.Outcomes.{Decodes};
 ghost use Rattle.numbered_frames.specs.Films.{film_of};
 ghost use Rattle.seq_decoder.specs.Outputs.{output_of};
 ghost use Rattle.job_results.specs.Endings.{IsOutcome};
+ghost use Rattle.job_decoder.specs.Code.{TellsEvents, frames_at_once};
 ghost use Rattle.job_decoder.specs.SinkOutputs.{TellsOutcome};
 
 use crate::decoder::JobDecoder;
@@ -39,6 +40,21 @@ pub struct Decoded<K> {
     pub sink: K,
 }
 
+/// How many frames are at work at once, as asked for.
+pub(crate) fn frames_at_once(window: u8) -> u8
+    ensures is { result ≡ frames_at_once window }
+    ensures least { 2 ≤ result }
+    ensures most { result ≤ 16 }
+{
+    if window < 2 {
+        2
+    } else if window > 16 {
+        16
+    } else {
+        window
+    }
+}
+
 /// The outcome that an ending tells.
 pub(crate) fn outcome_of(ending: &Ending<JobResult<'_>>) -> Outcome
     requires { TellsOutcome ending.now }
@@ -69,6 +85,7 @@ fn without_memory<K: Sink, B: DecodeRun>(output: DecodeSink<K, B>) -> Decoded<K>
 }
 
 /// Decodes a file whose bytes, format and sink are named.
+#[tactic(auto, using(job_results::proofs::TrueRules::group_can))]
 fn decode_as<
     B: DecodeRun + Send + Sync,
     K: Sink + Send + Drop,
@@ -81,8 +98,10 @@ fn decode_as<
     requires taken { B.taken ≡ K.taken sink }
     requires faults { B.faults ≡ K.faults sink }
     requires grows { B.grows ≡ K.grows sink }
+    requires window { B.window ≡ frames_at_once crew.now.window }
     requires sink { K.can_put sink }
     ensures decodes { Decodes (output_of format bytes.now) (K.taken sink) (K.taken result.sink) (K.faults sink) (K.faults result.sink) result.outcome }
+    ensures events { TellsEvents B.first B.format B.film B.window result.outcome }
     ensures grows { K.grows result.sink ≡ K.grows sink }
     ensures again { K.faults result.sink ≡ K.faults sink → K.can_put result.sink }
 {
@@ -104,7 +123,7 @@ fn decode_as<
         jobs: &jobs,
         gate: crew.gate,
         workers: crew.workers.clamp(1, 64),
-        window: crew.window.clamp(2, 16),
+        window: frames_at_once(crew.window),
     };
     let Ran { ending, output, .. } = match run_jobs::<
         JobResult<'_>,
@@ -135,6 +154,7 @@ pub fn decode_by_jobs<K: Sink + Send + Drop, G: Gate + Sync, R: Threads + Wait +
 ) -> Decoded<K>
     requires sink { K.can_put sink }
     ensures decodes { Decodes (output_of format bytes.now) (K.taken sink) (K.taken result.sink) (K.faults sink) (K.faults result.sink) result.outcome }
+    ensures events { TellsEvents 0 format (film_of bytes.now) (frames_at_once crew.now.window) result.outcome }
     ensures grows { K.grows result.sink ≡ K.grows sink }
     ensures again { K.faults result.sink ≡ K.faults sink → K.can_put result.sink }
 {

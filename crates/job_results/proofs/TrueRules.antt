@@ -4,6 +4,7 @@ use Rattle.std.proofs.lemmas.Bool.{ltb-false}
 use Rattle.std.specs.Prelude.{Contains, nat_lt, Option, Some, None, Ok, if◌then◌else◌}
 use Rattle.vp9_types.specs.Shapes.{mi_rows}
 use Rattle.vp9_types.specs.Sizes.{superblocks_along}
+use Rattle.vp9_types.specs.declared.job.JobName.{JobName}
 use Rattle.vp9_types.specs.declared.job.JobName.TheVariants as job
 use Rattle.vp9_types.specs.declared.shape.Shape.{Shape}
 use Rattle.band_cells.specs.Bands.{Picture}
@@ -11,14 +12,17 @@ use Rattle.frame_output.specs.declared.rendering.Format.{Format}
 use Rattle.frame_state.specs.FrameReading.{FrameRead}
 use Rattle.job_order.specs.Truths.{AreTrue, IsFront, IsRightBuilding, IsRightText}
 use Rattle.job_order.specs.Worlds.{Building}
+use Rattle.job_order.specs.declared.event.Done.{Done}
 use Rattle.job_order.specs.declared.segment.Shown.{Shown}
+use Rattle.job_crew.specs.Events.{CanDo}
+use Rattle.job_crew.specs.Runs.{IsNoWrite}
 use Rattle.numbered_frames.specs.Coded.{CodedFrame, coded, read_of}
 use Rattle.numbered_frames.specs.Films.{Film}
 use Rattle.numbered_frames.specs.FrameNumbers.{before, text}
 use Rattle.numbered_frames.specs.NumberedPictures.{picture_from, picture_read, pictures}
 use Rattle.job_results.specs.Groups.{builds_in, group_rules, group_truth, numbers_in, shown_in}
 use Rattle.job_results.specs.JobResults.{IsBuiltAs, IsClose, IsClosedAs, IsNamed, IsShown}
-use Rattle.job_results.specs.Meaning.{fails, rows_of, text_put}
+use Rattle.job_results.specs.Meaning.{FollowsWrite, fails, rows_of, text_put}
 use Rattle.job_results.specs.Slots.{slots_of}
 use Rattle.job_results.specs.declared.result.ClosedFrame.{ClosedFrame}
 use Rattle.job_results.specs.declared.result.JobResult.{JobResult}
@@ -100,3 +104,27 @@ group_true n format film = record {
   text = λ f x is. text_by (fails x) (text format film (n + f));
   hands_on = λ f uses y d. let w = d.1 f refl in (w.0, w.2, λ bad. absurd (not_both (fails w.0) w.1 bad));
 }
+
+---- What jobs may do ----
+
+follows_none : (name : JobName) → IsNoWrite name → FollowsWrite name []
+follows_none (job.Head f) plain = tt
+follows_none (job.Column f c) plain = tt
+follows_none (job.Close f) plain = tt
+follows_none (job.Rows f c r) plain = tt
+follows_none (job.Filter f r) plain = tt
+follows_none (job.Write f) plain = absurd plain
+follows_none (job.End f) plain = tt
+
+follows_one : (f : ℕ) (x : JobResult) → fails x ≡ false → FollowsWrite (job.Write (f + 1)) (record { job = job.Write f; result = x } ∷ [])
+follows_one f x passed = λ g e.
+    let same : f ≡ g = omega (arith, e) in
+    let one : Done JobResult = record { job = job.Write f; result = x } in
+    (x, passed, (0, omega arith, ap (λ i. record { job = job.Write i; result = x }) same))
+
+pub group_can : (n : ℕ) (format : Format) (film : Film) → CanDo (group_rules n format film) (group_truth n format film)
+group_can n format film = (
+  λ name x plain right. (right, follows_none name plain),
+  λ x right. (right, λ g e. absurd (omega (arith, e))),
+  λ f x y passed right. (right, follows_one f x passed),
+)

@@ -1,11 +1,13 @@
 //! Laws of the definitions, as contracts of functions that do nothing.
 
-ghost use Rattle.std.specs.Prelude.{◌≡◌, ◌<◌, ◌+◌, ℕ, List, ◌++◌, Option, length};
+ghost use Rattle.std.specs.Prelude.{◌≡◌, ◌<◌, ◌≤◌, ◌+◌, ℕ, List, ◌++◌, Option, length};
 ghost use Rattle.frame_output.specs.declared.rendering.Format.{Format};
 ghost use Rattle.vp9_types.specs.declared.outcome.Outcome.{Outcome};
 ghost use Rattle.vp9_types.specs.declared.job.JobName.{JobName};
 ghost use Rattle.vp9_types.specs.declared.job.JobName.TheVariants.{Head};
-ghost use Rattle.job_order.specs.Sound.{frame_of, texts_below};
+ghost use Rattle.job_order.specs.Sound.{IsSound, frame_of, texts_below};
+ghost use Rattle.job_order.specs.Worlds.{IsReached, WorldState};
+ghost use Rattle.job_crew.specs.Events.{CanDo};
 ghost use Rattle.job_order.specs.Truths.{AreTrue};
 ghost use Rattle.job_crew.specs.Runs.{IsDue, IsEnded};
 ghost use Rattle.job_crew.specs.declared.outlet.Ending.{Ending};
@@ -27,10 +29,12 @@ pub fn ended_runs_are_decodes()
 {}
 
 /// The rules of a group's run are true: from right results they make right ones, right results say which frames are built and shown and what is
-/// put, and slots hold eight frames. So whatever events lead to a world of such a run, if each is allowed when it comes, the world is sound
-/// (`job_order::reached_worlds_are_sound`).
+/// put, and slots hold eight frames. So whatever events lead to a world of such a run, if each is allowed when it comes, the world is sound.
 pub fn rules_of_groups_are_true()
-    ensures { (n : ℕ) (format : Format) (film : Film) → AreTrue (group_rules n format film) (group_truth n format film) }
+    ensures are_true { (n : ℕ) (format : Format) (film : Film) → AreTrue (group_rules n format film) (group_truth n format film) }
+    ensures can { (n : ℕ) (format : Format) (film : Film) → CanDo (group_rules n format film) (group_truth n format film) }
+    ensures sound { (n window : ℕ) (format : Format) (film : Film) (w : WorldState AnyResult) → 2 ≤ window → IsReached (group_rules n format film) window w →
+        IsSound (group_rules n format film) (group_truth n format film) w }
 {}
 
 /// A result that is right stays right when more frames come behind those of the film.
