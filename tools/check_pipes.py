@@ -2,7 +2,7 @@
 """Looks at `vp9dec decode` as it reads a pipe. Of each FILE.ivf:
 
 - in pieces of 1, 7 and 4096 bytes, and cut off after each of some packets, it writes what it does of the same bytes in a file, with windows 2 and 16;
-- from a writer that stops behind a tenth of the file, all frames of the packets that are written but those of the last group are there before the rest is
+- from a writer that stops behind a tenth of the file, all frames of the packets that are written but the last 63 are there before the rest is
   written; and at least the first one, where the first packet is no more than that.
 
     tools/check_pipes.py [--seconds T] FILE..
@@ -64,10 +64,10 @@ def in_pieces(data, size, words):
 
 
 def group_end(data, ends):
-    """Returns how many of these packets are in whole groups: of one frame first, and then of 64; of packets with several frames the first one alone is told."""
+    """Returns how many of these packets are in whole groups at least: a group waits for 64 more; of packets with several frames the first one alone is told."""
     if any(data[end - 1] & 0xE0 == 0xC0 for end in ends[1:]):
         return 1
-    return 1 + (len(ends) - 2) // 64 * 64
+    return max(1, len(ends) - 1 - 63)
 
 
 def stopped(data, seconds):

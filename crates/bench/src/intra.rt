@@ -7,7 +7,7 @@ ghost use Rattle.vp9_types.specs.Maps.{IsAtMost};
 ghost use Rattle.planes.specs.Planes.{plane_map, whole_area};
 
 use crate::numbers::{SEED, drawn};
-use intra_predict::{IntraBlock, Place, Scratch, put_predicted, side_of};
+use intra_predict::{IntraBlock, IntraPlace, Scratch, put_predicted, side_of};
 use planes::{Area, SamplePlane};
 use std::alloc::{AllocError, Global};
 use vp9_types::{Depth, IntraMode, Sample, TxSize};
@@ -79,7 +79,7 @@ fn predict_blocks<P: Sample>(plane: &mut SamplePlane<P>, mode: IntraMode, size: 
     let mut row = side;
     let mut column = 0;
     'predicting: for _ in 0..count {
-        let place = Place {
+        let place = IntraPlace {
             row,
             column,
             tile_from: 0,

@@ -20,7 +20,7 @@ use Rattle.frame_headers.specs.declared.segments.MapUpdate.{MapUpdate}
 use Rattle.frame_headers.specs.declared.segments.Segmentation.{Segmentation}
 use Rattle.prob_contexts.specs.ProbLists.{ContextLists, TxLists}
 use Rattle.prob_contexts.specs.declared.kind.ProbKind.TheVariants as kind
-use Rattle.counting_reader.specs.CountedSymbols.{counted_flag}
+use Rattle.counting_reader.specs.CountedSymbols.{counted_flag, has_leaf}
 use Rattle.block_geometry.specs.BlockSizes.{greatest_allowed, is_below_8x8}
 use Rattle.block_geometry.specs.declared.transform_blocks.FramePlaces.{FramePlaces}
 use Rattle.block_plan.specs.declared.block.BlockAt.{BlockAt}
@@ -28,14 +28,14 @@ use Rattle.block_plan.specs.declared.block.BlockInfo.{BlockInfo}
 use Rattle.mode_syntax.proofs.BySize.{luma_by_size}
 use Rattle.mode_syntax.specs.Code.{four_modes, modes_by_size, one_mode, two_columns, two_rows}
 use Rattle.mode_syntax.specs.Elements.{coded_segment, intra_segment_id, is_selected, read_skip, read_tx_size, skip_context, skips_segment, tx_context, tx_probs, tx_symbol, tx_tree}
-use Rattle.mode_syntax.specs.IntraModes.{default_intra_mode, default_uv_mode, edge_modes, intra_mode, intra_of, last_mode, luma_modes}
+use Rattle.mode_syntax.specs.IntraModes.{default_intra_mode, default_uv_mode, edge_modes, intra_mode_symbol, intra_of, last_mode, default_luma_modes}
 use Rattle.mode_syntax.specs.IntraModeInfo.{intra_frame_mode_info, mode_info_beside}
 use Rattle.mode_syntax.specs.declared.intra_modes.EdgeModes.{EdgeModes}
 use Rattle.mode_syntax.specs.declared.square_at.SquareAt.{SquareAt}
-use Rattle.block_lists.specs.IntraLists.{chroma_of, luma_of, mode_of, spelled_beside, spelled_default, spelled_intra_frame, spelled_luma, spelled_mode, spelled_segment, spelled_skip, spelled_tx, spelled_tx_symbol, spelled_uv}
-use Rattle.bool_encoder.specs.Part.{Part}
+use Rattle.block_lists.specs.IntraLists.{chroma_of, luma_of, mode_of, spelled_beside, spelled_default, spelled_intra_frame, spelled_default_luma, spelled_intra_mode, spelled_segment, spelled_skip, spelled_tx, spelled_tx_symbol, spelled_uv}
+use Rattle.bool_encoder.specs.Part.{NumberPart}
 use Rattle.bool_encoder.specs.WrittenBools.{Puts}
-use Rattle.bool_lists.specs.BoolLists.{HasPut, has_leaf, is_distinct, one_bool, tree_bools}
+use Rattle.bool_lists.specs.BoolLists.{HasPut, is_distinct, one_bool, tree_bools}
 use Rattle.bool_lists.proofs.Ways.{between, of_leaf, flag_way, has_one, tree_way, spells_on, spells_none}
 use Rattle.bool_encoder.specs.CountedBools.{PutsValue}
 use Rattle.counting_reader.specs.Counting.{settle, uncounted}
@@ -48,7 +48,7 @@ use Rattle.block_lists.proofs.Counted.{two_put, settle_put, count_put, uncounted
 partition_numbers : (n : ℕ) → has_leaf partition_tree n ≡ true → partition_number (partition_of n) ≡ n
 partition_numbers n there = of_leaf (λ n. partition_number (partition_of n) ≡ n) partition_tree n (refl, (refl, (refl, refl))) there
 
-whole_way : (probs : List ℕ) (p : Partition) (old new : Part) → PutsValue (whole_symbol probs) old p new → HasPut old (tree_bools partition_tree probs (partition_number p)) new
+whole_way : (probs : List ℕ) (p : Partition) (old new : NumberPart) → PutsValue (whole_symbol probs) old p new → HasPut old (tree_bools partition_tree probs (partition_number p)) new
 unfolding whole_symbol
 whole_way probs p old new h =
     let a = two_put (uncounted (tree_symbol partition_tree probs)) (λ number. settle (partition_of number)) old new p h in
@@ -61,7 +61,7 @@ edge_split : (other : Partition) (b : Bool) → is_split other ≡ false → is_
 edge_split other true h = refl
 edge_split other false h = h
 
-edge_way : (q : ℕ) (other p : Partition) (old new : Part) → is_split other ≡ false → PutsValue (edge_symbol q other) old p new → HasPut old (one_bool q (is_split p)) new
+edge_way : (q : ℕ) (other p : Partition) (old new : NumberPart) → is_split other ≡ false → PutsValue (edge_symbol q other) old p new → HasPut old (one_bool q (is_split p)) new
 unfolding edge_symbol
 edge_way q other p old new not_split h =
     let a = two_put (uncounted (Rattle.bool_decoder.specs.Bools.flag q)) (λ split. settle (split_or other split)) old new p h in
@@ -70,14 +70,14 @@ edge_way q other p old new not_split h =
     let is : a.x ≡ is_split p = sym (edge_split other a.x not_split) ∙ ap is_split e.0 in
     subst (λ b. HasPut old (one_bool q b) new) is (subst (λ m. HasPut old (one_bool q a.x) m) e.1 g)
 
-value_way : (has_rows has_cols : Bool) (probs : List ℕ) (p : Partition) (old new : Part) → PutsValue (partition_value has_rows has_cols probs) old p new → HasPut old (spelled_partition has_rows has_cols probs p) new
+value_way : (has_rows has_cols : Bool) (probs : List ℕ) (p : Partition) (old new : NumberPart) → PutsValue (partition_value has_rows has_cols probs) old p new → HasPut old (spelled_partition has_rows has_cols probs p) new
 unfolding partition_value spelled_partition
 value_way true true probs p old new h = whole_way probs p old new h
 value_way true false probs p old new h = edge_way (slice_index probs 2) Vertical p old new refl h
 value_way false true probs p old new h = edge_way (slice_index probs 1) Horizontal p old new refl h
 value_way false false probs p old new h = subst (λ m. HasPut old [] m) (settle_put Split p old new h).1 (spells_none old)
 
-partition_way : (has_rows has_cols : Bool) (probs : List ℕ) (context : ℕ) (p : Partition) (old new : Part) → PutsValue (partition has_rows has_cols probs context) old p new
+partition_way : (has_rows has_cols : Bool) (probs : List ℕ) (context : ℕ) (p : Partition) (old new : NumberPart) → PutsValue (partition has_rows has_cols probs context) old p new
     → HasPut old (spelled_partition has_rows has_cols probs p) new
 unfolding partition
 partition_way has_rows has_cols probs context p old new h =
@@ -88,20 +88,20 @@ partition_way has_rows has_cols probs context p old new h =
     let g = value_way has_rows has_cols probs a.x old a.mid a.first in
     subst (λ q. HasPut old (spelled_partition has_rows has_cols probs q) new) e.0 (subst (λ m. HasPut old (spelled_partition has_rows has_cols probs a.x) m) (same ∙ e.1) g)
 
-pub at_way : (intra : Bool) (probs : List ℕ) (earlier : List BlockInfo) (frame : FramePlaces) (at : SquareAt) (p : Partition) (old new : Part) →
+pub at_way : (intra : Bool) (probs : List ℕ) (earlier : List BlockInfo) (frame : FramePlaces) (at : SquareAt) (p : Partition) (old new : NumberPart) →
     PutsValue (partition_at intra probs earlier frame at) old p new → HasPut old (spelled_partition_at intra probs earlier frame at p) new
 unfolding partition_at spelled_partition_at
 at_way intra probs earlier frame at p old new h = partition_way _ _ _ _ p old new h
 
 ---- Segment, skip, transform size ----
 
-segment_way : (enabled : Bool) (map : Option MapUpdate) (x : ℕ) (old new : Part) → Puts (coded_segment enabled map) old x new → HasPut old (spelled_segment enabled map x) new
+segment_way : (enabled : Bool) (map : Option MapUpdate) (x : ℕ) (old new : NumberPart) → Puts (coded_segment enabled map) old x new → HasPut old (spelled_segment enabled map x) new
 unfolding coded_segment spelled_segment
 segment_way true (Some update) x old new h = tree_way segment_tree update.tree x old new refl h
 segment_way true None x old new h = subst (λ m. HasPut old [] m) h.1 (spells_none old)
 segment_way false map x old new h = subst (λ m. HasPut old [] m) h.1 (spells_none old)
 
-pub skip_way : (segmentation : Segmentation) (probs : List ℕ) (context segment : ℕ) (skip : Bool) (old new : Part) → PutsValue (read_skip segmentation probs context segment) old skip new
+pub skip_way : (segmentation : Segmentation) (probs : List ℕ) (context segment : ℕ) (skip : Bool) (old new : NumberPart) → PutsValue (read_skip segmentation probs context segment) old skip new
     → HasPut old (spelled_skip segmentation probs context segment skip) new
 unfolding read_skip spelled_skip
 skip_way segmentation probs context segment skip old new h = by_test (skips_segment segmentation segment) h
@@ -123,7 +123,7 @@ tx_distinct T8x8 = refl
 tx_distinct T16x16 = refl
 tx_distinct T32x32 = refl
 
-tx_symbol_way : (lists : TxLists) (greatest : TxSize) (context : ℕ) (tx : TxSize) (old new : Part) → PutsValue (tx_symbol lists greatest context) old tx new
+tx_symbol_way : (lists : TxLists) (greatest : TxSize) (context : ℕ) (tx : TxSize) (old new : NumberPart) → PutsValue (tx_symbol lists greatest context) old tx new
     → HasPut old (spelled_tx_symbol lists greatest context tx) new
 unfolding tx_symbol spelled_tx_symbol
 tx_symbol_way lists greatest context tx old new h =
@@ -134,7 +134,7 @@ tx_symbol_way lists greatest context tx old new h =
     let is : a.x ≡ tx_number tx = sym (tx_numbers greatest a.x g.1) ∙ ap tx_number e.0 in
     subst (λ n. HasPut old (tree_bools (tx_tree greatest) probs n) new) is (subst (λ m. HasPut old (tree_bools (tx_tree greatest) probs a.x) m) e.1 g.0)
 
-pub tx_way : (mode : TxMode) (lists : TxLists) (context : ℕ) (size : BlockSize) (tx : TxSize) (old new : Part) → PutsValue (read_tx_size mode lists context size) old tx new
+pub tx_way : (mode : TxMode) (lists : TxLists) (context : ℕ) (size : BlockSize) (tx : TxSize) (old new : NumberPart) → PutsValue (read_tx_size mode lists context size) old tx new
     → HasPut old (spelled_tx mode lists context size tx) new
 unfolding read_tx_size spelled_tx
 tx_way mode lists context size tx old new h = by_test (is_selected mode && not (is_below_8x8 size)) h
@@ -150,46 +150,46 @@ pub intra_numbers : (n : ℕ) → has_leaf intra_mode_tree n ≡ true → intra_
 intra_numbers n there = of_leaf (λ n. intra_number (intra_of n) ≡ n) intra_mode_tree n
     (refl, (refl, (refl, ((refl, (refl, refl)), (refl, (refl, (refl, refl))))))) there
 
-pub mode_way : (probs : List ℕ) (mode : IntraMode) (old new : Part) → Puts (intra_mode probs) old mode new → HasPut old (spelled_mode probs mode) new
-unfolding intra_mode spelled_mode
+pub mode_way : (probs : List ℕ) (mode : IntraMode) (old new : NumberPart) → Puts (intra_mode_symbol probs) old mode new → HasPut old (spelled_intra_mode probs mode) new
+unfolding intra_mode_symbol spelled_intra_mode
 mode_way probs mode old new h =
     let a = between (tree_symbol intra_mode_tree probs) (λ number. done (intra_of number)) old new mode h in
     let is : a.x ≡ intra_number mode = sym (intra_numbers a.x (has_one intra_mode_tree probs a.x old a.mid a.first)) ∙ ap intra_number a.second.0 in
     subst (λ n. HasPut old (tree_bools intra_mode_tree probs n) new) is (subst (λ m. HasPut old (tree_bools intra_mode_tree probs a.x) m) a.second.1 (tree_way intra_mode_tree probs a.x old a.mid refl a.first))
 
-default_way : (above left mode : IntraMode) (old new : Part) → Puts (default_intra_mode above left) old mode new → HasPut old (spelled_default above left mode) new
+default_way : (above left mode : IntraMode) (old new : NumberPart) → Puts (default_intra_mode above left) old mode new → HasPut old (spelled_default above left mode) new
 unfolding default_intra_mode spelled_default
 default_way above left mode old new h = mode_way _ mode old new h
 
-uv_way : (luma mode : IntraMode) (old new : Part) → Puts (default_uv_mode luma) old mode new → HasPut old (spelled_uv luma mode) new
+uv_way : (luma mode : IntraMode) (old new : NumberPart) → Puts (default_uv_mode luma) old mode new → HasPut old (spelled_uv luma mode) new
 unfolding default_uv_mode spelled_uv
 uv_way luma mode old new h = mode_way _ mode old new h
 
-one_way : (edge : EdgeModes) (luma : List IntraMode) (old new : Part) → Puts (one_mode edge) old luma new → HasPut old (spelled_default edge.above_first edge.left_first (mode_of luma 0)) new
+one_way : (edge : EdgeModes) (luma : List IntraMode) (old new : NumberPart) → Puts (one_mode edge) old luma new → HasPut old (spelled_default edge.above_first edge.left_first (mode_of luma 0)) new
 unfolding one_mode
 one_way edge luma old new h =
     let a = between _ _ old new luma h in
     subst (λ l. HasPut old (spelled_default edge.above_first edge.left_first (mode_of l 0)) new) a.second.0
     (subst (λ m. HasPut old (spelled_default edge.above_first edge.left_first a.x) m) a.second.1 (default_way _ _ a.x old a.mid a.first))
 
-rows_way : (edge : EdgeModes) (luma : List IntraMode) (old new : Part) → Puts (two_rows edge) old luma new → HasPut old (spelled_luma B8x4 edge luma) new
-unfolding two_rows spelled_luma
+rows_way : (edge : EdgeModes) (luma : List IntraMode) (old new : NumberPart) → Puts (two_rows edge) old luma new → HasPut old (spelled_default_luma B8x4 edge luma) new
+unfolding two_rows spelled_default_luma
 rows_way edge luma old new h =
     let a = between _ _ old new luma h in
     let b = between _ _ a.mid new luma a.second in
     subst (λ l. HasPut old (spelled_default edge.above_first edge.left_first (mode_of l 0) ++ spelled_default (mode_of l 0) edge.left_second (mode_of l 2)) new) b.second.0
     (spells_on old a.mid new _ _ (subst (λ m. HasPut a.mid (spelled_default a.x edge.left_second b.x) m) b.second.1 (default_way _ _ b.x a.mid b.mid b.first)) (default_way _ _ a.x old a.mid a.first))
 
-columns_way : (edge : EdgeModes) (luma : List IntraMode) (old new : Part) → Puts (two_columns edge) old luma new → HasPut old (spelled_luma B4x8 edge luma) new
-unfolding two_columns spelled_luma
+columns_way : (edge : EdgeModes) (luma : List IntraMode) (old new : NumberPart) → Puts (two_columns edge) old luma new → HasPut old (spelled_default_luma B4x8 edge luma) new
+unfolding two_columns spelled_default_luma
 columns_way edge luma old new h =
     let a = between _ _ old new luma h in
     let b = between _ _ a.mid new luma a.second in
     subst (λ l. HasPut old (spelled_default edge.above_first edge.left_first (mode_of l 0) ++ spelled_default edge.above_second (mode_of l 0) (mode_of l 1)) new) b.second.0
     (spells_on old a.mid new _ _ (subst (λ m. HasPut a.mid (spelled_default edge.above_second a.x b.x) m) b.second.1 (default_way _ _ b.x a.mid b.mid b.first)) (default_way _ _ a.x old a.mid a.first))
 
-four_way : (edge : EdgeModes) (luma : List IntraMode) (old new : Part) → Puts (four_modes edge) old luma new → HasPut old (spelled_luma B4x4 edge luma) new
-unfolding four_modes spelled_luma
+four_way : (edge : EdgeModes) (luma : List IntraMode) (old new : NumberPart) → Puts (four_modes edge) old luma new → HasPut old (spelled_default_luma B4x4 edge luma) new
+unfolding four_modes spelled_default_luma
 four_way edge luma old new h =
     let a = between _ _ old new luma h in
     let b = between _ _ a.mid new luma a.second in
@@ -203,8 +203,8 @@ four_way edge luma old new h =
     (subst (λ m. HasPut old (spelled_default edge.above_first edge.left_first a.x ++ spelled_default edge.above_second a.x b.x
     ++ spelled_default a.x edge.left_second c.x ++ spelled_default b.x c.x d.x) m) d.second.1 four)
 
-by_size_way : (size : BlockSize) (edge : EdgeModes) (luma : List IntraMode) (old new : Part) → Puts (modes_by_size size edge) old luma new → HasPut old (spelled_luma size edge luma) new
-unfolding modes_by_size spelled_luma
+by_size_way : (size : BlockSize) (edge : EdgeModes) (luma : List IntraMode) (old new : NumberPart) → Puts (modes_by_size size edge) old luma new → HasPut old (spelled_default_luma size edge luma) new
+unfolding modes_by_size spelled_default_luma
 by_size_way B4x4 edge luma old new h = four_way edge luma old new h
 by_size_way B4x8 edge luma old new h = columns_way edge luma old new h
 by_size_way B8x4 edge luma old new h = rows_way edge luma old new h
@@ -219,12 +219,12 @@ by_size_way B32x64 edge luma old new h = one_way edge luma old new h
 by_size_way B64x32 edge luma old new h = one_way edge luma old new h
 by_size_way B64x64 edge luma old new h = one_way edge luma old new h
 
-luma_way : (size : BlockSize) (edge : EdgeModes) (luma : List IntraMode) (old new : Part) → Puts (luma_modes size edge) old luma new → HasPut old (spelled_luma size edge luma) new
+luma_way : (size : BlockSize) (edge : EdgeModes) (luma : List IntraMode) (old new : NumberPart) → Puts (default_luma_modes size edge) old luma new → HasPut old (spelled_default_luma size edge luma) new
 luma_way size edge luma old new h = by_size_way size edge luma old new (subst (λ s. Puts s old luma new) (luma_by_size size edge) h)
 
 ---- A block ----
 
-beside_way : (segmentation : Segmentation) (tx_mode : TxMode) (contexts : ContextLists) (above left : Option BlockInfo) (at : BlockAt) (block : BlockInfo) (old new : Part)
+beside_way : (segmentation : Segmentation) (tx_mode : TxMode) (contexts : ContextLists) (above left : Option BlockInfo) (at : BlockAt) (block : BlockInfo) (old new : NumberPart)
     → PutsValue (mode_info_beside segmentation tx_mode contexts above left at) old block new → HasPut old (spelled_beside segmentation tx_mode contexts above left at block) new
 unfolding mode_info_beside spelled_beside intra_segment_id
 beside_way segmentation tx_mode contexts above left at block old new h =
@@ -240,13 +240,13 @@ beside_way segmentation tx_mode contexts above left at block old new h =
     let four = spells_on old c.mid d.mid _ _ (luma_way at.size (edge_modes above left) d.x c.mid d.mid (uncounted_put _ d.x c.mid d.mid d.first)) three in
     let five = spells_on old d.mid e.mid _ _ (uv_way (last_mode d.x) e.x d.mid e.mid (uncounted_put _ e.x d.mid e.mid e.first)) four in
     subst (λ (q : BlockInfo). HasPut old (spelled_segment segmentation.enabled segmentation.map q.segment ++ spelled_skip segmentation contexts.skip (skip_context above left) q.segment q.skip
-    ++ spelled_tx tx_mode contexts.tx (tx_context at.size above left) at.size q.tx ++ spelled_luma at.size (edge_modes above left) (luma_of q.prediction)
+    ++ spelled_tx tx_mode contexts.tx (tx_context at.size above left) at.size q.tx ++ spelled_default_luma at.size (edge_modes above left) (luma_of q.prediction)
     ++ spelled_uv (mode_of (luma_of q.prediction) 3) (chroma_of q.prediction)) new) last.0
     (subst (λ m. HasPut old (spelled_segment segmentation.enabled segmentation.map a.x ++ spelled_skip segmentation contexts.skip (skip_context above left) a.x b.x
-    ++ spelled_tx tx_mode contexts.tx (tx_context at.size above left) at.size c.x ++ spelled_luma at.size (edge_modes above left) d.x
+    ++ spelled_tx tx_mode contexts.tx (tx_context at.size above left) at.size c.x ++ spelled_default_luma at.size (edge_modes above left) d.x
     ++ spelled_uv (last_mode d.x) e.x) m) last.1 five)
 
-pub intra_frame_way : (header : Header) (modes : Modes) (contexts : ContextLists) (earlier : List BlockInfo) (at : BlockAt) (block : BlockInfo) (old new : Part) →
+pub intra_frame_way : (header : Header) (modes : Modes) (contexts : ContextLists) (earlier : List BlockInfo) (at : BlockAt) (block : BlockInfo) (old new : NumberPart) →
     PutsValue (intra_frame_mode_info header modes contexts earlier at) old block new → HasPut old (spelled_intra_frame header modes contexts earlier at block) new
 unfolding intra_frame_mode_info spelled_intra_frame
 intra_frame_way header modes contexts earlier at block old new h = beside_way _ _ contexts _ _ at block old new h

@@ -12,15 +12,16 @@ use Rattle.vp9_tables.specs.Numbers.{component_number, flag_number}
 use Rattle.vp9_tables.specs.SymbolTrees.{mv_class_tree, mv_fr_tree, mv_joint_tree}
 use Rattle.vp9_tables.specs.declared.kinds.Component.{Component}
 use Rattle.vp9_tables.specs.declared.kinds.Component.TheVariants.{Row, Column}
-use Rattle.bool_encoder.specs.Part.{Part}
-use Rattle.bool_lists.specs.BoolLists.{HasPut, has_leaf, one_bool, tree_bools}
+use Rattle.bool_encoder.specs.Part.{NumberPart}
+use Rattle.bool_lists.specs.BoolLists.{HasPut, one_bool, tree_bools}
 use Rattle.bool_lists.proofs.Ways.{of_leaf, spells_on, spells_none}
 use Rattle.prob_contexts.specs.ProbLists.{VectorLists}
 use Rattle.prob_contexts.specs.declared.kind.ProbKind.{ProbKind}
+use Rattle.counting_reader.specs.CountedSymbols.{has_leaf}
 use Rattle.counting_reader.specs.Counting.{through}
 use Rattle.bool_encoder.specs.CountedBools.{PutsValue}
 use Rattle.block_plan.specs.declared.block.Mv.{Mv}
-use Rattle.mv_prediction.specs.Vectors.{is_precise}
+use Rattle.mv_prediction.specs.Vectors.{is_short_vector}
 use Rattle.mv_syntax.specs.Components.{eighths, high_bit, large_magnitude, magnitude, next_bit, read_mv_component, signed, small_magnitude}
 use Rattle.mv_syntax.specs.Differences.{added, component_if, in_range_or_rule, is_in_range, new_vector, read_mv}
 use Rattle.block_lists.specs.VectorLists.{fraction_of, halvings, high_of, joint_of, spelled_bits, spelled_component, spelled_component_if, spelled_difference, spelled_high, spelled_large, spelled_magnitude, spelled_new, spelled_small, vector_class, whole_of}
@@ -71,7 +72,7 @@ fractions_low n there = of_leaf (λ n. n < 4) mv_fr_tree n (omega arith, (omega 
 
 ---- A component ----
 
-high_way : (precise : Bool) (kind : ProbKind) (place p : ℕ) (high : Bool) (old new : Part) → PutsValue (high_bit precise kind place p) old high new → HasPut old (spelled_high precise p high) new
+high_way : (precise : Bool) (kind : ProbKind) (place p : ℕ) (high : Bool) (old new : NumberPart) → PutsValue (high_bit precise kind place p) old high new → HasPut old (spelled_high precise p high) new
 unfolding high_bit spelled_high
 high_way true kind place p high old new h = flag_put kind place p high old new h
 high_way false kind place p high old new h =
@@ -83,12 +84,12 @@ unfolding halvings
 small_class w under = rw (lt-ltb w 2 under) refl
 
 -- a size of class n was put
-record IsMagnitude (lists : VectorLists) (c : ℕ) (precise : Bool) (n size : ℕ) (old new : Part) : Type 0 where
+record IsMagnitude (lists : VectorLists) (c : ℕ) (precise : Bool) (n size : ℕ) (old new : NumberPart) : Type 0 where
   some : 1 ≤ size
   class : vector_class size ≡ n
   put : HasPut old (spelled_magnitude lists c precise n size) new
 
-small_way : (lists : VectorLists) (c : ℕ) (precise : Bool) (size : ℕ) (old new : Part) → PutsValue (small_magnitude lists c precise) old size new → IsMagnitude lists c precise 0 size old new
+small_way : (lists : VectorLists) (c : ℕ) (precise : Bool) (size : ℕ) (old new : NumberPart) → PutsValue (small_magnitude lists c precise) old size new → IsMagnitude lists c precise 0 size old new
 unfolding small_magnitude spelled_magnitude spelled_small
 small_way lists c precise size old new h =
     let a = two_put _ _ old new size h in
@@ -106,18 +107,18 @@ small_way lists c precise size old new h =
       class = ap (λ w. halvings 10 w) i.whole ∙ small_class (flag_number a.x) low;
       put = rw (i.whole, i.fraction, i.high, flag_is a.x) three;
     } in
-    subst (λ (p : ℕ × Part). IsMagnitude lists c precise 0 p.0 old p.1) (λ k. (last.0 k, last.1 k)) made
+    subst (λ (p : ℕ × NumberPart). IsMagnitude lists c precise 0 p.0 old p.1) (λ k. (last.0 k, last.1 k)) made
 
 scaled : (acc f r p q x bits : ℕ) → q ≡ p * 2 ^ 1 → x ≡ acc + f * p → bits ≡ x + q * r → bits ≡ acc + p * (f + 2 * r)
 scaled acc f r p q x bits e g h = rw (h, g, e) (grind arith)
 
-record IsBits (lists : VectorLists) (c i n acc bits : ℕ) (old new : Part) : Type 0 where
+record IsBits (lists : VectorLists) (c i n acc bits : ℕ) (old new : NumberPart) : Type 0 where
   rest : ℕ
   low : rest < 2 ^ n
   is : bits ≡ acc + 2 ^ i * rest
   put : HasPut old (spelled_bits lists c i n rest) new
 
-bits_way : (lists : VectorLists) (c i n acc bits : ℕ) (old new : Part) → PutsValue (through (next_bit lists c) (range_with_len i n) acc) old bits new
+bits_way : (lists : VectorLists) (c i n acc bits : ℕ) (old new : NumberPart) → PutsValue (through (next_bit lists c) (range_with_len i n) acc) old bits new
     → IsBits lists c i n acc bits old new
 unfolding through next_bit spelled_bits
 bits_way lists c i zero acc bits old new h =
@@ -148,7 +149,7 @@ bits_way lists c i (suc n) acc bits old new h =
       put = rw (one, half) (spells_on old a.mid new _ _ last first);
     }
 
-large_way : (lists : VectorLists) (c : ℕ) (precise : Bool) (n size : ℕ) (old new : Part) → n ≤ 10 → nat_eq n 0 ≡ false → PutsValue (large_magnitude lists c precise n) old size new → IsMagnitude lists c precise n size old new
+large_way : (lists : VectorLists) (c : ℕ) (precise : Bool) (n size : ℕ) (old new : NumberPart) → n ≤ 10 → nat_eq n 0 ≡ false → PutsValue (large_magnitude lists c precise n) old size new → IsMagnitude lists c precise n size old new
 unfolding large_magnitude spelled_magnitude spelled_large
 large_way lists c precise n size old new few some h =
     let a = two_put _ _ old new size h in
@@ -170,9 +171,9 @@ large_way lists c precise n size old new few some h =
       class = ap (λ w. halvings 10 w) i.whole ∙ halvings_are 10 n r few small;
       put = rw (some, i.whole, i.fraction, i.high, less) three;
     } in
-    subst (λ (p : ℕ × Part). IsMagnitude lists c precise n p.0 old p.1) (λ k. ((sym same ∙ last.0) k, last.1 k)) made
+    subst (λ (p : ℕ × NumberPart). IsMagnitude lists c precise n p.0 old p.1) (λ k. ((sym same ∙ last.0) k, last.1 k)) made
 
-magnitude_way : (lists : VectorLists) (c : ℕ) (precise : Bool) (n size : ℕ) (old new : Part) → n ≤ 10 → PutsValue (magnitude lists c precise n) old size new → IsMagnitude lists c precise n size old new
+magnitude_way : (lists : VectorLists) (c : ℕ) (precise : Bool) (n size : ℕ) (old new : NumberPart) → n ≤ 10 → PutsValue (magnitude lists c precise n) old size new → IsMagnitude lists c precise n size old new
 unfolding magnitude
 magnitude_way lists c precise zero size old new few h = small_way lists c precise size old new h
 magnitude_way lists c precise (suc n) size old new few h =
@@ -182,7 +183,7 @@ magnitude_way lists c precise (suc n) size old new few h =
 classes_low : (n : ℕ) → has_leaf mv_class_tree n ≡ true → n ≤ 10
 classes_low n there = of_leaf (λ n. n ≤ 10) mv_class_tree n (omega arith, (omega arith, ((omega arith, omega arith), ((omega arith, omega arith), (omega arith, ((omega arith, omega arith), (omega arith, omega arith))))))) there
 
-record IsComponent (lists : VectorLists) (component : Component) (precise : Bool) (z : ℤ) (old new : Part) : Type 0 where
+record IsComponent (lists : VectorLists) (component : Component) (precise : Bool) (z : ℤ) (old new : NumberPart) : Type 0 where
   some : int_eq z (pos 0) ≡ false
   put : HasPut old (spelled_component lists component precise z) new
 
@@ -201,7 +202,7 @@ signed_some false k = elim (cases_Bool (int_eq (pos (suc k)) (pos 0))) [
   | inr none ↦ none
 ]
 
-component_way : (lists : VectorLists) (component : Component) (precise : Bool) (z : ℤ) (old new : Part) → PutsValue (read_mv_component lists component precise) old z new → IsComponent lists component precise z old new
+component_way : (lists : VectorLists) (component : Component) (precise : Bool) (z : ℤ) (old new : NumberPart) → PutsValue (read_mv_component lists component precise) old z new → IsComponent lists component precise z old new
 unfolding read_mv_component spelled_component
 component_way lists component precise z old new h =
     let a = two_put _ _ old new z h in
@@ -222,11 +223,11 @@ component_way lists component precise z old new h =
       some = ap (λ n. int_eq (signed a.x n) (pos 0)) is ∙ signed_some a.x k;
       put = rw (absolute, sign, m.class) three;
     } in
-    subst (λ (p : ℤ × Part). IsComponent lists component precise p.0 old p.1) (λ i. (last.0 i, last.1 i)) made
+    subst (λ (p : ℤ × NumberPart). IsComponent lists component precise p.0 old p.1) (λ i. (last.0 i, last.1 i)) made
 
 ---- A difference ----
 
-if_way : (coded : Bool) (lists : VectorLists) (component : Component) (precise : Bool) (z : ℤ) (old new : Part) → PutsValue (component_if coded lists component precise) old z new
+if_way : (coded : Bool) (lists : VectorLists) (component : Component) (precise : Bool) (z : ℤ) (old new : NumberPart) → PutsValue (component_if coded lists component precise) old z new
     → HasPut old (spelled_component_if coded lists component precise z) new × (int_eq z (pos 0) ≡ not coded)
 unfolding component_if spelled_component_if
 if_way true lists component precise z old new h = let c = component_way lists component precise z old new h in (c.put, c.some)
@@ -235,14 +236,14 @@ if_way false lists component precise z old new h =
     (subst (λ m. HasPut old [] m) e.1 (spells_none old), subst (λ y. int_eq y (pos 0) ≡ true) e.0 refl)
 
 -- what the joint tells was put
-abbrev AfterJoint : VectorLists → Bool → Mv → Part → Part → Part → ℕ → Type 0
+abbrev AfterJoint : VectorLists → Bool → Mv → NumberPart → NumberPart → NumberPart → ℕ → Type 0
 AfterJoint lists precise v old mid new joint =
     HasPut old (tree_bools mv_joint_tree lists.joints joint) mid
-    → (row column : ℤ) (next last : Part) → PutsValue (component_if (nat_le 2 joint) lists Row precise) mid row next
+    → (row column : ℤ) (next last : NumberPart) → PutsValue (component_if (nat_le 2 joint) lists Row precise) mid row next
     → PutsValue (component_if (nat_eq joint 1 || nat_eq joint 3) lists Column precise) next column last
     → ◌≡◌ {A = Mv} (record { row = row; column = column }) v → last ≡ new → HasPut old (spelled_difference lists precise v) new
 
-joint_way : (lists : VectorLists) (precise : Bool) (v : Mv) (old mid new : Part) (joint : ℕ) (r c : Bool) → nat_le 2 joint ≡ r → (nat_eq joint 1 || nat_eq joint 3) ≡ c
+joint_way : (lists : VectorLists) (precise : Bool) (v : Mv) (old mid new : NumberPart) (joint : ℕ) (r c : Bool) → nat_le 2 joint ≡ r → (nat_eq joint 1 || nat_eq joint 3) ≡ c
     → (if not r then (if not c then 0 else 1) else (if not c then 2 else 3)) ≡ joint → AfterJoint lists precise v old mid new joint
 unfolding spelled_difference joint_of
 joint_way lists precise v old mid new joint r c rows columns is = λ first row column next last one two same end.
@@ -251,9 +252,9 @@ joint_way lists precise v old mid new joint r c rows columns is = λ first row c
     let w : Mv = record { row = row; column = column } in
     let tells : joint_of w ≡ joint = rw (a.1, b.1, rows, columns) is in
     let all = spells_on old next last _ _ b.0 (spells_on old mid next _ _ a.0 first) in
-    subst (λ (p : Mv × Part). HasPut old (spelled_difference lists precise p.0) p.1) (λ i. (same i, end i)) (rw tells all)
+    subst (λ (p : Mv × NumberPart). HasPut old (spelled_difference lists precise p.0) p.1) (λ i. (same i, end i)) (rw tells all)
 
-difference_way : (lists : VectorLists) (precise : Bool) (v : Mv) (old new : Part) → PutsValue (read_mv lists precise) old v new → HasPut old (spelled_difference lists precise v) new
+difference_way : (lists : VectorLists) (precise : Bool) (v : Mv) (old new : NumberPart) → PutsValue (read_mv lists precise) old v new → HasPut old (spelled_difference lists precise v) new
 unfolding read_mv
 difference_way lists precise v old new h =
     let a = two_put _ _ old new v h in
@@ -278,10 +279,10 @@ in_range_is w v h = by_test (is_in_range w) h
 less_best : (b d : ℤ) → (b +ℤ d) -ℤ b ≡ d
 less_best b d = ap (λ z. z -ℤ b) (+ℤ_comm b d) ∙ +ℤ-neg_ℤ_cancel d b
 
-pub new_way : (lists : VectorLists) (allowed : Bool) (best v : Mv) (old new : Part) → PutsValue (new_vector lists allowed best) old (Ok v) new → HasPut old (spelled_new lists allowed best v) new
+pub new_way : (lists : VectorLists) (allowed : Bool) (best v : Mv) (old new : NumberPart) → PutsValue (new_vector lists allowed best) old (Ok v) new → HasPut old (spelled_new lists allowed best v) new
 unfolding new_vector spelled_new
 new_way lists allowed best v old new h =
-    let precise = allowed && is_precise best in
+    let precise = allowed && is_short_vector best in
     let a = two_put _ _ old new (Ok v) h in
     let last = settle_put {A = Result Mv Rule} (in_range_or_rule (added best a.x)) (Ok v) a.mid new a.second in
     let is : added best a.x ≡ v = in_range_is (added best a.x) v last.0 in

@@ -17,7 +17,7 @@ use Rattle.frame_headers.specs.declared.header.FrameKind.{FrameKind}
 use Rattle.frame_headers.specs.declared.header.FrameKind.TheVariants as frame
 use Rattle.prob_contexts.specs.ProbLists.{InterLists}
 use Rattle.block_geometry.specs.BlockSizes.{is_below_8x8}
-use Rattle.block_plan.specs.Blocks.{above_of, left_of}
+use Rattle.block_plan.specs.Blocks.{above_of, left_of, is_inter}
 use Rattle.block_plan.specs.BlockMvs.{vector_at}
 use Rattle.block_plan.specs.declared.block.BlockAt.{BlockAt}
 use Rattle.block_plan.specs.declared.block.BlockInfo.{BlockInfo}
@@ -26,14 +26,14 @@ use Rattle.block_plan.specs.declared.block.IntraPrediction.{IntraPrediction}
 use Rattle.block_plan.specs.declared.block.Mv.{Mv}
 use Rattle.block_plan.specs.declared.block.Prediction.{Prediction}
 use Rattle.block_plan.specs.declared.block.Prediction.TheVariants.{Intra, Inter}
-use Rattle.block_plan.specs.declared.block.References.{References}
+use Rattle.block_plan.specs.declared.block.ReferenceFrames.{ReferenceFrames}
 use Rattle.mode_syntax.specs.Elements.{skips_segment}
 use Rattle.mode_syntax.specs.IntraModes.{last_mode}
 use Rattle.mv_prediction.specs.Candidates.{mode_context}
 use Rattle.inter_contexts.specs.Contexts.{filter_context}
 use Rattle.inter_modes.specs.ModeInfo.{BlockSources, inter_frame, InterFrame, sources_of}
 use Rattle.inter_modes.specs.BlockStarts.{segment_reference}
-use Rattle.inter_modes.specs.BlockVectors.{Sources, best_mv, near_of_block, row_at}
+use Rattle.inter_modes.specs.BlockVectors.{Sources, best_mv, near_of_block, row_vectors}
 use Rattle.inter_modes.specs.declared.starts.BlockStart.{BlockStart}
 use Rattle.block_lists.specs.IntraLists.{mode_of, spelled_intra_frame}
 use Rattle.block_lists.specs.ReferenceLists.{spelled_references}
@@ -79,13 +79,13 @@ spelled_second None vector = []
 spelled_second (Some reference) vector = vector reference
 
 -- a block's vectors of its references
-unfoldable pub spelled_vectors : Sources → InterMode → References → List Mv → BoolList
+unfoldable pub spelled_vectors : Sources → InterMode → ReferenceFrames → List Mv → BoolList
 spelled_vectors s mode refs vectors =
     spelled_vector s mode (near_of_block s refs.first).nearest (vector_at vectors 0)
     ++ spelled_second refs.second (λ reference. spelled_vector s mode (near_of_block s reference).nearest (vector_at vectors 1))
 
 -- a quarter's mode and vectors, by the best vectors of its block
-unfoldable pub spelled_quarter : Sources → List ℕ → ℕ → References → List Mv → InterMode → List Mv → BoolList
+unfoldable pub spelled_quarter : Sources → List ℕ → ℕ → ReferenceFrames → List Mv → InterMode → List Mv → BoolList
 spelled_quarter s probs context refs best mode vectors =
     spelled_inter_mode probs context mode ++ spelled_vector s mode (vector_at best 0) (vector_at vectors 0)
     ++ spelled_second refs.second (λ reference. spelled_vector s mode (vector_at best 1) (vector_at vectors 1))
@@ -95,7 +95,7 @@ abbrev pub inter_mode_of : InterPrediction → ℕ → InterMode
 inter_mode_of p k = slice_index_or p.modes k Zero
 
 unfoldable pub spelled_quarter_of : Sources → List ℕ → ℕ → InterPrediction → ℕ → BoolList
-spelled_quarter_of s probs context p k = spelled_quarter s probs context p.references (best_mv s p.references) (inter_mode_of p k) (row_at p.vectors k)
+spelled_quarter_of s probs context p k = spelled_quarter s probs context p.references (best_mv s p.references) (inter_mode_of p k) (row_vectors p.vectors k)
 
 unfoldable pub spelled_quarters : Sources → List ℕ → ℕ → BlockSize → InterPrediction → BoolList
 spelled_quarters s probs context B4x8 p = spelled_quarter_of s probs context p 0 ++ spelled_quarter_of s probs context p 1
@@ -110,7 +110,7 @@ spelled_block_mode skips probs context mode = if skips then [] else spelled_inte
 unfoldable pub spelled_whole : Sources → InterLists → Bool → FrameFilter → ℕ → InterPrediction → BoolList
 spelled_whole s lists skips filter context p =
     spelled_block_mode skips lists.modes (mode_context s.earlier s.search) (inter_mode_of p 0) ++ spelled_filter filter lists.filters context p.filter
-    ++ spelled_vectors s (inter_mode_of p 0) p.references (row_at p.vectors 0)
+    ++ spelled_vectors s (inter_mode_of p 0) p.references (row_vectors p.vectors 0)
 
 unfoldable pub spelled_of_quarters : Sources → InterLists → FrameFilter → ℕ → InterPrediction → BoolList
 spelled_of_quarters s lists filter context p =
@@ -122,16 +122,11 @@ spelled_prediction s lists skips filter context p =
 
 ---- Blocks ----
 
--- what a block says first
-abbrev pub is_inter_block : Prediction → Bool
-is_inter_block (Intra p) = false
-is_inter_block (Inter p) = true
-
 abbrev pub start_of : BlockInfo → BlockStart
 start_of block = record {
   segment = record { id = block.segment; predicted = block.segment_predicted };
   skip = block.skip;
-  is_inter = is_inter_block block.prediction;
+  is_inter = is_inter block.prediction;
   tx = block.tx;
 }
 

@@ -48,29 +48,29 @@ spelled_tx mode lists context size tx =
 
 ---- Modes ----
 
-unfoldable pub spelled_mode : List ℕ → IntraMode → BoolList
-spelled_mode probs mode = tree_bools intra_mode_tree probs (intra_number mode)
+unfoldable pub spelled_intra_mode : List ℕ → IntraMode → BoolList
+spelled_intra_mode probs mode = tree_bools intra_mode_tree probs (intra_number mode)
 
 -- by the modes above and at the left
 unfoldable pub spelled_default : IntraMode → IntraMode → IntraMode → BoolList
-spelled_default above left mode = spelled_mode (get_or KF_Y_MODE (10 * intra_number above + intra_number left) []) mode
+spelled_default above left mode = spelled_intra_mode (get_or KF_Y_MODE (10 * intra_number above + intra_number left) []) mode
 
 -- by the last mode of luma
 unfoldable pub spelled_uv : IntraMode → IntraMode → BoolList
-spelled_uv luma mode = spelled_mode (get_or KF_UV_MODE (intra_number luma) []) mode
+spelled_uv luma mode = spelled_intra_mode (get_or KF_UV_MODE (intra_number luma) []) mode
 
 -- the mode of a quarter
 abbrev pub mode_of : List IntraMode → ℕ → IntraMode
 mode_of luma quarter = slice_index_or luma quarter Dc
 
 -- 4x4: one for each quarter; 4x8: one at the left and one at the right; 8x4: an upper and a lower one; else one for all
-unfoldable pub spelled_luma : BlockSize → EdgeModes → List IntraMode → BoolList
-spelled_luma B4x4 edge luma =
+unfoldable pub spelled_default_luma : BlockSize → EdgeModes → List IntraMode → BoolList
+spelled_default_luma B4x4 edge luma =
     spelled_default edge.above_first edge.left_first (mode_of luma 0) ++ spelled_default edge.above_second (mode_of luma 0) (mode_of luma 1)
     ++ spelled_default (mode_of luma 0) edge.left_second (mode_of luma 2) ++ spelled_default (mode_of luma 1) (mode_of luma 2) (mode_of luma 3)
-spelled_luma B4x8 edge luma = spelled_default edge.above_first edge.left_first (mode_of luma 0) ++ spelled_default edge.above_second (mode_of luma 0) (mode_of luma 1)
-spelled_luma B8x4 edge luma = spelled_default edge.above_first edge.left_first (mode_of luma 0) ++ spelled_default (mode_of luma 0) edge.left_second (mode_of luma 2)
-spelled_luma _ edge luma = spelled_default edge.above_first edge.left_first (mode_of luma 0)
+spelled_default_luma B4x8 edge luma = spelled_default edge.above_first edge.left_first (mode_of luma 0) ++ spelled_default edge.above_second (mode_of luma 0) (mode_of luma 1)
+spelled_default_luma B8x4 edge luma = spelled_default edge.above_first edge.left_first (mode_of luma 0) ++ spelled_default (mode_of luma 0) edge.left_second (mode_of luma 2)
+spelled_default_luma _ edge luma = spelled_default edge.above_first edge.left_first (mode_of luma 0)
 
 -- the modes of a block that is predicted from its own frame
 abbrev pub luma_of : Prediction → List IntraMode
@@ -89,7 +89,7 @@ spelled_beside segmentation tx_mode contexts above left at block =
     spelled_segment segmentation.enabled segmentation.map block.segment
     ++ spelled_skip segmentation contexts.skip (skip_context above left) block.segment block.skip
     ++ spelled_tx tx_mode contexts.tx (tx_context at.size above left) at.size block.tx
-    ++ spelled_luma at.size (edge_modes above left) (luma_of block.prediction)
+    ++ spelled_default_luma at.size (edge_modes above left) (luma_of block.prediction)
     ++ spelled_uv (mode_of (luma_of block.prediction) 3) (chroma_of block.prediction)
 
 -- by the blocks of the frame before it

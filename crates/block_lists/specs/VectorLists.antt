@@ -8,7 +8,7 @@ use Rattle.vp9_tables.specs.declared.kinds.Component.TheVariants.{Row, Column}
 use Rattle.bool_lists.specs.BoolLists.{BoolList, one_bool, tree_bools}
 use Rattle.prob_contexts.specs.ProbLists.{VectorLists}
 use Rattle.block_plan.specs.declared.block.Mv.{Mv}
-use Rattle.mv_prediction.specs.Vectors.{is_precise}
+use Rattle.mv_prediction.specs.Vectors.{is_short_vector}
 
 -- of the size of a component, which is 1 at least: the whole samples, their quarters, and the bit of high precision
 abbrev pub whole_of : ℕ → ℕ
@@ -76,4 +76,4 @@ spelled_difference lists precise v =
 -- a new vector: its difference from the best one, by which it is told whether bits of high precision are read
 unfoldable pub spelled_new : VectorLists → Bool → Mv → Mv → BoolList
 spelled_new lists allowed best v =
-    spelled_difference lists (allowed && is_precise best) (record { row = v.row -ℤ best.row; column = v.column -ℤ best.column })
+    spelled_difference lists (allowed && is_short_vector best) (record { row = v.row -ℤ best.row; column = v.column -ℤ best.column })

@@ -2,7 +2,7 @@
 
 ghost use Rattle.std.specs.Prelude.{ℕ, Bool, List, Ok};
 ghost use Rattle.vp9_types.specs.declared.block.Partition.{Partition};
-ghost use Rattle.bool_encoder.specs.Part.{Part};
+ghost use Rattle.bool_encoder.specs.Part.{NumberPart};
 ghost use Rattle.bool_lists.specs.BoolLists.{HasPut};
 ghost use Rattle.bool_encoder.specs.CountedBools.{PutsValue};
 ghost use Rattle.block_geometry.specs.declared.transform_blocks.FramePlaces.{FramePlaces};
@@ -16,8 +16,8 @@ ghost use Rattle.block_lists.specs.PartitionLists.{spelled_partition_at};
 
 /// Whatever bools lead the syntax of a partition or of a block to a value, they are those of its list.
 pub fn blocks_are_put_in_one_way()
-    ensures partition { (intra : Bool) (probs : List ℕ) (earlier : List BlockInfo) (frame : FramePlaces) (at : SquareAt) (p : Partition) (old new : Part) →
+    ensures partition { (intra : Bool) (probs : List ℕ) (earlier : List BlockInfo) (frame : FramePlaces) (at : SquareAt) (p : Partition) (old new : NumberPart) →
         PutsValue (partition_at intra probs earlier frame at) old p new → HasPut old (spelled_partition_at intra probs earlier frame at p) new }
-    ensures block { (by : BlockSources) (earlier : List BlockInfo) (at : BlockAt) (block : BlockInfo) (old new : Part) →
+    ensures block { (by : BlockSources) (earlier : List BlockInfo) (at : BlockAt) (block : BlockInfo) (old new : NumberPart) →
         PutsValue (mode_info by earlier at) old (Ok block) new → HasPut old (spelled_mode_info by earlier at block) new }
 {}

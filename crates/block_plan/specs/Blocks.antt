@@ -1,10 +1,14 @@
 -- The blocks of a frame and their neighbours (6.4.4, 7.4.4 and 9.3.1 of the standard: AvailU, AvailL and what stands there).
-use Rattle.std.specs.Prelude.{ℕ, ◌-◌, Bool, List, [], ◌∷◌, Option, Some, None, nat_lt, if◌then◌else◌}
+use Rattle.std.specs.Prelude.{ℕ, ◌-◌, Bool, true, false, List, [], ◌∷◌, Option, Some, None, nat_lt, if◌then◌else◌}
 use Rattle.block_geometry.specs.BlockSizes.{is_covered}
 use Rattle.block_plan.specs.declared.block.BlockInfo.{BlockInfo}
 use Rattle.block_plan.specs.declared.block.BlockAt.{BlockAt}
 use Rattle.block_plan.specs.declared.block.Prediction.{Prediction}
 use Rattle.block_plan.specs.declared.block.Prediction.TheVariants.{Intra, Inter}
+
+abbrev pub is_inter : Prediction → Bool
+is_inter (Intra modes) = false
+is_inter (Inter modes) = true
 
 abbrev pub IsIntra : Prediction → Type 0
 IsIntra (Intra modes) = Unit {0}

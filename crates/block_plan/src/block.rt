@@ -18,7 +18,7 @@ pub struct IntraPrediction {
 
 /// What an inter block refers to. The second is there in a compound block.
 #[derive(Clone, Copy, Debug, PartialEq, Eq)]
-pub struct References {
+pub struct ReferenceFrames {
     pub first: ReferenceFrame,
     pub second: Option<ReferenceFrame>,
 }
@@ -28,7 +28,7 @@ pub struct References {
 #[derive(Clone, Copy, Debug, PartialEq, Eq)]
 pub struct InterPrediction {
     pub modes: [InterMode; 4],
-    pub references: References,
+    pub references: ReferenceFrames,
     pub filter: InterpFilter,
     pub vectors: [[Mv; 2]; 4],
 }

@@ -11,7 +11,9 @@ mod residues;
 mod segment_ids;
 mod segment_map;
 
-pub use block::{BlockAt, BlockInfo, InterPrediction, IntraPrediction, Mv, Prediction, References};
+pub use block::{
+    BlockAt, BlockInfo, InterPrediction, IntraPrediction, Mv, Prediction, ReferenceFrames,
+};
 pub use grid::BlockGrid;
 pub use in_planes::{mode_at, plane_block};
 pub use neighbours::{Neighbours, above_place, left_place};

@@ -35,12 +35,13 @@ use Rattle.block_plan.specs.declared.block.IntraPrediction.{IntraPrediction}
 use Rattle.inter_places.specs.Places.{is_subsampled, coded_length, parts_of, place_of}
 use Rattle.inter_places.specs.declared.part.Direction.TheVariants.{Down, Across}
 use Rattle.intra_predict.proofs.EdgeLemmas.{same_edges}
-use Rattle.intra_predict.specs.BlockEdges.{LiesIn, edges_in, reads_right, above_sample, left_sample}
+use Rattle.intra_predict.specs.BlockEdges.{edges_in, reads_right, above_sample, left_sample}
+use Rattle.intra_predict.specs.Code.{LiesIn}
 use Rattle.intra_predict.specs.PredictedModes.{predicted}
 use Rattle.intra_predict.specs.Places.{place_in}
 use Rattle.intra_predict.specs.Steps.{prediction, plus_residue}
 use Rattle.intra_predict.specs.declared.block.IntraBlock.{IntraBlock}
-use Rattle.intra_predict.specs.declared.place.Place.{Place}
+use Rattle.intra_predict.specs.declared.place.IntraPlace.{IntraPlace}
 use Rattle.planes.specs.Planes.{HasRow, StartsIn, lower_end, right_end, with_part}
 use Rattle.planes.specs.declared.area.Area.{Area}
 use Rattle.block_rebuild.specs.RebuiltBlocks.{coded_block, intra_at, put_residue, put_next, put_intra, put_by}
@@ -87,12 +88,12 @@ offset_small size j false some low = elim (cases_lt j size) [
 ]
 
 -- where a transform block ends, and what is read right of it
-record EndsBefore (size bottom right : ℕ) (p : Place) : Type 0 where
+record EndsBefore (size bottom right : ℕ) (p : IntraPlace) : Type 0 where
   low : p.row + size ≤ bottom
   narrow : p.column + size ≤ right
   goes_on : p.column + 4 < p.block_end → p.column + 8 ≤ right
 
-reach_of : (size bottom right : ℕ) (p : Place) → EndsBefore size bottom right p → (c : Bool) → reads_right size p ≡ c → p.column + (if c then 2 * size else size) ≤ right
+reach_of : (size bottom right : ℕ) (p : IntraPlace) → EndsBefore size bottom right p → (c : Bool) → reads_right size p ≡ c → p.column + (if c then 2 * size else size) ≤ right
 reach_of size bottom right p is true reads =
     let both = and_parts (nat_eq size 4) (nat_lt (p.column + 4) p.block_end) reads in
     let four : size ≡ 4 = eqb-true size 4 both.0 in
@@ -100,7 +101,7 @@ reach_of size bottom right p is true reads =
     omega (arith, four, more)
 reach_of size bottom right p is false reads = is.narrow
 
-same_above : (near whole right size bottom : ℕ) (depth : Depth) (p : Place) (m : Map) → 0 < size → IsEnd near whole right → EndsBefore size bottom right p → (j : ℕ) → j < 2 * size
+same_above : (near whole right size bottom : ℕ) (depth : Depth) (p : IntraPlace) (m : Map) → 0 < size → IsEnd near whole right → EndsBefore size bottom right p → (j : ℕ) → j < 2 * size
     → above_sample near depth size p m j ≡ above_sample whole depth size p m j
 same_above near whole right size bottom depth p m some end is j low = elim (cases_lt 0 p.row) [
   | inl below ↦
@@ -111,14 +112,14 @@ same_above near whole right size bottom depth p m some end is j low = elim (case
   | inr top ↦ rw (le-ltb 0 p.row top) refl
 ]
 
-same_left : (near whole bottom size right : ℕ) (depth : Depth) (p : Place) (m : Map) → IsEnd near whole bottom → EndsBefore size bottom right p → (i : ℕ) → i < size
+same_left : (near whole bottom size right : ℕ) (depth : Depth) (p : IntraPlace) (m : Map) → IsEnd near whole bottom → EndsBefore size bottom right p → (i : ℕ) → i < size
     → left_sample near depth p m i ≡ left_sample whole depth p m i
 same_left near whole bottom size right depth p m end is i low = elim (cases_lt p.tile_from p.column) [
   | inl past ↦ rw (lt-ltb p.tile_from p.column past) (ap (λ (y : ℕ). m y (p.column - 1)) (same_place near whole bottom (p.row + i) end (omega (arith, is.low, low))))
   | inr first ↦ rw (le-ltb p.tile_from p.column first) refl
 ]
 
-same_edges_in : (width height w h right bottom size : ℕ) (depth : Depth) (p : Place) (m : Map) → 0 < size → IsEnd width w right → IsEnd height h bottom → EndsBefore size bottom right p
+same_edges_in : (width height w h right bottom size : ℕ) (depth : Depth) (p : IntraPlace) (m : Map) → 0 < size → IsEnd width w right → IsEnd height h bottom → EndsBefore size bottom right p
     → edges_in width height depth size p m ≡ edges_in w h depth size p m
 unfolding edges_in
 same_edges_in width height w h right bottom size depth p m some wide high is = same_edges _ _ _ _ _ _ _ _

@@ -28,7 +28,7 @@ use Rattle.planes.specs.Planes.{lower_end, right_end, with_part}
 use Rattle.planes.specs.declared.area.Area.{Area}
 use Rattle.planes.proofs.PlaneLemmas.{with_block_small}
 use Rattle.planes.proofs.RowLemmas.{with_block_same, place}
-use Rattle.block_rebuild.specs.InterBlocks.{Rebuilding, part_of, predicted_from, predicted_part, put_part, second_from, with_second}
+use Rattle.block_rebuild.specs.InterBlocks.{Rebuilding, part_of, predicted_from, predicted_part, put_part, second_from, averaged_with}
 use Rattle.block_rebuild.specs.Code.{AreTwoPlaces, HasReference, HasReferences, IsUsable, HoldsPart, Serves, IsServed, AreServed, reference_of}
 use Rattle.block_rebuild.specs.declared.inter_in_plane.TwoPlaces.{TwoPlaces}
 use Rattle.block_rebuild.specs.declared.references.ReferencePicture as code_picture
@@ -226,7 +226,7 @@ mean_small : (most a b : ℕ) → a ≤ most → b ≤ most → average a b ≤ 
 mean_small most a b low also = omega (arith, low, also)
 
 second_small : (by : Rebuilding) (b : BlockInfo) (modes : InterPrediction) (p : Plane) (n : ℕ) (second : Option ReferenceFrame)
-    → IsAtMost (greatest by.shape.depth) (with_second (predicted_from by.shape b modes (part_of p n 0) (by.references modes.references.first)) (second_from by b modes p n second))
+    → IsAtMost (greatest by.shape.depth) (averaged_with (predicted_from by.shape b modes (part_of p n 0) (by.references modes.references.first)) (second_from by b modes p n second))
 second_small by b modes p n None i j = predicted_small (greatest by.shape.depth) modes.filter _ _ _ i j
 second_small by b modes p n (Some second) i j =
     mean_small (greatest by.shape.depth) _ _ (predicted_small (greatest by.shape.depth) modes.filter _ _ _ i j) (predicted_small (greatest by.shape.depth) modes.filter _ _ _ i j)

@@ -25,7 +25,8 @@ use Rattle.block_plan.specs.declared.block.IntraPrediction.{IntraPrediction}
 use Rattle.inter_places.specs.Places.{is_subsampled, parts_of, part_start, predicted_length}
 use Rattle.inter_places.specs.declared.part.Direction.TheVariants.{Down, Across}
 use Rattle.intra_predict.proofs.Around.{edges_agree}
-use Rattle.intra_predict.specs.BlockEdges.{IsInside, AgreeAround, reads_right}
+use Rattle.intra_predict.specs.BlockEdges.{reads_right}
+use Rattle.intra_predict.specs.Laws.{IsInside, AgreeAround}
 use Rattle.intra_predict.specs.PredictedModes.{predicted}
 use Rattle.intra_predict.specs.Residue.{with_residue}
 use Rattle.intra_predict.specs.Steps.{prediction, plus_residue}

@@ -49,9 +49,9 @@ abbrev pub predicted_from : Shape → BlockInfo → InterPrediction → BlockPar
 predicted_from shape b modes part r = predicted_at (greatest shape.depth) modes.filter (place_of shape b modes part r.shape) r.map
 
 -- or the mean of those from two
-abbrev pub with_second : Map → Option Map → Map
-with_second first None = first
-with_second first (Some second) = both first second
+abbrev pub averaged_with : Map → Option Map → Map
+averaged_with first None = first
+averaged_with first (Some second) = both first second
 
 abbrev pub second_from : Rebuilding → BlockInfo → InterPrediction → Plane → ℕ → Option ReferenceFrame → Option Map
 second_from by b modes p n None = None
@@ -59,7 +59,7 @@ second_from by b modes p n (Some reference) = Some (predicted_from by.shape b mo
 
 unfoldable pub predicted_part : Rebuilding → BlockInfo → InterPrediction → Plane → ℕ → Map
 predicted_part by b modes p n =
-    with_second (predicted_from by.shape b modes (part_of p n 0) (by.references modes.references.first)) (second_from by b modes p n modes.references.second)
+    averaged_with (predicted_from by.shape b modes (part_of p n 0) (by.references modes.references.first)) (second_from by b modes p n modes.references.second)
 
 -- a part put in: what of it lies in the frame's places of 8x8
 abbrev pub put_part : Rebuilding → BlockInfo → InterPrediction → Plane → Map → ℕ → Map

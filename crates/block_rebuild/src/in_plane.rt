@@ -12,7 +12,7 @@ ghost use Rattle.block_geometry.specs.Code.{IsSmallGrid};
 ghost use Rattle.block_geometry.specs.FrameShapes.{places_of};
 ghost use Rattle.block_plan.specs.Code.{IsSmall, AreSmall};
 ghost use Rattle.block_plan.specs.InPlanes.{places_in, tx_in};
-ghost use Rattle.intra_predict.specs.BlockEdges.{LiesIn};
+ghost use Rattle.intra_predict.specs.Code.{LiesIn};
 ghost use Rattle.intra_predict.specs.Places.{place_in};
 ghost use Rattle.planes.specs.Planes.{lower_end, right_end, plane_map};
 ghost use Rattle.block_rebuild.specs.RebuiltBlocks.{coded_block, put_residue, put_intra};

@@ -12,7 +12,7 @@ use Rattle.counting_reader.specs.Counting.{Settled, settle, count, uncounted, co
 use Rattle.counting_reader.specs.Code.{run_counting, with_counts, counted_if}
 use Rattle.counting_reader.specs.CountedSymbols.{counted_flag, counted_tree}
 use Rattle.bool_decoder.specs.Bools.{flag}
-use Rattle.bool_encoder.specs.Part.{Part, after_put, marked, Finishes}
+use Rattle.bool_encoder.specs.Part.{NumberPart, after_put, behind_marker, Finishes}
 use Rattle.bool_encoder.specs.WrittenBools.{Puts, can_put}
 use Rattle.vp9_types.proofs.Binds.{writes_bind, writes_value, writes_on, writes_to_fault}
 use Rattle.bool_encoder.proofs.Starts.{written_is_read_from}
@@ -75,7 +75,7 @@ abbrev settled_by : {A : Type 0} → A → List CountedBool → Settled A
 settled_by x bools = record { value = x; counted = bools }
 
 -- what is counted is there all the same
-pub value_counts : {A : Type 0} (s : Syntax ℕ Rule (Settled A)) (old new : Part) (x : A) → PutsValue s old x new → PutsCounting s old x new
+pub value_counts : {A : Type 0} (s : Syntax ℕ Rule (Settled A)) (old new : NumberPart) (x : A) → PutsValue s old x new → PutsCounting s old x new
 unfolding valued
 value_counts (done y) old new x h = (y.counted, (ap (λ v. settled_by v y.counted) h.0, h.1))
 value_counts (broken e) old new x h = absurd h
@@ -83,22 +83,22 @@ value_counts (ask p k) old new x h =
     let rest = value_counts (k h.0) (after_put p h.0 old) new x h.2 in
     (rest.0, (h.0, h.1, rest.1))
 
-value_by : {A : Type 0} (s : Syntax ℕ Rule (Settled A)) (old new : Part) (x : A) (counted : List CountedBool) → Puts s old (settled_by x counted) new → PutsValue s old x new
+value_by : {A : Type 0} (s : Syntax ℕ Rule (Settled A)) (old new : NumberPart) (x : A) (counted : List CountedBool) → Puts s old (settled_by x counted) new → PutsValue s old x new
 unfolding valued
 value_by (done y) old new x counted h = (ap (λ z. z.value) h.0, h.1)
 value_by (broken e) old new x counted h = absurd h
 value_by (ask p k) old new x counted h = (h.0, h.1, value_by (k h.0) (after_put p h.0 old) new x counted h.2)
 
-pub value_by_counting : {A : Type 0} (s : Syntax ℕ Rule (Settled A)) (old new : Part) (x : A) → PutsCounting s old x new → PutsValue s old x new
+pub value_by_counting : {A : Type 0} (s : Syntax ℕ Rule (Settled A)) (old new : NumberPart) (x : A) → PutsCounting s old x new → PutsValue s old x new
 value_by_counting s old new x h = value_by s old new x h.0 h.1
 
-pub counting_puts : {A B : Type 0} (s : Syntax ℕ Rule (Settled A)) (f : A → Syntax ℕ Rule (Settled B)) (old mid new : Part) (x : A) (y : B)
+pub counting_puts : {A B : Type 0} (s : Syntax ℕ Rule (Settled A)) (f : A → Syntax ℕ Rule (Settled B)) (old mid new : NumberPart) (x : A) (y : B)
     → PutsCounting s old x mid → PutsCounting (f x) mid y new → PutsCounting (in_order s f) old y new
 counting_puts {B = B} s f old mid new x y h g =
     value_counts (in_order s f) old new y (subst (λ (u : Syntax ℕ Rule B). Puts u old y new) (sym (valued_in_order s f))
     (writes_bind can_put after_put (valued s) (λ x. valued (f x)) old mid new x y (value_by s old mid x h.0 h.1) (value_by (f x) mid new y g.0 g.1)))
 
-pub counting_read : {A : Type 0} (s : Syntax ℕ Rule (Settled A)) (x : A) (new : Part) (bytes : List ℕ) → PutsCounting s marked x new → Finishes new bytes → IsReadFrom s bytes x
+pub counting_read : {A : Type 0} (s : Syntax ℕ Rule (Settled A)) (x : A) (new : NumberPart) (bytes : List ℕ) → PutsCounting s behind_marker x new → Finishes new bytes → IsReadFrom s bytes x
 unfolding run_counting
 counting_read s x new bytes h ends =
     let r = written_is_read_from s (settled_by x h.0) new bytes h.1 ends in
@@ -117,34 +117,34 @@ fault_no_value e x h = cc
 same_value : {A : Type 0} (x y : A) → ◌≡◌ {A = Result A Rule} (Ok x) (Ok y) → y ≡ x
 same_value x y h = cc
 
-value_written : {A : Type 0} (s : Syntax ℕ Rule A) (old new : Part) (x : A) → WritesTo can_put after_put s old (Ok x) new → Puts s old x new
+value_written : {A : Type 0} (s : Syntax ℕ Rule A) (old new : NumberPart) (x : A) → WritesTo can_put after_put s old (Ok x) new → Puts s old x new
 value_written (done y) old new x h = (same_value x y h.0, h.1)
 value_written (broken e) old new x h = absurd (fault_no_value e x h.0)
 value_written (ask p k) old new x h = (h.0, h.1, value_written (k h.0) (after_put p h.0 old) new x h.2)
 
-pub puts_value : {A : Type 0} (s : Syntax ℕ Rule (Settled A)) (old new : Part) (x : A) → PutsValue s old x new → PutsTo s old (Ok x) new
+pub puts_value : {A : Type 0} (s : Syntax ℕ Rule (Settled A)) (old new : NumberPart) (x : A) → PutsValue s old x new → PutsTo s old (Ok x) new
 puts_value s old new x h = writes_value can_put after_put (valued s) old new x h
 
-pub value_put : {A : Type 0} (s : Syntax ℕ Rule (Settled A)) (old new : Part) (x : A) → PutsTo s old (Ok x) new → PutsValue s old x new
+pub value_put : {A : Type 0} (s : Syntax ℕ Rule (Settled A)) (old new : NumberPart) (x : A) → PutsTo s old (Ok x) new → PutsValue s old x new
 value_put s old new x h = value_written (valued s) old new x h
 
-pub puts_settle : {A : Type 0} (x : A) (now : Part) → PutsTo (settle x) now (Ok x) now
+pub puts_settle : {A : Type 0} (x : A) (now : NumberPart) → PutsTo (settle x) now (Ok x) now
 puts_settle x now = rw (valued_settle x) (refl, refl)
 
-pub puts_lifted : {A : Type 0} (r : Result A Rule) (now : Part) → PutsTo (lifted r) now r now
+pub puts_lifted : {A : Type 0} (r : Result A Rule) (now : NumberPart) → PutsTo (lifted r) now r now
 unfolding lifted valued
 puts_lifted (Ok x) now = puts_settle x now
 puts_lifted (Err e) now = (refl, refl)
 
 -- one, and then another
-pub puts_on : {A B : Type 0} (s : Syntax ℕ Rule (Settled A)) (f : A → Syntax ℕ Rule (Settled B)) (old mid new : Part) (x : A) (r : Result B Rule)
+pub puts_on : {A B : Type 0} (s : Syntax ℕ Rule (Settled A)) (f : A → Syntax ℕ Rule (Settled B)) (old mid new : NumberPart) (x : A) (r : Result B Rule)
     → PutsTo s old (Ok x) mid → PutsTo (f x) mid r new → PutsTo (in_order s f) old r new
 puts_on {B = B} s f old mid new x r h g =
     subst (λ (u : Syntax ℕ Rule B). WritesTo can_put after_put u old r new) (sym (valued_in_order s f))
     (writes_on can_put after_put (valued s) (λ x. valued (f x)) old mid new x r (value_put s old mid x h) g)
 
 -- a rule that is broken in the first ends both
-pub puts_broken : {A B : Type 0} (s : Syntax ℕ Rule (Settled A)) (f : A → Syntax ℕ Rule (Settled B)) (old new : Part) (e : Rule)
+pub puts_broken : {A B : Type 0} (s : Syntax ℕ Rule (Settled A)) (f : A → Syntax ℕ Rule (Settled B)) (old new : NumberPart) (e : Rule)
     → PutsTo s old (Err e) new → PutsTo (in_order s f) old (Err e) new
 puts_broken {B = B} s f old new e h =
     subst (λ (u : Syntax ℕ Rule B). WritesTo can_put after_put u old (Err e) new) (sym (valued_in_order s f))
@@ -153,26 +153,26 @@ puts_broken {B = B} s f old new e h =
 ---- A state that goes through a list ----
 
 -- so many elements were gone through, and what is put for the others completes all
-abbrev pub LeftOf : {A S : Type 0} → (A → S → Syntax ℕ Rule (Settled S)) → List A → S → Part → ℕ → S → Part → Type 0
+abbrev pub LeftOf : {A S : Type 0} → (A → S → Syntax ℕ Rule (Settled S)) → List A → S → NumberPart → ℕ → S → NumberPart → Type 0
 LeftOf {S = S} f xs start old k s now =
-    (r : Result S Rule) (new : Part) → PutsTo (through f (drop k xs) s) now r new → PutsTo (through f xs start) old r new
+    (r : Result S Rule) (new : NumberPart) → PutsTo (through f (drop k xs) s) now r new → PutsTo (through f xs start) old r new
 
-pub through_begins : {A S : Type 0} (f : A → S → Syntax ℕ Rule (Settled S)) (xs : List A) (start : S) (old : Part) → LeftOf f xs start old 0 start old
+pub through_begins : {A S : Type 0} (f : A → S → Syntax ℕ Rule (Settled S)) (xs : List A) (start : S) (old : NumberPart) → LeftOf f xs start old 0 start old
 through_begins f xs start old = λ r new h. h
 
-pub through_goes : {A S : Type 0} (f : A → S → Syntax ℕ Rule (Settled S)) (xs : List A) (start s t : S) (old now next : Part) (k : ℕ) (d : A) → k < length xs
+pub through_goes : {A S : Type 0} (f : A → S → Syntax ℕ Rule (Settled S)) (xs : List A) (start s t : S) (old now next : NumberPart) (k : ℕ) (d : A) → k < length xs
     → LeftOf f xs start old k s now → PutsTo (f (get_or xs k d) s) now (Ok t) next → LeftOf f xs start old (k + 1) t next
 unfolding through
 through_goes f xs start s t old now next k d low left one = λ r new h.
     left r new (rw (drop_more xs k d low) (puts_on (f (get_or xs k d) s) (through f (drop (k + 1) xs)) now next new t r one h))
 
-pub through_breaks : {A S : Type 0} (f : A → S → Syntax ℕ Rule (Settled S)) (xs : List A) (start s : S) (old now next : Part) (k : ℕ) (d : A) (e : Rule) → k < length xs
+pub through_breaks : {A S : Type 0} (f : A → S → Syntax ℕ Rule (Settled S)) (xs : List A) (start s : S) (old now next : NumberPart) (k : ℕ) (d : A) (e : Rule) → k < length xs
     → LeftOf f xs start old k s now → PutsTo (f (get_or xs k d) s) now (Err e) next → PutsTo (through f xs start) old (Err e) next
 unfolding through
 through_breaks f xs start s old now next k d e low left one =
     left (Err e) next (rw (drop_more xs k d low) (puts_broken (f (get_or xs k d) s) (through f (drop (k + 1) xs)) now next e one))
 
-pub through_ends : {A S : Type 0} (f : A → S → Syntax ℕ Rule (Settled S)) (xs : List A) (start s : S) (old now : Part) (k : ℕ) → length xs ≤ k
+pub through_ends : {A S : Type 0} (f : A → S → Syntax ℕ Rule (Settled S)) (xs : List A) (start s : S) (old now : NumberPart) (k : ℕ) → length xs ≤ k
     → LeftOf f xs start old k s now → PutsTo (through f xs start) old (Ok s) now
 unfolding through
 through_ends f xs start s old now k all left = left (Ok s) now (rw (drop_all k xs all) (puts_settle s now))

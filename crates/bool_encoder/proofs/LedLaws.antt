@@ -2,19 +2,19 @@
 use Rattle.std.proofs.Common.{◌≡◌, ℕ, List, [], ◌∷◌, refl, sym}
 use Rattle.vp9_types.specs.Syntax.{Syntax, done, broken, ask}
 use Rattle.vp9_types.specs.declared.rule.Rule.{Rule}
-use Rattle.bool_encoder.specs.Part.{Part, after_put}
+use Rattle.bool_encoder.specs.Part.{NumberPart, after_put, after_bools}
 use Rattle.bool_encoder.specs.WrittenBools.{WritesBools}
-use Rattle.bool_encoder.specs.Laws.{AreBools, IsLedBy, after_all, after_bools, asked, values_of}
+use Rattle.bool_encoder.specs.Laws.{AreBools, IsLedBy, after_all, asked, values_of}
 use Rattle.bool_encoder.proofs.WriteLaws.{writes_bind}
 
-pub led_writes : {E A : Type 0} (s : Syntax ℕ E A) (vs : List ℕ) (old : Part) (x : A) → IsLedBy s vs x → WritesBools s old x (after_all s vs old)
+pub led_writes : {E A : Type 0} (s : Syntax ℕ E A) (vs : List ℕ) (old : NumberPart) (x : A) → IsLedBy s vs x → WritesBools s old x (after_all s vs old)
 led_writes (done y) [] old x h = (h, refl)
 led_writes (done y) (v ∷ vs) old x h = absurd h
 led_writes (broken e) vs old x h = absurd h
 led_writes (ask p k) [] old x h = absurd h
 led_writes (ask p k) (v ∷ vs) old x h = (v, h.0, led_writes (k v) vs (after_put p v old) x h.1)
 
-pub writes_led : {E A : Type 0} (s : Syntax ℕ E A) (old new : Part) (x : A) → WritesBools s old x new → (vs : List ℕ) × IsLedBy s vs x × (new ≡ after_all s vs old)
+pub writes_led : {E A : Type 0} (s : Syntax ℕ E A) (old new : NumberPart) (x : A) → WritesBools s old x new → (vs : List ℕ) × IsLedBy s vs x × (new ≡ after_all s vs old)
 writes_led (done y) old new x h = ([], h.0, sym h.1)
 writes_led (broken e) old new x h = absurd h
 writes_led (ask p k) old new x h =
@@ -22,7 +22,7 @@ writes_led (ask p k) old new x h =
     (h.0 ∷ rest.0, (h.1, rest.1), rest.2)
 
 -- bools, each at a probability of its own, are written for the syntax that asks one after another
-pub bools_written : (bools : List (ℕ × ℕ)) (old : Part) → AreBools bools → WritesBools {E = Rule} (asked bools) old (values_of bools) (after_bools bools old)
+pub bools_written : (bools : List (ℕ × ℕ)) (old : NumberPart) → AreBools bools → WritesBools {E = Rule} (asked bools) old (values_of bools) (after_bools bools old)
 bools_written [] old are = (refl, refl)
 bools_written (b ∷ bools) old are =
     let next = after_put b.0 b.1 old in

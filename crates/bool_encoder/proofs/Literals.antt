@@ -4,16 +4,17 @@ use Rattle.std.specs.Prelude.{nat_eq}
 use Rattle.std.proofs.Math.Nat.{div-eq_of_lt}
 use Rattle.std.proofs.lemmas.Nat.{shr-shr}
 use Rattle.vp9_types.specs.declared.rule.Rule.{Rule}
+use Rattle.prob_contexts.specs.Counted.{bool_number}
 use Rattle.bool_decoder.specs.Bools.{literal, literal_from}
-use Rattle.bool_encoder.specs.Part.{Part, after_put, bool_number}
+use Rattle.bool_encoder.specs.Part.{NumberPart, after_put}
 use Rattle.bool_encoder.specs.WrittenBools.{LeadsBools, Puts}
 use Rattle.bool_encoder.proofs.WriteLaws.{leads_on, leads_end, leads_here}
 
 -- the bools of the number's first bits were put, and `left` are still to come
-abbrev pub LiteralLeft : ℕ → ℕ → ℕ → Part → Part → Type 0
+abbrev pub LiteralLeft : ℕ → ℕ → ℕ → NumberPart → NumberPart → Type 0
 LiteralLeft n value left old now = LeadsBools {E = Rule} (literal n) old (literal_from left (value / 2 ^ left)) now
 
-pub literal_begins : (n value : ℕ) (old : Part) → value < 2 ^ n → LiteralLeft n value n old old
+pub literal_begins : (n value : ℕ) (old : NumberPart) → value < 2 ^ n → LiteralLeft n value n old old
 unfolding literal
 literal_begins n value old fits =
     let none : value / 2 ^ n ≡ 0 = div-eq_of_lt fits in
@@ -27,7 +28,7 @@ odd_number m = by_bit (m % 2) (omega arith)
     by_bit (suc zero) h = refl
     by_bit (suc (suc b)) h = absurd (omega arith)
 
-pub literal_goes : (n value left : ℕ) (old now next : Part) → 0 < left → LiteralLeft n value left old now
+pub literal_goes : (n value left : ℕ) (old now next : NumberPart) → 0 < left → LiteralLeft n value left old now
     → next ≡ after_put 128 (bool_number (nat_eq (value / 2 ^ (left - 1) % 2) 1)) now → LiteralLeft n value (left - 1) old next
 unfolding literal_from
 literal_goes n value left old now next some h is =
@@ -40,7 +41,7 @@ literal_goes n value left old now next some h is =
     let put : next ≡ after_put 128 bit now = is ∙ ap (λ v. after_put 128 v now) (odd_number (value / 2 ^ m)) in
     rw put (rw whole at (leads_on (literal n) 128 bit (λ v. literal_from m (2 * (value / 2 ^ left) + v)) old now before (omega arith) (omega arith)))
 
-pub literal_ends : (n value : ℕ) (old now : Part) → LiteralLeft n value 0 old now → Puts (literal n) old value now
+pub literal_ends : (n value : ℕ) (old now : NumberPart) → LiteralLeft n value 0 old now → Puts (literal n) old value now
 unfolding literal_from
 literal_ends n value old now h =
     let whole : value / 2 ^ 0 ≡ value = omega arith in

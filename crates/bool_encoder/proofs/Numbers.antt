@@ -9,7 +9,7 @@ use Rattle.vp9_types.specs.Bits.{bits_of, bits_of_byte, spelled}
 use Rattle.bool_decoder.proofs.Fronts.{spelled-append}
 use Rattle.vp9_types.proofs.Spells.{length-spelled}
 use Rattle.bool_encoder.specs.Code.{be_number}
-use Rattle.bool_encoder.specs.Part.{Part, Finishes}
+use Rattle.bool_encoder.specs.Part.{NumberPart, Finishes}
 
 -- bytes behind others
 pub be-append : (xs ys : List ℕ) → be_number (xs ++ ys) ≡ be_number xs * 2 ^ (8 * length ys) + be_number ys
@@ -209,7 +209,7 @@ unfolding bits_of
 length-bits_of [] = refl
 length-bits_of (b ∷ bytes) = let there = length-bits_of bytes in omega (arith, there)
 
-pub finishes : (e : Part) (bytes : List ℕ) (k : ℕ) → k < 8 → bits_of bytes ≡ spelled (8 + e.n) e.low ++ spelled k 0 → Finishes e bytes
+pub finishes : (e : NumberPart) (bytes : List ℕ) (k : ℕ) → k < 8 → bits_of bytes ≡ spelled (8 + e.n) e.low ++ spelled k 0 → Finishes e bytes
 finishes e bytes k few is =
     let long : 8 * length bytes ≡ 8 + e.n + k =
     sym (length-bits_of bytes) ∙ ap length is ∙ length-append (spelled (8 + e.n) e.low) (spelled k 0)

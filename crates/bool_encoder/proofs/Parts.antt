@@ -9,7 +9,7 @@ use Rattle.vp9_types.proofs.Spells.{AreBits-drop}
 use Rattle.bool_decoder.specs.Coder.{front_number, split_of, doublings, bool_of, after_bool}
 use Rattle.bool_decoder.proofs.Fronts.{front-add}
 use Rattle.bool_decoder.proofs.Doublings.{doublings-enough}
-use Rattle.bool_encoder.specs.Part.{Part, after_put, doubled_part}
+use Rattle.bool_encoder.specs.Part.{NumberPart, after_put, doubled_part}
 use Rattle.bool_encoder.specs.Laws.{Lies, coder_at}
 
 pub front-below : (n : ℕ) (bits : List ℕ) → AreBits bits → front_number n bits < 2 ^ n
@@ -35,7 +35,7 @@ split_within range p wide low =
     let part = mul-le-mul_left (range - 1) most in
     omega (arith, part)
 
-pub put_wide : (p v : ℕ) (e : Part) → 2 ≤ e.range → p < 256 → 2 ≤ (after_put p v e).range
+pub put_wide : (p v : ℕ) (e : NumberPart) → 2 ≤ e.range → p < 256 → 2 ≤ (after_put p v e).range
 unfolding after_put
 put_wide p v e wide low = by_value (nat_eq v 1)
   where
@@ -65,12 +65,12 @@ halved n low range k bits are h =
     record { from = omega (arith, least); below = lt_of_mul-lt-mul_right (2 ^ k) below }
 
 -- what a bool that was put leaves to read
-pub record ReadsPut (p v : ℕ) (e : Part) (bits : List ℕ) : Type 0 where
+pub record ReadsPut (p v : ℕ) (e : NumberPart) (bits : List ℕ) : Type 0 where
   pub lies : Lies e bits
   pub value : bool_of p (coder_at bits e) ≡ v
   pub next : after_bool p (coder_at bits e) ≡ coder_at bits (after_put p v e)
 
-pub put_zero : (p : ℕ) (e : Part) (bits : List ℕ) → 2 ≤ e.range → p < 256 → AreBits bits → Lies (after_put p 0 e) bits → ReadsPut p 0 e bits
+pub put_zero : (p : ℕ) (e : NumberPart) (bits : List ℕ) → 2 ≤ e.range → p < 256 → AreBits bits → Lies (after_put p 0 e) bits → ReadsPut p 0 e bits
 unfolding after_put bool_of after_bool
 put_zero p e bits wide low are h =
     let s = split_of e.range p in
@@ -85,7 +85,7 @@ put_zero p e bits wide low are h =
       next = rw none refl;
     }
 
-pub put_one : (p : ℕ) (e : Part) (bits : List ℕ) → 2 ≤ e.range → p < 256 → AreBits bits → Lies (after_put p 1 e) bits → ReadsPut p 1 e bits
+pub put_one : (p : ℕ) (e : NumberPart) (bits : List ℕ) → 2 ≤ e.range → p < 256 → AreBits bits → Lies (after_put p 1 e) bits → ReadsPut p 1 e bits
 unfolding after_put bool_of after_bool
 put_one p e bits wide low are h =
     let s = split_of e.range p in

@@ -2,9 +2,9 @@
 use Rattle.std.proofs.Common.{◌≡◌, ℕ, ◌+◌, ◌-◌, ◌*◌, ◌%◌, ◌^◌, ◌<◌, ◌≤◌, refl, ap, ◌∙◌, arith}
 use Rattle.std.proofs.Math.Nat.{mul-le-mul_right, mod-eq_of_lt}
 use Rattle.std.proofs.lemmas.Nat.{pow-add, shl_below, shl_whole}
-use Rattle.bool_encoder.specs.Part.{Part, doubled_part}
+use Rattle.bool_encoder.specs.Part.{NumberPart, doubled_part}
 
-abbrev part_by : ℕ → ℕ → ℕ → Part
+abbrev part_by : ℕ → ℕ → ℕ → NumberPart
 part_by n low range = record { n = n; low = low; range = range }
 
 pub same_part : (n m low l range r : ℕ) → n ≡ m → low ≡ l → range ≡ r → part_by n low range ≡ part_by m l r

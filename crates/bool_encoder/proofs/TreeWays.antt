@@ -8,7 +8,8 @@ use Rattle.vp9_types.specs.declared.rule.Rule.{Rule}
 use Rattle.vp9_types.specs.Syntax.{Syntax, ask}
 use Rattle.vp9_types.specs.Trees.{entry_at, subtree, tree_of, tree_symbol, is_tree}
 use Rattle.vp9_types.proofs.TreeTests.{node_at, tree_holds}
-use Rattle.bool_encoder.specs.Part.{Part, after_put, bool_number}
+use Rattle.prob_contexts.specs.Counted.{bool_number}
+use Rattle.bool_encoder.specs.Part.{NumberPart, after_put}
 use Rattle.bool_encoder.specs.WrittenBools.{LeadsBools, Puts}
 use Rattle.bool_encoder.specs.Code.{LeadsTo, IsWhole}
 use Rattle.bool_encoder.specs.TreeEntries.{has_entry, has_nodes, has_leaves, is_whole}
@@ -34,7 +35,7 @@ unfolding tree_symbol subtree branch
 asks depth array probs zero some = absurd (omega arith)
 asks depth array probs (suc x) some = refl
 
-pub way_begins : (array : List ℤ) (probs : List ℕ) (at : ℕ) (old next : Part) → at < 2 → get_or probs 0 0 < 256
+pub way_begins : (array : List ℤ) (probs : List ℕ) (at : ℕ) (old next : NumberPart) → at < 2 → get_or probs 0 0 < 256
     → next ≡ after_put (get_or probs 0 0) (at % 2) old → LeadsTo array probs at old next
 unfolding branch
 way_begins array probs at old next first low is =
@@ -48,7 +49,7 @@ way_begins array probs at old next first low is =
       leads = rw (is, bit) (rw (chosen (length array) array probs 0 at first, there) at way);
     }
 
-pub way_goes : (array : List ℤ) (probs : List ℕ) (up node at : ℕ) (old now next : Part) → is_tree array ≡ true → up < length array
+pub way_goes : (array : List ℤ) (probs : List ℕ) (up node at : ℕ) (old now next : NumberPart) → is_tree array ≡ true → up < length array
     → entry_at array up ≡ pos node → 0 < node → at ≡ node + at % 2 → at < length array → get_or probs (at / 2) 0 < 256
     → LeadsTo array probs up old now → next ≡ after_put (get_or probs (at / 2) 0) (at % 2) now → LeadsTo array probs at old next
 unfolding branch
@@ -79,7 +80,7 @@ leaf_is zero array probs (suc x) = refl
 leaf_is (suc depth) array probs zero = refl
 leaf_is (suc depth) array probs (suc x) = refl
 
-pub way_ends : (array : List ℤ) (probs : List ℕ) (at leaf : ℕ) (old now : Part) → entry_at array at ≡ neg_ℤ (pos leaf)
+pub way_ends : (array : List ℤ) (probs : List ℕ) (at leaf : ℕ) (old now : NumberPart) → entry_at array at ≡ neg_ℤ (pos leaf)
     → LeadsTo array probs at old now → Puts (tree_symbol (tree_of array) probs) old leaf now
 way_ends array probs at leaf old now entry way =
     leads_end (tree_symbol (tree_of array) probs) leaf old now (rw (entry, leaf_is way.depth array probs leaf) at way.leads)

@@ -9,21 +9,21 @@ use Rattle.bool_decoder.specs.Window.{Window, Stands, started}
 use Rattle.bool_decoder.specs.Bools.{run_bools, run_coder}
 use Rattle.counting_reader.specs.Code.{ReadsCounting}
 use Rattle.counting_reader.specs.Counting.{Settled}
-use Rattle.bool_encoder.specs.Part.{Part, after_put, marked}
+use Rattle.bool_encoder.specs.Part.{NumberPart, after_put, after_bools, behind_marker}
 use Rattle.bool_encoder.specs.WrittenBools.{can_put}
 
 -- the bits spell a number of the part
-pub record Lies (e : Part) (bits : List ℕ) : Type 0 where
+pub record Lies (e : NumberPart) (bits : List ℕ) : Type 0 where
   pub from : e.low ≤ front_number (8 + e.n) bits
   pub below : front_number (8 + e.n) bits < e.low + e.range
 
 -- the coder that has narrowed the bits to the part
-abbrev pub coder_at : List ℕ → Part → Coder
+abbrev pub coder_at : List ℕ → NumberPart → Coder
 coder_at bits e = record { bits = bits; n = e.n; low = e.low; range = e.range }
 
 -- a decoder that starts on the bytes reads the value, and so does the coder behind the marker, which has then read as many
 -- bits and narrowed them to the same low and range as the part that the last bool left
-pub record ReadsFrom {E A : Type 0} (s : Syntax ℕ E A) (bytes : List ℕ) (x : A) (new : Part) : Type 0 where
+pub record ReadsFrom {E A : Type 0} (s : Syntax ℕ E A) (bytes : List ℕ) (x : A) (new : NumberPart) : Type 0 where
   pub start : Window
   pub last : Window
   pub starts : started bytes ≡ Ok start
@@ -47,7 +47,7 @@ IsLedBy (ask p k) [] y = ⊥
 IsLedBy (ask p k) (v ∷ vs) y = can_put p v × IsLedBy (k v) vs y
 
 -- the part after these answers were put, each at the probability that is asked
-abbrev pub after_all : {E A : Type 0} → Syntax ℕ E A → List ℕ → Part → Part
+abbrev pub after_all : {E A : Type 0} → Syntax ℕ E A → List ℕ → NumberPart → NumberPart
 after_all (done x) vs part = part
 after_all (broken e) vs part = part
 after_all (ask p k) [] part = part
@@ -60,11 +60,6 @@ abbrev pub AreBools : List (ℕ × ℕ) → Type 0
 AreBools [] = Unit {0}
 AreBools (b ∷ bools) = can_put b.0 b.1 × AreBools bools
 
--- the part after they were put, the first one first
-abbrev pub after_bools : List (ℕ × ℕ) → Part → Part
-after_bools [] part = part
-after_bools (b ∷ bools) part = after_bools bools (after_put b.0 b.1 part)
-
 abbrev pub values_of : List (ℕ × ℕ) → List ℕ
 values_of [] = []
 values_of (b ∷ bools) = b.1 ∷ values_of bools
@@ -75,4 +70,4 @@ asked bools = each (λ b. ask b.0 done) bools
 
 -- a decoder that starts on the bytes reads exactly these values at their probabilities
 abbrev pub ReadsBools : List (ℕ × ℕ) → List ℕ → Type 0
-ReadsBools bools bytes = ReadsFrom {E = Rule} (asked bools) bytes (values_of bools) (after_bools bools marked)
+ReadsBools bools bytes = ReadsFrom {E = Rule} (asked bools) bytes (values_of bools) (after_bools bools behind_marker)

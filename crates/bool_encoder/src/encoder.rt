@@ -20,10 +20,10 @@ pub struct BoolEncoder {
 
 impl Model for BoolEncoder {
     ghost use Rattle.std.specs.Prelude.{◌+◌, ◌-◌, ◌*◌, ◌^◌, ◌<◌, ◌≤◌, length};
-    ghost use Rattle.bool_encoder.specs.Part.{Part};
+    ghost use Rattle.bool_encoder.specs.Part.{NumberPart};
     ghost use Rattle.bool_encoder.specs.Code.{be_number};
 
-    ghost Value = { Part };
+    ghost Value = { NumberPart };
 
     ghost view = { λ e. record { n = 8 * length e.bytes.items + (e.held - 8); low = be_number e.bytes.items * 2 ^ e.held + e.low; range = e.range } };
 
@@ -34,12 +34,13 @@ impl Model for BoolEncoder {
 impl BoolEncoder {
     ghost use Rattle.std.specs.Prelude.{◌≡◌, IfOk, if◌then◌else◌};
     ghost use Rattle.std.specs.Result.{is_ok};
-    ghost use Rattle.bool_encoder.specs.Part.{marked, after_put, bool_number, Finishes};
+    ghost use Rattle.prob_contexts.specs.Counted.{bool_number};
+    ghost use Rattle.bool_encoder.specs.Part.{behind_marker, after_put, Finishes};
 
     /// An encoder into which the marker was put and nothing else.
     #[tactic(auto, unfolding(crate::specs::Part::first_part, crate::specs::Part::after_put, crate::specs::Code::be_number, bool_decoder::specs::Coder::doublings_within))]
     pub fn new(alloc: Global) -> Self
-        ensures { result ≡ marked }
+        ensures { result ≡ behind_marker }
     {
         BoolEncoder {
             bytes: Vec::new(alloc),

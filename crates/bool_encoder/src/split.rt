@@ -1,8 +1,9 @@
 //! What a bool leaves of a range.
 
 ghost use Rattle.std.specs.Prelude.{◌≡◌, ℕ, ◌+◌, ◌*◌, ◌^◌, ◌<◌, ◌≤◌};
+ghost use Rattle.prob_contexts.specs.Counted.{bool_number};
 ghost use Rattle.bool_decoder.specs.Coder.{doublings, split_of};
-ghost use Rattle.bool_encoder.specs.Part.{Part, after_put, bool_number, doubled_part};
+ghost use Rattle.bool_encoder.specs.Part.{NumberPart, after_put, doubled_part};
 
 /// Where the range is split for a bool at `p`.
 fn split_of(range: u32, p: u8) -> u32
@@ -32,7 +33,7 @@ pub(crate) fn doublings(range: u32) -> u32
 pub(crate) fn narrowed(range: u32, p: u8, value: bool) -> (u32, u32)
     requires wide { 128 ≤ range }
     requires fits { range ≤ 255 }
-    ensures part { (e : Part) → e.range ≡ range →
+    ensures part { (e : NumberPart) → e.range ≡ range →
         after_put p (bool_number value) e ≡ doubled_part e.n (e.low + result.0) result.1 (doublings result.1) }
     ensures within { result.0 + result.1 ≤ range }
     ensures some { 1 ≤ result.1 }

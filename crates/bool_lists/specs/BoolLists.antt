@@ -2,19 +2,20 @@
 -- puts them is one list, whatever reads them.
 use Rattle.std.specs.Prelude.{◌≡◌, ℕ, zero, suc, ◌+◌, ◌-◌, ◌/◌, ◌%◌, ◌^◌, Bool, true, ◌&&◌, ◌||◌, not, List, [], ◌∷◌, ◌++◌, slice_index, nat_eq, nat_lt, if◌then◌else◌}
 use Rattle.vp9_types.specs.Trees.{Tree, leaf, node}
-use Rattle.bool_encoder.specs.Part.{Part, bool_number, marked}
-use Rattle.bool_encoder.specs.Laws.{after_bools}
+use Rattle.counting_reader.specs.CountedSymbols.{has_leaf}
+use Rattle.prob_contexts.specs.Counted.{bool_number}
+use Rattle.bool_encoder.specs.Part.{NumberPart, behind_marker, after_bools}
 
 abbrev pub BoolList : Type 0
 BoolList = List (ℕ × ℕ)
 
 -- they were put, one behind another
-unfoldable pub HasPut : Part → BoolList → Part → Type 0
+unfoldable pub HasPut : NumberPart → BoolList → NumberPart → Type 0
 HasPut old bools new = new ≡ after_bools bools old
 
 -- the bytes that they take, behind the marker: 8 + n bits, n being those of the arithmetic bool after the last one
 unfoldable pub bytes_taken : BoolList → ℕ
-bytes_taken bools = (8 + (after_bools bools marked).n + 7) / 8
+bytes_taken bools = (8 + (after_bools bools behind_marker).n + 7) / 8
 
 -- B(p)
 unfoldable pub one_bool : ℕ → Bool → BoolList
@@ -34,10 +35,6 @@ difference_bools d =
     else (number_bools 1 1 ++ (if nat_lt d 129 then number_bools 7 (d - 64) else (number_bools 7 ((d + 1) / 2) ++ number_bools 1 ((d + 1) % 2))))))))
 
 ---- A symbol of a tree ----
-
-abbrev pub has_leaf : Tree → ℕ → Bool
-has_leaf (leaf x) y = nat_eq x y
-has_leaf (node k zeros ones) y = has_leaf zeros y || has_leaf ones y
 
 -- the way to a leaf: at each node a bool at its probability, 1 where the leaf is in its second branch
 unfoldable pub tree_bools : Tree → List ℕ → ℕ → BoolList

@@ -8,23 +8,23 @@ use Rattle.counting_reader.specs.Code.{Standing, run_counting}
 use Rattle.counting_reader.proofs.CountingRuns.{counting_bind, run_settle}
 use Rattle.coef_tokens.specs.declared.step.Step.{Step}
 use Rattle.coef_tokens.specs.declared.step.Step.TheVariants.{End, Zero, Level}
-use Rattle.coef_tokens.specs.Places.{Tables, Tokens, Read, no_tokens, block_tokens, tokens_from, step_by, row_at, context_at, with_zero, with_level, goes_on}
-use Rattle.coef_tokens.specs.Steps.{step}
+use Rattle.coef_tokens.specs.Places.{Tables, Tokens, Read, no_tokens, block_tokens, tokens_from, step_by, row_at, token_context, with_zero, with_level, goes_on}
+use Rattle.coef_tokens.specs.Steps.{token_step}
 use Rattle.coef_tokens.specs.Code.{HoldsClasses, HoldsLevels, StandsAt}
 
 pub later_place : (t : Tables) (first c : ℕ) (reads : List Read) (cache : List ℕ) → 1 ≤ c → HoldsClasses cache reads
-    → (1 + get_or cache (get_or t.neighbours (2 * c) 0) 0 + get_or cache (get_or t.neighbours (2 * c + 1) 0) 0) / 2 ≡ context_at t first c reads
-unfolding context_at
+    → (1 + get_or cache (get_or t.neighbours (2 * c) 0) 0 + get_or cache (get_or t.neighbours (2 * c + 1) 0) 0) / 2 ≡ token_context t first c reads
+unfolding token_context
 later_place t first c reads cache later holds =
     rw (ne_eqb c 0 (λ e. absurd (omega arith)), holds (get_or t.neighbours (2 * c) 0), holds (get_or t.neighbours (2 * c + 1) 0)) refl
 
-pub later_row : (t : Tables) (first c : ℕ) (reads : List Read) (context : ℕ) → 1 ≤ slice_index t.bands c → context ≡ context_at t first c reads
+pub later_row : (t : Tables) (first c : ℕ) (reads : List Read) (context : ℕ) → 1 ≤ slice_index t.bands c → context ≡ token_context t first c reads
     → 3 * (6 * slice_index t.bands c + context - 3) ≡ row_at t first c reads
 unfolding row_at
 later_row t first c reads context later e = rw (ne_eqb (slice_index t.bands c) 0 (λ e. absurd (omega arith)), e) refl
 
 pub first_row : (t : Tables) (first : ℕ) (cache : List ℕ) → slice_index t.bands 0 ≡ 0 → StandsAt t first 0 cache (3 * first)
-unfolding row_at context_at
+unfolding row_at token_context
 first_row t first cache start = λ reads holds. rw start refl
 
 -- what the loop keeps: reading from here gives what the whole block gives
@@ -42,7 +42,7 @@ prob_in probs row k = ap (λ (ps : List ℕ). slice_index ps k) (take_rest probs
 
 -- by the probabilities from a row on
 pub steps_from : (t : Tables) (row : ℕ) (check : Bool) (m next : Standing) (s : Step)
-    → run_counting (step t.depth check (t.base + row) (slice_index (take (length t.probs - row) (drop row t.probs)) 0)
+    → run_counting (token_step t.depth check (t.base + row) (slice_index (take (length t.probs - row) (drop row t.probs)) 0)
     (slice_index (take (length t.probs - row) (drop row t.probs)) 1) (slice_index (take (length t.probs - row) (drop row t.probs)) 2)) m ≡ Ok (s, next)
     → Steps t row check m s next
 steps_from t row check m next s read =

@@ -7,7 +7,7 @@ use Rattle.vp9_tables.specs.Coefficients.{context_row}
 use Rattle.counting_reader.specs.Counting.{Settled, settle, ◌>>=◌}
 use Rattle.coef_tokens.specs.declared.step.Step.{Step}
 use Rattle.coef_tokens.specs.declared.step.Step.TheVariants.{End, Zero, Level}
-use Rattle.coef_tokens.specs.Steps.{step}
+use Rattle.coef_tokens.specs.Steps.{token_step}
 
 -- what a plane's transform blocks are read by: their scan, the two neighbours of each place, the bands, the 33 rows of
 -- three probabilities, the place of the first of these among all that are counted, the depth
@@ -43,14 +43,14 @@ level_at [] p = pos 0
 level_at (r ∷ reads) p = if nat_eq p r.position then r.level else level_at reads p
 
 -- that of the block's sides for the first place, and later half the classes of the two neighbours, rounded up
-unfoldable pub context_at : Tables → ℕ → ℕ → List Read → ℕ
-context_at t first c reads =
+unfoldable pub token_context : Tables → ℕ → ℕ → List Read → ℕ
+token_context t first c reads =
     if nat_eq c 0 then first
     else (1 + class_at reads (slice_index t.neighbours (2 * c)) + class_at reads (slice_index t.neighbours (2 * c + 1))) / 2
 
 -- where the three probabilities of a place stand
 unfoldable pub row_at : Tables → ℕ → ℕ → List Read → ℕ
-row_at t first c reads = 3 * context_row (slice_index t.bands c) (context_at t first c reads)
+row_at t first c reads = 3 * context_row (slice_index t.bands c) (token_context t first c reads)
 
 -- a place more, which holds a zero
 abbrev pub with_zero : Tokens → Tokens
@@ -64,7 +64,7 @@ with_level p position level class =
 -- the step by a row of probabilities
 abbrev pub step_by : Tables → ℕ → Bool → Syntax ℕ Rule (Settled Step)
 step_by t row check =
-    step t.depth check (t.base + row) (slice_index t.probs row) (slice_index t.probs (row + 1)) (slice_index t.probs (row + 2))
+    token_step t.depth check (t.base + row) (slice_index t.probs row) (slice_index t.probs (row + 1)) (slice_index t.probs (row + 2))
 
 -- how reading goes on after a step: it ends, or the next place is read
 abbrev pub goes_on : Tokens → ℕ → Step → (Bool → Tokens → Syntax ℕ Rule (Settled Tokens)) → Syntax ℕ Rule (Settled Tokens)

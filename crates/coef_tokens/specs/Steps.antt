@@ -28,7 +28,7 @@ unfoldable pub more_coefs : Bool → ℕ → ℕ → Syntax ℕ Rule (Settled Bo
 more_coefs check node first = if check then counted_flag Coef node first else settle true
 
 -- what stands at a place, by its first node and the probabilities of the three: the end, or a token
-unfoldable pub step : Depth → Bool → ℕ → ℕ → ℕ → ℕ → Syntax ℕ Rule (Settled Step)
-step depth check node first second third = do
+unfoldable pub token_step : Depth → Bool → ℕ → ℕ → ℕ → ℕ → Syntax ℕ Rule (Settled Step)
+token_step depth check node first second third = do
   more ← more_coefs check node first
   if more then token depth node second third else settle End

@@ -36,8 +36,8 @@ abbrev pub category_base : ℕ → ℕ
 category_base category = slice_index (5 ∷ 7 ∷ 11 ∷ 19 ∷ 35 ∷ 67 ∷ []) (category - 1)
 
 -- what a token from one on stands for: itself, or the first number of its category and bits, the highest first
-unfoldable pub magnitude : {E : Type 0} → Depth → ℕ → Syntax ℕ E ℕ
-magnitude depth token =
+unfoldable pub coef_magnitude : {E : Type 0} → Depth → ℕ → Syntax ℕ E ℕ
+coef_magnitude depth token =
     if nat_lt token 5 then done token
     else (bits_from (category_of (token - 4) depth) 0 >>= λ bits. done (category_base (token - 4) + bits))
 
@@ -51,6 +51,6 @@ class_of token = slice_index ENERGY_CLASS token
 
 unfoldable pub level : {E : Type 0} → Depth → ℕ → Syntax ℕ E Step
 level depth token = do
-  m ← magnitude depth token
+  m ← coef_magnitude depth token
   negative ← flag 128
   done (Level (with_sign negative m) (class_of token))

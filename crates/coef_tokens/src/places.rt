@@ -4,7 +4,7 @@ ghost use Rattle.std.specs.Prelude.{◌≡◌, ◌+◌, ◌*◌, ◌<◌, ◌≤
 ghost use Rattle.std.specs.List.{All};
 ghost use Rattle.counting_reader.specs.Code.{ReadsAway};
 ghost use Rattle.vp9_tables.specs.Scans.{area};
-ghost use Rattle.coef_tokens.specs.Places.{Tokens, Read, block_tokens, context_at};
+ghost use Rattle.coef_tokens.specs.Places.{Tokens, Read, block_tokens, token_context};
 ghost use Rattle.coef_tokens.specs.Code.{tables_of, HoldsClasses, HoldsLevels, StandsAt};
 
 use crate::step::{Step, read_step};
@@ -19,7 +19,7 @@ fn context_of(tables: &TokenTables, cache: &[u8], place: usize) -> u8
     requires later { 1 ≤ place }
     requires place { place < length tables.now.scan.now }
     requires low { All (λ class. class ≤ 5) cache.now }
-    ensures value { (first : ℕ) (reads : List Read) → HoldsClasses cache.now reads → result ≡ context_at (tables_of tables.now) first place reads }
+    ensures value { (first : ℕ) (reads : List Read) → HoldsClasses cache.now reads → result ≡ token_context (tables_of tables.now) first place reads }
     ensures most { result ≤ 5 }
 {
     let above = cache[tables.neighbours[2 * place] as usize];

@@ -3,8 +3,8 @@
 ghost use Rattle.std.specs.Prelude.{◌≡◌, ◌≤◌, ◌<◌, ◌^◌, ◌+◌, ◌-◌, unsigned_abs, ℕ, length, slice_index};
 ghost use Rattle.bool_decoder.specs.Bools.{Reads};
 ghost use Rattle.bool_decoder.specs.Held.{window_of};
-ghost use Rattle.coef_tokens.specs.TokenSymbols.{bits_from, category_base, magnitude, level};
-ghost use Rattle.coef_tokens.specs.Steps.{token, token_from_one, more_coefs, step};
+ghost use Rattle.coef_tokens.specs.TokenSymbols.{bits_from, category_base, coef_magnitude, level};
+ghost use Rattle.coef_tokens.specs.Steps.{token, token_from_one, more_coefs, token_step};
 ghost use Rattle.coef_tokens.specs.Code.{IsSmallStep};
 ghost use Rattle.counting_reader.specs.Code.{ReadsAway};
 
@@ -57,10 +57,10 @@ pub fn category_base(category: u8) -> u32
 
 /// The magnitude of a level, by its token from one on.
 #[inline(always)]
-#[tactic(auto, unfolding(crate::specs::TokenSymbols::magnitude), using(vp9_types::proofs::Runs::run_bind))]
+#[tactic(auto, unfolding(crate::specs::TokenSymbols::coef_magnitude), using(vp9_types::proofs::Runs::run_bind))]
 fn read_magnitude(decoder: &mut BoolDecoder, depth: Depth, token: u8) -> u32
     requires { token ≤ 10 }
-    ensures read { Reads (magnitude depth token) (window_of decoder.old) result (window_of decoder.new) }
+    ensures read { Reads (coef_magnitude depth token) (window_of decoder.old) result (window_of decoder.new) }
     ensures fits { result < 2 ^ 19 }
 {
     if token < 5 {
@@ -154,7 +154,7 @@ fn read_more<const COUNTS: bool>(
 
 /// What stands at a place, by its first node and the probabilities of the three.
 #[inline(always)]
-#[tactic(auto, unfolding(crate::specs::Steps::step), using(counting_reader::proofs::CountingRuns::counting_bind, counting_reader::proofs::CountingRuns::run_settle))]
+#[tactic(auto, unfolding(crate::specs::Steps::token_step), using(counting_reader::proofs::CountingRuns::counting_bind, counting_reader::proofs::CountingRuns::run_settle))]
 pub(crate) fn read_step<const COUNTS: bool>(
     decoder: &mut BoolDecoder,
     reader: &mut CountingReader<COUNTS>,
@@ -166,7 +166,7 @@ pub(crate) fn read_step<const COUNTS: bool>(
     requires node { node + 2 < 1584 }
     requires three { 3 ≤ length probs.now }
     requires some { 1 ≤ slice_index probs.now 2 }
-    ensures read { ReadsAway (step depth check node (slice_index probs.now 0) (slice_index probs.now 1) (slice_index probs.now 2)) reader.old decoder.old result reader.new decoder.new }
+    ensures read { ReadsAway (token_step depth check node (slice_index probs.now 0) (slice_index probs.now 1) (slice_index probs.now 2)) reader.old decoder.old result reader.new decoder.new }
     ensures small { IsSmallStep result }
 {
     if !read_more(decoder, reader, check, node, probs[0]) {

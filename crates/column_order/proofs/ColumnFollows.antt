@@ -21,7 +21,7 @@ use Rattle.mode_syntax.proofs.ModeTiles.{run_yields}
 use Rattle.frame_state.specs.ColumnPlans.{ColumnRead, column_tile, no_tiles, plan_of, with_its_tile}
 use Rattle.frame_state.specs.FrameReading.{TileRead, column_after, read_tile}
 use Rattle.frame_state.specs.Sources.{FrameSources}
-use Rattle.frame_state.specs.TilePlaces.{column_of, row_of, tile_places}
+use Rattle.frame_state.specs.TilePlaces.{column_of, tile_row_of, tile_places}
 use Rattle.frame_state.proofs.TileOffsets.{before_grows, raster}
 use Rattle.column_order.specs.ColumnStrips.{column_from, column_to}
 use Rattle.column_order.proofs.Follows.{Follow, LieBefore, before_more, nothing_follows}
@@ -90,11 +90,11 @@ column_stands by bytes n k c t same has is =
 ---- A column ----
 
 -- a later tile of a column lies below
-below : (tiles : TileInfo) (n j k : ℕ) → n < j → column_of tiles n ≡ k → column_of tiles j ≡ k → row_of tiles n + 1 ≤ row_of tiles j
-below tiles n j k later here there = elim (cases_lt (row_of tiles n) (row_of tiles j)) [
+below : (tiles : TileInfo) (n j k : ℕ) → n < j → column_of tiles n ≡ k → column_of tiles j ≡ k → tile_row_of tiles n + 1 ≤ tile_row_of tiles j
+below tiles n j k later here there = elim (cases_lt (tile_row_of tiles n) (tile_row_of tiles j)) [
   | inl low ↦ omega (arith, low)
   | inr high ↦
-      let most : row_of tiles j * 2 ^ tiles.columns_log2 ≤ row_of tiles n * 2 ^ tiles.columns_log2 = mul-le-mul_right (2 ^ tiles.columns_log2) high in
+      let most : tile_row_of tiles j * 2 ^ tiles.columns_log2 ≤ tile_row_of tiles n * 2 ^ tiles.columns_log2 = mul-le-mul_right (2 ^ tiles.columns_log2) high in
       absurd (omega (arith, most, raster tiles n, raster tiles j, here, there, later))
 ]
 
@@ -111,7 +111,7 @@ own_kept by bytes k n c t same has is =
       follow = stand.follow;
       before = λ j later there.
           before_more (rows_behind h n) (rows_before h j) t.value.column.blocks
-          (before_grows (mi_rows (shape_of h)) h.params.tiles.rows_log2 (row_of h.params.tiles n + 1) (row_of h.params.tiles j) (below h.params.tiles n j k (omega (arith, later)) same there)) stand.before;
+          (before_grows (mi_rows (shape_of h)) h.params.tiles.rows_log2 (tile_row_of h.params.tiles n + 1) (tile_row_of h.params.tiles j) (below h.params.tiles n j k (omega (arith, later)) same there)) stand.before;
     }
 
 past_kept : (header : Header) (k n : ℕ) (c : ColumnRead) → StandsFrom header k n c → StandsFrom header k (n + 1) c

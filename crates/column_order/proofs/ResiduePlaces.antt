@@ -12,7 +12,7 @@ use Rattle.block_plan.specs.Planned.{PlannedBlock, Residue, Residues, residues_i
 use Rattle.block_plan.specs.declared.block.BlockInfo.{BlockInfo}
 use Rattle.counting_reader.specs.Counting.{Yields, settle, through}
 use Rattle.counting_reader.proofs.Yields.{yields_bind, yields_map}
-use Rattle.residue_syntax.specs.Residues.{ReadPlane, planned, read_block, read_in_plane, read_next, read_plane, read_residue, read_skipped}
+use Rattle.residue_syntax.specs.Residues.{ReadPlane, planned, block_residue, read_in_plane, read_next, read_plane, read_residue, read_skipped}
 use Rattle.residue_syntax.specs.Sides.{Sides}
 use Rattle.residue_syntax.specs.declared.in_plane.BlockInPlane.{BlockInPlane}
 use Rattle.residue_syntax.specs.declared.sides.TileSides.{TileSides}
@@ -63,8 +63,8 @@ plane_places : (header : Header) (contexts : ContextLists) (b : BlockInfo) (plan
 plane_places header contexts b plane s = in_plane_places contexts b.skip _ (places_in (shape_of header) b plane) s
 
 pub block_places : (header : Header) (contexts : ContextLists) (tile_from : ℕ) (b : BlockInfo) (s : TileSides)
-    → Yields (read_block header contexts tile_from b s) (λ r. IsPlannedOf header tile_from b r.0)
-unfolding read_block settle
+    → Yields (block_residue header contexts tile_from b s) (λ r. IsPlannedOf header tile_from b r.0)
+unfolding block_residue settle
 block_places header contexts tile_from b s =
     yields_bind (read_plane header contexts b Y s.y) _ (λ t. places t.residues ≡ places_in (shape_of header) b Y) _ (plane_places header contexts b Y s.y)
     (λ y at_y. yields_bind (read_plane header contexts b U s.u) _ (λ t. places t.residues ≡ places_in (shape_of header) b U) _ (plane_places header contexts b U s.u)

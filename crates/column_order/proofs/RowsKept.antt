@@ -10,7 +10,7 @@ use Rattle.counting_reader.specs.Counting.{Yields, settle}
 use Rattle.counting_reader.proofs.Yields.{yields_bind, yields_all}
 use Rattle.mode_syntax.specs.Partitions.{partition_at}
 use Rattle.mode_syntax.specs.Laws.{square_at, decode_square, square_parts, decode_row, decode_rows, squares_from}
-use Rattle.mode_syntax.specs.Walk.{Walk, block_at, starts_inside, block_inside, smallest_parts, parts, decode_at_level, decode_tile}
+use Rattle.mode_syntax.specs.Walk.{TileWalk, block_at, starts_inside, block_inside, smallest_parts, parts, decode_at_level, decode_tile}
 use Rattle.mode_syntax.proofs.RowByRow.{tile_is}
 use Rattle.mode_syntax.proofs.SquareParts.{rows_are, columns_are, quarters_are}
 use Rattle.mode_syntax.proofs.Mapped.{starts_so, twice, narrow, half, smallest}
@@ -18,7 +18,7 @@ use Rattle.block_rebuild.specs.Strips.{Region}
 use Rattle.column_order.proofs.Heights.{low, half_low, smallest_low}
 
 -- so many places from a row and a column on lie in a region, and begin in the frame
-pub record LiesIn {S : Type 0} (walk : Walk S) (w : Region) (r c high wide : ℕ) : Type 0 where
+pub record LiesIn {S : Type 0} (walk : TileWalk S) (w : Region) (r c high wide : ℕ) : Type 0 where
   pub left : w.left ≤ c
   pub right : c + wide ≤ w.right
   pub top : w.top ≤ r
@@ -27,13 +27,13 @@ pub record LiesIn {S : Type 0} (walk : Walk S) (w : Region) (r c high wide : ℕ
   pub column : c < walk.frame.cols
 
 -- what each block of a walk in a region keeps
-pub record EachKeeps {S : Type 0} (walk : Walk S) (P : S → Type 0) (w : Region) : Type 0 where
+pub record EachKeeps {S : Type 0} (walk : TileWalk S) (P : S → Type 0) (w : Region) : Type 0 where
   pub kept : (r c : ℕ) (size : BlockSize) (s : S) → LiesIn walk w r c (height_8 size) (width_8 size) → P s → Yields (walk.block (block_at walk r c size) s) P
 
-row_starts : {S : Type 0} (walk : Walk S) (r c : ℕ) → starts_inside walk r c ≡ true → r < walk.frame.rows
+row_starts : {S : Type 0} (walk : TileWalk S) (r c : ℕ) → starts_inside walk r c ≡ true → r < walk.frame.rows
 row_starts walk r c h = ltb-true r walk.frame.rows (and_parts _ _ h).0
 
-module _ {S : Type 0} (walk : Walk S) (P : S → Type 0) (w : Region) (keeps : EachKeeps walk P w) where
+module _ {S : Type 0} (walk : TileWalk S) (P : S → Type 0) (w : Region) (keeps : EachKeeps walk P w) where
   inside_kept : (r c : ℕ) (size : BlockSize) (s : S) → w.left ≤ c → c + width_8 size ≤ w.right → w.top ≤ r → r + height_8 size ≤ w.bottom → P s → Yields (block_inside walk r c size s) P
   unfolding block_inside settle
   inside_kept r c size s left right top bottom p = elim (cases_Bool (starts_inside walk r c)) [
@@ -126,7 +126,7 @@ module _ {S : Type 0} (walk : Walk S) (P : S → Type 0) (w : Region) (keeps : E
       (λ t p. row_kept r (c + 8) n t (omega (arith, left)) (omega (arith, right)) top bottom p)
 
 -- P q is what holds behind q rows of superblocks of the frame
-module _ {S : Type 0} (walk : Walk S) (P : ℕ → S → Type 0) (left right : ℕ) (wider : (q : ℕ) (s : S) → P q s → P (q + 1) s)
+module _ {S : Type 0} (walk : TileWalk S) (P : ℕ → S → Type 0) (left right : ℕ) (wider : (q : ℕ) (s : S) → P q s → P (q + 1) s)
     (keeps : (q r : ℕ) → (r < walk.frame.rows → r ≡ 8 * q) → EachKeeps walk (P (q + 1)) (record { left = left; right = right; top = r; bottom = r + 8 })) where
   rows_kept : (columns r c n q : ℕ) (s : S) → left ≤ c → c + 8 * columns ≤ right → (r < walk.frame.rows → r ≡ 8 * q) → P q s → Yields (decode_rows walk columns r c n s) (P (q + n))
   unfolding decode_rows settle

@@ -18,7 +18,7 @@ use Rattle.block_plan.specs.declared.block.BlockInfo.{BlockInfo}
 use Rattle.counting_reader.specs.Counting.{Yields, lifted, settle}
 use Rattle.counting_reader.proofs.Yields.{yields_bind}
 use Rattle.mode_syntax.specs.IntraModeInfo.{intra_frame_mode_info, mode_info_beside}
-use Rattle.inter_modes.specs.ModeInfo.{BlockSources, InterFrame, by_kind, inter_block, inter_frame, inter_frame_block, inter_frame_mode_info, intra_block, intra_frame_block, mode_info}
+use Rattle.inter_modes.specs.ModeInfo.{BlockSources, InterFrame, by_kind, inter_block, inter_frame, inter_frame_block, inter_frame_mode_info, intra_coded_block, intra_frame_block, mode_info}
 use Rattle.inter_modes.specs.BlockStarts.{block_start, tx_size}
 use Rattle.inter_modes.specs.BlockVectors.{Sources, carried, ◌>>?◌}
 use Rattle.inter_modes.specs.declared.starts.BlockStart.{BlockStart}
@@ -75,8 +75,8 @@ unfolding inter_block settle
 inter_stands f s above left start fits =
     goes_on _ _ (StandsAt s.search.at) (λ refs. goes_on _ _ (StandsAt s.search.at) (λ p. record { row = refl; col = refl; size = refl; fits = fits }))
 
-intra_stands : (f : InterFrame) (at : BlockAt) (start : BlockStart) → Fits at.size start.tx → Yields (intra_block f at start) (Tells at)
-unfolding intra_block settle
+intra_stands : (f : InterFrame) (at : BlockAt) (start : BlockStart) → Fits at.size start.tx → Yields (intra_coded_block f at start) (Tells at)
+unfolding intra_coded_block settle
 intra_stands f at start fits = any_bind _ _ _ (λ p. record { row = refl; col = refl; size = refl; fits = fits })
 
 inter_beside : (f : InterFrame) (s : Sources) (above left : Option BlockInfo) (least : ℕ) → Yields (inter_frame_block f s above left least) (Tells s.search.at)

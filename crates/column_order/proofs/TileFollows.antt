@@ -16,10 +16,10 @@ use Rattle.residue_syntax.specs.Residues as residues
 use Rattle.counting_reader.specs.Counting.{Yields, lifted, settle}
 use Rattle.counting_reader.proofs.Yields.{yields_bind, yields_map}
 use Rattle.inter_modes.specs.ModeInfo.{mode_info}
-use Rattle.mode_syntax.specs.Walk.{Walk, block_at}
+use Rattle.mode_syntax.specs.Walk.{TileWalk, block_at}
 use Rattle.frame_state.specs.FrameReading.{Column, TileRead, begun, column_after, infos, read_block, read_tile, read_walk}
 use Rattle.frame_state.specs.Sources.{block_sources, FrameSources}
-use Rattle.frame_state.specs.TilePlaces.{column_of, row_of, superblocks_before, tile_offset, tile_places}
+use Rattle.frame_state.specs.TilePlaces.{column_of, tile_row_of, superblocks_before, tile_offset, tile_places}
 use Rattle.frame_state.specs.declared.tile_places.TilePlaces.{TilePlaces}
 use Rattle.frame_state.proofs.TileOffsets.{before_grows, tile_is_low}
 use Rattle.column_order.specs.ColumnStrips.{column_from, column_to}
@@ -50,7 +50,7 @@ stand_more shape from to q blocks b h read inside at = record {
 
 -- the block that is read at a place of a row of superblocks
 module _ (by : FrameSources) (tile : TilePlaces) (to q top : ℕ) where
-  abbrev walk : Walk TileRead
+  abbrev walk : TileWalk TileRead
   walk = read_walk by (places_of (shape_of by.header)) tile
 
   abbrev window : Region
@@ -74,7 +74,7 @@ module _ (by : FrameSources) (tile : TilePlaces) (to q top : ℕ) where
       yields_bind (mode_info (block_sources by) (infos (all_blocks s)) at) _ (Tells at) _
       (info_stands (block_sources by) (infos (all_blocks s)) at)
       (λ told tells. yields_bind (lifted told) _ (StandsAt at) _ (lifted_stands at told tells)
-      (λ info stands. yields_bind (residues.read_block by.header by.contexts at.tile_from info s.sides) _ (λ r. IsPlannedOf by.header at.tile_from info r.0) _
+      (λ info stands. yields_bind (residues.block_residue by.header by.contexts at.tile_from info s.sides) _ (λ r. IsPlannedOf by.header at.tile_from info r.0) _
       (block_places by.header by.contexts at.tile_from info s.sides)
       (λ read is. added at info read.0 s from aligned lies has stands is)))
 
@@ -99,10 +99,10 @@ tile_stands by tile to q c wide aligned has =
 
 -- how many rows of superblocks lie before the n-th tile, and before those below it
 abbrev pub rows_before : Header → ℕ → ℕ
-rows_before header n = superblocks_before (mi_rows (shape_of header)) header.params.tiles.rows_log2 (row_of header.params.tiles n)
+rows_before header n = superblocks_before (mi_rows (shape_of header)) header.params.tiles.rows_log2 (tile_row_of header.params.tiles n)
 
 abbrev pub rows_behind : Header → ℕ → ℕ
-rows_behind header n = superblocks_before (mi_rows (shape_of header)) header.params.tiles.rows_log2 (row_of header.params.tiles n + 1)
+rows_behind header n = superblocks_before (mi_rows (shape_of header)) header.params.tiles.rows_log2 (tile_row_of header.params.tiles n + 1)
 
 in_rows : (rows a : ℕ) → min (8 * a) rows < rows → min (8 * a) rows ≡ 8 * a
 in_rows rows a low = omega (arith, low)
@@ -116,7 +116,7 @@ own_tile by n c has =
     let h = by.header in
     let rows = mi_rows (shape_of h) in
     let log2 = h.params.tiles.rows_log2 in
-    let i = row_of h.params.tiles n in
+    let i = tile_row_of h.params.tiles n in
     let from = column_from h (column_of h.params.tiles n) in
     let to = column_to h (column_of h.params.tiles n) in
     let grows = before_grows rows log2 i (i + 1) (omega arith) in

@@ -13,7 +13,7 @@ use Rattle.frame_headers.specs.Quantizer.{is_lossless}
 use Rattle.bool_decoder.specs.Bools.{run_bools}
 use Rattle.bool_decoder.specs.Window.{Window, started}
 use Rattle.prob_contexts.specs.declared.contexts.Contexts.{Contexts}
-use Rattle.compressed_header.specs.Updates.{Table}
+use Rattle.compressed_header.specs.Updates.{UpdateTable}
 use Rattle.prob_contexts.specs.ProbLists.{ContextLists, lists_of}
 use Rattle.compressed_header.specs.HeaderModes.{read_tx_mode}
 use Rattle.compressed_header.specs.TransformProbs.{tx_probs_of, read_coef_probs, read_skip_prob}
@@ -21,7 +21,7 @@ use Rattle.compressed_header.specs.ReferenceProbs.{inter_probs, read_partition_p
 use Rattle.compressed_header.specs.VectorProbs.{mv_probs}
 
 -- what inter frames have besides
-unfoldable pub inter_part : InterFields → ContextLists → Table (ContextLists × ReferenceMode)
+unfoldable pub inter_part : InterFields → ContextLists → UpdateTable (ContextLists × ReferenceMode)
 inter_part fields old = do
   inter ← inter_probs fields old.inter
   partitions ← read_partition_probs old.partitions
@@ -29,13 +29,13 @@ inter_part fields old = do
   done (record old { inter = inter.0; partitions = partitions; vectors = vectors }, inter.1)
 
 -- intra frames have no more than what all frames have
-unfoldable pub kind_part : FrameKind → ContextLists → Table (ContextLists × ReferenceMode)
+unfoldable pub kind_part : FrameKind → ContextLists → UpdateTable (ContextLists × ReferenceMode)
 kind_part Key old = done (old, Single)
 kind_part IntraOnly old = done (old, Single)
 kind_part (Inter fields) old = inter_part fields old
 
 -- 6.3
-unfoldable pub compressed_header : Header → ContextLists → Table (ContextLists × Modes)
+unfoldable pub compressed_header : Header → ContextLists → UpdateTable (ContextLists × Modes)
 compressed_header header before = do
   tx_mode ← read_tx_mode (is_lossless header.params.quantizer)
   tx ← tx_probs_of tx_mode before.tx
@@ -49,7 +49,7 @@ abbrev pub settled : {A : Type 0} → Result (A × Window) Rule → Result A Rul
 settled (Ok p) = Ok p.0
 settled (Err rule) = Err rule
 
-abbrev pub read_from : {A : Type 0} → Table A → Result Window Rule → Result A Rule
+abbrev pub read_from : {A : Type 0} → UpdateTable A → Result Window Rule → Result A Rule
 read_from s (Ok w) = settled (run_bools s w)
 read_from s (Err rule) = Err rule
 

@@ -8,14 +8,14 @@ use Rattle.vp9_types.specs.Syntax.{done, ◌>>=◌}
 use Rattle.bool_decoder.specs.Bools.{literal}
 use Rattle.frame_headers.specs.declared.header.References.{References}
 use Rattle.frame_headers.specs.References.{same_bit}
-use Rattle.compressed_header.specs.Updates.{Table}
+use Rattle.compressed_header.specs.Updates.{UpdateTable}
 
 abbrev pub tx_mode_of : ℕ → TxMode
 tx_mode_of code =
     if code == 0 then Only4x4 else (if code == 1 then UpTo8x8 else (if code == 2 then UpTo16x16 else (if code == 3 then UpTo32x32 else Selected)))
 
 -- 6.3.1
-unfoldable pub read_tx_mode : Bool → Table TxMode
+unfoldable pub read_tx_mode : Bool → UpdateTable TxMode
 read_tx_mode true = done Only4x4
 read_tx_mode false = do
   code ← literal 2
@@ -27,7 +27,7 @@ is_compound_allowed refs =
     not (same_bit refs.golden.sign_bias refs.last.sign_bias) || not (same_bit refs.altref.sign_bias refs.last.sign_bias)
 
 -- 6.3.12, where compound prediction is allowed or not
-unfoldable pub frame_reference_mode : Bool → Table ReferenceMode
+unfoldable pub frame_reference_mode : Bool → UpdateTable ReferenceMode
 frame_reference_mode true = do
   non_single ← literal 1
   if non_single == 0 then done mode.Single else do

@@ -7,8 +7,8 @@ use Rattle.vp9_tables.specs.declared.data.coefficients.TheConstants.{INV_MAP}
 use Rattle.bool_decoder.specs.Bools.{flag, literal, difference}
 
 -- a syntax table of the compressed header
-abbrev pub Table : Type 0 → Type 0
-Table A = Syntax ℕ Rule A
+abbrev pub UpdateTable : Type 0 → Type 0
+UpdateTable A = Syntax ℕ Rule A
 
 -- inv_recenter_nonneg (6.3.6): odd numbers stand below m and even ones above it, as far as both sides reach; greater ones
 -- stand for themselves
@@ -23,24 +23,24 @@ remapped number prob =
     if nat_le (2 * m) 255 then 1 + recentred v m else 255 - recentred v (254 - m)
 
 -- 6.3.3
-unfoldable pub diff_update_prob : ℕ → Table ℕ
+unfoldable pub diff_update_prob : ℕ → UpdateTable ℕ
 diff_update_prob prob = do
   update ← flag 252
   if update then (difference >>= λ number. done (remapped number prob)) else done prob
 
 -- 6.3.17
-unfoldable pub update_mv_prob : ℕ → Table ℕ
+unfoldable pub update_mv_prob : ℕ → UpdateTable ℕ
 update_mv_prob prob = do
   update ← flag 252
   if update then (literal 7 >>= λ v. done (2 * v + 1)) else done prob
 
 -- all probabilities of a list, where the header has updates for them
-unfoldable pub updates_if : Bool → List ℕ → Table (List ℕ)
+unfoldable pub updates_if : Bool → List ℕ → UpdateTable (List ℕ)
 updates_if true probs = each diff_update_prob probs
 updates_if false probs = done probs
 
 -- n probabilities of vectors, from a place on
-unfoldable pub mv_updates : ℕ → ℕ → List ℕ → Table (List ℕ)
+unfoldable pub mv_updates : ℕ → ℕ → List ℕ → UpdateTable (List ℕ)
 mv_updates from n probs = do
   updated ← each update_mv_prob (take n (drop from probs))
   done (take from probs ++ (updated ++ drop n (drop from probs)))

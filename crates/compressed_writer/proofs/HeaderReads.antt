@@ -15,7 +15,7 @@ use Rattle.compressed_header.specs.CompressedHeader.{inter_part, kind_part, comp
 use Rattle.compressed_header.specs.HeaderModes.{read_tx_mode}
 use Rattle.compressed_header.specs.ReferenceProbs.{inter_probs, read_partition_probs}
 use Rattle.compressed_header.specs.TransformProbs.{tx_probs_of, read_coef_probs, read_skip_prob}
-use Rattle.compressed_header.specs.Updates.{Table}
+use Rattle.compressed_header.specs.Updates.{UpdateTable}
 use Rattle.compressed_header.specs.VectorProbs.{mv_probs}
 use Rattle.compressed_writer.specs.CodedUpdates.{AreCoefUpdates, IsKindUpdate, CanForward}
 use Rattle.compressed_writer.proofs.Settles.{Settles, settles_bind, read_settles}
@@ -76,7 +76,7 @@ header_read header before new h =
       uv_modes = kind.uv_modes;
     })
 
-read_by : {A : Type 0} (s : Table A) (start : Result Window Rule) (x : A) → read_from s start ≡ Ok x → Settles s x
+read_by : {A : Type 0} (s : UpdateTable A) (start : Result Window Rule) (x : A) → read_from s start ≡ Ok x → Settles s x
 read_by s (Ok w) x h = read_settles s w x h
 read_by s (Err rule) x h =
     let f : ⊥ = cc in

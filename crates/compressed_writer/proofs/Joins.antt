@@ -4,7 +4,7 @@ use Rattle.std.proofs.Math.Seq.{drop-append_seam, take-append_seam, take-add}
 use Rattle.std.proofs.lemmas.List.{append-nil, take_all, drop_all, drop-drop, get_or-take, get_or-drop, length-take, length-take-le, length-drop}
 use Rattle.vp9_types.specs.Syntax.{done}
 use Rattle.vp9_types.specs.Each.{each}
-use Rattle.bool_encoder.specs.Part.{Part}
+use Rattle.bool_encoder.specs.Part.{NumberPart}
 use Rattle.bool_encoder.specs.WrittenBools.{Puts}
 use Rattle.compressed_header.specs.Updates.{update_mv_prob, mv_updates}
 use Rattle.compressed_writer.specs.Code.{new_of}
@@ -30,7 +30,7 @@ joined_more from n old new low =
     ∙ sym (append_assoc (take from new) (take n (drop from new)) (drop (from + n) old))
     ∙ ap (λ xs. xs ++ drop (from + n) old) (sym (take-add from n new))
 
-joined_put : (from n k : ℕ) (old new : List ℕ) (now next : Part) → k ≡ n → from + n ≤ length new
+joined_put : (from n k : ℕ) (old new : List ℕ) (now next : NumberPart) → k ≡ n → from + n ≤ length new
     → Puts (each update_mv_prob (take k (drop from old))) now (take k (drop from new)) next
     → Puts (mv_updates from n (take from new ++ drop from old)) now (take (from + n) new ++ drop (from + n) old) next
 unfolding mv_updates
@@ -48,7 +48,7 @@ joined_all : (at : ℕ) (old new : List ℕ) → length new ≤ at → length ol
 joined_all at old new all end =
     ap (λ xs. xs ++ drop at old) (take_all at new all) ∙ ap (λ ys. new ++ ys) (drop_all at old end) ∙ append-nil new
 
-pub component_put : (i from n k : ℕ) (old new : List ℕ) (now next : Part) → i ≤ 1 → from ≡ n * i → k ≡ n → length old ≡ 2 * n → length new ≡ 2 * n
+pub component_put : (i from n k : ℕ) (old new : List ℕ) (now next : NumberPart) → i ≤ 1 → from ≡ n * i → k ≡ n → length old ≡ 2 * n → length new ≡ 2 * n
     → Puts (each update_mv_prob (take k (drop from old))) now (take k (drop from new)) next
     → Puts (mv_updates from n (new_of i n old new)) now (new_of (i + 1) n old new) next
 component_put zero from n k old new now next few place e o l h =

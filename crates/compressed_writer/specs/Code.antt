@@ -1,14 +1,14 @@
 -- What the code has put so far.
 use Rattle.std.specs.Prelude.{ℕ, zero, suc, List, ◌++◌, take, drop}
 use Rattle.vp9_types.specs.Each.{each}
-use Rattle.bool_encoder.specs.Part.{Part}
+use Rattle.bool_encoder.specs.Part.{NumberPart}
 use Rattle.bool_encoder.specs.WrittenBools.{Puts}
-use Rattle.compressed_header.specs.Updates.{Table}
+use Rattle.compressed_header.specs.Updates.{UpdateTable}
 use Rattle.prob_contexts.specs.ProbLists.{ContextLists, InterLists, VectorLists}
 
 -- the elements of the back are still to be put
-abbrev pub EachLeft : {A B : Type 0} → (A → Table B) → List A → Part → List B → List A → Part → Type 0
-EachLeft {B = B} s xs old front back now = (ys : List B) (new : Part) → Puts (each s back) now ys new → Puts (each s xs) old (front ++ ys) new
+abbrev pub EachLeft : {A B : Type 0} → (A → UpdateTable B) → List A → NumberPart → List B → List A → NumberPart → Type 0
+EachLeft {B = B} s xs old front back now = (ys : List B) (new : NumberPart) → Puts (each s back) now ys new → Puts (each s xs) old (front ++ ys) new
 
 -- a list of n probabilities for each of two components, of which none, the first or both are new
 abbrev pub new_of : ℕ → ℕ → List ℕ → List ℕ → List ℕ

@@ -23,8 +23,8 @@ use Rattle.compressed_header.specs.TransformProbs.{allows}
 ---- Updates ----
 
 -- what stands for n around m (6.3.6, in the other direction)
-unfoldable pub around : ℕ → ℕ → ℕ
-around n m = if nat_lt (2 * m) n then n else (if nat_lt n m then 2 * (m - n) - 1 else 2 * (n - m))
+unfoldable pub place_around : ℕ → ℕ → ℕ
+place_around n m = if nat_lt (2 * m) n then n else (if nat_lt n m then 2 * (m - n) - 1 else 2 * (n - m))
 
 -- where the map of 6.3.5 has v: 20 numbers, 13 apart, stand first, and the others behind them in order
 unfoldable pub place_in_map : ℕ → ℕ
@@ -34,7 +34,7 @@ place_in_map v = if nat_eq (v % 13) 7 then v / 13 else 19 + v - (v + 5) / 13
 unfoldable pub difference_to : ℕ → ℕ → ℕ
 difference_to new old =
     let m = old - 1 in
-    if nat_le m 127 then place_in_map (around (new - 1) m) else place_in_map (around (255 - new) (254 - m))
+    if nat_le m 127 then place_in_map (place_around (new - 1) m) else place_in_map (place_around (255 - new) (254 - m))
 
 -- 6.3.3
 unfoldable pub spelled_update : ℕ → ℕ → BoolList
@@ -91,15 +91,15 @@ abbrev pub are_changed : List ℕ → List ℕ → Bool
 are_changed olds news = not (pointwise nat_eq olds news)
 
 -- the coefficients of a size, if the mode allows it
-unfoldable pub spelled_size : Bool → List ℕ → List ℕ → BoolList
-spelled_size false olds news = []
-spelled_size true olds news = number_bools 1 (flag_number (are_changed olds news)) ++ spelled_updates_if (are_changed olds news) olds news
+unfoldable pub spelled_size_updates : Bool → List ℕ → List ℕ → BoolList
+spelled_size_updates false olds news = []
+spelled_size_updates true olds news = number_bools 1 (flag_number (are_changed olds news)) ++ spelled_updates_if (are_changed olds news) olds news
 
 -- 6.3.7
 unfoldable pub spelled_coefficients : TxMode → CoefLists → CoefLists → BoolList
 spelled_coefficients mode old new =
-    spelled_size (allows mode T4x4) old.of_4x4 new.of_4x4 ++ spelled_size (allows mode T8x8) old.of_8x8 new.of_8x8
-    ++ spelled_size (allows mode T16x16) old.of_16x16 new.of_16x16 ++ spelled_size (allows mode T32x32) old.of_32x32 new.of_32x32
+    spelled_size_updates (allows mode T4x4) old.of_4x4 new.of_4x4 ++ spelled_size_updates (allows mode T8x8) old.of_8x8 new.of_8x8
+    ++ spelled_size_updates (allows mode T16x16) old.of_16x16 new.of_16x16 ++ spelled_size_updates (allows mode T32x32) old.of_32x32 new.of_32x32
 
 ---- Inter frames ----
 
@@ -118,37 +118,37 @@ spelled_inter_probs fields mode old new =
     ++ spelled_reference_probs mode old new ++ spelled_updates old.y_modes new.y_modes
 
 -- n probabilities of vectors, from a place on
-unfoldable pub spelled_from : ℕ → ℕ → List ℕ → List ℕ → BoolList
-spelled_from from n olds news = spelled_vector_updates (take n (drop from olds)) (take n (drop from news))
+unfoldable pub spelled_updates_from : ℕ → ℕ → List ℕ → List ℕ → BoolList
+spelled_updates_from from n olds news = spelled_vector_updates (take n (drop from olds)) (take n (drop from news))
 
 -- sign, classes, class0 and bits of a component
-unfoldable pub spelled_component : ℕ → VectorLists → VectorLists → BoolList
-spelled_component i old new =
-    spelled_from i 1 old.signs new.signs ++ spelled_from (10 * i) 10 old.classes new.classes
-    ++ spelled_from i 1 old.class0 new.class0 ++ spelled_from (10 * i) 10 old.bits new.bits
+unfoldable pub spelled_component_updates : ℕ → VectorLists → VectorLists → BoolList
+spelled_component_updates i old new =
+    spelled_updates_from i 1 old.signs new.signs ++ spelled_updates_from (10 * i) 10 old.classes new.classes
+    ++ spelled_updates_from i 1 old.class0 new.class0 ++ spelled_updates_from (10 * i) 10 old.bits new.bits
 
 unfoldable pub spelled_fractions : ℕ → VectorLists → VectorLists → BoolList
-spelled_fractions i old new = spelled_from (6 * i) 6 old.class0_fractions new.class0_fractions ++ spelled_from (3 * i) 3 old.fractions new.fractions
+spelled_fractions i old new = spelled_updates_from (6 * i) 6 old.class0_fractions new.class0_fractions ++ spelled_updates_from (3 * i) 3 old.fractions new.fractions
 
-unfoldable pub spelled_high : ℕ → VectorLists → VectorLists → BoolList
-spelled_high i old new = spelled_from i 1 old.class0_high new.class0_high ++ spelled_from i 1 old.high new.high
+unfoldable pub spelled_high_updates : ℕ → VectorLists → VectorLists → BoolList
+spelled_high_updates i old new = spelled_updates_from i 1 old.class0_high new.class0_high ++ spelled_updates_from i 1 old.high new.high
 
 -- the last bit of vectors, where the frame has it
 unfoldable pub spelled_precise : Bool → VectorLists → VectorLists → BoolList
 spelled_precise false old new = []
-spelled_precise true old new = spelled_high 0 old new ++ spelled_high 1 old new
+spelled_precise true old new = spelled_high_updates 0 old new ++ spelled_high_updates 1 old new
 
 -- 6.3.16
-unfoldable pub spelled_vectors : Bool → VectorLists → VectorLists → BoolList
-spelled_vectors precise old new =
-    spelled_vector_updates old.joints new.joints ++ spelled_component 0 old new ++ spelled_component 1 old new
+unfoldable pub spelled_vector_lists : Bool → VectorLists → VectorLists → BoolList
+spelled_vector_lists precise old new =
+    spelled_vector_updates old.joints new.joints ++ spelled_component_updates 0 old new ++ spelled_component_updates 1 old new
     ++ spelled_fractions 0 old new ++ spelled_fractions 1 old new ++ spelled_precise precise old new
 
 ---- The whole header ----
 
 unfoldable pub spelled_inter_part : InterFields → ReferenceMode → ContextLists → ContextLists → BoolList
 spelled_inter_part fields mode old new =
-    spelled_inter_probs fields mode old.inter new.inter ++ spelled_updates old.partitions new.partitions ++ spelled_vectors fields.high_precision old.vectors new.vectors
+    spelled_inter_probs fields mode old.inter new.inter ++ spelled_updates old.partitions new.partitions ++ spelled_vector_lists fields.high_precision old.vectors new.vectors
 
 -- intra frames have no more than what all frames have
 unfoldable pub spelled_kind : FrameKind → ReferenceMode → ContextLists → ContextLists → BoolList

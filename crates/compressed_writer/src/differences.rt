@@ -3,16 +3,16 @@
 ghost use Rattle.std.specs.Prelude.{◌≡◌, ◌≢◌, ◌≤◌, slice_index};
 ghost use Rattle.vp9_tables.specs.declared.data.coefficients.TheConstants.{INV_MAP};
 ghost use Rattle.compressed_header.specs.Updates.{recentred, remapped};
-ghost use Rattle.compressed_writer.specs.Spelling.{around, difference_to, place_in_map};
+ghost use Rattle.compressed_writer.specs.Spelling.{place_around, difference_to, place_in_map};
 
 /// What stands for `n` around `m`.
-#[tactic(auto, unfolding(compressed_header::specs::Updates::recentred, crate::specs::Spelling::around))]
-fn around(n: u8, m: u8) -> u8
+#[tactic(auto, unfolding(compressed_header::specs::Updates::recentred, crate::specs::Spelling::place_around))]
+fn place_around(n: u8, m: u8) -> u8
     requires number { n ≤ 254 }
     requires middle { m ≤ 127 }
     requires other { n ≢ m }
     ensures is { recentred result m ≡ n }
-    ensures spells { result ≡ around n m }
+    ensures spells { result ≡ place_around n m }
     ensures least { 1 ≤ result }
     ensures most { result ≤ 254 }
 {
@@ -54,8 +54,8 @@ pub fn difference_to(new: u8, old: u8) -> u8
 {
     let m = old - 1;
     if m <= 127 {
-        place_in_map(around(new - 1, m))
+        place_in_map(place_around(new - 1, m))
     } else {
-        place_in_map(around(255 - new, 254 - m))
+        place_in_map(place_around(255 - new, 254 - m))
     }
 }

@@ -4,7 +4,7 @@ ghost use Rattle.std.specs.Prelude.{◌≡◌, ◌≤◌, IfOk, length, false};
 ghost use Rattle.std.specs.List.{All};
 ghost use Rattle.bool_encoder.specs.WrittenBools.{Puts};
 ghost use Rattle.bool_lists.specs.BoolLists.{HasPut};
-ghost use Rattle.compressed_writer.specs.Spelling.{are_changed, spelled_coefficients, spelled_size, spelled_tx_probs, spelled_tx_updates};
+ghost use Rattle.compressed_writer.specs.Spelling.{are_changed, spelled_coefficients, spelled_size_updates, spelled_tx_probs, spelled_tx_updates};
 ghost use Rattle.prob_contexts.specs.ProbLists.{tx_lists, coef_lists};
 ghost use Rattle.compressed_header.specs.TransformProbs.{tx_mode_probs, tx_probs_of, size_coef_probs, allows, read_coef_probs};
 ghost use Rattle.compressed_writer.specs.CodedUpdates.{AreTxUpdates, AreCoefUpdates};
@@ -62,7 +62,7 @@ fn changes(before: &[u8], after: &[u8]) -> bool
     before != after
 }
 
-#[tactic(auto, unfolding(crate::specs::Spelling::spelled_size, compressed_header::specs::TransformProbs::size_coef_probs), using(bool_lists::proofs::Ways::spells_on, bool_lists::proofs::Ways::literal_way, bool_lists::proofs::Ways::flag_way, bool_lists::proofs::Ways::spells_none, vp9_types::proofs::Binds::writes_bind))]
+#[tactic(auto, unfolding(crate::specs::Spelling::spelled_size_updates, compressed_header::specs::TransformProbs::size_coef_probs), using(bool_lists::proofs::Ways::spells_on, bool_lists::proofs::Ways::literal_way, bool_lists::proofs::Ways::flag_way, bool_lists::proofs::Ways::spells_none, vp9_types::proofs::Binds::writes_bind))]
 fn put_size(
     encoder: &mut BoolEncoder,
     allowed: bool,
@@ -74,7 +74,7 @@ fn put_size(
     requires new { All (λ p. 1 ≤ p) after.now }
     requires kept { allowed ≡ false → after.now ≡ before.now }
     ensures puts { IfOk result (λ _. Puts (size_coef_probs allowed before.now) encoder.old after.now encoder.new) }
-    ensures spells { IfOk result (λ _. HasPut encoder.old (spelled_size allowed before.now after.now) encoder.new) }
+    ensures spells { IfOk result (λ _. HasPut encoder.old (spelled_size_updates allowed before.now after.now) encoder.new) }
 {
     if !allowed {
         return Ok(());

@@ -5,7 +5,7 @@ ghost use Rattle.std.specs.List.{All};
 ghost use Rattle.vp9_types.specs.Each.{each};
 ghost use Rattle.bool_encoder.specs.WrittenBools.{Puts};
 ghost use Rattle.bool_lists.specs.BoolLists.{HasPut};
-ghost use Rattle.compressed_writer.specs.Spelling.{spelled_from, spelled_update, spelled_updates, spelled_updates_if, spelled_vector_update, spelled_vector_updates};
+ghost use Rattle.compressed_writer.specs.Spelling.{spelled_updates_from, spelled_update, spelled_updates, spelled_updates_if, spelled_vector_update, spelled_vector_updates};
 ghost use Rattle.compressed_header.specs.Updates.{diff_update_prob, update_mv_prob, updates_if, mv_updates};
 ghost use Rattle.compressed_writer.specs.Code.{new_of};
 ghost use Rattle.compressed_writer.specs.CodedUpdates.{IsOddUpdate, AreOddUpdates};
@@ -109,7 +109,7 @@ pub fn put_component_updates(
     requires new_size { length after.now ≡ 2 * n }
     requires odd { AreOddUpdates before.now after.now }
     ensures puts { IfOk result (λ _. Puts (mv_updates from n (new_of i n before.now after.now)) encoder.old (new_of (i + 1) n before.now after.now) encoder.new) }
-    ensures spells { IfOk result (λ _. HasPut encoder.old (spelled_from from n before.now after.now) encoder.new) }
+    ensures spells { IfOk result (λ _. HasPut encoder.old (spelled_updates_from from n before.now after.now) encoder.new) }
 {
     put_vector_updates(encoder, &before[from..from + n], &after[from..from + n])?;
     Ok(())

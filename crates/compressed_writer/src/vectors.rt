@@ -3,7 +3,7 @@
 ghost use Rattle.std.specs.Prelude.{◌≡◌, ◌+◌, ◌≤◌, IfOk, false};
 ghost use Rattle.bool_encoder.specs.WrittenBools.{Puts};
 ghost use Rattle.bool_lists.specs.BoolLists.{HasPut};
-ghost use Rattle.compressed_writer.specs.Spelling.{spelled_component, spelled_fractions, spelled_high, spelled_precise, spelled_vector_updates, spelled_vectors};
+ghost use Rattle.compressed_writer.specs.Spelling.{spelled_component_updates, spelled_fractions, spelled_high_updates, spelled_precise, spelled_vector_updates, spelled_vector_lists};
 ghost use Rattle.prob_contexts.specs.ProbLists.{vector_lists};
 ghost use Rattle.compressed_header.specs.VectorProbs.{joint_probs, component_probs, fraction_probs, high_precision_probs, precise_probs, mv_probs};
 ghost use Rattle.compressed_writer.specs.Code.{vectors_at};
@@ -28,7 +28,7 @@ fn put_joints(
     put_vector_updates(encoder, &before.joints, &after.joints)
 }
 
-#[tactic(auto, unfolding(crate::specs::Spelling::spelled_component, compressed_header::specs::VectorProbs::component_probs), using(bool_lists::proofs::Ways::spells_on, vp9_types::proofs::Binds::writes_bind))]
+#[tactic(auto, unfolding(crate::specs::Spelling::spelled_component_updates, compressed_header::specs::VectorProbs::component_probs), using(bool_lists::proofs::Ways::spells_on, vp9_types::proofs::Binds::writes_bind))]
 fn put_component(
     encoder: &mut BoolEncoder,
     i: usize,
@@ -39,7 +39,7 @@ fn put_component(
     requires can { HasOddUpdates (vector_lists before.now) (vector_lists after.now) }
     ensures puts { IfOk result (λ _. Puts (component_probs i (vectors_at i 0 0 (vector_lists before.now) (vector_lists after.now))) encoder.old
         (vectors_at (i + 1) 0 0 (vector_lists before.now) (vector_lists after.now)) encoder.new) }
-    ensures spells { IfOk result (λ _. HasPut encoder.old (spelled_component i (vector_lists before.now) (vector_lists after.now)) encoder.new) }
+    ensures spells { IfOk result (λ _. HasPut encoder.old (spelled_component_updates i (vector_lists before.now) (vector_lists after.now)) encoder.new) }
 {
     put_component_updates(encoder, i, i, 1, &before.signs, &after.signs)?;
     put_component_updates(encoder, i, 10 * i, 10, &before.classes, &after.classes)?;
@@ -71,7 +71,7 @@ fn put_fractions(
     put_component_updates(encoder, i, 3 * i, 3, &before.fractions, &after.fractions)
 }
 
-#[tactic(auto, unfolding(crate::specs::Spelling::spelled_high, compressed_header::specs::VectorProbs::high_precision_probs), using(bool_lists::proofs::Ways::spells_on, vp9_types::proofs::Binds::writes_bind))]
+#[tactic(auto, unfolding(crate::specs::Spelling::spelled_high_updates, compressed_header::specs::VectorProbs::high_precision_probs), using(bool_lists::proofs::Ways::spells_on, vp9_types::proofs::Binds::writes_bind))]
 fn put_high_precision(
     encoder: &mut BoolEncoder,
     i: usize,
@@ -82,7 +82,7 @@ fn put_high_precision(
     requires can { HasOddUpdates (vector_lists before.now) (vector_lists after.now) }
     ensures puts { IfOk result (λ _. Puts (high_precision_probs i (vectors_at 2 2 i (vector_lists before.now) (vector_lists after.now))) encoder.old
         (vectors_at 2 2 (i + 1) (vector_lists before.now) (vector_lists after.now)) encoder.new) }
-    ensures spells { IfOk result (λ _. HasPut encoder.old (spelled_high i (vector_lists before.now) (vector_lists after.now)) encoder.new) }
+    ensures spells { IfOk result (λ _. HasPut encoder.old (spelled_high_updates i (vector_lists before.now) (vector_lists after.now)) encoder.new) }
 {
     put_component_updates(encoder, i, i, 1, &before.class0_high, &after.class0_high)?;
     put_component_updates(encoder, i, i, 1, &before.high, &after.high)
@@ -108,7 +108,7 @@ fn put_precise(
 }
 
 /// Puts `mv_probs` (6.3.16 of the standard).
-#[tactic(auto, unfolding(crate::specs::Spelling::spelled_vectors, compressed_header::specs::VectorProbs::mv_probs), using(bool_lists::proofs::Ways::spells_on, vp9_types::proofs::Binds::writes_bind))]
+#[tactic(auto, unfolding(crate::specs::Spelling::spelled_vector_lists, compressed_header::specs::VectorProbs::mv_probs), using(bool_lists::proofs::Ways::spells_on, vp9_types::proofs::Binds::writes_bind))]
 pub fn put_vectors(
     encoder: &mut BoolEncoder,
     precise: bool,
@@ -117,7 +117,7 @@ pub fn put_vectors(
 ) -> Result<(), AllocError>
     requires { AreVectorUpdates precise (vector_lists before.now) (vector_lists after.now) }
     ensures puts { IfOk result (λ _. Puts (mv_probs precise (vector_lists before.now)) encoder.old (vector_lists after.now) encoder.new) }
-    ensures spells { IfOk result (λ _. HasPut encoder.old (spelled_vectors precise (vector_lists before.now) (vector_lists after.now)) encoder.new) }
+    ensures spells { IfOk result (λ _. HasPut encoder.old (spelled_vector_lists precise (vector_lists before.now) (vector_lists after.now)) encoder.new) }
 {
     put_joints(encoder, before, after)?;
     put_component(encoder, 0, before, after)?;

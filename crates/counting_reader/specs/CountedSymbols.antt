@@ -13,15 +13,15 @@ has_leaf (leaf x) symbol = nat_eq x symbol
 has_leaf (node k zeros ones) symbol = has_leaf zeros symbol || has_leaf ones symbol
 
 -- a node and the bool that leaves it
-abbrev pub Step : Type 0
-Step = ℕ × Bool
+abbrev pub TreeStep : Type 0
+TreeStep = ℕ × Bool
 
-abbrev pub path_to : Tree → ℕ → List Step
+abbrev pub path_to : Tree → ℕ → List TreeStep
 path_to (leaf x) symbol = []
 path_to (node k zeros ones) symbol =
     if has_leaf zeros symbol then (k, false) ∷ path_to zeros symbol else (k, true) ∷ path_to ones symbol
 
-abbrev pub counted_step : ProbKind → ℕ → Step → CountedBool
+abbrev pub counted_step : ProbKind → ℕ → TreeStep → CountedBool
 counted_step kind first step = record { kind = kind; place = first + step.0; one = step.1 }
 
 -- the nodes of a tree have places of a kind, from the first on

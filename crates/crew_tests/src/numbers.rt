@@ -1,4 +1,4 @@
-ghost use Rattle.std.specs.Prelude.{◌≡◌};
+ghost use Rattle.std.specs.Prelude.{◌≡◌, ◌<◌};
 
 use crate::tally::{Number, Tally};
 use job_crew::{Building, Jobs, LIVE, LastResult, Layout, Output, Results, Start};
@@ -22,12 +22,11 @@ impl<'a> Output<Number<'a>> for Paper {
     ghost has_refused = { λ p x. p.is_torn ≡ true };
 }
 
-/// A run of so many frames, each of so many tile columns and superblock rows, with so many frames at once.
-pub struct Numbers<const FRAMES: u64, const COLUMNS: u32, const ROWS: u32, const WINDOW: u8>;
+/// A run of so many frames, each of so many tile columns and superblock rows.
+pub struct Numbers<const FRAMES: u64, const COLUMNS: u32, const ROWS: u32>;
 
-impl<'a, const FRAMES: u64, const COLUMNS: u32, const ROWS: u32, const WINDOW: u8> Meaning<
-    Number<'a>,
-> for Numbers<FRAMES, COLUMNS, ROWS, WINDOW> {
+impl<'a, const FRAMES: u64, const COLUMNS: u32, const ROWS: u32> Meaning<Number<'a>>
+    for Numbers<FRAMES, COLUMNS, ROWS> {
     ghost use Rattle.crew_tests.specs.Numbers.{number_rules, number_truth};
 
     ghost rules = { number_rules FRAMES COLUMNS ROWS };
@@ -35,13 +34,11 @@ impl<'a, const FRAMES: u64, const COLUMNS: u32, const ROWS: u32, const WINDOW: u
     ghost truth = { number_truth ROWS };
 }
 
-impl<const FRAMES: u64, const COLUMNS: u32, const ROWS: u32, const WINDOW: u8> Start
-    for Numbers<FRAMES, COLUMNS, ROWS, WINDOW> {
+impl<const FRAMES: u64, const COLUMNS: u32, const ROWS: u32> Start
+    for Numbers<FRAMES, COLUMNS, ROWS> {
     ghost use Rattle.std.specs.Prelude.{[], Some};
 
     ghost taken = { Some [] };
-
-    ghost window = { WINDOW };
 }
 
 /// Does the jobs of such a run. The output refuses one frame, and there is no memory for another. A tally counts the results.
@@ -61,9 +58,9 @@ fn slots_after(frame: u64) -> [Option<u64>; LIVE] {
     slots
 }
 
-impl<'a, const FRAMES: u64, const COLUMNS: u32, const ROWS: u32, const WINDOW: u8> Jobs<
+impl<'a, const FRAMES: u64, const COLUMNS: u32, const ROWS: u32> Jobs<
     Number<'a>,
-    Numbers<FRAMES, COLUMNS, ROWS, WINDOW>,
+    Numbers<FRAMES, COLUMNS, ROWS>,
     Paper,
 > for NumberJobs<'a> {
     fn layout(&self, head: &Number<'a>) -> Option<Layout> {
@@ -96,29 +93,19 @@ impl<'a, const FRAMES: u64, const COLUMNS: u32, const ROWS: u32, const WINDOW: u
         slots_after(close.value())
     }
 
-    // The bands of three frames before it, to the one below the row: the last one, and two that slots hold.
-    fn reads<R: Results<Number<'a>, Numbers<FRAMES, COLUMNS, ROWS, WINDOW>>>(
+    fn reads<R: Results<Number<'a>, Numbers<FRAMES, COLUMNS, ROWS>>>(
         &self,
         frame: u64,
         _column: u32,
         row: u32,
         _results: &R,
     ) -> [Option<BandSpan>; 3] {
-        if frame < 1 {
-            return [None, None, None];
-        }
-        let last = if row < ROWS - 1 { row + 1 } else { row };
-        let before = frame - 1;
-        [
-            Some(span(before, last)),
-            Some(span((before >> 4) << 4, last)),
-            Some(span((before >> 7) << 7, last)),
-        ]
+        spans_of(frame, row, ROWS)
     }
 
     fn run<
-        R: Results<Number<'a>, Numbers<FRAMES, COLUMNS, ROWS, WINDOW>>
-            + LastResult<Number<'a>, Numbers<FRAMES, COLUMNS, ROWS, WINDOW>>,
+        R: Results<Number<'a>, Numbers<FRAMES, COLUMNS, ROWS>>
+            + LastResult<Number<'a>, Numbers<FRAMES, COLUMNS, ROWS>>,
     >(&self, job: JobName, results: &R) -> Number<'a> {
         let value = match job {
             JobName::Head { frame } => {
@@ -133,11 +120,11 @@ impl<'a, const FRAMES: u64, const COLUMNS: u32, const ROWS: u32, const WINDOW: u
                 frame
             }
             JobName::Close { frame } => {
-                see_columns::<Numbers<FRAMES, COLUMNS, ROWS, WINDOW>, R>(results, frame, COLUMNS);
+                see_columns::<Numbers<FRAMES, COLUMNS, ROWS>, R>(results, frame, COLUMNS);
                 frame
             }
             JobName::Rows { frame, column, row } => {
-                see_slots::<Numbers<FRAMES, COLUMNS, ROWS, WINDOW>, R>(results, frame);
+                see_bands::<Numbers<FRAMES, COLUMNS, ROWS>, R>(results, frame, row, ROWS);
                 if row > 0 {
                     results
                         .result(JobName::Rows {
@@ -151,7 +138,7 @@ impl<'a, const FRAMES: u64, const COLUMNS: u32, const ROWS: u32, const WINDOW: u
                 }
             }
             JobName::Filter { frame, row } => {
-                see_row::<Numbers<FRAMES, COLUMNS, ROWS, WINDOW>, R>(results, frame, row, COLUMNS);
+                see_row::<Numbers<FRAMES, COLUMNS, ROWS>, R>(results, frame, row, COLUMNS);
                 frame
             }
             JobName::End { frame } => {
@@ -167,7 +154,7 @@ impl<'a, const FRAMES: u64, const COLUMNS: u32, const ROWS: u32, const WINDOW: u
         Number::new(self.tally, u64::MAX)
     }
 
-    fn write<R: Results<Number<'a>, Numbers<FRAMES, COLUMNS, ROWS, WINDOW>>>(
+    fn write<R: Results<Number<'a>, Numbers<FRAMES, COLUMNS, ROWS>>>(
         &self,
         frame: u64,
         results: &R,
@@ -186,20 +173,36 @@ impl<'a, const FRAMES: u64, const COLUMNS: u32, const ROWS: u32, const WINDOW: u
     }
 }
 
-fn span(frame: u64, last: u32) -> BandSpan {
-    BandSpan {
-        frame,
+// The bands that a superblock row reads of the frame that this slot holds, to the one below the row.
+fn span(before: u64, slot: u32, row: u32, rows: u32) -> Option<BandSpan>
+    requires { slot < 8 }
+{
+    Some(BandSpan {
+        frame: (before >> slot) << slot,
         first: 0,
-        last,
-    }
+        last: row.saturating_add(1).min(rows.saturating_sub(1)),
+    })
 }
 
-// A close takes the results of all tile columns.
+// Those of three frames: the one before it, the one that changes least often, and another slot's in each row.
+fn spans_of(frame: u64, row: u32, rows: u32) -> [Option<BandSpan>; 3] {
+    let Some(before) = frame.checked_sub(1) else {
+        return [None, None, None];
+    };
+    [
+        span(before, 0, row, rows),
+        span(before, 1 + row % 6, row, rows),
+        span(before, 7, row, rows),
+    ]
+}
+
+// A close takes what was read of the frame before, and the results of all tile columns.
 fn see_columns<'a, M: Meaning<Number<'a>>, R: Results<Number<'a>, M>>(
     results: &R,
     frame: u64,
     columns: u32,
 ) {
+    see_frame_before::<M, R>(results, frame);
     for column in 0..columns {
         results.result(JobName::Column { frame, column });
     }
@@ -217,14 +220,31 @@ fn see_row<'a, M: Meaning<Number<'a>>, R: Results<Number<'a>, M>>(
     }
 }
 
-// A superblock row of a column takes results of the frames that slots hold.
-fn see_slots<'a, M: Meaning<Number<'a>>, R: Results<Number<'a>, M>>(results: &R, frame: u64) {
-    let Some(before) = frame.checked_sub(1) else {
-        return;
-    };
-    for slot in slots_after(before) {
-        if let Some(frame) = slot {
-            results.result(JobName::Close { frame });
+// What was read of the frame before.
+fn see_frame_before<'a, M: Meaning<Number<'a>>, R: Results<Number<'a>, M>>(
+    results: &R,
+    frame: u64,
+) {
+    if let Some(before) = frame.checked_sub(1) {
+        results.result(JobName::Head { frame: before });
+        results.result(JobName::Close { frame: before });
+    }
+}
+
+// A superblock row of a column takes what was read of the frame before, and the rows of other frames that it reads.
+fn see_bands<'a, M: Meaning<Number<'a>>, R: Results<Number<'a>, M>>(
+    results: &R,
+    frame: u64,
+    row: u32,
+    rows: u32,
+) {
+    see_frame_before::<M, R>(results, frame);
+    for span in spans_of(frame, row, rows) {
+        if let Some(span) = span {
+            results.result(JobName::Filter {
+                frame: span.frame,
+                row: span.last,
+            });
         }
     }
 }

@@ -56,16 +56,18 @@ fn are_below(numbers: &[u64], all: u64) -> bool {
     true
 }
 
-// How many results a run keeps at most: what later frames may ask for of those in the window and of ten before them, all of those that aren't
-// written, and what each worker is letting go.
+// How many results a run keeps at most: the rows that later frames may ask for of those in the window and of ten before them, all of those that
+// aren't written with head and close, of which the next frame has some too, and what each worker is letting go.
 fn most_of(columns: u32, rows: u32, workers: u8, window: u8) -> u64 {
     let (columns, rows, window) = (u64::from(columns), u64::from(rows), u64::from(window));
-    let lasting = (window + 10) * (rows + 3);
+    let workers = u64::from(workers);
+    let lasting = (window + 10) * (rows + 1);
+    let heads = 2 * (window + 2 + workers);
     let at_work = (window + 1) * (rows + 1);
-    let going = 3 * u64::from(workers);
+    let going = 3 * workers;
     columns
         .saturating_mul(at_work + going)
-        .saturating_add(lasting)
+        .saturating_add(lasting + heads)
 }
 
 fn are_there(results: &[Option<Number<'_>>]) -> bool {
@@ -104,19 +106,18 @@ fn is_right<
     const FRAMES: u64,
     const COLUMNS: u32,
     const ROWS: u32,
-    const WINDOW: u8,
     G: Gate + Sync,
     R: Threads + Wait + Sync,
->(rt: &R, alloc: Global, jobs: &NumberJobs<'_>, gate: &G, workers: u8) -> bool
+>(rt: &R, alloc: Global, jobs: &NumberJobs<'_>, gate: &G, workers: u8, window: u8) -> bool
     requires workers { (1 ≤ workers) × (workers ≤ 64) }
-    requires window { (2 ≤ WINDOW) × (WINDOW ≤ 16) }
+    requires window { (2 ≤ window) × (window ≤ 16) }
 {
     let run = Run {
         alloc,
         jobs,
         gate,
         workers,
-        window: WINDOW,
+        window,
     };
     let output = Paper {
         numbers: Vec::new(alloc),
@@ -124,7 +125,7 @@ fn is_right<
     };
     let Ok(told) = run_jobs::<
         Number<'_>,
-        Numbers<FRAMES, COLUMNS, ROWS, WINDOW>,
+        Numbers<FRAMES, COLUMNS, ROWS>,
         Paper,
         NumberJobs<'_>,
         G,
@@ -134,7 +135,7 @@ fn is_right<
     };
     let all = FRAMES.min(jobs.refused).min(jobs.starved);
     let is_refused = matches!(&told.ending, Ending::Refused { .. });
-    let kept = most_of(COLUMNS, ROWS, workers, WINDOW);
+    let kept = most_of(COLUMNS, ROWS, workers, window);
     last_of(&told.ending) == all
         && is_refused == told.output.is_torn
         && are_below(&told.output.numbers, all)
@@ -155,15 +156,14 @@ fn goes_to_the_end<
     const FRAMES: u64,
     const COLUMNS: u32,
     const ROWS: u32,
-    const WINDOW: u8,
     R: Threads + Wait + Sync,
->(rt: &R, alloc: Global, workers: u8) -> bool
+>(rt: &R, alloc: Global, workers: u8, window: u8) -> bool
     requires workers { (1 ≤ workers) × (workers ≤ 64) }
-    requires window { (2 ≤ WINDOW) × (WINDOW ≤ 16) }
+    requires window { (2 ≤ window) × (window ≤ 16) }
 {
     let tally = Tally::new();
     let jobs = until(&tally, NEVER, NEVER);
-    is_right::<FRAMES, COLUMNS, ROWS, WINDOW, OpenGate, R>(rt, alloc, &jobs, &OpenGate, workers)
+    is_right::<FRAMES, COLUMNS, ROWS, OpenGate, R>(rt, alloc, &jobs, &OpenGate, workers, window)
         && tally.there() == 0
 }
 
@@ -171,11 +171,11 @@ fn goes_to_the_end<
 fn tiny_frames_by_some_workers(rt: HostRuntime) -> Result<(), Fail> {
     for workers in [1, 2, 4, 7u8] {
         assert!(rt;
-            goes_to_the_end::<300, 2, 3, 4, HostRuntime>(&rt, rt.alloc(), workers),
+            goes_to_the_end::<300, 2, 3, HostRuntime>(&rt, rt.alloc(), workers, 4),
             "by {workers}"
         );
         assert!(rt;
-            goes_to_the_end::<500, 1, 1, 2, HostRuntime>(&rt, rt.alloc(), workers),
+            goes_to_the_end::<500, 1, 1, HostRuntime>(&rt, rt.alloc(), workers, 2),
             "by {workers}"
         );
     }
@@ -187,7 +187,7 @@ fn tiny_frames_by_some_workers(rt: HostRuntime) -> Result<(), Fail> {
 fn many_frames(rt: HostRuntime) -> Result<(), Fail> {
     for workers in [1, 4u8] {
         assert!(rt;
-            goes_to_the_end::<3000, 1, 2, 4, HostRuntime>(&rt, rt.alloc(), workers),
+            goes_to_the_end::<3000, 1, 2, HostRuntime>(&rt, rt.alloc(), workers, 4),
             "by {workers}"
         );
     }
@@ -197,8 +197,8 @@ fn many_frames(rt: HostRuntime) -> Result<(), Fail> {
 // More workers than jobs that are ready, and more jobs in a frame than the pool has room for.
 #[test]
 fn many_workers_and_wide_frames(rt: HostRuntime) -> Result<(), Fail> {
-    assert!(rt; goes_to_the_end::<40, 4, 17, 16, HostRuntime>(&rt, rt.alloc(), 64));
-    assert!(rt; goes_to_the_end::<3, 79, 17, 3, HostRuntime>(&rt, rt.alloc(), 3));
+    assert!(rt; goes_to_the_end::<40, 4, 17, HostRuntime>(&rt, rt.alloc(), 64, 16));
+    assert!(rt; goes_to_the_end::<3, 79, 17, HostRuntime>(&rt, rt.alloc(), 3, 3));
     Ok(())
 }
 
@@ -215,7 +215,7 @@ fn meet<R: Threads + Wait + Sync>(
     let tally = Tally::new();
     let numbers = until(&tally, NEVER, NEVER);
     let gate = Meeting::new(jobs[0], jobs[1], looks);
-    is_right::<20, 2, 3, 4, Meeting, R>(rt, alloc, &numbers, &gate, workers) && gate.has_met()
+    is_right::<20, 2, 3, Meeting, R>(rt, alloc, &numbers, &gate, workers, 4) && gate.has_met()
 }
 
 // With several workers they are. One worker, who does one after the other, never lets them meet.
@@ -239,7 +239,7 @@ fn a_gate_sees_each_job(rt: HostRuntime) -> Result<(), Fail> {
             ended: AtomicU64::new(0),
         };
         assert!(rt;
-            is_right::<100, 2, 3, 4, Counter, HostRuntime>(&rt, rt.alloc(), &jobs, &gate, workers),
+            is_right::<100, 2, 3, Counter, HostRuntime>(&rt, rt.alloc(), &jobs, &gate, workers, 4,),
             "by {workers}"
         );
         assert_eq!(rt; gate.begun.load(Ordering::SeqCst), 1402, "by {workers}");
@@ -255,12 +255,13 @@ fn a_refusal_ends_the_run(rt: HostRuntime) -> Result<(), Fail> {
             let tally = Tally::new();
             let jobs = until(&tally, refused, NEVER);
             assert!(rt;
-                is_right::<50, 2, 3, 4, OpenGate, HostRuntime>(
+                is_right::<50, 2, 3, OpenGate, HostRuntime>(
                     &rt,
                     rt.alloc(),
                     &jobs,
                     &OpenGate,
                     workers,
+                    4,
                 ),
                 "by {workers} at {refused}"
             );
@@ -273,7 +274,7 @@ fn a_refusal_ends_the_run(rt: HostRuntime) -> Result<(), Fail> {
 fn no_frames(rt: HostRuntime) -> Result<(), Fail> {
     for workers in [1, 2, 16u8] {
         assert!(rt;
-            goes_to_the_end::<0, 1, 1, 2, HostRuntime>(&rt, rt.alloc(), workers),
+            goes_to_the_end::<0, 1, 1, HostRuntime>(&rt, rt.alloc(), workers, 2),
             "by {workers}"
         );
     }
@@ -288,12 +289,13 @@ fn want_of_memory_ends_the_run(rt: HostRuntime) -> Result<(), Fail> {
             let tally = Tally::new();
             let jobs = until(&tally, NEVER, starved);
             assert!(rt;
-                is_right::<50, 2000, 1, 4, OpenGate, HostRuntime>(
+                is_right::<50, 2000, 1, OpenGate, HostRuntime>(
                     &rt,
                     rt.alloc(),
                     &jobs,
                     &OpenGate,
                     workers,
+                    4,
                 ),
                 "by {workers} at {starved}"
             );

@@ -3,6 +3,7 @@ use Rattle.std.proofs.Common.{◌≡◌, ℕ, zero, suc, ℤ, refl, Bool, true, 
 use Rattle.std.specs.Prelude.{Option, Some, None, slice_index_or}
 use Rattle.std.specs.List.{list_all}
 use Rattle.std.proofs.lemmas.Bool.{and_parts}
+use Rattle.compressed_header.specs.ReferenceProbs.{is_switchable}
 use Rattle.frame_headers.specs.Segments.{no_segment_features}
 use Rattle.frame_headers.specs.declared.header.FrameFilter.{FrameFilter}
 use Rattle.frame_headers.specs.declared.header.FrameFilter.TheVariants.{Fixed, Switchable}
@@ -14,7 +15,7 @@ use Rattle.frame_headers.specs.declared.segments.MapUpdate.{MapUpdate}
 use Rattle.frame_headers.specs.declared.segments.SegmentFeatures.{SegmentFeatures}
 use Rattle.frame_headers.specs.declared.segments.Segmentation.{Segmentation}
 use Rattle.drawn_symbols.specs.DrawnFor.{AreDrawnSegments, IsDrawnFrame, IsDrawnKind, IsUpdatedAnew}
-use Rattle.drawn_frames.specs.FrameTests.{draws_segments, is_drawn_frame, is_plain, is_switchable, is_updated_anew, names_filters}
+use Rattle.drawn_frames.specs.FrameTests.{draws_segments, is_drawn_frame, is_plain, is_updated_anew, names_filters}
 
 abbrev features_of : Option ℤ → Option ℤ → Option FeatureReference → Bool → SegmentFeatures
 features_of quantizer level reference skip = record { quantizer = quantizer; level = level; reference = reference; skip = skip }

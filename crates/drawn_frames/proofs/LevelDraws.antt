@@ -19,7 +19,7 @@ use Rattle.residue_writer.specs.SaidResidues.{levels_at}
 use Rattle.residue_writer.specs.declared.levels.PlaneLevels.{PlaneLevels}
 use Rattle.vp9_types.specs.declared.block.TxSize.{TxSize}
 use Rattle.drawn_symbols.specs.LevelDraws.{draw_levels, placed_from}
-use Rattle.drawn_frames.specs.BlockLevelDraws.{draw_from, no_plane, placed, with_levels}
+use Rattle.drawn_frames.specs.BlockLevelDraws.{draw_from, no_plane, placed_levels, with_levels}
 use Rattle.drawn_frames.proofs.Rooms.{Zeros, put_is, put_long, kept_part, new_part, zero_part, zeros_more}
 
 placed_long : (k : ℕ) (scan : List ℕ) (levels values : List ℤ) → length (placed_from k scan levels values) ≡ length values
@@ -60,7 +60,7 @@ drew_none b places p old none = rw none (record {
 })
 
 -- the code's values are those of the definition
-with_is : (b : BlockInPlane) (at : ℕ × ℕ) (k : ℕ) (p : PlaneLevels) (levels values : List ℤ) (count : ℕ) → length values ≡ area b.block.tx → values ≡ placed b at levels → count ≡ length levels
+with_is : (b : BlockInPlane) (at : ℕ × ℕ) (k : ℕ) (p : PlaneLevels) (levels values : List ℤ) (count : ℕ) → length values ≡ area b.block.tx → values ≡ placed_levels b at levels → count ≡ length levels
     → record { counts = slice_set p.counts k count; values = put_mid (k * area b.block.tx) (area b.block.tx) p.values values } ≡ with_levels b at k levels p
 with_is b at k p levels values count long is counted =
     rw (put_is p.values values (k * area b.block.tx) (area b.block.tx) long, is, counted) refl
@@ -94,7 +94,7 @@ more b places old k p now new count values low few room so drawn can =
     let at = get_or places k (0, 0) in
     let levels = drawn.0 in
     let zero = zero_part p.values (k * n) n so.zeros room in
-    let is : values ≡ placed b at levels = rw zero at drawn.2 in
+    let is : values ≡ placed_levels b at levels = rw zero at drawn.2 in
     let long : length values ≡ n = ap (λ (v : List ℤ). length v) is ∙ (placed_long 0 (scan_of b.block.tx (type_at b at.0 at.1)) levels (replicate n (pos 0)) ∙ length-replicate n (pos 0)) in
     let all : k * n + n ≤ length p.values = rw so.values room in
     let start : k * n ≤ length p.values = omega (arith, all) in

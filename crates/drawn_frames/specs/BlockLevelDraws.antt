@@ -22,8 +22,8 @@ no_plane = record { counts = replicate 256 0; values = replicate 4096 (pos 0) }
 ---- A transform block ----
 
 -- the levels of the one at a row and column, by position: they stand in the first places of its scan, and the others are 0
-abbrev pub placed : BlockInPlane → ℕ × ℕ → List ℤ → List ℤ
-placed b at levels = placed_from 0 (scan_of b.block.tx (type_at b at.0 at.1)) levels (replicate (area b.block.tx) (pos 0))
+abbrev pub placed_levels : BlockInPlane → ℕ × ℕ → List ℤ → List ℤ
+placed_levels b at levels = placed_from 0 (scan_of b.block.tx (type_at b at.0 at.1)) levels (replicate (area b.block.tx) (pos 0))
 
 -- values with others from a place on, in place of as many
 abbrev pub with_values : List ℤ → ℕ → List ℤ → List ℤ
@@ -33,7 +33,7 @@ with_values values from others = take from values ++ others ++ drop (from + leng
 abbrev pub with_levels : BlockInPlane → ℕ × ℕ → ℕ → List ℤ → PlaneLevels → PlaneLevels
 with_levels b at k levels p = record {
   counts = slice_set p.counts k (length levels);
-  values = with_values p.values (k * area b.block.tx) (placed b at levels);
+  values = with_values p.values (k * area b.block.tx) (placed_levels b at levels);
 }
 
 ---- A block ----

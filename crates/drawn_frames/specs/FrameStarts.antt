@@ -50,8 +50,8 @@ unfoldable pub draw_reference : Persist → Drawn Reference
 draw_reference before = draw 8 >>= λ slot. stay (record { slot = slot; sign_bias = false; shape = shape_in (slice_index_or before.slots slot None) })
 
 -- the altref alone can lie on the other side in time
-unfoldable pub draw_references : Persist → Drawn References
-draw_references before = do
+unfoldable pub draw_frame_references : Persist → Drawn References
+draw_frame_references before = do
   last ← draw_reference before
   golden ← draw_reference before
   altref ← draw_reference before
@@ -59,8 +59,8 @@ draw_references before = do
   stay (record { last = last; golden = golden; altref = record { slot = altref.slot; sign_bias = bias; shape = altref.shape } })
 
 -- a size of its own, or that of the first reference
-unfoldable pub draw_size : Bool → Reference → Drawn FrameSize
-draw_size own_size last = if own_size then (draw_flag >>= λ small. stay (if small then small_size else whole_size)) else stay (size_of last)
+unfoldable pub draw_frame_size : Bool → Reference → Drawn FrameSize
+draw_frame_size own_size last = if own_size then (draw_flag >>= λ small. stay (if small then small_size else whole_size)) else stay (size_of last)
 
 -- whether its vectors have high precision is drawn later
 abbrev pub inter_start : Bool → ℕ → References → Bool → FrameSize → ColorConfig → Start
@@ -77,11 +77,11 @@ inter_start show refresh refs own_size size color = record {
 }
 
 -- one of four is hidden
-unfoldable pub draw_inter : Persist → Drawn Start
-draw_inter before = do
+unfoldable pub draw_inter_fields : Persist → Drawn Start
+draw_inter_fields before = do
   hidden ← draw_chance 4
   refresh ← draw 256
-  refs ← draw_references before
+  refs ← draw_frame_references before
   own_size ← draw_chance 16
-  size ← draw_size own_size refs.last
+  size ← draw_frame_size own_size refs.last
   stay (inter_start (not hidden) refresh refs own_size size before.color)

@@ -2,6 +2,7 @@
 use Rattle.std.specs.Prelude.{Bool, true, false, not, ◌&&◌, ◌||◌, Option, Some, None}
 use Rattle.std.specs.List.{list_all}
 use Rattle.std.specs.Option.{is_none}
+use Rattle.compressed_header.specs.ReferenceProbs.{is_switchable}
 use Rattle.frame_headers.specs.declared.header.FrameFilter.{FrameFilter}
 use Rattle.frame_headers.specs.declared.header.FrameFilter.TheVariants.{Switchable}
 use Rattle.frame_headers.specs.declared.header.FrameKind.{FrameKind}
@@ -23,10 +24,6 @@ is_updated_anew None = false
 -- no segments, or such that have a map of their own, and no features (6.2.11: segmentation_params)
 abbrev pub draws_segments : Segmentation → Bool
 draws_segments s = not s.enabled || (is_updated_anew s.map && list_all is_plain s.features.segments)
-
-abbrev pub is_switchable : FrameFilter → Bool
-is_switchable Switchable = true
-is_switchable _ = false
 
 -- the blocks of an inter frame name their filters
 abbrev pub names_filters : FrameKind → Bool

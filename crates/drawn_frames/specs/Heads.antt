@@ -11,7 +11,7 @@ use Rattle.frame_headers.specs.declared.header.Uncompressed.TheVariants.{ShowExi
 use Rattle.frame_headers.specs.declared.persist.Persist.{Persist}
 use Rattle.drawn_symbols.specs.Draws.{Drawn, stay, ◌>>=◌, draw, draw_flag}
 use Rattle.drawn_frames.specs.Params.{draw_params}
-use Rattle.drawn_frames.specs.FrameStarts.{draw_chance, choices_of, key_start, draw_intra_only, draw_inter}
+use Rattle.drawn_frames.specs.FrameStarts.{draw_chance, choices_of, key_start, draw_intra_only, draw_inter_fields}
 use Rattle.drawn_frames.specs.declared.heads.DrawnHead.{DrawnHead}
 use Rattle.drawn_frames.specs.declared.starts.Start.{Start}
 
@@ -78,7 +78,7 @@ draw_by choice before =
     if nat_eq choice 0 then draw_coded key_start
     else (if nat_eq choice 1 then (draw_intra_only >>= λ start. draw_coded start)
     else (if nat_eq choice 2 then draw_shown
-    else (draw_inter before >>= λ start. draw_coded start)))
+    else (draw_inter_fields before >>= λ start. draw_coded start)))
 
 unfoldable pub draw_later : Persist → Drawn DrawnHead
 draw_later before = draw 8 >>= λ choice. draw_by choice before

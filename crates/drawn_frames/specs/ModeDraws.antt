@@ -22,7 +22,7 @@ reference_mode Key = mode.Single
 reference_mode IntraOnly = mode.Single
 reference_mode (Inter fields) = if is_compound_allowed fields.references then mode.Selected else mode.Single
 
-unfoldable pub draw_modes : Header → Drawn Modes
-draw_modes header = do
+unfoldable pub draw_frame_modes : Header → Drawn Modes
+draw_frame_modes header = do
   tx ← draw_tx_mode (is_lossless header.params.quantizer)
   stay (record { tx_mode = tx; reference_mode = reference_mode header.kind })

@@ -8,8 +8,8 @@ use Rattle.frame_headers.specs.declared.tiles.TileInfo.{TileInfo}
 use Rattle.drawn_symbols.specs.Draws.{Drawn, stay, ◌>>=◌, draw}
 use Rattle.drawn_frames.specs.FrameStarts.{draw_chance}
 
-abbrev pub no_segments : Segmentation
-no_segments = record { enabled = false; map = None; features = no_features }
+abbrev pub segmentation_off : Segmentation
+segmentation_off = record { enabled = false; map = None; features = no_features }
 
 -- segments with a map of their own, and without features
 abbrev pub mapped_segments : Segmentation
@@ -21,7 +21,7 @@ mapped_segments = record {
 
 -- one frame of four has segments
 unfoldable pub draw_segmentation : Drawn Segmentation
-draw_segmentation = draw_chance 4 >>= λ enabled. stay (if enabled then mapped_segments else no_segments)
+draw_segmentation = draw_chance 4 >>= λ enabled. stay (if enabled then mapped_segments else segmentation_off)
 
 -- 520 samples can be divided into two columns, 260 cannot (6.2.14)
 unfoldable pub draw_columns : ℕ → Drawn ℕ

@@ -14,7 +14,9 @@ ghost use Rattle.drawn_frames.specs.MadeFrames.{IsMade, IsMadeSize};
 
 use crate::kinds::{draw_contexts, draw_kind};
 use crate::params::draw_params;
-use crate::starts::{Start, choices_of, draw_chance, draw_inter, draw_intra_only, key_start};
+use crate::starts::{
+    Start, choices_of, draw_chance, draw_inter_fields, draw_intra_only, key_start,
+};
 use drawn_symbols::Draws;
 use frame_headers::{Header, Persist, Uncompressed};
 use header_writer::Choices;
@@ -90,7 +92,7 @@ fn draw_later(draws: &mut Draws, before: &Persist) -> DrawnHead
         }
         2 => draw_shown(draws),
         _ => {
-            let start = draw_inter(draws, before);
+            let start = draw_inter_fields(draws, before);
             draw_coded(draws, &start)
         }
     }

@@ -16,5 +16,5 @@ mod symbols;
 
 pub use frames::is_drawn_frame;
 pub use heads::{DrawnHead, draw_head};
-pub use modes::draw_modes;
+pub use modes::draw_frame_modes;
 pub use symbols::DrawnSymbols;

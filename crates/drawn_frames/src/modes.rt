@@ -5,7 +5,7 @@ ghost use Rattle.prob_contexts.specs.ProbLists.{ContextLists};
 ghost use Rattle.compressed_header.specs.HeaderModes.{is_compound_allowed};
 ghost use Rattle.compressed_writer.specs.CodedUpdates.{CanForward, IsTxMode};
 ghost use Rattle.drawn_symbols.specs.Draws.{IsDrawn};
-ghost use Rattle.drawn_frames.specs.ModeDraws.{draw_modes, draw_tx_mode, reference_mode};
+ghost use Rattle.drawn_frames.specs.ModeDraws.{draw_frame_modes, draw_tx_mode, reference_mode};
 
 use drawn_symbols::Draws;
 use frame_headers::{FrameKind, Header, References};
@@ -51,9 +51,9 @@ fn reference_mode(kind: &FrameKind) -> ReferenceMode
 }
 
 /// Draws the modes of a frame. A compressed header can say them, and leave all probabilities as they are.
-#[tactic(auto, unfolding(crate::specs::ModeDraws::draw_modes))]
-pub fn draw_modes(draws: &mut Draws, header: &Header) -> Modes
-    ensures drawn { IsDrawn (draw_modes header.now) draws.old result draws.new }
+#[tactic(auto, unfolding(crate::specs::ModeDraws::draw_frame_modes))]
+pub fn draw_frame_modes(draws: &mut Draws, header: &Header) -> Modes
+    ensures drawn { IsDrawn (draw_frame_modes header.now) draws.old result draws.new }
     ensures can { (lists : ContextLists) → CanForward header.now lists lists result }
 {
     let tx_mode = draw_tx_mode(draws, header.params.quantizer.lossless());

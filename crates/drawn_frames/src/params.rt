@@ -6,7 +6,7 @@ ghost use Rattle.header_writer.specs.WellFormed.{IsTileInfo};
 ghost use Rattle.drawn_symbols.specs.Draws.{IsDrawn};
 ghost use Rattle.drawn_frames.specs.Code.{AreMadeParams, AreMadeSegments};
 ghost use Rattle.drawn_frames.specs.MadeFrames.{IsMadeSize};
-ghost use Rattle.drawn_frames.specs.Params.{draw_columns, draw_params, draw_segmentation, draw_tiles, mapped_segments, no_segments};
+ghost use Rattle.drawn_frames.specs.Params.{draw_columns, draw_params, draw_segmentation, draw_tiles, mapped_segments, segmentation_off};
 
 use crate::starts::draw_chance;
 use drawn_symbols::Draws;
@@ -23,7 +23,7 @@ fn draw_segmentation(draws: &mut Draws) -> Segmentation
     if draw_chance(draws, 4) {
         mapped_segments()
     } else {
-        no_segments()
+        segmentation_off()
     }
 }
 
@@ -42,8 +42,8 @@ fn mapped_segments() -> Segmentation
     }
 }
 
-fn no_segments() -> Segmentation
-    ensures is { result ≡ no_segments }
+fn segmentation_off() -> Segmentation
+    ensures is { result ≡ segmentation_off }
     ensures made { AreMadeSegments result }
 {
     Segmentation {

@@ -4,7 +4,7 @@ ghost use Rattle.std.specs.Prelude.{◌≡◌, ◌<◌, false, None, Some, slice
 ghost use Rattle.drawn_symbols.specs.Draws.{IsDrawn};
 ghost use Rattle.drawn_frames.specs.Code.{AreMadeReferences, IsMadeReference};
 ghost use Rattle.drawn_frames.specs.MadeFrames.{IsMade, IsMadeShape, IsMadeSize};
-ghost use Rattle.drawn_frames.specs.FrameStarts.{draw_reference, draw_references, draw_size, shape_in};
+ghost use Rattle.drawn_frames.specs.FrameStarts.{draw_reference, draw_frame_references, draw_frame_size, shape_in};
 
 use crate::sizes::{SMALL, WHOLE};
 use drawn_symbols::Draws;
@@ -42,10 +42,10 @@ fn draw_reference(draws: &mut Draws, before: &Persist) -> Reference
 }
 
 /// The three references of an inter frame.
-#[tactic(auto, unfolding(crate::specs::FrameStarts::draw_references))]
-pub(crate) fn draw_references(draws: &mut Draws, before: &Persist) -> References
+#[tactic(auto, unfolding(crate::specs::FrameStarts::draw_frame_references))]
+pub(crate) fn draw_frame_references(draws: &mut Draws, before: &Persist) -> References
     requires { IsMade before.now }
-    ensures drawn { IsDrawn (draw_references before.now) draws.old result draws.new }
+    ensures drawn { IsDrawn (draw_frame_references before.now) draws.old result draws.new }
     ensures made { AreMadeReferences before.now result }
 {
     let last = draw_reference(draws, before);
@@ -64,10 +64,10 @@ pub(crate) fn draw_references(draws: &mut Draws, before: &Persist) -> References
 }
 
 /// The size of an inter frame: one of its own, or that of the first reference.
-#[tactic(auto, unfolding(crate::specs::FrameStarts::draw_size))]
-pub(crate) fn draw_size(draws: &mut Draws, own_size: bool, last: &Reference) -> FrameSize
+#[tactic(auto, unfolding(crate::specs::FrameStarts::draw_frame_size))]
+pub(crate) fn draw_frame_size(draws: &mut Draws, own_size: bool, last: &Reference) -> FrameSize
     requires { IsMadeShape last.now.shape }
-    ensures drawn { IsDrawn (draw_size own_size last.now) draws.old result draws.new }
+    ensures drawn { IsDrawn (draw_frame_size own_size last.now) draws.old result draws.new }
     ensures made { IsMadeSize result }
 {
     if !own_size {

@@ -5,9 +5,9 @@ ghost use Rattle.frame_headers.specs.declared.persist.Persist.{Persist};
 ghost use Rattle.drawn_symbols.specs.Draws.{IsDrawn};
 ghost use Rattle.drawn_frames.specs.Code.{IsStart};
 ghost use Rattle.drawn_frames.specs.MadeFrames.{IsMade};
-ghost use Rattle.drawn_frames.specs.FrameStarts.{choices_of, draw_chance, draw_inter, draw_intra_only, intra_start, key_start};
+ghost use Rattle.drawn_frames.specs.FrameStarts.{choices_of, draw_chance, draw_inter_fields, draw_intra_only, intra_start, key_start};
 
-use crate::references::{draw_references, draw_size};
+use crate::references::{draw_frame_references, draw_frame_size};
 use crate::sizes::{KEY_COLOR, WHOLE};
 use drawn_symbols::Draws;
 use frame_headers::{ColorConfig, FrameFields, FrameFilter, FrameKind, InterFields, Persist};
@@ -86,17 +86,17 @@ pub(crate) fn draw_intra_only(draws: &mut Draws) -> Start
     )
 }
 
-#[tactic(auto, unfolding(crate::specs::FrameStarts::draw_inter))]
-pub(crate) fn draw_inter(draws: &mut Draws, before: &Persist) -> Start
+#[tactic(auto, unfolding(crate::specs::FrameStarts::draw_inter_fields))]
+pub(crate) fn draw_inter_fields(draws: &mut Draws, before: &Persist) -> Start
     requires { IsMade before.now }
-    ensures drawn { IsDrawn (draw_inter before.now) draws.old result draws.new }
+    ensures drawn { IsDrawn (draw_inter_fields before.now) draws.old result draws.new }
     ensures made { IsStart before.now result }
 {
     let hidden = draw_chance(draws, 4);
     let refresh = draws.draw(256) as u8;
-    let references = draw_references(draws, before);
+    let references = draw_frame_references(draws, before);
     let own_size = draw_chance(draws, 16);
-    let size = draw_size(draws, own_size, &references.last);
+    let size = draw_frame_size(draws, own_size, &references.last);
     let fields = InterFields {
         references,
         high_precision: false,

@@ -11,10 +11,10 @@ use Rattle.frame_headers.specs.declared.header.FrameFilter.TheVariants.{Switchab
 use Rattle.frame_headers.specs.declared.segments.FeatureReference.{FeatureReference}
 use Rattle.frame_headers.specs.declared.segments.SegmentFeatures.{SegmentFeatures}
 use Rattle.frame_headers.specs.declared.segments.Segmentation.{Segmentation}
-use Rattle.block_plan.specs.declared.block.References.{References}
+use Rattle.block_plan.specs.declared.block.ReferenceFrames.{ReferenceFrames}
 use Rattle.mode_syntax.specs.Elements.{skips_segment}
 use Rattle.mv_prediction.specs.declared.search.SignBiases.{SignBiases}
-use Rattle.inter_contexts.specs.BlockReferences.{in_range_or_rule}
+use Rattle.inter_contexts.specs.BlockReferences.{allowed_or_rule}
 use Rattle.inter_modes.specs.ModeInfo.{InterFrame}
 use Rattle.inter_modes.specs.BlockStarts.{reference_if, segment_reference}
 use Rattle.inter_modes.specs.BlockVectors.{Sources, best_mv}
@@ -49,7 +49,7 @@ skips_none : (s : Segmentation) → AreDrawnSegments s → (segment : ℕ) → s
 skips_none s drawn segment =
     no_skip s.enabled (slice_index_or s.features.segments segment no_segment_features) (λ on. drawn.plain on segment)
 
-references_can : (feature : Option FeatureReference) (mode : ReferenceMode) (biases : SignBiases) (refs : References)
+references_can : (feature : Option FeatureReference) (mode : ReferenceMode) (biases : SignBiases) (refs : ReferenceFrames)
     → feature ≡ None → CanCodeReferences mode biases refs → CanReferBy feature mode biases refs
 references_can feature mode biases refs none coded = rw none coded
 
@@ -59,10 +59,10 @@ no e = cc
 named_can : (filter : FrameFilter) (named : InterpFilter) → filter ≡ Switchable → named ≢ Bilinear → CanFilter filter named
 named_can filter named is differs = rw is differs
 
-abbrev best_of : Sources → References → Best
+abbrev best_of : Sources → ReferenceFrames → Best
 best_of s refs = record { allowed = s.allowed; vectors = best_mv s refs; references = refs; size = s.search.at.size }
 
-modes_can : (s : Sources) (skips : Bool) (filter : FrameFilter) (refs : References) (q : InterSymbols) → skips ≡ false → filter ≡ Switchable
+modes_can : (s : Sources) (skips : Bool) (filter : FrameFilter) (refs : ReferenceFrames) (q : InterSymbols) → skips ≡ false → filter ≡ Switchable
     → CanBeSymbols (best_of s refs) s.search.at.size q → CanSayInter s skips filter q
 modes_can s skips filter refs q skip is can = record {
   named = named_can filter q.filter is can.named;
@@ -79,22 +79,22 @@ if_none : {A E : Type 0} (r : Result A E) (e : E) (P : Type 0) → r ≡ Err e �
 if_none r e P is = rw is tt
 
 -- of references in range
-pub inter_can : (f : InterFrame) (s : Sources) (refs : References) (q : InterSymbols) → AreDrawnSegments f.header.params.segmentation → f.fields.filter ≡ Switchable
+pub inter_can : (f : InterFrame) (s : Sources) (refs : ReferenceFrames) (q : InterSymbols) → AreDrawnSegments f.header.params.segmentation → f.fields.filter ≡ Switchable
     → CanCodeReferences f.modes.reference_mode s.search.biases refs → CanBeSymbols (best_of s refs) s.search.at.size q
     → (segment : ℕ) → CanSayInterBlock f s segment q
 inter_can f s refs q segments filter coded can segment = record {
   references = rw can.references (references_can _ _ _ refs (takes_none f.header.params.segmentation segments segment) coded);
-  rest = if_any (in_range_or_rule f.header.size f.fields.references q.references) _
+  rest = if_any (allowed_or_rule f.header.size f.fields.references q.references) _
       (modes_can s (skips_segment f.header.params.segmentation segment) f.fields.filter refs q (skips_none f.header.params.segmentation segments segment) filter can);
 }
 
 -- of references out of range
-pub references_alone_can : (f : InterFrame) (s : Sources) (refs : References) (rule : Rule) → AreDrawnSegments f.header.params.segmentation
-    → CanCodeReferences f.modes.reference_mode s.search.biases refs → in_range_or_rule f.header.size f.fields.references refs ≡ Err rule
+pub references_alone_can : (f : InterFrame) (s : Sources) (refs : ReferenceFrames) (rule : Rule) → AreDrawnSegments f.header.params.segmentation
+    → CanCodeReferences f.modes.reference_mode s.search.biases refs → allowed_or_rule f.header.size f.fields.references refs ≡ Err rule
     → (segment : ℕ) → CanSayInterBlock f s segment (references_alone refs)
 references_alone_can f s refs rule segments coded out segment = record {
   references = references_can _ _ _ refs (takes_none f.header.params.segmentation segments segment) coded;
-  rest = if_none (in_range_or_rule f.header.size f.fields.references refs) rule _ out;
+  rest = if_none (allowed_or_rule f.header.size f.fields.references refs) rule _ out;
 }
 
 ---- Blocks ----

@@ -6,22 +6,22 @@ use Rattle.std.proofs.lemmas.List.Elements.{All-cons, All-head, All-tail, All-se
 use Rattle.std.proofs.lemmas.List.{length-set}
 use Rattle.vp9_types.specs.declared.shape.Depth.{Depth}
 use Rattle.coef_tokens.specs.Places.{Tables}
-use Rattle.token_writer.specs.TokenFits.{IsCoded, level_of, CanPut}
+use Rattle.token_writer.specs.TokenFits.{IsCoded, level_in, CanPut}
 use Rattle.drawn_symbols.specs.LevelDraws.{IsDrawnLevel, placed_from}
 
-beside : (xs : List ℤ) (k j : ℕ) (x : ℤ) → k ≢ j → level_of (slice_set xs k x) j ≡ level_of xs j
+beside : (xs : List ℤ) (k j : ℕ) (x : ℤ) → k ≢ j → level_in (slice_set xs k x) j ≡ level_in xs j
 beside [] k j x other = refl
 beside (y ∷ xs) zero zero x other = absurd (other refl)
 beside (y ∷ xs) zero (suc j) x other = refl
 beside (y ∷ xs) (suc k) zero x other = refl
 beside (y ∷ xs) (suc k) (suc j) x other = beside xs k j x (λ same. other (ap (λ n. suc n) same))
 
-there : (xs : List ℤ) (k : ℕ) (x : ℤ) → k < length xs → level_of (slice_set xs k x) k ≡ x
+there : (xs : List ℤ) (k : ℕ) (x : ℤ) → k < length xs → level_in (slice_set xs k x) k ≡ x
 there [] k x low = absurd (omega (arith, low))
 there (y ∷ xs) zero x low = refl
 there (y ∷ xs) (suc k) x low = there xs k x (omega (arith, low))
 
-zero_at : (xs : List ℤ) → All (λ v. v ≡ pos 0) xs → (p : ℕ) → level_of xs p ≡ pos 0
+zero_at : (xs : List ℤ) → All (λ v. v ≡ pos 0) xs → (p : ℕ) → level_in xs p ≡ pos 0
 zero_at [] zeros p = refl
 zero_at (x ∷ xs) zeros zero = All-head (λ v. v ≡ pos 0) x xs zeros
 zero_at (x ∷ xs) zeros (suc p) = zero_at xs (All-tail (λ v. v ≡ pos 0) x xs zeros) p
@@ -54,7 +54,7 @@ coded depth scan (level ∷ levels) k values small all =
     (All-set (λ level. IsCoded depth (unsigned_abs level)) values (slice_index scan k) level (few depth level (All-head IsDrawnLevel level levels small)) all)
 
 others : (scan : List ℕ) (levels : List ℤ) (k : ℕ) (values : List ℤ) (position : ℕ)
-    → ((j : ℕ) → k ≤ j → j < k + length levels → slice_index scan j ≢ position) → level_of (placed_from k scan levels values) position ≡ level_of values position
+    → ((j : ℕ) → k ≤ j → j < k + length levels → slice_index scan j ≢ position) → level_in (placed_from k scan levels values) position ≡ level_in values position
 others scan [] k values position away = refl
 others scan (level ∷ levels) k values position away =
     others scan levels (suc k) (slice_set values (slice_index scan k) level) position (λ j low high. away j (omega (arith, low)) (omega (arith, high)))
@@ -67,7 +67,7 @@ further : (k m : ℕ) → k + suc m ≡ suc k + m
 further k m = omega arith
 
 last : (scan : List ℕ) (level : ℤ) (levels : List ℤ) (k n : ℕ) (values : List ℤ) → All IsDrawnLevel (level ∷ levels) → length values ≡ n
-    → All (λ p. p < n) scan → k + length levels < length scan → level_of (placed_from k scan (level ∷ levels) values) (slice_index scan (k + length levels)) ≢ pos 0
+    → All (λ p. p < n) scan → k + length levels < length scan → level_in (placed_from k scan (level ∷ levels) values) (slice_index scan (k + length levels)) ≢ pos 0
 last scan level [] k n values small same within low =
     rw (at_end k) (λ none. some level (All-head IsDrawnLevel level [] small)
     (sym (there values (slice_index scan k) level (rw same (at_within n scan k within (omega (arith, low))))) ∙ none))
@@ -80,7 +80,7 @@ before_last : (m : ℕ) → suc m - 1 ≡ 0 + m
 before_last m = omega arith
 
 last_of : (scan : List ℕ) (levels values : List ℤ) → All IsDrawnLevel levels → All (λ p. p < length values) scan → 0 < length levels → length levels < length scan
-    → level_of (placed_from 0 scan levels values) (slice_index scan (length levels - 1)) ≢ pos 0
+    → level_in (placed_from 0 scan levels values) (slice_index scan (length levels - 1)) ≢ pos 0
 last_of scan [] values small within any low = absurd (omega (arith, any))
 last_of scan (level ∷ levels) values small within any low =
     rw (before_last (length levels)) (last scan level levels 0 (length values) values small refl within (omega (arith, low)))

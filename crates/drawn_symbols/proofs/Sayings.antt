@@ -7,7 +7,7 @@ use Rattle.vp9_types.specs.declared.block.InterpFilter.{InterpFilter}
 use Rattle.vp9_types.specs.declared.block.InterpFilter.TheVariants.{Bilinear}
 use Rattle.block_geometry.specs.BlockSizes.{is_below_8x8}
 use Rattle.vector_writer.specs.VectorFits.{quarter_saying}
-use Rattle.vector_writer.specs.SaidVectors.{mode_at, symbols_at}
+use Rattle.vector_writer.specs.SaidVectors.{mode_of_part, symbols_at}
 use Rattle.vector_writer.specs.declared.symbols.QuarterSymbols.{QuarterSymbols}
 use Rattle.drawn_symbols.specs.Code.{CanBeQuarter, CanBeSymbols}
 use Rattle.drawn_symbols.specs.InterDraws.{symbols_of}
@@ -55,7 +55,7 @@ pub columns_can : (b : Best) (filter : InterpFilter) (q r : QuarterSymbols) → 
 columns_can b filter q r named cq cr = record {
   references = refl;
   named = named;
-  same = each_four (λ k. mode_at (symbols_of b.references filter (q ∷ r ∷ q ∷ r ∷ [])).modes k ≡ mode_at (symbols_of b.references filter (q ∷ r ∷ q ∷ r ∷ [])).modes (quarter_saying B4x8 k)) refl refl refl refl;
+  same = each_four (λ k. mode_of_part (symbols_of b.references filter (q ∷ r ∷ q ∷ r ∷ [])).modes k ≡ mode_of_part (symbols_of b.references filter (q ∷ r ∷ q ∷ r ∷ [])).modes (quarter_saying B4x8 k)) refl refl refl refl;
   vectors = each_four (λ k. CanBeQuarter b (symbols_at (symbols_of b.references filter (q ∷ r ∷ q ∷ r ∷ [])) (quarter_saying B4x8 k))) (quarter b q cq) (quarter b r cr) (quarter b q cq) (quarter b r cr);
 }
 
@@ -64,7 +64,7 @@ pub rows_can : (b : Best) (filter : InterpFilter) (q r : QuarterSymbols) → fil
 rows_can b filter q r named cq cr = record {
   references = refl;
   named = named;
-  same = each_four (λ k. mode_at (symbols_of b.references filter (q ∷ q ∷ r ∷ r ∷ [])).modes k ≡ mode_at (symbols_of b.references filter (q ∷ q ∷ r ∷ r ∷ [])).modes (quarter_saying B8x4 k)) refl refl refl refl;
+  same = each_four (λ k. mode_of_part (symbols_of b.references filter (q ∷ q ∷ r ∷ r ∷ [])).modes k ≡ mode_of_part (symbols_of b.references filter (q ∷ q ∷ r ∷ r ∷ [])).modes (quarter_saying B8x4 k)) refl refl refl refl;
   vectors = each_four (λ k. CanBeQuarter b (symbols_at (symbols_of b.references filter (q ∷ q ∷ r ∷ r ∷ [])) (quarter_saying B8x4 k))) (quarter b q cq) (quarter b q cq) (quarter b r cr) (quarter b r cr);
 }
 
@@ -73,7 +73,7 @@ pub whole_can : (b : Best) (size : BlockSize) (filter : InterpFilter) (q : Quart
 whole_can b size filter q below named cq = record {
   references = refl;
   named = named;
-  same = each_four (λ k. mode_at (symbols_of b.references filter (q ∷ q ∷ q ∷ q ∷ [])).modes k ≡ mode_at (symbols_of b.references filter (q ∷ q ∷ q ∷ q ∷ [])).modes (quarter_saying size k))
+  same = each_four (λ k. mode_of_part (symbols_of b.references filter (q ∷ q ∷ q ∷ q ∷ [])).modes k ≡ mode_of_part (symbols_of b.references filter (q ∷ q ∷ q ∷ q ∷ [])).modes (quarter_saying size k))
       (rw (says_first size below 0) refl) (rw (says_first size below 1) refl) (rw (says_first size below 2) refl) (rw (says_first size below 3) refl);
   vectors = λ k low. rw (says_first size below k) (quarter b q cq);
 }

@@ -5,9 +5,9 @@ use Rattle.vp9_types.specs.declared.block.BlockSize.TheVariants.{B4x4, B4x8, B8x
 use Rattle.vp9_types.specs.declared.block.InterpFilter.TheVariants.{Bilinear}
 use Rattle.vp9_types.specs.declared.block.IntraMode.{IntraMode}
 use Rattle.block_plan.specs.declared.block.Mv.{Mv}
-use Rattle.block_plan.specs.declared.block.References.{References}
+use Rattle.block_plan.specs.declared.block.ReferenceFrames.{ReferenceFrames}
 use Rattle.vector_writer.specs.VectorFits.{CanSayVectors, quarter_saying}
-use Rattle.vector_writer.specs.SaidVectors.{mode_at, symbols_at}
+use Rattle.vector_writer.specs.SaidVectors.{mode_of_part, symbols_at}
 use Rattle.vector_writer.specs.declared.symbols.InterSymbols.{InterSymbols}
 use Rattle.vector_writer.specs.declared.symbols.QuarterSymbols.{QuarterSymbols}
 use Rattle.drawn_symbols.specs.declared.quarters.Best.{Best}
@@ -23,7 +23,7 @@ CanBeQuarter b q = CanSayVectors b.allowed b.vectors b.references q
 pub record CanBeSymbols (b : Best) (size : BlockSize) (symbols : InterSymbols) : Type 0 where
   pub references : symbols.references ≡ b.references
   pub named : symbols.filter ≢ Bilinear
-  pub same : (k : ℕ) → k < 4 → mode_at symbols.modes k ≡ mode_at symbols.modes (quarter_saying size k)
+  pub same : (k : ℕ) → k < 4 → mode_of_part symbols.modes k ≡ mode_of_part symbols.modes (quarter_saying size k)
   pub vectors : (k : ℕ) → k < 4 → CanBeQuarter b (symbols_at symbols (quarter_saying size k))
 
 ---- By size ----
@@ -63,7 +63,7 @@ luma_drawn_by_size B8x4 = draw_two_rows
 luma_drawn_by_size size = draw_one_mode
 
 -- 4x4: one quarter after another
-unfoldable pub draw_four : Bool → List Mv → References → Drawn InterSymbols
+unfoldable pub draw_four : Bool → List Mv → ReferenceFrames → Drawn InterSymbols
 draw_four allowed best refs = do
   filter ← draw_filter
   q ← draw_quarter allowed best refs
@@ -73,7 +73,7 @@ draw_four allowed best refs = do
   stay (symbols_of refs filter (q ∷ r ∷ t ∷ u ∷ []))
 
 -- 4x8: one at the left and one at the right
-unfoldable pub draw_columns : Bool → List Mv → References → Drawn InterSymbols
+unfoldable pub draw_columns : Bool → List Mv → ReferenceFrames → Drawn InterSymbols
 draw_columns allowed best refs = do
   filter ← draw_filter
   q ← draw_quarter allowed best refs
@@ -81,14 +81,14 @@ draw_columns allowed best refs = do
   stay (symbols_of refs filter (q ∷ r ∷ q ∷ r ∷ []))
 
 -- 8x4: an upper and a lower one
-unfoldable pub draw_rows : Bool → List Mv → References → Drawn InterSymbols
+unfoldable pub draw_rows : Bool → List Mv → ReferenceFrames → Drawn InterSymbols
 draw_rows allowed best refs = do
   filter ← draw_filter
   q ← draw_quarter allowed best refs
   r ← draw_quarter allowed best refs
   stay (symbols_of refs filter (q ∷ q ∷ r ∷ r ∷ []))
 
-unfoldable pub quarters_drawn_by_size : Bool → List Mv → References → BlockSize → Drawn InterSymbols
+unfoldable pub quarters_drawn_by_size : Bool → List Mv → ReferenceFrames → BlockSize → Drawn InterSymbols
 quarters_drawn_by_size allowed best refs B4x8 = draw_columns allowed best refs
 quarters_drawn_by_size allowed best refs B8x4 = draw_rows allowed best refs
 quarters_drawn_by_size allowed best refs size = draw_four allowed best refs

@@ -15,11 +15,11 @@ use Rattle.block_geometry.specs.BlockSizes.{is_below_8x8}
 use Rattle.block_geometry.specs.Quarters.{starting_quarters, with_part}
 use Rattle.block_plan.specs.BlockMvs.{no_vector, vector_at}
 use Rattle.block_plan.specs.declared.block.Mv.{Mv}
-use Rattle.block_plan.specs.declared.block.References.{References}
-use Rattle.mv_prediction.specs.Vectors.{is_precise}
+use Rattle.block_plan.specs.declared.block.ReferenceFrames.{ReferenceFrames}
+use Rattle.mv_prediction.specs.Vectors.{is_short_vector}
 use Rattle.mv_prediction.specs.declared.search.SignBiases.{SignBiases}
-use Rattle.inter_contexts.specs.BlockReferences.{fixed_of, variable_by, with_fixed, single, in_range_or_rule}
-use Rattle.inter_modes.specs.ModeInfo.{InterFrame, filter_of}
+use Rattle.inter_contexts.specs.BlockReferences.{fixed_of, variable_by, with_fixed, single, allowed_or_rule}
+use Rattle.inter_modes.specs.ModeInfo.{InterFrame, filter_of_symbol}
 use Rattle.inter_modes.specs.BlockVectors.{Sources, best_mv, inter_of}
 use Rattle.vector_writer.specs.declared.symbols.InterSymbols.{InterSymbols}
 use Rattle.vector_writer.specs.declared.symbols.QuarterSymbols.{QuarterSymbols}
@@ -34,18 +34,18 @@ draw_is_compound Compound = stay true
 draw_is_compound Selected = draw_flag
 
 -- the frame's fixed reference, and one of the two others
-unfoldable pub draw_compound : SignBiases → Drawn References
+unfoldable pub draw_compound : SignBiases → Drawn ReferenceFrames
 draw_compound biases = draw_flag >>= λ one. stay (with_fixed biases (fixed_of biases) (variable_by (fixed_of biases) one))
 
-unfoldable pub draw_golden_or_altref : Drawn References
+unfoldable pub draw_golden_or_altref : Drawn ReferenceFrames
 draw_golden_or_altref = draw_flag >>= λ altref. stay (single (if altref then Altref else Golden))
 
-unfoldable pub draw_single : Drawn References
+unfoldable pub draw_single : Drawn ReferenceFrames
 draw_single = do
   other ← draw_flag
   if other then draw_golden_or_altref else stay (single Last)
 
-unfoldable pub draw_references : ReferenceMode → SignBiases → Drawn References
+unfoldable pub draw_references : ReferenceMode → SignBiases → Drawn ReferenceFrames
 draw_references mode biases = do
   compound ← draw_is_compound mode
   if compound then draw_compound biases else draw_single
@@ -56,24 +56,24 @@ unfoldable pub draw_inter_mode : Drawn InterMode
 draw_inter_mode = draw_leaf inter_mode_tree >>= λ n. stay (inter_of n)
 
 unfoldable pub draw_filter : Drawn InterpFilter
-draw_filter = draw_leaf filter_tree >>= λ n. stay (filter_of n)
+draw_filter = draw_leaf filter_tree >>= λ n. stay (filter_of_symbol n)
 
 -- a new vector's difference from the best one, by which it is told whether bits of high precision are coded; others say none
 unfoldable pub draw_new : Bool → InterMode → Mv → Drawn Mv
-draw_new allowed New best = draw_difference (allowed && is_precise best)
+draw_new allowed New best = draw_difference (allowed && is_short_vector best)
 draw_new allowed _ best = stay no_vector
 
 unfoldable pub draw_new_if : Bool → Bool → InterMode → Mv → Drawn Mv
 draw_new_if coded allowed mode best = if coded then draw_new allowed mode best else stay no_vector
 
 -- of each reference, by the best vectors
-unfoldable pub draw_differences : Bool → List Mv → References → InterMode → Drawn (List Mv)
+unfoldable pub draw_differences : Bool → List Mv → ReferenceFrames → InterMode → Drawn (List Mv)
 draw_differences allowed best refs mode = do
   first ← draw_new allowed mode (vector_at best 0)
   second ← draw_new_if (is_some refs.second) allowed mode (vector_at best 1)
   stay (first ∷ second ∷ [])
 
-unfoldable pub draw_quarter : Bool → List Mv → References → Drawn QuarterSymbols
+unfoldable pub draw_quarter : Bool → List Mv → ReferenceFrames → Drawn QuarterSymbols
 draw_quarter allowed best refs = do
   mode ← draw_inter_mode
   differences ← draw_differences allowed best refs mode
@@ -82,7 +82,7 @@ draw_quarter allowed best refs = do
 ---- Blocks ----
 
 -- a block's, by quarter
-abbrev pub symbols_of : References → InterpFilter → List QuarterSymbols → InterSymbols
+abbrev pub symbols_of : ReferenceFrames → InterpFilter → List QuarterSymbols → InterSymbols
 symbols_of refs filter quarters = record {
   references = refs;
   filter = filter;
@@ -98,7 +98,7 @@ abbrev pub no_symbols : QuarterSymbols
 no_symbols = record { mode = Zero; differences = no_vector ∷ no_vector ∷ [] }
 
 -- 8x8 or more: the filter stands between mode and vectors
-unfoldable pub draw_whole : Bool → List Mv → References → Drawn InterSymbols
+unfoldable pub draw_whole : Bool → List Mv → ReferenceFrames → Drawn InterSymbols
 draw_whole allowed best refs = do
   mode ← draw_inter_mode
   filter ← draw_filter
@@ -106,27 +106,27 @@ draw_whole allowed best refs = do
   stay (symbols_of refs filter (in_all_quarters (record { mode = mode; differences = differences })))
 
 -- of the parts that begin at some quarters, one after another
-unfoldable pub draw_each_quarter : Bool → List Mv → References → BlockSize → List ℕ → List QuarterSymbols → Drawn (List QuarterSymbols)
+unfoldable pub draw_each_quarter : Bool → List Mv → ReferenceFrames → BlockSize → List ℕ → List QuarterSymbols → Drawn (List QuarterSymbols)
 draw_each_quarter allowed best refs size [] quarters = stay quarters
 draw_each_quarter allowed best refs size (k ∷ rest) quarters = do
   q ← draw_quarter allowed best refs
   draw_each_quarter allowed best refs size rest (with_part size k q quarters)
 
 -- below 8x8: the filter, and then the parts
-unfoldable pub draw_quarters : Bool → List Mv → References → BlockSize → Drawn InterSymbols
+unfoldable pub draw_quarters : Bool → List Mv → ReferenceFrames → BlockSize → Drawn InterSymbols
 draw_quarters allowed best refs size = do
   filter ← draw_filter
   quarters ← draw_each_quarter allowed best refs size (starting_quarters size) (in_all_quarters no_symbols)
   stay (symbols_of refs filter quarters)
 
-unfoldable pub draw_modes : Bool → List Mv → References → BlockSize → Drawn InterSymbols
+unfoldable pub draw_modes : Bool → List Mv → ReferenceFrames → BlockSize → Drawn InterSymbols
 draw_modes allowed best refs size = if is_below_8x8 size then draw_quarters allowed best refs size else draw_whole allowed best refs
 
 -- what a block says whose references are out of range: nothing more is coded
-abbrev pub references_alone : References → InterSymbols
+abbrev pub references_alone : ReferenceFrames → InterSymbols
 references_alone refs = symbols_of refs Regular (in_all_quarters no_symbols)
 
-abbrev pub draw_modes_if : Result References Rule → Sources → References → Drawn InterSymbols
+abbrev pub draw_modes_if : Result ReferenceFrames Rule → Sources → ReferenceFrames → Drawn InterSymbols
 draw_modes_if (Ok _) s refs = draw_modes s.allowed (best_mv s refs) refs s.search.at.size
 draw_modes_if (Err _) s refs = stay (references_alone refs)
 
@@ -134,4 +134,4 @@ draw_modes_if (Err _) s refs = stay (references_alone refs)
 unfoldable pub draw_inter : InterFrame → Sources → Drawn InterSymbols
 draw_inter f s = do
   refs ← draw_references f.modes.reference_mode s.search.biases
-  draw_modes_if (in_range_or_rule f.header.size f.fields.references refs) s refs
+  draw_modes_if (allowed_or_rule f.header.size f.fields.references refs) s refs

@@ -37,8 +37,8 @@ draw_tx mode size = if says_tx mode size then draw_tx_symbol (tx_of (greatest_of
 unfoldable pub draw_tx_if : Bool → TxMode → BlockSize → Drawn TxSize
 draw_tx_if coded mode size = if coded then draw_tx mode size else stay (tx_of (greatest_allowed mode size))
 
-abbrev pub start_of : ℕ → Bool → Bool → TxSize → BlockStart
-start_of segment skip is_inter tx = record { segment = segment_of false segment; skip = skip; is_inter = is_inter; tx = tx }
+abbrev pub drawn_start : ℕ → Bool → Bool → TxSize → BlockStart
+drawn_start segment skip is_inter tx = record { segment = segment_of false segment; skip = skip; is_inter = is_inter; tx = tx }
 
 -- of a block of an intra frame
 unfoldable pub draw_intra_start : Segmentation → TxMode → BlockSize → Drawn BlockStart
@@ -46,7 +46,7 @@ draw_intra_start segmentation mode size = do
   segment ← draw_segment segmentation
   skip ← draw_flag
   tx ← draw_tx mode size
-  stay (start_of segment skip false tx)
+  stay (drawn_start segment skip false tx)
 
 -- of a block of an inter frame
 unfoldable pub draw_inter_start : Segmentation → TxMode → BlockSize → Drawn BlockStart
@@ -55,4 +55,4 @@ draw_inter_start segmentation mode size = do
   skip ← draw_flag
   is_inter ← draw_flag
   tx ← draw_tx_if (not (is_inter && skip)) mode size
-  stay (start_of segment skip is_inter tx)
+  stay (drawn_start segment skip is_inter tx)

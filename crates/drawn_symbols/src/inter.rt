@@ -12,14 +12,14 @@ ghost use Rattle.drawn_symbols.specs.InterDraws.{draw_inter, references_alone};
 use crate::draws::Draws;
 use crate::quarters::{Best, draw_modes, symbols_of};
 use crate::references::draw_references;
-use block_plan::{Neighbours, References};
-use inter_contexts::in_range_or_rule;
+use block_plan::{Neighbours, ReferenceFrames};
+use inter_contexts::allowed_or_rule;
 use inter_modes::{Frame, NO_VECTORS, Sources, best_mv};
 use vector_writer::{InterSymbols, QuarterSymbols};
 use vp9_types::{InterMode, InterpFilter};
 
 /// What a block says whose references are out of range.
-fn references_alone(references: References) -> InterSymbols
+fn references_alone(references: ReferenceFrames) -> InterSymbols
     ensures { result ≡ references_alone references }
 {
     let q = QuarterSymbols {
@@ -45,7 +45,7 @@ pub(crate) fn draw_inter<N: Neighbours, Q: Neighbours>(
     let setting = frame.setting;
     let mode = setting.modes.reference_mode;
     let references = draw_references(draws, mode, &src.search.biases);
-    match in_range_or_rule(&setting.header.size, &frame.fields.references, references) {
+    match allowed_or_rule(&setting.header.size, &frame.fields.references, references) {
         Ok(_) => {
             let best = Best {
                 allowed: src.high_precision,

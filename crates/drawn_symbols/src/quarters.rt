@@ -12,9 +12,9 @@ ghost use Rattle.drawn_symbols.specs.Code.{CanBeSymbols, draw_four, draw_columns
 use crate::draws::Draws;
 use crate::vectors::draw_difference;
 use block_geometry::is_below_8x8;
-use block_plan::{Mv, References};
+use block_plan::{Mv, ReferenceFrames};
 use inter_modes::NO_VECTOR;
-use mv_prediction::is_precise;
+use mv_prediction::is_short_vector;
 use vector_writer::{InterSymbols, QuarterSymbols};
 use vp9_types::{BlockSize, InterMode, InterpFilter};
 
@@ -24,7 +24,7 @@ use vp9_types::{BlockSize, InterMode, InterpFilter};
 pub struct Best {
     pub allowed: bool,
     pub vectors: [Mv; 2],
-    pub references: References,
+    pub references: ReferenceFrames,
     pub size: BlockSize,
 }
 
@@ -58,7 +58,7 @@ fn draw_new(draws: &mut Draws, allowed: bool, mode: InterMode, best: Mv) -> Mv
     ensures can { CanBeNew allowed mode best result }
 {
     match mode {
-        InterMode::New => draw_difference(draws, allowed && is_precise(best)),
+        InterMode::New => draw_difference(draws, allowed && is_short_vector(best)),
         InterMode::Nearest | InterMode::Near | InterMode::Zero => NO_VECTOR,
     }
 }
@@ -103,7 +103,7 @@ fn draw_quarter(draws: &mut Draws, best: &Best) -> QuarterSymbols
 
 /// What four quarters say.
 pub(crate) fn symbols_of(
-    references: References,
+    references: ReferenceFrames,
     filter: InterpFilter,
     q: QuarterSymbols,
     r: QuarterSymbols,

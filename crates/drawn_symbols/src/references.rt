@@ -7,7 +7,7 @@ ghost use Rattle.drawn_symbols.specs.Draws.{IsDrawn};
 ghost use Rattle.drawn_symbols.specs.InterDraws.{draw_is_compound, draw_compound, draw_golden_or_altref, draw_single, draw_references};
 
 use crate::draws::Draws;
-use block_plan::References;
+use block_plan::ReferenceFrames;
 use inter_contexts::{fixed_of, single, variable_by, with_fixed};
 use mv_prediction::SignBiases;
 use vp9_types::{ReferenceFrame, ReferenceMode};
@@ -25,7 +25,7 @@ fn draw_is_compound(draws: &mut Draws, mode: ReferenceMode) -> bool
 }
 
 #[tactic(auto, unfolding(crate::specs::InterDraws::draw_compound))]
-fn draw_compound(draws: &mut Draws, biases: &SignBiases) -> References
+fn draw_compound(draws: &mut Draws, biases: &SignBiases) -> ReferenceFrames
     ensures drawn { IsDrawn (draw_compound biases.now) draws.old result draws.new }
     ensures second { is_some result.second ≡ true }
     ensures can { AreCompound biases.now result }
@@ -37,7 +37,7 @@ fn draw_compound(draws: &mut Draws, biases: &SignBiases) -> References
 }
 
 #[tactic(auto, unfolding(crate::specs::InterDraws::draw_golden_or_altref))]
-fn draw_golden_or_altref(draws: &mut Draws) -> References
+fn draw_golden_or_altref(draws: &mut Draws) -> ReferenceFrames
     ensures drawn { IsDrawn draw_golden_or_altref draws.old result draws.new }
     ensures second { is_some result.second ≡ false }
 {
@@ -49,7 +49,7 @@ fn draw_golden_or_altref(draws: &mut Draws) -> References
 }
 
 #[tactic(auto, unfolding(crate::specs::InterDraws::draw_single))]
-fn draw_single(draws: &mut Draws) -> References
+fn draw_single(draws: &mut Draws) -> ReferenceFrames
     ensures drawn { IsDrawn draw_single draws.old result draws.new }
     ensures second { is_some result.second ≡ false }
 {
@@ -66,7 +66,7 @@ pub(crate) fn draw_references(
     draws: &mut Draws,
     mode: ReferenceMode,
     biases: &SignBiases,
-) -> References
+) -> ReferenceFrames
     ensures drawn { IsDrawn (draw_references mode biases.now) draws.old result draws.new }
     ensures can { CanCodeReferences mode biases.now result }
 {

@@ -1,9 +1,13 @@
 -- What a source gives, by cases on its answer.
-use Rattle.std.specs.Prelude.{◌≡◌, ℕ, ◌+◌, ◌<◌, ◌≤◌, List, [], length, take, drop, Option, Some, Result, Ok, Err}
+use Rattle.std.specs.Prelude.{◌≡◌, ℕ, ◌+◌, ◌<◌, ◌≤◌, List, [], ◌++◌, length, take, drop, Option, Some, Result, Ok, Err}
 
 -- what is told has the property; where nothing is told, nothing is said
 abbrev pub WhereTold : Option (List ℕ) → (List ℕ → Type 0) → Type 0
 WhereTold told P = (bytes : List ℕ) → told ≡ Some bytes → P bytes
+
+-- what is told begins with these bytes
+abbrev pub BeginsWith : Option (List ℕ) → List ℕ → Type 0
+BeginsWith told front = WhereTold told (λ bytes. (more : List ℕ) × (bytes ≡ front ++ more))
 
 -- what was told is told still
 abbrev pub IsKept : Option (List ℕ) → Option (List ℕ) → Type 0

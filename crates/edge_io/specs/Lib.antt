@@ -4,3 +4,4 @@ pub mod Putting
 pub mod Memory
 pub mod System
 pub mod Prefixed
+pub mod Buffered

@@ -1,6 +1,7 @@
 //! The outside of the decoder: where its bytes come from, where they go, and who watches its jobs.
 #![tactic(auto)]
 
+mod buffered;
 mod calls;
 mod gate;
 mod memory;
@@ -11,6 +12,7 @@ mod source;
 mod system;
 mod write;
 
+pub use buffered::Buffered;
 pub use gate::{Gate, OpenGate};
 pub use memory::{MemSink, MemSource};
 pub use prefixed::Prefixed;

@@ -74,6 +74,10 @@ impl Source for MemSource {
         self.at += n;
         Ok(n)
     }
+
+    fn at_hand(&self) -> &[u8] {
+        &self.bytes[self.at..]
+    }
 }
 
 impl MemSink {

@@ -61,4 +61,11 @@ impl<S: Source> Source for Prefixed<S> {
         self.left -= n;
         Ok(n)
     }
+
+    fn at_hand(&self) -> &[u8] {
+        if self.left == 0 {
+            return self.source.at_hand();
+        }
+        &self.front[FRONT - self.left..]
+    }
 }

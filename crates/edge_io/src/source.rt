@@ -1,5 +1,5 @@
 ghost use Rattle.std.specs.Prelude.{◌≡◌, ◌<◌, ◌^◌, ℕ, List, Option};
-ghost use Rattle.edge_io.specs.Filling.{Fills, CountsGiven, CountsFaults};
+ghost use Rattle.edge_io.specs.Filling.{Fills, BeginsWith, CountsGiven, CountsFaults};
 
 use thiserror::Error;
 
@@ -31,4 +31,8 @@ pub trait Source {
         ensures most { given self.new < 2 ^ 63 }
         ensures faults { CountsFaults (faults self.old) (faults self.new) result }
         ensures again { faults self.new ≡ faults self.old → can_fill self.new };
+
+    /// The next bytes, as far as they are here already, so that taking them waits for nothing. A source that can't tell has none.
+    fn at_hand(&self) -> &[u8]
+        ensures { BeginsWith (rest self.now) result.now };
 }

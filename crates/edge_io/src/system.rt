@@ -158,6 +158,10 @@ impl<R: Read> Source for StdSource<R> {
         self.failed = true;
         Err(Failed)
     }
+
+    fn at_hand(&self) -> &[u8] {
+        &[]
+    }
 }
 
 impl<W: Write> Sink for StdSink<W> {

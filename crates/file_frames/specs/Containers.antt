@@ -2,7 +2,7 @@
 use Rattle.std.specs.Prelude.{◌≡◌, ◌⊎◌, ℕ, Bool, true, false, List, [], ◌∷◌, nat_eq, if◌then◌else◌, Result, Ok, Err}
 use Rattle.std.specs.List.{starts_with}
 use Rattle.vp9_types.specs.declared.rule.Rule.{Rule}
-use Rattle.ivf_container.specs.Packets.{Packets, IsFile, header_end, packets_of, rate_of}
+use Rattle.ivf_container.specs.Packets.{Packets, IsFile, header_end, packets_of, frame_rate_of}
 use Rattle.webm_container.specs.Walk.{webm_packets}
 
 -- it begins with the id of the element EBML
@@ -19,7 +19,7 @@ unfoldable pub packets_of_file : List ℕ → Packets
 packets_of_file bytes = if is_webm bytes then webm_packets bytes else packets_of bytes
 
 abbrev pub rate_with : List ℕ → Result ℕ Rule → ℕ × ℕ
-rate_with bytes (Ok end) = rate_of bytes
+rate_with bytes (Ok end) = frame_rate_of bytes
 rate_with bytes (Err rule) = (0, 0)
 
 -- how many frames a second a file tells, as a number and what it is divided by: what the header of an IVF file has, and 30 of

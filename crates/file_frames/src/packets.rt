@@ -1,7 +1,7 @@
 //! The packets of a file, whatever its container is.
 
 ghost use Rattle.std.specs.Prelude.{◌≡◌, ◌≤◌, length};
-ghost use Rattle.ivf_container.specs.Packets.{rate_of};
+ghost use Rattle.ivf_container.specs.Packets.{frame_rate_of};
 ghost use Rattle.webm_container.specs.Code.{blocks_ahead};
 ghost use Rattle.file_frames.specs.Cursors.{FitsFile, IsNextPacket, packets_left, place_of};
 ghost use Rattle.file_frames.specs.Containers.{is_webm, packets_of_file, rate_of_file};

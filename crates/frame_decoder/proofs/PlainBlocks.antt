@@ -57,7 +57,7 @@ modes_of by blocks at = mode_info (block_sources by) blocks at
 pub block_read : (by : FrameSources) (put : Rebuilding) (at : BlockAt) (blocks : List BlockInfo) (sides after_it : TileSides) (old new : FrameMap)
     (a b d : Standing) (info : BlockInfo) (planned : PlannedBlock)
     → run_counting (modes_of by blocks at) a ≡ Ok (Ok info, b)
-    → run_counting (residues.read_block by.header by.contexts at.tile_from info sides) b ≡ Ok ((planned, after_it), d)
+    → run_counting (residues.block_residue by.header by.contexts at.tile_from info sides) b ≡ Ok ((planned, after_it), d)
     → new ≡ put_planned put planned old
     → run_counting (plain_block by put at (plain blocks sides old)) a ≡ Ok (plain (blocks ++ planned.info ∷ []) after_it new, d)
 unfolding plain_block lifted
@@ -81,7 +81,7 @@ modes_broken by put at blocks sides map a b rule modes_read =
 pub block_broken : (by : FrameSources) (put : Rebuilding) (at : BlockAt) (blocks : List BlockInfo) (sides : TileSides) (map : FrameMap)
     (a b : Standing) (info : BlockInfo) (rule : Rule)
     → run_counting (modes_of by blocks at) a ≡ Ok (Ok info, b)
-    → run_counting (residues.read_block by.header by.contexts at.tile_from info sides) b ≡ Err rule
+    → run_counting (residues.block_residue by.header by.contexts at.tile_from info sides) b ≡ Err rule
     → run_counting (plain_block by put at (plain blocks sides map)) a ≡ Err rule
 unfolding plain_block lifted
 block_broken by put at blocks sides map a b info rule modes_read residue =

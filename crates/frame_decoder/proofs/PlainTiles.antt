@@ -24,7 +24,7 @@ use Rattle.residue_syntax.specs.declared.sides.TileSides.{TileSides}
 use Rattle.mode_syntax.proofs.Mapped.{tile_everywhere}
 use Rattle.inter_modes.specs.ModeInfo.{mode_info}
 use Rattle.mode_syntax.specs.Laws.{squares_from}
-use Rattle.mode_syntax.specs.Walk.{Walk, decode_tile}
+use Rattle.mode_syntax.specs.Walk.{TileWalk, decode_tile}
 use Rattle.tile_reader.specs.Code.{Breaks, EndsTile, Rest, Tile}
 use Rattle.frame_decoder.specs.Code.{PlainTile, plain_block, plain_walk, tile_of, GivesTile, GivesRead, GivesWhole, HoldsRead, walk_of, pictures_of}
 use Rattle.frame_state.specs.Code.{settled_of, read_whole, column_as_listed, column_of_code, counts_if, sources_of}
@@ -66,7 +66,7 @@ block_seen by put m at s =
     let seen = view put m in
     mapped_after seen (mode_info (block_sources by) (infos (s.earlier ++ s.blocks)) at) _ _
     (λ told. mapped_after seen (lifted told) _ _
-    (λ info. mapped_after seen (residues.read_block by.header by.contexts at.tile_from info s.sides) _ _
+    (λ info. mapped_after seen (residues.block_residue by.header by.contexts at.tile_from info s.sides) _ _
     (λ read. ap settle (state_more put m s read.0 read.1))))
 
 pub tile_seen : (by : FrameSources) (put : Rebuilding) (frame : FramePlaces) (tile : TilePlaces) (m : FrameMap) (columns r c n : ℕ) (s : TileRead)
@@ -77,7 +77,7 @@ tile_seen by put frame tile m columns r c n s =
     (λ at s. block_seen by put m at s) (λ s. refl) columns r c n s
 
 -- what a tile's reader gives
-pub tile_given : {X : Type 0} {n : ℕ} (rest : Rest PlainTile) (room : ℕ) (start : Tile PlainTile Rule) (result : Result (Unit {0}) Rule) (old : CountingReader n) (walk : Walk PlainTile) (limit most : ℕ) (column : TileColumn) (planes : FramePlanes X) (new : CountingReader n)
+pub tile_given : {X : Type 0} {n : ℕ} (rest : Rest PlainTile) (room : ℕ) (start : Tile PlainTile Rule) (result : Result (Unit {0}) Rule) (old : CountingReader n) (walk : TileWalk PlainTile) (limit most : ℕ) (column : TileColumn) (planes : FramePlanes X) (new : CountingReader n)
     → start.standing ≡ standing_of old → start.rule_of ≡ (λ rule. Some rule) → EndsTile rest room start result (record { walk = walk; rule_of = λ rule. Some rule; limit = limit; room = most; state = tile_of column planes; standing = standing_of new })
     → GivesTile (rest start.state) old result column planes new
 tile_given rest room start (Ok u) old walk limit most column planes new is tells h = rw (sym is) h.0

@@ -20,7 +20,7 @@ use Rattle.block_plan.specs.declared.block.BlockInfo.{BlockInfo}
 use Rattle.residue_syntax.specs.Residues as residues
 use Rattle.residue_syntax.specs.declared.sides.TileSides.{TileSides}
 use Rattle.inter_modes.specs.ModeInfo.{mode_info}
-use Rattle.mode_syntax.specs.Walk.{Walk}
+use Rattle.mode_syntax.specs.Walk.{TileWalk}
 use Rattle.planes.specs.Pictures.{HasSizes, IsInRange, map_of, samples_of}
 use Rattle.planes.specs.declared.frame_planes.FramePlanes.{FramePlanes}
 use Rattle.planes.specs.declared.picture.Picture.{Picture}
@@ -52,10 +52,10 @@ unfoldable pub plain_block : FrameSources → Rebuilding → BlockAt → PlainTi
 plain_block by put at s =
     counting.◌>>=◌ (mode_info (block_sources by) s.blocks at) (λ told.
     counting.◌>>=◌ (lifted told) (λ info.
-    counting.◌>>=◌ (residues.read_block by.header by.contexts at.tile_from info s.sides) (λ read.
+    counting.◌>>=◌ (residues.block_residue by.header by.contexts at.tile_from info s.sides) (λ read.
     settle (record { blocks = s.blocks ++ read.0.info ∷ []; sides = read.1; map = put_planned put read.0 s.map }))))
 
-abbrev pub plain_walk : FrameSources → Rebuilding → FramePlaces → ℕ → ℕ → Walk PlainTile
+abbrev pub plain_walk : FrameSources → Rebuilding → FramePlaces → ℕ → ℕ → TileWalk PlainTile
 plain_walk by put frame from to = record {
   frame = frame;
   tile_from = from;
@@ -76,7 +76,7 @@ tile_of c planes = record { blocks = c.grid.blocks; sides = c.sides; map = sampl
 abbrev pub pictures_of : {X : Type 0} → PlainSources X → Rebuilding
 pictures_of by = rebuilding_of map_of by.pictures
 
-abbrev pub walk_of : {X : Type 0} → PlainSources X → TileColumn → Walk PlainTile
+abbrev pub walk_of : {X : Type 0} → PlainSources X → TileColumn → TileWalk PlainTile
 walk_of by c = plain_walk (sources_of by.reading) (pictures_of by) by.reading.setting.places c.grid.from c.grid.to
 
 -- what the frames before leave can be used for this frame

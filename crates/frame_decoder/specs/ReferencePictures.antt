@@ -2,7 +2,7 @@
 use Rattle.std.specs.Prelude.{◌≡◌, true, ℕ}
 use Rattle.vp9_types.specs.declared.block.ReferenceFrame.{ReferenceFrame}
 use Rattle.vp9_types.specs.declared.shape.Plane.{Plane}
-use Rattle.frame_headers.specs.References.{is_in_range}
+use Rattle.frame_headers.specs.References.{has_allowed_scale}
 use Rattle.frame_headers.specs.HeaderState.{shape_of}
 use Rattle.frame_headers.specs.declared.header.FrameKind.TheVariants.{Inter}
 use Rattle.frame_headers.specs.declared.header.Header.{Header}
@@ -24,7 +24,7 @@ row_width f p = (plane_of f.planes p).area.columns
 -- whichever reference is in range is there
 abbrev pub HasPictures : {X : Type 0} → Header → Rebuilding (Picture X) → Type 0
 HasPictures header pictures =
-    (fields : InterFields) (reference : ReferenceFrame) → header.kind ≡ Inter fields → is_in_range header.size (reference_in fields.references reference) ≡ true
+    (fields : InterFields) (reference : ReferenceFrame) → header.kind ≡ Inter fields → has_allowed_scale header.size (reference_in fields.references reference) ≡ true
     → HasReference has_row row_width map_of pictures reference
 
 -- they can be used for this frame

@@ -16,7 +16,7 @@ use frame_state::{FrameSources, TileColumn, frame_is_intra};
 use inter_modes::mode_info;
 use mode_syntax::{SquareAt, read_partition};
 use planes::{FramePlanes, Picture};
-use residue_syntax::read_block;
+use residue_syntax::block_residue;
 use tile_reader::TileReader;
 use vp9_types::{Partition, Rule, Sample};
 
@@ -73,7 +73,7 @@ fn decode_block<P: RoomSample, const COUNTS: bool>(
     let FrameSources { setting, past } = &by.reading;
     let vectors = past.vectors.as_ref();
     let block = mode_info(reader, setting, at, &column.grid, past.segments, vectors)?;
-    let listed = read_block(
+    let listed = block_residue(
         reader,
         setting,
         &block,

@@ -4,7 +4,7 @@ use Rattle.std.specs.Prelude.{Bool, false, Some, None, Result, Ok, Err, if◌the
 use Rattle.std.proofs.lemmas.List.{take-append-drop}
 use Rattle.std.proofs.lemmas.Bool.{cases_lt}
 use Rattle.vp9_types.specs.declared.rule.Rule.{Rule}
-use Rattle.ivf_container.specs.Packets.{IsHeader, header_end, packets_after, packets_of, rate_of}
+use Rattle.ivf_container.specs.Packets.{IsHeader, header_end, packets_after, packets_of, frame_rate_of}
 use Rattle.ivf_container.proofs.Headers.{IsTested, is_header, is_tested}
 use Rattle.file_frames.specs.Containers.{is_webm, rate_of_file, rate_with}
 use Rattle.file_frames.specs.FileFrames.{frames_in, split_packets}
@@ -46,16 +46,16 @@ ended_header front none = by_end (header_end front) refl none where
 pub header_webm : (front more : List ℕ) → HasHeader front → is_webm (front ++ more) ≡ is_webm front
 header_webm front more (header, body, whole, is) = front_tells front more (omega (arith, is.least, ap length whole, length-append header body))
 
-told_by : (header body : List ℕ) → IsHeader header → packets.HasRate (header ++ body) (rate_of header)
+told_by : (header body : List ℕ) → IsHeader header → packets.HasRate (header ++ body) (frame_rate_of header)
 told_by header body is =
-    tells_first (Some (header ++ body)) (Some body) (0, 0) (rate_of header) (Ok None) (λ bytes told. let same : bytes ≡ header ++ body = cc in (header, body, same, refl, (is, refl)))
+    tells_first (Some (header ++ body)) (Some body) (0, 0) (frame_rate_of header) (Ok None) (λ bytes told. let same : bytes ≡ header ++ body = cc in (header, body, same, refl, (is, refl)))
     (header ++ body) refl
 
 rate_within : (front more : List ℕ) → HasHeader front → rate_with (front ++ more) (header_end (front ++ more)) ≡ rate_with front (header_end front)
 rate_within front more (header, body, whole, is) =
     let whole_more : header ++ (body ++ more) ≡ front ++ more = sym (append_assoc header body more) ∙ ap (λ (xs : List ℕ). xs ++ more) (sym whole) in
-    let here = subst (λ (xs : List ℕ). packets.HasRate xs (rate_of header)) (sym whole) (told_by header body is) in
-    let there = subst (λ (xs : List ℕ). packets.HasRate xs (rate_of header)) whole_more (told_by header (body ++ more) is) in
+    let here = subst (λ (xs : List ℕ). packets.HasRate xs (frame_rate_of header)) (sym whole) (told_by header body is) in
+    let there = subst (λ (xs : List ℕ). packets.HasRate xs (frame_rate_of header)) whole_more (told_by header (body ++ more) is) in
     sym (same_rate (front ++ more) (header_end (front ++ more))) ∙ sym there ∙ here ∙ same_rate front (header_end front)
 
 pub header_rate : (front more : List ℕ) → HasHeader front → rate_of_file (front ++ more) ≡ rate_of_file front

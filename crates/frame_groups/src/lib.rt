@@ -9,4 +9,4 @@ mod reader;
 pub use group::{Behind, FrameGroup, FramePayload};
 pub use laws::{file_has_frames_ahead, four_bytes_tell_the_container, front_has_these_frames};
 pub use opening::{Looked, Opened, open};
-pub use reader::GroupReader;
+pub use reader::{GroupReader, GroupSize};

@@ -19,6 +19,13 @@ const GROUP_BYTES: usize = 4 << 20;
 /// And so many packets, however few bytes they have.
 const GROUP_PACKETS: u32 = 1 << 16;
 
+/// How many frames a group has: as many as are waited for, and more up to a number where their packets are at hand.
+#[derive(Clone, Copy, Debug, PartialEq, Eq)]
+pub struct GroupSize {
+    pub least: usize,
+    pub most: usize,
+}
+
 /// The frames of an IVF file, taken from a source in groups of whole packets.
 #[derive(Drop)]
 pub struct GroupReader<S> {
@@ -71,9 +78,9 @@ impl<S> GroupReader<S> {
 }
 
 impl<S: Source> GroupReader<S> {
-    /// The frames of the next packets: of one, and then of more until there are `least` frames, or 4 MiB of payloads, or 65,536
+    /// The frames of the next packets: of one, and then of more until there are as many as the size says, or 4 MiB of payloads, or 65,536
     /// packets. What was wholly taken before a fault or want of memory is in the group.
-    pub fn next_group(&mut self, least: usize) -> FrameGroup
+    pub fn next_group(&mut self, size: GroupSize) -> FrameGroup
         requires { IsReady S.can_fill self.old }
         ensures group { TakesGroup (stage_of self.old) (ahead S.rest self.old) (S.rest (source_of self.new)) (group_frames result) result.behind }
         ensures begun { NoneBegun result.behind (ahead S.rest self.new) (S.rest (source_of self.new)) }
@@ -83,7 +90,7 @@ impl<S: Source> GroupReader<S> {
         ensures rate { TellsGroupRate (stage_of self.old) (ahead S.rest self.old) (rate_told self.old) (rate_told self.new) (group_frames result) result.behind }
     {
         let mut payloads = Vec::new(self.alloc);
-        let behind = take_payloads(&mut self.packets, &mut payloads, least);
+        let behind = take_payloads(&mut self.packets, &mut payloads, size);
         FrameGroup { payloads, behind }
     }
 }
@@ -125,11 +132,16 @@ fn last_counts(payloads: &[FramePayload]) -> (usize, usize) {
     }
 }
 
+/// Whether so many frames are enough for a group.
+fn is_enough(size: GroupSize, frames: usize, next_at_hand: bool) -> bool {
+    frames >= size.most || (frames >= size.least && !next_at_hand)
+}
+
 /// Takes packets until they are enough for a group.
 fn take_payloads<S: Source>(
     reader: &mut PacketReader<S>,
     payloads: &mut Vec<FramePayload>,
-    least: usize,
+    size: GroupSize,
 ) -> Behind
     requires { CanGoOn S.can_fill reader.old }
     ensures group { AddsGroup reader.old reader.new S.rest payloads.old.items payloads.new.items result }
@@ -149,7 +161,7 @@ fn take_payloads<S: Source>(
         let (more_frames, more_bytes) = last_counts(payloads);
         frames = frames.saturating_add(more_frames);
         bytes = bytes.saturating_add(more_bytes);
-        if frames >= least || bytes >= GROUP_BYTES {
+        if is_enough(size, frames, reader.is_next_at_hand()) || bytes >= GROUP_BYTES {
             return behind;
         }
         behind = take_payload(reader, payloads);

@@ -5,7 +5,7 @@ use Rattle.std.specs.Prelude.{Result, Ok, Err, IsOk, IfOk, slice_get, Some}
 use Rattle.vp9_types.specs.declared.job.Span.{Span}
 use Rattle.vp9_types.specs.declared.rule.Rule.{Rule}
 use Rattle.frame_headers.specs.declared.header.Header.{Header}
-use Rattle.frame_headers.specs.Spans.{tile_at, in_front, followed, tiles_from, tile_count, tile_spans}
+use Rattle.frame_headers.specs.Spans.{tile_at, in_front, span_then, tiles_from, tile_count, tile_spans}
 
 -- spans, and then those of a result
 abbrev pub all_in_front : List Span → Result (List Span) Rule → Result (List Span) Rule
@@ -40,12 +40,12 @@ pub one_found : (frame : List ℕ) (n from m at : ℕ) (span : Span) → tile_at
 one_found frame n from m at span is h = record {
   front = h.front ++ span ∷ [];
   counts = let c = h.counts in let l = length-append h.front (span ∷ []) in omega (arith, c, l);
-  leads = h.leads ∙ ap (λ t. all_in_front h.front (followed t (λ s. tiles_from frame m s.to))) is ∙ front_more h.front span (tiles_from frame m span.to);
+  leads = h.leads ∙ ap (λ t. all_in_front h.front (span_then t (λ s. tiles_from frame m s.to))) is ∙ front_more h.front span (tiles_from frame m span.to);
 }
 
 pub found_bad : (frame : List ℕ) (n from m at : ℕ) (rule : Rule) → tile_at frame m at ≡ Err rule → HasFound frame n from (suc m) at → tiles_from frame n from ≡ Err rule
 found_bad frame n from m at rule is h =
-    h.leads ∙ ap (λ t. all_in_front h.front (followed t (λ s. tiles_from frame m s.to))) is ∙ front_err h.front rule
+    h.leads ∙ ap (λ t. all_in_front h.front (span_then t (λ s. tiles_from frame m s.to))) is ∙ front_err h.front rule
 
 pub found_all : (frame : List ℕ) (n from at : ℕ) → HasFound frame n from 0 at → (spans : List Span) × (tiles_from frame n from ≡ Ok spans)
 found_all frame n from at h = (h.front ++ [], h.leads ∙ front_ok h.front [])
@@ -62,10 +62,10 @@ at_place (s ∷ front) span r = behind s front span (all_in_front front (in_fron
     behind s front span (Err rule) h = tt
 
 read_next : (r : Result (List Span) Rule) (t : Result Span Rule) (front : List Span) (span : Span) (more : Span → Result (List Span) Rule)
-    → r ≡ all_in_front front (followed t more) → t ≡ Ok span → IfOk r (λ spans. slice_get spans (length front) ≡ Some span)
+    → r ≡ all_in_front front (span_then t more) → t ≡ Ok span → IfOk r (λ spans. slice_get spans (length front) ≡ Some span)
 read_next r t front span more is found =
     subst (λ q. IfOk q (λ spans. slice_get spans (length front) ≡ Some span))
-    (sym (is ∙ ap (λ u. all_in_front front (followed u more)) found)) (at_place front span (more span))
+    (sym (is ∙ ap (λ u. all_in_front front (span_then u more)) found)) (at_place front span (more span))
 
 -- the tile behind the front is the one of that number
 pub found_next : (frame : List ℕ) (n from m at k : ℕ) (span : Span) → tile_at frame m at ≡ Ok span → HasFound frame n from (suc m) at → k + suc m ≡ n

@@ -7,7 +7,7 @@ use Rattle.vp9_types.specs.Reading.{field_at, read_bits}
 use Rattle.vp9_types.specs.declared.rule.Rule.{Rule}
 use Rattle.vp9_types.proofs.Runs.{run_bind}
 use Rattle.frame_headers.specs.declared.field.FieldName.TheVariants as name
-use Rattle.frame_headers.specs.Fields.{flag, past}
+use Rattle.frame_headers.specs.Fields.{flag_field, past}
 use Rattle.frame_headers.specs.Tiles.{least, more_columns}
 
 one_more_left : (m n : ℕ) → n < m → m - n ≡ suc (m - (n + 1))
@@ -16,23 +16,23 @@ one_more_left m n h = omega arith
 pub least_later : (test : ℕ → Bool) (m n : ℕ) → n < m → test n ≡ false → least test (m - n) n ≡ least test (m - (n + 1)) (n + 1)
 least_later test m n h fails = rw (one_more_left m n h, fails) refl
 
-pub columns_more : (greatest log2 : ℕ) (bits rest : List ℕ) → log2 < greatest → read_bits past (flag name.IncrementTileColsLog2) bits ≡ Ok (true, rest)
+pub columns_more : (greatest log2 : ℕ) (bits rest : List ℕ) → log2 < greatest → read_bits past (flag_field name.IncrementTileColsLog2) bits ≡ Ok (true, rest)
     → read_bits past (more_columns (greatest - log2) log2) bits ≡ read_bits past (more_columns (greatest - (log2 + 1)) (log2 + 1)) rest
 unfolding more_columns
 columns_more greatest log2 bits rest low h =
-    rw (one_more_left greatest log2 low, run_bind (field_at past) (flag name.IncrementTileColsLog2), h) refl
+    rw (one_more_left greatest log2 low, run_bind (field_at past) (flag_field name.IncrementTileColsLog2), h) refl
 
-pub columns_stop : (greatest log2 : ℕ) (bits rest : List ℕ) → log2 < greatest → read_bits past (flag name.IncrementTileColsLog2) bits ≡ Ok (false, rest)
+pub columns_stop : (greatest log2 : ℕ) (bits rest : List ℕ) → log2 < greatest → read_bits past (flag_field name.IncrementTileColsLog2) bits ≡ Ok (false, rest)
     → read_bits past (more_columns (greatest - log2) log2) bits ≡ Ok (log2, rest)
 unfolding more_columns
 columns_stop greatest log2 bits rest low h =
-    rw (one_more_left greatest log2 low, run_bind (field_at past) (flag name.IncrementTileColsLog2), h) refl
+    rw (one_more_left greatest log2 low, run_bind (field_at past) (flag_field name.IncrementTileColsLog2), h) refl
 
-pub columns_fail : (greatest log2 : ℕ) (bits : List ℕ) (e : Rule) → log2 < greatest → read_bits past (flag name.IncrementTileColsLog2) bits ≡ Err e
+pub columns_fail : (greatest log2 : ℕ) (bits : List ℕ) (e : Rule) → log2 < greatest → read_bits past (flag_field name.IncrementTileColsLog2) bits ≡ Err e
     → read_bits past (more_columns (greatest - log2) log2) bits ≡ Err e
 unfolding more_columns
 columns_fail greatest log2 bits e low h =
-    rw (one_more_left greatest log2 low, run_bind (field_at past) (flag name.IncrementTileColsLog2), h) refl
+    rw (one_more_left greatest log2 low, run_bind (field_at past) (flag_field name.IncrementTileColsLog2), h) refl
 
 pub columns_end : (greatest log2 : ℕ) (bits : List ℕ) → greatest ≤ log2 → read_bits past (more_columns (greatest - log2) log2) bits ≡ Ok (log2, bits)
 unfolding more_columns

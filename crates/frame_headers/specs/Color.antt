@@ -8,7 +8,7 @@ use Rattle.frame_headers.specs.declared.color.ColorConfig.{ColorConfig}
 use Rattle.frame_headers.specs.declared.color.ColorSpace.{ColorSpace as Space}
 use Rattle.frame_headers.specs.declared.color.ColorSpace.TheVariants.{Unknown, Bt601, Bt709, Smpte170, Smpte240, Bt2020, Reserved, Rgb}
 use Rattle.frame_headers.specs.declared.field.FieldName.TheVariants as name
-use Rattle.frame_headers.specs.Fields.{Table, f, flag}
+use Rattle.frame_headers.specs.Fields.{Table, f, flag_field}
 
 abbrev pub color_space_of : ℕ → Space
 color_space_of code =
@@ -20,17 +20,17 @@ abbrev pub is_odd_profile : ℕ → Bool
 is_odd_profile profile = profile % 2 == 1
 
 unfoldable pub bit_depth : ℕ → Table Depth
-bit_depth profile = if nat_lt profile 2 then done Eight else (flag name.TenOrTwelveBit >>= λ twelve. done (if twelve then Twelve else Ten))
+bit_depth profile = if nat_lt profile 2 then done Eight else (flag_field name.TenOrTwelveBit >>= λ twelve. done (if twelve then Twelve else Ten))
 
 unfoldable pub reserved_zero : Table (Unit {0})
 reserved_zero = do
-  reserved ← flag name.ReservedZero
+  reserved ← flag_field name.ReservedZero
   check (not reserved) ReservedBit
 
 unfoldable pub coded_subsampling : Table (Bool × Bool)
 coded_subsampling = do
-  ss_x ← flag name.SubsamplingX
-  ss_y ← flag name.SubsamplingY
+  ss_x ← flag_field name.SubsamplingX
+  ss_y ← flag_field name.SubsamplingY
   check (not (ss_x && ss_y)) ColourConfig
   reserved_zero
   done (ss_x, ss_y)
@@ -40,7 +40,7 @@ subsampling profile = if is_odd_profile profile then coded_subsampling else done
 
 unfoldable pub yuv_config : ℕ → Depth → ℕ → Table ColorConfig
 yuv_config profile depth space = do
-  full ← flag name.ColorRange
+  full ← flag_field name.ColorRange
   sampling ← subsampling profile
   done (record { depth = depth; space = color_space_of space; full_range = full; ss_x = sampling.0; ss_y = sampling.1 })
 

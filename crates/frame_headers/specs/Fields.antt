@@ -19,8 +19,8 @@ unfoldable pub f : FieldName → ℕ → Table ℕ
 f name width = ask (record { name = name; width = width }) done
 
 -- a field of one bit
-unfoldable pub flag : FieldName → Table Bool
-flag name = do
+unfoldable pub flag_field : FieldName → Table Bool
+flag_field name = do
   bit ← f name 1
   done (bit == 1)
 
@@ -37,5 +37,5 @@ ReadsInto s old (Err e) x new = read_bits past s old ≡ Err e
 unfoldable pub su : FieldName → ℕ → Table ℤ
 su name n = do
   magnitude ← f name n
-  negative ← flag Sign
+  negative ← flag_field Sign
   done (if negative then pos 0 -ℤ pos magnitude else pos magnitude)

@@ -6,12 +6,12 @@ use Rattle.frame_headers.specs.declared.field.FieldName.{FieldName}
 use Rattle.frame_headers.specs.declared.field.FieldName.TheVariants as name
 use Rattle.frame_headers.specs.declared.filter.LoopDeltas.{LoopDeltas}
 use Rattle.frame_headers.specs.declared.filter.LoopFilter.{LoopFilter}
-use Rattle.frame_headers.specs.Fields.{Table, f, flag, su}
+use Rattle.frame_headers.specs.Fields.{Table, f, flag_field, su}
 
 -- a delta is coded, or stays as it was
 unfoldable pub coded_delta : FieldName → FieldName → ℤ → Table ℤ
 coded_delta update delta old = do
-  coded ← flag update
+  coded ← flag_field update
   if coded then su delta 6 else done old
 
 unfoldable pub coded_deltas : LoopDeltas → Table LoopDeltas
@@ -22,13 +22,13 @@ coded_deltas old = do
 
 unfoldable pub delta_changes : LoopDeltas → Table LoopDeltas
 delta_changes old = do
-  update ← flag name.LoopFilterDeltaUpdate
+  update ← flag_field name.LoopFilterDeltaUpdate
   if update then coded_deltas old else done old
 
 unfoldable pub loop_filter_params : LoopDeltas → Table LoopFilter
 loop_filter_params old = do
   level ← f name.LoopFilterLevel 6
   sharpness ← f name.LoopFilterSharpness 3
-  enabled ← flag name.LoopFilterDeltaEnabled
+  enabled ← flag_field name.LoopFilterDeltaEnabled
   deltas ← if enabled then delta_changes old else done old
   done (record { level = level; sharpness = sharpness; delta_enabled = enabled; deltas = deltas })

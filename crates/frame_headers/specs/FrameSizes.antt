@@ -4,7 +4,7 @@ use Rattle.vp9_types.specs.Syntax.{done, ◌>>=◌, ◌>>◌}
 use Rattle.frame_headers.specs.declared.field.FieldName.TheVariants as name
 use Rattle.frame_headers.specs.declared.header.FrameSize.{FrameSize}
 use Rattle.vp9_types.specs.declared.shape.Shape.{Shape}
-use Rattle.frame_headers.specs.Fields.{Table, f, flag}
+use Rattle.frame_headers.specs.Fields.{Table, f, flag_field}
 
 unfoldable pub frame_size : Table FrameSize
 frame_size = do
@@ -23,5 +23,5 @@ HasFrameSize shape = (1 ≤ shape.w) × (shape.w ≤ 65536) × (1 ≤ shape.h) �
 -- the size to show the frame at isn't used
 unfoldable pub render_size : Table (Unit {0})
 render_size = do
-  differs ← flag name.RenderAndFrameSizeDifferent
+  differs ← flag_field name.RenderAndFrameSizeDifferent
   if differs then (f name.RenderWidthMinus1 16 >> f name.RenderHeightMinus1 16 >> done tt) else done tt

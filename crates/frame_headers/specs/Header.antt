@@ -23,7 +23,7 @@ use Rattle.frame_headers.specs.declared.header.Uncompressed.TheVariants as uncom
 use Rattle.frame_headers.specs.declared.persist.Persist.{Persist}
 use Rattle.frame_headers.specs.declared.segments.Features.{Features}
 use Rattle.frame_headers.specs.Color.{color_config, intra_only_color, reserved_zero}
-use Rattle.frame_headers.specs.Fields.{Table, past, f, flag}
+use Rattle.frame_headers.specs.Fields.{Table, past, f, flag_field}
 use Rattle.frame_headers.specs.Filter.{loop_filter_params}
 use Rattle.frame_headers.specs.Quantizer.{quantization_params}
 use Rattle.frame_headers.specs.References.{inter_fields, slot_shape}
@@ -61,8 +61,8 @@ frame_contexts true = do
   index ← f name.FrameContextIdx 2
   done (record { refresh = false; parallel = true; index = index })
 frame_contexts false = do
-  refresh ← flag name.RefreshFrameContext
-  parallel ← flag name.FrameParallelDecodingMode
+  refresh ← flag_field name.RefreshFrameContext
+  parallel ← flag_field name.FrameParallelDecodingMode
   index ← f name.FrameContextIdx 2
   done (record { refresh = refresh; parallel = parallel; index = index })
 
@@ -97,7 +97,7 @@ intra_only_fields profile reset = do
 
 abbrev pub intra_only_flag : Bool → Table Bool
 intra_only_flag true = done false
-intra_only_flag false = flag name.IntraOnly
+intra_only_flag false = flag_field name.IntraOnly
 
 abbrev pub reset_frame_context : Bool → Table ℕ
 reset_frame_context true = done 0
@@ -122,9 +122,9 @@ frame_fields before profile start =
 
 unfoldable pub frame_start : Table FrameStart
 frame_start = do
-  inter ← flag name.FrameType
-  show ← flag name.ShowFrame
-  resilient ← flag name.ErrorResilientMode
+  inter ← flag_field name.FrameType
+  show ← flag_field name.ShowFrame
+  resilient ← flag_field name.ErrorResilientMode
   done (record { is_key = not inter; show_frame = show; error_resilient = resilient })
 
 -- intra frames and error-resilient ones lose the past (setup_past_independence, 7.2)
@@ -165,7 +165,7 @@ coded_frame before profile = do
 unfoldable pub uncompressed_header : Persist → Table Uncompressed
 uncompressed_header before = do
   profile ← frame_profile
-  existing ← flag name.ShowExistingFrame
+  existing ← flag_field name.ShowExistingFrame
   if existing
       then (slot_shape name.FrameToShowMapIdx before rule.ShowMissing >>= λ held. done (uncompressed.ShowExisting held.0))
       else (coded_frame before profile >>= λ header. done (uncompressed.Coded header))

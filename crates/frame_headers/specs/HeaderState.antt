@@ -1,7 +1,9 @@
 -- What persists from frame to frame (7.2 and 8.10 of the standard).
-use Rattle.std.specs.Prelude.{ℕ, ◌%◌, ◌/◌, ◌==◌, List, [], ◌∷◌, Option, Some, None, pos, negsuc, replicate, All, IfSome, if◌then◌else◌}
+use Rattle.std.specs.Prelude.{ℕ, ◌%◌, ◌/◌, ◌==◌, Bool, true, false, List, [], ◌∷◌, Option, Some, None, pos, negsuc, replicate, All, IfSome, if◌then◌else◌}
 use Rattle.vp9_types.specs.declared.shape.Shape.{Shape}
 use Rattle.frame_headers.specs.declared.filter.LoopDeltas.{LoopDeltas}
+use Rattle.frame_headers.specs.declared.header.FrameKind.{FrameKind}
+use Rattle.frame_headers.specs.declared.header.FrameKind.TheVariants.{Key, IntraOnly, Inter}
 use Rattle.frame_headers.specs.declared.header.Header.{Header}
 use Rattle.frame_headers.specs.declared.persist.Persist.{Persist}
 use Rattle.frame_headers.specs.Color.{default_color}
@@ -10,6 +12,11 @@ use Rattle.frame_headers.specs.FrameSizes.{HasFrameSize}
 
 abbrev pub shape_of : Header → Shape
 shape_of header = record { w = header.size.width; h = header.size.height; depth = header.color.depth; ss_x = header.color.ss_x; ss_y = header.color.ss_y }
+
+abbrev pub is_key : FrameKind → Bool
+is_key Key = true
+is_key IntraOnly = false
+is_key (Inter fields) = false
 
 -- what a slot holds after a frame, by the lowest flag
 abbrev pub held : {A : Type 0} → ℕ → A → Option A → Option A

@@ -3,11 +3,11 @@ use Rattle.std.specs.Prelude.{ℤ, pos, negsuc, Bool, false, ◌==◌, ◌&&◌,
 use Rattle.vp9_types.specs.Syntax.{done, ◌>>=◌}
 use Rattle.frame_headers.specs.declared.field.FieldName.TheVariants as name
 use Rattle.frame_headers.specs.declared.quantizer.Quantizer.{Quantizer as Params}
-use Rattle.frame_headers.specs.Fields.{Table, f, flag, su}
+use Rattle.frame_headers.specs.Fields.{Table, f, flag_field, su}
 
 unfoldable pub delta_q : Table ℤ
 delta_q = do
-  coded ← flag name.DeltaCoded
+  coded ← flag_field name.DeltaCoded
   if coded then su name.DeltaQ 4 else done (pos 0)
 
 unfoldable pub quantization_params : Table Params

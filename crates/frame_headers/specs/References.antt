@@ -18,7 +18,7 @@ use Rattle.frame_headers.specs.declared.header.FrameSize.{FrameSize}
 use Rattle.frame_headers.specs.declared.header.Reference.{Reference}
 use Rattle.frame_headers.specs.declared.header.References.{References}
 use Rattle.frame_headers.specs.declared.persist.Persist.{Persist}
-use Rattle.frame_headers.specs.Fields.{Table, f, flag}
+use Rattle.frame_headers.specs.Fields.{Table, f, flag_field}
 use Rattle.frame_headers.specs.FrameSizes.{frame_size, render_size, HasFrameSize}
 
 -- what a slot holds, which is broken where it is empty
@@ -35,7 +35,7 @@ slot_shape field before missing = do
 unfoldable pub reference : Persist → Bool → Table Reference
 reference before resilient = do
   held ← slot_shape name.RefFrameIdx before rule.RefMissing
-  bias ← flag name.RefFrameSignBias
+  bias ← flag_field name.RefFrameSignBias
   done (record { slot = held.0; sign_bias = not resilient && bias; shape = held.1 })
 
 unfoldable pub references : Persist → Bool → Table References
@@ -54,8 +54,8 @@ abbrev pub has_format : ColorConfig → Reference → Bool
 has_format color r = depth_bits r.shape.depth == depth_bits color.depth && same_bit r.shape.ss_x color.ss_x && same_bit r.shape.ss_y color.ss_y
 
 -- at most twice as large as the frame, and at most 16 times smaller (7.2.5)
-abbrev pub is_in_range : FrameSize → Reference → Bool
-is_in_range size r =
+abbrev pub has_allowed_scale : FrameSize → Reference → Bool
+has_allowed_scale size r =
     nat_le r.shape.w (2 * size.width) && nat_le r.shape.h (2 * size.height) && nat_le size.width (16 * r.shape.w) && nat_le size.height (16 * r.shape.h)
 
 abbrev pub size_of : Reference → FrameSize
@@ -68,11 +68,11 @@ HaveFrameSizes refs = HasFrameSize refs.last.shape × HasFrameSize refs.golden.s
 -- frame_size_with_refs (6.2.5): the size of the first reference that is found to have it, or else a size of its own
 unfoldable pub found_size : References → Table FrameSize
 found_size refs = do
-  last ← flag name.FoundRef
+  last ← flag_field name.FoundRef
   if last then done (size_of refs.last) else do
-    golden ← flag name.FoundRef
+    golden ← flag_field name.FoundRef
     if golden then done (size_of refs.golden) else do
-      altref ← flag name.FoundRef
+      altref ← flag_field name.FoundRef
       if altref then done (size_of refs.altref) else frame_size
 
 abbrev pub all_of : (Reference → Bool) → References → Bool
@@ -88,7 +88,7 @@ filter_of code = if code == 0 then Smooth else (if code == 1 then Regular else (
 -- 6.2.7
 unfoldable pub interpolation_filter : Table FrameFilter
 interpolation_filter = do
-  switchable ← flag name.IsFilterSwitchable
+  switchable ← flag_field name.IsFilterSwitchable
   if switchable then done Switchable else (f name.RawInterpolationFilter 2 >>= λ code. done (Fixed (filter_of code)))
 
 -- an inter frame from its refreshed slots on
@@ -98,9 +98,9 @@ inter_fields before resilient reset = do
   refs ← references before resilient
   check (all_of (has_format before.color) refs) rule.RefFormat
   size ← found_size refs
-  check (some_of (is_in_range size) refs) rule.RefScale
+  check (some_of (has_allowed_scale size) refs) rule.RefScale
   render_size
-  precise ← flag name.AllowHighPrecisionMv
+  precise ← flag_field name.AllowHighPrecisionMv
   filter ← interpolation_filter
   done (record {
     kind = Inter (record { references = refs; high_precision = precise; filter = filter });

@@ -9,12 +9,12 @@ use Rattle.frame_headers.specs.declared.segments.SegmentFeatures.{SegmentFeature
 use Rattle.frame_headers.specs.declared.segments.Features.{Features}
 use Rattle.frame_headers.specs.declared.segments.MapUpdate.{MapUpdate}
 use Rattle.frame_headers.specs.declared.segments.Segmentation.{Segmentation}
-use Rattle.frame_headers.specs.Fields.{Table, f, flag, su}
+use Rattle.frame_headers.specs.Fields.{Table, f, flag_field, su}
 
 -- a probability is coded, or 255
 unfoldable pub probability : Table ℕ
 probability = do
-  coded ← flag name.ProbCoded
+  coded ← flag_field name.ProbCoded
   if coded then f name.Prob 8 else done 255
 
 abbrev pub probability_for : ℕ → Table ℕ
@@ -27,14 +27,14 @@ prediction_probabilities false = done (replicate 3 255)
 unfoldable pub update_map : Table MapUpdate
 update_map = do
   tree ← each probability_for (replicate 7 255)
-  temporal ← flag name.SegmentationTemporalUpdate
+  temporal ← flag_field name.SegmentationTemporalUpdate
   prediction ← prediction_probabilities temporal
   done (record { tree = tree; temporal = temporal; prediction = prediction })
 
 -- a feature with a value of some bits and a sign
 unfoldable pub signed_feature : ℕ → Table (Option ℤ)
 signed_feature width = do
-  enabled ← flag name.FeatureEnabled
+  enabled ← flag_field name.FeatureEnabled
   if enabled then (su name.FeatureValue width >>= λ value. done (Some value)) else done None
 
 abbrev pub reference_of : ℕ → FeatureReference
@@ -42,7 +42,7 @@ reference_of code = if code == 0 then Intra else (if code == 1 then Last else (i
 
 unfoldable pub reference_feature : Table (Option FeatureReference)
 reference_feature = do
-  enabled ← flag name.FeatureEnabled
+  enabled ← flag_field name.FeatureEnabled
   if enabled then (f name.FeatureValue 2 >>= λ code. done (Some (reference_of code))) else done None
 
 unfoldable pub segment_features : Table SegmentFeatures
@@ -50,7 +50,7 @@ segment_features = do
   quantizer ← signed_feature 8
   level ← signed_feature 6
   reference ← reference_feature
-  skip ← flag name.FeatureEnabled
+  skip ← flag_field name.FeatureEnabled
   done (record { quantizer = quantizer; level = level; reference = reference; skip = skip })
 
 abbrev pub features_for : SegmentFeatures → Table SegmentFeatures
@@ -65,7 +65,7 @@ no_features = record { absolute = false; segments = replicate 8 no_segment_featu
 -- all features are cleared, and read anew
 unfoldable pub update_features : Table Features
 update_features = do
-  absolute ← flag name.SegmentationAbsOrDeltaUpdate
+  absolute ← flag_field name.SegmentationAbsOrDeltaUpdate
   segments ← each features_for (replicate 8 no_segment_features)
   done (record { absolute = absolute; segments = segments })
 
@@ -79,14 +79,14 @@ features_or_old false old = done old
 
 unfoldable pub enabled_params : Features → Table Segmentation
 enabled_params old = do
-  updates_map ← flag name.SegmentationUpdateMap
+  updates_map ← flag_field name.SegmentationUpdateMap
   map ← map_or_none updates_map
-  updates_data ← flag name.SegmentationUpdateData
+  updates_data ← flag_field name.SegmentationUpdateData
   features ← features_or_old updates_data old
   done (record { enabled = true; map = map; features = features })
 
 -- the features in force stay where they aren't read
 unfoldable pub segmentation_params : Features → Table Segmentation
 segmentation_params old = do
-  enabled ← flag name.SegmentationEnabled
+  enabled ← flag_field name.SegmentationEnabled
   if enabled then enabled_params old else done (record { enabled = false; map = None; features = old })

@@ -31,14 +31,14 @@ in_front span (Ok spans) = Ok (span ∷ spans)
 in_front span (Err rule) = Err rule
 
 -- a tile, and then those behind it
-abbrev pub followed : Result Span Rule → (Span → Result (List Span) Rule) → Result (List Span) Rule
-followed (Err rule) more = Err rule
-followed (Ok span) more = in_front span (more span)
+abbrev pub span_then : Result Span Rule → (Span → Result (List Span) Rule) → Result (List Span) Rule
+span_then (Err rule) more = Err rule
+span_then (Ok span) more = in_front span (more span)
 
 -- so many tiles from a place on, or the rule that the first of them breaks
 abbrev pub tiles_from : List ℕ → ℕ → ℕ → Result (List Span) Rule
 tiles_from frame zero at = Ok []
-tiles_from frame (suc more) at = followed (tile_at frame more at) (λ span. tiles_from frame more span.to)
+tiles_from frame (suc more) at = span_then (tile_at frame more at) (λ span. tiles_from frame more span.to)
 
 abbrev pub tile_count : Header → ℕ
 tile_count header = 2 ^ header.params.tiles.columns_log2 * 2 ^ header.params.tiles.rows_log2

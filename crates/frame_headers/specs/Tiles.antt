@@ -4,7 +4,7 @@ use Rattle.vp9_types.specs.Sizes.{superblocks_along}
 use Rattle.vp9_types.specs.Syntax.{done, ◌>>=◌}
 use Rattle.frame_headers.specs.declared.field.FieldName.TheVariants as name
 use Rattle.frame_headers.specs.declared.tiles.TileInfo.{TileInfo}
-use Rattle.frame_headers.specs.Fields.{Table, flag}
+use Rattle.frame_headers.specs.Fields.{Table, flag_field}
 
 -- MiCols: places of 8 samples. Sb64Cols: superblocks of 8 places
 abbrev pub superblocks : ℕ → ℕ
@@ -27,7 +27,7 @@ max_log2 columns = least (λ n. nat_lt (columns / 2 ^ (n + 1)) 4) 8 0
 unfoldable pub more_columns : ℕ → ℕ → Table ℕ
 more_columns zero log2 = done log2
 more_columns (suc k) log2 = do
-  more ← flag name.IncrementTileColsLog2
+  more ← flag_field name.IncrementTileColsLog2
   if more then more_columns k (log2 + 1) else done log2
 
 unfoldable pub tile_columns_log2 : ℕ → Table ℕ
@@ -35,8 +35,8 @@ tile_columns_log2 columns = more_columns (max_log2 columns - min_log2 columns) (
 
 unfoldable pub tile_rows_log2 : Table ℕ
 tile_rows_log2 = do
-  more ← flag name.TileRowsLog2
-  if more then (flag name.IncrementTileRowsLog2 >>= λ twice. done (if twice then 2 else 1)) else done 0
+  more ← flag_field name.TileRowsLog2
+  if more then (flag_field name.IncrementTileRowsLog2 >>= λ twice. done (if twice then 2 else 1)) else done 0
 
 unfoldable pub tile_info : ℕ → Table TileInfo
 tile_info width = do

@@ -1,5 +1,5 @@
 ghost use Rattle.std.specs.Prelude.{◌≡◌, ◌≤◌, ◌<◌, ◌^◌, ◌/◌, ◌∷◌, [], length, MatchOption, IfOk};
-ghost use Rattle.frame_headers.specs.Fields.{f, flag, su, Reads};
+ghost use Rattle.frame_headers.specs.Fields.{f, flag_field, su, Reads};
 
 use crate::field::FieldName;
 use std::marker::Model;
@@ -80,9 +80,9 @@ impl<'a> BitReader<'a> {
     }
 
     /// A field of one bit.
-    #[tactic(auto, unfolding(crate::specs::Fields::flag), using(vp9_types::proofs::Runs::run_bind))]
-    pub fn flag(&mut self, name: FieldName) -> Result<bool, Rule>
-        ensures { Reads (flag name) self.old result self.new }
+    #[tactic(auto, unfolding(crate::specs::Fields::flag_field), using(vp9_types::proofs::Runs::run_bind))]
+    pub fn flag_field(&mut self, name: FieldName) -> Result<bool, Rule>
+        ensures { Reads (flag_field name) self.old result self.new }
     {
         Ok(self.field(name, 1)? == 1)
     }
@@ -94,7 +94,7 @@ impl<'a> BitReader<'a> {
         ensures { Reads (su name width) self.old result self.new }
     {
         let magnitude = i16::from(self.byte(name, width)?);
-        let negative = self.flag(FieldName::Sign)?;
+        let negative = self.flag_field(FieldName::Sign)?;
         Ok(if negative { 0 - magnitude } else { magnitude })
     }
 

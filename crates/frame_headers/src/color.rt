@@ -68,7 +68,7 @@ fn read_bit_depth(bits: &mut BitReader<'_>, profile: u8) -> Result<Depth, Rule>
     if profile < 2 {
         return Ok(Depth::Eight);
     }
-    if bits.flag(FieldName::TenOrTwelveBit)? {
+    if bits.flag_field(FieldName::TenOrTwelveBit)? {
         Ok(Depth::Twelve)
     } else {
         Ok(Depth::Ten)
@@ -79,7 +79,7 @@ fn read_bit_depth(bits: &mut BitReader<'_>, profile: u8) -> Result<Depth, Rule>
 pub fn read_reserved_zero(bits: &mut BitReader<'_>) -> Result<(), Rule>
     ensures { Reads reserved_zero bits.old result bits.new }
 {
-    if bits.flag(FieldName::ReservedZero)? {
+    if bits.flag_field(FieldName::ReservedZero)? {
         return Err(Rule::ReservedBit);
     }
     Ok(())
@@ -93,8 +93,8 @@ fn read_subsampling(bits: &mut BitReader<'_>, profile: u8) -> Result<(bool, bool
     if !is_odd(profile) {
         return Ok((true, true));
     }
-    let ss_x = bits.flag(FieldName::SubsamplingX)?;
-    let ss_y = bits.flag(FieldName::SubsamplingY)?;
+    let ss_x = bits.flag_field(FieldName::SubsamplingX)?;
+    let ss_y = bits.flag_field(FieldName::SubsamplingY)?;
     if ss_x && ss_y {
         return Err(Rule::ColourConfig);
     }
@@ -111,7 +111,7 @@ fn read_yuv_config(
 ) -> Result<ColorConfig, Rule>
     ensures { Reads (yuv_config profile depth code) bits.old result bits.new }
 {
-    let full_range = bits.flag(FieldName::ColorRange)?;
+    let full_range = bits.flag_field(FieldName::ColorRange)?;
     let (ss_x, ss_y) = read_subsampling(bits, profile)?;
     Ok(ColorConfig {
         depth,

@@ -41,7 +41,7 @@ fn read_delta(
 ) -> Result<i16, Rule>
     ensures { Reads (coded_delta update delta old) bits.old result bits.new }
 {
-    if bits.flag(update)? {
+    if bits.flag_field(update)? {
         bits.signed(delta, 6)
     } else {
         Ok(old)
@@ -88,7 +88,7 @@ fn read_coded_deltas(bits: &mut BitReader<'_>, old: LoopDeltas) -> Result<LoopDe
 fn read_delta_changes(bits: &mut BitReader<'_>, old: LoopDeltas) -> Result<LoopDeltas, Rule>
     ensures { Reads (delta_changes old) bits.old result bits.new }
 {
-    if bits.flag(FieldName::LoopFilterDeltaUpdate)? {
+    if bits.flag_field(FieldName::LoopFilterDeltaUpdate)? {
         read_coded_deltas(bits, old)
     } else {
         Ok(old)
@@ -102,7 +102,7 @@ pub fn read_loop_filter(bits: &mut BitReader<'_>, old: LoopDeltas) -> Result<Loo
 {
     let level = bits.byte(FieldName::LoopFilterLevel, 6)?;
     let sharpness = bits.byte(FieldName::LoopFilterSharpness, 3)?;
-    let delta_enabled = bits.flag(FieldName::LoopFilterDeltaEnabled)?;
+    let delta_enabled = bits.flag_field(FieldName::LoopFilterDeltaEnabled)?;
     let deltas = if delta_enabled {
         read_delta_changes(bits, old)?
     } else {

@@ -31,7 +31,7 @@ impl Quantizer {
 fn read_delta_q(bits: &mut BitReader<'_>) -> Result<i16, Rule>
     ensures { Reads delta_q bits.old result bits.new }
 {
-    if bits.flag(FieldName::DeltaCoded)? {
+    if bits.flag_field(FieldName::DeltaCoded)? {
         bits.signed(FieldName::DeltaQ, 4)
     } else {
         Ok(0)

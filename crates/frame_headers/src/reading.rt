@@ -69,8 +69,8 @@ fn read_frame_contexts(
     let mut refresh = false;
     let mut parallel = true;
     if !error_resilient {
-        refresh = bits.flag(FieldName::RefreshFrameContext)?;
-        parallel = bits.flag(FieldName::FrameParallelDecodingMode)?;
+        refresh = bits.flag_field(FieldName::RefreshFrameContext)?;
+        parallel = bits.flag_field(FieldName::FrameParallelDecodingMode)?;
     }
     let index = bits.byte(FieldName::FrameContextIdx, 2)?;
     Ok(FrameContexts {
@@ -161,7 +161,7 @@ fn read_intra_and_reset(
     let intra_only = if show_frame {
         false
     } else {
-        bits.flag(FieldName::IntraOnly)?
+        bits.flag_field(FieldName::IntraOnly)?
     };
     let reset_context = if error_resilient {
         0
@@ -239,9 +239,9 @@ fn read_frame_fields(
 fn read_frame_start(bits: &mut BitReader<'_>) -> Result<FrameStart, Rule>
     ensures { Reads frame_start bits.old result bits.new }
 {
-    let is_key = !bits.flag(FieldName::FrameType)?;
-    let show_frame = bits.flag(FieldName::ShowFrame)?;
-    let error_resilient = bits.flag(FieldName::ErrorResilientMode)?;
+    let is_key = !bits.flag_field(FieldName::FrameType)?;
+    let show_frame = bits.flag_field(FieldName::ShowFrame)?;
+    let error_resilient = bits.flag_field(FieldName::ErrorResilientMode)?;
     Ok(FrameStart {
         is_key,
         show_frame,
@@ -282,7 +282,7 @@ fn read_uncompressed(bits: &mut BitReader<'_>, before: &Persist) -> Result<Uncom
     ensures size { SlotsHaveSizes before.now → IfOk result HasSize }
 {
     let profile = read_frame_profile(bits)?;
-    if bits.flag(FieldName::ShowExistingFrame)? {
+    if bits.flag_field(FieldName::ShowExistingFrame)? {
         let (slot, _) = read_slot(
             bits,
             FieldName::FrameToShowMapIdx,

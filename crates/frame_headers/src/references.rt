@@ -42,7 +42,7 @@ fn read_reference(
     ensures size { SlotsHaveSizes before.now → IfOk result (λ reference. HasFrameSize reference.shape) }
 {
     let (slot, shape) = read_slot(bits, FieldName::RefFrameIdx, before, Rule::RefMissing)?;
-    let bias = bits.flag(FieldName::RefFrameSignBias)?;
+    let bias = bits.flag_field(FieldName::RefFrameSignBias)?;
     Ok(Reference {
         slot,
         sign_bias: !error_resilient && bias,
@@ -76,7 +76,7 @@ fn are_same(a: bool, b: bool) -> bool
 }
 
 impl Reference {
-    ghost use Rattle.frame_headers.specs.References.{has_format, is_in_range, size_of};
+    ghost use Rattle.frame_headers.specs.References.{has_format, has_allowed_scale, size_of};
 
     /// Whether it has the depth and the subsampling of a frame with these colours.
     pub fn has_format(&self, color: &ColorConfig) -> bool
@@ -88,8 +88,8 @@ impl Reference {
     }
 
     /// Whether a frame of this size can be predicted from it.
-    pub fn is_in_range(&self, size: &FrameSize) -> bool
-        ensures { result ≡ is_in_range size.now self.now }
+    pub fn has_allowed_scale(&self, size: &FrameSize) -> bool
+        ensures { result ≡ has_allowed_scale size.now self.now }
     {
         let (width, height) = (u64::from(size.width), u64::from(size.height));
         let (w, h) = (u64::from(self.shape.w), u64::from(self.shape.h));
@@ -113,13 +113,13 @@ fn read_found_size(bits: &mut BitReader<'_>, references: &References) -> Result<
     ensures reads { Reads (found_size references.now) bits.old result bits.new }
     ensures size { HaveFrameSizes references.now → IfOk result IsFrameSize }
 {
-    if bits.flag(FieldName::FoundRef)? {
+    if bits.flag_field(FieldName::FoundRef)? {
         return Ok(references.last.size());
     }
-    if bits.flag(FieldName::FoundRef)? {
+    if bits.flag_field(FieldName::FoundRef)? {
         return Ok(references.golden.size());
     }
-    if bits.flag(FieldName::FoundRef)? {
+    if bits.flag_field(FieldName::FoundRef)? {
         return Ok(references.altref.size());
     }
     read_frame_size(bits)
@@ -129,7 +129,7 @@ fn read_found_size(bits: &mut BitReader<'_>, references: &References) -> Result<
 fn read_interpolation_filter(bits: &mut BitReader<'_>) -> Result<FrameFilter, Rule>
     ensures { Reads interpolation_filter bits.old result bits.new }
 {
-    if bits.flag(FieldName::IsFilterSwitchable)? {
+    if bits.flag_field(FieldName::IsFilterSwitchable)? {
         return Ok(FrameFilter::Switchable);
     }
     let code = bits.byte(FieldName::RawInterpolationFilter, 2)?;
@@ -148,7 +148,7 @@ fn filter(code: u8) -> InterpFilter
 }
 
 impl References {
-    ghost use Rattle.frame_headers.specs.References.{all_of, some_of, has_format, is_in_range};
+    ghost use Rattle.frame_headers.specs.References.{all_of, some_of, has_format, has_allowed_scale};
 
     /// Whether all have the format of a frame with these colours.
     pub fn have_format(&self, color: &ColorConfig) -> bool
@@ -161,11 +161,11 @@ impl References {
 
     /// Whether a frame of this size can be predicted from one of them.
     pub fn has_one_in_range(&self, size: &FrameSize) -> bool
-        ensures { result ≡ some_of (is_in_range size.now) self.now }
+        ensures { result ≡ some_of (has_allowed_scale size.now) self.now }
     {
-        self.last.is_in_range(size)
-            || self.golden.is_in_range(size)
-            || self.altref.is_in_range(size)
+        self.last.has_allowed_scale(size)
+            || self.golden.has_allowed_scale(size)
+            || self.altref.has_allowed_scale(size)
     }
 }
 
@@ -190,7 +190,7 @@ pub fn read_inter_fields(
         return Err(Rule::RefScale);
     }
     read_render_size(bits)?;
-    let high_precision = bits.flag(FieldName::AllowHighPrecisionMv)?;
+    let high_precision = bits.flag_field(FieldName::AllowHighPrecisionMv)?;
     let filter = read_interpolation_filter(bits)?;
     Ok(FrameFields {
         kind: FrameKind::Inter(InterFields {

@@ -72,7 +72,7 @@ pub struct Segmentation {
 fn read_probability(bits: &mut BitReader<'_>) -> Result<u8, Rule>
     ensures { Reads probability bits.old result bits.new }
 {
-    if bits.flag(FieldName::ProbCoded)? {
+    if bits.flag_field(FieldName::ProbCoded)? {
         bits.byte(FieldName::Prob, 8)
     } else {
         Ok(255)
@@ -105,7 +105,7 @@ fn read_map_update(bits: &mut BitReader<'_>) -> Result<MapUpdate, Rule>
 {
     let mut tree = [255; 7];
     read_probabilities(bits, &mut tree)?;
-    let temporal = bits.flag(FieldName::SegmentationTemporalUpdate)?;
+    let temporal = bits.flag_field(FieldName::SegmentationTemporalUpdate)?;
     let prediction = read_prediction(bits, temporal)?;
     Ok(MapUpdate {
         tree,
@@ -119,7 +119,7 @@ fn read_signed_feature(bits: &mut BitReader<'_>, width: u8) -> Result<Option<i16
     requires { width ≤ 8 }
     ensures { Reads (signed_feature width) bits.old result bits.new }
 {
-    if bits.flag(FieldName::FeatureEnabled)? {
+    if bits.flag_field(FieldName::FeatureEnabled)? {
         Ok(Some(bits.signed(FieldName::FeatureValue, width)?))
     } else {
         Ok(None)
@@ -141,7 +141,7 @@ fn feature_reference(code: u8) -> FeatureReference
 fn read_reference_feature(bits: &mut BitReader<'_>) -> Result<Option<FeatureReference>, Rule>
     ensures { Reads reference_feature bits.old result bits.new }
 {
-    if bits.flag(FieldName::FeatureEnabled)? {
+    if bits.flag_field(FieldName::FeatureEnabled)? {
         let code = bits.byte(FieldName::FeatureValue, 2)?;
         Ok(Some(feature_reference(code)))
     } else {
@@ -156,7 +156,7 @@ fn read_segment_features(bits: &mut BitReader<'_>) -> Result<SegmentFeatures, Ru
     let quantizer = read_signed_feature(bits, 8)?;
     let level = read_signed_feature(bits, 6)?;
     let reference = read_reference_feature(bits)?;
-    let skip = bits.flag(FieldName::FeatureEnabled)?;
+    let skip = bits.flag_field(FieldName::FeatureEnabled)?;
     Ok(SegmentFeatures {
         quantizer,
         level,
@@ -178,7 +178,7 @@ fn read_all_features(bits: &mut BitReader<'_>, segments: &mut [SegmentFeatures])
 fn read_features(bits: &mut BitReader<'_>) -> Result<Features, Rule>
     ensures { Reads update_features bits.old result bits.new }
 {
-    let absolute = bits.flag(FieldName::SegmentationAbsOrDeltaUpdate)?;
+    let absolute = bits.flag_field(FieldName::SegmentationAbsOrDeltaUpdate)?;
     let mut segments = [SegmentFeatures::NONE; 8];
     read_all_features(bits, &mut segments)?;
     Ok(Features { absolute, segments })
@@ -199,9 +199,9 @@ fn read_map(bits: &mut BitReader<'_>, update: bool) -> Result<Option<MapUpdate>,
 fn read_enabled(bits: &mut BitReader<'_>, old: Features) -> Result<Segmentation, Rule>
     ensures { Reads (enabled_params old) bits.old result bits.new }
 {
-    let update = bits.flag(FieldName::SegmentationUpdateMap)?;
+    let update = bits.flag_field(FieldName::SegmentationUpdateMap)?;
     let map = read_map(bits, update)?;
-    let update = bits.flag(FieldName::SegmentationUpdateData)?;
+    let update = bits.flag_field(FieldName::SegmentationUpdateData)?;
     let features = if update { read_features(bits)? } else { old };
     Ok(Segmentation {
         enabled: true,
@@ -215,7 +215,7 @@ fn read_enabled(bits: &mut BitReader<'_>, old: Features) -> Result<Segmentation,
 pub fn read_segmentation(bits: &mut BitReader<'_>, old: Features) -> Result<Segmentation, Rule>
     ensures { Reads (segmentation_params old) bits.old result bits.new }
 {
-    if bits.flag(FieldName::SegmentationEnabled)? {
+    if bits.flag_field(FieldName::SegmentationEnabled)? {
         read_enabled(bits, old)
     } else {
         Ok(Segmentation {

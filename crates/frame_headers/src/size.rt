@@ -23,7 +23,7 @@ pub fn read_frame_size(bits: &mut BitReader<'_>) -> Result<FrameSize, Rule>
 pub fn read_render_size(bits: &mut BitReader<'_>) -> Result<(), Rule>
     ensures { Reads render_size bits.old result bits.new }
 {
-    if bits.flag(FieldName::RenderAndFrameSizeDifferent)? {
+    if bits.flag_field(FieldName::RenderAndFrameSizeDifferent)? {
         let _ = bits.field(FieldName::RenderWidthMinus1, 16)?;
         let _ = bits.field(FieldName::RenderHeightMinus1, 16)?;
     }

@@ -90,7 +90,7 @@ fn read_more_columns(bits: &mut BitReader<'_>, least: u8, greatest: u8) -> Resul
 {
     let mut log2 = least;
     while log2 < greatest {
-        if !bits.flag(FieldName::IncrementTileColsLog2)? {
+        if !bits.flag_field(FieldName::IncrementTileColsLog2)? {
             return Ok(log2);
         }
         log2 += 1;
@@ -103,10 +103,10 @@ fn read_rows_log2(bits: &mut BitReader<'_>) -> Result<u8, Rule>
     ensures reads { Reads tile_rows_log2 bits.old result bits.new }
     ensures few { IfOk result (λ log2. log2 ≤ 2) }
 {
-    if !bits.flag(FieldName::TileRowsLog2)? {
+    if !bits.flag_field(FieldName::TileRowsLog2)? {
         return Ok(0);
     }
-    if bits.flag(FieldName::IncrementTileRowsLog2)? {
+    if bits.flag_field(FieldName::IncrementTileRowsLog2)? {
         Ok(2)
     } else {
         Ok(1)

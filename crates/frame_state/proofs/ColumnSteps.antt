@@ -28,7 +28,7 @@ use Rattle.frame_setting.specs.declared.setting.FrameSetting.{FrameSetting}
 use Rattle.frame_state.specs.KeptColumns.{AllFit, AllLie, AllSmall, AllStart, AreTileColumns, IsTileColumn, blocks_of, limit_of}
 use Rattle.frame_state.specs.Code.{IsReady, SameColumns, column_as_listed, column_of_code, counts_if}
 use Rattle.frame_state.specs.FrameReading.{Column, FrameRead, begun, column_at, infos, no_column, sides_below}
-use Rattle.frame_state.specs.TilePlaces.{column_of, row_of, superblocks_before, tile_offset, tile_places}
+use Rattle.frame_state.specs.TilePlaces.{column_of, tile_row_of, superblocks_before, tile_offset, tile_places}
 use Rattle.frame_state.specs.declared.columns.TileColumn.{TileColumn}
 use Rattle.frame_state.specs.declared.tile_places.TilePlaces.{TilePlaces}
 use Rattle.frame_state.proofs.TileOffsets.{before_grows, before_low, column_ends, offset_grows, offset_low, raster, room_for, room_left, row_below, tile_is_low}
@@ -48,8 +48,8 @@ cleared_fit shape s h = record { y = plane_fits shape Y s.y h.y; u = plane_fits 
 
 -- where a tile lies, side by side
 pub record Lies (frame : FramePlaces) (tiles : TileInfo) (n : ℕ) (t : TilePlaces) : Type 0 where
-  pub row_from : t.row_from ≡ tile_offset frame.rows tiles.rows_log2 (row_of tiles n)
-  pub row_to : t.row_to ≡ tile_offset frame.rows tiles.rows_log2 (row_of tiles n + 1)
+  pub row_from : t.row_from ≡ tile_offset frame.rows tiles.rows_log2 (tile_row_of tiles n)
+  pub row_to : t.row_to ≡ tile_offset frame.rows tiles.rows_log2 (tile_row_of tiles n + 1)
   pub col_from : t.col_from ≡ tile_offset frame.cols tiles.columns_log2 (column_of tiles n)
   pub col_to : t.col_to ≡ tile_offset frame.cols tiles.columns_log2 (column_of tiles n + 1)
 
@@ -63,10 +63,10 @@ lies frame tiles n t is = record {
 }
 
 pub rows_in_order : (frame : FramePlaces) (tiles : TileInfo) (n : ℕ) (t : TilePlaces) → t ≡ tile_places frame tiles n → t.row_from ≤ t.row_to
-rows_in_order frame tiles n t is = let h = lies frame tiles n t is in rw (h.row_from, h.row_to) (offset_grows frame.rows tiles.rows_log2 (row_of tiles n))
+rows_in_order frame tiles n t is = let h = lies frame tiles n t is in rw (h.row_from, h.row_to) (offset_grows frame.rows tiles.rows_log2 (tile_row_of tiles n))
 
 pub rows_within : (frame : FramePlaces) (tiles : TileInfo) (n : ℕ) (t : TilePlaces) → t ≡ tile_places frame tiles n → t.row_to ≤ frame.rows
-rows_within frame tiles n t is = let h = lies frame tiles n t is in rw h.row_to (offset_low frame.rows tiles.rows_log2 (row_of tiles n + 1))
+rows_within frame tiles n t is = let h = lies frame tiles n t is in rw h.row_to (offset_low frame.rows tiles.rows_log2 (tile_row_of tiles n + 1))
 
 -- a column is ready for its tile
 pub ready_of : (setting : FrameSetting) (n k : ℕ) (c : TileColumn) (sides : TileSides) → IsTileColumn setting.header n k c
@@ -101,11 +101,11 @@ ends_there setting n k c t at is h =
 
 -- what its rows of superblocks are to all of them
 record IsTall (header : Header) (n tall : ℕ) : Type 0 where
-  low : tall ≤ superblocks_before (mi_rows (shape_of header)) header.params.tiles.rows_log2 (row_of header.params.tiles n + 1)
-      - superblocks_before (mi_rows (shape_of header)) header.params.tiles.rows_log2 (row_of header.params.tiles n)
-  order : superblocks_before (mi_rows (shape_of header)) header.params.tiles.rows_log2 (row_of header.params.tiles n)
-      ≤ superblocks_before (mi_rows (shape_of header)) header.params.tiles.rows_log2 (row_of header.params.tiles n + 1)
-  within : superblocks_before (mi_rows (shape_of header)) header.params.tiles.rows_log2 (row_of header.params.tiles n + 1) ≤ superblocks_along (mi_rows (shape_of header))
+  low : tall ≤ superblocks_before (mi_rows (shape_of header)) header.params.tiles.rows_log2 (tile_row_of header.params.tiles n + 1)
+      - superblocks_before (mi_rows (shape_of header)) header.params.tiles.rows_log2 (tile_row_of header.params.tiles n)
+  order : superblocks_before (mi_rows (shape_of header)) header.params.tiles.rows_log2 (tile_row_of header.params.tiles n)
+      ≤ superblocks_before (mi_rows (shape_of header)) header.params.tiles.rows_log2 (tile_row_of header.params.tiles n + 1)
+  within : superblocks_before (mi_rows (shape_of header)) header.params.tiles.rows_log2 (tile_row_of header.params.tiles n + 1) ≤ superblocks_along (mi_rows (shape_of header))
 
 is_tall : (setting : FrameSetting) (n : ℕ) (t : TilePlaces) → n < 2 ^ setting.header.params.tiles.columns_log2 * 2 ^ setting.header.params.tiles.rows_log2
     → t ≡ tile_places setting.places setting.header.params.tiles n → IsTall setting.header n (superblocks_along (t.row_to - t.row_from))
@@ -114,17 +114,17 @@ is_tall setting n t below is =
     let rows = mi_rows (shape_of setting.header) in
     let h = lies (places_of (shape_of setting.header)) tiles n t (is ∙ ap (λ p. tile_places p tiles n) setting.whole) in
     let last = row_below tiles n below in record {
-      low = rw (h.row_from, h.row_to) (tile_is_low rows tiles.rows_log2 (row_of tiles n));
-      order = before_grows rows tiles.rows_log2 (row_of tiles n) (row_of tiles n + 1) (omega arith);
-      within = before_low rows tiles.rows_log2 (row_of tiles n + 1) (omega (arith, last));
+      low = rw (h.row_from, h.row_to) (tile_is_low rows tiles.rows_log2 (tile_row_of tiles n));
+      order = before_grows rows tiles.rows_log2 (tile_row_of tiles n) (tile_row_of tiles n + 1) (omega arith);
+      within = before_low rows tiles.rows_log2 (tile_row_of tiles n + 1) (omega (arith, last));
     }
 
 room_there : (header : Header) (n k : ℕ) (c : TileColumn) → k ≡ column_of header.params.tiles n → IsTileColumn header n k c
     → 64 * (superblocks_along (c.grid.to - c.grid.from) * (superblocks_along (mi_rows (shape_of header))
-    - superblocks_before (mi_rows (shape_of header)) header.params.tiles.rows_log2 (row_of header.params.tiles n))) ≤ c.grid.room
+    - superblocks_before (mi_rows (shape_of header)) header.params.tiles.rows_log2 (tile_row_of header.params.tiles n))) ≤ c.grid.room
 room_there header n k c at h =
     let place = raster header.params.tiles n in
-    h.room (row_of header.params.tiles n) (omega (arith, place, at))
+    h.room (tile_row_of header.params.tiles n) (omega (arith, place, at))
 
 pub has_room : (setting : FrameSetting) (n k : ℕ) (c : TileColumn) (t : TilePlaces) → n < 2 ^ setting.header.params.tiles.columns_log2 * 2 ^ setting.header.params.tiles.rows_log2
     → k ≡ column_of setting.header.params.tiles n → t ≡ tile_places setting.places setting.header.params.tiles n → IsTileColumn setting.header n k c
@@ -158,7 +158,7 @@ column_left setting n k c new t below at is h ready same left =
       fit = ready.fit;
       room = λ r later. rw (same.from, same.to) (room_left (superblocks_along (c.grid.to - c.grid.from)) (superblocks_along (t.row_to - t.row_from)) (superblocks_along (mi_rows (shape_of setting.header))) _ _
           (superblocks_before (mi_rows (shape_of setting.header)) tiles.rows_log2 r) c.grid.room new.grid.room tall.low tall.order tall.within
-          (before_grows (mi_rows (shape_of setting.header)) tiles.rows_log2 (row_of tiles n + 1) r (next_row (2 ^ tiles.columns_log2) n r (row_of tiles n) k (place ∙ ap (λ k. row_of tiles n * 2 ^ tiles.columns_log2 + k) (sym at)) later))
+          (before_grows (mi_rows (shape_of setting.header)) tiles.rows_log2 (tile_row_of tiles n + 1) r (next_row (2 ^ tiles.columns_log2) n r (tile_row_of tiles n) k (place ∙ ap (λ k. tile_row_of tiles n * 2 ^ tiles.columns_log2 + k) (sym at)) later))
           (room_there setting.header n k c at h) left);
       fit_blocks = ready.fit_blocks;
       lie = ready.lie;

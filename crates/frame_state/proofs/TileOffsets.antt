@@ -9,7 +9,7 @@ use Rattle.vp9_types.specs.Sizes.{superblocks_along}
 use Rattle.frame_headers.specs.HeaderState.{shape_of}
 use Rattle.frame_headers.specs.declared.header.Header.{Header}
 use Rattle.frame_headers.specs.declared.tiles.TileInfo.{TileInfo}
-use Rattle.frame_state.specs.TilePlaces.{column_of, row_of, superblocks_before, tile_offset}
+use Rattle.frame_state.specs.TilePlaces.{column_of, tile_row_of, superblocks_before, tile_offset}
 
 pub before_grows : (places log2 i j : ℕ) → i ≤ j → superblocks_before places log2 i ≤ superblocks_before places log2 j
 before_grows places log2 i j low = shr_mono log2 (mul-le-mul_right (superblocks_along places) low)
@@ -117,11 +117,11 @@ last_high places log2 c low =
 pub column_below : (tiles : TileInfo) (n : ℕ) → column_of tiles n < 2 ^ tiles.columns_log2
 column_below tiles n = mod-lt n (pow_pos tiles.columns_log2)
 
-pub row_below : (tiles : TileInfo) (n : ℕ) → n < 2 ^ tiles.columns_log2 * 2 ^ tiles.rows_log2 → row_of tiles n < 2 ^ tiles.rows_log2
+pub row_below : (tiles : TileInfo) (n : ℕ) → n < 2 ^ tiles.columns_log2 * 2 ^ tiles.rows_log2 → tile_row_of tiles n < 2 ^ tiles.rows_log2
 row_below tiles n low = (div-lt_iff_lt-mul (pow_pos tiles.columns_log2)).1 (subst (λ k. n < k) (mul_comm (2 ^ tiles.columns_log2) (2 ^ tiles.rows_log2)) low)
 
-pub raster : (tiles : TileInfo) (n : ℕ) → n ≡ row_of tiles n * 2 ^ tiles.columns_log2 + column_of tiles n
-raster tiles n = sym (div-add-mod n (2 ^ tiles.columns_log2)) ∙ ap (λ k. k + column_of tiles n) (mul_comm (2 ^ tiles.columns_log2) (row_of tiles n))
+pub raster : (tiles : TileInfo) (n : ℕ) → n ≡ tile_row_of tiles n * 2 ^ tiles.columns_log2 + column_of tiles n
+raster tiles n = sym (div-add-mod n (2 ^ tiles.columns_log2)) ∙ ap (λ k. k + column_of tiles n) (mul_comm (2 ^ tiles.columns_log2) (tile_row_of tiles n))
 
 ---- Room ----
 

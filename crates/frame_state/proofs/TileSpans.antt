@@ -9,7 +9,7 @@ use Rattle.vp9_types.specs.declared.job.Span.{Span}
 use Rattle.vp9_types.specs.declared.rule.Rule.{Rule}
 use Rattle.bool_decoder.specs.Window.{started}
 use Rattle.compressed_header.specs.CompressedHeader.{forward}
-use Rattle.frame_headers.specs.Spans.{followed, in_front, tile_count, tile_spans, tiles_from, tile_at as tile_at_place}
+use Rattle.frame_headers.specs.Spans.{span_then, in_front, tile_count, tile_spans, tiles_from, tile_at as tile_at_place}
 use Rattle.frame_headers.specs.HeaderState.{shape_of}
 use Rattle.frame_headers.specs.declared.header.Header.{Header}
 use Rattle.prob_contexts.specs.ProbLists.{ContextLists}
@@ -28,7 +28,7 @@ in_front_long span (Ok rest) n spans h is = let same : span ∷ rest ≡ spans =
 in_front_long span (Err rule) n spans h is = let no : ⊥ = cc in absurd no
 
 behind_first : (r : Result Span Rule) (more : Span → Result (List Span) Rule) (n : ℕ) (spans : List Span) → ((span : Span) (rest : List Span) → more span ≡ Ok rest → length rest ≡ n)
-    → followed r more ≡ Ok spans → length spans ≡ suc n
+    → span_then r more ≡ Ok spans → length spans ≡ suc n
 behind_first (Ok span) more n spans h is = in_front_long span (more span) n spans (h span) is
 behind_first (Err rule) more n spans h is = let no : ⊥ = cc in absurd no
 

@@ -30,7 +30,7 @@ use Rattle.residue_syntax.specs.Residues as residues
 use Rattle.residue_syntax.specs.Sides.{Sides}
 use Rattle.residue_syntax.specs.declared.sides.TileSides.{TileSides}
 use Rattle.inter_modes.specs.ModeInfo.{mode_info}
-use Rattle.mode_syntax.specs.Walk.{Walk, decode_tile}
+use Rattle.mode_syntax.specs.Walk.{TileWalk, decode_tile}
 use Rattle.frame_state.specs.Sources.{block_sources, FramePast, FrameSources, frame_is_intra}
 use Rattle.frame_state.specs.TilePlaces.{column_of, tile_places, tile_superblocks}
 use Rattle.frame_state.specs.declared.tile_places.TilePlaces.{TilePlaces}
@@ -52,10 +52,10 @@ unfoldable pub read_block : FrameSources → BlockAt → TileRead → Syntax ℕ
 read_block by at s =
     counting.◌>>=◌ (mode_info (block_sources by) (infos (s.earlier ++ s.blocks)) at) (λ told.
     counting.◌>>=◌ (lifted told) (λ info.
-    counting.◌>>=◌ (residues.read_block by.header by.contexts at.tile_from info s.sides) (λ read.
+    counting.◌>>=◌ (residues.block_residue by.header by.contexts at.tile_from info s.sides) (λ read.
     settle (record { earlier = s.earlier; blocks = s.blocks ++ read.0 ∷ []; sides = read.1 }))))
 
-abbrev pub read_walk : FrameSources → FramePlaces → TilePlaces → Walk TileRead
+abbrev pub read_walk : FrameSources → FramePlaces → TilePlaces → TileWalk TileRead
 read_walk by frame tile = record {
   frame = frame;
   tile_from = tile.col_from;

@@ -16,8 +16,8 @@ abbrev pub tile_offset : ℕ → ℕ → ℕ → ℕ
 tile_offset places log2 i = min (8 * superblocks_before places log2 i) places
 
 -- tiles are numbered row by row
-abbrev pub row_of : TileInfo → ℕ → ℕ
-row_of tiles n = n / 2 ^ tiles.columns_log2
+abbrev pub tile_row_of : TileInfo → ℕ → ℕ
+tile_row_of tiles n = n / 2 ^ tiles.columns_log2
 
 abbrev pub column_of : TileInfo → ℕ → ℕ
 column_of tiles n = n % 2 ^ tiles.columns_log2
@@ -25,8 +25,8 @@ column_of tiles n = n % 2 ^ tiles.columns_log2
 -- the n-th tile of a frame
 unfoldable pub tile_places : FramePlaces → TileInfo → ℕ → TilePlaces
 tile_places frame tiles n = record {
-  row_from = tile_offset frame.rows tiles.rows_log2 (row_of tiles n);
-  row_to = tile_offset frame.rows tiles.rows_log2 (row_of tiles n + 1);
+  row_from = tile_offset frame.rows tiles.rows_log2 (tile_row_of tiles n);
+  row_to = tile_offset frame.rows tiles.rows_log2 (tile_row_of tiles n + 1);
   col_from = tile_offset frame.cols tiles.columns_log2 (column_of tiles n);
   col_to = tile_offset frame.cols tiles.columns_log2 (column_of tiles n + 1);
 }

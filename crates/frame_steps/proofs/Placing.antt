@@ -4,7 +4,7 @@ use Rattle.std.specs.Prelude.{All, true, IfSome, Option, Some, None, Result, Ok,
 use Rattle.vp9_types.specs.declared.block.ReferenceFrame.{ReferenceFrame}
 use Rattle.vp9_types.specs.declared.block.ReferenceFrame.TheVariants.{Last, Golden, Altref}
 use Rattle.vp9_types.specs.declared.job.Span.{Span}
-use Rattle.frame_headers.specs.References.{is_in_range}
+use Rattle.frame_headers.specs.References.{has_allowed_scale}
 use Rattle.frame_headers.specs.FrameSizes.{HasFrameSize, IsFrameSize}
 use Rattle.frame_headers.specs.Spans.{tile_count, tile_spans}
 use Rattle.frame_headers.specs.HeaderState.{shape_of}
@@ -31,7 +31,7 @@ use Rattle.frame_steps.specs.declared.beginning.BegunFrame.{BegunFrame}
 use Rattle.frame_steps.specs.declared.columns.PlannedColumn.{PlannedColumn}
 
 one_shape : (header : Header) (fields : InterFields) (r : ReferenceFrame) → IsFrameSize header.size → HasFrameSize (reference_in fields.references r).shape
-    → is_in_range header.size (reference_in fields.references r) ≡ true → HasShape (shape_of header) (shapes_by (kind.Inter fields)) r
+    → has_allowed_scale header.size (reference_in fields.references r) ≡ true → HasShape (shape_of header) (shapes_by (kind.Inter fields)) r
 one_shape header fields Last size sized range = (fields.references.last.shape, refl, is_reference header fields.references.last fields.references.last.shape size sized.1 sized.3 refl range)
 one_shape header fields Golden size sized range = (fields.references.golden.shape, refl, is_reference header fields.references.golden fields.references.golden.shape size sized.1 sized.3 refl range)
 one_shape header fields Altref size sized range = (fields.references.altref.shape, refl, is_reference header fields.references.altref fields.references.altref.shape size sized.1 sized.3 refl range)

@@ -19,7 +19,7 @@ use frame_setting::FrameSetting;
 use frame_state::{FramePast, FrameSources, Halt, begin_frame};
 use prob_contexts::Contexts;
 use seq_decoder::{
-    LastFrame, SavedContexts, begin_segments, has_size, loses_past, place_of, segments_of,
+    LastFrame, SavedContexts, begin_segments, has_size, loses_past, saved_place, segments_of,
     vectors_before,
 };
 use std::alloc::{AllocError, Global};
@@ -76,7 +76,7 @@ pub fn begin<'a>(
 {
     let mut saved = before.saved;
     saved.reset(header);
-    let contexts = saved.at(place_of(header));
+    let contexts = saved.at(saved_place(header));
     let setting = begin_frame(bytes, header, compressed, &contexts)?;
     Ok(BegunFrame {
         bytes,

@@ -6,7 +6,7 @@ use Rattle.vp9_types.specs.Results.{◌>>=◌}
 use Rattle.vp9_types.specs.Syntax.{Syntax}
 use Rattle.vp9_types.specs.declared.rule.Rule.{Rule}
 use Rattle.vp9_types.specs.declared.shape.Plane.TheVariants.{Y, U, V}
-use Rattle.bool_encoder.specs.Part.{Part, marked}
+use Rattle.bool_encoder.specs.Part.{NumberPart, behind_marker}
 use Rattle.bool_lists.specs.BoolLists.{BoolList, HasPut}
 use Rattle.bool_lists.proofs.Ways.{spells_on}
 use Rattle.block_lists.proofs.InterWays.{mode_info_way}
@@ -35,7 +35,7 @@ use Rattle.residue_writer.specs.SaidResidues as residue
 use Rattle.residue_writer.specs.declared.levels.BlockLevels.{BlockLevels}
 use Rattle.tile_writer.specs.declared.unwritten.Unwritten.TheVariants.{Broken, Unsaid}
 use Rattle.tile_writer.specs.SaidTiles.{so_far}
-use Rattle.frame_writer.specs.FrameSymbols.{Speaker, as_said, block_told, levels_spelled, modes_by, modes_said, modes_spelled, with_block}
+use Rattle.frame_writer.specs.FrameSymbols.{Speaker, as_said, block_told, levels_spelled, modes_by, modes_said, modes_spelled, with_read_block}
 use Rattle.frame_writer.specs.Code.{TileHeld, TileHere, held_of, here_of}
 use Rattle.frame_state.specs.declared.columns.TileColumn.{TileColumn}
 use Rattle.frame_state.specs.declared.sources.FrameSources as code
@@ -49,29 +49,29 @@ modes_of by at s = mode_info (block_sources by) (before_it s) at
 
 -- ---- what is put
 
-pub block_puts : (by : FrameSources) (at : BlockAt) (s : TileRead) (old mid new : Part) (info : BlockInfo) (read : PlannedBlock × TileSides)
-    → PutsValue (modes_of by at s) old (Ok info) mid → PutsTo (residues.read_block by.header by.contexts at.tile_from info s.sides) mid (Ok read) new
-    → PutsValue (read_block by at s) old (with_block s read) new
+pub block_puts : (by : FrameSources) (at : BlockAt) (s : TileRead) (old mid new : NumberPart) (info : BlockInfo) (read : PlannedBlock × TileSides)
+    → PutsValue (modes_of by at s) old (Ok info) mid → PutsTo (residues.block_residue by.header by.contexts at.tile_from info s.sides) mid (Ok read) new
+    → PutsValue (read_block by at s) old (with_read_block s read) new
 unfolding read_block
 block_puts by at s old mid new info read modes residue =
-    value_put _ old new (with_block s read) (puts_on (modes_of by at s) _ old mid new (Ok info) _ (puts_value (modes_of by at s) old mid (Ok info) modes)
+    value_put _ old new (with_read_block s read) (puts_on (modes_of by at s) _ old mid new (Ok info) _ (puts_value (modes_of by at s) old mid (Ok info) modes)
     (puts_on (lifted (Ok info)) _ mid mid new info _ (puts_lifted (Ok info) mid)
-    (puts_on (residues.read_block by.header by.contexts at.tile_from info s.sides) _ mid new new read _ residue (puts_settle (with_block s read) new))))
+    (puts_on (residues.block_residue by.header by.contexts at.tile_from info s.sides) _ mid new new read _ residue (puts_settle (with_read_block s read) new))))
 
-pub modes_break : (by : FrameSources) (at : BlockAt) (s : TileRead) (old new : Part) (rule : Rule) → PutsValue (modes_of by at s) old (Err rule) new → PutsTo (read_block by at s) old (Err rule) new
+pub modes_break : (by : FrameSources) (at : BlockAt) (s : TileRead) (old new : NumberPart) (rule : Rule) → PutsValue (modes_of by at s) old (Err rule) new → PutsTo (read_block by at s) old (Err rule) new
 unfolding read_block
 modes_break by at s old new rule modes =
     puts_on (modes_of by at s) _ old new new (Err rule) (Err rule) (puts_value (modes_of by at s) old new (Err rule) modes)
     (puts_broken (lifted (Err rule)) _ new new rule (puts_lifted (Err rule) new))
 
-pub residue_breaks : (by : FrameSources) (at : BlockAt) (s : TileRead) (old mid new : Part) (info : BlockInfo) (rule : Rule)
-    → PutsValue (modes_of by at s) old (Ok info) mid → PutsTo (residues.read_block by.header by.contexts at.tile_from info s.sides) mid (Err rule) new
+pub residue_breaks : (by : FrameSources) (at : BlockAt) (s : TileRead) (old mid new : NumberPart) (info : BlockInfo) (rule : Rule)
+    → PutsValue (modes_of by at s) old (Ok info) mid → PutsTo (residues.block_residue by.header by.contexts at.tile_from info s.sides) mid (Err rule) new
     → PutsTo (read_block by at s) old (Err rule) new
 unfolding read_block
 residue_breaks by at s old mid new info rule modes residue =
     puts_on (modes_of by at s) _ old mid new (Ok info) (Err rule) (puts_value (modes_of by at s) old mid (Ok info) modes)
     (puts_on (lifted (Ok info)) _ mid mid new info (Err rule) (puts_lifted (Ok info) mid)
-    (puts_broken (residues.read_block by.header by.contexts at.tile_from info s.sides) _ mid new rule residue))
+    (puts_broken (residues.block_residue by.header by.contexts at.tile_from info s.sides) _ mid new rule residue))
 
 -- ---- what is said
 
@@ -89,7 +89,7 @@ modes_are_said by earlier at symbols r said = modes_are by by.header.kind earlie
 
 -- ---- what the code holds
 
-pub held_with : (s : TileRead) (b : PlannedBlock) (sides : TileSides) → held_of (with_block s (b, sides)) ≡ record { blocks = before_it s ++ b.info ∷ []; sides = sides }
+pub held_with : (s : TileRead) (b : PlannedBlock) (sides : TileSides) → held_of (with_read_block s (b, sides)) ≡ record { blocks = before_it s ++ b.info ∷ []; sides = sides }
 held_with s b sides = λ i. record { blocks = both i; sides = sides }
   where
     both : infos (s.earlier ++ (s.blocks ++ b ∷ [])) ≡ infos (s.earlier ++ s.blocks) ++ b.info ∷ []
@@ -106,13 +106,13 @@ abbrev pub modes_by_blocks : FrameSources → BlockAt → List BlockInfo → Syn
 modes_by_blocks by at blocks = mode_info (block_sources by) blocks at
 
 abbrev pub residue_by_sides : FrameSources → BlockAt → BlockInfo → TileSides → Syntax ℕ Rule (Settled (PlannedBlock × TileSides))
-residue_by_sides by at info sides = residues.read_block by.header by.contexts at.tile_from info sides
+residue_by_sides by at info sides = residues.block_residue by.header by.contexts at.tile_from info sides
 
-modes_from : (by : FrameSources) (at : BlockAt) (s : TileRead) (h : TileHeld) (old mid : Part) (r : Result BlockInfo Rule) → held_of s ≡ h
+modes_from : (by : FrameSources) (at : BlockAt) (s : TileRead) (h : TileHeld) (old mid : NumberPart) (r : Result BlockInfo Rule) → held_of s ≡ h
     → PutsValue (modes_by_blocks by at h.blocks) old r mid → PutsValue (modes_of by at s) old r mid
 modes_from by at s h old mid r holds put = subst (λ blocks. PutsValue (modes_by_blocks by at blocks) old r mid) (sym (blocks_held s h holds)) put
 
-residue_from : (by : FrameSources) (at : BlockAt) (s : TileRead) (h : TileHeld) (mid new : Part) (info : BlockInfo) (r : Result (PlannedBlock × TileSides) Rule) → held_of s ≡ h
+residue_from : (by : FrameSources) (at : BlockAt) (s : TileRead) (h : TileHeld) (mid new : NumberPart) (info : BlockInfo) (r : Result (PlannedBlock × TileSides) Rule) → held_of s ≡ h
     → PutsTo (residue_by_sides by at info h.sides) mid r new → PutsTo (residue_by_sides by at info s.sides) mid r new
 residue_from by at s h mid new info r holds put = subst (λ sides. PutsTo (residue_by_sides by at info sides) mid r new) (sym (sides_held s h holds)) put
 
@@ -128,18 +128,18 @@ unfolding block_told
 nothing_told speaker by at s bools h t holds none = rw (said_from speaker by at s h t None holds none) refl
 
 -- a block's symbols, and the block or the rule
-pub record HasModes {T : Type 0} (speaker : Speaker T) (by : FrameSources) (at : BlockAt) (h : TileHeld) (t : T) (r : Result BlockInfo Rule) (next : T) (old mid : Part) : Type 0 where
+pub record HasModes {T : Type 0} (speaker : Speaker T) (by : FrameSources) (at : BlockAt) (h : TileHeld) (t : T) (r : Result BlockInfo Rule) (next : T) (old mid : NumberPart) : Type 0 where
   pub symbols : BlockSymbols
   pub told : speaker.block by h.blocks at t ≡ Some (symbols, next)
   pub are : IsSaid (block_sources by) h.blocks at symbols r
   pub put : PutsValue (modes_by_blocks by at h.blocks) old r mid
 
-modes_of_state : {T : Type 0} (speaker : Speaker T) (by : FrameSources) (at : BlockAt) (s : TileRead) (h : TileHeld) (t next : T) (r : Result BlockInfo Rule) (old mid : Part) → held_of s ≡ h
+modes_of_state : {T : Type 0} (speaker : Speaker T) (by : FrameSources) (at : BlockAt) (s : TileRead) (h : TileHeld) (t next : T) (r : Result BlockInfo Rule) (old mid : NumberPart) → held_of s ≡ h
     → (m : HasModes speaker by at h t r next old mid) → modes_said by (before_it s) at m.symbols ≡ as_said r
 modes_of_state speaker by at s h t next r old mid holds m =
     ap (λ blocks. modes_said by blocks at m.symbols) (blocks_held s h holds) ∙ modes_are_said by h.blocks at m.symbols r m.are
 
-pub modes_stop : {T : Type 0} (speaker : Speaker T) (by : FrameSources) (at : BlockAt) (s : TileRead) (bools : BoolList) (h : TileHeld) (t next : T) (rule : Rule) (old mid : Part) → held_of s ≡ h
+pub modes_stop : {T : Type 0} (speaker : Speaker T) (by : FrameSources) (at : BlockAt) (s : TileRead) (bools : BoolList) (h : TileHeld) (t next : T) (rule : Rule) (old mid : NumberPart) → held_of s ≡ h
     → HasModes speaker by at h t (Err rule) next old mid → PutsTo (read_block by at s) old (Err rule) mid × (block_told speaker by at (so_far s t bools) ≡ Err (Broken rule))
 unfolding block_told
 modes_stop speaker by at s bools h t next rule old mid holds m = (
@@ -147,24 +147,24 @@ modes_stop speaker by at s bools h t next rule old mid holds m = (
   rw (said_from speaker by at s h t (Some (m.symbols, next)) holds m.told) (rw (modes_of_state speaker by at s h t next (Err rule) old mid holds m) refl),
 )
 
-pub levels_untold : {T : Type 0} (speaker : Speaker T) (by : FrameSources) (at : BlockAt) (s : TileRead) (bools : BoolList) (h : TileHeld) (t next : T) (info : BlockInfo) (old mid : Part) → held_of s ≡ h
+pub levels_untold : {T : Type 0} (speaker : Speaker T) (by : FrameSources) (at : BlockAt) (s : TileRead) (bools : BoolList) (h : TileHeld) (t next : T) (info : BlockInfo) (old mid : NumberPart) → held_of s ≡ h
     → HasModes speaker by at h t (Ok info) next old mid → speaker.levels by info next ≡ None → block_told speaker by at (so_far s t bools) ≡ Err Unsaid
 unfolding block_told
 levels_untold speaker by at s bools h t next info old mid holds m none =
     rw (said_from speaker by at s h t (Some (m.symbols, next)) holds m.told) (rw (modes_of_state speaker by at s h t next (Ok info) old mid holds m) (rw none refl))
 
 -- its levels, and its residue or the rule
-pub record HasResidue {T : Type 0} (speaker : Speaker T) (by : FrameSources) (at : BlockAt) (h : TileHeld) (info : BlockInfo) (t last : T) (r : Result (PlannedBlock × TileSides) Rule) (mid new : Part) : Type 0 where
+pub record HasResidue {T : Type 0} (speaker : Speaker T) (by : FrameSources) (at : BlockAt) (h : TileHeld) (info : BlockInfo) (t last : T) (r : Result (PlannedBlock × TileSides) Rule) (mid new : NumberPart) : Type 0 where
   pub levels : BlockLevels
   pub told : speaker.levels by info t ≡ Some (levels, last)
-  pub are : residue.block_said by.header at.tile_from info levels h.sides ≡ r
+  pub are : residue.block_residues_said by.header at.tile_from info levels h.sides ≡ r
   pub put : PutsTo (residue_by_sides by at info h.sides) mid r new
 
-residue_of_state : {T : Type 0} (speaker : Speaker T) (by : FrameSources) (at : BlockAt) (s : TileRead) (h : TileHeld) (info : BlockInfo) (t last : T) (r : Result (PlannedBlock × TileSides) Rule) (mid new : Part) → held_of s ≡ h
-    → (m : HasResidue speaker by at h info t last r mid new) → residue.block_said by.header at.tile_from info m.levels s.sides ≡ r
-residue_of_state speaker by at s h info t last r mid new holds m = ap (λ sides. residue.block_said by.header at.tile_from info m.levels sides) (sides_held s h holds) ∙ m.are
+residue_of_state : {T : Type 0} (speaker : Speaker T) (by : FrameSources) (at : BlockAt) (s : TileRead) (h : TileHeld) (info : BlockInfo) (t last : T) (r : Result (PlannedBlock × TileSides) Rule) (mid new : NumberPart) → held_of s ≡ h
+    → (m : HasResidue speaker by at h info t last r mid new) → residue.block_residues_said by.header at.tile_from info m.levels s.sides ≡ r
+residue_of_state speaker by at s h info t last r mid new holds m = ap (λ sides. residue.block_residues_said by.header at.tile_from info m.levels sides) (sides_held s h holds) ∙ m.are
 
-pub residue_stops : {T : Type 0} (speaker : Speaker T) (by : FrameSources) (at : BlockAt) (s : TileRead) (bools : BoolList) (h : TileHeld) (t next last : T) (info : BlockInfo) (rule : Rule) (old mid new : Part) → held_of s ≡ h
+pub residue_stops : {T : Type 0} (speaker : Speaker T) (by : FrameSources) (at : BlockAt) (s : TileRead) (bools : BoolList) (h : TileHeld) (t next last : T) (info : BlockInfo) (rule : Rule) (old mid new : NumberPart) → held_of s ≡ h
     → HasModes speaker by at h t (Ok info) next old mid → HasResidue speaker by at h info next last (Err rule) mid new
     → PutsTo (read_block by at s) old (Err rule) new × (block_told speaker by at (so_far s t bools) ≡ Err (Broken rule))
 unfolding block_told
@@ -178,28 +178,28 @@ residue_stops speaker by at s bools h t next last info rule old mid new holds m 
 abbrev pub block_bools : FrameSources → BlockAt → TileRead → BlockInfo → BlockLevels → BoolList → BoolList
 block_bools by at s info levels bools = (bools ++ modes_spelled by at s info) ++ levels_spelled by s info levels
 
-levels_from : (by : FrameSources) (s : TileRead) (h : TileHeld) (info : BlockInfo) (levels : BlockLevels) (mid new : Part) → held_of s ≡ h
+levels_from : (by : FrameSources) (s : TileRead) (h : TileHeld) (info : BlockInfo) (levels : BlockLevels) (mid new : NumberPart) → held_of s ≡ h
     → HasPut mid (spelled_residue by.header by.contexts info levels h.sides) new → HasPut mid (levels_spelled by s info levels) new
 levels_from by s h info levels mid new holds put = subst (λ sides. HasPut mid (spelled_residue by.header by.contexts info levels sides) new) (sym (sides_held s h holds)) put
 
-pub block_said_so : {T : Type 0} (speaker : Speaker T) (by : FrameSources) (at : BlockAt) (s : TileRead) (bools : BoolList) (h : TileHeld) (t next last : T) (info : BlockInfo) (read : PlannedBlock × TileSides) (old mid new : Part)
-    → held_of s ≡ h → HasPut marked bools old → HasModes speaker by at h t (Ok info) next old mid → (r : HasResidue speaker by at h info next last (Ok read) mid new)
+pub block_said_so : {T : Type 0} (speaker : Speaker T) (by : FrameSources) (at : BlockAt) (s : TileRead) (bools : BoolList) (h : TileHeld) (t next last : T) (info : BlockInfo) (read : PlannedBlock × TileSides) (old mid new : NumberPart)
+    → held_of s ≡ h → HasPut behind_marker bools old → HasModes speaker by at h t (Ok info) next old mid → (r : HasResidue speaker by at h info next last (Ok read) mid new)
     → HasPut mid (spelled_residue by.header by.contexts info r.levels h.sides) new
-    → PutsValue (read_block by at s) old (with_block s read) new × HasPut marked (block_bools by at s info r.levels bools) new
-    × (block_told speaker by at (so_far s t bools) ≡ Ok (so_far (with_block s read) last (block_bools by at s info r.levels bools)))
+    → PutsValue (read_block by at s) old (with_read_block s read) new × HasPut behind_marker (block_bools by at s info r.levels bools) new
+    × (block_told speaker by at (so_far s t bools) ≡ Ok (so_far (with_read_block s read) last (block_bools by at s info r.levels bools)))
 unfolding block_told
 block_said_so speaker by at s bools h t next last info read old mid new holds before m r spelled =
     let modes = modes_from by at s h old mid (Ok info) holds m.put in
     let first = mode_info_way (block_sources by) (before_it s) at info old mid modes in (
       block_puts by at s old mid new info read modes (residue_from by at s h mid new info (Ok read) holds r.put),
-      spells_on marked mid new (bools ++ modes_spelled by at s info) (levels_spelled by s info r.levels) (levels_from by s h info r.levels mid new holds spelled)
-          (spells_on marked old mid bools (modes_spelled by at s info) first before),
+      spells_on behind_marker mid new (bools ++ modes_spelled by at s info) (levels_spelled by s info r.levels) (levels_from by s h info r.levels mid new holds spelled)
+          (spells_on behind_marker old mid bools (modes_spelled by at s info) first before),
       rw (said_from speaker by at s h t (Some (m.symbols, next)) holds m.told) (rw (modes_of_state speaker by at s h t next (Ok info) old mid holds m)
           (rw r.told (rw (residue_of_state speaker by at s h info next last (Ok read) mid new holds r) refl))),
     )
 
 pub held_more : (s : TileRead) (h : TileHeld) (b : PlannedBlock) (sides : TileSides) (info : BlockInfo) (blocks : List BlockInfo) → held_of s ≡ h → b.info ≡ info → blocks ≡ h.blocks ++ info ∷ []
-    → held_of (with_block s (b, sides)) ≡ record { blocks = blocks; sides = sides }
+    → held_of (with_read_block s (b, sides)) ≡ record { blocks = blocks; sides = sides }
 held_more s h b sides info blocks holds is more =
     held_with s b sides ∙ (λ i. record { blocks = so i; sides = sides })
   where
@@ -227,8 +227,8 @@ listed_by (Ok y) (Err rule) v tile_from info b sides is = cc
 listed_by (Err rule) u v tile_from info b sides is = cc
 
 pub is_listed : (by : FrameSources) (tile_from : ℕ) (info listed_as : BlockInfo) (levels : BlockLevels) (s sides : TileSides) (b : PlannedBlock)
-    → residue.block_said by.header tile_from info levels s ≡ Ok (b, sides) → b.info ≡ listed_as → (any : Bool) × (listed_as ≡ listed info any)
-unfolding residue.block_said
+    → residue.block_residues_said by.header tile_from info levels s ≡ Ok (b, sides) → b.info ≡ listed_as → (any : Bool) × (listed_as ≡ listed info any)
+unfolding residue.block_residues_said
 is_listed by tile_from info listed_as levels s sides b said is =
     let so = listed_by (residue.said_in_plane by.header info Y levels.y s.y) (residue.said_in_plane by.header info U levels.u s.u) (residue.said_in_plane by.header info V levels.v s.v) tile_from info b sides said in
     (so.0, sym is ∙ so.1)

@@ -3,7 +3,7 @@ use Rattle.std.proofs.Common.{◌≡◌, ℕ, ◌+◌, ◌-◌, ◌*◌, ◌^◌
 use Rattle.std.specs.Prelude.{IfOk, OnOk, Option, Some, None, Result, Ok, Err}
 use Rattle.vp9_types.specs.Sizes.{superblocks_along}
 use Rattle.vp9_types.specs.declared.rule.Rule.{Rule}
-use Rattle.bool_encoder.specs.Part.{Part, Finishes, marked}
+use Rattle.bool_encoder.specs.Part.{NumberPart, Finishes, behind_marker}
 use Rattle.bool_lists.specs.BoolLists.{BoolList, HasPut}
 use Rattle.bool_lists.proofs.Ways.{bytes_are, spells_none}
 use Rattle.bool_encoder.proofs.CountedPuts.{puts_value}
@@ -28,7 +28,7 @@ use Rattle.frame_writer.specs.declared.written.Written.{Written}
 use Rattle.frame_writer.proofs.BlockTells.{of_here, to_here}
 
 -- where a tile stands
-abbrev pub tile_at_work : {T : Type 0} → Speaker T → code.FrameSources → TilePlaces → List TileColumn → TileColumn → T → Part → Tile TileRead TileHere T
+abbrev pub tile_at_work : {T : Type 0} → Speaker T → code.FrameSources → TilePlaces → List TileColumn → TileColumn → T → NumberPart → Tile TileRead TileHere T
 tile_at_work speaker by places columns column told part = record {
   walk = read_walk (sources_of by) by.setting.places places;
   teller = teller_of speaker (sources_of by);
@@ -41,7 +41,7 @@ tile_at_work speaker by places columns column told part = record {
 }
 
 -- how the writing of its superblocks ends
-abbrev pub Ends : {T : Type 0} → Speaker T → code.FrameSources → TilePlaces → List TileColumn → ℕ → ℕ → TileColumn → T → Part → Result (Unit {0}) Unwritten → Tile TileRead TileHere T → Type 0
+abbrev pub Ends : {T : Type 0} → Speaker T → code.FrameSources → TilePlaces → List TileColumn → ℕ → ℕ → TileColumn → T → NumberPart → Result (Unit {0}) Unwritten → Tile TileRead TileHere T → Type 0
 Ends speaker by places columns across down column told first r new =
     EndsTile (tile_rest (read_walk (sources_of by) by.setting.places places) (teller_of speaker (sources_of by)) (superblocks_of (first_superblock places) down across)) (64 * (across * down))
     (tile_at_work speaker by places columns column told first) r new
@@ -63,24 +63,24 @@ not_ended why broken is = let no : ⊥ = cc in absurd no
 
 -- the code's column holds a state, and no bool is put
 begins_so : {T : Type 0} (speaker : Speaker T) (by : code.FrameSources) (places : TilePlaces) (columns : List TileColumn) (column : TileColumn) (told : T) (s : TileRead) → held_of s ≡ held_by column
-    → HoldsSoFar (tile_at_work speaker by places columns column told marked) s []
-begins_so speaker by places columns column told s holds = (to_here by places columns s (held_by column) holds, spells_none marked)
+    → HoldsSoFar (tile_at_work speaker by places columns column told behind_marker) s []
+begins_so speaker by places columns column told s holds = (to_here by places columns s (held_by column) holds, spells_none behind_marker)
 
 -- the bytes of a part are those of the bools that led to it
-bytes_of_part : (bools : BoolList) (part : Part) (bytes : List ℕ) → HasPut marked bools part → Finishes part bytes → AreBytesOf bools bytes
+bytes_of_part : (bools : BoolList) (part : NumberPart) (bytes : List ℕ) → HasPut behind_marker bools part → Finishes part bytes → AreBytesOf bools bytes
 unfolding HasPut
 bytes_of_part bools part bytes put finishes = subst (λ part. Finishes part bytes) put finishes
 
 gives_by : {T : Type 0} (speaker : Speaker T) (by : code.FrameSources) (places : TilePlaces) (columns : List TileColumn) (across down : ℕ) (column : TileColumn) (told : T) (r : Result (Unit {0}) Unwritten)
-    (broken : Option Rule) (bytes : List ℕ) (walk_by : code.FrameSources) (at : TilePlaces) (others : List TileColumn) (new : TileColumn) (last : T) (part : Part)
-    → AreAll places across down → Ends speaker by places columns across down column told marked r (tile_at_work speaker walk_by at others new last part) → ending_of r ≡ Ok broken → Finishes part bytes
+    (broken : Option Rule) (bytes : List ℕ) (walk_by : code.FrameSources) (at : TilePlaces) (others : List TileColumn) (new : TileColumn) (last : T) (part : NumberPart)
+    → AreAll places across down → Ends speaker by places columns across down column told behind_marker r (tile_at_work speaker walk_by at others new last part) → ending_of r ≡ Ok broken → Finishes part bytes
     → (s : TileRead) → held_of s ≡ held_by column → GivesTileTo speaker (sources_of by) by.setting.places places s told bytes broken new last
 gives_by speaker by places columns across down column told (Ok u) broken bytes walk_by at others new last part all ends so finishes s holds =
     let next = rw (all.wide, all.high) at (ends.0 s [] (begins_so speaker by places columns column told s holds)) in
     rw (well_or_not broken so) (
       next.next,
       next.all,
-      record { part = part; put = puts_value (tile_syntax (sources_of by) by.setting.places places s) marked part next.next next.put; ends = finishes },
+      record { part = part; put = puts_value (tile_syntax (sources_of by) by.setting.places places s) behind_marker part next.next next.put; ends = finishes },
       of_here by places columns next.next _ next.held,
       bytes_of_part next.all part bytes next.list finishes,
       next.said,
@@ -92,7 +92,7 @@ gives_by speaker by places columns across down column told (Err unwritten.Unsaid
 gives_by speaker by places columns across down column told (Err unwritten.OutOfMemory) broken bytes walk_by at others new last part all ends so finishes s holds = not_ended OutOfMemory broken so
 
 untold_by : {T : Type 0} (speaker : Speaker T) (by : code.FrameSources) (places : TilePlaces) (columns : List TileColumn) (across down : ℕ) (column : TileColumn) (told : T) (r : Result (Unit {0}) Unwritten)
-    (new : Tile TileRead TileHere T) → AreAll places across down → Ends speaker by places columns across down column told marked r new → ending_of r ≡ Err Unsaid
+    (new : Tile TileRead TileHere T) → AreAll places across down → Ends speaker by places columns across down column told behind_marker r new → ending_of r ≡ Err Unsaid
     → (s : TileRead) → held_of s ≡ held_by column → tile_told speaker (sources_of by) by.setting.places places s told ≡ Err unwritten.Unsaid
 untold_by speaker by places columns across down column told (Ok u) new all ends so s holds = let no : ⊥ = cc in absurd no
 untold_by speaker by places columns across down column told (Err (unwritten.Broken rule)) new all ends so s holds = let no : ⊥ = cc in absurd no
@@ -101,7 +101,7 @@ untold_by speaker by places columns across down column told (Err unwritten.OutOf
 
 -- a tile whose bytes are too many, whether it breaks a rule or not
 long_by : {T : Type 0} (speaker : Speaker T) (by : code.FrameSources) (places : TilePlaces) (columns : List TileColumn) (across down : ℕ) (column : TileColumn) (told : T) (r : Result (Unit {0}) Unwritten)
-    (broken : Option Rule) (bytes : List ℕ) (new : Tile TileRead TileHere T) → AreAll places across down → Ends speaker by places columns across down column told marked r new → ending_of r ≡ Ok broken
+    (broken : Option Rule) (bytes : List ℕ) (new : Tile TileRead TileHere T) → AreAll places across down → Ends speaker by places columns across down column told behind_marker r new → ending_of r ≡ Ok broken
     → Finishes new.part bytes → 2 ^ 32 ≤ length bytes → (s : TileRead) → held_of s ≡ held_by column
     → IsLong (tile_syntax (sources_of by) by.setting.places places s) (tile_told speaker (sources_of by) by.setting.places places s told)
 long_by speaker by places columns across down column told (Ok u) broken bytes new all ends so finishes long s holds =
@@ -114,8 +114,8 @@ long_by speaker by places columns across down column told (Err unwritten.Unsaid)
 long_by speaker by places columns across down column told (Err unwritten.OutOfMemory) broken bytes new all ends so finishes long s holds = not_ended OutOfMemory broken so
 
 by_bytes : {T : Type 0} (speaker : Speaker T) (by : code.FrameSources) (places : TilePlaces) (columns : List TileColumn) (across down : ℕ) (column : TileColumn) (told : T) (r : Result (Unit {0}) Unwritten)
-    (walk_by : code.FrameSources) (at : TilePlaces) (others : List TileColumn) (new : TileColumn) (last : T) (part : Part) (result : Result Written NotWritten)
-    → AreAll places across down → Ends speaker by places columns across down column told marked r (tile_at_work speaker walk_by at others new last part) → GivesBytes r part result
+    (walk_by : code.FrameSources) (at : TilePlaces) (others : List TileColumn) (new : TileColumn) (last : T) (part : NumberPart) (result : Result Written NotWritten)
+    → AreAll places across down → Ends speaker by places columns across down column told behind_marker r (tile_at_work speaker walk_by at others new last part) → GivesBytes r part result
     → (s : TileRead) → held_of s ≡ held_by column → GivesTile speaker (sources_of by) by.setting.places places s told result new last
 by_bytes speaker by places columns across down column told r walk_by at others new last part (Ok w) all ends gives s holds =
     gives_by speaker by places columns across down column told r w.broken w.bytes.items walk_by at others new last part all ends gives.0 gives.1 s holds
@@ -126,9 +126,9 @@ by_bytes speaker by places columns across down column told r walk_by at others n
 by_bytes speaker by places columns across down column told r walk_by at others new last part (Err OutOfMemory) all ends gives s holds = tt
 
 -- from the part that a new encoder has
-pub gives_tile : {T : Type 0} (speaker : Speaker T) (by : code.FrameSources) (places : TilePlaces) (columns : List TileColumn) (across down : ℕ) (column : TileColumn) (told : T) (first : Part)
-    (r : Result (Unit {0}) Unwritten) (walk_by : code.FrameSources) (at : TilePlaces) (others : List TileColumn) (new : TileColumn) (last : T) (part : Part) (result : Result Written NotWritten)
-    → first ≡ marked → AreAll places across down → Ends speaker by places columns across down column told first r (tile_at_work speaker walk_by at others new last part) → GivesBytes r part result
+pub gives_tile : {T : Type 0} (speaker : Speaker T) (by : code.FrameSources) (places : TilePlaces) (columns : List TileColumn) (across down : ℕ) (column : TileColumn) (told : T) (first : NumberPart)
+    (r : Result (Unit {0}) Unwritten) (walk_by : code.FrameSources) (at : TilePlaces) (others : List TileColumn) (new : TileColumn) (last : T) (part : NumberPart) (result : Result Written NotWritten)
+    → first ≡ behind_marker → AreAll places across down → Ends speaker by places columns across down column told first r (tile_at_work speaker walk_by at others new last part) → GivesBytes r part result
     → (s : TileRead) → held_of s ≡ held_by column → GivesTile speaker (sources_of by) by.setting.places places s told result new last
 gives_tile speaker by places columns across down column told first r walk_by at others new last part result begins all ends gives s holds =
     by_bytes speaker by places columns across down column told r walk_by at others new last part result all
@@ -144,16 +144,16 @@ some_state column = record { earlier = []; blocks = []; sides = column.sides }
 abbrev pub IsSame : code.FrameSources → TilePlaces → List TileColumn → code.FrameSources → TilePlaces → List TileColumn → TileColumn → Type 0
 IsSame by places columns walk_by at others column = here_of walk_by at others (some_state column) ≡ here_of by places columns (some_state column)
 
-same_by : {T : Type 0} (speaker : Speaker T) (by : code.FrameSources) (places : TilePlaces) (columns : List TileColumn) (across down : ℕ) (column : TileColumn) (told : T) (first : Part)
-    (r : Result (Unit {0}) Unwritten) (walk_by : code.FrameSources) (at : TilePlaces) (others : List TileColumn) (new : TileColumn) (last : T) (part : Part) (broken : Option Rule)
+same_by : {T : Type 0} (speaker : Speaker T) (by : code.FrameSources) (places : TilePlaces) (columns : List TileColumn) (across down : ℕ) (column : TileColumn) (told : T) (first : NumberPart)
+    (r : Result (Unit {0}) Unwritten) (walk_by : code.FrameSources) (at : TilePlaces) (others : List TileColumn) (new : TileColumn) (last : T) (part : NumberPart) (broken : Option Rule)
     → Ends speaker by places columns across down column told first r (tile_at_work speaker walk_by at others new last part) → ending_of r ≡ Ok broken → IsSame by places columns walk_by at others column
 same_by speaker by places columns across down column told first (Ok u) walk_by at others new last part broken ends so = ap (λ view. view (some_state column)) ends.1.view
 same_by speaker by places columns across down column told first (Err (unwritten.Broken rule)) walk_by at others new last part broken ends so = ap (λ view. view (some_state column)) ends.1.view
 same_by speaker by places columns across down column told first (Err unwritten.Unsaid) walk_by at others new last part broken ends so = not_ended Unsaid broken so
 same_by speaker by places columns across down column told first (Err unwritten.OutOfMemory) walk_by at others new last part broken ends so = not_ended OutOfMemory broken so
 
-pub still_same : {T : Type 0} (speaker : Speaker T) (by : code.FrameSources) (places : TilePlaces) (columns : List TileColumn) (across down : ℕ) (column : TileColumn) (told : T) (first : Part)
-    (r : Result (Unit {0}) Unwritten) (walk_by : code.FrameSources) (at : TilePlaces) (others : List TileColumn) (new : TileColumn) (last : T) (part : Part) (result : Result Written NotWritten)
+pub still_same : {T : Type 0} (speaker : Speaker T) (by : code.FrameSources) (places : TilePlaces) (columns : List TileColumn) (across down : ℕ) (column : TileColumn) (told : T) (first : NumberPart)
+    (r : Result (Unit {0}) Unwritten) (walk_by : code.FrameSources) (at : TilePlaces) (others : List TileColumn) (new : TileColumn) (last : T) (part : NumberPart) (result : Result Written NotWritten)
     → Ends speaker by places columns across down column told first r (tile_at_work speaker walk_by at others new last part) → GivesBytes r part result
     → OnOk result (IsSame by places columns walk_by at others column)
 still_same speaker by places columns across down column told first r walk_by at others new last part (Ok w) ends gives =
@@ -176,8 +176,8 @@ ended_well (Err (unwritten.Broken rule)) broken so none holds = let some : broke
 ended_well (Err unwritten.Unsaid) broken so none holds = not_ended Unsaid broken so
 ended_well (Err unwritten.OutOfMemory) broken so none holds = not_ended OutOfMemory broken so
 
-pub still_ready : (P : Type 0) {T : Type 0} (speaker : Speaker T) (by : code.FrameSources) (places : TilePlaces) (columns : List TileColumn) (across down : ℕ) (column : TileColumn) (told : T) (first : Part)
-    (r : Result (Unit {0}) Unwritten) (walk_by : code.FrameSources) (at : TilePlaces) (others : List TileColumn) (new : TileColumn) (last : T) (part : Part) (result : Result Written NotWritten)
+pub still_ready : (P : Type 0) {T : Type 0} (speaker : Speaker T) (by : code.FrameSources) (places : TilePlaces) (columns : List TileColumn) (across down : ℕ) (column : TileColumn) (told : T) (first : NumberPart)
+    (r : Result (Unit {0}) Unwritten) (walk_by : code.FrameSources) (at : TilePlaces) (others : List TileColumn) (new : TileColumn) (last : T) (part : NumberPart) (result : Result Written NotWritten)
     → Ends speaker by places columns across down column told first r (tile_at_work speaker walk_by at others new last part) → GivesBytes r part result
     → OnOk r (P × IsReadyFor walk_by.setting at new) → IfOk result (λ w. w.broken ≡ None → IsReadyFor by.setting places new)
 still_ready P speaker by places columns across down column told first r walk_by at others new last part (Ok w) ends gives ready = λ none.
@@ -185,8 +185,8 @@ still_ready P speaker by places columns across down column told first r walk_by 
     subst (λ (h : TileHere). IsReadyFor h.by.setting h.places new) same (ended_well r w.broken gives.0 none ready).1
 still_ready P speaker by places columns across down column told first r walk_by at others new last part (Err why) ends gives ready = tt
 
-room_by : {T : Type 0} (speaker : Speaker T) (by : code.FrameSources) (places : TilePlaces) (columns : List TileColumn) (across down : ℕ) (column : TileColumn) (told : T) (first : Part)
-    (r : Result (Unit {0}) Unwritten) (walk_by : code.FrameSources) (at : TilePlaces) (others : List TileColumn) (new : TileColumn) (last : T) (part : Part) (broken : Option Rule)
+room_by : {T : Type 0} (speaker : Speaker T) (by : code.FrameSources) (places : TilePlaces) (columns : List TileColumn) (across down : ℕ) (column : TileColumn) (told : T) (first : NumberPart)
+    (r : Result (Unit {0}) Unwritten) (walk_by : code.FrameSources) (at : TilePlaces) (others : List TileColumn) (new : TileColumn) (last : T) (part : NumberPart) (broken : Option Rule)
     → Ends speaker by places columns across down column told first r (tile_at_work speaker walk_by at others new last part) → ending_of r ≡ Ok broken → broken ≡ None
     → column.grid.room ≤ new.grid.room + 64 * (across * down)
 room_by speaker by places columns across down column told first (Ok u) walk_by at others new last part broken ends so none = ends.2
@@ -195,8 +195,8 @@ room_by speaker by places columns across down column told first (Err (unwritten.
 room_by speaker by places columns across down column told first (Err unwritten.Unsaid) walk_by at others new last part broken ends so none = not_ended Unsaid broken so
 room_by speaker by places columns across down column told first (Err unwritten.OutOfMemory) walk_by at others new last part broken ends so none = not_ended OutOfMemory broken so
 
-pub room_left : {T : Type 0} (speaker : Speaker T) (by : code.FrameSources) (places : TilePlaces) (columns : List TileColumn) (across down : ℕ) (column : TileColumn) (told : T) (first : Part)
-    (r : Result (Unit {0}) Unwritten) (walk_by : code.FrameSources) (at : TilePlaces) (others : List TileColumn) (new : TileColumn) (last : T) (part : Part) (result : Result Written NotWritten)
+pub room_left : {T : Type 0} (speaker : Speaker T) (by : code.FrameSources) (places : TilePlaces) (columns : List TileColumn) (across down : ℕ) (column : TileColumn) (told : T) (first : NumberPart)
+    (r : Result (Unit {0}) Unwritten) (walk_by : code.FrameSources) (at : TilePlaces) (others : List TileColumn) (new : TileColumn) (last : T) (part : NumberPart) (result : Result Written NotWritten)
     → AreAll places across down → Ends speaker by places columns across down column told first r (tile_at_work speaker walk_by at others new last part) → GivesBytes r part result
     → IfOk result (λ w. w.broken ≡ None → column.grid.room ≤ new.grid.room + 64 * (superblocks_along (places.col_to - places.col_from) * superblocks_along (places.row_to - places.row_from)))
 room_left speaker by places columns across down column told first r walk_by at others new last part (Ok w) all ends gives = λ none.

@@ -6,8 +6,7 @@ use Rattle.std.proofs.lemmas.List.{length-append}
 use Rattle.byteorder.specs.Endian.{big_bytes}
 use Rattle.vp9_types.specs.Bits.{bits_of, bits_of_byte, number_of, spelled}
 use Rattle.vp9_types.proofs.Spells.{length-spelled}
-use Rattle.bool_encoder.specs.Part.{Part, Finishes, marked}
-use Rattle.bool_encoder.specs.Laws.{after_bools}
+use Rattle.bool_encoder.specs.Part.{NumberPart, Finishes, behind_marker, after_bools}
 use Rattle.bool_lists.specs.BoolLists.{BoolList, HasPut}
 use Rattle.frame_headers.specs.declared.header.Uncompressed.{Uncompressed}
 use Rattle.frame_headers.specs.declared.header.Uncompressed.TheVariants.{Coded}
@@ -17,7 +16,7 @@ use Rattle.header_writer.specs.Spelling.{IsSpelled, bits_put, spelled_header}
 use Rattle.header_writer.specs.declared.choices.Choices.{Choices}
 use Rattle.frame_state.specs.Sources.{FrameSources}
 use Rattle.frame_writer.specs.Code.{IsBytes}
-use Rattle.frame_writer.specs.FrameBytes.{AreAllBytesOf, AreBytesOf, IsLaidOut, bytes_of, bytes_of_bits, compressed_bools, frame_bytes, header_bytes, joined, padded, sized, tile_bytes, without_index}
+use Rattle.frame_writer.specs.FrameBytes.{AreAllBytesOf, AreBytesOf, IsLaidOut, bytes_of, bytes_of_bits, compressed_bools, frame_bytes, header_bytes, joined_tiles, padded, tile_with_size, tile_bytes, without_index}
 
 first_bytes : (a b : List ℕ) → IsBytes (a ++ b) → IsBytes a
 first_bytes [] b h zero = omega arith
@@ -58,7 +57,7 @@ header_are before choices header bytes h low = padded_are (bits_put (spelled_hea
 
 ---- Of bools ----
 
-finished_are : (e : Part) (bytes : List ℕ) → Finishes e bytes → IsBytes bytes → bytes ≡ padded (spelled (8 + e.n) e.low)
+finished_are : (e : NumberPart) (bytes : List ℕ) → Finishes e bytes → IsBytes bytes → bytes ≡ padded (spelled (8 + e.n) e.low)
 finished_are e bytes h low =
     let size = h.size in
     let k : 8 * length bytes - (8 + e.n) < 8 = omega (arith, size) in
@@ -66,16 +65,16 @@ finished_are e bytes h low =
 
 pub bools_are : (bools : BoolList) (bytes : List ℕ) → AreBytesOf bools bytes → IsBytes bytes → bytes ≡ bytes_of bools
 unfolding bytes_of
-bools_are bools bytes h low = finished_are (after_bools bools marked) bytes h low
+bools_are bools bytes h low = finished_are (after_bools bools behind_marker) bytes h low
 
-put_are : (bools : BoolList) (part : Part) (bytes : List ℕ) → HasPut marked bools part → Finishes part bytes → IsBytes bytes → bytes ≡ bytes_of bools
+put_are : (bools : BoolList) (part : NumberPart) (bytes : List ℕ) → HasPut behind_marker bools part → Finishes part bytes → IsBytes bytes → bytes ≡ bytes_of bools
 unfolding HasPut
 put_are bools part bytes put ends low = bools_are bools bytes (subst (λ part. Finishes part bytes) put ends) low
 
 ---- Of tiles ----
 
-tiles_are : (lists : List BoolList) (tiles : List (List ℕ)) (last : List ℕ) → AreAllBytesOf lists (tiles ++ last ∷ []) → IsBytes (tile_bytes tiles last) → tile_bytes tiles last ≡ joined (map bytes_of lists)
-unfolding joined
+tiles_are : (lists : List BoolList) (tiles : List (List ℕ)) (last : List ℕ) → AreAllBytesOf lists (tiles ++ last ∷ []) → IsBytes (tile_bytes tiles last) → tile_bytes tiles last ≡ joined_tiles (map bytes_of lists)
+unfolding joined_tiles
 tiles_are [] [] last h low = absurd h
 tiles_are [] (tile ∷ tiles) last h low = absurd h
 tiles_are (bools ∷ []) [] last h low = bools_are bools last h.0 low
@@ -83,11 +82,11 @@ tiles_are (bools ∷ next ∷ lists) [] last h low = absurd h.1
 tiles_are (bools ∷ []) (tile ∷ []) last h low = absurd h.1
 tiles_are (bools ∷ []) (tile ∷ other ∷ tiles) last h low = absurd h.1
 tiles_are (bools ∷ next ∷ lists) (tile ∷ tiles) last h low =
-    let split : tile_bytes (tile ∷ tiles) last ≡ sized tile ++ tile_bytes tiles last = append_assoc (sized tile) (flat_map sized tiles) last in
-    let both : IsBytes (sized tile ++ tile_bytes tiles last) = subst IsBytes split low in
-    let own = last_bytes (big_bytes 4 (length tile)) tile (first_bytes (sized tile) (tile_bytes tiles last) both) in
-    let rest = tiles_are (next ∷ lists) tiles last h.1 (last_bytes (sized tile) (tile_bytes tiles last) both) in
-    split ∙ (λ i. sized (bools_are bools tile h.0 own i) ++ rest i)
+    let split : tile_bytes (tile ∷ tiles) last ≡ tile_with_size tile ++ tile_bytes tiles last = append_assoc (tile_with_size tile) (flat_map tile_with_size tiles) last in
+    let both : IsBytes (tile_with_size tile ++ tile_bytes tiles last) = subst IsBytes split low in
+    let own = last_bytes (big_bytes 4 (length tile)) tile (first_bytes (tile_with_size tile) (tile_bytes tiles last) both) in
+    let rest = tiles_are (next ∷ lists) tiles last h.1 (last_bytes (tile_with_size tile) (tile_bytes tiles last) both) in
+    split ∙ (λ i. tile_with_size (bools_are bools tile h.0 own i) ++ rest i)
 
 ---- Of a frame ----
 

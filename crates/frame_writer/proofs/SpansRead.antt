@@ -15,7 +15,7 @@ use Rattle.bool_lists.specs.BoolLists.{BoolList}
 use Rattle.frame_headers.specs.Spans.{in_front, last_tile, sized_tile, tile_at, tile_count, tile_size, tile_spans, tiles_from}
 use Rattle.frame_state.specs.FrameReading.{read_all_tiles, FrameRead, nothing_read, read_tile_of, read_tiles}
 use Rattle.frame_state.specs.Sources.{FrameSources}
-use Rattle.frame_writer.specs.FrameBytes.{HasSize, read_each, sized, tile_bytes}
+use Rattle.frame_writer.specs.FrameBytes.{HasSize, read_each, tile_with_size, tile_bytes}
 use Rattle.frame_writer.specs.Code.{AreTiles}
 
 -- a part in the middle
@@ -62,7 +62,7 @@ last_span by frame front last is some =
           ∙ same_behind (read_tile_of by n last f) (read_tiles by frame (n + 1) []) (read_each by (n + 1) []) (λ x. refl);
     }
 
-size_there : (frame front tile back : List ℕ) → frame ≡ front ++ (sized tile ++ back) → length tile < 2 ^ 32 → tile_size frame (length front) ≡ length tile
+size_there : (frame front tile back : List ℕ) → frame ≡ front ++ (tile_with_size tile ++ back) → length tile < 2 ^ 32 → tile_size frame (length front) ≡ length tile
 size_there frame front tile back is small =
     let size = big_bytes 4 (length tile) in
     let four : length size ≡ 4 = length-bytes_high_first 4 (length tile) in
@@ -81,10 +81,10 @@ spans_of by frame front (tile ∷ tiles) last is sizes some =
     let rest = tile_bytes tiles last in
     let four : length size ≡ 4 = length-bytes_high_first 4 (length tile) in
     let one : HasSize tile = sizes 0 [] (omega arith) in
-    let whole : frame ≡ front ++ (sized tile ++ rest) = is ∙ ap (λ l. front ++ l) (append_assoc (sized tile) (flat_map sized tiles) last) in
-    let next : length (front ++ sized tile) ≡ at + 4 + length tile = length-append front (sized tile) ∙ ap (λ n. at + n) (length-append size tile) ∙ omega (arith, four) in
-    let long : length frame ≡ length (front ++ sized tile) + length rest = ap length (whole ∙ sym (append_assoc front (sized tile) rest)) ∙ length-append (front ++ sized tile) rest in
-    let behind = spans_of by frame (front ++ sized tile) tiles last (whole ∙ sym (append_assoc front (sized tile) rest)) (λ i d low. sizes (suc i) d (omega (arith, low))) some in
+    let whole : frame ≡ front ++ (tile_with_size tile ++ rest) = is ∙ ap (λ l. front ++ l) (append_assoc (tile_with_size tile) (flat_map tile_with_size tiles) last) in
+    let next : length (front ++ tile_with_size tile) ≡ at + 4 + length tile = length-append front (tile_with_size tile) ∙ ap (λ n. at + n) (length-append size tile) ∙ omega (arith, four) in
+    let long : length frame ≡ length (front ++ tile_with_size tile) + length rest = ap length (whole ∙ sym (append_assoc front (tile_with_size tile) rest)) ∙ length-append (front ++ tile_with_size tile) rest in
+    let behind = spans_of by frame (front ++ tile_with_size tile) tiles last (whole ∙ sym (append_assoc front (tile_with_size tile) rest)) (λ i d low. sizes (suc i) d (omega (arith, low))) some in
     let there : sized_tile frame at ≡ Ok (record { from = at + 4; to = at + 4 + length tile }) =
     sized_there frame at (length tile) (size_there frame front tile rest whole one.1) one.0 (omega (arith, long, next)) in
     let here : slice_range frame (at + 4) (at + 4 + length tile) ≡ tile =
@@ -104,7 +104,7 @@ pub all_read : (by : FrameSources) (lists : Option (List BoolList)) (front out t
 unfolding tile_spans
 all_read by lists front out tail compressed r at are =
     let bytes : out ++ tail ≡ front ++ tile_bytes are.tiles (are.last ++ tail) =
-    ap (λ l. l ++ tail) are.put ∙ append_assoc front (tile_bytes are.tiles are.last) tail ∙ ap (λ l. front ++ l) (append_assoc (flat_map sized are.tiles) are.last tail) in
+    ap (λ l. l ++ tail) are.put ∙ append_assoc front (tile_bytes are.tiles are.last) tail ∙ ap (λ l. front ++ l) (append_assoc (flat_map tile_with_size are.tiles) are.last tail) in
     let some : 1 ≤ length (are.last ++ tail) = omega (arith, length-append are.last tail, are.some) in
     let spans = spans_of by (out ++ tail) front are.tiles (are.last ++ tail) bytes are.sizes some in
     let many : suc (length are.tiles) ≡ tile_count by.header = omega (arith, are.many) in

@@ -16,7 +16,7 @@ use Rattle.frame_state.specs.declared.columns.TileColumn.{TileColumn}
 use Rattle.tile_writer.specs.declared.unwritten.Unwritten.{Unwritten}
 use Rattle.tile_writer.specs.declared.unwritten.Unwritten.TheVariants as unwritten
 use Rattle.bool_lists.specs.BoolLists.{BoolList}
-use Rattle.frame_writer.specs.FrameBytes.{AreAllBytesOf, AreBytesOf, HasItsBools, HasSize, HaveTheirBools, read_each, sized}
+use Rattle.frame_writer.specs.FrameBytes.{AreAllBytesOf, AreBytesOf, HasItsBools, HasSize, HaveTheirBools, read_each, tile_with_size}
 use Rattle.frame_writer.specs.Code.{AreSoFar, GivesAll, GivesNth, GivesNthTo, GivesTiles, HoldsColumns, IsTooLong, IsUntold, StandsAt, first_broken}
 use Rattle.frame_writer.specs.SaidFrames.{FrameTold, nth_told, said_of, tiles_told, told_so_far}
 use Rattle.frame_writer.specs.FrameSymbols.{Speaker}
@@ -154,15 +154,15 @@ one_sized tile h zero d low = h
 one_sized tile h (suc i) d low = absurd (omega (arith, low))
 
 pub one_more : {T : Type 0} (speaker : Speaker T) (by : FrameSources) (t : T) (front out more : List ℕ) (n : ℕ) (broken : Option Rule) (columns others : List TileColumn) (w : Written) (now then_it : T)
-    → n < tile_count by.header → HasSize w.bytes.items → more ≡ out ++ sized w.bytes.items → AreSoFar speaker by t front n broken columns out now
+    → n < tile_count by.header → HasSize w.bytes.items → more ≡ out ++ tile_with_size w.bytes.items → AreSoFar speaker by t front n broken columns out now
     → ((read : FrameRead) → HoldsColumns columns read → GivesNth speaker by n read now (Ok w) others then_it)
     → AreSoFar speaker by t front (n + 1) (first_broken broken w.broken) others more then_it
 one_more speaker by t front out more n broken columns others w now then_it below some put far gives = record {
   tiles = far.tiles ++ w.bytes.items ∷ [];
   many = length-append far.tiles (w.bytes.items ∷ []) ∙ ap (λ n. n + 1) far.many;
   sizes = All-append HasSize far.tiles (w.bytes.items ∷ []) far.sizes (one_sized w.bytes.items some);
-  put = put ∙ ap (λ l. l ++ sized w.bytes.items) far.put ∙ append_assoc front (flat_map sized far.tiles) (sized w.bytes.items)
-      ∙ ap (λ l. front ++ l) (ap (λ l. flat_map sized far.tiles ++ l) (sym (append-nil (sized w.bytes.items))) ∙ sym (flat_map-append sized far.tiles (w.bytes.items ∷ [])));
+  put = put ∙ ap (λ l. l ++ tile_with_size w.bytes.items) far.put ∙ append_assoc front (flat_map tile_with_size far.tiles) (tile_with_size w.bytes.items)
+      ∙ ap (λ l. front ++ l) (ap (λ l. flat_map tile_with_size far.tiles ++ l) (sym (append-nil (tile_with_size w.bytes.items))) ∙ sym (flat_map-append tile_with_size far.tiles (w.bytes.items ∷ [])));
   bools = with_bools speaker by t front out n broken w.broken columns others w.bytes.items now then_it far gives;
   stands = stands_more speaker by t far.tiles n broken w.broken columns others w.bytes.items now then_it below far.stands gives;
 }
@@ -202,7 +202,7 @@ last_given speaker by t front out n (Some rule) broken columns others bytes now 
     many = ap (λ n. n + 1) far.many ∙ last;
     sizes = far.sizes;
     some = some;
-    put = ap (λ l. l ++ bytes) far.put ∙ append_assoc front (flat_map sized far.tiles) bytes;
+    put = ap (λ l. l ++ bytes) far.put ∙ append_assoc front (flat_map tile_with_size far.tiles) bytes;
     bools = with_bools speaker by t front out n (Some rule) broken columns others bytes now then_it far gives;
     exact = tt;
     read = λ tail. far.stands.0 ((bytes ++ tail) ∷ []);
@@ -221,7 +221,7 @@ last_given speaker by t front out n None None columns others bytes now then_it l
         many = ap (λ n. n + 1) far.many ∙ last;
         sizes = far.sizes;
         some = some;
-        put = ap (λ l. l ++ bytes) far.put ∙ append_assoc front (flat_map sized far.tiles) bytes;
+        put = ap (λ l. l ++ bytes) far.put ∙ append_assoc front (flat_map tile_with_size far.tiles) bytes;
         bools = with_bools speaker by t front out n None None columns others bytes now then_it far gives;
         exact = bytes_more stands.1 far.tiles g.1 bytes stands.4 g.5;
         read = λ tail. stands.2 ((bytes ++ tail) ∷ []) ∙ each_next by n (bytes ++ tail) [] stands.0 (Ok g.0) (g.2 tail) ∙ none_left by (n + 1) g.0;
@@ -237,7 +237,7 @@ last_given speaker by t front out n None (Some rule) columns others bytes now th
         many = ap (λ n. n + 1) far.many ∙ last;
         sizes = far.sizes;
         some = some;
-        put = ap (λ l. l ++ bytes) far.put ∙ append_assoc front (flat_map sized far.tiles) bytes;
+        put = ap (λ l. l ++ bytes) far.put ∙ append_assoc front (flat_map tile_with_size far.tiles) bytes;
         bools = with_bools speaker by t front out n None (Some rule) columns others bytes now then_it far gives;
         exact = tt;
         read = λ tail. stands.2 ((bytes ++ tail) ∷ []) ∙ each_next by n (bytes ++ tail) [] stands.0 (Err rule) (g.0 tail);

@@ -12,7 +12,7 @@ use Rattle.bool_decoder.specs.Coder.{doublings_within, front_number, first_coder
 use Rattle.bool_decoder.specs.Window.{Window, Stands, started, first_window, bit_of, after_bit}
 use Rattle.bool_decoder.proofs.Fronts.{front-spelled}
 use Rattle.bool_decoder.proofs.Stand.{first_stands, bool_stands, step_stands, read_stands}
-use Rattle.bool_encoder.specs.Part.{Part, Finishes, first_part, after_put, marked}
+use Rattle.bool_encoder.specs.Part.{NumberPart, Finishes, first_part, after_put, behind_marker}
 use Rattle.bool_encoder.specs.WrittenBools.{Puts, WritesBools, can_put}
 use Rattle.bool_encoder.specs.Laws.{Lies, coder_at}
 use Rattle.bool_encoder.proofs.Parts.{put_zero}
@@ -36,11 +36,11 @@ unfolding bits_of
 bits_behind [] tail = refl
 bits_behind (b ∷ bytes) tail = rw (bits_behind bytes tail) refl
 
-marked_sound : Sound marked
+marked_sound : Sound behind_marker
 unfolding after_put first_part doublings_within
 marked_sound = record { wide = omega arith; fits = omega arith }
 
-lies_behind : (e : Part) (bytes tail : List ℕ) → Sound e → Finishes e bytes → Lies e (bits_of (bytes ++ tail))
+lies_behind : (e : NumberPart) (bytes tail : List ℕ) → Sound e → Finishes e bytes → Lies e (bits_of (bytes ++ tail))
 lies_behind e bytes tail sound f =
     let k : 8 + e.n + 0 ≡ 8 + e.n = omega arith in
     let wide = sound.wide in
@@ -57,7 +57,7 @@ lies_behind e bytes tail sound f =
 not_none : (n : ℕ) → nat_eq (suc n) 0 ≡ false
 not_none n = ne_eqb (suc n) 0 (λ h. let e : suc n ≡ 0 = h in omega arith)
 
-some_bytes : (e : Part) (bytes tail : List ℕ) → Finishes e bytes → nat_eq (length (bytes ++ tail)) 0 ≡ false
+some_bytes : (e : NumberPart) (bytes tail : List ℕ) → Finishes e bytes → nat_eq (length (bytes ++ tail)) 0 ≡ false
 some_bytes e [] tail f = let none = f.size in absurd (omega (arith, none))
 some_bytes e (b ∷ bytes) tail f = not_none (length (bytes ++ tail))
 
@@ -81,17 +81,17 @@ first_wide : 2 ≤ first_part.range
 unfolding first_part
 first_wide = omega arith
 
-reads_here : {A : Type 0} (s : Syntax ℕ Rule A) (x : A) (new : Part) (bytes tail : List ℕ) → WritesBools s marked x new → Finishes new bytes → ReadsHere s (bytes ++ tail) x
+reads_here : {A : Type 0} (s : Syntax ℕ Rule A) (x : A) (new : NumberPart) (bytes tail : List ℕ) → WritesBools s behind_marker x new → Finishes new bytes → ReadsHere s (bytes ++ tail) x
 reads_here s x new bytes tail h f =
     let bits = bits_of (bytes ++ tail) in
-    let end = writes_sound s marked new x marked_sound h in
-    let back = written_is_read s marked new x bits marked_sound.wide (bits_are (bytes ++ tail)) h (lies_behind new bytes tail end f) in
+    let end = writes_sound s behind_marker new x marked_sound h in
+    let back = written_is_read s behind_marker new x bits marked_sound.wide (bits_are (bytes ++ tail)) h (lies_behind new bytes tail end f) in
     let marker = put_zero 128 first_part bits first_wide (omega arith) (bits_are (bytes ++ tail)) back.lies in
     let w = first_window bits in
     let stands : Stands (coder_at bits first_part) w = first_part_stands bits in
     let zero : bit_of 128 w ≡ 0 = bool_stands (coder_at bits first_part) w 128 stands ∙ marker.value in
-    let next : Stands (coder_at bits marked) (after_bit 128 w) = rw marker.next at (step_stands (coder_at bits first_part) w 128 stands) in
-    let read = read_stands s (coder_at bits marked) (coder_at bits new) (after_bit 128 w) x next back.read in
+    let next : Stands (coder_at bits behind_marker) (after_bit 128 w) = rw marker.next at (step_stands (coder_at bits first_part) w 128 stands) in
+    let read = read_stands s (coder_at bits behind_marker) (coder_at bits new) (after_bit 128 w) x next back.read in
     record {
       start = after_bit 128 w;
       last = read.0;
@@ -110,7 +110,7 @@ ended (done s) = done (Ok s.value)
 ended (broken e) = done (Err e)
 ended (ask p k) = ask p (λ v. ended (k v))
 
-ended_puts : {A : Type 0} (s : Syntax ℕ Rule (Settled A)) (old new : Part) (r : Result A Rule) → WritesTo can_put after_put (valued s) old r new → Puts (ended s) old r new
+ended_puts : {A : Type 0} (s : Syntax ℕ Rule (Settled A)) (old new : NumberPart) (r : Result A Rule) → WritesTo can_put after_put (valued s) old r new → Puts (ended s) old r new
 unfolding valued ended
 ended_puts (done s) old new r h = (sym h.0, h.1)
 ended_puts (broken e) old new r h = (sym h.0, h.1)
@@ -144,7 +144,7 @@ ended_breaks (ask p k) w last rule h = ended_breaks (k (bit_of p w)) (after_bit 
 pub breaks_there : {A : Type 0} (s : Syntax ℕ Rule (Settled A)) (rule : Rule) (bytes tail : List ℕ) → IsWritten s (Err rule) bytes → read_whole s (bytes ++ tail) ≡ Err rule
 unfolding read_whole
 breaks_there s rule bytes tail h =
-    let r = reads_here (ended s) (Err rule) h.part bytes tail (ended_puts s marked h.part (Err rule) h.put) h.ends in
+    let r = reads_here (ended s) (Err rule) h.part bytes tail (ended_puts s behind_marker h.part (Err rule) h.put) h.ends in
     rw r.starts (ap settled_of (ended_breaks s r.start r.last rule r.read))
 
 -- and a value, with what it counts
@@ -152,7 +152,7 @@ pub settles_there : {A : Type 0} (s : Syntax ℕ Rule (Settled A)) (x : A) (byte
     → (counted : List CountedBool) × ((tail : List ℕ) → read_whole s (bytes ++ tail) ≡ Ok (settled_by x counted))
 unfolding read_whole
 settles_there s x bytes h =
-    let counting = value_counts s marked h.part x (value_put s marked h.part x h.put) in (
+    let counting = value_counts s behind_marker h.part x (value_put s behind_marker h.part x h.put) in (
       counting.0,
       λ tail.
           let r = reads_here s (settled_by x counting.0) h.part bytes tail counting.1 h.ends in

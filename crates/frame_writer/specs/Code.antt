@@ -5,7 +5,7 @@ use Rattle.vp9_types.specs.Syntax.{Syntax}
 use Rattle.vp9_types.specs.declared.rule.Rule.{Rule}
 use Rattle.frame_headers.specs.Header.{head_of}
 use Rattle.frame_headers.specs.Spans.{tile_count}
-use Rattle.bool_encoder.specs.Part.{Part, Finishes}
+use Rattle.bool_encoder.specs.Part.{NumberPart, Finishes}
 use Rattle.counting_reader.specs.Counting.{Settled}
 use Rattle.frame_headers.specs.declared.header.FrameHead.TheVariants.{Coded}
 use Rattle.frame_headers.specs.declared.header.Header.{Header}
@@ -34,7 +34,7 @@ use Rattle.frame_state.specs.declared.tile_places.TilePlaces.{TilePlaces}
 use Rattle.tile_writer.specs.SaidTiles.{Said, so_far}
 use Rattle.tile_writer.specs.declared.unwritten.Unwritten.{Unwritten}
 use Rattle.tile_writer.specs.declared.unwritten.Unwritten.TheVariants as unwritten
-use Rattle.frame_writer.specs.FrameBytes.{AreAllBytesOf, AreBytesOf, HasItsBools, HasSize, HaveTheirBools, IsLaidOut, IsWritten, frame_bytes, read_each, sized, tile_bytes, with_size, without_index}
+use Rattle.frame_writer.specs.FrameBytes.{AreAllBytesOf, AreBytesOf, HasItsBools, HasSize, HaveTheirBools, IsLaidOut, IsWritten, frame_bytes, read_each, tile_with_size, tile_bytes, with_size, without_index}
 use Rattle.frame_writer.specs.SaidFrames.{frame_told, nth_syntax, nth_tile_told, nth_told, said_of, tile_syntax, tile_told, tiles_told, told_so_far}
 use Rattle.frame_writer.specs.FrameSymbols.{Speaker}
 use Rattle.frame_writer.specs.declared.frame.FrameHeaders.{FrameHeaders}
@@ -98,7 +98,7 @@ first_broken (Some rule) tile = Some rule
 first_broken None tile = tile
 
 -- the bytes of the bools that were put, or why there are none. A tile of 2 ^ 32 bytes is too long, and want of memory has no cause
-abbrev pub GivesBytes : Result (Unit {0}) Unwritten → Part → Result Written NotWritten → Type 0
+abbrev pub GivesBytes : Result (Unit {0}) Unwritten → NumberPart → Result Written NotWritten → Type 0
 GivesBytes ended part (Ok w) = (ending_of ended ≡ Ok w.broken) × Finishes part w.bytes.items × HasSize w.bytes.items
 GivesBytes ended part (Err Unsaid) = ending_of ended ≡ Err Unsaid
 GivesBytes ended part (Err TooLong) = (broken : Option Rule) × (bytes : List ℕ) × (ending_of ended ≡ Ok broken) × Finishes part bytes × (2 ^ 32 ≤ length bytes)
@@ -211,7 +211,7 @@ pub record AreSoFar {T : Type 0} (speaker : Speaker T) (by : FrameSources) (t : 
   pub tiles : List (List ℕ)
   pub many : length tiles ≡ n
   pub sizes : All HasSize tiles
-  pub put : out ≡ front ++ flat_map sized tiles
+  pub put : out ≡ front ++ flat_map tile_with_size tiles
   pub bools : HaveTheirBools by 0 (nothing_read by.header) tiles
   pub stands : StandsAt speaker by t tiles n broken columns now
 

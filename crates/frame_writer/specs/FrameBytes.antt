@@ -6,8 +6,7 @@ use Rattle.vp9_types.specs.Bits.{number_of, spelled}
 use Rattle.vp9_types.specs.Results.{◌>>=◌}
 use Rattle.vp9_types.specs.Syntax.{Syntax}
 use Rattle.vp9_types.specs.declared.rule.Rule.{Rule}
-use Rattle.bool_encoder.specs.Part.{Part, Finishes, marked}
-use Rattle.bool_encoder.specs.Laws.{after_bools}
+use Rattle.bool_encoder.specs.Part.{NumberPart, Finishes, behind_marker, after_bools}
 use Rattle.bool_lists.specs.BoolLists.{BoolList}
 use Rattle.counting_reader.specs.Counting.{Settled}
 use Rattle.bool_encoder.specs.CountedBools.{PutsTo}
@@ -27,17 +26,17 @@ use Rattle.frame_writer.specs.SaidFrames.{nth_syntax}
 
 -- the bytes of bools that lead a syntax from the marker on to its end: to the value, or to the rule that is broken there
 pub record IsWritten {A : Type 0} (s : Syntax ℕ Rule (Settled A)) (r : Result A Rule) (bytes : List ℕ) : Type 0 where
-  pub part : Part
-  pub put : PutsTo s marked r part
+  pub part : NumberPart
+  pub put : PutsTo s behind_marker r part
   pub ends : Finishes part bytes
 
 -- a tile that isn't the last has its size before it: 4 bytes, big endian
-abbrev pub sized : List ℕ → List ℕ
-sized tile = big_bytes 4 (length tile) ++ tile
+abbrev pub tile_with_size : List ℕ → List ℕ
+tile_with_size tile = big_bytes 4 (length tile) ++ tile
 
 -- tiles one behind another
 abbrev pub tile_bytes : List (List ℕ) → List ℕ → List ℕ
-tile_bytes tiles last = flat_map sized tiles ++ last
+tile_bytes tiles last = flat_map tile_with_size tiles ++ last
 
 -- a tile has a byte at least, and a size that fits
 abbrev pub HasSize : List ℕ → Type 0
@@ -70,11 +69,11 @@ padded bits = bytes_of_bits (bits ++ spelled (7 - (length bits + 7) % 8) 0)
 
 -- the bytes of a list of bools, behind the marker: the bits of the low end of the part that they leave (9.2)
 unfoldable pub bytes_of : BoolList → List ℕ
-bytes_of bools = let part = after_bools bools marked in padded (spelled (8 + part.n) part.low)
+bytes_of bools = let part = after_bools bools behind_marker in padded (spelled (8 + part.n) part.low)
 
 -- the bytes are those of one list of bools, behind the marker
 abbrev pub AreBytesOf : BoolList → List ℕ → Type 0
-AreBytesOf bools bytes = Finishes (after_bools bools marked) bytes
+AreBytesOf bools bytes = Finishes (after_bools bools behind_marker) bytes
 
 -- so are those of tiles, each of its own
 abbrev pub AreAllBytesOf : List BoolList → List (List ℕ) → Type 0
@@ -94,10 +93,10 @@ unfoldable pub without_index : List ℕ → List ℕ
 without_index bytes = if slice_index bytes (length bytes - 1) / 32 == 6 then bytes ++ 0 ∷ [] else bytes
 
 -- tiles one behind another: each but the last has its size before it
-unfoldable pub joined : List (List ℕ) → List ℕ
-joined [] = []
-joined (tile ∷ []) = tile
-joined (tile ∷ next ∷ tiles) = sized tile ++ joined (next ∷ tiles)
+unfoldable pub joined_tiles : List (List ℕ) → List ℕ
+joined_tiles [] = []
+joined_tiles (tile ∷ []) = tile
+joined_tiles (tile ∷ next ∷ tiles) = tile_with_size tile ++ joined_tiles (next ∷ tiles)
 
 -- an uncompressed header, spelled as it is chosen
 abbrev pub header_bytes : Persist → Choices → Uncompressed → List ℕ
@@ -110,7 +109,7 @@ compressed_bools by = spelled_compressed by.header by.past.contexts by.contexts 
 -- a coded frame whose tiles have these bools, behind what persists (6.1, 6.4)
 unfoldable pub frame_bytes : Persist → Choices → FrameSources → List BoolList → List ℕ
 frame_bytes before choices by tiles =
-    without_index (header_bytes before choices (Coded by.header) ++ bytes_of (compressed_bools by) ++ joined (map bytes_of tiles))
+    without_index (header_bytes before choices (Coded by.header) ++ bytes_of (compressed_bools by) ++ joined_tiles (map bytes_of tiles))
 
 -- How the bytes of a frame are laid out, behind what persists (6.1, 6.4): its uncompressed header, spelled as it is chosen; the
 -- compressed one, of the size that this tells; and the tiles, each but the last with its size before it. The last two are the bytes

@@ -56,8 +56,8 @@ abbrev pub modes_said : FrameSources → List BlockInfo → BlockAt → BlockSym
 modes_said by earlier at symbols = modes_by by.header.kind by earlier at symbols
 
 -- one block more
-abbrev pub with_block : TileRead → PlannedBlock × TileSides → TileRead
-with_block s read = record { earlier = s.earlier; blocks = s.blocks ++ read.0 ∷ []; sides = read.1 }
+abbrev pub with_read_block : TileRead → PlannedBlock × TileSides → TileRead
+with_read_block s read = record { earlier = s.earlier; blocks = s.blocks ++ read.0 ∷ []; sides = read.1 }
 
 -- its modes as they are spelled by the blocks before it, and its levels by the sides
 abbrev pub modes_spelled : FrameSources → BlockAt → TileRead → BlockInfo → BoolList
@@ -66,18 +66,18 @@ modes_spelled by at s info = spelled_mode_info (block_sources by) (infos (s.earl
 abbrev pub levels_spelled : FrameSources → TileRead → BlockInfo → BlockLevels → BoolList
 levels_spelled by s info levels = spelled_residue by.header by.contexts info levels s.sides
 
--- its levels, and what is made of them, behind these bools
-abbrev pub residue_told : {T : Type 0} → Speaker T → FrameSources → BlockAt → TileRead → BlockInfo → BoolList → T → Said TileRead T
-residue_told speaker by at s info bools t = do
-  p ← if_told (speaker.levels by info t)
-  read ← as_said (residue.block_said by.header at.tile_from info p.0 s.sides)
-  Ok (so_far (with_block s read) p.1 (bools ++ levels_spelled by s info p.0))
+-- its levels, and what is made of them, behind what was said so far
+abbrev pub residue_told : {T : Type 0} → Speaker T → FrameSources → BlockAt → SaidSoFar TileRead T → BlockInfo → Said TileRead T
+residue_told speaker by at said info = do
+  p ← if_told (speaker.levels by info said.told)
+  read ← as_said (residue.block_residues_said by.header at.tile_from info p.0 said.state.sides)
+  Ok (so_far (with_read_block said.state read) p.1 (said.bools ++ levels_spelled by said.state info p.0))
 
 unfoldable pub block_told : {T : Type 0} → Speaker T → FrameSources → BlockAt → SaidSoFar TileRead T → Said TileRead T
 block_told speaker by at said = do
   p ← if_told (speaker.block by (infos (said.state.earlier ++ said.state.blocks)) at said.told)
   info ← modes_said by (infos (said.state.earlier ++ said.state.blocks)) at p.0
-  residue_told speaker by at said.state info (said.bools ++ modes_spelled by at said.state info) p.1
+  residue_told speaker by at (so_far said.state p.1 (said.bools ++ modes_spelled by at said.state info)) info
 
 -- what a tile is told of it
 abbrev pub teller_of : {T : Type 0} → Speaker T → FrameSources → Teller TileRead T

@@ -1,7 +1,7 @@
 //! The tiles of a frame, as bytes.
 
 ghost use Rattle.std.specs.Prelude.{◌≡◌, ◌-◌, ◌*◌, ◌+◌, ◌^◌, ◌≤◌, ◌<◌, ◌++◌, None, IfOk, OnOk, length};
-ghost use Rattle.bool_encoder.specs.Part.{marked};
+ghost use Rattle.bool_encoder.specs.Part.{behind_marker};
 ghost use Rattle.vp9_types.specs.Sizes.{superblocks_along};
 ghost use Rattle.frame_headers.specs.Spans.{tile_count};
 ghost use Rattle.frame_headers.specs.Tiles.{AreFewTiles};
@@ -9,7 +9,7 @@ ghost use Rattle.frame_state.specs.Code.{sources_of};
 ghost use Rattle.frame_state.specs.KeptColumns.{AreTileColumns};
 ghost use Rattle.frame_state.specs.Past.{IsPastOf};
 ghost use Rattle.frame_state.specs.FrameReading.{FrameRead, TileRead, nothing_read};
-ghost use Rattle.frame_writer.specs.FrameBytes.{HasSize, sized};
+ghost use Rattle.frame_writer.specs.FrameBytes.{HasSize, tile_with_size};
 ghost use Rattle.frame_writer.specs.Code.{EndsColumn, GivesBytes, GivesNth, GivesTile, GivesTiles, HoldsColumns, IsReadyFor, first_broken, held_by, held_of};
 
 use crate::symbols::FrameSymbols;
@@ -45,7 +45,7 @@ fn write_in_column<S: FrameSymbols>(
 ) -> Result<Written, NotWritten>
     requires past { IsPastOf frame.old.by.now.setting.header frame.old.by.now.past }
     requires ready { IsReadyFor frame.old.by.now.setting frame.old.places frame.old.column }
-    requires begun { frame.old.encoder ≡ marked }
+    requires begun { frame.old.encoder ≡ behind_marker }
     requires order { frame.old.places.row_from ≤ frame.old.places.row_to }
     requires low { frame.old.places.row_to ≤ 8192 }
     requires room { 64 * (superblocks_along (frame.old.places.col_to - frame.old.places.col_from) * superblocks_along (frame.old.places.row_to - frame.old.places.row_from)) ≤ frame.old.column.grid.room }
@@ -121,7 +121,7 @@ fn write_tile<S: FrameSymbols>(
 /// Puts a tile with its size before it.
 fn put_sized(out: &mut Vec<u8>, tile: &[u8]) -> Result<(), AllocError>
     requires { HasSize tile.now }
-    ensures { OnOk result (out.new.items ≡ out.old.items ++ sized tile.now) }
+    ensures { OnOk result (out.new.items ≡ out.old.items ++ tile_with_size tile.now) }
 {
     let size = (tile.len() as u32).to_be_bytes();
     out.extend_from_slice(&size)?;

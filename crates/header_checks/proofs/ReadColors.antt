@@ -9,7 +9,7 @@ use Rattle.vp9_types.specs.Syntax.{check}
 use Rattle.frame_headers.specs.declared.color.ColorSpace.TheVariants.{Rgb}
 use Rattle.frame_headers.specs.declared.field.FieldName.TheVariants as name
 use Rattle.frame_headers.specs.Color.{color_space_of, is_odd_profile, bit_depth, reserved_zero, coded_subsampling, subsampling, yuv_config, rgb_config, color_config, intra_only_color}
-use Rattle.frame_headers.specs.Fields.{f, flag}
+use Rattle.frame_headers.specs.Fields.{f, flag_field}
 use Rattle.header_writer.specs.WellFormed.{IsColor, IsIntraOnlyColor}
 use Rattle.header_checks.specs.ColorTests.{is_rgb}
 use Rattle.header_checks.proofs.Readings.{Yields, yields_bind, yields_map, yields_after, yields_if, yields_check, field_yields, no_true}
@@ -28,7 +28,7 @@ depth_yields : (profile : ℕ) → Yields (bit_depth profile) (IsDepth profile)
 unfolding bit_depth
 depth_yields profile = yields_if (nat_lt profile 2) _ _ (IsDepth profile)
     (λ is. let low = ltb-true profile 2 is in record { eight = λ h. refl; more = λ h. absurd (omega (arith, low, h)) })
-    (λ is. let high = ltb-false profile 2 is in yields_after (flag name.TenOrTwelveBit) _ (IsDepth profile)
+    (λ is. let high = ltb-false profile 2 is in yields_after (flag_field name.TenOrTwelveBit) _ (IsDepth profile)
     (λ twelve. record { eight = λ h. absurd (omega (arith, high, h)); more = λ h. not_eight twelve }))
 
 ---- Subsampling ----
@@ -45,7 +45,7 @@ not_both false ss_y is horizontal = no_true horizontal
 sampling_yields : (profile : ℕ) → Yields (subsampling profile) (IsSampling profile)
 unfolding subsampling coded_subsampling
 sampling_yields profile = yields_if (is_odd_profile profile) _ _ (IsSampling profile)
-    (λ is. yields_after (flag name.SubsamplingX) _ (IsSampling profile) (λ ss_x. yields_after (flag name.SubsamplingY) _ (IsSampling profile)
+    (λ is. yields_after (flag_field name.SubsamplingX) _ (IsSampling profile) (λ ss_x. yields_after (flag_field name.SubsamplingY) _ (IsSampling profile)
     (λ ss_y. let one = not (ss_x && ss_y) in
     yields_bind (check one ColourConfig) _ (λ u. one ≡ true) (IsSampling profile) (yields_check one ColourConfig)
     (λ u is_one. yields_after reserved_zero _ (IsSampling profile) (λ v. record { even = λ no. absurd cc; odd = λ yes. not_both ss_x ss_y is_one })))))
@@ -59,7 +59,7 @@ not_rgb space low is = no_true (sym (agree_below_at (λ code. is_rgb (color_spac
 yuv_yields : (profile : ℕ) (depth : Depth) (space : ℕ) → IsDepth profile depth → space < 7 → Yields (yuv_config profile depth space) (IsColor profile)
 unfolding yuv_config
 yuv_yields profile depth space is_depth low =
-    yields_after (flag name.ColorRange) _ (IsColor profile)
+    yields_after (flag_field name.ColorRange) _ (IsColor profile)
     (λ full. yields_bind (subsampling profile) _ (IsSampling profile) (IsColor profile) (sampling_yields profile)
     (λ sampling is. record { eight = is_depth.eight; more = is_depth.more; rgb = λ rgb. absurd (not_rgb space low rgb); even = is.even; odd = is.odd }))
 

@@ -17,9 +17,9 @@ use Rattle.frame_headers.specs.declared.header.Reference.{Reference}
 use Rattle.frame_headers.specs.declared.header.References.{References}
 use Rattle.frame_headers.specs.declared.persist.Persist.{Persist}
 use Rattle.frame_headers.specs.Color.{color_config, intra_only_color, reserved_zero}
-use Rattle.frame_headers.specs.Fields.{f, flag}
+use Rattle.frame_headers.specs.Fields.{f, flag_field}
 use Rattle.frame_headers.specs.Header.{coded_profile, frame_profile, frame_sync_code, frame_contexts, frame_params, key_fields, intra_only_fields, intra_only_flag, reset_frame_context, intra_and_reset, other_fields, frame_fields, frame_start, forgets, kept_deltas, kept_features, coded_frame, uncompressed_header}
-use Rattle.frame_headers.specs.References.{held_by, slot_shape, reference, references, has_format, is_in_range, all_of, some_of, HaveFrameSizes, found_size, interpolation_filter, inter_fields}
+use Rattle.frame_headers.specs.References.{held_by, slot_shape, reference, references, has_format, has_allowed_scale, all_of, some_of, HaveFrameSizes, found_size, interpolation_filter, inter_fields}
 use Rattle.frame_headers.specs.Segments.{no_segment_features}
 use Rattle.frame_headers.specs.FrameSizes.{frame_size, render_size, IsFrameSize, HasFrameSize}
 use Rattle.frame_headers.specs.HeaderState.{SlotsHaveSizes, next_persist, start_persist}
@@ -55,7 +55,7 @@ reference_yields : (before : Persist) (resilient : Bool) → Yields (reference b
 unfolding reference
 reference_yields before resilient =
     yields_bind (slot_shape name.RefFrameIdx before rule.RefMissing) _ (IsHeld before) (IsReference before resilient) (slot_yields name.RefFrameIdx before rule.RefMissing)
-    (λ held is. yields_after (flag name.RefFrameSignBias) _ (IsReference before resilient)
+    (λ held is. yields_after (flag_field name.RefFrameSignBias) _ (IsReference before resilient)
     (λ bias. record { slot = is.slot; held = is.shape; bias = no_bias resilient bias }))
 
 record AreRead (before : Persist) (resilient : Bool) (refs : References) : Type 0 where
@@ -141,9 +141,9 @@ inter_yields before profile reset start sizes is_reset =
     yields_bind (check format rule.RefFormat) _ (λ u. format ≡ true) Are (yields_check format rule.RefFormat)
     (λ u is_format. yields_bind (found_size refs) _ IsFrameSize Are (found_yields refs (held_size refs.last are.last, held_size refs.golden are.golden, held_size refs.altref are.altref))
     (λ size is_size.
-    let range = some_of (is_in_range size) refs in
+    let range = some_of (has_allowed_scale size) refs in
     yields_bind (check range rule.RefScale) _ (λ v. range ≡ true) Are (yields_check range rule.RefScale)
-    (λ v is_range. yields_after render_size _ Are (λ w. yields_after (flag name.AllowHighPrecisionMv) _ Are (λ precise. yields_after interpolation_filter _ Are
+    (λ v is_range. yields_after render_size _ Are (λ w. yields_after (flag_field name.AllowHighPrecisionMv) _ Are (λ precise. yields_after interpolation_filter _ Are
     (λ filter. record {
       size = is_size;
       kind = λ contexts params. (is_reset, refl, record { last = are.last; golden = are.golden; altref = are.altref; format = is_format; range = is_range });
@@ -151,7 +151,7 @@ inter_yields before profile reset start sizes is_reset =
 
 intra_flag_yields : (show : Bool) → Yields (intra_only_flag show) (λ intra. intra ≡ true → show ≡ false)
 intra_flag_yields true = λ is. no_true is
-intra_flag_yields false = yields_map (flag name.IntraOnly) (λ intra. Unit {0}) (λ intra. intra ≡ true → false ≡ false) (yields_all (flag name.IntraOnly)) (λ intra u is. refl)
+intra_flag_yields false = yields_map (flag_field name.IntraOnly) (λ intra. Unit {0}) (λ intra. intra ≡ true → false ≡ false) (yields_all (flag_field name.IntraOnly)) (λ intra u is. refl)
 
 reset_yields : (resilient : Bool) → Yields (reset_frame_context resilient) (IsReset resilient)
 reset_yields true = record { small = omega arith; none = λ is. refl }
@@ -188,7 +188,7 @@ contexts_yield true =
     yields_bind (f name.FrameContextIdx 2) _ (λ v. v < 4) (IsContexts true) (field_yields name.FrameContextIdx 2)
     (λ index low. record { index = low; fixed = λ is. (refl, refl) })
 contexts_yield false =
-    yields_after (flag name.RefreshFrameContext) _ (IsContexts false) (λ refresh. yields_after (flag name.FrameParallelDecodingMode) _ (IsContexts false)
+    yields_after (flag_field name.RefreshFrameContext) _ (IsContexts false) (λ refresh. yields_after (flag_field name.FrameParallelDecodingMode) _ (IsContexts false)
     (λ parallel. yields_bind (f name.FrameContextIdx 2) _ (λ v. v < 4) (IsContexts false) (field_yields name.FrameContextIdx 2)
     (λ index low. record { index = low; fixed = λ is. no_true is })))
 

@@ -9,7 +9,7 @@ use Rattle.frame_headers.specs.declared.field.FieldName.{FieldName}
 use Rattle.frame_headers.specs.declared.field.FieldName.TheVariants as name
 use Rattle.frame_headers.specs.declared.filter.LoopDeltas.{LoopDeltas}
 use Rattle.frame_headers.specs.declared.segments.Features.{Features}
-use Rattle.frame_headers.specs.Fields.{f, flag, su}
+use Rattle.frame_headers.specs.Fields.{f, flag_field, su}
 use Rattle.frame_headers.specs.Filter.{coded_delta, coded_deltas, delta_changes, loop_filter_params}
 use Rattle.frame_headers.specs.Header.{frame_params}
 use Rattle.frame_headers.specs.Quantizer.{delta_q, quantization_params}
@@ -32,7 +32,7 @@ signed_yields : (field : FieldName) (n : ℕ) → Yields (su field n) (IsSigned 
 unfolding su
 signed_yields field n =
     yields_bind (f field n) _ (λ v. v < 2 ^ n) (IsSigned n) (field_yields field n)
-    (λ magnitude low. yields_after (flag name.Sign) _ (IsSigned n) (λ negative. signed_by negative n magnitude low))
+    (λ magnitude low. yields_after (flag_field name.Sign) _ (IsSigned n) (λ negative. signed_by negative n magnitude low))
 
 ---- The loop filter ----
 
@@ -70,7 +70,7 @@ unfolding loop_filter_params delta_changes
 filter_yields old =
     yields_bind (f name.LoopFilterLevel 6) _ (λ v. v < 64) (IsLoopFilter old) (field_yields name.LoopFilterLevel 6)
     (λ level is_level. yields_bind (f name.LoopFilterSharpness 3) _ (λ v. v < 8) (IsLoopFilter old) (field_yields name.LoopFilterSharpness 3)
-    (λ sharpness is_sharpness. yields_after (flag name.LoopFilterDeltaEnabled) _ (IsLoopFilter old)
+    (λ sharpness is_sharpness. yields_after (flag_field name.LoopFilterDeltaEnabled) _ (IsLoopFilter old)
     (λ enabled. yields_bind (if enabled then delta_changes old else done old) _ (AreAllowed enabled old) (IsLoopFilter old)
     (yields_if enabled _ _ (AreAllowed enabled old)
     (λ yes. yields_either name.LoopFilterDeltaUpdate _ _ (AreAllowed enabled old)
@@ -108,7 +108,7 @@ prediction_yields false = λ is. refl
 map_yields : Yields update_map IsMapUpdate
 unfolding update_map
 map_yields =
-    yields_after (each probability_for (replicate 7 255)) _ IsMapUpdate (λ tree. yields_after (flag name.SegmentationTemporalUpdate) _ IsMapUpdate
+    yields_after (each probability_for (replicate 7 255)) _ IsMapUpdate (λ tree. yields_after (flag_field name.SegmentationTemporalUpdate) _ IsMapUpdate
     (λ temporal. yields_bind (prediction_probabilities temporal) _ (IsPrediction temporal) IsMapUpdate (prediction_yields temporal) (λ prediction is. is)))
 
 map_or_none_yields : (updates : Bool) → Yields (map_or_none updates) (λ map. IfSome map IsMapUpdate)
@@ -126,7 +126,7 @@ unfolding segment_features
 segment_yields =
     yields_bind (signed_feature 8) _ (λ feature. IfSome feature (IsSigned 8)) AreSegmentFeatures (feature_yields 8)
     (λ quantizer is_quantizer. yields_bind (signed_feature 6) _ (λ feature. IfSome feature (IsSigned 6)) AreSegmentFeatures (feature_yields 6)
-    (λ level is_level. yields_after reference_feature _ AreSegmentFeatures (λ reference. yields_after (flag name.FeatureEnabled) _ AreSegmentFeatures (λ skip. (is_quantizer, is_level)))))
+    (λ level is_level. yields_after reference_feature _ AreSegmentFeatures (λ reference. yields_after (flag_field name.FeatureEnabled) _ AreSegmentFeatures (λ skip. (is_quantizer, is_level)))))
 
 abbrev pub FitFields : Features → Type 0
 FitFields features = All AreSegmentFeatures features.segments
@@ -134,7 +134,7 @@ FitFields features = All AreSegmentFeatures features.segments
 features_yield : (updates : Bool) (old : Features) → FitFields old → Yields (features_or_old updates old) FitFields
 unfolding features_or_old update_features
 features_yield true old fit =
-    yields_after (flag name.SegmentationAbsOrDeltaUpdate) _ FitFields
+    yields_after (flag_field name.SegmentationAbsOrDeltaUpdate) _ FitFields
     (λ absolute. yields_bind (each features_for (replicate 8 no_segment_features)) _ (All AreSegmentFeatures) FitFields
     (each_all features_for AreSegmentFeatures (replicate 8 no_segment_features) (λ before. segment_yields)) (λ segments are. are))
 features_yield false old fit = fit
@@ -142,9 +142,9 @@ features_yield false old fit = fit
 segmentation_yields : (old : Features) → FitFields old → Yields (segmentation_params old) (IsSegmentation old)
 unfolding segmentation_params enabled_params
 segmentation_yields old fit = yields_either name.SegmentationEnabled _ _ (IsSegmentation old)
-    (yields_after (flag name.SegmentationUpdateMap) _ (IsSegmentation old)
+    (yields_after (flag_field name.SegmentationUpdateMap) _ (IsSegmentation old)
     (λ updates_map. yields_bind (map_or_none updates_map) _ (λ map. IfSome map IsMapUpdate) (IsSegmentation old) (map_or_none_yields updates_map)
-    (λ map is_map. yields_after (flag name.SegmentationUpdateData) _ (IsSegmentation old)
+    (λ map is_map. yields_after (flag_field name.SegmentationUpdateData) _ (IsSegmentation old)
     (λ updates. yields_bind (features_or_old updates old) _ FitFields (IsSegmentation old) (features_yield updates old fit)
     (λ features are. record { disabled = λ is. no_false is; map = is_map; features = are })))))
     (record { disabled = λ is. (refl, refl); map = tt; features = fit })
@@ -171,7 +171,7 @@ twice_fits false = omega arith
 rows_yield : Yields tile_rows_log2 (λ rows. rows ≤ 2)
 unfolding tile_rows_log2
 rows_yield = yields_either name.TileRowsLog2 _ _ (λ rows. rows ≤ 2)
-    (yields_after (flag name.IncrementTileRowsLog2) _ (λ rows. rows ≤ 2) twice_fits) (omega arith)
+    (yields_after (flag_field name.IncrementTileRowsLog2) _ (λ rows. rows ≤ 2) twice_fits) (omega arith)
 
 tiles_yield : (width : ℕ) → Yields (tile_info width) (IsTileInfo width)
 unfolding tile_info tile_columns_log2

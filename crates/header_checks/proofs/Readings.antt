@@ -10,7 +10,7 @@ use Rattle.vp9_types.specs.Syntax.{done, broken, ask, ◌>>=◌, check}
 use Rattle.vp9_types.specs.declared.rule.Rule.{Rule}
 use Rattle.vp9_types.proofs.EntryLaws.{reads_entries}
 use Rattle.frame_headers.specs.declared.field.FieldName.{FieldName}
-use Rattle.frame_headers.specs.Fields.{Table, past, f, flag}
+use Rattle.frame_headers.specs.Fields.{Table, past, f, flag_field}
 
 -- whatever numbers of their widths the fields have, what the table settles on has a property
 abbrev pub Yields : {A : Type 0} → Table A → (A → Type 0) → Type 0
@@ -61,8 +61,8 @@ yields_if true s t P h g = h refl
 yields_if false s t P h g = g refl
 
 -- a flag says which
-pub yields_either : {A : Type 0} (name : FieldName) (s t : Table A) (P : A → Type 0) → Yields s P → Yields t P → Yields (flag name >>= λ b. if b then s else t) P
-yields_either name s t P h g = yields_after (flag name) _ P (λ b. yields_if b s t P (λ is. h) (λ is. g))
+pub yields_either : {A : Type 0} (name : FieldName) (s t : Table A) (P : A → Type 0) → Yields s P → Yields t P → Yields (flag_field name >>= λ b. if b then s else t) P
+yields_either name s t P h g = yields_after (flag_field name) _ P (λ b. yields_if b s t P (λ is. h) (λ is. g))
 
 pub yields_check : (b : Bool) (e : Rule) → Yields (check b e) (λ u. b ≡ true)
 yields_check true e = refl

@@ -2,7 +2,7 @@
 use Rattle.std.specs.Prelude.{ℕ, Bool, true, not, ◌&&◌, ◌||◌, nat_eq, nat_le, nat_lt, slice_index_or, None}
 use Rattle.std.specs.Option.{is_some}
 use Rattle.frame_headers.specs.Header.{forgets, kept_deltas, kept_features}
-use Rattle.frame_headers.specs.References.{all_of, has_format, is_in_range, some_of}
+use Rattle.frame_headers.specs.References.{all_of, has_format, has_allowed_scale, some_of}
 use Rattle.frame_headers.specs.declared.header.FrameContexts.{FrameContexts}
 use Rattle.frame_headers.specs.declared.header.FrameKind.{FrameKind}
 use Rattle.frame_headers.specs.declared.header.FrameKind.TheVariants.{Key, IntraOnly, Inter}
@@ -39,7 +39,7 @@ is_reference before resilient r = nat_lt r.slot 8 && holds (slice_index_or befor
 -- all have the frame's format, one is in range of its size
 unfoldable pub are_references : Persist → Bool → FrameSize → References → Bool
 are_references before resilient size refs =
-    all_of (is_reference before resilient) refs && all_of (has_format before.color) refs && some_of (is_in_range size) refs
+    all_of (is_reference before resilient) refs && all_of (has_format before.color) refs && some_of (has_allowed_scale size) refs
 
 ---- Headers ----
 

@@ -2,12 +2,13 @@
 use Rattle.std.specs.Prelude.{◌≡◌, ℕ, List, ◌++◌}
 use Rattle.vp9_types.specs.Each.{each}
 use Rattle.vp9_types.specs.Writing.{Leads}
+use Rattle.frame_headers.specs.HeaderState.{is_key}
 use Rattle.frame_headers.specs.declared.header.FrameFields.{FrameFields}
 use Rattle.frame_headers.specs.declared.header.FrameStart.{FrameStart}
 use Rattle.frame_headers.specs.declared.header.Header.{Header}
 use Rattle.frame_headers.specs.Fields.{Table}
 use Rattle.header_writer.specs.WrittenFields.{Puts, fits_field, with_field}
-use Rattle.header_writer.specs.Spelling.{FieldList, bits_put, is_key}
+use Rattle.header_writer.specs.Spelling.{FieldList, bits_put}
 
 -- the elements of the back are still to be put
 abbrev pub EachLeft : {A B : Type 0} → (A → Table B) → List A → List ℕ → List B → List A → List ℕ → Type 0

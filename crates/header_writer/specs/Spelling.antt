@@ -7,6 +7,7 @@ use Rattle.vp9_types.specs.declared.block.InterpFilter.{InterpFilter}
 use Rattle.vp9_types.specs.declared.block.InterpFilter.TheVariants.{Regular, Smooth, Sharp, Bilinear}
 use Rattle.vp9_types.specs.declared.shape.Depth.{Depth}
 use Rattle.vp9_types.specs.Shapes.{depth_bits}
+use Rattle.frame_headers.specs.HeaderState.{is_key}
 use Rattle.frame_headers.specs.declared.color.ColorConfig.{ColorConfig}
 use Rattle.frame_headers.specs.declared.color.ColorSpace.{ColorSpace as Space}
 use Rattle.frame_headers.specs.declared.color.ColorSpace.TheVariants.{Unknown, Bt601, Bt709, Smpte170, Smpte240, Bt2020, Reserved, Rgb}
@@ -57,8 +58,8 @@ unfoldable pub bit : Bool → FieldList
 bit b = number 1 (if b then 1 else 0)
 
 -- su(n): a number and its sign
-unfoldable pub signed : ℕ → ℤ → FieldList
-signed width x = number width (unsigned_abs x) ++ bit (int_lt x (pos 0))
+unfoldable pub signed_number : ℕ → ℤ → FieldList
+signed_number width x = number width (unsigned_abs x) ++ bit (int_lt x (pos 0))
 
 ---- The start of a frame ----
 
@@ -105,8 +106,8 @@ spelled_intra_only_color profile color = if profile == 0 then [] else spelled_co
 
 ---- 6.2.3 to 6.2.5: sizes ----
 
-unfoldable pub spelled_size : FrameSize → FieldList
-spelled_size size = number 16 (size.width - 1) ++ number 16 (size.height - 1)
+unfoldable pub spelled_frame_size : FrameSize → FieldList
+spelled_frame_size size = number 16 (size.width - 1) ++ number 16 (size.height - 1)
 
 -- the size to show the frame at is its own
 unfoldable pub spelled_render_size : FieldList
@@ -117,7 +118,7 @@ has_this_size r size = r.shape.w == size.width && r.shape.h == size.height
 
 -- that none of the references has it, and a size of its own
 unfoldable pub spelled_own_size : FrameSize → FieldList
-spelled_own_size size = bit false ++ bit false ++ bit false ++ spelled_size size
+spelled_own_size size = bit false ++ bit false ++ bit false ++ spelled_frame_size size
 
 -- that of the first reference that has it, unless its own is chosen
 unfoldable pub spelled_found_size : Bool → References → FrameSize → FieldList
@@ -134,8 +135,8 @@ spelled_found_size own_size refs size =
 unfoldable pub spelled_reference : Bool → Reference → Bool → FieldList
 spelled_reference resilient r chosen = number 3 r.slot ++ bit (if resilient then chosen else r.sign_bias)
 
-unfoldable pub spelled_references : Bool → References → List Bool → FieldList
-spelled_references resilient refs biases =
+unfoldable pub spelled_frame_references : Bool → References → List Bool → FieldList
+spelled_frame_references resilient refs biases =
     spelled_reference resilient refs.last (slice_index_or biases 0 false)
     ++ spelled_reference resilient refs.golden (slice_index_or biases 1 false)
     ++ spelled_reference resilient refs.altref (slice_index_or biases 2 false)
@@ -147,21 +148,21 @@ filter_code Sharp = 2
 filter_code Bilinear = 3
 
 -- 6.2.7
-unfoldable pub spelled_filter : FrameFilter → FieldList
-spelled_filter Switchable = bit true
-spelled_filter (Fixed filter) = bit false ++ number 2 (filter_code filter)
+unfoldable pub spelled_frame_filter : FrameFilter → FieldList
+spelled_frame_filter Switchable = bit true
+spelled_frame_filter (Fixed filter) = bit false ++ number 2 (filter_code filter)
 
 -- an inter frame from its refreshed slots on
 unfoldable pub spelled_inter_fields : Bool → Choices → ℕ → FrameSize → InterFields → FieldList
 spelled_inter_fields resilient choices refresh size inter =
-    number 8 refresh ++ spelled_references resilient inter.references choices.biases ++ spelled_found_size choices.own_size inter.references size
-    ++ spelled_render_size ++ bit inter.high_precision ++ spelled_filter inter.filter
+    number 8 refresh ++ spelled_frame_references resilient inter.references choices.biases ++ spelled_found_size choices.own_size inter.references size
+    ++ spelled_render_size ++ bit inter.high_precision ++ spelled_frame_filter inter.filter
 
 ---- 6.2.8: the loop filter ----
 
 -- a delta that stays isn't coded
 unfoldable pub spelled_delta : ℤ → ℤ → FieldList
-spelled_delta old delta = if int_eq delta old then bit false else (bit true ++ signed 6 delta)
+spelled_delta old delta = if int_eq delta old then bit false else (bit true ++ signed_number 6 delta)
 
 unfoldable pub spelled_deltas : List ℤ → List ℤ → FieldList
 spelled_deltas olds deltas = flat_map (λ (at : ℤ × ℤ). spelled_delta at.0 at.1) (zip olds deltas)
@@ -181,7 +182,7 @@ spelled_loop_filter update old filter =
 ---- 6.2.9: quantisers ----
 
 unfoldable pub spelled_delta_q : ℤ → FieldList
-spelled_delta_q delta = if int_eq delta (pos 0) then bit false else (bit true ++ signed 4 delta)
+spelled_delta_q delta = if int_eq delta (pos 0) then bit false else (bit true ++ signed_number 4 delta)
 
 unfoldable pub spelled_quantizer : Quantisers → FieldList
 spelled_quantizer q = number 8 q.base ++ spelled_delta_q q.y_dc_delta ++ spelled_delta_q q.uv_dc_delta ++ spelled_delta_q q.uv_ac_delta
@@ -199,7 +200,7 @@ spelled_map (Some map) =
 
 unfoldable pub spelled_signed_feature : ℕ → Option ℤ → FieldList
 spelled_signed_feature width None = bit false
-spelled_signed_feature width (Some value) = bit true ++ signed width value
+spelled_signed_feature width (Some value) = bit true ++ signed_number width value
 
 abbrev pub reference_code : FeatureReference → ℕ
 reference_code reference.Intra = 0
@@ -240,24 +241,19 @@ spelled_tiles width tiles =
 
 ---- 6.2: headers ----
 
-abbrev pub is_key : FrameKind → Bool
-is_key kind.Key = true
-is_key kind.IntraOnly = false
-is_key (kind.Inter fields) = false
-
-unfoldable pub spelled_start : Bool → Bool → Bool → FieldList
-spelled_start key show resilient = bit (not key) ++ bit show ++ bit resilient
+unfoldable pub spelled_frame_start : Bool → Bool → Bool → FieldList
+spelled_frame_start key show resilient = bit (not key) ++ bit show ++ bit resilient
 
 -- a shown frame isn't intra only, and an error-resilient one resets all contexts
 unfoldable pub spelled_intra_and_reset : Bool → Bool → Bool → ℕ → FieldList
 spelled_intra_and_reset show resilient intra_only reset = (if show then [] else bit intra_only) ++ (if resilient then [] else number 2 reset)
 
 unfoldable pub spelled_key_fields : ℕ → ColorConfig → FrameSize → FieldList
-spelled_key_fields profile color size = spelled_sync_code ++ spelled_color profile color ++ spelled_size size ++ spelled_render_size
+spelled_key_fields profile color size = spelled_sync_code ++ spelled_color profile color ++ spelled_frame_size size ++ spelled_render_size
 
 unfoldable pub spelled_intra_only_fields : ℕ → ColorConfig → ℕ → FrameSize → FieldList
 spelled_intra_only_fields profile color refresh size =
-    spelled_sync_code ++ spelled_intra_only_color profile color ++ number 8 refresh ++ spelled_size size ++ spelled_render_size
+    spelled_sync_code ++ spelled_intra_only_color profile color ++ number 8 refresh ++ spelled_frame_size size ++ spelled_render_size
 
 unfoldable pub spelled_fields : Choices → Header → FrameKind → FieldList
 spelled_fields choices header kind.Key = spelled_key_fields header.profile header.color header.size
@@ -280,7 +276,7 @@ spelled_params choices old width params =
 -- a coded frame from its frame type on
 unfoldable pub spelled_coded_frame : Persist → Choices → Header → FieldList
 spelled_coded_frame before choices header =
-    spelled_start (is_key header.kind) header.show_frame header.error_resilient ++ spelled_fields choices header header.kind
+    spelled_frame_start (is_key header.kind) header.show_frame header.error_resilient ++ spelled_fields choices header header.kind
     ++ spelled_contexts header.error_resilient header.contexts
     ++ spelled_params choices (kept_deltas before (forgets header.kind header.error_resilient)) header.size.width header.params
 

@@ -26,7 +26,7 @@ use Rattle.frame_headers.specs.declared.tiles.TileInfo.{TileInfo}
 use Rattle.header_writer.specs.declared.choices.Choices.{Choices}
 use Rattle.frame_headers.specs.Color.{is_odd_profile, default_color}
 use Rattle.frame_headers.specs.Header.{forgets, kept_deltas, kept_features}
-use Rattle.frame_headers.specs.References.{has_format, is_in_range, all_of, some_of}
+use Rattle.frame_headers.specs.References.{has_format, has_allowed_scale, all_of, some_of}
 use Rattle.frame_headers.specs.FrameSizes.{IsFrameSize}
 use Rattle.frame_headers.specs.Tiles.{superblocks, min_log2, max_log2}
 
@@ -114,7 +114,7 @@ pub record AreReferences (before : Persist) (resilient : Bool) (size : FrameSize
   pub golden : IsReference before resilient refs.golden
   pub altref : IsReference before resilient refs.altref
   pub format : all_of (has_format before.color) refs ≡ true
-  pub range : some_of (is_in_range size) refs ≡ true
+  pub range : some_of (has_allowed_scale size) refs ≡ true
 
 -- a key frame refreshes all slots, and a shown frame isn't intra only
 abbrev pub IsOfKind : Persist → Header → FrameKind → Type 0

@@ -27,10 +27,10 @@ impl Model for BitWriter {
 impl BitWriter {
     ghost use Rattle.std.specs.Prelude.{◌≡◌, ◌<◌, ◌≤◌, ◌^◌, ◌++◌, ◌∷◌, [], IfOk, if◌then◌else◌};
     ghost use Rattle.std.specs.Result.{is_ok};
-    ghost use Rattle.frame_headers.specs.Fields.{f, flag, su};
+    ghost use Rattle.frame_headers.specs.Fields.{f, flag_field, su};
     ghost use Rattle.header_writer.specs.Code.{HasPut};
     ghost use Rattle.header_writer.specs.WrittenFields.{Puts, IsPadded};
-    ghost use Rattle.header_writer.specs.Spelling.{number, bit, signed};
+    ghost use Rattle.header_writer.specs.Spelling.{number, bit, signed_number};
     ghost use Rattle.header_writer.specs.WellFormed.{IsSigned};
 
     /// A writer without bits.
@@ -88,24 +88,29 @@ impl BitWriter {
     }
 
     /// Puts a field of one bit.
-    #[tactic(auto, unfolding(frame_headers::specs::Fields::flag, crate::specs::Spelling::bit), using(vp9_types::proofs::Binds::writes_bind))]
-    pub fn flag(&mut self, name: FieldName, value: bool) -> Result<(), AllocError>
-        ensures puts { IfOk result (λ _. Puts (flag name) self.old value self.new) }
+    #[tactic(auto, unfolding(frame_headers::specs::Fields::flag_field, crate::specs::Spelling::bit), using(vp9_types::proofs::Binds::writes_bind))]
+    pub fn flag_field(&mut self, name: FieldName, value: bool) -> Result<(), AllocError>
+        ensures puts { IfOk result (λ _. Puts (flag_field name) self.old value self.new) }
         ensures spells { IfOk result (λ _. HasPut self.old (bit value) self.new) }
     {
         self.field(name, 1, u16::from(value))
     }
 
     /// Puts a number of at most 8 bits, and its sign.
-    #[tactic(auto, unfolding(frame_headers::specs::Fields::su, crate::specs::Spelling::signed), using(vp9_types::proofs::Binds::writes_bind, crate::proofs::Spells::spells_on))]
-    pub fn signed(&mut self, name: FieldName, width: u8, value: i16) -> Result<(), AllocError>
+    #[tactic(auto, unfolding(frame_headers::specs::Fields::su, crate::specs::Spelling::signed_number), using(vp9_types::proofs::Binds::writes_bind, crate::proofs::Spells::spells_on))]
+    pub fn signed_number(
+        &mut self,
+        name: FieldName,
+        width: u8,
+        value: i16,
+    ) -> Result<(), AllocError>
         requires width { width ≤ 8 }
         requires fits { IsSigned width value }
         ensures puts { IfOk result (λ _. Puts (su name width) self.old value self.new) }
-        ensures spells { IfOk result (λ _. HasPut self.old (signed width value) self.new) }
+        ensures spells { IfOk result (λ _. HasPut self.old (signed_number width value) self.new) }
     {
         self.field(name, width, value.unsigned_abs())?;
-        self.flag(FieldName::Sign, value < 0)
+        self.flag_field(FieldName::Sign, value < 0)
     }
 
     /// The bytes of the bits, and 0 bits to the end of the last.

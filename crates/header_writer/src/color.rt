@@ -47,8 +47,8 @@ fn put_bit_depth(bits: &mut BitWriter, profile: u8, depth: Depth) -> Result<(), 
         return Ok(());
     }
     match depth {
-        Depth::Twelve => bits.flag(FieldName::TenOrTwelveBit, true),
-        _ => bits.flag(FieldName::TenOrTwelveBit, false),
+        Depth::Twelve => bits.flag_field(FieldName::TenOrTwelveBit, true),
+        _ => bits.flag_field(FieldName::TenOrTwelveBit, false),
     }
 }
 
@@ -57,7 +57,7 @@ pub fn put_reserved_zero(bits: &mut BitWriter) -> Result<(), AllocError>
     ensures puts { IfOk result (λ u. Puts reserved_zero bits.old u bits.new) }
     ensures spells { IfOk result (λ _. HasPut bits.old (bit false) bits.new) }
 {
-    bits.flag(FieldName::ReservedZero, false)
+    bits.flag_field(FieldName::ReservedZero, false)
 }
 
 #[tactic(auto, unfolding(frame_headers::specs::Color::subsampling, frame_headers::specs::Color::coded_subsampling, crate::specs::Spelling::spelled_subsampling), using(vp9_types::proofs::Binds::writes_bind, crate::proofs::Spells::spells_on, crate::proofs::Spells::spells_none))]
@@ -75,8 +75,8 @@ fn put_subsampling(
     if profile % 2 == 0 {
         return Ok(());
     }
-    bits.flag(FieldName::SubsamplingX, ss_x)?;
-    bits.flag(FieldName::SubsamplingY, ss_y)?;
+    bits.flag_field(FieldName::SubsamplingX, ss_x)?;
+    bits.flag_field(FieldName::SubsamplingY, ss_y)?;
     put_reserved_zero(bits)
 }
 
@@ -94,7 +94,7 @@ fn put_yuv_config(
     ensures puts { IfOk result (λ _. Puts (yuv_config profile color.depth code) bits.old color bits.new) }
     ensures spells { IfOk result (λ _. HasPut bits.old (bit color.full_range ++ spelled_subsampling profile color.ss_x color.ss_y) bits.new) }
 {
-    bits.flag(FieldName::ColorRange, color.full_range)?;
+    bits.flag_field(FieldName::ColorRange, color.full_range)?;
     put_subsampling(bits, profile, color.ss_x, color.ss_y)
 }
 

@@ -25,10 +25,10 @@ fn put_delta(
     ensures spells { IfOk result (λ _. HasPut bits.old (spelled_delta old delta) bits.new) }
 {
     if delta == old {
-        return bits.flag(update, false);
+        return bits.flag_field(update, false);
     }
-    bits.flag(update, true)?;
-    bits.signed(name, 6, delta)
+    bits.flag_field(update, true)?;
+    bits.signed_number(name, 6, delta)
 }
 
 fn put_deltas(
@@ -93,9 +93,9 @@ fn put_delta_changes(
     ensures spells { IfOk result (λ _. HasPut bits.old (spelled_delta_changes update old deltas) bits.new) }
 {
     if !update {
-        return bits.flag(FieldName::LoopFilterDeltaUpdate, false);
+        return bits.flag_field(FieldName::LoopFilterDeltaUpdate, false);
     }
-    bits.flag(FieldName::LoopFilterDeltaUpdate, true)?;
+    bits.flag_field(FieldName::LoopFilterDeltaUpdate, true)?;
     put_coded_deltas(bits, old, deltas)
 }
 
@@ -114,7 +114,7 @@ pub fn put_loop_filter(
 {
     bits.byte(FieldName::LoopFilterLevel, 6, filter.level)?;
     bits.byte(FieldName::LoopFilterSharpness, 3, filter.sharpness)?;
-    bits.flag(FieldName::LoopFilterDeltaEnabled, filter.delta_enabled)?;
+    bits.flag_field(FieldName::LoopFilterDeltaEnabled, filter.delta_enabled)?;
     if filter.delta_enabled {
         put_delta_changes(bits, old, filter.deltas, update)?;
     }

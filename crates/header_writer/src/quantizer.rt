@@ -18,10 +18,10 @@ fn put_delta_q(bits: &mut BitWriter, delta: i16) -> Result<(), AllocError>
     ensures spells { IfOk result (λ _. HasPut bits.old (spelled_delta_q delta) bits.new) }
 {
     if delta == 0 {
-        return bits.flag(FieldName::DeltaCoded, false);
+        return bits.flag_field(FieldName::DeltaCoded, false);
     }
-    bits.flag(FieldName::DeltaCoded, true)?;
-    bits.signed(FieldName::DeltaQ, 4, delta)
+    bits.flag_field(FieldName::DeltaCoded, true)?;
+    bits.signed_number(FieldName::DeltaQ, 4, delta)
 }
 
 /// Puts `quantization_params` (6.2.9 of the standard).

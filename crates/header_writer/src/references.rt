@@ -6,7 +6,7 @@ ghost use Rattle.frame_headers.specs.References.{reference, references, found_si
 ghost use Rattle.frame_headers.specs.FrameSizes.{IsFrameSize};
 ghost use Rattle.header_writer.specs.Code.{HasPut};
 ghost use Rattle.header_writer.specs.WrittenFields.{Puts};
-ghost use Rattle.header_writer.specs.Spelling.{filter_code, spelled_filter, spelled_found_size, spelled_inter_fields, spelled_own_size, spelled_reference, spelled_references};
+ghost use Rattle.header_writer.specs.Spelling.{filter_code, spelled_frame_filter, spelled_found_size, spelled_inter_fields, spelled_own_size, spelled_reference, spelled_frame_references};
 ghost use Rattle.header_writer.specs.WellFormed.{IsReference, AreReferences};
 
 use crate::bits::BitWriter;
@@ -41,10 +41,10 @@ fn put_reference(
 {
     bits.byte(FieldName::RefFrameIdx, 3, r.slot)?;
     let coded = coded_bias(error_resilient, r.sign_bias, bias);
-    bits.flag(FieldName::RefFrameSignBias, coded)
+    bits.flag_field(FieldName::RefFrameSignBias, coded)
 }
 
-#[tactic(auto, unfolding(frame_headers::specs::References::references, crate::specs::Spelling::spelled_references), using(vp9_types::proofs::Binds::writes_bind, crate::proofs::Spells::spells_on))]
+#[tactic(auto, unfolding(frame_headers::specs::References::references, crate::specs::Spelling::spelled_frame_references), using(vp9_types::proofs::Binds::writes_bind, crate::proofs::Spells::spells_on))]
 fn put_references(
     bits: &mut BitWriter,
     before: &Persist,
@@ -56,7 +56,7 @@ fn put_references(
     requires golden { IsReference before.now error_resilient refs.now.golden }
     requires altref { IsReference before.now error_resilient refs.now.altref }
     ensures puts { IfOk result (λ _. Puts (references before.now error_resilient) bits.old refs.now bits.new) }
-    ensures spells { IfOk result (λ _. HasPut bits.old (spelled_references error_resilient refs.now biases) bits.new) }
+    ensures spells { IfOk result (λ _. HasPut bits.old (spelled_frame_references error_resilient refs.now biases) bits.new) }
 {
     put_reference(bits, before, error_resilient, refs.last, biases[0])?;
     put_reference(bits, before, error_resilient, refs.golden, biases[1])?;
@@ -70,9 +70,9 @@ fn put_own_size(bits: &mut BitWriter, refs: &References, size: FrameSize) -> Res
     ensures puts { IfOk result (λ _. Puts (found_size refs.now) bits.old size bits.new) }
     ensures spells { IfOk result (λ _. HasPut bits.old (spelled_own_size size) bits.new) }
 {
-    bits.flag(FieldName::FoundRef, false)?;
-    bits.flag(FieldName::FoundRef, false)?;
-    bits.flag(FieldName::FoundRef, false)?;
+    bits.flag_field(FieldName::FoundRef, false)?;
+    bits.flag_field(FieldName::FoundRef, false)?;
+    bits.flag_field(FieldName::FoundRef, false)?;
     put_frame_size(bits, size)
 }
 
@@ -92,16 +92,16 @@ fn put_found_size(
         return put_own_size(bits, refs, size);
     }
     if refs.last.size() == size {
-        return bits.flag(FieldName::FoundRef, true);
+        return bits.flag_field(FieldName::FoundRef, true);
     }
     if refs.golden.size() == size {
-        bits.flag(FieldName::FoundRef, false)?;
-        return bits.flag(FieldName::FoundRef, true);
+        bits.flag_field(FieldName::FoundRef, false)?;
+        return bits.flag_field(FieldName::FoundRef, true);
     }
     if refs.altref.size() == size {
-        bits.flag(FieldName::FoundRef, false)?;
-        bits.flag(FieldName::FoundRef, false)?;
-        return bits.flag(FieldName::FoundRef, true);
+        bits.flag_field(FieldName::FoundRef, false)?;
+        bits.flag_field(FieldName::FoundRef, false)?;
+        return bits.flag_field(FieldName::FoundRef, true);
     }
     put_own_size(bits, refs, size)
 }
@@ -119,15 +119,15 @@ fn filter_code(filter: InterpFilter) -> u8
     }
 }
 
-#[tactic(auto, unfolding(frame_headers::specs::References::interpolation_filter, crate::specs::Spelling::spelled_filter), using(vp9_types::proofs::Binds::writes_bind, crate::proofs::Spells::spells_on))]
+#[tactic(auto, unfolding(frame_headers::specs::References::interpolation_filter, crate::specs::Spelling::spelled_frame_filter), using(vp9_types::proofs::Binds::writes_bind, crate::proofs::Spells::spells_on))]
 fn put_interpolation_filter(bits: &mut BitWriter, filter: FrameFilter) -> Result<(), AllocError>
     ensures puts { IfOk result (λ _. Puts interpolation_filter bits.old filter bits.new) }
-    ensures spells { IfOk result (λ _. HasPut bits.old (spelled_filter filter) bits.new) }
+    ensures spells { IfOk result (λ _. HasPut bits.old (spelled_frame_filter filter) bits.new) }
 {
     match filter {
-        FrameFilter::Switchable => bits.flag(FieldName::IsFilterSwitchable, true),
+        FrameFilter::Switchable => bits.flag_field(FieldName::IsFilterSwitchable, true),
         FrameFilter::Fixed(filter) => {
-            bits.flag(FieldName::IsFilterSwitchable, false)?;
+            bits.flag_field(FieldName::IsFilterSwitchable, false)?;
             let code = filter_code(filter);
             bits.byte(FieldName::RawInterpolationFilter, 2, code)
         }
@@ -156,6 +156,6 @@ pub fn put_inter_fields(
     put_references(bits, before, error_resilient, refs, choices.biases)?;
     put_found_size(bits, refs, fields.size, choices.own_size)?;
     put_render_size(bits)?;
-    bits.flag(FieldName::AllowHighPrecisionMv, inter.high_precision)?;
+    bits.flag_field(FieldName::AllowHighPrecisionMv, inter.high_precision)?;
     put_interpolation_filter(bits, inter.filter)
 }

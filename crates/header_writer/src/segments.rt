@@ -20,9 +20,9 @@ fn put_probability(bits: &mut BitWriter, value: u8) -> Result<(), AllocError>
     ensures spells { IfOk result (λ _. HasPut bits.old (spelled_probability value) bits.new) }
 {
     if value == 255 {
-        return bits.flag(FieldName::ProbCoded, false);
+        return bits.flag_field(FieldName::ProbCoded, false);
     }
-    bits.flag(FieldName::ProbCoded, true)?;
+    bits.flag_field(FieldName::ProbCoded, true)?;
     bits.byte(FieldName::Prob, 8, value)
 }
 
@@ -59,7 +59,7 @@ fn put_map_update(bits: &mut BitWriter, map: MapUpdate) -> Result<(), AllocError
     ensures spells { IfOk result (λ _. HasPut bits.old (spelled_map (Some map)) bits.new) }
 {
     put_probabilities(bits, &map.tree)?;
-    bits.flag(FieldName::SegmentationTemporalUpdate, map.temporal)?;
+    bits.flag_field(FieldName::SegmentationTemporalUpdate, map.temporal)?;
     put_prediction(bits, map.temporal, map.prediction)
 }
 
@@ -75,10 +75,10 @@ fn put_signed_feature(
     ensures spells { IfOk result (λ _. HasPut bits.old (spelled_signed_feature width feature) bits.new) }
 {
     let Some(value) = feature else {
-        return bits.flag(FieldName::FeatureEnabled, false);
+        return bits.flag_field(FieldName::FeatureEnabled, false);
     };
-    bits.flag(FieldName::FeatureEnabled, true)?;
-    bits.signed(FieldName::FeatureValue, width, value)
+    bits.flag_field(FieldName::FeatureEnabled, true)?;
+    bits.signed_number(FieldName::FeatureValue, width, value)
 }
 
 fn reference_code(reference: FeatureReference) -> u8
@@ -103,9 +103,9 @@ fn put_reference_feature(
     ensures spells { IfOk result (λ _. HasPut bits.old (spelled_reference_feature feature) bits.new) }
 {
     let Some(reference) = feature else {
-        return bits.flag(FieldName::FeatureEnabled, false);
+        return bits.flag_field(FieldName::FeatureEnabled, false);
     };
-    bits.flag(FieldName::FeatureEnabled, true)?;
+    bits.flag_field(FieldName::FeatureEnabled, true)?;
     let code = reference_code(reference);
     bits.byte(FieldName::FeatureValue, 2, code)
 }
@@ -119,7 +119,7 @@ fn put_segment_features(bits: &mut BitWriter, features: SegmentFeatures) -> Resu
     put_signed_feature(bits, 8, features.quantizer)?;
     put_signed_feature(bits, 6, features.level)?;
     put_reference_feature(bits, features.reference)?;
-    bits.flag(FieldName::FeatureEnabled, features.skip)
+    bits.flag_field(FieldName::FeatureEnabled, features.skip)
 }
 
 fn put_all_features(bits: &mut BitWriter, segments: &[SegmentFeatures]) -> Result<(), AllocError>
@@ -140,7 +140,7 @@ fn put_features(bits: &mut BitWriter, features: &Features) -> Result<(), AllocEr
     ensures puts { IfOk result (λ _. Puts update_features bits.old features.now bits.new) }
     ensures spells { IfOk result (λ _. HasPut bits.old (spelled_features features.now) bits.new) }
 {
-    bits.flag(FieldName::SegmentationAbsOrDeltaUpdate, features.absolute)?;
+    bits.flag_field(FieldName::SegmentationAbsOrDeltaUpdate, features.absolute)?;
     put_all_features(bits, &features.segments)
 }
 
@@ -170,12 +170,12 @@ fn put_enabled(
     ensures puts { IfOk result (λ _. Puts (enabled_params old.now) bits.old segmentation.now bits.new) }
     ensures spells { IfOk result (λ _. HasPut bits.old (spelled_enabled update segmentation.now) bits.new) }
 {
-    bits.flag(FieldName::SegmentationUpdateMap, segmentation.map.is_some())?;
+    bits.flag_field(FieldName::SegmentationUpdateMap, segmentation.map.is_some())?;
     put_map(bits, segmentation.map)?;
     if !update {
-        return bits.flag(FieldName::SegmentationUpdateData, false);
+        return bits.flag_field(FieldName::SegmentationUpdateData, false);
     }
-    bits.flag(FieldName::SegmentationUpdateData, true)?;
+    bits.flag_field(FieldName::SegmentationUpdateData, true)?;
     put_features(bits, &segmentation.features)
 }
 
@@ -193,8 +193,8 @@ pub fn put_segmentation(
     ensures spells { IfOk result (λ _. HasPut bits.old (spelled_segmentation update segmentation.now) bits.new) }
 {
     if segmentation.enabled {
-        bits.flag(FieldName::SegmentationEnabled, true)?;
+        bits.flag_field(FieldName::SegmentationEnabled, true)?;
         return put_enabled(bits, old, segmentation, update);
     }
-    bits.flag(FieldName::SegmentationEnabled, false)
+    bits.flag_field(FieldName::SegmentationEnabled, false)
 }

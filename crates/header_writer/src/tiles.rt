@@ -49,13 +49,13 @@ fn put_more_columns(
 {
     let mut now = least;
     while now < log2 {
-        bits.flag(FieldName::IncrementTileColsLog2, true)?;
+        bits.flag_field(FieldName::IncrementTileColsLog2, true)?;
         now += 1;
     }
     if greatest <= log2 {
         return Ok(());
     }
-    bits.flag(FieldName::IncrementTileColsLog2, false)?;
+    bits.flag_field(FieldName::IncrementTileColsLog2, false)?;
     Ok(())
 }
 
@@ -66,13 +66,13 @@ fn put_rows_log2(bits: &mut BitWriter, log2: u8) -> Result<(), AllocError>
     ensures spells { IfOk result (λ _. HasPut bits.old (spelled_rows log2) bits.new) }
 {
     if log2 == 0 {
-        return bits.flag(FieldName::TileRowsLog2, false);
+        return bits.flag_field(FieldName::TileRowsLog2, false);
     }
-    bits.flag(FieldName::TileRowsLog2, true)?;
+    bits.flag_field(FieldName::TileRowsLog2, true)?;
     if log2 == 1 {
-        return bits.flag(FieldName::IncrementTileRowsLog2, false);
+        return bits.flag_field(FieldName::IncrementTileRowsLog2, false);
     }
-    bits.flag(FieldName::IncrementTileRowsLog2, true)
+    bits.flag_field(FieldName::IncrementTileRowsLog2, true)
 }
 
 /// Puts `tile_info` (6.2.13 of the standard) of a frame of this width.

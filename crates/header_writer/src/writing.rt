@@ -8,7 +8,7 @@ ghost use Rattle.frame_headers.specs.FrameSizes.{IsFrameSize};
 ghost use Rattle.header_writer.specs.Code.{HasPut, fields_of, start_of};
 ghost use Rattle.header_writer.specs.WrittenFields.{Puts};
 ghost use Rattle.header_writer.specs.HeaderReads.{HoldsHeader};
-ghost use Rattle.header_writer.specs.Spelling.{IsSpelled, spelled_coded_frame, spelled_coded_profile, spelled_contexts, spelled_fields, spelled_header, spelled_intra_and_reset, spelled_intra_only_fields, spelled_key_fields, spelled_params, spelled_profile, spelled_start, spelled_sync_code};
+ghost use Rattle.header_writer.specs.Spelling.{IsSpelled, spelled_coded_frame, spelled_coded_profile, spelled_contexts, spelled_fields, spelled_header, spelled_intra_and_reset, spelled_intra_only_fields, spelled_key_fields, spelled_params, spelled_profile, spelled_frame_start, spelled_sync_code};
 ghost use Rattle.header_writer.specs.WellFormed.{IsColor, IsIntraOnlyColor, IsReset, IsContexts, IsParams, IsOfKind, IsHeader, IsWellFormed, AreKept, CanChoose};
 
 use crate::bits::BitWriter;
@@ -76,8 +76,8 @@ fn put_frame_contexts(
     if error_resilient {
         return bits.byte(FieldName::FrameContextIdx, 2, contexts.index);
     }
-    bits.flag(FieldName::RefreshFrameContext, contexts.refresh)?;
-    bits.flag(FieldName::FrameParallelDecodingMode, contexts.parallel)?;
+    bits.flag_field(FieldName::RefreshFrameContext, contexts.refresh)?;
+    bits.flag_field(FieldName::FrameParallelDecodingMode, contexts.parallel)?;
     bits.byte(FieldName::FrameContextIdx, 2, contexts.index)
 }
 
@@ -152,7 +152,7 @@ fn put_intra_and_reset(
     ensures spells { IfOk result (λ _. HasPut bits.old (spelled_intra_and_reset show_frame error_resilient intra_only reset_context) bits.new) }
 {
     if !show_frame {
-        bits.flag(FieldName::IntraOnly, intra_only)?;
+        bits.flag_field(FieldName::IntraOnly, intra_only)?;
     }
     if !error_resilient {
         bits.byte(FieldName::ResetFrameContext, 2, reset_context)?;
@@ -160,14 +160,14 @@ fn put_intra_and_reset(
     Ok(())
 }
 
-#[tactic(auto, unfolding(frame_headers::specs::Header::frame_start, crate::specs::Spelling::spelled_start), using(vp9_types::proofs::Binds::writes_bind, crate::proofs::Spells::spells_on))]
+#[tactic(auto, unfolding(frame_headers::specs::Header::frame_start, crate::specs::Spelling::spelled_frame_start), using(vp9_types::proofs::Binds::writes_bind, crate::proofs::Spells::spells_on))]
 fn put_frame_start(bits: &mut BitWriter, start: FrameStart) -> Result<(), AllocError>
     ensures puts { IfOk result (λ _. Puts frame_start bits.old start bits.new) }
-    ensures spells { IfOk result (λ _. HasPut bits.old (spelled_start start.is_key start.show_frame start.error_resilient) bits.new) }
+    ensures spells { IfOk result (λ _. HasPut bits.old (spelled_frame_start start.is_key start.show_frame start.error_resilient) bits.new) }
 {
-    bits.flag(FieldName::FrameType, !start.is_key)?;
-    bits.flag(FieldName::ShowFrame, start.show_frame)?;
-    bits.flag(FieldName::ErrorResilientMode, start.error_resilient)
+    bits.flag_field(FieldName::FrameType, !start.is_key)?;
+    bits.flag_field(FieldName::ShowFrame, start.show_frame)?;
+    bits.flag_field(FieldName::ErrorResilientMode, start.error_resilient)
 }
 
 fn start_of(header: &Header) -> FrameStart
@@ -280,13 +280,13 @@ fn put_uncompressed(
     match header {
         Uncompressed::ShowExisting { slot } => {
             put_frame_profile(bits, 0)?;
-            bits.flag(FieldName::ShowExistingFrame, true)?;
+            bits.flag_field(FieldName::ShowExistingFrame, true)?;
             bits.byte(FieldName::FrameToShowMapIdx, 3, *slot)?;
             Ok(())
         }
         Uncompressed::Coded(header) => {
             put_frame_profile(bits, header.profile)?;
-            bits.flag(FieldName::ShowExistingFrame, false)?;
+            bits.flag_field(FieldName::ShowExistingFrame, false)?;
             put_coded_frame(bits, before, header, choices)
         }
     }

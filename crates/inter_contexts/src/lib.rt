@@ -7,6 +7,6 @@ mod references;
 
 pub use contexts::{filter_context, is_inter_context, kind_of, predicted_context};
 pub use references::{
-    FrameReferences, fixed_of, in_range_or_rule, of_feature, read_references, single, variable_by,
+    FrameReferences, allowed_or_rule, fixed_of, of_feature, read_references, single, variable_by,
     with_fixed,
 };

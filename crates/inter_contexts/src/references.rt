@@ -4,11 +4,11 @@ ghost use Rattle.std.specs.Prelude.{◌≡◌, ◌<◌, ◌≤◌};
 ghost use Rattle.std.specs.Option.{option_copied};
 ghost use Rattle.prob_contexts.specs.ProbLists.{inter_lists};
 ghost use Rattle.counting_reader.specs.Code.{Reads};
-ghost use Rattle.frame_headers.specs.References.{is_in_range};
-ghost use Rattle.inter_contexts.specs.BlockReferences.{fixed_of, variable_by, with_fixed, single, is_compound, compound_references, golden_or_altref, single_reference, coded_references, of_feature, ref_frames, reference_in, second_in_range, in_range_or_rule};
+ghost use Rattle.frame_headers.specs.References.{has_allowed_scale};
+ghost use Rattle.inter_contexts.specs.BlockReferences.{fixed_of, variable_by, with_fixed, single, uses_compound, compound_references, golden_or_altref, single_reference, coded_references, of_feature, ref_frames, reference_in, second_in_range, allowed_or_rule};
 
 use crate::contexts::kind_of;
-use block_plan::{BlockInfo, References};
+use block_plan::{BlockInfo, ReferenceFrames};
 use counting_reader::CountingReader;
 use frame_headers::{FeatureReference, FrameSize};
 use mv_prediction::SignBiases;
@@ -51,16 +51,20 @@ pub fn variable_by(fixed: ReferenceFrame, one: bool) -> ReferenceFrame
 }
 
 /// The references of a compound block, by the one that all have and the other.
-pub fn with_fixed(biases: &SignBiases, fixed: ReferenceFrame, other: ReferenceFrame) -> References
+pub fn with_fixed(
+    biases: &SignBiases,
+    fixed: ReferenceFrame,
+    other: ReferenceFrame,
+) -> ReferenceFrames
     ensures { result ≡ with_fixed biases.now fixed other }
 {
     if biases.bias_of(fixed) {
-        References {
+        ReferenceFrames {
             first: other,
             second: Some(fixed),
         }
     } else {
-        References {
+        ReferenceFrames {
             first: fixed,
             second: Some(other),
         }
@@ -68,16 +72,16 @@ pub fn with_fixed(biases: &SignBiases, fixed: ReferenceFrame, other: ReferenceFr
 }
 
 /// The references of a block that has one.
-pub fn single(reference: ReferenceFrame) -> References
+pub fn single(reference: ReferenceFrame) -> ReferenceFrames
     ensures { result ≡ single reference }
 {
-    References {
+    ReferenceFrames {
         first: reference,
         second: None,
     }
 }
 
-#[tactic(auto, unfolding(crate::specs::BlockReferences::is_compound), using(counting_reader::proofs::CountingRuns::run_settle))]
+#[tactic(auto, unfolding(crate::specs::BlockReferences::uses_compound), using(counting_reader::proofs::CountingRuns::run_settle))]
 fn read_is_compound<const COUNTS: bool>(
     reader: &mut CountingReader<COUNTS>,
     mode: ReferenceMode,
@@ -85,7 +89,7 @@ fn read_is_compound<const COUNTS: bool>(
     context: u8,
 ) -> bool
     requires { context ≤ 4 }
-    ensures { Reads (is_compound mode probs.now context) reader.old result reader.new }
+    ensures { Reads (uses_compound mode probs.now context) reader.old result reader.new }
 {
     match mode {
         ReferenceMode::Single => false,
@@ -104,7 +108,7 @@ fn read_compound<const COUNTS: bool>(
     probs: &[u8; 5],
     biases: &SignBiases,
     context: u8,
-) -> References
+) -> ReferenceFrames
     requires { context ≤ 4 }
     ensures { Reads (compound_references probs.now biases.now context) reader.old result reader.new }
 {
@@ -119,7 +123,7 @@ fn read_golden_or_altref<const COUNTS: bool>(
     reader: &mut CountingReader<COUNTS>,
     probs: &[u8; 10],
     context: u8,
-) -> References
+) -> ReferenceFrames
     requires { context ≤ 4 }
     ensures { Reads (golden_or_altref probs.now context) reader.old result reader.new }
 {
@@ -139,7 +143,7 @@ fn read_single<const COUNTS: bool>(
     probs: &[u8; 10],
     first: u8,
     second: u8,
-) -> References
+) -> ReferenceFrames
     requires first { first ≤ 4 }
     requires second { second ≤ 4 }
     ensures { Reads (single_reference probs.now first second) reader.old result reader.new }
@@ -161,7 +165,7 @@ fn read_coded<const COUNTS: bool>(
     biases: &SignBiases,
     above: Option<&BlockInfo>,
     left: Option<&BlockInfo>,
-) -> References
+) -> ReferenceFrames
     ensures { Reads (coded_references mode (inter_lists probs.now) biases.now (option_copied above.entry) (option_copied left.entry)) reader.old result reader.new }
 {
     let fixed = fixed_of(biases);
@@ -197,7 +201,7 @@ pub fn read_references<const COUNTS: bool>(
     probs: &InterProbs,
     above: Option<&BlockInfo>,
     left: Option<&BlockInfo>,
-) -> References
+) -> ReferenceFrames
     ensures { Reads (ref_frames feature frame.reference_mode (inter_lists probs.now) frame.sign_biases (option_copied above.entry) (option_copied left.entry)) reader.old result reader.new }
 {
     match feature {
@@ -213,17 +217,17 @@ pub fn read_references<const COUNTS: bool>(
     }
 }
 
-fn is_in_range(
+fn has_allowed_scale(
     size: &FrameSize,
     frame: &frame_headers::References,
     reference: ReferenceFrame,
 ) -> bool
-    ensures { result ≡ is_in_range size.now (reference_in frame.now reference) }
+    ensures { result ≡ has_allowed_scale size.now (reference_in frame.now reference) }
 {
     match reference {
-        ReferenceFrame::Last => frame.last.is_in_range(size),
-        ReferenceFrame::Golden => frame.golden.is_in_range(size),
-        ReferenceFrame::Altref => frame.altref.is_in_range(size),
+        ReferenceFrame::Last => frame.last.has_allowed_scale(size),
+        ReferenceFrame::Golden => frame.golden.has_allowed_scale(size),
+        ReferenceFrame::Altref => frame.altref.has_allowed_scale(size),
     }
 }
 
@@ -235,21 +239,21 @@ fn second_in_range(
     ensures { result ≡ second_in_range size.now frame.now second }
 {
     match second {
-        Some(reference) => is_in_range(size, frame, reference),
+        Some(reference) => has_allowed_scale(size, frame, reference),
         None => true,
     }
 }
 
 /// The references, if the frame can be predicted from them: else `BlockScale`.
 #[inline(always)]
-pub fn in_range_or_rule(
+pub fn allowed_or_rule(
     size: &FrameSize,
     frame: &frame_headers::References,
-    references: References,
-) -> Result<References, Rule>
-    ensures { result ≡ in_range_or_rule size.now frame.now references }
+    references: ReferenceFrames,
+) -> Result<ReferenceFrames, Rule>
+    ensures { result ≡ allowed_or_rule size.now frame.now references }
 {
-    if is_in_range(size, frame, references.first)
+    if has_allowed_scale(size, frame, references.first)
         && second_in_range(size, frame, references.second)
     {
         Ok(references)

@@ -19,7 +19,7 @@ use Rattle.block_plan.specs.declared.block.BlockAt.{BlockAt}
 use Rattle.block_plan.specs.declared.block.BlockInfo.{BlockInfo}
 use Rattle.block_plan.specs.declared.block.Mv.{Mv}
 use Rattle.block_plan.specs.declared.block.Prediction.TheVariants.{Inter}
-use Rattle.block_plan.specs.declared.block.References.{References}
+use Rattle.block_plan.specs.declared.block.ReferenceFrames.{ReferenceFrames}
 use Rattle.counting_reader.specs.Counting.{settle, ◌>>=◌}
 use Rattle.mode_syntax.specs.Elements.{skips_segment}
 use Rattle.mode_syntax.proofs.Apart.{same_modes}
@@ -32,9 +32,9 @@ use Rattle.mv_syntax.specs.Differences.{new_vector}
 use Rattle.block_geometry.specs.Quarters.{starting_quarters, with_part}
 use Rattle.block_geometry.specs.BlockSizes.{is_below_8x8}
 use Rattle.inter_contexts.specs.Contexts.{filter_context}
-use Rattle.inter_modes.specs.ModeInfo.{BlockSources, InterFrame, sources_of, block_mode, interp_filter, whole_prediction, quarters_prediction, whole_block, block_of_quarters, inter_prediction, block_with, checked_references, inter_block, intra_block, inter_frame_block, least_before, inter_frame_mode_info, intra_frame_block, by_kind, mode_info}
+use Rattle.inter_modes.specs.ModeInfo.{BlockSources, InterFrame, sources_of, block_mode, interp_filter, whole_prediction, quarters_prediction, whole_block, block_of_quarters, inter_prediction, block_with, checked_references, inter_block, intra_coded_block, inter_frame_block, least_before, inter_frame_mode_info, intra_frame_block, by_kind, mode_info}
 use Rattle.inter_modes.specs.BlockStarts.{block_start}
-use Rattle.inter_modes.specs.BlockVectors.{Sources, inter_mode, vector_of_mode, near_of_block, near_of_quarter, block_vector, with_second, block_vectors, second_best, best_mv, row_at, of_list, quarter_vector, quarter_vectors, quarter, before_of, unread, vectors_of, each_quarter, quarters, ◌>>?◌}
+use Rattle.inter_modes.specs.BlockVectors.{Sources, inter_mode, vector_of_mode, near_of_block, near_of_quarter, block_vector, with_second, block_vectors, second_best, best_mv, row_vectors, of_list, quarter_vector, quarter_vectors, quarter, before_of, unread, vectors_of, each_quarter, quarters, ◌>>?◌}
 use Rattle.inter_modes.specs.declared.quarters.Quarter.{Quarter}
 use Rattle.inter_modes.specs.declared.quarters.QuartersBefore.{QuartersBefore}
 use Rattle.inter_modes.specs.declared.starts.BlockStart.{BlockStart}
@@ -75,7 +75,7 @@ same_block_vector s t a mode reference =
     same_vector_of s t a mode (near_of_block s reference).nearest (near_of_block s reference)
     ∙ (λ i. vector_of_mode t mode (same_near s t a reference i).nearest (same_near s t a reference i))
 
-same_block_vectors : (s t : Sources) → AreAlike s t → (mode : InterMode) (refs : References) → block_vectors s mode refs ≡ block_vectors t mode refs
+same_block_vectors : (s t : Sources) → AreAlike s t → (mode : InterMode) (refs : ReferenceFrames) → block_vectors s mode refs ≡ block_vectors t mode refs
 unfolding block_vectors
 same_block_vectors s t a mode refs = λ i.
     same_block_vector s t a mode refs.first i >>? λ first. with_second first refs.second (λ reference. same_block_vector s t a mode reference i)
@@ -86,7 +86,7 @@ same_second : (s t : Sources) → AreAlike s t → (second : Option ReferenceFra
 same_second s t a None = refl
 same_second s t a (Some reference) = λ i. (same_near s t a reference i).nearest
 
-same_best : (s t : Sources) → AreAlike s t → (refs : References) → best_mv s refs ≡ best_mv t refs
+same_best : (s t : Sources) → AreAlike s t → (refs : ReferenceFrames) → best_mv s refs ≡ best_mv t refs
 same_best s t a refs = λ i. (same_near s t a refs.first i).nearest ∷ same_second s t a refs.second i ∷ []
 
 same_quarter_vector : (s t : Sources) → AreAlike s t → (mode : InterMode) (reference : ReferenceFrame) (list k : ℕ) (before : QuartersBefore)
@@ -96,37 +96,29 @@ same_quarter_vector s t a mode reference list k before =
     same_vector_of s t a mode (vector_at before.best list) (near_of_quarter s reference k (of_list list before.rows))
     ∙ (λ i. vector_of_mode t mode (vector_at before.best list) (sub_block_vectors k (a.both reference (Some k) i) (of_list list before.rows)))
 
-same_quarter_vectors : (s t : Sources) → AreAlike s t → (mode : InterMode) (refs : References) (k : ℕ) (before : QuartersBefore)
+same_quarter_vectors : (s t : Sources) → AreAlike s t → (mode : InterMode) (refs : ReferenceFrames) (k : ℕ) (before : QuartersBefore)
     → quarter_vectors s mode refs k before ≡ quarter_vectors t mode refs k before
 unfolding quarter_vectors
 same_quarter_vectors s t a mode refs k before = λ i.
     same_quarter_vector s t a mode refs.first 0 k before i
     >>? λ first. with_second first refs.second (λ reference. same_quarter_vector s t a mode reference 1 k before i)
 
-same_quarter : (s t : Sources) → AreAlike s t → (probs : List ℕ) (context : ℕ) (refs : References) (k : ℕ) (before : QuartersBefore)
+same_quarter : (s t : Sources) → AreAlike s t → (probs : List ℕ) (context : ℕ) (refs : ReferenceFrames) (k : ℕ) (before : QuartersBefore)
     → quarter s probs context refs k before ≡ quarter t probs context refs k before
 unfolding quarter
 same_quarter s t a probs context refs k before = λ i.
     inter_mode probs context >>= λ mode. same_quarter_vectors s t a mode refs k before i >>? λ vectors. settle (Ok (record { mode = mode; vectors = vectors }))
 
-same_each : (s t : Sources) → AreAlike s t → (probs : List ℕ) (context : ℕ) (refs : References) (size : BlockSize) (best : List Mv) (starts : List ℕ) (known : List Quarter)
-    → each_quarter s probs context refs size best starts known ≡ each_quarter t probs context refs size best starts known
-unfolding each_quarter
-same_each s t a probs context refs size best [] known = refl
-same_each s t a probs context refs size best (k ∷ rest) known = λ i.
-    same_quarter s t a probs context refs k (before_of best (vectors_of known 0) (vectors_of known 1) (vectors_of known 2)) i
-    >>? λ q. same_each s t a probs context refs size best rest (with_part size k q known) i
-
-same_quarters : (s t : Sources) → AreAlike s t → (probs : List ℕ) (context : ℕ) (refs : References) (size : BlockSize)
+same_quarters : (s t : Sources) → AreAlike s t → (probs : List ℕ) (context : ℕ) (refs : ReferenceFrames) (size : BlockSize)
     → quarters s probs context refs size ≡ quarters t probs context refs size
 unfolding quarters
-same_quarters s t a probs context refs size =
-    same_each s t a probs context refs size (best_mv s refs) (starting_quarters size) (unread ∷ unread ∷ unread ∷ unread ∷ [])
-    ∙ ap (λ best. each_quarter t probs context refs size best (starting_quarters size) (unread ∷ unread ∷ unread ∷ unread ∷ [])) (same_best s t a refs)
+same_quarters s t a probs context refs size = λ i.
+    each_quarter (λ k before. same_quarter s t a probs context refs k before i) size (same_best s t a refs i) (starting_quarters size)
+    (unread ∷ unread ∷ unread ∷ unread ∷ [])
 
 ---- Blocks ----
 
-same_whole : (s t : Sources) → AreAlike s t → (lists : InterLists) (skips : Bool) (filter : FrameFilter) (context : ℕ) (refs : References)
+same_whole : (s t : Sources) → AreAlike s t → (lists : InterLists) (skips : Bool) (filter : FrameFilter) (context : ℕ) (refs : ReferenceFrames)
     → whole_block s lists skips filter context refs ≡ whole_block t lists skips filter context refs
 unfolding whole_block
 same_whole s t a lists skips filter context refs = λ i.
@@ -134,7 +126,7 @@ same_whole s t a lists skips filter context refs = λ i.
     >>= λ mode. interp_filter filter lists.filters context
     >>= λ kind. same_block_vectors s t a mode refs i >>? λ vectors. settle (Ok (whole_prediction refs kind mode vectors))
 
-same_of_quarters : (s t : Sources) → AreAlike s t → (lists : InterLists) (filter : FrameFilter) (context : ℕ) (refs : References)
+same_of_quarters : (s t : Sources) → AreAlike s t → (lists : InterLists) (filter : FrameFilter) (context : ℕ) (refs : ReferenceFrames)
     → block_of_quarters s lists filter context refs ≡ block_of_quarters t lists filter context refs
 unfolding block_of_quarters
 same_of_quarters s t a lists filter context refs =
@@ -143,7 +135,7 @@ same_of_quarters s t a lists filter context refs =
     ∙ (λ i. interp_filter filter lists.filters context
     >>= λ kind. quarters t lists.modes (a.context i) refs (a.search i).at.size >>? λ qs. settle (Ok (quarters_prediction refs kind qs)))
 
-same_prediction : (s t : Sources) → AreAlike s t → (lists : InterLists) (skips : Bool) (filter : FrameFilter) (context : ℕ) (refs : References)
+same_prediction : (s t : Sources) → AreAlike s t → (lists : InterLists) (skips : Bool) (filter : FrameFilter) (context : ℕ) (refs : ReferenceFrames)
     → inter_prediction s lists skips filter context refs ≡ inter_prediction t lists skips filter context refs
 unfolding inter_prediction
 same_prediction s t a lists skips filter context refs = λ i.
@@ -162,7 +154,7 @@ same_beside : (s t : Sources) → AreAlike s t → (f : InterFrame) (above left 
 unfolding inter_frame_block
 same_beside s t a f above left least = λ i.
     block_start f.header.params.segmentation f.modes.tx_mode f.contexts above left (a.search i).at.size least
-    >>= λ start. if start.is_inter then same_inter s t a f above left start i else intra_block f (a.search i).at start
+    >>= λ start. if start.is_inter then same_inter s t a f above left start i else intra_coded_block f (a.search i).at start
 
 ---- Frames ----
 

@@ -31,8 +31,8 @@ use Rattle.inter_modes.specs.declared.starts.BlockStart.{BlockStart}
 abbrev pub segment_of : Bool → ℕ → SegmentOf
 segment_of predicted id = record { id = id; predicted = predicted }
 
-unfoldable pub coded_segment : List ℕ → Syntax ℕ Rule (Settled SegmentOf)
-coded_segment tree = do
+unfoldable pub segment_by_tree : List ℕ → Syntax ℕ Rule (Settled SegmentOf)
+segment_by_tree tree = do
   id ← uncounted (tree_symbol segment_tree tree)
   settle (segment_of false id)
 
@@ -40,10 +40,10 @@ coded_segment tree = do
 unfoldable pub temporal_segment : MapUpdate → ℕ → ℕ → Syntax ℕ Rule (Settled SegmentOf)
 temporal_segment update context least = do
   predicted ← uncounted (flag (slice_index update.prediction context))
-  if predicted then settle (segment_of true least) else coded_segment update.tree
+  if predicted then settle (segment_of true least) else segment_by_tree update.tree
 
 unfoldable pub updated_segment : MapUpdate → ℕ → ℕ → Syntax ℕ Rule (Settled SegmentOf)
-updated_segment update context least = if update.temporal then temporal_segment update context least else coded_segment update.tree
+updated_segment update context least = if update.temporal then temporal_segment update context least else segment_by_tree update.tree
 
 -- where the frame doesn't update the map, it is the least id that the map before it has over the block
 unfoldable pub segment_by : Option MapUpdate → ℕ → ℕ → Syntax ℕ Rule (Settled SegmentOf)

@@ -13,7 +13,7 @@ use Rattle.block_geometry.specs.Quarters.{starting_quarters, with_part}
 use Rattle.block_plan.specs.BlockMvs.{no_vector, vector_at}
 use Rattle.block_plan.specs.declared.block.BlockInfo.{BlockInfo}
 use Rattle.block_plan.specs.declared.block.Mv.{Mv}
-use Rattle.block_plan.specs.declared.block.References.{References}
+use Rattle.block_plan.specs.declared.block.ReferenceFrames.{ReferenceFrames}
 use Rattle.counting_reader.specs.Counting.{Settled, settle, ◌>>=◌}
 use Rattle.counting_reader.specs.CountedSymbols.{counted_tree}
 use Rattle.mv_prediction.specs.Candidates.{ref_list_mv}
@@ -81,7 +81,7 @@ unfoldable pub with_second : Mv → Option ReferenceFrame → (ReferenceFrame �
 with_second first None vector = settle (Ok (first ∷ no_vector ∷ []))
 with_second first (Some reference) vector = vector reference >>? λ second. settle (Ok (first ∷ second ∷ []))
 
-unfoldable pub block_vectors : Sources → InterMode → References → Syntax ℕ Rule (Settled (Result (List Mv) Rule))
+unfoldable pub block_vectors : Sources → InterMode → ReferenceFrames → Syntax ℕ Rule (Settled (Result (List Mv) Rule))
 block_vectors s mode refs = block_vector s mode refs.first >>? λ first. with_second first refs.second (block_vector s mode)
 
 ---- Quarters of blocks below 8x8 ----
@@ -91,28 +91,28 @@ abbrev pub second_best : Sources → Option ReferenceFrame → Mv
 second_best s None = no_vector
 second_best s (Some reference) = (near_of_block s reference).nearest
 
-abbrev pub best_mv : Sources → References → List Mv
+abbrev pub best_mv : Sources → ReferenceFrames → List Mv
 best_mv s refs = (near_of_block s refs.first).nearest ∷ second_best s refs.second ∷ []
 
-abbrev pub row_at : List (List Mv) → ℕ → List Mv
-row_at rows k = slice_index_or rows k []
+abbrev pub row_vectors : List (List Mv) → ℕ → List Mv
+row_vectors rows k = slice_index_or rows k []
 
 -- the vectors of a list of the three quarters before the last
 abbrev pub of_list : ℕ → List (List Mv) → List Mv
-of_list list rows = vector_at (row_at rows 0) list ∷ vector_at (row_at rows 1) list ∷ vector_at (row_at rows 2) list ∷ []
+of_list list rows = vector_at (row_vectors rows 0) list ∷ vector_at (row_vectors rows 1) list ∷ vector_at (row_vectors rows 2) list ∷ []
 
 -- of one list: of the k-th quarter
 unfoldable pub quarter_vector : Sources → InterMode → ReferenceFrame → ℕ → ℕ → QuartersBefore → Syntax ℕ Rule (Settled (Result Mv Rule))
 quarter_vector s mode reference list k before =
     vector_of_mode s mode (vector_at before.best list) (near_of_quarter s reference k (of_list list before.rows))
 
-unfoldable pub quarter_vectors : Sources → InterMode → References → ℕ → QuartersBefore → Syntax ℕ Rule (Settled (Result (List Mv) Rule))
+unfoldable pub quarter_vectors : Sources → InterMode → ReferenceFrames → ℕ → QuartersBefore → Syntax ℕ Rule (Settled (Result (List Mv) Rule))
 quarter_vectors s mode refs k before =
     quarter_vector s mode refs.first 0 k before
     >>? λ first. with_second first refs.second (λ reference. quarter_vector s mode reference 1 k before)
 
 -- a quarter's mode and vectors
-unfoldable pub quarter : Sources → List ℕ → ℕ → References → ℕ → QuartersBefore → Syntax ℕ Rule (Settled (Result Quarter Rule))
+unfoldable pub quarter : Sources → List ℕ → ℕ → ReferenceFrames → ℕ → QuartersBefore → Syntax ℕ Rule (Settled (Result Quarter Rule))
 quarter s probs context refs k before = do
   mode ← inter_mode probs context
   quarter_vectors s mode refs k before >>? λ vectors. settle (Ok (record { mode = mode; vectors = vectors }))
@@ -134,14 +134,18 @@ unread = record { mode = Zero; vectors = nothing_before }
 abbrev pub vectors_of : List Quarter → ℕ → List Mv
 vectors_of known k = (slice_index_or known k unread).vectors
 
+-- how the k-th quarter is read, by those before it
+abbrev pub ReadQuarter : Type 0
+ReadQuarter = ℕ → QuartersBefore → Syntax ℕ Rule (Settled (Result Quarter Rule))
+
 -- of the parts that begin at some quarters, one after another, by the vectors of those that are known
-unfoldable pub each_quarter : Sources → List ℕ → ℕ → References → BlockSize → List Mv → List ℕ → List Quarter → Quarters
-each_quarter s probs context refs size best [] known = settle (Ok known)
-each_quarter s probs context refs size best (k ∷ rest) known =
-    quarter s probs context refs k (before_of best (vectors_of known 0) (vectors_of known 1) (vectors_of known 2))
-    >>? λ q. each_quarter s probs context refs size best rest (with_part size k q known)
+unfoldable pub each_quarter : ReadQuarter → BlockSize → List Mv → List ℕ → List Quarter → Quarters
+each_quarter read size best [] known = settle (Ok known)
+each_quarter read size best (k ∷ rest) known =
+    read k (before_of best (vectors_of known 0) (vectors_of known 1) (vectors_of known 2))
+    >>? λ q. each_quarter read size best rest (with_part size k q known)
 
 -- the quarters of a block below 8x8
-unfoldable pub quarters : Sources → List ℕ → ℕ → References → BlockSize → Quarters
+unfoldable pub quarters : Sources → List ℕ → ℕ → ReferenceFrames → BlockSize → Quarters
 quarters s probs context refs size =
-    each_quarter s probs context refs size (best_mv s refs) (starting_quarters size) (unread ∷ unread ∷ unread ∷ unread ∷ [])
+    each_quarter (quarter s probs context refs) size (best_mv s refs) (starting_quarters size) (unread ∷ unread ∷ unread ∷ unread ∷ [])

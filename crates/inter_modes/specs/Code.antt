@@ -11,7 +11,7 @@ use Rattle.vp9_types.specs.declared.rule.Rule.{Rule}
 use Rattle.vp9_tables.specs.BlockTables.{greatest_of}
 use Rattle.vp9_tables.specs.Numbers.{block_number, tx_number}
 use Rattle.vp9_tables.specs.declared.data.blocks.TheConstants.{SIZE_GROUP}
-use Rattle.frame_headers.specs.References.{is_in_range}
+use Rattle.frame_headers.specs.References.{has_allowed_scale}
 use Rattle.frame_headers.specs.declared.header.FrameKind.TheVariants as frame
 use Rattle.frame_headers.specs.declared.header.FrameSize.{FrameSize}
 use Rattle.frame_headers.specs.declared.header.Header.{Header}
@@ -26,7 +26,7 @@ use Rattle.block_plan.specs.declared.block.BlockInfo.{BlockInfo}
 use Rattle.block_plan.specs.declared.block.Mv.{Mv}
 use Rattle.block_plan.specs.declared.block.Prediction.{Prediction}
 use Rattle.block_plan.specs.declared.block.Prediction.TheVariants.{Intra, Inter}
-use Rattle.block_plan.specs.declared.block.References.{References}
+use Rattle.block_plan.specs.declared.block.ReferenceFrames.{ReferenceFrames}
 use Rattle.mv_prediction.specs.Code.{AreSmall, HasSmallVectors, IsSite, blocks_of}
 use Rattle.mv_prediction.specs.declared.search.MvSearch.{MvSearch}
 use Rattle.block_plan.specs.SegmentMaps.{SegmentIds, id_map, least_id}
@@ -34,7 +34,7 @@ use Rattle.inter_contexts.specs.BlockReferences.{reference_in, second_in_range}
 use Rattle.counting_reader.specs.Counting.{Settled, settle, ◌>>=◌}
 use Rattle.inter_modes.specs.IntraBlocks.{intra_mode}
 use Rattle.inter_modes.specs.ModeInfo.{BlockSources, InterFrame}
-use Rattle.inter_modes.specs.BlockVectors.{Quarters, Sources, before_of, best_mv, nothing_before, quarter, row_at, ◌>>?◌}
+use Rattle.inter_modes.specs.BlockVectors.{Quarters, Sources, before_of, best_mv, nothing_before, quarter, row_vectors, ◌>>?◌}
 use Rattle.inter_modes.specs.declared.frame_blocks.Frame.{Frame}
 use Rattle.inter_modes.specs.declared.quarters.Quarter.{Quarter}
 use Rattle.inter_modes.specs.declared.quarters.QuartersBefore.{QuartersBefore}
@@ -47,9 +47,9 @@ least_of m at = least_id (id_map m) (part_inside (record { rows = m.rows; cols =
 -- the vectors of the quarters before one are small
 pub record AreSmallBefore (b : QuartersBefore) : Type 0 where
   pub best : AreSmall b.best
-  pub first : AreSmall (row_at b.rows 0)
-  pub second : AreSmall (row_at b.rows 1)
-  pub third : AreSmall (row_at b.rows 2)
+  pub first : AreSmall (row_vectors b.rows 0)
+  pub second : AreSmall (row_vectors b.rows 1)
+  pub third : AreSmall (row_vectors b.rows 2)
 
 -- so are those of quarters that are read
 abbrev pub AreSmallQuarters : List Quarter → Type 0
@@ -94,8 +94,8 @@ pub record IsBlockAt (at : BlockAt) (b : BlockInfo) : Type 0 where
   pub small : HasSmallVectors b
 
 -- references of a block have sizes from which a frame of a size can be predicted
-abbrev pub AreInRange : FrameSize → header.References → References → Type 0
-AreInRange size refs r = (is_in_range size (reference_in refs r.first) ≡ true) × (second_in_range size refs r.second ≡ true)
+abbrev pub AreInRange : FrameSize → header.References → ReferenceFrames → Type 0
+AreInRange size refs r = (has_allowed_scale size (reference_in refs r.first) ≡ true) × (second_in_range size refs r.second ≡ true)
 
 -- a block of an inter frame refers only to such
 abbrev pub PredictsInRange : FrameSize → header.References → Prediction → Type 0
@@ -107,7 +107,7 @@ abbrev pub RefersInRange : Header → Prediction → Type 0
 RefersInRange header (Intra modes) = Unit {0}
 RefersInRange header (Inter modes) =
     (fields : InterFields) × (header.kind ≡ frame.Inter fields)
-    × (is_in_range header.size (reference_in fields.references modes.references.first) ≡ true)
+    × (has_allowed_scale header.size (reference_in fields.references modes.references.first) ≡ true)
     × (second_in_range header.size fields.references modes.references.second ≡ true)
 
 -- what may be asked of the blocks before a block, and of those of the frame before, and how large their vectors are
@@ -164,7 +164,7 @@ coded_by_size probs size = one_coded_mode probs (slice_index SIZE_GROUP (block_n
 ---- Quarters, size by size ----
 
 -- 4x4: one after another
-unfoldable pub four_quarters : Sources → List ℕ → ℕ → References → List Mv → Quarters
+unfoldable pub four_quarters : Sources → List ℕ → ℕ → ReferenceFrames → List Mv → Quarters
 four_quarters s probs context refs best =
     quarter s probs context refs 0 (before_of best nothing_before nothing_before nothing_before)
     >>? λ q. quarter s probs context refs 1 (before_of best q.vectors nothing_before nothing_before)
@@ -173,20 +173,20 @@ four_quarters s probs context refs best =
     >>? λ u. settle (Ok (q ∷ r ∷ t ∷ u ∷ []))
 
 -- 4x8: one at the left and one at the right
-unfoldable pub quarter_columns : Sources → List ℕ → ℕ → References → List Mv → Quarters
+unfoldable pub quarter_columns : Sources → List ℕ → ℕ → ReferenceFrames → List Mv → Quarters
 quarter_columns s probs context refs best =
     quarter s probs context refs 0 (before_of best nothing_before nothing_before nothing_before)
     >>? λ q. quarter s probs context refs 1 (before_of best q.vectors nothing_before nothing_before)
     >>? λ r. settle (Ok (q ∷ r ∷ q ∷ r ∷ []))
 
 -- 8x4: an upper and a lower one
-unfoldable pub quarter_rows : Sources → List ℕ → ℕ → References → List Mv → Quarters
+unfoldable pub quarter_rows : Sources → List ℕ → ℕ → ReferenceFrames → List Mv → Quarters
 quarter_rows s probs context refs best =
     quarter s probs context refs 0 (before_of best nothing_before nothing_before nothing_before)
     >>? λ q. quarter s probs context refs 2 (before_of best q.vectors q.vectors nothing_before)
     >>? λ r. settle (Ok (q ∷ q ∷ r ∷ r ∷ []))
 
-unfoldable pub quarters_by_size : Sources → List ℕ → ℕ → References → BlockSize → Quarters
+unfoldable pub quarters_by_size : Sources → List ℕ → ℕ → ReferenceFrames → BlockSize → Quarters
 quarters_by_size s probs context refs B4x8 = quarter_columns s probs context refs (best_mv s refs)
 quarters_by_size s probs context refs B8x4 = quarter_rows s probs context refs (best_mv s refs)
 quarters_by_size s probs context refs size = four_quarters s probs context refs (best_mv s refs)

@@ -28,7 +28,7 @@ use Rattle.block_plan.specs.declared.block.InterPrediction.{InterPrediction}
 use Rattle.block_plan.specs.declared.block.Mv.{Mv}
 use Rattle.block_plan.specs.declared.block.Prediction.{Prediction}
 use Rattle.block_plan.specs.declared.block.Prediction.TheVariants.{Intra, Inter}
-use Rattle.block_plan.specs.declared.block.References.{References}
+use Rattle.block_plan.specs.declared.block.ReferenceFrames.{ReferenceFrames}
 use Rattle.counting_reader.specs.Counting.{Settled, settle, ◌>>=◌}
 use Rattle.counting_reader.specs.CountedSymbols.{counted_tree}
 use Rattle.mode_syntax.specs.Elements.{skips_segment}
@@ -38,7 +38,7 @@ use Rattle.mv_prediction.specs.declared.search.SignBiases.{SignBiases}
 use Rattle.block_plan.specs.SegmentMaps.{least_id}
 use Rattle.inter_contexts.specs.Contexts.{filter_context}
 use Rattle.inter_modes.specs.IntraBlocks.{intra_block_mode_info}
-use Rattle.inter_contexts.specs.BlockReferences.{ref_frames, in_range_or_rule}
+use Rattle.inter_contexts.specs.BlockReferences.{ref_frames, allowed_or_rule}
 use Rattle.inter_modes.specs.BlockStarts.{segment_reference, block_start}
 use Rattle.inter_modes.specs.BlockVectors.{Sources, inter_mode, block_vectors, quarters, ◌>>?◌}
 use Rattle.inter_modes.specs.declared.quarters.Quarter.{Quarter}
@@ -46,19 +46,19 @@ use Rattle.inter_modes.specs.declared.starts.BlockStart.{BlockStart}
 
 ---- Filters ----
 
-abbrev pub filter_of : ℕ → InterpFilter
-filter_of n = if nat_eq n 0 then Regular else (if nat_eq n 1 then Smooth else Sharp)
+abbrev pub filter_of_symbol : ℕ → InterpFilter
+filter_of_symbol n = if nat_eq n 0 then Regular else (if nat_eq n 1 then Smooth else Sharp)
 
 -- interp_filter: the frame's, or each block says its own
 unfoldable pub interp_filter : FrameFilter → List ℕ → ℕ → Syntax ℕ Rule (Settled InterpFilter)
 interp_filter (Fixed filter) probs context = settle filter
 interp_filter Switchable probs context = do
   number ← counted_tree kind.Filter (2 * context) filter_tree (drop (2 * context) probs)
-  settle (filter_of number)
+  settle (filter_of_symbol number)
 
 ---- Inter blocks ----
 
-abbrev pub whole_prediction : References → InterpFilter → InterMode → List Mv → InterPrediction
+abbrev pub whole_prediction : ReferenceFrames → InterpFilter → InterMode → List Mv → InterPrediction
 whole_prediction refs filter mode vectors = record {
   modes = mode ∷ mode ∷ mode ∷ mode ∷ [];
   references = refs;
@@ -74,7 +74,7 @@ of_each f qs =
     f (slice_index_or qs 0 no_quarter) ∷ f (slice_index_or qs 1 no_quarter) ∷ f (slice_index_or qs 2 no_quarter) ∷ f (slice_index_or qs 3 no_quarter) ∷ []
 
 -- of four quarters, each with its own
-abbrev pub quarters_prediction : References → InterpFilter → List Quarter → InterPrediction
+abbrev pub quarters_prediction : ReferenceFrames → InterpFilter → List Quarter → InterPrediction
 quarters_prediction refs filter qs = record {
   modes = of_each (λ q. q.mode) qs;
   references = refs;
@@ -89,19 +89,19 @@ Predicts = Syntax ℕ Rule (Settled (Result InterPrediction Rule))
 unfoldable pub block_mode : Bool → List ℕ → ℕ → Syntax ℕ Rule (Settled InterMode)
 block_mode skips probs context = if skips then settle Zero else inter_mode probs context
 
-unfoldable pub whole_block : Sources → InterLists → Bool → FrameFilter → ℕ → References → Predicts
+unfoldable pub whole_block : Sources → InterLists → Bool → FrameFilter → ℕ → ReferenceFrames → Predicts
 whole_block s lists skips filter context refs = do
   mode ← block_mode skips lists.modes (mode_context s.earlier s.search)
   filter ← interp_filter filter lists.filters context
   block_vectors s mode refs >>? λ vectors. settle (Ok (whole_prediction refs filter mode vectors))
 
 -- each quarter of a smaller one says its own, whatever the segment
-unfoldable pub block_of_quarters : Sources → InterLists → FrameFilter → ℕ → References → Predicts
+unfoldable pub block_of_quarters : Sources → InterLists → FrameFilter → ℕ → ReferenceFrames → Predicts
 block_of_quarters s lists filter context refs = do
   filter ← interp_filter filter lists.filters context
   quarters s lists.modes (mode_context s.earlier s.search) refs s.search.at.size >>? λ qs. settle (Ok (quarters_prediction refs filter qs))
 
-unfoldable pub inter_prediction : Sources → InterLists → Bool → FrameFilter → ℕ → References → Predicts
+unfoldable pub inter_prediction : Sources → InterLists → Bool → FrameFilter → ℕ → ReferenceFrames → Predicts
 inter_prediction s lists skips filter context refs =
     if is_below_8x8 s.search.at.size then block_of_quarters s lists filter context refs else whole_block s lists skips filter context refs
 
@@ -139,10 +139,10 @@ sources_of f earlier before at = record {
 }
 
 -- the references, or the rule
-unfoldable pub checked_references : InterFrame → SignBiases → Option BlockInfo → Option BlockInfo → ℕ → Syntax ℕ Rule (Settled (Result References Rule))
+unfoldable pub checked_references : InterFrame → SignBiases → Option BlockInfo → Option BlockInfo → ℕ → Syntax ℕ Rule (Settled (Result ReferenceFrames Rule))
 checked_references f biases above left segment = do
   refs ← ref_frames (segment_reference f.header.params.segmentation segment) f.modes.reference_mode f.contexts.inter biases above left
-  settle (in_range_or_rule f.header.size f.fields.references refs)
+  settle (allowed_or_rule f.header.size f.fields.references refs)
 
 -- an inter block's references must be in range; then its modes and vectors are read
 unfoldable pub inter_block : InterFrame → Sources → Option BlockInfo → Option BlockInfo → BlockStart → Block
@@ -151,8 +151,8 @@ inter_block f s above left start =
     >>? λ refs. inter_prediction s f.contexts.inter (skips_segment f.header.params.segmentation start.segment.id) f.fields.filter (filter_context above left) refs
     >>? λ p. settle (Ok (block_with s.search.at start (Inter p)))
 
-unfoldable pub intra_block : InterFrame → BlockAt → BlockStart → Block
-intra_block f at start = do
+unfoldable pub intra_coded_block : InterFrame → BlockAt → BlockStart → Block
+intra_coded_block f at start = do
   p ← intra_block_mode_info f.contexts.inter.y_modes f.contexts.uv_modes at.size
   settle (Ok (block_with at start (Intra p)))
 
@@ -160,7 +160,7 @@ intra_block f at start = do
 unfoldable pub inter_frame_block : InterFrame → Sources → Option BlockInfo → Option BlockInfo → ℕ → Block
 inter_frame_block f s above left least = do
   start ← block_start f.header.params.segmentation f.modes.tx_mode f.contexts above left s.search.at.size least
-  if start.is_inter then inter_block f s above left start else intra_block f s.search.at start
+  if start.is_inter then inter_block f s above left start else intra_coded_block f s.search.at start
 
 -- the least id of the map before the frame over the block
 abbrev pub least_before : Header → Map → BlockAt → ℕ

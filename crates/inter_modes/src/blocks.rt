@@ -16,7 +16,7 @@ ghost use Rattle.inter_modes.specs.ModeInfo.{interp_filter, whole_prediction, qu
 use crate::quarters::{Quarter, read_quarters};
 use crate::vectors::{Sources, read_block_vectors, read_inter_mode};
 use block_geometry::is_below_8x8;
-use block_plan::{InterPrediction, Mv, Neighbours, References};
+use block_plan::{InterPrediction, Mv, Neighbours, ReferenceFrames};
 use counting_reader::{CountingReader, nodes_from};
 use frame_headers::FrameFilter;
 use prob_contexts::ProbKind;
@@ -58,7 +58,7 @@ fn read_filter<const COUNTS: bool>(
 /// The prediction of a block that has one mode, and one vector of each reference.
 #[tactic(auto, using(crate::proofs::Rows::four_rows))]
 pub fn whole_prediction(
-    references: References,
+    references: ReferenceFrames,
     filter: InterpFilter,
     mode: InterMode,
     vectors: [Mv; 2],
@@ -100,7 +100,7 @@ fn vectors_of(quarters: &[Quarter; 4]) -> [[Mv; 2]; 4]
 
 /// The prediction of a block of four quarters.
 pub fn quarters_prediction(
-    references: References,
+    references: ReferenceFrames,
     filter: InterpFilter,
     quarters: &[Quarter; 4],
 ) -> InterPrediction
@@ -141,7 +141,7 @@ fn read_whole<N: Neighbours, Q: Neighbours, const COUNTS: bool>(
     filters: &[u8; 8],
     skips: bool,
     filter: FilterSource,
-    references: References,
+    references: ReferenceFrames,
 ) -> Result<InterPrediction, Rule>
     requires context { src.now.context ≡ mode_context (N.blocks src.now.earlier.now) src.now.search }
     requires few { src.now.context ≤ 6 }
@@ -165,7 +165,7 @@ fn read_block_of_quarters<N: Neighbours, Q: Neighbours, const COUNTS: bool>(
     src: &Sources<'_, N, Q>,
     filters: &[u8; 8],
     filter: FilterSource,
-    references: References,
+    references: ReferenceFrames,
 ) -> Result<InterPrediction, Rule>
     requires below { is_below_8x8 src.now.search.at.size ≡ true }
     requires context { src.now.context ≡ mode_context (N.blocks src.now.earlier.now) src.now.search }
@@ -190,7 +190,7 @@ pub(crate) fn read_inter_prediction<N: Neighbours, Q: Neighbours, const COUNTS: 
     filters: &[u8; 8],
     skips: bool,
     filter: FilterSource,
-    references: References,
+    references: ReferenceFrames,
 ) -> Result<InterPrediction, Rule>
     requires context { src.now.context ≡ mode_context (N.blocks src.now.earlier.now) src.now.search }
     requires few { src.now.context ≤ 6 }

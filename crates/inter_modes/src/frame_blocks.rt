@@ -12,19 +12,20 @@ ghost use Rattle.mv_prediction.specs.Candidates.{mode_context, sign_biases};
 ghost use Rattle.mv_prediction.specs.Code.{HasSmallVectors, IsSite, blocks_of};
 ghost use Rattle.block_plan.specs.SegmentMaps.{id_map};
 ghost use Rattle.inter_modes.specs.Code.{MaySearch, IsBlockAt, AreInRange, PredictsInRange, RefersInRange, block_sources_in, frame_in, least_of, sources_in};
-ghost use Rattle.inter_modes.specs.ModeInfo.{checked_references, inter_block, intra_block, inter_frame_block, inter_frame_mode_info, intra_frame_block, mode_info, block_with};
+ghost use Rattle.inter_modes.specs.ModeInfo.{checked_references, inter_block, intra_coded_block, inter_frame_block, inter_frame_mode_info, intra_frame_block, mode_info, block_with};
 
 use crate::blocks::{FilterSource, read_inter_prediction};
 use crate::intra_blocks::read_intra_prediction;
 use crate::starts::{BlockStart, read_block_start, segment_reference};
 use crate::vectors::Sources;
 use block_plan::{
-    BlockAt, BlockInfo, Neighbours, Prediction, References, SegmentMap, above_place, left_place,
+    BlockAt, BlockInfo, Neighbours, Prediction, ReferenceFrames, SegmentMap, above_place,
+    left_place,
 };
 use counting_reader::CountingReader;
 use frame_headers::{FrameKind, InterFields};
 use frame_setting::FrameSetting;
-use inter_contexts::{FrameReferences, filter_context, in_range_or_rule, read_references};
+use inter_contexts::{FrameReferences, allowed_or_rule, filter_context, read_references};
 use mode_syntax::{intra_frame_mode_info, skips_segment};
 use mv_prediction::{MvSearch, SignBiases, mode_context};
 use vp9_types::Rule;
@@ -53,7 +54,7 @@ pub fn block_with(at: &BlockAt, start: &BlockStart, prediction: Prediction) -> B
 }
 
 /// An intra block of an inter frame.
-#[tactic(auto, unfolding(crate::specs::ModeInfo::intra_block), using(counting_reader::proofs::CountingRuns::counting_bind, counting_reader::proofs::CountingRuns::run_settle))]
+#[tactic(auto, unfolding(crate::specs::ModeInfo::intra_coded_block), using(counting_reader::proofs::CountingRuns::counting_bind, counting_reader::proofs::CountingRuns::run_settle))]
 fn read_intra_block<const COUNTS: bool>(
     reader: &mut CountingReader<COUNTS>,
     frame: &Frame<'_>,
@@ -62,7 +63,7 @@ fn read_intra_block<const COUNTS: bool>(
 ) -> Result<BlockInfo, Rule>
     requires segment { start.now.segment.id ≤ 7 }
     requires fits { tx_number start.now.tx ≤ greatest_of at.now.size }
-    ensures read { Reads (intra_block (frame_in frame.now) at.now start.now) reader.old result reader.new }
+    ensures read { Reads (intra_coded_block (frame_in frame.now) at.now start.now) reader.old result reader.new }
     ensures block { IfOk result (IsBlockAt at.now) }
     ensures in_range { IfOk result (λ b. PredictsInRange frame.now.setting.now.header.size frame.now.fields.now.references b.prediction) }
 {
@@ -85,7 +86,7 @@ fn read_checked_references<const COUNTS: bool>(
     above: Option<&BlockInfo>,
     left: Option<&BlockInfo>,
     segment: u8,
-) -> Result<References, Rule>
+) -> Result<ReferenceFrames, Rule>
     requires segment { segment ≤ 7 }
     ensures read { Reads (checked_references (frame_in frame.now) biases (option_copied above.entry) (option_copied left.entry) segment) reader.old result reader.new }
     ensures in_range { IfOk result (AreInRange frame.now.setting.now.header.size frame.now.fields.now.references) }
@@ -99,7 +100,7 @@ fn read_checked_references<const COUNTS: bool>(
         sign_biases: biases,
     };
     let references = read_references(reader, feature, said, probs, above, left);
-    in_range_or_rule(&setting.header.size, &frame.fields.references, references)
+    allowed_or_rule(&setting.header.size, &frame.fields.references, references)
 }
 
 /// An inter block, from the blocks above it and at its left.

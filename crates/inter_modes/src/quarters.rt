@@ -10,7 +10,7 @@ ghost use Rattle.inter_modes.specs.Code.{MaySearch, AreSmallBefore, AreSmallQuar
 ghost use Rattle.inter_modes.specs.BlockVectors.{before_of, quarters};
 
 use crate::vectors::{NO_VECTORS, Sources, best_mv, read_quarter};
-use block_plan::{Mv, Neighbours, References};
+use block_plan::{Mv, Neighbours, ReferenceFrames};
 use counting_reader::CountingReader;
 use vp9_types::{BlockSize, InterMode, Rule};
 
@@ -49,7 +49,7 @@ pub fn before_of(best: [Mv; 2], q: [Mv; 2], r: [Mv; 2], t: [Mv; 2]) -> QuartersB
 fn read_four<N: Neighbours, Q: Neighbours, const COUNTS: bool>(
     reader: &mut CountingReader<COUNTS>,
     src: &Sources<'_, N, Q>,
-    refs: References,
+    refs: ReferenceFrames,
     best: [Mv; 2],
 ) -> Result<[Quarter; 4], Rule>
     requires context { src.now.context ≤ 6 }
@@ -79,7 +79,7 @@ fn read_four<N: Neighbours, Q: Neighbours, const COUNTS: bool>(
 fn read_two_columns<N: Neighbours, Q: Neighbours, const COUNTS: bool>(
     reader: &mut CountingReader<COUNTS>,
     src: &Sources<'_, N, Q>,
-    refs: References,
+    refs: ReferenceFrames,
     best: [Mv; 2],
 ) -> Result<[Quarter; 4], Rule>
     requires context { src.now.context ≤ 6 }
@@ -105,7 +105,7 @@ fn read_two_columns<N: Neighbours, Q: Neighbours, const COUNTS: bool>(
 fn read_two_rows<N: Neighbours, Q: Neighbours, const COUNTS: bool>(
     reader: &mut CountingReader<COUNTS>,
     src: &Sources<'_, N, Q>,
-    refs: References,
+    refs: ReferenceFrames,
     best: [Mv; 2],
 ) -> Result<[Quarter; 4], Rule>
     requires context { src.now.context ≤ 6 }
@@ -126,7 +126,7 @@ fn read_two_rows<N: Neighbours, Q: Neighbours, const COUNTS: bool>(
 pub(crate) fn read_quarters<N: Neighbours, Q: Neighbours, const COUNTS: bool>(
     reader: &mut CountingReader<COUNTS>,
     src: &Sources<'_, N, Q>,
-    refs: References,
+    refs: ReferenceFrames,
 ) -> Result<[Quarter; 4], Rule>
     requires below { is_below_8x8 src.now.search.at.size ≡ true }
     requires context { src.now.context ≤ 6 }

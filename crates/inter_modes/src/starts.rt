@@ -9,7 +9,7 @@ ghost use Rattle.block_geometry.specs.Parts.{part_inside};
 ghost use Rattle.counting_reader.specs.Code.{Reads};
 ghost use Rattle.block_plan.specs.SegmentMaps.{id_map, least_id};
 ghost use Rattle.inter_contexts.specs.Contexts.{predicted_context};
-ghost use Rattle.inter_modes.specs.BlockStarts.{coded_segment, temporal_segment, updated_segment, segment_by, inter_segment_id, segment_reference, is_inter_feature, is_inter_by, read_is_inter, tx_size, block_start};
+ghost use Rattle.inter_modes.specs.BlockStarts.{segment_by_tree, temporal_segment, updated_segment, segment_by, inter_segment_id, segment_reference, is_inter_feature, is_inter_by, read_is_inter, tx_size, block_start};
 ghost use Rattle.inter_modes.specs.Code.{least_of};
 
 use block_plan::{BlockAt, BlockInfo, SegmentMap};
@@ -38,12 +38,12 @@ pub struct BlockStart {
     pub tx: TxSize,
 }
 
-#[tactic(auto, unfolding(crate::specs::BlockStarts::coded_segment), using(counting_reader::proofs::CountingRuns::counting_bind, counting_reader::proofs::CountingRuns::run_settle))]
+#[tactic(auto, unfolding(crate::specs::BlockStarts::segment_by_tree), using(counting_reader::proofs::CountingRuns::counting_bind, counting_reader::proofs::CountingRuns::run_settle))]
 fn read_coded_segment<const COUNTS: bool>(
     reader: &mut CountingReader<COUNTS>,
     tree: &[u8; 7],
 ) -> SegmentOf
-    ensures read { Reads (coded_segment tree.now) reader.old result reader.new }
+    ensures read { Reads (segment_by_tree tree.now) reader.old result reader.new }
     ensures most { result.id ≤ 7 }
 {
     let id = reader.tree(segment_tree(), tree);

@@ -9,7 +9,7 @@ ghost use Rattle.inter_modes.specs.Code.{MaySearch, AreSmallBefore, sources_in};
 ghost use Rattle.inter_modes.specs.BlockVectors.{inter_mode, vector_of_mode, near_of_block, near_of_quarter, block_vector, block_vectors, second_best, best_mv, of_list, quarter_vector, quarter_vectors, quarter};
 
 use crate::quarters::{Quarter, QuartersBefore};
-use block_plan::{Mv, Neighbours, References};
+use block_plan::{Mv, Neighbours, ReferenceFrames};
 use counting_reader::{CountingReader, nodes_from};
 use mv_prediction::{MvSearch, NearVectors, candidates, near_vectors, sub_block_vectors};
 use mv_syntax::read_new_vector;
@@ -153,7 +153,7 @@ pub(crate) fn read_block_vectors<N: Neighbours, Q: Neighbours, const COUNTS: boo
     reader: &mut CountingReader<COUNTS>,
     src: &Sources<'_, N, Q>,
     mode: InterMode,
-    references: References,
+    references: ReferenceFrames,
 ) -> Result<[Mv; 2], Rule>
     requires may { MaySearch N.holds N.blocks Q.holds Q.blocks src.now.earlier.now (option_copied src.now.before) src.now.search }
     ensures read { Reads (block_vectors (sources_in N.blocks Q.blocks src.now) mode references) reader.old result reader.new }
@@ -175,7 +175,7 @@ pub(crate) fn read_block_vectors<N: Neighbours, Q: Neighbours, const COUNTS: boo
 /// The best vectors of a block below 8x8.
 pub fn best_mv<N: Neighbours, Q: Neighbours>(
     src: &Sources<'_, N, Q>,
-    references: References,
+    references: ReferenceFrames,
 ) -> [Mv; 2]
     requires may { MaySearch N.holds N.blocks Q.holds Q.blocks src.now.earlier.now (option_copied src.now.before) src.now.search }
     ensures is { result ≡ best_mv (sources_in N.blocks Q.blocks src.now) references }
@@ -232,7 +232,7 @@ fn read_quarter_vectors<N: Neighbours, Q: Neighbours, const COUNTS: bool>(
     reader: &mut CountingReader<COUNTS>,
     src: &Sources<'_, N, Q>,
     mode: InterMode,
-    references: References,
+    references: ReferenceFrames,
     k: u8,
     before: &QuartersBefore,
 ) -> Result<[Mv; 2], Rule>
@@ -267,7 +267,7 @@ fn read_quarter_vectors<N: Neighbours, Q: Neighbours, const COUNTS: bool>(
 pub(crate) fn read_quarter<N: Neighbours, Q: Neighbours, const COUNTS: bool>(
     reader: &mut CountingReader<COUNTS>,
     src: &Sources<'_, N, Q>,
-    references: References,
+    references: ReferenceFrames,
     k: u8,
     before: &QuartersBefore,
 ) -> Result<Quarter, Rule>

@@ -34,7 +34,7 @@ abbrev pub clamped : ℕ → ℤ → ℕ
 clamped last (pos n) = min last n
 clamped last (negsuc n) = 0
 
--- the place that lies n samples after the third before the first
+-- Clip3(0, lastX, (startX >> 4) + n - 3): n samples after the third one before the first
 abbrev pub straight : Axis → ℕ → ℕ
 straight a n = clamped (last_x a) ((whole a +ℤ pos n) -ℤ pos 3)
 

@@ -9,9 +9,9 @@ use Rattle.inter_places.specs.declared.part.Direction.{Direction}
 use Rattle.inter_places.specs.declared.part.Direction.TheVariants.{Down, Across}
 
 -- the mean of n numbers, of their sum: rounded, halves away from 0
-abbrev pub mean : ℕ → ℤ → ℤ
-mean n (pos sum) = pos ((sum + n / 2) / n)
-mean n (negsuc sum) = neg_ℤ (pos ((sum + 1 + n / 2) / n))
+abbrev pub vector_mean : ℕ → ℤ → ℤ
+vector_mean n (pos sum) = pos ((sum + n / 2) / n)
+vector_mean n (negsuc sum) = neg_ℤ (pos ((sum + 1 + n / 2) / n))
 
 abbrev pub component : Direction → Mv → ℤ
 component Down v = v.row
@@ -20,9 +20,9 @@ component Across v = v.column
 -- what a 4x4 of a plane takes: the mean of the vectors of the quarters that it covers, by its number in the plane
 abbrev pub mean_vector : Bool → Bool → ℕ → (ℕ → ℤ) → ℤ
 mean_vector false false n vector = vector n
-mean_vector true false n vector = mean 2 (vector n +ℤ vector (n + 1))
-mean_vector false true n vector = mean 2 (vector n +ℤ vector (n + 2))
-mean_vector true true n vector = mean 4 ((vector 0 +ℤ vector 1) +ℤ (vector 2 +ℤ vector 3))
+mean_vector true false n vector = vector_mean 2 (vector n +ℤ vector (n + 1))
+mean_vector false true n vector = vector_mean 2 (vector n +ℤ vector (n + 2))
+mean_vector true true n vector = vector_mean 4 ((vector 0 +ℤ vector 1) +ℤ (vector 2 +ℤ vector 3))
 
 -- vectors are in eighths of a luma sample
 abbrev pub in_sixteenths : Bool → ℤ → ℤ

@@ -2,7 +2,7 @@
 
 ghost use Rattle.std.specs.Prelude.{◌≡◌, ℕ, ◌+◌, ◌^◌, ◌≤◌, ◌<◌, ◌+ℤ◌, true, unsigned_abs};
 ghost use Rattle.block_plan.specs.BlockMvs.{vector_of};
-ghost use Rattle.inter_places.specs.PlaneVectors.{mean, mean_vector, component};
+ghost use Rattle.inter_places.specs.PlaneVectors.{vector_mean, mean_vector, component};
 
 use crate::part::Direction;
 use block_plan::InterPrediction;
@@ -10,7 +10,7 @@ use block_plan::InterPrediction;
 /// The mean of two numbers, by their sum.
 fn mean_of_two(sum: i32) -> i32
     requires { unsigned_abs sum ≤ 2 ^ 16 }
-    ensures value { result ≡ mean 2 sum }
+    ensures value { result ≡ vector_mean 2 sum }
     ensures near { unsigned_abs result ≤ 2 ^ 16 }
 {
     if sum < 0 {
@@ -24,7 +24,7 @@ fn mean_of_two(sum: i32) -> i32
 fn mean_of_four(first: i32, second: i32) -> i32
     requires first { unsigned_abs first ≤ 2 ^ 16 }
     requires second { unsigned_abs second ≤ 2 ^ 16 }
-    ensures value { result ≡ mean 4 (first +ℤ second) }
+    ensures value { result ≡ vector_mean 4 (first +ℤ second) }
     ensures near { unsigned_abs result ≤ 2 ^ 16 }
 {
     let sum = first + second;

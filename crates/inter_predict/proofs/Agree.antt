@@ -9,7 +9,7 @@ use Rattle.tap_filter.specs.Filter.{weighted, rounded, filtered}
 use Rattle.inter_places.proofs.Orders.{clamped_order, offset_order, place_order}
 use Rattle.inter_places.specs.Axes.{clamped, last_x, place, phase, offset, fraction, sixteenth, whole, straight}
 use Rattle.inter_places.specs.Axes.{first_place, last_place}
-use Rattle.inter_predict.specs.InterSamples.{along, predicted}
+use Rattle.inter_predict.specs.InterSamples.{along, filtered_both_ways}
 use Rattle.inter_predict.proofs.Whole.{whole_copies}
 use Rattle.inter_predict.proofs.Blocks.{rounded_small}
 
@@ -88,13 +88,13 @@ pub along_small : (most : ℕ) (kind : InterpFilter) (a : Axis) (f : ℕ → ℕ
 unfolding along
 along_small most kind a f j = rounded_small most (weighted (taps_of kind (phase a j)) (λ k. f (place a j k)))
 
-pub predicted_small : (most : ℕ) (kind : InterpFilter) (down across : Axis) (m : Map) (i j : ℕ) → predicted most kind down across m i j ≤ most
-unfolding predicted
+pub predicted_small : (most : ℕ) (kind : InterpFilter) (down across : Axis) (m : Map) (i j : ℕ) → filtered_both_ways most kind down across m i j ≤ most
+unfolding filtered_both_ways
 predicted_small most kind down across m i j = along_small most kind down (λ row. along most kind across (m row) j) i
 
 pub rows_agree : (most rows i j : ℕ) (kind : InterpFilter) (down across : Axis) (m n : Map) → i < rows →
-    ((r c : ℕ) → first_place down ≤ r → r ≤ last_place down rows → m r c ≡ n r c) → predicted most kind down across m i j ≡ predicted most kind down across n i j
-unfolding predicted
+    ((r c : ℕ) → first_place down ≤ r → r ≤ last_place down rows → m r c ≡ n r c) → filtered_both_ways most kind down across m i j ≡ filtered_both_ways most kind down across n i j
+unfolding filtered_both_ways
 rows_agree most rows i j kind down across m n low same =
     along_same most kind down (λ row. along most kind across (m row) j) (λ row. along most kind across (n row) j) i (λ k few.
     along_same most kind across (m (place down i k)) (n (place down i k)) j (λ l less.
@@ -114,8 +114,8 @@ lines_between a rows r low = (
 -- down the columns of lines that are filtered along rows
 pub both_passes : (most : ℕ) (kind : InterpFilter) (down across : Axis) (m : Map) (i j : ℕ) (lines : ℕ → ℕ) →
     ((k : ℕ) → k < 8 → lines k ≡ along most kind across (m (straight down (offset down i / 16 + k))) j) →
-    filtered most (taps_of kind (phase down i)) lines ≡ predicted most kind down across m i j
-unfolding predicted along place
+    filtered most (taps_of kind (phase down i)) lines ≡ filtered_both_ways most kind down across m i j
+unfolding filtered_both_ways along place
 both_passes most kind down across m i j lines is = filtered_same most (taps_of kind (phase down i)) lines _ is
 
 pub along_is : (most : ℕ) (kind : InterpFilter) (a : Axis) (f : ℕ → ℕ) (j : ℕ) →
@@ -127,8 +127,8 @@ pub offset_straight : (a : Axis) (j : ℕ) → a.step ≡ 16 → offset a j / 16
 offset_straight a j step = rw step (offset_is (fraction a) j (low_part a.start))
 
 pub whole_predicted : (most : ℕ) (kind : InterpFilter) (down across : Axis) (m : Map) (i j : ℕ) → down.step ≡ 16 → fraction down ≡ 0 →
-    along most kind across (m (straight down (3 + i))) j ≡ predicted most kind down across m i j
-unfolding predicted
+    along most kind across (m (straight down (3 + i))) j ≡ filtered_both_ways most kind down across m i j
+unfolding filtered_both_ways
 whole_predicted most kind down across m i j step zero =
     along_whole most kind down (λ row. along most kind across (m row) j) i step zero (λ row. along_small most kind across (m row) j)
 

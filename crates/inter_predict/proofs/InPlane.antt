@@ -11,7 +11,7 @@ use Rattle.inter_places.specs.Axes.{fraction, offset, straight}
 use Rattle.planes.specs.declared.area.Area.{Area}
 use Rattle.planes.specs.Planes.{lower_end, right_end, with_part}
 use Rattle.planes.proofs.RowLemmas.{with_block_same}
-use Rattle.inter_predict.specs.InterSamples.{along, predicted}
+use Rattle.inter_predict.specs.InterSamples.{along, filtered_both_ways}
 use Rattle.inter_predict.specs.Code.{IsCopied, copied_from, filtered_below, strided}
 use Rattle.inter_predict.proofs.Agree.{along_copied, whole_predicted, both_passes, phase_straight, offset_straight}
 use Rattle.inter_predict.proofs.Blocks.{place_below}
@@ -31,7 +31,7 @@ with_part_same a m row column rows columns f g same =
 pub copied_row : (most : ℕ) (kind : InterpFilter) (down across : Axis) (m : Map) (samples : List ℕ) (stride from n i j : ℕ)
     → IsCopied across n → down.step ≡ 16 → fraction down ≡ 0 → from ≡ straight across 3 → j < n
     → ((c : ℕ) → c < across.size → strided stride samples i c ≡ m (straight down (3 + i)) c) → m (straight down (3 + i)) (straight across (j + 3)) ≤ most
-    → copied_from samples stride from i j ≡ predicted most kind down across m i j
+    → copied_from samples stride from i j ≡ filtered_both_ways most kind down across m i j
 copied_row most kind down across m samples stride from n i j copied step phase is low same small =
     let inside = copied.inside in
     let at = inside.places (3 + j) (omega (arith, low)) in
@@ -50,7 +50,7 @@ copy_room value xs across stride from n i copied is room =
 pub filtered_row : {X : Type 0} (value : X → ℕ) (most : ℕ) (kind : InterpFilter) (down across : Axis) (m : Map) (taps : List ℤ) (xs : List X) (rows n i j : ℕ)
     → down.step ≡ 16 → taps ≡ taps_of kind (fraction down) → i < rows → j < n
     → HoldsRows (map value xs) n (rows + 7) (λ r j. along most kind across (m (straight down (0 + r))) j)
-    → filtered_below most taps (map value (take ((rows + 7) * n) xs)) n i j ≡ predicted most kind down across m i j
+    → filtered_below most taps (map value (take ((rows + 7) * n) xs)) n i j ≡ filtered_both_ways most kind down across m i j
 filtered_row value most kind down across m taps xs rows n i j step is high low holds =
     ap (λ (ts : List ℤ). filtered most ts (λ (k : ℕ). get_or (map value (take ((rows + 7) * n) xs)) ((i + k) * n + j) 0)) (is ∙ ap (taps_of kind) (sym (phase_straight down i step)))
     ∙ both_passes most kind down across m i j (λ (k : ℕ). get_or (map value (take ((rows + 7) * n) xs)) ((i + k) * n + j) 0) (λ k few.

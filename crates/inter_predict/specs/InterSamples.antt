@@ -13,12 +13,12 @@ unfoldable pub along : ℕ → InterpFilter → Axis → (ℕ → ℕ) → ℕ �
 along most kind a f j = filtered most (taps_of kind (phase a j)) (λ k. f (place a j k))
 
 -- rows first, then columns of what the rows give
-unfoldable pub predicted : ℕ → InterpFilter → Axis → Axis → Map → Map
-predicted most kind down across m = λ i j. along most kind down (λ row. along most kind across (m row) j) i
+unfoldable pub filtered_both_ways : ℕ → InterpFilter → Axis → Axis → Map → Map
+filtered_both_ways most kind down across m = λ i j. along most kind down (λ row. along most kind across (m row) j) i
 
 -- a block of a plane, from a reference's planes
 abbrev pub predicted_at : ℕ → InterpFilter → Place → FrameMap → Map
-predicted_at most kind p reference = predicted most kind p.down p.across (reference p.plane)
+predicted_at most kind p reference = filtered_both_ways most kind p.down p.across (reference p.plane)
 
 -- of two predictions: Round2(a + b, 1)
 abbrev pub average : ℕ → ℕ → ℕ

@@ -18,10 +18,10 @@ use Rattle.frame_headers.specs.declared.segments.Segmentation.{Segmentation}
 use Rattle.block_plan.specs.declared.block.BlockAt.{BlockAt}
 use Rattle.block_plan.specs.declared.block.BlockInfo.{BlockInfo}
 use Rattle.block_plan.specs.declared.block.Prediction.TheVariants as prediction
-use Rattle.block_plan.specs.declared.block.References.{References}
+use Rattle.block_plan.specs.declared.block.ReferenceFrames.{ReferenceFrames}
 use Rattle.mode_syntax.specs.Elements.{skips_segment}
 use Rattle.mv_prediction.specs.declared.search.SignBiases.{SignBiases}
-use Rattle.inter_contexts.specs.BlockReferences.{fixed_of, variable_by, with_fixed, single, of_feature, in_range_or_rule}
+use Rattle.inter_contexts.specs.BlockReferences.{fixed_of, variable_by, with_fixed, single, of_feature, allowed_or_rule}
 use Rattle.inter_modes.specs.ModeInfo.{BlockSources, inter_frame, InterFrame, sources_of, block_with, least_before}
 use Rattle.inter_modes.specs.BlockVectors.{Sources}
 use Rattle.inter_modes.specs.BlockStarts.{segment_of, segment_reference, is_inter_feature}
@@ -85,19 +85,19 @@ CanBeCompound Compound compound = compound ≡ true
 CanBeCompound Selected compound = Unit {0}
 
 -- a compound block has the frame's fixed reference, and one of the two others (comp_ref)
-abbrev pub AreCompound : SignBiases → References → Type 0
+abbrev pub AreCompound : SignBiases → ReferenceFrames → Type 0
 AreCompound biases refs = (one : Bool) × (refs ≡ with_fixed biases (fixed_of biases) (variable_by (fixed_of biases) one))
 
-pub record CanCodeReferences (mode : ReferenceMode) (biases : SignBiases) (refs : References) : Type 0 where
+pub record CanCodeReferences (mode : ReferenceMode) (biases : SignBiases) (refs : ReferenceFrames) : Type 0 where
   pub chosen : CanBeCompound mode (is_some refs.second)
   pub compound : is_some refs.second ≡ true → AreCompound biases refs
 
 -- an inter block refers to what its segment takes, or says its references (6.4.17: ref_frames)
-abbrev pub CanReferBy : Option FeatureReference → ReferenceMode → SignBiases → References → Type 0
+abbrev pub CanReferBy : Option FeatureReference → ReferenceMode → SignBiases → ReferenceFrames → Type 0
 CanReferBy (Some reference) mode biases refs = refs ≡ single (of_feature reference)
 CanReferBy None mode biases refs = CanCodeReferences mode biases refs
 
-abbrev pub CanRefer : ReferenceChoice → References → Type 0
+abbrev pub CanRefer : ReferenceChoice → ReferenceFrames → Type 0
 CanRefer c refs = CanReferBy c.feature c.mode c.biases refs
 
 ---- Blocks ----
@@ -113,7 +113,7 @@ choice_of f biases segment = record {
 -- An inter block's modes and vectors are said where its references are in range (6.4.16: inter_block_mode_info).
 pub record CanSayInterBlock (f : InterFrame) (s : Sources) (segment : ℕ) (q : InterSymbols) : Type 0 where
   pub references : CanRefer (choice_of f s.search.biases segment) q.references
-  pub rest : IfOk (in_range_or_rule f.header.size f.fields.references q.references)
+  pub rest : IfOk (allowed_or_rule f.header.size f.fields.references q.references)
       (λ _. CanSayInter s (skips_segment f.header.params.segmentation segment) f.fields.filter q)
 
 abbrev pub CanPredict : InterFrame → Sources → BlockStart → PredictionSymbols → Type 0

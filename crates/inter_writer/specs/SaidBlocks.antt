@@ -7,7 +7,7 @@ use Rattle.frame_headers.specs.declared.header.FrameKind.TheVariants as frame
 use Rattle.block_plan.specs.declared.block.BlockAt.{BlockAt}
 use Rattle.block_plan.specs.declared.block.BlockInfo.{BlockInfo}
 use Rattle.block_plan.specs.declared.block.Prediction.TheVariants as prediction
-use Rattle.inter_contexts.specs.BlockReferences.{in_range_or_rule}
+use Rattle.inter_contexts.specs.BlockReferences.{allowed_or_rule}
 use Rattle.inter_modes.specs.ModeInfo.{BlockSources, inter_frame, InterFrame, sources_of, block_with}
 use Rattle.inter_modes.specs.BlockVectors.{Sources}
 use Rattle.inter_modes.specs.declared.starts.BlockStart.{BlockStart}
@@ -20,7 +20,7 @@ use Rattle.inter_writer.specs.declared.frame_blocks.PredictionSymbols.TheVariant
 -- an inter block: its references must be in range, and its vectors
 unfoldable pub inter_block_said : InterFrame → Sources → BlockStart → InterSymbols → Result BlockInfo Rule
 inter_block_said f s start q =
-    in_range_or_rule f.header.size f.fields.references q.references
+    allowed_or_rule f.header.size f.fields.references q.references
     >>= λ refs. inter_said s q >>= λ p. Ok (block_with s.search.at start (prediction.Inter p))
 
 -- a block of an inter frame

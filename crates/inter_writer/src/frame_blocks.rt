@@ -12,8 +12,8 @@ ghost use Rattle.mv_prediction.specs.Candidates.{mode_context, sign_biases};
 ghost use Rattle.mv_prediction.specs.Code.{HasSmallVectors, IsSite, blocks_of};
 ghost use Rattle.block_plan.specs.SegmentMaps.{id_map};
 ghost use Rattle.inter_modes.specs.Code.{block_sources_in, MaySearch, IsBlockAt, AreInRange, PredictsInRange, RefersInRange, frame_in, least_of, sources_in};
-ghost use Rattle.inter_modes.specs.ModeInfo.{checked_references, inter_block, intra_block, inter_frame_block, inter_frame_mode_info, intra_frame_block, mode_info, block_with, sources_of, least_before};
-ghost use Rattle.inter_contexts.specs.BlockReferences.{in_range_or_rule};
+ghost use Rattle.inter_modes.specs.ModeInfo.{checked_references, inter_block, intra_coded_block, inter_frame_block, inter_frame_mode_info, intra_frame_block, mode_info, block_with, sources_of, least_before};
+ghost use Rattle.inter_contexts.specs.BlockReferences.{allowed_or_rule};
 ghost use Rattle.mode_writer.specs.ModeFits.{CanLuma, CanPutIntraFrame};
 ghost use Rattle.inter_writer.specs.InterFits.{CanRefer, choice_of, IsSegment, CanStart, CanSayInterBlock, CanPredict, CanPutInterFrame, CanPutIntra, CanPut};
 ghost use Rattle.inter_writer.specs.SaidBlocks.{inter_block_said, block_said, IsSaidIntra, IsSaid};
@@ -22,13 +22,13 @@ use crate::intra_blocks::put_intra_prediction;
 use crate::references::{ReferenceChoice, put_references};
 use crate::starts::put_block_start;
 use block_plan::{
-    BlockAt, BlockInfo, IntraPrediction, Neighbours, Prediction, References, SegmentMap,
+    BlockAt, BlockInfo, IntraPrediction, Neighbours, Prediction, ReferenceFrames, SegmentMap,
     above_place, left_place,
 };
 use bool_encoder::BoolEncoder;
 use frame_headers::FrameKind;
 use frame_setting::FrameSetting;
-use inter_contexts::{filter_context, in_range_or_rule};
+use inter_contexts::{allowed_or_rule, filter_context};
 use inter_modes::{BlockStart, FilterSource, Frame, Sources, block_with, segment_reference};
 use mode_syntax::skips_segment;
 use mode_writer::put_intra_frame_mode_info;
@@ -66,7 +66,7 @@ pub(crate) struct Beside<'a> {
 }
 
 /// An intra block of an inter frame.
-#[tactic(auto, unfolding(inter_modes::specs::ModeInfo::intra_block), using(bool_encoder::proofs::CountedPuts::valued_in_order, bool_encoder::proofs::CountedPuts::valued_settle, vp9_types::proofs::Binds::writes_bind))]
+#[tactic(auto, unfolding(inter_modes::specs::ModeInfo::intra_coded_block), using(bool_encoder::proofs::CountedPuts::valued_in_order, bool_encoder::proofs::CountedPuts::valued_settle, vp9_types::proofs::Binds::writes_bind))]
 fn put_intra_block(
     encoder: &mut BoolEncoder,
     frame: &Frame<'_>,
@@ -77,7 +77,7 @@ fn put_intra_block(
     requires segment { start.now.segment.id ≤ 7 }
     requires fits { tx_number start.now.tx ≤ greatest_of at.now.size }
     requires can { CanLuma at.now.size prediction.luma }
-    ensures put { IfOk result (λ b. PutsValue (intra_block (frame_in frame.now) at.now start.now) encoder.old (Ok b) encoder.new) }
+    ensures put { IfOk result (λ b. PutsValue (intra_coded_block (frame_in frame.now) at.now start.now) encoder.old (Ok b) encoder.new) }
     ensures is { IfOk result (λ b. b ≡ block_with at.now start.now (predicted.Intra prediction)) }
     ensures block { IfOk result (IsBlockAt at.now) }
     ensures in_range { IfOk result (λ b. PredictsInRange frame.now.setting.now.header.size frame.now.fields.now.references b.prediction) }
@@ -96,12 +96,12 @@ fn put_checked_references(
     biases: SignBiases,
     beside: &Beside<'_>,
     segment: u8,
-    references: References,
-) -> Result<Result<References, Rule>, AllocError>
+    references: ReferenceFrames,
+) -> Result<Result<ReferenceFrames, Rule>, AllocError>
     requires segment { segment ≤ 7 }
     requires can { CanRefer (choice_of (frame_in frame.now) biases segment) references }
     ensures put { IfOk result (λ r. PutsValue (checked_references (frame_in frame.now) biases (option_copied beside.now.above) (option_copied beside.now.left) segment) encoder.old r encoder.new) }
-    ensures is { IfOk result (λ r. r ≡ in_range_or_rule frame.now.setting.now.header.size frame.now.fields.now.references references) }
+    ensures is { IfOk result (λ r. r ≡ allowed_or_rule frame.now.setting.now.header.size frame.now.fields.now.references references) }
     ensures same { IfOk result (λ r. IfOk r (λ refs. refs ≡ references)) }
     ensures in_range { IfOk result (λ r. IfOk r (AreInRange frame.now.setting.now.header.size frame.now.fields.now.references)) }
 {
@@ -120,7 +120,7 @@ fn put_checked_references(
         beside.left,
         references,
     )?;
-    Ok(in_range_or_rule(&setting.header.size, &frame.fields.references, references))
+    Ok(allowed_or_rule(&setting.header.size, &frame.fields.references, references))
 }
 
 /// An inter block, by the blocks above it and at its left.

@@ -6,10 +6,10 @@ ghost use Rattle.vp9_types.specs.declared.block.ReferenceFrame.TheVariants.{Gold
 ghost use Rattle.std.specs.Option.{option_copied};
 ghost use Rattle.prob_contexts.specs.ProbLists.{inter_lists};
 ghost use Rattle.bool_encoder.specs.CountedBools.{PutsValue};
-ghost use Rattle.inter_contexts.specs.BlockReferences.{variable_by, with_fixed, single, is_compound, compound_references, golden_or_altref, single_reference, coded_references, ref_frames};
+ghost use Rattle.inter_contexts.specs.BlockReferences.{variable_by, with_fixed, single, uses_compound, compound_references, golden_or_altref, single_reference, coded_references, ref_frames};
 ghost use Rattle.inter_writer.specs.InterFits.{CanBeCompound, AreCompound, CanCodeReferences, CanRefer};
 
-use block_plan::{BlockInfo, References};
+use block_plan::{BlockInfo, ReferenceFrames};
 use bool_encoder::{BoolEncoder, put_flag};
 use frame_headers::FeatureReference;
 use inter_contexts::{fixed_of, kind_of};
@@ -28,7 +28,7 @@ pub struct ReferenceChoice {
     pub biases: SignBiases,
 }
 
-#[tactic(auto, unfolding(inter_contexts::specs::BlockReferences::is_compound), using(bool_encoder::proofs::CountedPuts::valued_settle, bool_encoder::proofs::CountedPuts::valued_flag))]
+#[tactic(auto, unfolding(inter_contexts::specs::BlockReferences::uses_compound), using(bool_encoder::proofs::CountedPuts::valued_settle, bool_encoder::proofs::CountedPuts::valued_flag))]
 fn put_is_compound(
     encoder: &mut BoolEncoder,
     mode: ReferenceMode,
@@ -38,7 +38,7 @@ fn put_is_compound(
 ) -> Result<(), AllocError>
     requires context { context ≤ 4 }
     requires may { CanBeCompound mode compound }
-    ensures { IfOk result (λ _. PutsValue (is_compound mode probs.now context) encoder.old compound encoder.new) }
+    ensures { IfOk result (λ _. PutsValue (uses_compound mode probs.now context) encoder.old compound encoder.new) }
 {
     match mode {
         ReferenceMode::Single | ReferenceMode::Compound => Ok(()),
@@ -47,7 +47,11 @@ fn put_is_compound(
 }
 
 /// The reference of a compound block beside the one that all have.
-fn other_than(biases: &SignBiases, fixed: ReferenceFrame, references: References) -> ReferenceFrame
+fn other_than(
+    biases: &SignBiases,
+    fixed: ReferenceFrame,
+    references: ReferenceFrames,
+) -> ReferenceFrame
     ensures { (other : ReferenceFrame) → references ≡ with_fixed biases.now fixed other → result ≡ other }
 {
     match references.second {
@@ -73,7 +77,7 @@ fn put_compound(
     probs: &[u8; 5],
     biases: &SignBiases,
     context: u8,
-    references: References,
+    references: ReferenceFrames,
 ) -> Result<(), AllocError>
     requires context { context ≤ 4 }
     requires compound { AreCompound biases.now references }
@@ -130,7 +134,7 @@ fn put_coded(
     probs: &InterProbs,
     above: Option<&BlockInfo>,
     left: Option<&BlockInfo>,
-    references: References,
+    references: ReferenceFrames,
 ) -> Result<(), AllocError>
     requires { CanCodeReferences choice.now.mode choice.now.biases references }
     ensures { IfOk result (λ _. PutsValue (coded_references choice.now.mode (inter_lists probs.now) choice.now.biases (option_copied above.entry) (option_copied left.entry)) encoder.old references encoder.new) }
@@ -161,7 +165,7 @@ pub(crate) fn put_references(
     probs: &InterProbs,
     above: Option<&BlockInfo>,
     left: Option<&BlockInfo>,
-    references: References,
+    references: ReferenceFrames,
 ) -> Result<(), AllocError>
     requires { CanRefer choice.now references }
     ensures { IfOk result (λ _. PutsValue (ref_frames choice.now.feature choice.now.mode (inter_lists probs.now) choice.now.biases (option_copied above.entry) (option_copied left.entry)) encoder.old references encoder.new) }

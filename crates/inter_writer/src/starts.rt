@@ -2,7 +2,7 @@
 
 ghost use Rattle.std.specs.Prelude.{◌≡◌, ◌≤◌, IfOk, ℕ, true, false};
 ghost use Rattle.bool_encoder.specs.CountedBools.{PutsValue};
-ghost use Rattle.inter_modes.specs.BlockStarts.{segment_of, coded_segment, temporal_segment, updated_segment, segment_by, inter_segment_id, is_inter_by, read_is_inter, tx_size, block_start};
+ghost use Rattle.inter_modes.specs.BlockStarts.{segment_of, segment_by_tree, temporal_segment, updated_segment, segment_by, inter_segment_id, is_inter_by, read_is_inter, tx_size, block_start};
 ghost use Rattle.inter_writer.specs.InterFits.{IsUpdated, IsSegment, CanBeInter, CanTxIf, CanStart};
 ghost use Rattle.std.specs.Option.{option_copied};
 ghost use Rattle.prob_contexts.specs.ProbLists.{lists_of};
@@ -19,10 +19,10 @@ use std::alloc::AllocError;
 use vp9_tables::segment_tree;
 use vp9_types::{BlockSize, TxSize};
 
-#[tactic(auto, unfolding(inter_modes::specs::BlockStarts::coded_segment), using(bool_encoder::proofs::CountedPuts::valued_in_order, bool_encoder::proofs::CountedPuts::valued_settle, bool_encoder::proofs::CountedPuts::valued_uncounted, vp9_types::proofs::Binds::writes_bind))]
+#[tactic(auto, unfolding(inter_modes::specs::BlockStarts::segment_by_tree), using(bool_encoder::proofs::CountedPuts::valued_in_order, bool_encoder::proofs::CountedPuts::valued_settle, bool_encoder::proofs::CountedPuts::valued_uncounted, vp9_types::proofs::Binds::writes_bind))]
 fn put_coded_segment(encoder: &mut BoolEncoder, tree: &[u8; 7], id: u8) -> Result<(), AllocError>
     requires { id ≤ 7 }
-    ensures { IfOk result (λ _. PutsValue (coded_segment tree.now) encoder.old (segment_of false id) encoder.new) }
+    ensures { IfOk result (λ _. PutsValue (segment_by_tree tree.now) encoder.old (segment_of false id) encoder.new) }
 {
     put_tree(encoder, segment_tree(), tree, id)
 }

@@ -12,11 +12,12 @@ use Rattle.vp9_types.specs.declared.shape.Depth.{Depth}
 use Rattle.vp9_types.specs.declared.shape.Depth.TheVariants.{Eight, Ten, Twelve}
 use Rattle.vp9_types.specs.declared.block.IntraMode.{IntraMode}
 use Rattle.vp9_types.specs.declared.block.IntraMode.TheVariants.{Dc, V, H, D45, D135, D117, D153, D207, D63, Tm}
-use Rattle.intra_predict.specs.declared.place.Place.{Place}
+use Rattle.intra_predict.specs.declared.place.IntraPlace.{IntraPlace}
 use Rattle.intra_predict.specs.SampleSizes.{middle}
 use Rattle.vp9_types.specs.Sizes.{greatest}
-use Rattle.intra_predict.specs.BlockEdges.{EdgeSamples, IsUpTo, has_above, has_left, edges_in}
-use Rattle.intra_predict.specs.PredictedModes.{mean3, mean2_at, mean3_at, mean, rounded_mean, d117, d135, d153, d207, predicted}
+use Rattle.intra_predict.specs.BlockEdges.{EdgeSamples, has_above, has_left, edges_in}
+use Rattle.intra_predict.specs.Laws.{IsUpTo}
+use Rattle.intra_predict.specs.PredictedModes.{mean3, mean2_at, mean3_at, dc_mean, rounded_mean, d117, d135, d153, d207, predicted}
 
 abbrev AllUpTo : ℕ → List ℕ → Type 0
 AllUpTo most xs = (k : ℕ) → get_or xs k 0 ≤ most
@@ -86,7 +87,7 @@ middle_small Eight = lit≤ tt
 middle_small Ten = lit≤ tt
 middle_small Twelve = lit≤ tt
 
-small_dc : (size : ℕ) (depth : Depth) (e : EdgeSamples) → 0 < size → IsUpTo (greatest depth) e → mean size depth e ≤ greatest depth
+small_dc : (size : ℕ) (depth : Depth) (e : EdgeSamples) → 0 < size → IsUpTo (greatest depth) e → dc_mean size depth e ≤ greatest depth
 small_dc size depth e some small =
     let most : ℕ = greatest depth in
     let above = small_sum most size e.above small.above in
@@ -127,7 +128,7 @@ small_list most n f small k = elim (cases_lt k n) [
   | inr past ↦ rw (get_or_past (map f (range_with_len 0 n)) k 0 (omega (arith, length-map-range_with_len f 0 n))) (omega arith)
 ]
 
-pub edges_small : (width height size : ℕ) (p : Place) (depth : Depth) (m : Map) → IsAtMost (greatest depth) m
+pub edges_small : (width height size : ℕ) (p : IntraPlace) (depth : Depth) (m : Map) → IsAtMost (greatest depth) m
     → IsUpTo (greatest depth) (edges_in width height depth size p m)
 unfolding edges_in
 edges_small width height size p depth m small =

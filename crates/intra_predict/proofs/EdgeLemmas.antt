@@ -6,10 +6,10 @@ use Rattle.std.proofs.lemmas.List.{get_or-take, length-take}
 use Rattle.std.proofs.lemmas.List.FromFn.{fill_by_all}
 use Rattle.vp9_types.specs.Maps.{Map}
 use Rattle.vp9_types.specs.declared.shape.Depth.{Depth}
-use Rattle.intra_predict.specs.declared.place.Place.{Place}
+use Rattle.intra_predict.specs.declared.place.IntraPlace.{IntraPlace}
 use Rattle.intra_predict.specs.BlockEdges.{EdgeSamples, has_above, has_left, above_sample, left_sample, corner_sample, edges_in}
 
-pub corner_read : (p : Place) (depth : Depth) (m : Map) → 0 < p.row → p.tile_from < p.column
+pub corner_read : (p : IntraPlace) (depth : Depth) (m : Map) → 0 < p.row → p.tile_from < p.column
     → m (p.row - 1) (p.column - 1) ≡ corner_sample depth p m
 corner_read p depth m below past = rw (lt-ltb 0 p.row below, lt-ltb p.tile_from p.column past) refl
 
@@ -25,7 +25,7 @@ front_filled : (f : ℕ → ℕ) (n : ℕ) (xs : List ℕ) → n ≤ length xs �
     → take n xs ≡ map f (range_with_len 0 n)
 front_filled f n xs fits is = fill_by_all f (take n xs) n 0 (omega (arith, length-take n xs)) (λ k low. rw get_or-take (is k low))
 
-pub edges_are : (width height size : ℕ) (p : Place) (depth : Depth) (m : Map) (above left : List ℕ) (corner : ℕ)
+pub edges_are : (width height size : ℕ) (p : IntraPlace) (depth : Depth) (m : Map) (above left : List ℕ) (corner : ℕ)
     → 2 * size ≤ length above → size ≤ length left
     → ((j : ℕ) → j < 2 * size → get_or above j 0 ≡ above_sample width depth size p m j)
     → ((i : ℕ) → i < size → get_or left i 0 ≡ left_sample height depth p m i)

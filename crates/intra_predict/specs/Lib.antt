@@ -4,3 +4,5 @@ pub mod Places
 pub mod PredictedModes
 pub mod Residue
 pub mod Steps
+pub mod Code
+pub mod Laws

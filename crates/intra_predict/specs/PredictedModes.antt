@@ -38,8 +38,8 @@ abbrev pub rounded_mean : ℕ → ℕ → ℕ
 rounded_mean n total = (total + n / 2) / n
 
 -- of what is there
-abbrev pub mean : ℕ → Depth → EdgeSamples → ℕ
-mean size depth e =
+abbrev pub dc_mean : ℕ → Depth → EdgeSamples → ℕ
+dc_mean size depth e =
     let above = sum (take size e.above) in
     let left = sum (take size e.left) in
     if e.has_above then (if e.has_left then rounded_mean (2 * size) (above + left) else rounded_mean size above)
@@ -85,7 +85,7 @@ d207 size left i (suc zero) =
 d207 size left i (suc (suc j)) = if nat_lt (i + 1) size then d207 size left (i + 1) j else slice_index left (size - 1)
 
 unfoldable pub predicted : IntraMode → ℕ → Depth → EdgeSamples → Map
-predicted Dc size depth e = λ i j. mean size depth e
+predicted Dc size depth e = λ i j. dc_mean size depth e
 predicted V size depth e = vertical e.above
 predicted H size depth e = horizontal e.left
 predicted D45 size depth e = d45 size e.above

@@ -24,7 +24,7 @@ pub use block::IntraBlock;
 pub use coded::CodedBlock;
 pub use edges::Edges;
 pub use laws::{edges_lie_around, samples_stay_in_range};
-pub use place::Place;
+pub use place::IntraPlace;
 pub use places::place_of;
 pub use prediction::predict;
 pub use put::{add_residue, put_block};

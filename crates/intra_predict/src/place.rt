@@ -2,7 +2,7 @@
 ///
 /// Above it there is something where its row isn't the first, and left of it where its column isn't the tile's first.
 #[derive(Clone, Copy, Debug, PartialEq, Eq)]
-pub struct Place {
+pub struct IntraPlace {
     /// The block's first row.
     pub row: usize,
     /// The block's first column.

@@ -1,8 +1,9 @@
 ghost use Rattle.std.specs.Prelude.{◌≡◌, ℕ, ◌+◌, ◌*◌, ◌/◌, ◌<◌, ◌≤◌, length, slice_index};
 ghost use Rattle.vp9_types.specs.Maps.{Holds};
 ghost use Rattle.vp9_types.specs.Sizes.{side, greatest};
-ghost use Rattle.intra_predict.specs.BlockEdges.{samples_of, IsUpTo};
-ghost use Rattle.intra_predict.specs.PredictedModes.{mean, predicted};
+ghost use Rattle.intra_predict.specs.Laws.{IsUpTo};
+ghost use Rattle.intra_predict.specs.Code.{samples_of};
+ghost use Rattle.intra_predict.specs.PredictedModes.{dc_mean, predicted};
 
 use crate::diagonal::{
     predict_d45, predict_d63, predict_d117, predict_d135, predict_d153, predict_d207,
@@ -65,7 +66,7 @@ fn mean_of_edges(edges: &Edges, size: usize, depth: Depth) -> u16
     requires some { 4 ≤ size }
     requires few { size ≤ 32 }
     requires small { IsUpTo (greatest depth) (samples_of size edges.now) }
-    ensures { result ≡ mean size depth (samples_of size edges.now) }
+    ensures { result ≡ dc_mean size depth (samples_of size edges.now) }
 {
     if edges.has_above {
         let above = total(&edges.above[..size]);

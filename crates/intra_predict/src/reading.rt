@@ -4,12 +4,14 @@ ghost use Rattle.std.specs.Prelude.{◌≡◌, ℕ, ◌+◌, ◌*◌, ◌<◌, �
 ghost use Rattle.vp9_types.specs.Maps.{IsAtMost};
 ghost use Rattle.vp9_types.specs.Sizes.{side, greatest};
 ghost use Rattle.planes.specs.Planes.{lower_end, right_end, plane_map};
-ghost use Rattle.intra_predict.specs.BlockEdges.{LiesIn, samples_of, edges_in, above_sample, left_sample, corner_sample, reads_right, IsUpTo};
+ghost use Rattle.intra_predict.specs.BlockEdges.{edges_in, above_sample, left_sample, corner_sample, reads_right};
+ghost use Rattle.intra_predict.specs.Laws.{IsUpTo};
+ghost use Rattle.intra_predict.specs.Code.{LiesIn, samples_of};
 
 use crate::edges::Edges;
 use crate::kept::{extend, extend_samples, widen_twice};
 use crate::lines::fill_from;
-use crate::place::Place;
+use crate::place::IntraPlace;
 use crate::sizes::middle_of;
 use planes::SamplePlane;
 use vp9_types::{Depth, Sample, TxSize};
@@ -19,7 +21,7 @@ use vp9_types::{Depth, Sample, TxSize};
 pub fn read_edges<P: Sample>(
     edges: &mut Edges,
     plane: &SamplePlane<P>,
-    place: &Place,
+    place: &IntraPlace,
     size: TxSize,
     depth: Depth,
 )
@@ -40,7 +42,7 @@ pub fn read_edges<P: Sample>(
 pub(crate) fn read_sized<P: Sample, const N: usize>(
     edges: &mut Edges,
     plane: &SamplePlane<P>,
-    place: &Place,
+    place: &IntraPlace,
     depth: Depth,
 )
     requires some { 4 ≤ N }
@@ -60,7 +62,7 @@ pub(crate) fn read_sized<P: Sample, const N: usize>(
 fn read_above<P: Sample, const N: usize>(
     above: &mut [u16],
     plane: &SamplePlane<P>,
-    place: &Place,
+    place: &IntraPlace,
     depth: Depth,
 )
     requires some { 4 ≤ N }
@@ -92,7 +94,7 @@ fn read_above<P: Sample, const N: usize>(
 
 /// How many samples of the row above a block are read, where the plane has them.
 #[inline(always)]
-fn wanted(place: &Place, size: usize) -> usize
+fn wanted(place: &IntraPlace, size: usize) -> usize
     requires wide { place.now.column ≤ 65536 }
     requires few { size ≤ 32 }
     ensures { result ≡ (if reads_right size place.now then 2 * size else size) }
@@ -108,7 +110,7 @@ fn wanted(place: &Place, size: usize) -> usize
 fn read_left<P: Sample>(
     left: &mut [u16],
     plane: &SamplePlane<P>,
-    place: &Place,
+    place: &IntraPlace,
     size: usize,
     depth: Depth,
 )
@@ -134,7 +136,7 @@ fn read_left<P: Sample>(
 }
 
 #[inline(always)]
-fn read_corner<P: Sample>(plane: &SamplePlane<P>, place: &Place, depth: Depth) -> u16
+fn read_corner<P: Sample>(plane: &SamplePlane<P>, place: &IntraPlace, depth: Depth) -> u16
     requires { LiesIn plane.now.area place.now }
     ensures { result ≡ corner_sample depth place.now (plane_map plane.now) }
 {

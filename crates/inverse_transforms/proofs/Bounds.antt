@@ -18,7 +18,7 @@ use Rattle.inverse_transforms.specs.declared.values.Two.{Two}
 use Rattle.inverse_transforms.specs.declared.values.Four.{Four}
 use Rattle.inverse_transforms.specs.Angles.{sine_of}
 use Rattle.inverse_transforms.specs.Ranges.{fits, round14}
-use Rattle.inverse_transforms.specs.Flow.{at, magnitude, turned_x, turned_y, rotated, added, rotated_wide, wide, two_fit, four_fit, permuted, step, run, and_then}
+use Rattle.inverse_transforms.specs.Flow.{at, magnitude, turned_x, turned_y, rotated, sum_and_difference, rotated_wide, wide, two_fit, four_fit, permuted, flow_step, run_flow, and_then}
 
 -- the sum of the products of weights and magnitudes
 abbrev weighed : List ℕ → List ℤ → ℕ
@@ -236,7 +236,7 @@ below_places xs bs ys places below = record {
 record Calm (xs : List ℤ) (bs : List Bound) (row : FlowRow) (ys : List ℤ) : Type 0 where
   zs : List ℤ
   below : Below xs (grown row bs) zs
-  gives : (limit : ℕ) → 2 ^ 15 ≤ limit → step limit row ys ≡ Ok zs
+  gives : (limit : ℕ) → 2 ^ 15 ≤ limit → flow_step limit row ys ≡ Ok zs
 
 two_calm : (limit n : ℕ) (xs : List ℤ) (b c : Bound) (v : Two) → magnitude xs ≤ n → IsUnder xs b v.first → IsUnder xs c v.second →
     is_low n b ≡ true → is_low n c ≡ true → 2 ^ 15 ≤ limit → two_fit limit v ≡ true
@@ -259,12 +259,12 @@ rotated_second : (xs : List ℤ) (k : ℕ) (b c : Bound) (x y : ℤ) → IsUnder
 unfolding rotated
 rotated_second xs k b c x y h i = rounded_under xs (turned_y_bound k b c) (turned_y k x y) (turned_y_under xs k b c x y h i)
 
-added_first : (xs : List ℤ) (b c : Bound) (x y : ℤ) → IsUnder xs b x → IsUnder xs c y → IsUnder xs (added_bound b c) (added x y).first
-unfolding added
+added_first : (xs : List ℤ) (b c : Bound) (x y : ℤ) → IsUnder xs b x → IsUnder xs c y → IsUnder xs (added_bound b c) (sum_and_difference x y).first
+unfolding sum_and_difference
 added_first xs b c x y h i = sum_under xs b c x y h i
 
-added_second : (xs : List ℤ) (b c : Bound) (x y : ℤ) → IsUnder xs b x → IsUnder xs c y → IsUnder xs (added_bound b c) (added x y).second
-unfolding added
+added_second : (xs : List ℤ) (b c : Bound) (x y : ℤ) → IsUnder xs b x → IsUnder xs c y → IsUnder xs (added_bound b c) (sum_and_difference x y).second
+unfolding sum_and_difference
 added_second xs b c x y h i = difference_under xs b c x y h i
 
 negated_under : (xs : List ℤ) (b : Bound) (x : ℤ) → IsUnder xs b x → IsUnder xs b (neg_ℤ x)
@@ -378,7 +378,7 @@ four_calm limit n xs bs ys a b k c d m f most =
 
 calm_step : (n : ℕ) (xs : List ℤ) (row : FlowRow) (bs : List Bound) (ys : List ℤ) → magnitude xs ≤ n → Below xs bs ys → is_calm_step n row bs ≡ true →
     Calm xs bs row ys
-unfolding step rotated_wide
+unfolding flow_step rotated_wide
 calm_step n xs (Perm order) bs ys few below h = record {
   zs = permuted order ys;
   below = rw below.size (below_places xs bs ys (take (length bs) order) below);
@@ -395,7 +395,7 @@ calm_step n xs (Rot a b k) bs ys few below h =
       gives = λ limit most. rw (two_calm limit n xs _ _ v few first second low.0 low.1 most) refl;
     }
 calm_step n xs (Sum a b) bs ys few below h =
-    let v = added (at ys a) (at ys b) in
+    let v = sum_and_difference (at ys a) (at ys b) in
     let first = added_first xs (bound bs a) (bound bs b) (at ys a) (at ys b) (below.each a) (below.each b) in
     let second = added_second xs (bound bs a) (bound bs b) (at ys a) (at ys b) (below.each a) (below.each b) in
     record {
@@ -425,7 +425,7 @@ calm_step n xs (Wide a b k c d m) bs ys few below h =
 -- what steps make of ys at every such limit
 pub record CalmRun (rows : List FlowRow) (ys : List ℤ) : Type 0 where
   pub zs : List ℤ
-  pub gives : (limit : ℕ) → 2 ^ 15 ≤ limit → run limit rows ys ≡ Ok zs
+  pub gives : (limit : ℕ) → 2 ^ 15 ≤ limit → run_flow limit rows ys ≡ Ok zs
 
 calm_run : (n : ℕ) (xs : List ℤ) (rows : List FlowRow) (bs : List Bound) (ys : List ℤ) → magnitude xs ≤ n → Below xs bs ys → is_calm n rows bs ≡ true → CalmRun rows ys
 calm_run n xs [] bs ys few below h = record { zs = ys; gives = λ limit most. refl }
@@ -433,7 +433,7 @@ calm_run n xs (row ∷ rows) bs ys few below h =
     let parts = and_parts (is_calm_step n row bs) (is_calm n rows (grown row bs)) h in
     let first = calm_step n xs row bs ys few below parts.0 in
     let rest = calm_run n xs rows (grown row bs) first.zs few first.below parts.1 in
-    record { zs = rest.zs; gives = λ limit most. ap (λ r. and_then r (run limit rows)) (first.gives limit most) ∙ rest.gives limit most }
+    record { zs = rest.zs; gives = λ limit most. ap (λ r. and_then r (run_flow limit rows)) (first.gives limit most) ∙ rest.gives limit most }
 
 -- at first each value has its own weight alone
 abbrev alone : ℕ → List ℕ

@@ -2,11 +2,11 @@
 use Rattle.std.proofs.Common.{◌≡◌, ℕ, ◌^◌, ◌≤◌, ℤ, List, Ok, refl}
 use Rattle.vp9_tables.specs.declared.flow_row.FlowRow.{FlowRow}
 use Rattle.vp9_tables.specs.declared.data.flows.TheConstants.{FLOW_DCT_4, FLOW_DCT_8, FLOW_DCT_16, FLOW_DCT_32, FLOW_ADST_8, FLOW_ADST_16}
-use Rattle.inverse_transforms.specs.Flow.{IsCalm, run}
+use Rattle.inverse_transforms.specs.Flow.{IsCalm, run_flow}
 use Rattle.inverse_transforms.specs.Transforms.{dct, adst}
 use Rattle.inverse_transforms.proofs.Bounds.{CalmRun, calm_flow}
 
-of_calm : {rows : List FlowRow} {xs : List ℤ} → CalmRun rows xs → (ys : List ℤ) × ((limit : ℕ) → 2 ^ 15 ≤ limit → run limit rows xs ≡ Ok ys)
+of_calm : {rows : List FlowRow} {xs : List ℤ} → CalmRun rows xs → (ys : List ℤ) × ((limit : ℕ) → 2 ^ 15 ≤ limit → run_flow limit rows xs ≡ Ok ys)
 of_calm c = (c.zs, c.gives)
 
 pub calm_dct_4 : IsCalm 4 32768 (λ limit. dct limit 2)

@@ -14,7 +14,7 @@ use Rattle.vp9_tables.specs.declared.flow_row.FlowRow.TheVariants.{Perm, Rot, Su
 use Rattle.inverse_transforms.specs.declared.values.Two.{Two}
 use Rattle.inverse_transforms.specs.declared.values.Four.{Four}
 use Rattle.inverse_transforms.specs.Ranges.{fits}
-use Rattle.inverse_transforms.specs.Flow.{at, step, run, and_then, permuted, store_one, store_two, store_four, two_fit, four_fit, rotated, added, rotated_wide}
+use Rattle.inverse_transforms.specs.Flow.{at, flow_step, run_flow, and_then, permuted, store_one, store_two, store_four, two_fit, four_fit, rotated, sum_and_difference, rotated_wide}
 
 -- where the value at a place stands
 abbrev pub place_at : List ℕ → ℕ → ℕ
@@ -143,13 +143,13 @@ picked_last n places xs p size =
     ap (map (λ q. at xs q)) front
 
 abbrev Same : ℕ → ℕ → List ℕ → List FlowRow → List FlowRow → Type 0
-Same limit n places rows new = (ys : List ℤ) → length ys ≡ n → run limit rows (picked places ys) ≡ run limit new ys
+Same limit n places rows new = (ys : List ℤ) → length ys ≡ n → run_flow limit rows (picked places ys) ≡ run_flow limit new ys
 
 one_same : (limit n : ℕ) (places : List ℕ) (rows new : List FlowRow) (xs : List ℤ) (a : ℕ) (v w : ℤ) → Places n places → length xs ≡ n → a < n →
     v ≡ w → Same limit n places rows new →
-    and_then (store_one limit (picked places xs) a v) (run limit rows) ≡ and_then (store_one limit xs (place_at places a) w) (run limit new)
+    and_then (store_one limit (picked places xs) a v) (run_flow limit rows) ≡ and_then (store_one limit xs (place_at places a) w) (run_flow limit new)
 one_same limit n places rows new xs a v w p size low is rest = elim (cases_Bool (fits limit w)) [
-  | inl fit ↦ rw (is, fit) (ap (run limit rows) (sym (picked_set n places xs a w p size low)) ∙ rest (set xs (place_at places a) w) (length-set xs (place_at places a) w ∙ size))
+  | inl fit ↦ rw (is, fit) (ap (run_flow limit rows) (sym (picked_set n places xs a w p size low)) ∙ rest (set xs (place_at places a) w) (length-set xs (place_at places a) w ∙ size))
   | inr not_fit ↦ rw (is, not_fit) refl
 ]
 
@@ -164,11 +164,11 @@ size_two xs n i j v w size = length-set (set xs i v) j w ∙ (length-set xs i v 
 
 two_same : (limit n : ℕ) (places : List ℕ) (rows new : List FlowRow) (xs : List ℤ) (a b : ℕ) (v w : Two) → Places n places → length xs ≡ n →
     a < n → b < n → v ≡ w → Same limit n places rows new →
-    and_then (store_two limit (picked places xs) a b v) (run limit rows)
-    ≡ and_then (store_two limit xs (place_at places a) (place_at places b) w) (run limit new)
+    and_then (store_two limit (picked places xs) a b v) (run_flow limit rows)
+    ≡ and_then (store_two limit xs (place_at places a) (place_at places b) w) (run_flow limit new)
 two_same limit n places rows new xs a b v w p size a_low b_low is rest = elim (cases_Bool (two_fit limit w)) [
   | inl fit ↦
-      rw (is, fit) (ap (run limit rows) (set_two n places xs a b w.first w.second p size a_low b_low)
+      rw (is, fit) (ap (run_flow limit rows) (set_two n places xs a b w.first w.second p size a_low b_low)
       ∙ rest (set (set xs (place_at places a) w.first) (place_at places b) w.second)
       (size_two xs n (place_at places a) (place_at places b) w.first w.second size))
   | inr not_fit ↦ rw (is, not_fit) refl
@@ -176,13 +176,13 @@ two_same limit n places rows new xs a b v w p size a_low b_low is rest = elim (c
 
 four_same : (limit n : ℕ) (places : List ℕ) (rows new : List FlowRow) (xs : List ℤ) (a b c d : ℕ) (v w : Four) → Places n places → length xs ≡ n →
     a < n → b < n → c < n → d < n → v ≡ w → Same limit n places rows new →
-    and_then (store_four limit (picked places xs) a b c d v) (run limit rows)
-    ≡ and_then (store_four limit xs (place_at places a) (place_at places b) (place_at places c) (place_at places d) w) (run limit new)
+    and_then (store_four limit (picked places xs) a b c d v) (run_flow limit rows)
+    ≡ and_then (store_four limit xs (place_at places a) (place_at places b) (place_at places c) (place_at places d) w) (run_flow limit new)
 four_same limit n places rows new xs a b c d v w p size a_low b_low c_low d_low is rest = elim (cases_Bool (four_fit limit w)) [
   | inl fit ↦
       let two = set (set xs (place_at places a) w.first) (place_at places b) w.second in
       let two_size : length two ≡ n = size_two xs n (place_at places a) (place_at places b) w.first w.second size in
-      rw (is, fit) (ap (run limit rows) (ap (λ z. set (set z c w.third) d w.fourth) (set_two n places xs a b w.first w.second p size a_low b_low)
+      rw (is, fit) (ap (run_flow limit rows) (ap (λ z. set (set z c w.third) d w.fourth) (set_two n places xs a b w.first w.second p size a_low b_low)
       ∙ set_two n places two c d w.third w.fourth p two_size c_low d_low)
       ∙ rest (set (set two (place_at places c) w.third) (place_at places d) w.fourth)
       (size_two two n (place_at places c) (place_at places d) w.third w.fourth two_size))
@@ -210,13 +210,13 @@ of_four n f places xs a b c d p a_low b_low c_low d_low =
     ∙ ap (f (at xs (place_at places a)) (at xs (place_at places b)) (at xs (place_at places c))) (picked_at n places xs d p d_low)))
 
 pub renamed_same : (limit n : ℕ) (places : List ℕ) (rows : List FlowRow) (xs : List ℤ) → Places n places → can_rename n places rows ≡ true → length xs ≡ n →
-    run limit rows (picked places xs) ≡ run limit (renamed n places rows) xs
-unfolding step
+    run_flow limit rows (picked places xs) ≡ run_flow limit (renamed n places rows) xs
+unfolding flow_step
 renamed_same limit n places [] xs p h size = ap Ok (sym (picked_last n places xs p size))
 renamed_same limit n places (Perm order ∷ rows) xs p h size =
     let first = and_parts (are_places n (composed n places order)) (list_all (λ i. nat_lt i n) (take n order) && can_rename n (composed n places order) rows) h in
     let second = and_parts (list_all (λ i. nat_lt i n) (take n order)) (can_rename n (composed n places order) rows) first.1 in
-    ap (run limit rows) (picked_order n places order xs p second.0)
+    ap (run_flow limit rows) (picked_order n places order xs p second.0)
     ∙ renamed_same limit n (composed n places order) rows xs (places_of n (composed n places order) first.0) second.1 size
 renamed_same limit n places (Rot a b k ∷ rows) xs p h size =
     let low = both_low a b n (can_rename n places rows) h in
@@ -226,8 +226,8 @@ renamed_same limit n places (Rot a b k ∷ rows) xs p h size =
 renamed_same limit n places (Sum a b ∷ rows) xs p h size =
     let low = both_low a b n (can_rename n places rows) h in
     two_same limit n places rows (renamed n places rows) xs a b
-    (added (at (picked places xs) a) (at (picked places xs) b)) (added (at xs (place_at places a)) (at xs (place_at places b)))
-    p size low.0 low.1 (of_two n added places xs a b p low.0 low.1) (λ ys ys_size. renamed_same limit n places rows ys p low.2 ys_size)
+    (sum_and_difference (at (picked places xs) a) (at (picked places xs) b)) (sum_and_difference (at xs (place_at places a)) (at xs (place_at places b)))
+    p size low.0 low.1 (of_two n sum_and_difference places xs a b p low.0 low.1) (λ ys ys_size. renamed_same limit n places rows ys p low.2 ys_size)
 renamed_same limit n places (Neg a ∷ rows) xs p h size =
     let parts = and_parts (nat_lt a n) (can_rename n places rows) h in
     let low : a < n = ltb-true a n parts.0 in
@@ -255,8 +255,8 @@ picked_all n xs size =
     get_or-map (λ p. at xs p) places i 0 (pos 0) (omega (arith, length-range_with_len 0 n)) ∙ ap (at xs) (range_at n i i_low))
 
 pub same_flow : (n : ℕ) (rows new : List FlowRow) → are_places n (range_with_len 0 n) ≡ true → can_rename n (range_with_len 0 n) rows ≡ true →
-    renamed n (range_with_len 0 n) rows ≡ new → (limit : ℕ) (xs : List ℤ) → length xs ≡ n → run limit new xs ≡ run limit rows xs
+    renamed n (range_with_len 0 n) rows ≡ new → (limit : ℕ) (xs : List ℤ) → length xs ≡ n → run_flow limit new xs ≡ run_flow limit rows xs
 same_flow n rows new first can is limit xs size =
-    ap (λ z. run limit z xs) (sym is)
+    ap (λ z. run_flow limit z xs) (sym is)
     ∙ (sym (renamed_same limit n (range_with_len 0 n) rows xs (places_of n (range_with_len 0 n) first) can size)
-    ∙ ap (run limit rows) (picked_all n xs size))
+    ∙ ap (run_flow limit rows) (picked_all n xs size))

@@ -10,8 +10,8 @@ use Rattle.vp9_tables.specs.declared.flow_row.FlowRow.TheVariants.{Perm, Rot, Su
 use borrow.Author.Tests.{ltb-true}
 use Rattle.inverse_transforms.specs.declared.values.Two.{Two}
 use Rattle.inverse_transforms.specs.declared.values.Four.{Four}
-use Rattle.inverse_transforms.specs.Flow.{at, two_fit, four_fit, permuted, store_one, store_two, store_four, step, rotated, added, rotated_wide, run, and_then}
-use Rattle.inverse_transforms.specs.Transforms.{dct, adst, adst_rows, adst_of_4, adst_quad, wht, wht_quad, size_of}
+use Rattle.inverse_transforms.specs.Flow.{at, two_fit, four_fit, permuted, store_one, store_two, store_four, flow_step, rotated, sum_and_difference, rotated_wide, run_flow, and_then}
+use Rattle.inverse_transforms.specs.Transforms.{dct, adst, adst_rows, adst_of_4, adst_quad, wht, wht_quad, size_of_log2}
 use Rattle.vp9_tables.specs.TransformTables.{dct_of}
 use Rattle.inverse_transforms.specs.Ranges.{fits}
 
@@ -73,12 +73,12 @@ stored_four_small m limit xs ys a b c d v most small h =
     subst (All (AtMost m)) k.1 (All-set (AtMost m) _ d v.fourth s.3 (All-set (AtMost m) _ c v.third s.2
     (All-set (AtMost m) _ b v.second s.1 (All-set (AtMost m) xs a v.first s.0 small))))
 
-pub step_small : (m limit : ℕ) (row : FlowRow) (xs ys : List ℤ) → limit ≤ m → All (AtMost m) xs → step limit row xs ≡ Ok ys → All (AtMost m) ys
-unfolding step
+pub step_small : (m limit : ℕ) (row : FlowRow) (xs ys : List ℤ) → limit ≤ m → All (AtMost m) xs → flow_step limit row xs ≡ Ok ys → All (AtMost m) ys
+unfolding flow_step
 step_small m limit (Perm order) xs ys most small h =
     let same : permuted order xs ≡ ys = cc in subst (All (AtMost m)) same (permuted_small m order xs small)
 step_small m limit (Rot a b k) xs ys most small h = stored_two_small m limit xs ys a b (rotated k (at xs a) (at xs b)) most small h
-step_small m limit (Sum a b) xs ys most small h = stored_two_small m limit xs ys a b (added (at xs a) (at xs b)) most small h
+step_small m limit (Sum a b) xs ys most small h = stored_two_small m limit xs ys a b (sum_and_difference (at xs a) (at xs b)) most small h
 step_small m limit (Neg a) xs ys most small h = one_small m limit xs ys a (neg_ℤ (at xs a)) most small h
 step_small m limit (Wide a b k c d n) xs ys most small h =
     stored_four_small m limit xs ys a b c d (rotated_wide limit k n (at xs a) (at xs b) (at xs c) (at xs d)) most small h
@@ -90,15 +90,15 @@ then_small : (m : ℕ) (r : Result (List ℤ) Rule) (f : List ℤ → Result (Li
 then_small m (Ok xs) f ys first rest h = rest xs (first xs refl) h
 then_small m (Err rule) f ys first rest h = let no : ⊥ = cc in absurd no
 
-pub run_small : (m limit : ℕ) (rows : List FlowRow) (xs ys : List ℤ) → limit ≤ m → All (AtMost m) xs → run limit rows xs ≡ Ok ys → All (AtMost m) ys
+pub run_small : (m limit : ℕ) (rows : List FlowRow) (xs ys : List ℤ) → limit ≤ m → All (AtMost m) xs → run_flow limit rows xs ≡ Ok ys → All (AtMost m) ys
 run_small m limit [] xs ys most small h = let same : xs ≡ ys = cc in subst (All (AtMost m)) same small
 run_small m limit (row ∷ rows) xs ys most small h =
-    then_small m (step limit row xs) (run limit rows) ys (λ zs is. step_small m limit row xs zs most small is)
+    then_small m (flow_step limit row xs) (run_flow limit rows) ys (λ zs is. step_small m limit row xs zs most small is)
     (λ zs zs_small is. run_small m limit rows zs ys most zs_small is) h
 
 pub dct_small : (m limit log2 : ℕ) (xs ys : List ℤ) → limit ≤ m → All (AtMost m) xs → dct limit log2 xs ≡ Ok ys → All (AtMost m) ys
 unfolding dct
-dct_small m limit log2 xs ys most small h = run_small m limit (dct_of (size_of log2)) xs ys most small h
+dct_small m limit log2 xs ys most small h = run_small m limit (dct_of (size_of_log2 log2)) xs ys most small h
 
 adst_of_4_small : (m limit : ℕ) (xs ys : List ℤ) → limit ≤ m → All (AtMost m) xs → adst_of_4 limit xs ≡ Ok ys → All (AtMost m) ys
 unfolding adst_of_4
@@ -113,7 +113,7 @@ one_of m false r s ys one other h = other h
 pub adst_small : (m limit log2 : ℕ) (xs ys : List ℤ) → limit ≤ m → All (AtMost m) xs → adst limit log2 xs ≡ Ok ys → All (AtMost m) ys
 unfolding adst
 adst_small m limit log2 xs ys most small h =
-    one_of m (nat_eq log2 2) (adst_of_4 limit xs) (run limit (adst_rows log2) xs) ys (adst_of_4_small m limit xs ys most small)
+    one_of m (nat_eq log2 2) (adst_of_4 limit xs) (run_flow limit (adst_rows log2) xs) ys (adst_of_4_small m limit xs ys most small)
     (run_small m limit (adst_rows log2) xs ys most small) h
 
 pub wht_small : (m limit shift : ℕ) (xs ys : List ℤ) → limit ≤ m → All (AtMost m) xs → wht limit shift xs ≡ Ok ys → All (AtMost m) ys

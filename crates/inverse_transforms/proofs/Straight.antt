@@ -9,7 +9,7 @@ use Rattle.vp9_tables.specs.declared.flow_row.FlowRow.TheVariants.{Perm, Rot, Su
 use Rattle.vp9_tables.specs.declared.data.flows.TheConstants.{FLOW_DCT_4}
 use Rattle.inverse_transforms.specs.declared.values.Two.{Two}
 use Rattle.inverse_transforms.specs.declared.values.Four.{Four}
-use Rattle.inverse_transforms.specs.Flow.{at, magnitude, step, run, and_then, permuted, two_fit, four_fit, rotated, added, rotated_wide, IsCalm}
+use Rattle.inverse_transforms.specs.Flow.{at, magnitude, flow_step, run_flow, and_then, permuted, two_fit, four_fit, rotated, sum_and_difference, rotated_wide, IsCalm}
 use Rattle.inverse_transforms.specs.LaneColumns.{column, FourLanes}
 use Rattle.inverse_transforms.specs.Ranges.{IsSmall, fits}
 use Rattle.inverse_transforms.specs.Transforms.{dct}
@@ -29,7 +29,7 @@ four_put xs a b c d v = set (set (set (set xs a v.first) b v.second) c v.third) 
 abbrev loosely : FlowRow → List ℤ → List ℤ
 loosely (Perm order) xs = permuted order xs
 loosely (Rot a b k) xs = two_put xs a b (rotated k (at xs a) (at xs b))
-loosely (Sum a b) xs = two_put xs a b (added (at xs a) (at xs b))
+loosely (Sum a b) xs = two_put xs a b (sum_and_difference (at xs a) (at xs b))
 loosely (Neg a) xs = set xs a (neg_ℤ (at xs a))
 loosely (Wide a b k c d m) xs = four_put xs a b c d (rotated_wide 0 k m (at xs a) (at xs b) (at xs c) (at xs d))
 
@@ -37,13 +37,13 @@ abbrev loose : List FlowRow → List ℤ → List ℤ
 loose [] xs = xs
 loose (row ∷ rows) xs = loose rows (loosely row xs)
 
-step_loosely : (limit : ℕ) (row : FlowRow) (xs ys : List ℤ) → step limit row xs ≡ Ok ys → loosely row xs ≡ ys
-unfolding step rotated_wide
+step_loosely : (limit : ℕ) (row : FlowRow) (xs ys : List ℤ) → flow_step limit row xs ≡ Ok ys → loosely row xs ≡ ys
+unfolding flow_step rotated_wide
 step_loosely limit (Perm order) xs ys h = cc
 step_loosely limit (Rot a b k) xs ys h =
     let v = rotated k (at xs a) (at xs b) in (kept (two_fit limit v) (two_put xs a b v) ys TransformRange h).1
 step_loosely limit (Sum a b) xs ys h =
-    let v = added (at xs a) (at xs b) in (kept (two_fit limit v) (two_put xs a b v) ys TransformRange h).1
+    let v = sum_and_difference (at xs a) (at xs b) in (kept (two_fit limit v) (two_put xs a b v) ys TransformRange h).1
 step_loosely limit (Neg a) xs ys h =
     let v = neg_ℤ (at xs a) in (kept (fits limit v) (set xs a v) ys TransformRange h).1
 step_loosely limit (Wide a b k c d m) xs ys h =
@@ -55,10 +55,10 @@ then_loosely : (r : Result (List ℤ) Rule) (f : List ℤ → Result (List ℤ) 
 then_loosely (Ok zs) f row rows xs ys first rest h = ap (loose rows) (first zs refl) ∙ rest zs h
 then_loosely (Err rule) f row rows xs ys first rest h = let no : ⊥ = cc in absurd no
 
-run_loosely : (limit : ℕ) (rows : List FlowRow) (xs ys : List ℤ) → run limit rows xs ≡ Ok ys → loose rows xs ≡ ys
+run_loosely : (limit : ℕ) (rows : List FlowRow) (xs ys : List ℤ) → run_flow limit rows xs ≡ Ok ys → loose rows xs ≡ ys
 run_loosely limit [] xs ys h = cc
 run_loosely limit (row ∷ rows) xs ys h =
-    then_loosely (step limit row xs) (run limit rows) row rows xs ys (λ zs is. step_loosely limit row xs zs is) (λ zs is. run_loosely limit rows zs ys is) h
+    then_loosely (flow_step limit row xs) (run_flow limit rows) row rows xs ys (λ zs is. step_loosely limit row xs zs is) (λ zs is. run_loosely limit rows zs ys is) h
 
 abbrev quad_of : List ℤ → Four
 quad_of xs = dct_quad (at xs 0) (at xs 1) (at xs 2) (at xs 3)
@@ -77,7 +77,7 @@ pub straight : (limit : ℕ) (xs : List ℤ) → 2 ^ 15 ≤ limit → length xs 
 unfolding dct IsCalm
 straight limit xs most size few =
     let given = calm_dct_4 xs size few in
-    let gives : run limit FLOW_DCT_4 xs ≡ Ok given.0 = given.1 limit most in
+    let gives : run_flow limit FLOW_DCT_4 xs ≡ Ok given.0 = given.1 limit most in
     gives ∙ ap Ok (sym (run_loosely limit FLOW_DCT_4 xs given.0 gives) ∙ four_values xs size)
 
 abbrev AreSmall : Four → Type 0

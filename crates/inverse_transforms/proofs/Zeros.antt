@@ -13,8 +13,8 @@ use Rattle.inverse_transforms.specs.declared.values.Two.{Two}
 use Rattle.inverse_transforms.specs.declared.values.Four.{Four}
 use Rattle.inverse_transforms.specs.Angles.{sine_of}
 use Rattle.inverse_transforms.specs.Ranges.{round14}
-use Rattle.inverse_transforms.specs.Flow.{at, zeros, turned_x, turned_y, rotated, added, rotated_wide, wide, two_fit, four_fit, store_two, store_four, permuted, step, run, is_within, is_reorder}
-use Rattle.inverse_transforms.specs.Transforms.{dct, adst, adst_rows, adst_quad, adst_of_4, size_of, wht, wht_quad, lifted, middle_lifts, last_lifts}
+use Rattle.inverse_transforms.specs.Flow.{at, zeros, turned_x, turned_y, rotated, sum_and_difference, rotated_wide, wide, two_fit, four_fit, store_two, store_four, permuted, flow_step, run_flow, is_within, is_reorder}
+use Rattle.inverse_transforms.specs.Transforms.{dct, adst, adst_rows, adst_quad, adst_of_4, size_of_log2, wht, wht_quad, first_lifts, middle_lifts, last_lifts}
 
 pub at_zeros : (n i : ℕ) → at (zeros n) i ≡ pos 0
 at_zeros n i = elim (cases_lt i n) [
@@ -43,8 +43,8 @@ rotated_zeros : (k : ℕ) → rotated k (pos 0) (pos 0) ≡ two_zeros
 unfolding rotated round14
 rotated_zeros k = rw (no_turn_x k, no_turn_y k) refl
 
-added_zeros : added (pos 0) (pos 0) ≡ two_zeros
-unfolding added
+added_zeros : sum_and_difference (pos 0) (pos 0) ≡ two_zeros
+unfolding sum_and_difference
 added_zeros = refl
 
 wide_zero : (limit : ℕ) → 0 < limit → wide limit (pos 0) ≡ true
@@ -77,8 +77,8 @@ permuted_zeros n order enough =
     ap (λ m. map (λ i. at (zeros n) i) (take m order)) (length-replicate n (pos 0))
     ∙ (all_zeros n (take n order) ∙ sym (splat_is_map (take n order) n (pos 0) (length-take-le n order enough)))
 
-step_zeros : (limit n : ℕ) (row : FlowRow) → 0 < limit → is_within n row ≡ true → step limit row (zeros n) ≡ Ok (zeros n)
-unfolding step
+step_zeros : (limit n : ℕ) (row : FlowRow) → 0 < limit → is_within n row ≡ true → flow_step limit row (zeros n) ≡ Ok (zeros n)
+unfolding flow_step
 step_zeros limit n (Perm order) some within =
     let parts = and_parts (is_order n order) (is_reorder n (Perm order)) within in
     let sizes = and_parts (nat_le n (length order)) _ parts.1 in
@@ -90,7 +90,7 @@ step_zeros limit n (Neg a) some within = rw (at_zeros n a, lt-ltb 0 limit some, 
 step_zeros limit n (Wide a b k c d m) some within =
     rw (at_zeros n a, at_zeros n b, at_zeros n c, at_zeros n d, rotated_wide_zeros limit k m some) (store_four_zeros limit n a b c d some)
 
-pub run_zeros : (limit n : ℕ) (rows : List FlowRow) → 0 < limit → list_all (is_within n) rows ≡ true → run limit rows (zeros n) ≡ Ok (zeros n)
+pub run_zeros : (limit n : ℕ) (rows : List FlowRow) → 0 < limit → list_all (is_within n) rows ≡ true → run_flow limit rows (zeros n) ≡ Ok (zeros n)
 run_zeros limit n [] some within = refl
 run_zeros limit n (row ∷ rows) some within =
     let parts = and_parts _ _ within in
@@ -100,10 +100,10 @@ pub dct_zeros : (limit log2 : ℕ) → 0 < limit → 2 ≤ log2 → log2 ≤ 5 �
 unfolding dct
 dct_zeros limit zero some least most = absurd (omega arith)
 dct_zeros limit (suc zero) some least most = absurd (omega arith)
-dct_zeros limit (suc (suc zero)) some least most = run_zeros limit 4 (dct_of (size_of 2)) some refl
-dct_zeros limit (suc (suc (suc zero))) some least most = run_zeros limit 8 (dct_of (size_of 3)) some refl
-dct_zeros limit (suc (suc (suc (suc zero)))) some least most = run_zeros limit 16 (dct_of (size_of 4)) some refl
-dct_zeros limit (suc (suc (suc (suc (suc zero))))) some least most = run_zeros limit 32 (dct_of (size_of 5)) some refl
+dct_zeros limit (suc (suc zero)) some least most = run_zeros limit 4 (dct_of (size_of_log2 2)) some refl
+dct_zeros limit (suc (suc (suc zero))) some least most = run_zeros limit 8 (dct_of (size_of_log2 3)) some refl
+dct_zeros limit (suc (suc (suc (suc zero)))) some least most = run_zeros limit 16 (dct_of (size_of_log2 4)) some refl
+dct_zeros limit (suc (suc (suc (suc (suc zero))))) some least most = run_zeros limit 32 (dct_of (size_of_log2 5)) some refl
 dct_zeros limit (suc (suc (suc (suc (suc (suc k)))))) some least most = absurd (omega arith)
 
 adst_quad_zeros : (limit : ℕ) → 0 < limit → adst_quad limit (pos 0) (pos 0) (pos 0) (pos 0) ≡ four_zeros
@@ -119,8 +119,8 @@ adst_zeros limit (suc (suc (suc zero))) some least most = run_zeros limit 8 (ads
 adst_zeros limit (suc (suc (suc (suc zero)))) some least most = run_zeros limit 16 (adst_rows 4) some refl
 adst_zeros limit (suc (suc (suc (suc (suc k))))) some least most = absurd (omega arith)
 
-no_lifts : lifted (pos 0) (pos 0) (pos 0) (pos 0) ≡ four_zeros
-unfolding lifted middle_lifts last_lifts
+no_lifts : first_lifts (pos 0) (pos 0) (pos 0) (pos 0) ≡ four_zeros
+unfolding first_lifts middle_lifts last_lifts
 no_lifts = refl
 
 wht_quad_zeros : (shift : ℕ) → shift ≤ 2 → wht_quad shift (pos 0) (pos 0) (pos 0) (pos 0) ≡ four_zeros

@@ -29,8 +29,8 @@ wide limit x = fits (limit * 65536) x
 unfoldable pub rotated : ℕ → ℤ → ℤ → Two
 rotated k x y = record { first = round14 (turned_x k x y); second = round14 (turned_y k x y) }
 
-unfoldable pub added : ℤ → ℤ → Two
-added x y = record { first = x +ℤ y; second = x -ℤ y }
+unfoldable pub sum_and_difference : ℤ → ℤ → Two
+sum_and_difference x y = record { first = x +ℤ y; second = x -ℤ y }
 
 unfoldable pub rotated_wide : ℕ → ℕ → ℕ → ℤ → ℤ → ℤ → ℤ → Four
 rotated_wide limit k m a b c d = record {
@@ -67,21 +67,21 @@ permuted order xs = map (λ i. at xs i) (take (length xs) order)
 -- rotation H(a, b, 0). `Wide a b k c d m` is of the ADST alone, two steps in one: SB(a, b, k, 0) and SB(c, d, m, 0), whose values S aren't
 -- rounded, and then SH(a, c) and SH(b, d). `Neg a` is T[a] = -T[a] at the end of an ADST. `Perm` is a permutation of the array before or
 -- after a transform, or the exchanges that the standard's flipped rotations, B(a, b, k, 1), are left with; it stores no new value
-unfoldable pub step : ℕ → FlowRow → List ℤ → Result (List ℤ) Rule
-step limit (Perm order) xs = Ok (permuted order xs)
-step limit (Rot a b k) xs = store_two limit xs a b (rotated k (at xs a) (at xs b))
-step limit (Sum a b) xs = store_two limit xs a b (added (at xs a) (at xs b))
-step limit (Neg a) xs = store_one limit xs a (neg_ℤ (at xs a))
-step limit (Wide a b k c d m) xs = store_four limit xs a b c d (rotated_wide limit k m (at xs a) (at xs b) (at xs c) (at xs d))
+unfoldable pub flow_step : ℕ → FlowRow → List ℤ → Result (List ℤ) Rule
+flow_step limit (Perm order) xs = Ok (permuted order xs)
+flow_step limit (Rot a b k) xs = store_two limit xs a b (rotated k (at xs a) (at xs b))
+flow_step limit (Sum a b) xs = store_two limit xs a b (sum_and_difference (at xs a) (at xs b))
+flow_step limit (Neg a) xs = store_one limit xs a (neg_ℤ (at xs a))
+flow_step limit (Wide a b k c d m) xs = store_four limit xs a b c d (rotated_wide limit k m (at xs a) (at xs b) (at xs c) (at xs d))
 
 abbrev pub and_then : Result (List ℤ) Rule → (List ℤ → Result (List ℤ) Rule) → Result (List ℤ) Rule
 and_then (Ok xs) f = f xs
 and_then (Err rule) f = Err rule
 
 -- the steps in order, up to the first value that doesn't fit
-abbrev pub run : ℕ → List FlowRow → List ℤ → Result (List ℤ) Rule
-run limit [] xs = Ok xs
-run limit (row ∷ rows) xs = and_then (step limit row xs) (run limit rows)
+abbrev pub run_flow : ℕ → List FlowRow → List ℤ → Result (List ℤ) Rule
+run_flow limit [] xs = Ok xs
+run_flow limit (row ∷ rows) xs = and_then (flow_step limit row xs) (run_flow limit rows)
 
 -- the call answers what is computed, and leaves its list
 abbrev pub Gives : Result (List ℤ) Rule → Result (Unit {0}) Rule → List ℤ → Type 0

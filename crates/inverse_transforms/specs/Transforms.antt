@@ -10,15 +10,15 @@ use Rattle.vp9_tables.specs.declared.data.flows.TheConstants.{FLOW_ADST_8, FLOW_
 use Rattle.vp9_tables.specs.TransformTables.{dct_of}
 use Rattle.inverse_transforms.specs.declared.values.Four.{Four}
 use Rattle.inverse_transforms.specs.Ranges.{fits, round14}
-use Rattle.inverse_transforms.specs.Flow.{at, wide, store_four, run}
+use Rattle.inverse_transforms.specs.Flow.{at, wide, store_four, run_flow}
 
 -- of 2 ^ log2 values
-abbrev pub size_of : ℕ → TxSize
-size_of log2 =
+abbrev pub size_of_log2 : ℕ → TxSize
+size_of_log2 log2 =
     if nat_eq log2 2 then T4x4 else (if nat_eq log2 3 then T8x8 else (if nat_eq log2 4 then T16x16 else T32x32))
 
 unfoldable pub dct : ℕ → ℕ → List ℤ → Result (List ℤ) Rule
-dct limit log2 xs = run limit (dct_of (size_of log2)) xs
+dct limit log2 xs = run_flow limit (dct_of (size_of_log2 log2)) xs
 
 -- SINPI_k_9
 abbrev pub sin9 : ℕ → ℤ
@@ -54,7 +54,7 @@ abbrev pub adst_rows : ℕ → List FlowRow
 adst_rows log2 = if nat_eq log2 3 then FLOW_ADST_8 else FLOW_ADST_16
 
 unfoldable pub adst : ℕ → ℕ → List ℤ → Result (List ℤ) Rule
-adst limit log2 xs = if nat_eq log2 2 then adst_of_4 limit xs else run limit (adst_rows log2) xs
+adst limit log2 xs = if nat_eq log2 2 then adst_of_4 limit xs else run_flow limit (adst_rows log2) xs
 
 -- the WHT lifts a, c, d, b, the four values in their order: a += c, d -= b, e = (a - d) >> 1, b = e - b, c = e - c,
 -- a -= b, d += c; its outputs are a, b, c, d
@@ -64,18 +64,18 @@ last_lifts a b c d = record { in_range = true; first = a -ℤ b; second = b; thi
 unfoldable pub middle_lifts : ℤ → ℤ → ℤ → ℤ → Four
 middle_lifts a b c d = let e = int_shr (a -ℤ d) 1 in last_lifts a (e -ℤ b) (e -ℤ c) d
 
-unfoldable pub lifted : ℤ → ℤ → ℤ → ℤ → Four
-lifted a c d b = middle_lifts (a +ℤ c) b c (d -ℤ b)
+unfoldable pub first_lifts : ℤ → ℤ → ℤ → ℤ → Four
+first_lifts a c d b = middle_lifts (a +ℤ c) b c (d -ℤ b)
 
 unfoldable pub wht_quad : ℕ → ℤ → ℤ → ℤ → ℤ → Four
-wht_quad shift x0 x1 x2 x3 = lifted (int_shr x0 shift) (int_shr x1 shift) (int_shr x2 shift) (int_shr x3 shift)
+wht_quad shift x0 x1 x2 x3 = first_lifts (int_shr x0 shift) (int_shr x1 shift) (int_shr x2 shift) (int_shr x3 shift)
 
 unfoldable pub wht : ℕ → ℕ → List ℤ → Result (List ℤ) Rule
 wht limit shift xs = store_four limit xs 0 1 2 3 (wht_quad shift (at xs 0) (at xs 1) (at xs 2) (at xs 3))
 
 -- rows that are the DCT of all lists of 2 ^ log2 values, and rows that are the ADST
 unfoldable pub AreDct : ℕ → List FlowRow → Type 0
-AreDct log2 rows = (limit : ℕ) (xs : List ℤ) → length xs ≡ 2 ^ log2 → run limit rows xs ≡ dct limit log2 xs
+AreDct log2 rows = (limit : ℕ) (xs : List ℤ) → length xs ≡ 2 ^ log2 → run_flow limit rows xs ≡ dct limit log2 xs
 
 unfoldable pub AreAdst : ℕ → List FlowRow → Type 0
-AreAdst log2 rows = (limit : ℕ) (xs : List ℤ) → length xs ≡ 2 ^ log2 → run limit rows xs ≡ adst limit log2 xs
+AreAdst log2 rows = (limit : ℕ) (xs : List ℤ) → length xs ≡ 2 ^ log2 → run_flow limit rows xs ≡ adst limit log2 xs

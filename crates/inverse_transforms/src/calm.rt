@@ -2,7 +2,7 @@
 
 ghost use Rattle.std.specs.Prelude.{◌≡◌, ℕ, ◌^◌, ◌≤◌, ◌<◌, length, IsTrue, All, Ok};
 ghost use Rattle.std.specs.List.{list_all};
-ghost use Rattle.inverse_transforms.specs.Flow.{at, step, run, store_two, rotated, added, is_within, magnitude};
+ghost use Rattle.inverse_transforms.specs.Flow.{at, flow_step, run_flow, store_two, rotated, sum_and_difference, is_within, magnitude};
 ghost use Rattle.inverse_transforms.specs.Transforms.{dct};
 ghost use Rattle.inverse_transforms.specs.LaneColumns.{GivesColumns, FitsAll, column};
 ghost use Rattle.inverse_transforms.specs.Ranges.{IsSmall, IsNarrow};
@@ -37,8 +37,8 @@ fn add(t: &mut [Lanes], a: u8, b: u8)
     requires a { a < length t.old }
     requires b { b < length t.old }
     requires small { All (All IsSmall) t.old }
-    requires fit { FitsAll (λ xs. store_two (2 ^ 15) xs a b (added (at xs a) (at xs b))) t.old }
-    ensures gives { (j : ℕ) → j < 8 → store_two (2 ^ 15) (column j t.old) a b (added (at (column j t.old) a) (at (column j t.old) b)) ≡ Ok (column j t.new) }
+    requires fit { FitsAll (λ xs. store_two (2 ^ 15) xs a b (sum_and_difference (at xs a) (at xs b))) t.old }
+    ensures gives { (j : ℕ) → j < 8 → store_two (2 ^ 15) (column j t.old) a b (sum_and_difference (at (column j t.old) a) (at (column j t.old) b)) ≡ Ok (column j t.new) }
     ensures small { All (All IsSmall) t.new }
 {
     let x = t[a as usize];
@@ -50,14 +50,14 @@ fn add(t: &mut [Lanes], a: u8, b: u8)
 
 /// A step. Those that are rare are tested all the same.
 #[inline(always)]
-#[tactic(auto, unfolding(crate::specs::Flow::step))]
+#[tactic(auto, unfolding(crate::specs::Flow::flow_step))]
 fn apply(t: &mut [Lanes], row: &FlowRow) -> Result<(), Rule>
     requires size { length t.old ≤ 32 }
     requires within { IsTrue (is_within (length t.old) row.now) }
     requires narrow { (j : ℕ) → j < 8 → All IsNarrow (column j t.old) }
     requires small { All (All IsSmall) t.old }
-    requires fit { FitsAll (step (2 ^ 15) row.now) t.old }
-    ensures gives { GivesColumns (step (2 ^ 15) row.now) result t.old t.new }
+    requires fit { FitsAll (flow_step (2 ^ 15) row.now) t.old }
+    ensures gives { GivesColumns (flow_step (2 ^ 15) row.now) result t.old t.new }
     ensures small { All (All IsSmall) t.new }
 {
     if let FlowRow::Sum { a, b } = row {
@@ -77,8 +77,8 @@ pub fn flow(t: &mut [Lanes], rows: &[FlowRow]) -> Result<(), Rule>
     requires within { IsTrue (list_all (is_within (length t.old)) rows.now) }
     requires narrow { (j : ℕ) → j < 8 → All IsNarrow (column j t.old) }
     requires small { All (All IsSmall) t.old }
-    requires fit { FitsAll (run (2 ^ 15) rows.now) t.old }
-    ensures gives { GivesColumns (run (2 ^ 15) rows.now) result t.old t.new }
+    requires fit { FitsAll (run_flow (2 ^ 15) rows.now) t.old }
+    ensures gives { GivesColumns (run_flow (2 ^ 15) rows.now) result t.old t.new }
     ensures small { All (All IsSmall) t.new }
 {
     for row in rows {

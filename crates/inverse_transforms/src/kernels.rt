@@ -1,7 +1,7 @@
 //! What a step makes of its values.
 
 ghost use Rattle.std.specs.Prelude.{◌≡◌, ◌^◌, ◌≤◌, ◌&&◌, neg_ℤ, unsigned_abs};
-ghost use Rattle.inverse_transforms.specs.Flow.{turned_x, turned_y, rotated, added, rotated_wide, two_fit, four_fit, wide};
+ghost use Rattle.inverse_transforms.specs.Flow.{turned_x, turned_y, rotated, sum_and_difference, rotated_wide, two_fit, four_fit, wide};
 ghost use Rattle.inverse_transforms.specs.Ranges.{IsSmall};
 
 use crate::numbers::{difference, is_fit, is_wide, product, rounded, sum};
@@ -46,11 +46,11 @@ pub fn rotated(x: i32, y: i32, turn: Turn) -> Two
 }
 
 #[inline(always)]
-#[tactic(auto, unfolding(crate::specs::Flow::added))]
-pub fn added(x: i32, y: i32) -> Two
+#[tactic(auto, unfolding(crate::specs::Flow::sum_and_difference))]
+pub fn sum_and_difference(x: i32, y: i32) -> Two
     requires x { IsSmall x }
     requires y { IsSmall y }
-    ensures { result ≡ added x y }
+    ensures { result ≡ sum_and_difference x y }
 {
     Two {
         first: x + y,

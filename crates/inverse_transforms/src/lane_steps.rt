@@ -3,7 +3,7 @@
 ghost use Rattle.std.specs.Prelude.{◌≡◌, ℕ, ◌^◌, ◌≤◌, ◌<◌, length, take, slice_index, nat_lt, IsTrue, All, neg_ℤ, not};
 ghost use Rattle.std.specs.List.{list_all};
 ghost use Rattle.std.specs.Bool.{OnTrue};
-ghost use Rattle.inverse_transforms.specs.Flow.{at, step, run, store_one, store_two, store_four, permuted, rotated, added, rotated_wide, is_within};
+ghost use Rattle.inverse_transforms.specs.Flow.{at, flow_step, run_flow, store_one, store_two, store_four, permuted, rotated, sum_and_difference, rotated_wide, is_within};
 ghost use Rattle.inverse_transforms.specs.Transforms.{adst_of_4, wht};
 ghost use Rattle.inverse_transforms.specs.LaneColumns.{GivesColumns, gathered};
 ghost use Rattle.inverse_transforms.specs.Ranges.{IsSmall};
@@ -42,7 +42,7 @@ pub fn add(t: &mut [Lanes], a: u8, b: u8, limit: u32) -> Result<(), Rule>
     requires b { b < length t.old }
     requires limit { limit ≤ 2 ^ 24 }
     requires small { All (All IsSmall) t.old }
-    ensures gives { GivesColumns (λ xs. store_two limit xs a b (added (at xs a) (at xs b))) result t.old t.new }
+    ensures gives { GivesColumns (λ xs. store_two limit xs a b (sum_and_difference (at xs a) (at xs b))) result t.old t.new }
     ensures small { All (All IsSmall) t.new }
 {
     let x = t[a as usize];
@@ -218,13 +218,13 @@ fn permute(t: &mut [Lanes], order: &[u8])
 
 /// Any step. It is called for those that are rare.
 #[inline(never)]
-#[tactic(auto, unfolding(crate::specs::Flow::step))]
+#[tactic(auto, unfolding(crate::specs::Flow::flow_step))]
 pub fn apply(t: &mut [Lanes], row: &FlowRow, limit: u32) -> Result<(), Rule>
     requires size { length t.old ≤ 32 }
     requires within { IsTrue (is_within (length t.old) row.now) }
     requires limit { limit ≤ 2 ^ 24 }
     requires small { All (All IsSmall) t.old }
-    ensures gives { GivesColumns (step limit row.now) result t.old t.new }
+    ensures gives { GivesColumns (flow_step limit row.now) result t.old t.new }
     ensures small { All (All IsSmall) t.new }
 {
     match row {
@@ -248,13 +248,13 @@ pub fn apply(t: &mut [Lanes], row: &FlowRow, limit: u32) -> Result<(), Rule>
 
 /// The same, with the steps that most flows are made of in place: a jump by the kind of each step is badly foreseen.
 #[inline(always)]
-#[tactic(auto, unfolding(crate::specs::Flow::step))]
+#[tactic(auto, unfolding(crate::specs::Flow::flow_step))]
 fn apply_often(t: &mut [Lanes], row: &FlowRow, limit: u32) -> Result<(), Rule>
     requires size { length t.old ≤ 32 }
     requires within { IsTrue (is_within (length t.old) row.now) }
     requires limit { limit ≤ 2 ^ 24 }
     requires small { All (All IsSmall) t.old }
-    ensures gives { GivesColumns (step limit row.now) result t.old t.new }
+    ensures gives { GivesColumns (flow_step limit row.now) result t.old t.new }
     ensures small { All (All IsSmall) t.new }
 {
     if let FlowRow::Sum { a, b } = row {
@@ -272,7 +272,7 @@ pub fn flow(t: &mut [Lanes], rows: &[FlowRow], limit: u32) -> Result<(), Rule>
     requires within { IsTrue (list_all (is_within (length t.old)) rows.now) }
     requires limit { limit ≤ 2 ^ 24 }
     requires small { All (All IsSmall) t.old }
-    ensures gives { GivesColumns (run limit rows.now) result t.old t.new }
+    ensures gives { GivesColumns (run_flow limit rows.now) result t.old t.new }
     ensures small { All (All IsSmall) t.new }
 {
     for row in rows {

@@ -1,12 +1,12 @@
 //! What a step makes of eight columns.
 
 ghost use Rattle.std.specs.Prelude.{◌≡◌, ℕ, ◌^◌, ◌≤◌, ◌<◌, All, neg_ℤ};
-ghost use Rattle.inverse_transforms.specs.Flow.{at, rotated, added, rotated_wide, two_fit, four_fit};
+ghost use Rattle.inverse_transforms.specs.Flow.{at, rotated, sum_and_difference, rotated_wide, two_fit, four_fit};
 ghost use Rattle.inverse_transforms.specs.Transforms.{adst_quad, wht_quad};
 ghost use Rattle.inverse_transforms.specs.LaneColumns.{TwoLanes, FourLanes, AllHold};
 ghost use Rattle.inverse_transforms.specs.Ranges.{IsSmall, fits};
 
-use crate::kernels::{added, four_fit, negated, rotated, rotated_wide, two_fit};
+use crate::kernels::{four_fit, negated, rotated, rotated_wide, sum_and_difference, two_fit};
 use crate::numbers::is_fit;
 use crate::quads::{adst_quad, wht_quad};
 use crate::turn::Turn;
@@ -45,14 +45,14 @@ pub fn added_lanes(x: &Lanes, y: &Lanes, limit: u32) -> TwoRows
     requires x { All IsSmall x.now }
     requires y { All IsSmall y.now }
     requires limit { limit ≤ 2 ^ 24 }
-    ensures made { TwoLanes added x.now y.now result.0 result.1 8 }
-    ensures fit { AllHold (λ j. two_fit limit (added (at x.now j) (at y.now j))) 8 result.2 }
+    ensures made { TwoLanes sum_and_difference x.now y.now result.0 result.1 8 }
+    ensures fit { AllHold (λ j. two_fit limit (sum_and_difference (at x.now j) (at y.now j))) 8 result.2 }
 {
     let mut u = [0; 8];
     let mut v = [0; 8];
     let mut fit = true;
     for j in 0..8usize {
-        let r = added(x[j], y[j]);
+        let r = sum_and_difference(x[j], y[j]);
         u[j] = r.first;
         v[j] = r.second;
         fit = fit & two_fit(r, limit);

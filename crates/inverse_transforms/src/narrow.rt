@@ -3,7 +3,7 @@
 ghost use Rattle.std.specs.Prelude.{◌≡◌, ℕ, ◌^◌, ◌≤◌, ◌<◌, length, unsigned_abs, IsTrue, All};
 ghost use Rattle.std.specs.List.{list_all};
 ghost use Rattle.std.specs.Bool.{OnTrue};
-ghost use Rattle.inverse_transforms.specs.Flow.{at, step, run, store_two, rotated, turned_x, turned_y, is_within};
+ghost use Rattle.inverse_transforms.specs.Flow.{at, flow_step, run_flow, store_two, rotated, turned_x, turned_y, is_within};
 ghost use Rattle.inverse_transforms.specs.LaneColumns.{GivesColumns, TwoLanes, FourLanes, AllHold, column};
 ghost use Rattle.inverse_transforms.specs.Flow.{two_fit, four_fit};
 ghost use Rattle.inverse_transforms.specs.Straight.{dct_quad};
@@ -125,13 +125,13 @@ fn rotate(t: &mut [Lanes], a: u8, b: u8, angle: u8) -> Result<(), Rule>
 }
 
 #[inline(always)]
-#[tactic(auto, unfolding(crate::specs::Flow::step))]
+#[tactic(auto, unfolding(crate::specs::Flow::flow_step))]
 fn apply(t: &mut [Lanes], row: &FlowRow) -> Result<(), Rule>
     requires size { length t.old ≤ 32 }
     requires within { IsTrue (is_within (length t.old) row.now) }
     requires narrow { (j : ℕ) → j < 8 → All IsNarrow (column j t.old) }
     requires small { All (All IsSmall) t.old }
-    ensures gives { GivesColumns (step (2 ^ 15) row.now) result t.old t.new }
+    ensures gives { GivesColumns (flow_step (2 ^ 15) row.now) result t.old t.new }
     ensures small { All (All IsSmall) t.new }
 {
     if let FlowRow::Sum { a, b } = row {
@@ -148,7 +148,7 @@ pub fn flow(t: &mut [Lanes], rows: &[FlowRow]) -> Result<(), Rule>
     requires size { length t.old ≤ 32 }
     requires within { IsTrue (list_all (is_within (length t.old)) rows.now) }
     requires narrow { All (All IsNarrow) t.old }
-    ensures gives { GivesColumns (run (2 ^ 15) rows.now) result t.old t.new }
+    ensures gives { GivesColumns (run_flow (2 ^ 15) rows.now) result t.old t.new }
     ensures small { All (All IsSmall) t.new }
 {
     for row in rows {

@@ -3,11 +3,11 @@
 ghost use Rattle.std.specs.Prelude.{◌≡◌, ◌+◌, ◌*◌, ◌^◌, ◌≤◌, ◌<◌, ◌&&◌, unsigned_abs, length, All};
 ghost use Rattle.std.specs.Int.{int_shr};
 ghost use Rattle.inverse_transforms.specs.Flow.{wide, Gives};
-ghost use Rattle.inverse_transforms.specs.Transforms.{even_part, odd_part, middle_part, difference_part, adst_quad, adst_of_4, last_lifts, middle_lifts, lifted, wht_quad, wht};
+ghost use Rattle.inverse_transforms.specs.Transforms.{even_part, odd_part, middle_part, difference_part, adst_quad, adst_of_4, last_lifts, middle_lifts, first_lifts, wht_quad, wht};
 ghost use Rattle.inverse_transforms.specs.Straight.{dct_quad};
 ghost use Rattle.inverse_transforms.specs.Ranges.{IsSmall, IsNarrow, fits};
 
-use crate::kernels::added;
+use crate::kernels::sum_and_difference;
 use crate::narrow::rotated;
 use crate::numbers::{difference, half, is_fit, is_wide, minus, plus, product, rounded, sum};
 use crate::steps::store_four;
@@ -99,8 +99,8 @@ pub fn dct_quad(x0: i32, x1: i32, x2: i32, x3: i32) -> Four
 {
     let even = rotated(x0, x2, Turn::by(16));
     let odd = rotated(x1, x3, Turn::by(24));
-    let outer = added(even.second, odd.second);
-    let inner = added(even.first, odd.first);
+    let outer = sum_and_difference(even.second, odd.second);
+    let inner = sum_and_difference(even.first, odd.first);
     Four {
         in_range: true,
         first: outer.first,
@@ -142,13 +142,13 @@ fn middle_lifts(a: i32, b: i32, c: i32, d: i32) -> Four
 }
 
 #[inline(always)]
-#[tactic(auto, unfolding(crate::specs::Transforms::lifted))]
-fn lifted(a: i32, c: i32, d: i32, b: i32) -> Four
+#[tactic(auto, unfolding(crate::specs::Transforms::first_lifts))]
+fn first_lifts(a: i32, c: i32, d: i32, b: i32) -> Four
     requires a { IsSmall a }
     requires c { IsSmall c }
     requires d { IsSmall d }
     requires b { IsSmall b }
-    ensures { result ≡ lifted a c d b }
+    ensures { result ≡ first_lifts a c d b }
 {
     middle_lifts(plus(a, c), b, c, minus(d, b))
 }
@@ -173,7 +173,7 @@ pub fn wht_quad(x0: i32, x1: i32, x2: i32, x3: i32, shift: u8) -> Four
     requires shift { shift ≤ 2 }
     ensures { result ≡ wht_quad shift x0 x1 x2 x3 }
 {
-    lifted(
+    first_lifts(
         shifted(x0, shift),
         shifted(x1, shift),
         shifted(x2, shift),

@@ -2,10 +2,10 @@
 
 ghost use Rattle.std.specs.Prelude.{◌≡◌, ℕ, ◌^◌, ◌≤◌, ◌<◌, length, take, slice_index, nat_lt, IsTrue, All, neg_ℤ};
 ghost use Rattle.std.specs.List.{list_all};
-ghost use Rattle.inverse_transforms.specs.Flow.{at, step, run, store_one, store_two, store_four, permuted, rotated, added, rotated_wide, Gives, is_within};
+ghost use Rattle.inverse_transforms.specs.Flow.{at, flow_step, run_flow, store_one, store_two, store_four, permuted, rotated, sum_and_difference, rotated_wide, Gives, is_within};
 ghost use Rattle.inverse_transforms.specs.Ranges.{IsSmall};
 
-use crate::kernels::{added, four_fit, rotated, rotated_wide, two_fit};
+use crate::kernels::{four_fit, rotated, rotated_wide, sum_and_difference, two_fit};
 use crate::numbers::is_fit;
 use crate::turn::Turn;
 use crate::values::{Four, Two};
@@ -98,9 +98,9 @@ fn add(t: &mut [i32], a: u8, b: u8, limit: u32) -> Result<(), Rule>
     requires b { b < length t.old }
     requires limit { limit ≤ 2 ^ 24 }
     requires small { All IsSmall t.old }
-    ensures { Gives (store_two limit t.old a b (added (at t.old a) (at t.old b))) result t.new }
+    ensures { Gives (store_two limit t.old a b (sum_and_difference (at t.old a) (at t.old b))) result t.new }
 {
-    let v = added(t[a as usize], t[b as usize]);
+    let v = sum_and_difference(t[a as usize], t[b as usize]);
     store_two(t, a, b, v, limit)
 }
 
@@ -136,13 +136,13 @@ fn rotate_wide(
     store_four(t, places, v, limit)
 }
 
-#[tactic(auto, unfolding(crate::specs::Flow::step))]
+#[tactic(auto, unfolding(crate::specs::Flow::flow_step))]
 fn apply(t: &mut [i32], row: FlowRow, limit: u32) -> Result<(), Rule>
     requires size { length t.old ≤ 32 }
     requires within { IsTrue (is_within (length t.old) row) }
     requires limit { limit ≤ 2 ^ 24 }
     requires small { All IsSmall t.old }
-    ensures { Gives (step limit row t.old) result t.new }
+    ensures { Gives (flow_step limit row t.old) result t.new }
 {
     match row {
         FlowRow::Perm(order) => {
@@ -169,7 +169,7 @@ pub fn flow(t: &mut [i32], rows: &[FlowRow], limit: u32) -> Result<(), Rule>
     requires within { IsTrue (list_all (is_within (length t.old)) rows.now) }
     requires limit { limit ≤ 2 ^ 24 }
     requires small { All IsSmall t.old }
-    ensures { Gives (run limit rows.now t.old) result t.new }
+    ensures { Gives (run_flow limit rows.now t.old) result t.new }
 {
     for row in rows {
         apply(t, *row, limit)?;

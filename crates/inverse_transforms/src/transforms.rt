@@ -3,8 +3,8 @@
 ghost use Rattle.std.specs.Prelude.{◌≡◌, ◌+◌, ◌^◌, ◌≤◌, length, All, IsTrue};
 ghost use Rattle.std.specs.List.{list_all};
 ghost use Rattle.vp9_tables.specs.TransformTables.{dct_of};
-ghost use Rattle.inverse_transforms.specs.Flow.{Gives, IsCalm, run, is_within};
-ghost use Rattle.inverse_transforms.specs.Transforms.{size_of, dct, adst, adst_rows, wht};
+ghost use Rattle.inverse_transforms.specs.Flow.{Gives, IsCalm, run_flow, is_within};
+ghost use Rattle.inverse_transforms.specs.Transforms.{size_of_log2, dct, adst, adst_rows, wht};
 ghost use Rattle.inverse_transforms.specs.LaneColumns.{GivesColumns};
 ghost use Rattle.inverse_transforms.specs.Ranges.{IsSmall, limit_of};
 
@@ -75,10 +75,10 @@ pub fn dct_columns(log2: u8, t: &mut [Lanes], depth: Depth) -> Result<(), Rule>
 fn flow_columns(t: &mut [Lanes], rows: &[FlowRow], calm: u32, depth: Depth) -> Result<(), Rule>
     requires size { length t.old ≤ 32 }
     requires within { IsTrue (list_all (is_within (length t.old)) rows.now) }
-    requires calm { IsCalm (length t.old) calm (λ limit. run limit rows.now) }
+    requires calm { IsCalm (length t.old) calm (λ limit. run_flow limit rows.now) }
     requires calm_is_narrow { calm ≤ 2 ^ 15 }
     requires small { All (All IsSmall) t.old }
-    ensures gives { GivesColumns (run (limit_of depth) rows.now) result t.old t.new }
+    ensures gives { GivesColumns (run_flow (limit_of depth) rows.now) result t.old t.new }
     ensures small { All (All IsSmall) t.new }
 {
     if heaviest(t) <= calm {
@@ -93,7 +93,7 @@ fn flow_columns(t: &mut [Lanes], rows: &[FlowRow], calm: u32, depth: Depth) -> R
 fn dct_rows(log2: u8) -> &'static [FlowRow]
     requires least { 2 ≤ log2 }
     requires most { log2 ≤ 5 }
-    ensures table { result.now ≡ dct_of (size_of log2) }
+    ensures table { result.now ≡ dct_of (size_of_log2 log2) }
     ensures within { IsTrue (list_all (is_within (2 ^ log2)) result.now) }
     ensures size { 2 ^ log2 ≤ 32 }
 {

@@ -29,8 +29,8 @@ abbrev pub header_length : List ℕ → ℕ
 header_length bytes = little_number 2 (slice_range bytes 6 8)
 
 -- the frame rate that a file header names: a number of frames, and in how many seconds
-abbrev pub rate_of : List ℕ → ℕ × ℕ
-rate_of bytes = (little_number 4 (slice_range bytes 16 20), little_number 4 (slice_range bytes 20 24))
+abbrev pub frame_rate_of : List ℕ → ℕ × ℕ
+frame_rate_of bytes = (little_number 4 (slice_range bytes 16 20), little_number 4 (slice_range bytes 20 24))
 
 -- A file header begins with `DKIF`, names the codec `VP90`, and has at least 32 bytes. What its other fields say, and
 -- what it has from byte 32 on, is free.

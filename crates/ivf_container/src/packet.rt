@@ -1,5 +1,5 @@
 ghost use Rattle.std.specs.Prelude.{◌≡◌, ◌≤◌, length, IfOk};
-ghost use Rattle.ivf_container.specs.Packets.{header_end, next_packet_at, rate_of, IsBegun, IsNext};
+ghost use Rattle.ivf_container.specs.Packets.{header_end, next_packet_at, frame_rate_of, IsBegun, IsNext};
 
 use byteorder::{ByteOrder, LittleEndian};
 use vp9_types::Rule;
@@ -49,7 +49,7 @@ pub fn read_header(bytes: &[u8]) -> Result<usize, Rule>
 /// The frame rate that a file header names: frames for each so many seconds. Both are as they stand there, 0 too.
 pub fn rate(bytes: &[u8]) -> (u32, u32)
     requires { 32 ≤ length bytes.now }
-    ensures { result ≡ rate_of bytes.now }
+    ensures { result ≡ frame_rate_of bytes.now }
 {
     (
         LittleEndian::read_u32(&bytes[16..20]),

@@ -1,5 +1,6 @@
 pub mod Due
 pub mod Kept
+pub mod Numbered
 pub mod Pools
 pub mod Written
 pub mod RowsLeft

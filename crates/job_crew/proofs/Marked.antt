@@ -1,12 +1,15 @@
 -- Marks of tickets.
-use Rattle.std.proofs.Common.{◌≡◌, ◌↔◌, ℕ, zero, suc, ◌+◌, ◌-◌, ◌<◌, ◌≤◌, ◌⊎◌, inl, inr, ⊎_elim, Bool, true, false, List, [], ◌∷◌, ◌++◌, length, take, drop, get_or, slice_get, slice_set, IfSome, SomeIff, Option, Some, None, sym, subst, refl, ◌∙◌, ap, arith, length-append}
+use Rattle.std.proofs.Common.{◌≡◌, ◌↔◌, ℕ, zero, suc, ◌+◌, ◌-◌, ◌*◌, ◌<◌, ◌≤◌, ◌⊎◌, inl, inr, ⊎_elim, Bool, true, false, List, [], ◌∷◌, ◌++◌, length, take, drop, get_or, slice_get, slice_set, IfSome, SomeIff, Option, Some, None, sym, subst, refl, ◌∙◌, ap, arith, length-append}
 use Rattle.std.proofs.lemmas.Bool.{false≢true, cases_lt}
 use Rattle.std.proofs.lemmas.Option.{none-some, same_Some, slice_get_within, slice_get-get_or}
 use Rattle.std.proofs.lemmas.List.{take_all, take-append-le}
 use Rattle.vp9_types.specs.declared.job.JobName.{JobName}
+use Rattle.vp9_types.specs.declared.job.JobName.TheVariants.{Column, Close, Rows, Filter, Write}
 use Rattle.job_order.specs.declared.segment.Segment.{Segment}
+use Rattle.job_order.specs.declared.segment.Segment.TheVariants.{Parse, Build}
 use Rattle.job_order.specs.JobSegments.{jobs_of, jobs_in, job_at}
 use Rattle.job_order.proofs.Places.{got_left, got_right, got_either, only, IsBehindIn}
+use Rattle.job_order.proofs.Orders.{StandsIn, got}
 use Rattle.job_crew.specs.Events.{IsMarked, AreStarts}
 
 pub none_marked : (ticket : ℕ) → IsMarked 0 [] ticket → ⊥
@@ -122,3 +125,30 @@ pub ticket_if : (segments : List Segment) (starts : List ℕ) (place k : ℕ) (e
 ticket_if segments starts place k e P None job h inside within stands is = tt
 ticket_if segments starts place k e P (Some ticket) job h inside within stands is =
     ticket_at segments starts place (get_or starts place 0) k ticket (get_or segments place e) job h (slice_get-get_or starts place 0 within) (slice_get-get_or segments place e inside) stands is.1
+
+-- the place of a job in a segment
+pub column_place : (g own columns c : ℕ) (job : JobName) → job ≡ Column own c → own ≡ g → c < columns → slice_get (jobs_of (Parse g columns)) c ≡ Some job
+column_place g own columns c job is same less = subst (λ j. slice_get (jobs_of (Parse g columns)) c ≡ Some j) (sym is) (got (Parse g columns) (Column own c) c (same, less, refl))
+
+pub close_place : (g own columns : ℕ) (job : JobName) → job ≡ Close own → own ≡ g → slice_get (jobs_of (Parse g columns)) columns ≡ Some job
+close_place g own columns job is same = subst (λ j. slice_get (jobs_of (Parse g columns)) columns ≡ Some j) (sym is) (got (Parse g columns) (Close own) columns (same, refl))
+
+module _ (g columns rows : ℕ) (job : JobName) where
+  place_behind : (other : JobName) (n : ℕ) (P : Type 0) (found : Option ℕ) → job ≡ other → StandsIn (Build g columns rows None) other (1 + n) → SomeIff found P (n + 1)
+      → IfSome found (λ place. slice_get (jobs_of (Build g columns rows None)) place ≡ Some job)
+  place_behind other n P None is stands so = tt
+  place_behind other n P (Some place) is stands so =
+      subst (λ i. slice_get (jobs_of (Build g columns rows None)) i ≡ Some job) (let e = so.1 in let z : 1 + n ≡ place = omega (arith, e) in z)
+      (subst (λ j. slice_get (jobs_of (Build g columns rows None)) (1 + n) ≡ Some j) (sym is) (got (Build g columns rows None) other (1 + n) stands))
+
+  pub rows_place : (own c r : ℕ) (P : Type 0) (found : Option ℕ) → job ≡ Rows own c r → own ≡ g → c < columns → r < rows → SomeIff found P (r * (columns + 1) + c + 1)
+      → IfSome found (λ place. slice_get (jobs_of (Build g columns rows None)) place ≡ Some job)
+  rows_place own c r P found is same column row so = place_behind (Rows own c r) (r * (columns + 1) + c) P found is (same, column, row, refl) so
+
+  pub filter_place : (own r : ℕ) (P : Type 0) (found : Option ℕ) → job ≡ Filter own r → own ≡ g → r < rows → SomeIff found P (r * (columns + 1) + columns + 1)
+      → IfSome found (λ place. slice_get (jobs_of (Build g columns rows None)) place ≡ Some job)
+  filter_place own r P found is same row so = place_behind (Filter own r) (r * (columns + 1) + columns) P found is (same, row, refl) so
+
+  pub write_place : (own : ℕ) (P : Type 0) (found : Option ℕ) → job ≡ Write own → own ≡ g → SomeIff found P (rows * (columns + 1) + 1)
+      → IfSome found (λ place. slice_get (jobs_of (Build g columns rows None)) place ≡ Some job)
+  write_place own P found is same so = place_behind (Write own) (rows * (columns + 1)) P found is (same, refl) so

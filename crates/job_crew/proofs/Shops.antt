@@ -21,7 +21,7 @@ use Rattle.job_order.proofs.Places.{only}
 use Rattle.job_order.proofs.Keeps.{opening_order}
 use Rattle.job_order.proofs.Readiness.{band_of}
 use Rattle.job_crew.specs.Runs.{IsDue}
-use Rattle.job_crew.specs.Code.{AreDue, IsPool, HasPut}
+use Rattle.job_crew.specs.Code.{AreDue, Fits, IsPool, HasPut}
 use Rattle.job_crew.specs.Events.{CanDo, Covers, HasPassed, MayBegin, IsMarked, IsDoneBy, AreStarts, IsWorld, IsShop}
 use Rattle.job_crew.proofs.Due.{parse_due, build_due, last_due}
 use Rattle.job_crew.proofs.Marked.{starts_more}
@@ -37,6 +37,16 @@ row_before band last rows row filter le next end by =
     (λ (l : rows ≤ last + 1).
     let f = end l in ⊎_elim (λ (b : (row ≡ band + 1) × (band + 1 < rows)). omega (arith, f, b.0, b.1, l)) (λ (b : (row ≡ band) × (band + 1 ≡ rows)). omega (arith, f, b.0, le)) by)
     (cases_lt (last + 1) rows)
+
+-- what was put behind the segments
+pub puts_same : (segments more : List Segment) (starts begins : List ℕ) (before sum : ℕ) (o : Option Segment) → HasPut segments starts before o more begins sum → more ≡ and_published segments o
+puts_same segments more starts begins before sum None put = put.0
+puts_same segments more starts begins before sum (Some s) put = put.1
+
+pub puts_next : (segments more : List Segment) (starts begins : List ℕ) (before sum : ℕ) (o : Option Segment) → HasPut segments starts before o more begins sum → (s : Segment) → o ≡ Some s
+    → Fits segments s
+puts_next segments more starts begins before sum None put s is = absurd (none-some s is)
+puts_next segments more starts begins before sum (Some first) put s is = subst (λ y. Fits segments y) (same_Some first s is) put.0
 
 module _ {X : Type 0} (m : Rules X) (t : Truth X) where
   opened_due : (job : JobName) → Head 0 ≡ job → IsDue m t job

@@ -1,6 +1,6 @@
 -- What the crew keeps of the jobs and of its seats.
-use Rattle.std.specs.Prelude.{◌≡◌, ℕ, ◌+◌, ◌<◌, ◌≤◌, Bool, false, List, [], ◌∷◌, ◌++◌, length, map, Option, Some, None, All, slice_get, slice_set, nat_eq, nat_lt, if◌then◌else◌}
-use Rattle.std.specs.List.{remove, filter, list_any}
+use Rattle.std.specs.Prelude.{◌≡◌, ℕ, ◌+◌, ◌<◌, ◌≤◌, ◌⊎◌, Bool, true, false, List, [], ◌∷◌, ◌++◌, length, map, Option, Some, None, All, slice_get, slice_set, nat_eq, nat_lt, if◌then◌else◌}
+use Rattle.std.specs.List.{find, remove, filter, list_any}
 use Rattle.std.specs.Option.{option_eq}
 use Rattle.vp9_types.specs.declared.job.JobName.{JobName}
 use Rattle.vp9_types.specs.declared.job.JobName.TheVariants.{Head, Column, Close, Rows, Filter, Write, End}
@@ -9,7 +9,7 @@ use Rattle.job_order.specs.declared.segment.Segment.TheVariants.{Build, Last}
 use Rattle.job_order.specs.declared.segment.Shown.{Shown}
 use Rattle.job_order.specs.declared.order.Mark.{Mark}
 use Rattle.job_order.specs.JobSegments.{jobs_of, jobs_in, job_at, InOrder, IsListed, StandsAt}
-use Rattle.job_order.specs.Worlds.{Rules}
+use Rattle.job_order.specs.Worlds.{Rules, and_published}
 use Rattle.job_order.specs.Truths.{Truth}
 use Rattle.job_order.specs.Code.{IsMark}
 use Rattle.progress_board.specs.Code.{BoardParts, SeatParts}
@@ -26,15 +26,29 @@ pub record Fits (segments : List Segment) (s : Segment) : Type 0 where
   pub shown : (f columns rows : ℕ) (shown : Shown) → s ≡ Build f columns rows (Some shown) → shown.frame ≤ f
   pub goes_on : (place f : ℕ) → place + 1 ≡ length segments → slice_get segments place ≡ Some (Last f) → ⊥
 
--- a frame of so many superblock rows keeps the result of the job as long as later frames may ask for it
+-- the result of the job is asked for by jobs of its own frame, and of later frames by those of the next one alone
+abbrev pub HasHeadCell : JobName → Type 0
+HasHeadCell (Head f) = Unit {0}
+HasHeadCell (Column f c) = ⊥
+HasHeadCell (Close f) = Unit {0}
+HasHeadCell (Rows f c r) = ⊥
+HasHeadCell (Filter f r) = ⊥
+HasHeadCell (Write f) = ⊥
+HasHeadCell (End f) = ⊥
+
+-- a frame of so many superblock rows keeps the result of the job as long as jobs of any later frame may ask for it
+abbrev pub HasRowCell : ℕ → JobName → Type 0
+HasRowCell rows (Head f) = ⊥
+HasRowCell rows (Column f c) = ⊥
+HasRowCell rows (Close f) = ⊥
+HasRowCell rows (Rows f c r) = ⊥
+HasRowCell rows (Filter f r) = r < rows
+HasRowCell rows (Write f) = Unit {0}
+HasRowCell rows (End f) = ⊥
+
+-- it keeps the result of the job in one of these ways
 abbrev pub HasLastingCell : ℕ → JobName → Type 0
-HasLastingCell rows (Head f) = Unit {0}
-HasLastingCell rows (Column f c) = ⊥
-HasLastingCell rows (Close f) = Unit {0}
-HasLastingCell rows (Rows f c r) = ⊥
-HasLastingCell rows (Filter f r) = r < rows
-HasLastingCell rows (Write f) = Unit {0}
-HasLastingCell rows (End f) = ⊥
+HasLastingCell rows job = HasHeadCell job ⊎ HasRowCell rows job
 
 -- what is kept by superblock row and may still be asked for when the job is finished: once a row is filtered, that row, unless it is the last one,
 -- and all below it
@@ -88,6 +102,12 @@ abbrev pub Puts : PoolParts → ℕ → JobName → PoolParts → Type 0
 Puts old ticket job new =
     (ticket ≡ old.drawn) × (job_at old.segments ticket ≡ Some job) × (new ≡ record old { names = old.names ++ job ∷ []; drawn = ticket + 1; marks = old.marks ++ false ∷ [] })
 
+-- The job, which was drawn and not finished, is finished. What it publishes comes next, and the run is over, if so.
+abbrev pub Finishes : PoolParts → JobName → Option Segment → Bool → PoolParts → Type 0
+Finishes old job publishes ends new =
+    (at : ℕ) × (job_at old.segments (old.base + at) ≡ Some job) × (slice_get old.marks at ≡ Some false) × ((s : Segment) → publishes ≡ Some s → Fits old.segments s)
+    × (new ≡ record old { segments = and_published old.segments publishes; marks = slice_set old.marks at true; over = ends })
+
 -- the job at this place is taken out
 abbrev pub TakesOut : PoolParts → ℕ → JobName → PoolParts → Type 0
 TakesOut old at job new = (slice_get old.names at ≡ Some job) × (new ≡ record old { names = remove old.names at })
@@ -114,3 +134,7 @@ is_named live frame = list_any (λ name. option_eq nat_eq name (Some frame)) liv
 
 abbrev pub kept : List (Option ℕ) → List ℕ → List ℕ
 kept live frames = filter (is_named live) frames
+
+-- the first of these that has the number
+abbrev pub numbered : {A : Type 0} → List A → (A → ℕ) → ℕ → Option A
+numbered xs number n = find (λ x. nat_eq (number x) n) xs

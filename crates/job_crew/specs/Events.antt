@@ -66,6 +66,10 @@ pub record IsShop {X : Type 0} (m : Rules X) (t : Truth X) (own : ℕ) (publishe
 abbrev pub MayBegin : {X : Type 0} → Rules X → ℕ → JobName → Type 0
 MayBegin {X} m window job = (w : WorldState X) × IsReached m window w × IsReady m w job
 
+-- and in such a world the job has this result.
+abbrev pub IsLogged : {X : Type 0} → Rules X → ℕ → JobName → X → Type 0
+IsLogged {X} m window job x = (w : WorldState X) × IsReached m window w × HasResult w.finished job x
+
 -- in this world the run's last job has the result by which it ended
 abbrev pub EndsIn : {X : Type 0} → WorldState X → Ending X → Type 0
 EndsIn w (Whole f x) = HasResult w.finished (End f) x

@@ -1,6 +1,6 @@
 ghost use Rattle.std.specs.Prelude.{◌≡◌, ℕ, ◌+◌, ◌*◌, ◌<◌, length, slice_get, Option, Some, IfOk, IfSome, IsSome};
 ghost use Rattle.job_order.specs.Sound.{frame_of};
-ghost use Rattle.job_crew.specs.Code.{HasLastingCell};
+ghost use Rattle.job_crew.specs.Code.{HasHeadCell, HasRowCell};
 
 use crate::finished::Finished;
 use job_order::Meaning;
@@ -11,16 +11,22 @@ use vp9_types::JobName;
 /// The result of a job, once it is finished.
 pub(crate) type Cell<X, M> = OnceLock<Finished<X, M>>;
 
-/// The results of a frame's jobs that later frames may ask for, and its write's, each set once.
+/// The results of a frame's filters, which the rows of later frames may ask for, and its write's, each set once.
 #[derive(Drop)]
 pub(crate) struct FrameCells<X: Drop, M: Meaning<X>> {
     pub(crate) frame: u64,
     pub(crate) rows: u32,
-    head: Cell<X, M>,
-    pub(crate) close: Cell<X, M>,
     pub(crate) filters: Vec<Cell<X, M>>,
     write: Cell<X, M>,
     ghost filters_are: { length filters.items ≡ rows },
+}
+
+/// The results of a frame's head and its close, which none but its own jobs and those of the next frame ask for, each set once.
+#[derive(Drop)]
+pub(crate) struct HeadCells<X: Drop, M: Meaning<X>> {
+    pub(crate) frame: u64,
+    head: Cell<X, M>,
+    pub(crate) close: Cell<X, M>,
 }
 
 /// Results for each tile column of a frame, which none but its own jobs ask for, each set once.
@@ -49,8 +55,6 @@ impl<X: Drop, M: Meaning<X>> FrameCells<X, M> {
         Ok(FrameCells {
             frame,
             rows,
-            head: OnceLock::new(),
-            close: OnceLock::new(),
             filters: blanks(alloc, rows)?,
             write: OnceLock::new(),
         })
@@ -62,16 +66,43 @@ impl<X: Drop, M: Meaning<X>> FrameCells<X, M> {
         self.frame
     }
 
-    /// The cell of a job of the frame, where it stays.
+    /// The cell of a filter of the frame, or of its write.
     pub(crate) fn cell(&self, job: JobName) -> Option<&Cell<X, M>>
-        ensures { HasLastingCell self.now.rows job → IsSome result }
+        ensures { HasRowCell self.now.rows job → IsSome result }
+    {
+        match job {
+            JobName::Filter { row, .. } => self.filters.get(row as usize),
+            JobName::Write { .. } => Some(&self.write),
+            _ => None,
+        }
+    }
+}
+
+impl<X: Drop, M: Meaning<X>> HeadCells<X, M> {
+    pub(crate) fn new(frame: u64) -> HeadCells<X, M>
+        ensures { result.frame ≡ frame }
+    {
+        HeadCells {
+            frame,
+            head: OnceLock::new(),
+            close: OnceLock::new(),
+        }
+    }
+
+    pub(crate) fn frame(&self) -> u64
+        ensures { result ≡ self.now.frame }
+    {
+        self.frame
+    }
+
+    /// The cell of the frame's head, or of its close.
+    pub(crate) fn cell(&self, job: JobName) -> Option<&Cell<X, M>>
+        ensures { HasHeadCell job → IsSome result }
     {
         match job {
             JobName::Head { .. } => Some(&self.head),
             JobName::Close { .. } => Some(&self.close),
-            JobName::Filter { row, .. } => self.filters.get(row as usize),
-            JobName::Write { .. } => Some(&self.write),
-            JobName::Column { .. } | JobName::Rows { .. } | JobName::End { .. } => None,
+            _ => None,
         }
     }
 }

@@ -1,12 +1,12 @@
 ghost use Rattle.std.specs.Prelude.{◌≡◌, ℕ, ◌<◌, ◌≤◌, ◌++◌, ◌∷◌, [], true, false, length, All, Some, None, slice_get, IfSome, IfNone, IfOk, IfErr};
 ghost use Rattle.vp9_types.specs.declared.job.JobName.TheVariants.{Head, Close, Write, End};
 ghost use Rattle.job_order.specs.JobSegments.{IsListed};
-ghost use Rattle.job_order.specs.Worlds.{WorldState, HasResult, IsReached, built, published};
+ghost use Rattle.job_order.specs.Worlds.{built, published};
 ghost use Rattle.job_crew.specs.declared.outlet.Content.TheVariants.{Open};
 ghost use Rattle.job_order.specs.Sound.{texts_below};
 ghost use Rattle.job_crew.specs.Runs.{IsDue, IsEnded};
 ghost use Rattle.edge_io.specs.Putting.{Takes};
-ghost use Rattle.job_crew.specs.Events.{CanDo, Covers, HasPassed, MayBegin, HasEvents};
+ghost use Rattle.job_crew.specs.Events.{CanDo, Covers, HasPassed, MayBegin, IsLogged, HasEvents};
 ghost use Rattle.job_crew.specs.Code.{TakesOut, IsSeated, IsSeatedStill, IsAway};
 ghost use Rattle.job_crew.specs.Left.{HasRightResults};
 
@@ -14,18 +14,19 @@ use crate::cells::Cell;
 use crate::finished::Finished;
 use crate::frame::Frame;
 use crate::frames::Frames;
-use crate::jobs::{Jobs, LIVE, Layout, Output, Start};
+use crate::jobs::{Jobs, LIVE, Layout, Output, Start, Window};
 use crate::left::{Ran, left_of};
 use crate::lent::Lent;
 use crate::news::{NO_BANDS, News};
 use crate::outlet::{Content, Ending, Outlet, Over, Placed, Told};
 use crate::pool::Pool;
+use crate::seats::{join_all, make_seats};
 use crate::work::{AtWork, FrameWork, Gone, Loan, Strips, nothing};
 use edge_io::Gate;
 use job_order::{Meaning, Segment};
 use progress_board::{Board, Refused, Seat};
 use std::alloc::{AllocError, Global};
-use std::marker::PhantomData;
+use std::marker::{Brand, PhantomData};
 use std::sync::{Condvar, Mutex, OnceLock, Wait};
 use std::thread;
 use std::thread::Threads;
@@ -53,8 +54,8 @@ pub struct Run<'a, J, G> {
 
 // What lies under the lock: jobs, and what they are lent.
 #[derive(Drop)]
-struct Shop<X: Drop, M: Meaning<X> + Start> {
-    pool: Pool<X, M>,
+struct Shop<X: Drop, M: Meaning<X>, W: Window> {
+    pool: Pool<X, M, W>,
     frames: Frames<X, M>,
 }
 
@@ -70,18 +71,18 @@ struct Begun<X: Drop, M: Meaning<X>> {
 
 // What the workers share.
 #[derive(Drop)]
-struct Crew<'a, X: Drop, M: Meaning<X> + Start, K: Output<X>, J, G> {
+struct Crew<'a, X: Drop, M: Meaning<X> + Start, K: Output<X>, W: Window, J, G> {
     run: &'a Run<'a, J, G>,
-    shop: &'a Mutex<Shop<X, M>>,
+    shop: &'a Mutex<Shop<X, M, W>>,
     // the head's result that says that the run ends
     last: &'a Cell<X, M>,
     moved: &'a Condvar,
-    board: &'a Board<Placed<X, M, K>>,
+    board: &'a Board<Placed<X, M, K, W>>,
 }
 
-fn placed<X: Drop, M: Meaning<X> + Start, K: Output<X>>(
-    content: Content<X, M, K>,
-) -> Placed<X, M, K>
+fn placed<X: Drop, M: Meaning<X> + Start, K: Output<X>, W: Window>(
+    content: Content<X, M, K, W>,
+) -> Placed<X, M, K, W>
     ensures slot { result.slot ≡ 1 }
     ensures content { result.content ≡ content }
 {
@@ -100,11 +101,12 @@ fn is_parsing(job: JobName) -> bool {
 }
 
 // A job is ready where its needs are finished.
-impl<'a, X: Drop, M: Meaning<X> + Start, K: Output<X>, J: Jobs<X, M, K>, G: Gate> Crew<
+impl<'a, X: Drop, M: Meaning<X> + Start, K: Output<X>, W: Window, J: Jobs<X, M, K>, G: Gate> Crew<
     'a,
     X,
     M,
     K,
+    W,
     J,
     G,
 > {
@@ -156,14 +158,16 @@ impl<'a, X: Drop, M: Meaning<X> + Start, K: Output<X>, J: Jobs<X, M, K>, G: Gate
         &self,
         rt: &R,
         frames: &Frames<X, M>,
-        pool: &Pool<X, M>,
+        pool: &Pool<X, M, W>,
         job: JobName,
     ) -> bool
         requires listed { IsListed pool.now.segments job }
         requires due { IsDue M.rules M.truth job }
-        ensures { result ≡ true → MayBegin M.rules M.window job }
+        ensures { result ≡ true → MayBegin M.rules W.window job }
     {
-        if !pool.has_needs(job, NO_BANDS) {
+        if let JobName::Rows { .. } = job
+            && !pool.has_needs(job, NO_BANDS)
+        {
             return false;
         }
         let reads = self.reads(rt, frames, job);
@@ -175,10 +179,10 @@ impl<'a, X: Drop, M: Meaning<X> + Start, K: Output<X>, J: Jobs<X, M, K>, G: Gate
         &self,
         rt: &R,
         frames: &Frames<X, M>,
-        pool: &Pool<X, M>,
+        pool: &Pool<X, M, W>,
         parses: bool,
     ) -> Option<usize>
-        ensures { IfSome result (λ at. IfSome (slice_get pool.now.names at) (MayBegin M.rules M.window)) }
+        ensures { IfSome result (λ at. IfSome (slice_get pool.now.names at) (MayBegin M.rules W.window)) }
     {
         for at in 0..pool.len() {
             if let Some(job) = pool.name(at)
@@ -192,8 +196,13 @@ impl<'a, X: Drop, M: Meaning<X> + Start, K: Output<X>, J: Jobs<X, M, K>, G: Gate
     }
 
     // The place of the job that is to be done next. One worker goes by tickets, which takes the least memory.
-    fn next_place<R: Wait>(&self, rt: &R, frames: &Frames<X, M>, pool: &Pool<X, M>) -> Option<usize>
-        ensures { IfSome result (λ at. IfSome (slice_get pool.now.names at) (MayBegin M.rules M.window)) }
+    fn next_place<R: Wait>(
+        &self,
+        rt: &R,
+        frames: &Frames<X, M>,
+        pool: &Pool<X, M, W>,
+    ) -> Option<usize>
+        ensures { IfSome result (λ at. IfSome (slice_get pool.now.names at) (MayBegin M.rules W.window)) }
     {
         if self.run.workers > 1
             && let Some(at) = self.ready_place(rt, frames, pool, true)
@@ -208,19 +217,19 @@ impl<'a, X: Drop, M: Meaning<X> + Start, K: Output<X>, J: Jobs<X, M, K>, G: Gate
         &self,
         rt: &R,
         frames: &Frames<X, M>,
-        pool: &mut Pool<X, M>,
+        pool: &mut Pool<X, M, W>,
     ) -> Option<JobName>
         ensures some { IfSome result (λ job. (at : ℕ) × TakesOut pool.old at job pool.new) }
         ensures none { IfNone result (pool.new ≡ pool.old) }
         ensures due { IfSome result (λ job. IsDue M.rules M.truth job) }
-        ensures ready { IfSome result (MayBegin M.rules M.window) }
+        ensures ready { IfSome result (MayBegin M.rules W.window) }
     {
         let at = self.next_place(rt, frames, pool)?;
         pool.remove(at)
     }
 
     // Draws a ticket, whose job goes into the pool. None is drawn once the run is over.
-    fn draw(&self, pool: &mut Pool<X, M>, seat: &mut Seat<Placed<X, M, K>>)
+    fn draw(&self, pool: &mut Pool<X, M, W>, seat: &mut Seat<Placed<X, M, K, W>>)
         requires room { length pool.old.names < pool.old.room }
         requires goes_on { pool.old.over ≡ false }
         requires seat { IsSeated self.now.board.now seat.old }
@@ -236,14 +245,14 @@ impl<'a, X: Drop, M: Meaning<X> + Start, K: Output<X>, J: Jobs<X, M, K>, G: Gate
         &self,
         rt: &R,
         frames: &Frames<X, M>,
-        pool: &mut Pool<X, M>,
-        seat: &mut Seat<Placed<X, M, K>>,
+        pool: &mut Pool<X, M, W>,
+        seat: &mut Seat<Placed<X, M, K, W>>,
     ) -> Option<JobName>
         requires goes_on { pool.old.over ≡ false }
         requires seat { IsSeated self.now.board.now seat.old }
         ensures seat { IsSeatedStill seat.old seat.new }
         ensures due { IfSome result (λ job. IsDue M.rules M.truth job) }
-        ensures ready { IfSome result (MayBegin M.rules M.window) }
+        ensures ready { IfSome result (MayBegin M.rules W.window) }
     {
         for _ in 0..POOL_ROOM {
             pool.let_mark_go();
@@ -256,11 +265,15 @@ impl<'a, X: Drop, M: Meaning<X> + Start, K: Output<X>, J: Jobs<X, M, K>, G: Gate
     }
 
     // A job to do. There is none once the run is over.
-    fn wait_for_job<R: Wait>(&self, rt: &R, seat: &mut Seat<Placed<X, M, K>>) -> Option<Begun<X, M>>
+    fn wait_for_job<R: Wait>(
+        &self,
+        rt: &R,
+        seat: &mut Seat<Placed<X, M, K, W>>,
+    ) -> Option<Begun<X, M>>
         requires seat { IsSeated self.now.board.now seat.old }
         ensures seat { IsSeatedStill seat.old seat.new }
         ensures due { IfSome result (λ begun. IsDue M.rules M.truth begun.job) }
-        ensures ready { IfSome result (λ begun. MayBegin M.rules M.window begun.job) }
+        ensures ready { IfSome result (λ begun. MayBegin M.rules W.window begun.job) }
     {
         let mut guard = self.shop.lock(rt);
         if guard.pool.has_waiter() {
@@ -283,7 +296,7 @@ impl<'a, X: Drop, M: Meaning<X> + Start, K: Output<X>, J: Jobs<X, M, K>, G: Gate
     }
 
     // Takes the outlet where the frame's write comes next. Where it doesn't, the outlet stays.
-    fn take_outlet(&self, seat: &mut Seat<Placed<X, M, K>>, frame: u64) -> Option<K>
+    fn take_outlet(&self, seat: &mut Seat<Placed<X, M, K, W>>, frame: u64) -> Option<K>
         requires seat { IsSeated self.now.board.now seat.old }
         ensures taken { IfSome result (λ output. Takes M.taken (K.taken output) (texts_below M.truth.text frame)) }
         ensures may { IfSome result (λ output. K.may_put output) }
@@ -302,14 +315,15 @@ impl<'a, X: Drop, M: Meaning<X> + Start, K: Output<X>, J: Jobs<X, M, K>, G: Gate
 }
 
 // What each job does, and what comes of its result.
-impl<'a, X: Drop, M: Meaning<X> + Start, K: Output<X> + Drop, J: Jobs<X, M, K>, G: Gate> Crew<
+impl<
     'a,
-    X,
-    M,
-    K,
-    J,
-    G,
-> {
+    X: Drop,
+    M: Meaning<X> + Start,
+    K: Output<X> + Drop,
+    W: Window,
+    J: Jobs<X, M, K>,
+    G: Gate,
+> Crew<'a, X, M, K, W, J, G> {
     // What a job reads of other frames, of what it is lent.
     fn reads_of<R: Wait>(&self, rt: &R, held: &Held<X, M>, job: JobName) -> [Option<BandSpan>; 3]
         requires due { IsDue M.rules M.truth job }
@@ -334,7 +348,7 @@ impl<'a, X: Drop, M: Meaning<X> + Start, K: Output<X> + Drop, J: Jobs<X, M, K>, 
         let mut guard = self.shop.lock(rt);
         let shop = &mut *guard;
         if shop.pool.finish(news, &value) {
-            shop.frames.finish(held, news.job, value)
+            shop.frames.finish::<W>(held, news.job, value)
         } else {
             nothing()
         }
@@ -404,9 +418,16 @@ impl<'a, X: Drop, M: Meaning<X> + Start, K: Output<X> + Drop, J: Jobs<X, M, K>, 
         let mut guard = self.shop.lock(rt);
         drop(held);
         if guard.pool.finish(news, &value) {
-            made.set_head(news.job, value);
+            made.set_head::<W>(news.job, value);
             guard.frames.put(made);
         }
+    }
+
+    fn set_last(&self, job: JobName, value: X)
+        requires right { M.truth.right job value }
+        requires event { IsLogged M.rules W.window job value }
+    {
+        let _ = self.last.try_set(Finished::new(job, value));
     }
 
     // The head's result says that the run ends.
@@ -418,7 +439,7 @@ impl<'a, X: Drop, M: Meaning<X> + Start, K: Output<X> + Drop, J: Jobs<X, M, K>, 
         let news = News::new(job, Some(Segment::Last { frame }));
         let mut guard = self.shop.lock(rt);
         if guard.pool.finish(news, &value) {
-            let _ = self.last.try_set(Finished::new(job, value));
+            self.set_last(job, value);
         }
     }
 
@@ -465,7 +486,7 @@ impl<'a, X: Drop, M: Meaning<X> + Start, K: Output<X> + Drop, J: Jobs<X, M, K>, 
         self.complete(rt, held, News::new(job, Some(segment)), value);
     }
 
-    fn give_outlet(&self, seat: &mut Seat<Placed<X, M, K>>, content: Content<X, M, K>)
+    fn give_outlet(&self, seat: &mut Seat<Placed<X, M, K, W>>, content: Content<X, M, K, W>)
         requires seat { (seat.old.board ≡ self.now.board.now.board) × (seat.old.view.has ≡ 1 ∷ []) }
         ensures seat { IsSeatedStill seat.old seat.new }
     {
@@ -477,7 +498,7 @@ impl<'a, X: Drop, M: Meaning<X> + Start, K: Output<X> + Drop, J: Jobs<X, M, K>, 
         requires right { M.truth.right job value.now }
         requires covers { Covers M.rules job (None ∷ None ∷ None ∷ []) }
         requires publishes { published M.rules job value.now ≡ None }
-        ensures { result ≡ true → (w : WorldState X) × IsReached M.rules M.window w × HasResult w.finished job value.now }
+        ensures { result ≡ true → IsLogged M.rules W.window job value.now }
     {
         let mut news = News::new(job, None);
         news.ends = true;
@@ -485,10 +506,10 @@ impl<'a, X: Drop, M: Meaning<X> + Start, K: Output<X> + Drop, J: Jobs<X, M, K>, 
     }
 
     // The run is over.
-    fn end(&self, seat: &mut Seat<Placed<X, M, K>>, ending: Ending<X>, output: K)
+    fn end(&self, seat: &mut Seat<Placed<X, M, K, W>>, ending: Ending<X>, output: K)
         requires seat { (seat.old.board ≡ self.now.board.now.board) × (seat.old.view.has ≡ 1 ∷ []) }
         requires ended { IsEnded M.rules M.truth M.taken ending (K.taken output) (K.may_put output) (K.has_refused output) }
-        requires events { HasEvents M.rules M.window ending }
+        requires events { HasEvents M.rules W.window ending }
         ensures seat { IsSeatedStill seat.old seat.new }
     {
         self.give_outlet(seat, Content::Over(Over::new(ending, output)));
@@ -507,7 +528,7 @@ impl<'a, X: Drop, M: Meaning<X> + Start, K: Output<X> + Drop, J: Jobs<X, M, K>, 
         &self,
         rt: &R,
         held: Held<X, M>,
-        seat: &mut Seat<Placed<X, M, K>>,
+        seat: &mut Seat<Placed<X, M, K, W>>,
         frame: u64,
     )
         requires seat { IsSeated self.now.board.now seat.old }
@@ -540,7 +561,7 @@ impl<'a, X: Drop, M: Meaning<X> + Start, K: Output<X> + Drop, J: Jobs<X, M, K>, 
         &self,
         rt: &R,
         held: Held<X, M>,
-        seat: &mut Seat<Placed<X, M, K>>,
+        seat: &mut Seat<Placed<X, M, K, W>>,
         frame: u64,
     )
         requires seat { IsSeated self.now.board.now seat.old }
@@ -559,7 +580,7 @@ impl<'a, X: Drop, M: Meaning<X> + Start, K: Output<X> + Drop, J: Jobs<X, M, K>, 
         }
     }
 
-    fn do_job<R: Wait>(&self, rt: &R, seat: &mut Seat<Placed<X, M, K>>, begun: Begun<X, M>)
+    fn do_job<R: Wait>(&self, rt: &R, seat: &mut Seat<Placed<X, M, K, W>>, begun: Begun<X, M>)
         requires seat { IsSeated self.now.board.now seat.old }
         requires due { IsDue M.rules M.truth begun.job }
         ensures seat { IsSeatedStill seat.old seat.new }
@@ -580,7 +601,7 @@ impl<'a, X: Drop, M: Meaning<X> + Start, K: Output<X> + Drop, J: Jobs<X, M, K>, 
     }
 
     // Does jobs until the run is over.
-    fn work<R: Wait>(&self, rt: &R, seat: &mut Seat<Placed<X, M, K>>)
+    fn work<R: Wait>(&self, rt: &R, seat: &mut Seat<Placed<X, M, K, W>>)
         requires seat { IsSeated self.now.board.now seat.old }
         ensures seat { IsSeatedStill seat.old seat.new }
     {
@@ -596,11 +617,11 @@ impl<'a, X: Drop, M: Meaning<X> + Start, K: Output<X> + Drop, J: Jobs<X, M, K>, 
     }
 
     // What the run leaves, where it is over.
-    fn take_told(&self, seat: &mut Seat<Placed<X, M, K>>) -> Option<Told<X, K>>
+    fn take_told(&self, seat: &mut Seat<Placed<X, M, K, W>>) -> Option<Told<X, K>>
         requires seat { IsSeated self.now.board.now seat.old }
         ensures seat { IsSeatedStill seat.old seat.new }
         ensures told { IfSome result (λ told. IsEnded M.rules M.truth M.taken told.ending (K.taken told.output) (K.may_put told.output) (K.has_refused told.output)) }
-        ensures events { IfSome result (λ told. HasEvents M.rules M.window told.ending) }
+        ensures events { IfSome result (λ told. HasEvents M.rules W.window told.ending) }
     {
         let Placed { content, .. } = self.board.take(seat, OUTLET)?;
         match content {
@@ -616,11 +637,11 @@ impl<'a, X: Drop, M: Meaning<X> + Start, K: Output<X> + Drop, J: Jobs<X, M, K>, 
     }
 
     // Does what is left, and takes what the run leaves.
-    fn finish<R: Wait>(&self, rt: &R, seat: &mut Seat<Placed<X, M, K>>) -> Told<X, K>
+    fn finish<R: Wait>(&self, rt: &R, seat: &mut Seat<Placed<X, M, K, W>>) -> Told<X, K>
         requires seat { IsSeated self.now.board.now seat.old }
         ensures seat { IsSeatedStill seat.old seat.new }
         ensures told { IsEnded M.rules M.truth M.taken result.ending (K.taken result.output) (K.may_put result.output) (K.has_refused result.output) }
-        ensures events { HasEvents M.rules M.window result.ending }
+        ensures events { HasEvents M.rules W.window result.ending }
     {
         for _ in rt.forever() {
             self.work(rt, seat);
@@ -632,56 +653,16 @@ impl<'a, X: Drop, M: Meaning<X> + Start, K: Output<X> + Drop, J: Jobs<X, M, K>, 
     }
 }
 
-fn make_seats<X: Drop, M: Meaning<X> + Start, K: Output<X>>(
-    alloc: Global,
-    board: &Board<Placed<X, M, K>>,
-    first: &mut Seat<Placed<X, M, K>>,
-    workers: u8,
-) -> Vec<Seat<Placed<X, M, K>>>
-    requires board { first.old.board ≡ board.now.board }
-    requires leads { (first.old.view.leads ≡ true) × (first.old.view.out ≡ 0) × (first.old.view.has ≡ []) }
-    ensures board { first.new.board ≡ board.now.board }
-    ensures leads { (first.new.view.leads ≡ true) × (first.new.view.has ≡ []) }
-    ensures out { first.new.view.out ≡ length result.items }
-    ensures seats { All (λ s. IsSeated board.now s) result.items }
-{
-    let mut seats = Vec::new(alloc);
-    for _ in 0..workers {
-        if seats.reserve(1).is_err() {
-            break;
-        }
-        seats.push_reserved(board.split(first));
-    }
-    seats
-}
-
-fn join_all<X: Drop, M: Meaning<X> + Start, K: Output<X>>(
-    board: &Board<Placed<X, M, K>>,
-    first: &mut Seat<Placed<X, M, K>>,
-    seats: Vec<Seat<Placed<X, M, K>>>,
-)
-    requires board { first.old.board ≡ board.now.board }
-    requires leads { (first.old.view.leads ≡ true) × (first.old.view.has ≡ []) }
-    requires out { first.old.view.out ≡ length seats.items }
-    requires seats { All (λ s. IsSeated board.now s) seats.items }
-    ensures board { first.new.board ≡ board.now.board }
-    ensures leads { (first.new.view.leads ≡ true) × (first.new.view.out ≡ 0) × (first.new.view.has ≡ []) }
-{
-    let mut seats = seats;
-    while let Some(seat) = seats.pop() {
-        board.join(first, seat);
-    }
-}
-
 // Each seat's worker does jobs until the run is over.
 fn work_all<
     X: Drop + Send + Sync,
     M: Meaning<X> + Start + Send + Sync,
     K: Output<X> + Send + Drop,
+    W: Window + Send + Sync,
     J: Jobs<X, M, K> + Sync,
     G: Gate + Sync,
     R: Threads + Wait + Sync,
->(rt: &R, crew: &Crew<'_, X, M, K, J, G>, seats: &mut [Seat<Placed<X, M, K>>], workers: u8)
+>(rt: &R, crew: &Crew<'_, X, M, K, W, J, G>, seats: &mut [Seat<Placed<X, M, K, W>>], workers: u8)
     requires workers { 0 < workers }
     requires seats { All (λ s. IsSeated crew.now.board.now s) seats.old }
     ensures seats { All (λ s. IsSeated crew.now.board.now s) seats.new }
@@ -690,15 +671,15 @@ fn work_all<
         rt,
         seats,
         usize::from(workers),
-        &|_: usize, seat: &mut Seat<Placed<X, M, K>>|
+        &|_: usize, seat: &mut Seat<Placed<X, M, K, W>>|
             requires { IsSeated crew.now.board.now seat.now }
             ensures { IsSeated crew.entry.now.board.now seat.exit.now }
         { crew.work(rt, seat) },
     );
 }
 
-fn given_back<X: Drop, M: Meaning<X> + Start, K: Output<X> + Drop>(
-    refused: Refused<Placed<X, M, K>>,
+fn given_back<X: Drop, M: Meaning<X> + Start, K: Output<X> + Drop, W: Window>(
+    refused: Refused<Placed<X, M, K, W>>,
 ) -> K
     requires { (o : _) × (refused.outlet.content ≡ Open o) × (K.taken o.1 ≡ M.taken) }
     ensures taken { K.taken result ≡ M.taken }
@@ -712,12 +693,12 @@ fn given_back<X: Drop, M: Meaning<X> + Start, K: Output<X> + Drop>(
     outlet.output()
 }
 
-/// Does the jobs of a run, and hands the output back: what it has taken, how the run ended, and what it leaves for one behind it. With no memory
-/// to begin, nothing was done. With none for a seat there are fewer workers.
-pub fn run_jobs<
+// The same of a window that is picked.
+fn run_within<
     X: Drop + Send + Sync,
     M: Meaning<X> + Start + Send + Sync,
     K: Output<X> + Send + Drop,
+    W: Window + Send + Sync,
     J: Jobs<X, M, K> + Sync,
     G: Gate + Sync,
     R: Threads + Wait + Sync,
@@ -727,13 +708,13 @@ pub fn run_jobs<
     requires taken { K.taken output ≡ M.taken }
     requires may { K.may_put output }
     requires can { CanDo M.rules M.truth }
-    requires events_window { M.window ≡ run.now.window }
+    requires events_window { W.window ≡ run.now.window }
     ensures ended { IfOk result (λ ran. IsEnded M.rules M.truth M.taken ran.ending (K.taken ran.output) (K.may_put ran.output) (K.has_refused ran.output)) }
-    ensures events { IfOk result (λ ran. HasEvents M.rules M.window ran.ending) }
+    ensures events { IfOk result (λ ran. HasEvents M.rules W.window ran.ending) }
     ensures results { IfOk result (λ ran. IfSome ran.results (λ all. All (HasRightResults M.truth) all.items)) }
     ensures refused { IfErr result (λ k. (K.taken k ≡ M.taken) × K.may_put k) }
 {
-    let Ok(pool) = Pool::<X, M>::new(run.alloc, POOL_ROOM, run.window) else {
+    let Ok(pool) = Pool::<X, M, W>::new(run.alloc, POOL_ROOM, run.window) else {
         return Err(output);
     };
     let source = Placed {
@@ -769,4 +750,27 @@ pub fn run_jobs<
         output,
         results: left_of(run.alloc, frames.into_last()),
     })
+}
+
+/// Does the jobs of a run, and hands the output back: what it has taken, how the run ended, and what it leaves for one behind it. With no memory
+/// to begin, nothing was done. With none for a seat there are fewer workers.
+pub fn run_jobs<
+    X: Drop + Send + Sync,
+    M: Meaning<X> + Start + Send + Sync,
+    K: Output<X> + Send + Drop,
+    J: Jobs<X, M, K> + Sync,
+    G: Gate + Sync,
+    R: Threads + Wait + Sync,
+>(rt: &R, run: &Run<'_, J, G>, output: K) -> Result<Ran<X, K>, K>
+    requires workers { (1 ≤ run.now.workers) × (run.now.workers ≤ 64) }
+    requires window { (2 ≤ run.now.window) × (run.now.window ≤ 16) }
+    requires taken { K.taken output ≡ M.taken }
+    requires may { K.may_put output }
+    requires can { CanDo M.rules M.truth }
+    ensures ended { IfOk result (λ ran. IsEnded M.rules M.truth M.taken ran.ending (K.taken ran.output) (K.may_put ran.output) (K.has_refused ran.output)) }
+    ensures events { IfOk result (λ ran. HasEvents M.rules run.now.window ran.ending) }
+    ensures results { IfOk result (λ ran. IfSome ran.results (λ all. All (HasRightResults M.truth) all.items)) }
+    ensures refused { IfErr result (λ k. (K.taken k ≡ M.taken) × K.may_put k) }
+{
+    run_within::<X, M, K, Brand, J, G, R>(rt, run, output)
 }

@@ -1,9 +1,10 @@
 ghost use Rattle.std.specs.Prelude.{◌≡◌, ℕ, ◌+◌, ◌*◌, ◌<◌, ◌∷◌, Option, Some, IfSome, IsSome, IfOk, slice_get};
+ghost use Rattle.std.specs.Option.{option_map};
 ghost use Rattle.std.specs.Arc.{arc_value};
 ghost use Rattle.job_order.specs.Sound.{frame_of};
-ghost use Rattle.job_crew.specs.Code.{is_named, mapped, kept, HasLastingCell};
+ghost use Rattle.job_crew.specs.Code.{is_named, mapped, kept, numbered, HasHeadCell, HasRowCell, HasLastingCell};
 
-use crate::cells::{Cell, FrameCells, frame_of, get};
+use crate::cells::{Cell, FrameCells, HeadCells, frame_of, get};
 use job_order::Meaning;
 use std::alloc::{AllocError, Global};
 use std::sync::Arc;
@@ -13,12 +14,16 @@ use vp9_types::JobName;
 pub(crate) type Shared<T> = Arc<T, Global>;
 
 /// A frame at work: those of its results that later frames may ask for, and those of the frames before it that its jobs and the next head may
-/// ask for. These are the frame before it, and of what that one has those that its close names as live. So a result is there as long as a job
-/// that may ask for it isn't done, and goes with the last frame that has it.
+/// ask for. These are the filtered rows of the frame before it, and of what that one has those that its close names as live; and of heads and
+/// closes, which are large, those of the frame before it alone. So a result is there as long as a job that may ask for it isn't done, and goes
+/// with the last frame that has it.
 #[derive(Drop)]
 pub(crate) struct Frame<X: Drop, M: Meaning<X>> {
     pub(crate) own: Shared<FrameCells<X, M>>,
     pub(crate) before: Vec<Shared<FrameCells<X, M>>>,
+    pub(crate) heads: Shared<HeadCells<X, M>>,
+    heads_before: Option<Shared<HeadCells<X, M>>>,
+    ghost heads_are: { (arc_value heads).frame ≡ (arc_value own).frame },
 }
 
 fn is_live(live: &[Option<u64>], frame: u64) -> bool
@@ -65,16 +70,29 @@ fn blank<X: Drop, M: Meaning<X>>(
     Ok(Arc::new(alloc, cells)?)
 }
 
+fn blank_heads<X: Drop, M: Meaning<X>>(
+    alloc: Global,
+    frame: u64,
+) -> Result<Shared<HeadCells<X, M>>, AllocError>
+    ensures { IfOk result (λ heads. (arc_value heads).frame ≡ frame) }
+{
+    Ok(Arc::new(alloc, HeadCells::new(frame))?)
+}
+
 impl<X: Drop, M: Meaning<X>> Frame<X, M> {
     /// A frame with nothing before it.
-    pub(crate) fn first(alloc: Global, frame: u64, rows: u32) -> Result<Frame<X, M>, AllocError> {
+    pub(crate) fn first(alloc: Global, frame: u64, rows: u32) -> Result<Frame<X, M>, AllocError>
+        ensures { IfOk result (λ f. ((arc_value f.own).frame ≡ frame) × ((arc_value f.own).rows ≡ rows)) }
+    {
         Ok(Frame {
             own: blank(alloc, frame, rows)?,
             before: Vec::new(alloc),
+            heads: blank_heads(alloc, frame)?,
+            heads_before: None,
         })
     }
 
-    /// The frame behind this one. It keeps this one, and of those that this one keeps what the close has named as live.
+    /// The frame behind this one. It keeps this one, and of those that this one keeps the rows of what the close has named as live.
     pub(crate) fn next(
         &self,
         alloc: Global,
@@ -82,11 +100,15 @@ impl<X: Drop, M: Meaning<X>> Frame<X, M> {
         rows: u32,
         live: &[Option<u64>],
     ) -> Result<Frame<X, M>, AllocError>
-        ensures { IfOk result (λ f. mapped f.before.items (λ c. (arc_value c).frame) ≡ (arc_value self.now.own).frame ∷ kept live.now (mapped self.now.before.items (λ c. (arc_value c).frame))) }
+        ensures own { IfOk result (λ f. ((arc_value f.own).frame ≡ frame) × ((arc_value f.own).rows ≡ rows)) }
+        ensures before { IfOk result (λ f. mapped f.before.items (λ c. (arc_value c).frame) ≡ (arc_value self.now.own).frame ∷ kept live.now (mapped self.now.before.items (λ c. (arc_value c).frame))) }
+        ensures heads { IfOk result (λ f. (h : _) × (f.heads_before ≡ Some h) × ((arc_value h).frame ≡ (arc_value self.now.own).frame)) }
     {
         Ok(Frame {
             own: blank(alloc, frame, rows)?,
             before: keep(alloc, &self.own, &self.before, live)?,
+            heads: blank_heads(alloc, frame)?,
+            heads_before: Some(Arc::try_clone(&self.heads)?),
         })
     }
 
@@ -96,20 +118,48 @@ impl<X: Drop, M: Meaning<X>> Frame<X, M> {
         self.own.frame()
     }
 
-    /// The cell of a job of this frame, or of one of those before it, where it stays.
-    pub(crate) fn cell(&self, job: JobName) -> Option<&Cell<X, M>>
-        ensures { frame_of job ≡ (arc_value self.now.own).frame → HasLastingCell (arc_value self.now.own).rows job → IsSome result }
+    // The rows of this frame, or of one of those before it that it keeps.
+    fn rows_of(&self, frame: u64) -> Option<&FrameCells<X, M>>
+        ensures { option_map (λ c. c.now) result ≡ option_map arc_value (numbered (self.now.own ∷ self.now.before.items) (λ c. (arc_value c).frame) frame) }
     {
-        let frame = frame_of(job);
         if self.own.frame() == frame {
-            return self.own.cell(job);
+            return Some(&self.own);
         }
-        for cells in &self.before {
+        for at in 0..self.before.len() {
+            let cells = &self.before[at];
             if cells.frame() == frame {
-                return cells.cell(job);
+                return Some(cells);
             }
         }
         None
+    }
+
+    // The head and close of this frame, or of the one before it.
+    fn heads_of(&self, frame: u64) -> Option<&HeadCells<X, M>>
+        ensures frame { IfSome result (λ h. h.now.frame ≡ frame) }
+        ensures own { frame ≡ (arc_value self.now.own).frame → IsSome result }
+        ensures before { IfSome self.now.heads_before (λ h. frame ≡ (arc_value h).frame → IsSome result) }
+    {
+        if self.heads.frame() == frame {
+            return Some(&self.heads);
+        }
+        match &self.heads_before {
+            Some(heads) if heads.frame() == frame => Some(heads),
+            _ => None,
+        }
+    }
+
+    /// The cell of a job of this frame, or of one of those before it, where it stays.
+    pub(crate) fn cell(&self, job: JobName) -> Option<&Cell<X, M>>
+        ensures own { frame_of job ≡ (arc_value self.now.own).frame → HasLastingCell (arc_value self.now.own).rows job → IsSome result }
+        ensures heads { IfSome self.now.heads_before (λ h. frame_of job ≡ (arc_value h).frame → HasHeadCell job → IsSome result) }
+        ensures rows { IfSome (numbered (self.now.own ∷ self.now.before.items) (λ c. (arc_value c).frame) (frame_of job)) (λ c. HasRowCell (arc_value c).rows job → IsSome result) }
+    {
+        let frame = frame_of(job);
+        match job {
+            JobName::Head { .. } | JobName::Close { .. } => self.heads_of(frame)?.cell(job),
+            _ => self.rows_of(frame)?.cell(job),
+        }
     }
 
     /// The result of such a job, where it is finished.

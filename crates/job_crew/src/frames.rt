@@ -2,8 +2,10 @@
 
 ghost use Rattle.std.specs.Prelude.{◌≡◌, ◌<◌, ◌≤◌, length, Option, Some, IfSome};
 ghost use Rattle.std.specs.Arc.{arc_value};
+ghost use Rattle.job_crew.specs.Events.{IsLogged};
 
 use crate::cells::frame_of;
+use crate::jobs::Window;
 use crate::work::{AtWork, FrameWork, Gone, Loan, nothing};
 use job_order::Meaning;
 use std::alloc::{AllocError, Global};
@@ -53,8 +55,14 @@ impl<X: Drop, M: Meaning<X>> Frames<X, M> {
     }
 
     /// Sets the result of a job, and takes back what the job was lent, with what no job asks for from then on.
-    pub(crate) fn finish(&mut self, loan: Option<Loan<X, M>>, job: JobName, value: X) -> Gone<X, M>
-        requires { M.truth.right job value }
+    pub(crate) fn finish<W: Window>(
+        &mut self,
+        loan: Option<Loan<X, M>>,
+        job: JobName,
+        value: X,
+    ) -> Gone<X, M>
+        requires right { M.truth.right job value }
+        requires event { IsLogged M.rules W.window job value }
     {
         if let Some(loan) = loan {
             loan.finish(job, value);

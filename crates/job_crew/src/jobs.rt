@@ -43,9 +43,6 @@ pub trait Output<X> {
 /// What the output had taken when a run began, where it tells that. It holds nothing at run time.
 pub trait Start {
     ghost taken: { Option (List ℕ) };
-
-    /// How many frames may be at work at once.
-    ghost window: { ℕ };
 }
 
 /// A call that begins a run picks its own.
@@ -53,14 +50,23 @@ impl Start for Brand {
     ghost use Rattle.std.specs.Prelude.{None};
 
     ghost taken = { None };
+}
 
+/// How many frames may be at work at once. It holds nothing at run time.
+pub(crate) trait Window {
+    ghost window: { ℕ };
+}
+
+/// A run picks its own.
+impl Window for Brand {
     ghost window = { 2 };
 }
 
 /// Results of jobs that are done, lent to a job that needs them.
 pub trait Results<X, M: Meaning<X>> {
-    /// The result of a job that the borrower needs, or that one of these needs in turn: one of the borrower's own frame, of the frame before
-    /// it, or of one that this one's close names as live. Such a head has found a frame, and such a close has built one.
+    /// The result of a job that the borrower needs, or that one of these needs in turn: one of the borrower's own frame; the head or the close
+    /// of the frame before it; or a filter of that frame, or of one that its close names as live. Such a head has found a frame, and such a
+    /// close has built one.
     fn result(&self, job: JobName) -> &X
         ensures right { M.truth.right job result.now }
         ensures goes_on { GoesOn M.rules job result.now };
@@ -85,8 +91,8 @@ pub trait Jobs<X, M: Meaning<X>, K: Output<X>> {
         ensures some { IfSome result (λ b. M.rules.builds close.now ≡ Some (record { columns = b.columns; rows = b.rows; shown = b.shown })) }
         ensures none { IfNone result (M.rules.builds close.now ≡ None) };
 
-    /// The frames before it that jobs of later frames may ask for, as a close's result has them: those that slots hold, and the last one that
-    /// was decoded. A frame stays only as long as each close behind it names it.
+    /// The frames before it whose filtered rows jobs of later frames may ask for, as a close's result has them: those that slots hold, and the
+    /// last one that was decoded. A frame's rows stay only as long as each close behind it names it.
     fn live(&self, close: &X) -> [Option<u64>; LIVE];
 
     /// The bands of other frames that a superblock row of a column reads. The frame's close is finished. It is asked again until these

@@ -4,7 +4,7 @@ ghost use Rattle.std.specs.Prelude.{◌≡◌, length, All, IfOk, IfSome};
 ghost use Rattle.vp9_types.specs.declared.job.JobName.TheVariants.{Close, Filter};
 ghost use Rattle.job_crew.specs.Left.{HasRightResults, AreRightRows};
 
-use crate::cells::{Cell, FrameCells};
+use crate::cells::{Cell, FrameCells, HeadCells};
 use crate::frame::{Frame, Shared};
 use crate::outlet::Ending;
 use crate::work::FrameWork;
@@ -13,7 +13,8 @@ use std::alloc::{AllocError, Global};
 use std::sync::Arc;
 use vp9_types::JobName;
 
-/// The results of a frame that jobs of later frames may ask for, where they are finished.
+/// The results of a frame that jobs of later frames may ask for, where they are finished: its filters', and its close's, where it is the last
+/// frame of its run.
 #[derive(Drop)]
 pub struct FrameResults<X> {
     pub frame: u64,
@@ -61,22 +62,30 @@ fn rows_in<X: Drop, M: Meaning<X>>(
     Ok(values)
 }
 
+// The result of a frame's close.
+fn close_in<X: Drop, M: Meaning<X>>(heads: Option<HeadCells<X, M>>, frame: u64) -> Option<X>
+    ensures { IfSome result (λ x. M.truth.right (Close frame) x) }
+{
+    let HeadCells { close, .. } = heads?;
+    value_in(close, JobName::Close { frame })
+}
+
 fn results_in<X: Drop, M: Meaning<X>>(
     alloc: Global,
     cells: FrameCells<X, M>,
+    heads: Option<HeadCells<X, M>>,
 ) -> Result<FrameResults<X>, AllocError>
     ensures { IfOk result (λ results. HasRightResults M.truth results) }
 {
     let FrameCells {
         frame,
         rows,
-        close,
         filters,
         ..
     } = cells;
     Ok(FrameResults {
         frame,
-        close: value_in(close, JobName::Close { frame }),
+        close: close_in(heads, frame),
         filters: rows_in(alloc, frame, rows, filters)?,
     })
 }
@@ -86,29 +95,35 @@ fn put<X: Drop, M: Meaning<X>>(
     alloc: Global,
     all: &mut Vec<FrameResults<X>>,
     cells: Shared<FrameCells<X, M>>,
+    heads: Option<HeadCells<X, M>>,
 ) -> Result<(), AllocError>
     requires { All (HasRightResults M.truth) all.old.items }
     ensures { All (HasRightResults M.truth) all.new.items }
 {
     if let Some(cells) = Arc::into_inner(cells) {
-        all.push(results_in(alloc, cells)?)?;
+        all.push(results_in(alloc, cells, heads)?)?;
     }
     Ok(())
 }
 
-// The results of a frame, and of those before it that it has.
+// The results of a frame, and those that it has of frames before it.
 fn all_of<X: Drop, M: Meaning<X>>(
     alloc: Global,
     frame: Frame<X, M>,
 ) -> Result<Vec<FrameResults<X>>, AllocError>
     ensures { IfOk result (λ all. All (HasRightResults M.truth) all.items) }
 {
-    let Frame { own, before } = frame;
+    let Frame {
+        own,
+        before,
+        heads,
+        ..
+    } = frame;
     let mut before = before;
     let mut all = Vec::new(alloc);
-    put(alloc, &mut all, own)?;
+    put(alloc, &mut all, own, Arc::into_inner(heads))?;
     while let Some(cells) = before.pop() {
-        put(alloc, &mut all, cells)?;
+        put(alloc, &mut all, cells, None)?;
     }
     Ok(all)
 }

@@ -13,6 +13,7 @@ mod marks;
 mod news;
 mod outlet;
 mod pool;
+mod seats;
 mod tickets;
 mod work;
 

@@ -4,7 +4,7 @@ ghost use Rattle.job_order.specs.Sound.{texts_below};
 ghost use Rattle.job_crew.specs.Runs.{IsEnded};
 ghost use Rattle.job_crew.specs.Events.{HasEvents};
 
-use crate::jobs::{Output, Start};
+use crate::jobs::{Output, Start, Window};
 use job_order::Meaning;
 use progress_board::InSlot;
 use std::marker::{Model, PhantomData};
@@ -80,13 +80,14 @@ impl<X: Drop, M: Meaning<X> + Start, K: Output<X>> Outlet<X, M, K> {
 
 /// The output, and how the run ended.
 #[derive(Drop)]
-pub(crate) struct Over<X: Drop, M: Meaning<X> + Start, K: Output<X>> {
+pub(crate) struct Over<X: Drop, M: Meaning<X> + Start, K: Output<X>, W: Window> {
     ending: Ending<X>,
     output: K,
     of: PhantomData<M>,
+    within: PhantomData<W>,
 }
 
-impl<X: Drop, M: Meaning<X> + Start, K: Output<X>> Model for Over<X, M, K> {
+impl<X: Drop, M: Meaning<X> + Start, K: Output<X>, W: Window> Model for Over<X, M, K, W> {
     ghost use Rattle.std.specs.Prelude.{ℕ};
     ghost use Rattle.job_crew.specs.Runs.{IsEnded};
     ghost use Rattle.job_crew.specs.Events.{HasEvents};
@@ -95,24 +96,25 @@ impl<X: Drop, M: Meaning<X> + Start, K: Output<X>> Model for Over<X, M, K> {
 
     ghost view = { λ o. 0 };
 
-    ghost invariant = { λ o. IsEnded M.rules M.truth M.taken o.ending (K.taken o.output) (K.may_put o.output) (K.has_refused o.output) × HasEvents M.rules M.window o.ending };
+    ghost invariant = { λ o. IsEnded M.rules M.truth M.taken o.ending (K.taken o.output) (K.may_put o.output) (K.has_refused o.output) × HasEvents M.rules W.window o.ending };
 }
 
-impl<X: Drop, M: Meaning<X> + Start, K: Output<X>> Over<X, M, K> {
-    pub(crate) fn new(ending: Ending<X>, output: K) -> Over<X, M, K>
+impl<X: Drop, M: Meaning<X> + Start, K: Output<X>, W: Window> Over<X, M, K, W> {
+    pub(crate) fn new(ending: Ending<X>, output: K) -> Over<X, M, K, W>
         requires ended { IsEnded M.rules M.truth M.taken ending (K.taken output) (K.may_put output) (K.has_refused output) }
-        requires events { HasEvents M.rules M.window ending }
+        requires events { HasEvents M.rules W.window ending }
     {
         Over {
             ending,
             output,
             of: PhantomData,
+            within: PhantomData,
         }
     }
 
     pub(crate) fn told(self) -> Told<X, K>
         ensures ended { IsEnded M.rules M.truth M.taken result.ending (K.taken result.output) (K.may_put result.output) (K.has_refused result.output) }
-        ensures events { HasEvents M.rules M.window result.ending }
+        ensures events { HasEvents M.rules W.window result.ending }
     {
         let Over { ending, output, .. } = self;
         Told { ending, output }
@@ -121,23 +123,23 @@ impl<X: Drop, M: Meaning<X> + Start, K: Output<X>> Over<X, M, K> {
 
 /// What may lie in a slot of the board.
 #[derive(Drop)]
-pub(crate) enum Content<X: Drop, M: Meaning<X> + Start, K: Output<X>> {
+pub(crate) enum Content<X: Drop, M: Meaning<X> + Start, K: Output<X>, W: Window> {
     /// The source isn't used here.
     Source,
     Open(Outlet<X, M, K>),
-    Over(Over<X, M, K>),
+    Over(Over<X, M, K, W>),
     /// The run is over, and its output was taken.
     Taken,
 }
 
 /// A value with its slot.
 #[derive(Drop)]
-pub(crate) struct Placed<X: Drop, M: Meaning<X> + Start, K: Output<X>> {
+pub(crate) struct Placed<X: Drop, M: Meaning<X> + Start, K: Output<X>, W: Window> {
     pub(crate) slot: u8,
-    pub(crate) content: Content<X, M, K>,
+    pub(crate) content: Content<X, M, K, W>,
 }
 
-impl<X: Drop, M: Meaning<X> + Start, K: Output<X>> InSlot for Placed<X, M, K> {
+impl<X: Drop, M: Meaning<X> + Start, K: Output<X>, W: Window> InSlot for Placed<X, M, K, W> {
     ghost names = { λ p. p.slot };
 
     fn slot(&self) -> u8 {

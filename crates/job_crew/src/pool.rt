@@ -4,14 +4,14 @@ ghost use Rattle.vp9_types.specs.declared.job.JobName.TheVariants.{Column, Rows,
 ghost use Rattle.job_order.specs.JobSegments.{InOrder, IsListed, StandsAt, jobs_in, job_at};
 ghost use Rattle.job_order.specs.Needs.{IsNeed, IsInSpan, Publishes};
 ghost use Rattle.job_order.specs.Code.{IsIn, IsInIf};
-ghost use Rattle.job_order.specs.Worlds.{WorldState, HasResult, IsReached, published, and_published};
+ghost use Rattle.job_order.specs.Worlds.{published};
 ghost use Rattle.job_order.specs.declared.segment.Segment.TheVariants.{Opening, Build, Last};
 ghost use Rattle.job_order.specs.declared.segment.Shown.{Shown};
 ghost use Rattle.job_crew.specs.Runs.{IsDue};
-ghost use Rattle.job_crew.specs.Events.{CanDo, Covers, HasPassed, MayBegin};
-ghost use Rattle.job_crew.specs.Code.{Fits, TakesOut, Puts, IsDone, HasPut};
+ghost use Rattle.job_crew.specs.Events.{CanDo, Covers, HasPassed, MayBegin, IsLogged};
+ghost use Rattle.job_crew.specs.Code.{Fits, TakesOut, Puts, Finishes, IsDone, HasPut};
 
-use crate::jobs::Start;
+use crate::jobs::Window;
 use crate::marks::Marks;
 use crate::news::News;
 use crate::tickets::{rows_of, ticket_of};
@@ -22,7 +22,7 @@ use vp9_types::{BandSpan, JobName};
 
 /// The jobs that were drawn and not begun, what is published, and what is finished.
 #[derive(Drop)]
-pub(crate) struct Pool<X, M: Meaning<X> + Start> {
+pub(crate) struct Pool<X, M: Meaning<X>, W: Window> {
     window: u8,
     segments: Vec<Segment>,
     starts: Vec<u64>,
@@ -35,10 +35,11 @@ pub(crate) struct Pool<X, M: Meaning<X> + Start> {
     waiting: u32,
     over: bool,
     of: PhantomData<M>,
+    within: PhantomData<W>,
     results: PhantomData<X>,
 }
 
-impl<X, M: Meaning<X> + Start> Model for Pool<X, M> {
+impl<X, M: Meaning<X>, W: Window> Model for Pool<X, M, W> {
     ghost use Rattle.std.specs.Prelude.{◌≡◌, ◌≤◌, vec_capacity};
     ghost use Rattle.job_crew.specs.Code.{PoolParts, IsPool};
     ghost use Rattle.job_crew.specs.Events.{IsShop};
@@ -47,15 +48,15 @@ impl<X, M: Meaning<X> + Start> Model for Pool<X, M> {
 
     ghost view = { λ p. record { window = p.window; segments = p.segments.items; names = p.names.items; drawn = p.drawn; base = p.marks.base; marks = p.marks.marks.items; room = p.room; over = p.over } };
 
-    ghost invariant = { λ p. IsPool M.rules M.truth p.segments.items p.names.items p.mark p.published p.drawn × (p.room ≤ vec_capacity p.names) × (p.window ≡ M.window)
-        × IsShop M.rules M.truth M.window p.segments.items p.starts.items p.drawn p.marks.base p.marks.marks.items p.over };
+    ghost invariant = { λ p. IsPool M.rules M.truth p.segments.items p.names.items p.mark p.published p.drawn × (p.room ≤ vec_capacity p.names) × (p.window ≡ W.window)
+        × IsShop M.rules M.truth W.window p.segments.items p.starts.items p.drawn p.marks.base p.marks.marks.items p.over };
 }
 
-impl<X, M: Meaning<X> + Start> Pool<X, M> {
+impl<X, M: Meaning<X>, W: Window> Pool<X, M, W> {
     /// The pool of a run that begins, with room for so many jobs.
-    pub(crate) fn new(alloc: Global, room: usize, window: u8) -> Result<Pool<X, M>, AllocError>
+    pub(crate) fn new(alloc: Global, room: usize, window: u8) -> Result<Pool<X, M, W>, AllocError>
         requires can { CanDo M.rules M.truth }
-        requires window { M.window ≡ window }
+        requires window { W.window ≡ window }
         ensures { IfOk result (λ p. p ≡ record { window = window; segments = Opening ∷ []; names = []; drawn = 0; base = 0; marks = []; room = room; over = false }) }
     {
         let mut segments = Vec::new(alloc);
@@ -80,6 +81,7 @@ impl<X, M: Meaning<X> + Start> Pool<X, M> {
             waiting: 0,
             over: false,
             of: PhantomData,
+            within: PhantomData,
             results: PhantomData,
         })
     }
@@ -109,7 +111,7 @@ impl<X, M: Meaning<X> + Start> Pool<X, M> {
         self.waiting = self.waiting.wrapping_sub(1);
     }
 
-    /// TakesOut room for what the next head and close publish, and for an end.
+    /// Takes room for what the next head and close publish, and for an end.
     pub(crate) fn make_room(&mut self) -> Result<(), AllocError>
         ensures { self.new ≡ self.old }
     {
@@ -229,13 +231,16 @@ impl<X, M: Meaning<X> + Start> Pool<X, M> {
     pub(crate) fn is_ready(&self, job: JobName, reads: [Option<BandSpan>; 3]) -> bool
         requires listed { IsListed self.now.segments job }
         requires covers { Covers M.rules job reads }
-        ensures { result ≡ true → MayBegin M.rules M.window job }
+        ensures { result ≡ true → MayBegin M.rules W.window job }
     {
         let _ = &self.window;
+        if !self.has_needs(job, reads) {
+            return false;
+        }
         let Some(_) = self.open_place(job) else {
             return false;
         };
-        self.has_needs(job, reads)
+        true
     }
 
     /// A job is finished, and what its result publishes is published, where it comes next and a head has made room for it. It is so unless the job
@@ -245,9 +250,8 @@ impl<X, M: Meaning<X> + Start> Pool<X, M> {
         requires right { M.truth.right news.job value.now }
         requires publishes { news.publishes ≡ published M.rules news.job value.now }
         requires passed { news.ends ≡ false → HasPassed M.rules news.job value.now }
-        ensures event { result ≡ true → (w : WorldState X) × IsReached M.rules M.window w × HasResult w.finished news.job value.now }
-        ensures over { result ≡ true → self.new.over ≡ news.ends }
-        ensures published { result ≡ true → self.new.segments ≡ and_published self.old.segments news.publishes }
+        ensures event { result ≡ true → IsLogged M.rules W.window news.job value.now }
+        ensures yes { result ≡ true → Finishes self.old news.job news.publishes news.ends self.new }
         ensures no { result ≡ false → self.new ≡ self.old }
     {
         let Some(at) = self.open_place(news.job) else {
@@ -297,7 +301,7 @@ impl<X, M: Meaning<X> + Start> Pool<X, M> {
         }
     }
 
-    /// TakesOut a job out.
+    /// Takes a job out.
     pub(crate) fn remove(&mut self, at: usize) -> Option<JobName>
         ensures some { IfSome result (λ job. TakesOut self.old at job self.new) }
         ensures none { IfNone result (self.new ≡ self.old) }

@@ -1,9 +1,9 @@
 //! The ticket of a job.
 
-ghost use Rattle.std.specs.Prelude.{◌≡◌, ℕ, ◌+◌, ◌*◌, true, Option, Some, IfSome, slice_get};
-ghost use Rattle.job_order.specs.declared.segment.Segment.TheVariants.{Build};
+ghost use Rattle.std.specs.Prelude.{◌≡◌, ℕ, ◌+◌, ◌*◌, Option, Some, None, IfSome, slice_get};
+ghost use Rattle.vp9_types.specs.declared.job.JobName.TheVariants.{Head};
+ghost use Rattle.job_order.specs.declared.segment.Segment.TheVariants.{Parse, Build, Last};
 ghost use Rattle.job_order.specs.declared.segment.Shown.{Shown};
-ghost use Rattle.job_order.specs.Code.{HasNext};
 ghost use Rattle.job_order.specs.JobSegments.{jobs_of, job_at};
 ghost use Rattle.job_crew.specs.Events.{AreStarts};
 
@@ -24,42 +24,71 @@ fn home_of(segments: usize, job: JobName) -> Option<usize> {
     }
 }
 
-// The place that a job would have in a segment.
-fn place_if(segment: Segment, job: JobName) -> u64 {
-    match (segment, job) {
-        (Segment::Parse { .. }, JobName::Column { column, .. }) => column as u64,
-        (Segment::Parse { columns, .. }, JobName::Close { .. }) => columns as u64,
-        (Segment::Build { columns, .. }, JobName::Rows { column, row, .. }) => {
-            (row as u64 * (columns as u64 + 1) + column as u64).saturating_add(1)
-        }
-        (Segment::Build { columns, .. }, JobName::Filter { row, .. }) => {
-            (row as u64 * (columns as u64 + 1) + columns as u64).saturating_add(1)
-        }
-        (Segment::Build { columns, rows, .. }, JobName::Write { .. }) => {
-            (rows as u64 * (columns as u64 + 1)).saturating_add(1)
-        }
-        _ => 0,
-    }
-}
-
-fn has_next(segment: Segment) -> bool
-    ensures { result ≡ true → HasNext segment }
-{
-    match segment {
-        Segment::Build { frame, .. } => frame < u64::MAX,
-        _ => true,
-    }
-}
-
 // The place of a job in a segment, where it stands there.
 fn place_in(segment: Segment, job: JobName) -> Option<u64>
     ensures { IfSome result (λ place. slice_get (jobs_of segment) place ≡ Some job) }
 {
-    let place = place_if(segment, job);
-    if place < segment.jobs() && has_next(segment) && segment.job(place) == job {
-        Some(place)
-    } else {
-        None
+    match segment {
+        Segment::Opening => first_place(0, job),
+        Segment::Parse { frame, columns } => parse_place(frame, columns, job),
+        Segment::Build {
+            frame,
+            columns,
+            rows,
+            ..
+        } => build_place(frame, columns, rows, job),
+        Segment::Last { frame } => last_place(frame, job),
+    }
+}
+
+// A head of this frame stands first.
+fn first_place(frame: u64, job: JobName) -> Option<u64>
+    ensures { IfSome result (λ place. (job ≡ Head frame) × (place ≡ 0)) }
+{
+    match job {
+        JobName::Head { frame: own } if own == frame => Some(0),
+        _ => None,
+    }
+}
+
+fn last_place(frame: u64, job: JobName) -> Option<u64>
+    ensures { IfSome result (λ place. slice_get (jobs_of (Last frame)) place ≡ Some job) }
+{
+    match job {
+        JobName::End { frame: own } if own == frame => Some(0),
+        _ => None,
+    }
+}
+
+fn parse_place(frame: u64, columns: u32, job: JobName) -> Option<u64>
+    ensures { IfSome result (λ place. slice_get (jobs_of (Parse frame columns)) place ≡ Some job) }
+{
+    match job {
+        JobName::Column { frame: own, column } if own == frame && column < columns => {
+            Some(column as u64)
+        }
+        JobName::Close { frame: own } if own == frame => Some(columns as u64),
+        _ => None,
+    }
+}
+
+fn build_place(frame: u64, columns: u32, rows: u32, job: JobName) -> Option<u64>
+    ensures { IfSome result (λ place. slice_get (jobs_of (Build frame columns rows None)) place ≡ Some job) }
+{
+    let wide = columns as u64 + 1;
+    match job {
+        JobName::Rows {
+            frame: own,
+            column,
+            row,
+        } if own == frame && column < columns && row < rows => {
+            (row as u64 * wide + column as u64).checked_add(1)
+        }
+        JobName::Filter { frame: own, row } if own == frame && row < rows => {
+            (row as u64 * wide + columns as u64).checked_add(1)
+        }
+        JobName::Write { frame: own } if own == frame => (rows as u64 * wide).checked_add(1),
+        _ => first_place(frame.checked_add(1)?, job),
     }
 }
 

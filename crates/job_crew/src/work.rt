@@ -2,11 +2,12 @@
 
 ghost use Rattle.std.specs.Prelude.{◌≡◌, ◌<◌, length, Option, Some, IfSome, IsSome, IfOk};
 ghost use Rattle.std.specs.Arc.{arc_value};
+ghost use Rattle.job_crew.specs.Events.{IsLogged};
 ghost use Rattle.job_crew.specs.Code.{ColumnsStay, StripsStay, gone_at};
 
 use crate::cells::{Cell, ColumnCells, frame_of, get, set};
 use crate::frame::{Frame, Shared};
-use crate::jobs::Layout;
+use crate::jobs::{Layout, Window};
 use job_order::Meaning;
 use std::alloc::{AllocError, Global};
 use std::sync::Arc;
@@ -208,8 +209,9 @@ impl<X: Drop, M: Meaning<X>> FrameWork<X, M> {
     }
 
     /// Sets the head's result.
-    pub(crate) fn set_head(&self, job: JobName, value: X)
-        requires { M.truth.right job value }
+    pub(crate) fn set_head<W: Window>(&self, job: JobName, value: X)
+        requires right { M.truth.right job value }
+        requires event { IsLogged M.rules W.window job value }
     {
         set(self.at_work.cell(job), job, value);
     }

@@ -5,7 +5,7 @@ ghost use Rattle.vp9_types.specs.declared.job.JobName.TheVariants.{Head, Rows};
 ghost use Rattle.job_order.specs.Sound.{frame_of};
 ghost use Rattle.job_crew.specs.Left.{HasRightResults};
 ghost use Rattle.job_crew.specs.Runs.{IsDue, IsNoWrite};
-ghost use Rattle.job_results.specs.Groups.{IsNoEnd, in_film, group_rules, group_truth, shown_in};
+ghost use Rattle.job_results.specs.Groups.{IsNoEnd, in_film, group_rules, group_truth, shown_in, span_in};
 ghost use Rattle.job_results.specs.Meaning.{decode_rules, decode_truth};
 ghost use Rattle.job_results.specs.JobResults.{IsRight};
 
@@ -18,7 +18,7 @@ use job_crew::{Building, FrameResults, Jobs, LIVE, LastResult, Layout, Results};
 use job_heads::{FrameList, do_close, do_column, do_head};
 use job_order::Shown;
 use job_results::{ClosedFrame, Decode, DecodeRun, Group, JobResult, closed, ended};
-use job_rows::{do_filter, do_rows, reads};
+use job_rows::{do_filter, do_rows};
 use std::alloc::{AllocError, Global};
 use std::marker::Model;
 use std::sync::{Arc, Mutex, OnceLock, Wait};
@@ -74,7 +74,9 @@ fn live_frames(first: u64, slots: &[Option<u64>; 8]) -> [Option<u64>; LIVE] {
 }
 
 /// The bands, where they are of a frame of the group. Those of one before it are there.
-fn span_in(first: u64, span: Option<BandSpan>) -> Option<BandSpan> {
+fn span_in(first: u64, span: Option<BandSpan>) -> Option<BandSpan>
+    ensures { result ≡ span_in first span }
+{
     let span = span?;
     Some(BandSpan {
         frame: span.frame.checked_sub(first)?,
@@ -223,12 +225,8 @@ impl<'j, 'a, B: DecodeRun, K: Sink, T: Wait> Jobs<JobResult<'a>, Group<B>, Decod
     ) -> [Option<BandSpan>; 3] {
         let seen = self.seen(results);
         let first = self.list.first();
-        let [last, golden, altref] = reads::<B, FilmResults<'_, 'a, B, R, T>>(
-            first + frame,
-            column,
-            row,
-            &seen,
-        );
+        let closed = closed::<B, FilmResults<'_, 'a, B, R, T>>(&seen, first + frame);
+        let [last, golden, altref] = closed.reads.of(column, row);
         [
             span_in(first, last),
             span_in(first, golden),
@@ -263,6 +261,7 @@ impl<'j, 'a, B: DecodeRun, K: Sink, T: Wait> Jobs<JobResult<'a>, Group<B>, Decod
             self.alloc,
             number,
             &seen,
+            &mut output.room,
             &mut output.sink,
         ) {
             Ok(()) => {}

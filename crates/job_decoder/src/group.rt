@@ -1,7 +1,6 @@
 //! A decode of frames that come behind others.
 
 ghost use Rattle.std.specs.Prelude.{◌≡◌, ◌+◌, ◌<◌, ◌^◌, ◌++◌, true, length, map};
-ghost use Rattle.job_decoder.specs.Code.{frames_at_once};
 ghost use Rattle.job_decoder.specs.Pasts.{IsPast, film_with, frames_behind};
 ghost use Rattle.job_decoder.specs.SinkOutputs.{is_done};
 ghost use Rattle.job_decoder.specs.Reaches.{HasReached, sink_of};
@@ -77,7 +76,6 @@ fn decode_behind<
     requires taken { B.taken ≡ K.taken sink }
     requires faults { B.faults ≡ K.faults sink }
     requires grows { B.grows ≡ K.grows sink }
-    requires window { B.window ≡ frames_at_once crew.now.window }
     requires few { past.count + length next.frames.items < 2 ^ 64 }
     requires some { 0 < length next.frames.items }
     ensures reached { HasReached next.entry.format next.entry.rate past (map (λ frame. frame.now) next.entry.frames.items) (K.taken sink) (K.faults sink) K.taken K.faults result }

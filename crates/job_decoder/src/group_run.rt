@@ -68,9 +68,8 @@ pub(crate) fn run_group<
     requires taken { B.taken ≡ K.taken sink }
     requires faults { B.faults ≡ K.faults sink }
     requires grows { B.grows ≡ K.grows sink }
-    requires window { B.window ≡ frames_at_once crew.now.window }
     requires sink { K.can_put sink }
-    ensures events { TellsEvents B.first B.format B.film B.window result.outcome }
+    ensures events { TellsEvents B.first B.format B.film (frames_at_once crew.now.window) result.outcome }
     ensures run { HasRun B.format B.film B.first (K.taken sink) (K.taken result.sink) (K.faults sink) (K.faults result.sink) result.outcome }
     ensures kept { IfSome result.kept (λ kept. All (IsKept B.format B.film) kept.items) }
     ensures due { IfSome result.kept (λ kept. IsDue (decode_rules B.format B.film) (decode_truth B.format B.film) (Head (length B.film.frames))) }
@@ -83,7 +82,7 @@ pub(crate) fn run_group<
         reached,
     } = group;
     let first = list.first();
-    let output: DecodeSink<K, B> = DecodeSink::new(sink);
+    let output: DecodeSink<K, B> = DecodeSink::new(alloc, sink);
     let Ok(kept) = kept_beside::<B>(alloc, kept) else {
         return without_memory(output);
     };

@@ -3,23 +3,26 @@
 use edge_io::Sink;
 use job_crew::Output;
 use job_results::{DecodeRun, JobResult};
+use std::alloc::Global;
 use std::marker::PhantomData;
 
-/// A sink, and the decode that writes to it.
+/// A sink, room for the text that it is to take, which is used again, and the decode that writes to it.
 #[derive(Drop)]
 pub struct DecodeSink<K, B> {
     pub(crate) sink: K,
+    pub(crate) room: Vec<u8>,
     of: PhantomData<B>,
 }
 
 impl<K: Sink, B: DecodeRun> DecodeSink<K, B> {
     ghost use Rattle.std.specs.Prelude.{◌≡◌};
 
-    pub(crate) fn new(sink: K) -> DecodeSink<K, B>
+    pub(crate) fn new(alloc: Global, sink: K) -> DecodeSink<K, B>
         ensures { result.sink ≡ sink }
     {
         DecodeSink {
             sink,
+            room: Vec::new(alloc),
             of: PhantomData,
         }
     }

@@ -98,14 +98,13 @@ fn decode_as<
     requires taken { B.taken ≡ K.taken sink }
     requires faults { B.faults ≡ K.faults sink }
     requires grows { B.grows ≡ K.grows sink }
-    requires window { B.window ≡ frames_at_once crew.now.window }
     requires sink { K.can_put sink }
     ensures decodes { Decodes (output_of format bytes.now) (K.taken sink) (K.taken result.sink) (K.faults sink) (K.faults result.sink) result.outcome }
-    ensures events { TellsEvents B.first B.format B.film B.window result.outcome }
+    ensures events { TellsEvents B.first B.format B.film (frames_at_once crew.now.window) result.outcome }
     ensures grows { K.grows result.sink ≡ K.grows sink }
     ensures again { K.faults result.sink ≡ K.faults sink → K.can_put result.sink }
 {
-    let output: DecodeSink<K, B> = DecodeSink::new(sink);
+    let output: DecodeSink<K, B> = DecodeSink::new(alloc, sink);
     let Ok(found) = find_frames(alloc, bytes) else {
         return without_memory(output);
     };

@@ -1,6 +1,6 @@
 //! What a frame shows, written.
 
-ghost use Rattle.std.specs.Prelude.{◌≡◌, ◌*◌, ◌≤◌, IfOk, Some, length};
+ghost use Rattle.std.specs.Prelude.{◌≡◌, Some};
 ghost use Rattle.frame_output.specs.Formats.{output_text};
 ghost use Rattle.numbered_frames.specs.FrameNumbers.{text};
 ghost use Rattle.numbered_frames.specs.NumberedPictures.{pictures};
@@ -14,23 +14,17 @@ use frame_output::render_as;
 use job_crew::Results;
 use job_results::{Decode, DecodeRun, JobResult, ShownFrame, closed};
 use job_rows::{PlaneSample, rows_of};
-use seq_decoder::{LEAST_BUFFER, OutputForm};
-use std::alloc::{AllocError, Global};
+use seq_decoder::{LEAST_BUFFER, OutputForm, lengthen};
+use std::alloc::Global;
 use vp9_types::{Depth, Sample};
 
-/// Room for a row of a frame, and for many short ones.
-fn text_room(alloc: Global, shown: &ShownFrame) -> Result<Vec<u8>, AllocError>
-    ensures { IfOk result (λ room. 2 * shown.now.shape.w ≤ length room.items) }
-{
-    Vec::from_elem(alloc, 0, LEAST_BUFFER.max(2 * shown.shape.w as usize))
-}
-
-/// Writes a frame whose samples are kept so.
+/// Writes a frame whose samples are kept so, by a room for its text that is used again.
 fn write_shown<'a, P: PlaneSample, B: DecodeRun, K: Sink, R: Results<JobResult<'a>, Decode<B>>>(
     alloc: Global,
     results: &R,
     form: &OutputForm,
     shown: &ShownFrame,
+    room: &mut Vec<u8>,
     sink: &mut K,
 ) -> Result<(), PutFault>
     requires shown { IsShown B.format B.film (Some shown.now) }
@@ -48,20 +42,15 @@ fn write_shown<'a, P: PlaneSample, B: DecodeRun, K: Sink, R: Results<JobResult<'
         0,
         shown.shape.superblock_rows(),
     )?;
-    let mut room = text_room(alloc, shown)?;
+    let least = LEAST_BUFFER.max(2 * shown.shape.w as usize);
+    lengthen(alloc, room, least)?;
     let frame: FilteredFrame<'_, P, Decode<B>> = FilteredFrame::new(
         shown.frame,
         shown.shape,
         0,
         &rows,
     );
-    render_as(
-        &form.rendering(),
-        &shown.shape,
-        &frame,
-        room.as_mut_slice(),
-        sink,
-    )
+    render_as(&form.rendering(), &shown.shape, &frame, room, sink)
 }
 
 /// Writes what a frame shows, if it shows something.
@@ -69,6 +58,7 @@ pub fn write<'a, B: DecodeRun, K: Sink, R: Results<JobResult<'a>, Decode<B>>>(
     alloc: Global,
     number: u64,
     results: &R,
+    room: &mut Vec<u8>,
     sink: &mut K,
 ) -> Result<(), PutFault>
     requires { K.can_put sink.old }
@@ -81,9 +71,9 @@ pub fn write<'a, B: DecodeRun, K: Sink, R: Results<JobResult<'a>, Decode<B>>>(
         return Ok(());
     };
     match shown.shape.depth {
-        Depth::Eight => write_shown::<u8, B, K, R>(alloc, results, &closed.form, shown, sink),
+        Depth::Eight => write_shown::<u8, B, K, R>(alloc, results, &closed.form, shown, room, sink),
         Depth::Ten | Depth::Twelve => {
-            write_shown::<u16, B, K, R>(alloc, results, &closed.form, shown, sink)
+            write_shown::<u16, B, K, R>(alloc, results, &closed.form, shown, room, sink)
         }
     }
 }

@@ -27,7 +27,7 @@ use Rattle.seq_decoder.specs.After.{Stepped, after_coded, picture_of, shown_pict
 use Rattle.seq_decoder.specs.Code.{halt_outcome}
 use Rattle.seq_decoder.specs.Outcomes.{outcome_at}
 use Rattle.seq_decoder.specs.Outputs.{Putting, admits, form_after, is_first, put, shown_text}
-use Rattle.seq_decoder.specs.DecoderState.{Picture, State, persist_of, slot_shape}
+use Rattle.seq_decoder.specs.DecoderState.{Picture, State, persist_of, shape_in_slot}
 use Rattle.seq_decoder.specs.declared.form.OutputForm.{OutputForm}
 use Rattle.numbered_frames.specs.Coded.{CodedFrame, IsFrameBefore, coded, read_of, result_of}
 use Rattle.numbered_frames.specs.FrameNumbers.{before, frame_at}
@@ -35,15 +35,18 @@ use Rattle.numbered_frames.specs.NumberedPictures.{pictures}
 use Rattle.numbered_frames.proofs.SlotFrames.{slots_hold}
 use Rattle.numbered_frames.proofs.Ways.{text_is}
 use Rattle.job_results.specs.Lent.{IsBegunFrame, IsKeptBefore}
-use Rattle.job_results.specs.Slots.{numbers_in, slots_of}
-use Rattle.job_results.proofs.SlotLists.{here, there}
-use Rattle.job_results.specs.JobResults.{IsBegunAs, IsBuiltAs, IsClose, IsClosedAs, IsEnd, IsNamed, IsReadFrame, IsShown, ShowsSlot, shown_text as text_shown}
+use Rattle.job_results.specs.Slots.{slots_of}
+use Rattle.job_results.proofs.SlotLists.{slot_in}
+use Rattle.job_results.specs.JobResults.{HasReads, IsBegunAs, IsBuiltAs, IsClose, IsClosedAs, IsEnd, IsNamed, IsReadFrame, IsShown, ShowsSlot, shown_text as text_shown}
+use Rattle.job_results.specs.declared.reads.RowReads.{RowReads}
 use Rattle.job_results.specs.declared.result.ClosedFrame.{ClosedFrame}
 use Rattle.job_results.specs.declared.result.JobResult.{JobResult}
 use Rattle.job_results.specs.declared.result.JobResult.TheVariants as result
 use Rattle.job_results.specs.declared.result.ShownFrame.{ShownFrame}
+use Rattle.job_heads.specs.Reads.{AreReads}
 use Rattle.job_heads.specs.Shows.{IsClosing, admits_it, closed_by, form_behind, held_in, shown_by, with_form}
 use Rattle.job_heads.proofs.CodedFrames.{decoded_to, is_from, not_coded, picture_there}
+use Rattle.job_heads.proofs.RowsRead.{has_reads}
 use Rattle.job_heads.proofs.HeadSteps.{added_by, ends_by, ends_in, head_coded, head_shown, kept_next, put_fits, put_unfit, shows_slot, starved}
 use Rattle.numbered_frames.specs.Films.{Film}
 
@@ -98,9 +101,10 @@ pub record StepsTo (format : Format) (film : Film) (f : ℕ) (p : Putting) (show
   pub same : IsSame format film shown stepped.shown
   pub named : IsNamed format film f shown
 
-closes : (format : Format) (film : Film) (f : ℕ) (p : Putting) (stepped : Stepped) (k : Kept) (columns rows : ℕ) (shown : Option ShownFrame) → StepsTo format film f p shown stepped → k.form ≡ p.form
-    → admits_it p.form shown ≡ true → StandsFor k stepped.state → MayFollow k → IsBuiltAs (coded format film f) (closed_by k columns rows shown) → IsClosedAs format film f (closed_by k columns rows shown)
-closes format film f p stepped k columns rows shown h form fits stands may built =
+closes : (format : Format) (film : Film) (f : ℕ) (p : Putting) (stepped : Stepped) (k : Kept) (columns rows : ℕ) (reads : RowReads) (shown : Option ShownFrame) → StepsTo format film f p shown stepped → k.form ≡ p.form
+    → admits_it p.form shown ≡ true → StandsFor k stepped.state → MayFollow k → IsBuiltAs (coded format film f) (closed_by k columns rows reads shown)
+    → HasReads (coded format film f) (closed_by k columns rows reads shown) → IsClosedAs format film f (closed_by k columns rows reads shown)
+closes format film f p stepped k columns rows reads shown h form fits stands may built kept =
     let added = put_fits p.form (step f p.state h.frame) stepped h.steps (sym (same_admits format film p.form shown stepped.shown h.same) ∙ fits) in
     record {
       next = record { state = stepped.state; form = form_after p.form stepped.shown };
@@ -109,9 +113,10 @@ closes format film f p stepped k columns rows shown h form fits stands may built
       form = ap (λ (x : OutputForm). form_behind x shown) form ∙ same_form format film p.form shown stepped.shown h.same;
       may = may_with k (form_behind k.form shown) may;
       built = built;
+      reads = kept;
       shown = same_shown format film shown stepped.shown h.same;
       named = h.named;
-      puts = text_is format film f p h.frame (Ok (added_by p.form stepped)) h.reached h.there added ∙ same_text format film (closed_by k columns rows shown) p.form shown stepped.shown form h.same;
+      puts = text_is format film f p h.frame (Ok (added_by p.form stepped)) h.reached h.there added ∙ same_text format film (closed_by k columns rows reads shown) p.form shown stepped.shown form h.same;
     }
 
 unfit : (format : Format) (film : Film) (f : ℕ) (p : Putting) (stepped : Stepped) (shown : Option ShownFrame) → StepsTo format film f p shown stepped → admits_it p.form shown ≡ false
@@ -121,18 +126,18 @@ unfit format film f p stepped shown h unfits =
     (put_unfit p.form (step f p.state h.frame) stepped h.steps (sym (same_admits format film p.form shown stepped.shown h.same) ∙ unfits))
 
 -- what is made of it
-pub is_close : (format : Format) (film : Film) (f : ℕ) (k : Kept) (columns rows : ℕ) (shown : Option ShownFrame) (x : JobResult) → IsClosing k columns rows shown x
-    → IsClosedAs format film f (closed_by k columns rows shown) → IsClose format film f x
-is_close format film f k columns rows shown (result.Closed b) is h = subst (IsClosedAs format film f) (sym is) h
-is_close format film f k columns rows shown (result.Ended o) is h = subst (IsEnd format film f) (sym is) (starved format film f)
-is_close format film f k columns rows shown (result.Begun b) is h = absurd is
-is_close format film f k columns rows shown (result.Existing slot) is h = absurd is
-is_close format film f k columns rows shown (result.Column r) is h = absurd is
-is_close format film f k columns rows shown (result.Strip planes) is h = absurd is
-is_close format film f k columns rows shown (result.Filtered planes) is h = absurd is
-is_close format film f k columns rows shown result.Starved is h = absurd is
-is_close format film f k columns rows shown result.Written is h = absurd is
-is_close format film f k columns rows shown (result.Refused fault) is h = absurd is
+pub is_close : (format : Format) (film : Film) (f : ℕ) (k : Kept) (columns rows : ℕ) (reads : RowReads) (shown : Option ShownFrame) (x : JobResult) → IsClosing k columns rows reads shown x
+    → IsClosedAs format film f (closed_by k columns rows reads shown) → IsClose format film f x
+is_close format film f k columns rows reads shown (result.Closed b) is h = subst (IsClosedAs format film f) (sym is) h
+is_close format film f k columns rows reads shown (result.Ended o) is h = subst (IsEnd format film f) (sym is) (starved format film f)
+is_close format film f k columns rows reads shown (result.Begun b) is h = absurd is
+is_close format film f k columns rows reads shown (result.Existing slot) is h = absurd is
+is_close format film f k columns rows reads shown (result.Column r) is h = absurd is
+is_close format film f k columns rows reads shown (result.Strip planes) is h = absurd is
+is_close format film f k columns rows reads shown (result.Filtered planes) is h = absurd is
+is_close format film f k columns rows reads shown result.Starved is h = absurd is
+is_close format film f k columns rows reads shown result.Written is h = absurd is
+is_close format film f k columns rows reads shown (result.Refused fault) is h = absurd is
 
 ---- A frame that shows a slot ----
 
@@ -146,7 +151,7 @@ all_at P [] n none all = none
 all_at P (x ∷ xs) zero none all = all 0 x (omega arith)
 all_at P (x ∷ xs) (suc n) none all = all_at P xs n none (λ k d low. all (suc k) d (omega (arith, low)))
 
-slot_same : (format : Format) (film : Film) (f : ℕ) (held : Option Picture) → IfSome held (IsFrameBefore format film f) → IsSame format film (held_in (number_in held) (slot_shape held)) held
+slot_same : (format : Format) (film : Film) (f : ℕ) (held : Option Picture) → IfSome held (IsFrameBefore format film f) → IsSame format film (held_in (number_in held) (shape_in_slot held)) held
 slot_same format film f None h = tt
 slot_same format film f (Some picture) h = (
   refl,
@@ -156,26 +161,17 @@ slot_same format film f (Some picture) h = (
 
 -- what is kept tells what the slot holds
 slot_told : (k : Kept) (s : State) (slot : ℕ) → StandsFor k s
-    → held_in (get_or k.slots slot None) (get_or k.persist.slots slot None) ≡ held_in (number_in (get_or s.slots slot None)) (slot_shape (get_or s.slots slot None))
+    → held_in (get_or k.slots slot None) (get_or k.persist.slots slot None) ≡ held_in (number_in (get_or s.slots slot None)) (shape_in_slot (get_or s.slots slot None))
 slot_told k s slot h =
     let number = ap (λ (xs : List (Option ℕ)). get_or xs slot None) h.slots ∙ at_mapped number_in refl s.slots slot in
-    let shape = ap (λ (x : Persist). get_or x.slots slot None) h.persist ∙ at_mapped slot_shape refl s.slots slot in
+    let shape = ap (λ (x : Persist). get_or x.slots slot None) h.persist ∙ at_mapped shape_in_slot refl s.slots slot in
     λ i. held_in (number i) (shape i)
 
 same_kept : (format : Format) (film : Film) (f : ℕ) (p q : Putting) → before format film f ≡ Some p → before format film f ≡ Some q → p ≡ q
 same_kept format film f p q one other = let both : Some p ≡ Some q = sym one ∙ other in cc
 
-slot_in : (slots : List (Option Picture)) (slot : ℕ) (picture : Picture) → get_or slots slot None ≡ Some picture → Contains (numbers_in slots) picture.frame
-slot_in [] slot picture is = absurd cc
-slot_in (None ∷ slots) zero picture is = absurd cc
-slot_in (Some old ∷ slots) zero picture is =
-    let same : old ≡ picture = cc in
-    subst (λ (p : Picture). Contains (old.frame ∷ numbers_in slots) p.frame) same (here old.frame (numbers_in slots))
-slot_in (None ∷ slots) (suc n) picture is = slot_in slots n picture is
-slot_in (Some old ∷ slots) (suc n) picture is = there old.frame (numbers_in slots) picture.frame (slot_in slots n picture is)
-
 slot_named : (format : Format) (film : Film) (f : ℕ) (p : Putting) (slot : ℕ) (held : Option Picture) → before format film f ≡ Some p → get_or p.state.slots slot None ≡ held
-    → IsNamed format film f (held_in (number_in held) (slot_shape held))
+    → IsNamed format film f (held_in (number_in held) (shape_in_slot held))
 slot_named format film f p slot None from is = tt
 slot_named format film f p slot (Some picture) from is =
     inr (subst (λ (o : Option Putting). Contains (slots_of o) picture.frame) (sym from) (slot_in p.state.slots slot picture is))
@@ -196,15 +192,16 @@ slot_steps format film f slot k shown b h is =
           (slot_named format film f b.kept slot (get_or b.kept.state.slots slot None) b.reached refl);
     }
 
-pub slot_closes : (format : Format) (film : Film) (f slot : ℕ) (k next : Kept) (shown : Option ShownFrame) (x : JobResult) → IsKeptBefore format film f k → ShowsSlot format film f slot
+pub slot_closes : (format : Format) (film : Film) (f slot : ℕ) (k next : Kept) (reads : RowReads) (shown : Option ShownFrame) (x : JobResult) → IsKeptBefore format film f k → ShowsSlot format film f slot
     → shown ≡ held_in (get_or k.slots slot None) (get_or k.persist.slots slot None) → admits_it k.form shown ≡ true
-    → ((s : State) → StandsFor k s → StandsFor next s) → next.form ≡ k.form → (MayFollow k → MayFollow next) → IsClosing next 0 0 shown x → IsClose format film f x
-slot_closes format film f slot k next shown x b h is fits stands form may closing =
+    → ((s : State) → StandsFor k s → StandsFor next s) → next.form ≡ k.form → (MayFollow k → MayFollow next) → IsClosing next 0 0 reads shown x → IsClose format film f x
+slot_closes format film f slot k next reads shown x b h is fits stands form may closing =
     let none = not_coded format film f h.kept h.frame slot h.reached h.there h.head in
-    is_close format film f next 0 0 shown x closing
-    (closes format film f b.kept (shows_slot b.kept.state slot) next 0 0 shown (slot_steps format film f slot k shown b h is) (form ∙ b.form)
+    is_close format film f next 0 0 reads shown x closing
+    (closes format film f b.kept (shows_slot b.kept.state slot) next 0 0 reads shown (slot_steps format film f slot k shown b h is) (form ∙ b.form)
     (ap (λ (o : OutputForm). admits_it o shown) (sym b.form) ∙ fits) (stands b.kept.state b.stands) (may b.may)
-    (subst (λ (o : Option CodedFrame). IsBuiltAs o (closed_by next 0 0 shown)) (sym none) (refl, refl)))
+    (subst (λ (o : Option CodedFrame). IsBuiltAs o (closed_by next 0 0 reads shown)) (sym none) (refl, refl))
+    (λ column row across low. absurd (omega (arith, across))))
 
 pub slot_unfit : (format : Format) (film : Film) (f slot : ℕ) (k : Kept) (shown : Option ShownFrame) → IsKeptBefore format film f k → ShowsSlot format film f slot
     → shown ≡ held_in (get_or k.slots slot None) (get_or k.persist.slots slot None) → admits_it k.form shown ≡ false → IsEnd format film f (outcome_at f OutputShape)
@@ -282,16 +279,17 @@ coded_built format film f c b k read is h reads columns rows =
     let high = rows ∙ ap (λ (x : Header). superblocks_along (mi_rows (shape_of x))) h.header in
     subst (λ (o : Option CodedFrame). IsBuiltAs o k) (sym is) (wide, high, (read, reads))
 
-pub coded_closes : (format : Format) (film : Film) (f columns rows : ℕ) (b : BegunFrame) (k next : Kept) (d : Decoded) (shown : Option ShownFrame) (x : JobResult) → IsBegunFrame format film f b
+pub coded_closes : (format : Format) (film : Film) (f columns rows : ℕ) (reads : RowReads) (b : BegunFrame) (k next : Kept) (d : Decoded) (shown : Option ShownFrame) (x : JobResult) → IsBegunFrame format film f b
     → IsKeptBefore format film f k → GivesDecoded b (Ok d) → shown ≡ shown_by f b.setting.header → admits_it k.form shown ≡ true → Keeps f k b d next → next.form ≡ k.form → MayFollow next
-    → columns ≡ 2 ^ b.setting.header.params.tiles.columns_log2 → rows ≡ superblocks_along (mi_rows (shape_of b.setting.header)) → IsClosing next columns rows shown x → IsClose format film f x
-coded_closes format film f columns rows b k next d shown x h kept gives shows fits keeps form may wide high closing =
+    → columns ≡ 2 ^ b.setting.header.params.tiles.columns_log2 → rows ≡ superblocks_along (mi_rows (shape_of b.setting.header)) → AreReads b k.slots reads → IsClosing next columns rows reads shown x → IsClose format film f x
+coded_closes format film f columns rows reads b k next d shown x h kept gives shows fits keeps form may wide high has closing =
     let c = h.0 in
     let read = gives.0 in
     let stands = keeps c.kept.state (result_of c read) (stands_in format film f c k h.1 kept) h.2.begins (leaves c b d read h.2 gives.2) in
     let same = form_in format film f c k h.1 kept in
-    is_close format film f next columns rows shown x closing
-    (closes format film f c.kept (coded_step f c read) next columns rows shown (coded_told format film f b c shown read h.1 h.2 gives.1 shows) (form ∙ same)
+    is_close format film f next columns rows reads shown x closing
+    (closes format film f c.kept (coded_step f c read) next columns rows reads shown (coded_told format film f b c shown read h.1 h.2 gives.1 shows) (form ∙ same)
     (ap (λ (o : OutputForm). admits_it o shown) (sym same) ∙ fits)
     (subst (λ (hd : Header). StandsFor next (state_after f c.kept.state hd (result_of c read))) h.2.header stands) may
-    (coded_built format film f c b (closed_by next columns rows shown) read h.1 h.2 (reads_so c b (Ok read) h.2 gives.1) wide high))
+    (coded_built format film f c b (closed_by next columns rows reads shown) read h.1 h.2 (reads_so c b (Ok read) h.2 gives.1) wide high)
+    (has_reads format film f b k.slots (closed_by next columns rows reads shown) h (stands_in format film f c k h.1 kept).slots has wide high))

@@ -99,7 +99,7 @@ same_coded format film f c d is other = let both : Some c ≡ Some d = sym is �
 
 ---- How it begins ----
 
-ok_value : {A E : Type 0} (r : Result A E) → IsOk r → (x : A) × (r ≡ Ok x)
+pub ok_value : {A E : Type 0} (r : Result A E) → IsOk r → (x : A) × (r ≡ Ok x)
 ok_value (Ok x) h = (x, refl)
 ok_value (Err e) h = absurd cc
 

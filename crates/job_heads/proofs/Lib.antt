@@ -3,4 +3,5 @@ pub mod HeadSteps
 pub mod ReferenceSizes
 pub mod CodedFrames
 pub mod TileColumns
+pub mod RowsRead
 pub mod ClosedFrames

@@ -1,3 +1,4 @@
 pub mod Begun
 pub mod FrameLists
 pub mod Shows
+pub mod Reads

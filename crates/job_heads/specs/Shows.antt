@@ -5,8 +5,9 @@ use Rattle.vp9_types.specs.declared.shape.Shape.{Shape}
 use Rattle.frame_headers.specs.HeaderState.{shape_of}
 use Rattle.frame_headers.specs.declared.header.Header.{Header}
 use Rattle.frame_steps.specs.declared.kept.Kept.{Kept}
-use Rattle.seq_decoder.specs.Outputs.{first_of, fits}
+use Rattle.seq_decoder.specs.Outputs.{first_of, fits_format}
 use Rattle.seq_decoder.specs.declared.form.OutputForm.{OutputForm}
+use Rattle.job_results.specs.declared.reads.RowReads.{RowReads}
 use Rattle.job_results.specs.declared.result.ClosedFrame.{ClosedFrame}
 use Rattle.job_results.specs.declared.result.JobResult.{JobResult}
 use Rattle.job_results.specs.declared.result.JobResult.TheVariants as result
@@ -15,7 +16,7 @@ use Rattle.job_results.specs.declared.result.ShownFrame.{ShownFrame}
 -- it can be put next
 abbrev pub admits_it : OutputForm → Option ShownFrame → Bool
 admits_it form None = true
-admits_it form (Some s) = fits form.format form.first s.shape
+admits_it form (Some s) = fits_format form.format form.first s.shape
 
 -- how the next frame is put behind it
 abbrev pub form_behind : OutputForm → Option ShownFrame → OutputForm
@@ -36,12 +37,13 @@ shown_by number header = if header.show_frame then Some (record { frame = number
 abbrev pub with_form : Kept → OutputForm → Kept
 with_form kept form = record kept { form = form }
 
--- a closed frame of so many tile columns and rows, which shows this and leaves that
-abbrev pub closed_by : Kept → ℕ → ℕ → Option ShownFrame → ClosedFrame
-closed_by kept columns rows shown = record { kept = with_form kept (form_behind kept.form shown); columns = columns; rows = rows; shown = shown; form = kept.form }
+-- a closed frame of so many tile columns and rows, which reads this of other frames, shows this and leaves that
+abbrev pub closed_by : Kept → ℕ → ℕ → RowReads → Option ShownFrame → ClosedFrame
+closed_by kept columns rows reads shown =
+    record { kept = with_form kept (form_behind kept.form shown); columns = columns; rows = rows; reads = reads; shown = shown; form = kept.form }
 
 -- the frame is closed so, or memory is wanting
-abbrev pub IsClosing : Kept → ℕ → ℕ → Option ShownFrame → JobResult → Type 0
-IsClosing kept columns rows shown (result.Closed k) = k.value ≡ closed_by kept columns rows shown
-IsClosing kept columns rows shown (result.Ended o) = o ≡ outcome.OutOfMemory
-IsClosing kept columns rows shown _ = ⊥
+abbrev pub IsClosing : Kept → ℕ → ℕ → RowReads → Option ShownFrame → JobResult → Type 0
+IsClosing kept columns rows reads shown (result.Closed k) = k.value ≡ closed_by kept columns rows reads shown
+IsClosing kept columns rows reads shown (result.Ended o) = o ≡ outcome.OutOfMemory
+IsClosing kept columns rows reads shown _ = ⊥

@@ -10,11 +10,13 @@ ghost use Rattle.job_results.specs.Lent.{IsBegunFrame, IsKeptBefore};
 ghost use Rattle.job_results.specs.JobResults.{IsClose, ShowsSlot};
 
 use crate::frames::FrameList;
+use crate::reads::row_reads;
 use frame_headers::Header;
 use frame_steps::{BegunFrame, Kept, PlannedColumn, PlannedColumns, close, keep};
 use job_crew::Results;
 use job_results::{
-    ClosedFrame, Decode, DecodeRun, HeadRead, JobResult, ShownFrame, closed, column, head_read,
+    ClosedFrame, Decode, DecodeRun, HeadRead, JobResult, RowReads, ShownFrame, closed, column,
+    head_read,
 };
 use seq_decoder::{OutputForm, halt_outcome, outcome_at};
 use std::alloc::Global;
@@ -64,9 +66,10 @@ fn closing<'a>(
     kept: Kept,
     columns: u32,
     rows: u32,
+    reads: RowReads,
     shown: Option<ShownFrame>,
 ) -> JobResult<'a>
-    ensures { IsClosing kept columns rows shown result }
+    ensures { IsClosing kept columns rows reads shown result }
 {
     let form = kept.form;
     let after = form_behind(form, shown);
@@ -74,6 +77,7 @@ fn closing<'a>(
         kept: with_form(kept, after),
         columns,
         rows,
+        reads,
         shown,
         form,
     };
@@ -109,7 +113,7 @@ fn close_shown<'a, B: DecodeRun>(
         return JobResult::Ended(outcome_at(number, Rule::OutputShape));
     }
     match before.share() {
-        Ok(kept) => closing(alloc, kept, 0, 0, shown),
+        Ok(kept) => closing(alloc, kept, 0, 0, RowReads::none(alloc), shown),
         Err(_) => JobResult::Ended(Outcome::OutOfMemory),
     }
 }
@@ -178,12 +182,16 @@ fn close_coded<'a, B: DecodeRun, C: PlannedColumns>(
     if !admits(&before.form, &shown) {
         return JobResult::Ended(outcome_at(number, Rule::OutputShape));
     }
+    let Ok(reads) = row_reads(alloc, frame, planned, &before.slots) else {
+        return JobResult::Ended(Outcome::OutOfMemory);
+    };
     match keep(alloc, number, frame, decoded, before) {
         Ok(kept) => closing(
             alloc,
             kept,
             header.params.tiles.columns(),
             header.shape().superblock_rows(),
+            reads,
             shown,
         ),
         Err(_) => JobResult::Ended(Outcome::OutOfMemory),

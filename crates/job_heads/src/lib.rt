@@ -5,6 +5,7 @@ mod close;
 mod columns;
 mod frames;
 mod head;
+mod reads;
 
 pub use close::do_close;
 pub use columns::do_column;

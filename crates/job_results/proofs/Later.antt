@@ -17,7 +17,7 @@ use Rattle.numbered_frames.proofs.LaterFrames.{before_same, coded_same, frame_sa
 use Rattle.band_cells.specs.Bands.{Picture}
 use Rattle.seq_decoder.specs.Outputs.{Putting, is_first}
 use Rattle.job_results.specs.Slots.{slots_of}
-use Rattle.job_results.specs.JobResults.{IsBegunAs, IsBuiltAs, IsClose, IsClosedAs, IsColumn, IsColumnAs, IsEnd, IsEndResult, IsFiltered, IsHead, IsNamed, IsReadFrame, IsRight, IsShown, IsStrip, ShowsSlot, shown_text}
+use Rattle.job_results.specs.JobResults.{IsBegunAs, IsBuiltAs, IsClose, IsClosedAs, IsColumn, IsColumnAs, IsEnd, IsEndResult, HasReads, IsFiltered, IsHead, IsNamed, IsReadFrame, IsRight, IsShown, IsStrip, ShowsSlot, shown_text}
 use Rattle.job_results.specs.declared.result.ClosedFrame.{ClosedFrame}
 use Rattle.job_results.specs.declared.result.JobResult.{JobResult}
 use Rattle.job_results.specs.declared.result.JobResult.TheVariants as result
@@ -106,6 +106,7 @@ module _ (format : Format) (film more : Film) (h : GoesOn film more) where
         form = c.form;
         may = c.may;
         built = subst (λ (o : Option CodedFrame). IsBuiltAs o k) (sym (coded_same format film more f h low)) c.built;
+        reads = subst (λ (o : Option CodedFrame). HasReads o k) (sym (coded_same format film more f h low)) c.reads;
         shown = is_shown k.shown c.shown;
         named = is_named f k.shown low c.named;
         puts = text_same format film more f h low ∙ c.puts ∙ sym (same_text k k.shown c.shown);

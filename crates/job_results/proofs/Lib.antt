@@ -2,5 +2,10 @@ pub mod Decoding
 pub mod Variants
 pub mod Later
 pub mod GroupDue
+pub mod CodedFrames
+pub mod NamedSlots
 pub mod SlotLists
+pub mod FrameHeights
+pub mod ReadBands
 pub mod TrueRules
+pub mod KeptSpans

@@ -49,6 +49,15 @@ earlier format film f g (Some picture ∷ slots) all h =
     (λ (rest : Contains (numbers_in slots) g). earlier format film f g slots (λ k d low. all (suc k) d (omega (arith, low))) rest)
     (either picture.frame (numbers_in slots) g h)
 
+pub slot_in : (slots : List (Option Picture)) (slot : ℕ) (picture : Picture) → get_or slots slot None ≡ Some picture → Contains (numbers_in slots) picture.frame
+slot_in [] slot picture is = absurd cc
+slot_in (None ∷ slots) zero picture is = absurd cc
+slot_in (Some old ∷ slots) zero picture is =
+    let same : old ≡ picture = cc in
+    subst (λ (p : Picture). Contains (old.frame ∷ numbers_in slots) p.frame) same (here old.frame (numbers_in slots))
+slot_in (None ∷ slots) (suc n) picture is = slot_in slots n picture is
+slot_in (Some old ∷ slots) (suc n) picture is = there old.frame (numbers_in slots) picture.frame (slot_in slots n picture is)
+
 also : (slot : Option Picture) (slots : List (Option Picture)) (g : ℕ) → Contains (numbers_in slots) g → Contains (numbers_in (slot ∷ slots)) g
 also None slots g h = h
 also (Some picture) slots g h = there picture.frame (numbers_in slots) g h

@@ -28,6 +28,7 @@ use Rattle.job_results.specs.declared.result.ClosedFrame.{ClosedFrame}
 use Rattle.job_results.specs.declared.result.JobResult.{JobResult}
 use Rattle.job_results.specs.declared.result.JobResult.TheVariants as result
 use Rattle.job_results.specs.declared.result.ShownFrame.{ShownFrame}
+use Rattle.job_results.proofs.ReadBands.{group_reads}
 use Rattle.job_results.proofs.SlotLists.{group_slots, in_group_too}
 
 not_both : (b : Bool) → b ≡ false → b ≡ true → ⊥
@@ -100,7 +101,7 @@ group_true n format film = record {
   slots = group_slots n format film;
   right = λ job uses x are d. d.0;
   builds = λ f x b is e. builds_right format film n f x b is e;
-  reads = λ f c r results g band are h. absurd h;
+  reads = λ f c r results g band are h. group_reads n format film f c r g band h;
   text = λ f x is. text_by (fails x) (text format film (n + f));
   hands_on = λ f uses y d. let w = d.1 f refl in (w.0, w.2, λ bad. absurd (not_both (fails w.0) w.1 bad));
 }

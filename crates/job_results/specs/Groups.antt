@@ -1,7 +1,8 @@
 -- Frames of a film from one on, decoded by a run of their own, which numbers them from 0.
-use Rattle.std.specs.Prelude.{ℕ, ◌+◌, ◌-◌, ◌<◌, ◌≤◌, List, [], ◌∷◌, nat_lt, Option, Some, None, if◌then◌else◌}
+use Rattle.std.specs.Prelude.{ℕ, ◌+◌, ◌-◌, ◌<◌, ◌≤◌, List, [], ◌∷◌, map, nat_lt, Option, Some, None, if◌then◌else◌}
 use Rattle.vp9_types.specs.Shapes.{mi_rows}
 use Rattle.vp9_types.specs.Sizes.{superblocks_along}
+use Rattle.vp9_types.specs.declared.job.BandSpan.{BandSpan}
 use Rattle.vp9_types.specs.declared.job.JobName.{JobName}
 use Rattle.vp9_types.specs.declared.job.JobName.TheVariants.{Head, Column, Close, Rows, Filter, Write, End}
 use Rattle.frame_output.specs.declared.rendering.Format.{Format}
@@ -13,6 +14,7 @@ use Rattle.numbered_frames.specs.Films.{Film}
 use Rattle.numbered_frames.specs.FrameNumbers.{before, text}
 use Rattle.numbered_frames.specs.NumberedPictures.{pictures}
 use Rattle.job_results.specs.Meaning.{FollowsWrite, fails, parses, rows_of, text_put}
+use Rattle.job_results.specs.RowReads.{reads_of}
 use Rattle.job_results.specs.Slots.{slots_of}
 use Rattle.job_results.specs.JobResults.{IsRight}
 use Rattle.job_results.specs.declared.result.JobResult.{JobResult}
@@ -38,6 +40,14 @@ abbrev pub shown_in : ℕ → Option ShownFrame → Option Shown
 shown_in n None = None
 shown_in n (Some s) = if nat_lt s.frame n then None else Some (record { frame = s.frame - n; bands = rows_of s })
 
+-- bands of a frame of the group. Those of one before it are there already.
+abbrev pub span_in : ℕ → Option BandSpan → Option BandSpan
+span_in n None = None
+span_in n (Some s) = if nat_lt s.frame n then None else Some (record { frame = s.frame - n; first = s.first; last = s.last })
+
+abbrev pub spans_in : ℕ → List (Option BandSpan) → List (Option BandSpan)
+spans_in n spans = map (span_in n) spans
+
 abbrev pub builds_in : ℕ → JobResult → Option Building
 builds_in n (result.Closed k) = Some (record { columns = k.value.columns; rows = k.value.rows; shown = shown_in n k.value.shown })
 builds_in n _ = None
@@ -47,7 +57,7 @@ group_rules n format film = record {
   does = λ job uses x. IsRight format film (in_film n job) x × FollowsWrite job uses;
   parses = parses;
   builds = builds_in n;
-  reads = λ job results. [];
+  reads = λ job results. spans_in n (reads_of format film (in_film n job));
   puts = λ f x. text_put (text format film (n + f)) x;
   fails = fails;
 }

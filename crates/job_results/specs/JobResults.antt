@@ -1,5 +1,5 @@
 -- When the result of a job is right: it is what the definition of the decode has there, or want of memory where memory is taken.
-use Rattle.std.specs.Prelude.{◌≡◌, ◌⊎◌, ℕ, suc, ◌^◌, List, [], Option, Some, None, Result, Ok, Err, Contains}
+use Rattle.std.specs.Prelude.{◌≡◌, ◌<◌, ◌⊎◌, ℕ, suc, ◌^◌, List, [], Option, Some, None, Result, Ok, Err, Contains}
 use Rattle.vp9_types.specs.Shapes.{mi_rows}
 use Rattle.vp9_types.specs.Sizes.{superblocks_along}
 use Rattle.vp9_types.specs.declared.job.JobName.{JobName}
@@ -35,6 +35,7 @@ use Rattle.numbered_frames.specs.Coded.{CodedFrame, coded, read_of, references}
 use Rattle.numbered_frames.specs.FrameNumbers.{EndsAt, before, frame_at, text}
 use Rattle.numbered_frames.specs.NumberedPictures.{pictures}
 use Rattle.job_results.specs.ResultPlanes.{Keeps}
+use Rattle.job_results.specs.RowReads.{kept_spans, reads_from}
 use Rattle.job_results.specs.Slots.{slots_of}
 use Rattle.job_results.specs.declared.any_planes.AnyPlanes.{AnyPlanes}
 use Rattle.job_results.specs.declared.any_planes.AnyPlanes.TheVariants.{Bytes, Words}
@@ -121,6 +122,10 @@ IsBuiltAs None k = (k.columns ≡ 0) × (k.rows ≡ 0)
 IsBuiltAs (Some c) k = (k.columns ≡ 2 ^ c.header.params.tiles.columns_log2) × (k.rows ≡ superblocks_along (mi_rows (shape_of c.header)))
     × ((read : FrameRead) × (read_of c ≡ Ok read))
 
+-- it has what each of its rows reads of other frames
+abbrev pub HasReads : Option CodedFrame → ClosedFrame → Type 0
+HasReads o k = (column row : ℕ) → column < k.columns → row < k.rows → kept_spans k.reads column row ≡ Some (reads_from o column row)
+
 pub record IsClosedAs (format : Format) (film : Film) (f : ℕ) (k : ClosedFrame) : Type 0 where
   pub next : Putting
   pub reached : before format film (suc f) ≡ Some next
@@ -128,6 +133,7 @@ pub record IsClosedAs (format : Format) (film : Film) (f : ℕ) (k : ClosedFrame
   pub form : k.kept.form ≡ next.form
   pub may : MayFollow k.kept
   pub built : IsBuiltAs (coded format film f) k
+  pub reads : HasReads (coded format film f) k
   pub shown : IsShown format film k.shown
   pub named : IsNamed format film f k.shown
   pub puts : text format film f ≡ shown_text format film k k.shown

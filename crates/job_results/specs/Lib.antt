@@ -1,5 +1,6 @@
 pub mod ResultPlanes
 pub mod Slots
+pub mod RowReads
 pub mod JobResults
 pub mod Meaning
 pub mod Groups

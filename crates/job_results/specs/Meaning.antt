@@ -11,6 +11,7 @@ use Rattle.vp9_types.specs.declared.job.JobName.{JobName}
 use Rattle.vp9_types.specs.declared.job.JobName.TheVariants.{Write}
 use Rattle.numbered_frames.specs.FrameNumbers.{before, text}
 use Rattle.numbered_frames.specs.NumberedPictures.{pictures}
+use Rattle.job_results.specs.RowReads.{reads_of}
 use Rattle.job_results.specs.Slots.{slots_of}
 use Rattle.job_results.specs.JobResults.{IsRight}
 use Rattle.job_results.specs.declared.result.JobResult.{JobResult}
@@ -52,13 +53,12 @@ abbrev pub FollowsWrite : JobName → List (Done JobResult) → Type 0
 FollowsWrite (Write f) uses = (g : ℕ) → f ≡ g + 1 → (x : JobResult) × (fails x ≡ false) × Contains uses (record { job = Write g; result = x })
 FollowsWrite _ uses = Unit {0}
 
--- What a row reads of other frames is told by no list of results: the crew asks who does the jobs.
 abbrev pub decode_rules : Format → Film → Rules JobResult
 decode_rules format film = record {
   does = λ job uses x. IsRight format film job x × FollowsWrite job uses;
   parses = parses;
   builds = builds;
-  reads = λ job results. [];
+  reads = λ job results. reads_of format film job;
   puts = λ f x. text_put (text format film f) x;
   fails = fails;
 }

@@ -5,6 +5,7 @@ mod any_planes;
 mod laws;
 mod lent;
 mod meaning;
+mod reads;
 mod result;
 
 pub use any_planes::AnyPlanes;
@@ -14,4 +15,5 @@ pub use laws::{
 };
 pub use lent::{HeadRead, begun, closed, column, ended, filtered, head_read, strip};
 pub use meaning::{Decode, DecodeRun, Group};
+pub use reads::RowReads;
 pub use result::{ClosedFrame, JobResult, ShownFrame};

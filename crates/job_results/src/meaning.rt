@@ -26,9 +26,6 @@ pub trait DecodeRun {
 
     /// Whether the sink grows.
     ghost grows: { Bool };
-
-    /// How many frames may be at work at once.
-    ghost window: { ℕ };
 }
 
 /// A call that begins a decode picks its own.
@@ -48,8 +45,6 @@ impl DecodeRun for Brand {
     ghost faults = { 0 };
 
     ghost grows = { false };
-
-    ghost window = { 2 };
 }
 
 /// The meaning of the results of a decode's jobs.
@@ -88,6 +83,4 @@ impl<'a, B: DecodeRun> Meaning<JobResult<'a>> for Group<B> {
 
 impl<B: DecodeRun> Start for Group<B> {
     ghost taken = { B.taken };
-
-    ghost window = { B.window };
 }

@@ -1,6 +1,7 @@
 //! The results of jobs.
 
 use crate::any_planes::AnyPlanes;
+use crate::reads::RowReads;
 use edge_io::PutFault;
 use frame_steps::{BegunFrame, Kept, PlannedColumn};
 use seq_decoder::OutputForm;
@@ -14,13 +15,14 @@ pub struct ShownFrame {
     pub shape: Shape,
 }
 
-/// A frame whose tile columns are joined: what is kept behind it, of how many tile columns and rows of superblocks it is, what it shows,
-/// and how that is put.
+/// A frame whose tile columns are joined: what is kept behind it, of how many tile columns and rows of superblocks it is, which bands of
+/// other frames these rows read, what it shows, and how that is put.
 #[derive(Drop)]
 pub struct ClosedFrame {
     pub kept: Kept,
     pub columns: u32,
     pub rows: u32,
+    pub reads: RowReads,
     pub shown: Option<ShownFrame>,
     pub form: OutputForm,
 }

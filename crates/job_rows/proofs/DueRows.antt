@@ -19,7 +19,7 @@ use Rattle.job_results.specs.declared.result.ClosedFrame.{ClosedFrame}
 use Rattle.job_results.specs.declared.result.JobResult.{JobResult}
 use Rattle.job_results.specs.declared.result.JobResult.TheVariants as result
 use Rattle.job_rows.specs.LentRows.{HasRow, HasStrip, OfFrame}
-use Rattle.job_rows.proofs.CodedFrames.{same_coded}
+use Rattle.job_results.proofs.CodedFrames.{same_coded}
 use Rattle.numbered_frames.specs.Films.{Film}
 
 -- a right close that builds a frame

@@ -54,7 +54,8 @@ use Rattle.job_results.specs.Lent.{IsBegunFrame}
 use Rattle.job_results.specs.JobResults.{IsBuiltAs, IsClosedAs, IsFilteredAs, IsStripAs}
 use Rattle.job_results.specs.declared.result.ClosedFrame.{ClosedFrame}
 use Rattle.job_rows.specs.LentRows.{AreStrips, IsFilteredOver, raw_from, raw_frame, raw_read}
-use Rattle.job_rows.proofs.CodedFrames.{CodedBy, coded_by, inner, last_is, picture_is, same_coded, same_header}
+use Rattle.job_results.proofs.CodedFrames.{CodedBy, coded_by, inner, picture_is, same_coded, same_header}
+use Rattle.job_rows.proofs.CodedFrames.{last_is}
 use Rattle.numbered_frames.specs.Films.{Film}
 
 same_read : (c : CodedFrame) (a b : FrameRead) → read_of c ≡ Ok a → read_of c ≡ Ok b → a ≡ b

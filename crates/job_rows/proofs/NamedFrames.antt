@@ -19,7 +19,7 @@ use Rattle.frame_steps.specs.declared.beginning.BegunFrame.{BegunFrame}
 use Rattle.job_results.specs.Lent.{IsBegunFrame}
 use Rattle.inter_contexts.specs.BlockReferences.{reference_in}
 use Rattle.seq_decoder.specs.Outputs.{Putting}
-use Rattle.seq_decoder.specs.DecoderState.{Picture, persist_of, slot_shape}
+use Rattle.seq_decoder.specs.DecoderState.{Picture, persist_of, shape_in_slot}
 use Rattle.seq_decoder.proofs.HeaderReferences.{HoldsReference, references_held}
 use Rattle.numbered_frames.specs.Coded.{CodedFrame, IsFrameBefore, coded}
 use Rattle.numbered_frames.specs.FrameNumbers.{before, frame_at, start}
@@ -29,15 +29,11 @@ use Rattle.job_results.specs.JobResults.{IsClosedAs}
 use Rattle.job_results.specs.declared.result.ClosedFrame.{ClosedFrame}
 use Rattle.job_rows.specs.LentReferences.{HaveBands, IsInside, IsNumberOf, IsReferred, Names, NamesAll}
 use Rattle.job_rows.specs.LentRows.{IsOfDepth}
-use Rattle.job_rows.proofs.CodedFrames.{CodedBy, IsPictureOf, before_is, coded_by, inner, same_coded, slot_at}
+use Rattle.job_results.proofs.CodedFrames.{CodedBy, IsPictureOf, before_is, coded_by, inner, same_coded, slot_at}
+use Rattle.job_results.proofs.NamedSlots.{IsNamed, at_mapped, named_in}
 use Rattle.numbered_frames.specs.Films.{Film}
 
 ---- Slots ----
-
-at_mapped : {A B : Type 0} (f : Option A → Option B) → f None ≡ None → (xs : List (Option A)) (n : ℕ) → slice_index_or (map f xs) n None ≡ f (slice_index_or xs n None)
-at_mapped f none [] n = sym none
-at_mapped f none (x ∷ xs) zero = refl
-at_mapped f none (x ∷ xs) (suc n) = at_mapped f none xs n
 
 abbrev nothing_in : ℕ → List (Option Picture)
 nothing_in k = replicate k None
@@ -51,33 +47,6 @@ pub named_low : {A : Type 0} (xs : List (Option A)) (n : ℕ) (x : A) → slice_
 named_low [] n x is = absurd cc
 named_low (y ∷ xs) zero x is = omega arith
 named_low (y ∷ xs) (suc n) x is = let low = named_low xs n x is in omega (arith, low)
-
--- what the slot of a reference holds
-pub record IsNamed (c : CodedFrame) (r : Reference) : Type 0 where
-  pub picture : Picture
-  pub held : slice_index_or c.kept.state.slots r.slot None ≡ Some picture
-  pub shape : picture.shape ≡ r.shape
-  pub depth : r.shape.depth ≡ c.header.color.depth
-
-named_as : (c : CodedFrame) (r : Reference) (o : Option Picture) → slice_index_or c.kept.state.slots r.slot None ≡ o → slot_shape o ≡ Some r.shape → r.shape.depth ≡ c.header.color.depth → IsNamed c r
-named_as c r None is shape depth = absurd cc
-named_as c r (Some picture) is shape depth = let same : picture.shape ≡ r.shape = cc in record { picture = picture; held = is; shape = same; depth = depth }
-
-named_by : (c : CodedFrame) (r : Reference) → HoldsReference (persist_of c.kept.state).slots c.header.color r → IsNamed c r
-named_by c r h = named_as c r (slice_index_or c.kept.state.slots r.slot None) refl (sym (at_mapped slot_shape refl c.kept.state.slots r.slot) ∙ h.held) h.depth
-
-holds_in : (slots : List (Option Shape)) (color : ColorConfig) (fields : InterFields) (reference : ReferenceFrame)
-    → HoldsReference slots color fields.references.last × HoldsReference slots color fields.references.golden × HoldsReference slots color fields.references.altref
-    → HoldsReference slots color (reference_in fields.references reference)
-holds_in slots color fields Last all = all.0
-holds_in slots color fields Golden all = all.1
-holds_in slots color fields Altref all = all.2
-
-pub named_in : (from : Option Putting) (frame : Option (List ℕ)) (c : CodedFrame) (fields : InterFields) (reference : ReferenceFrame) → CodedBy from frame c → c.header.kind ≡ Inter fields
-    → IsNamed c (reference_in fields.references reference)
-named_in from frame c fields reference by kind =
-    named_by c (reference_in fields.references reference)
-    (holds_in (persist_of c.kept.state).slots c.header.color fields reference (references_held (persist_of c.kept.state) c.bytes c.header c.compressed fields by.head kind))
 
 pub is_named : (from : Option Putting) (frame : Option (List ℕ)) (c : CodedFrame) (r : Reference) → CodedBy from frame c → Names c.header.kind r → IsNamed c r
 is_named from frame c r by names = subst (IsNamed c) names.2.1 (named_in from frame c names.0 names.2.0 by names.1)

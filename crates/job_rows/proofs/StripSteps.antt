@@ -37,7 +37,7 @@ use Rattle.filtered_rows.specs.Code.{held_in, map_in, rows_from, width_in}
 use Rattle.filtered_rows.specs.BufferRows.{RowSpan}
 use Rattle.filtered_rows.proofs.Held.{rows_have_bands}
 use Rattle.frame_close.specs.Code.{GivesColumn}
-use Rattle.frame_headers.specs.References.{is_in_range}
+use Rattle.frame_headers.specs.References.{has_allowed_scale}
 use Rattle.frame_headers.specs.FrameSizes.{HasFrameSize, IsFrameSize}
 use Rattle.frame_headers.specs.Spans.{tile_count, tile_spans}
 use Rattle.frame_headers.specs.HeaderState.{shape_of}
@@ -81,8 +81,10 @@ use Rattle.job_rows.specs.LentRows.{HasStrip, IsStripOver}
 use Rattle.job_rows.specs.LentStrips.{AreAllRows, IsPicture, IsPlannedRow, ReadsRows, RefersToNone}
 use Rattle.job_rows.specs.declared.references.ReferenceRows.{ReferenceRows}
 use Rattle.job_rows.specs.declared.strips.AllRows.{AllRows}
-use Rattle.job_rows.proofs.CodedFrames.{coded_by, same_coded, same_header}
-use Rattle.job_rows.proofs.NamedFrames.{named_in, picture_of_number}
+use Rattle.job_results.proofs.ReadBands.{shapes_are}
+use Rattle.job_results.proofs.CodedFrames.{coded_by, same_coded, same_header}
+use Rattle.job_results.proofs.NamedSlots.{named_in}
+use Rattle.job_rows.proofs.NamedFrames.{picture_of_number}
 use Rattle.numbered_frames.specs.Films.{Film}
 
 ---- A plan ----
@@ -260,19 +262,19 @@ same_fields : (a b : InterFields) → Inter a ≡ Inter b → a ≡ b
 same_fields a b same = cc
 
 second_is_in_range : (header : Header) (fields : InterFields) (o : Option ReferenceFrame) (reference : ReferenceFrame) → o ≡ Some reference → second_in_range header.size fields.references o ≡ true
-    → is_in_range header.size (reference_in fields.references reference) ≡ true
+    → has_allowed_scale header.size (reference_in fields.references reference) ≡ true
 second_is_in_range header fields o reference is range = subst (λ (x : Option ReferenceFrame). second_in_range header.size fields.references x ≡ true) is range
 
 read_in_range : (header : Header) (fields : InterFields) (shape : Shape) (shapes : ReferenceFrame → Shape) (b : BlockInfo) (p : Prediction) (reference : ReferenceFrame) (plane : Plane) (y : ℕ) → header.kind ≡ Inter fields
-    → RefersInRange header p → ReadsBy shape shapes b p reference plane y → is_in_range header.size (reference_in fields.references reference) ≡ true
+    → RefersInRange header p → ReadsBy shape shapes b p reference plane y → has_allowed_scale header.size (reference_in fields.references reference) ≡ true
 read_in_range header fields shape shapes b (prediction.Intra modes) reference plane y kind range reads = absurd reads
 read_in_range header fields shape shapes b (prediction.Inter modes) reference plane y kind range (inl first) =
     let same = same_fields range.0 fields (sym range.1 ∙ kind) in
-    subst (λ (q : ReferenceFrame). is_in_range header.size (reference_in fields.references q) ≡ true) first.0
-    (subst (λ (fs : InterFields). is_in_range header.size (reference_in fs.references modes.references.first) ≡ true) same range.2)
+    subst (λ (q : ReferenceFrame). has_allowed_scale header.size (reference_in fields.references q) ≡ true) first.0
+    (subst (λ (fs : InterFields). has_allowed_scale header.size (reference_in fs.references modes.references.first) ≡ true) same range.2)
 read_in_range header fields shape shapes b (prediction.Inter modes) reference plane y kind range (inr second) =
     let same = same_fields range.0 fields (sym range.1 ∙ kind) in
-    subst (λ (fs : InterFields). is_in_range header.size (reference_in fs.references reference) ≡ true) same (second_is_in_range header range.0 modes.references.second reference second.0 range.3)
+    subst (λ (fs : InterFields). has_allowed_scale header.size (reference_in fs.references reference) ≡ true) same (second_is_in_range header range.0 modes.references.second reference second.0 range.3)
 
 some_block : (blocks : List BlockInfo) (k : ℕ) → k < length blocks → BlockInfo
 some_block [] k low = absurd (omega (arith, low))
@@ -280,7 +282,7 @@ some_block (b ∷ blocks) k low = b
 
 -- bands are needed of what is in range alone, and their order is that of their numbers
 record IsNeeded (header : Header) (fields : InterFields) (reference : ReferenceFrame) (bands : BandRange) : Type 0 where
-  range : is_in_range header.size (reference_in fields.references reference) ≡ true
+  range : has_allowed_scale header.size (reference_in fields.references reference) ≡ true
   order : bands.first ≤ bands.last
 
 needed : (header : Header) (fields : InterFields) (shape : Shape) (shapes : ReferenceFrame → Shape) (blocks : List BlockInfo) (reference : ReferenceFrame) (bands : BandRange) → header.kind ≡ Inter fields
@@ -296,16 +298,11 @@ needed header fields shape shapes blocks reference bands kind range inner is =
       order = of.low bands.last of.last;
     }
 
-shapes_are : (kind : FrameKind) (fields : InterFields) (reference : ReferenceFrame) → kind ≡ Inter fields → shapes_of (shapes_by kind) reference ≡ (reference_in fields.references reference).shape
-shapes_are kind fields Last is = ap (λ (k : FrameKind). shapes_of (shapes_by k) Last) is
-shapes_are kind fields Golden is = ap (λ (k : FrameKind). shapes_of (shapes_by k) Golden) is
-shapes_are kind fields Altref is = ap (λ (k : FrameKind). shapes_of (shapes_by k) Altref) is
-
 sizes_are : (kind : FrameKind) (fields : InterFields) (reference : ReferenceFrame) → kind ≡ Inter fields → HaveSizes kind → HasFrameSize (reference_in fields.references reference).shape
 sizes_are kind fields reference is sizes = (subst HaveSizes is sizes) reference
 
 referred : (header : Header) (fields : InterFields) (reference : ReferenceFrame) (shape : Shape) → IsFrameSize header.size → HaveSizes header.kind → header.kind ≡ Inter fields
-    → is_in_range header.size (reference_in fields.references reference) ≡ true → shape ≡ (reference_in fields.references reference).shape → IsReference (shape_of header) shape
+    → has_allowed_scale header.size (reference_in fields.references reference) ≡ true → shape ≡ (reference_in fields.references reference).shape → IsReference (shape_of header) shape
 referred header fields reference shape size sizes kind range same =
     let has = sizes_are header.kind fields reference kind sizes in
     is_reference header (reference_in fields.references reference) shape size (rw same has.1) (rw same has.3) same range

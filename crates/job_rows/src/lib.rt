@@ -1,14 +1,12 @@
 //! The jobs that make a frame's samples, row of superblocks by row of superblocks; each makes a right result of right ones.
 #![tactic(auto)]
 
-mod band_reads;
 mod filters;
 mod lent;
 mod references;
 mod sample;
 mod strips;
 
-pub use band_reads::reads;
 pub use filters::do_filter;
 pub use lent::rows_of;
 pub use sample::PlaneSample;

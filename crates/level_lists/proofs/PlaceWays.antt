@@ -5,7 +5,7 @@ use Rattle.std.specs.List.{AllByRecursion, IsDistinct}
 use Rattle.std.proofs.lemmas.Bool.{eq-eqb, eqb-false, ne_eqb}
 use Rattle.vp9_tables.proofs.ScanLaws.{order}
 use Rattle.prob_contexts.specs.ProbLists.{ContextLists}
-use Rattle.bool_encoder.specs.Part.{Part}
+use Rattle.bool_encoder.specs.Part.{NumberPart}
 use Rattle.bool_lists.specs.BoolLists.{HasPut}
 use Rattle.bool_lists.proofs.Ways.{spells_on, spells_none}
 use Rattle.coef_tokens.specs.TokenKinds.{block_tables}
@@ -16,8 +16,8 @@ use Rattle.coef_tokens.specs.declared.step.Step.TheVariants.{End, Zero, Level}
 use Rattle.coef_tokens.specs.declared.tables.TokenKind.{TokenKind}
 use Rattle.bool_encoder.specs.CountedBools.{PutsValue}
 use Rattle.bool_encoder.proofs.CountedPuts.{value_by_counting}
-use Rattle.token_writer.specs.TokenFits.{PutsLevels, level_of}
-use Rattle.level_lists.specs.LevelLists.{spelled_from, spelled_levels, spelled_place}
+use Rattle.token_writer.specs.TokenFits.{PutsLevels, level_in}
+use Rattle.level_lists.specs.LevelLists.{spelled_levels_from, spelled_levels, spelled_place}
 use Rattle.level_lists.proofs.Counted.{settle_put, two_put}
 use Rattle.level_lists.proofs.LevelWays.{IsStep, step_way}
 
@@ -34,7 +34,7 @@ record Stays (p q : Tokens) (positions : List ℕ) : Type 0 where
 unchanged : (p q : Tokens) (positions : List ℕ) → p ≡ q → Stays p q positions
 unchanged p q positions is = subst (λ q. Stays p q positions) is (record { most = omega arith; same = λ position absent. refl })
 
-stays_by : (t : Tables) (first position : ℕ) (positions : List ℕ) (p q : Tokens) (s : Step) (old new : Part)
+stays_by : (t : Tables) (first position : ℕ) (positions : List ℕ) (p q : Tokens) (s : Step) (old new : NumberPart)
     → ((check : Bool) (next : Tokens) → PutsValue (tokens_from t first positions check next) old q new → Stays next q positions)
     → PutsValue (goes_on p position s (tokens_from t first positions)) old q new → Stays p q (position ∷ positions)
 stays_by t first position positions p q End old new later h = unchanged p q (position ∷ positions) (settle_put p q old new h).0
@@ -47,7 +47,7 @@ stays_by t first position positions p q (Level z class) old new later h =
     let most = rest.most in
     record { most = omega (arith, most); same = λ other absent. rw absent.0 at (rest.same other absent.1) }
 
-stays : (t : Tables) (first : ℕ) (positions : List ℕ) (check : Bool) (p q : Tokens) (old new : Part) → PutsValue (tokens_from t first positions check p) old q new → Stays p q positions
+stays : (t : Tables) (first : ℕ) (positions : List ℕ) (check : Bool) (p q : Tokens) (old new : NumberPart) → PutsValue (tokens_from t first positions check p) old q new → Stays p q positions
 unfolding tokens_from
 stays t first [] check p q old new h = unchanged p q [] (settle_put p q old new h).0
 stays t first (position ∷ positions) check p q old new h =
@@ -73,21 +73,21 @@ none_read [] = tt
 none_read (position ∷ positions) = (refl, none_read positions)
 
 -- how the places behind one are put
-abbrev Later : Tables → ℕ → List ℤ → List ℕ → Tokens → Part → Part → Type 0
+abbrev Later : Tables → ℕ → List ℤ → List ℕ → Tokens → NumberPart → NumberPart → Type 0
 Later t first levels positions q mid new =
     (left : ℕ) (check : Bool) (next : Tokens) → AreEmpty next.reads positions → q.count ≡ next.count + left → PutsValue (tokens_from t first positions check next) mid q new
-    → HasPut mid (spelled_from t first levels positions left check next) new
+    → HasPut mid (spelled_levels_from t first levels positions left check next) new
 
-abbrev IsStepAt : Tables → ℕ → Bool → Step → Part → Part → Type 0
+abbrev IsStepAt : Tables → ℕ → Bool → Step → NumberPart → NumberPart → Type 0
 IsStepAt t row check s old new = IsStep t.depth check (slice_index t.probs row) (slice_index t.probs (row + 1)) (slice_index t.probs (row + 2)) s old new
 
-from_by : (t : Tables) (first : ℕ) (levels : List ℤ) (position : ℕ) (positions : List ℕ) (left : ℕ) (check : Bool) (p q : Tokens) (s : Step) (old mid new : Part)
+from_by : (t : Tables) (first : ℕ) (levels : List ℤ) (position : ℕ) (positions : List ℕ) (left : ℕ) (check : Bool) (p q : Tokens) (s : Step) (old mid new : NumberPart)
     → IsDistinct nat_eq (position ∷ positions) → AreEmpty p.reads (position ∷ positions) → HoldsLevels levels q.reads → q.count ≡ p.count + left
     → IsStepAt t (row_at t first p.count p.reads) check s old mid → PutsValue (goes_on p position s (tokens_from t first positions)) mid q new
-    → Later t first levels positions q mid new → HasPut old (spelled_from t first levels (position ∷ positions) left check p) new
-unfolding IsDistinct spelled_from spelled_place
+    → Later t first levels positions q mid new → HasPut old (spelled_levels_from t first levels (position ∷ positions) left check p) new
+unfolding IsDistinct spelled_levels_from spelled_place
 from_by t first levels position positions zero check p q End old mid new distinct empty holds count here h later =
-    subst (λ m. HasPut old (spelled_from t first levels (position ∷ positions) zero check p) m) (settle_put p q mid new h).1 here
+    subst (λ m. HasPut old (spelled_levels_from t first levels (position ∷ positions) zero check p) m) (settle_put p q mid new h).1 here
 from_by t first levels position positions (suc left) check p q End old mid new distinct empty holds count here h later =
     let same : p.count ≡ q.count = ap (λ (z : Tokens). z.count) (settle_put p q mid new h).0 in
     absurd (omega (arith, same, count))
@@ -95,7 +95,7 @@ from_by t first levels position positions zero check p q Zero old mid new distin
     let most = (stays t first positions false (with_zero p) q mid new h).most in
     absurd (omega (arith, most, count))
 from_by t first levels position positions (suc left) check p q Zero old mid new distinct empty holds count here h later =
-    let none : level_of levels position ≡ pos 0 =
+    let none : level_in levels position ≡ pos 0 =
     holds position ∙ (stays t first positions false (with_zero p) q mid new h).same position distinct.0 ∙ empty.0 in
     let rest = later left false (with_zero p) empty.1 (omega (arith, count)) h in
     rw none (spells_on old mid new _ _ rest here)
@@ -105,14 +105,14 @@ from_by t first levels position positions zero check p q (Level z class) old mid
 from_by t first levels position positions (suc left) check p q (Level z class) old mid new distinct empty holds count here h later =
     let next = with_level p position z class in
     let own : level_at next.reads position ≡ z = rw (eq-eqb position position refl) refl in
-    let is : level_of levels position ≡ z = holds position ∙ (stays t first positions true next q mid new h).same position distinct.0 ∙ own in
+    let is : level_in levels position ≡ z = holds position ∙ (stays t first positions true next q mid new h).same position distinct.0 ∙ own in
     let rest = later left true next (empty_by (record { position = position; level = z; class = class }) p.reads positions distinct.0 empty.1) (omega (arith, count)) h in
     rw (is, here.0, sym here.1) (spells_on old mid new _ _ rest here.2)
 
-from_way : (t : Tables) (first : ℕ) (levels : List ℤ) (positions : List ℕ) (left : ℕ) (check : Bool) (p q : Tokens) (old new : Part)
+from_way : (t : Tables) (first : ℕ) (levels : List ℤ) (positions : List ℕ) (left : ℕ) (check : Bool) (p q : Tokens) (old new : NumberPart)
     → IsDistinct nat_eq positions → AreEmpty p.reads positions → HoldsLevels levels q.reads → q.count ≡ p.count + left
-    → PutsValue (tokens_from t first positions check p) old q new → HasPut old (spelled_from t first levels positions left check p) new
-unfolding IsDistinct tokens_from spelled_from
+    → PutsValue (tokens_from t first positions check p) old q new → HasPut old (spelled_levels_from t first levels positions left check p) new
+unfolding IsDistinct tokens_from spelled_levels_from
 from_way t first levels [] left check p q old new distinct empty holds count h = subst (λ m. HasPut old [] m) (settle_put p q old new h).1 (spells_none old)
 from_way t first levels (position ∷ positions) left check p q old new distinct empty holds count h =
     let row = row_at t first p.count p.reads in
@@ -121,7 +121,7 @@ from_way t first levels (position ∷ positions) left check p q old new distinct
     from_by t first levels position positions left check p q a.x old a.mid new distinct empty holds count here a.second
     (λ left' check' next empty' count' g. from_way t first levels positions left' check' next q a.mid new distinct.1 empty' holds count' g)
 
-pub levels_way : (t : Tables) (first : ℕ) (levels : List ℤ) (count : ℕ) (old new : Part) → IsDistinct nat_eq t.scan → PutsLevels t first old levels count new
+pub levels_way : (t : Tables) (first : ℕ) (levels : List ℤ) (count : ℕ) (old new : NumberPart) → IsDistinct nat_eq t.scan → PutsLevels t first old levels count new
     → HasPut old (spelled_levels t first levels count) new
 unfolding block_tokens spelled_levels
 levels_way t first levels count old new distinct put =
@@ -133,6 +133,6 @@ scan_differs : (contexts : ContextLists) (at : TokenKind) → IsDistinct nat_eq 
 unfolding block_tables
 scan_differs contexts at = (order at.tx at.kind).2
 
-pub kinds_way : (contexts : ContextLists) (at : TokenKind) (first : ℕ) (levels : List ℤ) (count : ℕ) (old new : Part)
+pub kinds_way : (contexts : ContextLists) (at : TokenKind) (first : ℕ) (levels : List ℤ) (count : ℕ) (old new : NumberPart)
     → PutsLevels (block_tables contexts at) first old levels count new → HasPut old (spelled_levels (block_tables contexts at) first levels count) new
 kinds_way contexts at first levels count old new put = levels_way (block_tables contexts at) first levels count old new (scan_differs contexts at) put

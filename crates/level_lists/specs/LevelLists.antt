@@ -7,7 +7,7 @@ use Rattle.vp9_tables.specs.SymbolTrees.{coef_tail_from}
 use Rattle.bool_lists.specs.BoolLists.{BoolList, one_bool, tree_bools}
 use Rattle.coef_tokens.specs.TokenSymbols.{category_base, class_of, tail_probs}
 use Rattle.coef_tokens.specs.Places.{Tables, Tokens, no_tokens, row_at, with_level, with_zero}
-use Rattle.token_writer.specs.TokenFits.{level_of}
+use Rattle.token_writer.specs.TokenFits.{level_in}
 
 ---- A level ----
 
@@ -27,13 +27,13 @@ spelled_token third token =
     if nat_eq token 1 then one_bool third false else (one_bool third true ++ tree_bools (coef_tail_from 0) (tail_probs third) token)
 
 -- the bits of a number at these probabilities, the highest first
-unfoldable pub bits_at : List ℕ → ℕ → BoolList
-bits_at [] x = []
-bits_at (p ∷ ps) x = (p, x / 2 ^ length ps % 2) ∷ bits_at ps x
+unfoldable pub category_bits : List ℕ → ℕ → BoolList
+category_bits [] x = []
+category_bits (p ∷ ps) x = (p, x / 2 ^ length ps % 2) ∷ category_bits ps x
 
 -- of a magnitude in a category: how far it lies from the first one
 unfoldable pub spelled_rest : Depth → ℕ → ℕ → BoolList
-spelled_rest depth token m = if nat_lt token 5 then [] else bits_at (category_of (token - 4) depth) (m - category_base (token - 4))
+spelled_rest depth token m = if nat_lt token 5 then [] else category_bits (category_of (token - 4) depth) (m - category_base (token - 4))
 
 -- and last its sign, 1 where it is negative
 unfoldable pub spelled_level : Depth → ℕ → ℤ → BoolList
@@ -60,13 +60,13 @@ abbrev pub with_coded : Tokens → ℕ → ℤ → Tokens
 with_coded p position z = if int_eq z (pos 0) then with_zero p else with_level p position z (class_of (token_of (unsigned_abs z)))
 
 -- the positions still to come, of which so many are coded; the first behind these says that there are no more
-unfoldable pub spelled_from : Tables → ℕ → List ℤ → List ℕ → ℕ → Bool → Tokens → BoolList
-spelled_from t first levels [] left check p = []
-spelled_from t first levels (position ∷ positions) zero check p = spelled_more check (slice_index t.probs (row_at t first p.count p.reads)) false
-spelled_from t first levels (position ∷ positions) (suc left) check p =
-    spelled_place t (row_at t first p.count p.reads) check (level_of levels position)
-    ++ spelled_from t first levels positions left (not (int_eq (level_of levels position) (pos 0))) (with_coded p position (level_of levels position))
+unfoldable pub spelled_levels_from : Tables → ℕ → List ℤ → List ℕ → ℕ → Bool → Tokens → BoolList
+spelled_levels_from t first levels [] left check p = []
+spelled_levels_from t first levels (position ∷ positions) zero check p = spelled_more check (slice_index t.probs (row_at t first p.count p.reads)) false
+spelled_levels_from t first levels (position ∷ positions) (suc left) check p =
+    spelled_place t (row_at t first p.count p.reads) check (level_in levels position)
+    ++ spelled_levels_from t first levels positions left (not (int_eq (level_in levels position) (pos 0))) (with_coded p position (level_in levels position))
 
 -- levels by position, of which so many places of the scan are coded; `first` is the context of the first place
 unfoldable pub spelled_levels : Tables → ℕ → List ℤ → ℕ → BoolList
-spelled_levels t first levels count = spelled_from t first levels t.scan count true no_tokens
+spelled_levels t first levels count = spelled_levels_from t first levels t.scan count true no_tokens

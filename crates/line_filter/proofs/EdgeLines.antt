@@ -15,7 +15,7 @@ use Rattle.line_filter.specs.declared.edge.FilterWidth.TheVariants.{Four, Eight}
 use Rattle.line_filter.specs.declared.edge.Limits.{Limits}
 use Rattle.line_filter.specs.declared.edge.Pass.TheVariants.{Vertical, Horizontal}
 use Rattle.line_filter.specs.Lines.{Line, filtered_near, filtered_line}
-use Rattle.line_filter.specs.FilteredEdges.{reach, line_at, line_down, line_along, in_order, with_line, with_edge}
+use Rattle.line_filter.specs.FilteredEdges.{reach, line_at, line_down, line_along, nth_of_line, with_line, with_edge}
 use Rattle.line_filter.specs.Code.{IsAcross, IsAlong, down_filtered, along_filtered}
 
 pub one_more : {A : Type 0} (f : A → ℕ → A) (a : A) (n : ℕ) → fold f a (range_with_len 0 (n + 1)) ≡ f (fold f a (range_with_len 0 n)) n
@@ -31,10 +31,10 @@ one_column_more m y x j rows b = fun_ext λ r. fun_ext λ c. grind (arith, nat_t
 
 -- the lines of an edge all at once
 abbrev pub rows_filtered : Edge → Map → Map
-rows_filtered e m = λ i j. in_order (reach e.width) (filtered_line e.limits e.width (line_along (reach e.width) m (e.row + i) e.column)) j
+rows_filtered e m = λ i j. nth_of_line (reach e.width) (filtered_line e.limits e.width (line_along (reach e.width) m (e.row + i) e.column)) j
 
 abbrev pub columns_filtered : Edge → Map → Map
-columns_filtered e m = λ i j. in_order (reach e.width) (filtered_line e.limits e.width (line_down (reach e.width) m e.row (e.column + j))) i
+columns_filtered e m = λ i j. nth_of_line (reach e.width) (filtered_line e.limits e.width (line_down (reach e.width) m e.row (e.column + j))) i
 
 below : (m : Map) (y x rows columns : ℕ) (b : Map) → with_block m y x rows columns b (y + rows) ≡ m (y + rows)
 unfolding with_block
@@ -55,7 +55,7 @@ along_at_once e m (suc n) =
     (one_more (with_line Vertical e) m n
     ∙ (ap (λ (g : Map). with_line Vertical e g n) so
     ∙ (ap (λ (s : ℕ → ℕ). with_block (with_block m e.row x n k (rows_filtered e m)) (e.row + n) x 1 k
-    (λ i j. in_order (reach e.width) (filtered_line e.limits e.width (line_at (reach e.width) s e.column)) j))
+    (λ i j. nth_of_line (reach e.width) (filtered_line e.limits e.width (line_at (reach e.width) s e.column)) j))
     (below m e.row x n k (rows_filtered e m))
     ∙ one_row_more m e.row x n k (rows_filtered e m))))
 
@@ -70,7 +70,7 @@ down_at_once e m (suc n) =
     (one_more (with_line Horizontal e) m n
     ∙ (ap (λ (g : Map). with_line Horizontal e g n) so
     ∙ (ap (λ (s : ℕ → ℕ). with_block (with_block m y e.column k n (columns_filtered e m)) y (e.column + n) k 1
-    (λ i j. in_order (reach e.width) (filtered_line e.limits e.width (line_at (reach e.width) s e.row)) i))
+    (λ i j. nth_of_line (reach e.width) (filtered_line e.limits e.width (line_at (reach e.width) s e.row)) i))
     (right m y e.column k n (columns_filtered e m))
     ∙ one_column_more m y e.column n k (columns_filtered e m))))
 

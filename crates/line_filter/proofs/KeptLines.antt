@@ -15,7 +15,7 @@ use Rattle.line_filter.specs.declared.far.Far.{Far}
 use Rattle.line_filter.specs.declared.lanes.Lanes.{Lanes}
 use Rattle.line_filter.specs.declared.near.Near.{Near}
 use Rattle.line_filter.specs.Lines.{Line, p, q, filter_mask, flat_mask, flat_mask2, narrow_filter, wide_filter, filtered_near, filtered_line}
-use Rattle.line_filter.specs.FilteredEdges.{line_at, line_down, line_along, in_order}
+use Rattle.line_filter.specs.FilteredEdges.{line_at, line_down, line_along, nth_of_line}
 use Rattle.line_filter.specs.Code.{AreLanes, is_flat_far, line_of, wide_line_of, near_between, far_between, line_between, between, down_filtered, along_filtered}
 use Rattle.line_filter.proofs.FarLines.{extended, near_same, calm_same, flat_same}
 use Rattle.line_filter.proofs.LineBlocks.{wide_line}
@@ -53,7 +53,7 @@ lower n at i s inside from low =
     get_or-map-range_with_len (λ (k : ℕ). s (at + k)) 0 n (i - n) (i - n) 0 (omega (arith, from, low)) (omega arith)
     ∙ ap s (omega (arith, inside, from))
 
-pub line_is : (n at i : ℕ) (s : ℕ → ℕ) → n ≤ at → i < n + n → in_order n (line_at n s at) i ≡ s (at - n + i)
+pub line_is : (n at i : ℕ) (s : ℕ → ℕ) → n ≤ at → i < n + n → nth_of_line n (line_at n s at) i ≡ s (at - n + i)
 line_is n at i s inside low = elim (cases_lt i n) [
   | inl less ↦ rw (lt-ltb i n less) (upper n at i s inside less)
   | inr more ↦ rw (le-ltb i n more) (lower n at i s inside more low)
@@ -123,7 +123,7 @@ unfolding filtered_near
 four_near l x so = four_if (not (filter_mask l x)) _ _ so (four_if (flat_mask l x && true) _ _ (four_wide x so) (four_narrow l x so))
 
 -- in a line that is extended they are in the middle
-middle_is : (z : Line) (y : Far) → IsFour z → (i : ℕ) → i < 8 → in_order 8 (extended z y) (4 + i) ≡ in_order 4 z i
+middle_is : (z : Line) (y : Far) → IsFour z → (i : ℕ) → i < 8 → nth_of_line 8 (extended z y) (4 + i) ≡ nth_of_line 4 z i
 middle_is z y so zero low = get_or_append_left z.p _ 0 3 (omega (arith, so.p))
 middle_is z y so (suc zero) low = get_or_append_left z.p _ 0 2 (omega (arith, so.p))
 middle_is z y so (suc (suc zero)) low = get_or_append_left z.p _ 0 1 (omega (arith, so.p))
@@ -134,14 +134,14 @@ middle_is z y so (suc (suc (suc (suc (suc (suc zero)))))) low = get_or_append_le
 middle_is z y so (suc (suc (suc (suc (suc (suc (suc zero))))))) low = get_or_append_left z.q _ 0 3 (omega (arith, so.q))
 middle_is z y so (suc (suc (suc (suc (suc (suc (suc (suc i)))))))) low = absurd (omega arith)
 
-first_is : (z : Line) (s : ℕ → ℕ) (at : ℕ) → 8 ≤ at → IsFour z → (i : ℕ) → i < 4 → in_order 8 (extended z (far_of s at)) i ≡ s (at - 8 + i)
+first_is : (z : Line) (s : ℕ → ℕ) (at : ℕ) → 8 ≤ at → IsFour z → (i : ℕ) → i < 4 → nth_of_line 8 (extended z (far_of s at)) i ≡ s (at - 8 + i)
 first_is z s at inside so zero low = get_or-append_right z.p _ 4 7 0 so.p (omega arith) ∙ ap s (omega (arith, inside))
 first_is z s at inside so (suc zero) low = get_or-append_right z.p _ 4 6 0 so.p (omega arith) ∙ ap s (omega (arith, inside))
 first_is z s at inside so (suc (suc zero)) low = get_or-append_right z.p _ 4 5 0 so.p (omega arith) ∙ ap s (omega (arith, inside))
 first_is z s at inside so (suc (suc (suc zero))) low = get_or-append_right z.p _ 4 4 0 so.p (omega arith) ∙ ap s (omega (arith, inside))
 first_is z s at inside so (suc (suc (suc (suc i)))) low = absurd (omega arith)
 
-last_is : (z : Line) (s : ℕ → ℕ) (at : ℕ) → 8 ≤ at → IsFour z → (i : ℕ) → i < 4 → in_order 8 (extended z (far_of s at)) (12 + i) ≡ s (at - 8 + (12 + i))
+last_is : (z : Line) (s : ℕ → ℕ) (at : ℕ) → 8 ≤ at → IsFour z → (i : ℕ) → i < 4 → nth_of_line 8 (extended z (far_of s at)) (12 + i) ≡ s (at - 8 + (12 + i))
 last_is z s at inside so zero low = get_or-append_right z.q _ 4 4 0 so.q (omega arith) ∙ ap s (omega (arith, inside))
 last_is z s at inside so (suc zero) low = get_or-append_right z.q _ 4 5 0 so.q (omega arith) ∙ ap s (omega (arith, inside))
 last_is z s at inside so (suc (suc zero)) low = get_or-append_right z.q _ 4 6 0 so.q (omega arith) ∙ ap s (omega (arith, inside))
@@ -174,31 +174,31 @@ least a b le = omega arith
 
 -- places of a line
 kept_place : (l : Limits) (s : ℕ → ℕ) (at k : ℕ) → 8 ≤ at → at - 8 ≤ k → k < at - 8 + 16 → filter_mask l (line_at 8 s at) ≡ false
-    → in_order 8 (filtered_line l Sixteen (line_at 8 s at)) (k - (at - 8)) ≡ s k
+    → nth_of_line 8 (filtered_line l Sixteen (line_at 8 s at)) (k - (at - 8)) ≡ s k
 kept_place l s at k inside from to off =
-    ap (λ (z : Line). in_order 8 z (k - (at - 8))) (left_alone l (line_at 8 s at) off)
+    ap (λ (z : Line). nth_of_line 8 z (k - (at - 8))) (left_alone l (line_at 8 s at) off)
     ∙ (line_is 8 at (k - (at - 8)) s inside (omega (arith, from, to)) ∙ ap s (omega (arith, from)))
 
 first_place : (l : Limits) (s : ℕ → ℕ) (at k : ℕ) → 8 ≤ at → at - 8 ≤ k → k < at - 8 + 4 → is_flat_far l (line_at 8 s at) ≡ false
-    → in_order 8 (filtered_line l Sixteen (line_at 8 s at)) (k - (at - 8)) ≡ s k
+    → nth_of_line 8 (filtered_line l Sixteen (line_at 8 s at)) (k - (at - 8)) ≡ s k
 first_place l s at k inside from to off =
-    ap (λ (z : Line). in_order 8 z (k - (at - 8))) (near_alone l (line_at 8 s at) off ∙ near_extended l s at)
+    ap (λ (z : Line). nth_of_line 8 z (k - (at - 8))) (near_alone l (line_at 8 s at) off ∙ near_extended l s at)
     ∙ (first_is (filtered_near l true (line_at 4 s at)) s at inside (four_near l _ (four_at s at)) (k - (at - 8)) (omega (arith, from, to)) ∙ ap s (omega (arith, from)))
 
 last_place : (l : Limits) (s : ℕ → ℕ) (at k : ℕ) → 8 ≤ at → at - 8 + 12 ≤ k → k < at - 8 + 16 → is_flat_far l (line_at 8 s at) ≡ false
-    → in_order 8 (filtered_line l Sixteen (line_at 8 s at)) (k - (at - 8)) ≡ s k
+    → nth_of_line 8 (filtered_line l Sixteen (line_at 8 s at)) (k - (at - 8)) ≡ s k
 last_place l s at k inside from to off =
     let i : k - (at - 8) ≡ 12 + (k - (at - 8 + 12)) = omega (arith, from) in
-    ap (λ (z : Line). in_order 8 z (k - (at - 8))) (near_alone l (line_at 8 s at) off ∙ near_extended l s at)
-    ∙ (ap (in_order 8 (extended (filtered_near l true (line_at 4 s at)) (far_of s at))) i
+    ap (λ (z : Line). nth_of_line 8 z (k - (at - 8))) (near_alone l (line_at 8 s at) off ∙ near_extended l s at)
+    ∙ (ap (nth_of_line 8 (extended (filtered_near l true (line_at 4 s at)) (far_of s at))) i
     ∙ (last_is (filtered_near l true (line_at 4 s at)) s at inside (four_near l _ (four_at s at)) (k - (at - 8 + 12)) (omega (arith, from, to)) ∙ ap s (omega (arith, from))))
 
 middle_place : (l : Limits) (s : ℕ → ℕ) (at k : ℕ) → 8 ≤ at → at - 8 + 4 ≤ k → k < at - 8 + 12 → is_flat_far l (line_at 8 s at) ≡ false
-    → in_order 8 (filtered_line l Sixteen (line_at 8 s at)) (k - (at - 8)) ≡ in_order 4 (filtered_near l true (line_at 4 s at)) (k - (at - 8 + 4))
+    → nth_of_line 8 (filtered_line l Sixteen (line_at 8 s at)) (k - (at - 8)) ≡ nth_of_line 4 (filtered_near l true (line_at 4 s at)) (k - (at - 8 + 4))
 middle_place l s at k inside from to off =
     let i : k - (at - 8) ≡ 4 + (k - (at - 8 + 4)) = omega (arith, from) in
-    ap (λ (z : Line). in_order 8 z (k - (at - 8))) (near_alone l (line_at 8 s at) off ∙ near_extended l s at)
-    ∙ (ap (in_order 8 (extended (filtered_near l true (line_at 4 s at)) (far_of s at))) i
+    ap (λ (z : Line). nth_of_line 8 z (k - (at - 8))) (near_alone l (line_at 8 s at) off ∙ near_extended l s at)
+    ∙ (ap (nth_of_line 8 (extended (filtered_near l true (line_at 4 s at)) (far_of s at))) i
     ∙ middle_is (filtered_near l true (line_at 4 s at)) (far_of s at) (four_near l _ (four_at s at)) (k - (at - 8 + 4)) (omega (arith, from, to)))
 
 -- the lines of eight columns, and of eight rows, without a mask
@@ -218,17 +218,17 @@ along_off mask m row column r from to off =
     let e : row + (r - row) ≡ r = omega (arith, from) in subst (λ (k : ℕ). mask (line_along 8 m k column) ≡ false) e (off (r - row) (omega (arith, from, to)))
 
 abbrev down_block : (Line → Line) → ℕ → Map → ℕ → ℕ → Map
-down_block f n m row column = λ i j. in_order n (f (line_down n m row (column + j))) i
+down_block f n m row column = λ i j. nth_of_line n (f (line_down n m row (column + j))) i
 
 abbrev along_block : (Line → Line) → ℕ → Map → ℕ → ℕ → Map
-along_block f n m row column = λ i j. in_order n (f (line_along n m (row + i) column)) j
+along_block f n m row column = λ i j. nth_of_line n (f (line_along n m (row + i) column)) j
 
 -- a place of such a block, by the column or row itself
-down_at : (f : Line → Line) (n : ℕ) (m : Map) (row column i c : ℕ) → column ≤ c → down_block f n m row column i (c - column) ≡ in_order n (f (line_down n m row c)) i
-down_at f n m row column i c from = let e : column + (c - column) ≡ c = omega (arith, from) in ap (λ (k : ℕ). in_order n (f (line_down n m row k)) i) e
+down_at : (f : Line → Line) (n : ℕ) (m : Map) (row column i c : ℕ) → column ≤ c → down_block f n m row column i (c - column) ≡ nth_of_line n (f (line_down n m row c)) i
+down_at f n m row column i c from = let e : column + (c - column) ≡ c = omega (arith, from) in ap (λ (k : ℕ). nth_of_line n (f (line_down n m row k)) i) e
 
-along_at : (f : Line → Line) (n : ℕ) (m : Map) (row column r j : ℕ) → row ≤ r → along_block f n m row column (r - row) j ≡ in_order n (f (line_along n m r column)) j
-along_at f n m row column r j from = let e : row + (r - row) ≡ r = omega (arith, from) in ap (λ (k : ℕ). in_order n (f (line_along n m k column)) j) e
+along_at : (f : Line → Line) (n : ℕ) (m : Map) (row column r j : ℕ) → row ≤ r → along_block f n m row column (r - row) j ≡ nth_of_line n (f (line_along n m r column)) j
+along_at f n m row column r j from = let e : row + (r - row) ≡ r = omega (arith, from) in ap (λ (k : ℕ). nth_of_line n (f (line_along n m k column)) j) e
 
 pub down_kept : (l : Limits) (a : Area) (m : Map) (row column : ℕ) → 8 ≤ row → DownOff (filter_mask l) m row column
     → m ≡ down_filtered 8 (filtered_line l Sixteen) a m row column

@@ -7,7 +7,7 @@ use Rattle.planes.specs.declared.area.Area.{Area}
 use Rattle.planes.specs.Planes.{lower_end, right_end, with_part}
 use Rattle.line_filter.specs.declared.lanes.Lanes.{Lanes}
 use Rattle.line_filter.specs.Lines.{Line, p, q}
-use Rattle.line_filter.specs.FilteredEdges.{line_at, in_order}
+use Rattle.line_filter.specs.FilteredEdges.{line_at, nth_of_line}
 use Rattle.line_filter.specs.Code.{AreLanes, AreLanesAtMost, IsNear, IsFar, line_of, near_at, near_between, far_between, down, turned}
 use Rattle.line_filter.proofs.LaneLemmas.{wide_at}
 
@@ -134,7 +134,7 @@ wide_line a b f g s at j so also eight low is too =
     (rw (is 0, is 1, is 2, is 3, is 4, is 5, is 6, is 7, too 0, too 1, too 2, too 3, too 4, too 5, too 6, too 7) (rw (s0, s1, s2, s3, s4, s5, s6, s7) refl))
 
 -- lanes whose columns are known lines
-pub lanes_of_lines : (x : Lanes) (g : ℕ → Line) → ((j : ℕ) → j < 8 → line_of (near_at x j) ≡ g j) → AreLanes x (λ i j. in_order 4 (g j) i)
+pub lanes_of_lines : (x : Lanes) (g : ℕ → Line) → ((j : ℕ) → j < 8 → line_of (near_at x j) ≡ g j) → AreLanes x (λ i j. nth_of_line 4 (g j) i)
 unfolding near_at
 lanes_of_lines x g is = record {
   r0 = λ j low. ap (λ (z : Line). p z 3) (is j low);
@@ -147,7 +147,7 @@ lanes_of_lines x g is = record {
   r7 = λ j low. ap (λ (z : Line). q z 3) (is j low);
 }
 
-pub upper_of_lines : (a b : Lanes) (g : ℕ → Line) → ((j : ℕ) → j < 8 → wide_at a b j ≡ g j) → AreLanes a (λ i j. in_order 8 (g j) i)
+pub upper_of_lines : (a b : Lanes) (g : ℕ → Line) → ((j : ℕ) → j < 8 → wide_at a b j ≡ g j) → AreLanes a (λ i j. nth_of_line 8 (g j) i)
 unfolding near_between far_between
 upper_of_lines a b g is = record {
   r0 = λ j low. ap (λ (z : Line). p z 7) (is j low);
@@ -160,7 +160,7 @@ upper_of_lines a b g is = record {
   r7 = λ j low. ap (λ (z : Line). p z 0) (is j low);
 }
 
-pub lower_of_lines : (a b : Lanes) (g : ℕ → Line) → ((j : ℕ) → j < 8 → wide_at a b j ≡ g j) → AreLanes b (λ i j. in_order 8 (g j) (8 + i))
+pub lower_of_lines : (a b : Lanes) (g : ℕ → Line) → ((j : ℕ) → j < 8 → wide_at a b j ≡ g j) → AreLanes b (λ i j. nth_of_line 8 (g j) (8 + i))
 unfolding near_between far_between
 lower_of_lines a b g is = record {
   r0 = λ j low. ap (λ (z : Line). q z 0) (is j low);
@@ -175,7 +175,7 @@ lower_of_lines a b g is = record {
 
 -- each column filtered as its line alone
 pub near_filtered : (x y : Lanes) (g : Map) (s : ℕ → ℕ → ℕ) (at : ℕ) (f : Line → Line) → 4 ≤ at → AreLanes x g → ((i j : ℕ) → g i j ≡ s j (at - 4 + i))
-    → ((j : ℕ) → j < 8 → line_of (near_at y j) ≡ f (line_of (near_at x j))) → AreLanes y (λ i j. in_order 4 (f (line_at 4 (s j) at)) i)
+    → ((j : ℕ) → j < 8 → line_of (near_at y j) ≡ f (line_of (near_at x j))) → AreLanes y (λ i j. nth_of_line 4 (f (line_at 4 (s j) at)) i)
 near_filtered x y g s at f four so is filtered =
     lanes_of_lines y (λ j. f (line_at 4 (s j) at)) (λ j low. filtered j low ∙ ap f (near_line x g (s j) at j so four low (λ i. is i j)))
 

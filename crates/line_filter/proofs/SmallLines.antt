@@ -15,8 +15,8 @@ use Rattle.line_filter.specs.declared.edge.Limits.{Limits}
 use Rattle.line_filter.specs.declared.edge.Pass.{Pass}
 use Rattle.line_filter.specs.declared.edge.Pass.TheVariants.{Vertical, Horizontal}
 use Rattle.line_filter.specs.Lines as L
-use Rattle.line_filter.specs.Lines.{Line, p, q, sample_at, around, tap, within, mean, moved, wide_filter, narrow_filter, filtered_near, filtered_line, filter4_clamp}
-use Rattle.line_filter.specs.FilteredEdges.{reach, line_at, in_order, with_line, with_edge}
+use Rattle.line_filter.specs.Lines.{Line, p, q, sample_at, around, tap, within, mean, moved_sample, wide_filter, narrow_filter, filtered_near, filtered_line, filter4_clamp}
+use Rattle.line_filter.specs.FilteredEdges.{reach, line_at, nth_of_line, with_line, with_edge}
 use Rattle.line_filter.proofs.EdgeLines.{along_at_once, down_at_once, rows_filtered, columns_filtered}
 
 pub record IsSmall (most : ℕ) (x : Line) : Type 0 where
@@ -86,7 +86,7 @@ wide_seven most x small = record {
   q = listed most _ _ (λ i. either most (nat_lt i 7) _ _ (mean_seven most (pos i) x small) (small.q i));
 }
 
-moved_small : (half sample : ℕ) (by : ℤ) → moved half sample by ≤ 2 * half - 1
+moved_small : (half sample : ℕ) (by : ℤ) → moved_sample half sample by ≤ 2 * half - 1
 unfolding filter4_clamp
 moved_small half sample by = omega (arith, ints, clamps)
 
@@ -111,17 +111,17 @@ at_small : (most n at : ℕ) (s : ℕ → ℕ) → ((i : ℕ) → s i ≤ most) 
 unfolding line_at
 at_small most n at s small = record { p = listed most n _ (λ i. small _); q = listed most n _ (λ i. small _) }
 
-ordered : (most n i : ℕ) (x : Line) → IsSmall most x → in_order n x i ≤ most
+ordered : (most n i : ℕ) (x : Line) → IsSmall most x → nth_of_line n x i ≤ most
 ordered most n i x small = either most (nat_lt i n) _ _ (small.p _) (small.q _)
 
 -- so they fit where the range of the depth does
 pub near_fits : (most : ℕ) (l : Limits) (wide : Bool) (n at : ℕ) (s : ℕ → ℕ) → 2 * l.half - 1 ≤ most → ((i : ℕ) → s i ≤ 2 * l.half - 1) → (i : ℕ)
-    → in_order n (filtered_near l wide (line_at n s at)) i ≤ most
+    → nth_of_line n (filtered_near l wide (line_at n s at)) i ≤ most
 near_fits most l wide n at s fits small i =
     let low = ordered (2 * l.half - 1) n i _ (near_small l wide _ (at_small _ n at s small)) in omega (arith, low, fits)
 
 pub far_fits : (most : ℕ) (l : Limits) (n at : ℕ) (s : ℕ → ℕ) → 2 * l.half - 1 ≤ most → ((i : ℕ) → s i ≤ 2 * l.half - 1) → (i : ℕ)
-    → in_order n (filtered_line l Sixteen (line_at n s at)) i ≤ most
+    → nth_of_line n (filtered_line l Sixteen (line_at n s at)) i ≤ most
 far_fits most l n at s fits small i =
     let low = ordered (2 * l.half - 1) n i _ (filtered_small l Sixteen _ (at_small _ n at s small)) in omega (arith, low, fits)
 

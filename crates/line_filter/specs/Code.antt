@@ -11,7 +11,7 @@ use Rattle.line_filter.specs.declared.far.Far.{Far}
 use Rattle.line_filter.specs.declared.lanes.Lanes.{Lanes}
 use Rattle.line_filter.specs.declared.lanes.Rows.{Rows}
 use Rattle.line_filter.specs.declared.near.Near.{Near}
-use Rattle.line_filter.specs.FilteredEdges.{reach, line_down, line_along, in_order}
+use Rattle.line_filter.specs.FilteredEdges.{reach, line_down, line_along, nth_of_line}
 use Rattle.line_filter.specs.Lines.{Line, filter_mask, flat_mask, flat_mask2}
 
 -- four samples on each side
@@ -197,7 +197,7 @@ pub record IsAlongBy (n : ℕ) (a : Area) (row column : ℕ) : Type 0 where
 
 -- eight columns, or rows, from a place on, changed across the edge there, as far as they are in the area
 unfoldable pub down_filtered : ℕ → (Line → Line) → Area → Map → ℕ → ℕ → Map
-down_filtered n f a m row column = with_part a m (row - n) column (2 * n) 8 (λ i j. in_order n (f (line_down n m row (column + j))) i)
+down_filtered n f a m row column = with_part a m (row - n) column (2 * n) 8 (λ i j. nth_of_line n (f (line_down n m row (column + j))) i)
 
 unfoldable pub along_filtered : ℕ → (Line → Line) → Area → Map → ℕ → ℕ → Map
-along_filtered n f a m row column = with_part a m row (column - n) 8 (2 * n) (λ i j. in_order n (f (line_along n m (row + i) column)) j)
+along_filtered n f a m row column = with_part a m row (column - n) 8 (2 * n) (λ i j. nth_of_line n (f (line_along n m (row + i) column)) j)

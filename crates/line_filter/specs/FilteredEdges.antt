@@ -30,17 +30,17 @@ abbrev pub line_along : ℕ → Map → ℕ → ℕ → Line
 line_along n m row column = line_at n (m row) column
 
 -- the i-th of the samples p(n-1) .. p0 q0 .. q(n-1)
-abbrev pub in_order : ℕ → Line → ℕ → ℕ
-in_order n line i = if nat_lt i n then p line (n - 1 - i) else q line (i - n)
+abbrev pub nth_of_line : ℕ → Line → ℕ → ℕ
+nth_of_line n line i = if nat_lt i n then p line (n - 1 - i) else q line (i - n)
 
 -- the k-th line of an edge filtered
 abbrev pub with_line : Pass → Edge → Map → ℕ → Map
 with_line Vertical e m k =
     with_block m (e.row + k) (e.column - reach e.width) 1 (2 * reach e.width)
-    (λ i j. in_order (reach e.width) (filtered_line e.limits e.width (line_along (reach e.width) m (e.row + k) e.column)) j)
+    (λ i j. nth_of_line (reach e.width) (filtered_line e.limits e.width (line_along (reach e.width) m (e.row + k) e.column)) j)
 with_line Horizontal e m k =
     with_block m (e.row - reach e.width) (e.column + k) (2 * reach e.width) 1
-    (λ i j. in_order (reach e.width) (filtered_line e.limits e.width (line_down (reach e.width) m e.row (e.column + k))) i)
+    (λ i j. nth_of_line (reach e.width) (filtered_line e.limits e.width (line_down (reach e.width) m e.row (e.column + k))) i)
 
 -- a plane with the lines of an edge filtered, one after another
 unfoldable pub with_edge : Map → Edge → Map

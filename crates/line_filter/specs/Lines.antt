@@ -79,8 +79,8 @@ unfoldable pub change : Bool → ℕ → Line → ℤ
 change high half x = filter4_clamp half (outer high half x +ℤ pos 3 *ℤ (pos (q x 0) -ℤ pos (p x 0)))
 
 -- a sample less half, changed, clamped, and half added again
-abbrev pub moved : ℕ → ℕ → ℤ → ℕ
-moved half sample by = unsigned_abs (filter4_clamp half (pos sample -ℤ pos half +ℤ by) +ℤ pos half)
+abbrev pub moved_sample : ℕ → ℕ → ℤ → ℕ
+moved_sample half sample by = unsigned_abs (filter4_clamp half (pos sample -ℤ pos half +ℤ by) +ℤ pos half)
 
 -- 8.8.4: the first samples change, without high variance the second ones too
 unfoldable pub narrow_filter : Limits → Line → Line
@@ -90,10 +90,10 @@ narrow_filter l x =
     let filter2 = int_shr (filter4_clamp l.half (f +ℤ pos 3)) 3 in
     let filter3 = int_shr (filter1 +ℤ pos 1) 1 in
     record {
-      p = map (λ i. if nat_lt i 1 then moved l.half (p x 0) filter2
-          else (if nat_lt i 2 && not (hev_mask l x) then moved l.half (p x 1) filter3 else p x i)) (range_with_len 0 (length x.p));
-      q = map (λ i. if nat_lt i 1 then moved l.half (q x 0) (neg_ℤ filter1)
-          else (if nat_lt i 2 && not (hev_mask l x) then moved l.half (q x 1) (neg_ℤ filter3) else q x i)) (range_with_len 0 (length x.q));
+      p = map (λ i. if nat_lt i 1 then moved_sample l.half (p x 0) filter2
+          else (if nat_lt i 2 && not (hev_mask l x) then moved_sample l.half (p x 1) filter3 else p x i)) (range_with_len 0 (length x.p));
+      q = map (λ i. if nat_lt i 1 then moved_sample l.half (q x 0) (neg_ℤ filter1)
+          else (if nat_lt i 2 && not (hev_mask l x) then moved_sample l.half (q x 1) (neg_ℤ filter3) else q x i)) (range_with_len 0 (length x.q));
     }
 
 abbrev pub is_eight_or_more : FilterWidth → Bool

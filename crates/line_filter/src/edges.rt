@@ -6,7 +6,7 @@ ghost use Rattle.planes.specs.Planes.{plane_map, with_part, lower_end, right_end
 ghost use Rattle.line_filter.specs.declared.edge.FilterWidth.TheVariants.{Sixteen};
 ghost use Rattle.line_filter.specs.declared.edge.Pass.TheVariants.{Vertical, Horizontal};
 ghost use Rattle.line_filter.specs.Lines.{filtered_near, filtered_line};
-ghost use Rattle.line_filter.specs.FilteredEdges.{line_down, line_along, in_order, with_edge};
+ghost use Rattle.line_filter.specs.FilteredEdges.{line_down, line_along, nth_of_line, with_edge};
 ghost use Rattle.line_filter.specs.Code.{AreLanes, IsAcross, IsAlong, IsEdgeIn, IsAcrossBy, IsAlongBy, down_filtered, along_filtered};
 
 use crate::edge::{Edge, FilterWidth, Limits, Pass};

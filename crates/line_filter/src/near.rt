@@ -2,7 +2,7 @@
 
 ghost use Rattle.std.specs.Prelude.{◌≡◌, ◌≤◌, ◌∷◌, [], ◌+ℤ◌, ◌-ℤ◌, ◌*ℤ◌, ◌≤ℤ◌, ◌^◌, pos, neg_ℤ, unsigned_abs, nat_le, ◌&&◌, not, if◌then◌else◌};
 ghost use Rattle.std.specs.Int.{int_shr, abs_diff};
-ghost use Rattle.line_filter.specs.Lines.{filter4_clamp, moved, filter_mask, hev_mask, flat_mask, outer, change, narrow_filter, wide_filter, filtered_near};
+ghost use Rattle.line_filter.specs.Lines.{filter4_clamp, moved_sample, filter_mask, hev_mask, flat_mask, outer, change, narrow_filter, wide_filter, filtered_near};
 ghost use Rattle.line_filter.specs.Code.{IsNear, line_of};
 
 use crate::edge::Limits;
@@ -129,11 +129,11 @@ pub fn step(f: i16, more: i16, half: u16) -> i16
 }
 
 #[inline(always)]
-pub fn moved(sample: u16, by: i16, half: u16) -> u16
+pub fn moved_sample(sample: u16, by: i16, half: u16) -> u16
     requires small { sample ≤ 4095 }
     requires by { unsigned_abs by ≤ 2049 }
     requires half { half ≤ 2048 }
-    ensures { result ≡ moved half sample by }
+    ensures { result ≡ moved_sample half sample by }
 {
     (clip(sample as i16 - half as i16 + by, half) + half as i16) as u16
 }
@@ -154,8 +154,8 @@ pub fn narrow(x: Near, l: Limits) -> Near
         p3: x.p3,
         p2: x.p2,
         p1: moved_unless(high, x.p1, g, l.half),
-        p0: moved(x.p0, b, l.half),
-        q0: moved(x.q0, -a, l.half),
+        p0: moved_sample(x.p0, b, l.half),
+        q0: moved_sample(x.q0, -a, l.half),
         q1: moved_unless(high, x.q1, -g, l.half),
         q2: x.q2,
         q3: x.q3,
@@ -167,12 +167,12 @@ pub fn moved_unless(high: bool, sample: u16, by: i16, half: u16) -> u16
     requires small { sample ≤ 4095 }
     requires by { unsigned_abs by ≤ 2049 }
     requires half { half ≤ 2048 }
-    ensures { result ≡ (if not high then moved half sample by else sample) }
+    ensures { result ≡ (if not high then moved_sample half sample by else sample) }
 {
     if high {
         sample
     } else {
-        moved(sample, by, half)
+        moved_sample(sample, by, half)
     }
 }
 

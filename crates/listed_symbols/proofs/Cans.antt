@@ -7,9 +7,9 @@ use Rattle.frame_headers.specs.declared.header.Header.{Header}
 use Rattle.frame_headers.specs.declared.segments.MapUpdate.{MapUpdate}
 use Rattle.block_plan.specs.declared.block.BlockAt.{BlockAt}
 use Rattle.block_plan.specs.declared.block.IntraPrediction.{IntraPrediction}
-use Rattle.block_plan.specs.declared.block.References.{References}
+use Rattle.block_plan.specs.declared.block.ReferenceFrames.{ReferenceFrames}
 use Rattle.mode_syntax.specs.Elements.{skips_segment}
-use Rattle.inter_contexts.specs.BlockReferences.{in_range_or_rule}
+use Rattle.inter_contexts.specs.BlockReferences.{allowed_or_rule}
 use Rattle.inter_modes.specs.ModeInfo.{InterFrame}
 use Rattle.inter_modes.specs.BlockStarts.{segment_of}
 use Rattle.inter_modes.specs.BlockVectors.{Sources, best_mv}
@@ -66,7 +66,7 @@ if_any (Err e) P p = tt
 if_none : {A E : Type 0} (r : Result A E) (e : E) (P : Type 0) → r ≡ Err e → IfOk r (λ x. P)
 if_none r e P is = rw is tt
 
-abbrev best_of : Sources → References → Best
+abbrev best_of : Sources → ReferenceFrames → Best
 best_of s refs = record { allowed = s.allowed; vectors = best_mv s refs; size = s.search.at.size }
 
 -- of references in range
@@ -74,7 +74,7 @@ pub inter_can : (f : InterFrame) (s : Sources) (segment : ℕ) (q : InterSymbols
     → CanSayBehind (best_of s q.references) (skips_segment f.header.params.segmentation segment) f.fields.filter q → CanSayInterBlock f s segment q
 inter_can f s segment q refers behind = record {
   references = refers;
-  rest = if_any (in_range_or_rule f.header.size f.fields.references q.references) _ (record {
+  rest = if_any (allowed_or_rule f.header.size f.fields.references q.references) _ (record {
     named = behind.named;
     same = λ k low. (behind.quarters k low).same;
     skipped = behind.skipped;
@@ -84,10 +84,10 @@ inter_can f s segment q refers behind = record {
 
 -- of references out of range
 pub references_alone_can : (f : InterFrame) (s : Sources) (segment : ℕ) (q : InterSymbols) (rule : Rule) → CanRefer (choice_of f s.search.biases segment) q.references
-    → in_range_or_rule f.header.size f.fields.references q.references ≡ Err rule → CanSayInterBlock f s segment q
+    → allowed_or_rule f.header.size f.fields.references q.references ≡ Err rule → CanSayInterBlock f s segment q
 references_alone_can f s segment q rule refers out = record {
   references = refers;
-  rest = if_none (in_range_or_rule f.header.size f.fields.references q.references) rule _ out;
+  rest = if_none (allowed_or_rule f.header.size f.fields.references q.references) rule _ out;
 }
 
 pub put_inter_can : (f : InterFrame) (s : Sources) (least : ℕ) (start : BlockStart) (p : PredictionSymbols)

@@ -13,7 +13,7 @@ use Rattle.vp9_types.specs.declared.block.TxSize.{TxSize}
 use Rattle.vp9_types.specs.declared.block.TxSize.TheVariants.{T4x4, T8x8, T16x16, T32x32}
 use Rattle.vp9_tables.specs.Numbers.{filter_number, inter_number, intra_number, reference_number, tx_number, tx_of}
 use Rattle.mode_syntax.specs.IntraModes.{intra_of}
-use Rattle.block_plan.specs.declared.block.References.{References}
+use Rattle.block_plan.specs.declared.block.ReferenceFrames.{ReferenceFrames}
 use Rattle.listed_symbols.specs.IntraTests.{same_intra}
 
 intra_is : (mode : IntraMode) → intra_of (intra_number mode) ≡ mode
@@ -85,9 +85,9 @@ pub same_reference_is : (reference other : ReferenceFrame) → reference_number 
 same_reference_is reference other same =
     sym (reference_is reference) ∙ (ap (λ n. reference_of n) same ∙ reference_is other)
 
-abbrev two : ReferenceFrame → Option ReferenceFrame → References
+abbrev two : ReferenceFrame → Option ReferenceFrame → ReferenceFrames
 two first second = record { first = first; second = second }
 
-pub same_references_are : (refs other : References) → reference_number refs.first ≡ reference_number other.first → refs.second ≡ other.second → refs ≡ other
+pub same_references_are : (refs other : ReferenceFrames) → reference_number refs.first ≡ reference_number other.first → refs.second ≡ other.second → refs ≡ other
 same_references_are refs other first second =
     ap (λ r. two r refs.second) (same_reference_is refs.first other.first first) ∙ ap (λ s. two other.first s) second

@@ -7,7 +7,7 @@ use Rattle.std.proofs.lemmas.List.{drop_all, length-replicate, length-set}
 use Rattle.std.proofs.lemmas.List.Elements.{All-head, All-tail, All-set, All-replicate}
 use Rattle.vp9_types.specs.declared.shape.Depth.{Depth}
 use Rattle.coef_tokens.specs.Places.{Tables}
-use Rattle.token_writer.specs.TokenFits.{IsCoded, level_of, CanPut}
+use Rattle.token_writer.specs.TokenFits.{IsCoded, level_in, CanPut}
 use Rattle.listed_symbols.specs.ListedLevels.{by_position, can_levels, ends, is_coded, is_zero, placed_from}
 
 rest_from : (levels : List ℤ) (k : ℕ) → k < length levels → drop k levels ≡ slice_index_or levels k (pos 0) ∷ drop (suc k) levels
@@ -27,19 +27,19 @@ placed_all scan levels values k all = rw (drop_all k levels all) refl
 
 ---- They can be put ----
 
-beside : (xs : List ℤ) (k j : ℕ) (x : ℤ) → k ≢ j → level_of (slice_set xs k x) j ≡ level_of xs j
+beside : (xs : List ℤ) (k j : ℕ) (x : ℤ) → k ≢ j → level_in (slice_set xs k x) j ≡ level_in xs j
 beside [] k j x other = refl
 beside (y ∷ xs) zero zero x other = absurd (other refl)
 beside (y ∷ xs) zero (suc j) x other = refl
 beside (y ∷ xs) (suc k) zero x other = refl
 beside (y ∷ xs) (suc k) (suc j) x other = beside xs k j x (λ same. other (ap (λ n. suc n) same))
 
-there : (xs : List ℤ) (k : ℕ) (x : ℤ) → k < length xs → level_of (slice_set xs k x) k ≡ x
+there : (xs : List ℤ) (k : ℕ) (x : ℤ) → k < length xs → level_in (slice_set xs k x) k ≡ x
 there [] k x low = absurd (omega (arith, low))
 there (y ∷ xs) zero x low = refl
 there (y ∷ xs) (suc k) x low = there xs k x (omega (arith, low))
 
-zero_at : (n p : ℕ) → level_of (replicate n (pos 0)) p ≡ pos 0
+zero_at : (n p : ℕ) → level_in (replicate n (pos 0)) p ≡ pos 0
 zero_at zero p = refl
 zero_at (suc n) zero = refl
 zero_at (suc n) (suc p) = zero_at n p
@@ -61,7 +61,7 @@ coded depth scan (level ∷ levels) k values few all =
     (All-set (λ level. IsCoded depth (unsigned_abs level)) values (slice_index scan k) level (ltb-true _ _ parts.0) all)
 
 others : (scan : List ℕ) (levels : List ℤ) (k : ℕ) (values : List ℤ) (position : ℕ)
-    → ((j : ℕ) → k ≤ j → j < k + length levels → slice_index scan j ≢ position) → level_of (placed_from k scan levels values) position ≡ level_of values position
+    → ((j : ℕ) → k ≤ j → j < k + length levels → slice_index scan j ≢ position) → level_in (placed_from k scan levels values) position ≡ level_in values position
 others scan [] k values position away = refl
 others scan (level ∷ levels) k values position away =
     others scan levels (suc k) (slice_set values (slice_index scan k) level) position (λ j low high. away j (omega (arith, low)) (omega (arith, high)))
@@ -75,7 +75,7 @@ further k m = omega arith
 
 -- the last one isn't written over
 last : (scan : List ℕ) (level : ℤ) (levels : List ℤ) (k n : ℕ) (values : List ℤ) → length values ≡ n
-    → All (λ p. p < n) scan → k + length levels < length scan → level_of (placed_from k scan (level ∷ levels) values) (slice_index scan (k + length levels)) ≡ level_of (level ∷ levels) (length levels)
+    → All (λ p. p < n) scan → k + length levels < length scan → level_in (placed_from k scan (level ∷ levels) values) (slice_index scan (k + length levels)) ≡ level_in (level ∷ levels) (length levels)
 last scan level [] k n values same within low =
     rw (at_end k) (there values (slice_index scan k) level (rw same (at_within n scan k within (omega (arith, low)))))
 last scan level (next ∷ levels) k n values same within low =
@@ -97,7 +97,7 @@ not_zero x some none = no (sym some ∙ ap (λ y. not (is_zero y)) none)
 some_long : (n : ℕ) → suc n ≡ 0 → ⊥
 some_long n is = omega (arith, is)
 
-ends_so : (level : ℤ) (levels : List ℤ) → ends (level ∷ levels) ≡ true → level_of (level ∷ levels) (length levels) ≢ pos 0
+ends_so : (level : ℤ) (levels : List ℤ) → ends (level ∷ levels) ≡ true → level_in (level ∷ levels) (length levels) ≢ pos 0
 ends_so level levels end =
     elim (or_cases (nat_eq (suc (length levels)) 0) (not (is_zero (slice_index_or (level ∷ levels) (suc (length levels) - 1) (pos 0)))) end) [
       | inl none ↦ absurd (some_long (length levels) (eqb-true (suc (length levels)) 0 none))
@@ -108,7 +108,7 @@ short : (a b : ℕ) → a < b → nat_eq a b ≡ true → ⊥
 short a b low same = let is : a ≡ b = eqb-true a b same in omega (arith, low, is)
 
 last_of : (scan : List ℕ) (levels values : List ℤ) → All (λ p. p < length values) scan → (nat_eq (length levels) (length scan) || ends levels) ≡ true
-    → 0 < length levels → length levels < length scan → level_of (placed_from 0 scan levels values) (slice_index scan (length levels - 1)) ≢ pos 0
+    → 0 < length levels → length levels < length scan → level_in (placed_from 0 scan levels values) (slice_index scan (length levels - 1)) ≢ pos 0
 last_of scan [] values within end any low = absurd (omega (arith, any))
 last_of scan (level ∷ levels) values within end any low =
     elim (or_cases (nat_eq (suc (length levels)) (length scan)) (ends (level ∷ levels)) end) [

@@ -16,7 +16,7 @@ use Rattle.coef_tokens.specs.Places.{Tables}
 use Rattle.block_plan.proofs.Held.{one_long}
 use Rattle.residue_syntax.specs.BlocksInPlanes.{token_kind, type_at}
 use Rattle.residue_syntax.specs.declared.in_plane.BlockInPlane.{BlockInPlane}
-use Rattle.token_writer.specs.TokenFits.{CanPut, IsCoded, level_of}
+use Rattle.token_writer.specs.TokenFits.{CanPut, IsCoded, level_in}
 use Rattle.residue_writer.specs.ResidueFits.{CanPutAll, CanPutAt}
 use Rattle.residue_writer.specs.SaidResidues.{levels_at}
 use Rattle.listed_symbols.specs.ListedLevels.{by_position, can_levels, no_levels, placed_from, with_each, with_levels, with_run}
@@ -142,7 +142,7 @@ can_more contexts b places levels s k low long can all j within =
     ]
 
 -- those that have no levels
-zero_of : (xs : List ℤ) → All (λ v. v ≡ pos 0) xs → (p : ℕ) → level_of xs p ≡ pos 0
+zero_of : (xs : List ℤ) → All (λ v. v ≡ pos 0) xs → (p : ℕ) → level_in xs p ≡ pos 0
 zero_of [] zeros p = refl
 zero_of (x ∷ xs) zeros zero = All-head (λ v. v ≡ pos 0) x xs zeros
 zero_of (x ∷ xs) zeros (suc p) = zero_of xs (All-tail (λ v. v ≡ pos 0) x xs zeros) p

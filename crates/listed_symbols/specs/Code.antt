@@ -10,7 +10,7 @@ use Rattle.frame_headers.specs.declared.header.FrameFilter.{FrameFilter}
 use Rattle.block_geometry.specs.BlockSizes.{is_below_8x8}
 use Rattle.inter_writer.specs.InterFits.{CanStart, IsSegment}
 use Rattle.vector_writer.specs.VectorFits.{CanFilter, CanSayVectors, quarter_saying}
-use Rattle.vector_writer.specs.SaidVectors.{mode_at, symbols_at}
+use Rattle.vector_writer.specs.SaidVectors.{mode_of_part, symbols_at}
 use Rattle.vector_writer.specs.declared.symbols.InterSymbols.{InterSymbols}
 use Rattle.listed_symbols.specs.declared.vectors.Best.{Best}
 
@@ -36,7 +36,7 @@ pub record CanStartInter (segmentation : Segmentation) (mode : TxMode) (size : B
 
 -- the k-th quarter can be said
 pub record CanSayQuarter (b : Best) (q : InterSymbols) (k : ℕ) : Type 0 where
-  pub same : mode_at q.modes k ≡ mode_at q.modes (quarter_saying b.size k)
+  pub same : mode_of_part q.modes k ≡ mode_of_part q.modes (quarter_saying b.size k)
   pub vectors : CanSayVectors b.allowed b.vectors q.references (symbols_at q (quarter_saying b.size k))
 
 abbrev pub CanSayQuarters : Best → InterSymbols → Type 0
@@ -45,5 +45,5 @@ CanSayQuarters b q = (k : ℕ) → k < 4 → CanSayQuarter b q k
 -- what stands behind the references can be said
 pub record CanSayBehind (b : Best) (skips : Bool) (filter : FrameFilter) (q : InterSymbols) : Type 0 where
   pub named : CanFilter filter q.filter
-  pub skipped : is_below_8x8 b.size ≡ false → skips ≡ true → mode_at q.modes 0 ≡ Zero
+  pub skipped : is_below_8x8 b.size ≡ false → skips ≡ true → mode_of_part q.modes 0 ≡ Zero
   pub quarters : CanSayQuarters b q

@@ -17,11 +17,11 @@ use Rattle.frame_headers.specs.declared.segments.FeatureReference.{FeatureRefere
 use Rattle.block_geometry.specs.BlockSizes.{is_below_8x8}
 use Rattle.block_plan.specs.BlockMvs.{vector_at}
 use Rattle.block_plan.specs.declared.block.Mv.{Mv}
-use Rattle.block_plan.specs.declared.block.References.{References}
+use Rattle.block_plan.specs.declared.block.ReferenceFrames.{ReferenceFrames}
 use Rattle.mode_syntax.specs.Elements.{skips_segment}
-use Rattle.mv_prediction.specs.Vectors.{is_precise}
+use Rattle.mv_prediction.specs.Vectors.{is_short_vector}
 use Rattle.mv_prediction.specs.declared.search.SignBiases.{SignBiases}
-use Rattle.inter_contexts.specs.BlockReferences.{fixed_of, variable_by, with_fixed, single, of_feature, in_range_or_rule}
+use Rattle.inter_contexts.specs.BlockReferences.{fixed_of, variable_by, with_fixed, single, of_feature, allowed_or_rule}
 use Rattle.inter_modes.specs.ModeInfo.{InterFrame}
 use Rattle.inter_modes.specs.BlockStarts.{segment_reference}
 use Rattle.inter_modes.specs.BlockVectors.{Sources, best_mv}
@@ -31,7 +31,7 @@ use Rattle.inter_writer.specs.declared.frame_blocks.PredictionSymbols.TheVariant
 use Rattle.listed_symbols.specs.IntraTests.{can_luma}
 use Rattle.listed_symbols.specs.StartTests.{can_start_inter}
 use Rattle.vector_writer.specs.VectorFits.{quarter_saying}
-use Rattle.vector_writer.specs.SaidVectors.{mode_at, symbols_at}
+use Rattle.vector_writer.specs.SaidVectors.{mode_of_part, symbols_at}
 use Rattle.vector_writer.specs.declared.symbols.InterSymbols.{InterSymbols}
 use Rattle.vector_writer.specs.declared.symbols.QuarterSymbols.{QuarterSymbols}
 
@@ -43,7 +43,7 @@ same_second (Some r) None = false
 same_second None (Some s) = false
 same_second None None = true
 
-abbrev pub same_references : References → References → Bool
+abbrev pub same_references : ReferenceFrames → ReferenceFrames → Bool
 same_references refs other = nat_eq (reference_number refs.first) (reference_number other.first) && same_second refs.second other.second
 
 abbrev pub can_be_compound : ReferenceMode → Bool → Bool
@@ -51,18 +51,18 @@ can_be_compound Single compound = not compound
 can_be_compound Compound compound = compound
 can_be_compound Selected compound = true
 
-abbrev pub compound_by : SignBiases → Bool → References
+abbrev pub compound_by : SignBiases → Bool → ReferenceFrames
 compound_by biases one = with_fixed biases (fixed_of biases) (variable_by (fixed_of biases) one)
 
 -- the frame's fixed reference, and one of the two others
-unfoldable pub are_compound : SignBiases → References → Bool
+unfoldable pub are_compound : SignBiases → ReferenceFrames → Bool
 are_compound biases refs = same_references refs (compound_by biases false) || same_references refs (compound_by biases true)
 
-unfoldable pub can_code_references : ReferenceMode → SignBiases → References → Bool
+unfoldable pub can_code_references : ReferenceMode → SignBiases → ReferenceFrames → Bool
 can_code_references mode biases refs = can_be_compound mode (is_some refs.second) && (not (is_some refs.second) || are_compound biases refs)
 
 -- what its segment takes, or what it says
-unfoldable pub can_refer : Option FeatureReference → ReferenceMode → SignBiases → References → Bool
+unfoldable pub can_refer : Option FeatureReference → ReferenceMode → SignBiases → ReferenceFrames → Bool
 can_refer (Some reference) mode biases refs = same_references refs (single (of_feature reference))
 can_refer None mode biases refs = can_code_references mode biases refs
 
@@ -77,11 +77,11 @@ can_differ precise difference = is_difference precise difference.row && is_diffe
 
 -- a new vector's difference from the best one
 unfoldable pub can_be_new : Bool → InterMode → Mv → Mv → Bool
-can_be_new allowed New best difference = can_differ (allowed && is_precise best) difference
+can_be_new allowed New best difference = can_differ (allowed && is_short_vector best) difference
 can_be_new allowed _ best difference = true
 
 -- of each reference, by the best vectors
-unfoldable pub can_say_vectors : Bool → List Mv → References → QuarterSymbols → Bool
+unfoldable pub can_say_vectors : Bool → List Mv → ReferenceFrames → QuarterSymbols → Bool
 can_say_vectors allowed best refs said =
     can_be_new allowed said.mode (vector_at best 0) (vector_at said.differences 0)
     && (not (is_some refs.second) || can_be_new allowed said.mode (vector_at best 1) (vector_at said.differences 1))
@@ -100,7 +100,7 @@ is_zero_if skips _ = not skips
 -- a quarter has the mode of the one by whose symbols it is said, and its vectors can be said
 unfoldable pub can_say_quarter : Bool → List Mv → BlockSize → InterSymbols → ℕ → Bool
 can_say_quarter allowed best size q k =
-    nat_eq (inter_number (mode_at q.modes k)) (inter_number (mode_at q.modes (quarter_saying size k)))
+    nat_eq (inter_number (mode_of_part q.modes k)) (inter_number (mode_of_part q.modes (quarter_saying size k)))
     && can_say_vectors allowed best q.references (symbols_at q (quarter_saying size k))
 
 unfoldable pub can_say_quarters : Bool → List Mv → BlockSize → InterSymbols → Bool
@@ -111,9 +111,9 @@ can_say_quarters allowed best size q =
 -- what stands behind the references
 unfoldable pub can_say_inter : Bool → List Mv → Bool → FrameFilter → BlockSize → InterSymbols → Bool
 can_say_inter allowed best skips filter size q =
-    can_filter filter q.filter && is_zero_if (not (is_below_8x8 size) && skips) (mode_at q.modes 0) && can_say_quarters allowed best size q
+    can_filter filter q.filter && is_zero_if (not (is_below_8x8 size) && skips) (mode_of_part q.modes 0) && can_say_quarters allowed best size q
 
-abbrev pub can_say_if : Result References Rule → Bool → Bool
+abbrev pub can_say_if : Result ReferenceFrames Rule → Bool → Bool
 can_say_if (Ok refs) can = can
 can_say_if (Err rule) can = true
 
@@ -122,7 +122,7 @@ unfoldable pub can_say_block : InterFrame → Sources → ℕ → InterSymbols �
 can_say_block f s segment q =
     let segmentation = f.header.params.segmentation in
     can_refer (segment_reference segmentation segment) f.modes.reference_mode s.search.biases q.references
-    && can_say_if (in_range_or_rule f.header.size f.fields.references q.references)
+    && can_say_if (allowed_or_rule f.header.size f.fields.references q.references)
     (can_say_inter s.allowed (best_mv s q.references) (skips_segment segmentation segment) f.fields.filter s.search.at.size q)
 
 ---- Blocks ----

@@ -15,7 +15,7 @@ use crate::references::can_refer;
 use crate::starts::can_start_inter;
 use crate::vectors::{Best, can_say_inter};
 use block_plan::{BlockAt, Neighbours, SegmentMap};
-use inter_contexts::in_range_or_rule;
+use inter_contexts::allowed_or_rule;
 use inter_modes::{BlockStart, Frame, Sources, best_mv, least_id, segment_reference};
 use inter_writer::{BlockSymbols, PredictionSymbols};
 use mode_syntax::skips_segment;
@@ -43,7 +43,7 @@ fn can_say_block<N: Neighbours, Q: Neighbours>(
     if !can_refer(feature, mode, &src.search.biases, refs) {
         return false;
     }
-    match in_range_or_rule(&setting.header.size, &frame.fields.references, refs) {
+    match allowed_or_rule(&setting.header.size, &frame.fields.references, refs) {
         Ok(_) => {
             let best = Best {
                 allowed: src.high_precision,

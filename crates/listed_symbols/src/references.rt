@@ -5,7 +5,7 @@ ghost use Rattle.std.specs.Option.{is_some};
 ghost use Rattle.inter_writer.specs.InterFits.{AreCompound, CanBeCompound, CanCodeReferences, CanReferBy};
 ghost use Rattle.listed_symbols.specs.InterTests.{are_compound, can_be_compound, can_code_references, can_refer, compound_by, same_references, same_second};
 
-use block_plan::References;
+use block_plan::ReferenceFrames;
 use frame_headers::FeatureReference;
 use inter_contexts::{fixed_of, of_feature, single, variable_by, with_fixed};
 use mv_prediction::SignBiases;
@@ -24,7 +24,7 @@ fn same_second(second: Option<ReferenceFrame>, other: Option<ReferenceFrame>) ->
 }
 
 #[tactic(auto, using(crate::proofs::Numbers::same_references_are))]
-fn same_references(refs: References, other: References) -> bool
+fn same_references(refs: ReferenceFrames, other: ReferenceFrames) -> bool
     ensures is { result ≡ same_references refs other }
     ensures same { result ≡ true → refs ≡ other }
 {
@@ -42,7 +42,7 @@ fn can_be_compound(mode: ReferenceMode, compound: bool) -> bool
     }
 }
 
-fn compound_by(biases: &SignBiases, one: bool) -> References
+fn compound_by(biases: &SignBiases, one: bool) -> ReferenceFrames
     ensures { result ≡ compound_by biases.now one }
 {
     let fixed = fixed_of(biases);
@@ -50,7 +50,7 @@ fn compound_by(biases: &SignBiases, one: bool) -> References
 }
 
 #[tactic(auto, unfolding(crate::specs::InterTests::are_compound))]
-fn are_compound(biases: &SignBiases, refs: References) -> bool
+fn are_compound(biases: &SignBiases, refs: ReferenceFrames) -> bool
     ensures is { result ≡ are_compound biases.now refs }
     ensures are { result ≡ true → AreCompound biases.now refs }
 {
@@ -59,7 +59,7 @@ fn are_compound(biases: &SignBiases, refs: References) -> bool
 }
 
 #[tactic(auto, unfolding(crate::specs::InterTests::can_code_references))]
-fn can_code_references(mode: ReferenceMode, biases: &SignBiases, refs: References) -> bool
+fn can_code_references(mode: ReferenceMode, biases: &SignBiases, refs: ReferenceFrames) -> bool
     ensures is { result ≡ can_code_references mode biases.now refs }
     ensures can { result ≡ true → CanCodeReferences mode biases.now refs }
 {
@@ -73,7 +73,7 @@ pub(crate) fn can_refer(
     feature: Option<FeatureReference>,
     mode: ReferenceMode,
     biases: &SignBiases,
-    refs: References,
+    refs: ReferenceFrames,
 ) -> bool
     ensures is { result ≡ can_refer feature mode biases.now refs }
     ensures can { result ≡ true → CanReferBy feature mode biases.now refs }

@@ -7,9 +7,9 @@ ghost use Rattle.listed_symbols.specs.Code.{CanSayBehind, CanSayQuarter, CanSayQ
 ghost use Rattle.listed_symbols.specs.InterTests.{can_be_new, can_differ, can_filter, can_say_inter, can_say_quarter, can_say_quarters, can_say_vectors, is_difference, is_zero_if};
 
 use block_geometry::is_below_8x8;
-use block_plan::{Mv, References};
+use block_plan::{Mv, ReferenceFrames};
 use frame_headers::FrameFilter;
-use mv_prediction::is_precise;
+use mv_prediction::is_short_vector;
 use vector_writer::{InterSymbols, QuarterSymbols};
 use vp9_types::{BlockSize, InterMode, InterpFilter};
 
@@ -45,13 +45,13 @@ fn can_be_new(allowed: bool, mode: InterMode, best: Mv, difference: Mv) -> bool
     ensures can { result ≡ true → CanBeNew allowed mode best difference }
 {
     match mode {
-        InterMode::New => can_differ(allowed && is_precise(best), difference),
+        InterMode::New => can_differ(allowed && is_short_vector(best), difference),
         InterMode::Nearest | InterMode::Near | InterMode::Zero => true,
     }
 }
 
 #[tactic(auto, unfolding(crate::specs::InterTests::can_say_vectors))]
-fn can_say_vectors(best: &Best, refs: References, said: &QuarterSymbols) -> bool
+fn can_say_vectors(best: &Best, refs: ReferenceFrames, said: &QuarterSymbols) -> bool
     ensures is { result ≡ can_say_vectors best.now.allowed best.now.vectors refs said.now }
     ensures can { result ≡ true → CanSayVectors best.now.allowed best.now.vectors refs said.now }
 {

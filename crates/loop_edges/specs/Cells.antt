@@ -9,10 +9,9 @@ use Rattle.vp9_types.specs.declared.shape.Shape.{Shape}
 use Rattle.block_geometry.specs.BlockSizes.{width_8, height_8}
 use Rattle.frame_headers.specs.HeaderState.{shape_of}
 use Rattle.frame_headers.specs.declared.header.Header.{Header}
+use Rattle.block_plan.specs.Blocks.{is_inter}
 use Rattle.block_plan.specs.InPlanes.{tx_in}
 use Rattle.block_plan.specs.declared.block.BlockInfo.{BlockInfo}
-use Rattle.block_plan.specs.declared.block.Prediction.{Prediction}
-use Rattle.block_plan.specs.declared.block.Prediction.TheVariants.{Intra, Inter}
 use Rattle.line_filter.specs.declared.edge.FilterWidth.{FilterWidth}
 use Rattle.line_filter.specs.declared.edge.FilterWidth.TheVariants.{Four, Eight, Sixteen}
 use Rattle.line_filter.specs.declared.edge.Pass.{Pass}
@@ -30,10 +29,6 @@ sub_x shape plane = is_chroma plane && shape.ss_x
 abbrev pub sub_y : Shape → Plane → Bool
 sub_y shape plane = is_chroma plane && shape.ss_y
 
-abbrev pub is_inter : Prediction → Bool
-is_inter (Intra _) = false
-is_inter (Inter _) = true
-
 -- it has no residue that edges inside of it could come from
 abbrev pub is_skipped_inter : BlockInfo → Bool
 is_skipped_inter b = b.skip && is_inter b.prediction
@@ -49,7 +44,8 @@ pub record Cell : Type 0 where
 abbrev pub cell_at : Plane → Pass → ℕ → ℕ → Cell
 cell_at plane pass r c = record { plane = plane; pass = pass; row = r; column = c }
 
--- how a pass sees a cell across its edges
+-- how a pass sees a cell across its edges: k is its column or row in the superblock, in cells of the plane; it is the last one where half of
+-- it alone lies in the plane
 abbrev pub across : Pass → Shape → Cell → BlockInfo → Crossing
 across Vertical shape cell b = record {
   k = halved (sub_x shape cell.plane) (cell.column % 8);
@@ -64,6 +60,7 @@ across Horizontal shape cell b = record {
   is_last = sub_y shape cell.plane && nat_eq (cell.row + 1) (mi_rows shape);
 }
 
+-- The filter size process: at is32Edge, where k % 4 is 0, a 4x4 counts as 8x8; a 32x32 counts as 16x16; and the last cell takes 8 at most.
 abbrev pub widest : Crossing → FilterWidth
 widest a = if a.is_last then Eight else Sixteen
 

@@ -7,8 +7,8 @@ use Rattle.vp9_types.specs.declared.block.InterMode.{InterMode}
 use Rattle.vp9_types.specs.declared.block.InterMode.TheVariants.{Nearest, Near, Zero, New}
 use Rattle.vp9_types.specs.declared.block.ReferenceFrame.{ReferenceFrame}
 use Rattle.vp9_types.specs.declared.block.ReferenceFrame.TheVariants.{Last, Golden, Altref}
+use Rattle.frame_headers.specs.Segments.{no_segment_features}
 use Rattle.frame_headers.specs.declared.filter.LoopDeltas.{LoopDeltas}
-use Rattle.frame_headers.specs.declared.segments.SegmentFeatures.{SegmentFeatures}
 use Rattle.block_plan.specs.declared.block.BlockInfo.{BlockInfo}
 use Rattle.block_plan.specs.declared.block.Prediction.{Prediction}
 use Rattle.block_plan.specs.declared.block.Prediction.TheVariants.{Intra, Inter}
@@ -20,18 +20,15 @@ abbrev pub to_level : ℤ → ℕ
 to_level z = unsigned_abs (int_max (pos 0) (int_min (pos 63) z))
 
 -- by a segment's feature, absolute or added
-abbrev pub with_feature : Bool → ℕ → Option ℤ → ℕ
-with_feature absolute level None = level
-with_feature absolute level (Some value) = to_level (if absolute then value else pos level +ℤ value)
-
-abbrev pub no_features : SegmentFeatures
-no_features = record { quantizer = None; level = None; reference = None; skip = Bool.false }
+abbrev pub level_with_feature : Bool → ℕ → Option ℤ → ℕ
+level_with_feature absolute level None = level
+level_with_feature absolute level (Some value) = to_level (if absolute then value else pos level +ℤ value)
 
 -- the level of a segment, before the deltas
 abbrev pub lvl_seg : EdgeSetting → ℕ → ℕ
 lvl_seg f segment =
     if f.segmentation.enabled
-    then with_feature f.segmentation.features.absolute f.filter.level (slice_index_or f.segmentation.features.segments segment no_features).level
+    then level_with_feature f.segmentation.features.absolute f.filter.level (slice_index_or f.segmentation.features.segments segment no_segment_features).level
     else f.filter.level
 
 abbrev pub reference_delta_index : ReferenceFrame → ℕ
@@ -69,15 +66,15 @@ abbrev pub one_of : Depth → ℕ
 one_of depth = 2 ^ (depth_bits depth - 8)
 
 -- limit, before it is scaled to the depth
-abbrev pub limit_of : ℕ → ℕ → ℕ
-limit_of sharpness level =
+abbrev pub edge_limit : ℕ → ℕ → ℕ
+edge_limit sharpness level =
     let shifted = level / 2 ^ (if nat_lt 4 sharpness then 2 else (if nat_lt 0 sharpness then 1 else 0)) in
     max 1 (if nat_lt 0 sharpness then min shifted (9 - sharpness) else shifted)
 
 unfoldable pub limits_of : Depth → ℕ → ℕ → Limits
 limits_of depth sharpness level = record {
-  limit = limit_of sharpness level * one_of depth;
-  blimit = (2 * (level + 2) + limit_of sharpness level) * one_of depth;
+  limit = edge_limit sharpness level * one_of depth;
+  blimit = (2 * (level + 2) + edge_limit sharpness level) * one_of depth;
   thresh = level / 16 * one_of depth;
   one = one_of depth;
   half = 128 * one_of depth;

@@ -1,7 +1,7 @@
 //! The filter's level at a block, and the limits of a level.
 
 ghost use Rattle.std.specs.Prelude.{◌≡◌, ◌≤◌, ◌-◌, ◌*◌, ◌/◌, ◌^◌, ◌+ℤ◌, ◌*ℤ◌, pos, unsigned_abs, nat_lt, min, if◌then◌else◌};
-ghost use Rattle.loop_edges.specs.FilterLevels.{to_level, with_feature, lvl_seg, mode_delta, reference_delta, delta_of, filter_level, limit_of, limits_of, one_of};
+ghost use Rattle.loop_edges.specs.FilterLevels.{to_level, level_with_feature, lvl_seg, mode_delta, reference_delta, delta_of, filter_level, edge_limit, limits_of, one_of};
 
 use crate::setting::EdgeSetting;
 use block_plan::{BlockInfo, Prediction};
@@ -19,8 +19,8 @@ fn to_level(value: i32) -> u8
 }
 
 #[inline(always)]
-fn with_feature(absolute: bool, level: u8, feature: Option<i16>) -> u8
-    ensures { result ≡ with_feature absolute level feature }
+fn level_with_feature(absolute: bool, level: u8, feature: Option<i16>) -> u8
+    ensures { result ≡ level_with_feature absolute level feature }
 {
     match feature {
         None => level,
@@ -39,7 +39,7 @@ pub(crate) fn lvl_seg(f: &EdgeSetting, segment: u8) -> u8
     }
     match f.segmentation.features.segments.get(segment as usize) {
         None => f.filter.level,
-        Some(features) => with_feature(
+        Some(features) => level_with_feature(
             f.segmentation.features.absolute,
             f.filter.level,
             features.level,
@@ -151,8 +151,8 @@ fn one_of(depth: Depth) -> u16
 
 /// How far neighbours may differ, in steps of 8 bits.
 #[inline(always)]
-fn limit_of(sharpness: u8, level: u8) -> u8
-    ensures value { result ≡ limit_of sharpness level }
+fn edge_limit(sharpness: u8, level: u8) -> u8
+    ensures value { result ≡ edge_limit sharpness level }
 {
     let shifted = if sharpness > 4 {
         level / 4
@@ -183,7 +183,7 @@ pub fn limits_of(depth: Depth, sharpness: u8, level: u8) -> Limits
     ensures half { result.half ≤ 2048 }
 {
     let one = one_of(depth);
-    let limit = limit_of(sharpness, level) as u16;
+    let limit = edge_limit(sharpness, level) as u16;
     let level = level as u16;
     Limits {
         limit: limit * one,

@@ -15,7 +15,7 @@ use Rattle.vp9_types.specs.declared.shape.Shape.{Shape}
 use Rattle.block_plan.specs.Blocks.{covering}
 use Rattle.block_plan.specs.InPlanes.{tx_in}
 use Rattle.block_plan.specs.declared.block.BlockInfo.{BlockInfo}
-use Rattle.line_filter.specs.FilteredEdges.{reach, line_at, in_order, with_edge}
+use Rattle.line_filter.specs.FilteredEdges.{reach, line_at, nth_of_line, with_edge}
 use Rattle.line_filter.specs.Lines.{Line, filtered_line}
 use Rattle.line_filter.specs.declared.edge.Edge.{Edge}
 use Rattle.line_filter.specs.declared.edge.FilterWidth.{FilterWidth}
@@ -125,7 +125,7 @@ one_between_by t u e Vertical is low in_rows high =
           ∙ outside_block m (rows_filtered e m) e.row (e.column - r) e.lines (2 * r) y x (further y t u e.row (e.row + e.lines) (omega (arith, low)) high out);
       local = λ m n same y x below above. ap (λ (g : Map). g y x) (along_at_once e m e.lines)
           ∙ (same_block m n (rows_filtered e m) (rows_filtered e n) e.row (e.column - r) e.lines (2 * r) y x
-          (ap (λ (s : ℕ → ℕ). in_order r (filtered_line e.limits e.width (line_at r s e.column)) (x - (e.column - r)))
+          (ap (λ (s : ℕ → ℕ). nth_of_line r (filtered_line e.limits e.width (line_at r s e.column)) (x - (e.column - r)))
           (fun_ext λ k. same (e.row + (y - e.row)) k (omega (arith, low)) (omega (arith, in_rows, above))))
           (same y x below above)
           ∙ sym (ap (λ (g : Map). g y x) (along_at_once e n e.lines)));
@@ -137,7 +137,7 @@ one_between_by t u e Horizontal is low in_rows high =
           ∙ outside_block m (columns_filtered e m) (e.row - r) e.column (2 * r) e.lines y x (further y t u (e.row - r) (e.row - r + 2 * r) low high out);
       local = λ m n same y x below above. ap (λ (g : Map). g y x) (down_at_once e m e.lines)
           ∙ (same_block m n (columns_filtered e m) (columns_filtered e n) (e.row - r) e.column (2 * r) e.lines y x
-          (ap (λ (z : Line). in_order r (filtered_line e.limits e.width z) (y - (e.row - r)))
+          (ap (λ (z : Line). nth_of_line r (filtered_line e.limits e.width z) (y - (e.row - r)))
           (same_line r e.row t u (λ k. m k (e.column + (x - e.column))) (λ k. n k (e.column + (x - e.column))) (λ k far near. same k (e.column + (x - e.column)) far near) low (omega (arith, high))))
           (same y x below above)
           ∙ sym (ap (λ (g : Map). g y x) (down_at_once e n e.lines)));

@@ -8,7 +8,7 @@ use Rattle.block_geometry.specs.BlockSizes.{width_8}
 use Rattle.block_geometry.specs.SplitSquares.{part_size}
 use Rattle.counting_reader.specs.Counting.{settle}
 use Rattle.mode_syntax.specs.Partitions.{partition_at}
-use Rattle.mode_syntax.specs.Walk.{Walk, block_at, starts_inside, block_inside, smallest_parts, parts, decode_at_level, decode_tile}
+use Rattle.mode_syntax.specs.Walk.{TileWalk, block_at, starts_inside, block_inside, smallest_parts, parts, decode_at_level, decode_tile}
 use Rattle.counting_reader.specs.Counting.{Yields}
 use Rattle.counting_reader.proofs.Yields.{yields_bind, yields_all}
 use Rattle.mode_syntax.proofs.Mapped.{starts_so, twice, narrow, half, smallest}
@@ -16,7 +16,7 @@ use Rattle.mode_syntax.specs.Laws.{square_at, decode_square, square_parts, decod
 use Rattle.mode_syntax.proofs.RowByRow.{tile_is}
 use Rattle.mode_syntax.proofs.SquareParts.{rows_are, columns_are, quarters_are}
 
-module _ {S : Type 0} (walk : Walk S) (P : S → Type 0) (low high : ℕ) (keeps : EachKeeps walk P low high) where
+module _ {S : Type 0} (walk : TileWalk S) (P : S → Type 0) (low high : ℕ) (keeps : EachKeeps walk P low high) where
   inside_kept : (r c : ℕ) (size : BlockSize) (s : S) → low ≤ c → c + width_8 size ≤ high → P s → Yields (block_inside walk r c size s) P
   unfolding block_inside settle
   inside_kept r c size s from to p = elim (cases_Bool (starts_inside walk r c)) [

@@ -12,12 +12,12 @@ use Rattle.block_plan.specs.declared.block.BlockInfo.{BlockInfo}
 use Rattle.counting_reader.specs.Counting.{settle, in_order, mapped}
 use Rattle.counting_reader.proofs.Mapped.{Reads, mapped_seq, mapped_by}
 use Rattle.mode_syntax.specs.Partitions.{partition_at}
-use Rattle.mode_syntax.specs.Walk.{Walk, block_at, starts_inside, block_inside, smallest_parts, parts, decode_at_level, decode_tile}
+use Rattle.mode_syntax.specs.Walk.{TileWalk, block_at, starts_inside, block_inside, smallest_parts, parts, decode_at_level, decode_tile}
 use Rattle.mode_syntax.specs.Laws.{square_at, decode_square, square_parts, decode_row, decode_rows, squares_from, walk_over, LiesIn, KeepsStep}
 use Rattle.mode_syntax.proofs.RowByRow.{tile_is}
 use Rattle.mode_syntax.proofs.SquareParts.{rows_are, columns_are, quarters_are}
 
-pub starts_so : {S : Type 0} (walk : Walk S) (r c : ℕ) → starts_inside walk r c ≡ true → c < walk.frame.cols
+pub starts_so : {S : Type 0} (walk : TileWalk S) (r c : ℕ) → starts_inside walk r c ≡ true → c < walk.frame.cols
 starts_so walk r c h = ltb-true c walk.frame.cols (and_parts _ _ h).1
 
 pub twice : (n : ℕ) → 2 ^ n + 2 ^ n ≡ 2 ^ suc n
@@ -51,7 +51,7 @@ smallest Horizontal = lit≤ tt
 smallest Vertical = lit≤ tt
 smallest Split = lit≤ tt
 
-module _ {S T : Type 0} (walk : Walk S) (block : BlockAt → T → Reads T) (blocks : T → List BlockInfo) (view : S → T) (low high : ℕ)
+module _ {S T : Type 0} (walk : TileWalk S) (block : BlockAt → T → Reads T) (blocks : T → List BlockInfo) (view : S → T) (low high : ℕ)
     (keeps : KeepsStep walk block blocks view low high) where
   block_inside_step : (r c : ℕ) (size : BlockSize) (s : S) → low ≤ c → c + width_8 size ≤ high
       → block_inside (walk_over walk block blocks) r c size (view s) ≡ mapped view (block_inside walk r c size s)
@@ -142,14 +142,14 @@ module _ {S T : Type 0} (walk : Walk S) (block : BlockAt → T → Reads T) (blo
       tile_is (walk_over walk block blocks) columns r c n (view s) ∙ (rows_step columns r c n s from to ∙ ap (mapped view) (sym (tile_is walk columns r c n s)))
 
 -- wherever a block lies, and with the same blocks
-pub everywhere : {S T : Type 0} (walk : Walk S) (block : BlockAt → T → Reads T) (blocks : T → List BlockInfo) (view : S → T) (low high : ℕ)
+pub everywhere : {S T : Type 0} (walk : TileWalk S) (block : BlockAt → T → Reads T) (blocks : T → List BlockInfo) (view : S → T) (low high : ℕ)
     → ((at : BlockAt) (s : S) → block at (view s) ≡ mapped view (walk.block at s)) → ((s : S) → blocks (view s) ≡ walk.blocks s) → KeepsStep walk block blocks view low high
 everywhere walk block blocks view low high each same = record {
   partitions = λ level r c s lies. ap (λ bs. partition_at walk.intra walk.probs bs walk.frame (square_at walk level r c)) (same s);
   block_steps = λ r c size s lies. each (block_at walk r c size) s;
 }
 
-pub tile_everywhere : {S T : Type 0} (walk : Walk S) (block : BlockAt → T → Reads T) (blocks : T → List BlockInfo) (view : S → T)
+pub tile_everywhere : {S T : Type 0} (walk : TileWalk S) (block : BlockAt → T → Reads T) (blocks : T → List BlockInfo) (view : S → T)
     → ((at : BlockAt) (s : S) → block at (view s) ≡ mapped view (walk.block at s)) → ((s : S) → blocks (view s) ≡ walk.blocks s)
     → (columns r c n : ℕ) (s : S) → decode_tile (walk_over walk block blocks) (squares_from walk columns r c n) (view s) ≡ mapped view (decode_tile walk (squares_from walk columns r c n) s)
 tile_everywhere walk block blocks view each same columns r c n s =

@@ -7,7 +7,7 @@ use Rattle.prob_contexts.specs.declared.kind.CountedBool.{CountedBool}
 use Rattle.counting_reader.specs.Counting.{Settled, counted_before, in_order, settle, through}
 use Rattle.mode_syntax.specs.Laws.{square_at, decode_square, decode_row, decode_rows, squares_from}
 use Rattle.mode_syntax.specs.Superblocks.{superblock_from}
-use Rattle.mode_syntax.specs.Walk.{Walk, decode_partition, decode_tile}
+use Rattle.mode_syntax.specs.Walk.{TileWalk, decode_partition, decode_tile}
 
 ---- Two lists, one after another ----
 
@@ -49,7 +49,7 @@ next_place c j = omega arith
 first_place : (c : ℕ) → c + 8 * 0 ≡ c
 first_place c = omega arith
 
-module _ {S : Type 0} (walk : Walk S) (r c : ℕ) where
+module _ {S : Type 0} (walk : TileWalk S) (r c : ℕ) where
   row_is : (i j n : ℕ) (s : S) → through (decode_partition walk) (map (λ j. superblock_from (square_at walk 3 r c) i j) (range_with_len j n)) s ≡ decode_row walk (r + 8 * i) (c + 8 * j) n s
   unfolding through decode_row
   row_is i j zero s = refl
@@ -69,6 +69,6 @@ module _ {S : Type 0} (walk : Walk S) (r c : ℕ) where
       ∙ (ap (λ d. in_order (decode_row walk (r + 8 * i) d columns s) (decode_rows walk columns (r + 8 * (i + 1)) c n)) (first_place c)
       ∙ ap (λ d. in_order (decode_row walk (r + 8 * i) c columns s) (decode_rows walk columns d c n)) (next_place r i)))
 
-pub tile_is : {S : Type 0} (walk : Walk S) (columns r c n : ℕ) (s : S) → decode_tile walk (squares_from walk columns r c n) s ≡ decode_rows walk columns r c n s
+pub tile_is : {S : Type 0} (walk : TileWalk S) (columns r c n : ℕ) (s : S) → decode_tile walk (squares_from walk columns r c n) s ≡ decode_rows walk columns r c n s
 unfolding decode_tile
 tile_is walk columns r c n s = rows_are walk r c columns 0 n s ∙ ap (λ d. decode_rows walk columns d c n s) (first_place r)

@@ -7,7 +7,7 @@ use Rattle.block_geometry.specs.SplitSquares.{part_size}
 use Rattle.counting_reader.specs.Counting.{Settled, in_order}
 use Rattle.mode_syntax.specs.Laws.{square_at, decode_square, square_parts}
 use Rattle.mode_syntax.specs.Superblocks.{quarter_square}
-use Rattle.mode_syntax.specs.Walk.{Walk, block_at, block_inside, parts, decode_at_level}
+use Rattle.mode_syntax.specs.Walk.{TileWalk, block_at, block_inside, parts, decode_at_level}
 
 down : (n : ℕ) → suc n - 1 ≡ n
 down n = omega arith
@@ -21,7 +21,7 @@ once k r = omega arith
 far : (n r : ℕ) → r + 2 ^ (suc n - 1) * 1 ≡ r + 2 ^ n
 far n r = ap (λ k. r + 2 ^ k * 1) (down n) ∙ once (2 ^ n) r
 
-module _ {S : Type 0} (walk : Walk S) (n r c : ℕ) where
+module _ {S : Type 0} (walk : TileWalk S) (n r c : ℕ) where
   pub first_is : quarter_square (square_at walk (suc n) r c) 0 ≡ square_at walk n r c
   first_is = λ i. record { row = near n r i; col = near n c i; level = down n i; tile_from = walk.tile_from; tile_to = walk.tile_to }
 

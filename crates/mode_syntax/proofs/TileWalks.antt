@@ -3,7 +3,7 @@ use Rattle.std.proofs.Common.{◌≡◌, ℕ, zero, suc, ◌+◌, ◌*◌, ◌++
 use Rattle.block_geometry.specs.declared.transform_blocks.FramePlaces.{FramePlaces}
 use Rattle.counting_reader.specs.Counting.{settle}
 use Rattle.mode_syntax.specs.TileSquares.{Cut, whole, leaves}
-use Rattle.mode_syntax.specs.Walk.{Walk, decode_tile}
+use Rattle.mode_syntax.specs.Walk.{TileWalk, decode_tile}
 use Rattle.counting_reader.specs.Counting.{Yields}
 use Rattle.mode_syntax.proofs.Walks.{lists_none, lists_both, lists_as, leaves_listed}
 use Rattle.counting_reader.proofs.Yields.{yields_bind, yields_map}
@@ -40,10 +40,10 @@ row_more frame r c a f n =
     ap (λ k. leaves frame 3 r k a ++ row_leaves frame r c (front a f) 1 n) (first_place c)
     ∙ ap (λ l. leaves frame 3 r c a ++ l) (row_shifted frame r c a f 0 n)
 
-abbrev ListsRow : {S : Type 0} → Walk S → ℕ → ℕ → ℕ → S → S → Type 0
+abbrev ListsRow : {S : Type 0} → TileWalk S → ℕ → ℕ → ℕ → S → S → Type 0
 ListsRow walk r c n s t = (cuts : ℕ → Cut) × Lists walk s (row_leaves walk.frame r c cuts 0 n) t
 
-row_listed : {S : Type 0} (walk : Walk S) → ListsItsBlock walk → (r c n : ℕ) (s : S) → Yields (decode_row walk r c n s) (ListsRow walk r c n s)
+row_listed : {S : Type 0} (walk : TileWalk S) → ListsItsBlock walk → (r c n : ℕ) (s : S) → Yields (decode_row walk r c n s) (ListsRow walk r c n s)
 unfolding decode_row settle
 row_listed walk each r c zero s = ((λ k. whole), lists_none walk s)
 row_listed walk each r c (suc n) s =
@@ -71,10 +71,10 @@ tile_more frame r c columns a f n =
     ap (λ k. row_leaves frame k c a 0 columns ++ rows_leaves frame r c (front a f) columns 1 n) (first_place r)
     ∙ ap (λ l. row_leaves frame r c a 0 columns ++ l) (tile_shifted frame r c columns a f 0 n)
 
-abbrev ListsRows : {S : Type 0} → Walk S → ℕ → ℕ → ℕ → ℕ → S → S → Type 0
+abbrev ListsRows : {S : Type 0} → TileWalk S → ℕ → ℕ → ℕ → ℕ → S → S → Type 0
 ListsRows walk columns r c n s t = (cuts : ℕ → ℕ → Cut) × Lists walk s (rows_leaves walk.frame r c cuts columns 0 n) t
 
-rows_listed : {S : Type 0} (walk : Walk S) → ListsItsBlock walk → (columns r c n : ℕ) (s : S) → Yields (decode_rows walk columns r c n s) (ListsRows walk columns r c n s)
+rows_listed : {S : Type 0} (walk : TileWalk S) → ListsItsBlock walk → (columns r c n : ℕ) (s : S) → Yields (decode_rows walk columns r c n s) (ListsRows walk columns r c n s)
 unfolding decode_rows settle
 rows_listed walk each columns r c zero s = ((λ k j. whole), lists_none walk s)
 rows_listed walk each columns r c (suc n) s =
@@ -86,7 +86,7 @@ rows_listed walk each columns r c (suc n) s =
           (tile_more walk.frame r c columns a.0 b.0 n) (lists_both walk s t u _ _ a.1 b.1),
     )))
 
-pub tile_listed : {S : Type 0} (walk : Walk S) → ListsItsBlock walk → (columns r c n : ℕ) (s : S)
+pub tile_listed : {S : Type 0} (walk : TileWalk S) → ListsItsBlock walk → (columns r c n : ℕ) (s : S)
     → Yields (decode_tile walk (squares_from walk columns r c n) s) (ListsTile walk (squares_from walk columns r c n) s)
 tile_listed walk each columns r c n s =
     let first = square_at walk 3 r c in

@@ -10,31 +10,31 @@ use Rattle.counting_reader.specs.Counting.{settle, in_order, Yields}
 use Rattle.counting_reader.proofs.Yields.{yields_bind, yields_all, yields_map}
 use Rattle.mode_syntax.specs.Partitions.{partition_at}
 use Rattle.mode_syntax.specs.TileSquares.{Leaf, Cut, whole, upper_and_lower, left_and_right, quarters, inside, one_leaf, leaves}
-use Rattle.mode_syntax.specs.Walk.{Walk, block_at, starts_inside, block_inside, smallest_parts, parts, decode_at_level}
+use Rattle.mode_syntax.specs.Walk.{TileWalk, block_at, starts_inside, block_inside, smallest_parts, parts, decode_at_level}
 use Rattle.mode_syntax.specs.Laws.{square_at, decode_square, square_parts, leaf_of, Lists, ListsItsBlock, ListsLeaves}
 use Rattle.mode_syntax.proofs.SquareParts.{rows_are, columns_are, quarters_are}
 
-pub lists_none : {S : Type 0} (walk : Walk S) (s : S) → Lists walk s [] s
+pub lists_none : {S : Type 0} (walk : TileWalk S) (s : S) → Lists walk s [] s
 lists_none walk s = ([], refl, sym (append-nil (walk.blocks s)))
 
-pub lists_both : {S : Type 0} (walk : Walk S) (s t u : S) (xs ys : List Leaf) → Lists walk s xs t → Lists walk t ys u → Lists walk s (xs ++ ys) u
+pub lists_both : {S : Type 0} (walk : TileWalk S) (s t u : S) (xs ys : List Leaf) → Lists walk s xs t → Lists walk t ys u → Lists walk s (xs ++ ys) u
 lists_both walk s t u xs ys a b = (
   a.0 ++ b.0,
   map-append leaf_of a.0 b.0 ∙ ap (λ l. l ++ map leaf_of b.0) a.1 ∙ ap (λ l. xs ++ l) b.1,
   b.2 ∙ ap (λ l. l ++ b.0) a.2 ∙ append_assoc (walk.blocks s) a.0 b.0,
 )
 
-there : {S : Type 0} (walk : Walk S) (r c : ℕ) (ls : List Leaf) → starts_inside walk r c ≡ true → inside walk.frame r c ls ≡ ls
+there : {S : Type 0} (walk : TileWalk S) (r c : ℕ) (ls : List Leaf) → starts_inside walk r c ≡ true → inside walk.frame r c ls ≡ ls
 there walk r c ls h = rw h refl
 
-nowhere : {S : Type 0} (walk : Walk S) (r c : ℕ) (ls : List Leaf) → starts_inside walk r c ≡ false → inside walk.frame r c ls ≡ []
+nowhere : {S : Type 0} (walk : TileWalk S) (r c : ℕ) (ls : List Leaf) → starts_inside walk r c ≡ false → inside walk.frame r c ls ≡ []
 nowhere walk r c ls h = rw h refl
 
-pub lists_as : {S : Type 0} (walk : Walk S) (s t : S) (xs ys : List Leaf) → ys ≡ xs → Lists walk s xs t → Lists walk s ys t
+pub lists_as : {S : Type 0} (walk : TileWalk S) (s t : S) (xs ys : List Leaf) → ys ≡ xs → Lists walk s xs t → Lists walk s ys t
 lists_as walk s t xs ys is a = (a.0, a.1 ∙ sym is, a.2)
 
 -- a block that starts inside is listed, and another isn't read
-lists_inside : {S : Type 0} (walk : Walk S) → ListsItsBlock walk → (r c : ℕ) (size : BlockSize) (s : S)
+lists_inside : {S : Type 0} (walk : TileWalk S) → ListsItsBlock walk → (r c : ℕ) (size : BlockSize) (s : S)
     → Yields (block_inside walk r c size s) (Lists walk s (inside walk.frame r c (one_leaf r c size)))
 unfolding block_inside settle
 lists_inside walk each r c size s = elim (cases_Bool (starts_inside walk r c)) [
@@ -48,7 +48,7 @@ cut_of Horizontal = upper_and_lower
 cut_of Vertical = left_and_right
 cut_of Split = quarters whole whole whole whole
 
-smallest_leaves : {S : Type 0} (walk : Walk S) (r c : ℕ) (p : Partition) → starts_inside walk r c ≡ true
+smallest_leaves : {S : Type 0} (walk : TileWalk S) (r c : ℕ) (p : Partition) → starts_inside walk r c ≡ true
     → leaves walk.frame 0 r c (cut_of p) ≡ one_leaf r c (part_size p 0)
 unfolding cut_of
 smallest_leaves walk r c Whole h = there walk r c _ h
@@ -56,7 +56,7 @@ smallest_leaves walk r c Horizontal h = there walk r c _ h
 smallest_leaves walk r c Vertical h = there walk r c _ h
 smallest_leaves walk r c Split h = there walk r c _ h
 
-smallest_listed : {S : Type 0} (walk : Walk S) → ListsItsBlock walk → (r c : ℕ) (s : S) (p : Partition) → starts_inside walk r c ≡ true
+smallest_listed : {S : Type 0} (walk : TileWalk S) → ListsItsBlock walk → (r c : ℕ) (s : S) (p : Partition) → starts_inside walk r c ≡ true
     → Yields (smallest_parts walk (square_at walk 0 r c) s p) (ListsLeaves walk 0 r c s)
 unfolding smallest_parts
 smallest_listed walk each r c s p h =
@@ -64,7 +64,7 @@ smallest_listed walk each r c s p h =
     (λ t l. (cut_of p, lists_as walk s t (one_leaf r c (part_size p 0)) (leaves walk.frame 0 r c (cut_of p)) (smallest_leaves walk r c p h) l))
 
 -- two halves, the second of which may start outside
-halves_listed : {S : Type 0} (walk : Walk S) → ListsItsBlock walk → (n r c r' c' : ℕ) (s : S) (size : BlockSize) (cut : Cut)
+halves_listed : {S : Type 0} (walk : TileWalk S) → ListsItsBlock walk → (n r c r' c' : ℕ) (s : S) (size : BlockSize) (cut : Cut)
     → leaves walk.frame (suc n) r c cut ≡ one_leaf r c size ++ inside walk.frame r' c' (one_leaf r' c' size)
     → Yields (in_order (walk.block (block_at walk r c size) s) (block_inside walk r' c' size)) (ListsLeaves walk (suc n) r c s)
 halves_listed walk each n r c r' c' s size cut is =
@@ -73,7 +73,7 @@ halves_listed walk each n r c r' c' s size cut is =
     (lists_inside walk each r' c' size t)
     (λ u second. (cut, lists_as walk s u _ _ is (lists_both walk s t u (one_leaf r c size) (inside walk.frame r' c' (one_leaf r' c' size)) first second))))
 
-quarters_listed : {S : Type 0} (walk : Walk S) (n r c : ℕ) (s : S) → starts_inside walk r c ≡ true
+quarters_listed : {S : Type 0} (walk : TileWalk S) (n r c : ℕ) (s : S) → starts_inside walk r c ≡ true
     → ((r c : ℕ) (s : S) → Yields (decode_square walk n r c s) (ListsLeaves walk n r c s))
     → Yields (square_parts walk n r c s Split) (ListsLeaves walk (suc n) r c s)
 unfolding parts
@@ -95,7 +95,7 @@ quarters_listed walk n r c s h quarter =
           (lists_both walk s v w (la ++ lb ++ ld) le (lists_both walk s u v (la ++ lb) ld (lists_both walk s t u la lb a.1 b.1) d.1) e.1),
     ))))))
 
-parts_listed : {S : Type 0} (walk : Walk S) → ListsItsBlock walk → (n r c : ℕ) (s : S) → starts_inside walk r c ≡ true
+parts_listed : {S : Type 0} (walk : TileWalk S) → ListsItsBlock walk → (n r c : ℕ) (s : S) → starts_inside walk r c ≡ true
     → ((r c : ℕ) (s : S) → Yields (decode_square walk n r c s) (ListsLeaves walk n r c s))
     → (p : Partition) → Yields (square_parts walk n r c s p) (ListsLeaves walk (suc n) r c s)
 unfolding parts
@@ -112,11 +112,11 @@ parts_listed walk each n r c s h quarter Vertical =
 parts_listed walk each n r c s h quarter Split = quarters_listed walk n r c s h quarter
 
 -- a square that starts outside has no leaves
-outside_listed : {S : Type 0} (walk : Walk S) (n r c : ℕ) (s : S) → starts_inside walk r c ≡ false → ListsLeaves walk n r c s s
+outside_listed : {S : Type 0} (walk : TileWalk S) (n r c : ℕ) (s : S) → starts_inside walk r c ≡ false → ListsLeaves walk n r c s s
 outside_listed walk zero r c s h = (whole, lists_as walk s s [] _ (nowhere walk r c _ h) (lists_none walk s))
 outside_listed walk (suc n) r c s h = (whole, lists_as walk s s [] _ (nowhere walk r c _ h) (lists_none walk s))
 
-pub leaves_listed : {S : Type 0} (walk : Walk S) → ListsItsBlock walk → (n r c : ℕ) (s : S) → Yields (decode_square walk n r c s) (ListsLeaves walk n r c s)
+pub leaves_listed : {S : Type 0} (walk : TileWalk S) → ListsItsBlock walk → (n r c : ℕ) (s : S) → Yields (decode_square walk n r c s) (ListsLeaves walk n r c s)
 unfolding decode_at_level settle
 leaves_listed walk each zero r c s = elim (cases_Bool (starts_inside walk r c)) [
   | inl one ↦ rw one (yields_bind (partition_at walk.intra walk.probs (walk.blocks s) walk.frame (square_at walk 0 r c)) (smallest_parts walk (square_at walk 0 r c) s)

@@ -15,7 +15,7 @@ use Rattle.block_plan.specs.declared.block.BlockInfo.{BlockInfo}
 use Rattle.block_plan.specs.declared.block.Prediction.TheVariants.{Intra}
 use Rattle.counting_reader.specs.Counting.{Settled, settle, uncounted, ◌>>=◌}
 use Rattle.mode_syntax.specs.Elements.{intra_segment_id, skip_context, read_skip, tx_context, read_tx_size}
-use Rattle.mode_syntax.specs.IntraModes.{edge_modes, luma_modes, last_mode, default_uv_mode}
+use Rattle.mode_syntax.specs.IntraModes.{edge_modes, default_luma_modes, last_mode, default_uv_mode}
 
 abbrev pub intra_block : BlockAt → ℕ → Bool → TxSize → List IntraMode → IntraMode → BlockInfo
 intra_block at segment skip tx luma chroma = record {
@@ -35,7 +35,7 @@ mode_info_beside segmentation tx_mode contexts above left at = do
   segment ← uncounted (intra_segment_id segmentation)
   skip ← read_skip segmentation contexts.skip (skip_context above left) segment
   tx ← read_tx_size tx_mode contexts.tx (tx_context at.size above left) at.size
-  luma ← uncounted (luma_modes at.size (edge_modes above left))
+  luma ← uncounted (default_luma_modes at.size (edge_modes above left))
   chroma ← uncounted (default_uv_mode (last_mode luma))
   settle (intra_block at segment skip tx luma chroma)
 

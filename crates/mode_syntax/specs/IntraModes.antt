@@ -22,18 +22,18 @@ intra_of n =
     else (if nat_eq n 4 then D135 else (if nat_eq n 5 then D117 else (if nat_eq n 6 then D153 else (if nat_eq n 7 then D207
     else (if nat_eq n 8 then D63 else Tm))))))))
 
-unfoldable pub intra_mode : List ℕ → Syntax ℕ Rule IntraMode
-intra_mode probs = do
+unfoldable pub intra_mode_symbol : List ℕ → Syntax ℕ Rule IntraMode
+intra_mode_symbol probs = do
   number ← tree_symbol intra_mode_tree probs
   done (intra_of number)
 
 -- by the modes above and at the left
 unfoldable pub default_intra_mode : IntraMode → IntraMode → Syntax ℕ Rule IntraMode
-default_intra_mode above left = intra_mode (get_or KF_Y_MODE (10 * intra_number above + intra_number left) [])
+default_intra_mode above left = intra_mode_symbol (get_or KF_Y_MODE (10 * intra_number above + intra_number left) [])
 
 -- by the last mode of luma
 unfoldable pub default_uv_mode : IntraMode → Syntax ℕ Rule IntraMode
-default_uv_mode luma = intra_mode (get_or KF_UV_MODE (intra_number luma) [])
+default_uv_mode luma = intra_mode_symbol (get_or KF_UV_MODE (intra_number luma) [])
 
 -- the mode of a quarter of a block; DC in an inter block
 abbrev pub quarter_mode : Prediction → ℕ → IntraMode
@@ -72,8 +72,8 @@ each_mode size edge (k ∷ rest) modes = do
   each_mode size edge rest (with_part size k mode modes)
 
 -- the modes of the quarters of a block
-unfoldable pub luma_modes : BlockSize → EdgeModes → Syntax ℕ Rule (List IntraMode)
-luma_modes size edge = each_mode size edge (starting_quarters size) (Dc ∷ Dc ∷ Dc ∷ Dc ∷ [])
+unfoldable pub default_luma_modes : BlockSize → EdgeModes → Syntax ℕ Rule (List IntraMode)
+default_luma_modes size edge = each_mode size edge (starting_quarters size) (Dc ∷ Dc ∷ Dc ∷ Dc ∷ [])
 
 abbrev pub last_mode : List IntraMode → IntraMode
 last_mode luma = slice_index_or luma 3 Dc

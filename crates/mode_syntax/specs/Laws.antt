@@ -20,33 +20,33 @@ use Rattle.mode_syntax.specs.Partitions.{partition_at}
 use Rattle.mode_syntax.specs.Superblocks.{superblocks_of}
 use Rattle.mode_syntax.specs.TileColumns.{settled_part}
 use Rattle.mode_syntax.specs.TileSquares.{Leaf, Cut, one_leaf, leaves, tile_leaves}
-use Rattle.mode_syntax.specs.Walk.{Walk, block_at, parts, decode_at_level, decode_tile}
+use Rattle.mode_syntax.specs.Walk.{TileWalk, block_at, parts, decode_at_level, decode_tile}
 use Rattle.mode_syntax.specs.declared.square_at.SquareAt.{SquareAt}
 
 ---- Row by row ----
 
 -- a square of a walk's tile, and what is read of it
-abbrev pub square_at : {S : Type 0} → Walk S → ℕ → ℕ → ℕ → SquareAt
+abbrev pub square_at : {S : Type 0} → TileWalk S → ℕ → ℕ → ℕ → SquareAt
 square_at walk level r c = record { row = r; col = c; level = level; tile_from = walk.tile_from; tile_to = walk.tile_to }
 
-abbrev pub decode_square : {S : Type 0} → Walk S → ℕ → ℕ → ℕ → S → Syntax ℕ Rule (Settled S)
+abbrev pub decode_square : {S : Type 0} → TileWalk S → ℕ → ℕ → ℕ → S → Syntax ℕ Rule (Settled S)
 decode_square walk level r c s = decode_at_level walk level (square_at walk level r c) s
 
 -- the parts of one whose quarters have level n
-abbrev pub square_parts : {S : Type 0} → Walk S → ℕ → ℕ → ℕ → S → Partition → Syntax ℕ Rule (Settled S)
+abbrev pub square_parts : {S : Type 0} → TileWalk S → ℕ → ℕ → ℕ → S → Partition → Syntax ℕ Rule (Settled S)
 square_parts walk n r c s p = parts walk (decode_at_level walk n) (square_at walk (suc n) r c) s p
 
 -- a row of n superblocks from a column on, and n rows of them
-unfoldable pub decode_row : {S : Type 0} → Walk S → ℕ → ℕ → ℕ → S → Syntax ℕ Rule (Settled S)
+unfoldable pub decode_row : {S : Type 0} → TileWalk S → ℕ → ℕ → ℕ → S → Syntax ℕ Rule (Settled S)
 decode_row walk r c zero s = settle s
 decode_row walk r c (suc n) s = in_order (decode_square walk 3 r c s) (decode_row walk r (c + 8) n)
 
-unfoldable pub decode_rows : {S : Type 0} → Walk S → ℕ → ℕ → ℕ → ℕ → S → Syntax ℕ Rule (Settled S)
+unfoldable pub decode_rows : {S : Type 0} → TileWalk S → ℕ → ℕ → ℕ → ℕ → S → Syntax ℕ Rule (Settled S)
 decode_rows walk columns r c zero s = settle s
 decode_rows walk columns r c (suc n) s = in_order (decode_row walk r c columns s) (decode_rows walk columns (r + 8) c n)
 
 -- the superblocks of n rows of a walk's tile
-abbrev pub squares_from : {S : Type 0} → Walk S → ℕ → ℕ → ℕ → ℕ → List SquareAt
+abbrev pub squares_from : {S : Type 0} → TileWalk S → ℕ → ℕ → ℕ → ℕ → List SquareAt
 squares_from walk columns r c n = superblocks_of (square_at walk 3 r c) n columns
 
 ---- Listed blocks ----
@@ -55,25 +55,25 @@ abbrev pub leaf_of : BlockInfo → Leaf
 leaf_of b = record { row = b.row; col = b.col; size = b.size }
 
 -- blocks of these places and sizes were listed behind those so far
-abbrev pub Lists : {S : Type 0} → Walk S → S → List Leaf → S → Type 0
+abbrev pub Lists : {S : Type 0} → TileWalk S → S → List Leaf → S → Type 0
 Lists walk s ls t = (new : List BlockInfo) × (map leaf_of new ≡ ls) × (walk.blocks t ≡ walk.blocks s ++ new)
 
 -- what a block reads lists it, and nothing else
-abbrev pub ListsItsBlock : {S : Type 0} → Walk S → Type 0
+abbrev pub ListsItsBlock : {S : Type 0} → TileWalk S → Type 0
 ListsItsBlock {S} walk = (r c : ℕ) (size : BlockSize) (s : S) → Yields (walk.block (block_at walk r c size) s) (Lists walk s (one_leaf r c size))
 
 -- the blocks of a partition tree of a square
-abbrev pub ListsLeaves : {S : Type 0} → Walk S → ℕ → ℕ → ℕ → S → S → Type 0
+abbrev pub ListsLeaves : {S : Type 0} → TileWalk S → ℕ → ℕ → ℕ → S → S → Type 0
 ListsLeaves walk n r c s t = (cut : Cut) × Lists walk s (leaves walk.frame n r c cut) t
 
 -- the blocks of partition trees of a tile's superblocks
-abbrev pub ListsTile : {S : Type 0} → Walk S → List SquareAt → S → S → Type 0
+abbrev pub ListsTile : {S : Type 0} → TileWalk S → List SquareAt → S → S → Type 0
 ListsTile walk squares s t = (cuts : SquareAt → Cut) × Lists walk s (tile_leaves walk.frame cuts squares) t
 
 ---- Walks that do the same ----
 
 -- a walk of the same tile over another state
-abbrev pub walk_over : {S T : Type 0} → Walk S → (BlockAt → T → Syntax ℕ Rule (Settled T)) → (T → List BlockInfo) → Walk T
+abbrev pub walk_over : {S T : Type 0} → TileWalk S → (BlockAt → T → Syntax ℕ Rule (Settled T)) → (T → List BlockInfo) → TileWalk T
 walk_over walk block blocks = record {
   frame = walk.frame;
   tile_from = walk.tile_from;
@@ -85,20 +85,20 @@ walk_over walk block blocks = record {
 }
 
 -- so many columns from one on lie in those from `low` on, below `high`, and begin in the frame
-pub record LiesIn {S : Type 0} (walk : Walk S) (low high c width : ℕ) : Type 0 where
+pub record LiesIn {S : Type 0} (walk : TileWalk S) (low high c width : ℕ) : Type 0 where
   pub from : low ≤ c
   pub to : c + width ≤ high
   pub starts : c < walk.frame.cols
 
 -- Another state keeps step with a walk's between two columns: what a block does to it is what the block does to the
 -- walk's state, seen through `view`, and squares are partitioned alike.
-pub record KeepsStep {S T : Type 0} (walk : Walk S) (block : BlockAt → T → Syntax ℕ Rule (Settled T)) (blocks : T → List BlockInfo) (view : S → T) (low high : ℕ) : Type 0 where
+pub record KeepsStep {S T : Type 0} (walk : TileWalk S) (block : BlockAt → T → Syntax ℕ Rule (Settled T)) (blocks : T → List BlockInfo) (view : S → T) (low high : ℕ) : Type 0 where
   pub partitions : (level r c : ℕ) (s : S) → LiesIn walk low high c (2 ^ level)
       → partition_at walk.intra walk.probs (blocks (view s)) walk.frame (square_at walk level r c) ≡ partition_at walk.intra walk.probs (walk.blocks s) walk.frame (square_at walk level r c)
   pub block_steps : (r c : ℕ) (size : BlockSize) (s : S) → LiesIn walk low high c (width_8 size) → block (block_at walk r c size) (view s) ≡ mapped view (walk.block (block_at walk r c size) s)
 
 -- what each block of a walk between two columns keeps
-pub record EachKeeps {S : Type 0} (walk : Walk S) (P : S → Type 0) (low high : ℕ) : Type 0 where
+pub record EachKeeps {S : Type 0} (walk : TileWalk S) (P : S → Type 0) (low high : ℕ) : Type 0 where
   pub kept : (r c : ℕ) (size : BlockSize) (s : S) → LiesIn walk low high c (width_8 size) → P s → Yields (walk.block (block_at walk r c size) s) P
 
 ---- Blocks of some columns ----
@@ -120,7 +120,7 @@ next_block header modes contexts at blocks = do
   block ← intra_frame_mode_info header modes contexts blocks at
   settle (blocks ++ block ∷ [])
 
-abbrev pub mode_walk : Header → Modes → ContextLists → FramePlaces → ℕ → ℕ → Walk (List BlockInfo)
+abbrev pub mode_walk : Header → Modes → ContextLists → FramePlaces → ℕ → ℕ → TileWalk (List BlockInfo)
 mode_walk header modes contexts frame tile_from tile_to = record {
   frame = frame;
   tile_from = tile_from;

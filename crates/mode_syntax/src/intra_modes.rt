@@ -4,7 +4,7 @@ ghost use Rattle.std.specs.Prelude.{◌≡◌, ◌<◌, ◌≤◌, ℕ, ◌*◌,
 ghost use Rattle.std.specs.Option.{option_copied};
 ghost use Rattle.counting_reader.specs.Counting.{uncounted};
 ghost use Rattle.counting_reader.specs.Code.{Reads};
-ghost use Rattle.mode_syntax.specs.IntraModes.{intra_of, intra_mode, default_intra_mode, default_uv_mode, mode_beside, edge_modes, luma_modes};
+ghost use Rattle.mode_syntax.specs.IntraModes.{intra_of, intra_mode_symbol, default_intra_mode, default_uv_mode, mode_beside, edge_modes, default_luma_modes};
 ghost use Rattle.mode_syntax.specs.Code.{one_mode, two_rows, two_columns, four_modes};
 
 use block_plan::{BlockInfo, Prediction};
@@ -39,9 +39,9 @@ pub fn intra_of(number: u8) -> IntraMode
     }
 }
 
-#[tactic(auto, unfolding(crate::specs::IntraModes::intra_mode), using(crate::proofs::Uncounted::uncounted_bind, crate::proofs::Uncounted::uncounted_done))]
+#[tactic(auto, unfolding(crate::specs::IntraModes::intra_mode_symbol), using(crate::proofs::Uncounted::uncounted_bind, crate::proofs::Uncounted::uncounted_done))]
 fn read_mode<const COUNTS: bool>(reader: &mut CountingReader<COUNTS>, probs: &[u8; 9]) -> IntraMode
-    ensures { Reads (uncounted (intra_mode probs.now)) reader.old result reader.new }
+    ensures { Reads (uncounted (intra_mode_symbol probs.now)) reader.old result reader.new }
 {
     intra_of(reader.tree(intra_mode_tree(), probs))
 }
@@ -149,7 +149,7 @@ pub(crate) fn read_luma_modes<const COUNTS: bool>(
     size: BlockSize,
     edge: EdgeModes,
 ) -> [IntraMode; 4]
-    ensures { Reads (uncounted (luma_modes size edge)) reader.old result reader.new }
+    ensures { Reads (uncounted (default_luma_modes size edge)) reader.old result reader.new }
 {
     match size {
         BlockSize::B4x4 => read_four_modes(reader, edge),

@@ -16,7 +16,7 @@ ghost use Rattle.mode_syntax.specs.IntraModeInfo.{intra_frame_mode_info};
 ghost use Rattle.mode_syntax.specs.Partitions.{partition_at};
 ghost use Rattle.mode_syntax.specs.Superblocks.{superblocks_of};
 ghost use Rattle.mode_syntax.specs.TileSquares.{Cut, tile_leaves, times_covered};
-ghost use Rattle.mode_syntax.specs.Walk.{Walk, decode_partition, decode_tile};
+ghost use Rattle.mode_syntax.specs.Walk.{TileWalk, decode_partition, decode_tile};
 ghost use Rattle.mode_syntax.specs.Laws.{square_at, decode_rows, squares_from, ListsItsBlock, ListsLeaves, ListsTile, walk_over, KeepsStep, SameIn, in_columns, mode_walk, Layout, IsLaidOut, mode_tile, column_blocks};
 ghost use Rattle.mode_syntax.specs.TileColumns.{read_all, counted_of, AreSeparate, column_alone, by_column};
 ghost use Rattle.mode_syntax.specs.declared.square_at.SquareAt.{SquareAt};
@@ -32,31 +32,31 @@ pub fn blocks_cover_a_tile_once()
 /// Where what a block reads lists that block alone, reading a square lists the blocks of a partition tree of it, in
 /// order. `S` is what reading keeps.
 pub fn squares_list_their_leaves<S>()
-    ensures { (walk : Walk S) → ListsItsBlock walk → (n r c : ℕ) (s : S) →
+    ensures { (walk : TileWalk S) → ListsItsBlock walk → (n r c : ℕ) (s : S) →
         Yields (decode_partition walk (square_at walk n r c) s) (ListsLeaves walk n r c s) }
 {}
 
 /// So does reading a tile of `n` rows of superblocks: it lists the blocks of its superblocks' partition trees, in order.
 pub fn tiles_list_their_leaves<S>()
-    ensures { (walk : Walk S) → ListsItsBlock walk → (columns r c n : ℕ) (s : S) →
+    ensures { (walk : TileWalk S) → ListsItsBlock walk → (columns r c n : ℕ) (s : S) →
         Yields (decode_tile walk (squares_from walk columns r c n) s) (ListsTile walk (squares_from walk columns r c n) s) }
 {}
 
 /// Reading the superblocks of a tile is reading them row by row.
 pub fn tiles_are_read_row_by_row<S>()
-    ensures { (walk : Walk S) (columns r c n : ℕ) (s : S) → decode_tile walk (squares_from walk columns r c n) s ≡ decode_rows walk columns r c n s }
+    ensures { (walk : TileWalk S) (columns r c n : ℕ) (s : S) → decode_tile walk (squares_from walk columns r c n) s ≡ decode_rows walk columns r c n s }
 {}
 
 /// Where another state keeps step with a walk's, reading a square and reading a tile do to it what they do to the walk's
 /// state, seen through `view`: both ask and count the same.
 pub fn walks_map<S, T>()
-    ensures square { (walk : Walk S) (block : BlockAt → T → Syntax ℕ Rule (Settled T)) (blocks : T → List BlockInfo) (view : S → T) (low high : ℕ) →
+    ensures square { (walk : TileWalk S) (block : BlockAt → T → Syntax ℕ Rule (Settled T)) (blocks : T → List BlockInfo) (view : S → T) (low high : ℕ) →
         KeepsStep walk block blocks view low high → (n r c : ℕ) (s : S) → n ≤ 3 → low ≤ c → c + 2 ^ n ≤ high →
         decode_partition (walk_over walk block blocks) (square_at walk n r c) (view s) ≡ mapped view (decode_partition walk (square_at walk n r c) s) }
-    ensures tile { (walk : Walk S) (block : BlockAt → T → Syntax ℕ Rule (Settled T)) (blocks : T → List BlockInfo) (view : S → T) (low high : ℕ) →
+    ensures tile { (walk : TileWalk S) (block : BlockAt → T → Syntax ℕ Rule (Settled T)) (blocks : T → List BlockInfo) (view : S → T) (low high : ℕ) →
         KeepsStep walk block blocks view low high → (columns r c n : ℕ) (s : S) → low ≤ c → c + 8 * columns ≤ high →
         decode_tile (walk_over walk block blocks) (squares_from walk columns r c n) (view s) ≡ mapped view (decode_tile walk (squares_from walk columns r c n) s) }
-    ensures everywhere { (walk : Walk S) (block : BlockAt → T → Syntax ℕ Rule (Settled T)) (blocks : T → List BlockInfo) (view : S → T) →
+    ensures everywhere { (walk : TileWalk S) (block : BlockAt → T → Syntax ℕ Rule (Settled T)) (blocks : T → List BlockInfo) (view : S → T) →
         ((at : BlockAt) (s : S) → block at (view s) ≡ mapped view (walk.block at s)) → ((s : S) → blocks (view s) ≡ walk.blocks s) →
         (columns r c n : ℕ) (s : S) → decode_tile (walk_over walk block blocks) (squares_from walk columns r c n) (view s) ≡ mapped view (decode_tile walk (squares_from walk columns r c n) s) }
 {}

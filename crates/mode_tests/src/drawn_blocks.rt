@@ -6,7 +6,7 @@ ghost use Rattle.mv_prediction.specs.Vectors.{IsSmallVector};
 ghost use Rattle.mv_prediction.specs.Code.{HasSmallVectors, PredictsSmall};
 
 use block_plan::{
-    BlockGrid, BlockInfo, InterPrediction, IntraPrediction, Mv, Prediction, References,
+    BlockGrid, BlockInfo, InterPrediction, IntraPrediction, Mv, Prediction, ReferenceFrames,
 };
 use test_draws::Draws;
 use vp9_types::{BlockSize, InterMode, InterpFilter, IntraMode, ReferenceFrame, TxSize};
@@ -67,14 +67,14 @@ fn drawn_mode(draws: &mut Draws) -> InterMode {
     }
 }
 
-fn drawn_references(draws: &mut Draws) -> References {
+fn drawn_references(draws: &mut Draws) -> ReferenceFrames {
     let first = draws.below(3);
     let second = if draws.below(2) == 1 {
         Some(reference_of((first + 1 + draws.below(2)) % 3))
     } else {
         None
     };
-    References {
+    ReferenceFrames {
         first: reference_of(first),
         second,
     }

@@ -30,7 +30,7 @@ use Rattle.counting_reader.specs.CountedSymbols.{counted_flag, counted_symbol, c
 use Rattle.counting_reader.proofs.Yields.{yields_bind, yields_all, yields_map}
 use Rattle.mode_syntax.specs.Elements.{coded_segment, intra_segment_id, skips_segment, skip_context, read_skip, tx_context, tx_kind, tx_probs, tx_tree, tx_symbol, is_selected, read_tx_size}
 use Rattle.mode_syntax.specs.Code.{one_mode, two_rows, two_columns, four_modes, modes_by_size}
-use Rattle.mode_syntax.specs.IntraModes.{default_intra_mode, edge_modes, luma_modes, last_mode, default_uv_mode}
+use Rattle.mode_syntax.specs.IntraModes.{default_intra_mode, edge_modes, default_luma_modes, last_mode, default_uv_mode}
 use Rattle.mode_syntax.specs.IntraModeInfo.{intra_block, mode_info_beside, intra_frame_mode_info}
 use Rattle.mode_syntax.specs.Partitions.{split_or, edge_symbol, whole_symbol, partition_value, partition, half_of, partition_probs, square_context, partition_at}
 use Rattle.mode_syntax.specs.declared.intra_modes.EdgeModes.{EdgeModes}
@@ -159,7 +159,7 @@ by_size_answered B32x64 edge = one_answered edge
 by_size_answered B64x32 edge = one_answered edge
 by_size_answered B64x64 edge = one_answered edge
 
-luma_answered : (size : BlockSize) (edge : EdgeModes) → Yields (uncounted (luma_modes size edge)) (CanLuma size)
+luma_answered : (size : BlockSize) (edge : EdgeModes) → Yields (uncounted (default_luma_modes size edge)) (CanLuma size)
 luma_answered size edge = rw (luma_by_size size edge) (by_size_answered size edge)
 
 ---- Blocks ----
@@ -175,7 +175,7 @@ beside_answered header modes contexts above left at =
     (skip_answered segmentation contexts.skip (skip_context above left) segment)
     (λ skip is_skip. yields_bind (read_tx_size modes.tx_mode contexts.tx (tx_context at.size above left) at.size) _ (CanTx modes.tx_mode at.size) (CanPutIntraFrame header modes at)
     (size_answered modes.tx_mode contexts.tx (tx_context at.size above left) at.size)
-    (λ tx is_tx. yields_bind (uncounted (luma_modes at.size (edge_modes above left))) _ (CanLuma at.size) (CanPutIntraFrame header modes at)
+    (λ tx is_tx. yields_bind (uncounted (default_luma_modes at.size (edge_modes above left))) _ (CanLuma at.size) (CanPutIntraFrame header modes at)
     (luma_answered at.size (edge_modes above left))
     (λ luma is_luma. yields_bind (uncounted (default_uv_mode (last_mode luma))) _ (λ chroma. Unit) (CanPutIntraFrame header modes at)
     (yields_all (uncounted (default_uv_mode (last_mode luma))))

@@ -2,7 +2,7 @@
 
 ghost use Rattle.std.specs.Prelude.{◌≡◌, IfOk, ◌∷◌, []};
 ghost use Rattle.bool_encoder.specs.WrittenBools.{Puts};
-ghost use Rattle.mode_syntax.specs.IntraModes.{intra_mode, default_intra_mode, default_uv_mode, luma_modes};
+ghost use Rattle.mode_syntax.specs.IntraModes.{intra_mode_symbol, default_intra_mode, default_uv_mode, default_luma_modes};
 ghost use Rattle.mode_syntax.specs.Code.{one_mode, two_rows, two_columns, four_modes, modes_by_size};
 ghost use Rattle.mode_writer.specs.ModeFits.{CanLuma};
 
@@ -12,9 +12,9 @@ use std::alloc::AllocError;
 use vp9_tables::{intra_mode_tree, kf_uv_mode, kf_y_mode};
 use vp9_types::{BlockSize, IntraMode};
 
-#[tactic(auto, unfolding(mode_syntax::specs::IntraModes::intra_mode), using(vp9_types::proofs::Binds::writes_bind, crate::proofs::Numbers::intra_of_its_number))]
+#[tactic(auto, unfolding(mode_syntax::specs::IntraModes::intra_mode_symbol), using(vp9_types::proofs::Binds::writes_bind, crate::proofs::Numbers::intra_of_its_number))]
 fn put_mode(encoder: &mut BoolEncoder, probs: &[u8; 9], mode: IntraMode) -> Result<(), AllocError>
-    ensures { IfOk result (λ _. Puts (intra_mode probs.now) encoder.old mode encoder.new) }
+    ensures { IfOk result (λ _. Puts (intra_mode_symbol probs.now) encoder.old mode encoder.new) }
 {
     put_tree(encoder, intra_mode_tree(), probs, mode as u8)
 }
@@ -124,7 +124,7 @@ pub(crate) fn put_luma_modes(
     modes: [IntraMode; 4],
 ) -> Result<(), AllocError>
     requires { CanLuma size modes }
-    ensures { IfOk result (λ _. Puts (luma_modes size edge) encoder.old modes encoder.new) }
+    ensures { IfOk result (λ _. Puts (default_luma_modes size edge) encoder.old modes encoder.new) }
 {
     put_by_size(encoder, size, edge, modes)
 }

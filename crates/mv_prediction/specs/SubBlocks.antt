@@ -4,14 +4,14 @@ use Rattle.std.specs.Prelude.{ℕ, List, ◌∷◌, Bool, nat_eq, nat_lt, if◌t
 use Rattle.block_plan.specs.BlockMvs.{vector_at}
 use Rattle.block_plan.specs.declared.block.Mv.{Mv}
 use Rattle.mv_prediction.specs.Candidates.{other_than}
-use Rattle.mv_prediction.specs.Vectors.{rounded}
+use Rattle.mv_prediction.specs.Vectors.{usable_precision}
 use Rattle.mv_prediction.specs.declared.sub_blocks.NearVectors.{NearVectors}
 
 -- The nearest is the best one too, to which differences are added.
 unfoldable pub near_vectors : Bool → List Mv → NearVectors
 near_vectors allowed candidates = record {
-  nearest = rounded allowed (vector_at candidates 0);
-  near = rounded allowed (vector_at candidates 1);
+  nearest = usable_precision allowed (vector_at candidates 0);
+  near = usable_precision allowed (vector_at candidates 1);
 }
 
 -- a vector, and the first of a list that differs from it

@@ -26,17 +26,18 @@ clamp_mv_ref s v = record {
   column = clip3 (reach_before s.at.col) (reach_after s.at.col (width_8 s.at.size) s.places.cols) v.column;
 }
 
--- usehp: both components are below 8 whole samples
-abbrev pub is_precise : Mv → Bool
-is_precise v = nat_lt (unsigned_abs v.row) 64 && nat_lt (unsigned_abs v.column) 64
+-- usehp's test: (Abs(component) >> 3) < COMPANDED_MVREF_THRESH, which is 8, for both components
+abbrev pub is_short_vector : Mv → Bool
+is_short_vector v = nat_lt (unsigned_abs v.row) 64 && nat_lt (unsigned_abs v.column) 64
 
 -- an odd component goes to the even one next to it, toward 0
 abbrev pub evened : ℤ → ℤ
 evened x = int_div x (pos 2) *ℤ pos 2
 
--- find_best_ref_mvs: high precision is kept where the frame allows it and the vector is short
-abbrev pub rounded : Bool → Mv → Mv
-rounded allowed v = if allowed && is_precise v then v else record { row = evened v.row; column = evened v.column }
+-- find_best_ref_mvs: high precision is kept where the frame allows it and the vector is short. The clamp that follows there reaches further
+-- than that of clamp_mv_ref, and changes nothing behind it.
+abbrev pub usable_precision : Bool → Mv → Mv
+usable_precision allowed v = if allowed && is_short_vector v then v else record { row = evened v.row; column = evened v.column }
 
 -- Each vector that is read is between -16384 and 16384, so each of a frame is.
 abbrev pub IsSmallVector : Mv → Type 0

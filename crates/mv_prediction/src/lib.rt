@@ -13,4 +13,4 @@ pub use laws::candidates_are_of_the_tiles_columns;
 pub use search::{MvSearch, SignBiases};
 pub use sub_blocks::{NearVectors, near_vectors, sub_block_vectors};
 pub use suggestions::{candidates, mode_context};
-pub use vector::{is_precise, rounded};
+pub use vector::{is_short_vector, usable_precision};

@@ -7,7 +7,7 @@ ghost use Rattle.mv_prediction.specs.Candidates.{other_than};
 ghost use Rattle.mv_prediction.specs.SubBlocks.{near_vectors, sub_block_vectors, beside};
 ghost use Rattle.mv_prediction.specs.Code.{AreSmall};
 
-use crate::vector::{NO_VECTOR, is_same, rounded};
+use crate::vector::{NO_VECTOR, is_same, usable_precision};
 use block_plan::Mv;
 
 /// What a block, or a quarter of one below 8x8, takes by the modes nearest and near.
@@ -26,8 +26,8 @@ pub fn near_vectors(high_precision: bool, candidates: &[Mv; 2]) -> NearVectors
     ensures near { IsSmallVector result.near }
 {
     NearVectors {
-        nearest: rounded(high_precision, candidates[0]),
-        near: rounded(high_precision, candidates[1]),
+        nearest: usable_precision(high_precision, candidates[0]),
+        near: usable_precision(high_precision, candidates[1]),
     }
 }
 

@@ -2,7 +2,7 @@
 
 ghost use Rattle.std.specs.Prelude.{◌≡◌, ◌<◌, ◌≤◌, pos, negsuc, ◌≤ℤ◌, unsigned_abs};
 ghost use Rattle.block_plan.specs.BlockMvs.{no_vector, clip3};
-ghost use Rattle.mv_prediction.specs.Vectors.{same_vector, negated, reach_before, reach_after, clamp_mv_ref, is_precise, rounded, IsSmallVector};
+ghost use Rattle.mv_prediction.specs.Vectors.{same_vector, negated, reach_before, reach_after, clamp_mv_ref, is_short_vector, usable_precision, IsSmallVector};
 
 use crate::search::MvSearch;
 use block_geometry::{height_8, width_8};
@@ -90,20 +90,20 @@ pub(crate) fn clamped(search: &MvSearch, v: Mv) -> Mv
 }
 
 /// Whether a vector may have a bit of high precision: its components are below 8 whole samples.
-pub fn is_precise(v: Mv) -> bool
-    ensures { result ≡ is_precise v }
+pub fn is_short_vector(v: Mv) -> bool
+    ensures { result ≡ is_short_vector v }
 {
     v.row.unsigned_abs() < 64 && v.column.unsigned_abs() < 64
 }
 
 /// A predicted vector as a block uses it: without the bit of high precision, unless the frame allows it and the vector
 /// may have it.
-pub fn rounded(high_precision: bool, v: Mv) -> Mv
+pub fn usable_precision(high_precision: bool, v: Mv) -> Mv
     requires small { IsSmallVector v }
-    ensures is { result ≡ rounded high_precision v }
+    ensures is { result ≡ usable_precision high_precision v }
     ensures small { IsSmallVector result }
 {
-    if high_precision && is_precise(v) {
+    if high_precision && is_short_vector(v) {
         return v;
     }
     Mv {

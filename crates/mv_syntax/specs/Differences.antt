@@ -11,7 +11,7 @@ use Rattle.prob_contexts.specs.declared.kind.ProbKind.TheVariants as kind
 use Rattle.block_plan.specs.declared.block.Mv.{Mv}
 use Rattle.counting_reader.specs.Counting.{Settled, settle, ◌>>=◌}
 use Rattle.counting_reader.specs.CountedSymbols.{counted_tree}
-use Rattle.mv_prediction.specs.Vectors.{is_precise}
+use Rattle.mv_prediction.specs.Vectors.{is_short_vector}
 use Rattle.mv_syntax.specs.Components.{read_mv_component}
 
 -- a component is coded, or is 0
@@ -40,5 +40,5 @@ in_range_or_rule v = if is_in_range v then Ok v else Err MvRange
 -- whether bits of high precision are read.
 unfoldable pub new_vector : VectorLists → Bool → Mv → Syntax ℕ Rule (Settled (Result Mv Rule))
 new_vector lists allowed best = do
-  difference ← read_mv lists (allowed && is_precise best)
+  difference ← read_mv lists (allowed && is_short_vector best)
   settle (in_range_or_rule (added best difference))

@@ -9,7 +9,7 @@ ghost use Rattle.mv_syntax.specs.Differences.{added, in_range_or_rule, new_vecto
 use crate::differences::read_mv;
 use block_plan::Mv;
 use counting_reader::CountingReader;
-use mv_prediction::is_precise;
+use mv_prediction::is_short_vector;
 use prob_contexts::VectorProbs;
 use vp9_types::Rule;
 
@@ -51,7 +51,7 @@ pub fn read_new_vector<const COUNTS: bool>(
     ensures read { Reads (new_vector (vector_lists probs.now) high_precision best) reader.old result reader.new }
     ensures small { IfOk result IsSmallVector }
 {
-    let precise = high_precision && is_precise(best);
+    let precise = high_precision && is_short_vector(best);
     let difference = read_mv(reader, probs, precise);
     in_range_or_rule(added(best, difference))
 }

@@ -10,7 +10,7 @@ use Rattle.edge_io.specs.declared.read.ReadError.TheVariants as read
 use Rattle.byteorder.specs.Endian.{little_number}
 use Rattle.vp9_types.specs.declared.rule.Rule.{Rule}
 use Rattle.vp9_types.specs.declared.rule.Rule.TheVariants.{IvfSignature, IvfHeader, IvfCodec}
-use Rattle.ivf_container.specs.Packets.{Packets, FailsHeader, IsHeader, header_end, header_length, no_packets, packets_after, packets_from, packets_of, rate_of}
+use Rattle.ivf_container.specs.Packets.{Packets, FailsHeader, IsHeader, header_end, header_length, no_packets, packets_after, packets_from, packets_of, frame_rate_of}
 use Rattle.ivf_container.proofs.Headers.{IsTested, is_tested, is_header, ends_header, fails_header, range_front}
 use Rattle.ivf_container.proofs.Bodies.{has_body}
 use Rattle.ivf_container.proofs.Files.{only_packets}
@@ -148,7 +148,7 @@ no_first old new refused.OutOfMemory fails = fails
 ---- The rate ----
 
 -- what stands in a header stays there whatever is behind it
-rate_stays : (front rest : List ℕ) → IsHeader front → HasRate (front ++ rest) (rate_of front)
+rate_stays : (front rest : List ℕ) → IsHeader front → HasRate (front ++ rest) (frame_rate_of front)
 rate_stays front rest is =
     let numbers = range_front front rest 16 20 (omega arith) (omega (arith, is.least)) in
     let seconds = range_front front rest 20 24 (omega arith) (omega (arith, is.least)) in

@@ -4,7 +4,7 @@ use Rattle.std.specs.declared.alloc.Global.{Global}
 use Rattle.edge_io.specs.Filling.{WhereTold}
 use Rattle.edge_io.specs.SourceReading.{Gave}
 use Rattle.edge_io.specs.declared.read.ReadError.{ReadError}
-use Rattle.ivf_container.specs.Packets.{IsHeader, header_end, header_length, packets_of, rate_of}
+use Rattle.ivf_container.specs.Packets.{IsHeader, header_end, header_length, packets_of, frame_rate_of}
 use Rattle.packet_reader.specs.declared.reader.PacketRefusal.{PacketRefusal}
 use Rattle.packet_reader.specs.declared.reader.PacketRefusal.TheVariants as refused
 
@@ -31,7 +31,7 @@ TakesHeader old new (Err e) = (front : List ℕ) × Gave old new front × IsShor
 
 -- a front was taken that is the file header, with this rate, or breaks a rule, or is less than a header
 abbrev pub IsPassed : List ℕ → List ℕ → Result (ℕ × ℕ) PacketRefusal → Type 0
-IsPassed front rest (Ok rate) = IsHeader front × (rate ≡ rate_of front)
+IsPassed front rest (Ok rate) = IsHeader front × (rate ≡ frame_rate_of front)
 IsPassed front rest (Err (refused.Rule rule)) = header_end (front ++ rest) ≡ Err rule
 IsPassed front rest (Err refused.Failed) = (packets_of front).payloads ≡ []
 IsPassed front rest (Err refused.OutOfMemory) = (packets_of front).payloads ≡ []

@@ -5,7 +5,7 @@ use Rattle.edge_io.specs.Filling.{WhereTold}
 use Rattle.edge_io.specs.declared.read.ReadError.{ReadError}
 use Rattle.edge_io.specs.declared.read.ReadError.TheVariants as read
 use Rattle.vp9_types.specs.declared.rule.Rule.{Rule}
-use Rattle.ivf_container.specs.Packets.{Packets, header_end, no_packets, packets_from, packets_of, rate_of, with_payload}
+use Rattle.ivf_container.specs.Packets.{Packets, header_end, no_packets, packets_from, packets_of, frame_rate_of, with_payload}
 use Rattle.packet_reader.specs.declared.reader.PacketReader.{PacketReader}
 use Rattle.packet_reader.specs.declared.reader.PacketRefusal.{PacketRefusal}
 use Rattle.packet_reader.specs.declared.reader.PacketRefusal.TheVariants as refused
@@ -82,7 +82,7 @@ GivesNext Packet old new answer = TakesNext Packet old new answer
 
 -- the rate of a file: what its header names, and 0 and 0 where that breaks a rule
 abbrev pub rate_with : List ℕ → Result ℕ Rule → ℕ × ℕ
-rate_with bytes (Ok end) = rate_of bytes
+rate_with bytes (Ok end) = frame_rate_of bytes
 rate_with bytes (Err rule) = (0, 0)
 
 abbrev pub HasRate : List ℕ → ℕ × ℕ → Type 0

@@ -70,6 +70,12 @@ pub(crate) fn pass_header<S: Source>(
     Ok(rate(&header))
 }
 
+/// Whether bytes have a whole packet in front.
+pub(crate) fn is_packet_whole(bytes: &[u8]) -> bool {
+    bytes.len() >= PACKET_HEADER
+        && bytes.len() - PACKET_HEADER >= LittleEndian::read_u32(&bytes[..4]) as usize
+}
+
 /// Takes the next packet from a source that stands behind the header or another packet, and gives its payload.
 pub(crate) fn take_packet<S: Source>(
     alloc: Global,

@@ -5,7 +5,7 @@ ghost use Rattle.packet_reader.specs.declared.reader.PacketRefusal.TheVariants a
 ghost use Rattle.packet_reader.specs.declared.reader.Stage.TheVariants.{Header};
 ghost use Rattle.packet_reader.specs.TakenPackets.{ahead, begun_at, begun_of, source_of, stage_of, rate_told, CountsNext, GivesNext, IsAgain, IsReady, IsReadyAt, TellsRate, stage_after};
 
-use crate::packets::{take_first, take_packet};
+use crate::packets::{is_packet_whole, take_first, take_packet};
 use edge_io::{ReadError, Source};
 use std::alloc::Global;
 use thiserror::Error;
@@ -152,6 +152,14 @@ impl<S: Source> PacketReader<S> {
         };
         self.stage = stage_after(&answer);
         answer
+    }
+
+    /// Whether the next packet is here already, so that taking it waits for nothing.
+    pub fn is_next_at_hand(&self) -> bool {
+        match self.stage {
+            Stage::Packet => is_packet_whole(self.source.at_hand()),
+            Stage::Header | Stage::Ended(_) => false,
+        }
     }
 }
 

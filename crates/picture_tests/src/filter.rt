@@ -14,7 +14,7 @@ ghost use Rattle.loop_filter.specs.Code.{AllFit, IsWholeGrid};
 mod rows;
 
 use block_plan::{
-    BlockGrid, BlockInfo, InterPrediction, IntraPrediction, Mv, Prediction, References,
+    BlockGrid, BlockInfo, InterPrediction, IntraPrediction, Mv, Prediction, ReferenceFrames,
 };
 use frame_headers::{Features, LoopDeltas, LoopFilter, SegmentFeatures, Segmentation};
 use loop_edges::EdgeSetting;
@@ -156,7 +156,7 @@ fn prediction_of(kind: u8, mode: u8) -> Prediction {
     };
     Prediction::Inter(InterPrediction {
         modes: [InterMode::Near, InterMode::Zero, InterMode::New, last],
-        references: References {
+        references: ReferenceFrames {
             first,
             second: None,
         },

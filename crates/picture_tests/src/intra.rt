@@ -3,7 +3,8 @@
 ghost use Rattle.std.specs.Prelude.{◌≡◌, ℕ, pos, ◌*◌, ◌^◌, ◌<◌, ◌≤◌, length, slice_index, slice_index_or, unsigned_abs};
 ghost use Rattle.vp9_types.specs.Maps.{IsAtMost};
 ghost use Rattle.planes.specs.Planes.{plane_map, whole_area};
-ghost use Rattle.intra_predict.specs.BlockEdges.{samples_of, IsUpTo};
+ghost use Rattle.intra_predict.specs.Laws.{IsUpTo};
+ghost use Rattle.intra_predict.specs.Code.{samples_of};
 
 mod drawn_rows;
 mod extreme_rows;
@@ -12,8 +13,8 @@ mod rows;
 use drawn_rows::DRAWN;
 use extreme_rows::EXTREME;
 use intra_predict::{
-    CodedBlock, Edges, IntraBlock, Place, Scratch, place_of, predict, put_predicted, put_rebuilt,
-    read_edges, side_of,
+    CodedBlock, Edges, IntraBlock, IntraPlace, Scratch, place_of, predict, put_predicted,
+    put_rebuilt, read_edges, side_of,
 };
 use planes::{Area, SamplePlane};
 use rows::{STEPS, Step, Summed, WHOLE};
@@ -123,7 +124,7 @@ fn take_step(plane: &mut SamplePlane<u16>, step: &Step, scratch: &mut Scratch)
     ensures whole { plane.new.area ≡ whole_area HEIGHT WIDTH }
     ensures small { IsAtMost 1023 (plane_map plane.new) }
 {
-    let place = Place {
+    let place = IntraPlace {
         row: step.row,
         column: step.column,
         tile_from: step.tile_from,

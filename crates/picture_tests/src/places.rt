@@ -7,7 +7,7 @@ ghost use Rattle.inter_places.specs.Scaling.{IsInScale};
 
 mod rows;
 
-use block_plan::{BlockInfo, InterPrediction, IntraPrediction, Mv, Prediction, References};
+use block_plan::{BlockInfo, InterPrediction, IntraPrediction, Mv, Prediction, ReferenceFrames};
 use inter_places::{Axis, BlockPart, part_count, place};
 use rows::{Line, PLACES, PlaceRow};
 use test_draws::Draws;
@@ -57,7 +57,7 @@ fn vectors_of(seed: u32, most: u32) -> [[Mv; 2]; 4]
 fn inter_of(vectors: [[Mv; 2]; 4]) -> InterPrediction {
     InterPrediction {
         modes: [InterMode::Zero; 4],
-        references: References {
+        references: ReferenceFrames {
             first: ReferenceFrame::Last,
             second: None,
         },

@@ -6,7 +6,7 @@ use crate::packets::STREAM;
 use crate::readers::Pieces;
 use edge_io::{Failed, MemSource, Source};
 use file_frames::{FrameCursor, rate_of_file};
-use frame_groups::{Behind, FrameGroup, GroupReader, Opened, open};
+use frame_groups::{Behind, FrameGroup, GroupReader, GroupSize, Opened, open};
 use std::alloc::{AllocError, Global};
 use std::test::Fail;
 use vp9_types::Rule;
@@ -52,7 +52,7 @@ fn groups<S: Source + Drop>(
     let mut reader = reader;
     let mut cursor = FrameCursor::new(bytes);
     'groups: for number in 1..20 {
-        let group = reader.next_group(least);
+        let group = reader.next_group(GroupSize { least, most: least });
         if !are_next(alloc, &group, &mut cursor)? || reader.rate() != rate_of_file(bytes) {
             return Err(Fail::new(format_args!("at group {number}")));
         }
@@ -121,7 +121,10 @@ fn failing_calls(rt: HostRuntime) -> Result<(), Fail> {
     for call in 1..14u64 {
         let source = MemSource::new(rt.alloc(), STREAM, &[call])?;
         let mut reader = GroupReader::new(rt.alloc(), source);
-        let group = reader.next_group(100);
+        let group = reader.next_group(GroupSize {
+            least: 100,
+            most: 100,
+        });
         assert_eq!(rt; group.behind, Behind::Failed);
         let frames = group.frames(rt.alloc())?;
         assert_eq!(rt;

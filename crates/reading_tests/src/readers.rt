@@ -39,6 +39,10 @@ impl Source for Pieces {
         let n = self.size.min(buf.len());
         self.source.fill(&mut buf[..n])
     }
+
+    fn at_hand(&self) -> &[u8] {
+        &[]
+    }
 }
 
 #[test]

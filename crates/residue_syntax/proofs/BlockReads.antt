@@ -19,7 +19,7 @@ use Rattle.counting_reader.proofs.CountingRuns.{counting_bind, run_settle}
 use Rattle.frame_headers.specs.declared.header.Header.{Header}
 use Rattle.prob_contexts.specs.ProbLists.{ContextLists}
 use Rattle.residue_syntax.specs.Code.{IsBeside, FitPlane, GivesPlane}
-use Rattle.residue_syntax.specs.Residues.{ReadPlane, read_next, read_skipped, read_in_plane, read_plane, read_block, listed, is_coded}
+use Rattle.residue_syntax.specs.Residues.{ReadPlane, read_next, read_skipped, read_in_plane, read_plane, block_residue, listed, is_coded}
 use Rattle.residue_syntax.specs.Sides.{Sides}
 use Rattle.residue_syntax.specs.declared.in_plane.BlockInPlane.{BlockInPlane}
 use Rattle.residue_syntax.specs.declared.sides.TileSides.{TileSides}
@@ -73,20 +73,20 @@ plane_coded contexts skip b places s t residues old new result codes gives = rw 
 ---- A block ----
 
 pub first_broken : (header : Header) (contexts : ContextLists) (tile_from : ℕ) (b : BlockInfo) (s : TileSides) (m : Standing) (rule : Rule)
-    → run_counting (read_plane header contexts b Y s.y) m ≡ Err rule → run_counting (read_block header contexts tile_from b s) m ≡ Err rule
-unfolding read_block
+    → run_counting (read_plane header contexts b Y s.y) m ≡ Err rule → run_counting (block_residue header contexts tile_from b s) m ≡ Err rule
+unfolding block_residue
 first_broken header contexts tile_from b s m rule y = counting_bind _ _ _ ∙ rw y refl
 
 pub second_broken : (header : Header) (contexts : ContextLists) (tile_from : ℕ) (b : BlockInfo) (s : TileSides) (m n : Standing) (rule : Rule) (p : ReadPlane)
     → run_counting (read_plane header contexts b Y s.y) m ≡ Ok (p, n) → run_counting (read_plane header contexts b U s.u) n ≡ Err rule
-    → run_counting (read_block header contexts tile_from b s) m ≡ Err rule
-unfolding read_block
+    → run_counting (block_residue header contexts tile_from b s) m ≡ Err rule
+unfolding block_residue
 second_broken header contexts tile_from b s m n rule p y u = counting_bind _ _ _ ∙ rw y (counting_bind _ _ _ ∙ rw u refl)
 
 pub third_broken : (header : Header) (contexts : ContextLists) (tile_from : ℕ) (b : BlockInfo) (s : TileSides) (m n o : Standing) (rule : Rule) (p q : ReadPlane)
     → run_counting (read_plane header contexts b Y s.y) m ≡ Ok (p, n) → run_counting (read_plane header contexts b U s.u) n ≡ Ok (q, o)
-    → run_counting (read_plane header contexts b V s.v) o ≡ Err rule → run_counting (read_block header contexts tile_from b s) m ≡ Err rule
-unfolding read_block
+    → run_counting (read_plane header contexts b V s.v) o ≡ Err rule → run_counting (block_residue header contexts tile_from b s) m ≡ Err rule
+unfolding block_residue
 third_broken header contexts tile_from b s m n o rule p q y u v = counting_bind _ _ _ ∙ rw y (counting_bind _ _ _ ∙ rw u (counting_bind _ _ _ ∙ rw v refl))
 
 pub all_read : (header : Header) (contexts : ContextLists) (tile_from : ℕ) (b info : BlockInfo) (s : TileSides) (m n o end : Standing) (p q r : ReadPlane) (luma first second : Bool)
@@ -94,9 +94,9 @@ pub all_read : (header : Header) (contexts : ContextLists) (tile_from : ℕ) (b 
     → run_counting (read_plane header contexts b V s.v) o ≡ Ok (r, end)
     → luma ≡ list_any is_coded p.residues → first ≡ list_any is_coded q.residues → second ≡ list_any is_coded r.residues
     → info ≡ listed b (luma || first || second)
-    → run_counting (read_block header contexts tile_from b s) m
+    → run_counting (block_residue header contexts tile_from b s) m
     ≡ Ok ((record { info = info; tile_from = tile_from; y = p.residues; u = q.residues; v = r.residues }, record { y = p.sides; u = q.sides; v = r.sides }), end)
-unfolding read_block
+unfolding block_residue
 all_read header contexts tile_from b info s m n o end p q r luma first second y u v a d e is =
     counting_bind _ _ _ ∙ rw y (counting_bind _ _ _ ∙ rw u (counting_bind _ _ _ ∙ rw v (run_settle _ end
     ∙ rw (is, a, d, e) refl)))

@@ -9,6 +9,7 @@ use Rattle.vp9_types.specs.declared.block.TxType.TheVariants.{DctDct}
 use Rattle.vp9_types.specs.declared.shape.Plane.{Plane}
 use Rattle.vp9_tables.specs.BlockTables.{tx_type_of}
 use Rattle.block_geometry.specs.declared.transform_blocks.PlaneBlock.{PlaneBlock}
+use Rattle.block_plan.specs.Blocks.{is_inter}
 use Rattle.block_plan.specs.InPlanes.{plane_block, quarter_at, tx_in}
 use Rattle.block_plan.specs.declared.block.BlockInfo.{BlockInfo}
 use Rattle.block_plan.specs.declared.block.Prediction.{Prediction}
@@ -29,10 +30,6 @@ goes_by_mode lossless p _ = not (is_chroma p || lossless)
 abbrev pub types_by : Bool → Plane → TxSize → Prediction → List TxType
 types_by lossless p tx (Intra modes) = if goes_by_mode lossless p tx then map tx_type_of modes.luma else replicate 4 DctDct
 types_by lossless p tx (Inter modes) = replicate 4 DctDct
-
-abbrev pub is_inter : Prediction → Bool
-is_inter (Intra modes) = false
-is_inter (Inter modes) = true
 
 abbrev pub block_in : Header → BlockInfo → Plane → BlockInPlane
 block_in header b p = record {

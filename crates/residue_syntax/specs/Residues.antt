@@ -20,10 +20,11 @@ use Rattle.counting_reader.specs.Counting.{Settled, settle, lifted, through, ◌
 use Rattle.coef_tokens.specs.TokenKinds.{block_tables}
 use Rattle.coef_tokens.specs.Flags.{sides_set, marked, flags_of}
 use Rattle.coef_tokens.specs.Places.{Read, block_tokens, level_at}
+use Rattle.block_plan.specs.Blocks.{is_inter}
 use Rattle.frame_headers.specs.HeaderState.{shape_of}
 use Rattle.frame_headers.specs.declared.header.Header.{Header}
 use Rattle.residue_transforms.specs.Residue.{residue}
-use Rattle.residue_syntax.specs.BlocksInPlanes.{block_in, flag_row, flag_column, is_inter, token_kind, type_at}
+use Rattle.residue_syntax.specs.BlocksInPlanes.{block_in, flag_row, flag_column, token_kind, type_at}
 use Rattle.residue_syntax.specs.Sides.{Sides}
 use Rattle.residue_syntax.specs.declared.in_plane.BlockInPlane.{BlockInPlane}
 use Rattle.residue_syntax.specs.declared.sides.TileSides.{TileSides}
@@ -111,8 +112,8 @@ planned tile_from b y u v = record {
 }
 
 -- a block whose modes are known, in a tile whose columns begin at `tile_from`: plane after plane
-unfoldable pub read_block : Header → ContextLists → ℕ → BlockInfo → TileSides → Syntax ℕ Rule (Settled (PlannedBlock × TileSides))
-read_block header contexts tile_from b s = do
+unfoldable pub block_residue : Header → ContextLists → ℕ → BlockInfo → TileSides → Syntax ℕ Rule (Settled (PlannedBlock × TileSides))
+block_residue header contexts tile_from b s = do
   y ← read_plane header contexts b Y s.y
   u ← read_plane header contexts b U s.u
   v ← read_plane header contexts b V s.v

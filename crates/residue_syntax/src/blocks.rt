@@ -4,7 +4,7 @@ ghost use Rattle.std.specs.Prelude.{◌≡◌, ◌<◌, ◌≤◌, ℕ, Bool, If
 ghost use Rattle.frame_headers.specs.HeaderState.{shape_of};
 ghost use Rattle.prob_contexts.specs.ProbLists.{lists_of};
 ghost use Rattle.vp9_types.specs.declared.shape.Plane.TheVariants as plane;
-ghost use Rattle.residue_syntax.specs.Residues.{read_plane, read_block, listed};
+ghost use Rattle.residue_syntax.specs.Residues.{read_plane, block_residue, listed};
 ghost use Rattle.residue_syntax.specs.Code.{FitPlane, FitPlanes, IsInFrame, GivesPlane, GivesBlock};
 ghost use Rattle.block_plan.specs.Code.{AreSmall, HoldsSmall, held_in, planned_with};
 
@@ -56,7 +56,7 @@ pub fn listed(block: &BlockInfo, any: bool) -> BlockInfo
 
 /// Reads the residue of a block whose modes are known, and answers the block as it is listed: an inter block of 8x8 or more
 /// without any coefficient counts as skipped from then on.
-pub fn read_block<const COUNTS: bool>(
+pub fn block_residue<const COUNTS: bool>(
     reader: &mut CountingReader<COUNTS>,
     setting: &FrameSetting,
     block: &BlockInfo,
@@ -65,7 +65,7 @@ pub fn read_block<const COUNTS: bool>(
 ) -> Result<BlockInfo, Rule>
     requires inside { IsInFrame (shape_of setting.now.header) block.now }
     requires fit { FitPlanes (shape_of setting.now.header) sides.old }
-    ensures gives { (tile_from : ℕ) → GivesBlock (read_block setting.now.header (lists_of setting.now.contexts) tile_from block.now sides.old) reader.old
+    ensures gives { (tile_from : ℕ) → GivesBlock (block_residue setting.now.header (lists_of setting.now.contexts) tile_from block.now sides.old) reader.old
         result (λ info. planned_with (shape_of setting.now.header) tile_from block.now info residues.new) sides.new reader.new }
     ensures fit { FitPlanes (shape_of setting.now.header) sides.new }
     ensures listed { IfOk result (λ info. (any : Bool) × (info ≡ listed block.now any)) }

@@ -4,7 +4,7 @@ ghost use Rattle.std.specs.Prelude.{◌≡◌, ◌≤◌, ◌<◌};
 ghost use Rattle.frame_headers.specs.HeaderState.{shape_of};
 ghost use Rattle.vp9_tables.specs.BlockTables.{greatest_of};
 ghost use Rattle.vp9_tables.specs.Numbers.{tx_number};
-ghost use Rattle.residue_syntax.specs.BlocksInPlanes.{block_in, token_kind, type_at, types_by, is_inter, goes_by_mode, flag_row, flag_column};
+ghost use Rattle.residue_syntax.specs.BlocksInPlanes.{block_in, token_kind, type_at, types_by, goes_by_mode, flag_row, flag_column};
 
 use crate::quantisers::quant_of;
 use block_geometry::{PlaneBlock, is_below_8x8};

@@ -8,6 +8,6 @@ mod quantisers;
 mod sides;
 mod transform_blocks;
 
-pub use blocks::{listed, read_block};
+pub use blocks::{block_residue, listed};
 pub use in_plane::BlockInPlane;
 pub use sides::{Sides, TileSides};

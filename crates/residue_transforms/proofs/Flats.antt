@@ -24,7 +24,7 @@ use Rattle.inverse_transforms.specs.Transforms.{dct}
 use Rattle.inverse_transforms.proofs.Zeros.{at_zeros}
 use Rattle.residue_transforms.specs.declared.quant.Quant.{Quant}
 use Rattle.residue_transforms.specs.declared.kind.Kind.TheVariants.{Cosines}
-use Rattle.residue_transforms.specs.SquareBlocks.{row, col, turned}
+use Rattle.residue_transforms.specs.SquareBlocks.{row, col, each_row_turned}
 use Rattle.residue_transforms.specs.Residue.{quantiser, scaled, coefficient, coefficients, transform, round, rounded_by, rounded_transform, rounding_bits, log2_of, reconstructed, residue}
 use Rattle.residue_transforms.specs.First.{rooted, IsFirstAlone, AreCosines, flat_value, Flattens}
 use Rattle.residue_transforms.proofs.Coefs.{misfit_at, at_coefficients}
@@ -116,7 +116,7 @@ unfolding transform
 transform_root limit log2 n x roots some h = roots x some h
 
 rows_turned : (limit log2 n : ℕ) (xs : List ℤ) → MakesRoots limit log2 n → 0 < limit → 0 < n → length xs ≡ n * n → IsFirstAlone xs →
-    fits limit (at xs 0) ≡ true → turned (transform Cosines limit log2) n xs ≡ Ok (middle n (at xs 0))
+    fits limit (at xs 0) ≡ true → each_row_turned (transform Cosines limit log2) n xs ≡ Ok (middle n (at xs 0))
 rows_turned limit log2 n xs roots some some_rows size alone h =
     turned_ok (transform Cosines limit log2) n xs (middle n (at xs 0)) (middle_size n (at xs 0))
     (λ j low. let v = lone (at xs 0) j in
@@ -133,7 +133,7 @@ all_rounded bits zero x = refl
 all_rounded bits (suc n) x = ap (λ zs. round bits x ∷ zs) (all_rounded bits n x)
 
 columns_turned : (limit log2 n bits : ℕ) (x : ℤ) → MakesRoots limit log2 n → 0 < limit → fits limit x ≡ true →
-    turned (rounded_transform Cosines limit log2 bits) n (middle n x) ≡ Ok (replicate (n * n) (round bits (rooted (rooted x))))
+    each_row_turned (rounded_transform Cosines limit log2 bits) n (middle n x) ≡ Ok (replicate (n * n) (round bits (rooted (rooted x))))
 columns_turned limit log2 n bits x roots some h =
     let v = rooted x in
     let w = round bits (rooted v) in
@@ -152,14 +152,14 @@ columns_turned limit log2 n bits x roots some h =
 
 both_turned : (limit log2 n bits : ℕ) (xs : List ℤ) → MakesRoots limit log2 n → 0 < limit → 0 < n → length xs ≡ n * n → IsFirstAlone xs →
     fits limit (at xs 0) ≡ true →
-    and_then (turned (transform Cosines limit log2) n xs) (turned (rounded_transform Cosines limit log2 bits) n)
+    and_then (each_row_turned (transform Cosines limit log2) n xs) (each_row_turned (rounded_transform Cosines limit log2 bits) n)
     ≡ Ok (replicate (n * n) (round bits (rooted (rooted (at xs 0)))))
 both_turned limit log2 n bits xs roots some some_rows size alone h =
-    ap (λ r. and_then r (turned (rounded_transform Cosines limit log2 bits) n)) (rows_turned limit log2 n xs roots some some_rows size alone h)
+    ap (λ r. and_then r (each_row_turned (rounded_transform Cosines limit log2 bits) n)) (rows_turned limit log2 n xs roots some some_rows size alone h)
     ∙ columns_turned limit log2 n bits (at xs 0) roots some h
 
 by_size : (limit : ℕ) (tx : TxSize) (bits : ℕ) (xs : List ℤ) → 0 < limit → length xs ≡ side tx * side tx → IsFirstAlone xs → fits limit (at xs 0) ≡ true →
-    and_then (turned (transform Cosines limit (log2_of tx)) (side tx) xs) (turned (rounded_transform Cosines limit (log2_of tx) bits) (side tx))
+    and_then (each_row_turned (transform Cosines limit (log2_of tx)) (side tx) xs) (each_row_turned (rounded_transform Cosines limit (log2_of tx) bits) (side tx))
     ≡ Ok (replicate (side tx * side tx) (round bits (rooted (rooted (at xs 0)))))
 by_size limit T4x4 bits xs some size alone h = both_turned limit 2 4 bits xs (root_of_4 limit) some (omega arith) size alone h
 by_size limit T8x8 bits xs some size alone h = both_turned limit 3 8 bits xs (root_of_8 limit) some (omega arith) size alone h

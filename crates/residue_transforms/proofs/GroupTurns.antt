@@ -9,7 +9,7 @@ use Rattle.inverse_transforms.specs.Ranges.{limit_of}
 use Rattle.inverse_transforms.specs.Flow.{Gives, zeros}
 use Rattle.inverse_transforms.specs.LaneColumns.{column}
 use Rattle.residue_transforms.specs.declared.kind.Kind.{Kind}
-use Rattle.residue_transforms.specs.SquareBlocks.{row, col, turned, GroupDone, TurnsGroup}
+use Rattle.residue_transforms.specs.SquareBlocks.{row, col, each_row_turned, GroupDone, TurnsGroup}
 use Rattle.residue_transforms.specs.Residue.{transform, has_size, round, rounded_by, rounded_transform}
 use Rattle.residue_transforms.proofs.Skips.{skipped}
 use Rattle.residue_transforms.proofs.Turns.{turned_ok, turned_err}
@@ -73,7 +73,7 @@ pub record TurnSoFar (f : List ℤ → Result (List ℤ) Rule) (n : ℕ) (xs now
   pub done : (j : ℕ) → j < n → j < m → f (row n j xs) ≡ Ok (col n j now)
 
 pub turn_done : (f : List ℤ → Result (List ℤ) Rule) (n side m : ℕ) (xs now : List ℤ) → side ≡ n → side ≤ m → length now ≡ n * n →
-    TurnSoFar f side xs now m → turned f n xs ≡ Ok now
+    TurnSoFar f side xs now m → each_row_turned f n xs ≡ Ok now
 turn_done f n side m xs now is past size so_far =
     let s : TurnSoFar f n xs now m = subst (λ z. TurnSoFar f z xs now m) is so_far in
     turned_ok f n xs now size (λ j low. s.done j low (omega arith))
@@ -91,7 +91,7 @@ rounded_fault bits (Err fault) rule h = h
 
 pub turn_failed : (kind : Kind) (depth : Depth) (log2 bits n side : ℕ) (xs : List ℤ) (rule : Rule) → side ≡ n →
     (j : ℕ) × (j < side) × (rounded_transform kind (limit_of depth) log2 bits (row side j xs) ≡ Err rule) →
-    turned (rounded_transform kind (limit_of depth) log2 bits) n xs ≡ Err rule
+    each_row_turned (rounded_transform kind (limit_of depth) log2 bits) n xs ≡ Err rule
 turn_failed kind depth log2 bits n side xs rule is fails =
     let f = rounded_transform kind (limit_of depth) log2 bits in
     turned_err f n xs rule
@@ -101,7 +101,7 @@ turn_failed kind depth log2 bits n side xs rule is fails =
 -- one group that is the whole block
 pub group_turned : (kind : Kind) (depth : Depth) (log2 bits n m : ℕ) (xs old new : List ℤ) (r : Result (Unit {0}) Rule) → n ≡ m → length new ≡ n * n →
     TurnsGroup (rounded_transform kind (limit_of depth) log2 bits) n 0 n xs r old new →
-    Gives (turned (rounded_transform kind (limit_of depth) log2 bits) m xs) r new
+    Gives (each_row_turned (rounded_transform kind (limit_of depth) log2 bits) m xs) r new
 group_turned kind depth log2 bits n m xs old new (Ok _) is size group =
     turn_done (rounded_transform kind (limit_of depth) log2 bits) m n n xs new is (omega arith) (subst (λ z. length new ≡ z * z) is size)
     record { done = λ j low below. group.done j low (within_is 0 n j (omega arith) (omega arith)) }

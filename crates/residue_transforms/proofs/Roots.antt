@@ -13,8 +13,8 @@ use Rattle.vp9_tables.specs.TransformTables.{cosine_of, dct_of}
 use Rattle.inverse_transforms.specs.declared.values.Two.{Two}
 use Rattle.inverse_transforms.specs.Angles.{sine_of}
 use Rattle.inverse_transforms.specs.Ranges.{fits, round14}
-use Rattle.inverse_transforms.specs.Flow.{at, zeros, turned_x, turned_y, rotated, added, two_fit, store_two, step, run}
-use Rattle.inverse_transforms.specs.Transforms.{dct, size_of}
+use Rattle.inverse_transforms.specs.Flow.{at, zeros, turned_x, turned_y, rotated, sum_and_difference, two_fit, store_two, flow_step, run_flow}
+use Rattle.inverse_transforms.specs.Transforms.{dct, size_of_log2}
 use Rattle.residue_transforms.specs.First.{rooted}
 
 -- what stands at a place of this mark
@@ -97,8 +97,8 @@ stored_both limit x c ms a b m f =
     rw (twice_fits limit (meant x c m) (meant_fits limit x c m f))
     (ap Ok (ap (λ z. set z b (meant x c m)) (sym (map-set (meant x c) ms a m)) ∙ sym (map-set (meant x c) (set ms a m) b m)))
 
-added_none : (v : ℤ) → added v (pos 0) ≡ twice v
-unfolding added
+added_none : (v : ℤ) → sum_and_difference v (pos 0) ≡ twice v
+unfolding sum_and_difference
 added_none v = rw (+ℤ_idr v) refl
 
 turned_none : (k : ℕ) → rotated k (pos 0) (pos 0) ≡ twice (pos 0)
@@ -116,8 +116,8 @@ turned_marks x k (suc zero) h = ap (λ z. rotated z x (pos 0)) (eqb-true k 16 h)
 turned_marks x k (suc (suc m)) h = let no : ⊥ = cc in absurd no
 
 plain_step : (limit : ℕ) (x : ℤ) (row : FlowRow) (ms : List ℕ) → Fit limit x (rooted x) → is_plain row ms ≡ true →
-    step limit row (map (meant x (rooted x)) ms) ≡ Ok (map (meant x (rooted x)) (marked row ms))
-unfolding step
+    flow_step limit row (map (meant x (rooted x)) ms) ≡ Ok (map (meant x (rooted x)) (marked row ms))
+unfolding flow_step
 plain_step limit x (Perm order) ms f h =
     ap Ok (ap (λ n. map (λ i. at (map (meant x (rooted x)) ms) i) (take n order)) (length-map ms (meant x (rooted x)))
     ∙ all_meant x (rooted x) ms (take (length ms) order))
@@ -134,7 +134,7 @@ plain_step limit x (Neg a) ms f h = let no : ⊥ = cc in absurd no
 plain_step limit x (Wide a b k c d m) ms f h = let no : ⊥ = cc in absurd no
 
 plain_run : (limit : ℕ) (x : ℤ) (rows : List FlowRow) (ms : List ℕ) → Fit limit x (rooted x) → are_plain rows ms ≡ true →
-    run limit rows (map (meant x (rooted x)) ms) ≡ Ok (map (meant x (rooted x)) (marks rows ms))
+    run_flow limit rows (map (meant x (rooted x)) ms) ≡ Ok (map (meant x (rooted x)) (marks rows ms))
 plain_run limit x [] ms f h = refl
 plain_run limit x (row ∷ rows) ms f h =
     let parts = and_parts (is_plain row ms) (are_plain rows (marked row ms)) h in
@@ -172,16 +172,16 @@ spike n x = set (zeros n) 0 x
 
 pub root_of_4 : (limit : ℕ) (x : ℤ) → 0 < limit → fits limit x ≡ true → dct limit 2 (spike 4 x) ≡ Ok (replicate 4 (rooted x))
 unfolding dct
-root_of_4 limit x some h = plain_run limit x (dct_of (size_of 2)) (1 ∷ replicate 3 0) (all_fit limit x some h) refl
+root_of_4 limit x some h = plain_run limit x (dct_of (size_of_log2 2)) (1 ∷ replicate 3 0) (all_fit limit x some h) refl
 
 pub root_of_8 : (limit : ℕ) (x : ℤ) → 0 < limit → fits limit x ≡ true → dct limit 3 (spike 8 x) ≡ Ok (replicate 8 (rooted x))
 unfolding dct
-root_of_8 limit x some h = plain_run limit x (dct_of (size_of 3)) (1 ∷ replicate 7 0) (all_fit limit x some h) refl
+root_of_8 limit x some h = plain_run limit x (dct_of (size_of_log2 3)) (1 ∷ replicate 7 0) (all_fit limit x some h) refl
 
 pub root_of_16 : (limit : ℕ) (x : ℤ) → 0 < limit → fits limit x ≡ true → dct limit 4 (spike 16 x) ≡ Ok (replicate 16 (rooted x))
 unfolding dct
-root_of_16 limit x some h = plain_run limit x (dct_of (size_of 4)) (1 ∷ replicate 15 0) (all_fit limit x some h) refl
+root_of_16 limit x some h = plain_run limit x (dct_of (size_of_log2 4)) (1 ∷ replicate 15 0) (all_fit limit x some h) refl
 
 pub root_of_32 : (limit : ℕ) (x : ℤ) → 0 < limit → fits limit x ≡ true → dct limit 5 (spike 32 x) ≡ Ok (replicate 32 (rooted x))
 unfolding dct
-root_of_32 limit x some h = plain_run limit x (dct_of (size_of 5)) (1 ∷ replicate 31 0) (all_fit limit x some h) refl
+root_of_32 limit x some h = plain_run limit x (dct_of (size_of_log2 5)) (1 ∷ replicate 31 0) (all_fit limit x some h) refl

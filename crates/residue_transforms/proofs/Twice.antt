@@ -22,18 +22,18 @@ use Rattle.inverse_transforms.proofs.Small.{AtMost, at_small, fits_small, dct_sm
 use Rattle.residue_transforms.specs.declared.quant.Quant.{Quant}
 use Rattle.residue_transforms.specs.declared.kind.Kind.{Kind}
 use Rattle.residue_transforms.specs.declared.kind.Kind.TheVariants.{Cosines, Sines, LiftsOfRows, LiftsOfColumns}
-use Rattle.residue_transforms.specs.SquareBlocks.{row, rows, of_columns, before, each, block_of, turned}
+use Rattle.residue_transforms.specs.SquareBlocks.{row, rows, of_columns, before, each_row, block_of, each_row_turned}
 use Rattle.residue_transforms.specs.Residue.{transform, round, rounded_by, rounded_transform, kind_of_rows, kind_of_columns, rounding_bits, log2_of, reconstructed}
 
 abbrev Maps : Type 0
 Maps = List ℤ → Result (List ℤ) Rule
 
-each_same : (f g : Maps) (xs : List (List ℤ)) → ((x : List ℤ) → f x ≡ g x) → each f xs ≡ each g xs
+each_same : (f g : Maps) (xs : List (List ℤ)) → ((x : List ℤ) → f x ≡ g x) → each_row f xs ≡ each_row g xs
 each_same f g [] same = refl
-each_same f g (x ∷ xs) same = ap (λ r. before r (each f xs)) (same x) ∙ ap (before (g x)) (each_same f g xs same)
+each_same f g (x ∷ xs) same = ap (λ r. before r (each_row f xs)) (same x) ∙ ap (before (g x)) (each_same f g xs same)
 
-turned_same : (f g : Maps) (n : ℕ) (xs : List ℤ) → ((x : List ℤ) → f x ≡ g x) → turned f n xs ≡ turned g n xs
-unfolding turned
+turned_same : (f g : Maps) (n : ℕ) (xs : List ℤ) → ((x : List ℤ) → f x ≡ g x) → each_row_turned f n xs ≡ each_row_turned g n xs
+unfolding each_row_turned
 turned_same f g n xs same = ap (block_of n) (each_same f g (rows n xs) same)
 
 round_none : (x : ℤ) → round 0 x ≡ x
@@ -79,10 +79,10 @@ before_small m (Ok y) (Err rule) cs first others h = let no : ⊥ = cc in absurd
 before_small m (Err rule) rest cs first others h = let no : ⊥ = cc in absurd no
 
 each_small : (m n : ℕ) (f : Maps) (xs cs : List (List ℤ)) → ((x y : List ℤ) → All (AtMost m) x → f x ≡ Ok y → All (AtMost n) y) →
-    All (All (AtMost m)) xs → each f xs ≡ Ok cs → All (All (AtMost n)) cs
+    All (All (AtMost m)) xs → each_row f xs ≡ Ok cs → All (All (AtMost n)) cs
 each_small m n f [] cs keeps small h = let same : [] ≡ cs = cc in subst (All (All (AtMost n))) same (λ k d low. absurd (omega arith))
 each_small m n f (x ∷ xs) cs keeps small h =
-    before_small n (f x) (each f xs) cs (λ y is. keeps x y (small 0 [] (omega arith)) is)
+    before_small n (f x) (each_row f xs) cs (λ y is. keeps x y (small 0 [] (omega arith)) is)
     (λ ys is. each_small m n f xs ys keeps (λ k d low. small (suc k) d (omega arith)) is) h
 
 stored_row : (m : ℕ) (cs : List (List ℤ)) (place : ℕ) → All (All (AtMost m)) cs → All (AtMost m) (get_or cs place [])
@@ -102,10 +102,10 @@ block_small m n (Ok cs) ys small h = let same : of_columns n cs ≡ ys = cc in s
 block_small m n (Err rule) ys small h = let no : ⊥ = cc in absurd no
 
 turned_small : (m most : ℕ) (f : Maps) (n : ℕ) (xs ys : List ℤ) → ((x y : List ℤ) → All (AtMost m) x → f x ≡ Ok y → All (AtMost most) y) →
-    All (AtMost m) xs → turned f n xs ≡ Ok ys → All (AtMost most) ys
-unfolding turned
+    All (AtMost m) xs → each_row_turned f n xs ≡ Ok ys → All (AtMost most) ys
+unfolding each_row_turned
 turned_small m most f n xs ys keeps small h =
-    block_small most n (each f (rows n xs)) ys
+    block_small most n (each_row f (rows n xs)) ys
     (λ cs is. each_small m most f (rows n xs) cs keeps (All-map (All (AtMost m)) (λ i. row n i xs) (range_with_len 0 n) (λ k d low. one_row_small m n _ xs small)) is) h
 
 -- the coefficients of a block that fit are small
@@ -116,11 +116,11 @@ rounded_none : (kind : Kind) (limit log2 : ℕ) (xs : List ℤ) → rounded_tran
 rounded_none kind limit log2 xs = unrounded (transform kind limit log2 xs)
 
 pub first_turn : (kind : Kind) (limit log2 n : ℕ) (xs : List ℤ) →
-    turned (rounded_transform kind limit log2 0) n xs ≡ turned (transform kind limit log2) n xs
+    each_row_turned (rounded_transform kind limit log2 0) n xs ≡ each_row_turned (transform kind limit log2) n xs
 first_turn kind limit log2 n xs = turned_same (rounded_transform kind limit log2 0) (transform kind limit log2) n xs (rounded_none kind limit log2)
 
 pub first_turn_small : (m : ℕ) (kind : Kind) (depth : Depth) (log2 n : ℕ) (xs ys : List ℤ) → 2 ^ 19 ≤ m → All (AtMost m) xs →
-    turned (rounded_transform kind (limit_of depth) log2 0) n xs ≡ Ok ys → All (AtMost m) ys
+    each_row_turned (rounded_transform kind (limit_of depth) log2 0) n xs ≡ Ok ys → All (AtMost m) ys
 first_turn_small m kind depth log2 n xs ys most small h =
     turned_small m m (transform kind (limit_of depth) log2) n xs ys (λ x y x_small is. transform_small m kind depth log2 x y most x_small is) small (sym (first_turn kind (limit_of depth) log2 n xs) ∙ h)
 
@@ -131,10 +131,10 @@ abbrev of_cols : Quant → TxSize → TxType → Maps
 of_cols quant tx kind = rounded_transform (kind_of_columns quant.lossless tx kind) (limit_of quant.depth) (log2_of tx) (rounding_bits quant.lossless tx)
 
 as_turns : (quant : Quant) (tx : TxSize) (kind : TxType) (xs : List ℤ) →
-    reconstructed quant tx kind xs ≡ and_then (turned (of_rows quant tx kind) (side tx) xs) (turned (of_cols quant tx kind) (side tx))
+    reconstructed quant tx kind xs ≡ and_then (each_row_turned (of_rows quant tx kind) (side tx) xs) (each_row_turned (of_cols quant tx kind) (side tx))
 unfolding reconstructed
 as_turns quant tx kind xs =
-    ap (λ r. and_then r (turned (of_cols quant tx kind) (side tx)))
+    ap (λ r. and_then r (each_row_turned (of_cols quant tx kind) (side tx)))
     (sym (first_turn (kind_of_rows quant.lossless tx kind) (limit_of quant.depth) (log2_of tx) (side tx) xs))
 
 -- the passes of a block
@@ -147,35 +147,35 @@ pub record Passes (quant : Quant) (tx : TxSize) (kind : TxType) (rows_kind : Kin
 
 same_turn : (quant : Quant) (tx : TxSize) (kind : TxType) (k : Kind) (log2 bits : ℕ) (depth : Depth) (want : Kind) (wanted_bits : ℕ) (xs : List ℤ) →
     Passes quant tx kind k log2 bits depth want wanted_bits →
-    turned (rounded_transform k (limit_of depth) log2 bits) (2 ^ log2) xs
-    ≡ turned (rounded_transform want (limit_of quant.depth) (log2_of tx) wanted_bits) (side tx) xs
+    each_row_turned (rounded_transform k (limit_of depth) log2 bits) (2 ^ log2) xs
+    ≡ each_row_turned (rounded_transform want (limit_of quant.depth) (log2_of tx) wanted_bits) (side tx) xs
 same_turn quant tx kind k log2 bits depth want wanted_bits xs p =
-    ap (λ n. turned (rounded_transform k (limit_of depth) log2 bits) n xs) p.side_is
-    ∙ (ap (λ z. turned (rounded_transform z (limit_of depth) log2 bits) (side tx) xs) p.kind_is
-    ∙ (ap (λ z. turned (rounded_transform want (limit_of z) log2 bits) (side tx) xs) p.depth_is
-    ∙ (ap (λ z. turned (rounded_transform want (limit_of quant.depth) z bits) (side tx) xs) p.log2_is
-    ∙ ap (λ z. turned (rounded_transform want (limit_of quant.depth) (log2_of tx) z) (side tx) xs) p.bits_are)))
+    ap (λ n. each_row_turned (rounded_transform k (limit_of depth) log2 bits) n xs) p.side_is
+    ∙ (ap (λ z. each_row_turned (rounded_transform z (limit_of depth) log2 bits) (side tx) xs) p.kind_is
+    ∙ (ap (λ z. each_row_turned (rounded_transform want (limit_of z) log2 bits) (side tx) xs) p.depth_is
+    ∙ (ap (λ z. each_row_turned (rounded_transform want (limit_of quant.depth) z bits) (side tx) xs) p.log2_is
+    ∙ ap (λ z. each_row_turned (rounded_transform want (limit_of quant.depth) (log2_of tx) z) (side tx) xs) p.bits_are)))
 
 pub rows_failed : (quant : Quant) (tx : TxSize) (kind : TxType) (k : Kind) (log2 bits : ℕ) (depth : Depth) (xs : List ℤ) (rule : Rule) →
     Passes quant tx kind k log2 bits depth (kind_of_rows quant.lossless tx kind) 0 →
-    turned (rounded_transform k (limit_of depth) log2 bits) (2 ^ log2) xs ≡ Err rule → reconstructed quant tx kind xs ≡ Err rule
+    each_row_turned (rounded_transform k (limit_of depth) log2 bits) (2 ^ log2) xs ≡ Err rule → reconstructed quant tx kind xs ≡ Err rule
 rows_failed quant tx kind k log2 bits depth xs rule p h =
-    as_turns quant tx kind xs ∙ ap (λ r. and_then r (turned (of_cols quant tx kind) (side tx)))
+    as_turns quant tx kind xs ∙ ap (λ r. and_then r (each_row_turned (of_cols quant tx kind) (side tx)))
     (sym (same_turn quant tx kind k log2 bits depth (kind_of_rows quant.lossless tx kind) 0 xs p) ∙ h)
 
 pub columns_given : (quant : Quant) (tx : TxSize) (kind : TxType) (k m : Kind) (k_log2 m_log2 k_bits m_bits : ℕ) (k_depth m_depth : Depth)
     (xs ys new : List ℤ) (r : Result (Unit {0}) Rule) →
     Passes quant tx kind k k_log2 k_bits k_depth (kind_of_rows quant.lossless tx kind) 0 →
     Passes quant tx kind m m_log2 m_bits m_depth (kind_of_columns quant.lossless tx kind) (rounding_bits quant.lossless tx) →
-    turned (rounded_transform k (limit_of k_depth) k_log2 k_bits) (2 ^ k_log2) xs ≡ Ok ys →
-    Gives (turned (rounded_transform m (limit_of m_depth) m_log2 m_bits) (2 ^ m_log2) ys) r new →
+    each_row_turned (rounded_transform k (limit_of k_depth) k_log2 k_bits) (2 ^ k_log2) xs ≡ Ok ys →
+    Gives (each_row_turned (rounded_transform m (limit_of m_depth) m_log2 m_bits) (2 ^ m_log2) ys) r new →
     Gives (reconstructed quant tx kind xs) r new
 columns_given quant tx kind k m k_log2 m_log2 k_bits m_bits k_depth m_depth xs ys new r p q first second =
-    let rows_done : turned (of_rows quant tx kind) (side tx) xs ≡ Ok ys =
+    let rows_done : each_row_turned (of_rows quant tx kind) (side tx) xs ≡ Ok ys =
     sym (same_turn quant tx kind k k_log2 k_bits k_depth (kind_of_rows quant.lossless tx kind) 0 xs p) ∙ first in
-    let whole : turned (rounded_transform m (limit_of m_depth) m_log2 m_bits) (2 ^ m_log2) ys ≡ reconstructed quant tx kind xs =
+    let whole : each_row_turned (rounded_transform m (limit_of m_depth) m_log2 m_bits) (2 ^ m_log2) ys ≡ reconstructed quant tx kind xs =
     same_turn quant tx kind m m_log2 m_bits m_depth (kind_of_columns quant.lossless tx kind) (rounding_bits quant.lossless tx) ys q
-    ∙ sym (as_turns quant tx kind xs ∙ ap (λ z. and_then z (turned (of_cols quant tx kind) (side tx))) rows_done) in
+    ∙ sym (as_turns quant tx kind xs ∙ ap (λ z. and_then z (each_row_turned (of_cols quant tx kind) (side tx))) rows_done) in
     subst (λ z. Gives z r new) whole second
 
 -- the residue is small
@@ -224,8 +224,8 @@ of_coefficients quant tx kind xs ys small h =
     let columns_kind = kind_of_columns quant.lossless tx kind in
     let bits = rounding_bits quant.lossless tx in
     let few : bits ≤ 6 = some_bits quant.lossless tx in
-    after_rows (turned (transform rows_kind (limit_of quant.depth) (log2_of tx)) (side tx) xs)
-    (turned (rounded_transform columns_kind (limit_of quant.depth) (log2_of tx) bits) (side tx)) ys
+    after_rows (each_row_turned (transform rows_kind (limit_of quant.depth) (log2_of tx)) (side tx) xs)
+    (each_row_turned (rounded_transform columns_kind (limit_of quant.depth) (log2_of tx) bits) (side tx)) ys
     (λ zs is. turned_small (2 ^ 19) (2 ^ 19) (transform rows_kind (limit_of quant.depth) (log2_of tx)) (side tx) xs zs
     (λ x y x_small y_is. transform_small (2 ^ 19) rows_kind quant.depth (log2_of tx) x y (omega arith) x_small y_is) small is)
     (λ zs zs_small is. turned_small (2 ^ 19) (2 ^ 20) (rounded_transform columns_kind (limit_of quant.depth) (log2_of tx) bits) (side tx) zs ys

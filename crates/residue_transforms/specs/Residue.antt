@@ -15,7 +15,7 @@ use Rattle.inverse_transforms.specs.Transforms.{dct, adst, wht}
 use Rattle.residue_transforms.specs.declared.quant.Quant.{Quant}
 use Rattle.residue_transforms.specs.declared.kind.Kind.{Kind}
 use Rattle.residue_transforms.specs.declared.kind.Kind.TheVariants.{Cosines, Sines, LiftsOfRows, LiftsOfColumns}
-use Rattle.residue_transforms.specs.SquareBlocks.{turned}
+use Rattle.residue_transforms.specs.SquareBlocks.{each_row_turned}
 
 -- the first place of every scan is position 0
 abbrev pub quantiser : Quant → ℕ → ℕ
@@ -118,8 +118,8 @@ rounded_transform kind limit log2 bits xs = rounded_by bits (transform kind limi
 -- are columns again
 unfoldable pub reconstructed : Quant → TxSize → TxType → List ℤ → Result (List ℤ) Rule
 reconstructed quant tx kind xs =
-    and_then (turned (transform (kind_of_rows quant.lossless tx kind) (limit_of quant.depth) (log2_of tx)) (side tx) xs)
-    (turned (rounded_transform (kind_of_columns quant.lossless tx kind) (limit_of quant.depth) (log2_of tx) (rounding_bits quant.lossless tx)) (side tx))
+    and_then (each_row_turned (transform (kind_of_rows quant.lossless tx kind) (limit_of quant.depth) (log2_of tx)) (side tx) xs)
+    (each_row_turned (rounded_transform (kind_of_columns quant.lossless tx kind) (limit_of quant.depth) (log2_of tx) (rounding_bits quant.lossless tx)) (side tx))
 
 -- all values fit, or the first in scan order that doesn't gives rule 22, which is the same whichever it is
 unfoldable pub residue : Quant → TxSize → TxType → List ℤ → Result (List ℤ) Rule

@@ -24,17 +24,17 @@ before (Ok x) (Err rule) = Err rule
 before (Err rule) rest = Err rule
 
 -- what f makes of each list, or the first rule that it gives
-abbrev pub each : (List ℤ → Result (List ℤ) Rule) → List (List ℤ) → Result (List (List ℤ)) Rule
-each f [] = Ok []
-each f (x ∷ xs) = before (f x) (each f xs)
+abbrev pub each_row : (List ℤ → Result (List ℤ) Rule) → List (List ℤ) → Result (List (List ℤ)) Rule
+each_row f [] = Ok []
+each_row f (x ∷ xs) = before (f x) (each_row f xs)
 
 abbrev pub block_of : ℕ → Result (List (List ℤ)) Rule → Result (List ℤ) Rule
 block_of n (Ok cs) = Ok (of_columns n cs)
 block_of n (Err rule) = Err rule
 
 -- what f makes of each row becomes a column
-unfoldable pub turned : (List ℤ → Result (List ℤ) Rule) → ℕ → List ℤ → Result (List ℤ) Rule
-turned f n xs = block_of n (each f (rows n xs))
+unfoldable pub each_row_turned : (List ℤ → Result (List ℤ) Rule) → ℕ → List ℤ → Result (List ℤ) Rule
+each_row_turned f n xs = block_of n (each_row f (rows n xs))
 
 -- new is old, but for what f gives to the n places from `from` on
 abbrev pub HasPiece : ℕ → ℕ → (ℕ → ℤ) → List ℤ → List ℤ → Type 0

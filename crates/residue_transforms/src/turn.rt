@@ -3,7 +3,7 @@
 ghost use Rattle.std.specs.Prelude.{◌≡◌, ℕ, ◌+◌, ◌*◌, ◌/◌, ◌%◌, ◌^◌, ◌<◌, ◌≤◌, length, All, IsTrue};
 ghost use Rattle.inverse_transforms.specs.Flow.{Gives};
 ghost use Rattle.inverse_transforms.specs.Ranges.{IsSmall, limit_of};
-ghost use Rattle.residue_transforms.specs.SquareBlocks.{turned, AreTurned, TurnsGroup};
+ghost use Rattle.residue_transforms.specs.SquareBlocks.{each_row_turned, AreTurned, TurnsGroup};
 ghost use Rattle.residue_transforms.specs.Residue.{has_size, rounded_transform};
 
 use crate::cross::{load, load_four};
@@ -145,7 +145,7 @@ fn turn_large(from: &[i32], to: &mut [i32], pass: Pass) -> Result<(), Rule>
     requires to_size { length to.old ≡ 2 ^ pass.log2 * 2 ^ pass.log2 }
     requires bits { pass.bits ≤ 6 }
     requires values { All IsSmall from.now }
-    ensures { Gives (turned (rounded_transform pass.kind (limit_of pass.depth) pass.log2 pass.bits) (2 ^ pass.log2) from.now) result to.new }
+    ensures { Gives (each_row_turned (rounded_transform pass.kind (limit_of pass.depth) pass.log2 pass.bits) (2 ^ pass.log2) from.now) result to.new }
 {
     let n = large_side(pass.log2);
     for group in 0..n / 8 {
@@ -164,7 +164,7 @@ pub fn turn_rows(from: &[i32], to: &mut [i32], pass: Pass) -> Result<(), Rule>
     requires to_size { length to.old ≡ 2 ^ pass.log2 * 2 ^ pass.log2 }
     requires bits { pass.bits ≤ 6 }
     requires values { All IsSmall from.now }
-    ensures { Gives (turned (rounded_transform pass.kind (limit_of pass.depth) pass.log2 pass.bits) (2 ^ pass.log2) from.now) result to.new }
+    ensures { Gives (each_row_turned (rounded_transform pass.kind (limit_of pass.depth) pass.log2 pass.bits) (2 ^ pass.log2) from.now) result to.new }
 {
     match pass.log2 {
         2 => turn_four(from, to, pass),

@@ -8,7 +8,7 @@ use Rattle.vp9_types.specs.declared.shape.Depth.{Depth}
 use Rattle.vp9_types.specs.declared.shape.Depth.TheVariants.{Eight, Ten, Twelve}
 use Rattle.coef_tokens.specs.Places.{Tables}
 use Rattle.coef_tokens.proofs.Turns.{clear_at, kept}
-use Rattle.token_writer.specs.TokenFits.{CanPut, IsCoded, level_of}
+use Rattle.token_writer.specs.TokenFits.{CanPut, IsCoded, level_in}
 
 coded_below : (depth : Depth) (m : ℕ) → m < 16451 → IsCoded depth m
 coded_below Eight m h = omega arith
@@ -26,13 +26,13 @@ four P a b c d (suc (suc (suc zero))) low = d
 four P a b c d (suc (suc (suc (suc k)))) low = absurd (omega arith)
 
 others_of : (t : Tables) (z : ℤ) (count : ℕ) → slice_index t.scan 0 ≡ 0 → IsCountOf count z → (p : ℕ) → ((k : ℕ) → k < count → slice_index t.scan k ≢ p)
-    → level_of (z ∷ replicate 15 (pos 0)) p ≡ pos 0
+    → level_in (z ∷ replicate 15 (pos 0)) p ≡ pos 0
 others_of t z count start (inl none) zero far = none.1
 others_of t z count start (inr one) zero far = absurd (far 0 (omega (arith, one.0)) start)
 others_of t z count start is (suc p) far = clear_at 15 p
 
 last_of : (t : Tables) (z : ℤ) (count : ℕ) → slice_index t.scan 0 ≡ 0 → IsCountOf count z → 0 < count
-    → level_of (z ∷ replicate 15 (pos 0)) (slice_index t.scan (count - 1)) ≢ pos 0
+    → level_in (z ∷ replicate 15 (pos 0)) (slice_index t.scan (count - 1)) ≢ pos 0
 last_of t z count start (inl none) some = absurd (omega (arith, none.0))
 last_of t z count start (inr one) some = rw (one.0, start) one.1
 

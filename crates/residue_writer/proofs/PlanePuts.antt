@@ -9,7 +9,7 @@ use Rattle.vp9_types.specs.Results.{map_ok}
 use Rattle.vp9_types.specs.declared.rule.Rule.{Rule}
 use Rattle.vp9_tables.specs.Scans.{area}
 use Rattle.prob_contexts.specs.ProbLists.{ContextLists}
-use Rattle.bool_encoder.specs.Part.{Part}
+use Rattle.bool_encoder.specs.Part.{NumberPart}
 use Rattle.block_plan.specs.Planned.{Residue}
 use Rattle.block_plan.proofs.Held.{one_long}
 use Rattle.counting_reader.specs.Counting.{through}
@@ -18,7 +18,7 @@ use Rattle.bool_encoder.proofs.CountedPuts.{LeftOf, puts_on, puts_broken, puts_s
 use Rattle.residue_syntax.specs.Residues.{ReadPlane, read_residue, read_next, with_sides, is_coded}
 use Rattle.residue_syntax.specs.Sides.{Sides}
 use Rattle.residue_syntax.specs.declared.in_plane.BlockInPlane.{BlockInPlane}
-use Rattle.residue_writer.specs.SaidResidues.{levels_at, residue_said, residues_said, with_residue}
+use Rattle.residue_writer.specs.SaidResidues.{levels_at, residue_said, residues_said, with_read_residue}
 use Rattle.residue_writer.specs.Code.{TellsAny, TellsPlane}
 use Rattle.residue_writer.specs.declared.levels.PlaneLevels.{PlaneLevels}
 
@@ -29,17 +29,17 @@ abbrev pub said_at : BlockInPlane → PlaneLevels → ℕ × ℕ → ℕ → Res
 said_at b levels at k = residue_said b at.0 at.1 (slice_index levels.counts k) (levels_at levels (area b.block.tx) k)
 
 -- reading it is led to what is said of it
-abbrev pub PutsAt : ContextLists → BlockInPlane → PlaneLevels → ℕ × ℕ → ℕ → Sides → Part → Part → Type 0
+abbrev pub PutsAt : ContextLists → BlockInPlane → PlaneLevels → ℕ × ℕ → ℕ → Sides → NumberPart → NumberPart → Type 0
 PutsAt contexts b levels at k s now next =
     PutsTo (read_residue contexts b at.0 at.1 s) now (map_ok (λ r. (r, with_sides b.block at.0 at.1 (nat_lt 0 (slice_index levels.counts k)) s)) (said_at b levels at k)) next
 
-next_put : (contexts : ContextLists) (b : BlockInPlane) (levels : PlaneLevels) (at : ℕ × ℕ) (k : ℕ) (p : ReadPlane) (r : Residue) (now next : Part)
+next_put : (contexts : ContextLists) (b : BlockInPlane) (levels : PlaneLevels) (at : ℕ × ℕ) (k : ℕ) (p : ReadPlane) (r : Residue) (now next : NumberPart)
     → PutsAt contexts b levels at k p.sides now next → said_at b levels at k ≡ Ok r
-    → PutsTo (read_next contexts b at p) now (Ok (with_residue b at (slice_index levels.counts k) r p)) next
+    → PutsTo (read_next contexts b at p) now (Ok (with_read_residue b at (slice_index levels.counts k) r p)) next
 unfolding read_next
 next_put contexts b levels at k p r now next put said = puts_on _ _ now next next (r, _) _ (rw said at put) (puts_settle _ next)
 
-next_broken : (contexts : ContextLists) (b : BlockInPlane) (levels : PlaneLevels) (at : ℕ × ℕ) (k : ℕ) (p : ReadPlane) (rule : Rule) (now next : Part)
+next_broken : (contexts : ContextLists) (b : BlockInPlane) (levels : PlaneLevels) (at : ℕ × ℕ) (k : ℕ) (p : ReadPlane) (rule : Rule) (now next : NumberPart)
     → PutsAt contexts b levels at k p.sides now next → said_at b levels at k ≡ Err rule
     → PutsTo (read_next contexts b at p) now (Err rule) next
 unfolding read_next
@@ -48,7 +48,7 @@ next_broken contexts b levels at k p rule now next put said = puts_broken _ _ no
 said_more : (b : BlockInPlane) (levels : PlaneLevels) (places : List (ℕ × ℕ)) (k : ℕ) (p : ReadPlane) (r : Residue) → k < length places
     → said_at b levels (get_or places k (0, 0)) k ≡ Ok r
     → residues_said b levels (drop k places) k p
-    ≡ residues_said b levels (drop (k + 1) places) (k + 1) (with_residue b (get_or places k (0, 0)) (slice_index levels.counts k) r p)
+    ≡ residues_said b levels (drop (k + 1) places) (k + 1) (with_read_residue b (get_or places k (0, 0)) (slice_index levels.counts k) r p)
 unfolding residues_said
 said_more b levels places k p r low said = rw (drop_more places k (0, 0) low, said) refl
 
@@ -62,7 +62,7 @@ coded_one at None = refl
 coded_one at (Some values) = refl
 
 -- that the code holds its levels in a slice of its own
-pub put_at : (contexts : ContextLists) (b : BlockInPlane) (levels : PlaneLevels) (at : ℕ × ℕ) (k n y x : ℕ) (s : Sides) (now next : Part) → n ≡ area b.block.tx → at ≡ (y, x)
+pub put_at : (contexts : ContextLists) (b : BlockInPlane) (levels : PlaneLevels) (at : ℕ × ℕ) (k n y x : ℕ) (s : Sides) (now next : NumberPart) → n ≡ area b.block.tx → at ≡ (y, x)
     → PutsTo (read_residue contexts b y x s) now (map_ok (λ r. (r, with_sides b.block y x (nat_lt 0 (slice_index levels.counts k)) s))
     (residue_said b y x (slice_index levels.counts k) (take (k * n + n - k * n) (drop (k * n) levels.values)))) next
     → PutsAt contexts b levels at k s now next
@@ -79,16 +79,16 @@ abbrev from_sides : Sides → ReadPlane
 from_sides s = record { residues = []; sides = s }
 
 -- so many transform blocks were put, and the others complete the block
-abbrev pub Passes : ContextLists → BlockInPlane → PlaneLevels → List (ℕ × ℕ) → Sides → Part → ℕ → Sides → Bool → Part → Type 0
+abbrev pub Passes : ContextLists → BlockInPlane → PlaneLevels → List (ℕ × ℕ) → Sides → NumberPart → ℕ → Sides → Bool → NumberPart → Type 0
 Passes contexts b levels places s old k sides any now =
     (p : ReadPlane) × (p.sides ≡ sides) × (any ≡ list_any is_coded p.residues) × LeftOf (read_next contexts b) places (from_sides s) old k p now
     × (residues_said b levels places 0 (from_sides s) ≡ residues_said b levels (drop k places) k p)
 
-pub passes_none : (contexts : ContextLists) (b : BlockInPlane) (levels : PlaneLevels) (places : List (ℕ × ℕ)) (s : Sides) (old : Part)
+pub passes_none : (contexts : ContextLists) (b : BlockInPlane) (levels : PlaneLevels) (places : List (ℕ × ℕ)) (s : Sides) (old : NumberPart)
     → Passes contexts b levels places s old 0 s false old
 passes_none contexts b levels places s old = (from_sides s, refl, refl, through_begins (read_next contexts b) places (from_sides s) old, refl)
 
-pub passes_on : (contexts : ContextLists) (b : BlockInPlane) (levels : PlaneLevels) (places : List (ℕ × ℕ)) (s sides beyond : Sides) (old now next : Part) (k : ℕ) (any some : Bool)
+pub passes_on : (contexts : ContextLists) (b : BlockInPlane) (levels : PlaneLevels) (places : List (ℕ × ℕ)) (s sides beyond : Sides) (old now next : NumberPart) (k : ℕ) (any some : Bool)
     → k < length places → Passes contexts b levels places s old k sides any now
     → PutsAt contexts b levels (get_or places k (0, 0)) k sides now next → TellsAny (said_at b levels (get_or places k (0, 0)) k) (Ok some)
     → beyond ≡ with_sides b.block (get_or places k (0, 0)).0 (get_or places k (0, 0)).1 (nat_lt 0 (slice_index levels.counts k)) sides
@@ -98,7 +98,7 @@ passes_on contexts b levels places s sides beyond old now next k any some low st
     let at = get_or places k (0, 0) in
     let r = tells.0 in
     let here : PutsAt contexts b levels at k p.sides now next = rw st.1 put in (
-      with_residue b at (slice_index levels.counts k) r p,
+      with_read_residue b at (slice_index levels.counts k) r p,
       ap (λ (t : Sides). with_sides b.block at.0 at.1 (nat_lt 0 (slice_index levels.counts k)) t) st.1 ∙ sym marks,
       sym (list_any-append is_coded p.residues ((at, r) ∷ [])
           ∙ (ap (λ (w : Bool). list_any is_coded p.residues || w) (coded_one at r ∙ tells.2)
@@ -107,7 +107,7 @@ passes_on contexts b levels places s sides beyond old now next k any some low st
       st.4 ∙ said_more b levels places k p r low tells.1,
     )
 
-pub breaks_here : (contexts : ContextLists) (b : BlockInPlane) (levels : PlaneLevels) (places : List (ℕ × ℕ)) (s sides : Sides) (old now next : Part) (k : ℕ) (any : Bool) (rule : Rule)
+pub breaks_here : (contexts : ContextLists) (b : BlockInPlane) (levels : PlaneLevels) (places : List (ℕ × ℕ)) (s sides : Sides) (old now next : NumberPart) (k : ℕ) (any : Bool) (rule : Rule)
     → k < length places → Passes contexts b levels places s old k sides any now
     → PutsAt contexts b levels (get_or places k (0, 0)) k sides now next → said_at b levels (get_or places k (0, 0)) k ≡ Err rule
     → PutsTo (through (read_next contexts b) places (from_sides s)) old (residues_said b levels places 0 (from_sides s)) next
@@ -121,7 +121,7 @@ breaks_here contexts b levels places s sides old now next k any rule low st put 
       is,
     )
 
-pub ends_all : (contexts : ContextLists) (b : BlockInPlane) (levels : PlaneLevels) (places : List (ℕ × ℕ)) (s sides : Sides) (old now : Part) (k : ℕ) (any : Bool)
+pub ends_all : (contexts : ContextLists) (b : BlockInPlane) (levels : PlaneLevels) (places : List (ℕ × ℕ)) (s sides : Sides) (old now : NumberPart) (k : ℕ) (any : Bool)
     → length places ≤ k → Passes contexts b levels places s old k sides any now
     → PutsTo (through (read_next contexts b) places (from_sides s)) old (residues_said b levels places 0 (from_sides s)) now
     × TellsPlane (residues_said b levels places 0 (from_sides s)) (Ok any) sides

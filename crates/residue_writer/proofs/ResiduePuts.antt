@@ -6,7 +6,7 @@ use Rattle.vp9_types.specs.Results.{map_ok}
 use Rattle.vp9_types.specs.declared.rule.Rule.{Rule}
 use Rattle.vp9_tables.specs.Scans.{area}
 use Rattle.prob_contexts.specs.ProbLists.{ContextLists}
-use Rattle.bool_encoder.specs.Part.{Part}
+use Rattle.bool_encoder.specs.Part.{NumberPart}
 use Rattle.coef_tokens.specs.TokenKinds.{block_tables}
 use Rattle.coef_tokens.specs.Places.{Read}
 use Rattle.coef_tokens.specs.Code.{HoldsLevels}
@@ -48,12 +48,12 @@ said_is b y x count levels reads long holds = rw (levels_are b.block.tx levels r
 
 ---- What is put ----
 
-with_said : (r : Result Residue Rule) (sides : Sides) (now : Part)
+with_said : (r : Result Residue Rule) (sides : Sides) (now : NumberPart)
     → PutsTo {A = Residue × Sides} (in_order (lifted r) (λ residue. settle (residue, sides))) now (map_ok (λ residue. (residue, sides)) r) now
 with_said (Ok x) sides now = puts_on {B = Residue × Sides} (lifted (Ok x)) (λ residue. settle (residue, sides)) now now now x (Ok (x, sides)) (puts_lifted (Ok x) now) (puts_settle (x, sides) now)
 with_said (Err e) sides now = puts_broken {B = Residue × Sides} (lifted (Err e)) (λ residue. settle (residue, sides)) now now e (puts_lifted (Err e) now)
 
-pub residue_put : (contexts : ContextLists) (b : BlockInPlane) (y x count : ℕ) (levels : List ℤ) (s : Sides) (old new : Part) → length levels ≡ area b.block.tx
+pub residue_put : (contexts : ContextLists) (b : BlockInPlane) (y x count : ℕ) (levels : List ℤ) (s : Sides) (old new : NumberPart) → length levels ≡ area b.block.tx
     → PutsLevels (block_tables contexts (token_kind b y x)) (first_context b.block y x s) old levels count new
     → PutsTo (read_residue contexts b y x s) old (map_ok (λ r. (r, with_sides b.block y x (nat_lt 0 count) s)) (residue_said b y x count levels)) new
 unfolding read_residue

@@ -34,8 +34,8 @@ residue_said b y x count levels =
 ---- A block in a plane ----
 
 -- a transform block more, with its residue
-abbrev pub with_residue : BlockInPlane → ℕ × ℕ → ℕ → Residue → ReadPlane → ReadPlane
-with_residue b at count residue s = record {
+abbrev pub with_read_residue : BlockInPlane → ℕ × ℕ → ℕ → Residue → ReadPlane → ReadPlane
+with_read_residue b at count residue s = record {
   residues = s.residues ++ (at, residue) ∷ [];
   sides = with_sides b.block at.0 at.1 (nat_lt 0 count) s.sides;
 }
@@ -45,7 +45,7 @@ unfoldable pub residues_said : BlockInPlane → PlaneLevels → List (ℕ × ℕ
 residues_said b levels [] k s = Ok s
 residues_said b levels (at ∷ places) k s = do
   residue ← residue_said b at.0 at.1 (slice_index levels.counts k) (levels_at levels (area b.block.tx) k)
-  residues_said b levels places (k + 1) (with_residue b at (slice_index levels.counts k) residue s)
+  residues_said b levels places (k + 1) (with_read_residue b at (slice_index levels.counts k) residue s)
 
 -- a skipped block has no coefficients, whatever its levels
 unfoldable pub said_in_plane : Header → BlockInfo → Plane → PlaneLevels → Sides → Result ReadPlane Rule
@@ -56,8 +56,8 @@ said_in_plane header b p levels s =
 ---- A block ----
 
 -- the planned block, in a tile whose columns begin at `tile_from`, and the sides behind it
-unfoldable pub block_said : Header → ℕ → BlockInfo → BlockLevels → TileSides → Result (PlannedBlock × TileSides) Rule
-block_said header tile_from b levels s = do
+unfoldable pub block_residues_said : Header → ℕ → BlockInfo → BlockLevels → TileSides → Result (PlannedBlock × TileSides) Rule
+block_residues_said header tile_from b levels s = do
   y ← said_in_plane header b Y levels.y s.y
   u ← said_in_plane header b U levels.u s.u
   v ← said_in_plane header b V levels.v s.v

@@ -5,9 +5,9 @@ ghost use Rattle.frame_headers.specs.HeaderState.{shape_of};
 ghost use Rattle.prob_contexts.specs.ProbLists.{lists_of};
 ghost use Rattle.bool_lists.specs.BoolLists.{HasPut};
 ghost use Rattle.bool_encoder.specs.CountedBools.{PutsTo};
-ghost use Rattle.residue_syntax.specs.Residues.{read_plane, read_block};
+ghost use Rattle.residue_syntax.specs.Residues.{read_plane, block_residue};
 ghost use Rattle.residue_syntax.specs.Code.{FitPlane, FitPlanes, IsInFrame};
-ghost use Rattle.residue_writer.specs.SaidResidues.{said_in_plane, block_said};
+ghost use Rattle.residue_writer.specs.SaidResidues.{said_in_plane, block_residues_said};
 ghost use Rattle.residue_writer.specs.ResidueLists.{spelled_plane, spelled_residue};
 ghost use Rattle.residue_writer.specs.ResidueFits.{CanPutIn, CanPutBlock};
 ghost use Rattle.residue_writer.specs.Code.{TellsPlane, TellsBlock};
@@ -63,9 +63,9 @@ pub fn put_block(
     requires inside { IsInFrame (shape_of setting.now.header) block.now }
     requires fit { FitPlanes (shape_of setting.now.header) sides.old }
     requires can { CanPutBlock setting.now.header (lists_of setting.now.contexts) block.now levels.now }
-    ensures puts { IfOk result (λ _. (tile_from : ℕ) → PutsTo (read_block setting.now.header (lists_of setting.now.contexts) tile_from block.now sides.old) encoder.old
-        (block_said setting.now.header tile_from block.now levels.now sides.old) encoder.new) }
-    ensures tells { IfOk result (λ told. (tile_from : ℕ) → TellsBlock (block_said setting.now.header tile_from block.now levels.now sides.old) told sides.new) }
+    ensures puts { IfOk result (λ _. (tile_from : ℕ) → PutsTo (block_residue setting.now.header (lists_of setting.now.contexts) tile_from block.now sides.old) encoder.old
+        (block_residues_said setting.now.header tile_from block.now levels.now sides.old) encoder.new) }
+    ensures tells { IfOk result (λ told. (tile_from : ℕ) → TellsBlock (block_residues_said setting.now.header tile_from block.now levels.now sides.old) told sides.new) }
     ensures spells { IfOk result (λ told. IfOk told (λ _. HasPut encoder.old (spelled_residue setting.now.header (lists_of setting.now.contexts) block.now levels.now sides.old) encoder.new)) }
     ensures fit { FitPlanes (shape_of setting.now.header) sides.new }
 {

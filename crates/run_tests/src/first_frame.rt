@@ -66,6 +66,10 @@ impl Source for NotingSource<'_> {
         self.before = self.before.saturating_sub(n);
         Ok(n)
     }
+
+    fn at_hand(&self) -> &[u8] {
+        &[]
+    }
 }
 
 // The bytes of a file's header, of the header of a packet, and of a frame.

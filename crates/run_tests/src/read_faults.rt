@@ -121,6 +121,10 @@ impl Source for Pieces {
         let n = self.size.min(buf.len());
         self.source.fill(&mut buf[..n])
     }
+
+    fn at_hand(&self) -> &[u8] {
+        &[]
+    }
 }
 
 // Whether a row ends as it is to with these words, from a source that gives so many bytes at a call.

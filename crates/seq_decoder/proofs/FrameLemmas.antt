@@ -34,7 +34,7 @@ use Rattle.frame_state.specs.Sources.{adapts}
 use Rattle.frame_state.specs.declared.halt.Halt.{Halt}
 use Rattle.frame_state.specs.declared.halt.Halt.TheVariants as halt
 use Rattle.seq_decoder.specs.After.{Stepped, after_coded, picture_of, state_after}
-use Rattle.seq_decoder.specs.SavedContexts.{context_at, kind_of, own_contexts, place_of, saved_before, with_own, saved_after}
+use Rattle.seq_decoder.specs.SavedContexts.{context_at, adapt_kind, own_contexts, saved_place, saved_before, with_own, saved_after}
 use Rattle.seq_decoder.specs.Code.{StandsFor, shape_told, put_text, shown_of, told_picture, Adds, HasBegun, IsAt, IsCoded, MayDecode, Shows, Halts, Puts, halt_outcome, refusal_outcome}
 use Rattle.seq_decoder.specs.Outputs.{Putting, admits, form_after, put, shown_text}
 use Rattle.seq_decoder.specs.declared.form.OutputForm.{OutputForm}
@@ -141,14 +141,14 @@ sized_with p size h = h
 
 -- the saved contexts behind a frame
 pub contexts_after : (header : Header) (r : FrameResult) (after_key : Bool) (saved new found : List ContextLists) (own before : ContextLists) → new ≡ with_own header own found
-    → own ≡ own_contexts header after_key r before → before ≡ context_at found (place_of header) → found ≡ saved_before header saved → new ≡ saved_after header after_key r saved
+    → own ≡ own_contexts header after_key r before → before ≡ context_at found (saved_place header) → found ≡ saved_before header saved → new ≡ saved_after header after_key r saved
 unfolding saved_after
 contexts_after header r after_key saved new found own before is_new is_own is_before is_found =
-    is_new ∙ (λ i. with_own header (is_own i) (is_found i)) ∙ ap (λ b. with_own header (own_contexts header after_key r b) (saved_before header saved)) (is_before ∙ ap (λ f. context_at f (place_of header)) is_found)
+    is_new ∙ (λ i. with_own header (is_own i) (is_found i)) ∙ ap (λ b. with_own header (own_contexts header after_key r b) (saved_before header saved)) (is_before ∙ ap (λ f. context_at f (saved_place header)) is_found)
 
 -- a frame's own contexts, where its probabilities are adapted
 pub own_adapted : (header : Header) (after_key on : Bool) (r : FrameResult) (kind : AdaptKind) (counts : List ℕ) (own before forward : ContextLists)
-    → on ≡ adapts header → on ≡ true → kind ≡ kind_of header.kind after_key → forward ≡ r.contexts → counts ≡ counts_if (adapts header) r.counted
+    → on ≡ adapts header → on ≡ true → kind ≡ adapt_kind header.kind after_key → forward ≡ r.contexts → counts ≡ counts_if (adapts header) r.counted
     → ((bools : List CountedBool) → counts ≡ counts_after no_counts bools → own ≡ adaptation kind bools before forward)
     → own ≡ own_contexts header after_key r before
 own_adapted header after_key on r kind counts own before forward is yes_is kind_is forward_is counts_is adapted =

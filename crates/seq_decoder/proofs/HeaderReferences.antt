@@ -28,11 +28,11 @@ use Rattle.frame_headers.specs.declared.header.References.{References}
 use Rattle.frame_headers.specs.declared.header.Uncompressed.{Uncompressed}
 use Rattle.frame_headers.specs.declared.header.Uncompressed.TheVariants as uncompressed
 use Rattle.frame_headers.specs.declared.persist.Persist.{Persist}
-use Rattle.frame_headers.specs.Fields.{past, f, flag}
+use Rattle.frame_headers.specs.Fields.{past, f, flag_field}
 use Rattle.frame_headers.specs.Color.{color_config, intra_only_color}
 use Rattle.frame_headers.specs.FrameSizes.{frame_size, render_size}
 use Rattle.frame_headers.specs.Header.{frame_profile, frame_sync_code, frame_start, frame_contexts, frame_params, forgets, kept_deltas, kept_features, key_fields, intra_only_fields, other_fields, intra_and_reset, frame_fields, coded_frame, uncompressed_header, placed, placed_if_read, head_of}
-use Rattle.frame_headers.specs.References.{held_by, slot_shape, reference, references, same_bit, has_format, all_of, some_of, is_in_range, found_size, interpolation_filter, inter_fields}
+use Rattle.frame_headers.specs.References.{held_by, slot_shape, reference, references, same_bit, has_format, all_of, some_of, has_allowed_scale, found_size, interpolation_filter, inter_fields}
 
 -- what a slot holds, in the format of a frame's colour
 pub record HoldsReference (slots : List (Option Shape)) (color : ColorConfig) (r : Reference) : Type 0 where
@@ -118,7 +118,7 @@ unfolding reference
 reference_settles before resilient =
     settles_bind (slot_shape name.RefFrameIdx before rule.RefMissing) _ (λ h. slice_index_or before.slots h.0 None ≡ Some h.1) _
     (slot_settles name.RefFrameIdx before rule.RefMissing)
-    (λ h is. settles_then (flag name.RefFrameSignBias) _ _ (λ bias. is))
+    (λ h is. settles_then (flag_field name.RefFrameSignBias) _ _ (λ bias. is))
 
 references_settle : (before : Persist) (resilient : Bool) → Settles (references before resilient) (AreHeld before.slots)
 unfolding references
@@ -198,10 +198,10 @@ inter_settles before resilient reset =
     (λ refs are. settles_bind (check (all_of (has_format before.color) refs) rule.RefFormat) _ (λ u. all_of (has_format before.color) refs ≡ true) _
     (settles_check (all_of (has_format before.color) refs) rule.RefFormat)
     (λ u tested. settles_then (found_size refs) _ _
-    (λ size. settles_bind (check (some_of (is_in_range size) refs) rule.RefScale) _ (λ u. some_of (is_in_range size) refs ≡ true) _
-    (settles_check (some_of (is_in_range size) refs) rule.RefScale)
+    (λ size. settles_bind (check (some_of (has_allowed_scale size) refs) rule.RefScale) _ (λ u. some_of (has_allowed_scale size) refs ≡ true) _
+    (settles_check (some_of (has_allowed_scale size) refs) rule.RefScale)
     (λ v scaled. settles_then render_size _ _
-    (λ w. settles_then (flag name.AllowHighPrecisionMv) _ _
+    (λ w. settles_then (flag_field name.AllowHighPrecisionMv) _ _
     (λ precise. settles_then interpolation_filter _ _
     (λ filter. inter_holds before.slots before.color (record { references = refs; high_precision = precise; filter = filter })
     (all_formatted before.slots before.color refs are tested)))))))))
@@ -248,7 +248,7 @@ header_settles : (before : Persist) → Settles (uncompressed_header before) (Un
 unfolding uncompressed_header
 header_settles before =
     settles_then frame_profile _ _
-    (λ profile. settles_then (flag name.ShowExistingFrame) _ _
+    (λ profile. settles_then (flag_field name.ShowExistingFrame) _ _
     (λ existing. settles_if existing
     (slot_shape name.FrameToShowMapIdx before rule.ShowMissing >>= λ held. done (uncompressed.ShowExisting held.0))
     (coded_frame before profile >>= λ header. done (uncompressed.Coded header)) (UncompressedHolds before)

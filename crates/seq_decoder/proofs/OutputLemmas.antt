@@ -8,8 +8,8 @@ use Rattle.file_frames.specs.Walks.{Walked, adding, followed, walk_from}
 use Rattle.frame_output.specs.Formats.{output_text}
 use Rattle.frame_output.specs.declared.rendering.Format.{Format}
 use Rattle.seq_decoder.specs.After.{Stepped, step}
-use Rattle.seq_decoder.specs.Outputs.{Putting, fits, first_of, is_first, put, putting}
-use Rattle.seq_decoder.specs.Runs.{Run, added, decoding, shown_list, texts_of}
+use Rattle.seq_decoder.specs.Outputs.{Putting, fits_format, first_of, is_first, put, putting}
+use Rattle.seq_decoder.specs.Runs.{Run, added_picture, decoding, shown_list, texts_of}
 use Rattle.seq_decoder.specs.DecoderState.{Picture, State}
 use Rattle.seq_decoder.specs.declared.form.OutputForm.{OutputForm}
 
@@ -21,7 +21,7 @@ abbrev AreAlone : Format → Text → Type 0
 AreAlone format text = (rate : ℕ × ℕ) (first : Bool) (picture : Picture) → output_text format rate first picture.shape picture.map ≡ text picture
 
 abbrev AllFit : Format → Type 0
-AllFit format = (first : Option Shape) (shape : Shape) → fits format first shape ≡ true
+AllFit format = (first : Option Shape) (shape : Shape) → fits_format format first shape ≡ true
 
 module _ (format : Format) (text : Text) (alone : AreAlone format text) (all : AllFit format) (rate : ℕ × ℕ) where
   abbrev form : Option Shape → OutputForm
@@ -40,7 +40,7 @@ module _ (format : Format) (text : Text) (alone : AreAlone format text) (all : A
       ∙ ap (λ t. Ok (record { state = at state (Some (first_of first picture.shape)); adds = t })) (alone rate (is_first first) picture)
 
   one_more : (number : ℕ) (first : Option Shape) (r : Result Stepped Rule) (put_on : Putting → Walked ℕ Rule) (run_on : State → Run)
-      → Follows (λ state first. put_on (at state first)) run_on → followed number (put (form first) r) put_on ≡ texts_of text (followed number (added r) run_on)
+      → Follows (λ state first. put_on (at state first)) run_on → followed number (put (form first) r) put_on ≡ texts_of text (followed number (added_picture r) run_on)
   one_more number first (Err rule) put_on run_on h = refl
   one_more number first (Ok stepped) put_on run_on h = by_shown stepped.state stepped.shown
     where

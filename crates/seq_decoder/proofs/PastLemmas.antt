@@ -12,7 +12,7 @@ use Rattle.vp9_types.specs.declared.shape.Plane.{Plane}
 use Rattle.vp9_types.specs.declared.shape.Plane.TheVariants.{Y, U, V}
 use Rattle.vp9_types.specs.declared.shape.Shape.{Shape}
 use Rattle.frame_headers.specs.Header.{head_of}
-use Rattle.frame_headers.specs.References.{is_in_range}
+use Rattle.frame_headers.specs.References.{has_allowed_scale}
 use Rattle.frame_headers.specs.FrameSizes.{IsFrameSize}
 use Rattle.frame_headers.specs.HeaderState.{shape_of}
 use Rattle.frame_headers.specs.declared.header.FrameHead.TheVariants as head
@@ -110,7 +110,7 @@ plane_range f depth Y h same = rw (sym same) h.range.y
 plane_range f depth U h same = rw (sym same) h.range.u
 plane_range f depth V h same = rw (sym same) h.range.v
 
-pub is_reference : (header : Header) (r : Reference) (shape : Shape) → IsFrameSize header.size → shape.w ≤ 65536 → shape.h ≤ 65536 → shape ≡ r.shape → is_in_range header.size r ≡ true
+pub is_reference : (header : Header) (r : Reference) (shape : Shape) → IsFrameSize header.size → shape.w ≤ 65536 → shape.h ≤ 65536 → shape ≡ r.shape → has_allowed_scale header.size r ≡ true
     → IsReference (shape_of header) shape
 is_reference header r shape size wide high same range =
     let one = both_true _ _ range in
@@ -130,7 +130,7 @@ is_reference header r shape size wide high same range =
     }
 
 is_usable : {X : Type 0} (header : Header) (r : Reference) (x : code_picture.ReferencePicture (planes.Picture X)) → IsFrameSize header.size → IsWhole x.samples.now → x.shape ≡ x.samples.now.shape
-    → x.shape ≡ r.shape → x.shape.depth ≡ header.color.depth → is_in_range header.size r ≡ true → IsUsable has_row row_width map_of (shape_of header) x
+    → x.shape ≡ r.shape → x.shape.depth ≡ header.color.depth → has_allowed_scale header.size r ≡ true → IsUsable has_row row_width map_of (shape_of header) x
 is_usable header r x size sound own same depth range =
     let wide : x.shape.w ≤ 65536 = rw own sound.fits.wide in
     let high : x.shape.h ≤ 65536 = rw own sound.fits.high in record {
@@ -142,7 +142,7 @@ is_usable header r x size sound own same depth range =
 
 -- the one that stands for a name can be used, where its reference is in range
 usable : {X : Type 0} (header : Header) (slots : List (Option (Shape × FrameMap))) (r : Reference) (by : code.Rebuilding (planes.Picture X)) (reference : ReferenceFrame) (x : Option (code_picture.ReferencePicture (planes.Picture X)))
-    → reference_of by reference ≡ x → by.shape ≡ shape_of header → IsFrameSize header.size → IsHeld header slots r → is_in_range header.size r ≡ true
+    → reference_of by reference ≡ x → by.shape ≡ shape_of header → IsFrameSize header.size → IsHeld header slots r → has_allowed_scale header.size r ≡ true
     → told_of x ≡ slice_index_or slots r.slot None → IfSome x IsFrom → HasReference has_row row_width map_of by reference
 usable header slots r by reference None is shape size h range told from = let no : None ≡ Some h.told = told ∙ h.there in absurd cc
 usable header slots r by reference (Some x) is shape size h range told from =
@@ -195,7 +195,7 @@ pub has_pictures : {X : Type 0} (header : Header) (fields : InterFields) (slots 
 has_pictures header fields slots by kind shape size names h = λ others reference is range.
     let same = same_fields others fields (sym is ∙ kind) in
     usable header slots (reference_in fields.references reference) by reference (reference_of by reference) refl shape size (named_of header fields slots kind names reference)
-    (subst (λ (f : InterFields). is_in_range header.size (reference_in f.references reference) ≡ true) same range)
+    (subst (λ (f : InterFields). has_allowed_scale header.size (reference_in f.references reference) ≡ true) same range)
     (told_as slots fields by h reference) (from_as slots fields by h reference)
 
 picture_told : {X : Type 0} (x : Option (code_picture.ReferencePicture (planes.Picture X))) (y : Option Picture) → told_of x ≡ shown_of y → picture_of map_of x ≡ picture_in y

@@ -11,13 +11,13 @@ use Rattle.frame_headers.specs.declared.header.FrameHead.TheVariants as head
 use Rattle.frame_headers.specs.declared.header.Header.{Header}
 use Rattle.frame_decoder.specs.DecodedFrames.{FrameResult}
 use Rattle.seq_decoder.specs.After.{Stepped, after_coded, behind_head, decoded_in, state_after, picture_of, step}
-use Rattle.seq_decoder.specs.DecoderState.{State, start_state, persist_of, slot_shape}
+use Rattle.seq_decoder.specs.DecoderState.{State, start_state, persist_of, shape_in_slot}
 
 -- what headers read after a frame
 pub persist_after : (number : ℕ) (state : State) (header : Header) (r : FrameResult) → persist_of (state_after number state header r) ≡ next_persist header (persist_of state)
 persist_after number state header r =
     ap (λ slots. record { slots = slots; color = header.color; deltas = header.params.loop_filter.deltas; features = header.params.segmentation.features; size = Some header.size })
-    (refreshed_told slot_shape state.slots header.refresh (picture_of number header r) (shape_of header) refl)
+    (refreshed_told shape_in_slot state.slots header.refresh (picture_of number header r) (shape_of header) refl)
 
 the_ok : {a b : Stepped} → ◌≡◌ {A = Result Stepped Rule} (Ok a) (Ok b) → a ≡ b
 the_ok e = cc

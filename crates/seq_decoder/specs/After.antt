@@ -11,7 +11,7 @@ use Rattle.frame_headers.specs.declared.header.FrameKind.TheVariants.{Key, Intra
 use Rattle.frame_headers.specs.declared.header.FrameSize.{FrameSize}
 use Rattle.frame_headers.specs.declared.header.Header.{Header}
 use Rattle.frame_headers.specs.Header.{head_of}
-use Rattle.frame_headers.specs.HeaderState.{refreshed, shape_of}
+use Rattle.frame_headers.specs.HeaderState.{refreshed, shape_of, is_key}
 use Rattle.block_geometry.specs.FrameShapes.{places_of}
 use Rattle.block_plan.specs.declared.block.BlockInfo.{BlockInfo}
 use Rattle.block_rebuild.specs.InterBlocks.{ReferencePicture, no_picture}
@@ -20,7 +20,7 @@ use Rattle.frame_decoder.specs.DecodedFrames.{FrameResult, decoded}
 use Rattle.frame_state.specs.Sources.{FramePast}
 use Rattle.inter_contexts.specs.BlockReferences.{reference_in}
 use Rattle.inter_modes.specs.LeftSegments.{segments_after}
-use Rattle.seq_decoder.specs.SavedContexts.{is_key, loses_past, context_before, saved_after}
+use Rattle.seq_decoder.specs.SavedContexts.{loses_past, context_before, saved_after}
 use Rattle.seq_decoder.specs.DecoderState.{LastFrame, Picture, State, last_is_key, last_size, no_segments, persist_of}
 
 ---- What the frames before leave to a frame ----

@@ -18,7 +18,7 @@ use Rattle.frame_headers.specs.declared.header.Reference.{Reference}
 use Rattle.inter_contexts.specs.BlockReferences.{reference_in}
 use Rattle.vp9_types.specs.declared.block.ReferenceFrame.{ReferenceFrame}
 use Rattle.frame_headers.specs.declared.header.Header.{Header}
-use Rattle.frame_headers.specs.HeaderState.{SlotsHaveSizes}
+use Rattle.frame_headers.specs.HeaderState.{SlotsHaveSizes, is_key}
 use Rattle.prob_contexts.specs.ProbLists.{ContextLists, lists_of}
 use Rattle.block_plan.specs.SegmentMaps.{SegmentIds, id_map}
 use Rattle.picture_table.specs.Code.{held, names, IsTable}
@@ -46,7 +46,7 @@ use Rattle.seq_decoder.specs.declared.saved.SavedContexts.{SavedContexts}
 use Rattle.seq_decoder.specs.After.{Stepped, segments_before}
 use Rattle.seq_decoder.specs.Outcomes.{outcome_at}
 use Rattle.seq_decoder.specs.Outputs.{Putting, admits, form_after, put, shown_text}
-use Rattle.seq_decoder.specs.SavedContexts.{is_key, saved_before}
+use Rattle.seq_decoder.specs.SavedContexts.{saved_before}
 use Rattle.seq_decoder.specs.DecoderState.{LastFrame, Picture, State, last_size, no_segments, persist_of}
 use Rattle.block_rebuild.specs.declared.references.ReferencePicture as code_picture
 use Rattle.seq_decoder.specs.declared.last.LastFrame as code_last

@@ -55,9 +55,9 @@ start_state = record {
   last = None;
 }
 
-abbrev pub slot_shape : Option Picture → Option Shape
-slot_shape None = None
-slot_shape (Some picture) = Some picture.shape
+abbrev pub shape_in_slot : Option Picture → Option Shape
+shape_in_slot None = None
+shape_in_slot (Some picture) = Some picture.shape
 
 abbrev pub last_size : Option LastFrame → Option FrameSize
 last_size None = None
@@ -70,7 +70,7 @@ last_is_key (Some last) = last.key
 -- what headers read of it
 abbrev pub persist_of : State → Persist
 persist_of state = record {
-  slots = map slot_shape state.slots;
+  slots = map shape_in_slot state.slots;
   color = state.color;
   deltas = state.deltas;
   features = state.features;

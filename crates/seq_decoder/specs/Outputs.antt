@@ -19,13 +19,13 @@ abbrev pub same_shape : Shape → Shape → Bool
 same_shape a b = a.w == b.w && a.h == b.h && depth_bits a.depth == depth_bits b.depth && same_bit a.ss_x b.ss_x && same_bit a.ss_y b.ss_y
 
 -- A Y4M stream tells one shape, that of its first frame.
-abbrev pub fits : Format → Option Shape → Shape → Bool
-fits Y4m (Some first) shape = same_shape first shape
-fits format first shape = true
+abbrev pub fits_format : Format → Option Shape → Shape → Bool
+fits_format Y4m (Some first) shape = same_shape first shape
+fits_format format first shape = true
 
 abbrev pub admits : OutputForm → Option Picture → Bool
 admits form None = true
-admits form (Some picture) = fits form.format form.first picture.shape
+admits form (Some picture) = fits_format form.format form.first picture.shape
 
 abbrev pub is_first : Option Shape → Bool
 is_first None = true

@@ -18,15 +18,15 @@ abbrev pub shown_list : Option Picture → List Picture
 shown_list None = []
 shown_list (Some picture) = picture ∷ []
 
-abbrev pub added : Result Stepped Rule → Result (Added State Picture) Rule
-added (Ok stepped) = Ok (record { state = stepped.state; adds = shown_list stepped.shown })
-added (Err rule) = Err rule
+abbrev pub added_picture : Result Stepped Rule → Result (Added State Picture) Rule
+added_picture (Ok stepped) = Ok (record { state = stepped.state; adds = shown_list stepped.shown })
+added_picture (Err rule) = Err rule
 
 -- a frame adds what it shows
 abbrev pub decoding : Walk State Picture Rule
 decoding = record {
   start = start_state;
-  step = λ number state frame. added (step number state frame);
+  step = λ number state frame. added_picture (step number state frame);
   broken = λ rule. rule;
 }
 

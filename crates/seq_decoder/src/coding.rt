@@ -5,7 +5,7 @@ ghost use Rattle.prob_contexts.specs.ProbLists.{lists_of};
 ghost use Rattle.frame_state.specs.Code.{counts_if};
 ghost use Rattle.frame_decoder.specs.DecodedFrames.{FrameResult};
 ghost use Rattle.frame_state.specs.Sources.{adapts};
-ghost use Rattle.seq_decoder.specs.SavedContexts.{kind_of, own_contexts};
+ghost use Rattle.seq_decoder.specs.SavedContexts.{adapt_kind, own_contexts};
 
 use backward_adapt::{AdaptKind, InterKind, adapt};
 use frame_decoder::Decoded;
@@ -21,8 +21,8 @@ pub struct Coded {
 }
 
 /// What the adaptation of a frame asks of it. `after_key`: the last decoded frame was a key frame.
-fn kind_of(kind: &FrameKind, after_key: bool) -> AdaptKind
-    ensures { result ≡ kind_of kind.now after_key }
+fn adapt_kind(kind: &FrameKind, after_key: bool) -> AdaptKind
+    ensures { result ≡ adapt_kind kind.now after_key }
 {
     match kind {
         FrameKind::Key | FrameKind::IntraOnly => AdaptKind::Intra,
@@ -46,6 +46,6 @@ pub fn own_contexts(
     if !adapts(header) {
         return decoded.contexts;
     }
-    let kind = kind_of(&header.kind, after_key);
+    let kind = adapt_kind(&header.kind, after_key);
     adapt(before, &decoded.contexts, &decoded.counts, &kind)
 }

@@ -16,7 +16,7 @@ use crate::form::OutputForm;
 use crate::last::{LastFrame, replace_last};
 use crate::outcomes::{halt_outcome, outcome_at, refusal_outcome};
 use crate::past::{after_key, place_in, shown_place, vectors_before};
-use crate::saved::{SavedContexts, place_of};
+use crate::saved::{SavedContexts, saved_place};
 use crate::segments::{begin_segments, keep_segments, segments_of};
 use crate::showing::{shape_of_any, show};
 use block_plan::SegmentMap;
@@ -88,7 +88,7 @@ impl Decoder {
         ensures form { self.new.form ≡ self.old.form }
     {
         self.saved.reset(header);
-        let before = self.saved.at(place_of(header));
+        let before = self.saved.at(saved_place(header));
         let setting = begin_frame(bytes, header, compressed, &before)?;
         begin_segments(alloc, header, self.persist.size, &mut self.segments)?;
         let place = self.table.blank(alloc, header.shape())?;
@@ -125,7 +125,7 @@ impl Decoder {
         ensures form { self.new.form ≡ self.old.form }
     {
         let Coded { decoded, place } = coded;
-        let before = self.saved.at(place_of(header));
+        let before = self.saved.at(saved_place(header));
         let own = own_contexts(header, &before, &decoded, after_key(&self.last));
         self.saved.save(header, &own);
         keep_segments(&mut self.segments, header, &decoded.columns);

@@ -22,6 +22,6 @@ pub use laws::headers_read_what_persists;
 pub use outcomes::{halt_outcome, outcome_at, refusal_outcome};
 pub use past::{after_key, place_in, shown_place, vectors_before};
 pub use plain::decode_plain;
-pub use saved::{SavedContexts, loses_past, place_of};
+pub use saved::{SavedContexts, loses_past, saved_place};
 pub use segments::{begin_segments, has_size, keep_segments, segments_of};
 pub use showing::{LEAST_BUFFER, lengthen};

@@ -3,7 +3,7 @@
 ghost use Rattle.std.specs.Prelude.{◌≡◌, replicate, slice_set};
 ghost use Rattle.prob_contexts.specs.Defaults.{default_lists};
 ghost use Rattle.prob_contexts.specs.ProbLists.{lists_of};
-ghost use Rattle.seq_decoder.specs.SavedContexts.{place_of, resets_all, resets_one, loses_past, saved_before, context_at, with_own};
+ghost use Rattle.seq_decoder.specs.SavedContexts.{saved_place, resets_all, resets_one, loses_past, saved_before, context_at, with_own};
 ghost use Rattle.seq_decoder.specs.Code.{saved_lists};
 
 use frame_headers::{FrameKind, Header};
@@ -26,8 +26,8 @@ pub fn loses_past(header: &Header) -> bool
 }
 
 /// Where a frame starts from and saves to.
-pub fn place_of(header: &Header) -> u8
-    ensures { result ≡ place_of header.now }
+pub fn saved_place(header: &Header) -> u8
+    ensures { result ≡ saved_place header.now }
 {
     if loses_past(header) {
         0
@@ -97,7 +97,7 @@ impl SavedContexts {
         ensures { saved_lists self.new ≡ with_own header.now (lists_of own.now) (saved_lists self.old) }
     {
         if header.contexts.refresh {
-            self.put(place_of(header), own);
+            self.put(saved_place(header), own);
         }
     }
 }

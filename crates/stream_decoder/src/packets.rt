@@ -10,15 +10,21 @@ ghost use Rattle.stream_decoder.specs.Streams.{DecodesSource};
 use crate::steps::{Turn, Way, Work, take_turn};
 use crate::streamed::Streamed;
 use edge_io::{Gate, Sink, Source};
-use frame_groups::GroupReader;
+use frame_groups::{GroupReader, GroupSize};
 use frame_output::Format;
 use job_decoder::{Crew, Past};
 use std::alloc::Global;
 use std::sync::Wait;
 use std::thread::Threads;
 
-/// So many frames are enough for a group behind the first frame.
-const ENOUGH_FRAMES: usize = 64;
+/// The first frame is shown as soon as it is there.
+const FIRST_GROUP: GroupSize = GroupSize { least: 1, most: 64 };
+
+/// Between two groups workers wait, so the others aren't small.
+const LATER_GROUP: GroupSize = GroupSize {
+    least: 64,
+    most: 64,
+};
 
 /// Decodes the file that a reader has ahead, group by group.
 pub(crate) fn decode_packets<
@@ -54,14 +60,13 @@ pub(crate) fn decode_packets<
         past: Past::none(alloc),
         sink,
     };
-    // The first frame is shown as soon as it is there.
-    let mut least = 1;
+    let mut size = FIRST_GROUP;
     'turns: for _ in rt.forever() {
-        way = match take_turn(rt, &work, way, least) {
+        way = match take_turn(rt, &work, way, size) {
             Turn::On(next) => next,
             Turn::Over(streamed) => return streamed,
         };
-        least = ENOUGH_FRAMES;
+        size = LATER_GROUP;
     }
     unreachable!()
 }

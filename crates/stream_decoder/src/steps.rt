@@ -11,7 +11,7 @@ ghost use Rattle.stream_decoder.specs.Code.{Begun, MayGoOn, MayTurn, OnWay, Stop
 
 use crate::streamed::Streamed;
 use edge_io::{Gate, Sink, Source};
-use frame_groups::{Behind, GroupReader};
+use frame_groups::{Behind, GroupReader, GroupSize};
 use frame_output::Format;
 use job_decoder::{Crew, Decoded, NextFrames, Past, Reached, decode_group};
 use std::alloc::Global;
@@ -90,7 +90,7 @@ pub(crate) fn take_turn<S: Source, K: Sink + Send + Drop, G: Gate + Sync, R: Thr
     rt: &R,
     work: &Work<'_, '_, G>,
     way: Way<S, K>,
-    least: usize,
+    size: GroupSize,
 ) -> Turn<S, K>
     requires { MayGoOn work.now.format S.can_fill K.can_put way }
     ensures turns { (b : Begun) → WhereTold b.told (λ bytes. is_webm bytes ≡ false) → OnWay work.now.format b S.rest S.faults K.taken K.faults way
@@ -102,7 +102,7 @@ pub(crate) fn take_turn<S: Source, K: Sink + Send + Drop, G: Gate + Sync, R: Thr
 {
     let Way { reader, past, sink } = way;
     let mut reader = reader;
-    let group = reader.next_group(least);
+    let group = reader.next_group(size);
     let behind = group.behind;
     let Ok(frames) = group.frames(work.alloc) else {
         return Turn::Over(Streamed {

@@ -26,7 +26,7 @@ use Rattle.tile_writer.specs.declared.unwritten.Unwritten.TheVariants as unwritt
 use Rattle.drawn_frames.specs.SymbolDraws.{drawing}
 use Rattle.drawn_frames.specs.declared.symbols.DrawnSymbols.{DrawnSymbols}
 use Rattle.drawn_frames.specs.Code.{sized}
-use Rattle.drawn_frames.specs.ModeDraws.{draw_modes}
+use Rattle.drawn_frames.specs.ModeDraws.{draw_frame_modes}
 use Rattle.frame_decoder.proofs.PlainFrames.{frame_decodes}
 use Rattle.seq_decoder.specs.After.{Stepped, after_coded, input_of, past_of, references_of, step}
 use Rattle.seq_decoder.specs.SavedContexts.{context_before, saved_before}
@@ -53,7 +53,7 @@ record IsBy (state : State) (header : Header) (frame : FrameToWrite) (past : Fra
   header_is : frame.header ≡ header
   past_is : past ≡ past_of state header
   contexts : lists_of frame.contexts ≡ context_before header state.contexts
-  modes : draw_modes header x ≡ (frame.modes, symbols.draws.x)
+  modes : draw_frame_modes header x ≡ (frame.modes, symbols.draws.x)
 
 updates_by : (state : State) (header : Header) (frame : FrameToWrite) (past : FramePast) (x : ℕ) (symbols : DrawnSymbols) → IsBy state header frame past x symbols
     → spelled_compressed frame.header past.contexts (lists_of frame.contexts) frame.modes ≡ drawn_updates state header x
@@ -79,7 +79,7 @@ input_by state header frame past x symbols compressed bytes is = λ i. record {
 }
 
 symbols_by : (state : State) (header : Header) (frame : FrameToWrite) (past : FramePast) (x : ℕ) (symbols : DrawnSymbols) → IsBy state header frame past x symbols
-    → symbols ≡ symbols_from (draw_modes header x).1
+    → symbols ≡ symbols_from (draw_frame_modes header x).1
 symbols_by state header frame past x symbols is = ap (λ p. symbols_from p.1) (sym is.modes)
 
 blocks_by : (state : State) (header : Header) (frame : FrameToWrite) (past : FramePast) (x : ℕ) (symbols : DrawnSymbols) → IsBy state header frame past x symbols
@@ -127,7 +127,7 @@ long_by state header frame past x symbols is (inr long) = inr (inr (subst (λ (p
     (λ i. (sources_by state header frame past x symbols is i, symbols_by state header frame past x symbols is i)) long))
 
 pub coded_given : (persist : Persist) (state : State) (frame : FrameToWrite) (past : FramePast) (x : ℕ) (symbols last : DrawnSymbols) (result : Result Written NotWritten)
-    → persist ≡ persist_of state → past ≡ past_of state frame.header → lists_of frame.contexts ≡ context_before frame.header state.contexts → draw_modes frame.header x ≡ (frame.modes, symbols.draws.x)
+    → persist ≡ persist_of state → past ≡ past_of state frame.header → lists_of frame.contexts ≡ context_before frame.header state.contexts → draw_frame_modes frame.header x ≡ (frame.modes, symbols.draws.x)
     → GivesFrame drawing persist frame past symbols result last → Gives state frame.choices (Coded frame.header) x result last.draws.x
 coded_given persist state frame past x symbols last (Ok w) same past_is contexts modes gives =
     given_by persist state frame.header frame past x symbols last w.bytes.items w.broken gives.lists same (record { header_is = refl; past_is = past_is; contexts = contexts; modes = modes }) gives refl
@@ -139,8 +139,8 @@ coded_given persist state frame past x symbols last (Err OutOfMemory) same past_
 
 ---- With a compressed header of one byte before it is written ----
 
-same_modes : (header : Header) (x : ℕ) → draw_modes (sized 1 header) x ≡ draw_modes header x
-unfolding draw_modes
+same_modes : (header : Header) (x : ℕ) → draw_frame_modes (sized 1 header) x ≡ draw_frame_modes header x
+unfolding draw_frame_modes
 same_modes header x = refl
 
 same_contexts : (header : Header) (saved : List ContextLists) → context_before (sized 1 header) saved ≡ context_before header saved

@@ -7,8 +7,7 @@ use Rattle.byteorder.specs.Endian.{big_bytes}
 use Rattle.vp9_types.specs.Bits.{spelled}
 use Rattle.vp9_types.specs.Results.{◌>>=◌}
 use Rattle.vp9_types.proofs.Spells.{length-spelled}
-use Rattle.bool_encoder.specs.Part.{marked}
-use Rattle.bool_encoder.specs.Laws.{after_bools}
+use Rattle.bool_encoder.specs.Part.{behind_marker, after_bools}
 use Rattle.bool_lists.specs.BoolLists.{BoolList, bytes_taken}
 use Rattle.frame_headers.specs.Spans.{tile_count}
 use Rattle.frame_headers.specs.declared.header.Uncompressed.{Uncompressed}
@@ -20,7 +19,7 @@ use Rattle.frame_state.specs.Sources.{FrameSources}
 use Rattle.frame_state.specs.TilePlaces.{column_of}
 use Rattle.tile_writer.specs.SaidTiles.{Said, SaidSoFar}
 use Rattle.tile_writer.specs.declared.unwritten.Unwritten.{Unwritten}
-use Rattle.frame_writer.specs.FrameBytes.{bytes_of, bytes_of_bits, compressed_bools, frame_bytes, header_bytes, joined, padded, sized, without_index}
+use Rattle.frame_writer.specs.FrameBytes.{bytes_of, bytes_of_bits, compressed_bools, frame_bytes, header_bytes, joined_tiles, padded, tile_with_size, without_index}
 use Rattle.frame_writer.specs.Code.{IsLong, IsLongTile, IsTooLong}
 use Rattle.frame_writer.specs.SaidFrames.{FrameTold, frame_told, nth_syntax, nth_tile_told, nth_told, said_of, tiles_told, told_so_far, with_tile_said}
 use Rattle.frame_writer.specs.FrameSymbols.{Speaker}
@@ -29,7 +28,7 @@ use Rattle.drawn_frames.specs.declared.symbols.DrawnSymbols.{DrawnSymbols}
 use Rattle.container_writer.specs.Files.{file_header}
 use Rattle.seq_decoder.specs.After.{step}
 use Rattle.seq_decoder.specs.DecoderState.{State, persist_of, start_state}
-use Rattle.stream_forge.specs.MadeFiles.{MadeFrame, behind_head, choices_at, drawn_blocks, drawn_sources, drawn_updates, frame_from, frame_of, head_at, made, made_frame, made_frames, packets_from, rest_behind, with_rest}
+use Rattle.stream_forge.specs.MadeFiles.{MadeFrame, left_behind_head, choices_at, drawn_blocks, drawn_sources, drawn_updates, frame_from, frame_of, head_at, made, made_frame, made_frames, packet_bytes_from, rest_behind, with_rest}
 use Rattle.stream_forge.specs.FileReads.{AreMade, EndsBefore, IsFrameOf, IsNone, IsReadAsDrawn}
 
 ---- A frame that is made ----
@@ -69,7 +68,7 @@ padded_long bits =
 bools_long : (bools : BoolList) → length (bytes_of bools) ≡ bytes_taken bools
 unfolding bytes_of bytes_taken
 bools_long bools =
-    let e = after_bools bools marked in
+    let e = after_bools bools behind_marker in
     padded_long (spelled (8 + e.n) e.low) ∙ ap (λ n. (n + 7) / 8) (length-spelled (8 + e.n) e.low)
 
 -- one of the lists is this one
@@ -86,23 +85,23 @@ has_more b c [] has = absurd has
 has_more b c (x ∷ xs) (inl is) = inl is
 has_more b c (x ∷ xs) (inr has) = inr (has_more b c xs has)
 
-sized_long : (tile rest : List ℕ) → (length tile ≤ length (sized tile ++ rest)) × (length rest ≤ length (sized tile ++ rest))
+sized_long : (tile rest : List ℕ) → (length tile ≤ length (tile_with_size tile ++ rest)) × (length rest ≤ length (tile_with_size tile ++ rest))
 sized_long tile rest =
-    let all = length-append (sized tile) rest in
+    let all = length-append (tile_with_size tile) rest in
     let own = length-append (big_bytes 4 (length tile)) tile in (omega (arith, all, own), omega (arith, all))
 
-tiles_long : (b : BoolList) (lists : List BoolList) → Has b lists → bytes_taken b ≤ length (joined (map bytes_of lists))
-unfolding joined
+tiles_long : (b : BoolList) (lists : List BoolList) → Has b lists → bytes_taken b ≤ length (joined_tiles (map bytes_of lists))
+unfolding joined_tiles
 tiles_long b [] has = absurd has
 tiles_long b (x ∷ []) (inl is) = let long = bools_long x ∙ ap bytes_taken is in omega (arith, long)
 tiles_long b (x ∷ []) (inr has) = absurd has
 tiles_long b (x ∷ y ∷ lists) (inl is) =
     let long = bools_long x ∙ ap bytes_taken is in
-    let all = sized_long (bytes_of x) (joined (map bytes_of (y ∷ lists))) in
+    let all = sized_long (bytes_of x) (joined_tiles (map bytes_of (y ∷ lists))) in
     omega (arith, long, all.0)
 tiles_long b (x ∷ y ∷ lists) (inr has) =
     let rest = tiles_long b (y ∷ lists) has in
-    let all = sized_long (bytes_of x) (joined (map bytes_of (y ∷ lists))) in
+    let all = sized_long (bytes_of x) (joined_tiles (map bytes_of (y ∷ lists))) in
     omega (arith, rest, all.1)
 
 index_long : (bytes : List ℕ) → length bytes ≤ length (without_index bytes)
@@ -117,7 +116,7 @@ frame_long : (before : Persist) (choices : Choices) (by : FrameSources) (b : Boo
 unfolding frame_bytes
 frame_long before choices by b lists has =
     let headers = header_bytes before choices (Coded by.header) ++ bytes_of (compressed_bools by) in
-    let tiles = joined (map bytes_of lists) in
+    let tiles = joined_tiles (map bytes_of lists) in
     omega (arith, tiles_long b lists has, length-append headers tiles, index_long (headers ++ tiles))
 
 ---- A frame that can't be ----
@@ -193,9 +192,9 @@ none_is state choices (Coded header) x (inr (inr long)) =
 ---- All frames ----
 
 ends_before : (n : ℕ) (state : State) (x : ℕ) → EndsBefore n state x → NoPacket (made_frame n state x)
-ends_before n state x (inl none) = none_is state (choices_at n state x) (head_at n state x) (behind_head n state x) none
+ends_before n state x (inl none) = none_is state (choices_at n state x) (head_at n state x) (left_behind_head n state x) none
 ends_before n state x (inr (bytes, next, is, long)) =
-    subst NoPacket (sym (frame_is state (choices_at n state x) (head_at n state x) (behind_head n state x) bytes next is)) long
+    subst NoPacket (sym (frame_is state (choices_at n state x) (head_at n state x) (left_behind_head n state x) bytes next is)) long
 
 no_rest : (rest : State → ℕ → List (List ℕ)) (n : ℕ) (state : State) (frame : Option MadeFrame) → NoPacket frame → [] ≡ with_rest rest n state frame
 no_rest rest n state None none = refl
@@ -209,7 +208,7 @@ frames_are zero n state x [] made = refl
 frames_are zero n state x (frame ∷ frames) made = absurd made
 frames_are (suc left) n state x [] ends = no_rest (made_frames (n + 1) left) n state (made_frame n state x) (ends_before n state x ends)
 frames_are (suc left) n state x (frame ∷ frames) (next, is, small, (stepped, steps, made)) =
-    let this = frame_is state (choices_at n state x) (head_at n state x) (behind_head n state x) frame next is in
+    let this = frame_is state (choices_at n state x) (head_at n state x) (left_behind_head n state x) frame next is in
     let fits : nat_lt (length frame) (2 ^ 32) ≡ true = lt-ltb _ _ small in
     let behind : frames ≡ rest_behind (λ state. made_frames (n + 1) left state next) (step n state frame) =
     frames_are left (n + 1) stepped.state next frames made ∙ ap (rest_behind (λ state. made_frames (n + 1) left state next)) (sym steps) in
@@ -217,4 +216,4 @@ frames_are (suc left) n state x (frame ∷ frames) (next, is, small, (stepped, s
 
 pub file_is : (number count : ℕ) (file : List ℕ) → IsReadAsDrawn number count file → file ≡ made number count
 unfolding made
-file_is number count file h = h.bytes ∙ ap (λ frames. file_header 520 136 30 1 count ++ packets_from 0 frames) (frames_are count 0 start_state number h.frames h.made)
+file_is number count file h = h.bytes ∙ ap (λ frames. file_header 520 136 30 1 count ++ packet_bytes_from 0 frames) (frames_are count 0 start_state number h.frames h.made)

@@ -16,7 +16,7 @@ use Rattle.seq_decoder.specs.Code.{StandsFor}
 use Rattle.seq_decoder.specs.DecoderState.{State, start_state}
 use Rattle.seq_decoder.specs.declared.decoder.Decoder.{Decoder}
 use Rattle.stream_forge.specs.Code.{Gives, GivesTo, IsLost, IsMadeAfter, IsSoFar, Passes}
-use Rattle.stream_forge.specs.MadeFiles.{behind_head, choices_at, head_at, packets_from}
+use Rattle.stream_forge.specs.MadeFiles.{left_behind_head, choices_at, head_at, packet_bytes_from}
 use Rattle.stream_forge.specs.FileReads.{AreMade, EndsBefore, IsFrameOf, IsMadeFrame, IsNone, IsReadAsDrawn}
 use Rattle.stream_forge.proofs.Heads.{made_next}
 
@@ -34,14 +34,14 @@ none_made number count decoder draws out old stands from put none = record {
   rest = λ others made. rw (none_less count, from) at made;
 }
 
-packets_more : (n : ℕ) (frames : List (List ℕ)) (frame : List ℕ) → packets_from n (frames ++ frame ∷ []) ≡ packets_from n frames ++ written_bytes (packet_of (n + length frames) frame)
+packets_more : (n : ℕ) (frames : List (List ℕ)) (frame : List ℕ) → packet_bytes_from n (frames ++ frame ∷ []) ≡ packet_bytes_from n frames ++ written_bytes (packet_of (n + length frames) frame)
 packets_more n [] frame =
     let same : n ≡ n + 0 = omega arith in
     append-nil (written_bytes (packet_of n frame)) ∙ ap (λ n. written_bytes (packet_of n frame)) same
 packets_more n (f ∷ frames) frame =
     let same : n + 1 + length frames ≡ n + suc (length frames) = omega arith in
-    ap (λ l. written_bytes (packet_of n f) ++ l) (packets_more (n + 1) frames frame ∙ ap (λ m. packets_from (n + 1) frames ++ written_bytes (packet_of m frame)) same)
-    ∙ sym (append_assoc (written_bytes (packet_of n f)) (packets_from (n + 1) frames) (written_bytes (packet_of (n + length (f ∷ frames)) frame)))
+    ap (λ l. written_bytes (packet_of n f) ++ l) (packets_more (n + 1) frames frame ∙ ap (λ m. packet_bytes_from (n + 1) frames ++ written_bytes (packet_of m frame)) same)
+    ∙ sym (append_assoc (written_bytes (packet_of n f)) (packet_bytes_from (n + 1) frames) (written_bytes (packet_of (n + length (f ∷ frames)) frame)))
 
 one_left : (count n : ℕ) → n < count → count - n ≡ suc (count - (n + 1))
 one_left count n below = omega (arith, below)
@@ -56,8 +56,8 @@ one_made number count n decoder after_it draws rest out more bytes below far giv
       state = p.0.state;
       stands = p.2;
       frames = far.frames ++ bytes ∷ [];
-      put = put ∙ ap (λ l. l ++ written_bytes (packet_of n bytes)) far.put ∙ append_assoc header (packets_from 0 far.frames) (written_bytes (packet_of n bytes))
-          ∙ ap (λ l. header ++ l) (ap (λ n. packets_from 0 far.frames ++ written_bytes (packet_of n bytes)) (sym at) ∙ sym (packets_more 0 far.frames bytes));
+      put = put ∙ ap (λ l. l ++ written_bytes (packet_of n bytes)) far.put ∙ append_assoc header (packet_bytes_from 0 far.frames) (written_bytes (packet_of n bytes))
+          ∙ ap (λ l. header ++ l) (ap (λ n. packet_bytes_from 0 far.frames ++ written_bytes (packet_of n bytes)) (sym at) ∙ sym (packets_more 0 far.frames bytes));
       many = length-append far.frames (bytes ∷ []) ∙ ap (λ n. n + 1) far.many;
       rest = λ others made.
           rw (append_assoc far.frames (bytes ∷ []) others) (far.rest (bytes ∷ others) (rw (one_left count n below) (rest.x, gives far.state far.stands, small, (p.0, p.1, made))));
@@ -119,4 +119,4 @@ pub persists : (number count n : ℕ) (decoder after_it : Decoder) (draws rest :
     → IsMadeAfter (head_at n far.state draws.x) decoder.persist → headers.IsMade after_it.persist
 persists number count n decoder after_it draws rest out bytes far gives passes made =
     let p = passes far.state far.stands in
-    made_next n far.state (choices_at n far.state draws.x) (head_at n far.state draws.x) (behind_head n far.state draws.x) rest.x bytes p.0 decoder.persist after_it.persist far.stands.persist p.2.persist (gives far.state far.stands) p.1 made
+    made_next n far.state (choices_at n far.state draws.x) (head_at n far.state draws.x) (left_behind_head n far.state draws.x) rest.x bytes p.0 decoder.persist after_it.persist far.stands.persist p.2.persist (gives far.state far.stands) p.1 made

@@ -28,7 +28,7 @@ use Rattle.seq_decoder.specs.SavedContexts.{context_before, loses_past}
 use Rattle.seq_decoder.specs.DecoderState.{State, persist_of, start_state}
 use Rattle.seq_decoder.specs.declared.decoder.Decoder.{Decoder}
 use Rattle.stream_forge.specs.declared.coded.CodedFrame.{CodedFrame}
-use Rattle.stream_forge.specs.MadeFiles.{packets_from}
+use Rattle.stream_forge.specs.MadeFiles.{packet_bytes_from}
 use Rattle.stream_forge.specs.FileReads.{AreMade, IsFrameOf, IsNone}
 
 -- it stands for the segments that a frame starts with, and has its places
@@ -98,6 +98,6 @@ pub record IsSoFar (number count n : ℕ) (decoder : Decoder) (draws : Draws) (o
   pub state : State
   pub stands : StandsFor decoder state
   pub frames : List (List ℕ)
-  pub put : out ≡ file_header 520 136 30 1 count ++ packets_from 0 frames
+  pub put : out ≡ file_header 520 136 30 1 count ++ packet_bytes_from 0 frames
   pub many : length frames ≡ n
   pub rest : (others : List (List ℕ)) → AreMade n (count - n) state draws.x others → AreMade 0 count start_state number (frames ++ others)

@@ -17,7 +17,7 @@ use Rattle.frame_writer.specs.SaidFrames.{said_of, told_so_far}
 use Rattle.drawn_frames.specs.SymbolDraws.{drawing}
 use Rattle.seq_decoder.specs.After.{Stepped, input_of, step}
 use Rattle.seq_decoder.specs.DecoderState.{State, persist_of, start_state}
-use Rattle.stream_forge.specs.MadeFiles.{behind_head, choices_at, drawn_blocks, drawn_sources, drawn_updates, head_at, modes_drawn, packets_from, symbols_from}
+use Rattle.stream_forge.specs.MadeFiles.{left_behind_head, choices_at, drawn_blocks, drawn_sources, drawn_updates, head_at, modes_drawn, packet_bytes_from, symbols_from}
 
 ---- A coded frame ----
 
@@ -60,12 +60,12 @@ IsFrameOf state choices (ShowExisting slot) x bytes next =
 IsFrameOf state choices (Coded header) x bytes next = IsCodedFrame state choices header x bytes next
 
 abbrev pub IsMadeFrame : ℕ → State → ℕ → List ℕ → ℕ → Type 0
-IsMadeFrame n state x bytes next = IsFrameOf state (choices_at n state x) (head_at n state x) (behind_head n state x) bytes next
+IsMadeFrame n state x bytes next = IsFrameOf state (choices_at n state x) (head_at n state x) (left_behind_head n state x) bytes next
 
 -- there is no such frame, or none that a packet holds
 abbrev pub EndsBefore : ℕ → State → ℕ → Type 0
 EndsBefore n state x =
-    IsNone state (head_at n state x) (behind_head n state x) ⊎ ((bytes : List ℕ) × (next : ℕ) × IsMadeFrame n state x bytes next × (2 ^ 32 ≤ length bytes))
+    IsNone state (head_at n state x) (left_behind_head n state x) ⊎ ((bytes : List ℕ) × (next : ℕ) × IsMadeFrame n state x bytes next × (2 ^ 32 ≤ length bytes))
 
 ---- All frames ----
 
@@ -81,4 +81,4 @@ AreMade n (suc left) state x (frame ∷ frames) =
 pub record IsReadAsDrawn (number count : ℕ) (file : List ℕ) : Type 0 where
   pub frames : List (List ℕ)
   pub made : AreMade 0 count start_state number frames
-  pub bytes : file ≡ file_header 520 136 30 1 count ++ packets_from 0 frames
+  pub bytes : file ≡ file_header 520 136 30 1 count ++ packet_bytes_from 0 frames

@@ -16,7 +16,7 @@ use Rattle.tile_writer.specs.declared.unwritten.Unwritten.{Unwritten}
 use Rattle.frame_writer.specs.FrameBytes.{frame_bytes, header_bytes, with_size}
 use Rattle.frame_writer.specs.SaidFrames.{FrameTold, frame_told}
 use Rattle.drawn_frames.specs.Heads.{draw_head}
-use Rattle.drawn_frames.specs.ModeDraws.{draw_modes}
+use Rattle.drawn_frames.specs.ModeDraws.{draw_frame_modes}
 use Rattle.drawn_frames.specs.declared.heads.DrawnHead.{DrawnHead}
 use Rattle.drawn_frames.specs.SymbolDraws.{drawing}
 use Rattle.drawn_frames.specs.declared.symbols.DrawnSymbols.{DrawnSymbols}
@@ -35,7 +35,7 @@ lot p = record { it = p.0; left = p.1 }
 ---- A coded frame ----
 
 abbrev pub modes_drawn : Header → ℕ → Lot Modes
-modes_drawn header x = lot (draw_modes header x)
+modes_drawn header x = lot (draw_frame_modes header x)
 
 -- the bools of its compressed header, which updates no probability
 abbrev pub drawn_updates : State → Header → ℕ → BoolList
@@ -86,11 +86,11 @@ head_at n state x = (head_drawn n state x).it.header
 abbrev pub choices_at : ℕ → State → ℕ → Choices
 choices_at n state x = (head_drawn n state x).it.choices
 
-abbrev pub behind_head : ℕ → State → ℕ → ℕ
-behind_head n state x = (head_drawn n state x).left
+abbrev pub left_behind_head : ℕ → State → ℕ → ℕ
+left_behind_head n state x = (head_drawn n state x).left
 
 abbrev pub made_frame : ℕ → State → ℕ → Option MadeFrame
-made_frame n state x = frame_of state (choices_at n state x) (head_at n state x) (behind_head n state x)
+made_frame n state x = frame_of state (choices_at n state x) (head_at n state x) (left_behind_head n state x)
 
 ---- All frames ----
 
@@ -111,10 +111,10 @@ made_frames n zero state x = []
 made_frames n (suc left) state x = with_rest (made_frames (n + 1) left) n state (made_frame n state x)
 
 -- their packets, stamped with their numbers
-abbrev pub packets_from : ℕ → List (List ℕ) → List ℕ
-packets_from n [] = []
-packets_from n (frame ∷ frames) = written_bytes (packet_of n frame) ++ packets_from (n + 1) frames
+abbrev pub packet_bytes_from : ℕ → List (List ℕ) → List ℕ
+packet_bytes_from n [] = []
+packet_bytes_from n (frame ∷ frames) = written_bytes (packet_of n frame) ++ packet_bytes_from (n + 1) frames
 
 -- the file of so many frames that is made from a number
 unfoldable pub made : ℕ → ℕ → List ℕ
-made number count = file_header 520 136 30 1 count ++ packets_from 0 (made_frames 0 count start_state number)
+made number count = file_header 520 136 30 1 count ++ packet_bytes_from 0 (made_frames 0 count start_state number)

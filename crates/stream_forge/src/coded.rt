@@ -13,7 +13,7 @@ use frame_headers::Header;
 use frame_state::FramePast;
 use frame_writer::{FrameSymbols, FrameToWrite, NotWritten, Written, write_frame};
 use header_writer::Choices;
-use seq_decoder::{Decoder, place_of, vectors_before};
+use seq_decoder::{Decoder, saved_place, vectors_before};
 use std::alloc::Global;
 use vp9_types::Modes;
 
@@ -47,7 +47,7 @@ pub fn write_coded<S: FrameSymbols>(
     } = *frame;
     let mut saved = decoder.saved;
     saved.reset(&header);
-    let contexts = saved.at(place_of(&header));
+    let contexts = saved.at(saved_place(&header));
     let Ok(fresh) = fresh_segments(alloc, &header, decoder.persist.size) else {
         return (Err(NotWritten::OutOfMemory), symbols);
     };

@@ -13,7 +13,7 @@ ghost use Rattle.seq_decoder.specs.DecoderState.{State, persist_of};
 ghost use Rattle.stream_forge.specs.Code.{Gives, IsMadeAfter, MayDraw};
 
 use crate::coded::{CodedFrame, write_coded};
-use drawn_frames::{DrawnSymbols, draw_head, draw_modes};
+use drawn_frames::{DrawnSymbols, draw_frame_modes, draw_head};
 use drawn_symbols::Draws;
 use frame_headers::{FrameParams, Header, Uncompressed};
 use frame_writer::{NotWritten, Written};
@@ -72,7 +72,7 @@ fn write_drawn(
     ensures { (state : State) → StandsFor decoder.now state → Gives state choices (Coded header.now) draws.x result.0 result.1.x }
 {
     let mut draws = draws;
-    let modes = draw_modes(&mut draws, header);
+    let modes = draw_frame_modes(&mut draws, header);
     let frame = CodedFrame {
         header: *header,
         choices,

@@ -6,7 +6,7 @@ ghost use Rattle.seq_decoder.specs.Code.{MayDecode};
 pub mod rows;
 mod rows_of_vectors;
 
-use block_plan::{IntraPrediction, Mv, References};
+use block_plan::{IntraPrediction, Mv, ReferenceFrames};
 use edge_io::MemSink;
 use file_frames::FileFrame;
 use frame_headers::{FrameHead, Header, read};
@@ -107,7 +107,7 @@ fn inter(
 ) -> PredictionSymbols {
     let [upper_left, upper_right, lower_left, lower_right] = differences;
     PredictionSymbols::Inter(InterSymbols {
-        references: References {
+        references: ReferenceFrames {
             first,
             second: None,
         },

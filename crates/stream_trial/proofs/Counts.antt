@@ -14,7 +14,7 @@ use Rattle.frame_headers.specs.declared.header.FrameHead.TheVariants as head
 use Rattle.frame_headers.specs.declared.header.Header.{Header}
 use Rattle.frame_headers.specs.declared.persist.Persist.{Persist}
 use Rattle.seq_decoder.specs.After.{Stepped, after_coded, decoded_in, step}
-use Rattle.seq_decoder.specs.Runs.{added, decoding, run_of, shown_list}
+use Rattle.seq_decoder.specs.Runs.{added_picture, decoding, run_of, shown_list}
 use Rattle.seq_decoder.specs.DecoderState.{Picture, State, persist_of, start_state}
 use Rattle.seq_decoder.proofs.Slots.{coded_persists, shown_stays, start_persists, step_is}
 use Rattle.stream_trial.specs.Code.{IsCounted}
@@ -101,12 +101,12 @@ more_counted file frame number a rest old new count shown (Ok next) is counted w
     record {
       state = next.state;
       shown = h.shown ++ shown_list next.shown;
-      way = goes_by decoding file h.shown h.state a rest number frame (record { state = next.state; adds = shown_list next.shown }) h.way is (ap added stepped);
+      way = goes_by decoding file h.shown h.state a rest number frame (record { state = next.state; adds = shown_list next.shown }) h.way is (ap added_picture stepped);
       reads = one.0;
       many = omega (arith, h.many, one.1, length-append h.shown (shown_list next.shown));
     }
 more_counted file frame number a rest old new count shown (Err rule) is counted whole h stepped =
-    let ends = ends_at decoding file h.shown h.state a rest number frame rule h.way is (ap added stepped) in
+    let ends = ends_at decoding file h.shown h.state a rest number frame rule h.way is (ap added_picture stepped) in
     absurd (clash _ (number, rule) whole (ap (λ w. w.ending) ends))
 
 pub one_counted : (file frame : List ℕ) (number : ℕ) (a rest : Ahead) (old new : Persist) (count shown : ℕ)

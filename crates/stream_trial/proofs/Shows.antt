@@ -15,7 +15,7 @@ use Rattle.frame_headers.specs.declared.header.FrameHead.TheVariants as head
 use Rattle.frame_headers.specs.declared.header.Uncompressed.{Uncompressed}
 use Rattle.frame_headers.specs.declared.header.Uncompressed.TheVariants as uncompressed
 use Rattle.frame_headers.specs.declared.persist.Persist.{Persist}
-use Rattle.frame_headers.specs.Fields.{past, f, flag}
+use Rattle.frame_headers.specs.Fields.{past, f, flag_field}
 use Rattle.frame_headers.specs.Header.{frame_profile, coded_frame, uncompressed_header, placed, placed_if_read, head_of}
 use Rattle.frame_headers.specs.References.{held_by, slot_shape}
 use Rattle.seq_decoder.specs.Runs.{shown_list}
@@ -84,7 +84,7 @@ header_settles : (before : Persist) → Settles (uncompressed_header before) (Sh
 unfolding uncompressed_header
 header_settles before =
     settles_then frame_profile _ _
-    (λ profile. settles_then (flag name.ShowExistingFrame) _ _
+    (λ profile. settles_then (flag_field name.ShowExistingFrame) _ _
     (λ existing. settles_if existing
     (slot_shape name.FrameToShowMapIdx before rule.ShowMissing >>= λ held. done (uncompressed.ShowExisting held.0))
     (coded_frame before profile >>= λ header. done (uncompressed.Coded header)) (ShowsHeld before)
@@ -122,11 +122,11 @@ slot_held before frame slot is =
 
 ---- What the frame shows ----
 
-one_shown : (held : Option Picture) (shape : Shape) → state.slot_shape held ≡ Some shape → length (shown_list held) ≡ 1
+one_shown : (held : Option Picture) (shape : Shape) → state.shape_in_slot held ≡ Some shape → length (shown_list held) ≡ 1
 one_shown None shape is = let no : ⊥ = cc in absurd no
 one_shown (Some picture) shape is = refl
 
 pub slot_shows_one : (s : State) (frame : List ℕ) (slot : ℕ) → head_of (persist_of s) frame ≡ Ok (head.ShowExisting slot) → length (shown_list (get_or s.slots slot None)) ≡ 1
 slot_shows_one s frame slot is =
     let held = slot_held (persist_of s) frame slot is in
-    one_shown (get_or s.slots slot None) held.0 (sym (get_or-map state.slot_shape s.slots slot None) ∙ held.1)
+    one_shown (get_or s.slots slot None) held.0 (sym (get_or-map state.shape_in_slot s.slots slot None) ∙ held.1)

@@ -4,7 +4,7 @@ use Rattle.std.specs.Prelude.{Result, Ok, Err}
 use Rattle.std.proofs.Math.Nat.{mul-le-mul_left}
 use Rattle.mode_syntax.specs.Laws.{decode_square, decode_row, decode_rows}
 use Rattle.mode_syntax.specs.Superblocks.{superblocks_of}
-use Rattle.mode_syntax.specs.Walk.{Walk, decode_tile}
+use Rattle.mode_syntax.specs.Walk.{TileWalk, decode_tile}
 use Rattle.mode_syntax.specs.declared.square_at.SquareAt.{SquareAt}
 use Rattle.mode_syntax.proofs.RowByRow.{tile_is}
 use Rattle.tile_reader.specs.Code.{Tile, SameTile, Rest, EndsTile, then_rest}
@@ -13,10 +13,10 @@ use Rattle.tile_reader.proofs.SquareEnds.{moved, SquareEnds}
 
 -- n turns of a walk from a place on, and one of them
 abbrev pub Turns : Type 0 → Type 0
-Turns S = Walk S → ℕ → ℕ → Rest S
+Turns S = TileWalk S → ℕ → ℕ → Rest S
 
 abbrev pub Turn : Type 0 → Type 0
-Turn S = Walk S → ℕ → Rest S
+Turn S = TileWalk S → ℕ → Rest S
 
 -- i of n turns are done, of k blocks each at most: whatever ends the rest ends all
 pub record IsLeft {S H : Type 0} (f : Turns S) (c n k i : ℕ) (start now : Tile S H) : Type 0 where
@@ -46,13 +46,13 @@ tile_rest columns c walk r n = decode_rows walk columns r c n
 
 -- a turn, and then the others
 abbrev TakesTurns : {S : Type 0} → Type 0 → Turns S → Turn S → Type 0
-TakesTurns {S} H f turn = (walk : Walk S) (c n m : ℕ) (t new : Tile S H) (result : Result (Unit {0}) H)
+TakesTurns {S} H f turn = (walk : TileWalk S) (c n m : ℕ) (t new : Tile S H) (result : Result (Unit {0}) H)
     → EndsTile (then_rest (turn walk c) (f walk (c + 8) n)) m t result new → EndsTile (f walk c (suc n)) m t result new
 
 abbrev EndsTurns : {S : Type 0} → Type 0 → Turns S → Type 0
-EndsTurns {S} H f = (walk : Walk S) (c m : ℕ) (t : Tile S H) → EndsTile (f walk c 0) m t (Ok tt) t
+EndsTurns {S} H f = (walk : TileWalk S) (c m : ℕ) (t : Tile S H) → EndsTile (f walk c 0) m t (Ok tt) t
 
-next : {S H : Type 0} (f : Turns S) (turn : Turn S) → TakesTurns H f turn → (walk : Walk S) (c n i m : ℕ) (now new : Tile S H) (result : Result (Unit {0}) H)
+next : {S H : Type 0} (f : Turns S) (turn : Turn S) → TakesTurns H f turn → (walk : TileWalk S) (c n i m : ℕ) (now new : Tile S H) (result : Result (Unit {0}) H)
     → i < n → EndsTile (then_rest (turn walk (c + 8 * i)) (f walk (c + 8 * (i + 1)) (n - (i + 1)))) m now result new
     → EndsTile (f walk (c + 8 * i) (n - i)) m now result new
 next f turn takes walk c n i m now new result more h =

@@ -14,32 +14,32 @@ use Rattle.counting_reader.specs.Code.{run_counting}
 use Rattle.mode_syntax.specs.Partitions.{partition_at}
 use Rattle.mode_syntax.specs.Laws.{square_at, decode_square, square_parts}
 use Rattle.mode_syntax.specs.Superblocks.{quarter_square}
-use Rattle.mode_syntax.specs.Walk.{Walk, block_at, starts_inside, block_inside, smallest_parts, parts, decode_at_level}
+use Rattle.mode_syntax.specs.Walk.{TileWalk, block_at, starts_inside, block_inside, smallest_parts, parts, decode_at_level}
 use Rattle.mode_syntax.specs.declared.square_at.SquareAt.{SquareAt}
 use Rattle.mode_syntax.proofs.SquareParts.{rows_are, columns_are, quarters_are}
 use Rattle.tile_reader.specs.Code.{Tile, SameTile, Rest, EndsTile, ReadsPartition, StandsIn, then_rest}
 use Rattle.tile_reader.proofs.Endings.{as_rest, ends_here, symbol_rest, symbol_ends, then_ends, same_here}
 
-inside : {S : Type 0} (walk : Walk S) (r c : ℕ) → r < walk.frame.rows → c < walk.frame.cols → starts_inside walk r c ≡ true
+inside : {S : Type 0} (walk : TileWalk S) (r c : ℕ) → r < walk.frame.rows → c < walk.frame.cols → starts_inside walk r c ≡ true
 inside walk r c row col = search rules
 
-pub below : {S : Type 0} (walk : Walk S) (r c : ℕ) → walk.frame.rows ≤ r → starts_inside walk r c ≡ false
+pub below : {S : Type 0} (walk : TileWalk S) (r c : ℕ) → walk.frame.rows ≤ r → starts_inside walk r c ≡ false
 below walk r c row = search rules
 
-pub beside : {S : Type 0} (walk : Walk S) (r c : ℕ) → walk.frame.cols ≤ c → starts_inside walk r c ≡ false
+pub beside : {S : Type 0} (walk : TileWalk S) (r c : ℕ) → walk.frame.cols ≤ c → starts_inside walk r c ≡ false
 beside walk r c col = search rules
 
 -- the same of another tile further on
-pub moved : {S H : Type 0} (f : Walk S → Rest S) (n : ℕ) (old mid new : Tile S H) (result : Result (Unit {0}) H) → SameTile old mid
+pub moved : {S H : Type 0} (f : TileWalk S → Rest S) (n : ℕ) (old mid new : Tile S H) (result : Result (Unit {0}) H) → SameTile old mid
     → EndsTile (f mid.walk) n mid result new → EndsTile (f old.walk) n mid result new
-moved {S = S} f n old mid new result same h = subst (λ (w : Walk S). EndsTile (f w) n mid result new) same.walk h
+moved {S = S} f n old mid new result same h = subst (λ (w : TileWalk S). EndsTile (f w) n mid result new) same.walk h
 
 ---- A block that may start outside ----
 
-block_is : {S : Type 0} (walk : Walk S) (at : BlockAt) → at.tile_from ≡ walk.tile_from → at.tile_to ≡ walk.tile_to → at ≡ block_at walk at.row at.col at.size
+block_is : {S : Type 0} (walk : TileWalk S) (at : BlockAt) → at.tile_from ≡ walk.tile_from → at.tile_to ≡ walk.tile_to → at ≡ block_at walk at.row at.col at.size
 block_is walk at from to = λ i. record { row = at.row; col = at.col; size = at.size; tile_from = from i; tile_to = to i }
 
-inside_is : {S : Type 0} (walk : Walk S) (r c : ℕ) (size : BlockSize) (s : S) → starts_inside walk r c ≡ true
+inside_is : {S : Type 0} (walk : TileWalk S) (r c : ℕ) (size : BlockSize) (s : S) → starts_inside walk r c ≡ true
     → walk.block (block_at walk r c size) s ≡ block_inside walk r c size s
 unfolding block_inside
 inside_is walk r c size s is = rw is refl
@@ -52,7 +52,7 @@ inside_ends t new at n result row col stands h =
     (λ s. inside_is t.walk at.row at.col at.size s is)
     (subst (λ (b : BlockAt). EndsTile (t.walk.block b) n t result new) (block_is t.walk at stands.from stands.to) h)
 
-outside_is : {S : Type 0} (walk : Walk S) (r c : ℕ) (size : BlockSize) (s : S) → starts_inside walk r c ≡ false → block_inside walk r c size s ≡ settle s
+outside_is : {S : Type 0} (walk : TileWalk S) (r c : ℕ) (size : BlockSize) (s : S) → starts_inside walk r c ≡ false → block_inside walk r c size s ≡ settle s
 unfolding block_inside
 outside_is walk r c size s none = rw none refl
 
@@ -67,7 +67,7 @@ halves_end old mid new first r c size result h k =
 
 ---- Squares that start outside ----
 
-square_is_none : {S : Type 0} (walk : Walk S) (level r c : ℕ) (s : S) → starts_inside walk r c ≡ false → decode_square walk level r c s ≡ settle s
+square_is_none : {S : Type 0} (walk : TileWalk S) (level r c : ℕ) (s : S) → starts_inside walk r c ≡ false → decode_square walk level r c s ≡ settle s
 unfolding decode_at_level
 square_is_none walk zero r c s none = rw none refl
 square_is_none walk (suc k) r c s none = rw none refl
@@ -86,7 +86,7 @@ pub record IsOf {S H : Type 0} (t : Tile S H) (at : SquareAt) : Type 0 where
   pub to : at.tile_to ≡ t.walk.tile_to
 
 -- the parts of a square whose quarters have a level
-abbrev pub parts_rest : {S : Type 0} → Walk S → ℕ → ℕ → ℕ → Partition → Rest S
+abbrev pub parts_rest : {S : Type 0} → TileWalk S → ℕ → ℕ → ℕ → Partition → Rest S
 parts_rest walk k r c partition = λ s. square_parts walk k r c s partition
 
 part_is : {S H : Type 0} (t : Tile S H) (at : SquareAt) (r c : ℕ) (size sized : BlockSize) → IsOf t at → size ≡ sized → part_at at r c size ≡ block_at t.walk r c sized
@@ -139,7 +139,7 @@ columns_end t new at k half first size result of level side sized is h =
 
 ---- Quarters ----
 
-abbrev pub SquareEnds : {S H : Type 0} → Walk S → ℕ → ℕ → ℕ → Tile S H → ℕ → Result (Unit {0}) H → Tile S H → Type 0
+abbrev pub SquareEnds : {S H : Type 0} → TileWalk S → ℕ → ℕ → ℕ → Tile S H → ℕ → Result (Unit {0}) H → Tile S H → Type 0
 SquareEnds walk level r c t n result new = EndsTile (decode_square walk level r c) n t result new
 
 -- the i-th quarter of a square, at a row and column
@@ -203,7 +203,7 @@ split_ends t new at n result h =
 square_is : {S H : Type 0} (t : Tile S H) (at : SquareAt) → IsOf t at → at ≡ square_at t.walk at.level at.row at.col
 square_is t at of = λ i. record { row = at.row; col = at.col; level = at.level; tile_from = of.from i; tile_to = of.to i }
 
-abbrev asked : {S : Type 0} → Walk S → SquareAt → S → Syntax ℕ Rule (Settled Partition)
+abbrev asked : {S : Type 0} → TileWalk S → SquareAt → S → Syntax ℕ Rule (Settled Partition)
 asked walk at s = partition_at walk.intra walk.probs (walk.blocks s) walk.frame at
 
 -- its partition, and what stands behind it

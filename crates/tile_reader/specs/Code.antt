@@ -8,13 +8,13 @@ use Rattle.block_plan.specs.declared.block.BlockAt.{BlockAt}
 use Rattle.counting_reader.specs.Counting.{Settled, in_order}
 use Rattle.counting_reader.specs.Code.{Standing, run_counting}
 use Rattle.mode_syntax.specs.Partitions.{partition_at}
-use Rattle.mode_syntax.specs.Walk.{Walk}
+use Rattle.mode_syntax.specs.Walk.{TileWalk}
 use Rattle.mode_syntax.specs.declared.square_at.SquareAt.{SquareAt}
 
 -- How a tile is read, and which rule is broken where reading ends early, if one is; the end of its columns of superblocks and
 -- the room for blocks; what reading keeps by now, and where it stands.
 pub record Tile (S H : Type 0) : Type 0 where
-  pub walk : Walk S
+  pub walk : TileWalk S
   pub rule_of : H → Option Rule
   pub limit : ℕ
   pub room : ℕ

@@ -23,7 +23,7 @@ use Rattle.column_plan.specs.PlannedBlocks.{planned_blocks, planned_from, total}
 use Rattle.column_plan.proofs.Held.{infos_are, one_more_planned, all_are}
 use Rattle.counting_reader.specs.Code.{standing_of, Standing, run_counting}
 use Rattle.counting_reader.specs.declared.reader.CountingReader.{CountingReader}
-use Rattle.mode_syntax.specs.Walk.{Walk}
+use Rattle.mode_syntax.specs.Walk.{TileWalk}
 use Rattle.tile_reader.specs.Code.{Breaks, EndsTile, Rest, Tile}
 use Rattle.tile_syntax.specs.declared.plans.ColumnPlan.{ColumnPlan}
 use Rattle.frame_state.specs.declared.sources.FrameSources as code
@@ -44,7 +44,7 @@ modes_of by blocks at = mode_info (block_sources by) blocks at
 pub block_read : (by : FrameSources) (at : BlockAt) (blocks : List PlannedBlock) (listed : List BlockInfo) (sides after_it : TileSides) (a b d : Standing) (info : BlockInfo) (one : PlannedBlock)
     → infos blocks ≡ listed
     → run_counting (modes_of by listed at) a ≡ Ok (Ok info, b)
-    → run_counting (residues.read_block by.header by.contexts at.tile_from info sides) b ≡ Ok ((one, after_it), d)
+    → run_counting (residues.block_residue by.header by.contexts at.tile_from info sides) b ≡ Ok ((one, after_it), d)
     → run_counting (plan_block by at (planned blocks sides)) a ≡ Ok (planned (blocks ++ one ∷ []) after_it, d)
 unfolding plan_block lifted
 block_read by at blocks listed sides after_it a b d info one is modes_read residue =
@@ -62,7 +62,7 @@ modes_broken by at blocks listed sides a b rule is modes_read =
 
 pub block_broken : (by : FrameSources) (at : BlockAt) (blocks : List PlannedBlock) (listed : List BlockInfo) (sides : TileSides) (a b : Standing) (info : BlockInfo) (rule : Rule)
     → infos blocks ≡ listed → run_counting (modes_of by listed at) a ≡ Ok (Ok info, b)
-    → run_counting (residues.read_block by.header by.contexts at.tile_from info sides) b ≡ Err rule → run_counting (plan_block by at (planned blocks sides)) a ≡ Err rule
+    → run_counting (residues.block_residue by.header by.contexts at.tile_from info sides) b ≡ Err rule → run_counting (plan_block by at (planned blocks sides)) a ≡ Err rule
 unfolding plan_block lifted
 block_broken by at blocks listed sides a b info rule is modes_read residue =
     counting_bind _ _ _ ∙ rw (is, modes_read) (counting_bind _ _ _ ∙ rw (run_settle info b) (counting_bind _ _ _ ∙ rw residue refl))
@@ -92,7 +92,7 @@ pub block_planned : (by : FrameSources) (at : BlockAt) (shape : Shape) (tile_fro
     → at.tile_from ≡ tile_from → total shape blocks ≡ length pieces → info ≡ listed block any → now ≡ pieces ++ block_pieces shape block r
     → ((tile_from : ℕ) (behind : List (List ℤ)) → planned_from shape tile_from block (block_pieces shape block r ++ behind) ≡ planned_with shape tile_from block block r)
     → run_counting (modes_of by blocks at) a ≡ Ok (Ok block, b)
-    → run_counting (residues.read_block by.header by.contexts at.tile_from block sides) b ≡ Ok ((planned_with shape at.tile_from block info r, after_it), d)
+    → run_counting (residues.block_residue by.header by.contexts at.tile_from block sides) b ≡ Ok ((planned_with shape at.tile_from block info r, after_it), d)
     → run_counting (plan_block by at (planned (planned_blocks shape tile_from blocks pieces) sides)) a ≡ Ok (planned (planned_blocks shape tile_from (blocks ++ info ∷ []) now) after_it, d)
 block_planned by at shape tile_from blocks pieces now sides after_it a b d block info any r from all is pushed stands modes_read residue =
     block_read by at (planned_blocks shape tile_from blocks pieces) blocks sides after_it a b d block (planned_with shape at.tile_from block info r) (infos_are shape tile_from blocks pieces) modes_read residue
@@ -141,7 +141,7 @@ whole_planned shape tile_from blocks b info any r pieces now all is pushed stand
 ---- A tile ----
 
 -- what a tile's reader gives
-pub plan_given : {n : ℕ} (rest : Rest PlanTile) (room : ℕ) (start : Tile PlanTile Halt) (result : Result (Unit {0}) Halt) (old : CountingReader n) (walk : Walk PlanTile) (limit most : ℕ) (t : PlanTile) (new : CountingReader n)
+pub plan_given : {n : ℕ} (rest : Rest PlanTile) (room : ℕ) (start : Tile PlanTile Halt) (result : Result (Unit {0}) Halt) (old : CountingReader n) (walk : TileWalk PlanTile) (limit most : ℕ) (t : PlanTile) (new : CountingReader n)
     → start.standing ≡ standing_of old → start.rule_of ≡ rule_of → EndsTile rest room start result (record { walk = walk; rule_of = rule_of; limit = limit; room = most; state = t; standing = standing_of new })
     → GivesTile (rest start.state) old result t new
 plan_given rest room start (Ok u) old walk limit most t new is tells h = rw (sym is) h.0

@@ -20,7 +20,7 @@ unfolding plan_block read_block settle mapped
 block_seen by at s =
     mapped_after plan_view (mode_info (block_sources by) (infos (s.earlier ++ s.blocks)) at) _ _
     (λ told. mapped_after plan_view (lifted told) _ _
-    (λ info. mapped_after plan_view (residues.read_block by.header by.contexts at.tile_from info s.sides) _ _
+    (λ info. mapped_after plan_view (residues.block_residue by.header by.contexts at.tile_from info s.sides) _ _
     (λ read. ap (λ (bs : List PlannedBlock). settle (record { blocks = bs; sides = read.1 })) (append_assoc s.earlier s.blocks (read.0 ∷ [])))))
 
 pub tile_seen : (by : FrameSources) (frame : FramePlaces) (tile : TilePlaces) (columns r c n : ℕ) (s : TileRead)

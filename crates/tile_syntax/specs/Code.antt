@@ -14,7 +14,7 @@ use Rattle.residue_syntax.specs.Residues as residues
 use Rattle.residue_syntax.specs.declared.sides.TileSides.{TileSides}
 use Rattle.inter_modes.specs.ModeInfo.{mode_info}
 use Rattle.prob_contexts.specs.declared.kind.CountedBool.{CountedBool}
-use Rattle.mode_syntax.specs.Walk.{Walk}
+use Rattle.mode_syntax.specs.Walk.{TileWalk}
 use Rattle.tile_reader.specs.Code.{Breaks}
 use Rattle.frame_state.specs.Code.{counts_if}
 use Rattle.frame_state.specs.ColumnPlans.{ColumnRead, plan_of}
@@ -45,10 +45,10 @@ unfoldable pub plan_block : FrameSources → BlockAt → PlanTile → Syntax ℕ
 plan_block by at s =
     counting.◌>>=◌ (mode_info (block_sources by) (infos s.blocks) at) (λ told.
     counting.◌>>=◌ (lifted told) (λ info.
-    counting.◌>>=◌ (residues.read_block by.header by.contexts at.tile_from info s.sides) (λ read.
+    counting.◌>>=◌ (residues.block_residue by.header by.contexts at.tile_from info s.sides) (λ read.
     settle (record { blocks = s.blocks ++ read.0 ∷ []; sides = read.1 }))))
 
-abbrev pub plan_walk : FrameSources → FramePlaces → ℕ → ℕ → Walk PlanTile
+abbrev pub plan_walk : FrameSources → FramePlaces → ℕ → ℕ → TileWalk PlanTile
 plan_walk by frame from to = record {
   frame = frame;
   tile_from = from;

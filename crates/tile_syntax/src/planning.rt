@@ -16,7 +16,7 @@ use counting_reader::CountingReader;
 use frame_state::{FrameSources, Halt, frame_is_intra};
 use inter_modes::mode_info;
 use mode_syntax::{SquareAt, read_partition};
-use residue_syntax::read_block;
+use residue_syntax::block_residue;
 use tile_reader::TileReader;
 use vp9_types::Partition;
 
@@ -49,7 +49,7 @@ pub(crate) fn plan_block<const COUNTS: bool>(
     let vectors = by.past.vectors.as_ref();
     let grid = &plan.column.grid;
     let block = mode_info(reader, setting, at, grid, by.past.segments, vectors)?;
-    let listed = read_block(reader, setting, &block, &mut plan.column.sides, room)?;
+    let listed = block_residue(reader, setting, &block, &mut plan.column.sides, room)?;
     let end = plan.end();
     plan.rows.reach(at.row / 8, end)?;
     push_block(&mut plan.residues, setting, &block, room)?;

@@ -4,7 +4,7 @@ use Rattle.std.specs.Prelude.{Result, Ok, Err, Option, Some, ◌++◌}
 use Rattle.vp9_types.specs.Results.{◌>>=◌}
 use Rattle.vp9_types.specs.Syntax.{Syntax}
 use Rattle.vp9_types.specs.declared.rule.Rule.{Rule}
-use Rattle.bool_encoder.specs.Part.{Part, marked}
+use Rattle.bool_encoder.specs.Part.{NumberPart, behind_marker}
 use Rattle.bool_lists.specs.BoolLists.{BoolList, HasPut}
 use Rattle.bool_lists.proofs.Ways.{spells_on}
 use Rattle.counting_reader.specs.Counting.{Settled, in_order, settle}
@@ -23,11 +23,11 @@ same_on a b c h g = record { walk = g.walk ∙ h.walk; teller = g.teller ∙ h.t
 
 ---- Bools of syntaxes that count ----
 
-counting_on : {S T : Type 0} (x : Syntax ℕ Rule (Settled S)) (f : S → Syntax ℕ Rule (Settled T)) (old mid new : Part) (s : S) (r : Result T Rule)
+counting_on : {S T : Type 0} (x : Syntax ℕ Rule (Settled S)) (f : S → Syntax ℕ Rule (Settled T)) (old mid new : NumberPart) (s : S) (r : Result T Rule)
     → PutsValue x old s mid → PutsTo (f s) mid r new → PutsTo (in_order x f) old r new
 counting_on x f old mid new s r h g = puts_on x f old mid new s r (puts_value x old mid s h) g
 
-counting_bind : {S T : Type 0} (x : Syntax ℕ Rule (Settled S)) (f : S → Syntax ℕ Rule (Settled T)) (old mid new : Part) (s : S) (t : T)
+counting_bind : {S T : Type 0} (x : Syntax ℕ Rule (Settled S)) (f : S → Syntax ℕ Rule (Settled T)) (old mid new : NumberPart) (s : S) (t : T)
     → PutsValue x old s mid → PutsValue (f s) mid t new → PutsValue (in_order x f) old t new
 counting_bind x f old mid new s t h g = value_put (in_order x f) old new t (counting_on x f old mid new s (Ok t) h (puts_value (f s) mid new t g))
 
@@ -157,7 +157,7 @@ symbol_ends old mid new x list told p f n (Ok u) by h =
     let said = by.said in
     let same = by.same in (
       λ s bools holds.
-          let y = h.0 s (bools ++ list s p) (rw (same.view, held) holds.0, spells_on marked old.part mid.part bools (list s p) (by.spelled s holds.0) holds.1) in record {
+          let y = h.0 s (bools ++ list s p) (rw (same.view, held) holds.0, spells_on behind_marker old.part mid.part bools (list s p) (by.spelled s holds.0) holds.1) in record {
             next = y.next;
             all = y.all;
             held = rw (same.view) at y.held;
@@ -173,7 +173,7 @@ symbol_ends old mid new x list told p f n (Err (Broken rule)) by h =
     let said = by.said in
     let same = by.same in (
       λ s bools holds.
-          let y = h.0 s (bools ++ list s p) (rw (same.view, held) holds.0, spells_on marked old.part mid.part bools (list s p) (by.spelled s holds.0) holds.1) in
+          let y = h.0 s (bools ++ list s p) (rw (same.view, held) holds.0, spells_on behind_marker old.part mid.part bools (list s p) (by.spelled s holds.0) holds.1) in
           (counting_on (x s) (λ p. (f p).syntax s) old.part mid.part new.part p (Err rule) (by.put s holds.0) y.0, rw said y.1),
       same_on old mid new same h.1,
     )
@@ -181,5 +181,5 @@ symbol_ends old mid new x list told p f n (Err Unsaid) by h =
     let held = by.held in
     let said = by.said in
     let same = by.same in
-    λ s bools holds. rw said (h s (bools ++ list s p) (rw (same.view, held) holds.0, spells_on marked old.part mid.part bools (list s p) (by.spelled s holds.0) holds.1))
+    λ s bools holds. rw said (h s (bools ++ list s p) (rw (same.view, held) holds.0, spells_on behind_marker old.part mid.part bools (list s p) (by.spelled s holds.0) holds.1))
 symbol_ends old mid new x list told p f n (Err OutOfMemory) by h = tt

@@ -5,7 +5,7 @@ use Rattle.std.specs.Prelude.{Result, Ok, Err}
 use Rattle.std.proofs.Math.Nat.{mul-le-mul_left}
 use Rattle.mode_syntax.specs.Laws.{square_at, decode_row, decode_rows, squares_from}
 use Rattle.mode_syntax.specs.Superblocks.{superblock_from, superblocks_of}
-use Rattle.mode_syntax.specs.Walk.{Walk, decode_tile}
+use Rattle.mode_syntax.specs.Walk.{TileWalk, decode_tile}
 use Rattle.mode_syntax.specs.declared.square_at.SquareAt.{SquareAt}
 use Rattle.mode_syntax.proofs.RowByRow.{tile_is}
 use Rattle.tile_writer.specs.SaidTiles.{SaidSoFar, Said, Teller, then_said, said_at_level, said_tile}
@@ -16,10 +16,10 @@ use Rattle.tile_writer.proofs.SquareEnds.{moved, SquareEnds}
 
 -- of a walk and its teller, n turns from a place on; and one of them
 abbrev pub Turns : Type 0 → Type 0 → Type 0
-Turns S T = Walk S → Teller S T → ℕ → ℕ → Rest S T
+Turns S T = TileWalk S → Teller S T → ℕ → ℕ → Rest S T
 
 abbrev pub Turn : Type 0 → Type 0 → Type 0
-Turn S T = Walk S → Teller S T → ℕ → Rest S T
+Turn S T = TileWalk S → Teller S T → ℕ → Rest S T
 
 -- i of n turns are done, of k blocks each at most: whatever ends the rest ends all
 pub record IsLeft {S H T : Type 0} (f : Turns S T) (c n k i : ℕ) (start now : Tile S H T) : Type 0 where
@@ -42,13 +42,13 @@ begins f c n k t = record {
 
 -- a turn, and then the others
 abbrev TakesTurns : {S T : Type 0} → Type 0 → Turns S T → Turn S T → Type 0
-TakesTurns {S} {T} H f turn = (walk : Walk S) (teller : Teller S T) (c n m : ℕ) (t new : Tile S H T) (result : Result (Unit {0}) Unwritten)
+TakesTurns {S} {T} H f turn = (walk : TileWalk S) (teller : Teller S T) (c n m : ℕ) (t new : Tile S H T) (result : Result (Unit {0}) Unwritten)
     → EndsTile (then_rest (turn walk teller c) (f walk teller (c + 8) n)) m t result new → EndsTile (f walk teller c (suc n)) m t result new
 
 abbrev EndsTurns : {S T : Type 0} → Type 0 → Turns S T → Type 0
-EndsTurns {S} {T} H f = (walk : Walk S) (teller : Teller S T) (c m : ℕ) (t : Tile S H T) → EndsTile (f walk teller c 0) m t (Ok tt) t
+EndsTurns {S} {T} H f = (walk : TileWalk S) (teller : Teller S T) (c m : ℕ) (t : Tile S H T) → EndsTile (f walk teller c 0) m t (Ok tt) t
 
-next : {S H T : Type 0} (f : Turns S T) (turn : Turn S T) → TakesTurns H f turn → (walk : Walk S) (teller : Teller S T) (c n i m : ℕ) (now new : Tile S H T) (result : Result (Unit {0}) Unwritten)
+next : {S H T : Type 0} (f : Turns S T) (turn : Turn S T) → TakesTurns H f turn → (walk : TileWalk S) (teller : Teller S T) (c n i m : ℕ) (now new : Tile S H T) (result : Result (Unit {0}) Unwritten)
     → i < n → EndsTile (then_rest (turn walk teller (c + 8 * i)) (f walk teller (c + 8 * (i + 1)) (n - (i + 1)))) m now result new
     → EndsTile (f walk teller (c + 8 * i) (n - i)) m now result new
 next f turn takes walk teller c n i m now new result more h =
@@ -118,7 +118,7 @@ said_again : {S T : Type 0} (r : Said S T) (f g : SaidSoFar S T → Said S T) �
 said_again (Ok p) f g = refl
 said_again (Err e) f g = refl
 
-said_both : {S T : Type 0} (walk : Walk S) (teller : Teller S T) (xs ys : List SquareAt) (p : SaidSoFar S T)
+said_both : {S T : Type 0} (walk : TileWalk S) (teller : Teller S T) (xs ys : List SquareAt) (p : SaidSoFar S T)
     → said_tile walk teller (xs ++ ys) p ≡ then_said (said_tile walk teller xs p) (said_tile walk teller ys)
 unfolding said_tile
 said_both walk teller [] ys p = refl
@@ -132,7 +132,7 @@ next_place c j = omega arith
 first_place : (c : ℕ) → c + 8 * 0 ≡ c
 first_place c = omega arith
 
-module _ {S T : Type 0} (walk : Walk S) (teller : Teller S T) (r c : ℕ) where
+module _ {S T : Type 0} (walk : TileWalk S) (teller : Teller S T) (r c : ℕ) where
   row_says : (i j n : ℕ) (p : SaidSoFar S T)
       → said_tile walk teller (map (λ j. superblock_from (square_at walk 3 r c) i j) (range_with_len j n)) p ≡ said_row walk teller (r + 8 * i) (c + 8 * j) n p
   unfolding said_tile said_row
@@ -153,7 +153,7 @@ module _ {S T : Type 0} (walk : Walk S) (teller : Teller S T) (r c : ℕ) where
       ∙ (ap (λ d. then_said (said_row walk teller (r + 8 * i) d columns p) (said_rows walk teller columns (r + 8 * (i + 1)) c n)) (first_place c)
       ∙ ap (λ d. then_said (said_row walk teller (r + 8 * i) c columns p) (said_rows walk teller columns d c n)) (next_place r i)))
 
-tile_says : {S T : Type 0} (walk : Walk S) (teller : Teller S T) (columns r c n : ℕ) (p : SaidSoFar S T)
+tile_says : {S T : Type 0} (walk : TileWalk S) (teller : Teller S T) (columns r c n : ℕ) (p : SaidSoFar S T)
     → said_tile walk teller (squares_from walk columns r c n) p ≡ said_rows walk teller columns r c n p
 tile_says walk teller columns r c n p = rows_say walk teller r c columns 0 n p ∙ ap (λ d. said_rows walk teller columns d c n p) (first_place r)
 

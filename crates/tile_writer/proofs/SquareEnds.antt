@@ -17,7 +17,7 @@ use Rattle.bool_encoder.specs.CountedBools.{PutsValue}
 use Rattle.mode_syntax.specs.Partitions.{half_of, partition_at}
 use Rattle.mode_syntax.specs.Laws.{square_at, decode_square}
 use Rattle.mode_syntax.specs.Superblocks.{quarter_square}
-use Rattle.mode_syntax.specs.Walk.{Walk, block_at, starts_inside, block_inside, smallest_parts, parts, decode_at_level}
+use Rattle.mode_syntax.specs.Walk.{TileWalk, block_at, starts_inside, block_inside, smallest_parts, parts, decode_at_level}
 use Rattle.mode_syntax.specs.declared.square_at.SquareAt.{SquareAt}
 use Rattle.tile_writer.specs.SaidTiles.{SaidSoFar, Said, Teller, so_far, then_said, told_block, said_inside, said_parts, said_at_level, told_partition}
 use Rattle.mode_syntax.proofs.SquareParts.{first_is, second_is, third_is, fourth_is, rows_are, columns_are, quarters_are}
@@ -26,32 +26,32 @@ use Rattle.tile_writer.specs.declared.unwritten.Unwritten.{Unwritten}
 use Rattle.tile_writer.specs.declared.unwritten.Unwritten.TheVariants.{Broken, Unsaid, OutOfMemory}
 use Rattle.tile_writer.proofs.Endings.{as_rest, ends_here, symbol_rest, symbol_ends, then_ends, same_here}
 
-inside : {S : Type 0} (walk : Walk S) (r c : ℕ) → r < walk.frame.rows → c < walk.frame.cols → starts_inside walk r c ≡ true
+inside : {S : Type 0} (walk : TileWalk S) (r c : ℕ) → r < walk.frame.rows → c < walk.frame.cols → starts_inside walk r c ≡ true
 inside walk r c row col = search rules
 
-pub below : {S : Type 0} (walk : Walk S) (r c : ℕ) → walk.frame.rows ≤ r → starts_inside walk r c ≡ false
+pub below : {S : Type 0} (walk : TileWalk S) (r c : ℕ) → walk.frame.rows ≤ r → starts_inside walk r c ≡ false
 below walk r c row = search rules
 
-pub beside : {S : Type 0} (walk : Walk S) (r c : ℕ) → walk.frame.cols ≤ c → starts_inside walk r c ≡ false
+pub beside : {S : Type 0} (walk : TileWalk S) (r c : ℕ) → walk.frame.cols ≤ c → starts_inside walk r c ≡ false
 beside walk r c col = search rules
 
 -- the same of another tile further on
-pub moved : {S H T : Type 0} (f : Walk S → Teller S T → Rest S T) (n : ℕ) (old mid new : Tile S H T) (result : Result (Unit {0}) Unwritten) → SameTile old mid
+pub moved : {S H T : Type 0} (f : TileWalk S → Teller S T → Rest S T) (n : ℕ) (old mid new : Tile S H T) (result : Result (Unit {0}) Unwritten) → SameTile old mid
     → EndsTile (f mid.walk mid.teller) n mid result new → EndsTile (f old.walk old.teller) n mid result new
 moved {S = S} {T = T} f n old mid new result same h =
-    subst (λ (w : Walk S). EndsTile (f w old.teller) n mid result new) same.walk (subst (λ (u : Teller S T). EndsTile (f mid.walk u) n mid result new) same.teller h)
+    subst (λ (w : TileWalk S). EndsTile (f w old.teller) n mid result new) same.walk (subst (λ (u : Teller S T). EndsTile (f mid.walk u) n mid result new) same.teller h)
 
 ---- A block that may start outside ----
 
-block_is : {S : Type 0} (walk : Walk S) (at : BlockAt) → at.tile_from ≡ walk.tile_from → at.tile_to ≡ walk.tile_to → at ≡ block_at walk at.row at.col at.size
+block_is : {S : Type 0} (walk : TileWalk S) (at : BlockAt) → at.tile_from ≡ walk.tile_from → at.tile_to ≡ walk.tile_to → at ≡ block_at walk at.row at.col at.size
 block_is walk at from to = λ i. record { row = at.row; col = at.col; size = at.size; tile_from = from i; tile_to = to i }
 
-inside_is : {S T : Type 0} (walk : Walk S) (teller : Teller S T) (r c : ℕ) (size : BlockSize) (s : S) → starts_inside walk r c ≡ true
+inside_is : {S T : Type 0} (walk : TileWalk S) (teller : Teller S T) (r c : ℕ) (size : BlockSize) (s : S) → starts_inside walk r c ≡ true
     → walk.block (block_at walk r c size) s ≡ block_inside walk r c size s
 unfolding block_inside
 inside_is walk teller r c size s is = rw is refl
 
-inside_says : {S T : Type 0} (walk : Walk S) (teller : Teller S T) (r c : ℕ) (size : BlockSize) (p : SaidSoFar S T) → starts_inside walk r c ≡ true
+inside_says : {S T : Type 0} (walk : TileWalk S) (teller : Teller S T) (r c : ℕ) (size : BlockSize) (p : SaidSoFar S T) → starts_inside walk r c ≡ true
     → teller.block (block_at walk r c size) p ≡ said_inside walk teller r c size p
 unfolding said_inside
 inside_says walk teller r c size p is = rw is refl
@@ -64,11 +64,11 @@ inside_ends t new at n result row col stands h =
     (λ s. inside_is t.walk t.teller at.row at.col at.size s is) (λ p. inside_says t.walk t.teller at.row at.col at.size p is)
     (subst (λ (b : BlockAt). EndsTile (block_rest t.walk t.teller b) n t result new) (block_is t.walk at stands.from stands.to) h)
 
-outside_is : {S : Type 0} (walk : Walk S) (r c : ℕ) (size : BlockSize) (s : S) → starts_inside walk r c ≡ false → block_inside walk r c size s ≡ settle s
+outside_is : {S : Type 0} (walk : TileWalk S) (r c : ℕ) (size : BlockSize) (s : S) → starts_inside walk r c ≡ false → block_inside walk r c size s ≡ settle s
 unfolding block_inside
 outside_is walk r c size s none = rw none refl
 
-outside_says : {S T : Type 0} (walk : Walk S) (teller : Teller S T) (r c : ℕ) (size : BlockSize) (p : SaidSoFar S T) → starts_inside walk r c ≡ false → said_inside walk teller r c size p ≡ Ok p
+outside_says : {S T : Type 0} (walk : TileWalk S) (teller : Teller S T) (r c : ℕ) (size : BlockSize) (p : SaidSoFar S T) → starts_inside walk r c ≡ false → said_inside walk teller r c size p ≡ Ok p
 unfolding said_inside
 outside_says walk teller r c size p none = rw none refl
 
@@ -84,12 +84,12 @@ halves_end old mid new first r c size result h k =
 
 ---- Squares that start outside ----
 
-square_is_none : {S : Type 0} (walk : Walk S) (level r c : ℕ) (s : S) → starts_inside walk r c ≡ false → decode_square walk level r c s ≡ settle s
+square_is_none : {S : Type 0} (walk : TileWalk S) (level r c : ℕ) (s : S) → starts_inside walk r c ≡ false → decode_square walk level r c s ≡ settle s
 unfolding decode_at_level
 square_is_none walk zero r c s none = rw none refl
 square_is_none walk (suc k) r c s none = rw none refl
 
-square_says_none : {S T : Type 0} (walk : Walk S) (teller : Teller S T) (level r c : ℕ) (p : SaidSoFar S T) → starts_inside walk r c ≡ false → said_at_level walk teller level (square_at walk level r c) p ≡ Ok p
+square_says_none : {S T : Type 0} (walk : TileWalk S) (teller : Teller S T) (level r c : ℕ) (p : SaidSoFar S T) → starts_inside walk r c ≡ false → said_at_level walk teller level (square_at walk level r c) p ≡ Ok p
 unfolding said_at_level
 square_says_none walk teller zero r c p none = rw none refl
 square_says_none walk teller (suc k) r c p none = rw none refl
@@ -131,7 +131,7 @@ HalvesEnd t first r c size result new = EndsTile (then_rest (block_rest t.walk t
 down : (n : ℕ) → suc n - 1 ≡ n
 down n = omega arith
 
-module _ {S T : Type 0} (walk : Walk S) (teller : Teller S T) (n r c : ℕ) where
+module _ {S T : Type 0} (walk : TileWalk S) (teller : Teller S T) (n r c : ℕ) where
   abbrev said_part : Partition → SaidSoFar S T → Said S T
   said_part partition p = said_parts walk teller (said_at_level walk teller n) (square_at walk (suc n) r c) partition p
 
@@ -191,7 +191,7 @@ columns_end t new at k half first size result of level side sized is h =
 
 ---- Quarters ----
 
-abbrev pub SquareEnds : {S H T : Type 0} → Walk S → Teller S T → ℕ → ℕ → ℕ → Tile S H T → ℕ → Result (Unit {0}) Unwritten → Tile S H T → Type 0
+abbrev pub SquareEnds : {S H T : Type 0} → TileWalk S → Teller S T → ℕ → ℕ → ℕ → Tile S H T → ℕ → Result (Unit {0}) Unwritten → Tile S H T → Type 0
 SquareEnds walk teller level r c t n result new = EndsTile (square_rest walk teller level r c) n t result new
 
 quarter_is : {S H T : Type 0} (old mid new : Tile S H T) (at q : SquareAt) (i r c : ℕ) (result : Result (Unit {0}) Unwritten) → SameTile old mid → q ≡ quarter_square at i
@@ -260,10 +260,10 @@ IsOpened old at p mid =
 square_is : {S H T : Type 0} (t : Tile S H T) (at : SquareAt) → IsOf t at → at ≡ square_at t.walk at.level at.row at.col
 square_is t at of = λ i. record { row = at.row; col = at.col; level = at.level; tile_from = of.from i; tile_to = of.to i }
 
-abbrev asked : {S : Type 0} → Walk S → SquareAt → S → Syntax ℕ Rule (Settled Partition)
+abbrev asked : {S : Type 0} → TileWalk S → SquareAt → S → Syntax ℕ Rule (Settled Partition)
 asked walk at s = partition_at walk.intra walk.probs (walk.blocks s) walk.frame at
 
-abbrev spelled_at : {S : Type 0} → Walk S → SquareAt → S → Partition → BoolList
+abbrev spelled_at : {S : Type 0} → TileWalk S → SquareAt → S → Partition → BoolList
 spelled_at walk at s p = spelled_partition_at walk.intra walk.probs (walk.blocks s) walk.frame at p
 
 -- its partition, and what stands behind it
@@ -328,7 +328,7 @@ larger_ends old mid new at p n result some row col of opened h =
     (opened_ends old mid new at p f n result of opened (moved (λ w u. parts_rest w u (at.level - 1) at.row at.col p) n old mid new result opened.same h)))
 
 -- a partition that isn't put
-unsaid_by : {S T : Type 0} (walk : Walk S) (teller : Teller S T) (level r c : ℕ) (q : SaidSoFar S T) → starts_inside walk r c ≡ true → told_partition walk teller (square_at walk level r c) q.told ≡ None
+unsaid_by : {S T : Type 0} (walk : TileWalk S) (teller : Teller S T) (level r c : ℕ) (q : SaidSoFar S T) → starts_inside walk r c ≡ true → told_partition walk teller (square_at walk level r c) q.told ≡ None
     → said_at_level walk teller level (square_at walk level r c) q ≡ Err Unsaid
 unfolding said_at_level
 unsaid_by walk teller zero r c q is none = rw (is, none) refl

@@ -11,7 +11,7 @@ use Rattle.block_plan.specs.declared.block.BlockAt.{BlockAt}
 use Rattle.block_lists.specs.PartitionLists.{spelled_partition_at}
 use Rattle.mode_syntax.specs.Partitions.{half_of}
 use Rattle.mode_syntax.specs.Superblocks.{quarter_square}
-use Rattle.mode_syntax.specs.Walk.{Walk, block_at, starts_inside}
+use Rattle.mode_syntax.specs.Walk.{TileWalk, block_at, starts_inside}
 use Rattle.mode_syntax.specs.declared.square_at.SquareAt.{SquareAt}
 use Rattle.tile_writer.specs.declared.unwritten.Unwritten.{Unwritten}
 use Rattle.tile_writer.specs.declared.unwritten.Unwritten.TheVariants.{Unsaid}
@@ -38,20 +38,20 @@ pub record Teller (S T : Type 0) : Type 0 where
 abbrev pub then_said : {S T : Type 0} → Said S T → (SaidSoFar S T → Said S T) → Said S T
 then_said said f = said >>= f
 
-abbrev pub told_partition : {S T : Type 0} → Walk S → Teller S T → SquareAt → T → Option (Partition × T)
+abbrev pub told_partition : {S T : Type 0} → TileWalk S → Teller S T → SquareAt → T → Option (Partition × T)
 told_partition walk teller at t =
     teller.partition (nat_lt (at.row + half_of at.level) walk.frame.rows) (nat_lt (at.col + half_of at.level) walk.frame.cols) t
 
 -- a partition more, with its bools by the blocks before it
-abbrev pub with_partition : {S T : Type 0} → Walk S → SquareAt → SaidSoFar S T → Partition → T → SaidSoFar S T
+abbrev pub with_partition : {S T : Type 0} → TileWalk S → SquareAt → SaidSoFar S T → Partition → T → SaidSoFar S T
 with_partition walk at p partition t =
     so_far p.state t (p.bools ++ spelled_partition_at walk.intra walk.probs (walk.blocks p.state) walk.frame at partition)
 
-abbrev pub told_block : {S T : Type 0} → Walk S → Teller S T → ℕ → ℕ → BlockSize → SaidSoFar S T → Said S T
+abbrev pub told_block : {S T : Type 0} → TileWalk S → Teller S T → ℕ → ℕ → BlockSize → SaidSoFar S T → Said S T
 told_block walk teller r c size p = teller.block (block_at walk r c size) p
 
 -- a block, unless it starts outside
-unfoldable pub said_inside : {S T : Type 0} → Walk S → Teller S T → ℕ → ℕ → BlockSize → SaidSoFar S T → Said S T
+unfoldable pub said_inside : {S T : Type 0} → TileWalk S → Teller S T → ℕ → ℕ → BlockSize → SaidSoFar S T → Said S T
 said_inside walk teller r c size p = if starts_inside walk r c then told_block walk teller r c size p else Ok p
 
 -- what was told, if there was anything to tell
@@ -60,7 +60,7 @@ if_told (Some x) = Ok x
 if_told None = Err Unsaid
 
 -- the parts of a square larger than 8x8, whose quarters say this
-unfoldable pub said_parts : {S T : Type 0} → Walk S → Teller S T → (SquareAt → SaidSoFar S T → Said S T) → SquareAt → Partition → SaidSoFar S T → Said S T
+unfoldable pub said_parts : {S T : Type 0} → TileWalk S → Teller S T → (SquareAt → SaidSoFar S T → Said S T) → SquareAt → Partition → SaidSoFar S T → Said S T
 said_parts walk teller said at Whole p = told_block walk teller at.row at.col (part_size Whole at.level) p
 said_parts walk teller said at Horizontal p = do
   p ← told_block walk teller at.row at.col (part_size Horizontal at.level) p
@@ -75,7 +75,7 @@ said_parts walk teller said at Split p = do
   said (quarter_square at 3) p
 
 -- A square of a level: its partition, and then its parts. One that starts outside says nothing.
-unfoldable pub said_at_level : {S T : Type 0} → Walk S → Teller S T → ℕ → SquareAt → SaidSoFar S T → Said S T
+unfoldable pub said_at_level : {S T : Type 0} → TileWalk S → Teller S T → ℕ → SquareAt → SaidSoFar S T → Said S T
 said_at_level walk teller zero at p =
     if starts_inside walk at.row at.col
     then (if_told (told_partition walk teller at p.told)
@@ -87,10 +87,10 @@ said_at_level walk teller (suc n) at p =
     >>= λ q. said_parts walk teller (said_at_level walk teller n) at q.0 (with_partition walk at p q.0 q.1))
     else Ok p
 
-abbrev pub said_square : {S T : Type 0} → Walk S → Teller S T → SquareAt → SaidSoFar S T → Said S T
+abbrev pub said_square : {S T : Type 0} → TileWalk S → Teller S T → SquareAt → SaidSoFar S T → Said S T
 said_square walk teller at p = said_at_level walk teller at.level at p
 
 -- its superblocks, one after another
-unfoldable pub said_tile : {S T : Type 0} → Walk S → Teller S T → List SquareAt → SaidSoFar S T → Said S T
+unfoldable pub said_tile : {S T : Type 0} → TileWalk S → Teller S T → List SquareAt → SaidSoFar S T → Said S T
 said_tile walk teller [] p = Ok p
 said_tile walk teller (at ∷ squares) p = said_square walk teller at p >>= said_tile walk teller squares

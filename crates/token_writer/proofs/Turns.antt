@@ -13,7 +13,7 @@ use Rattle.prob_contexts.specs.ProbLists.{ContextLists}
 use Rattle.coef_tokens.specs.TokenKinds.{block_tables}
 use Rattle.coef_tokens.specs.declared.tables.TokenKind.{TokenKind}
 use Rattle.counting_reader.specs.Counting.{Settled}
-use Rattle.bool_encoder.specs.Part.{Part, after_put}
+use Rattle.bool_encoder.specs.Part.{NumberPart, after_put}
 use Rattle.bool_encoder.specs.WrittenBools.{Puts, can_put}
 use Rattle.vp9_types.proofs.Binds.{writes_bind}
 use Rattle.coef_tokens.proofs.Turns.{kept}
@@ -22,7 +22,7 @@ use Rattle.coef_tokens.specs.declared.step.Step.TheVariants.{End, Zero, Level}
 use Rattle.coef_tokens.specs.Places.{Tables, Tokens, Read, no_tokens, block_tokens, tokens_from, step_by, row_at, with_zero, with_level, goes_on, level_at}
 use Rattle.coef_tokens.specs.Code.{HoldsClasses, HoldsLevels, StandsAt}
 use Rattle.bool_encoder.specs.CountedBools.{valued, PutsValue}
-use Rattle.token_writer.specs.TokenFits.{CanPut, IsCoded, PutsLevels, level_of}
+use Rattle.token_writer.specs.TokenFits.{CanPut, IsCoded, PutsLevels, level_in}
 use Rattle.token_writer.specs.Code.{PutsStep, AreThree}
 use Rattle.bool_encoder.proofs.CountedPuts.{valued_in_order, valued_settle, value_counts}
 
@@ -35,7 +35,7 @@ coded_small Twelve m h = omega arith
 pub kept_level : (depth : Depth) (z : ℤ) → IsCoded depth (unsigned_abs z) → to_z w32 (of_z w32 z) ≡ z
 kept_level depth z h = kept z (coded_small depth (unsigned_abs z) h)
 
-pub coded_at : (depth : Depth) (levels : List ℤ) (position : ℕ) → All (λ level. IsCoded depth (unsigned_abs level)) levels → IsCoded depth (unsigned_abs (level_of levels position))
+pub coded_at : (depth : Depth) (levels : List ℤ) (position : ℕ) → All (λ level. IsCoded depth (unsigned_abs level)) levels → IsCoded depth (unsigned_abs (level_in levels position))
 coded_at depth levels position coded = elim (cases_lt position (length levels)) [
   | inl low ↦ coded position (pos 0) low
   | inr past ↦ rw (get_or_past levels position (pos 0) past) (omega arith)
@@ -49,7 +49,7 @@ back n = omega arith
 
 -- behind a zero that isn't the scan's last place a level is coded
 pub asks : (t : Tables) (levels : List ℤ) (count : ℕ) (check : Bool) → CanPut t levels count
-    → (check ≡ false → (0 < count) × (level_of levels (slice_index t.scan (count - 1)) ≡ pos 0)) → count < length t.scan → check ≡ true
+    → (check ≡ false → (0 < count) × (level_in levels (slice_index t.scan (count - 1)) ≡ pos 0)) → count < length t.scan → check ≡ true
 asks t levels count true can zero low = refl
 asks t levels count false can zero low = let z = zero refl in absurd (can.last z.0 low z.1)
 
@@ -59,30 +59,30 @@ true_is e = let no : ⊥ = cc in absurd no
 -- the levels at the first places of the scan, and 0 elsewhere
 abbrev pub HoldsFirst : List ℕ → ℕ → List ℤ → List Read → Type 0
 HoldsFirst scan place levels reads =
-    (p : ℕ) → (level_of levels p ≡ level_at reads p) ⊎ ((level_at reads p ≡ pos 0) × ((k : ℕ) → k < place → slice_index scan k ≢ p))
+    (p : ℕ) → (level_in levels p ≡ level_at reads p) ⊎ ((level_at reads p ≡ pos 0) × ((k : ℕ) → k < place → slice_index scan k ≢ p))
 
 -- what is put for the places still to come completes the block
-abbrev Left : Tables → ℕ → Part → ℕ → Bool → Tokens → Part → Type 0
+abbrev Left : Tables → ℕ → NumberPart → ℕ → Bool → Tokens → NumberPart → Type 0
 Left t first old place check p now =
-    (q : Tokens) (new : Part) → PutsValue (tokens_from t first (drop place t.scan) check p) now q new → PutsValue (block_tokens t first) old q new
+    (q : Tokens) (new : NumberPart) → PutsValue (tokens_from t first (drop place t.scan) check p) now q new → PutsValue (block_tokens t first) old q new
 
 -- what the loop keeps
-abbrev pub Stands : Tables → ℕ → Part → ℕ → Bool → List ℕ → List ℤ → Part → Type 0
+abbrev pub Stands : Tables → ℕ → NumberPart → ℕ → Bool → List ℕ → List ℤ → NumberPart → Type 0
 Stands t first old place check cache levels now =
     (p : Tokens) × (p.count ≡ place) × HoldsClasses cache p.reads × HoldsFirst t.scan place levels p.reads × Left t first old place check p now
 
-pub begins : (t : Tables) (first : ℕ) (old : Part) (cache : List ℕ) (levels : List ℤ) → HoldsClasses cache [] → Stands t first old 0 true cache levels old
+pub begins : (t : Tables) (first : ℕ) (old : NumberPart) (cache : List ℕ) (levels : List ℤ) → HoldsClasses cache [] → Stands t first old 0 true cache levels old
 unfolding block_tokens
 begins t first old cache levels classes =
     (no_tokens, refl, classes, (λ p. inr (refl, λ k low. absurd (omega arith))), (λ q new h. h))
 
-by_row : (t : Tables) (row : ℕ) (check : Bool) (probs : List ℕ) (now next : Part) (s : Step) → AreThree t row probs → PutsStep t.depth check probs now s next
+by_row : (t : Tables) (row : ℕ) (check : Bool) (probs : List ℕ) (now next : NumberPart) (s : Step) → AreThree t row probs → PutsStep t.depth check probs now s next
     → PutsValue (step_by t row check) now s next
 by_row t row check probs now next s three put = rw (three.first, three.second, three.third) at (put (t.base + row))
 
-turn : (t : Tables) (first place row : ℕ) (check : Bool) (probs : List ℕ) (p : Tokens) (old now next : Part) (s : Step) → place < length t.scan → p.count ≡ place
+turn : (t : Tables) (first place row : ℕ) (check : Bool) (probs : List ℕ) (p : Tokens) (old now next : NumberPart) (s : Step) → place < length t.scan → p.count ≡ place
     → row ≡ row_at t first place p.reads → AreThree t row probs → PutsStep t.depth check probs now s next → Left t first old place check p now
-    → (q : Tokens) (new : Part) → PutsValue (goes_on p (slice_index t.scan place) s (λ check' p'. tokens_from t first (drop (place + 1) t.scan) check' p')) next q new
+    → (q : Tokens) (new : NumberPart) → PutsValue (goes_on p (slice_index t.scan place) s (λ check' p'. tokens_from t first (drop (place + 1) t.scan) check' p')) next q new
     → PutsValue (block_tokens t first) old q new
 unfolding tokens_from
 turn t first place row check probs p old now next s low at is three put left q new rest =
@@ -93,12 +93,12 @@ turn t first place row check probs p old now next s low at is three put left q n
     (writes_bind can_put after_put (valued (step_by t (row_at t first p.count p.reads) check)) (λ s. valued (go s)) now next new s q one rest)))
 
 -- a place more
-first_more : (scan : List ℕ) (place : ℕ) (levels : List ℤ) (reads : List Read) → level_of levels (slice_index scan place) ≡ pos 0
+first_more : (scan : List ℕ) (place : ℕ) (levels : List ℤ) (reads : List Read) → level_in levels (slice_index scan place) ≡ pos 0
     → HoldsFirst scan place levels reads → HoldsFirst scan (place + 1) levels reads
 first_more scan place levels reads none holds = λ p. elim (holds p) [
   | inl same ↦ inl same
   | inr other ↦ elim (cases_eq (slice_index scan place) p) [
-    | inl here ↦ inl (ap (level_of levels) (sym here) ∙ none ∙ sym other.0)
+    | inl here ↦ inl (ap (level_in levels) (sym here) ∙ none ∙ sym other.0)
     | inr there ↦ inr (
       other.0,
       λ k low. elim (cases_eq k place) [
@@ -110,9 +110,9 @@ first_more scan place levels reads none holds = λ p. elim (holds p) [
 ]
 
 first_set : (scan : List ℕ) (place class : ℕ) (levels : List ℤ) (reads : List Read) → HoldsFirst scan place levels reads
-    → HoldsFirst scan (place + 1) levels (record { position = slice_index scan place; level = level_of levels (slice_index scan place); class = class } ∷ reads)
+    → HoldsFirst scan (place + 1) levels (record { position = slice_index scan place; level = level_in levels (slice_index scan place); class = class } ∷ reads)
 first_set scan place class levels reads holds = λ p. elim (cases_eq p (slice_index scan place)) [
-  | inl same ↦ inl (rw (eq-eqb p (slice_index scan place) same) (ap (level_of levels) same))
+  | inl same ↦ inl (rw (eq-eqb p (slice_index scan place) same) (ap (level_in levels) same))
   | inr other ↦ rw (ne_eqb p (slice_index scan place) other) (elim (holds p) [
     | inl same ↦ inl same
     | inr none ↦ inr (
@@ -132,9 +132,9 @@ classes_set cache reads position class level low holds = λ p. elim (cases_eq p 
   | inr other ↦ rw (ne_eqb p position other) (get_or-set_other cache position p class 0 other ∙ holds p)
 ]
 
-pub zero_turn : (t : Tables) (first : ℕ) (old : Part) (place row : ℕ) (check : Bool) (probs cache : List ℕ) (levels : List ℤ) (now next : Part)
+pub zero_turn : (t : Tables) (first : ℕ) (old : NumberPart) (place row : ℕ) (check : Bool) (probs cache : List ℕ) (levels : List ℤ) (now next : NumberPart)
     → Stands t first old place check cache levels now → place < length t.scan → StandsAt t first place cache row → AreThree t row probs
-    → level_of levels (slice_index t.scan place) ≡ pos 0 → PutsStep t.depth check probs now Zero next → Stands t first old (place + 1) false cache levels next
+    → level_in levels (slice_index t.scan place) ≡ pos 0 → PutsStep t.depth check probs now Zero next → Stands t first old (place + 1) false cache levels next
 zero_turn t first old place row check probs cache levels now next st low is three none put =
     let p = st.0 in (
       with_zero p,
@@ -144,18 +144,18 @@ zero_turn t first old place row check probs cache levels now next st low is thre
       turn t first place row check probs p old now next Zero low st.1 (is p.reads st.2) three put st.4,
     )
 
-pub level_turn : (t : Tables) (first : ℕ) (old : Part) (place row : ℕ) (check : Bool) (probs cache : List ℕ) (levels : List ℤ) (class : ℕ) (now next : Part)
+pub level_turn : (t : Tables) (first : ℕ) (old : NumberPart) (place row : ℕ) (check : Bool) (probs cache : List ℕ) (levels : List ℤ) (class : ℕ) (now next : NumberPart)
     → Stands t first old place check cache levels now → place < length t.scan → StandsAt t first place cache row → AreThree t row probs
-    → slice_index t.scan place < length cache → PutsStep t.depth check probs now (Level (level_of levels (slice_index t.scan place)) class) next
+    → slice_index t.scan place < length cache → PutsStep t.depth check probs now (Level (level_in levels (slice_index t.scan place)) class) next
     → Stands t first old (place + 1) true (set cache (slice_index t.scan place) class) levels next
 level_turn t first old place row check probs cache levels class now next st low is three inside put =
     let p = st.0 in
     let position = slice_index t.scan place in (
-      with_level p position (level_of levels position) class,
+      with_level p position (level_in levels position) class,
       ap (λ n. n + 1) st.1,
-      classes_set cache p.reads position class (level_of levels position) inside st.2,
+      classes_set cache p.reads position class (level_in levels position) inside st.2,
       first_set t.scan place class levels p.reads st.3,
-      turn t first place row check probs p old now next (Level (level_of levels position) class) low st.1 (is p.reads st.2) three put st.4,
+      turn t first place row check probs p old now next (Level (level_in levels position) class) low st.1 (is p.reads st.2) three put st.4,
     )
 
 all_held : (t : Tables) (levels : List ℤ) (count : ℕ) (reads : List Read) → CanPut t levels count → HoldsFirst t.scan count levels reads → HoldsLevels levels reads
@@ -164,7 +164,7 @@ all_held t levels count reads can holds = λ p. elim (holds p) [
   | inr none ↦ can.others p none.1 ∙ sym none.0
 ]
 
-pub ends_at_last : (t : Tables) (first : ℕ) (old : Part) (count : ℕ) (check : Bool) (cache : List ℕ) (levels : List ℤ) (now : Part)
+pub ends_at_last : (t : Tables) (first : ℕ) (old : NumberPart) (count : ℕ) (check : Bool) (cache : List ℕ) (levels : List ℤ) (now : NumberPart)
     → CanPut t levels count → Stands t first old count check cache levels now → count ≡ length t.scan → PutsLevels t first old levels count now
 unfolding tokens_from
 ends_at_last t first old count check cache levels now can st all =
@@ -173,7 +173,7 @@ ends_at_last t first old count check cache levels now can st all =
     let whole : PutsValue (block_tokens t first) old p now = st.4 p now (rw (drop_all count t.scan far, valued_settle p) (refl, refl)) in
     (p, value_counts (block_tokens t first) old now p whole, st.1, all_held t levels count p.reads can st.3)
 
-pub ends_here : (t : Tables) (first : ℕ) (old : Part) (count row : ℕ) (probs cache : List ℕ) (levels : List ℤ) (now next : Part)
+pub ends_here : (t : Tables) (first : ℕ) (old : NumberPart) (count row : ℕ) (probs cache : List ℕ) (levels : List ℤ) (now next : NumberPart)
     → CanPut t levels count → Stands t first old count true cache levels now → count < length t.scan → StandsAt t first count cache row → AreThree t row probs
     → PutsStep t.depth true probs now End next → PutsLevels t first old levels count next
 ends_here t first old count row probs cache levels now next can st low is three put =
@@ -184,7 +184,7 @@ ends_here t first old count row probs cache levels now next can st low is three 
 
 -- where no place so far has a position, its level is 0
 abbrev pub AreOthers : List ℕ → ℕ → List ℤ → Type 0
-AreOthers scan place levels = (position : ℕ) → ((k : ℕ) → k < place → slice_index scan k ≢ position) → level_of levels position ≡ pos 0
+AreOthers scan place levels = (position : ℕ) → ((k : ℕ) → k < place → slice_index scan k ≢ position) → level_in levels position ≡ pos 0
 
 pub others_set : (scan : List ℕ) (place : ℕ) (level : ℤ) (levels : List ℤ) → AreOthers scan place levels
     → AreOthers scan (place + 1) (set levels (slice_index scan place) level)
@@ -200,7 +200,7 @@ coded_below Twelve m h = omega arith
 pub can_by : (t : Tables) (contexts : ContextLists) (at : TokenKind) (levels : List ℤ) (count : ℕ) → t ≡ block_tables contexts at
     → length (scan_of at.tx at.kind) ≡ area at.tx → count ≤ area at.tx
     → All (λ level. unsigned_abs level < 16451) levels → AreOthers (scan_of at.tx at.kind) count levels
-    → (0 < count → count < area at.tx → level_of levels (slice_index (scan_of at.tx at.kind) (count - 1)) ≢ pos 0) → CanPut t levels count
+    → (0 < count → count < area at.tx → level_in levels (slice_index (scan_of at.tx at.kind) (count - 1)) ≢ pos 0) → CanPut t levels count
 unfolding block_tables
 can_by t contexts at levels count are size most small others last = rw are record {
   most = rw size most;

@@ -2,10 +2,10 @@
 use Rattle.std.specs.Prelude.{◌≡◌, ℕ, ◌<◌, ◌≤◌, ◌+◌, ◌-◌, ◌^◌, Bool, List, length, slice_index}
 use Rattle.vp9_types.specs.declared.shape.Depth.{Depth}
 use Rattle.vp9_tables.specs.Coefficients.{category_of}
-use Rattle.bool_encoder.specs.Part.{Part}
+use Rattle.bool_encoder.specs.Part.{NumberPart}
 use Rattle.coef_tokens.specs.TokenSymbols.{category_base}
 use Rattle.coef_tokens.specs.Places.{Tables}
-use Rattle.coef_tokens.specs.Steps.{step}
+use Rattle.coef_tokens.specs.Steps.{token_step}
 use Rattle.coef_tokens.specs.declared.step.Step.{Step}
 use Rattle.bool_encoder.specs.CountedBools.{PutsValue}
 
@@ -18,9 +18,9 @@ pub record IsTokenOf (depth : Depth) (token m : ℕ) : Type 0 where
   pub fits : 5 ≤ token → m - category_base (token - 4) < 2 ^ length (category_of (token - 4) depth)
 
 -- a step was put at a place by its three probabilities, whichever nodes count it
-abbrev pub PutsStep : Depth → Bool → List ℕ → Part → Step → Part → Type 0
+abbrev pub PutsStep : Depth → Bool → List ℕ → NumberPart → Step → NumberPart → Type 0
 PutsStep depth check probs old s new =
-    (node : ℕ) → PutsValue (step depth check node (slice_index probs 0) (slice_index probs 1) (slice_index probs 2)) old s new
+    (node : ℕ) → PutsValue (token_step depth check node (slice_index probs 0) (slice_index probs 1) (slice_index probs 2)) old s new
 
 -- the probabilities of a row
 pub record AreThree (t : Tables) (row : ℕ) (probs : List ℕ) : Type 0 where

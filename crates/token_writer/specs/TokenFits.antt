@@ -3,7 +3,7 @@ use Rattle.std.specs.Prelude.{◌≡◌, ◌≢◌, ℕ, ◌<◌, ◌≤◌, ◌
 use Rattle.std.specs.List.{All}
 use Rattle.vp9_types.specs.declared.shape.Depth.{Depth}
 use Rattle.vp9_tables.specs.Coefficients.{category_of}
-use Rattle.bool_encoder.specs.Part.{Part}
+use Rattle.bool_encoder.specs.Part.{NumberPart}
 use Rattle.coef_tokens.specs.Places.{Tables, Tokens, block_tokens}
 use Rattle.coef_tokens.specs.Code.{HoldsLevels}
 use Rattle.bool_encoder.specs.CountedBools.{PutsCounting}
@@ -13,18 +13,18 @@ abbrev pub IsCoded : Depth → ℕ → Type 0
 IsCoded depth m = m < 67 + 2 ^ length (category_of 6 depth)
 
 -- the level of a position
-abbrev pub level_of : List ℤ → ℕ → ℤ
-level_of levels position = slice_index_or levels position (pos 0)
+abbrev pub level_in : List ℤ → ℕ → ℤ
+level_in levels position = slice_index_or levels position (pos 0)
 
 -- Levels by position, of which so many places of the scan are coded: all others are 0. more_coefs isn't read after a zero,
 -- so the last place that is coded has a level, unless it is the scan's last.
 pub record CanPut (t : Tables) (levels : List ℤ) (count : ℕ) : Type 0 where
   pub most : count ≤ length t.scan
   pub coded : All (λ level. IsCoded t.depth (unsigned_abs level)) levels
-  pub others : (position : ℕ) → ((k : ℕ) → k < count → slice_index t.scan k ≢ position) → level_of levels position ≡ pos 0
-  pub last : 0 < count → count < length t.scan → level_of levels (slice_index t.scan (count - 1)) ≢ pos 0
+  pub others : (position : ℕ) → ((k : ℕ) → k < count → slice_index t.scan k ≢ position) → level_in levels position ≡ pos 0
+  pub last : 0 < count → count < length t.scan → level_in levels (slice_index t.scan (count - 1)) ≢ pos 0
 
 -- bools that lead the tokens of a block to these levels were put, of which so many places are coded
-abbrev pub PutsLevels : Tables → ℕ → Part → List ℤ → ℕ → Part → Type 0
+abbrev pub PutsLevels : Tables → ℕ → NumberPart → List ℤ → ℕ → NumberPart → Type 0
 PutsLevels t first old levels count new =
     (p : Tokens) × PutsCounting (block_tokens t first) old p new × (p.count ≡ count) × HoldsLevels levels p.reads

@@ -2,7 +2,7 @@
 
 ghost use Rattle.std.specs.Prelude.{◌≡◌, ◌≤◌, ◌<◌, ◌^◌, IfOk, length, unsigned_abs};
 ghost use Rattle.bool_encoder.specs.WrittenBools.{Puts};
-ghost use Rattle.coef_tokens.specs.TokenSymbols.{bits_from, class_of, magnitude, level};
+ghost use Rattle.coef_tokens.specs.TokenSymbols.{bits_from, class_of, coef_magnitude, level};
 ghost use Rattle.coef_tokens.specs.declared.step.Step.TheVariants.{Level};
 ghost use Rattle.token_writer.specs.TokenFits.{IsCoded};
 ghost use Rattle.token_writer.specs.Code.{IsTokenOf};
@@ -46,7 +46,7 @@ fn put_bits(encoder: &mut BoolEncoder, probs: &[u8], value: u32) -> Result<(), A
     Ok(())
 }
 
-#[tactic(auto, unfolding(coef_tokens::specs::TokenSymbols::magnitude), using(vp9_types::proofs::Binds::writes_bind))]
+#[tactic(auto, unfolding(coef_tokens::specs::TokenSymbols::coef_magnitude), using(vp9_types::proofs::Binds::writes_bind))]
 fn put_magnitude(
     encoder: &mut BoolEncoder,
     depth: Depth,
@@ -54,7 +54,7 @@ fn put_magnitude(
     number: u32,
 ) -> Result<(), AllocError>
     requires { IsTokenOf depth token number }
-    ensures { IfOk result (λ _. Puts (magnitude depth token) encoder.old number encoder.new) }
+    ensures { IfOk result (λ _. Puts (coef_magnitude depth token) encoder.old number encoder.new) }
 {
     if token < 5 {
         return Ok(());

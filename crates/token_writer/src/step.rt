@@ -43,14 +43,14 @@ fn put_more(encoder: &mut BoolEncoder, check: bool, first: u8) -> Result<(), All
 }
 
 /// The end, before the scan's.
-#[tactic(auto, unfolding(coef_tokens::specs::Steps::step, coef_tokens::specs::Steps::more_coefs), using(bool_encoder::proofs::CountedPuts::valued_in_order, bool_encoder::proofs::CountedPuts::valued_settle, bool_encoder::proofs::CountedPuts::valued_flag, vp9_types::proofs::Binds::writes_bind))]
+#[tactic(auto, unfolding(coef_tokens::specs::Steps::token_step, coef_tokens::specs::Steps::more_coefs), using(bool_encoder::proofs::CountedPuts::valued_in_order, bool_encoder::proofs::CountedPuts::valued_settle, bool_encoder::proofs::CountedPuts::valued_flag, vp9_types::proofs::Binds::writes_bind))]
 pub(crate) fn put_end(encoder: &mut BoolEncoder, probs: [u8; 3]) -> Result<(), AllocError>
     ensures { IfOk result (λ _. (depth : Depth) → PutsStep depth true probs encoder.old End encoder.new) }
 {
     put_flag(encoder, probs[0], false)
 }
 
-#[tactic(auto, unfolding(coef_tokens::specs::Steps::step, coef_tokens::specs::Steps::token), using(bool_encoder::proofs::CountedPuts::valued_in_order, bool_encoder::proofs::CountedPuts::valued_settle, bool_encoder::proofs::CountedPuts::valued_flag, vp9_types::proofs::Binds::writes_bind))]
+#[tactic(auto, unfolding(coef_tokens::specs::Steps::token_step, coef_tokens::specs::Steps::token), using(bool_encoder::proofs::CountedPuts::valued_in_order, bool_encoder::proofs::CountedPuts::valued_settle, bool_encoder::proofs::CountedPuts::valued_flag, vp9_types::proofs::Binds::writes_bind))]
 pub(crate) fn put_zero(
     encoder: &mut BoolEncoder,
     check: bool,
@@ -82,7 +82,7 @@ fn put_token(
 }
 
 /// A level that isn't 0, and the class of its token.
-#[tactic(auto, unfolding(coef_tokens::specs::Steps::step), using(bool_encoder::proofs::CountedPuts::valued_in_order, vp9_types::proofs::Binds::writes_bind))]
+#[tactic(auto, unfolding(coef_tokens::specs::Steps::token_step), using(bool_encoder::proofs::CountedPuts::valued_in_order, vp9_types::proofs::Binds::writes_bind))]
 pub(crate) fn put_some(
     encoder: &mut BoolEncoder,
     depth: Depth,

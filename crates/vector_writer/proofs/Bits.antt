@@ -7,7 +7,7 @@ use Rattle.std.specs.List.{range_with_len}
 use Rattle.vp9_types.specs.declared.rule.Rule.{Rule}
 use Rattle.vp9_types.specs.Syntax.{Syntax}
 use Rattle.vp9_tables.specs.Numbers.{flag_number}
-use Rattle.bool_encoder.specs.Part.{Part, after_put}
+use Rattle.bool_encoder.specs.Part.{NumberPart, after_put}
 use Rattle.bool_encoder.specs.WrittenBools.{LeadsBools, Puts, can_put}
 use Rattle.vp9_types.proofs.Binds.{writes_bind, leads_here}
 use Rattle.counting_reader.specs.Counting.{Settled, through}
@@ -18,11 +18,11 @@ abbrev Step : Type 0
 Step = ℕ → ℕ → Syntax ℕ Rule (Settled ℕ)
 
 -- the bools of the value's lowest i bits were put, and those of the others are still to come
-abbrev pub BitsLeft : Step → ℕ → ℕ → ℕ → Part → Part → Type 0
+abbrev pub BitsLeft : Step → ℕ → ℕ → ℕ → NumberPart → NumberPart → Type 0
 BitsLeft f n value i old now =
     LeadsBools {E = Rule} (valued (through f (range_with_len 0 n) 0)) old (valued (through f (range_with_len i (n - i)) (value % 2 ^ i))) now
 
-pub bits_begin : (f : Step) (n value : ℕ) (old : Part) → BitsLeft f n value 0 old old
+pub bits_begin : (f : Step) (n value : ℕ) (old : NumberPart) → BitsLeft f n value 0 old old
 bits_begin f n value old =
     let all : n - 0 ≡ n = omega arith in
     let none : value % 2 ^ 0 ≡ 0 = omega arith in
@@ -36,7 +36,7 @@ odd_flag m = by_bit (m % 2) (omega arith)
     by_bit (suc zero) h = refl
     by_bit (suc (suc b)) h = absurd (omega arith)
 
-pub bits_go : (f : Step) (n value i : ℕ) (old now next : Part) → i < n → BitsLeft f n value i old now
+pub bits_go : (f : Step) (n value i : ℕ) (old now next : NumberPart) → i < n → BitsLeft f n value i old now
     → PutsValue (f i (value % 2 ^ i)) now (value % 2 ^ i + flag_number (nat_eq (value / 2 ^ i % 2) 1) * 2 ^ i) next → BitsLeft f n value (i + 1) old next
 unfolding through
 bits_go f n value i old now next more h put =
@@ -55,7 +55,7 @@ bits_go f n value i old now next more h put =
     λ y new g. before y new (subst (λ u. Puts u now y new) (sym (valued_in_order (f i b) (through f rest)))
     (writes_bind can_put after_put (valued (f i b)) (λ z. valued (through f rest z)) now next new x y put (subst (λ z. Puts (valued (through f rest z)) next y new) same g)))
 
-pub bits_end : (f : Step) (n value i : ℕ) (old now : Part) → value < 2 ^ n → n ≤ i → i ≤ n → BitsLeft f n value i old now
+pub bits_end : (f : Step) (n value i : ℕ) (old now : NumberPart) → value < 2 ^ n → n ≤ i → i ≤ n → BitsLeft f n value i old now
     → PutsValue (through f (range_with_len 0 n) 0) old value now
 unfolding through
 bits_end f n value i old now fits all most h =

@@ -10,13 +10,13 @@ use Rattle.frame_headers.specs.declared.header.FrameFilter.{FrameFilter}
 use Rattle.block_geometry.specs.BlockSizes.{is_below_8x8}
 use Rattle.block_plan.specs.declared.block.InterPrediction.{InterPrediction}
 use Rattle.block_plan.specs.declared.block.Mv.{Mv}
-use Rattle.block_plan.specs.declared.block.References.{References}
+use Rattle.block_plan.specs.declared.block.ReferenceFrames.{ReferenceFrames}
 use Rattle.inter_modes.specs.BlockVectors.{Sources, nothing_before, before_of, best_mv}
 use Rattle.inter_modes.specs.ModeInfo.{of_each}
 use Rattle.inter_modes.specs.declared.quarters.Quarter.{Quarter}
 use Rattle.inter_modes.specs.declared.quarters.QuartersBefore.{QuartersBefore}
 use Rattle.vector_writer.specs.VectorFits.{CanSayInter, quarter_saying}
-use Rattle.vector_writer.specs.SaidVectors.{mode_at, symbols_at, quarter_vectors_said, quarter_said, four_said, columns_said, rows_said, quarters_said, block_vectors_said, whole_said, of_quarters_said, HasSaid}
+use Rattle.vector_writer.specs.SaidVectors.{mode_of_part, symbols_at, quarter_vectors_said, quarter_said, four_said, columns_said, rows_said, quarters_said, block_vectors_said, whole_said, of_quarters_said, HasSaid}
 use Rattle.vector_writer.specs.declared.symbols.InterSymbols.{InterSymbols}
 use Rattle.vector_writer.specs.declared.symbols.QuarterSymbols.{QuarterSymbols}
 
@@ -31,7 +31,7 @@ if_any (Err e) f P g = tt
 abbrev HasMode : InterMode → Quarter → Type 0
 HasMode mode q = q.mode ≡ mode
 
-quarter_mode : (s : Sources) (said : QuarterSymbols) (refs : References) (k : ℕ) (before : QuartersBefore) → IfOk (quarter_said s said refs k before) (HasMode said.mode)
+quarter_mode : (s : Sources) (said : QuarterSymbols) (refs : ReferenceFrames) (k : ℕ) (before : QuartersBefore) → IfOk (quarter_said s said refs k before) (HasMode said.mode)
 unfolding quarter_said
 quarter_mode s said refs k before = if_any (quarter_vectors_said s said refs k before) _ (HasMode said.mode) (λ vectors. refl)
 
@@ -39,7 +39,7 @@ abbrev HaveModes : InterMode → InterMode → InterMode → InterMode → List 
 HaveModes a b c d qs = of_each (λ q. q.mode) qs ≡ a ∷ b ∷ c ∷ d ∷ []
 
 abbrev said_mode : InterSymbols → ℕ → InterMode
-said_mode symbols k = mode_at symbols.modes k
+said_mode symbols k = mode_of_part symbols.modes k
 
 four_modes : (s : Sources) (symbols : InterSymbols) (best : List Mv)
     → IfOk (four_said s symbols best) (HaveModes (said_mode symbols 0) (said_mode symbols 1) (said_mode symbols 2) (said_mode symbols 3))
@@ -98,7 +98,7 @@ abbrev AreSaid : InterSymbols → BlockSize → Type 0
 AreSaid symbols size =
     symbols.modes ≡ saying_mode symbols size 0 ∷ saying_mode symbols size 1 ∷ saying_mode symbols size 2 ∷ saying_mode symbols size 3 ∷ []
 
-all_four : (ms : List InterMode) → length ms ≡ 4 → ms ≡ mode_at ms 0 ∷ mode_at ms 1 ∷ mode_at ms 2 ∷ mode_at ms 3 ∷ []
+all_four : (ms : List InterMode) → length ms ≡ 4 → ms ≡ mode_of_part ms 0 ∷ mode_of_part ms 1 ∷ mode_of_part ms 2 ∷ mode_of_part ms 3 ∷ []
 all_four [] long = absurd (omega (arith, long))
 all_four (a ∷ []) long = absurd (omega (arith, long))
 all_four (a ∷ b ∷ []) long = absurd (omega (arith, long))

@@ -9,10 +9,10 @@ use Rattle.vp9_types.specs.declared.block.ReferenceFrame.{ReferenceFrame}
 use Rattle.vp9_types.specs.declared.rule.Rule.{Rule}
 use Rattle.block_plan.specs.BlockMvs.{no_vector, vector_at}
 use Rattle.block_plan.specs.declared.block.Mv.{Mv}
-use Rattle.block_plan.specs.declared.block.References.{References}
+use Rattle.block_plan.specs.declared.block.ReferenceFrames.{ReferenceFrames}
 use Rattle.counting_reader.specs.Counting.{Settled, Yields}
 use Rattle.counting_reader.proofs.Yields.{yields_bind, yields_all, yields_map}
-use Rattle.mv_prediction.specs.Vectors.{is_precise}
+use Rattle.mv_prediction.specs.Vectors.{is_short_vector}
 use Rattle.mv_prediction.specs.declared.sub_blocks.NearVectors.{NearVectors}
 use Rattle.mv_syntax.specs.Differences.{read_mv, new_vector}
 use Rattle.inter_modes.specs.BlockVectors.{Sources, carried, ◌>>?◌, inter_mode, vector_of_mode, near_of_block, near_of_quarter, block_vector, with_second, block_vectors, best_mv, second_best, of_list, quarter_vector, quarter_vectors, quarter}
@@ -50,7 +50,7 @@ vector_yields s Nearest best near = yields_settle (Ok near.nearest) _ (no_vector
 vector_yields s Near best near = yields_settle (Ok near.near) _ (no_vector, (λ same. no_difference _), refl)
 vector_yields s Zero best near = yields_settle (Ok no_vector) _ (no_vector, (λ same. no_difference _), refl)
 vector_yields s New best near =
-    yields_bind (read_mv s.lists (s.allowed && is_precise best)) _ (CanDiffer (s.allowed && is_precise best)) _ (difference_yields s.lists (s.allowed && is_precise best))
+    yields_bind (read_mv s.lists (s.allowed && is_short_vector best)) _ (CanDiffer (s.allowed && is_short_vector best)) _ (difference_yields s.lists (s.allowed && is_short_vector best))
     (λ difference can. yields_settle _ (Said (CanBeNew s.allowed New best) (vector_said New best near)) (difference, (λ same. can), refl))
 
 ---- Both vectors ----
@@ -89,14 +89,14 @@ second_can s mode e (Some reference) h = h
 
 ---- Blocks of 8x8 or more ----
 
-abbrev pub OfMode : Bool → List Mv → References → InterMode → QuarterSymbols → Type 0
+abbrev pub OfMode : Bool → List Mv → ReferenceFrames → InterMode → QuarterSymbols → Type 0
 OfMode allowed best refs mode said = (said.mode ≡ mode) × CanSayVectors allowed best refs said × (length said.differences ≡ 2)
 
 -- a quarter's vectors, of which there are two
-abbrev pub CanQuarter : Bool → List Mv → References → QuarterSymbols → Type 0
+abbrev pub CanQuarter : Bool → List Mv → ReferenceFrames → QuarterSymbols → Type 0
 CanQuarter allowed best refs said = CanSayVectors allowed best refs said × (length said.differences ≡ 2)
 
-pub block_vectors_yield : (s : Sources) (mode : InterMode) (refs : References)
+pub block_vectors_yield : (s : Sources) (mode : InterMode) (refs : ReferenceFrames)
     → Yields (block_vectors s mode refs) (Said (OfMode s.allowed (best_mv s refs) refs mode) (λ said. block_vectors_said s said refs))
 unfolding block_vectors block_vector block_vectors_said block_vector_said
 block_vectors_yield s mode refs =
@@ -112,7 +112,7 @@ block_vectors_yield s mode refs =
 
 ---- Quarters ----
 
-quarter_vectors_yield : (s : Sources) (mode : InterMode) (refs : References) (k : ℕ) (before : QuartersBefore)
+quarter_vectors_yield : (s : Sources) (mode : InterMode) (refs : ReferenceFrames) (k : ℕ) (before : QuartersBefore)
     → Yields (quarter_vectors s mode refs k before) (Said (OfMode s.allowed before.best refs mode) (λ said. quarter_vectors_said s said refs k before))
 unfolding quarter_vectors quarter_vector quarter_vectors_said quarter_vector_said
 quarter_vectors_yield s mode refs k before =
@@ -127,7 +127,7 @@ quarter_vectors_yield s mode refs k before =
     (λ reference. vector_yields s mode (best 1) (near reference 1)))
     (λ r g. (both_of mode g.0.0 g.0.1, (refl, record { first = g.1.0; second = g.1.1 }, refl), g.2))
 
-pub quarter_yield : (s : Sources) (probs : List ℕ) (context : ℕ) (refs : References) (k : ℕ) (before : QuartersBefore)
+pub quarter_yield : (s : Sources) (probs : List ℕ) (context : ℕ) (refs : ReferenceFrames) (k : ℕ) (before : QuartersBefore)
     → Yields (quarter s probs context refs k before) (Said (CanQuarter s.allowed before.best refs) (λ said. quarter_said s said refs k before))
 unfolding quarter quarter_said
 quarter_yield s probs context refs k before =

@@ -11,10 +11,10 @@ use Rattle.block_geometry.specs.BlockSizes.{is_below_8x8}
 use Rattle.block_plan.specs.BlockMvs.{no_vector, vector_at}
 use Rattle.block_plan.specs.declared.block.InterPrediction.{InterPrediction}
 use Rattle.block_plan.specs.declared.block.Mv.{Mv}
-use Rattle.block_plan.specs.declared.block.References.{References}
+use Rattle.block_plan.specs.declared.block.ReferenceFrames.{ReferenceFrames}
 use Rattle.mv_prediction.specs.declared.sub_blocks.NearVectors.{NearVectors}
 use Rattle.mv_syntax.specs.Differences.{added, in_range_or_rule}
-use Rattle.inter_modes.specs.BlockVectors.{Sources, near_of_block, near_of_quarter, best_mv, row_at, of_list, nothing_before, before_of}
+use Rattle.inter_modes.specs.BlockVectors.{Sources, near_of_block, near_of_quarter, best_mv, row_vectors, of_list, nothing_before, before_of}
 use Rattle.inter_modes.specs.ModeInfo.{whole_prediction, quarters_prediction}
 use Rattle.inter_modes.specs.declared.quarters.Quarter.{Quarter}
 use Rattle.inter_modes.specs.declared.quarters.QuartersBefore.{QuartersBefore}
@@ -22,11 +22,11 @@ use Rattle.vector_writer.specs.declared.symbols.InterSymbols.{InterSymbols}
 use Rattle.vector_writer.specs.declared.symbols.QuarterSymbols.{QuarterSymbols}
 
 -- what a quarter says
-abbrev pub mode_at : List InterMode → ℕ → InterMode
-mode_at modes k = slice_index_or modes k Zero
+abbrev pub mode_of_part : List InterMode → ℕ → InterMode
+mode_of_part modes k = slice_index_or modes k Zero
 
 abbrev pub symbols_at : InterSymbols → ℕ → QuarterSymbols
-symbols_at symbols k = record { mode = mode_at symbols.modes k; differences = row_at symbols.differences k }
+symbols_at symbols k = record { mode = mode_of_part symbols.modes k; differences = row_vectors symbols.differences k }
 
 -- Of one list, from the best vector and the nearest and near one: a new vector is the best one and the difference, or breaks
 -- the rule of its range.
@@ -47,7 +47,7 @@ unfoldable pub block_vector_said : Sources → QuarterSymbols → ReferenceFrame
 block_vector_said s said reference list =
     vector_said said.mode (near_of_block s reference).nearest (near_of_block s reference) (vector_at said.differences list)
 
-unfoldable pub block_vectors_said : Sources → QuarterSymbols → References → Result (List Mv) Rule
+unfoldable pub block_vectors_said : Sources → QuarterSymbols → ReferenceFrames → Result (List Mv) Rule
 block_vectors_said s said refs =
     block_vector_said s said refs.first 0 >>= λ first. second_said first refs.second (λ reference. block_vector_said s said reference 1)
 
@@ -57,12 +57,12 @@ unfoldable pub quarter_vector_said : Sources → QuarterSymbols → ReferenceFra
 quarter_vector_said s said reference list k before =
     vector_said said.mode (vector_at before.best list) (near_of_quarter s reference k (of_list list before.rows)) (vector_at said.differences list)
 
-unfoldable pub quarter_vectors_said : Sources → QuarterSymbols → References → ℕ → QuartersBefore → Result (List Mv) Rule
+unfoldable pub quarter_vectors_said : Sources → QuarterSymbols → ReferenceFrames → ℕ → QuartersBefore → Result (List Mv) Rule
 quarter_vectors_said s said refs k before =
     quarter_vector_said s said refs.first 0 k before
     >>= λ first. second_said first refs.second (λ reference. quarter_vector_said s said reference 1 k before)
 
-unfoldable pub quarter_said : Sources → QuarterSymbols → References → ℕ → QuartersBefore → Result Quarter Rule
+unfoldable pub quarter_said : Sources → QuarterSymbols → ReferenceFrames → ℕ → QuartersBefore → Result Quarter Rule
 quarter_said s said refs k before =
     quarter_vectors_said s said refs k before >>= λ vectors. Ok (record { mode = said.mode; vectors = vectors })
 
@@ -99,7 +99,7 @@ quarters_said s symbols size = four_said s symbols (best_mv s symbols.references
 unfoldable pub whole_said : Sources → InterSymbols → Result InterPrediction Rule
 whole_said s symbols =
     block_vectors_said s (symbols_at symbols 0) symbols.references
-    >>= λ vectors. Ok (whole_prediction symbols.references symbols.filter (mode_at symbols.modes 0) vectors)
+    >>= λ vectors. Ok (whole_prediction symbols.references symbols.filter (mode_of_part symbols.modes 0) vectors)
 
 unfoldable pub of_quarters_said : Sources → InterSymbols → Result InterPrediction Rule
 of_quarters_said s symbols =

@@ -11,10 +11,10 @@ use Rattle.frame_headers.specs.declared.header.FrameFilter.TheVariants.{Fixed, S
 use Rattle.block_geometry.specs.BlockSizes.{is_below_8x8}
 use Rattle.block_plan.specs.BlockMvs.{vector_at}
 use Rattle.block_plan.specs.declared.block.Mv.{Mv}
-use Rattle.block_plan.specs.declared.block.References.{References}
-use Rattle.mv_prediction.specs.Vectors.{is_precise}
+use Rattle.block_plan.specs.declared.block.ReferenceFrames.{ReferenceFrames}
+use Rattle.mv_prediction.specs.Vectors.{is_short_vector}
 use Rattle.inter_modes.specs.BlockVectors.{Sources, best_mv}
-use Rattle.vector_writer.specs.SaidVectors.{mode_at, symbols_at}
+use Rattle.vector_writer.specs.SaidVectors.{mode_of_part, symbols_at}
 use Rattle.vector_writer.specs.declared.symbols.InterSymbols.{InterSymbols}
 use Rattle.vector_writer.specs.declared.symbols.QuarterSymbols.{QuarterSymbols}
 
@@ -30,10 +30,10 @@ pub record CanDiffer (precise : Bool) (difference : Mv) : Type 0 where
 
 -- a new vector's difference from the best one can be said
 abbrev pub CanBeNew : Bool → InterMode → Mv → Mv → Type 0
-CanBeNew allowed mode best difference = mode ≡ New → CanDiffer (allowed && is_precise best) difference
+CanBeNew allowed mode best difference = mode ≡ New → CanDiffer (allowed && is_short_vector best) difference
 
 -- of a quarter or a whole block: of each reference, by the best vectors
-pub record CanSayVectors (allowed : Bool) (best : List Mv) (refs : References) (said : QuarterSymbols) : Type 0 where
+pub record CanSayVectors (allowed : Bool) (best : List Mv) (refs : ReferenceFrames) (said : QuarterSymbols) : Type 0 where
   pub first : CanBeNew allowed said.mode (vector_at best 0) (vector_at said.differences 0)
   pub second : IfSome refs.second (λ _. CanBeNew allowed said.mode (vector_at best 1) (vector_at said.differences 1))
 
@@ -53,6 +53,6 @@ quarter_saying size k = 0
 -- The mode of a block of 8x8 or more isn't read in a segment that skips: it is zero.
 pub record CanSayInter (s : Sources) (skips : Bool) (filter : FrameFilter) (symbols : InterSymbols) : Type 0 where
   pub named : CanFilter filter symbols.filter
-  pub same : (k : ℕ) → k < 4 → mode_at symbols.modes k ≡ mode_at symbols.modes (quarter_saying s.search.at.size k)
-  pub skipped : is_below_8x8 s.search.at.size ≡ false → skips ≡ true → mode_at symbols.modes 0 ≡ Zero
+  pub same : (k : ℕ) → k < 4 → mode_of_part symbols.modes k ≡ mode_of_part symbols.modes (quarter_saying s.search.at.size k)
+  pub skipped : is_below_8x8 s.search.at.size ≡ false → skips ≡ true → mode_of_part symbols.modes 0 ≡ Zero
   pub vectors : (k : ℕ) → k < 4 → CanSayVectors s.allowed (best_mv s symbols.references) symbols.references (symbols_at symbols (quarter_saying s.search.at.size k))

@@ -11,9 +11,9 @@ ghost use Rattle.mv_prediction.specs.Code.{PredictsSmall};
 ghost use Rattle.mv_prediction.specs.Candidates.{mode_context};
 ghost use Rattle.inter_modes.specs.Code.{MaySearch, sources_in};
 ghost use Rattle.inter_modes.specs.BlockVectors.{best_mv};
-ghost use Rattle.inter_modes.specs.ModeInfo.{filter_of, interp_filter, block_mode, whole_block, block_of_quarters, inter_prediction};
+ghost use Rattle.inter_modes.specs.ModeInfo.{filter_of_symbol, interp_filter, block_mode, whole_block, block_of_quarters, inter_prediction};
 ghost use Rattle.vector_writer.specs.VectorFits.{CanFilter, CanSayVectors, CanSayInter, quarter_saying};
-ghost use Rattle.vector_writer.specs.SaidVectors.{mode_at, symbols_at, whole_said, of_quarters_said, inter_said, HasSaid};
+ghost use Rattle.vector_writer.specs.SaidVectors.{mode_of_part, symbols_at, whole_said, of_quarters_said, inter_said, HasSaid};
 
 use crate::quarters::put_quarters;
 use crate::symbols::{InterSymbols, symbols_at};
@@ -84,7 +84,7 @@ fn put_whole<N: Neighbours, Q: Neighbours>(
     requires filter { filter.context ≤ 3 }
     requires may { MaySearch N.holds N.blocks Q.holds Q.blocks src.now.earlier.now (option_copied src.now.before) src.now.search }
     requires named { CanFilter filter.frame symbols.now.filter }
-    requires skipped { skips ≡ true → mode_at symbols.now.modes 0 ≡ Zero }
+    requires skipped { skips ≡ true → mode_of_part symbols.now.modes 0 ≡ Zero }
     requires vectors { CanSayVectors src.now.high_precision (best_mv (sources_in N.blocks Q.blocks src.now) symbols.now.references) symbols.now.references (symbols_at symbols.now 0) }
     ensures put { IfOk result (λ p. (lists : InterLists) → lists.modes ≡ src.now.modes.now → lists.filters ≡ filters.now →
         PutsValue (whole_block (sources_in N.blocks Q.blocks src.now) lists skips filter.frame filter.context symbols.now.references) encoder.old p encoder.new) }

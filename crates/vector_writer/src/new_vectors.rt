@@ -3,14 +3,14 @@
 ghost use Rattle.std.specs.Prelude.{◌≡◌, ◌&&◌, IfOk};
 ghost use Rattle.prob_contexts.specs.ProbLists.{vector_lists};
 ghost use Rattle.bool_encoder.specs.CountedBools.{PutsValue};
-ghost use Rattle.mv_prediction.specs.Vectors.{IsSmallVector, is_precise};
+ghost use Rattle.mv_prediction.specs.Vectors.{IsSmallVector, is_short_vector};
 ghost use Rattle.mv_syntax.specs.Differences.{added, in_range_or_rule, new_vector};
 ghost use Rattle.vector_writer.specs.VectorFits.{CanDiffer};
 
 use crate::differences::put_mv;
 use block_plan::Mv;
 use bool_encoder::BoolEncoder;
-use mv_prediction::is_precise;
+use mv_prediction::is_short_vector;
 use mv_syntax::{added, in_range_or_rule};
 use prob_contexts::VectorProbs;
 use std::alloc::AllocError;
@@ -27,12 +27,12 @@ pub fn put_new_vector(
     difference: Mv,
 ) -> Result<Result<Mv, Rule>, AllocError>
     requires small { IsSmallVector best }
-    requires can { CanDiffer (high_precision && is_precise best) difference }
+    requires can { CanDiffer (high_precision && is_short_vector best) difference }
     ensures put { IfOk result (λ v. PutsValue (new_vector (vector_lists probs.now) high_precision best) encoder.old v encoder.new) }
     ensures is { IfOk result (λ v. v ≡ in_range_or_rule (added best difference)) }
     ensures small { IfOk result (λ v. IfOk v IsSmallVector) }
 {
-    let precise = high_precision && is_precise(best);
+    let precise = high_precision && is_short_vector(best);
     put_mv(encoder, probs, precise, difference)?;
     Ok(in_range_or_rule(added(best, difference)))
 }

@@ -15,7 +15,7 @@ ghost use Rattle.vector_writer.specs.SaidVectors.{symbols_at, quarter_vector_sai
 use crate::new_vectors::put_new_vector;
 use crate::symbols::{InterSymbols, QuarterSymbols, symbols_at};
 use crate::vectors::put_inter_mode;
-use block_plan::{Mv, Neighbours, References};
+use block_plan::{Mv, Neighbours, ReferenceFrames};
 use bool_encoder::BoolEncoder;
 use inter_modes::{
     NO_VECTOR, NO_VECTORS, Quarter, QuartersBefore, Sources, WantedVector, before_of, best_mv,
@@ -63,7 +63,7 @@ fn put_quarter_vectors<N: Neighbours, Q: Neighbours>(
     encoder: &mut BoolEncoder,
     src: &Sources<'_, N, Q>,
     said: QuarterSymbols,
-    references: References,
+    references: ReferenceFrames,
     k: u8,
     before: &QuartersBefore,
 ) -> Result<Result<[Mv; 2], Rule>, AllocError>

@@ -3,14 +3,14 @@
 ghost use Rattle.std.specs.Prelude.{◌≡◌, ◌<◌};
 ghost use Rattle.vector_writer.specs.SaidVectors.{symbols_at};
 
-use block_plan::{Mv, References};
+use block_plan::{Mv, ReferenceFrames};
 use vp9_types::{InterMode, InterpFilter};
 
 /// What an inter block says: its references, its filter, the mode of each quarter (one for all four from 8x8 on), and the
 /// differences of its new vectors, by quarter and list.
 #[derive(Clone, Copy, Debug, PartialEq, Eq)]
 pub struct InterSymbols {
-    pub references: References,
+    pub references: ReferenceFrames,
     pub filter: InterpFilter,
     pub modes: [InterMode; 4],
     pub differences: [[Mv; 2]; 4],

@@ -13,7 +13,7 @@ ghost use Rattle.vector_writer.specs.SaidVectors.{block_vector_said, block_vecto
 
 use crate::new_vectors::put_new_vector;
 use crate::symbols::QuarterSymbols;
-use block_plan::{Mv, Neighbours, References};
+use block_plan::{Mv, Neighbours, ReferenceFrames};
 use bool_encoder::{BoolEncoder, put_tree};
 use counting_reader::nodes_from;
 use inter_modes::{NO_VECTOR, Sources, WantedVector, near_of_block};
@@ -83,7 +83,7 @@ pub(crate) fn put_block_vectors<N: Neighbours, Q: Neighbours>(
     encoder: &mut BoolEncoder,
     src: &Sources<'_, N, Q>,
     said: QuarterSymbols,
-    references: References,
+    references: ReferenceFrames,
 ) -> Result<Result<[Mv; 2], Rule>, AllocError>
     requires may { MaySearch N.holds N.blocks Q.holds Q.blocks src.now.earlier.now (option_copied src.now.before) src.now.search }
     requires can { CanSayVectors src.now.high_precision (best_mv (sources_in N.blocks Q.blocks src.now) references) references said }

@@ -13,7 +13,7 @@ use Rattle.vp9_app.specs.declared.status.Status.TheVariants as status
 use Rattle.vp9_app.specs.Notes.{note_line}
 use Rattle.vp9_app.specs.Answers.{Reports, Runs, Works, without_memory}
 use Rattle.vp9_app.specs.Making.{Makes, Trials}
-use Rattle.vp9_app.specs.ReadingCommands.{BreaksOff, Completes, DecodesBy, Output, Reads, Streams, WritesFront, decoded, listed}
+use Rattle.vp9_app.specs.ReadingCommands.{BreaksOff, Completes, DecodesBy, Output, Reads, Streams, WritesFront, decode_output, list_output}
 use Rattle.vp9_app.specs.Seen.{OfSink, OfSource, SinkQuiet, Unread}
 use Rattle.vp9_app.specs.Code.{MayLackMemory}
 use Rattle.vp9_app.specs.Laws.{AllQuiet, EndsAs, EndsAsTrial, HasCause, IsComplete, IsDecodedBy, IsDone, IsLeftBy, IsLeftByFault}
@@ -44,7 +44,7 @@ reads_told output s o status.OutOfMemory told h e = subst (λ st. Reads output s
 
 streams_told : (options : DecodeOptions) (s : OfSource) (o : OfSink) (first told : Status) → Streams options s o first → MayLackMemory first told → Streams options s o told
 streams_told options s o (status.Broken stop) told h (inl e) = subst (λ st. Streams options s o st) (sym e) h
-streams_told options s o (status.Broken stop) told h (inr e) = subst (λ st. Streams options s o st) (sym e) (h.source, h.out, breaks_front (decoded options) s o stop h)
+streams_told options s o (status.Broken stop) told h (inr e) = subst (λ st. Streams options s o st) (sym e) (h.source, h.out, breaks_front (decode_output options) s o stop h)
 streams_told options s o status.Done told h e = subst (λ st. Streams options s o st) (sym e) h
 streams_told options s o status.Usage told h e = absurd h
 streams_told options s o status.ReadFault told h e = subst (λ st. Streams options s o st) (sym e) h
@@ -52,7 +52,7 @@ streams_told options s o status.WriteFault told h e = subst (λ st. Streams opti
 streams_told options s o status.OutOfMemory told h e = subst (λ st. Streams options s o st) (sym e) h
 
 decodes_told : (plain : Bool) (options : DecodeOptions) (s : OfSource) (o : OfSink) (first told : Status) → DecodesBy plain options s o first → MayLackMemory first told → DecodesBy plain options s o told
-decodes_told true options = reads_told (decoded options)
+decodes_told true options = reads_told (decode_output options)
 decodes_told false options = streams_told options
 
 makes_told : (stream : MadeStream) (o : OfSink) (first told : Status) → Makes stream o first → MayLackMemory first told → Makes stream o told
@@ -82,7 +82,7 @@ none_told s o status.OutOfMemory told h e = subst (λ st. Works None s o st) (sy
 
 pub works_told : (c : Option Command) (s : OfSource) (o : OfSink) (first told : Status) → Works c s o first → MayLackMemory first told → Works c s o told
 works_told None = none_told
-works_told (Some command.List) = reads_told listed
+works_told (Some command.List) = reads_told list_output
 works_told (Some (command.Decode options)) = decodes_told options.plain options
 works_told (Some (command.Make stream)) = λ s o first told h m. (h.0, makes_told stream o first told h.1 m)
 works_told (Some (command.Trial stream)) = λ s o first told h m. (h.0, trial_told stream o first told h.1 m)
@@ -114,7 +114,7 @@ cause_streamed options s o n status.Usage crew h q t = absurd h
 cause_decoded : (plain : Bool) (options : DecodeOptions) (s : OfSource) (o n : OfSink) (told : Status) → options.plain ≡ plain → DecodesBy plain options s o told → SinkQuiet n
     → Takes n.before n.after (note_line told) → HasCause (Some (command.Decode options)) s o n told
 cause_decoded true options s o n told is h q t =
-    cause_read (command.Decode options) (decoded options) s o n told (λ st d. subst (λ plain. IsDecodedBy plain options s o st) (sym is) d)
+    cause_read (command.Decode options) (decode_output options) s o n told (λ st d. subst (λ plain. IsDecodedBy plain options s o st) (sym is) d)
     (λ kept. subst (λ plain. IsLeftBy plain options s o) (sym is) kept) h q t
 cause_decoded false options s o n told is h q t = cause_streamed options s o n told is h q t
 
@@ -146,7 +146,7 @@ cause_none s o n status.OutOfMemory h q t = (h.1, q)
 
 cause_told : (c : Option Command) (s : OfSource) (o n : OfSink) (told : Status) → Works c s o told → SinkQuiet n → Takes n.before n.after (note_line told) → HasCause c s o n told
 cause_told None s o n told h q t = cause_none s o n told h q t
-cause_told (Some command.List) s o n told h q t = cause_read command.List listed s o n told (λ st d. d) (λ kept. kept) h q t
+cause_told (Some command.List) s o n told h q t = cause_read command.List list_output s o n told (λ st d. d) (λ kept. kept) h q t
 cause_told (Some (command.Decode options)) s o n told h q t = cause_decoded options.plain options s o n told refl h q t
 cause_told (Some (command.Make stream)) s o n told h q t = cause_made stream s o n told h.0 h.1 q t
 cause_told (Some (command.Trial stream)) s o n told h q t = cause_tried stream s o n told h.0 h.1 q t
@@ -170,7 +170,7 @@ lacking_streamed c options s o n status.Usage h q = absurd h
 
 lacking_decoded : (plain : Bool) (c : Option Command) (options : DecodeOptions) (s : OfSource) (o n : OfSink) (told : Status) → DecodesBy plain options s o told → SinkQuiet n
     → HasCause c s o n (without_memory told)
-lacking_decoded true c options s o n told h q = lacking_read c (decoded options) s o n told h q
+lacking_decoded true c options s o n told h q = lacking_read c (decode_output options) s o n told h q
 lacking_decoded false c options s o n told h q = lacking_streamed c options s o n told h q
 
 lacking_made : (c : Option Command) (stream : MadeStream) (s : OfSource) (o n : OfSink) (told : Status) → Makes stream o told → SinkQuiet n → HasCause c s o n (without_memory told)
@@ -199,7 +199,7 @@ lacking_none s o n status.OutOfMemory h q = (h.1, q)
 
 cause_lacking : (c : Option Command) (s : OfSource) (o n : OfSink) (told : Status) → Works c s o told → SinkQuiet n → HasCause c s o n (without_memory told)
 cause_lacking None s o n told h q = lacking_none s o n told h q
-cause_lacking (Some command.List) s o n told h q = lacking_read (Some command.List) listed s o n told h q
+cause_lacking (Some command.List) s o n told h q = lacking_read (Some command.List) list_output s o n told h q
 cause_lacking (Some (command.Decode options)) s o n told h q = lacking_decoded options.plain (Some (command.Decode options)) options s o n told h q
 cause_lacking (Some (command.Make stream)) s o n told h q = lacking_made (Some (command.Make stream)) stream s o n told h.1 q
 cause_lacking (Some (command.Trial stream)) s o n told h q = lacking_tried (Some (command.Trial stream)) stream s o n told h.1 q
@@ -238,7 +238,7 @@ complete_read output s o n told last h (inr (inl r)) = λ a. absurd (clash n.fau
 complete_read output s o n told last h (inr (inr r)) = λ a bytes t. inr (r.2 ∙ read_lacking output s o n told h a)
 
 -- the same of a decode by a crew
-streamed_by_output : (options : DecodeOptions) (s : OfSource) (o n : OfSink) (told : Status) → Streams options s o told → AllQuiet s o n → EndsAs (decoded options) s told
+streamed_by_output : (options : DecodeOptions) (s : OfSource) (o n : OfSink) (told : Status) → Streams options s o told → AllQuiet s o n → EndsAs (decode_output options) s told
 streamed_by_output options s o n status.Done h a = λ bytes t. inl (sym (h.told bytes t).0)
 streamed_by_output options s o n (status.Broken stop) h a = λ bytes t. inl (sym (h.told bytes t).0)
 streamed_by_output options s o n status.ReadFault h a = λ bytes t. absurd (clash s.faults s.faults_now h.0 a.source)
@@ -254,14 +254,14 @@ streamed_lacking options s o n status.WriteFault h a = absurd (clash o.faults o.
 streamed_lacking options s o n status.OutOfMemory h a = refl
 streamed_lacking options s o n status.Usage h a = absurd h
 
-complete_streamed : (options : DecodeOptions) (s : OfSource) (o n : OfSink) (told last : Status) → Streams options s o told → Reports n told last → AllQuiet s o n → EndsAs (decoded options) s last
-complete_streamed options s o n told last h (inl r) = λ a. subst (λ st. EndsAs (decoded options) s st) (sym r.1) (streamed_by_output options s o n told h a)
+complete_streamed : (options : DecodeOptions) (s : OfSource) (o n : OfSink) (told last : Status) → Streams options s o told → Reports n told last → AllQuiet s o n → EndsAs (decode_output options) s last
+complete_streamed options s o n told last h (inl r) = λ a. subst (λ st. EndsAs (decode_output options) s st) (sym r.1) (streamed_by_output options s o n told h a)
 complete_streamed options s o n told last h (inr (inl r)) = λ a. absurd (clash n.faults n.faults_now r.0 a.note)
 complete_streamed options s o n told last h (inr (inr r)) = λ a bytes t. inr (r.2 ∙ streamed_lacking options s o n told h a)
 
 complete_decoded : (plain : Bool) (options : DecodeOptions) (s : OfSource) (o n : OfSink) (told last : Status) → DecodesBy plain options s o told → Reports n told last → AllQuiet s o n
-    → EndsAs (decoded options) s last
-complete_decoded true options = complete_read (decoded options)
+    → EndsAs (decode_output options) s last
+complete_decoded true options = complete_read (decode_output options)
 complete_decoded false options = complete_streamed options
 
 -- a stream is made, or there is no memory for it
@@ -325,7 +325,7 @@ complete_none s o n told last h (inr (inr r)) = λ a. inr (r.2 ∙ lacks_memory 
 
 pub complete_of : (c : Option Command) (s : OfSource) (o n : OfSink) (told last : Status) → Works c s o told → Reports n told last → IsComplete c s o n last
 complete_of None = complete_none
-complete_of (Some command.List) = λ s o n told last h r. complete_read listed s o n told last h r
+complete_of (Some command.List) = λ s o n told last h r. complete_read list_output s o n told last h r
 complete_of (Some (command.Decode options)) = λ s o n told last h r. complete_decoded options.plain options s o n told last h r
 complete_of (Some (command.Make stream)) = λ s o n told last h r. complete_made stream s o n told last h.1 r
 complete_of (Some (command.Trial stream)) = λ s o n told last h r. complete_tried stream s o n told last h.1 r

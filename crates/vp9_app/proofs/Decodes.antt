@@ -8,7 +8,7 @@ use Rattle.stream_decoder.specs.Streams.{DecodesSource}
 use Rattle.vp9_app.specs.declared.status.Status.{Status}
 use Rattle.vp9_app.specs.ReadingCommands.{DecodesBy, DecodesSo, Streams}
 use Rattle.vp9_app.specs.Seen.{OfSink, OfSource}
-use Rattle.vp9_app.specs.Statuses.{decode_ended, ended}
+use Rattle.vp9_app.specs.Statuses.{decode_ended, status_of_ending}
 
 -- a decode of a source, as it is seen
 abbrev pub DecodesSeen : DecodeOptions → OfSource → OfSink → Outcome → Type 0
@@ -18,13 +18,13 @@ streams : (options : DecodeOptions) (s : OfSource) (o : OfSink) (end : Outcome) 
 streams options s o outcome.Done h = record {
   source = h.0;
   out = h.1;
-  told = λ bytes t. (ap ended (h.2 bytes t).0.0, (h.2 bytes t).0.1, (h.2 bytes t).1);
+  told = λ bytes t. (ap status_of_ending (h.2 bytes t).0.0, (h.2 bytes t).0.1, (h.2 bytes t).1);
 }
 streams options s o (outcome.Broken stop) h = record {
   source = h.0;
   out = h.1;
   taken = h.2;
-  told = λ bytes t. (ap ended (h.3 bytes t).0, (h.3 bytes t).1);
+  told = λ bytes t. (ap status_of_ending (h.3 bytes t).0, (h.3 bytes t).1);
 }
 streams options s o outcome.ReadFault h = h
 streams options s o outcome.WriteFault h = h

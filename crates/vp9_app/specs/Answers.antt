@@ -7,7 +7,7 @@ use Rattle.vp9_app.specs.declared.status.Status.{Status}
 use Rattle.vp9_app.specs.declared.status.Status.TheVariants as status
 use Rattle.vp9_app.specs.Making.{Makes, Trials}
 use Rattle.vp9_app.specs.Notes.{note_line}
-use Rattle.vp9_app.specs.ReadingCommands.{DecodesSo, Reads, listed}
+use Rattle.vp9_app.specs.ReadingCommands.{DecodesSo, Reads, list_output}
 use Rattle.vp9_app.specs.Seen.{OfSink, OfSource, SinkFailed, SinkQuiet, SourceQuiet, Unread}
 
 -- nothing was read or written
@@ -19,7 +19,7 @@ abbrev pub Works : Option Command → OfSource → OfSink → Status → Type 0
 Works None s o status.Usage = Untouched s o
 Works None s o status.OutOfMemory = Untouched s o
 Works None s o status = ⊥
-Works (Some command.List) s o status = Reads listed s o status
+Works (Some command.List) s o status = Reads list_output s o status
 Works (Some (command.Decode options)) s o status = DecodesSo options s o status
 Works (Some (command.Make stream)) s o status = Unread s × Makes stream o status
 Works (Some (command.Trial stream)) s o status = Unread s × Trials stream o status

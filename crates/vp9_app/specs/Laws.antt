@@ -11,10 +11,10 @@ use Rattle.stream_trial.specs.Trials.{BreaksAt, MadeEnds}
 use Rattle.vp9_app.specs.declared.status.Status.{Status}
 use Rattle.vp9_app.specs.declared.status.Status.TheVariants as status
 use Rattle.vp9_app.specs.Making.{WritesMade, WritesTrial}
-use Rattle.vp9_app.specs.ReadingCommands.{BreaksOff, Completes, LeavesTaken, Output, decoded, listed}
+use Rattle.vp9_app.specs.ReadingCommands.{BreaksOff, Completes, LeavesTaken, Output, decode_output, list_output}
 use Rattle.vp9_app.specs.Seen.{OfSink, OfSource, SinkFailed, SinkQuiet, SourceFailed, SourceQuiet, Unread}
 use Rattle.vp9_app.specs.Notes.{note_line}
-use Rattle.vp9_app.specs.Statuses.{ended}
+use Rattle.vp9_app.specs.Statuses.{status_of_ending}
 
 -- no count rose
 pub record AllQuiet (s : OfSource) (o n : OfSink) : Type 0 where
@@ -31,16 +31,16 @@ IsTried stream o last = ⊥
 -- A decode is done, by whether it is plain: one by a crew needn't have read what is behind a frame that breaks a rule, where its source may
 -- have failed.
 abbrev pub IsDecodedBy : Bool → DecodeOptions → OfSource → OfSink → Status → Type 0
-IsDecodedBy true options s o last = Completes (decoded options) s o last
-IsDecodedBy false options s o (status.Broken stop) = BreaksOff (decoded options) s o stop
-IsDecodedBy false options s o last = Completes (decoded options) s o last
+IsDecodedBy true options s o last = Completes (decode_output options) s o last
+IsDecodedBy false options s o (status.Broken stop) = BreaksOff (decode_output options) s o stop
+IsDecodedBy false options s o last = Completes (decode_output options) s o last
 
 abbrev pub IsDecoded : DecodeOptions → OfSource → OfSink → Status → Type 0
 IsDecoded options = IsDecodedBy options.plain options
 
 -- all of its work is done: what it reads is read, and its whole output is written
 abbrev pub IsDone : Command → OfSource → OfSink → Status → Type 0
-IsDone command.List s o last = Completes listed s o last
+IsDone command.List s o last = Completes list_output s o last
 IsDone (command.Decode options) s o last = IsDecoded options s o last
 IsDone (command.Make stream) s o last = Unread s × WritesMade stream o × (last ≡ status.Done)
 IsDone (command.Trial stream) s o last = Unread s × IsTried stream o last
@@ -74,12 +74,12 @@ EndsAs output s last = WhereTold s.rest (λ bytes. (last ≡ (output bytes).stat
 -- a trial ends as the output of a file that is made from the number
 abbrev pub EndsAsTrial : MadeStream → Status → Type 0
 EndsAsTrial stream last =
-    ((ending : Option (ℕ × Rule)) × MadeEnds stream.number stream.frames ending × (last ≡ ended ending)) ⊎ (last ≡ status.OutOfMemory)
+    ((ending : Option (ℕ × Rule)) × MadeEnds stream.number stream.frames ending × (last ≡ status_of_ending ending)) ⊎ (last ≡ status.OutOfMemory)
 
 -- where no count rises, the answer is that of the words and the output, or want of memory
 abbrev pub IsComplete : Option Command → OfSource → OfSink → OfSink → Status → Type 0
 IsComplete None s o n last = AllQuiet s o n → (last ≡ status.Usage) ⊎ (last ≡ status.OutOfMemory)
-IsComplete (Some command.List) s o n last = AllQuiet s o n → EndsAs listed s last
-IsComplete (Some (command.Decode options)) s o n last = AllQuiet s o n → EndsAs (decoded options) s last
+IsComplete (Some command.List) s o n last = AllQuiet s o n → EndsAs list_output s last
+IsComplete (Some (command.Decode options)) s o n last = AllQuiet s o n → EndsAs (decode_output options) s last
 IsComplete (Some (command.Make stream)) s o n last = AllQuiet s o n → (last ≡ status.Done) ⊎ (last ≡ status.OutOfMemory)
 IsComplete (Some (command.Trial stream)) s o n last = AllQuiet s o n → EndsAsTrial stream last

@@ -11,7 +11,7 @@ use Rattle.vp9_app.specs.declared.status.Status.{Status}
 use Rattle.vp9_app.specs.declared.status.Status.TheVariants as status
 use Rattle.vp9_app.specs.Listing.{listing}
 use Rattle.vp9_app.specs.Seen.{OfSink, OfSource, SinkFailed, SinkQuiet, SourceFailed, SourceQuiet}
-use Rattle.vp9_app.specs.Statuses.{ended}
+use Rattle.vp9_app.specs.Statuses.{status_of_ending}
 
 -- what a command writes for the bytes of its source, and how it ends
 pub record Output : Type 0 where
@@ -19,13 +19,13 @@ pub record Output : Type 0 where
   pub status : Status
 
 -- the listing
-abbrev pub listed : List ℕ → Output
-listed bytes = record { text = (listing bytes).adds; status = ended (listing bytes).ending }
+abbrev pub list_output : List ℕ → Output
+list_output bytes = record { text = (listing bytes).adds; status = status_of_ending (listing bytes).ending }
 
 -- The shown frames of the sequential decoding process, in order and in the format that is asked for, to the end of the bytes or
 -- up to the first frame that breaks a rule. How a file is decoded changes nothing of it.
-abbrev pub decoded : DecodeOptions → List ℕ → Output
-decoded options bytes = record { text = (output_of options.format bytes).adds; status = ended (output_of options.format bytes).ending }
+abbrev pub decode_output : DecodeOptions → List ℕ → Output
+decode_output options bytes = record { text = (output_of options.format bytes).adds; status = status_of_ending (output_of options.format bytes).ending }
 
 -- the source was read to its end, the whole output of its bytes is written, and it ends so
 pub record Completes (output : List ℕ → Output) (s : OfSource) (o : OfSink) (status : Status) : Type 0 where
@@ -65,18 +65,18 @@ LeavesTaken options s o = (front : List ℕ) × Gave s.rest s.left front × Wher
 
 -- how the work of a decode may end
 abbrev pub Streams : DecodeOptions → OfSource → OfSink → Status → Type 0
-Streams options s o status.Done = Completes (decoded options) s o status.Done
-Streams options s o (status.Broken stop) = BreaksOff (decoded options) s o stop
+Streams options s o status.Done = Completes (decode_output options) s o status.Done
+Streams options s o (status.Broken stop) = BreaksOff (decode_output options) s o stop
 Streams options s o status.ReadFault = SourceFailed s × SinkQuiet o × LeavesTaken options s o
-Streams options s o status.WriteFault = MayHaveFailed s.rest s.left s.faults s.faults_now × SinkFailed o × WritesFront (decoded options) s o
-Streams options s o status.OutOfMemory = MayHaveFailed s.rest s.left s.faults s.faults_now × SinkQuiet o × WritesFront (decoded options) s o
+Streams options s o status.WriteFault = MayHaveFailed s.rest s.left s.faults s.faults_now × SinkFailed o × WritesFront (decode_output options) s o
+Streams options s o status.OutOfMemory = MayHaveFailed s.rest s.left s.faults s.faults_now × SinkQuiet o × WritesFront (decode_output options) s o
 Streams options s o status.Usage = ⊥
 
 ---- A decode ----
 
 -- by whether it is plain
 abbrev pub DecodesBy : Bool → DecodeOptions → OfSource → OfSink → Status → Type 0
-DecodesBy true options = Reads (decoded options)
+DecodesBy true options = Reads (decode_output options)
 DecodesBy false options = Streams options
 
 -- a plain one reads its source whole first, and one by a crew decodes it as it comes

@@ -15,9 +15,9 @@ code_of status.WriteFault = 5
 code_of status.OutOfMemory = 6
 
 -- the status of a listing, or of a run of the decoder, that ends so
-abbrev pub ended : Option (ℕ × Rule) → Status
-ended None = status.Done
-ended (Some end) = status.Broken (record { frame = end.0; rule = end.1 })
+abbrev pub status_of_ending : Option (ℕ × Rule) → Status
+status_of_ending None = status.Done
+status_of_ending (Some end) = status.Broken (record { frame = end.0; rule = end.1 })
 
 -- the status of a decode that ended so
 abbrev pub decode_ended : Outcome → Status

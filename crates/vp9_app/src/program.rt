@@ -1,7 +1,7 @@
 ghost use Rattle.std.specs.Prelude.{◌≡◌, ◌⊎◌, Some, None, map, string_bytes};
 ghost use Rattle.vp9_app.specs.Answers.{Runs, Works};
 ghost use Rattle.vp9_app.specs.Making.{Makes, Trials};
-ghost use Rattle.vp9_app.specs.ReadingCommands.{Reads, decoded};
+ghost use Rattle.vp9_app.specs.ReadingCommands.{Reads, decode_output};
 ghost use Rattle.vp9_app.specs.Seen.{sink_seen, source_seen};
 ghost use Rattle.command_words.specs.declared.command.Command.TheVariants as command;
 ghost use Rattle.command_words.specs.declared.command.MadeStream.{MadeStream};
@@ -73,7 +73,7 @@ fn decode_whole<S: Source, K: Sink>(
 ) -> Status
     requires source { S.can_fill source.old }
     requires out { K.can_put out.old }
-    ensures work { Reads (decoded options)
+    ensures work { Reads (decode_output options)
         (source_seen (S.rest source.old) (S.rest source.new) (S.faults source.old) (S.faults source.new))
         (sink_seen (K.grows out.old) (K.taken out.old) (K.taken out.new) (K.faults out.old) (K.faults out.new)) result }
     ensures source_again { S.faults source.new ≡ S.faults source.old → S.can_fill source.new }

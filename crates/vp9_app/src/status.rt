@@ -1,5 +1,5 @@
 ghost use Rattle.std.specs.Prelude.{◌≡◌};
-ghost use Rattle.vp9_app.specs.Statuses.{code_of, ended};
+ghost use Rattle.vp9_app.specs.Statuses.{code_of, status_of_ending};
 ghost use Rattle.vp9_app.specs.Code.{ending_of};
 
 use vp9_types::{Outcome, Stop};
@@ -38,7 +38,7 @@ impl Status {
 
 /// How a listing ends, by the frame that breaks a rule, if one does.
 pub fn listing_status(ending: Option<Stop>) -> Status
-    ensures { result ≡ ended (ending_of ending) }
+    ensures { result ≡ status_of_ending (ending_of ending) }
 {
     match ending {
         None => Status::Done,

@@ -4,7 +4,7 @@ use Rattle.vp9_types.specs.declared.block.BlockSize.{BlockSize}
 use Rattle.vp9_types.specs.declared.block.ReferenceFrame.{ReferenceFrame}
 use Rattle.vp9_tables.specs.declared.kinds.NeighbourKind.{NeighbourKind}
 use Rattle.vp9_tables.specs.declared.kinds.ReferenceBool.{ReferenceBool}
-use Rattle.vp9_tables.specs.Numbers.{block_number, bool_number, reference_number, neighbour_number}
+use Rattle.vp9_tables.specs.Numbers.{block_number, reference_bool_number, reference_number, neighbour_number}
 use Rattle.vp9_tables.specs.declared.data.blocks.TheConstants.{BLOCK_SIZES}
 use Rattle.vp9_tables.specs.declared.data.motion.TheConstants.{MV_REF_OFFSETS}
 
@@ -28,7 +28,7 @@ offsets_of size = slice_range MV_REF_OFFSETS (8 * block_number size) (8 * block_
 
 abbrev pub context_place : ReferenceBool → ReferenceFrame → NeighbourKind → NeighbourKind → ℕ
 context_place which fixed above left =
-    64 * (3 * bool_number which + reference_number fixed) + 8 * neighbour_number above + neighbour_number left
+    64 * (3 * reference_bool_number which + reference_number fixed) + 8 * neighbour_number above + neighbour_number left
 
 -- what the mode of a neighbour counts, and 0 where there is none
 abbrev pub is_counter : ℕ → Bool

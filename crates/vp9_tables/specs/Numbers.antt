@@ -111,11 +111,11 @@ neighbour_number CompoundLast = 5
 neighbour_number CompoundGolden = 6
 neighbour_number CompoundAltref = 7
 
-abbrev pub bool_number : ReferenceBool → ℕ
-bool_number IsCompound = 0
-bool_number CompoundVariable = 1
-bool_number SingleFirst = 2
-bool_number SingleSecond = 3
+abbrev pub reference_bool_number : ReferenceBool → ℕ
+reference_bool_number IsCompound = 0
+reference_bool_number CompoundVariable = 1
+reference_bool_number SingleFirst = 2
+reference_bool_number SingleSecond = 3
 
 abbrev pub flag_number : Bool → ℕ
 flag_number true = 1

@@ -1,7 +1,7 @@
 //! `vp9dec` reads IVF or WebM on standard input, writes to standard output, and tells on standard error what is wrong.
 #![tactic(auto)]
 
-use edge_io::{OpenGate, StdSink, StdSource};
+use edge_io::{Buffered, OpenGate, StdSink, StdSource};
 use std::process::ExitCode;
 use std::{env, io};
 use vp9_app::{Status, run};
@@ -25,7 +25,10 @@ fn main(rt: HostRuntime) -> ExitCode {
         }
         Err(_) => Vec::new(rt.alloc()),
     };
-    let source = StdSource::new(rt.stdin());
+    let Ok(source) = Buffered::new(rt.alloc(), StdSource::new(rt.stdin())) else {
+        let _ = eprintln!(rt; "out of memory");
+        return ExitCode::from(Status::OutOfMemory.code());
+    };
     let out = StdSink::new(rt.stdout());
     let note = StdSink::new(rt.stderr());
     let ran = run(

@@ -9,10 +9,10 @@ use Rattle.vp9_types.specs.declared.rule.Rule.TheVariants.{WebmElement, WebmTrac
 use Rattle.ivf_container.specs.Packets.{Packets}
 use Rattle.webm_container.specs.Ids as the
 use Rattle.webm_container.specs.Ids.{is_top_level}
-use Rattle.webm_container.specs.Elements.{coded_length, coded_at, sized, element_at, if_known, known_at}
+use Rattle.webm_container.specs.Elements.{coded_octets, coded_at, sized, element_at, if_known, known_at}
 use Rattle.webm_container.specs.TrackEntries.{noted, usable, chosen_by, chosen}
 use Rattle.webm_container.specs.ClusterBlocks.{is_of, is_laced, behind_number, payload_at}
-use Rattle.webm_container.specs.Walk.{moved, in_file, file_step, if_chosen, in_segment, segment_step, in_tracks, tracks_step, with_track, entry_step, behind_block, block_step, in_cluster, cluster_step, in_group, group_step, step_within, step_at, go_on, packets_from, at_start, webm_packets}
+use Rattle.webm_container.specs.Walk.{moved_on, in_file, file_step, if_chosen, in_segment, segment_step, in_tracks, tracks_step, with_track, entry_step, behind_block, block_step, in_cluster, cluster_step, in_group, group_step, step_within, step_at, go_on_by_step, webm_packets_from, at_start, webm_packets}
 use Rattle.webm_container.specs.Laws as law
 use Rattle.webm_container.specs.Laws.{LeadsTo, Comes, element_of, MayBeUnknown, IsBlockId, HasNoNumber, EndsEntry, AtBlock, Breaks}
 use Rattle.webm_container.specs.declared.cursor.Cluster.{Cluster}
@@ -24,8 +24,8 @@ use Rattle.webm_container.specs.declared.elements.Element.{Element}
 use Rattle.webm_container.specs.declared.entries.TrackEntry.{TrackEntry}
 use Rattle.webm_container.specs.declared.entries.TrackNumber.{TrackNumber}
 use Rattle.webm_container.specs.declared.entries.TrackNumber.TheVariants.{Malformed, Is}
-use Rattle.webm_container.specs.declared.steps.Step.{Step}
-use Rattle.webm_container.specs.declared.steps.Step.TheVariants.{Moved, Block, End}
+use Rattle.webm_container.specs.declared.steps.WebmStep.{WebmStep}
+use Rattle.webm_container.specs.declared.steps.WebmStep.TheVariants.{Moved, Block, End}
 use Rattle.webm_container.proofs.Tests.{by_test, by_result_is}
 use Rattle.webm_container.proofs.Progress.{LiesWithin, GoesOn, IsStep, is_step, left_of, cursor_at}
 use Rattle.webm_container.proofs.Walks.{next_from, left_low}
@@ -39,7 +39,7 @@ IsWebmElement (Err rule) = rule ≡ WebmElement
 coded_breaks : (bytes : List ℕ) (at end most : ℕ) → IsWebmElement (coded_at bytes at end most)
 unfolding coded_at
 coded_breaks bytes at end most =
-    let n = coded_length (slice_index bytes at) in
+    let n = coded_octets (slice_index bytes at) in
     let P : Result Coded Rule → Type 0 = λ r. IsWebmElement r in
     by_test P (nat_le end at) _ _ (λ _. refl) (λ _. by_test P (nat_lt most n) _ _ (λ _. refl) (λ _. by_test P (nat_lt (end - at) n) _ _ (λ _. refl) (λ _. tt)))
 
@@ -56,7 +56,7 @@ element_breaks bytes at end =
 ---- Steps that fail ----
 
 module _ (bytes : List ℕ) where
-  abbrev Fails : WebmCursor → Result Step Rule → Type 0
+  abbrev Fails : WebmCursor → Result WebmStep Rule → Type 0
   Fails c (Ok s) = Unit {0}
   Fails c (Err rule) = Breaks bytes c rule
 
@@ -65,14 +65,14 @@ module _ (bytes : List ℕ) where
       let same = subst (λ (r : Result Element Rule). IsWebmElement r) is (element_breaks bytes c.at _) in
       subst (Breaks bytes c) (sym same) (law.no_element rule is)
 
-  by_known : (P : Result Step Rule → Type 0) (at end : ℕ) (f : Element → Result Step Rule) → ((e : Element) → element_at bytes at end ≡ Ok e → e.unknown ≡ false → P (f e))
+  by_known : (P : Result WebmStep Rule → Type 0) (at end : ℕ) (f : Element → Result WebmStep Rule) → ((e : Element) → element_at bytes at end ≡ Ok e → e.unknown ≡ false → P (f e))
       → ((e : Element) → element_at bytes at end ≡ Ok e → e.unknown ≡ true → P (Err WebmElement)) → ((rule : Rule) → element_at bytes at end ≡ Err rule → P (Err rule)) → P (known_at bytes at end >>= f)
   unfolding known_at
   by_known P at end f known unknown err =
       let Q : Result Element Rule → Type 0 = λ r. P (r >>= f) in
       by_result_is Q (element_at bytes at end) if_known (λ e is. by_test Q e.unknown _ _ (λ u. unknown e is u) (λ k. known e is k)) err
 
-  if_fails : (c : WebmCursor) (track : Option ℕ) (r : Result Step Rule) → (track ≡ None → Breaks bytes c WebmTrack) → Fails c r → Fails c (if_chosen track r)
+  if_fails : (c : WebmCursor) (track : Option ℕ) (r : Result WebmStep Rule) → (track ≡ None → Breaks bytes c WebmTrack) → Fails c r → Fails c (if_chosen track r)
   if_fails c None r none h = none refl
   if_fails c (Some t) r none h = h
 
@@ -107,7 +107,7 @@ module _ (bytes : List ℕ) where
       by_test P (nat_le segment at) _ _ (λ over. if_fails c track (Ok End) (λ none. law.no_track_at_end refl (leb-true segment at over) none) tt) (λ _.
       by_result_is P (element_at bytes at segment) (in_segment c) (λ e is.
       by_test P (nat_eq e.id the.cluster) _ _
-      (λ here. if_fails c track (moved c e.from (parent.Cluster (record { to = e.to; unknown = e.unknown }))) (λ none. law.no_track_at_cluster e refl is (eqb-true e.id the.cluster here) none) tt) (λ no_cluster.
+      (λ here. if_fails c track (moved_on c e.from (parent.Cluster (record { to = e.to; unknown = e.unknown }))) (λ none. law.no_track_at_cluster e refl is (eqb-true e.id the.cluster here) none) tt) (λ no_cluster.
       by_test P e.unknown _ _ (λ u. law.unknown_size e is u (eqb-false e.id the.cluster no_cluster)) (λ _.
       by_test P (nat_eq e.id the.tracks) _ _ (λ _. tt) (λ _. tt)))) (λ rule is. no_element_there c rule is))
 
@@ -145,7 +145,7 @@ module _ (bytes : List ℕ) where
       let c = cursor_at at segment (parent.Entry tracks to entry) track in
       let P = Fails c in
       by_test P (nat_le to at) _ _ (λ over. entry_over at segment tracks to entry track (leb-true to at over)) (λ _.
-      by_known P at to (λ e. moved c e.to (parent.Entry tracks to (noted bytes entry e))) (λ e is _. tt) (λ e is u. law.unknown_size e is u (λ h. h)) (λ rule is. no_element_there c rule is))
+      by_known P at to (λ e. moved_on c e.to (parent.Entry tracks to (noted bytes entry e))) (λ e is _. tt) (λ e is u. law.unknown_size e is u (λ h. h)) (λ rule is. no_element_there c rule is))
 
   is_chosen_track : (track : Option ℕ) (number : ℕ) → is_of track number ≡ true → track ≡ Some number
   is_chosen_track None number h = cc
@@ -209,9 +209,9 @@ module _ (bytes : List ℕ) where
   one_more : (c next : WebmCursor) (rule : Rule) → LeadsTo (step_at bytes c) next → Stops next rule → Stops c rule
   one_more c next rule leads h = (suc h.0, h.1, (next, leads, h.2), h.3)
 
-  by_step : (c : WebmCursor) (rule : Rule) (r : Result Step Rule) → step_at bytes c ≡ r → IsStep (length bytes) c r → Fails c r
-      → ((d : WebmCursor) → GoesOn (length bytes) c d → (packets_from bytes d).ending ≡ Some rule → Stops d rule)
-      → (go_on bytes (packets_from bytes) r).ending ≡ Some rule → Stops c rule
+  by_step : (c : WebmCursor) (rule : Rule) (r : Result WebmStep Rule) → step_at bytes c ≡ r → IsStep (length bytes) c r → Fails c r
+      → ((d : WebmCursor) → GoesOn (length bytes) c d → (webm_packets_from bytes d).ending ≡ Some rule → Stops d rule)
+      → (go_on_by_step bytes (webm_packets_from bytes) r).ending ≡ Some rule → Stops c rule
   by_step c rule (Ok (Moved d)) is goes fails further ends = one_more c d rule (subst (λ s. LeadsTo s d) (sym is) refl) (further d goes ends)
   by_step c rule (Ok (Block span d)) is goes fails further ends = one_more c d rule (subst (λ s. LeadsTo s d) (sym is) refl) (further d goes.goes ends)
   by_step c rule (Ok End) is goes fails further ends = cc
@@ -219,7 +219,7 @@ module _ (bytes : List ℕ) where
       let same : met ≡ rule = cc in
       (zero, c, refl, subst (Breaks bytes c) same fails)
 
-  stops_from : (n : ℕ) (c : WebmCursor) (rule : Rule) → left_of (length bytes) c < n → LiesWithin (length bytes) c.at c.segment c.parent → (packets_from bytes c).ending ≡ Some rule → Stops c rule
+  stops_from : (n : ℕ) (c : WebmCursor) (rule : Rule) → left_of (length bytes) c < n → LiesWithin (length bytes) c.at c.segment c.parent → (webm_packets_from bytes c).ending ≡ Some rule → Stops c rule
   stops_from zero c rule below lies ends = absurd (omega arith)
   stops_from (suc n) c rule below lies ends =
       by_step c rule (step_at bytes c) refl (is_step bytes c lies) (fails_within c.at c.segment c.parent c.track)

@@ -6,7 +6,7 @@ use Rattle.std.proofs.lemmas.Bool.{lt-leb, le-leb}
 use Rattle.vp9_types.specs.Results.{◌>>=◌}
 use Rattle.vp9_types.specs.declared.rule.Rule.{Rule}
 use Rattle.ivf_container.specs.Packets.{with_payloads}
-use Rattle.webm_container.specs.Walk.{moved, in_cluster, cluster_step, in_group, group_step, block_step, go_on, packets_from}
+use Rattle.webm_container.specs.Walk.{moved_on, in_cluster, cluster_step, in_group, group_step, block_step, go_on_by_step, webm_packets_from}
 use Rattle.webm_container.specs.Webm as webm
 use Rattle.webm_container.specs.Webm.{Head, head_bytes, id_of, IsHead, Other, other_bytes, IsOther, Block, block_bytes, InGroup, group_element, group_bytes, IsInGroup, group_payloads, InCluster, cluster_element, cluster_bytes, IsInCluster, cluster_payloads}
 use Rattle.webm_container.specs.declared.cursor.Cluster.{Cluster}
@@ -46,10 +46,10 @@ module _ (bytes : List ℕ) (track segment : ℕ) (cluster : Cluster) (inside : 
       ∙ ap (λ (r : Result Element Rule). r >>= in_group bytes (in_group_at to at)) (known_there bytes content rest head at to here h room)
 
   over_one_in_group : (to : ℕ) → to ≤ cluster.to → (item : InGroup) (at : ℕ) (rest : List ℕ) → IsInGroup track item → 0 ≤ at → drop at bytes ≡ group_element item ++ rest → at + length (group_element item) ≤ to
-      → packets_from bytes (in_group_at to at) ≡ with_payloads (group_payloads track item) (packets_from bytes (in_group_at to (at + length (group_element item))))
+      → webm_packets_from bytes (in_group_at to at) ≡ with_payloads (group_payloads track item) (webm_packets_from bytes (in_group_at to (at + length (group_element item))))
   over_one_in_group to outer (webm.group_block head b) at rest h from here room =
       next_from bytes (in_group_at to at) (omega arith, outer, inside, fits)
-      ∙ ap (go_on bytes (packets_from bytes)) (group_reads to at head (block_bytes b) rest here h.0 room
+      ∙ ap (go_on_by_step bytes (webm_packets_from bytes)) (group_reads to at head (block_bytes b) rest here h.0 room
       ∙ if_true (nat_eq (id_of head) the.block) _ _ (agrees _ _ h.1))
       ∙ block_goes bytes rest track b (in_group_at to at) (known_of head (block_bytes b) at to) refl (content_there bytes (block_bytes b) rest head at here) (content_end head (block_bytes b) at) h.2
   over_one_in_group to outer (webm.other_in_group e) at rest h from here room =
@@ -57,7 +57,7 @@ module _ (bytes : List ℕ) (track segment : ℕ) (cluster : Cluster) (inside : 
       (group_reads to at e.head e.content rest here h.0 room ∙ if_false (nat_eq (id_of e.head) the.block) _ _ (differs _ _ h.1))
 
   -- at its end
-  group_ends : (to : ℕ) → to ≤ cluster.to → packets_from bytes (in_group_at to to) ≡ packets_from bytes (in_cluster_at to)
+  group_ends : (to : ℕ) → to ≤ cluster.to → webm_packets_from bytes (in_group_at to to) ≡ webm_packets_from bytes (in_cluster_at to)
   unfolding group_step
   group_ends to outer = moves bytes (in_group_at to to) (in_cluster_at to) (omega arith, outer, inside, fits) (if_true (nat_le to to) _ _ (le-leb to to (omega arith)))
 
@@ -71,8 +71,8 @@ module _ (bytes : List ℕ) (track segment : ℕ) (cluster : Cluster) (inside : 
       → (cluster.unknown ≡ true → is_top_level (id_of head) ≡ false)
       → cluster_step bytes (in_cluster_at at) cluster
       ≡ (if nat_eq (id_of head) the.simple_block then block_step bytes (in_cluster_at at) (known_of head content at cluster.to)
-      else (if nat_eq (id_of head) the.block_group then moved (in_cluster_at at) (at + length (head_bytes head)) (parent.Group cluster (at + length (head_bytes head ++ content)))
-      else moved (in_cluster_at at) (at + length (head_bytes head ++ content)) (parent.Cluster cluster)))
+      else (if nat_eq (id_of head) the.block_group then moved_on (in_cluster_at at) (at + length (head_bytes head)) (parent.Group cluster (at + length (head_bytes head ++ content)))
+      else moved_on (in_cluster_at at) (at + length (head_bytes head ++ content)) (parent.Cluster cluster)))
   unfolding cluster_step
   cluster_reads at head content rest here h room low =
       if_false (nat_le cluster.to at) _ _ (not_yet false (length content) head content at cluster.to h room)
@@ -80,10 +80,10 @@ module _ (bytes : List ℕ) (track segment : ℕ) (cluster : Cluster) (inside : 
       ∙ if_false (cluster.unknown && is_top_level (id_of head)) _ _ (not_ended cluster.unknown (is_top_level (id_of head)) low)
 
   pub over_one_in_cluster : (item : InCluster) (at : ℕ) (rest : List ℕ) → IsInCluster cluster.unknown track item → 0 ≤ at → drop at bytes ≡ cluster_element item ++ rest → at + length (cluster_element item) ≤ cluster.to
-      → packets_from bytes (in_cluster_at at) ≡ with_payloads (cluster_payloads track item) (packets_from bytes (in_cluster_at (at + length (cluster_element item))))
+      → webm_packets_from bytes (in_cluster_at at) ≡ with_payloads (cluster_payloads track item) (webm_packets_from bytes (in_cluster_at (at + length (cluster_element item))))
   over_one_in_cluster (webm.simple_block head b) at rest h from here room =
       next_from bytes (in_cluster_at at) (omega arith, inside, fits)
-      ∙ ap (go_on bytes (packets_from bytes)) (cluster_reads at head (block_bytes b) rest here h.0 room (λ _. ap is_top_level h.1)
+      ∙ ap (go_on_by_step bytes (webm_packets_from bytes)) (cluster_reads at head (block_bytes b) rest here h.0 room (λ _. ap is_top_level h.1)
       ∙ if_true (nat_eq (id_of head) the.simple_block) _ _ (agrees _ _ h.1))
       ∙ block_goes bytes rest track b (in_cluster_at at) (known_of head (block_bytes b) at cluster.to) refl (content_there bytes (block_bytes b) rest head at here) (content_end head (block_bytes b) at) h.2
   over_one_in_cluster (webm.block_group head items) at rest h from here room =
@@ -96,7 +96,7 @@ module _ (bytes : List ℕ) (track segment : ℕ) (cluster : Cluster) (inside : 
       ∙ if_false (nat_eq (id_of head) the.simple_block) _ _ (ap (λ id. nat_eq id the.simple_block) h.1)
       ∙ if_true (nat_eq (id_of head) the.block_group) _ _ (agrees _ _ h.1))
       ∙ over_all bytes group_element (group_payloads track) (in_group_at to) 0 to (IsInGroup track) (over_one_in_group to room) items inner rest h.2 (omega arith) (content_there bytes content rest head at here) (omega (arith, end))
-      ∙ ap (λ k. with_payloads (flat_map (group_payloads track) items) (packets_from bytes (in_group_at to k))) (sym end)
+      ∙ ap (λ k. with_payloads (flat_map (group_payloads track) items) (webm_packets_from bytes (in_group_at to k))) (sym end)
       ∙ ap (with_payloads (flat_map (group_payloads track) items)) (group_ends to room)
   over_one_in_cluster (webm.other_in_cluster e) at rest h from here room =
       moves bytes (in_cluster_at at) (in_cluster_at (at + length (other_bytes e))) (omega arith, inside, fits)
@@ -105,6 +105,6 @@ module _ (bytes : List ℕ) (track segment : ℕ) (cluster : Cluster) (inside : 
       ∙ if_false (nat_eq (id_of e.head) the.block_group) _ _ (differs _ _ h.2))
 
   pub over_cluster : (items : List InCluster) (at : ℕ) (rest : List ℕ) → AllByRecursion (IsInCluster cluster.unknown track) items → drop at bytes ≡ cluster_bytes items ++ rest → at + length (cluster_bytes items) ≤ cluster.to
-      → packets_from bytes (in_cluster_at at) ≡ with_payloads (flat_map (cluster_payloads track) items) (packets_from bytes (in_cluster_at (at + length (cluster_bytes items))))
+      → webm_packets_from bytes (in_cluster_at at) ≡ with_payloads (flat_map (cluster_payloads track) items) (webm_packets_from bytes (in_cluster_at (at + length (cluster_bytes items))))
   over_cluster items at rest all here room =
       over_all bytes cluster_element (cluster_payloads track) in_cluster_at 0 cluster.to (IsInCluster cluster.unknown track) over_one_in_cluster items at rest all (omega arith) here room

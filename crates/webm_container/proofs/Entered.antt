@@ -6,8 +6,8 @@ use Rattle.std.proofs.lemmas.Bool.{le-leb, le-ltb, eqb-true, eqb-false, ltb-fals
 use Rattle.byteorder.specs.Endian.{big_number}
 use Rattle.vp9_types.specs.Results.{◌>>=◌}
 use Rattle.vp9_types.specs.declared.rule.Rule.{Rule}
-use Rattle.webm_container.specs.TrackEntries.{new_entry, is_vp9, number_in, first_of, noted, usable, chosen_by, chosen}
-use Rattle.webm_container.specs.Walk.{moved, with_track, in_tracks, tracks_step, entry_step, packets_from}
+use Rattle.webm_container.specs.TrackEntries.{new_entry, is_vp9, number_in, first_said, noted, usable, chosen_by, chosen}
+use Rattle.webm_container.specs.Walk.{moved_on, with_track, in_tracks, tracks_step, entry_step, webm_packets_from}
 use Rattle.webm_container.specs.Webm as webm
 use Rattle.webm_container.specs.Webm.{Head, head_bytes, id_of, IsHead, Other, other_bytes, others_bytes, IsOther, first_content, codec_is_vp9, SaysNumber, IsNotEncoded, IsChosen, InTracks, tracks_element, tracks_bytes, AreTracks}
 use Rattle.webm_container.specs.declared.cursor.Parent.TheVariants as parent
@@ -17,8 +17,8 @@ use Rattle.webm_container.specs.Ids as the
 use Rattle.webm_container.specs.declared.entries.TrackEntry.{TrackEntry}
 use Rattle.webm_container.specs.declared.entries.TrackNumber.{TrackNumber}
 use Rattle.webm_container.specs.declared.entries.TrackNumber.TheVariants.{Is}
-use Rattle.webm_container.specs.declared.steps.Step.{Step}
-use Rattle.webm_container.specs.declared.steps.Step.TheVariants.{Moved}
+use Rattle.webm_container.specs.declared.steps.WebmStep.{WebmStep}
+use Rattle.webm_container.specs.declared.steps.WebmStep.TheVariants.{Moved}
 use Rattle.webm_container.proofs.Spelled.{if_false, if_true, differs, agrees, after, range, known_there, content_there}
 use Rattle.webm_container.proofs.Tests.{by_test}
 use Rattle.webm_container.proofs.Moves.{moves}
@@ -29,8 +29,8 @@ use Rattle.webm_container.proofs.Clusters.{known_of, content_end, not_yet}
 -- an entry, and an element with this content, by the tests of its id
 abbrev pub noted_by : Bool → Bool → Bool → TrackEntry → List ℕ → TrackEntry
 noted_by codec number encodings entry content =
-    if codec then record entry { is_vp9 = first_of entry.is_vp9 (is_vp9 content) }
-    else (if number then record entry { number = first_of entry.number (number_in content) }
+    if codec then record entry { is_vp9 = first_said entry.is_vp9 (is_vp9 content) }
+    else (if number then record entry { number = first_said entry.number (number_in content) }
     else (if encodings then record entry { encoded = true }
     else entry))
 
@@ -49,7 +49,7 @@ abbrev mapped : {A B : Type 0} → (A → B) → Option A → Option B
 mapped f None = None
 mapped f (Some x) = Some (f x)
 
-first_step : {A B : Type 0} (f : A → B) (said : Option B) (content : A) (rest : Option A) → or_else (first_of said (f content)) (mapped f rest) ≡ or_else said (mapped f (Some content))
+first_step : {A B : Type 0} (f : A → B) (said : Option B) (content : A) (rest : Option A) → or_else (first_said said (f content)) (mapped f rest) ≡ or_else said (mapped f (Some content))
 first_step f None content rest = refl
 first_step f (Some x) content rest = refl
 
@@ -151,7 +151,7 @@ module _ (bytes : List ℕ) (segment : ℕ) (fits : segment ≤ length bytes) wh
   abbrev in_tracks_at : ℕ → Option ℕ → ℕ → WebmCursor
   in_tracks_at to track at = record { at = at; segment = segment; parent = parent.Tracks to; track = track }
 
-  abbrev moved_to : WebmCursor → Result Step Rule
+  abbrev moved_to : WebmCursor → Result WebmStep Rule
   moved_to d = Ok (Moved d)
 
   entry_reads : (tracks to at : ℕ) (track : Option ℕ) (entry : TrackEntry) (e : Other) (rest : List ℕ) → drop at bytes ≡ other_bytes e ++ rest → IsOther e → at + length (other_bytes e) ≤ to
@@ -164,15 +164,15 @@ module _ (bytes : List ℕ) (segment : ℕ) (fits : segment ≤ length bytes) wh
       let end : behind ≡ from + length e.content = content_end e.head e.content at in
       let content : slice_range bytes from behind ≡ e.content = ap (slice_range bytes from) end ∙ range bytes e.content rest from (content_there bytes e.content rest e.head at here) in
       if_false (nat_le to at) _ _ (not_yet false (length e.content) e.head e.content at to h room)
-      ∙ ap (λ (r : Result Element Rule). r >>= (λ element. moved c element.to (parent.Entry tracks to (noted bytes entry element)))) (known_there bytes e.content rest e.head at to here h room)
+      ∙ ap (λ (r : Result Element Rule). r >>= (λ element. moved_on c element.to (parent.Entry tracks to (noted bytes entry element)))) (known_there bytes e.content rest e.head at to here h room)
       ∙ ap (λ xs. moved_to (in_entry_at tracks to track (note entry (id_of e.head) xs) behind)) content
 
   over_entry : (tracks to : ℕ) → to ≤ tracks → tracks ≤ segment → (track : Option ℕ) (elements : List Other) (entry : TrackEntry) (at : ℕ) (rest : List ℕ) → AllByRecursion IsOther elements
       → drop at bytes ≡ others_bytes elements ++ rest → at + length (others_bytes elements) ≤ to
-      → packets_from bytes (in_entry_at tracks to track entry at) ≡ packets_from bytes (in_entry_at tracks to track (notes entry elements) (at + length (others_bytes elements)))
+      → webm_packets_from bytes (in_entry_at tracks to track entry at) ≡ webm_packets_from bytes (in_entry_at tracks to track (notes entry elements) (at + length (others_bytes elements)))
   over_entry tracks to inner outer track [] entry at rest all here room =
       let none : at ≡ at + 0 = omega arith in
-      ap (λ k. packets_from bytes (in_entry_at tracks to track entry k)) none
+      ap (λ k. webm_packets_from bytes (in_entry_at tracks to track entry k)) none
   over_entry tracks to inner outer track (e ∷ more) entry at rest all here room =
       let n = length (other_bytes e) in
       let behind = others_bytes more in
@@ -183,10 +183,10 @@ module _ (bytes : List ℕ) (segment : ℕ) (fits : segment ≤ length bytes) wh
       moves bytes (in_entry_at tracks to track entry at) (in_entry_at tracks to track next (at + n)) (omega arith, inner, outer, fits)
       (entry_reads tracks to at track entry e (behind ++ rest) first all.0 (omega (arith, long)))
       ∙ over_entry tracks to inner outer track more next (at + n) rest all.1 (after bytes (other_bytes e) (behind ++ rest) at first) (omega (arith, long))
-      ∙ ap (λ k. packets_from bytes (in_entry_at tracks to track (notes next more) k)) to_there
+      ∙ ap (λ k. webm_packets_from bytes (in_entry_at tracks to track (notes next more) k)) to_there
 
   entry_ends : (tracks to : ℕ) → to ≤ tracks → tracks ≤ segment → (before next : Option ℕ) (elements : List Other) → IsChosen before elements next
-      → packets_from bytes (in_entry_at tracks to before (notes new_entry elements) to) ≡ packets_from bytes (in_tracks_at tracks next to)
+      → webm_packets_from bytes (in_entry_at tracks to before (notes new_entry elements) to) ≡ webm_packets_from bytes (in_tracks_at tracks next to)
   unfolding entry_step
   entry_ends tracks to inner outer before next elements h =
       let c = in_entry_at tracks to before (notes new_entry elements) to in
@@ -202,10 +202,10 @@ module _ (bytes : List ℕ) (segment : ℕ) (fits : segment ≤ length bytes) wh
 
   pub over_tracks : (to : ℕ) → to ≤ segment → (items : List InTracks) (before last : Option ℕ) (at : ℕ) (rest : List ℕ) → AreTracks before items last
       → drop at bytes ≡ tracks_bytes items ++ rest → at + length (tracks_bytes items) ≤ to
-      → packets_from bytes (in_tracks_at to before at) ≡ packets_from bytes (in_tracks_at to last (at + length (tracks_bytes items)))
+      → webm_packets_from bytes (in_tracks_at to before at) ≡ webm_packets_from bytes (in_tracks_at to last (at + length (tracks_bytes items)))
   over_tracks to outer [] before last at rest are here room =
       let none : at ≡ at + 0 = omega arith in
-      ap (λ k. packets_from bytes (in_tracks_at to before k)) none ∙ ap (λ t. packets_from bytes (in_tracks_at to t (at + 0))) (sym are)
+      ap (λ k. webm_packets_from bytes (in_tracks_at to before k)) none ∙ ap (λ t. webm_packets_from bytes (in_tracks_at to t (at + 0))) (sym are)
   over_tracks to outer (webm.track_entry head elements ∷ more) before last at rest are here room =
       let content = others_bytes elements in
       let spelled = head_bytes head ++ content in
@@ -221,10 +221,10 @@ module _ (bytes : List ℕ) (segment : ℕ) (fits : segment ≤ length bytes) wh
       moves bytes (in_tracks_at to before at) (in_entry_at to end before new_entry inner) (omega arith, outer, fits)
       (tracks_reads to at before head content (behind ++ rest) first are.0 room_here ∙ if_true (nat_eq (id_of head) the.track_entry) _ _ (agrees _ _ are.1))
       ∙ over_entry to end room_here outer before elements new_entry inner (behind ++ rest) are.2 (content_there bytes content (behind ++ rest) head at first) (omega (arith, ends))
-      ∙ ap (λ k. packets_from bytes (in_entry_at to end before (notes new_entry elements) k)) (sym ends)
+      ∙ ap (λ k. webm_packets_from bytes (in_entry_at to end before (notes new_entry elements) k)) (sym ends)
       ∙ entry_ends to end room_here outer before next elements are.3.1
       ∙ over_tracks to outer more next last end rest are.3.2 (after bytes spelled (behind ++ rest) at first) (omega (arith, long))
-      ∙ ap (λ k. packets_from bytes (in_tracks_at to last k)) to_there
+      ∙ ap (λ k. webm_packets_from bytes (in_tracks_at to last k)) to_there
   over_tracks to outer (webm.other_in_tracks e ∷ more) before last at rest are here room =
       let spelled = other_bytes e in
       let behind = tracks_bytes more in
@@ -236,7 +236,7 @@ module _ (bytes : List ℕ) (segment : ℕ) (fits : segment ≤ length bytes) wh
       moves bytes (in_tracks_at to before at) (in_tracks_at to before end) (omega arith, outer, fits)
       (tracks_reads to at before e.head e.content (behind ++ rest) first are.0 room_here ∙ if_false (nat_eq (id_of e.head) the.track_entry) _ _ (differs _ _ are.1))
       ∙ over_tracks to outer more before last end rest are.2 (after bytes spelled (behind ++ rest) at first) (omega (arith, long))
-      ∙ ap (λ k. packets_from bytes (in_tracks_at to last k)) to_there
+      ∙ ap (λ k. webm_packets_from bytes (in_tracks_at to last k)) to_there
 
 ---- The other way: what is chosen is said ----
 

@@ -8,12 +8,12 @@ use Rattle.vp9_types.specs.declared.rule.Rule.{Rule}
 use Rattle.ivf_container.specs.Packets.{Packets}
 use Rattle.webm_container.specs.Ids as the
 use Rattle.webm_container.specs.Elements.{element_at}
-use Rattle.webm_container.specs.Walk.{in_file, file_step, go_on, packets_from, webm_packets}
+use Rattle.webm_container.specs.Walk.{in_file, file_step, go_on_by_step, webm_packets_from, webm_packets}
 use Rattle.webm_container.specs.Webm.{Head, head_bytes, id_of, IsHead, Other, other_bytes, others_bytes, IsOther, InSegment, segment_bytes, AreInSegment, IsWebmFile}
 use Rattle.webm_container.specs.declared.cursor.Parent.TheVariants as parent
 use Rattle.webm_container.specs.declared.cursor.WebmCursor.{WebmCursor}
 use Rattle.webm_container.specs.declared.elements.Element.{Element}
-use Rattle.webm_container.specs.declared.steps.Step.{Step}
+use Rattle.webm_container.specs.declared.steps.WebmStep.{WebmStep}
 use Rattle.webm_container.proofs.Tests.{by_test, by_result}
 use Rattle.webm_container.proofs.Progress.{cursor_at}
 use Rattle.webm_container.proofs.Walks.{next_from, left_low}
@@ -74,17 +74,17 @@ module _ (bytes : List ℕ) where
         are = w.are;
       }
 
-  abbrev After : ℕ → Result Step Rule → Type 0
-  After at r = (go_on bytes (packets_from bytes) r).ending ≡ None → FileRest at (go_on bytes (packets_from bytes) r).payloads
+  abbrev After : ℕ → Result WebmStep Rule → Type 0
+  After at r = (go_on_by_step bytes (webm_packets_from bytes) r).ending ≡ None → FileRest at (go_on_by_step bytes (webm_packets_from bytes) r).payloads
 
-  in_the_segment : (at : ℕ) (e : Element) (h : ElementThere bytes at (length bytes) e) → (packets_from bytes (cursor_at e.from e.to parent.Segment None)).ending ≡ None
-      → SegmentRest bytes e.to h.within e.from None (packets_from bytes (cursor_at e.from e.to parent.Segment None)).payloads
+  in_the_segment : (at : ℕ) (e : Element) (h : ElementThere bytes at (length bytes) e) → (webm_packets_from bytes (cursor_at e.from e.to parent.Segment None)).ending ≡ None
+      → SegmentRest bytes e.to h.within e.from None (webm_packets_from bytes (cursor_at e.from e.to parent.Segment None)).payloads
   in_the_segment at e h none =
       let c = cursor_at e.from e.to parent.Segment None in
       is_sound bytes e.to h.within (length bytes + 3) c (left_low (length bytes) c) (h.order, h.within) refl none
 
   -- behind the EBML element
-  file_rest : (n at : ℕ) → at ≤ length bytes → length bytes - at < n → (packets_from bytes (in_file_at at)).ending ≡ None → FileRest at (packets_from bytes (in_file_at at)).payloads
+  file_rest : (n at : ℕ) → at ≤ length bytes → length bytes - at < n → (webm_packets_from bytes (in_file_at at)).ending ≡ None → FileRest at (webm_packets_from bytes (in_file_at at)).payloads
   unfolding file_step
   file_rest zero at here below = absurd (omega arith)
   file_rest (suc n) at here below =
@@ -113,8 +113,8 @@ module _ (bytes : List ℕ) where
     none,
   )
 
-  abbrev AtStart : Result Step Rule → Type 0
-  AtStart r = (go_on bytes (packets_from bytes) r).ending ≡ None → IsWebmFile bytes (go_on bytes (packets_from bytes) r)
+  abbrev AtStart : Result WebmStep Rule → Type 0
+  AtStart r = (go_on_by_step bytes (webm_packets_from bytes) r).ending ≡ None → IsWebmFile bytes (go_on_by_step bytes (webm_packets_from bytes) r)
 
   apart : (id : ℕ) → id ≡ the.ebml → nat_eq id the.segment ≡ true → ⊥
   apart id is also =

@@ -9,19 +9,19 @@ use Rattle.vp9_types.specs.declared.rule.Rule.{Rule}
 use Rattle.ivf_container.specs.Packets.{Packets, with_payload, with_payloads}
 use Rattle.webm_container.specs.Elements.{coded_of}
 use Rattle.webm_container.specs.ClusterBlocks.{is_laced, behind_number, payload_at}
-use Rattle.webm_container.specs.Walk.{behind_block, block_step, step_at, go_on, packets_from}
+use Rattle.webm_container.specs.Walk.{behind_block, block_step, step_at, go_on_by_step, webm_packets_from}
 use Rattle.webm_container.proofs.Progress.{LiesWithin}
 use Rattle.webm_container.specs.Webm.{marked_in, value_in, Block, block_bytes, IsBlock, block_payloads}
 use Rattle.webm_container.specs.declared.cursor.WebmCursor.{WebmCursor}
 use Rattle.webm_container.specs.declared.elements.Coded.{Coded}
 use Rattle.webm_container.specs.declared.elements.Element.{Element}
-use Rattle.webm_container.specs.declared.steps.Step.TheVariants.{Moved}
+use Rattle.webm_container.specs.declared.steps.WebmStep.TheVariants.{Moved}
 use Rattle.webm_container.proofs.Spelled.{if_false, if_true, after, range, first_of_them, coded_there}
 use Rattle.webm_container.proofs.Walks.{next_from}
 
 -- one step, which gives no block
-pub moves : (bytes : List ℕ) (c d : WebmCursor) → LiesWithin (length bytes) c.at c.segment c.parent → step_at bytes c ≡ Ok (Moved d) → packets_from bytes c ≡ packets_from bytes d
-moves bytes c d fits is = next_from bytes c fits ∙ ap (go_on bytes (packets_from bytes)) is
+pub moves : (bytes : List ℕ) (c d : WebmCursor) → LiesWithin (length bytes) c.at c.segment c.parent → step_at bytes c ≡ Ok (Moved d) → webm_packets_from bytes c ≡ webm_packets_from bytes d
+moves bytes c d fits is = next_from bytes c fits ∙ ap (go_on_by_step bytes (webm_packets_from bytes)) is
 
 pub with_both : (xs ys : List (List ℕ)) (p : Packets) → with_payloads xs (with_payloads ys p) ≡ with_payloads (xs ++ ys) p
 with_both xs ys p = ap (λ z. record { payloads = z; ending = p.ending }) (sym (append_assoc xs ys p.payloads))
@@ -29,12 +29,12 @@ with_both xs ys p = ap (λ z. record { payloads = z; ending = p.ending }) (sym (
 -- a list of elements, if the walk goes over each
 pub over_all : {Item : Type 0} (bytes : List ℕ) (spell : Item → List ℕ) (pays : Item → List (List ℕ)) (cursor : ℕ → WebmCursor) (low to : ℕ) (fine : Item → Type 0)
     → ((item : Item) (at : ℕ) (rest : List ℕ) → fine item → low ≤ at → drop at bytes ≡ spell item ++ rest → at + length (spell item) ≤ to
-    → packets_from bytes (cursor at) ≡ with_payloads (pays item) (packets_from bytes (cursor (at + length (spell item)))))
+    → webm_packets_from bytes (cursor at) ≡ with_payloads (pays item) (webm_packets_from bytes (cursor (at + length (spell item)))))
     → (items : List Item) (at : ℕ) (rest : List ℕ) → AllByRecursion fine items → low ≤ at → drop at bytes ≡ flat_map spell items ++ rest → at + length (flat_map spell items) ≤ to
-    → packets_from bytes (cursor at) ≡ with_payloads (flat_map pays items) (packets_from bytes (cursor (at + length (flat_map spell items))))
+    → webm_packets_from bytes (cursor at) ≡ with_payloads (flat_map pays items) (webm_packets_from bytes (cursor (at + length (flat_map spell items))))
 over_all bytes spell pays cursor low to fine one [] at rest all from here fits =
     let none : at ≡ at + 0 = omega arith in
-    ap (λ k. packets_from bytes (cursor k)) none
+    ap (λ k. webm_packets_from bytes (cursor k)) none
 over_all bytes spell pays cursor low to fine one (item ∷ more) at rest all from here fits =
     let n = length (spell item) in
     let behind = flat_map spell more in
@@ -43,8 +43,8 @@ over_all bytes spell pays cursor low to fine one (item ∷ more) at rest all fro
     let to_there : at + n + length behind ≡ at + length (spell item ++ behind) = omega (arith, long) in
     one item at (behind ++ rest) all.0 from first (omega (arith, long))
     ∙ ap (with_payloads (pays item)) (over_all bytes spell pays cursor low to fine one more (at + n) rest all.1 (omega arith) (after bytes (spell item) (behind ++ rest) at first) (omega (arith, long)))
-    ∙ with_both (pays item) (flat_map pays more) (packets_from bytes (cursor (at + n + length behind)))
-    ∙ ap (λ k. with_payloads (pays item ++ flat_map pays more) (packets_from bytes (cursor k))) to_there
+    ∙ with_both (pays item) (flat_map pays more) (webm_packets_from bytes (cursor (at + n + length behind)))
+    ∙ ap (λ k. with_payloads (pays item ++ flat_map pays more) (webm_packets_from bytes (cursor k))) to_there
 
 ---- Blocks ----
 
@@ -106,15 +106,15 @@ payload_there bytes rest track b from to here end h =
     (λ is. omega (arith, stands.long, h.short (ours track (value_in b.track) is)))
 
 told : (bytes payload : List ℕ) (x : Bool) (from to : ℕ) (d : WebmCursor) → slice_range bytes from to ≡ payload
-    → go_on bytes (packets_from bytes) (behind_block d (payload_if x from to)) ≡ with_payloads (if x then payload ∷ [] else []) (packets_from bytes d)
+    → go_on_by_step bytes (webm_packets_from bytes) (behind_block d (payload_if x from to)) ≡ with_payloads (if x then payload ∷ [] else []) (webm_packets_from bytes d)
 told bytes payload false from to d is = refl
-told bytes payload true from to d is = ap (λ p. with_payload p (packets_from bytes d)) is
+told bytes payload true from to d is = ap (λ p. with_payload p (webm_packets_from bytes d)) is
 
 -- a block, whose payload is given if it is of the chosen track
 pub block_goes : (bytes rest : List ℕ) (track : ℕ) (b : Block) (c : WebmCursor) (e : Element) → c.track ≡ Some track → drop e.from bytes ≡ block_bytes b ++ rest → e.to ≡ e.from + length (block_bytes b) → IsBlock track b
-    → go_on bytes (packets_from bytes) (block_step bytes c e) ≡ with_payloads (block_payloads track b) (packets_from bytes (record c { at = e.to }))
+    → go_on_by_step bytes (webm_packets_from bytes) (block_step bytes c e) ≡ with_payloads (block_payloads track b) (webm_packets_from bytes (record c { at = e.to }))
 unfolding block_step
 block_goes bytes rest track b c e chosen here end h =
-    ap (λ t. go_on bytes (packets_from bytes) (payload_at bytes t e.from e.to >>= behind_block (record c { at = e.to }))) chosen
-    ∙ ap (λ (r : Result (Option Span) Rule). go_on bytes (packets_from bytes) (r >>= behind_block (record c { at = e.to }))) (payload_there bytes rest track b e.from e.to here end h)
+    ap (λ t. go_on_by_step bytes (webm_packets_from bytes) (payload_at bytes t e.from e.to >>= behind_block (record c { at = e.to }))) chosen
+    ∙ ap (λ (r : Result (Option Span) Rule). go_on_by_step bytes (webm_packets_from bytes) (r >>= behind_block (record c { at = e.to }))) (payload_there bytes rest track b e.from e.to here end h)
     ∙ told bytes b.payload (nat_eq track (value_in b.track)) (e.from + length b.track + 3) e.to (record c { at = e.to }) (block_stands bytes rest b e.from e.to here end h.time).payload

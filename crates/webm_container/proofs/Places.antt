@@ -4,7 +4,7 @@ use Rattle.std.specs.Prelude.{Option, Some, None, Result, Ok, Err, not, nat_lt, 
 use borrow.Author.Tests.{ltb-false, leb-false}
 use Rattle.vp9_types.specs.declared.job.Span.{Span}
 use Rattle.vp9_types.specs.declared.rule.Rule.{Rule}
-use Rattle.webm_container.specs.Elements.{coded_length, coded_at, sized, element_at, if_known, known_at}
+use Rattle.webm_container.specs.Elements.{coded_octets, coded_at, sized, element_at, if_known, known_at}
 use Rattle.webm_container.specs.ClusterBlocks.{is_of, is_laced, behind_number, payload_at}
 use Rattle.webm_container.specs.declared.elements.Coded.{Coded}
 use Rattle.webm_container.specs.declared.elements.Element.{Element}
@@ -17,7 +17,7 @@ CodedLies at end (Err rule) = Unit {0}
 pub coded_lies : (bytes : List ℕ) (at end most : ℕ) → CodedLies at end (coded_at bytes at end most)
 unfolding coded_at
 coded_lies bytes at end most =
-    let n = coded_length (slice_index bytes at) in
+    let n = coded_octets (slice_index bytes at) in
     by_test (CodedLies at end) (nat_le end at) _ _ (λ _. tt) (λ some.
     by_test (CodedLies at end) (nat_lt most n) _ _ (λ _. tt) (λ _.
     by_test (CodedLies at end) (nat_lt (end - at) n) _ _ (λ _. tt) (λ fits.

@@ -6,7 +6,7 @@ use Rattle.vp9_types.specs.declared.rule.Rule.{Rule}
 use Rattle.webm_container.specs.Elements.{element_at, known_at}
 use Rattle.webm_container.specs.TrackEntries.{noted, chosen}
 use Rattle.webm_container.specs.ClusterBlocks.{payload_at}
-use Rattle.webm_container.specs.Walk.{in_file, file_step, if_chosen, in_segment, segment_step, in_tracks, tracks_step, with_track, entry_step, behind_block, block_step, in_cluster, cluster_step, in_group, group_step, step_within, step_at, moved}
+use Rattle.webm_container.specs.Walk.{in_file, file_step, if_chosen, in_segment, segment_step, in_tracks, tracks_step, with_track, entry_step, behind_block, block_step, in_cluster, cluster_step, in_group, group_step, step_within, step_at, moved_on}
 use Rattle.webm_container.specs.Code.{inner_end, outer_end, segment_end, Fits}
 use Rattle.webm_container.specs.declared.cursor.Cluster.{Cluster}
 use Rattle.webm_container.specs.declared.cursor.Parent.{Parent}
@@ -16,8 +16,8 @@ use Rattle.webm_container.specs.declared.elements.Element.{Element}
 use Rattle.webm_container.specs.Ids as the
 use Rattle.webm_container.specs.Ids.{is_top_level}
 use Rattle.webm_container.specs.declared.entries.TrackEntry.{TrackEntry}
-use Rattle.webm_container.specs.declared.steps.Step.{Step}
-use Rattle.webm_container.specs.declared.steps.Step.TheVariants.{Moved, Block, End}
+use Rattle.webm_container.specs.declared.steps.WebmStep.{WebmStep}
+use Rattle.webm_container.specs.declared.steps.WebmStep.TheVariants.{Moved, Block, End}
 use Rattle.webm_container.proofs.Tests.{by_test, by_result}
 use Rattle.webm_container.proofs.Places.{Lies, element_lies, known_lies, PayloadLies, payload_lies}
 
@@ -81,7 +81,7 @@ pub record GoesBehind (long : ℕ) (c : WebmCursor) (span : Span) (d : WebmCurso
   pub within : span.to ≤ long
   pub behind : c.at + 6 + (span.to - span.from) ≤ d.at
 
-abbrev pub IsStep : ℕ → WebmCursor → Result Step Rule → Type 0
+abbrev pub IsStep : ℕ → WebmCursor → Result WebmStep Rule → Type 0
 IsStep long c (Ok (Moved d)) = GoesOn long c d
 IsStep long c (Ok (Block span d)) = GoesBehind long c span d
 IsStep long c (Ok End) = Unit {0}
@@ -101,7 +101,7 @@ file_steps bytes at segment track =
     by_result (IsStep (length bytes) c) (element_at bytes at (length bytes)) (in_file c)
     (λ e is. in_file_steps (length bytes) at segment track e (subst (Lies at (length bytes)) is (element_lies bytes at (length bytes)))) (λ _. tt)
 
-if_chosen_steps : (long : ℕ) (c : WebmCursor) (track : Option ℕ) (r : Result Step Rule) → IsStep long c r → IsStep long c (if_chosen track r)
+if_chosen_steps : (long : ℕ) (c : WebmCursor) (track : Option ℕ) (r : Result WebmStep Rule) → IsStep long c r → IsStep long c (if_chosen track r)
 if_chosen_steps long c None r h = tt
 if_chosen_steps long c (Some number) r h = h
 
@@ -110,7 +110,7 @@ in_segment_steps long at segment track e fits h =
     let c = cursor_at at segment parent.Segment track in
     let P = IsStep long c in
     by_test P (nat_eq e.id the.cluster) _ _
-    (λ _. if_chosen_steps long c track (moved c e.from (parent.Cluster (record { to = e.to; unknown = e.unknown })))
+    (λ _. if_chosen_steps long c track (moved_on c e.from (parent.Cluster (record { to = e.to; unknown = e.unknown })))
     (record { fits = (h.1, h.2, fits); onward = omega (arith, h.0); within = omega (arith, h.1, h.2); nearer = omega (arith, h.0, h.1, h.2) })) (λ _.
     by_test P e.unknown _ _ (λ _. tt) (λ _.
     by_test P (nat_eq e.id the.tracks) _ _
@@ -151,7 +151,7 @@ entry_steps bytes at segment tracks to entry track here inner outer fits =
     by_test (IsStep long c) (nat_le to at) _ _
     (λ _. by_result (IsStep long c) (chosen track entry) (with_track c tracks)
     (λ track is. record { fits = (omega arith, outer, fits); onward = omega arith; within = omega arith; nearer = omega arith }) (λ _. tt)) (λ _.
-    by_result (IsStep long c) (known_at bytes at to) (λ e. moved c e.to (parent.Entry tracks to (noted bytes entry e)))
+    by_result (IsStep long c) (known_at bytes at to) (λ e. moved_on c e.to (parent.Entry tracks to (noted bytes entry e)))
     (λ e is.
     let h = subst (Lies at to) is (known_lies bytes at to) in
     record { fits = (h.2, inner, outer, fits); onward = omega (arith, h.0, h.1); within = omega (arith, h.2); nearer = omega (arith, h.0, h.1, h.2) }) (λ _. tt))

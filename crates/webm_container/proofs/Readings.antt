@@ -6,7 +6,7 @@ use Rattle.std.proofs.lemmas.Bool.{ltb-false, leb-false, eqb-true, eqb-false}
 use Rattle.byteorder.specs.Endian.{big_number}
 use Rattle.vp9_types.specs.declared.job.Span.{Span}
 use Rattle.vp9_types.specs.declared.rule.Rule.{Rule}
-use Rattle.webm_container.specs.Elements.{coded_length, coded_of, coded_at, sized, element_at, if_known, known_at}
+use Rattle.webm_container.specs.Elements.{coded_octets, coded_of, coded_at, sized, element_at, if_known, known_at}
 use Rattle.webm_container.specs.ClusterBlocks.{is_of, is_laced, behind_number, payload_at}
 use Rattle.webm_container.specs.Webm.{IsCoded, marked_in, value_in, Head, head_bytes, id_of, IsHead, Other, other_bytes, IsOther, Block, block_bytes, IsBlock, block_payloads}
 use Rattle.webm_container.specs.declared.elements.Coded.{Coded}
@@ -56,7 +56,7 @@ abbrev pub IsCodedThere : List ℕ → ℕ → ℕ → ℕ → Result Coded Rule
 IsCodedThere bytes at end most (Ok c) = CodedThere bytes at end most c
 IsCodedThere bytes at end most (Err rule) = Unit {0}
 
-coded_spelled : (bytes : List ℕ) (at end most n : ℕ) → end ≤ length bytes → n ≡ coded_length (slice_index bytes at) → n ≤ most → at + n ≤ end
+coded_spelled : (bytes : List ℕ) (at end most n : ℕ) → end ≤ length bytes → n ≡ coded_octets (slice_index bytes at) → n ≤ most → at + n ≤ end
     → CodedThere bytes at end most (coded_of n (big_number n (slice_range bytes at (at + n))) (at + n))
 coded_spelled bytes at end most n inside is few fits =
     let xs = slice_range bytes at (at + n) in
@@ -67,7 +67,7 @@ coded_spelled bytes at end most n inside is few fits =
       spelled = xs;
       coded = record {
         few = omega (arith, len);
-        says_length = ap coded_length (sym (first_of_them bytes xs (drop (at + n) bytes) at reads.here some)) ∙ sym is ∙ len;
+        says_length = ap coded_octets (sym (first_of_them bytes xs (drop (at + n) bytes) at reads.here some)) ∙ sym is ∙ len;
       };
       marked = ap (λ k. big_number k xs) len;
       value = ap (λ k. big_number k xs % 2 ^ (7 * k)) len;
@@ -79,7 +79,7 @@ coded_spelled bytes at end most n inside is few fits =
 pub coded_is : (bytes : List ℕ) (at end most : ℕ) → end ≤ length bytes → IsCodedThere bytes at end most (coded_at bytes at end most)
 unfolding coded_at
 coded_is bytes at end most inside =
-    let n = coded_length (slice_index bytes at) in
+    let n = coded_octets (slice_index bytes at) in
     let P = IsCodedThere bytes at end most in
     by_test P (nat_le end at) _ _ (λ _. tt) (λ some.
     by_test P (nat_lt most n) _ _ (λ _. tt) (λ few.
@@ -182,7 +182,7 @@ other_there bytes at end e inside h known =
 pub same_id : (bytes xs ys more rest : List ℕ) (at : ℕ) → drop at bytes ≡ xs ++ more → drop at bytes ≡ ys ++ rest → IsCoded 4 xs → IsCoded 4 ys → marked_in xs ≡ marked_in ys
 same_id bytes xs ys more rest at x y is also =
     let len : length xs ≡ length ys =
-    sym is.says_length ∙ ap coded_length (sym (first_of_them bytes xs more at x (some_bytes 4 xs is)) ∙ first_of_them bytes ys rest at y (some_bytes 4 ys also)) ∙ also.says_length in
+    sym is.says_length ∙ ap coded_octets (sym (first_of_them bytes xs more at x (some_bytes 4 xs is)) ∙ first_of_them bytes ys rest at y (some_bytes 4 ys also)) ∙ also.says_length in
     ap marked_in (sym (range bytes xs more at x) ∙ ap (λ k. slice_range bytes at (at + k)) len ∙ range bytes ys rest at y)
 
 ---- Blocks ----

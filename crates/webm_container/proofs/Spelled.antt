@@ -7,7 +7,7 @@ use Rattle.std.proofs.lemmas.Bool.Decides.{eqb_tells}
 use Rattle.byteorder.specs.Endian.{big_number}
 use Rattle.vp9_types.specs.Results.{◌>>=◌}
 use Rattle.vp9_types.specs.declared.rule.Rule.{Rule}
-use Rattle.webm_container.specs.Elements.{coded_length, coded_of, coded_at, sized, element_at, if_known, known_at}
+use Rattle.webm_container.specs.Elements.{coded_octets, coded_of, coded_at, sized, element_at, if_known, known_at}
 use Rattle.webm_container.specs.Webm.{IsCoded, marked_in, value_in, Head, head_bytes, id_of, SaysSize, IsHead}
 use Rattle.webm_container.specs.declared.elements.Coded.{Coded}
 use Rattle.webm_container.specs.declared.elements.Element.{Element}
@@ -61,8 +61,8 @@ pub coded_there : (bytes xs rest : List ℕ) (at end most : ℕ) → drop at byt
 unfolding coded_at
 coded_there bytes xs rest at end most here h fits =
     let some = some_bytes most xs h in
-    let n = coded_length (slice_index bytes at) in
-    let is : n ≡ length xs = ap coded_length (first_of_them bytes xs rest at here some) ∙ h.says_length in
+    let n = coded_octets (slice_index bytes at) in
+    let is : n ≡ length xs = ap coded_octets (first_of_them bytes xs rest at here some) ∙ h.says_length in
     if_false (nat_le end at) _ _ (lt-leb end at (omega arith))
     ∙ if_false (nat_lt most n) _ _ (le-ltb most n (omega (arith, is, h.few)))
     ∙ if_false (nat_lt (end - at) n) _ _ (le-ltb (end - at) n (omega (arith, is)))

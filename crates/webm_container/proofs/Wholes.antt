@@ -11,7 +11,7 @@ use Rattle.webm_container.specs.Ids.{is_top_level}
 use Rattle.webm_container.specs.Elements.{element_at, known_at}
 use Rattle.webm_container.specs.TrackEntries.{new_entry, noted, chosen}
 use Rattle.webm_container.specs.ClusterBlocks.{payload_at}
-use Rattle.webm_container.specs.Walk.{moved, if_chosen, in_segment, segment_step, in_tracks, tracks_step, with_track, entry_step, behind_block, block_step, in_cluster, cluster_step, in_group, group_step, step_within, go_on, packets_from}
+use Rattle.webm_container.specs.Walk.{moved_on, if_chosen, in_segment, segment_step, in_tracks, tracks_step, with_track, entry_step, behind_block, block_step, in_cluster, cluster_step, in_group, group_step, step_within, go_on_by_step, webm_packets_from}
 use Rattle.webm_container.specs.Webm as webm
 use Rattle.webm_container.specs.Webm.{Head, head_bytes, id_of, IsHead, Other, other_bytes, others_bytes, IsOther, IsChosen, InTracks, tracks_bytes, AreTracks, Block, block_bytes, IsBlock, block_payloads, InGroup, group_bytes, IsInGroup, group_payloads, InCluster, cluster_element, cluster_bytes, IsInCluster, cluster_payloads, InSegment, segment_bytes, EndsCluster, AreInSegment}
 use Rattle.webm_container.specs.declared.cursor.Cluster.{Cluster}
@@ -20,8 +20,8 @@ use Rattle.webm_container.specs.declared.cursor.Parent.TheVariants as parent
 use Rattle.webm_container.specs.declared.cursor.WebmCursor.{WebmCursor}
 use Rattle.webm_container.specs.declared.elements.Element.{Element}
 use Rattle.webm_container.specs.declared.entries.TrackEntry.{TrackEntry}
-use Rattle.webm_container.specs.declared.steps.Step.{Step}
-use Rattle.webm_container.specs.declared.steps.Step.TheVariants as step
+use Rattle.webm_container.specs.declared.steps.WebmStep.{WebmStep}
+use Rattle.webm_container.specs.declared.steps.WebmStep.TheVariants as step
 use Rattle.webm_container.proofs.Tests.{by_test, by_result}
 use Rattle.webm_container.proofs.Progress.{LiesWithin, left_of, GoesOn, IsStep, is_step, cursor_at}
 use Rattle.webm_container.proofs.Walks.{next_from}
@@ -93,11 +93,11 @@ module _ (bytes : List ℕ) (segment : ℕ) (fits : segment ≤ length bytes) wh
   Sound at within track packets = packets.ending ≡ None → Rest within at track packets.payloads
 
   -- what a step leads to
-  abbrev After : ℕ → Parent → Option ℕ → Result Step Rule → Type 0
+  abbrev After : ℕ → Parent → Option ℕ → Result WebmStep Rule → Type 0
   After at within track r =
       IsStep (length bytes) (in_place at within track) r
-      → ((d : WebmCursor) → GoesOn (length bytes) (in_place at within track) d → d.segment ≡ segment → Sound d.at d.parent d.track (packets_from bytes d))
-      → Sound at within track (go_on bytes (packets_from bytes) r)
+      → ((d : WebmCursor) → GoesOn (length bytes) (in_place at within track) d → d.segment ≡ segment → Sound d.at d.parent d.track (webm_packets_from bytes d))
+      → Sound at within track (go_on_by_step bytes (webm_packets_from bytes) r)
 
   breaks : (at : ℕ) (within : Parent) (track : Option ℕ) (rule : Rule) → After at within track (Err rule)
   breaks at within track rule goes ih none = cc
@@ -131,7 +131,7 @@ module _ (bytes : List ℕ) (segment : ℕ) (fits : segment ≤ length bytes) wh
       }
 
   to_cluster : (at : ℕ) (track : Option ℕ) (e : Element) → ElementThere bytes at segment e → e.id ≡ the.cluster
-      → After at parent.Segment track (if_chosen track (moved (in_place at parent.Segment track) e.from (parent.Cluster (record { to = e.to; unknown = e.unknown }))))
+      → After at parent.Segment track (if_chosen track (moved_on (in_place at parent.Segment track) e.from (parent.Cluster (record { to = e.to; unknown = e.unknown }))))
   to_cluster at None e h is goes ih none = cc
   to_cluster at (Some track) e h is goes ih none = over_cluster_head at track e _ h is (ih _ goes refl none h.last)
 
@@ -223,7 +223,7 @@ module _ (bytes : List ℕ) (segment : ℕ) (fits : segment ≤ length bytes) wh
       by_test P (nat_le to at) _ _
       (λ over. by_result P (chosen track entry) (with_track c tracks)
       (λ next picks goes ih none. entry_over tracks to at entry track next _ (let a = leb-true to at over in omega arith) picks (ih _ goes refl none)) (breaks at within track)) (λ _.
-      by_result P (known_at bytes at to) (λ e. moved c e.to (parent.Entry tracks to (noted bytes entry e)))
+      by_result P (known_at bytes at to) (λ e. moved_on c e.to (parent.Entry tracks to (noted bytes entry e)))
       (λ e is goes ih none.
       let h = subst (IsKnownThere bytes at to) is (known_is bytes at to (omega arith)) in
       over_element tracks to at entry track e _ (other_there bytes at to e (omega arith) h.there h.known) (ih _ goes refl none)) (breaks at within track))
@@ -416,12 +416,12 @@ module _ (bytes : List ℕ) (segment : ℕ) (fits : segment ≤ length bytes) wh
   after_step at (parent.Group cluster to) None lies = λ goes ih none. tt
   after_step at (parent.Group cluster to) (Some track) lies = group_is to at track cluster lies.0 lies.1 lies.2
 
-  pub is_sound : (n : ℕ) (c : WebmCursor) → left_of (length bytes) c < n → LiesWithin (length bytes) c.at c.segment c.parent → c.segment ≡ segment → Sound c.at c.parent c.track (packets_from bytes c)
+  pub is_sound : (n : ℕ) (c : WebmCursor) → left_of (length bytes) c < n → LiesWithin (length bytes) c.at c.segment c.parent → c.segment ≡ segment → Sound c.at c.parent c.track (webm_packets_from bytes c)
   is_sound zero c below lies here = absurd (omega arith)
   is_sound (suc n) c below lies here =
       let placed = subst (λ s. LiesWithin (length bytes) c.at s c.parent) here lies in
       let d = in_place c.at c.parent c.track in
       let same : c ≡ d = ap (λ s. cursor_at c.at s c.parent c.track) here in
-      subst (Sound c.at c.parent c.track) (sym (ap (packets_from bytes) same ∙ next_from bytes d placed))
+      subst (Sound c.at c.parent c.track) (sym (ap (webm_packets_from bytes) same ∙ next_from bytes d placed))
       (after_step c.at c.parent c.track placed (is_step bytes d placed)
       (λ e goes on. is_sound n e (omega (arith, goes.nearer, ap (left_of (length bytes)) same)) goes.fits on))

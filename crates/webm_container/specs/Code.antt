@@ -3,7 +3,7 @@ use Rattle.std.specs.Prelude.{◌≡◌, ℕ, ◌+◌, ◌-◌, ◌≤◌, List,
 use Rattle.vp9_types.specs.declared.job.Span.{Span}
 use Rattle.vp9_types.specs.declared.rule.Rule.{Rule}
 use Rattle.ivf_container.specs.Packets.{Packets, no_packets, with_payload}
-use Rattle.webm_container.specs.Walk.{packets_from}
+use Rattle.webm_container.specs.Walk.{webm_packets_from}
 use Rattle.webm_container.specs.declared.cursor.Parent.{Parent}
 use Rattle.webm_container.specs.declared.cursor.Parent.TheVariants as parent
 use Rattle.webm_container.specs.declared.cursor.WebmCursor.{WebmCursor}
@@ -38,7 +38,7 @@ pub record Fits (long : ℕ) (c : WebmCursor) : Type 0 where
 
 -- the packets that a cursor has ahead in these bytes, and how they end
 unfoldable pub blocks_ahead : List ℕ → WebmCursor → Packets
-blocks_ahead bytes c = packets_from bytes c
+blocks_ahead bytes c = webm_packets_from bytes c
 
 -- a block with this payload, and the cursor behind it: its head and its element's head have at least 6 bytes
 pub record GivesBlock (bytes : List ℕ) (old : WebmCursor) (span : Span) (new : WebmCursor) : Type 0 where

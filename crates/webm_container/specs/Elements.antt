@@ -9,8 +9,8 @@ use Rattle.webm_container.specs.declared.elements.Coded.{Coded}
 use Rattle.webm_container.specs.declared.elements.Element.{Element}
 
 -- how many bytes a number has that begins with this one: one more than this has leading zero bits
-abbrev pub coded_length : ℕ → ℕ
-coded_length first = leading_zeros w8 first + 1
+abbrev pub coded_octets : ℕ → ℕ
+coded_octets first = leading_zeros w8 first + 1
 
 -- a number of n bytes: behind its leading zeros stands a marker, bit 7 * n, and then the value
 abbrev pub coded_of : ℕ → ℕ → ℕ → Coded
@@ -19,7 +19,7 @@ coded_of n marked to = record { marked = marked; value = marked % 2 ^ (7 * n); a
 -- the number at a place of what ends at `end`, of at most so many bytes
 unfoldable pub coded_at : List ℕ → ℕ → ℕ → ℕ → Result Coded Rule
 coded_at bytes at end most =
-    let n = coded_length (slice_index bytes at) in
+    let n = coded_octets (slice_index bytes at) in
     if nat_le end at then Err WebmElement
     else (if nat_lt most n then Err WebmElement
     else (if nat_lt (end - at) n then Err WebmElement

@@ -15,11 +15,11 @@ use Rattle.webm_container.specs.declared.elements.Element.{Element}
 use Rattle.webm_container.specs.declared.entries.TrackEntry.{TrackEntry}
 use Rattle.webm_container.specs.declared.entries.TrackNumber.{TrackNumber}
 use Rattle.webm_container.specs.declared.entries.TrackNumber.TheVariants.{Malformed, Is}
-use Rattle.webm_container.specs.declared.steps.Step.{Step}
-use Rattle.webm_container.specs.declared.steps.Step.TheVariants.{Moved, Block, End}
+use Rattle.webm_container.specs.declared.steps.WebmStep.{WebmStep}
+use Rattle.webm_container.specs.declared.steps.WebmStep.TheVariants.{Moved, Block, End}
 
 -- a step that goes on, over a block or not
-abbrev pub LeadsTo : Result Step Rule → WebmCursor → Type 0
+abbrev pub LeadsTo : Result WebmStep Rule → WebmCursor → Type 0
 LeadsTo (Ok (Moved d)) next = next ≡ d
 LeadsTo (Ok (Block span d)) next = next ≡ d
 LeadsTo (Ok End) next = ⊥

@@ -31,16 +31,16 @@ number_in content =
     else Is (big_number (length content) content))
 
 -- the first of what an entry says twice counts
-abbrev pub first_of : {A : Type 0} → Option A → A → Option A
-first_of None x = Some x
-first_of (Some said) x = Some said
+abbrev pub first_said : {A : Type 0} → Option A → A → Option A
+first_said None x = Some x
+first_said (Some said) x = Some said
 
 -- an entry, and this element of it
 abbrev pub noted : List ℕ → TrackEntry → Element → TrackEntry
 noted bytes entry element =
     let content = slice_range bytes element.from element.to in
-    if nat_eq element.id the.codec_id then record entry { is_vp9 = first_of entry.is_vp9 (is_vp9 content) }
-    else (if nat_eq element.id the.track_number then record entry { number = first_of entry.number (number_in content) }
+    if nat_eq element.id the.codec_id then record entry { is_vp9 = first_said entry.is_vp9 (is_vp9 content) }
+    else (if nat_eq element.id the.track_number then record entry { number = first_said entry.number (number_in content) }
     else (if nat_eq element.id the.content_encodings then record entry { encoded = true }
     else entry))
 

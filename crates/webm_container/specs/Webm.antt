@@ -3,7 +3,7 @@ use Rattle.std.specs.Prelude.{◌≡◌, ◌≢◌, ◌⊎◌, ℕ, ◌+◌, ◌
 use Rattle.std.specs.List.{flat_map, AllByRecursion}
 use Rattle.byteorder.specs.Endian.{big_number}
 use Rattle.ivf_container.specs.Packets.{Packets}
-use Rattle.webm_container.specs.Elements.{coded_length}
+use Rattle.webm_container.specs.Elements.{coded_octets}
 use Rattle.webm_container.specs.TrackEntries.{is_vp9}
 use Rattle.webm_container.specs.ClusterBlocks.{is_laced}
 use Rattle.webm_container.specs.Ids as the
@@ -15,7 +15,7 @@ use Rattle.webm_container.specs.Ids.{is_top_level}
 -- bits stands a marker, and then the value, in 7 bits a byte.
 pub record IsCoded (most : ℕ) (spelled : List ℕ) : Type 0 where
   pub few : length spelled ≤ most
-  pub says_length : coded_length (slice_index spelled 0) ≡ length spelled
+  pub says_length : coded_octets (slice_index spelled 0) ≡ length spelled
 
 -- with the marker, and without it
 abbrev pub marked_in : List ℕ → ℕ

@@ -3,7 +3,7 @@ ghost use Rattle.webm_container.specs.Walk.{webm_packets};
 ghost use Rattle.webm_container.specs.Code.{Fits, blocks_ahead, IsNextBlock};
 
 use crate::entries::TrackEntry;
-use crate::steps::{Step, step_at};
+use crate::steps::{WebmStep, step_at};
 use vp9_types::{Rule, Span};
 
 /// A Cluster that is open: where it ends, or where its parent does if its size is unknown.
@@ -66,12 +66,12 @@ pub fn next_block(bytes: &[u8], cursor: &mut WebmCursor) -> Result<Option<Span>,
     let mut place = *cursor;
     'steps: loop {
         match step_at(bytes, place) {
-            Ok(Step::Moved(next)) => place = next,
-            Ok(Step::Block(span, next)) => {
+            Ok(WebmStep::Moved(next)) => place = next,
+            Ok(WebmStep::Block(span, next)) => {
                 *cursor = next;
                 return Ok(Some(span));
             }
-            Ok(Step::End) => {
+            Ok(WebmStep::End) => {
                 *cursor = place;
                 return Ok(None);
             }

@@ -16,7 +16,7 @@ use vp9_types::{Rule, Span};
 
 /// What a step comes to.
 #[derive(Clone, Copy)]
-pub enum Step {
+pub enum WebmStep {
     Moved(WebmCursor),
     Block(Span, WebmCursor),
     End,
@@ -37,10 +37,10 @@ fn is_top_level(id: u64) -> bool
 }
 
 /// The same cursor at another place, in another parent.
-fn moved(cursor: WebmCursor, at: usize, parent: Parent) -> Step
-    ensures { result ≡ Step.Moved (record cursor { at = at; parent = parent }) }
+fn moved_on(cursor: WebmCursor, at: usize, parent: Parent) -> WebmStep
+    ensures { result ≡ WebmStep.Moved (record cursor { at = at; parent = parent }) }
 {
-    Step::Moved(WebmCursor {
+    WebmStep::Moved(WebmCursor {
         at,
         segment: cursor.segment,
         parent,
@@ -50,7 +50,7 @@ fn moved(cursor: WebmCursor, at: usize, parent: Parent) -> Step
 
 /// Before the Segment.
 #[tactic(auto, unfolding(crate::specs::Walk::file_step))]
-fn file_step(bytes: &[u8], cursor: WebmCursor) -> Result<Step, Rule>
+fn file_step(bytes: &[u8], cursor: WebmCursor) -> Result<WebmStep, Rule>
     ensures { result ≡ file_step bytes.now cursor }
 {
     let element = element_at(bytes, cursor.at, bytes.len())?;
@@ -58,7 +58,7 @@ fn file_step(bytes: &[u8], cursor: WebmCursor) -> Result<Step, Rule>
         return Err(Rule::WebmElement);
     }
     if element.id == SEGMENT {
-        return Ok(Step::Moved(WebmCursor {
+        return Ok(WebmStep::Moved(WebmCursor {
             at: element.from,
             segment: element.to,
             parent: Parent::Segment,
@@ -68,18 +68,18 @@ fn file_step(bytes: &[u8], cursor: WebmCursor) -> Result<Step, Rule>
     if element.unknown {
         return Err(Rule::WebmElement);
     }
-    Ok(moved(cursor, element.to, Parent::File))
+    Ok(moved_on(cursor, element.to, Parent::File))
 }
 
 /// Among the children of the Segment.
 #[tactic(auto, unfolding(crate::specs::Walk::segment_step))]
-fn segment_step(bytes: &[u8], cursor: WebmCursor) -> Result<Step, Rule>
+fn segment_step(bytes: &[u8], cursor: WebmCursor) -> Result<WebmStep, Rule>
     requires { cursor.segment ≤ length bytes.now }
     ensures { result ≡ segment_step bytes.now cursor }
 {
     if cursor.segment <= cursor.at {
         return match cursor.track {
-            Some(_) => Ok(Step::End),
+            Some(_) => Ok(WebmStep::End),
             None => Err(Rule::WebmTrack),
         };
     }
@@ -88,7 +88,7 @@ fn segment_step(bytes: &[u8], cursor: WebmCursor) -> Result<Step, Rule>
         let (to, unknown) = (element.to, element.unknown);
         let parent = Parent::Cluster(Cluster { to, unknown });
         return match cursor.track {
-            Some(_) => Ok(moved(cursor, element.from, parent)),
+            Some(_) => Ok(moved_on(cursor, element.from, parent)),
             None => Err(Rule::WebmTrack),
         };
     }
@@ -96,26 +96,26 @@ fn segment_step(bytes: &[u8], cursor: WebmCursor) -> Result<Step, Rule>
         return Err(Rule::WebmElement);
     }
     if element.id == TRACKS {
-        return Ok(moved(cursor, element.from, Parent::Tracks(element.to)));
+        return Ok(moved_on(cursor, element.from, Parent::Tracks(element.to)));
     }
-    Ok(moved(cursor, element.to, Parent::Segment))
+    Ok(moved_on(cursor, element.to, Parent::Segment))
 }
 
 /// Among the entries of Tracks that end at `to`.
 #[tactic(auto, unfolding(crate::specs::Walk::tracks_step))]
-fn tracks_step(bytes: &[u8], cursor: WebmCursor, to: usize) -> Result<Step, Rule>
+fn tracks_step(bytes: &[u8], cursor: WebmCursor, to: usize) -> Result<WebmStep, Rule>
     requires { to ≤ length bytes.now }
     ensures { result ≡ tracks_step bytes.now cursor to }
 {
     if to <= cursor.at {
-        return Ok(moved(cursor, cursor.at, Parent::Segment));
+        return Ok(moved_on(cursor, cursor.at, Parent::Segment));
     }
     let element = known_at(bytes, cursor.at, to)?;
     if element.id == TRACK_ENTRY {
         let parent = Parent::Entry(to, element.to, new_entry());
-        return Ok(moved(cursor, element.from, parent));
+        return Ok(moved_on(cursor, element.from, parent));
     }
-    Ok(moved(cursor, element.to, Parent::Tracks(to)))
+    Ok(moved_on(cursor, element.to, Parent::Tracks(to)))
 }
 
 /// In an entry that ends at `to`, of Tracks that end at `tracks`.
@@ -126,13 +126,13 @@ fn entry_step(
     tracks: usize,
     to: usize,
     entry: TrackEntry,
-) -> Result<Step, Rule>
+) -> Result<WebmStep, Rule>
     requires { to ≤ length bytes.now }
     ensures { result ≡ entry_step bytes.now cursor tracks to entry }
 {
     if to <= cursor.at {
         let track = chosen(cursor.track, entry)?;
-        return Ok(Step::Moved(WebmCursor {
+        return Ok(WebmStep::Moved(WebmCursor {
             at: cursor.at,
             segment: cursor.segment,
             parent: Parent::Tracks(tracks),
@@ -141,12 +141,12 @@ fn entry_step(
     }
     let element = known_at(bytes, cursor.at, to)?;
     let parent = Parent::Entry(tracks, to, noted(bytes, entry, element));
-    Ok(moved(cursor, element.to, parent))
+    Ok(moved_on(cursor, element.to, parent))
 }
 
 /// At a block.
 #[tactic(auto, unfolding(crate::specs::Walk::block_step))]
-fn block_step(bytes: &[u8], cursor: WebmCursor, block: Element) -> Result<Step, Rule>
+fn block_step(bytes: &[u8], cursor: WebmCursor, block: Element) -> Result<WebmStep, Rule>
     requires { block.to ≤ length bytes.now }
     ensures { result ≡ block_step bytes.now cursor block }
 {
@@ -158,23 +158,23 @@ fn block_step(bytes: &[u8], cursor: WebmCursor, block: Element) -> Result<Step, 
         track: cursor.track,
     };
     match payload {
-        Some(span) => Ok(Step::Block(span, behind)),
-        None => Ok(Step::Moved(behind)),
+        Some(span) => Ok(WebmStep::Block(span, behind)),
+        None => Ok(WebmStep::Moved(behind)),
     }
 }
 
 /// In a Cluster.
 #[tactic(auto, unfolding(crate::specs::Walk::cluster_step))]
-fn cluster_step(bytes: &[u8], cursor: WebmCursor, cluster: Cluster) -> Result<Step, Rule>
+fn cluster_step(bytes: &[u8], cursor: WebmCursor, cluster: Cluster) -> Result<WebmStep, Rule>
     requires { cluster.to ≤ length bytes.now }
     ensures { result ≡ cluster_step bytes.now cursor cluster }
 {
     if cluster.to <= cursor.at {
-        return Ok(moved(cursor, cursor.at, Parent::Segment));
+        return Ok(moved_on(cursor, cursor.at, Parent::Segment));
     }
     let element = element_at(bytes, cursor.at, cluster.to)?;
     if cluster.unknown && is_top_level(element.id) {
-        return Ok(moved(cursor, cursor.at, Parent::Segment));
+        return Ok(moved_on(cursor, cursor.at, Parent::Segment));
     }
     if element.unknown {
         return Err(Rule::WebmElement);
@@ -184,29 +184,34 @@ fn cluster_step(bytes: &[u8], cursor: WebmCursor, cluster: Cluster) -> Result<St
     }
     if element.id == BLOCK_GROUP {
         let parent = Parent::Group(cluster, element.to);
-        return Ok(moved(cursor, element.from, parent));
+        return Ok(moved_on(cursor, element.from, parent));
     }
-    Ok(moved(cursor, element.to, cursor.parent))
+    Ok(moved_on(cursor, element.to, cursor.parent))
 }
 
 /// In a BlockGroup that ends at `to`.
 #[tactic(auto, unfolding(crate::specs::Walk::group_step))]
-fn group_step(bytes: &[u8], cursor: WebmCursor, cluster: Cluster, to: usize) -> Result<Step, Rule>
+fn group_step(
+    bytes: &[u8],
+    cursor: WebmCursor,
+    cluster: Cluster,
+    to: usize,
+) -> Result<WebmStep, Rule>
     requires { to ≤ length bytes.now }
     ensures { result ≡ group_step bytes.now cursor cluster to }
 {
     if to <= cursor.at {
-        return Ok(moved(cursor, cursor.at, Parent::Cluster(cluster)));
+        return Ok(moved_on(cursor, cursor.at, Parent::Cluster(cluster)));
     }
     let element = known_at(bytes, cursor.at, to)?;
     if element.id == BLOCK {
         return block_step(bytes, cursor, element);
     }
-    Ok(moved(cursor, element.to, cursor.parent))
+    Ok(moved_on(cursor, element.to, cursor.parent))
 }
 
 /// The next step.
-pub fn step_at(bytes: &[u8], cursor: WebmCursor) -> Result<Step, Rule>
+pub fn step_at(bytes: &[u8], cursor: WebmCursor) -> Result<WebmStep, Rule>
     requires { Fits (length bytes.now) cursor }
     ensures { result ≡ step_at bytes.now cursor }
 {

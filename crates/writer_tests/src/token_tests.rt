@@ -5,7 +5,7 @@ ghost use Rattle.std.specs.Prelude.{ℕ, true, ◌-◌, ◌≡◌, ◌≢◌, �
 ghost use Rattle.std.specs.List.{All};
 ghost use Rattle.vp9_tables.specs.Scans.{area, scan_of};
 ghost use Rattle.coef_tokens.specs.Code.{HoldsLevels};
-ghost use Rattle.token_writer.specs.TokenFits.{level_of};
+ghost use Rattle.token_writer.specs.TokenFits.{level_in};
 
 use bool_encoder::BoolEncoder;
 use coef_tokens::{TokenKind, TokenTables, tokens};
@@ -115,7 +115,7 @@ fn place_levels(at: TokenKind, coded: &[i32], levels: &mut [i32])
     ensures size { length (scan_of at.tx at.kind) ≡ area at.tx }
     ensures small { All (λ level. unsigned_abs level < 16451) levels.new }
     ensures others { (position : ℕ) → ((k : ℕ) → k < length coded.now → slice_index (scan_of at.tx at.kind) k ≢ position)
-        → level_of levels.new position ≡ pos 0 }
+        → level_in levels.new position ≡ pos 0 }
 {
     let scan = scan(at.tx, at.kind);
     for place in 0..coded.len() {
@@ -127,7 +127,7 @@ fn place_levels(at: TokenKind, coded: &[i32], levels: &mut [i32])
 fn ends_in_a_level(at: TokenKind, levels: &[i32], count: usize) -> bool
     requires long { length levels.now ≡ area at.tx }
     requires room { count ≤ area at.tx }
-    ensures { result ≡ true → 0 < count → count < area at.tx → level_of levels.now (slice_index (scan_of at.tx at.kind) (count - 1)) ≢ pos 0 }
+    ensures { result ≡ true → 0 < count → count < area at.tx → level_in levels.now (slice_index (scan_of at.tx at.kind) (count - 1)) ≢ pos 0 }
 {
     if count == 0 || count == levels.len() {
         return true;

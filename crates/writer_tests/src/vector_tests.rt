@@ -7,11 +7,11 @@ ghost use Rattle.vp9_types.specs.declared.block.BlockSize.TheVariants.{B4x4};
 ghost use Rattle.vp9_types.specs.declared.block.InterpFilter.TheVariants.{Sharp};
 ghost use Rattle.block_plan.specs.BlockMvs.{vector_at};
 ghost use Rattle.mv_prediction.specs.Code.{HasSmallVectors};
-ghost use Rattle.inter_modes.specs.BlockVectors.{row_at};
+ghost use Rattle.inter_modes.specs.BlockVectors.{row_vectors};
 ghost use Rattle.vector_writer.specs.VectorFits.{IsDifference, CanDiffer};
 
 use block_geometry::FramePlaces;
-use block_plan::{BlockAt, BlockGrid, InterPrediction, Mv, References};
+use block_plan::{BlockAt, BlockGrid, InterPrediction, Mv, ReferenceFrames};
 use bool_encoder::BoolEncoder;
 use frame_headers::FrameFilter;
 use inter_modes::{FilterSource, NO_VECTORS, Sources};
@@ -98,10 +98,10 @@ static QUARTERS: [u8; 12] = [127, 246, 156, 2, 82, 101, 125, 125, 49, 180, 200, 
 
 fn symbols() -> InterSymbols
     ensures filter { result.filter ≡ Sharp }
-    ensures differences { (k list : ℕ) → CanDiffer false (vector_at (row_at result.differences k) list) }
+    ensures differences { (k list : ℕ) → CanDiffer false (vector_at (row_vectors result.differences k) list) }
 {
     InterSymbols {
-        references: References {
+        references: ReferenceFrames {
             first: ReferenceFrame::Last,
             second: Some(ReferenceFrame::Altref),
         },

@@ -10,7 +10,7 @@ ghost use Rattle.loop_filter.specs.Code.{AllFit, IsWholeGrid};
 use crate::numbers::drawn;
 use block_geometry::{height_8, width_8};
 use block_plan::{
-    BlockGrid, BlockInfo, InterPrediction, IntraPrediction, Mv, Prediction, References,
+    BlockGrid, BlockInfo, InterPrediction, IntraPrediction, Mv, Prediction, ReferenceFrames,
 };
 use std::alloc::{AllocError, Global};
 use vp9_tables::max_tx_size;
@@ -55,7 +55,7 @@ fn prediction_of(is_inter: bool) -> Prediction {
     if is_inter {
         Prediction::Inter(InterPrediction {
             modes: [InterMode::New; 4],
-            references: References {
+            references: ReferenceFrames {
                 first: ReferenceFrame::Last,
                 second: None,
             },

@@ -1,5 +1,5 @@
 use Rattle.std.proofs.Common.{◌≡◌, ◌+◌, ◌-◌, arith}
-use Rattle.compressed_writer.specs.Spelling.{spelled_from}
+use Rattle.compressed_writer.specs.Spelling.{spelled_updates_from}
 use Rattle.compressed_writer.proofs.Joins.{component_put, range_odd}
 use Rattle.compressed_writer.proofs.update.put_component_updates.Goals as goal
 
@@ -13,7 +13,7 @@ returns-clause-puts c =
     c.requires.component c.requires.place (omega arith) c.requires.old_size c.requires.new_size c.in_ok-put_vector_updates.ensures.puts
 
 pub returns-clause-spells : goal.returns-clause-spells
-unfolding spelled_from
+unfolding spelled_updates_from
 returns-clause-spells c =
     let n : c.args.from + c.args.n - c.args.from ≡ c.args.n = omega arith in
     rw n at c.in_ok-put_vector_updates.ensures.spells

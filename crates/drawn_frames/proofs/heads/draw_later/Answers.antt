@@ -13,4 +13,4 @@ pub returns-in-2-clause-made : goal.returns-in-2-clause-made
 returns-in-2-clause-made c = c.draw_shown.ensures.made c.args.before.now c.requires
 
 pub returns-in_default-clause-made : goal.returns-in_default-clause-made
-returns-in_default-clause-made c = c.draw_coded-in_default.ensures.made c.args.before.now c.draw_inter-start.ensures.made
+returns-in_default-clause-made c = c.draw_coded-in_default.ensures.made c.args.before.now c.draw_inter_fields-start.ensures.made

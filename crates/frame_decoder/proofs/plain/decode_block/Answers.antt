@@ -61,7 +61,7 @@ returns-clause-gives g c =
     let by = c.args.by.now in
     let shape = shape_of by.reading.setting.header in
     let block = c.in_ok-block.block in
-    let residues = c.read_block.new.residues in
+    let residues = c.block_residue.new.residues in
     let put : samples_of c.put_block.new.planes ≡ put_planned (pictures_of by) (planned_with shape c.args.at.tile_from block block residues) (samples_of c.args.planes.now) =
     c.put_block.ensures.map ∙ ap (λ shape. put_planned (pictures_of by) (planned_with shape c.args.at.tile_from block block residues) (samples_of c.args.planes.now)) c.requires.past.pictures.shape in
     rw c.put.ensures (block_read (sources_of by.reading) (pictures_of by) c.args.at _ _ _ _ _ _ _ _ _

@@ -9,7 +9,7 @@ use Rattle.frame_headers.specs.Tiles.{AreFewTiles}
 use Rattle.frame_headers.specs.declared.header.Header.{Header}
 use Rattle.seq_decoder.specs.Code.{HasPlaces, last_held}
 use Rattle.seq_decoder.specs.DecoderState.{last_size}
-use Rattle.seq_decoder.specs.SavedContexts.{context_at, place_of, saved_before}
+use Rattle.seq_decoder.specs.SavedContexts.{context_at, saved_place, saved_before}
 use Rattle.seq_decoder.proofs.PastLemmas.{input_is}
 use Rattle.frame_steps.specs.StepResults.{HaveSizes}
 use Rattle.frame_steps.proofs.beginning.begin.Goals as goal
@@ -19,13 +19,13 @@ returns-in_err-setting-clause-begun c = λ state stands.
     let p = err_from_is_err_and c.from_residual.result c.from_residual.ensures.1 in
     let header = c.args.header.now in
     rw (p.1, p.2) (frame_breaks (references_of state.slots header.kind) (input_of state c.args.bytes.now header c.args.compressed) _ (c.in_err-setting.ensures (past_of state header)
-    (sym (c.at-contexts.ensures ∙ (λ i. context_at (c.reset.ensures i) (c.place_of.ensures i)) ∙ ap (λ saved. context_at (saved_before header saved) (place_of header)) stands.contexts))))
+    (sym (c.at-contexts.ensures ∙ (λ i. context_at (c.reset.ensures i) (c.saved_place.ensures i)) ∙ ap (λ saved. context_at (saved_before header saved) (saved_place header)) stands.contexts))))
 
 pub returns-clause-begun : goal.returns-clause-begun
 returns-clause-begun c = λ state stands.
     let header = c.args.header.now in
     let own = c.in_ok-setting.ensures.0 in
-    let contexts = c.at-contexts.ensures ∙ (λ i. context_at (c.reset.ensures i) (c.place_of.ensures i)) ∙ ap (λ saved. context_at (saved_before header saved) (place_of header)) stands.contexts in
+    let contexts = c.at-contexts.ensures ∙ (λ i. context_at (c.reset.ensures i) (c.saved_place.ensures i)) ∙ ap (λ saved. context_at (saved_before header saved) (saved_place header)) stands.contexts in
     let segments = c.in_ok-segments_for.ensures.map ∙ (λ i. segments_before header (stands.persist i).size (stands.segments i)) in
     let last = ap (λ a. last_held a) c.in_ok-try_clone.ensures ∙ stands.last in
     record {

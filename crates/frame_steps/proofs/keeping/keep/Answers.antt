@@ -2,14 +2,14 @@ use Rattle.std.proofs.Common.{◌∙◌, ap, sym, refl}
 use Rattle.std.specs.Prelude.{Some}
 use Rattle.block_geometry.specs.FrameShapes.{places_of}
 use Rattle.frame_headers.proofs.SlotLemmas.{refreshed_told}
-use Rattle.frame_headers.specs.HeaderState.{next_persist, refreshed, shape_of}
+use Rattle.frame_headers.specs.HeaderState.{next_persist, refreshed, shape_of, is_key}
 use Rattle.frame_state.specs.KeptColumns.{blocks_of}
 use Rattle.frame_state.specs.FrameReading.{FrameInput, all_blocks}
 use Rattle.inter_modes.specs.LeftSegments.{segments_after}
 use Rattle.prob_contexts.specs.ProbLists.{lists_of}
 use Rattle.seq_decoder.specs.After.{picture_of, segments_before}
 use Rattle.seq_decoder.specs.Code.{last_held, saved_lists}
-use Rattle.seq_decoder.specs.SavedContexts.{context_at, is_key, own_contexts, place_of}
+use Rattle.seq_decoder.specs.SavedContexts.{context_at, own_contexts, saved_place}
 use Rattle.seq_decoder.specs.DecoderState.{last_is_key, last_size}
 use Rattle.seq_decoder.proofs.FrameLemmas.{contexts_after}
 use Rattle.seq_decoder.proofs.Slots.{persist_after}
@@ -24,7 +24,7 @@ returns-clause-stands c = λ state r stands begins leaves.
       persist = c.next.ensures.persists ∙ ap (next_persist header) stands.persist ∙ sym (persist_after c.args.number state header r);
       contexts = contexts_after header r (last_is_key state.last) state.contexts (saved_lists c.save.new.self) (saved_lists found) (lists_of c.own_contexts-own.result) (lists_of c.args.frame.now.contexts) c.save.ensures
           (c.own_contexts-own.ensures r leaves.contexts leaves.counts ∙ ap (λ key. own_contexts header key r (lists_of c.args.frame.now.contexts)) (c.after_key.ensures ∙ ap last_is_key (ap last_held c.deref.ensures ∙ begins.last)))
-          (ap (λ (i : FrameInput). i.past.contexts) begins.input ∙ ap (λ saved. context_at saved (place_of header)) (sym begins.saved))
+          (ap (λ (i : FrameInput). i.past.contexts) begins.input ∙ ap (λ saved. context_at saved (saved_place header)) (sym begins.saved))
           begins.saved;
       slots = c.refresh_slots.ensures ∙ ap (refreshed header.refresh c.args.number) stands.slots ∙ sym (refreshed_told number_in state.slots header.refresh (picture_of c.args.number header r) c.args.number refl);
       segments = c.in_ok-segments.ensures.map

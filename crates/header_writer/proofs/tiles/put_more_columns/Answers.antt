@@ -15,8 +15,8 @@ loop-now-preserved c =
     record {
       from = omega (arith, from);
       within = omega (arith, low);
-      put = columns_go c.args.greatest c.args.least c.loop-now.now c.args.bits.now c.loop-now.bits c.flag.new.self more c.loop-now.invariant.put c.in_ok-flag.ensures.puts;
-      spells = columns_spelled c.args.least c.loop-now.now c.args.bits.now c.loop-now.bits c.flag.new.self from c.loop-now.invariant.spells c.in_ok-flag.ensures.spells;
+      put = columns_go c.args.greatest c.args.least c.loop-now.now c.args.bits.now c.loop-now.bits c.flag_field.new.self more c.loop-now.invariant.put c.in_ok-flag_field.ensures.puts;
+      spells = columns_spelled c.args.least c.loop-now.now c.args.bits.now c.loop-now.bits c.flag_field.new.self from c.loop-now.invariant.spells c.in_ok-flag_field.ensures.spells;
     }
 
 pub returns-then-greatest-log2-clause-puts : goal.returns-then-greatest-log2-clause-puts
@@ -31,7 +31,7 @@ returns-clause-puts c =
     let within = c.loop-now.invariant.within in
     let done : c.args.log2 ≤ c.loop-now.now = c.loop-now-test.false in
     let is : c.loop-now.now ≡ c.args.log2 = omega (arith, within, done) in
-    columns_stop c.args.greatest c.args.least c.args.log2 c.args.bits.now c.loop-now.bits c.flag-2.new.self c.if-greatest-log2.false (rw is at c.loop-now.invariant.put) c.in_ok-flag-2.ensures.puts
+    columns_stop c.args.greatest c.args.least c.args.log2 c.args.bits.now c.loop-now.bits c.flag_field-2.new.self c.if-greatest-log2.false (rw is at c.loop-now.invariant.put) c.in_ok-flag_field-2.ensures.puts
 
 pub returns-then-greatest-log2-clause-spells : goal.returns-then-greatest-log2-clause-spells
 returns-then-greatest-log2-clause-spells c =
@@ -45,5 +45,5 @@ returns-clause-spells c =
     let within = c.loop-now.invariant.within in
     let done : c.args.log2 ≤ c.loop-now.now = c.loop-now-test.false in
     let is : c.loop-now.now ≡ c.args.log2 = omega (arith, within, done) in
-    columns_stopped c.args.least c.args.greatest c.args.log2 c.args.bits.now c.loop-now.bits c.flag-2.new.self c.if-greatest-log2.false (rw is at c.loop-now.invariant.spells)
-    c.in_ok-flag-2.ensures.spells
+    columns_stopped c.args.least c.args.greatest c.args.log2 c.args.bits.now c.loop-now.bits c.flag_field-2.new.self c.if-greatest-log2.false (rw is at c.loop-now.invariant.spells)
+    c.in_ok-flag_field-2.ensures.spells

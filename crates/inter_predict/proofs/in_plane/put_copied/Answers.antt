@@ -1,7 +1,7 @@
 use Rattle.std.proofs.Common.{◌≡◌, ◌+◌, ◌∙◌, arith, map}
 use Rattle.planes.specs.Planes.{plane_map}
 use Rattle.inter_places.specs.Axes.{straight}
-use Rattle.inter_predict.specs.InterSamples.{predicted}
+use Rattle.inter_predict.specs.InterSamples.{filtered_both_ways}
 use Rattle.inter_predict.specs.Code.{IsCopied}
 use Rattle.inter_predict.proofs.Agree.{lines_between, whole_line}
 use Rattle.inter_predict.proofs.InPlane.{copied_row, copy_room, with_part_same}
@@ -26,7 +26,7 @@ pub returns-clause-map : goal.returns-clause-map
 returns-clause-map g c = let a = c.args in let p = a.place.now in let m = g.S.Samples.map a.view.now p.plane in
     let copied : IsCopied p.across p.columns = rw c.requires.width at c.if-not-is_copied.ensures in
     let put = rw c.requires.width at c.put_made.ensures.map in
-    put ∙ with_part_same a.samples.now.area (plane_map a.samples.now) p.row p.column p.rows p.columns _ (predicted a.by.most a.by.kind p.down p.across m)
+    put ∙ with_part_same a.samples.now.area (plane_map a.samples.now) p.row p.column p.rows p.columns _ (filtered_both_ways a.by.most a.by.kind p.down p.across m)
     (λ i j high low. copied_row a.by.most a.by.kind p.down p.across m (map g.P.Sample.value c.in-Some.rows.now) c.in-Some.stride c.straight.result p.columns i j
     copied c.requires.step c.requires.phase c.straight.ensures.value low
     (λ k inside. c.in-Some.ensures.samples i k high inside) (c.requires.samples (straight p.down (3 + i)) (straight p.across (j + 3))))

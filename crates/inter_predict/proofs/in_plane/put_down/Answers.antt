@@ -3,7 +3,7 @@ use Rattle.vp9_types.specs.Maps.{HoldsRows}
 use Rattle.vp9_tables.specs.Filters.{taps_of}
 use Rattle.planes.specs.Planes.{plane_map}
 use Rattle.inter_places.specs.Axes.{fraction, straight}
-use Rattle.inter_predict.specs.InterSamples.{along, predicted}
+use Rattle.inter_predict.specs.InterSamples.{along, filtered_both_ways}
 use Rattle.inter_predict.specs.Code.{filtered_below}
 use Rattle.inter_predict.proofs.Agree.{lines_between, along_small}
 use Rattle.inter_predict.proofs.Blocks.{lines_small}
@@ -36,5 +36,5 @@ returns-clause-map g c = let a = c.args in let p = a.place.now in let value = g.
     let taps = g.P.FilterSample.stand_for c.filter_of-down.result.taps in
     let is : taps ≡ taps_of a.by.kind (fraction p.down) = rw (c.filter_of-down.ensures.kind, c.filter_of-down.ensures.axis) at c.filter_of-down.ensures.filter.taps in
     let put = rw (c.requires.width, c.filter_of-down.ensures.most) at c.put_made.ensures.map in
-    put ∙ with_part_same a.samples.now.area (plane_map a.samples.now) p.row p.column p.rows p.columns _ (predicted a.by.most a.by.kind p.down p.across m)
+    put ∙ with_part_same a.samples.now.area (plane_map a.samples.now) p.row p.column p.rows p.columns _ (filtered_both_ways a.by.most a.by.kind p.down p.across m)
     (λ i j high low. filtered_row value a.by.most a.by.kind p.down p.across m taps c.fill_lines.new.lines p.rows p.columns i j c.requires.step is high low c.fill_lines.ensures)

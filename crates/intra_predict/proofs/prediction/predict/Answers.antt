@@ -1,5 +1,5 @@
 use Rattle.std.proofs.Common.{lit<}
-use Rattle.intra_predict.specs.BlockEdges.{samples_of}
+use Rattle.intra_predict.specs.Code.{samples_of}
 use Rattle.intra_predict.proofs.Bounds.{held_small}
 use Rattle.intra_predict.proofs.prediction.predict.Goals as goal
 

@@ -1,6 +1,6 @@
 use Rattle.std.proofs.Common.{◌≡◌, ◌≤◌, take, subst, arith}
 use Rattle.std.proofs.lemmas.List.{take_all}
-use Rattle.inverse_transforms.specs.Flow.{run, magnitude}
+use Rattle.inverse_transforms.specs.Flow.{run_flow, magnitude}
 use Rattle.inverse_transforms.specs.LaneColumns.{column}
 use Rattle.inverse_transforms.specs.Transforms.{dct, AreDct}
 use Rattle.inverse_transforms.specs.Ranges.{limit_of}
@@ -17,11 +17,11 @@ dct_of_4-requires-clause-few c = λ j low.
 pub flow_columns-requires-clause-calm : goal.flow_columns-requires-clause-calm
 unfolding AreDct
 flow_columns-requires-clause-calm c =
-    rw c.requires.size (calm_same 4 c.dct_calm.result (λ limit. dct limit 2) (λ limit. run limit c.dct_rows.result.now)
+    rw c.requires.size (calm_same 4 c.dct_calm.result (λ limit. dct limit 2) (λ limit. run_flow limit c.dct_rows.result.now)
     c.dct_rows.ensures.same c.dct_calm.ensures.calm)
 
 pub returns-clause-gives : goal.returns-clause-gives
 unfolding AreDct
 returns-clause-gives c =
-    gives_of_size 4 (run (limit_of c.args.depth) c.dct_rows.result.now) (dct (limit_of c.args.depth) 2)
+    gives_of_size 4 (run_flow (limit_of c.args.depth) c.dct_rows.result.now) (dct (limit_of c.args.depth) 2)
     c.flow_columns.result c.args.t.now c.flow_columns.new.t c.requires.size (c.dct_rows.ensures.same (limit_of c.args.depth)) c.flow_columns.ensures.gives

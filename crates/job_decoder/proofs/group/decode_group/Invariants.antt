@@ -1,4 +1,3 @@
-use Rattle.job_decoder.specs.Code.{frames_at_once}
 use Rattle.std.proofs.Common.{◌++◌, map}
 use Rattle.job_decoder.specs.Pasts.{film_with, frames_behind}
 use Rattle.job_decoder.proofs.group.decode_group.Given as goal
@@ -11,5 +10,4 @@ ghosts-decode_behind g a = record {
   taken = g.K.Sink.taken a.sink;
   faults = g.K.Sink.faults a.sink;
   grows = g.K.Sink.grows a.sink;
-  window = frames_at_once a.crew.now.window;
 }

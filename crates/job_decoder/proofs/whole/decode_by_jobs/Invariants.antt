@@ -1,4 +1,3 @@
-use Rattle.job_decoder.specs.Code.{frames_at_once}
 use Rattle.numbered_frames.specs.Films.{film_of}
 use Rattle.job_decoder.proofs.whole.decode_by_jobs.Given as goal
 
@@ -10,5 +9,4 @@ ghosts-decode_as g a = record {
   taken = g.K.Sink.taken a.sink;
   faults = g.K.Sink.faults a.sink;
   grows = g.K.Sink.grows a.sink;
-  window = frames_at_once a.crew.now.window;
 }

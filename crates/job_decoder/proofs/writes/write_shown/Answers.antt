@@ -13,9 +13,9 @@ returns-in_err-rows-clause-shows g c =
     let p = err_from_is_err_and c.from_residual.result c.from_residual.ensures.1 in
     rw p.1 (none_put (g.K.Sink.taken c.args.sink.now) _ (g.K.Sink.faults c.args.sink.now) p.0 p.2)
 
-pub returns-in_err-room-clause-shows : goal.returns-in_err-room-clause-shows
-returns-in_err-room-clause-shows g c =
-    let p = err_from_is_err_and c.from_residual-in_err-room.result c.from_residual-in_err-room.ensures.1 in
+pub returns-in_err-lengthen-clause-shows : goal.returns-in_err-lengthen-clause-shows
+returns-in_err-lengthen-clause-shows g c =
+    let p = err_from_is_err_and c.from_residual-in_err-lengthen.result c.from_residual-in_err-lengthen.ensures.1 in
     rw p.1 (none_put (g.K.Sink.taken c.args.sink.now) _ (g.K.Sink.faults c.args.sink.now) p.0 p.2)
 
 pub render_as-requires-clause-small : goal.render_as-requires-clause-small

@@ -10,5 +10,5 @@ returns-then-not-admits g c =
 
 pub returns-in-Ok : goal.returns-in-Ok
 returns-in-Ok g c =
-    slot_closes g.B.DecodeRun.format g.B.DecodeRun.film c.args.number c.args.slot c.args.before.now c.in-Ok.kept c.shown_in-shown.result c.closing.result c.requires.kept c.requires.shows c.shown_in-shown.ensures
+    slot_closes g.B.DecodeRun.format g.B.DecodeRun.film c.args.number c.args.slot c.args.before.now c.in-Ok.kept c.none.result c.shown_in-shown.result c.closing.result c.requires.kept c.requires.shows c.shown_in-shown.ensures
     (sym c.admits.ensures ∙ c.if-not-admits.false) c.in-Ok.ensures.stands c.in-Ok.ensures.form c.in-Ok.ensures.may c.closing.ensures

@@ -5,7 +5,7 @@ use Rattle.job_rows.specs.LentRows.{OfFrame}
 use Rattle.loop_edges.specs.Cells.{setting_of}
 use Rattle.numbered_frames.specs.FrameNumbers.{before, frame_at}
 use Rattle.job_results.specs.JobResults.{IsFilteredAs}
-use Rattle.job_rows.proofs.CodedFrames.{coded_by}
+use Rattle.job_results.proofs.CodedFrames.{coded_by}
 use Rattle.job_rows.proofs.DueRows.{if_ok, of_frame}
 use Rattle.job_rows.proofs.FilteredSteps.{columns_of_close, filtered_above, header_of, last_of_frame, last_there, raw_is, row_is_filtered, stands_above, strips_are_row}
 use Rattle.job_rows.proofs.filters.filtered_as.Goals as goal

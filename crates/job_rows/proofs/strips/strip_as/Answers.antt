@@ -8,7 +8,7 @@ use Rattle.numbered_frames.specs.Coded.{CodedFrame, coded}
 use Rattle.job_results.specs.JobResults.{IsStripAs}
 use Rattle.job_rows.specs.LentRows.{OfFrame}
 use Rattle.job_rows.specs.LentStrips.{AreAllRows, IsPlannedRow, ReadsRows, RefersToNone}
-use Rattle.job_rows.proofs.CodedFrames.{same_coded}
+use Rattle.job_results.proofs.CodedFrames.{same_coded}
 use Rattle.job_rows.proofs.DueRows.{if_ok, of_frame}
 use Rattle.job_rows.proofs.NamedFrames.{names_begun}
 use Rattle.job_rows.proofs.StripSteps.{kind_of, needs_of_row, none_of, over_by, planned_row, row_inside, strip_by}

@@ -3,7 +3,7 @@ use Rattle.vp9_types.specs.Maps.{Map}
 use Rattle.planes.specs.Planes.{plane_map}
 use Rattle.line_filter.specs.declared.edge.FilterWidth.TheVariants.{Sixteen}
 use Rattle.line_filter.specs.Lines.{filter_mask, filtered_line}
-use Rattle.line_filter.specs.FilteredEdges.{line_along, in_order}
+use Rattle.line_filter.specs.FilteredEdges.{line_along, nth_of_line}
 use Rattle.line_filter.specs.Code.{is_flat_far, along_filtered}
 use Rattle.line_filter.proofs.LineBlocks.{between_small, far_small, far_filtered, turned_lanes, turned_by, upper_of_lines, lower_of_lines, lanes_at_most, put_beside}
 use Rattle.line_filter.proofs.KeptLines.{along_kept, along_near, off_along, is_off, between_lanes}
@@ -57,7 +57,7 @@ pub returns-clause-map : goal.returns-clause-map
 unfolding along_filtered
 returns-clause-map g c = let a = c.args in
     let m : Map = plane_map a.plane.now in
-    let h : Map = λ i j. in_order 8 (filtered_line a.l Sixteen (line_along 8 m (a.row + i) a.column)) j in
+    let h : Map = λ i j. nth_of_line 8 (filtered_line a.l Sixteen (line_along 8 m (a.row + i) a.column)) j in
     let lines = far_filtered _ _ _ _ _ _ (λ j. m (a.row + j)) a.column (filtered_line a.l Sixteen) (omega (arith, c.requires.inside.left)) (turned_by _ _ _ c.turned-left.ensures c.lanes_at.ensures) (turned_by _ _ _ c.turned-right.ensures c.lanes_at-2.ensures) (λ i j. refl) (λ i j. refl) c.filtered_far_lanes.ensures in
     put_beside a.plane.now.area c.put_lanes.new.plane.area m (plane_map c.put_lanes.new.plane) (plane_map c.put_lanes-2.new.plane) h a.row a.column
     (omega (arith, c.requires.inside.left)) c.requires.inside.right c.put_lanes.ensures.area

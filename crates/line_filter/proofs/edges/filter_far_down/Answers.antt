@@ -3,7 +3,7 @@ use Rattle.vp9_types.specs.Maps.{Map}
 use Rattle.planes.specs.Planes.{plane_map}
 use Rattle.line_filter.specs.declared.edge.FilterWidth.TheVariants.{Sixteen}
 use Rattle.line_filter.specs.Lines.{filter_mask, filtered_line}
-use Rattle.line_filter.specs.FilteredEdges.{line_down, in_order}
+use Rattle.line_filter.specs.FilteredEdges.{line_down, nth_of_line}
 use Rattle.line_filter.specs.Code.{is_flat_far, down_filtered}
 use Rattle.line_filter.proofs.LineBlocks.{between_small, far_small, far_filtered, upper_of_lines, lower_of_lines, lanes_at_most, put_below}
 use Rattle.line_filter.proofs.KeptLines.{down_kept, down_near, off_down, is_off, between_lanes}
@@ -53,7 +53,7 @@ pub returns-clause-map : goal.returns-clause-map
 unfolding down_filtered
 returns-clause-map g c = let a = c.args in
     let m : Map = plane_map a.plane.now in
-    let h : Map = λ i j. in_order 8 (filtered_line a.l Sixteen (line_down 8 m a.row (a.column + j))) i in
+    let h : Map = λ i j. nth_of_line 8 (filtered_line a.l Sixteen (line_down 8 m a.row (a.column + j))) i in
     let lines = far_filtered _ _ _ _ _ _ (λ j y. m y (a.column + j)) a.row (filtered_line a.l Sixteen) (omega (arith, c.requires.inside.above)) c.lanes_at-above.ensures c.lanes_at-below.ensures (λ i j. refl) (λ i j. refl) c.filtered_far_lanes.ensures in
     put_below a.plane.now.area c.put_lanes.new.plane.area m (plane_map c.put_lanes.new.plane) (plane_map c.put_lanes-2.new.plane) h a.row a.column
     (omega (arith, c.requires.inside.above)) c.requires.inside.below c.put_lanes.ensures.area

@@ -1,7 +1,7 @@
 use Rattle.std.proofs.Common.{◌+◌, arith, refl}
 use Rattle.planes.specs.Planes.{plane_map}
 use Rattle.line_filter.specs.Lines.{filtered_near}
-use Rattle.line_filter.specs.FilteredEdges.{line_along, in_order}
+use Rattle.line_filter.specs.FilteredEdges.{line_along, nth_of_line}
 use Rattle.line_filter.specs.Code.{along_filtered}
 use Rattle.line_filter.proofs.LineBlocks.{near_small, near_filtered, turned_by, lanes_at_most}
 use Rattle.line_filter.proofs.SmallLines.{is_small, near_fits}
@@ -21,6 +21,6 @@ put_lanes-requires-clause-fits g c = let a = c.args in
 pub returns-clause-map : goal.returns-clause-map
 unfolding along_filtered
 returns-clause-map g c = let a = c.args in
-    c.put_lanes.ensures.map (λ i j. in_order 4 (filtered_near a.l a.wide (line_along 4 (plane_map a.plane.now) (a.row + i) a.column)) j)
+    c.put_lanes.ensures.map (λ i j. nth_of_line 4 (filtered_near a.l a.wide (line_along 4 (plane_map a.plane.now) (a.row + i) a.column)) j)
     (turned_by c.filtered_by-lanes.result c.turned.result _ c.turned.ensures
     (near_filtered c.args.x.now _ _ (λ j. plane_map a.plane.now (a.row + j)) a.column (filtered_near a.l a.wide) (omega (arith, c.requires.inside.left)) c.requires.loaded (λ i j. refl) c.filtered_by-lanes.ensures))

@@ -1,7 +1,7 @@
 use Rattle.std.proofs.Common.{◌+◌, arith, refl}
 use Rattle.planes.specs.Planes.{plane_map}
 use Rattle.line_filter.specs.Lines.{filtered_near}
-use Rattle.line_filter.specs.FilteredEdges.{line_down, in_order}
+use Rattle.line_filter.specs.FilteredEdges.{line_down, nth_of_line}
 use Rattle.line_filter.specs.Code.{down_filtered}
 use Rattle.line_filter.proofs.LineBlocks.{near_small, near_filtered, lanes_at_most}
 use Rattle.line_filter.proofs.SmallLines.{is_small, near_fits}
@@ -20,5 +20,5 @@ put_lanes-requires-clause-fits g c = let a = c.args in
 pub returns-clause-map : goal.returns-clause-map
 unfolding down_filtered
 returns-clause-map g c = let a = c.args in
-    c.put_lanes.ensures.map (λ i j. in_order 4 (filtered_near a.l a.wide (line_down 4 (plane_map a.plane.now) a.row (a.column + j))) i)
+    c.put_lanes.ensures.map (λ i j. nth_of_line 4 (filtered_near a.l a.wide (line_down 4 (plane_map a.plane.now) a.row (a.column + j))) i)
     (near_filtered c.args.x.now _ _ (λ j y. plane_map a.plane.now y (a.column + j)) a.row (filtered_near a.l a.wide) (omega (arith, c.requires.inside.above)) c.requires.loaded (λ i j. refl) c.filtered_by-lanes.ensures)

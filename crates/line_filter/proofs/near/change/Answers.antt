@@ -1,7 +1,7 @@
 use Rattle.std.proofs.Common.{◌≡◌, ℤ, arith, ap, ◌∙◌}
 use Rattle.std.proofs.lemmas.Int.{ints}
 use Rattle.line_filter.specs.Lines as L
-use Rattle.line_filter.specs.Lines.{outer, change, moved, hev_mask}
+use Rattle.line_filter.specs.Lines.{outer, change, moved_sample, hev_mask}
 use Rattle.line_filter.specs.Code.{line_of}
 use Rattle.line_filter.proofs.near.change.Goals as goal
 

@@ -2,7 +2,7 @@ use Rattle.std.proofs.Common.{◌≡◌, ℤ, ◌+ℤ◌, arith, ap, ◌∙◌}
 use Rattle.std.specs.Int.{int_shr}
 use Rattle.std.proofs.lemmas.Int.{ints}
 use Rattle.line_filter.specs.Lines as L
-use Rattle.line_filter.specs.Lines.{outer, change, moved, hev_mask}
+use Rattle.line_filter.specs.Lines.{outer, change, moved_sample, hev_mask}
 use Rattle.line_filter.proofs.near.step.Goals as goal
 
 pub returns-clause-value : goal.returns-clause-value

@@ -1,7 +1,7 @@
 use Rattle.std.proofs.Common.{◌≡◌, [], ap, sym, ◌∙◌, inl, inr}
 use Rattle.std.specs.Prelude.{Err, Ok}
 use Rattle.std.proofs.lemmas.Result.{err_from_is_err_and}
-use Rattle.ivf_container.specs.Packets.{header_end, rate_of}
+use Rattle.ivf_container.specs.Packets.{header_end, frame_rate_of}
 use Rattle.packet_reader.proofs.PacketLemmas.{gave_last}
 use Rattle.packet_reader.proofs.HeaderLemmas.{enough_fails, enough_is, fails_alone, never_short, refused_header}
 use Rattle.packet_reader.specs.TakenPackets.{with_front}
@@ -33,7 +33,7 @@ returns-clause-bytes g c =
     let f = c.in_ok-header.ensures.bytes in
     let header = c.in_ok-header.header.items in
     let passes : header_end header ≡ Ok c.in_ok-read_header.field-0 = ap header_end (sym c.deref.ensures.value) ∙ sym c.in_ok-read_header.ensures.exact in
-    let rate : c.rate.result ≡ rate_of header = c.rate.ensures ∙ ap rate_of c.deref-2.ensures.value in
+    let rate : c.rate.result ≡ frame_rate_of header = c.rate.ensures ∙ ap frame_rate_of c.deref-2.ensures.value in
     λ bytes told. let h = f.0 bytes told in elim f.1 [
       | inl enough ↦ (header, h.0, h.1, h.2, (enough_is header c.in_ok-read_header.field-0 enough passes, rate))
       | inr short ↦ (header, h.0, h.1, h.2, (never_short header c.in_ok-read_header.field-0 short.0 passes, rate))

@@ -1,7 +1,7 @@
 use Rattle.std.proofs.Common.{◌≡◌, ◌∙◌, ap}
 use Rattle.prob_contexts.specs.ProbLists.{lists_of}
 use Rattle.seq_decoder.specs.After.{segments_before, vectors_before}
-use Rattle.seq_decoder.specs.SavedContexts.{context_at, context_before, place_of, saved_before}
+use Rattle.seq_decoder.specs.SavedContexts.{context_at, context_before, saved_place, saved_before}
 use Rattle.stream_forge.proofs.Behind.{behind_given}
 use Rattle.stream_forge.proofs.Pasts.{segments_are}
 use Rattle.stream_forge.proofs.coded.write_coded.Goals as goal
@@ -22,7 +22,7 @@ pub returns-in_default : goal.returns-in_default
 returns-in_default g c = λ state stands.
     let header = c.args.frame.now.header in
     let contexts : lists_of c.at-contexts.result ≡ context_before header state.contexts =
-    c.at-contexts.ensures ∙ (λ i. context_at (c.reset.ensures i) (c.place_of.ensures i)) ∙ ap (λ saved. context_at (saved_before header saved) (place_of header)) stands.contexts in
+    c.at-contexts.ensures ∙ (λ i. context_at (c.reset.ensures i) (c.saved_place.ensures i)) ∙ ap (λ saved. context_at (saved_before header saved) (saved_place header)) stands.contexts in
     (c.at-contexts.result, contexts, tt)
 
 pub returns : goal.returns
@@ -31,7 +31,7 @@ returns g c = λ state stands.
     let header = c.args.frame.now.header in
     let segments = segments_are header d.persist.size c.in-Ok.fresh d.segments c.segments_for.result.now c.in-Ok.ensures c.requires.may.places c.segments_for.ensures in
     let contexts : lists_of c.at-contexts.result ≡ context_before header state.contexts =
-    c.at-contexts.ensures ∙ (λ i. context_at (c.reset.ensures i) (c.place_of.ensures i)) ∙ ap (λ saved. context_at (saved_before header saved) (place_of header)) stands.contexts in
+    c.at-contexts.ensures ∙ (λ i. context_at (c.reset.ensures i) (c.saved_place.ensures i)) ∙ ap (λ saved. context_at (saved_before header saved) (saved_place header)) stands.contexts in
     behind_given g.S.FrameSymbols.speaker d.persist state c.args.frame.now c.at-contexts.result _ c.args.symbols c.write_frame.result.1 c.write_frame.result.0 stands.persist
     (λ i. record {
       contexts = contexts i;

@@ -9,5 +9,5 @@ pub returns : goal.returns
 returns c = λ state stands.
     let gives = c.write_coded-written.ensures state stands in
     let header = c.args.header.now in
-    coded_given (persist_of state) state (frame_with (record { header = header; choices = c.args.choices; modes = c.draw_modes-modes.result }) gives.0) (past_of state header) c.args.draws.x
-    (record { draws = c.draw_modes-modes.new.draws }) c.write_coded-written.result.1 c.write_coded-written.result.0 refl refl gives.1 c.draw_modes-modes.ensures.drawn gives.2
+    coded_given (persist_of state) state (frame_with (record { header = header; choices = c.args.choices; modes = c.draw_frame_modes-modes.result }) gives.0) (past_of state header) c.args.draws.x
+    (record { draws = c.draw_frame_modes-modes.new.draws }) c.write_coded-written.result.1 c.write_coded-written.result.0 refl refl gives.1 c.draw_frame_modes-modes.ensures.drawn gives.2

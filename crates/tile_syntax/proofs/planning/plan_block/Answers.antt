@@ -67,7 +67,7 @@ returns-clause-gives g c =
     let shape = shape_of by.setting.header in
     let column = c.args.plan.now.column in
     let any = c.in_ok-listed.ensures.listed in
-    rw c.put.ensures (block_planned (sources_of by) c.args.at shape column.grid.from column.grid.blocks c.args.plan.now.residues _ _ _ _ _ _ c.in_ok-block.block c.in_ok-listed.listed any.0 c.read_block.new.residues
+    rw c.put.ensures (block_planned (sources_of by) c.args.at shape column.grid.from column.grid.blocks c.args.plan.now.residues _ _ _ _ _ _ c.in_ok-block.block c.in_ok-listed.listed any.0 c.block_residue.new.residues
     c.requires.from c.requires.kept.all any.1 c.in_ok-push_block.ensures.pushed c.in_ok-push_block.ensures.stands
     (rw c.as_ref-vectors.ensures.value at c.in_ok-block.ensures.read) (c.in_ok-listed.ensures.gives c.args.at.tile_from))
 
@@ -95,7 +95,7 @@ returns-clause-kept g c =
     let blocks = column.grid.blocks in
     let block = c.in_ok-block.block in
     let listed = c.in_ok-listed.listed in
-    let held = c.read_block.new.residues in
+    let held = c.block_residue.new.residues in
     let any = c.in_ok-listed.ensures.listed in
     let kept = c.requires.kept in
     let end : c.end-end.result ≡ record { block = length blocks; piece = total shape blocks } = c.end-end.ensures ∙ ap (λ n. record { block = length blocks; piece = n }) (sym kept.all) in record {

@@ -4,7 +4,7 @@ use Rattle.std.proofs.lemmas.List.Elements.{All-set}
 use Rattle.vp9_tables.specs.Scans.{area}
 use Rattle.coef_tokens.specs.Code.{tables_of}
 use Rattle.coef_tokens.proofs.Turns.{zeros_at, no_classes, first_row}
-use Rattle.token_writer.specs.TokenFits.{level_of}
+use Rattle.token_writer.specs.TokenFits.{level_in}
 use Rattle.token_writer.proofs.Turns.{begins, zero_turn, level_turn, ends_at_last, ends_here, coded_at, kept_level, none_at, asks, back, true_is}
 use Rattle.token_writer.proofs.places.put_tokens.Goals as goal
 use Rattle.token_writer.proofs.places.put_tokens.Goals.{then-level-eq0+in_ok-put_zero, else-level-eq0+in_ok-cache}
@@ -29,7 +29,7 @@ loop-place-preserved c =
     let coded = coded_at t.depth c.args.levels.now position can.coded in
     elim c.if-level-eq0.branch [
       | then-level-eq0+in_ok-put_zero w ↦
-          let none : level_of c.args.levels.now position ≡ pos 0 = none_at t.depth (level_of c.args.levels.now position) coded w.if-level-eq0.true in
+          let none : level_in c.args.levels.now position ≡ pos 0 = none_at t.depth (level_in c.args.levels.now position) coded w.if-level-eq0.true in
           rw (w.cache-is, w.check-is, w.encoder-is) record {
             low = old.low;
             within = c.next_row-row.ensures.within;
@@ -43,7 +43,7 @@ loop-place-preserved c =
           let few : area c.args.tables.now.tx ≤ 1024 = c.args.tables.now.fit.few in
           let whole : length c.loop-place.cache ≡ 1024 = search rules in
           let room : position < length c.loop-place.cache = omega (arith, within, few, whole) in
-          let put = rw (kept_level t.depth (level_of c.args.levels.now position) coded) at w.in_ok-cache.ensures.put in
+          let put = rw (kept_level t.depth (level_in c.args.levels.now position) coded) at w.in_ok-cache.ensures.put in
           rw (w.cache-is, w.check-is, w.encoder-is) record {
             low = All-set (λ class. class ≤ 5) c.loop-place.cache position w.in_ok-cache.field-0 w.in_ok-cache.ensures.low old.low;
             within = c.next_row-row.ensures.within;

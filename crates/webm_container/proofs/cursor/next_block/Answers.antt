@@ -1,6 +1,6 @@
 use Rattle.std.proofs.Common.{◌∙◌, arith, refl, length, sym}
 use Rattle.std.specs.Prelude.{Err}
-use Rattle.webm_container.specs.declared.steps.Step.TheVariants.{Moved, Block, End}
+use Rattle.webm_container.specs.declared.steps.WebmStep.TheVariants.{Moved, Block, End}
 use Rattle.webm_container.proofs.Walks.{is_taken, is_taken_to, goes_further, comes_to_block, behind_fits, lies_within}
 use Rattle.webm_container.proofs.cursor.next_block.Goals as goal
 

@@ -1,7 +1,7 @@
 use Rattle.std.proofs.Common.{◌≡◌, ◌*◌, ◌^◌, length, arith, ap, sym}
 use Rattle.std.proofs.lemmas.List.{with_items_is}
 use Rattle.std.specs.Vec.{with_items}
-use Rattle.bool_encoder.specs.Part.{Part}
+use Rattle.bool_encoder.specs.Part.{NumberPart}
 use Rattle.bool_encoder.specs.Code.{be_number}
 use Rattle.bool_encoder.proofs.Puts.{Adds, low_whole, range_whole, put_below, put_within, put_is}
 use Rattle.bool_encoder.proofs.encoder.BoolEncoder.bit.Goals as goal
@@ -39,6 +39,6 @@ pub returns : goal.returns
 returns c =
     let whole = low_whole c.added-low.result c.in_ok-low.held c.doublings-shift.result c.added-low.ensures.low c.in_ok-low.ensures.most c.doublings-shift.ensures.few in
     let narrow = range_whole c.narrowed-offset.result.1 c.doublings-shift.result c.doublings-shift.ensures.within in
-    let part = c.narrowed-offset.ensures.part c.args.self.now (sym (ap (λ (e : Part). e.range) c.self.view_is)) in
+    let part = c.narrowed-offset.ensures.part c.args.self.now (sym (ap (λ (e : NumberPart). e.range) c.self.view_is)) in
     rw (items c, whole, narrow, part, sym c.doublings-shift.ensures.is, sym c.self.view_is)
     (put_is _ _ _ _ _ _ _ _ _ c.narrowed-offset.result.1 c.doublings-shift.result (adds c) c.self.invariant.1)

@@ -4,7 +4,7 @@ use Rattle.block_plan.specs.declared.block.BlockInfo.{BlockInfo}
 use Rattle.frame_state.specs.Code.{sources_of}
 use Rattle.frame_state.proofs.BlockSteps.{all_have_small, fits_more, lies_more, small_more, starts_more, vectors_small}
 use Rattle.frame_writer.specs.Code.{held_by}
-use Rattle.frame_writer.specs.FrameSymbols.{with_block}
+use Rattle.frame_writer.specs.FrameSymbols.{with_read_block}
 use Rattle.frame_writer.proofs.BlockTells.{block_bools, block_said_so, held_more, is_listed, levels_untold, limit_same, modes_stop, nothing_told, of_here, residue_stops, room_less, to_here}
 use Rattle.frame_writer.proofs.tile.FrameInProgressTileWriter.put_block.Goals as goal
 
@@ -83,9 +83,9 @@ returns-clause-ends g c =
             are = tells.1;
             put = rw tells.1 at (c.in_ok-listed.ensures.puts c.args.at.tile_from);
           }) (rw c.in-Ok-2.is at c.in_ok-listed.ensures.spells) in record {
-            next = with_block s (tells.0, sides);
+            next = with_read_block s (tells.0, sides);
             all = block_bools (sources_of c.args.self.now.by.now) c.args.at s c.in-Ok.block c.levels.new.levels bools;
-            held = to_here c.args.self.now.by.now c.args.self.now.places c.args.self.now.columns.items (with_block s (tells.0, sides)) (record { blocks = c.put.new.self.blocks; sides = sides }) (held_more s (held_by c.args.self.now.column) tells.0 sides c.in-Ok-2.listed c.put.new.self.blocks (of_here c.args.self.now.by.now c.args.self.now.places c.args.self.now.columns.items s (record { held = held_by c.args.self.now.column; by = c.args.self.now.by.now; places = c.args.self.now.places; columns = c.args.self.now.columns.items }) here.0) tells.2 (ap (λ (g : GridOf). g.blocks) grid));
+            held = to_here c.args.self.now.by.now c.args.self.now.places c.args.self.now.columns.items (with_read_block s (tells.0, sides)) (record { blocks = c.put.new.self.blocks; sides = sides }) (held_more s (held_by c.args.self.now.column) tells.0 sides c.in-Ok-2.listed c.put.new.self.blocks (of_here c.args.self.now.by.now c.args.self.now.places c.args.self.now.columns.items s (record { held = held_by c.args.self.now.column; by = c.args.self.now.by.now; places = c.args.self.now.places; columns = c.args.self.now.columns.items }) here.0) tells.2 (ap (λ (g : GridOf). g.blocks) grid));
             put = all.0;
             list = all.1;
             said = all.2;

@@ -14,6 +14,6 @@ returns-in-Some g c = λ yes.
     subst
     (λ (v : PoolParts). IsDone v (Filter c.args.span.frame c.filter_of.result) → (f band row : ℕ) → IsInSpan (Some c.args.span) f band → Publishes v.segments f row band → IsDone v (Filter f row))
     c.self.view_is
-    (out_before g.M.Meaning.rules g.M.Meaning.truth g.M.Start.window c.self.inside.segments.items c.self.inside.starts.items c.self.inside.drawn c.self.inside.marks.base
+    (out_before g.M.Meaning.rules g.M.Meaning.truth g.W.Window.window c.self.inside.segments.items c.self.inside.starts.items c.self.inside.drawn c.self.inside.marks.base
     c.self.inside.marks.marks.items c.self.inside.over c.self.invariant.3 c.self.invariant.0.order c.args.span c.in-Some.rows c.filter_of.result there c.filter_of.ensures.next c.filter_of.ensures.last)
     (c.is_done.ensures yes)

@@ -6,5 +6,5 @@ invariant_of-self g c = (
   c.self.invariant.0,
   c.self.invariant.1,
   c.self.invariant.2,
-  shop_pops g.M.Meaning.rules g.M.Meaning.truth g.M.Start.window _ _ _ _ _ _ c.self.invariant.3 c.let_go.new.self.base c.let_go.new.self.marks.items c.let_go.ensures.same c.let_go.ensures.drawn,
+  shop_pops g.M.Meaning.rules g.M.Meaning.truth g.W.Window.window _ _ _ _ _ _ c.self.invariant.3 c.let_go.new.self.base c.let_go.new.self.marks.items c.let_go.ensures.same c.let_go.ensures.drawn,
 )

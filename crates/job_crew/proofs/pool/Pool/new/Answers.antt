@@ -11,6 +11,6 @@ invariant_of-result g c =
           (c.first.ensures.mark c.push_reserved.new.self.items) c.first.ensures.first,
       search rules,
       sym c.requires.window,
-      shop_first g.M.Meaning.rules g.M.Meaning.truth g.M.Start.window c.push_reserved.new.self.items c.push_reserved-2.new.self.items c.in_ok-marks.marks.base c.in_ok-marks.marks.marks.items c.requires.can
+      shop_first g.M.Meaning.rules g.M.Meaning.truth g.W.Window.window c.push_reserved.new.self.items c.push_reserved-2.new.self.items c.in_ok-marks.marks.base c.in_ok-marks.marks.marks.items c.requires.can
           segments starts c.in_ok-marks.ensures.base c.in_ok-marks.ensures.none,
     )

@@ -21,6 +21,6 @@ invariant_of-self-2 g c =
           (puts _ _ _ _ _ _ _ _ _ _ c.self.invariant.0 (subst (λ s. IsMark s c.job_from.new.mark) c.deref.ensures.value c.job_from.ensures.mark) c.job_from.ensures.later (c.args.ticket, there)),
       omega (arith, c.push_reserved.ensures.capacity, c.self.invariant.1),
       c.self.invariant.2,
-      shop_draws g.M.Meaning.rules g.M.Meaning.truth g.M.Start.window _ _ _ _ _ _ c.self.invariant.3 c.args.ticket c.push.new.self.base c.in_ok-job.job c.push.new.self.marks.items
+      shop_draws g.M.Meaning.rules g.M.Meaning.truth g.W.Window.window _ _ _ _ _ _ c.self.invariant.3 c.args.ticket c.push.new.self.base c.in_ok-job.job c.push.new.self.marks.items
           c.if-ticket-self.false there c.push.ensures.base (c.push.ensures.yes c.if-not-push.false),
     )

@@ -11,7 +11,7 @@ use Rattle.seq_decoder.specs.After.{input_of, past_of, references_of, segments_b
 use Rattle.frame_decoder.proofs.PlainFrames.{frame_breaks}
 use Rattle.frame_headers.specs.declared.header.Header.{Header}
 use Rattle.seq_decoder.specs.Code.{HasPlaces, HoldsFrame, NamesHeld, segments_held, shape_told}
-use Rattle.seq_decoder.specs.SavedContexts.{context_at, place_of, saved_before}
+use Rattle.seq_decoder.specs.SavedContexts.{context_at, saved_place, saved_before}
 use Rattle.seq_decoder.proofs.FrameLemmas.{sized_with}
 use Rattle.seq_decoder.proofs.PastLemmas.{coded_halts, input_is}
 use Rattle.seq_decoder.proofs.ShowingLemmas.{picture_is}
@@ -22,7 +22,7 @@ returns-in_err-setting-clause-coded c = λ state stands.
     let p = err_from_is_err_and c.from_residual.result c.from_residual.ensures.1 in
     let header = c.args.header.now in
     rw (p.1, p.2) (frame_breaks (references_of state.slots header.kind) (input_of state c.args.bytes.now header c.args.compressed) _ (c.in_err-setting.ensures (past_of state header)
-    (sym (c.at-before.ensures ∙ (λ i. context_at (c.reset.ensures i) (c.place_of.ensures i)) ∙ ap (λ saved. context_at (saved_before header saved) (place_of header)) stands.contexts))))
+    (sym (c.at-before.ensures ∙ (λ i. context_at (c.reset.ensures i) (c.saved_place.ensures i)) ∙ ap (λ saved. context_at (saved_before header saved) (saved_place header)) stands.contexts))))
 
 pub decode_begun-decoded-requires-clause-few : goal.decode_begun-decoded-requires-clause-few
 decode_begun-decoded-requires-clause-few c = rw c.in_ok-setting.ensures.0 c.requires.few
@@ -62,7 +62,7 @@ returns-in_err-decoded-clause-coded c = λ state stands.
     let still = held_beside t.pictures.items place dest t.slots c.in_ok-place.ensures.free ∙ c.blank.ensures.held in
     let input =
     input_is state _ header c.args.bytes.now c.args.compressed _ c.in_ok-setting.ensures.0
-    (c.at-before.ensures ∙ (λ i. context_at (c.reset.ensures i) (c.place_of.ensures i)) ∙ ap (λ saved. context_at (saved_before header saved) (place_of header)) stands.contexts)
+    (c.at-before.ensures ∙ (λ i. context_at (c.reset.ensures i) (c.saved_place.ensures i)) ∙ ap (λ saved. context_at (saved_before header saved) (saved_place header)) stands.contexts)
     (ap segments_held (sym c.segments_of.ensures) ∙ c.in_ok-begin_segments.ensures.map ∙ (λ i. segments_before header (stands.persist i).size (stands.segments i)))
     (c.vectors_before.ensures.blocks ∙ ap (vectors_before header) stands.last) in
     rw (p.1, p.2) (coded_halts header _ _ _ _ c.decode_begun-decoded.new.picture t _ (ap (λ (h : Header). references_of state.slots h.kind) c.in_ok-setting.ensures.0) input (c.in_err-decoded.ensures.decoded state.slots (still ∙ stands.slots)))
@@ -82,7 +82,7 @@ returns-clause-coded c = λ state stands.
     let still = held_beside t.pictures.items place dest t.slots c.in_ok-place.ensures.free ∙ c.blank.ensures.held in
     let input =
     input_is state _ header c.args.bytes.now c.args.compressed _ c.in_ok-setting.ensures.0
-    (c.at-before.ensures ∙ (λ i. context_at (c.reset.ensures i) (c.place_of.ensures i)) ∙ ap (λ saved. context_at (saved_before header saved) (place_of header)) stands.contexts)
+    (c.at-before.ensures ∙ (λ i. context_at (c.reset.ensures i) (c.saved_place.ensures i)) ∙ ap (λ saved. context_at (saved_before header saved) (saved_place header)) stands.contexts)
     (ap segments_held (sym c.segments_of.ensures) ∙ c.in_ok-begin_segments.ensures.map ∙ (λ i. segments_before header (stands.persist i).size (stands.segments i)))
     (c.vectors_before.ensures.blocks ∙ ap (vectors_before header) stands.last) in
     let decodes = c.in_ok-decoded.ensures.decoded state.slots (still ∙ stands.slots) in

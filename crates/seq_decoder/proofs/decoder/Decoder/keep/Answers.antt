@@ -1,7 +1,7 @@
 use Rattle.std.proofs.Common.{◌∙◌, ap, sym, subst}
 use Rattle.std.specs.Prelude.{Some}
 use Rattle.block_geometry.specs.FrameShapes.{places_of}
-use Rattle.frame_headers.specs.HeaderState.{next_persist, shape_of}
+use Rattle.frame_headers.specs.HeaderState.{next_persist, shape_of, is_key}
 use Rattle.frame_headers.specs.declared.persist.Persist.{Persist}
 use Rattle.frame_state.specs.KeptColumns.{blocks_of}
 use Rattle.frame_state.specs.FrameReading.{all_blocks}
@@ -10,7 +10,7 @@ use Rattle.prob_contexts.specs.ProbLists.{lists_of}
 use Rattle.seq_decoder.specs.After.{segments_before}
 use Rattle.seq_decoder.specs.Code.{HasPlaces, last_held, saved_lists}
 use Rattle.seq_decoder.specs.DecoderState.{last_is_key, last_size}
-use Rattle.seq_decoder.specs.SavedContexts.{context_at, is_key, own_contexts}
+use Rattle.seq_decoder.specs.SavedContexts.{context_at, own_contexts}
 use Rattle.seq_decoder.proofs.FrameLemmas.{contexts_after, shapes_after, sized_of, slots_after}
 use Rattle.seq_decoder.proofs.Slots.{persist_after}
 use Rattle.seq_decoder.proofs.decoder.Decoder.keep.Goals as goal
@@ -22,7 +22,7 @@ returns-clause-stands c = λ number state r begun at.
       persist = c.next-self.ensures.persists ∙ ap (next_persist header) begun.persist ∙ sym (persist_after number state header r);
       contexts = contexts_after header r (last_is_key state.last) state.contexts (saved_lists c.save.new.self) (saved_lists found) (lists_of c.own_contexts-own.result) (lists_of c.at-before.result) c.save.ensures
           (c.own_contexts-own.ensures r at.holds.contexts at.holds.counts ∙ ap (λ key. own_contexts header key r (lists_of c.at-before.result)) (c.after_key.ensures ∙ ap last_is_key begun.last))
-          (c.at-before.ensures ∙ ap (λ place. context_at (saved_lists found) place) c.place_of.ensures) begun.contexts;
+          (c.at-before.ensures ∙ ap (λ place. context_at (saved_lists found) place) c.saved_place.ensures) begun.contexts;
       slots = slots_after number state header c.args.coded r c.args.self.now.table c.refresh.new.self at begun.slots c.refresh.ensures.pictures c.refresh.ensures.slots;
       segments = c.keep_segments.ensures.map
           ∙ (λ i. segments_after header.params.segmentation (places_of (shape_of header)) (all_blocks (blocks_of (c.deref.ensures.value i))) (begun.segments i))

@@ -1,6 +1,6 @@
 use Rattle.std.proofs.Common.{◌≡◌, true, [], length, All}
 use Rattle.job_crew.specs.Code.{IsSeated}
-use Rattle.job_crew.proofs.crew.join_all.Given as goal
+use Rattle.job_crew.proofs.seats.join_all.Given as goal
 
 abbrev pub invariant-loop-seat : goal.invariant-loop-seat
 invariant-loop-seat g l =

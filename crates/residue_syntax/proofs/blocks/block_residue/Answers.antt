@@ -1,7 +1,7 @@
 use Rattle.std.proofs.lemmas.Result.{err_from_is_err_and}
 use Rattle.prob_contexts.specs.ProbLists.{lists_of}
 use Rattle.residue_syntax.proofs.BlockReads.{first_broken, second_broken, third_broken, all_read}
-use Rattle.residue_syntax.proofs.blocks.read_block.Goals as goal
+use Rattle.residue_syntax.proofs.blocks.block_residue.Goals as goal
 
 pub returns-in_err-luma-clause-gives : goal.returns-in_err-luma-clause-gives
 returns-in_err-luma-clause-gives g c = λ tile_from.

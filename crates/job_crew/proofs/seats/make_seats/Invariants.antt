@@ -1,6 +1,6 @@
 use Rattle.std.proofs.Common.{◌≡◌, true, [], length, All}
 use Rattle.job_crew.specs.Code.{IsSeated}
-use Rattle.job_crew.proofs.crew.make_seats.Given as goal
+use Rattle.job_crew.proofs.seats.make_seats.Given as goal
 
 abbrev pub invariant-loop : goal.invariant-loop
 invariant-loop g l =

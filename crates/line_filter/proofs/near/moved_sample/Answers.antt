@@ -2,8 +2,8 @@ use Rattle.std.proofs.Common.{◌≡◌, ℤ, pos, ◌+ℤ◌, ◌-ℤ◌, arith
 use Rattle.std.proofs.lemmas.Int.{ints}
 use mir.Syntax.{w16}
 use Rattle.line_filter.specs.Lines as L
-use Rattle.line_filter.specs.Lines.{outer, change, moved, hev_mask}
-use Rattle.line_filter.proofs.near.moved.Goals as goal
+use Rattle.line_filter.specs.Lines.{outer, change, moved_sample, hev_mask}
+use Rattle.line_filter.proofs.near.moved_sample.Goals as goal
 
 pub returns : goal.returns
 returns c = let a = c.args in

@@ -1,7 +1,7 @@
 use Rattle.std.proofs.Common.{◌∙◌, ap}
 use Rattle.std.proofs.lemmas.List.Elements.{All-append, All-take, All-drop}
 use Rattle.job_crew.specs.Code.{IsSeated}
-use Rattle.job_crew.proofs.crew.run_jobs.Goals as goal
+use Rattle.job_crew.proofs.crew.run_within.Goals as goal
 
 pub given_back-requires : goal.given_back-requires
 given_back-requires g c =
